@@ -1,0 +1,8 @@
+pub mod PlaceLemmas
+pub mod DriverListLemmas
+pub mod NamedLemmas
+pub mod AskedLemmas
+pub mod RecordLemmas
+pub mod InputLemmas
+pub mod OutputLemmas
+pub mod RunTextLemmas

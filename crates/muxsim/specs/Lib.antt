@@ -1,0 +1,12 @@
+pub mod DriverFaults
+pub mod Machine
+pub mod Asked
+pub mod Places
+pub mod ConfigFields
+pub mod Recorded
+pub mod RunFaults
+pub mod Statuses
+pub mod Input
+pub mod Output
+pub mod Jobs
+pub mod RunText

@@ -1,0 +1,26 @@
+-- The drivers of a system and the history that it has so far.
+use Rattle.std.specs.Prelude.{◌≡◌, List}
+use Rattle.smx_types.specs.declared.command.Entry.{Entry}
+use Rattle.smx_types.specs.declared.driver.DriverSpec.{DriverSpec}
+use Rattle.smx_model.specs.DriverList.{IsDriverList}
+use Rattle.smx_types.specs.declared.transcript.Transcript.{Transcript}
+use Rattle.smx_model.specs.Histories.{IsLegal, after}
+use Rattle.smx_model.specs.Views.{view}
+use Rattle.muxsim.specs.Machine.{Machine}
+
+pub record Recorded : Type 0 where
+  pub drivers : List DriverSpec
+  pub history : List Entry
+
+-- the history is legal, and the configuration is the one after it
+pub record IsRecord (m : Machine) (history : List Entry) : Type 0 where
+  pub can_be_had : IsDriverList m.drivers
+  pub legal : IsLegal m.drivers history
+  pub now : m.now ≡ after m.drivers history
+
+-- a report of a system: its drivers, its history, which is legal, and the view of the configuration after that
+pub record Reports (s : Recorded) (report : Transcript) : Type 0 where
+  pub drivers : report.drivers ≡ s.drivers
+  pub entries : report.entries ≡ s.history
+  pub legal : IsLegal s.drivers s.history
+  pub shown : report.view ≡ view s.drivers (after s.drivers s.history)

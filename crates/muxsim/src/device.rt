@@ -1,0 +1,139 @@
+//! What the program reads from and writes to, with a count of failures.
+
+ghost use Rattle.std.specs.Prelude.{◌≡◌, ℕ, ◌<◌, ◌≤◌, List, Option, length, IfOk, OnOk, OnErr};
+ghost use Rattle.std.specs.Io.KnownBytes.{Keeps, ReadConsumes, WriteAppends};
+
+use std::io::{Read, Write};
+
+/// The device failed.
+#[derive(Clone, Copy, Debug, PartialEq, Eq)]
+pub struct Failed;
+
+/// What is read. It is read from only while no read has failed.
+pub trait Feed {
+    /// The bytes that reads will give from here on, where they are known.
+    ghost remaining: { Self → Option (List ℕ) };
+
+    /// How many reads have failed.
+    ghost failures: { Self → ℕ };
+
+    /// Reads into the front of the buffer, and answers how many bytes those are: none only at the
+    /// end, or where the buffer is empty. `Failed` comes only where the device failed; it has then
+    /// given nothing.
+    fn read(&mut self, buffer: &mut [u8]) -> Result<usize, Failed>
+        requires { failures self.old ≡ 0 }
+        ensures bound { IfOk result (λ n. n ≤ length buffer.new) }
+        ensures bytes { ReadConsumes (remaining self.old) (remaining self.new) result buffer.new }
+        ensures fine { OnOk result (failures self.new ≡ 0) }
+        ensures failed { OnErr result (failures self.new ≡ 1) };
+}
+
+/// What is written to. It is written to only while no write and no flush has failed.
+pub trait Sink {
+    /// The bytes that it holds, where they are known.
+    ghost contents: { Self → Option (List ℕ) };
+
+    /// How many writes and flushes have failed. A write of some bytes that takes none has failed.
+    ghost failures: { Self → ℕ };
+
+    /// Writes the front of some bytes, and answers how many, which is one at least. `Failed` comes
+    /// only where the device failed or took none; nothing was then written.
+    fn write(&mut self, bytes: &[u8]) -> Result<usize, Failed>
+        requires some { 0 < length bytes.now }
+        requires fine_so_far { failures self.old ≡ 0 }
+        ensures bound { IfOk result (λ n. (0 < n) × (n ≤ length bytes.now)) }
+        ensures bytes { WriteAppends (contents self.old) (contents self.new) result bytes.now }
+        ensures fine { OnOk result (failures self.new ≡ 0) }
+        ensures failed { OnErr result (failures self.new ≡ 1) };
+
+    /// Sends out what was written. `Failed` comes only where the device failed.
+    fn flush(&mut self) -> Result<(), Failed>
+        requires { failures self.old ≡ 0 }
+        ensures bytes { Keeps (contents self.old) (contents self.new) }
+        ensures fine { OnOk result (failures self.new ≡ 0) }
+        ensures failed { OnErr result (failures self.new ≡ 1) };
+}
+
+/// A reader of std as a feed. Each error of its, an interrupted call too, is a failure.
+#[derive(Drop)]
+pub struct Source<R> {
+    pub reader: R,
+    /// How many reads have failed.
+    pub failures: u64,
+}
+
+impl<R> Source<R> {
+    /// A reader of which no read has failed.
+    pub fn new(reader: R) -> Source<R>
+        ensures reader { result.reader ≡ reader }
+        ensures fine { result.failures ≡ 0 }
+    {
+        Source {
+            reader,
+            failures: 0,
+        }
+    }
+}
+
+impl<R: Read> Feed for Source<R> {
+    ghost remaining = { λ source. R.remaining source.reader };
+
+    ghost failures = { λ source. source.failures };
+
+    fn read(&mut self, buffer: &mut [u8]) -> Result<usize, Failed> {
+        match self.reader.read(buffer) {
+            Ok(n) => Ok(n),
+            Err(_) => {
+                self.failures += 1;
+                Err(Failed)
+            }
+        }
+    }
+}
+
+/// A writer of std as a sink. Each error of its, an interrupted call too, is a failure.
+#[derive(Drop)]
+pub struct Target<W> {
+    pub writer: W,
+    /// How many writes and flushes have failed.
+    pub failures: u64,
+}
+
+impl<W> Target<W> {
+    /// A writer of which no write and no flush has failed.
+    pub fn new(writer: W) -> Target<W>
+        ensures writer { result.writer ≡ writer }
+        ensures fine { result.failures ≡ 0 }
+    {
+        Target {
+            writer,
+            failures: 0,
+        }
+    }
+}
+
+impl<W: Write> Sink for Target<W> {
+    ghost contents = { λ target. W.contents target.writer };
+
+    ghost failures = { λ target. target.failures };
+
+    fn write(&mut self, bytes: &[u8]) -> Result<usize, Failed> {
+        match self.writer.write(bytes) {
+            Ok(0) | Err(_) => {
+                self.failures += 1;
+                Err(Failed)
+            }
+            Ok(n) => Ok(n),
+        }
+    }
+
+    fn flush(&mut self) -> Result<(), Failed> {
+        match self.writer.flush() {
+            Ok(()) => Ok(()),
+            Err(_) => {
+                self.failures += 1;
+                Err(Failed)
+            }
+        }
+    }
+}

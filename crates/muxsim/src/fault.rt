@@ -1,0 +1,182 @@
+//! Why the program refuses, in the words that it prints.
+
+ghost use Rattle.std.specs.Prelude.{◌≡◌};
+ghost use Rattle.muxsim.specs.Statuses.{status_of};
+ghost use Rattle.muxsim.specs.declared.fault.MainFault.TheVariants.{Refused};
+ghost use Rattle.muxsim.specs.declared.fault.RunFault.TheVariants.{NoMemory};
+
+use smx_text::{Cause, TextFault};
+use smx_types::{NoMemory, SpecFault};
+use std::alloc::{AllocError, AllocFailed};
+use std::fmt;
+use thiserror::Error;
+
+/// Why nothing came of the program. Its text is what stands behind `muxsim: ` on standard error.
+#[derive(Debug, Drop, Error)]
+pub enum MainFault {
+    /// A run was refused.
+    #[error("refused: {0}")]
+    Refused(RunFault),
+    /// The input is no text of its kind, or memory was wanting while it was read as one.
+    #[error("{}", TextWords(*.0))]
+    Text(TextFault),
+    /// More than 16,777,216 bytes were read.
+    #[error("input too long")]
+    TooLong,
+    /// A read failed.
+    #[error("read failed")]
+    ReadFailed,
+    /// A write or a flush failed, or a write took no byte.
+    #[error("write failed")]
+    WriteFailed,
+}
+
+/// Why a run was refused.
+#[derive(Debug, Drop, Error)]
+pub enum RunFault {
+    /// A growth was refused.
+    #[error("no memory")]
+    NoMemory,
+    /// There is no configuration of these drivers.
+    #[error("{0}")]
+    ConfigFault(ConfigFault),
+}
+
+/// Why there is no configuration of some drivers.
+#[derive(Debug, Drop, Error)]
+pub enum ConfigFault {
+    /// The driver of this number, from 0, is one that can't be had.
+    #[error("driver {} {}", .0, spec_word(*.1))]
+    BadSpec(usize, SpecFault),
+    /// The driver of this number, from 0, has the name of an earlier one.
+    #[error("driver {0} same name")]
+    SameName(usize),
+    /// There are more than 64 drivers.
+    #[error("too many drivers")]
+    TooMany,
+    /// A growth was refused.
+    #[error("no memory")]
+    NoMemory,
+}
+
+impl MainFault {
+    /// The program's exit status: 1 for a refusal or want of memory, 3 for a text that is refused
+    /// or too long, 5 where input or output failed. Takes no memory.
+    pub fn status(&self) -> u8
+        ensures { result ≡ status_of self.now }
+    {
+        match self {
+            MainFault::Refused(_) => 1,
+            MainFault::Text(fault) => match fault.cause {
+                Cause::NoMemory => 1,
+                Cause::Header | Cause::Form | Cause::Many | Cause::Cut | Cause::Trailing => 3,
+            },
+            MainFault::TooLong => 3,
+            MainFault::ReadFailed | MainFault::WriteFailed => 5,
+        }
+    }
+}
+
+impl From<ConfigFault> for RunFault {
+    ghost use Rattle.std.specs.Prelude.{◌≡◌};
+    ghost use Rattle.muxsim.specs.RunFaults.{run_fault_of};
+
+    ghost from_gives = { λ f e. e ≡ run_fault_of f };
+
+    fn from(fault: ConfigFault) -> RunFault {
+        match fault {
+            ConfigFault::NoMemory => RunFault::NoMemory,
+            ConfigFault::BadSpec(_, _) | ConfigFault::SameName(_) | ConfigFault::TooMany => {
+                RunFault::ConfigFault(fault)
+            }
+        }
+    }
+}
+
+impl From<NoMemory> for RunFault {
+    ghost use Rattle.std.specs.Prelude.{◌≡◌};
+    ghost use Rattle.muxsim.specs.declared.fault.RunFault.TheVariants as run;
+
+    ghost from_gives = { λ _ e. e ≡ run.NoMemory };
+
+    fn from(_e: NoMemory) -> RunFault {
+        RunFault::NoMemory
+    }
+}
+
+impl From<NoMemory> for MainFault {
+    ghost from_gives = { λ _ fault. fault ≡ Refused NoMemory };
+
+    fn from(_error: NoMemory) -> MainFault {
+        MainFault::Refused(RunFault::NoMemory)
+    }
+}
+
+impl From<TextFault> for MainFault {
+    ghost use Rattle.std.specs.Prelude.{◌≡◌};
+    ghost use Rattle.muxsim.specs.declared.fault.MainFault.TheVariants.{Text};
+
+    ghost from_gives = { λ f fault. fault ≡ Text f };
+
+    fn from(fault: TextFault) -> MainFault {
+        MainFault::Text(fault)
+    }
+}
+
+impl From<RunFault> for MainFault {
+    ghost from_gives = { λ f fault. fault ≡ Refused f };
+
+    fn from(fault: RunFault) -> MainFault {
+        MainFault::Refused(fault)
+    }
+}
+
+impl From<AllocError> for MainFault {
+    ghost from_gives = { λ _ fault. fault ≡ Refused NoMemory };
+
+    fn from(_error: AllocError) -> MainFault {
+        MainFault::Refused(RunFault::NoMemory)
+    }
+}
+
+impl<T: Drop> From<AllocFailed<T>> for MainFault {
+    ghost from_gives = { λ _ fault. fault ≡ Refused NoMemory };
+
+    fn from(_error: AllocFailed<T>) -> MainFault {
+        MainFault::Refused(RunFault::NoMemory)
+    }
+}
+
+// The words of a fault of a text.
+#[derive(Drop)]
+struct TextWords(TextFault);
+
+impl fmt::Display for TextWords {
+    fn fmt<W: fmt::Write>(&self, f: &mut fmt::Formatter<W>) -> fmt::Result {
+        let line = self.0.line;
+        match cause_word(self.0.cause) {
+            Some(word) => write!(f, "line {line}: {word}"),
+            None => write!(f, "refused: no memory"),
+        }
+    }
+}
+
+// The word of a cause; want of memory is no fault of the text, and has none.
+fn cause_word(cause: Cause) -> Option<&'static str> {
+    match cause {
+        Cause::Header => Some("header"),
+        Cause::Form => Some("form"),
+        Cause::Many => Some("many"),
+        Cause::Cut => Some("cut"),
+        Cause::Trailing => Some("trailing"),
+        Cause::NoMemory => None,
+    }
+}
+
+fn spec_word(fault: SpecFault) -> &'static str {
+    match fault {
+        SpecFault::BadMinors => "minors",
+        SpecFault::BadMarks => "marks",
+        SpecFault::BadMax => "max",
+    }
+}

@@ -1,0 +1,99 @@
+//! Runs the programs on standard input against a STREAMS multiplexer, and writes the transcript.
+#![tactic(auto)]
+
+mod asked;
+mod command_line;
+mod config;
+mod descriptors;
+mod device;
+mod driver_list;
+mod fault;
+mod input;
+mod output;
+mod run;
+mod system;
+#[cfg(test)]
+mod tests;
+mod text;
+
+ghost use Rattle.std.specs.Prelude.{◌≡◌, ◌≢◌, ◌≤◌, IfErr, OnOk, false};
+ghost use Rattle.std.specs.Process.{exit_status};
+ghost use Rattle.clap.specs.Values.{kind_of};
+ghost use Rattle.muxsim.specs.Statuses.{status_of};
+
+use asked::Job;
+use clap::error::ErrorKind;
+use command_line::job;
+use device::{Source, Target};
+use fault::{MainFault, RunFault};
+use std::process::ExitCode;
+use std::{env, io};
+use text::run_text;
+
+fn main(rt: HostRuntime) -> ExitCode {
+    let words = match words(&rt) {
+        Ok(words) => words,
+        Err(error) => return no_words(&rt, &error),
+    };
+    match job(rt.alloc(), words.as_slice()) {
+        Ok(Job::Run { workers, fronts }) => ended(&rt, run_stdin(&rt, workers, fronts)),
+        Err(error) => no_job(&rt, &error),
+    }
+}
+
+// The words of the command line, the program's name first.
+fn words(rt: &HostRuntime) -> io::Result<Vec<String>> {
+    Ok(env::args(rt)?.collect(rt.alloc())?)
+}
+
+// Runs the programs on standard input.
+fn run_stdin(rt: &HostRuntime, workers: u64, fronts: bool) -> Result<(), MainFault>
+    requires workers { (1 ≤ workers) × (workers ≤ 64) }
+    requires transcript { fronts ≡ false }
+{
+    let mut feed = Source::new(rt.stdin());
+    let mut sink = Target::new(rt.stdout());
+    run_text(rt.alloc(), &mut feed, &mut sink, workers, fronts)
+}
+
+// The status of what was run, with the line on standard error that says why nothing came of it.
+fn ended<R: Eprint>(rt: &R, outcome: Result<(), MainFault>) -> ExitCode
+    ensures ok { OnOk outcome (exit_status result ≡ 0) }
+    ensures fault { IfErr outcome (λ fault. exit_status result ≡ status_of fault) }
+{
+    match outcome {
+        Ok(()) => ExitCode::SUCCESS,
+        Err(fault) => {
+            let status = fault.status();
+            let _ = eprintln!(rt; "muxsim: {fault}");
+            ExitCode::from(status)
+        }
+    }
+}
+
+// Prints clap's text where clap says. The status is 1 for want of memory, 2 for a mistake in the
+// words, and 0 for help, or 5 where that could not be shown.
+fn no_job<R: Print + Eprint>(rt: &R, error: &clap::Error) -> ExitCode
+    ensures no_memory { kind_of error.now ≡ ErrorKind.OutOfMemory → exit_status result ≡ 1 }
+    ensures mistake { kind_of error.now ≢ ErrorKind.OutOfMemory
+        → kind_of error.now ≢ ErrorKind.DisplayHelp → kind_of error.now ≢ ErrorKind.DisplayVersion
+        → exit_status result ≡ 2 }
+{
+    if error.kind() == ErrorKind::OutOfMemory {
+        return ended(rt, Err(MainFault::Refused(RunFault::NoMemory)));
+    }
+    let printed = error.print(rt);
+    if error.use_stderr() {
+        return ExitCode::from(2);
+    }
+    ended(rt, printed.map_err(|_| MainFault::WriteFailed))
+}
+
+// The words of the command line could not be had: they are no text, or there is no memory.
+fn no_words<R: Eprint>(rt: &R, error: &io::Error) -> ExitCode {
+    if error.kind() == io::ErrorKind::OutOfMemory {
+        return ended(rt, Err(MainFault::Refused(RunFault::NoMemory)));
+    }
+    let _ = eprintln!(rt; "error: the command line is not UTF-8");
+    ExitCode::from(2)
+}

@@ -1,0 +1,84 @@
+//! A configuration together with the history that led to it.
+
+ghost use Rattle.std.specs.Prelude.{◌≡◌, ◌++◌, ◌∷◌, [], map, IfOk, IfErr, OnOk, OnErr};
+ghost use Rattle.smx_model.specs.DriverList.{IsDriverList};
+ghost use Rattle.smx_model.specs.Histories.{IsLegal, after, asked_of};
+ghost use Rattle.smx_model.specs.Views.{view};
+ghost use Rattle.muxsim.specs.DriverFaults.{RefusesDrivers};
+
+use crate::config::Config;
+use crate::fault::ConfigFault;
+use smx_types::{Command, ConfigView, DriverSpec, Entries, Entry, NoMemory, Process};
+use std::alloc::Global;
+use std::marker::Model;
+
+/// The configuration, and one entry for each command that it was asked. Contracts see the drivers and the history.
+#[derive(Debug, Drop)]
+pub struct System {
+    config: Config,
+    entries: Vec<Entry>,
+}
+
+impl Model for System {
+    ghost use Rattle.muxsim.specs.Recorded.{Recorded, IsRecord};
+
+    ghost Value = { Recorded };
+
+    ghost view = { λ s. record { drivers = s.config.drivers; history = s.entries.items } };
+
+    ghost invariant = { λ s. IsRecord s.config s.entries.items };
+}
+
+impl System {
+    /// Nothing is open and nothing was asked. Refused exactly where the drivers are, or for want of memory.
+    pub fn new(alloc: Global, drivers: &[DriverSpec]) -> Result<System, ConfigFault>
+        ensures drivers { IfOk result (λ s. (s.drivers ≡ drivers.now) × IsDriverList drivers.now) }
+        ensures empty { IfOk result (λ s. s.history ≡ []) }
+        ensures refused { IfErr result (RefusesDrivers drivers.now) }
+    {
+        let config = Config::new(alloc, drivers)?;
+        Ok(System {
+            config,
+            entries: Vec::new(alloc),
+        })
+    }
+
+    /// Performs one command, and adds the entry of it and its reply; or memory was wanting, and nothing has changed.
+    pub fn apply(
+        &mut self,
+        alloc: Global,
+        process: Process,
+        command: &Command,
+    ) -> Result<(), NoMemory>
+        ensures drivers { self.new.drivers ≡ self.old.drivers }
+        ensures ok { OnOk result (map asked_of self.new.history ≡ map asked_of self.old.history ++ (process, command.now) ∷ []) }
+        ensures err { OnErr result (self.new ≡ self.old) }
+    {
+        self.entries.reserve(1)?;
+        let command = command.copy(alloc)?;
+        let reply = self.config.step(alloc, process, &command)?;
+        self.entries
+            .push(Entry {
+                process,
+                command,
+                reply,
+            })
+            .unwrap();
+        Ok(())
+    }
+
+    /// The configuration after the history, as it is shown.
+    pub fn show(&self, alloc: Global) -> Result<ConfigView, NoMemory>
+        ensures { IfOk result (λ v. v ≡ view self.now.drivers (after self.now.drivers self.now.history)) }
+    {
+        self.config.show(alloc)
+    }
+
+    /// The history, which is legal. Takes no memory.
+    pub fn into_entries(self) -> Entries
+        ensures entries { result ≡ self.history }
+        ensures legal { IsLegal self.drivers self.history }
+    {
+        Entries::from_vec(self.entries)
+    }
+}

@@ -1,0 +1,11 @@
+//! Tests, and the devices of tests.
+
+mod broken;
+mod damaged;
+mod devices;
+mod faults;
+mod limits;
+mod reading;
+mod runs;
+mod words;
+mod writing;

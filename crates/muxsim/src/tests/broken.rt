@@ -1,0 +1,52 @@
+//! Runs with devices that break: at each read, and at each write.
+
+use super::devices::{Stop, one_byte_feed, one_byte_sink};
+use super::runs::{OPENED_AND_CLOSED, OPENS_AND_CLOSES, ending};
+use crate::device::{Source, Target};
+use crate::text::run_text;
+
+#[test]
+fn writes_nothing_after_a_failed_read(rt: HostRuntime) {
+    for reads in 0..84 {
+        let mut feed = one_byte_feed(OPENS_AND_CLOSES, reads);
+        let mut sink = Target::new(Vec::new(rt.alloc()));
+        let (line, status) = ending(run_text(rt.alloc(), &mut feed, &mut sink, 1, false));
+        assert_eq!(rt; line.as_str(), "read failed", "after {reads} reads");
+        assert_eq!(rt; status, 5);
+        assert!(rt; sink.writer.is_empty());
+    }
+}
+
+#[test]
+fn runs_byte_by_byte(rt: HostRuntime) {
+    let mut feed = one_byte_feed(OPENS_AND_CLOSES, 84);
+    let mut sink = one_byte_sink(rt.alloc(), 158, Stop::Fails);
+    let (_line, status) = ending(run_text(rt.alloc(), &mut feed, &mut sink, 1, false));
+    assert_eq!(rt; status, 0);
+    assert_eq!(rt; sink.writer.taken.as_slice(), OPENED_AND_CLOSED);
+}
+
+#[test]
+fn leaves_a_front_after_a_failed_write(rt: HostRuntime) {
+    assert_eq!(rt; OPENED_AND_CLOSED.len(), 157);
+    for stop in [Stop::Fails, Stop::TakesNone] {
+        for writes in 0..157 {
+            let mut feed = Source::new(OPENS_AND_CLOSES);
+            let mut sink = one_byte_sink(rt.alloc(), writes, stop);
+            let (line, status) = ending(run_text(rt.alloc(), &mut feed, &mut sink, 1, false));
+            assert_eq!(rt; line.as_str(), "write failed", "after {writes} writes");
+            assert_eq!(rt; status, 5);
+            assert_eq!(rt; sink.writer.taken.as_slice(), &OPENED_AND_CLOSED[..writes]);
+        }
+    }
+}
+
+#[test]
+fn has_written_all_before_a_failed_flush(rt: HostRuntime) {
+    let mut feed = Source::new(OPENS_AND_CLOSES);
+    let mut sink = one_byte_sink(rt.alloc(), 157, Stop::Fails);
+    let (line, status) = ending(run_text(rt.alloc(), &mut feed, &mut sink, 1, false));
+    assert_eq!(rt; line.as_str(), "write failed");
+    assert_eq!(rt; status, 5);
+    assert_eq!(rt; sink.writer.taken.as_slice(), OPENED_AND_CLOSED);
+}

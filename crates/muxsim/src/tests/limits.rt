@@ -1,0 +1,80 @@
+//! The limits of a run: the most of each, and one more.
+
+use super::runs::{Ran, run_bytes};
+use std::alloc::Global;
+use std::io;
+use std::io::Read;
+use std::process::Abort;
+use std::test::Fail;
+
+fn with_drivers(alloc: Global, count: u32) -> Result<Vec<u8>, Fail> {
+    let mut input = Vec::from_slice(alloc, b"programs 1\n")?;
+    for k in 0..count {
+        let line = format!(in alloc; "driver a{k} leaf 1 1 0 1\n")?;
+        input.extend_from_slice(line.as_bytes())?;
+    }
+    input.extend_from_slice(b"end\n")?;
+    Ok(input)
+}
+
+fn with_processes(alloc: Global, count: u32) -> Result<Vec<u8>, Fail> {
+    let mut input = Vec::from_slice(alloc, b"programs 1\ndriver ip mux 4 8 3 16\n")?;
+    for k in 0..count {
+        input.extend_from_slice(format!(in alloc; "process {k}\n")?.as_bytes())?;
+    }
+    input.extend_from_slice(b"end\n")?;
+    Ok(input)
+}
+
+fn with_commands(alloc: Global, count: u32) -> Result<Vec<u8>, Fail> {
+    let mut input = Vec::from_slice(alloc, b"programs 1\nprocess 0\n")?;
+    for _ in 0..count {
+        input.extend_from_slice(b"close 0\n")?;
+    }
+    input.extend_from_slice(b"end\n")?;
+    Ok(input)
+}
+
+fn refused(rt: &impl Abort, ran: &Ran, line: &str) {
+    assert_eq!(rt; ran.line.as_str(), line);
+    assert_eq!(rt; ran.status, 3);
+    assert!(rt; ran.output.is_empty());
+}
+
+#[test]
+fn refuses_one_more_of_each(rt: HostRuntime) -> Result<(), Fail> {
+    let drivers = with_drivers(rt.alloc(), 65)?;
+    refused(&rt, &run_bytes(rt.alloc(), &drivers), "line 66: many");
+    let processes = with_processes(rt.alloc(), 65)?;
+    refused(&rt, &run_bytes(rt.alloc(), &processes), "line 67: many");
+    let commands = with_commands(rt.alloc(), 100_001)?;
+    refused(&rt, &run_bytes(rt.alloc(), &commands), "line 100003: many");
+    Ok(())
+}
+
+#[test]
+fn runs_the_most_of_each(rt: HostRuntime) -> Result<(), Fail> {
+    let drivers = with_drivers(rt.alloc(), 64)?;
+    assert_eq!(rt; run_bytes(rt.alloc(), &drivers).status, 0);
+    let processes = with_processes(rt.alloc(), 64)?;
+    assert_eq!(rt; run_bytes(rt.alloc(), &processes).status, 0);
+    let commands = with_commands(rt.alloc(), 100_000)?;
+    let ran = run_bytes(rt.alloc(), &commands);
+    let mut output = Vec::from_slice(rt.alloc(), b"transcript 1\n")?;
+    for _ in 0..100_000 {
+        output.extend_from_slice(b"0 close 0 = EBADF fd\n")?;
+    }
+    output.extend_from_slice(b"config\nnext 1 1\nend\n")?;
+    assert!(rt; ran.output == output);
+    Ok(())
+}
+
+#[test]
+fn refuses_an_input_that_is_too_long(rt: HostRuntime) -> Result<(), Fail> {
+    let mut input = Vec::new(rt.alloc());
+    io::repeat(b'a').take(16_777_216).read_to_end(&mut input)?;
+    refused(&rt, &run_bytes(rt.alloc(), &input), "line 1: cut");
+    input.push(b'a')?;
+    refused(&rt, &run_bytes(rt.alloc(), &input), "input too long");
+    Ok(())
+}

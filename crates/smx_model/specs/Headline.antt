@@ -1,0 +1,18 @@
+-- What is promised of every report, whatever programs come.
+use Rattle.std.specs.Prelude.{◌≡◌}
+use Rattle.smx_types.specs.ProgramLists.{ProgramLists}
+use Rattle.smx_types.specs.declared.transcript.Transcript.{Transcript}
+use Rattle.smx_model.specs.DriverList.{IsDriverList}
+use Rattle.smx_model.specs.Histories.{IsLegal, after, HoldsPrograms}
+use Rattle.smx_model.specs.Views.{view}
+
+pub record IsReportOf (programs : ProgramLists) (report : Transcript) : Type 0 where
+  -- The drivers are those of the programs, and a configuration can have them.
+  pub drivers : report.drivers ≡ programs.drivers
+  pub can_be_had : IsDriverList programs.drivers
+  -- The entries are one history of the sequential configuration, with its replies and faults.
+  pub legal : IsLegal programs.drivers report.entries
+  -- It holds each program's commands in order, each once, and no others.
+  pub holds : HoldsPrograms report.entries programs.programs
+  -- The view is that of the configuration after the whole history.
+  pub shown : report.view ≡ view programs.drivers (after programs.drivers report.entries)

@@ -1,0 +1,10 @@
+pub mod DriverList
+pub mod Ordered
+pub mod Configuration
+pub mod Commands
+pub mod Histories
+pub mod Views
+pub mod Headline
+pub mod WorkedOpensAndCloses
+pub mod WorkedFullDescriptorTable
+pub mod WorkedRefusals

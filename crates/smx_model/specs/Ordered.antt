@@ -1,0 +1,17 @@
+-- Lists that are kept in a given order.
+use Rattle.std.specs.Prelude.{◌≡◌, true, Bool, if◌then◌else◌, List, [], ◌∷◌}
+
+-- with one more, before the first that comes after it
+abbrev pub placed : {X : Type 0} → (X → X → Bool) → List X → X → List X
+placed before [] x = x ∷ []
+placed before (y ∷ ys) x = if before x y then x ∷ y ∷ ys else y ∷ placed before ys x
+
+-- it comes before each of them
+abbrev pub ComesBefore : {X : Type 0} → (X → X → Bool) → X → List X → Type 0
+ComesBefore before x [] = Unit {0}
+ComesBefore before x (y ∷ ys) = (before x y ≡ true) × ComesBefore before x ys
+
+-- each comes before all that stand behind it, so no two are the same
+abbrev pub IsRising : {X : Type 0} → (X → X → Bool) → List X → Type 0
+IsRising before [] = Unit {0}
+IsRising before (x ∷ xs) = ComesBefore before x xs × IsRising before xs

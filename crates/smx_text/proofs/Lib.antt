@@ -1,0 +1,9 @@
+pub mod SplitLemmas
+pub mod NumberLemmas
+pub mod LineLemmas
+pub mod JoinLemmas
+pub mod BodyLemmas
+pub mod TextLemmas
+pub mod FaultLemmas
+pub mod OnlyLemmas
+pub mod WritingLemmas

@@ -1,0 +1,124 @@
+-- What is written piece by piece, as the lines of a whole.
+use Rattle.std.proofs.Common.{◌≡◌, ℕ, suc, ◌+◌, ◌<◌, List, [], ◌∷◌, ◌++◌, length, get_or, take, map, refl, sym, ap, ◌∙◌, append_assoc, arith, add-zero}
+use Rattle.std.proofs.lemmas.List.{append-nil, length-take-le, map-append, take_more}
+use Rattle.std.proofs.lemmas.List.Concat.{flat_map-append}
+use Rattle.std.proofs.lemmas.Simd.{map-map}
+use Rattle.std.specs.Fmt.{decimal}
+use Rattle.std.specs.List.{flat_map, AllByRecursion}
+use Rattle.std.specs.Prelude.{codes}
+use Rattle.smx_types.specs.ProgramLists.{ProgramLists}
+use Rattle.smx_types.specs.declared.command.Command.{Command}
+use Rattle.smx_types.specs.declared.command.Command.TheVariants as command
+use Rattle.smx_types.specs.declared.command.Entry.{Entry}
+use Rattle.smx_types.specs.declared.reply.Fault.{Fault}
+use Rattle.smx_types.specs.declared.reply.Fault.TheVariants as fault
+use Rattle.smx_types.specs.declared.reply.Reply.{Reply}
+use Rattle.smx_types.specs.declared.reply.Reply.TheVariants as reply
+use Rattle.smx_types.specs.declared.transcript.Transcript.{Transcript}
+use Rattle.smx_text.specs.declared.line.Line.TheVariants as line
+use Rattle.smx_text.specs.ProgramsText.{line_words, program_lines, body, programs_text, FitsLine}
+use Rattle.smx_text.specs.Spelling.{command_words, driver_words, entry_words, fault_words, reply_words}
+use Rattle.smx_text.specs.Spellable.{FitsCommand, FitsDriver}
+use Rattle.smx_text.specs.TranscriptText.{view_lines, transcript_text}
+use Rattle.smx_text.specs.Words.{line_of, text_of}
+
+-- two rows of words, neither of them empty, in one line
+line_append : (ws vs : List (List ℕ)) → 0 < length ws → 0 < length vs → line_of (ws ++ vs) ≡ line_of ws ++ 32 ∷ line_of vs
+line_append [] vs h k = absurd (omega arith)
+line_append (w ∷ []) [] h k = absurd (omega arith)
+line_append (w ∷ []) (v ∷ vs) h k = refl
+line_append (w ∷ x ∷ ws) vs h k = rw (line_append (x ∷ ws) vs (omega arith) k, append_assoc) refl
+
+command_some : (c : Command) → 0 < length (command_words c)
+command_some (command.OpenClone driver) = omega arith
+command_some (command.OpenMinor driver minor) = omega arith
+command_some (command.Dup fd) = omega arith
+command_some (command.Close fd) = omega arith
+command_some command.CloseAll = omega arith
+
+fault_some : (f : Fault) → 0 < length (fault_words f)
+fault_some fault.BadDescriptor = omega arith
+fault_some fault.NoDriver = omega arith
+fault_some fault.NoMinor = omega arith
+fault_some fault.TooManyDescriptors = omega arith
+
+reply_some : (r : Reply) → 0 < length (reply_words r)
+reply_some (reply.Fd fd minor) = omega arith
+reply_some (reply.Done dropped) = omega arith
+reply_some (reply.Fault f) = fault_some f
+
+-- the process, the command and the reply, each with what stands before it
+pub entry_line : (e : Entry) → line_of (entry_words e) ≡ decimal e.process ++ 32 ∷ (line_of (command_words e.command) ++ codes " = " ++ line_of (reply_words e.reply))
+entry_line e =
+    let before = line_append (decimal e.process ∷ []) (command_words e.command) (omega arith) (command_some e.command) in
+    let after = line_append (codes "=" ∷ []) (reply_words e.reply) (omega arith) (reply_some e.reply) in
+    let all = line_append (decimal e.process ∷ command_words e.command) (codes "=" ∷ reply_words e.reply) (omega arith) (omega arith) in
+    all ∙ rw (before, after) (simp append_assoc)
+
+-- a word and then numbers
+pub numbers_line : (w : List ℕ) (ns : List ℕ) → line_of (w ∷ map decimal ns) ≡ w ++ flat_map (λ n. 32 ∷ decimal n) ns
+numbers_line w [] = sym (append-nil w)
+numbers_line w (n ∷ ns) = ap (λ (l : List ℕ). w ++ 32 ∷ l) (numbers_line (decimal n) ns)
+
+lines_append : (ls ks : List (List (List ℕ))) → text_of (ls ++ ks) ≡ text_of ls ++ text_of ks
+lines_append ls ks = flat_map-append (λ words. line_of words ++ 10 ∷ []) ls ks
+
+all_append : {X : Type 0} (P : X → Type 0) (xs ys : List X) → AllByRecursion P xs → AllByRecursion P ys → AllByRecursion P (xs ++ ys)
+all_append P [] ys h k = k
+all_append P (x ∷ xs) ys h k = (h.0, all_append P xs ys h.1 k)
+
+all_map : {X Y : Type 0} (P : Y → Type 0) (f : X → Y) (xs : List X) → AllByRecursion (λ x. P (f x)) xs → AllByRecursion P (map f xs)
+all_map P f [] h = tt
+all_map P f (x ∷ xs) h = (h.0, all_map P f xs h.1)
+
+lines_add : (n : ℕ) (ps : List (List Command)) (cs : List Command) → program_lines n (ps ++ cs ∷ []) ≡ program_lines n ps ++ line.Process (n + length ps) ∷ map line.Command cs
+lines_add n [] cs = rw (append-nil, add-zero) refl
+lines_add n (p ∷ ps) cs =
+    let k : (n + 1) + length ps ≡ n + suc (length ps) = omega arith in
+    rw (lines_add (n + 1) ps cs, k, append_assoc) refl
+
+-- the lines of one program more
+one_more : (ps : List (List Command)) (i : ℕ) (cs : List Command) → i < length ps → cs ≡ get_or ps i cs
+    → program_lines 0 (take (i + 1) ps) ≡ program_lines 0 (take i ps) ++ line.Process i ∷ map line.Command cs
+one_more ps i cs lt e =
+    let len : 0 + length (take i ps) ≡ i = omega (arith, length-take-le i ps (omega arith)) in
+    let all : take (i + 1) ps ≡ take i ps ++ cs ∷ [] = take_more ps i cs lt ∙ ap (λ (c : List Command). take i ps ++ c ∷ []) (sym e) in
+    rw (all, lines_add 0 (take i ps) cs, len) refl
+
+pub program_text : (ps : List (List Command)) (i : ℕ) (cs : List Command) → i < length ps → cs ≡ get_or ps i cs
+    → text_of (map line_words (program_lines 0 (take (i + 1) ps)))
+    ≡ text_of (map line_words (program_lines 0 (take i ps))) ++ (codes "process " ++ decimal i ++ 10 ∷ [] ++ text_of (map command_words cs))
+program_text ps i cs lt e = rw (one_more ps i cs lt e, map-append, lines_append, map-map line_words line.Command cs) refl
+
+pub program_fits : (ps : List (List Command)) (i : ℕ) (cs : List Command) → i < length ps → cs ≡ get_or ps i cs → FitsLine (line.Process i)
+    → AllByRecursion FitsLine (program_lines 0 (take i ps)) → AllByRecursion FitsCommand cs → AllByRecursion FitsLine (program_lines 0 (take (i + 1) ps))
+program_fits ps i cs lt e number before commands =
+    rw (one_more ps i cs lt e) (all_append FitsLine (program_lines 0 (take i ps)) (line.Process i ∷ map line.Command cs) before (number, all_map FitsLine line.Command cs commands))
+
+pub body_text : (v : ProgramLists) → programs_text v
+    ≡ codes "programs 1\n" ++ text_of (map driver_words v.drivers) ++ text_of (map line_words (program_lines 0 v.programs)) ++ codes "end\n"
+body_text v = simp (map-append, map-map, lines_append, append_assoc)
+
+pub body_fits : (v : ProgramLists) → AllByRecursion FitsDriver v.drivers → AllByRecursion FitsLine (program_lines 0 v.programs) → AllByRecursion FitsLine (body v)
+body_fits v drivers programs = all_append FitsLine (map line.Driver v.drivers) (program_lines 0 v.programs) (all_map FitsLine line.Driver v.drivers drivers) programs
+
+four_groups : (ls ks js is : List (List (List ℕ))) → text_of (ls ++ ks ++ js ++ is) ≡ text_of ls ++ text_of ks ++ text_of js ++ text_of is
+four_groups ls ks js is = rw (lines_append (ls ++ ks ++ js) is, lines_append (ls ++ ks) js, lines_append ls ks) refl
+
+pub whole_text : (t : Transcript) → transcript_text t
+    ≡ codes "transcript 1\n" ++ text_of (map driver_words t.drivers) ++ text_of (map entry_words t.entries) ++ codes "config\n" ++ text_of (view_lines t.view) ++ codes "end\n"
+whole_text t =
+    four_groups (header ∷ map driver_words t.drivers) (map entry_words t.entries) (config ∷ view_lines t.view) (end ∷ [])
+    ∙ regroup (codes "transcript 1\n") (text_of (map driver_words t.drivers)) (text_of (map entry_words t.entries)) (codes "config\n") (text_of (view_lines t.view)) (codes "end\n")
+  where
+    header : List (List ℕ)
+    header = codes "transcript" ∷ codes "1" ∷ []
+
+    config : List (List ℕ)
+    config = codes "config" ∷ []
+
+    end : List (List ℕ)
+    end = codes "end" ∷ []
+
+    regroup : (h ds es c v e : List ℕ) → (h ++ ds) ++ es ++ (c ++ v) ++ e ≡ h ++ ds ++ es ++ c ++ v ++ e
+    regroup h ds es c v e = simp append_assoc

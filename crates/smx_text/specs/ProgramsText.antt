@@ -1,0 +1,49 @@
+-- The programs text: drivers, and a program of commands for each process.
+use Rattle.std.specs.Prelude.{◌≡◌, ℕ, ◌+◌, List, [], ◌∷◌, ◌++◌, map, codes}
+use Rattle.std.specs.List.{AllByRecursion}
+use Rattle.std.specs.Fmt.{decimal}
+use Rattle.smx_types.specs.ProgramLists.{ProgramLists, AreWithinLimits}
+use Rattle.smx_types.specs.declared.command.Command.{Command}
+use Rattle.smx_text.specs.declared.line.Line.{Line}
+use Rattle.smx_text.specs.declared.line.Line.TheVariants as line
+use Rattle.smx_text.specs.Words.{text_of}
+use Rattle.smx_text.specs.Spelling.{driver_words, command_words}
+use Rattle.smx_text.specs.Spellable.{FitsNumber, FitsDriver, FitsCommand}
+
+abbrev pub header_words : List (List ℕ)
+header_words = codes "programs" ∷ codes "1" ∷ []
+
+abbrev pub line_words : Line → List (List ℕ)
+line_words (line.Driver d) = driver_words d
+line_words (line.Process number) = codes "process" ∷ decimal number ∷ []
+line_words (line.Command c) = command_words c
+line_words line.End = codes "end" ∷ []
+
+abbrev pub FitsLine : Line → Type 0
+FitsLine (line.Driver d) = FitsDriver d
+FitsLine (line.Process number) = FitsNumber number
+FitsLine (line.Command c) = FitsCommand c
+FitsLine line.End = Unit {0}
+
+-- from process n on, each process' line and then its commands
+abbrev pub program_lines : ℕ → List (List Command) → List Line
+program_lines n [] = []
+program_lines n (commands ∷ programs) = line.Process n ∷ (map line.Command commands ++ program_lines (n + 1) programs)
+
+-- the lines between the header and the end
+abbrev pub body : ProgramLists → List Line
+body v = map line.Driver v.drivers ++ program_lines 0 v.programs
+
+-- the one text of these programs
+abbrev pub programs_text : ProgramLists → List ℕ
+programs_text v = text_of (header_words ∷ map line_words (body v) ++ line_words line.End ∷ [])
+
+-- within the limits, and each line can be spelled
+pub record IsAllowed (v : ProgramLists) : Type 0 where
+  pub within : AreWithinLimits v
+  pub fits : AllByRecursion FitsLine (body v)
+
+-- these bytes spell these programs
+pub record SpellsPrograms (bytes : List ℕ) (v : ProgramLists) : Type 0 where
+  pub allowed : IsAllowed v
+  pub text : bytes ≡ programs_text v

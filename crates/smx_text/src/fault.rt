@@ -1,0 +1,56 @@
+//! Why a text is refused.
+
+ghost use Rattle.std.specs.Prelude.{◌≡◌};
+ghost use Rattle.smx_text.specs.declared.fault.Cause.TheVariants.{NoMemory as memory};
+
+use smx_types::NoMemory;
+use std::alloc::AllocFailed;
+
+/// What is wrong with a line of a text.
+#[derive(Clone, Copy, Debug, PartialEq, Eq)]
+pub enum Cause {
+    /// The first line is whole and is not the header.
+    Header,
+    /// A whole line is none of those that may stand there.
+    Form,
+    /// A well-formed line is one more than there may be of its kind.
+    Many,
+    /// No line feed follows before the input ends, or the input ends before the line `end`.
+    Cut,
+    /// A byte follows the line `end`.
+    Trailing,
+    /// A growth was refused while the line was read.
+    NoMemory,
+}
+
+/// The first line at which something is wrong, numbered from 1, and what that is.
+#[derive(Clone, Copy, Debug, PartialEq, Eq)]
+pub struct TextFault {
+    pub line: usize,
+    pub cause: Cause,
+}
+
+impl Cause {
+    // The fault at a line.
+    pub(crate) fn at(self, line: usize) -> TextFault
+        ensures { result ≡ record { line = line; cause = self } }
+    {
+        TextFault { line, cause: self }
+    }
+}
+
+impl<T: Drop> From<AllocFailed<T>> for Cause {
+    ghost from_gives = { λ _ e. e ≡ memory };
+
+    fn from(_e: AllocFailed<T>) -> Cause {
+        Cause::NoMemory
+    }
+}
+
+impl From<NoMemory> for Cause {
+    ghost from_gives = { λ _ e. e ≡ memory };
+
+    fn from(_e: NoMemory) -> Cause {
+        Cause::NoMemory
+    }
+}

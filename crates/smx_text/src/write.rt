@@ -1,0 +1,72 @@
+//! Writing texts.
+
+ghost use Rattle.std.specs.Prelude.{◌≡◌, ◌<◌, ◌^◌, ◌++◌, length, map, IfOk, OnOk};
+ghost use Rattle.std.specs.List.{AllByRecursion};
+ghost use Rattle.smx_text.specs.ProgramsText.{line_words, program_lines, programs_text, FitsLine, IsAllowed};
+ghost use Rattle.smx_text.specs.Spellable.{FitsNumber, FitsDescriptor};
+ghost use Rattle.smx_text.specs.TranscriptText.{view_lines, transcript_text, IsSpellable};
+ghost use Rattle.smx_text.specs.Words.{text_of};
+
+mod spelled;
+#[cfg(test)]
+mod tests;
+
+use smx_types::{Commands, ConfigView, NoMemory, Programs, Transcript};
+use spelled::{put_lines, put_number, put_spaced};
+use std::alloc::Global;
+
+/// The one text of these programs. Fails only for want of memory.
+#[tactic(auto, using(crate::proofs::WritingLemmas::body_fits))]
+pub fn write_programs(alloc: Global, programs: &Programs) -> Result<Vec<u8>, NoMemory>
+    ensures written { IfOk result (λ v. v.items ≡ programs_text programs.now) }
+    // So what is written is read again, whatever these programs are.
+    ensures allowed { OnOk result (IsAllowed programs.now) }
+{
+    let mut out = Vec::from_slice(alloc, b"programs 1\n")?;
+    put_lines(&mut out, programs.drivers())?;
+    put_programs(&mut out, programs.programs())?;
+    out.extend_from_slice(b"end\n")?;
+    Ok(out)
+}
+
+/// The one text of this transcript. Fails only for want of memory.
+pub fn write_transcript(alloc: Global, transcript: &Transcript) -> Result<Vec<u8>, NoMemory>
+    ensures written { IfOk result (λ v. v.items ≡ transcript_text transcript.now) }
+    // So what is written is read again, whatever this transcript is.
+    ensures spellable { OnOk result (IsSpellable transcript.now) }
+{
+    let mut out = Vec::from_slice(alloc, b"transcript 1\n")?;
+    put_lines(&mut out, transcript.drivers.as_slice())?;
+    put_lines(&mut out, transcript.entries.as_slice())?;
+    out.extend_from_slice(b"config\n")?;
+    put_view(&mut out, &transcript.view)?;
+    out.extend_from_slice(b"end\n")?;
+    Ok(out)
+}
+
+fn put_view(out: &mut Vec<u8>, view: &ConfigView) -> Result<(), NoMemory>
+    ensures written { OnOk result (out.new.items ≡ out.old.items ++ text_of (view_lines view.now)) }
+    ensures next_id { OnOk result (FitsNumber view.now.next_id) }
+    ensures next_serial { OnOk result (FitsNumber view.now.next_serial) }
+    ensures fds { OnOk result (AllByRecursion FitsDescriptor view.now.fds) }
+{
+    out.extend_from_slice(b"next")?;
+    put_spaced(out, view.next_id)?;
+    put_spaced(out, view.next_serial)?;
+    out.push(b'\n')?;
+    put_lines(out, view.fds.as_slice())
+}
+
+fn put_programs(out: &mut Vec<u8>, programs: &[Commands]) -> Result<(), NoMemory>
+    requires { length programs.now < 2 ^ 32 }
+    ensures written { OnOk result (out.new.items ≡ out.old.items ++ text_of (map line_words (program_lines 0 programs.now))) }
+    ensures fits { OnOk result (AllByRecursion FitsLine (program_lines 0 programs.now)) }
+{
+    for (i, commands) in programs.iter().enumerate() {
+        out.extend_from_slice(b"process ")?;
+        put_number(out, i as u32)?;
+        out.push(b'\n')?;
+        put_lines(out, commands.as_slice())?;
+    }
+    Ok(())
+}

@@ -1,0 +1,4 @@
+pub mod Names
+pub mod NameFields
+pub mod Drivers
+pub mod ProgramLists

@@ -1,0 +1,18 @@
+-- How the fields of a name hold its text. No public clause needs this.
+use Rattle.std.specs.Prelude.{◌≡◌, ℕ, IsTrue, List, take, length}
+use Rattle.std.proofs.Common.{sym, ap, ◌∙◌}
+use Rattle.smx_types.specs.declared.name.Name.TheInside.{Inside}
+use Rattle.smx_types.specs.Names.{is_name, padded}
+
+-- the first `len` bytes spell a name, and the others are zero
+pub record IsPadded (n : Inside) : Type 0 where
+  pub spelled : IsTrue (is_name (take n.len n.bytes))
+  pub len : n.len ≡ length (take n.len n.bytes)
+  pub padding : n.bytes ≡ padded (take n.len n.bytes)
+
+abbrev inside : ℕ → List ℕ → Inside
+inside len bytes = record { len = len; bytes = bytes }
+
+-- so the text gives the fields back
+pub padded_view : (n : Inside) → IsPadded n → record { len = length (take n.len n.bytes); bytes = padded (take n.len n.bytes) } ≡ n
+padded_view n h = ap (λ (len : ℕ). inside len (padded (take n.len n.bytes))) (sym h.len) ∙ ap (inside n.len) (sym h.padding)

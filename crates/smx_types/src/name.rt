@@ -1,0 +1,112 @@
+//! The name of a driver.
+
+ghost use Rattle.std.specs.Prelude.{◌≡◌, ◌↔◌, IsSome, IfSome, IsTrue};
+ghost use Rattle.std.specs.List.{list_all};
+ghost use Rattle.smx_types.specs.Names.{is_letter, is_name_byte, is_name};
+
+use std::marker::Model;
+
+/// A driver's name: 1 to 8 of `a` to `z` and `0` to `9`, the first a letter. A contract sees its bytes.
+#[derive(Clone, Copy, Debug)]
+pub struct Name {
+    len: u8,
+    bytes: [u8; 8],
+}
+
+impl Model for Name {
+    ghost use Rattle.std.specs.Prelude.{ℕ, List, take, length};
+    ghost use Rattle.smx_types.specs.Names.{padded};
+
+    ghost Value = { List ℕ };
+
+    ghost use Rattle.smx_types.specs.NameFields.{IsPadded, padded_view};
+
+    ghost view = { λ n. take n.len n.bytes };
+
+    ghost invariant = { IsPadded };
+
+    ghost inverse = { λ text. record { len = length text; bytes = padded text } };
+
+    ghost inverse_ok = { padded_view };
+}
+
+impl PartialEq for Name {
+    ghost use Rattle.std.specs.Prelude.{nat_eq};
+    ghost use Rattle.std.specs.Cmp.Lexicographic.{pointwise};
+    ghost use Rattle.std.specs.Cmp.Rules.{comparing};
+    ghost use Rattle.std.proofs.Common.{rules};
+
+    ghost eq = { λ a b. pointwise nat_eq a b };
+
+    ghost laws = { Prim.search (comparing, rules) };
+
+    fn eq(&self, other: &Name) -> bool {
+        self.as_bytes() == other.as_bytes()
+    }
+}
+
+impl Eq for Name {
+    ghost use Rattle.std.specs.Cmp.Rules.{comparing};
+    ghost use Rattle.std.proofs.Common.{rules};
+
+    ghost laws = { Prim.search (comparing, rules) };
+}
+
+impl Name {
+    /// The name that a text spells; `None` exactly where it spells none. Takes no memory.
+    pub fn new(text: &str) -> Option<Name>
+        ensures valid { IsSome result ↔ IsTrue (is_name text.now) }
+        ensures value { IfSome result (λ n. n ≡ text.now) }
+    {
+        Name::from_bytes(text.as_bytes())
+    }
+
+    /// The name that bytes spell; `None` exactly where they spell none. Takes no memory.
+    pub fn from_bytes(bytes: &[u8]) -> Option<Name>
+        ensures valid { IsSome result ↔ IsTrue (is_name bytes.now) }
+        ensures value { IfSome result (λ n. n ≡ bytes.now) }
+    {
+        if !is_name(bytes) {
+            return None;
+        }
+        let len = bytes.len();
+        let mut padded = [0u8; 8];
+        padded[..len].copy_from_slice(bytes);
+        Some(Name {
+            len: len as u8,
+            bytes: padded,
+        })
+    }
+
+    /// Its bytes, which always spell a name. Takes no memory.
+    pub fn as_bytes(&self) -> &[u8]
+        ensures value { result.now ≡ self.now }
+        ensures name { IsTrue (is_name self.now) }
+    {
+        &self.bytes[..self.len as usize]
+    }
+}
+
+fn is_letter(byte: u8) -> bool
+    ensures { result ≡ is_letter byte }
+{
+    byte.is_ascii_lowercase()
+}
+
+fn is_name_byte(byte: u8) -> bool
+    ensures { result ≡ is_name_byte byte }
+{
+    is_letter(byte) || byte.is_ascii_digit()
+}
+
+fn are_name_bytes(bytes: &[u8]) -> bool
+    ensures { result ≡ list_all is_name_byte bytes.now }
+{
+    bytes.iter().all(|b| is_name_byte(*b))
+}
+
+fn is_name(bytes: &[u8]) -> bool
+    ensures { result ≡ is_name bytes.now }
+{
+    !bytes.is_empty() && is_letter(bytes[0]) && bytes.len() <= 8 && are_name_bytes(bytes)
+}

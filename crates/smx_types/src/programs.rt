@@ -1,0 +1,99 @@
+//! Drivers, and a program of commands for each process.
+
+ghost use Rattle.std.specs.Prelude.{◌≡◌, ◌≤◌, ◌<◌, ◌↔◌, length, IfOk, IfErr, IsOk, IsTrue};
+ghost use Rattle.std.specs.List.{sum_by};
+ghost use Rattle.smx_types.specs.declared.limits.TheConstants.{MAX_COMMANDS};
+ghost use Rattle.smx_types.specs.ProgramLists.{lists, AreWithinLimits};
+
+use crate::command::Commands;
+use crate::driver::{DriverSpec, Drivers};
+use crate::items::Items;
+use crate::limits::{MAX_COMMANDS, MAX_DRIVERS, MAX_PROCESSES};
+use crate::memory::NoMemory;
+use std::alloc::Global;
+use std::marker::Model;
+
+/// The commands of process 0, of process 1, and so on.
+pub type ProgramList = Items<Commands>;
+
+/// More drivers, programs or commands than there may be: what was given, as it was given.
+#[derive(Debug, Drop, PartialEq)]
+pub struct Many {
+    pub drivers: Drivers,
+    pub programs: ProgramList,
+}
+
+/// At most 64 drivers, at most 64 programs, and at most 100,000 commands in all of them.
+#[derive(Debug, Drop)]
+pub struct Programs {
+    drivers: Drivers,
+    programs: ProgramList,
+}
+
+impl Model for Programs {
+    ghost use Rattle.smx_types.specs.ProgramLists.{ProgramLists, AreWithinLimits};
+
+    ghost Value = { ProgramLists };
+
+    ghost view = { λ p. record { drivers = p.drivers; programs = p.programs } };
+
+    ghost invariant = { λ p. AreWithinLimits (record { drivers = p.drivers; programs = p.programs }) };
+}
+
+impl Programs {
+    /// These drivers and programs, unless they are too many: `Many` hands both lists back, and comes
+    /// exactly where there are over 64 drivers, 64 programs or 100,000 commands. Takes no memory.
+    pub fn new(drivers: Drivers, programs: ProgramList) -> Result<Programs, Many>
+        ensures taken { IfOk result (λ p. p ≡ lists drivers programs) }
+        ensures given_back { IfErr result (λ m. m ≡ record { drivers = drivers; programs = programs }) }
+        ensures within { IsOk result ↔ AreWithinLimits (lists drivers programs) }
+    {
+        if drivers.as_slice().len() > MAX_DRIVERS
+            || programs.as_slice().len() > MAX_PROCESSES as usize
+            || !are_few(programs.as_slice())
+        {
+            return Err(Many { drivers, programs });
+        }
+        Ok(Programs { drivers, programs })
+    }
+
+    /// The drivers. Takes no memory.
+    pub fn drivers(&self) -> &[DriverSpec]
+        ensures drivers { result.now ≡ self.now.drivers }
+        ensures within { AreWithinLimits self.now }
+    {
+        self.drivers.as_slice()
+    }
+
+    /// The program of each process. Takes no memory.
+    pub fn programs(&self) -> &[Commands]
+        ensures programs { result.now ≡ self.now.programs }
+        ensures within { AreWithinLimits self.now }
+    {
+        self.programs.as_slice()
+    }
+
+    /// The same programs again. Fails only for want of memory.
+    pub fn copy(&self, alloc: Global) -> Result<Programs, NoMemory>
+        ensures { IfOk result (λ c. c ≡ self.now) }
+    {
+        let drivers = self.drivers.copy(alloc)?;
+        let programs = self.programs.copy(alloc)?;
+        Ok(Programs { drivers, programs })
+    }
+}
+
+// Whether there are at most 100,000 commands.
+fn are_few(programs: &[Commands]) -> bool
+    ensures { IsTrue result ↔ (sum_by length programs.now ≤ MAX_COMMANDS) }
+{
+    let mut room = MAX_COMMANDS;
+    for commands in programs {
+        let count = commands.as_slice().len();
+        if count > room {
+            return false;
+        }
+        room -= count;
+    }
+    true
+}
