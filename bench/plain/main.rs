@@ -94,7 +94,7 @@ fn run() -> Result<(), Fault> {
     let input = read_all()?;
     let programs = read_programs(&input)?;
     check_drivers(&programs.drivers)?;
-    let output = transcript(&programs);
+    let output = transcript(&report(programs));
     let mut sink = io::stdout().lock();
     sink.write_all(&output).map_err(|_| Fault::WriteFailed)?;
     sink.flush().map_err(|_| Fault::WriteFailed)
@@ -337,29 +337,61 @@ impl Config<'_> {
     }
 }
 
-// Writing the transcript, each entry as its command is run.
+// What has come of it: the history, and what is open at its end.
 
-fn transcript(programs: &Programs) -> Vec<u8> {
-    let mut out = b"transcript 1\n".to_vec();
-    for driver in &programs.drivers {
-        put_driver(&mut out, driver);
-    }
+struct Entry {
+    process: u32,
+    command: Command,
+    reply: Result<Reply, &'static str>,
+}
+
+struct Report {
+    drivers: Vec<Driver>,
+    entries: Vec<Entry>,
+    fds: Vec<Descriptor>,
+}
+
+fn report(programs: Programs) -> Report {
+    let drivers = programs.drivers;
     let mut config = Config {
-        drivers: &programs.drivers,
+        drivers: &drivers,
         fds: Vec::new(),
     };
-    for (process, commands) in (0..).zip(&programs.programs) {
+    let mut entries = Vec::new();
+    for (process, commands) in (0..).zip(programs.programs) {
         for command in commands {
-            let reply = config.step(process, command);
-            put_entry(&mut out, process, command, reply);
+            let reply = config.step(process, &command);
+            entries.push(Entry {
+                process,
+                command,
+                reply,
+            });
         }
     }
+    let fds = config.fds;
+    Report {
+        drivers,
+        entries,
+        fds,
+    }
+}
+
+// Writing the transcript.
+
+fn transcript(report: &Report) -> Vec<u8> {
+    let mut out = b"transcript 1\n".to_vec();
+    for driver in &report.drivers {
+        put_driver(&mut out, driver);
+    }
+    for entry in &report.entries {
+        put_entry(&mut out, entry);
+    }
     out.extend_from_slice(b"config\nnext 1 1\n");
-    for d in &config.fds {
+    for d in &report.fds {
         out.extend_from_slice(b"fd");
         put_number(&mut out, d.process);
         put_number(&mut out, d.fd);
-        put_name(&mut out, config.drivers[d.driver].name);
+        put_name(&mut out, report.drivers[d.driver].name);
         put_number(&mut out, d.minor);
         out.push(b'\n');
     }
@@ -377,15 +409,15 @@ fn put_driver(out: &mut Vec<u8>, driver: &Driver) {
     out.push(b'\n');
 }
 
-fn put_entry(out: &mut Vec<u8>, process: u32, command: &Command, reply: Result<Reply, &str>) {
-    put_digits(out, process);
-    put_command(out, command);
+fn put_entry(out: &mut Vec<u8>, entry: &Entry) {
+    put_digits(out, entry.process);
+    put_command(out, &entry.command);
     out.extend_from_slice(b" = ");
-    match reply {
+    match &entry.reply {
         Ok(Reply::Fd { fd, minor }) => {
             out.extend_from_slice(b"fd");
-            put_number(out, fd);
-            put_number(out, minor);
+            put_number(out, *fd);
+            put_number(out, *minor);
         }
         Ok(Reply::Done) => out.extend_from_slice(b"done"),
         Err(fault) => out.extend_from_slice(fault.as_bytes()),

@@ -1,4 +1,6 @@
-use super::{Cause, Command, DriverKind, DriverSpec, Name, TextFault, read_programs};
+use super::{
+    Cause, Command, DriverKind, DriverSpec, Name, TextFault, read_programs, write_programs,
+};
 use std::test::Fail;
 
 const OPENS_AND_CLOSES: &[u8] =
@@ -106,5 +108,20 @@ fn refuses_the_65th_process(rt: HostRuntime) -> Result<(), Fail> {
         read_programs(rt.alloc(), text.as_slice()).err(),
         Some(fault)
     );
+    Ok(())
+}
+
+#[test]
+fn writes_what_it_read(rt: HostRuntime) -> Result<(), Fail> {
+    let texts = [
+        OPENS_AND_CLOSES,
+        b"programs 1\nend\n".as_slice(),
+        b"programs 1\ndriver a9 leaf 0 4294967295 10 9\nprocess 0\nprocess 1\nopen b 99\ndup 100\nexit\nprocess 2\nend\n",
+    ];
+    for text in texts {
+        let programs = read_programs(rt.alloc(), text)?;
+        let again = write_programs(rt.alloc(), &programs).ok().ok_or("memory")?;
+        assert_eq!(rt; again.as_slice(), text);
+    }
     Ok(())
 }

@@ -61,7 +61,7 @@ fn finds_every_front_cut(rt: HostRuntime) -> Result<(), Fail> {
     assert_eq!(rt; OPENS_AND_CLOSES.len(), 83);
     for k in 0..OPENS_AND_CLOSES.len() {
         let front = &OPENS_AND_CLOSES[..k];
-        let line = lines_in(front) + 1;
+        let line = lines_in(front).saturating_add(1);
         let line = format!(in rt.alloc(); "line {line}: cut")?;
         wants(&rt, front, line.as_str());
     }
@@ -73,7 +73,7 @@ fn finds_every_wrong_byte(rt: HostRuntime) -> Result<(), Fail> {
     for k in 0..OPENS_AND_CLOSES.len() {
         let mut input = Vec::from_slice(rt.alloc(), OPENS_AND_CLOSES)?;
         input[k] = 0xff;
-        let line = lines_in(&OPENS_AND_CLOSES[..k]) + 1;
+        let line = lines_in(&OPENS_AND_CLOSES[..k]).saturating_add(1);
         let cause = match k {
             0..=10 => "header",
             82 => "cut",
