@@ -1,6 +1,7 @@
 use super::{
-    Command, Commands, DriverKind, DriverSpec, Drivers, Entries, Entry, Items, Name, Process,
-    ProgramList, Programs, Reply, Serials, SpecFault,
+    Command, Commands, ConfigView, DescriptorLine, DescriptorLines, DriverKind, DriverSpec,
+    Drivers, Entries, Entry, Items, Name, Process, ProgramList, Programs, Reply, Serials,
+    SpecFault, Transcript,
 };
 use std::alloc::Global;
 use std::test::Fail;
@@ -106,5 +107,43 @@ fn copies_are_equal(rt: HostRuntime) -> Result<(), Fail> {
     assert!(rt; again == entries);
     let serials: Items<u32> = Items::from_vec(vec![in rt.alloc(); 2u32]?);
     assert_eq!(rt; serials.into_vec().as_slice(), [2u32].as_slice());
+    Ok(())
+}
+
+#[test]
+fn copies_of_a_run_are_equal(rt: HostRuntime) -> Result<(), Fail> {
+    let mut commands = Commands::new(rt.alloc());
+    commands
+        .push(Command::Close { fd: 7 })
+        .ok()
+        .ok_or("memory")?;
+    commands.push(Command::CloseAll).ok().ok_or("memory")?;
+    let mut programs = ProgramList::new(rt.alloc());
+    programs.push(commands).ok().ok_or("memory")?;
+    let programs = Programs::new(many_drivers(rt.alloc(), 1)?, programs)
+        .ok()
+        .ok_or("few enough")?;
+    let again = programs.copy(rt.alloc()).ok().ok_or("memory")?;
+    assert_eq!(rt; again.drivers(), programs.drivers());
+    assert!(rt; again.programs() == programs.programs());
+    let line = DescriptorLine {
+        process: Process::new(63).ok_or("a process")?,
+        fd: 15,
+        driver: Name::new("ip").ok_or("a name")?,
+        minor: 3,
+    };
+    let transcript = Transcript {
+        drivers: many_drivers(rt.alloc(), 2)?,
+        entries: Entries::new(rt.alloc()),
+        view: ConfigView {
+            next_id: 1,
+            next_serial: 2,
+            fds: DescriptorLines::from_vec(vec![in rt.alloc(); line]?),
+        },
+    };
+    let again = transcript.copy(rt.alloc()).ok().ok_or("memory")?;
+    assert!(rt; again == transcript);
+    let view = transcript.view.copy(rt.alloc()).ok().ok_or("memory")?;
+    assert!(rt; view == transcript.view);
     Ok(())
 }
