@@ -110,40 +110,52 @@ fn copies_are_equal(rt: HostRuntime) -> Result<(), Fail> {
     Ok(())
 }
 
+fn two_closes(alloc: Global) -> Result<Commands, Fail> {
+    let commands = vec![in alloc; Command::Close { fd: 7 }, Command::CloseAll]?;
+    Ok(Commands::from_vec(commands))
+}
+
 #[test]
-fn copies_of_a_run_are_equal(rt: HostRuntime) -> Result<(), Fail> {
-    let mut commands = Commands::new(rt.alloc());
-    commands
-        .push(Command::Close { fd: 7 })
-        .ok()
-        .ok_or("memory")?;
-    commands.push(Command::CloseAll).ok().ok_or("memory")?;
-    let mut programs = ProgramList::new(rt.alloc());
-    programs.push(commands).ok().ok_or("memory")?;
-    let programs = Programs::new(many_drivers(rt.alloc(), 1)?, programs)
-        .ok()
-        .ok_or("few enough")?;
+fn copies_of_programs_are_equal(rt: HostRuntime) -> Result<(), Fail> {
+    let list = ProgramList::from_vec(vec![in rt.alloc(); two_closes(rt.alloc())?]?);
+    let drivers = many_drivers(rt.alloc(), 1)?;
+    let programs = Programs::new(drivers, list).ok().ok_or("few enough")?;
     let again = programs.copy(rt.alloc()).ok().ok_or("memory")?;
     assert_eq!(rt; again.drivers(), programs.drivers());
     assert!(rt; again.programs() == programs.programs());
+    Ok(())
+}
+
+fn view(alloc: Global) -> Result<ConfigView, Fail> {
     let line = DescriptorLine {
         process: Process::new(63).ok_or("a process")?,
         fd: 15,
         driver: Name::new("ip").ok_or("a name")?,
         minor: 3,
     };
+    Ok(ConfigView {
+        next_id: 1,
+        next_serial: 2,
+        fds: DescriptorLines::from_vec(vec![in alloc; line]?),
+    })
+}
+
+#[test]
+fn copies_of_transcripts_are_equal(rt: HostRuntime) -> Result<(), Fail> {
     let transcript = Transcript {
         drivers: many_drivers(rt.alloc(), 2)?,
         entries: Entries::new(rt.alloc()),
-        view: ConfigView {
-            next_id: 1,
-            next_serial: 2,
-            fds: DescriptorLines::from_vec(vec![in rt.alloc(); line]?),
-        },
+        view: view(rt.alloc())?,
     };
     let again = transcript.copy(rt.alloc()).ok().ok_or("memory")?;
     assert!(rt; again == transcript);
-    let view = transcript.view.copy(rt.alloc()).ok().ok_or("memory")?;
-    assert!(rt; view == transcript.view);
+    Ok(())
+}
+
+#[test]
+fn copies_of_views_are_equal(rt: HostRuntime) -> Result<(), Fail> {
+    let view = view(rt.alloc())?;
+    let again = view.copy(rt.alloc()).ok().ok_or("memory")?;
+    assert!(rt; again == view);
     Ok(())
 }
