@@ -1,4 +1,5 @@
-//! `muxsim run` in plain Rust, with the same texts, faults and statuses, to compare times with.
+//! `muxsim run` in plain Rust for the commands that open and close alone, with the same texts, faults and statuses,
+//! to compare times with.
 
 use std::fmt::{self, Display, Formatter};
 use std::io::{self, Read, Write};

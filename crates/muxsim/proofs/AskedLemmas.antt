@@ -85,4 +85,5 @@ report_of programs s t h same can asked = record {
   legal = rw (← same, h.entries) h.legal;
   holds = holds t.entries programs.programs (ap (map asked_of) h.entries ∙ asked);
   shown = rw (← same, h.entries) h.shown;
+  lawful = rw (← same, h.entries) h.lawful;
 }

@@ -1,6 +1,3 @@
-pub mod PlaceLemmas
-pub mod DriverListLemmas
-pub mod NamedLemmas
 pub mod AskedLemmas
 pub mod RecordLemmas
 pub mod InputLemmas

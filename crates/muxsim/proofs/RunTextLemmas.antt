@@ -6,7 +6,7 @@ use Rattle.std.specs.Io.KnownBytes.{Keeps}
 use Rattle.smx_text.specs.ProgramsReading.{IsFault}
 use Rattle.smx_text.specs.Words.{split}
 use Rattle.smx_text.specs.declared.fault.TextFault.{TextFault}
-use Rattle.muxsim.specs.declared.fault.ConfigFault.{ConfigFault}
+use Rattle.smx_config.specs.declared.fault.ConfigFault.{ConfigFault}
 use Rattle.muxsim.specs.declared.fault.MainFault.{MainFault}
 use Rattle.muxsim.specs.declared.fault.MainFault.TheVariants.{Refused, Text, TooLong, ReadFailed, WriteFailed}
 use Rattle.muxsim.specs.declared.fault.RunFault.TheVariants as run

@@ -1,8 +1,4 @@
-pub mod DriverFaults
-pub mod Machine
 pub mod Asked
-pub mod Places
-pub mod ConfigFields
 pub mod Recorded
 pub mod RunFaults
 pub mod Statuses

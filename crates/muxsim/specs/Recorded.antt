@@ -5,8 +5,9 @@ use Rattle.smx_types.specs.declared.driver.DriverSpec.{DriverSpec}
 use Rattle.smx_model.specs.DriverList.{IsDriverList}
 use Rattle.smx_types.specs.declared.transcript.Transcript.{Transcript}
 use Rattle.smx_model.specs.Histories.{IsLegal, after}
+use Rattle.smx_model.specs.LawfulHistories.{IsLawfulThroughout}
 use Rattle.smx_model.specs.Views.{view}
-use Rattle.muxsim.specs.Machine.{Machine}
+use Rattle.smx_config.specs.Machine.{Machine}
 
 pub record Recorded : Type 0 where
   pub drivers : List DriverSpec
@@ -16,11 +17,12 @@ pub record Recorded : Type 0 where
 pub record IsRecord (m : Machine) (history : List Entry) : Type 0 where
   pub can_be_had : IsDriverList m.drivers
   pub legal : IsLegal m.drivers history
-  pub now : m.now ≡ after m.drivers history
+  pub now : m.configuration ≡ after m.drivers history
 
--- a report of a system: its drivers, its history, which is legal, and the view of the configuration after that
+-- a report of a system: its drivers, its history, which is legal and lawful throughout, and the view of the configuration after that
 pub record Reports (s : Recorded) (report : Transcript) : Type 0 where
   pub drivers : report.drivers ≡ s.drivers
   pub entries : report.entries ≡ s.history
   pub legal : IsLegal s.drivers s.history
+  pub lawful : IsLawfulThroughout s.drivers s.history
   pub shown : report.view ≡ view s.drivers (after s.drivers s.history)

@@ -1,11 +1,11 @@
 -- Why a run is refused: its drivers are, or memory was wanting.
 use Rattle.std.specs.Prelude.{◌≢◌, List}
 use Rattle.smx_types.specs.declared.driver.DriverSpec.{DriverSpec}
-use Rattle.muxsim.specs.declared.fault.ConfigFault.{ConfigFault}
-use Rattle.muxsim.specs.declared.fault.ConfigFault.TheVariants as config
+use Rattle.smx_config.specs.declared.fault.ConfigFault.{ConfigFault}
+use Rattle.smx_config.specs.declared.fault.ConfigFault.TheVariants as config
 use Rattle.muxsim.specs.declared.fault.RunFault.{RunFault}
 use Rattle.muxsim.specs.declared.fault.RunFault.TheVariants as run
-use Rattle.muxsim.specs.DriverFaults.{RefusesDrivers}
+use Rattle.smx_config.specs.DriverFaults.{RefusesDrivers}
 
 -- want of memory is one fault, whoever met it
 abbrev pub run_fault_of : ConfigFault → RunFault

@@ -10,7 +10,7 @@ use Rattle.smx_text.specs.declared.fault.TextFault.{TextFault}
 use Rattle.smx_text.specs.ProgramsText.{SpellsPrograms}
 use Rattle.smx_text.specs.TranscriptText.{transcript_text}
 use Rattle.smx_text.specs.Words.{split}
-use Rattle.muxsim.specs.declared.fault.ConfigFault.{ConfigFault}
+use Rattle.smx_config.specs.declared.fault.ConfigFault.{ConfigFault}
 use Rattle.muxsim.specs.declared.fault.MainFault.{MainFault}
 use Rattle.muxsim.specs.declared.fault.MainFault.TheVariants.{Refused, Text, TooLong, ReadFailed, WriteFailed}
 use Rattle.muxsim.specs.declared.fault.RunFault.{RunFault}

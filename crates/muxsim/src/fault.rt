@@ -5,6 +5,7 @@ ghost use Rattle.muxsim.specs.Statuses.{status_of};
 ghost use Rattle.muxsim.specs.declared.fault.MainFault.TheVariants.{Refused};
 ghost use Rattle.muxsim.specs.declared.fault.RunFault.TheVariants.{NoMemory};
 
+use smx_config::ConfigFault;
 use smx_text::{Cause, TextFault};
 use smx_types::{NoMemory, SpecFault};
 use std::alloc::{AllocError, AllocFailed};
@@ -38,25 +39,8 @@ pub enum RunFault {
     #[error("no memory")]
     NoMemory,
     /// There is no configuration of these drivers.
-    #[error("{0}")]
+    #[error("{}", ConfigWords(*.0))]
     ConfigFault(ConfigFault),
-}
-
-/// Why there is no configuration of some drivers.
-#[derive(Debug, Drop, Error)]
-pub enum ConfigFault {
-    /// The driver of this number, from 0, is one that can't be had.
-    #[error("driver {} {}", .0, spec_word(*.1))]
-    BadSpec(usize, SpecFault),
-    /// The driver of this number, from 0, has the name of an earlier one.
-    #[error("driver {0} same name")]
-    SameName(usize),
-    /// There are more than 64 drivers.
-    #[error("too many drivers")]
-    TooMany,
-    /// A growth was refused.
-    #[error("no memory")]
-    NoMemory,
 }
 
 impl MainFault {
@@ -170,6 +154,21 @@ fn cause_word(cause: Cause) -> Option<&'static str> {
         Cause::Cut => Some("cut"),
         Cause::Trailing => Some("trailing"),
         Cause::NoMemory => None,
+    }
+}
+
+// The words of a fault of the drivers.
+#[derive(Drop)]
+struct ConfigWords(ConfigFault);
+
+impl fmt::Display for ConfigWords {
+    fn fmt<W: fmt::Write>(&self, f: &mut fmt::Formatter<W>) -> fmt::Result {
+        match self.0 {
+            ConfigFault::BadSpec(i, fault) => write!(f, "driver {i} {}", spec_word(fault)),
+            ConfigFault::SameName(i) => write!(f, "driver {i} same name"),
+            ConfigFault::TooMany => write!(f, "too many drivers"),
+            ConfigFault::NoMemory => write!(f, "no memory"),
+        }
     }
 }
 

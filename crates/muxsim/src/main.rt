@@ -3,10 +3,7 @@
 
 mod asked;
 mod command_line;
-mod config;
-mod descriptors;
 mod device;
-mod driver_list;
 mod fault;
 mod input;
 mod output;

@@ -58,7 +58,7 @@ fn report(alloc: Global, system: System, drivers: &[DriverSpec]) -> Result<Trans
     requires { drivers.now ≡ system.drivers }
     ensures { IfOk result (Reports system) }
 {
-    let view = system.show(alloc)?;
+    let view = system.show()?;
     let drivers = Vec::from_slice(alloc, drivers)?;
     Ok(Transcript {
         drivers: Drivers::from_vec(drivers),

@@ -3,11 +3,12 @@
 ghost use Rattle.std.specs.Prelude.{◌≡◌, ◌++◌, ◌∷◌, [], map, IfOk, IfErr, OnOk, OnErr};
 ghost use Rattle.smx_model.specs.DriverList.{IsDriverList};
 ghost use Rattle.smx_model.specs.Histories.{IsLegal, after, asked_of};
+ghost use Rattle.smx_model.specs.LawfulHistories.{IsLawfulThroughout};
 ghost use Rattle.smx_model.specs.Views.{view};
-ghost use Rattle.muxsim.specs.DriverFaults.{RefusesDrivers};
+ghost use Rattle.smx_config.specs.DriverFaults.{RefusesDrivers};
 
-use crate::config::Config;
-use crate::fault::ConfigFault;
+use smx_config::{Config, ConfigFault};
+use smx_model::laws::lawful_after_each_entry;
 use smx_types::{Command, ConfigView, DriverSpec, Entries, Entry, NoMemory, Process};
 use std::alloc::Global;
 use std::marker::Model;
@@ -56,7 +57,7 @@ impl System {
     {
         self.entries.reserve(1)?;
         let command = command.copy(alloc)?;
-        let reply = self.config.step(alloc, process, &command)?;
+        let reply = self.config.step(process, &command)?;
         self.entries
             .push(Entry {
                 process,
@@ -68,17 +69,19 @@ impl System {
     }
 
     /// The configuration after the history, as it is shown.
-    pub fn show(&self, alloc: Global) -> Result<ConfigView, NoMemory>
+    pub fn show(&self) -> Result<ConfigView, NoMemory>
         ensures { IfOk result (λ v. v ≡ view self.now.drivers (after self.now.drivers self.now.history)) }
     {
-        self.config.show(alloc)
+        self.config.show()
     }
 
-    /// The history, which is legal. Takes no memory.
+    /// The history, which is legal, and lawful after each entry. Takes no memory.
     pub fn into_entries(self) -> Entries
         ensures entries { result ≡ self.history }
         ensures legal { IsLegal self.drivers self.history }
+        ensures lawful { IsLawfulThroughout self.drivers self.history }
     {
+        lawful_after_each_entry();
         Entries::from_vec(self.entries)
     }
 }

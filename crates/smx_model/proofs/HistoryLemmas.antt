@@ -1,16 +1,24 @@
--- Legal histories: their prefixes, and that replies are determined.
-use Rattle.std.proofs.Common.{◌≡◌, ℕ, List, [], ◌∷◌, ◌++◌, map, refl, sym, ap, subst, ◌∙◌}
+-- Legal histories: their prefixes, that replies are determined, and that they are lawful.
+use Rattle.std.proofs.Common.{◌≡◌, ℕ, List, [], ◌∷◌, ◌++◌, length, map, refl, sym, ap, ◌∙◌, subst, arith}
+use Rattle.std.specs.List.{AllPairs, range_with_len}
+use Rattle.std.proofs.lemmas.List.FromFn.{get_or-range_with_len, length-range_with_len}
 use Rattle.smx_types.specs.declared.command.Command.{Command}
 use Rattle.smx_types.specs.declared.command.Entry.{Entry}
 use Rattle.smx_types.specs.declared.driver.DriverSpec.{DriverSpec}
 use Rattle.smx_types.specs.declared.reply.Reply.{Reply}
 use Rattle.smx_model.specs.Commands.{step}
-use Rattle.smx_model.specs.Configuration.{Configuration}
-use Rattle.smx_model.specs.Histories.{IsLegalFrom, asked_of}
+use Rattle.smx_model.specs.Configuration.{Configuration, empty}
+use Rattle.smx_model.specs.Histories.{asked_of, IsLegal, IsLegalFrom}
+use Rattle.smx_model.specs.LawfulHistories.{taken, IsLawful, IsLawfulThroughout}
+use Rattle.smx_model.proofs.ConservationLemmas.{conserving}
+use Rattle.smx_model.proofs.KeptLemmas.{always_is_kept}
 
-pub prefix_legal : (drivers : List DriverSpec) (c : Configuration) (xs ys : List Entry) → IsLegalFrom drivers c (xs ++ ys) → IsLegalFrom drivers c xs
-prefix_legal drivers c [] ys h = tt
-prefix_legal drivers c (x ∷ xs) ys h = (h.0, prefix_legal drivers (step drivers c x.process x.command).0 xs ys h.1)
+prefix_from : (drivers : List DriverSpec) (c : Configuration) (xs ys : List Entry) → IsLegalFrom drivers c (xs ++ ys) → IsLegalFrom drivers c xs
+prefix_from drivers c [] ys h = tt
+prefix_from drivers c (e ∷ xs) ys h = (h.0, prefix_from drivers (step drivers c e.process e.command).0 xs ys h.1)
+
+pub prefix_legal : (drivers : List DriverSpec) (xs ys : List Entry) → IsLegal drivers (xs ++ ys) → IsLegal drivers xs
+prefix_legal drivers xs ys h = prefix_from drivers empty xs ys h
 
 -- an entry is what was asked, with a reply
 abbrev entry_of : ℕ × Command → Reply → Entry
@@ -19,16 +27,39 @@ entry_of asked reply = record { process = asked.0; command = asked.1; reply = re
 abbrev step_of : List DriverSpec → Configuration → ℕ × Command → Configuration × Reply
 step_of drivers c asked = step drivers c asked.0 asked.1
 
-pub determined : (drivers : List DriverSpec) (c : Configuration) (xs ys : List Entry) → IsLegalFrom drivers c xs → IsLegalFrom drivers c ys → map asked_of xs ≡ map asked_of ys → xs ≡ ys
-determined drivers c [] [] h k e = refl
-determined drivers c [] (y ∷ ys) h k e = let differ : [] ≡ asked_of y ∷ map asked_of ys = e in absurd cc
-determined drivers c (x ∷ xs) [] h k e = let differ : asked_of x ∷ map asked_of xs ≡ [] = e in absurd cc
-determined drivers c (x ∷ xs) (y ∷ ys) h k e =
+determined_from : (drivers : List DriverSpec) (c : Configuration) (xs ys : List Entry) → IsLegalFrom drivers c xs → IsLegalFrom drivers c ys → map asked_of xs ≡ map asked_of ys → xs ≡ ys
+determined_from drivers c [] [] h k e = refl
+determined_from drivers c [] (y ∷ ys) h k e = let differ : [] ≡ asked_of y ∷ map asked_of ys = e in absurd cc
+determined_from drivers c (x ∷ xs) [] h k e = let differ : asked_of x ∷ map asked_of xs ≡ [] = e in absurd cc
+determined_from drivers c (x ∷ xs) (y ∷ ys) h k e =
     let all : asked_of x ∷ map asked_of xs ≡ asked_of y ∷ map asked_of ys = e in
     let asked : asked_of x ≡ asked_of y = cc in
     let rest : map asked_of xs ≡ map asked_of ys = cc in
     let steps = ap (step_of drivers c) asked in
     let reply : x.reply ≡ y.reply = sym h.0 ∙ ap (λ (s : Configuration × Reply). s.1) steps ∙ k.0 in
-    let later = determined drivers (step drivers c x.process x.command).0 xs ys h.1 (subst (λ (s : Configuration × Reply). IsLegalFrom drivers s.0 ys) (sym steps) k.1) rest in
+    let later = determined_from drivers (step drivers c x.process x.command).0 xs ys h.1 (subst (λ (s : Configuration × Reply). IsLegalFrom drivers s.0 ys) (sym steps) k.1) rest in
     let first : x ≡ y = ap (λ (a : ℕ × Command). entry_of a x.reply) asked ∙ ap (entry_of (asked_of y)) reply in
     cc
+
+pub determined : (drivers : List DriverSpec) (xs ys : List Entry) → IsLegal drivers xs → IsLegal drivers ys → map asked_of xs ≡ map asked_of ys → xs ≡ ys
+determined drivers xs ys h k e = determined_from drivers empty xs ys h k e
+
+-- numbers from a on differ
+range_apart : (a n : ℕ) → AllPairs (λ x y. x ≡ y → ⊥) (range_with_len a n)
+range_apart a n i j d lt within e =
+    let in_range = length-range_with_len a n in
+    omega (arith, e, in_range, within, lt, get_or-range_with_len a n i d (omega (arith, in_range, within, lt)), get_or-range_with_len a n j d (omega (arith, in_range, within)))
+
+pub lawful : (drivers : List DriverSpec) (history : List Entry) → IsLegal drivers history → IsLawful drivers history
+lawful drivers history legal =
+    let sound = (always_is_kept drivers history).sound.links in
+    let kept = conserving drivers history legal in
+    record {
+      no_cycle = sound.no_cycle;
+      lowers_apart = sound.lowers;
+      taken_once = subst (AllPairs (λ x y. x ≡ y → ⊥)) (sym kept.numbered) (range_apart 1 (length (taken history)));
+      conserved = kept.kept;
+    }
+
+pub lawful_throughout : (drivers : List DriverSpec) (history : List Entry) → IsLegal drivers history → IsLawfulThroughout drivers history
+lawful_throughout drivers history legal xs ys e = lawful drivers xs (prefix_legal drivers xs ys (subst (IsLegal drivers) e legal))

@@ -1,103 +1,220 @@
--- The descriptors stay in their order under every command.
-use Rattle.std.proofs.Common.{◌≡◌, ℕ, Bool, true, false, ◌&&◌, ◌||◌, ◌==◌, not, List, [], ◌∷◌, filter, Option, Some, None, Result, Ok, Err, refl, inl, inr, arith, rules}
+-- Descriptors, bindings, routes and full places stay in their order.
+use Rattle.std.proofs.Common.{◌≡◌, ℕ, Bool, true, false, ◌&&◌, ◌||◌, not, eqb, List, [], ◌∷◌, filter, find, Option, Some, None, Ok, refl, rules, sym, ap, ◌∙◌, arith, inl, inr}
 use Rattle.std.specs.List.{list_any, range_with_len}
-use Rattle.std.specs.Prelude.{find, ◌⊎◌}
-use Rattle.std.proofs.lemmas.Bool.{cases_Bool}
+use Rattle.std.proofs.lemmas.Bool.{cases_Bool, false≢true}
 use Rattle.std.proofs.lemmas.Bool.Decides.{nat_tests}
 use Rattle.smx_types.specs.declared.command.Command.{Command}
 use Rattle.smx_types.specs.declared.command.Command.TheVariants as command
-use Rattle.smx_types.specs.declared.command.Entry.{Entry}
+use Rattle.smx_types.specs.declared.command.Which.{Which}
+use Rattle.smx_types.specs.declared.command.Which.TheVariants as which
 use Rattle.smx_types.specs.declared.driver.DriverSpec.{DriverSpec}
 use Rattle.smx_types.specs.declared.limits.TheConstants.{MAX_DESCRIPTORS}
-use Rattle.smx_types.specs.declared.reply.Fault.{Fault}
-use Rattle.smx_types.specs.declared.reply.Fault.TheVariants.{BadDescriptor, NoDriver, NoMinor, TooManyDescriptors}
-use Rattle.smx_types.specs.declared.reply.Reply.{Reply}
+use Rattle.smx_types.specs.declared.link.Binding.{Binding}
+use Rattle.smx_types.specs.declared.link.Link.{Link}
+use Rattle.smx_types.specs.declared.link.LinkKind.{LinkKind}
+use Rattle.smx_types.specs.declared.link.Route.{Route}
+use Rattle.smx_types.specs.declared.message.Message.{Message}
+use Rattle.smx_types.specs.declared.reply.Fault.TheVariants.{TooManyDescriptors}
 use Rattle.smx_types.specs.declared.stream.Descriptor.{Descriptor}
+use Rattle.smx_types.specs.declared.stream.Place.{Place}
 use Rattle.smx_types.specs.declared.stream.StreamId.{StreamId}
-use Rattle.smx_model.specs.Commands.{Outcome, outcome, finished, step, or_fault, refuse, free_fd, with_fd, ◌>>=◌}
-use Rattle.smx_model.specs.Configuration.{Configuration, is_fd, fd_before}
-use Rattle.smx_model.specs.Histories.{after_from}
-use Rattle.smx_model.proofs.OutcomeLemmas.{IfAccepted, at_ok, after_ok, after_test, after_some, after_step}
+use Rattle.smx_model.specs.Commands.{outcome, done, linked, received, sent, unlinked, with_fd}
+use Rattle.smx_model.specs.Configuration.{Configuration, empty, is_fd, fd_before, bind_before, route_before, place_before, pair_before, same_place}
+use Rattle.smx_model.specs.Lookups.{free_fd}
 use Rattle.smx_model.specs.Ordered.{placed, ComesBefore, IsRising}
+use Rattle.smx_model.specs.Outcomes.{or_fault}
+use Rattle.smx_model.specs.Queues.{front, marked, arrived, left}
+use Rattle.smx_model.specs.Removal.{emptied, removed}
+use Rattle.smx_model.specs.Settling.{moved, moved_by, way}
+use Rattle.smx_model.proofs.OrderLemmas.{place_before_trans, place_either}
+use Rattle.smx_model.proofs.OutcomeLemmas.{IfAccepted, after_ok, after_some, after_test, at_ok}
+use Rattle.smx_model.proofs.EachLemmas.{Each, none_passes, kept_passes}
+use Rattle.smx_model.proofs.TestLemmas.{find_passes}
 
--- ---- an order of descriptors
+-- one more, and fewer
 
-transitive : (a b c : Descriptor) → fd_before a b ≡ true → fd_before b c ≡ true → fd_before a c ≡ true
-transitive a b c h k = grind (arith, nat_tests)
+-- what comes before what comes before comes before
+abbrev IsTransitive : {X : Type 0} → (X → X → Bool) → Type 0
+IsTransitive {X} before = (x y z : X) → before x y ≡ true → before y z ≡ true → before x z ≡ true
 
--- two descriptors of different numbers are one before the other
-other_way : (a b : Descriptor) → fd_before a b ≡ false → is_fd a.process a.fd b ≡ false → fd_before b a ≡ true
-other_way a b h k = grind (arith, nat_tests)
+before_all : {X : Type 0} (before : X → X → Bool) → IsTransitive before → (x y : X) (ys : List X) → before x y ≡ true → ComesBefore before y ys → ComesBefore before x ys
+before_all before trans x y [] h k = tt
+before_all before trans x y (z ∷ zs) h k = (trans x y z h k.0, before_all before trans x y zs h k.1)
 
-before_all : (a b : Descriptor) (ds : List Descriptor) → fd_before a b ≡ true → ComesBefore fd_before b ds → ComesBefore fd_before a ds
-before_all a b [] h k = tt
-before_all a b (d ∷ ds) h k = (transitive a b d h k.0, before_all a b ds h k.1)
+before_placed : {X : Type 0} (before : X → X → Bool) (y x : X) (xs : List X) → before y x ≡ true → ComesBefore before y xs → ComesBefore before y (placed before xs x)
+before_placed before y x [] h k = (h, tt)
+before_placed before y x (z ∷ zs) h k = elim (cases_Bool (before x z)) [ inl t ↦ rw t (h, k) | inr f ↦ rw f (k.0, before_placed before y x zs h k.1) ]
 
--- ---- one more, and fewer
-
-or_false : (a b : Bool) → (a || b) ≡ false → (a ≡ false) × (b ≡ false)
-or_false true b h = absurd cc
-or_false false b h = (refl, h)
-
-placed_before : (a d : Descriptor) (ds : List Descriptor) → fd_before a d ≡ true → ComesBefore fd_before a ds → ComesBefore fd_before a (placed fd_before ds d)
-placed_before a d [] h k = (h, tt)
-placed_before a d (e ∷ ds) h k = elim (cases_Bool (fd_before d e)) [ inl t ↦ rw t (h, k) | inr f ↦ rw f (k.0, placed_before a d ds h k.1) ]
-
-pub placed_rises : (d : Descriptor) (ds : List Descriptor) → list_any (is_fd d.process d.fd) ds ≡ false → IsRising fd_before ds → IsRising fd_before (placed fd_before ds d)
-placed_rises d [] free h = (tt, tt)
-placed_rises d (e ∷ ds) free h =
-    let none = or_false (is_fd d.process d.fd e) (list_any (is_fd d.process d.fd) ds) free in
-    elim (cases_Bool (fd_before d e)) [
-      | inl t ↦ rw t ((t, before_all d e ds t h.0), h)
-      | inr f ↦ rw f (placed_before e d ds (other_way d e f none.0) h.0, placed_rises d ds none.1 h.1)
-    ]
-
-fewer_before : (keep : Descriptor → Bool) (a : Descriptor) (ds : List Descriptor) → ComesBefore fd_before a ds → ComesBefore fd_before a (filter keep ds)
-fewer_before keep a [] h = tt
-fewer_before keep a (d ∷ ds) h = elim (cases_Bool (keep d)) [ inl t ↦ rw t (h.0, fewer_before keep a ds h.1) | inr f ↦ rw f (fewer_before keep a ds h.1) ]
-
-pub fewer_rise : (keep : Descriptor → Bool) (ds : List Descriptor) → IsRising fd_before ds → IsRising fd_before (filter keep ds)
-fewer_rise keep [] h = tt
-fewer_rise keep (d ∷ ds) h = elim (cases_Bool (keep d)) [ inl t ↦ rw t (fewer_before keep d ds h.0, fewer_rise keep ds h.1) | inr f ↦ rw f (fewer_rise keep ds h.1) ]
-
--- ---- each command
-
-found_passes : {A : Type 0} (p : A → Bool) (xs : List A) (x : A) → find p xs ≡ Some x → p x ≡ true
-found_passes p [] x e = absurd cc
-found_passes p (y ∷ ys) x e = elim (cases_Bool (p y)) [
-  | inl t ↦ let here : Some y ≡ Some x = rw t at e in let same : y ≡ x = cc in rw (← same) t
-  | inr f ↦ found_passes p ys x (rw f at e)
+-- an element that is comparable with each goes to its place
+pub rising_placed : {X : Type 0} (before : X → X → Bool) → IsTransitive before → (x : X) (xs : List X) → Each (λ y. before x y ≡ false → before y x ≡ true) xs → IsRising before xs → IsRising before (placed before xs x)
+rising_placed before trans x [] other h = (tt, tt)
+rising_placed before trans x (y ∷ ys) other h = elim (cases_Bool (before x y)) [
+  | inl t ↦ rw t ((t, before_all before trans x y ys t h.0), h)
+  | inr f ↦ rw f (before_placed before y x ys (other.0 f) h.0, rising_placed before trans x ys other.1 h.1)
 ]
 
+before_filter : {X : Type 0} (before : X → X → Bool) (test : X → Bool) (x : X) (xs : List X) → ComesBefore before x xs → ComesBefore before x (filter test xs)
+before_filter before test x [] h = tt
+before_filter before test x (y ∷ ys) h = elim (cases_Bool (test y)) [ inl t ↦ rw t (h.0, before_filter before test x ys h.1) | inr f ↦ rw f (before_filter before test x ys h.1) ]
+
+pub rising_filter : {X : Type 0} (before : X → X → Bool) (test : X → Bool) (xs : List X) → IsRising before xs → IsRising before (filter test xs)
+rising_filter before test [] h = tt
+rising_filter before test (x ∷ xs) h = elim (cases_Bool (test x)) [ inl t ↦ rw t (before_filter before test x xs h.0, rising_filter before test xs h.1) | inr f ↦ rw f (rising_filter before test xs h.1) ]
+
+-- the orders
+
+pair_trans : (a b c d e f : ℕ) → pair_before a b c d ≡ true → pair_before c d e f ≡ true → pair_before a b e f ≡ true
+pair_trans a b c d e f h k = grind (arith, nat_tests)
+
+pair_other : (a b c d : ℕ) → (eqb c a && eqb d b) ≡ false → pair_before a b c d ≡ false → pair_before c d a b ≡ true
+pair_other a b c d h k = grind (arith, nat_tests)
+
+fd_trans : IsTransitive fd_before
+fd_trans x y z h k = pair_trans x.process x.fd y.process y.fd z.process z.fd h k
+
+bind_trans : IsTransitive bind_before
+bind_trans x y z h k = pair_trans x.driver x.addr y.driver y.addr z.driver z.addr h k
+
+route_trans : IsTransitive route_before
+route_trans x y z h k = pair_trans x.driver x.addr y.driver y.addr z.driver z.addr h k
+
 not_true : (b : Bool) → not b ≡ true → b ≡ false
-not_true true h = absurd cc
+not_true true h = absurd (false≢true h)
 not_true false h = refl
 
--- the free descriptor is not open
-free_is_free : (c : Configuration) (process fd : ℕ) → find (λ n. not (list_any (is_fd process n) c.fds)) (range_with_len 0 MAX_DESCRIPTORS) ≡ Some fd → list_any (is_fd process fd) c.fds ≡ false
-free_is_free c process fd e = not_true _ (found_passes (λ n. not (list_any (is_fd process n) c.fds)) (range_with_len 0 MAX_DESCRIPTORS) fd e)
+-- a bound address or a bound stream differs from both
+bind_other : (a b c d e m : ℕ) → (eqb c a && (eqb d b || eqb e m)) ≡ false → (eqb c a && eqb d b) ≡ false
+bind_other a b c d e m h = by (eqb c a) (eqb d b) (eqb e m) h where
+  by : (x y z : Bool) → (x && (y || z)) ≡ false → (x && y) ≡ false
+  by true true z h = h
+  by true false z h = refl
+  by false y z h = refl
 
--- a record, so that `search` finds the configuration
-pub record HasRising (c : Configuration) : Type 0 where
-  pub rising : IsRising fd_before c.fds
+-- of each accepted outcome
 
-opened : (c : Configuration) (process fd : ℕ) (s : StreamId) → HasRising c → find (λ n. not (list_any (is_fd process n) c.fds)) (range_with_len 0 MAX_DESCRIPTORS) ≡ Some fd → HasRising (with_fd c process fd s)
-opened c process fd s h e = record { rising = placed_rises (record { process = process; fd = fd; stream = s }) c.fds (free_is_free c process fd e) h.rising }
+-- descriptors, bindings, routes and full places
+pub record AreRising (c : Configuration) : Type 0 where
+  pub fds : IsRising fd_before c.fds
+  pub binds : IsRising bind_before c.binds
+  pub routes : IsRising route_before c.routes
+  pub fulls : IsRising place_before c.fulls
 
-closed : (keep : Descriptor → Bool) (c : Configuration) → HasRising c → HasRising (record c { fds = filter keep c.fds })
-closed keep c h = record { rising = fewer_rise keep c.fds h.rising }
+rising_same : (c d : Configuration) → AreRising c → d.fds ≡ c.fds → d.binds ≡ c.binds → d.routes ≡ c.routes → d.fulls ≡ c.fulls → AreRising d
+rising_same c d h e f g k = record { fds = rw e h.fds; binds = rw f h.binds; routes = rw g h.routes; fulls = rw k h.fulls }
 
-abbrev StayRising : Outcome → Type 0
-StayRising o = IfAccepted (λ d r. HasRising d) o
+rising_closed : (c : Configuration) (test : Descriptor → Bool) → AreRising c → AreRising (record c { fds = filter test c.fds })
+rising_closed c test h = record { fds = rising_filter fd_before test c.fds h.fds; binds = h.binds; routes = h.routes; fulls = h.fulls }
 
-outcome_rises : (drivers : List DriverSpec) (c : Configuration) (process : ℕ) (asked : Command) → HasRising c → StayRising (outcome drivers c process asked)
-outcome_rises drivers c process (command.OpenClone name) h = search (after_test, after_some, after_ok, at_ok, opened, closed, rules) depth 20
-outcome_rises drivers c process (command.OpenMinor name minor) h = search (after_test, after_some, after_ok, at_ok, opened, closed, rules) depth 20
-outcome_rises drivers c process (command.Dup fd) h = search (after_test, after_some, after_ok, at_ok, opened, closed, rules) depth 20
-outcome_rises drivers c process (command.Close fd) h = search (after_test, after_some, after_ok, at_ok, opened, closed, rules) depth 20
-outcome_rises drivers c process command.CloseAll h = search (after_test, after_some, after_ok, at_ok, opened, closed, rules) depth 20
+rising_emptied : (c : Configuration) (goes : Place → Bool) → AreRising c → AreRising (emptied c goes)
+rising_emptied c goes h = record { fds = h.fds; binds = h.binds; routes = h.routes; fulls = rising_filter place_before _ c.fulls h.fulls }
 
-pub after_rises : (drivers : List DriverSpec) (c : Configuration) (history : List Entry) → HasRising c → IsRising fd_before (after_from drivers c history).fds
-after_rises drivers c [] h = h.rising
-after_rises drivers c (e ∷ es) h =
-    after_rises drivers (step drivers c e.process e.command).0 es (after_step HasRising c (outcome drivers c e.process e.command) h (outcome_rises drivers c e.process e.command h))
+rising_removed : (c : Configuration) (goes : Link → Bool) → AreRising c → AreRising (removed c goes)
+rising_removed c goes h = record { fds = h.fds; binds = h.binds; routes = rising_filter route_before _ c.routes h.routes; fulls = rising_filter place_before _ c.fulls h.fulls }
+
+rising_done : (drivers : List DriverSpec) (c d : Configuration) → AreRising d → IfAccepted (λ d r. AreRising d) (done drivers c d)
+rising_done drivers c d h = record {
+  holds = record {
+    fds = h.fds;
+    binds = rising_filter bind_before _ d.binds h.binds;
+    routes = rising_filter route_before _ d.routes h.routes;
+    fulls = rising_filter place_before _ _ (rising_filter place_before _ d.fulls h.fulls);
+  };
+}
+
+-- the number that is free is not there
+free_is_free : (c : Configuration) (process fd : ℕ) → free_fd c process ≡ Ok fd → list_any (is_fd process fd) c.fds ≡ false
+free_is_free c process fd e = by (find (λ n. not (list_any (is_fd process n) c.fds)) (range_with_len 0 MAX_DESCRIPTORS)) refl e where
+  by : (o : Option ℕ) → find (λ n. not (list_any (is_fd process n) c.fds)) (range_with_len 0 MAX_DESCRIPTORS) ≡ o → or_fault TooManyDescriptors o ≡ Ok fd → list_any (is_fd process fd) c.fds ≡ false
+  by None f k = cc
+  by (Some n) f k = let same : n ≡ fd = cc in ap (λ (x : ℕ). list_any (is_fd process x) c.fds) (sym same) ∙ not_true _ (find_passes (λ n. not (list_any (is_fd process n) c.fds)) (range_with_len 0 MAX_DESCRIPTORS) n f)
+
+rising_fd : (c : Configuration) (process fd : ℕ) (s : StreamId) → AreRising c → free_fd c process ≡ Ok fd → AreRising (with_fd c process fd s)
+rising_fd c process fd s h e = record {
+  fds = rising_placed fd_before fd_trans (record { process = process; fd = fd; stream = s }) c.fds
+      (none_passes (is_fd process fd) _ c.fds (λ d f k. pair_other process fd d.process d.fd f k) (free_is_free c process fd e)) h.fds;
+  binds = h.binds;
+  routes = h.routes;
+  fulls = h.fulls;
+}
+
+rising_bind : (c : Configuration) (driver addr minor : ℕ) → AreRising c → list_any (λ b. eqb b.driver driver && (eqb b.addr addr || eqb b.minor minor)) c.binds ≡ false
+    → AreRising (record c { binds = placed bind_before c.binds (record { driver = driver; addr = addr; minor = minor }) })
+rising_bind c driver addr minor h e = record {
+  fds = h.fds;
+  binds = rising_placed bind_before bind_trans (record { driver = driver; addr = addr; minor = minor }) c.binds
+      (none_passes (λ b. eqb b.driver driver && (eqb b.addr addr || eqb b.minor minor)) _ c.binds (λ b f k. pair_other driver addr b.driver b.addr (bind_other driver addr b.driver b.addr b.minor minor f) k) e) h.binds;
+  routes = h.routes;
+  fulls = h.fulls;
+}
+
+rising_unbind : (c : Configuration) (test : Binding → Bool) → AreRising c → AreRising (record c { binds = filter test c.binds })
+rising_unbind c test h = record { fds = h.fds; binds = rising_filter bind_before test c.binds h.binds; routes = h.routes; fulls = h.fulls }
+
+rising_route : (c : Configuration) (driver addr id : ℕ) → AreRising c
+    → AreRising (record c { routes = placed route_before (filter (λ r. not (eqb r.driver driver && eqb r.addr addr)) c.routes) (record { driver = driver; addr = addr; id = id }) })
+rising_route c driver addr id h = record {
+  fds = h.fds;
+  binds = h.binds;
+  routes = rising_placed route_before route_trans (record { driver = driver; addr = addr; id = id }) _
+      (kept_passes (λ r. not (eqb r.driver driver && eqb r.addr addr)) _ c.routes (λ r t k. pair_other driver addr r.driver r.addr (not_true _ t) k)) (rising_filter route_before _ c.routes h.routes);
+  fulls = h.fulls;
+}
+
+rising_unroute : (c : Configuration) (test : Route → Bool) → AreRising c → AreRising (record c { routes = filter test c.routes })
+rising_unroute c test h = record { fds = h.fds; binds = h.binds; routes = rising_filter route_before test c.routes h.routes; fulls = h.fulls }
+
+rising_marked : (p : Place) (b : Bool) (ps : List Place) → IsRising place_before ps → IsRising place_before (marked p b ps)
+rising_marked p true ps h = rising_placed place_before place_before_trans p _ (kept_passes (λ q. not (same_place p q)) _ ps (λ q t k. place_either p q (not_true _ t) k)) (rising_filter place_before _ ps h)
+rising_marked p false ps h = rising_filter place_before _ ps h
+
+rising_arrived : (drivers : List DriverSpec) (c : Configuration) (p : Place) (m : Message) → AreRising c → AreRising (arrived drivers c p m)
+rising_arrived drivers c p m h = record { fds = h.fds; binds = h.binds; routes = h.routes; fulls = rising_marked p _ c.fulls h.fulls }
+
+rising_left : (drivers : List DriverSpec) (c : Configuration) (p : Place) → AreRising c → AreRising (left drivers c p)
+rising_left drivers c p h = record { fds = h.fds; binds = h.binds; routes = h.routes; fulls = rising_marked p _ c.fulls h.fulls }
+
+rising_took : (drivers : List DriverSpec) (c : Configuration) (p : Place) (m : Message) (n : ℕ) → AreRising c → AreRising (record (arrived drivers c p m) { next_serial = n })
+rising_took drivers c p m n h = let a = rising_arrived drivers c p m h in record { fds = a.fds; binds = a.binds; routes = a.routes; fulls = a.fulls }
+
+rising_sent : (drivers : List DriverSpec) (c : Configuration) (p : Place) (addr : ℕ) (bytes : List ℕ) → AreRising c → IfAccepted (λ d r. AreRising d) (sent drivers c p addr bytes)
+rising_sent drivers c p addr bytes h = search (after_test, at_ok, rising_took, rules) depth 12
+
+rising_received : (drivers : List DriverSpec) (c : Configuration) (p : Place) → AreRising c → IfAccepted (λ d r. AreRising d) (received drivers c p)
+rising_received drivers c p h = search (after_some, at_ok, rising_left, rules) depth 12
+
+rising_unlinked : (drivers : List DriverSpec) (c : Configuration) (w : Which) (mine : Link → Bool) → AreRising c → IfAccepted (λ d r. AreRising d) (unlinked drivers c w mine)
+rising_unlinked drivers c which.All mine h = rising_done drivers c (removed c mine) (rising_removed c mine h)
+rising_unlinked drivers c (which.Id id) mine h = search (after_test, rising_done, rising_removed, rules) depth 12
+
+rising_linked : (drivers : List DriverSpec) (c : Configuration) (process fd arg : ℕ) (k : LinkKind) → AreRising c → IfAccepted (λ d r. AreRising d) (linked drivers c process fd arg k)
+rising_linked drivers c process fd arg k h = search (after_test, after_ok, at_ok, rising_same, rules) depth 24
+
+pub rising_accepted : (drivers : List DriverSpec) (c : Configuration) (process : ℕ) (k : Command) → AreRising c → IfAccepted (λ d r. AreRising d) (outcome drivers c process k)
+rising_accepted drivers c process (command.OpenClone name) h = search (after_ok, at_ok, rising_fd, rules) depth 20
+rising_accepted drivers c process (command.OpenMinor name minor) h = search (after_test, after_ok, at_ok, rising_fd, rules) depth 20
+rising_accepted drivers c process (command.Dup fd) h = search (after_ok, at_ok, rising_fd, rules) depth 20
+rising_accepted drivers c process (command.Close fd) h = search (after_ok, at_ok, rising_done, rising_closed, rising_emptied, rules) depth 20
+rising_accepted drivers c process command.CloseAll h = search (at_ok, rising_done, rising_closed, rising_emptied, rules) depth 20
+rising_accepted drivers c process (command.Link fd arg) h = search (after_ok, rising_linked, rules) depth 20
+rising_accepted drivers c process (command.Plink fd arg) h = search (after_ok, rising_linked, rules) depth 20
+rising_accepted drivers c process (command.Unlink fd w) h = search (after_ok, rising_unlinked, rules) depth 20
+rising_accepted drivers c process (command.Punlink fd w) h = search (after_ok, rising_unlinked, rules) depth 20
+rising_accepted drivers c process (command.Bind fd addr) h = search (after_test, after_ok, at_ok, rising_done, rising_bind, rising_emptied, rules) depth 20
+rising_accepted drivers c process (command.Unbind fd) h = search (after_test, after_ok, at_ok, rising_done, rising_unbind, rising_emptied, rules) depth 20
+rising_accepted drivers c process (command.Route fd addr id) h = search (after_test, after_ok, at_ok, rising_done, rising_route, rising_emptied, rules) depth 20
+rising_accepted drivers c process (command.Unroute fd addr) h = search (after_test, after_ok, at_ok, rising_done, rising_unroute, rising_emptied, rules) depth 20
+rising_accepted drivers c process (command.Write fd addr bytes) h = search (after_test, after_ok, rising_sent, rules) depth 20
+rising_accepted drivers c process (command.Read fd) h = search (after_ok, at_ok, rising_received, rules) depth 20
+rising_accepted drivers c process (command.Flush fd w) h = search (after_ok, at_ok, rising_done, rising_emptied, rules) depth 20
+rising_accepted drivers c process (command.Inject name minor addr bytes) h = search (after_test, after_ok, rising_sent, rules) depth 20
+rising_accepted drivers c process (command.Transmit name minor) h = search (after_ok, at_ok, rising_received, rules) depth 20
+
+pub rising_moved : (drivers : List DriverSpec) (c : Configuration) (p : Place) → AreRising c → AreRising (moved drivers c p)
+rising_moved drivers c p h = by (way drivers c p) (front c.flow p) where
+  by : (o : Option Place) (m : Option Message) → AreRising (moved_by drivers c p o m)
+  by (Some q) (Some m) = rising_arrived drivers (left drivers c p) q m (rising_left drivers c p h)
+  by (Some q) None = h
+  by None m = h
+
+pub rising_empty : AreRising empty
+rising_empty = record { fds = tt; binds = tt; routes = tt; fulls = tt }

@@ -1,91 +1,149 @@
--- The command table: for each command its refusals, in the order in which they are tested, and then what it does.
-use Rattle.std.specs.Prelude.{ℕ, Bool, true, false, not, ◌==◌, nat_le, List, [], ◌∷◌, filter, find, position, Option, Some, None, option_map, Result, Ok, Err, slice_get}
-use Rattle.std.specs.List.{list_any, range_with_len}
-use Rattle.std.specs.Option.{option_map_or}
-use Rattle.std.specs.Str.{bytes_eq}
+-- The command table: for each command its refusals in order, a line each, and what it does if accepted.
+use Rattle.std.specs.Prelude.{ℕ, ◌+◌, Bool, true, ◌&&◌, ◌||◌, not, ◌==◌, nat_lt, nat_le, List, [], ◌∷◌, ◌++◌, length, filter, Ok, Err}
+use Rattle.std.specs.List.{list_any}
 use Rattle.smx_types.specs.declared.command.Command.{Command}
 use Rattle.smx_types.specs.declared.command.Command.TheVariants as command
+use Rattle.smx_types.specs.declared.command.Sides.{Sides}
+use Rattle.smx_types.specs.declared.command.Sides.TheVariants as sides
+use Rattle.smx_types.specs.declared.command.Which.{Which}
+use Rattle.smx_types.specs.declared.command.Which.TheVariants as which
 use Rattle.smx_types.specs.declared.driver.DriverSpec.{DriverSpec}
-use Rattle.smx_types.specs.declared.limits.TheConstants.{MAX_DESCRIPTORS}
-use Rattle.smx_types.specs.declared.reply.Fault.{Fault}
-use Rattle.smx_types.specs.declared.reply.Fault.TheVariants.{BadDescriptor, NoDriver, NoMinor, TooManyDescriptors}
+use Rattle.smx_types.specs.declared.limits.TheConstants.{MAX_LINKS, NUMBER_END}
+use Rattle.smx_types.specs.declared.link.Link.{Link}
+use Rattle.smx_types.specs.declared.link.LinkKind.{LinkKind}
+use Rattle.smx_types.specs.declared.link.LinkKind.TheVariants as kind
+use Rattle.smx_types.specs.declared.reply.Fault.TheVariants.{Below, NotMux, AlreadyBelow, Cycle, TooManyLinks, NoLink, NoMinor, AddressInUse, Unbound, Unrouted, Full, Empty, BadSize}
 use Rattle.smx_types.specs.declared.reply.Reply.{Reply}
 use Rattle.smx_types.specs.declared.reply.Reply.TheVariants as reply
+use Rattle.smx_types.specs.declared.stream.Place.{Place}
+use Rattle.smx_types.specs.declared.stream.Side.{Side}
+use Rattle.smx_types.specs.declared.stream.Side.TheVariants as side
 use Rattle.smx_types.specs.declared.stream.StreamId.{StreamId}
+use Rattle.smx_model.specs.Configuration.{Configuration, same_stream, same_side, fd_before, bind_before, route_before, is_fd}
+use Rattle.smx_model.specs.DriverList.{is_mux, minors_of, max_of}
+use Rattle.smx_model.specs.Lookups.{driver_of, stream_of, free_fd, free_minor, free_stream, mux_stream, leaf_stream}
 use Rattle.smx_model.specs.Ordered.{placed}
-use Rattle.smx_model.specs.Configuration.{Configuration, is_fd, fd_before, exists}
+use Rattle.smx_model.specs.Outcomes.{Outcome, ◌>>=◌, or_fault, refuse}
+use Rattle.smx_model.specs.Paths.{reaches}
+use Rattle.smx_model.specs.Queues.{is_full, front, arrived, left}
+use Rattle.smx_model.specs.Removal.{emptied, removed, swept, gone_from}
+use Rattle.smx_model.specs.Settling.{settled}
+use Rattle.smx_model.specs.Standing.{is_persistent, is_below}
 
-infixl 10 ◌>>=◌
--- goes on with a value, and not past a fault
-abbrev pub ◌>>=◌ : {A B : Type 0} → Result A Fault → (A → Result B Fault) → Result B Fault
-(Ok x) >>= f = f x
-(Err e) >>= f = Err e
-
--- what is there, or else a fault
-abbrev pub or_fault : {A : Type 0} → Fault → Option A → Result A Fault
-or_fault f (Some x) = Ok x
-or_fault f None = Err f
-
--- refused where the test holds
-abbrev pub refuse : Fault → Bool → Result (Unit {0}) Fault
-refuse f true = Err f
-refuse f false = Ok tt
-
--- the number of the driver of that name
-abbrev pub driver_of : List DriverSpec → List ℕ → Result ℕ Fault
-driver_of drivers name = or_fault NoDriver (position (λ d. bytes_eq d.name name) drivers)
-
-abbrev pub minors_of : List DriverSpec → ℕ → ℕ
-minors_of drivers n = option_map_or (λ d. d.minors) (slice_get drivers n) 0
-
--- the stream that a process' descriptor names
-abbrev pub stream_of : Configuration → ℕ → ℕ → Result StreamId Fault
-stream_of c process fd = or_fault BadDescriptor (option_map (λ d. d.stream) (find (is_fd process fd) c.fds))
-
--- the least number of 0 to 15 that the process has not open (open(2))
-abbrev pub free_fd : Configuration → ℕ → Result ℕ Fault
-free_fd c process = or_fault TooManyDescriptors (find (λ n. not (list_any (is_fd process n) c.fds)) (range_with_len 0 MAX_DESCRIPTORS))
-
--- the least minor of the driver that is not in use (SVR4 STREAMS guide: clone open)
-abbrev pub free_minor : List DriverSpec → Configuration → ℕ → Result ℕ Fault
-free_minor drivers c driver = or_fault NoMinor (find (λ m. not (exists c (record { driver = driver; minor = m }))) (range_with_len 0 (minors_of drivers driver)))
-
--- with one more descriptor
+-- with one more descriptor of the process
 abbrev pub with_fd : Configuration → ℕ → ℕ → StreamId → Configuration
 with_fd c process fd s = record c { fds = placed fd_before c.fds (record { process = process; fd = fd; stream = s }) }
 
--- a new configuration and a reply, or the first refusal that applies
-abbrev pub Outcome : Type 0
-Outcome = Result (Configuration × Reply) Fault
+-- done: the new configuration is swept, and the reply names the serials that left
+abbrev pub done : List DriverSpec → Configuration → Configuration → Outcome
+done drivers c new = named (swept drivers new) where
+  named : Configuration → Outcome
+  named d = Ok (d, reply.Done (gone_from c.flow d.flow))
 
-abbrev pub done : Configuration → Outcome
-done c = Ok (c, reply.Done [])
+-- the stream of arg below the driver of fd, under the next id (streamio(7), I_LINK and I_PLINK)
+abbrev pub linked : List DriverSpec → Configuration → ℕ → ℕ → ℕ → LinkKind → Outcome
+linked drivers c process fd arg k = do
+  upper ← stream_of c process fd
+  lower ← stream_of c process arg
+  above ← refuse Below (is_below c.links upper)
+  mux ← refuse NotMux (not (is_mux drivers upper.driver))
+  free ← refuse AlreadyBelow (is_below c.links lower)
+  no_cycle ← refuse Cycle ((lower.driver == upper.driver) || reaches c.links lower.driver upper.driver)
+  room ← refuse TooManyLinks (nat_le MAX_LINKS (length c.links) || nat_le NUMBER_END c.next_id)
+  Ok (record c { links = c.links ++ record { id = c.next_id; ctl = upper; lower = lower; kind = k } ∷ []; next_id = c.next_id + 1 }, reply.Id c.next_id)
 
+-- one of my links, or each of them, removed (streamio(7), I_UNLINK and I_PUNLINK, MUXID_ALL)
+abbrev pub unlinked : List DriverSpec → Configuration → Which → (Link → Bool) → Outcome
+unlinked drivers c which.All mine = done drivers c (removed c mine)
+unlinked drivers c (which.Id id) mine = do
+  there ← refuse NoLink (not (list_any (λ l. (l.id == id) && mine l) c.links))
+  done drivers c (removed c (λ l. (l.id == id) && mine l))
+
+-- a message arrives under the next serial
+abbrev pub sent : List DriverSpec → Configuration → Place → ℕ → List ℕ → Outcome
+sent drivers c p addr bytes = do
+  size ← refuse BadSize ((length bytes == 0) || nat_lt (max_of drivers p.stream.driver) (length bytes))
+  room ← refuse Full (is_full c p || nat_le NUMBER_END c.next_serial)
+  Ok (record (arrived drivers c p (record { serial = c.next_serial; addr = addr; bytes = bytes })) { next_serial = c.next_serial + 1 }, reply.Took c.next_serial)
+
+-- the first message of a place is delivered
+abbrev pub received : List DriverSpec → Configuration → Place → Outcome
+received drivers c p = do
+  m ← or_fault Empty (front c.flow p)
+  Ok (left drivers c p, reply.Got m.serial m.addr m.bytes)
+
+-- one of the sides that are named (streamio(7), I_FLUSH)
+abbrev pub is_side : Sides → Side → Bool
+is_side sides.R s = same_side s side.Read
+is_side sides.W s = same_side s side.Write
+is_side sides.RW s = true
+
+-- each command: its refusals in order, and its outcome if none applies; it is not yet settled
 abbrev pub outcome : List DriverSpec → Configuration → ℕ → Command → Outcome
 outcome drivers c process (command.OpenClone name) = do
-  driver ← driver_of drivers name
-  minor ← free_minor drivers c driver
+  n ← driver_of drivers name
+  minor ← free_minor drivers c n
   fd ← free_fd c process
-  Ok (with_fd c process fd (record { driver = driver; minor = minor }), reply.Fd fd minor)
+  Ok (with_fd c process fd (record { driver = n; minor = minor }), reply.Fd fd minor)
 outcome drivers c process (command.OpenMinor name minor) = do
-  driver ← driver_of drivers name
-  in_range ← refuse NoMinor (nat_le (minors_of drivers driver) minor)
+  n ← driver_of drivers name
+  in_range ← refuse NoMinor (nat_le (minors_of drivers n) minor)
+  above ← refuse Below (is_below c.links (record { driver = n; minor = minor }))
   fd ← free_fd c process
-  Ok (with_fd c process fd (record { driver = driver; minor = minor }), reply.Fd fd minor)
+  Ok (with_fd c process fd (record { driver = n; minor = minor }), reply.Fd fd minor)
 outcome drivers c process (command.Dup fd) = do
-  stream ← stream_of c process fd
+  s ← stream_of c process fd
   new ← free_fd c process
-  Ok (with_fd c process new stream, reply.Fd new stream.minor)
+  Ok (with_fd c process new s, reply.Fd new s.minor)
 outcome drivers c process (command.Close fd) = do
-  stream ← stream_of c process fd
-  done (record c { fds = filter (λ d. not (is_fd process fd d)) c.fds })
-outcome drivers c process command.CloseAll = done (record c { fds = filter (λ d. not (d.process == process)) c.fds })
+  s ← stream_of c process fd
+  done drivers c (record c { fds = filter (λ d. not (is_fd process fd d)) c.fds })
+outcome drivers c process command.CloseAll = done drivers c (record c { fds = filter (λ d. not (d.process == process)) c.fds })
+outcome drivers c process (command.Link fd arg) = linked drivers c process fd arg kind.Ordinary
+outcome drivers c process (command.Plink fd arg) = linked drivers c process fd arg kind.Persistent
+outcome drivers c process (command.Unlink fd w) = do
+  s ← mux_stream drivers c process fd
+  unlinked drivers c w (λ l. not (is_persistent l) && same_stream l.ctl s)
+outcome drivers c process (command.Punlink fd w) = do
+  s ← mux_stream drivers c process fd
+  unlinked drivers c w (λ l. is_persistent l && (l.ctl.driver == s.driver))
+outcome drivers c process (command.Bind fd addr) = do
+  s ← mux_stream drivers c process fd
+  free ← refuse AddressInUse (list_any (λ b. (b.driver == s.driver) && ((b.addr == addr) || (b.minor == s.minor))) c.binds)
+  done drivers c (record c { binds = placed bind_before c.binds (record { driver = s.driver; addr = addr; minor = s.minor }) })
+outcome drivers c process (command.Unbind fd) = do
+  s ← mux_stream drivers c process fd
+  bound ← refuse Unbound (not (list_any (λ b. (b.driver == s.driver) && (b.minor == s.minor)) c.binds))
+  done drivers c (record c { binds = filter (λ b. not ((b.driver == s.driver) && (b.minor == s.minor))) c.binds })
+outcome drivers c process (command.Route fd addr id) = do
+  s ← mux_stream drivers c process fd
+  there ← refuse NoLink (not (list_any (λ l. (l.id == id) && (l.ctl.driver == s.driver)) c.links))
+  done drivers c (record c { routes = placed route_before (filter (λ r. not ((r.driver == s.driver) && (r.addr == addr))) c.routes) (record { driver = s.driver; addr = addr; id = id }) })
+outcome drivers c process (command.Unroute fd addr) = do
+  s ← mux_stream drivers c process fd
+  there ← refuse Unrouted (not (list_any (λ r. (r.driver == s.driver) && (r.addr == addr)) c.routes))
+  done drivers c (record c { routes = filter (λ r. not ((r.driver == s.driver) && (r.addr == addr))) c.routes })
+outcome drivers c process (command.Write fd addr bytes) = do
+  s ← free_stream c process fd
+  sent drivers c (record { stream = s; side = side.Write }) addr bytes
+outcome drivers c process (command.Read fd) = do
+  s ← free_stream c process fd
+  received drivers c (record { stream = s; side = side.Read })
+outcome drivers c process (command.Flush fd w) = do
+  s ← free_stream c process fd
+  done drivers c (emptied c (λ p. same_stream p.stream s && is_side w p.side))
+outcome drivers c process (command.Inject name minor addr bytes) = do
+  s ← leaf_stream drivers c name minor
+  sent drivers c (record { stream = s; side = side.Read }) addr bytes
+outcome drivers c process (command.Transmit name minor) = do
+  s ← leaf_stream drivers c name minor
+  received drivers c (record { stream = s; side = side.Write })
 
--- a refused command changes nothing
-abbrev pub finished : Configuration → Outcome → Configuration × Reply
-finished c (Ok x) = x
-finished c (Err f) = (c, reply.Fault f)
+-- an accepted outcome is settled; a refusal changes nothing
+abbrev pub finished : List DriverSpec → Configuration → Outcome → Configuration × Reply
+finished drivers c (Err f) = (c, reply.Fault f)
+finished drivers c (Ok x) = (settled drivers x.0, x.1)
 
--- the configuration after a command, and the reply
+-- what a command of a process does: the new configuration, and the reply
 abbrev pub step : List DriverSpec → Configuration → ℕ → Command → Configuration × Reply
-step drivers c process command = finished c (outcome drivers c process command)
+step drivers c process command = finished drivers c (outcome drivers c process command)

@@ -1,31 +1,86 @@
--- What a configuration consists of.
-use Rattle.std.specs.Prelude.{ℕ, Bool, ◌&&◌, ◌||◌, ◌==◌, nat_lt, List, []}
-use Rattle.std.specs.List.{list_any}
+-- What a configuration consists of, and the order in which each of its lists is kept and shown.
+use Rattle.std.specs.Prelude.{ℕ, Bool, true, false, ◌&&◌, ◌||◌, ◌==◌, nat_lt, List, []}
+use Rattle.smx_types.specs.declared.link.Binding.{Binding}
+use Rattle.smx_types.specs.declared.link.Link.{Link}
+use Rattle.smx_types.specs.declared.link.Route.{Route}
+use Rattle.smx_types.specs.declared.message.Message.{Message}
 use Rattle.smx_types.specs.declared.stream.Descriptor.{Descriptor}
+use Rattle.smx_types.specs.declared.stream.Place.{Place}
+use Rattle.smx_types.specs.declared.stream.Side.{Side}
+use Rattle.smx_types.specs.declared.stream.Side.TheVariants as side
 use Rattle.smx_types.specs.declared.stream.StreamId.{StreamId}
 
--- the open descriptors by rising process and number, and what the next link and the next message are numbered (own)
+-- a queued message and its place
+pub record Held : Type 0 where
+  pub place : Place
+  pub message : Message
+
+-- descriptors, links, bindings and routes in the order in which they are shown; the flow is all queued
+-- messages, by rising place, and in order of arrival within a place (this project's own)
 pub record Configuration : Type 0 where
   pub fds : List Descriptor
+  pub links : List Link
   pub next_id : ℕ
+  pub binds : List Binding
+  pub routes : List Route
+  pub flow : List Held
+  pub fulls : List Place
   pub next_serial : ℕ
 
--- nothing is open, and numbers start from 1
+-- nothing is open, and both numbers start from 1
 abbrev pub empty : Configuration
-empty = record { fds = []; next_id = 1; next_serial = 1 }
+empty = record { fds = []; links = []; next_id = 1; binds = []; routes = []; flow = []; fulls = []; next_serial = 1 }
 
 -- the same driver and minor
 abbrev pub same_stream : StreamId → StreamId → Bool
 same_stream s t = (s.driver == t.driver) && (s.minor == t.minor)
 
--- it is this process' descriptor of this number
+-- both the write side, or both the read side
+abbrev pub same_side : Side → Side → Bool
+same_side side.Write side.Write = true
+same_side side.Write side.Read = false
+same_side side.Read side.Write = false
+same_side side.Read side.Read = true
+
+-- the same side of the same stream
+abbrev pub same_place : Place → Place → Bool
+same_place p q = same_stream p.stream q.stream && same_side p.side q.side
+
+-- the message is queued at this place
+abbrev pub is_at : Place → Held → Bool
+is_at p h = same_place h.place p
+
+-- it is the process's descriptor of this number
 abbrev pub is_fd : ℕ → ℕ → Descriptor → Bool
 is_fd process fd d = (d.process == process) && (d.fd == fd)
 
--- a lesser process, or a lesser number of the same
-abbrev pub fd_before : Descriptor → Descriptor → Bool
-fd_before d e = nat_lt d.process e.process || ((d.process == e.process) && nat_lt d.fd e.fd)
+-- pairs of numbers in order, by the first of each and then by the second
+abbrev pub pair_before : ℕ → ℕ → ℕ → ℕ → Bool
+pair_before a b c d = nat_lt a c || ((a == c) && nat_lt b d)
 
--- a stream exists exactly where a descriptor names it (SVR4 STREAMS guide: a stream is dismantled at its last close)
-abbrev pub exists : Configuration → StreamId → Bool
-exists c s = list_any (λ d. same_stream d.stream s) c.fds
+-- by process and number
+abbrev pub fd_before : Descriptor → Descriptor → Bool
+fd_before d e = pair_before d.process d.fd e.process e.fd
+
+-- by driver and address
+abbrev pub bind_before : Binding → Binding → Bool
+bind_before b c = pair_before b.driver b.addr c.driver c.addr
+
+-- by driver and address
+abbrev pub route_before : Route → Route → Bool
+route_before r s = pair_before r.driver r.addr s.driver s.addr
+
+-- the write side comes before the read side
+abbrev pub side_before : Side → Side → Bool
+side_before side.Write side.Write = false
+side_before side.Write side.Read = true
+side_before side.Read side.Write = false
+side_before side.Read side.Read = false
+
+-- by stream, and the write side before the read side
+abbrev pub place_before : Place → Place → Bool
+place_before p q = pair_before p.stream.driver p.stream.minor q.stream.driver q.stream.minor || (same_stream p.stream q.stream && side_before p.side q.side)
+
+-- by place
+abbrev pub held_before : Held → Held → Bool
+held_before h k = place_before h.place k.place

@@ -1,10 +1,43 @@
--- Which drivers a configuration can have.
-use Rattle.std.specs.Prelude.{◌≡◌, ◌≢◌, ◌≤◌, List, length, All, AllPairs, Ok}
+-- The drivers of a configuration, by their numbers, and which it can have.
+use Rattle.std.specs.Prelude.{◌≡◌, ◌≢◌, ℕ, ◌≤◌, Bool, true, false, List, [], length, slice_get, Ok}
+use Rattle.std.specs.List.{All, AllPairs}
+use Rattle.std.specs.Option.{option_map_or}
 use Rattle.smx_types.specs.Drivers.{checked}
+use Rattle.smx_types.specs.declared.driver.DriverKind.{DriverKind}
+use Rattle.smx_types.specs.declared.driver.DriverKind.TheVariants as driver
 use Rattle.smx_types.specs.declared.driver.DriverSpec.{DriverSpec}
 use Rattle.smx_types.specs.declared.limits.TheConstants.{MAX_DRIVERS}
 
--- at most 64, each of which can be had, no two of one name; they are numbered from 0 (own limits)
+-- it is a multiplexing driver
+abbrev pub kind_is_mux : DriverKind → Bool
+kind_is_mux driver.Mux = true
+kind_is_mux driver.Leaf = false
+
+-- streams can be linked below it (STREAMS guide, multiplexing)
+abbrev pub is_mux : List DriverSpec → ℕ → Bool
+is_mux drivers n = option_map_or (λ d. kind_is_mux d.kind) (slice_get drivers n) false
+
+-- how many minors a driver has
+abbrev pub minors_of : List DriverSpec → ℕ → ℕ
+minors_of drivers n = option_map_or (λ d. d.minors) (slice_get drivers n) 0
+
+-- the high water mark of its queues, in bytes
+abbrev pub high_of : List DriverSpec → ℕ → ℕ
+high_of drivers n = option_map_or (λ d. d.high) (slice_get drivers n) 0
+
+-- the low water mark of its queues, in bytes
+abbrev pub low_of : List DriverSpec → ℕ → ℕ
+low_of drivers n = option_map_or (λ d. d.low) (slice_get drivers n) 0
+
+-- the most bytes of a message that is written to it
+abbrev pub max_of : List DriverSpec → ℕ → ℕ
+max_of drivers n = option_map_or (λ d. d.max) (slice_get drivers n) 0
+
+-- its name
+abbrev pub name_of : List DriverSpec → ℕ → List ℕ
+name_of drivers n = option_map_or (λ d. d.name) (slice_get drivers n) []
+
+-- at most 64, each of which can be had, no two of one name; they are numbered from 0 (this project's own limits)
 pub record IsDriverList (drivers : List DriverSpec) : Type 0 where
   pub few : length drivers ≤ MAX_DRIVERS
   pub each : All (λ d. checked d ≡ Ok tt) drivers

@@ -1,11 +1,13 @@
--- What is promised of every report, whatever programs come.
+-- The headline: what is promised of every report of a run, whatever programs come and however many workers run them.
 use Rattle.std.specs.Prelude.{◌≡◌}
 use Rattle.smx_types.specs.ProgramLists.{ProgramLists}
 use Rattle.smx_types.specs.declared.transcript.Transcript.{Transcript}
 use Rattle.smx_model.specs.DriverList.{IsDriverList}
 use Rattle.smx_model.specs.Histories.{IsLegal, after, HoldsPrograms}
+use Rattle.smx_model.specs.LawfulHistories.{IsLawfulThroughout}
 use Rattle.smx_model.specs.Views.{view}
 
+-- the report of a run of these programs
 pub record IsReportOf (programs : ProgramLists) (report : Transcript) : Type 0 where
   -- The drivers are those of the programs, and a configuration can have them.
   pub drivers : report.drivers ≡ programs.drivers
@@ -16,3 +18,6 @@ pub record IsReportOf (programs : ProgramLists) (report : Transcript) : Type 0 w
   pub holds : HoldsPrograms report.entries programs.programs
   -- The view is that of the configuration after the whole history.
   pub shown : report.view ≡ view programs.drivers (after programs.drivers report.entries)
+  -- After each entry the links form no cycle, no stream lies below two links, and every message taken in was
+  -- delivered once, is queued, or is named as dropped by unlink, close or flush.
+  pub lawful : IsLawfulThroughout programs.drivers report.entries

@@ -1,25 +1,26 @@
--- Histories: which are legal, what they lead to, and whose commands they hold.
-use Rattle.std.specs.Prelude.{◌≡◌, ℕ, ◌==◌, List, [], ◌∷◌, map, filter, slice_index_or}
+-- Legal histories of the sequential configuration.
+use Rattle.std.specs.Prelude.{◌≡◌, ℕ, List, [], ◌∷◌, map, filter, ◌==◌, slice_index_or}
 use Rattle.smx_types.specs.declared.command.Command.{Command}
 use Rattle.smx_types.specs.declared.command.Entry.{Entry}
 use Rattle.smx_types.specs.declared.driver.DriverSpec.{DriverSpec}
-use Rattle.smx_model.specs.Configuration.{Configuration, empty}
 use Rattle.smx_model.specs.Commands.{step}
+use Rattle.smx_model.specs.Configuration.{Configuration, empty}
 
--- the configuration that the commands of these entries lead to
+-- the configuration that the entries leave, starting from this one
 abbrev pub after_from : List DriverSpec → Configuration → List Entry → Configuration
 after_from drivers c [] = c
 after_from drivers c (e ∷ es) = after_from drivers (step drivers c e.process e.command).0 es
 
+-- the configuration after a history
 abbrev pub after : List DriverSpec → List Entry → Configuration
 after drivers history = after_from drivers empty history
 
--- each reply is that of the step
+-- each reply is the one that its command gets, starting from this configuration
 abbrev pub IsLegalFrom : List DriverSpec → Configuration → List Entry → Type 0
 IsLegalFrom drivers c [] = Unit {0}
 IsLegalFrom drivers c (e ∷ es) = ((step drivers c e.process e.command).1 ≡ e.reply) × IsLegalFrom drivers (step drivers c e.process e.command).0 es
 
--- from the empty configuration on
+-- each reply is the one that its command gets, from the empty configuration on
 abbrev pub IsLegal : List DriverSpec → List Entry → Type 0
 IsLegal drivers history = IsLegalFrom drivers empty history
 
@@ -31,6 +32,6 @@ asked_of e = (e.process, e.command)
 abbrev pub commands_of : ℕ → List Entry → List Command
 commands_of process history = map (λ e. e.command) (filter (λ e. e.process == process) history)
 
--- each process' commands are its program, in order, each once; a process past the list has none
+-- each process's commands are its program, in order, each once; a process past the list has none
 abbrev pub HoldsPrograms : List Entry → List (List Command) → Type 0
 HoldsPrograms history programs = (process : ℕ) → commands_of process history ≡ slice_index_or programs process []

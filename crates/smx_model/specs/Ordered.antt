@@ -1,7 +1,7 @@
 -- Lists that are kept in a given order.
-use Rattle.std.specs.Prelude.{◌≡◌, true, Bool, if◌then◌else◌, List, [], ◌∷◌}
+use Rattle.std.specs.Prelude.{◌≡◌, ℕ, Bool, true, nat_lt, if◌then◌else◌, List, [], ◌∷◌}
 
--- with one more, before the first that comes after it
+-- with one more element, just before the first that comes after it
 abbrev pub placed : {X : Type 0} → (X → X → Bool) → List X → X → List X
 placed before [] x = x ∷ []
 placed before (y ∷ ys) x = if before x y then x ∷ y ∷ ys else y ∷ placed before ys x
@@ -15,3 +15,13 @@ ComesBefore before x (y ∷ ys) = (before x y ≡ true) × ComesBefore before x 
 abbrev pub IsRising : {X : Type 0} → (X → X → Bool) → List X → Type 0
 IsRising before [] = Unit {0}
 IsRising before (x ∷ xs) = ComesBefore before x xs × IsRising before xs
+
+-- the same numbers, rising
+abbrev pub rising : List ℕ → List ℕ
+rising [] = []
+rising (n ∷ ns) = placed nat_lt (rising ns) n
+
+-- without the first element that passes the test
+abbrev pub without_first : {X : Type 0} → (X → Bool) → List X → List X
+without_first test [] = []
+without_first test (x ∷ xs) = if test x then xs else x ∷ without_first test xs

@@ -1,4 +1,4 @@
--- A worked history: a process has at most 16 descriptors, and all go at once.
+-- Worked: a process has sixteen descriptors, and no more.
 use Rattle.std.specs.Prelude.{◌≡◌, List, [], ◌∷◌, refl, codes}
 use Rattle.smx_types.specs.declared.command.Command.TheVariants as command
 use Rattle.smx_types.specs.declared.command.Entry.{Entry}
@@ -6,15 +6,15 @@ use Rattle.smx_types.specs.declared.driver.DriverKind.TheVariants as driver
 use Rattle.smx_types.specs.declared.driver.DriverSpec.{DriverSpec}
 use Rattle.smx_types.specs.declared.reply.Fault.TheVariants as fault
 use Rattle.smx_types.specs.declared.reply.Reply.TheVariants as reply
-use Rattle.smx_types.specs.declared.transcript.ConfigView.{ConfigView}
+use Rattle.smx_types.specs.declared.view.ConfigView.{ConfigView}
 use Rattle.smx_model.specs.Histories.{IsLegal, after}
 use Rattle.smx_model.specs.Views.{view}
 
-abbrev drivers : List DriverSpec
+abbrev pub drivers : List DriverSpec
 drivers = record { name = codes "ip"; kind = driver.Mux; minors = 64; high = 8; low = 3; max = 16 }
     ∷ []
 
-abbrev history : List Entry
+abbrev pub history : List Entry
 history = record { process = 0; command = command.OpenMinor (codes "ip") 0; reply = reply.Fd 0 0 }
     ∷ record { process = 0; command = command.OpenMinor (codes "ip") 0; reply = reply.Fd 1 0 }
     ∷ record { process = 0; command = command.OpenMinor (codes "ip") 0; reply = reply.Fd 2 0 }
@@ -38,12 +38,20 @@ history = record { process = 0; command = command.OpenMinor (codes "ip") 0; repl
     ∷ record { process = 0; command = command.CloseAll; reply = reply.Done [] }
     ∷ []
 
--- every reply is the one that the command table gives
+abbrev pub shown : ConfigView
+shown = record {
+  next_id = 1;
+  next_serial = 1;
+  fds = [];
+  links = [];
+  binds = [];
+  routes = [];
+  msgs = [];
+  fulls = [];
+}
+
 pub is_legal : IsLegal drivers history
 is_legal = (refl, (refl, (refl, (refl, (refl, (refl, (refl, (refl, (refl, (refl, (refl, (refl, (refl, (refl, (refl, (refl, (refl, (refl, (refl, (refl, (refl, tt)))))))))))))))))))))
-
-abbrev shown : ConfigView
-shown = record { next_id = 1; next_serial = 1; fds = [] }
 
 pub ends_so : view drivers (after drivers history) ≡ shown
 ends_so = refl

@@ -1,10 +1,11 @@
-//! Laws of the sequential configuration, each the contract of a function that does nothing.
+//! Laws of histories, each the contract of a function that does nothing.
 
 ghost use Rattle.std.specs.Prelude.{◌≡◌, ◌++◌, List, map};
 ghost use Rattle.smx_types.specs.declared.command.Entry.{Entry};
 ghost use Rattle.smx_types.specs.declared.driver.DriverSpec.{DriverSpec};
 ghost use Rattle.smx_model.specs.Configuration.{fd_before};
 ghost use Rattle.smx_model.specs.Histories.{after, asked_of, IsLegal};
+ghost use Rattle.smx_model.specs.LawfulHistories.{IsLawful, IsLawfulThroughout};
 ghost use Rattle.smx_model.specs.Ordered.{IsRising};
 
 /// A prefix of a legal history is legal.
@@ -16,6 +17,17 @@ pub fn prefixes_are_legal()
 pub fn histories_are_determined()
     ensures { (drivers : List DriverSpec) (one other : List Entry) → IsLegal drivers one → IsLegal drivers other
         → map asked_of one ≡ map asked_of other → one ≡ other }
+{}
+
+/// A legal history is lawful: at its end there is no cycle, no stream is below two links, and each message that was
+/// taken in was delivered, was dropped or is queued, once.
+pub fn legal_histories_are_lawful()
+    ensures { (drivers : List DriverSpec) (history : List Entry) → IsLegal drivers history → IsLawful drivers history }
+{}
+
+/// So is each of its prefixes: it is lawful after each entry.
+pub fn lawful_after_each_entry()
+    ensures { (drivers : List DriverSpec) (history : List Entry) → IsLegal drivers history → IsLawfulThroughout drivers history }
 {}
 
 /// After any commands the open descriptors are in the order in which they are shown, and so all differ.

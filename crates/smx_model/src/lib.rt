@@ -2,3 +2,9 @@
 #![tactic(auto)]
 
 pub mod laws;
+pub mod laws_of_links;
+pub mod laws_of_messages;
+pub mod laws_of_queues;
+pub mod laws_of_steps;
+pub mod laws_of_streams;
+pub mod laws_of_views;

@@ -1,7 +1,7 @@
 -- What stands at each line where a text goes wrong, and what the lines before it are.
 use Rattle.std.proofs.Common.{◌≡◌, ◌≢◌, ℕ, ◌+◌, ◌<◌, List, [], ◌∷◌, ◌++◌, length, map, Some, None, refl, sym, ap, subst, ◌∙◌, append_assoc, arith, inl, inr}
 use Rattle.std.specs.List.{AllByRecursion}
-use Rattle.std.specs.Prelude.{codes, Result, Ok, Err, IfOk, IfErr}
+use Rattle.std.specs.Prelude.{codes, Result, Ok, Err, IfOk, IfErr, IsErrAnd}
 use Rattle.std.proofs.lemmas.List.{map_push, length-append, nil_from_length}
 use Rattle.smx_types.specs.ProgramLists.{ProgramLists, AreWithinLimits}
 use Rattle.smx_text.specs.declared.fault.Cause.{Cause}
@@ -13,7 +13,7 @@ use Rattle.smx_text.specs.Words.{split}
 use Rattle.smx_text.specs.ProgramsText.{body, FitsLine, IsAllowed, SpellsPrograms}
 use Rattle.smx_text.specs.ProgramsReading.{line_text, header, front, MayFollow, IsFault, Reads}
 use Rattle.smx_text.specs.LineReading.{line_at}
-use Rattle.smx_text.specs.Drafts.{Refuses}
+use Rattle.smx_text.specs.Drafts.{Refuses, IsUnread}
 use Rattle.smx_text.proofs.SplitLemmas.{split_some, split_long}
 use Rattle.smx_text.proofs.JoinLemmas.{read_again, read_is}
 use Rattle.smx_text.proofs.TextLemmas.{parts_spell}
@@ -43,10 +43,15 @@ module _ (bytes rest : List ℕ) (v : ProgramLists) (number : ℕ) (text after :
       let s = split_some 10 after in
       (s.0, s.1, at.parts ∙ ap (λ (ls : List (List ℕ)). front v ++ ls) (cut ∙ ap (λ (ls : List (List ℕ)). text ∷ ls) s.2))
 
-  pub no_line : line_at (split 32 text) ≡ None → IsFault (split 10 bytes) number cause.Form
+  no_line : line_at (split 32 text) ≡ None → IsFault (split 10 bytes) number cause.Form
   no_line none =
       let w = whole in
       (v, text, at.allowed, w, λ k fits may e. let again = read_again text k fits e in absurd cc, at.numbered)
+
+  -- the line was not read
+  pub unread : (f : TextFault) → IsUnread (line_at (split 32 text)) number f → IsFault (split 10 bytes) f.line f.cause
+  unread f (inl h) = subst (λ (x : TextFault). IsFault (split 10 bytes) x.line x.cause) (sym h.1) (no_line h.0)
+  unread f (inr memory) = subst (λ (x : TextFault). IsFault (split 10 bytes) x.line x.cause) (sym memory) (front v, split 10 rest, inr (v, at.allowed, refl), at.parts, at.numbered)
 
   some_is : (k l : Line) → line_at (split 32 text) ≡ Some k → line_at (split 32 text) ≡ Some l → l ≡ k
   some_is k l e f = cc
@@ -103,3 +108,8 @@ pub first_wrong : (bytes first rest : List ℕ) → split 10 bytes ≡ first ∷
 first_wrong bytes first rest cut h =
     let s = split_some 10 rest in
     (first, (s.0, s.1, cut ∙ ap (λ (ls : List (List ℕ)). first ∷ ls) s.2), h, refl)
+
+-- a fault that is handed on
+pub handed_on : (bytes : List ℕ) (f : TextFault) (r : Result ProgramLists TextFault) → IsErrAnd r (λ g. g ≡ f) → IsFault (split 10 bytes) f.line f.cause → Reads bytes r
+handed_on bytes f (Ok v) e h = absurd e
+handed_on bytes f (Err g) e h = subst (λ (x : TextFault). IsFault (split 10 bytes) x.line x.cause) (sym e) h

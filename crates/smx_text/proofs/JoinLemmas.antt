@@ -8,18 +8,31 @@ use Rattle.std.proofs.lemmas.List.Splits.{slice_split_at, slice_split_none, join
 use Rattle.std.proofs.lemmas.List.Elements.{All-from_recursion}
 use Rattle.std.proofs.lemmas.Fmt.{digits_decimal}
 use Rattle.smx_types.specs.Names.{is_name_byte}
+use Rattle.smx_types.specs.declared.command.Command.{Command}
 use Rattle.smx_types.specs.declared.command.Command.TheVariants as command
+use Rattle.smx_types.specs.declared.command.Sides.{Sides}
+use Rattle.smx_types.specs.declared.command.Sides.TheVariants as sides
+use Rattle.smx_types.specs.declared.command.Which.{Which}
+use Rattle.smx_types.specs.declared.command.Which.TheVariants as which
 use Rattle.smx_types.specs.declared.driver.DriverKind.{DriverKind}
 use Rattle.smx_types.specs.declared.driver.DriverKind.TheVariants as kind
+use Rattle.smx_types.specs.declared.driver.DriverSpec.{DriverSpec}
+use Rattle.smx_types.specs.declared.link.LinkKind.{LinkKind}
+use Rattle.smx_types.specs.declared.link.LinkKind.TheVariants as link
+use Rattle.smx_types.specs.declared.stream.Side.{Side}
+use Rattle.smx_types.specs.declared.stream.Side.TheVariants as side
 use Rattle.smx_text.specs.declared.line.Line.{Line}
 use Rattle.smx_text.specs.declared.line.Line.TheVariants as line
+use Rattle.smx_text.specs.HexWords.{hex_word}
 use Rattle.smx_text.specs.Words.{line_of, split}
-use Rattle.smx_text.specs.Spelling.{kind_word}
-use Rattle.smx_text.specs.Spellable.{FitsName, FitsNumber}
+use Rattle.smx_text.specs.Spelling.{command_words, driver_words, kind_word, which_word, sides_word, side_word, link_kind_word}
+use Rattle.smx_text.specs.Spellable.{FitsBytes, FitsCommand, FitsDriver, FitsName, FitsNumber, FitsWhich}
 use Rattle.smx_text.specs.ProgramsText.{line_words, FitsLine}
 use Rattle.smx_text.specs.ProgramsReading.{line_text}
 use Rattle.smx_text.specs.LineReading.{line_at}
 use Rattle.smx_text.proofs.NumberLemmas.{own}
+use Rattle.smx_text.proofs.HexLemmas.{digits_above}
+use Rattle.smx_text.proofs.CommandLemmas.{command_some}
 use Rattle.smx_text.proofs.LineLemmas.{line_takes, line_again}
 
 -- ---- words have neither spaces nor line feeds
@@ -50,15 +63,55 @@ pub kind_is_word : (k : DriverKind) → IsWord (kind_word k)
 kind_is_word kind.Leaf = search rules
 kind_is_word kind.Mux = search rules
 
-pub words_of_line : (k : Line) → FitsLine k → AllByRecursion IsWord (line_words k)
-words_of_line (line.Driver d) fits =
+pub which_is_word : (x : Which) → FitsWhich x → IsWord (which_word x)
+which_is_word (which.Id id) fits = number_is_word id fits
+which_is_word which.All fits = search rules
+
+pub sides_is_word : (s : Sides) → IsWord (sides_word s)
+sides_is_word sides.R = search rules
+sides_is_word sides.W = search rules
+sides_is_word sides.RW = search rules
+
+pub side_is_word : (s : Side) → IsWord (side_word s)
+side_is_word side.Write = search rules
+side_is_word side.Read = search rules
+
+pub link_kind_is_word : (k : LinkKind) → IsWord (link_kind_word k)
+link_kind_is_word link.Ordinary = search rules
+link_kind_is_word link.Persistent = search rules
+
+pub hex_is_word : (bs : List ℕ) → FitsBytes bs → IsWord (hex_word bs)
+hex_is_word [] fits = search rules
+hex_is_word (b ∷ bs) fits = digits_above (b ∷ bs) fits
+
+pub words_of_command : (c : Command) → FitsCommand c → AllByRecursion IsWord (command_words c)
+words_of_command (command.OpenClone d) fits = (search rules, (name_is_word d fits, tt))
+words_of_command (command.OpenMinor d n) fits = (search rules, (name_is_word d fits.0, (number_is_word n fits.1, tt)))
+words_of_command (command.Dup n) fits = (search rules, (number_is_word n fits, tt))
+words_of_command (command.Close n) fits = (search rules, (number_is_word n fits, tt))
+words_of_command command.CloseAll fits = search rules
+words_of_command (command.Link n m) fits = (search rules, (number_is_word n fits.0, (number_is_word m fits.1, tt)))
+words_of_command (command.Plink n m) fits = (search rules, (number_is_word n fits.0, (number_is_word m fits.1, tt)))
+words_of_command (command.Unlink n x) fits = (search rules, (number_is_word n fits.0, (which_is_word x fits.1, tt)))
+words_of_command (command.Punlink n x) fits = (search rules, (number_is_word n fits.0, (which_is_word x fits.1, tt)))
+words_of_command (command.Bind n m) fits = (search rules, (number_is_word n fits.0, (number_is_word m fits.1, tt)))
+words_of_command (command.Unbind n) fits = (search rules, (number_is_word n fits, tt))
+words_of_command (command.Route n m k) fits = (search rules, (number_is_word n fits.0, (number_is_word m fits.1, (number_is_word k fits.2, tt))))
+words_of_command (command.Unroute n m) fits = (search rules, (number_is_word n fits.0, (number_is_word m fits.1, tt)))
+words_of_command (command.Write n m bs) fits = (search rules, (number_is_word n fits.0, (number_is_word m fits.1, (hex_is_word bs fits.2, tt))))
+words_of_command (command.Read n) fits = (search rules, (number_is_word n fits, tt))
+words_of_command (command.Flush n s) fits = (search rules, (number_is_word n fits, (sides_is_word s, tt)))
+words_of_command (command.Inject d n m bs) fits = (search rules, (name_is_word d fits.0, (number_is_word n fits.1, (number_is_word m fits.2, (hex_is_word bs fits.3, tt)))))
+words_of_command (command.Transmit d n) fits = (search rules, (name_is_word d fits.0, (number_is_word n fits.1, tt)))
+
+pub words_of_driver : (d : DriverSpec) → FitsDriver d → AllByRecursion IsWord (driver_words d)
+words_of_driver d fits =
     (search rules, (name_is_word d.name fits.name, (kind_is_word d.kind, (number_is_word d.minors fits.minors, (number_is_word d.high fits.high, (number_is_word d.low fits.low, (number_is_word d.max fits.max, tt)))))))
+
+pub words_of_line : (k : Line) → FitsLine k → AllByRecursion IsWord (line_words k)
+words_of_line (line.Driver d) fits = words_of_driver d fits
 words_of_line (line.Process n) fits = (search rules, (number_is_word n fits, tt))
-words_of_line (line.Command (command.OpenClone d)) fits = (search rules, (name_is_word d fits, tt))
-words_of_line (line.Command (command.OpenMinor d n)) fits = (search rules, (name_is_word d fits.0, (number_is_word n fits.1, tt)))
-words_of_line (line.Command (command.Dup n)) fits = (search rules, (number_is_word n fits, tt))
-words_of_line (line.Command (command.Close n)) fits = (search rules, (number_is_word n fits, tt))
-words_of_line (line.Command command.CloseAll) fits = search rules
+words_of_line (line.Command c) fits = words_of_command c fits
 words_of_line line.End fits = search rules
 
 -- ---- so their lines are cut where they were joined
@@ -71,7 +124,7 @@ word_is_free : (separator : ℕ) → separator ≤ 32 → (w : List ℕ) → IsW
 word_is_free separator low [] h = tt
 word_is_free separator low (b ∷ w) h = let above = h.0 in (grind (arith, nat_tests), word_is_free separator low w h.1)
 
-split_join : (w : List ℕ) (ws : List (List ℕ)) → AllByRecursion IsWord (w ∷ ws) → split 32 (line_of (w ∷ ws)) ≡ w ∷ ws
+pub split_join : (w : List ℕ) (ws : List (List ℕ)) → AllByRecursion IsWord (w ∷ ws) → split 32 (line_of (w ∷ ws)) ≡ w ∷ ws
 split_join w [] h = slice_split_none (λ b. eqb b 32) w (All-from_recursion (λ b. eqb b 32 ≡ false) w (word_is_free 32 (omega arith) w h.0))
 split_join w (v ∷ ws) h =
     slice_split_at (λ b. eqb b 32) w 32 (line_of (v ∷ ws)) (All-from_recursion (λ b. eqb b 32 ≡ false) w (word_is_free 32 (omega arith) w h.0)) refl
@@ -90,21 +143,17 @@ words_free (w ∷ v ∷ ws) h = free_append 10 w (32 ∷ line_of (v ∷ ws)) (wo
 pub line_free : (k : Line) → FitsLine k → IsFree 10 (line_text k)
 line_free k fits = words_free (line_words k) (words_of_line k fits)
 
+pub joined : (ws : List (List ℕ)) → AllByRecursion IsWord ws → 0 < length ws → split 32 (line_of ws) ≡ ws
+joined [] h some = absurd (omega arith)
+joined (w ∷ ws) h some = split_join w ws h
+
 spelled_again : (k : Line) → FitsLine k → split 32 (line_text k) ≡ line_words k
 spelled_again k fits = joined (line_words k) (words_of_line k fits) (some_words k) where
   some_words : (k : Line) → 0 < length (line_words k)
   some_words (line.Driver d) = omega arith
   some_words (line.Process n) = omega arith
-  some_words (line.Command (command.OpenClone d)) = omega arith
-  some_words (line.Command (command.OpenMinor d n)) = omega arith
-  some_words (line.Command (command.Dup n)) = omega arith
-  some_words (line.Command (command.Close n)) = omega arith
-  some_words (line.Command command.CloseAll) = omega arith
+  some_words (line.Command c) = command_some c
   some_words line.End = omega arith
-
-  joined : (ws : List (List ℕ)) → AllByRecursion IsWord ws → 0 < length ws → split 32 (line_of ws) ≡ ws
-  joined [] h some = absurd (omega arith)
-  joined (w ∷ ws) h some = split_join w ws h
 
 -- what is spelled so is read
 pub read_again : (text : List ℕ) (k : Line) → FitsLine k → text ≡ line_text k → line_at (split 32 text) ≡ Some k

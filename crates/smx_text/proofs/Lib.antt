@@ -1,5 +1,8 @@
 pub mod SplitLemmas
 pub mod NumberLemmas
+pub mod WordLemmas
+pub mod HexLemmas
+pub mod CommandLemmas
 pub mod LineLemmas
 pub mod JoinLemmas
 pub mod BodyLemmas
@@ -7,3 +10,16 @@ pub mod TextLemmas
 pub mod FaultLemmas
 pub mod OnlyLemmas
 pub mod WritingLemmas
+pub mod FrontLemmas
+pub mod WordCountLemmas
+pub mod ReplyLemmas
+pub mod EntryLemmas
+pub mod TranscriptLineLemmas
+pub mod TranscriptDraftLemmas
+pub mod TranscriptFaultLemmas
+pub mod TranscriptOnlyLemmas
+pub mod EachLemmas
+pub mod AnswerLemmas
+pub mod ViewLineLemmas
+pub mod TranscriptWholeLemmas
+pub mod TranscriptFollowLemmas

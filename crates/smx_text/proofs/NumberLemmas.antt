@@ -10,7 +10,7 @@ use Rattle.std.proofs.lemmas.Fmt.{decimal-digits_value, digits_decimal, digits_v
 use Rattle.std.proofs.lemmas.Bool.{cases_lt, lt-ltb}
 use Rattle.std.proofs.lemmas.Bool.Decides.{nat_tests}
 use Rattle.smx_text.specs.Spellable.{FitsNumber}
-use Rattle.smx_text.specs.LineReading.{starts_wrong, digits_at, number_at}
+use Rattle.smx_text.specs.WordReading.{starts_wrong, digits_at, number_at}
 
 pub own : IsNumeralModel (λ ds. all_ascii_digits ds ≡ true) (digits_value 10)
 own = numerals_by_value _ tells_all_ascii_digits

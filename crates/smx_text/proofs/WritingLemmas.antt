@@ -8,19 +8,20 @@ use Rattle.std.specs.List.{flat_map, AllByRecursion}
 use Rattle.std.specs.Prelude.{codes}
 use Rattle.smx_types.specs.ProgramLists.{ProgramLists}
 use Rattle.smx_types.specs.declared.command.Command.{Command}
-use Rattle.smx_types.specs.declared.command.Command.TheVariants as command
 use Rattle.smx_types.specs.declared.command.Entry.{Entry}
 use Rattle.smx_types.specs.declared.reply.Fault.{Fault}
 use Rattle.smx_types.specs.declared.reply.Fault.TheVariants as fault
 use Rattle.smx_types.specs.declared.reply.Reply.{Reply}
 use Rattle.smx_types.specs.declared.reply.Reply.TheVariants as reply
 use Rattle.smx_types.specs.declared.transcript.Transcript.{Transcript}
+use Rattle.smx_types.specs.declared.view.ConfigView.{ConfigView}
 use Rattle.smx_text.specs.declared.line.Line.TheVariants as line
 use Rattle.smx_text.specs.ProgramsText.{line_words, program_lines, body, programs_text, FitsLine}
-use Rattle.smx_text.specs.Spelling.{command_words, driver_words, entry_words, fault_words, reply_words}
+use Rattle.smx_text.specs.Spelling.{bind_words, command_words, descriptor_words, driver_words, entry_words, fault_words, full_words, link_words, message_words, reply_words, route_words}
 use Rattle.smx_text.specs.Spellable.{FitsCommand, FitsDriver}
-use Rattle.smx_text.specs.TranscriptText.{view_lines, transcript_text}
+use Rattle.smx_text.specs.TranscriptText.{next_words, view_lines, transcript_text}
 use Rattle.smx_text.specs.Words.{line_of, text_of}
+use Rattle.smx_text.proofs.CommandLemmas.{command_some}
 
 -- two rows of words, neither of them empty, in one line
 line_append : (ws vs : List (List ℕ)) → 0 < length ws → 0 < length vs → line_of (ws ++ vs) ≡ line_of ws ++ 32 ∷ line_of vs
@@ -29,21 +30,29 @@ line_append (w ∷ []) [] h k = absurd (omega arith)
 line_append (w ∷ []) (v ∷ vs) h k = refl
 line_append (w ∷ x ∷ ws) vs h k = rw (line_append (x ∷ ws) vs (omega arith) k, append_assoc) refl
 
-command_some : (c : Command) → 0 < length (command_words c)
-command_some (command.OpenClone driver) = omega arith
-command_some (command.OpenMinor driver minor) = omega arith
-command_some (command.Dup fd) = omega arith
-command_some (command.Close fd) = omega arith
-command_some command.CloseAll = omega arith
-
 fault_some : (f : Fault) → 0 < length (fault_words f)
 fault_some fault.BadDescriptor = omega arith
+fault_some fault.Below = omega arith
+fault_some fault.NotMux = omega arith
+fault_some fault.AlreadyBelow = omega arith
+fault_some fault.Cycle = omega arith
+fault_some fault.TooManyLinks = omega arith
+fault_some fault.NoLink = omega arith
 fault_some fault.NoDriver = omega arith
 fault_some fault.NoMinor = omega arith
 fault_some fault.TooManyDescriptors = omega arith
+fault_some fault.AddressInUse = omega arith
+fault_some fault.Unbound = omega arith
+fault_some fault.Unrouted = omega arith
+fault_some fault.Full = omega arith
+fault_some fault.Empty = omega arith
+fault_some fault.BadSize = omega arith
 
 reply_some : (r : Reply) → 0 < length (reply_words r)
 reply_some (reply.Fd fd minor) = omega arith
+reply_some (reply.Id id) = omega arith
+reply_some (reply.Took serial) = omega arith
+reply_some (reply.Got serial addr bytes) = omega arith
 reply_some (reply.Done dropped) = omega arith
 reply_some (reply.Fault f) = fault_some f
 
@@ -101,6 +110,28 @@ body_text v = simp (map-append, map-map, lines_append, append_assoc)
 
 pub body_fits : (v : ProgramLists) → AllByRecursion FitsDriver v.drivers → AllByRecursion FitsLine (program_lines 0 v.programs) → AllByRecursion FitsLine (body v)
 body_fits v drivers programs = all_append FitsLine (map line.Driver v.drivers) (program_lines 0 v.programs) (all_map FitsLine line.Driver v.drivers drivers) programs
+
+six_groups : (ls ks js is hs gs : List (List (List ℕ))) → text_of (ls ++ ks ++ js ++ is ++ hs ++ gs) ≡ text_of ls ++ text_of ks ++ text_of js ++ text_of is ++ text_of hs ++ text_of gs
+six_groups ls ks js is hs gs =
+    rw (lines_append (ls ++ ks ++ js ++ is ++ hs) gs, lines_append (ls ++ ks ++ js ++ is) hs, lines_append (ls ++ ks ++ js) is, lines_append (ls ++ ks) js, lines_append ls ks) refl
+
+-- the groups of a view, one after the other
+pub view_written : (v : ConfigView) (start next fds links binds routes msgs fulls : List ℕ) → next ≡ start ++ text_of (next_words v ∷ []) → fds ≡ next ++ text_of (map descriptor_words v.fds)
+    → links ≡ fds ++ text_of (map link_words v.links) → binds ≡ links ++ text_of (map bind_words v.binds) → routes ≡ binds ++ text_of (map route_words v.routes)
+    → msgs ≡ routes ++ text_of (map message_words v.msgs) → fulls ≡ msgs ++ text_of (map full_words v.fulls) → fulls ≡ start ++ text_of (view_lines v)
+view_written v start next fds links binds routes msgs fulls a b c d e f g =
+    g ∙ rw (f, e, d, c, b, a) (regroup start (text_of (next_words v ∷ [])) _ _ _ _ _ _) ∙ ap (λ (more : List ℕ). start ++ more) (sym (groups v)) where
+      grouped : ConfigView → List ℕ
+      grouped v = text_of (next_words v ∷ []) ++ text_of (map descriptor_words v.fds) ++ text_of (map link_words v.links) ++ text_of (map bind_words v.binds)
+          ++ text_of (map route_words v.routes) ++ text_of (map message_words v.msgs) ++ text_of (map full_words v.fulls)
+
+      groups : (v : ConfigView) → text_of (view_lines v) ≡ grouped v
+      groups v = six_groups (next_words v ∷ map descriptor_words v.fds) (map link_words v.links) (map bind_words v.binds) (map route_words v.routes) (map message_words v.msgs) (map full_words v.fulls)
+          ∙ ap (λ (first : List ℕ). first ++ text_of (map link_words v.links) ++ text_of (map bind_words v.binds) ++ text_of (map route_words v.routes) ++ text_of (map message_words v.msgs) ++ text_of (map full_words v.fulls))
+          (lines_append (next_words v ∷ []) (map descriptor_words v.fds))
+
+      regroup : (s n a b c d e f : List ℕ) → (s ++ n) ++ a ++ b ++ c ++ d ++ e ++ f ≡ s ++ (n ++ a ++ b ++ c ++ d ++ e ++ f)
+      regroup s n a b c d e f = simp append_assoc
 
 four_groups : (ls ks js is : List (List (List ℕ))) → text_of (ls ++ ks ++ js ++ is) ≡ text_of ls ++ text_of ks ++ text_of js ++ text_of is
 four_groups ls ks js is = rw (lines_append (ls ++ ks ++ js) is, lines_append (ls ++ ks) js, lines_append ls ks) refl

@@ -1,10 +1,11 @@
 -- What holds of the programs that are being read, and why a line can't join them. No public clause needs this.
-use Rattle.std.specs.Prelude.{◌≡◌, length}
+use Rattle.std.specs.Prelude.{◌≡◌, ◌⊎◌, ℕ, length, Option, None}
 use Rattle.std.specs.List.{sum_by}
 use Rattle.smx_types.specs.ProgramLists.{ProgramLists, AreWithinLimits, lists}
 use Rattle.smx_text.specs.declared.draft.Draft.TheInside.{Inside}
 use Rattle.smx_text.specs.declared.fault.Cause.{Cause}
 use Rattle.smx_text.specs.declared.fault.Cause.TheVariants as cause
+use Rattle.smx_text.specs.declared.fault.TextFault.{TextFault}
 use Rattle.smx_text.specs.declared.line.Line.{Line}
 use Rattle.smx_text.specs.ProgramsReading.{MayFollow, IsFull}
 
@@ -21,3 +22,7 @@ Refuses v l cause.NoMemory = Unit {0}
 Refuses v l cause.Header = ⊥
 Refuses v l cause.Cut = ⊥
 Refuses v l cause.Trailing = ⊥
+
+-- its words spell no line, or there was no memory for it
+abbrev pub IsUnread : Option Line → ℕ → TextFault → Type 0
+IsUnread taken number f = ((taken ≡ None) × (f ≡ record { line = number; cause = cause.Form })) ⊎ (f ≡ record { line = number; cause = cause.NoMemory })

@@ -1,8 +1,16 @@
 pub mod Words
+pub mod HexWords
 pub mod Spelling
 pub mod Spellable
 pub mod ProgramsText
 pub mod ProgramsReading
 pub mod TranscriptText
+pub mod WordReading
+pub mod CommandReading
 pub mod LineReading
 pub mod Drafts
+pub mod TranscriptReading
+pub mod WordCounts
+pub mod ReplyReading
+pub mod TranscriptLineReading
+pub mod TranscriptDrafts

@@ -1,15 +1,22 @@
--- Which values can be spelled: names are names, and numbers are in range. The types keep this.
+-- Which values can be spelled: names are names, and numbers and bytes are in range. The types keep this.
 use Rattle.std.specs.Prelude.{◌≡◌, ℕ, ◌<◌, ◌^◌, true, List}
 use Rattle.std.specs.List.{AllByRecursion}
 use Rattle.smx_types.specs.Names.{is_name}
 use Rattle.smx_types.specs.declared.command.Command.{Command}
 use Rattle.smx_types.specs.declared.command.Command.TheVariants as command
 use Rattle.smx_types.specs.declared.command.Entry.{Entry}
+use Rattle.smx_types.specs.declared.command.Which.{Which}
+use Rattle.smx_types.specs.declared.command.Which.TheVariants as which
 use Rattle.smx_types.specs.declared.driver.DriverSpec.{DriverSpec}
 use Rattle.smx_types.specs.declared.limits.TheConstants.{MAX_PROCESSES}
 use Rattle.smx_types.specs.declared.reply.Reply.{Reply}
 use Rattle.smx_types.specs.declared.reply.Reply.TheVariants as reply
-use Rattle.smx_types.specs.declared.transcript.DescriptorLine.{DescriptorLine}
+use Rattle.smx_types.specs.declared.view.BindingLine.{BindingLine}
+use Rattle.smx_types.specs.declared.view.DescriptorLine.{DescriptorLine}
+use Rattle.smx_types.specs.declared.view.FullLine.{FullLine}
+use Rattle.smx_types.specs.declared.view.LinkLine.{LinkLine}
+use Rattle.smx_types.specs.declared.view.MessageLine.{MessageLine}
+use Rattle.smx_types.specs.declared.view.RouteLine.{RouteLine}
 
 -- a number has 32 bits
 abbrev pub FitsNumber : ℕ → Type 0
@@ -17,6 +24,14 @@ FitsNumber n = n < 2 ^ 32
 
 abbrev pub FitsName : List ℕ → Type 0
 FitsName text = is_name text ≡ true
+
+-- a byte has 8 bits
+abbrev pub FitsBytes : List ℕ → Type 0
+FitsBytes bytes = AllByRecursion (λ b. b < 256) bytes
+
+abbrev pub FitsWhich : Which → Type 0
+FitsWhich (which.Id id) = FitsNumber id
+FitsWhich which.All = Unit {0}
 
 pub record FitsDriver (d : DriverSpec) : Type 0 where
   pub name : FitsName d.name
@@ -31,9 +46,25 @@ FitsCommand (command.OpenMinor driver minor) = FitsName driver × FitsNumber min
 FitsCommand (command.Dup fd) = FitsNumber fd
 FitsCommand (command.Close fd) = FitsNumber fd
 FitsCommand command.CloseAll = Unit {0}
+FitsCommand (command.Link fd arg) = FitsNumber fd × FitsNumber arg
+FitsCommand (command.Plink fd arg) = FitsNumber fd × FitsNumber arg
+FitsCommand (command.Unlink fd which) = FitsNumber fd × FitsWhich which
+FitsCommand (command.Punlink fd which) = FitsNumber fd × FitsWhich which
+FitsCommand (command.Bind fd addr) = FitsNumber fd × FitsNumber addr
+FitsCommand (command.Unbind fd) = FitsNumber fd
+FitsCommand (command.Route fd addr id) = FitsNumber fd × FitsNumber addr × FitsNumber id
+FitsCommand (command.Unroute fd addr) = FitsNumber fd × FitsNumber addr
+FitsCommand (command.Write fd addr bytes) = FitsNumber fd × FitsNumber addr × FitsBytes bytes
+FitsCommand (command.Read fd) = FitsNumber fd
+FitsCommand (command.Flush fd sides) = FitsNumber fd
+FitsCommand (command.Inject driver minor addr bytes) = FitsName driver × FitsNumber minor × FitsNumber addr × FitsBytes bytes
+FitsCommand (command.Transmit driver minor) = FitsName driver × FitsNumber minor
 
 abbrev pub FitsReply : Reply → Type 0
 FitsReply (reply.Fd fd minor) = FitsNumber fd × FitsNumber minor
+FitsReply (reply.Id id) = FitsNumber id
+FitsReply (reply.Took serial) = FitsNumber serial
+FitsReply (reply.Got serial addr bytes) = FitsNumber serial × FitsNumber addr × FitsBytes bytes
 FitsReply (reply.Done dropped) = AllByRecursion FitsNumber dropped
 FitsReply (reply.Fault f) = Unit {0}
 
@@ -47,3 +78,31 @@ pub record FitsDescriptor (d : DescriptorLine) : Type 0 where
   pub fd : FitsNumber d.fd
   pub driver : FitsName d.driver
   pub minor : FitsNumber d.minor
+
+pub record FitsLink (l : LinkLine) : Type 0 where
+  pub id : FitsNumber l.id
+  pub ctl_driver : FitsName l.ctl_driver
+  pub ctl_minor : FitsNumber l.ctl_minor
+  pub lower_driver : FitsName l.lower_driver
+  pub lower_minor : FitsNumber l.lower_minor
+
+pub record FitsBinding (b : BindingLine) : Type 0 where
+  pub driver : FitsName b.driver
+  pub addr : FitsNumber b.addr
+  pub minor : FitsNumber b.minor
+
+pub record FitsRoute (r : RouteLine) : Type 0 where
+  pub driver : FitsName r.driver
+  pub addr : FitsNumber r.addr
+  pub id : FitsNumber r.id
+
+pub record FitsMessage (m : MessageLine) : Type 0 where
+  pub driver : FitsName m.driver
+  pub minor : FitsNumber m.minor
+  pub serial : FitsNumber m.message.serial
+  pub addr : FitsNumber m.message.addr
+  pub bytes : FitsBytes m.message.bytes
+
+pub record FitsFull (f : FullLine) : Type 0 where
+  pub driver : FitsName f.driver
+  pub minor : FitsNumber f.minor

@@ -1,12 +1,22 @@
 //! The lines of a programs text.
 
-ghost use Rattle.std.specs.Prelude.{◌≡◌, ◌<◌, ◌∷◌, [], ◌==◌, length, MatchOption, IfSome};
-ghost use Rattle.std.specs.List.{position};
+ghost use Rattle.std.specs.Prelude.{◌≡◌, ◌∷◌, [], IfOk};
 ghost use Rattle.smx_text.specs.Words.{split};
-ghost use Rattle.smx_text.specs.LineReading.{one_word, two_words, three_words, seven_words, line_at};
+ghost use Rattle.smx_text.specs.LineReading.{
+  driver_at,
+  driver_line_at,
+  process_line_at,
+  command_line_at,
+  six_words,
+  only_word,
+  line_at,
+};
 
+use crate::command_words::command_of;
+use crate::cutting::cut;
 use crate::word::{kind, name, number};
-use smx_types::{Command, DriverSpec};
+use smx_types::{Command, DriverSpec, NoMemory};
+use std::alloc::Global;
 
 /// A line of a programs text after its header.
 #[derive(Debug, Drop, PartialEq)]
@@ -21,124 +31,91 @@ pub enum Line {
     End,
 }
 
-fn one_word(word: &[u8]) -> Option<Line>
-    ensures { result ≡ one_word word.now }
+// The line that words with one space between them are. Fails only for want of memory.
+pub fn line_of(alloc: Global, text: &[u8]) -> Result<Option<Line>, NoMemory>
+    ensures { IfOk result (λ o. o ≡ line_at (split 32 text.now)) }
 {
-    if word == b"exit".as_slice() {
-        Some(Line::Command(Command::CloseAll))
-    } else if word == b"end".as_slice() {
-        Some(Line::End)
-    } else {
-        None
+    let Some((word, rest)) = cut(text, b' ') else {
+        return only_word(alloc, text);
+    };
+    if word == b"driver".as_slice() {
+        return Ok(driver_line(rest));
+    }
+    if word == b"process".as_slice() {
+        return Ok(process_line(rest));
+    }
+    command_line(alloc, text)
+}
+
+fn only_word(alloc: Global, word: &[u8]) -> Result<Option<Line>, NoMemory>
+    requires { split 32 word.now ≡ word.now ∷ [] }
+    ensures { IfOk result (λ o. o ≡ only_word word.now) }
+{
+    if word == b"end".as_slice() {
+        return Ok(Some(Line::End));
+    }
+    command_line(alloc, word)
+}
+
+fn command_line(alloc: Global, text: &[u8]) -> Result<Option<Line>, NoMemory>
+    ensures { IfOk result (λ o. o ≡ command_line_at (split 32 text.now)) }
+{
+    match command_of(alloc, text)? {
+        Some(command) => Ok(Some(Line::Command(command))),
+        None => Ok(None),
     }
 }
 
-fn two_words(word: &[u8], a: &[u8]) -> Option<Line>
-    ensures { result ≡ two_words word.now a.now }
+fn driver_line(rest: &[u8]) -> Option<Line>
+    ensures { result ≡ driver_line_at (split 32 rest.now) }
 {
-    if word == b"clone".as_slice() {
-        let driver = name(a)?;
-        Some(Line::Command(Command::OpenClone { driver }))
-    } else if word == b"dup".as_slice() {
-        let fd = number(a)?;
-        Some(Line::Command(Command::Dup { fd }))
-    } else if word == b"close".as_slice() {
-        let fd = number(a)?;
-        Some(Line::Command(Command::Close { fd }))
-    } else if word == b"process".as_slice() {
-        let number = number(a)?;
-        Some(Line::Process(number))
-    } else {
-        None
+    let driver = driver_of(rest)?;
+    Some(Line::Driver(driver))
+}
+
+// The line of a process, by what follows its first word.
+fn process_line(rest: &[u8]) -> Option<Line>
+    ensures { result ≡ process_line_at (split 32 rest.now) }
+{
+    match cut(rest, b' ') {
+        None => {
+            let number = number(rest)?;
+            Some(Line::Process(number))
+        }
+        Some(_) => None,
     }
 }
 
-fn three_words(word: &[u8], a: &[u8], b: &[u8]) -> Option<Line>
-    ensures { result ≡ three_words word.now a.now b.now }
+// The driver that a line spells, by what follows its first word.
+pub fn driver_of(rest: &[u8]) -> Option<DriverSpec>
+    ensures { result ≡ driver_at (split 32 rest.now) }
 {
-    if word == b"open".as_slice() {
-        let driver = name(a)?;
-        let minor = number(b)?;
-        Some(Line::Command(Command::OpenMinor { driver, minor }))
-    } else {
-        None
+    let (a, rest) = cut(rest, b' ')?;
+    let (b, rest) = cut(rest, b' ')?;
+    let (c, rest) = cut(rest, b' ')?;
+    let (d, rest) = cut(rest, b' ')?;
+    let (e, rest) = cut(rest, b' ')?;
+    match cut(rest, b' ') {
+        None => six_words(a, b, c, d, e, rest),
+        Some(_) => None,
     }
 }
 
-fn seven_words(
-    word: &[u8],
-    a: &[u8],
-    b: &[u8],
-    c: &[u8],
-    d: &[u8],
-    e: &[u8],
-    f: &[u8],
-) -> Option<Line>
-    ensures { result ≡ seven_words word.now a.now b.now c.now d.now e.now f.now }
+fn six_words(a: &[u8], b: &[u8], c: &[u8], d: &[u8], e: &[u8], f: &[u8]) -> Option<DriverSpec>
+    ensures { result ≡ six_words a.now b.now c.now d.now e.now f.now }
 {
-    if word != b"driver".as_slice() {
-        return None;
-    }
     let name = name(a)?;
     let kind = kind(b)?;
     let minors = number(c)?;
     let high = number(d)?;
     let low = number(e)?;
     let max = number(f)?;
-    Some(Line::Driver(DriverSpec {
+    Some(DriverSpec {
         name,
         kind,
         minors,
         high,
         low,
         max,
-    }))
-}
-
-// The line that four words or more are, of which the fourth and those behind it are not cut yet.
-fn many_words(word: &[u8], a: &[u8], b: &[u8], rest: &[u8]) -> Option<Line>
-    ensures { result ≡ line_at (word.now ∷ a.now ∷ b.now ∷ split 32 rest.now) }
-{
-    let (c, rest) = cut(rest, b' ')?;
-    let (d, rest) = cut(rest, b' ')?;
-    let (e, rest) = cut(rest, b' ')?;
-    match cut(rest, b' ') {
-        None => seven_words(word, a, b, c, d, e, rest),
-        Some(_) => None,
-    }
-}
-
-// The line that words with one space between them are.
-pub fn line_of(text: &[u8]) -> Option<Line>
-    ensures { result ≡ line_at (split 32 text.now) }
-{
-    let Some((word, rest)) = cut(text, b' ') else {
-        return one_word(text);
-    };
-    let Some((a, rest)) = cut(rest, b' ') else {
-        return two_words(word, rest);
-    };
-    let Some((b, rest)) = cut(rest, b' ') else {
-        return three_words(word, a, rest);
-    };
-    many_words(word, a, b, rest)
-}
-
-// The place of the first separator.
-fn place_of(bytes: &[u8], separator: u8) -> Option<usize>
-    ensures { result ≡ position (λ b. b == separator) bytes.now }
-{
-    bytes.iter().position(|b| *b == separator)
-}
-
-// The bytes before the first separator, and those after it.
-pub fn cut(bytes: &[u8], separator: u8) -> Option<(&[u8], &[u8])>
-    ensures parts { MatchOption result (split separator bytes.now ≡ bytes.now ∷ [])
-        (λ x. split separator bytes.now ≡ x.0.now ∷ split separator x.1.now) }
-    ensures shorter { IfSome result (λ x. length x.1.now < length bytes.now) }
-{
-    match place_of(bytes, separator) {
-        None => None,
-        Some(i) => Some((&bytes[..i], &bytes[i + 1..])),
-    }
+    })
 }

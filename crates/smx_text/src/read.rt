@@ -1,14 +1,17 @@
 //! Reading programs.
 
-ghost use Rattle.std.specs.Prelude.{◌≡◌, ◌<◌, ◌∷◌, ◌↔◌, length, IsTrue, IfOk, IfErr};
+ghost use Rattle.std.specs.Prelude.{◌≡◌, ◌<◌, ◌∷◌, ◌↔◌, length, Some, IsTrue, IfOk, IfErr};
 ghost use Rattle.smx_text.specs.declared.fault.Cause.TheVariants.{Trailing};
 ghost use Rattle.smx_text.specs.declared.line.Line.TheVariants.{End};
 ghost use Rattle.smx_text.specs.Words.{split};
+ghost use Rattle.smx_text.specs.Drafts.{IsUnread};
+ghost use Rattle.smx_text.specs.LineReading.{line_at};
 ghost use Rattle.smx_text.specs.ProgramsReading.{Reads, header, IsFault};
 
+use crate::cutting::cut;
 use crate::draft::Draft;
 use crate::fault::{Cause, TextFault};
-use crate::line::{Line, cut, line_of};
+use crate::line::{Line, line_of};
 use smx_types::Programs;
 use std::alloc::Global;
 
@@ -24,9 +27,7 @@ pub fn read_programs(alloc: Global, bytes: &[u8]) -> Result<Programs, TextFault>
         let Some((text, after)) = cut(rest, b'\n') else {
             return Err(Cause::Cut.at(number));
         };
-        let Some(line) = line_of(text) else {
-            return Err(Cause::Form.at(number));
-        };
+        let line = next_line(alloc, text, number)?;
         if is_end(&line) {
             return ended(draft, after, number + 1);
         }
@@ -35,6 +36,18 @@ pub fn read_programs(alloc: Global, bytes: &[u8]) -> Result<Programs, TextFault>
         }
         rest = after;
         number += 1;
+    }
+}
+
+// The line of this number, which a text spells.
+fn next_line(alloc: Global, text: &[u8], number: usize) -> Result<Line, TextFault>
+    ensures ok { IfOk result (λ l. line_at (split 32 text.now) ≡ Some l) }
+    ensures err { IfErr result (λ f. IsUnread (line_at (split 32 text.now)) number f) }
+{
+    match line_of(alloc, text) {
+        Ok(Some(line)) => Ok(line),
+        Ok(None) => Err(Cause::Form.at(number)),
+        Err(_) => Err(Cause::NoMemory.at(number)),
     }
 }
 

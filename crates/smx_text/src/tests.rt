@@ -1,6 +1,8 @@
 use super::{
-    Cause, Command, DriverKind, DriverSpec, Name, TextFault, read_programs, write_programs,
+    Bytes, Cause, Command, DriverKind, DriverSpec, Name, Sides, TextFault, Which, read_programs,
+    write_programs,
 };
+use std::alloc::Global;
 use std::test::Fail;
 
 const OPENS_AND_CLOSES: &[u8] =
@@ -48,6 +50,18 @@ fn refuses_ill_formed_lines(rt: HostRuntime) -> Result<(), Fail> {
         b"dup 00".as_slice(),
         b"write 0 5 AA".as_slice(),
         b"write 0 5 aab".as_slice(),
+        b"write 0 5 ag".as_slice(),
+        b"write 0 5 -aa".as_slice(),
+        b"write 0 5".as_slice(),
+        b"write 0 5 ".as_slice(),
+        b"inject ip 0 9 aA".as_slice(),
+        b"unlink 0 ALL".as_slice(),
+        b"punlink 0 01".as_slice(),
+        b"flush 0 wr".as_slice(),
+        b"link 0 all".as_slice(),
+        b"transmit 0 0".as_slice(),
+        b"exit 0".as_slice(),
+        b"end 0".as_slice(),
         b"close  0".as_slice(),
         b"close +0".as_slice(),
         b"open ip 4294967296".as_slice(),
@@ -111,17 +125,209 @@ fn refuses_the_65th_process(rt: HostRuntime) -> Result<(), Fail> {
     Ok(())
 }
 
+fn bytes(alloc: Global, items: &[u8]) -> Result<Bytes, Fail> {
+    Ok(Bytes::from_vec(Vec::from_slice(alloc, items)?))
+}
+
 #[test]
-fn writes_what_it_read(rt: HostRuntime) -> Result<(), Fail> {
+fn reads_each_command(rt: HostRuntime) -> Result<(), Fail> {
+    let alloc = rt.alloc();
+    let driver = Name::new("eth").ok_or("a name")?;
+    let commands = vec![in alloc;
+        Command::OpenClone { driver },
+        Command::OpenMinor { driver, minor: 1 },
+        Command::Dup { fd: 2 },
+        Command::Close { fd: 3 },
+        Command::CloseAll,
+        Command::Link { fd: 4, arg: 5 },
+        Command::Plink { fd: 6, arg: 7 },
+        Command::Unlink {
+            fd: 8,
+            which: Which::Id(9)
+        },
+        Command::Unlink {
+            fd: 10,
+            which: Which::All
+        },
+        Command::Punlink {
+            fd: 11,
+            which: Which::Id(u32::MAX)
+        },
+        Command::Punlink {
+            fd: 12,
+            which: Which::All
+        },
+        Command::Bind { fd: 13, addr: 14 },
+        Command::Unbind { fd: 15 },
+        Command::Route {
+            fd: 16,
+            addr: 17,
+            id: 18
+        },
+        Command::Unroute { fd: 19, addr: 20 },
+        Command::Write {
+            fd: 21,
+            addr: 22,
+            bytes: bytes(alloc, [0, 10, 159, 255].as_slice())?
+        },
+        Command::Write {
+            fd: 23,
+            addr: 24,
+            bytes: Bytes::new(alloc)
+        },
+        Command::Read { fd: 25 },
+        Command::Flush {
+            fd: 26,
+            sides: Sides::R
+        },
+        Command::Flush {
+            fd: 27,
+            sides: Sides::W
+        },
+        Command::Flush {
+            fd: 28,
+            sides: Sides::RW
+        },
+        Command::Inject {
+            driver,
+            minor: 29,
+            addr: 30,
+            bytes: bytes(alloc, [171].as_slice())?
+        },
+        Command::Transmit { driver, minor: 31 },
+    ]?;
+    let text = b"programs 1
+process 0
+clone eth
+open eth 1
+dup 2
+close 3
+exit
+link 4 5
+plink 6 7
+unlink 8 9
+unlink 10 all
+punlink 11 4294967295
+punlink 12 all
+bind 13 14
+unbind 15
+route 16 17 18
+unroute 19 20
+write 21 22 000a9fff
+write 23 24 -
+read 25
+flush 26 r
+flush 27 w
+flush 28 rw
+inject eth 29 30 ab
+transmit eth 31
+end
+";
+    let programs = read_programs(alloc, text.as_slice())?;
+    assert_eq!(rt; programs.programs().len(), 1);
+    assert_eq!(rt; programs.programs()[0].as_slice(), commands.as_slice());
+    Ok(())
+}
+
+const MARKS_ACROSS_THE_JOIN: &[u8] = b"programs 1
+driver ip mux 4 8 3 16
+driver eth leaf 2 8 3 16
+process 0
+clone ip
+clone eth
+link 0 1
+route 0 5 1
+write 0 5 00000001
+write 0 5 00000002
+write 0 5 00000003
+write 0 5 00000004
+write 0 5 00000005
+transmit eth 0
+write 0 5 00000005
+transmit eth 0
+write 0 5 00000005
+end
+";
+
+const BINDINGS: &[u8] = b"programs 1
+driver ip mux 4 8 3 16
+driver eth leaf 2 8 3 16
+process 0
+clone ip
+clone ip
+clone eth
+bind 2 9
+plink 0 2
+inject eth 0 9 aa
+bind 0 9
+bind 1 9
+bind 0 8
+inject eth 0 9 bb
+flush 0 r
+unbind 0
+unbind 0
+read 0
+route 0 5 9
+end
+";
+
+const IDS_OF_THE_WRONG_KIND_OR_STREAM: &[u8] = b"programs 1
+driver ip mux 4 8 3 16
+driver eth leaf 2 8 3 16
+process 0
+clone ip
+clone ip
+clone eth
+clone eth
+link 0 2
+plink 0 3
+unlink 0 2
+punlink 0 1
+unlink 1 1
+punlink 1 2
+unlink 1 all
+unlink 0 all
+unlink 0 1
+punlink 2 all
+end
+";
+
+const TWO_LEVELS_DOWN_AND_UP: &[u8] = b"programs 1
+driver top mux 2 8 3 16
+driver mid mux 2 8 3 16
+driver eth leaf 2 8 3 16
+process 0
+clone top
+clone mid
+clone eth
+link 1 2
+route 1 5 1
+bind 1 9
+link 0 1
+route 0 5 2
+bind 0 9
+route 1 6 1
+write 0 5 aa
+inject eth 0 9 bb
+transmit eth 0
+read 0
+close 0
+close 1
+end
+";
+
+#[test]
+fn writes_what_it_reads(rt: HostRuntime) -> Result<(), Fail> {
     let texts = [
         OPENS_AND_CLOSES,
-        b"programs 1\nend\n".as_slice(),
-        b"programs 1\ndriver a9 leaf 0 4294967295 10 9\nprocess 0\nprocess 1\nopen b 99\ndup 100\nexit\nprocess 2\nend\n",
+        MARKS_ACROSS_THE_JOIN,
+        BINDINGS,
+        IDS_OF_THE_WRONG_KIND_OR_STREAM,
+        TWO_LEVELS_DOWN_AND_UP,
     ];
     for text in texts {
         let programs = read_programs(rt.alloc(), text)?;
-        let again = write_programs(rt.alloc(), &programs).ok().ok_or("memory")?;
-        assert_eq!(rt; again.as_slice(), text);
+        assert_eq!(rt; write_programs(rt.alloc(), &programs)?.as_slice(), text);
     }
     Ok(())
 }

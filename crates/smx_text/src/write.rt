@@ -3,17 +3,22 @@
 ghost use Rattle.std.specs.Prelude.{◌≡◌, ◌<◌, ◌^◌, ◌++◌, length, map, IfOk, OnOk};
 ghost use Rattle.std.specs.List.{AllByRecursion};
 ghost use Rattle.smx_text.specs.ProgramsText.{line_words, program_lines, programs_text, FitsLine, IsAllowed};
-ghost use Rattle.smx_text.specs.Spellable.{FitsNumber, FitsDescriptor};
-ghost use Rattle.smx_text.specs.TranscriptText.{view_lines, transcript_text, IsSpellable};
+ghost use Rattle.smx_text.specs.TranscriptText.{transcript_text, IsSpellable};
 ghost use Rattle.smx_text.specs.Words.{text_of};
 
+mod command;
+mod reply;
 mod spelled;
 #[cfg(test)]
 mod tests;
+mod view;
+mod words;
 
-use smx_types::{Commands, ConfigView, NoMemory, Programs, Transcript};
-use spelled::{put_lines, put_number, put_spaced};
+use smx_types::{Commands, NoMemory, Programs, Transcript};
+use spelled::put_lines;
 use std::alloc::Global;
+use view::put_view;
+use words::put_number;
 
 /// The one text of these programs. Fails only for want of memory.
 #[tactic(auto, using(crate::proofs::WritingLemmas::body_fits))]
@@ -42,19 +47,6 @@ pub fn write_transcript(alloc: Global, transcript: &Transcript) -> Result<Vec<u8
     put_view(&mut out, &transcript.view)?;
     out.extend_from_slice(b"end\n")?;
     Ok(out)
-}
-
-fn put_view(out: &mut Vec<u8>, view: &ConfigView) -> Result<(), NoMemory>
-    ensures written { OnOk result (out.new.items ≡ out.old.items ++ text_of (view_lines view.now)) }
-    ensures next_id { OnOk result (FitsNumber view.now.next_id) }
-    ensures next_serial { OnOk result (FitsNumber view.now.next_serial) }
-    ensures fds { OnOk result (AllByRecursion FitsDescriptor view.now.fds) }
-{
-    out.extend_from_slice(b"next")?;
-    put_spaced(out, view.next_id)?;
-    put_spaced(out, view.next_serial)?;
-    out.push(b'\n')?;
-    put_lines(out, view.fds.as_slice())
 }
 
 fn put_programs(out: &mut Vec<u8>, programs: &[Commands]) -> Result<(), NoMemory>

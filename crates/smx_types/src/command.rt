@@ -4,24 +4,122 @@ ghost use Rattle.std.specs.Prelude.{◌≡◌, IfOk};
 
 use crate::items::{Copied, Items};
 use crate::memory::NoMemory;
+use crate::message::Bytes;
 use crate::name::Name;
 use crate::process::Process;
 use crate::reply::Reply;
 use std::alloc::Global;
 
-/// What a process asks of the configuration. A descriptor or minor is any number: one that is not there is refused.
+/// Which links an unlinking is for.
+#[derive(Clone, Copy, Debug, PartialEq, Eq)]
+pub enum Which {
+    /// The link of this id.
+    Id(u32),
+    /// Each link that may be named there.
+    All,
+}
+
+/// Which sides of a stream a flush empties.
+#[derive(Clone, Copy, Debug, PartialEq, Eq)]
+pub enum Sides {
+    /// The read side.
+    R,
+    /// The write side.
+    W,
+    /// Both sides.
+    RW,
+}
+
+/// What a process asks of the configuration. A descriptor, minor or id is any number: one that is not there is
+/// refused.
 #[derive(Debug, Drop, PartialEq)]
 pub enum Command {
     /// Opens a new stream on the least minor that is not in use.
-    OpenClone { driver: Name },
+    OpenClone {
+        driver: Name,
+    },
     /// Opens the stream of this minor, or shares it.
-    OpenMinor { driver: Name, minor: u32 },
+    OpenMinor {
+        driver: Name,
+        minor: u32,
+    },
     /// Makes one more descriptor of the same stream.
-    Dup { fd: u32 },
+    Dup {
+        fd: u32,
+    },
     /// Closes a descriptor.
-    Close { fd: u32 },
+    Close {
+        fd: u32,
+    },
     /// Closes all descriptors of the process.
     CloseAll,
+    /// Links the stream of `arg` below the driver of `fd`, until the stream of `fd` is closed for the last time.
+    Link {
+        fd: u32,
+        arg: u32,
+    },
+    /// The same with a persistent link, which stays until it is removed.
+    Plink {
+        fd: u32,
+        arg: u32,
+    },
+    /// Removes ordinary links that were made on this very stream.
+    Unlink {
+        fd: u32,
+        which: Which,
+    },
+    /// Removes persistent links of the stream's driver.
+    Punlink {
+        fd: u32,
+        which: Which,
+    },
+    /// Binds the stream to an address of its driver.
+    Bind {
+        fd: u32,
+        addr: u32,
+    },
+    /// Takes the stream's address away.
+    Unbind {
+        fd: u32,
+    },
+    /// Sends messages for an address down this link of the stream's driver.
+    Route {
+        fd: u32,
+        addr: u32,
+        id: u32,
+    },
+    /// Takes the route for an address away.
+    Unroute {
+        fd: u32,
+        addr: u32,
+    },
+    /// Puts a message on the stream's write side.
+    Write {
+        fd: u32,
+        addr: u32,
+        bytes: Bytes,
+    },
+    /// Takes the first message of the stream's read side.
+    Read {
+        fd: u32,
+    },
+    /// Empties queues of the stream.
+    Flush {
+        fd: u32,
+        sides: Sides,
+    },
+    /// A message arrives from the device at a leaf stream's read side.
+    Inject {
+        driver: Name,
+        minor: u32,
+        addr: u32,
+        bytes: Bytes,
+    },
+    /// The device takes the first message of a leaf stream's write side.
+    Transmit {
+        driver: Name,
+        minor: u32,
+    },
 }
 
 /// The commands of a process, in order.
@@ -40,18 +138,46 @@ pub type Entries = Items<Entry>;
 
 impl Command {
     /// The same command again. Fails only for want of memory.
-    pub fn copy(&self, _alloc: Global) -> Result<Command, NoMemory>
+    pub fn copy(&self, alloc: Global) -> Result<Command, NoMemory>
         ensures { IfOk result (λ c. c ≡ self.now) }
     {
-        Ok(match self {
-            Command::OpenClone { driver } => Command::OpenClone { driver: *driver },
-            Command::OpenMinor { driver, minor } => Command::OpenMinor {
-                driver: *driver,
-                minor: *minor,
-            },
-            Command::Dup { fd } => Command::Dup { fd: *fd },
-            Command::Close { fd } => Command::Close { fd: *fd },
+        Ok(match *self {
+            Command::OpenClone { driver } => Command::OpenClone { driver },
+            Command::OpenMinor { driver, minor } => Command::OpenMinor { driver, minor },
+            Command::Dup { fd } => Command::Dup { fd },
+            Command::Close { fd } => Command::Close { fd },
             Command::CloseAll => Command::CloseAll,
+            Command::Link { fd, arg } => Command::Link { fd, arg },
+            Command::Plink { fd, arg } => Command::Plink { fd, arg },
+            Command::Unlink { fd, which } => Command::Unlink { fd, which },
+            Command::Punlink { fd, which } => Command::Punlink { fd, which },
+            Command::Bind { fd, addr } => Command::Bind { fd, addr },
+            Command::Unbind { fd } => Command::Unbind { fd },
+            Command::Route { fd, addr, id } => Command::Route { fd, addr, id },
+            Command::Unroute { fd, addr } => Command::Unroute { fd, addr },
+            Command::Write {
+                fd,
+                addr,
+                ref bytes,
+            } => Command::Write {
+                fd,
+                addr,
+                bytes: bytes.copy(alloc)?,
+            },
+            Command::Read { fd } => Command::Read { fd },
+            Command::Flush { fd, sides } => Command::Flush { fd, sides },
+            Command::Inject {
+                driver,
+                minor,
+                addr,
+                ref bytes,
+            } => Command::Inject {
+                driver,
+                minor,
+                addr,
+                bytes: bytes.copy(alloc)?,
+            },
+            Command::Transmit { driver, minor } => Command::Transmit { driver, minor },
         })
     }
 }

@@ -15,6 +15,12 @@ pub trait Copied: Drop {
         ensures { IfOk result (λ c. c ≡ self.now) };
 }
 
+impl Copied for u8 {
+    fn copied(&self, _alloc: Global) -> Result<u8, NoMemory> {
+        Ok(*self)
+    }
+}
+
 impl Copied for u32 {
     fn copied(&self, _alloc: Global) -> Result<u32, NoMemory> {
         Ok(*self)

@@ -5,7 +5,9 @@ mod command;
 mod driver;
 mod items;
 mod limits;
+mod link;
 mod memory;
+mod message;
 mod name;
 mod process;
 mod programs;
@@ -14,17 +16,25 @@ mod stream;
 #[cfg(test)]
 mod tests;
 mod transcript;
+mod view;
 
-pub use command::{Command, Commands, Entries, Entry};
+pub use command::{Command, Commands, Entries, Entry, Sides, Which};
 pub use driver::{DriverKind, DriverSpec, Drivers, SpecFault};
 pub use items::{Copied, Items};
 pub use limits::{
-    MAX_COMMANDS, MAX_DESCRIPTORS, MAX_DRIVERS, MAX_HIGH, MAX_MESSAGE, MAX_MINORS, MAX_PROCESSES,
+    MAX_COMMANDS, MAX_DESCRIPTORS, MAX_DRIVERS, MAX_HIGH, MAX_LINKS, MAX_MESSAGE, MAX_MINORS,
+    MAX_PROCESSES, NUMBER_END,
 };
+pub use link::{Binding, Link, LinkKind, Route};
 pub use memory::NoMemory;
+pub use message::{Bytes, Message, Messages, Serials};
 pub use name::Name;
 pub use process::Process;
 pub use programs::{Many, ProgramList, Programs};
-pub use reply::{Fault, Reply, Serials};
-pub use stream::{Descriptor, StreamId};
-pub use transcript::{ConfigView, DescriptorLine, DescriptorLines, Transcript};
+pub use reply::{Fault, Reply};
+pub use stream::{Descriptor, Place, Side, StreamId};
+pub use transcript::Transcript;
+pub use view::{
+    BindingLine, BindingLines, ConfigView, DescriptorLine, DescriptorLines, FullLine, FullLines,
+    LinkLine, LinkLines, MessageLine, MessageLines, RouteLine, RouteLines,
+};

@@ -18,5 +18,11 @@ pub const MAX_PROCESSES: u32 = 64;
 /// The most descriptors that a process has open, whose numbers start from 0.
 pub const MAX_DESCRIPTORS: u32 = 16;
 
+/// The most links that stand at once.
+pub const MAX_LINKS: usize = 1024;
+
+/// The number that no link's id and no message's serial is: both stay below it.
+pub const NUMBER_END: u32 = 4_294_967_295;
+
 /// The most commands that the programs of all processes have together.
 pub const MAX_COMMANDS: usize = 100_000;

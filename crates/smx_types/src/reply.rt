@@ -1,9 +1,10 @@
 //! Replies, and the faults with which commands are refused.
 
-ghost use Rattle.std.specs.Prelude.{◌≡◌, IfOk};
+ghost use Rattle.std.specs.Prelude.{◌≡◌, ◌↔◌, IsTrue, IfOk};
 
-use crate::items::Items;
+use crate::items::Copied;
 use crate::memory::NoMemory;
+use crate::message::{Bytes, Serials};
 use std::alloc::Global;
 
 /// Why a command was refused. A refused command changes nothing.
@@ -11,24 +12,62 @@ use std::alloc::Global;
 pub enum Fault {
     /// `EBADF fd`: it is not an open descriptor of the process.
     BadDescriptor,
-    /// `ENXIO driver`: there is no driver of that name.
+    /// `EINVAL below`: the stream is linked below a driver.
+    Below,
+    /// `EINVAL notmux`: the stream's driver is a leaf.
+    NotMux,
+    /// `EINVAL already`: the stream that was to be linked is linked below a driver.
+    AlreadyBelow,
+    /// `EINVAL cycle`: both drivers are the same, or links lead from the lower one to the upper one.
+    Cycle,
+    /// `EAGAIN links`: 1,024 links stand, or there is no further id.
+    TooManyLinks,
+    /// `EINVAL id`: there is no link of that id which the command may name.
+    NoLink,
+    /// `ENXIO driver`: there is no driver of that name, or a device was asked for and it is a multiplexing one.
     NoDriver,
-    /// `ENXIO minor`: the driver has no free minor, or not that one.
+    /// `ENXIO minor`: the driver has no free minor, not that one, or no such stream.
     NoMinor,
     /// `EMFILE`: the process has 16 descriptors.
     TooManyDescriptors,
+    /// `EADDRINUSE`: the address is bound on the driver, or the stream has an address.
+    AddressInUse,
+    /// `EINVAL unbound`: the stream has no address.
+    Unbound,
+    /// `EINVAL unrouted`: the driver has no route for the address.
+    Unrouted,
+    /// `EAGAIN full`: the queue is full, or there is no further serial.
+    Full,
+    /// `EAGAIN empty`: the queue has no message.
+    Empty,
+    /// `ERANGE`: no bytes, or more than the driver's longest message has.
+    BadSize,
 }
-
-/// The serials of messages, which are numbered from 1.
-pub type Serials = Items<u32>;
 
 /// What a command is answered.
 #[derive(Debug, Drop, PartialEq)]
 pub enum Reply {
     /// The new descriptor, and the minor of its stream.
-    Fd { fd: u32, minor: u32 },
+    Fd {
+        fd: u32,
+        minor: u32,
+    },
+    /// The id of the new link.
+    Id(u32),
+    /// The message was taken in under this serial.
+    Took {
+        serial: u32,
+    },
+    /// A message was delivered.
+    Got {
+        serial: u32,
+        addr: u32,
+        bytes: Bytes,
+    },
     /// It is done, and these messages were dropped, by rising serial.
-    Done { dropped: Serials },
+    Done {
+        dropped: Serials,
+    },
     /// It was refused.
     Fault(Fault),
 }
@@ -38,15 +77,38 @@ impl Reply {
     pub fn copy(&self, alloc: Global) -> Result<Reply, NoMemory>
         ensures { IfOk result (λ c. c ≡ self.now) }
     {
-        Ok(match self {
-            Reply::Fd { fd, minor } => Reply::Fd {
-                fd: *fd,
-                minor: *minor,
+        Ok(match *self {
+            Reply::Fd { fd, minor } => Reply::Fd { fd, minor },
+            Reply::Id(id) => Reply::Id(id),
+            Reply::Took { serial } => Reply::Took { serial },
+            Reply::Got {
+                serial,
+                addr,
+                ref bytes,
+            } => Reply::Got {
+                serial,
+                addr,
+                bytes: bytes.copy(alloc)?,
             },
-            Reply::Done { dropped } => Reply::Done {
+            Reply::Done { ref dropped } => Reply::Done {
                 dropped: dropped.copy(alloc)?,
             },
-            Reply::Fault(fault) => Reply::Fault(*fault),
+            Reply::Fault(fault) => Reply::Fault(fault),
         })
+    }
+}
+
+impl Reply {
+    /// Whether both replies are the same. Takes no memory.
+    pub fn is_same(&self, other: &Reply) -> bool
+        ensures { IsTrue result ↔ (self.now ≡ other.now) }
+    {
+        self == other
+    }
+}
+
+impl Copied for Reply {
+    fn copied(&self, alloc: Global) -> Result<Reply, NoMemory> {
+        self.copy(alloc)
     }
 }

@@ -1,4 +1,4 @@
-//! Streams, and the descriptors that name them.
+//! Streams, their sides, and the descriptors that name them.
 
 use crate::process::Process;
 
@@ -7,6 +7,22 @@ use crate::process::Process;
 pub struct StreamId {
     pub driver: u8,
     pub minor: u8,
+}
+
+/// A side of a stream; each has a queue of messages.
+#[derive(Clone, Copy, Debug, PartialEq, Eq)]
+pub enum Side {
+    /// Where messages go down: it is written by processes and drained towards the device.
+    Write,
+    /// Where messages come up: they arrive from the device, and processes read them.
+    Read,
+}
+
+/// A side of a stream, as the place of a queue.
+#[derive(Clone, Copy, Debug, PartialEq, Eq)]
+pub struct Place {
+    pub stream: StreamId,
+    pub side: Side,
 }
 
 /// An open descriptor of a process, numbered from 0, and the stream that it names.

@@ -1,7 +1,8 @@
 use super::{
-    Command, Commands, ConfigView, DescriptorLine, DescriptorLines, DriverKind, DriverSpec,
-    Drivers, Entries, Entry, Items, Name, Process, ProgramList, Programs, Reply, Serials,
-    SpecFault, Transcript,
+    BindingLines, Bytes, Command, Commands, ConfigView, DescriptorLine, DescriptorLines,
+    DriverKind, DriverSpec, Drivers, Entries, Entry, FullLine, FullLines, Items, LinkKind,
+    LinkLine, LinkLines, Message, MessageLine, MessageLines, Name, Process, ProgramList, Programs,
+    Reply, RouteLine, RouteLines, Serials, Side, SpecFault,
 };
 use std::alloc::Global;
 use std::test::Fail;
@@ -110,52 +111,115 @@ fn copies_are_equal(rt: HostRuntime) -> Result<(), Fail> {
     Ok(())
 }
 
-fn two_closes(alloc: Global) -> Result<Commands, Fail> {
-    let commands = vec![in alloc; Command::Close { fd: 7 }, Command::CloseAll]?;
-    Ok(Commands::from_vec(commands))
+fn bytes_of(alloc: Global, last: u8) -> Result<Bytes, Fail> {
+    Ok(Bytes::from_vec(vec![in alloc; 0u8, 0, 0, last]?))
 }
 
 #[test]
-fn copies_of_programs_are_equal(rt: HostRuntime) -> Result<(), Fail> {
-    let list = ProgramList::from_vec(vec![in rt.alloc(); two_closes(rt.alloc())?]?);
-    let drivers = many_drivers(rt.alloc(), 1)?;
-    let programs = Programs::new(drivers, list).ok().ok_or("few enough")?;
-    let again = programs.copy(rt.alloc()).ok().ok_or("memory")?;
-    assert_eq!(rt; again.drivers(), programs.drivers());
-    assert!(rt; again.programs() == programs.programs());
+fn messages_are_copied(rt: HostRuntime) -> Result<(), Fail> {
+    let message = Message {
+        serial: 1,
+        addr: 5,
+        bytes: bytes_of(rt.alloc(), 1)?,
+    };
+    assert!(rt; message.copy(rt.alloc()).ok().ok_or("memory")? == message);
+    let write = Command::Write {
+        fd: 0,
+        addr: 5,
+        bytes: bytes_of(rt.alloc(), 1)?,
+    };
+    assert!(rt; write.copy(rt.alloc()).ok().ok_or("memory")? == write);
+    let entry = Entry {
+        process: Process::new(0).ok_or("a process")?,
+        command: Command::Transmit {
+            driver: Name::new("eth").ok_or("a name")?,
+            minor: 0,
+        },
+        reply: Reply::Got {
+            serial: 1,
+            addr: 5,
+            bytes: bytes_of(rt.alloc(), 1)?,
+        },
+    };
+    assert!(rt; entry.copy(rt.alloc()).ok().ok_or("memory")? == entry);
+    let again = entry.reply.copy(rt.alloc()).ok().ok_or("memory")?;
+    assert!(rt; again.is_same(&entry.reply));
     Ok(())
 }
 
-fn view(alloc: Global) -> Result<ConfigView, Fail> {
-    let line = DescriptorLine {
-        process: Process::new(63).ok_or("a process")?,
-        fd: 15,
-        driver: Name::new("ip").ok_or("a name")?,
-        minor: 3,
-    };
+// The configuration that is shown after the marks were met across a join.
+fn shown(alloc: Global) -> Result<ConfigView, Fail> {
+    let ip = Name::new("ip").ok_or("a name")?;
+    let eth = Name::new("eth").ok_or("a name")?;
+    let process = Process::new(0).ok_or("a process")?;
+    let mut msgs = MessageLines::new(alloc);
+    for (driver, serial) in [(ip, 5u32), (eth, 3), (eth, 4)] {
+        let message = Message {
+            serial,
+            addr: 5,
+            bytes: bytes_of(alloc, serial as u8)?,
+        };
+        msgs.push(MessageLine {
+            driver,
+            minor: 0,
+            side: Side::Write,
+            message,
+        })
+        .ok()
+        .ok_or("memory")?;
+    }
     Ok(ConfigView {
-        next_id: 1,
-        next_serial: 2,
-        fds: DescriptorLines::from_vec(vec![in alloc; line]?),
+        next_id: 2,
+        next_serial: 6,
+        fds: DescriptorLines::from_vec(vec![in alloc;
+            DescriptorLine {
+                process,
+                fd: 0,
+                driver: ip,
+                minor: 0
+            },
+            DescriptorLine {
+                process,
+                fd: 1,
+                driver: eth,
+                minor: 0
+            },
+        ]?),
+        links: LinkLines::from_vec(vec![in alloc;
+            LinkLine {
+                id: 1,
+                ctl_driver: ip,
+                ctl_minor: 0,
+                lower_driver: eth,
+                lower_minor: 0,
+                kind: LinkKind::Ordinary
+            },
+        ]?),
+        binds: BindingLines::new(alloc),
+        routes: RouteLines::from_vec(vec![in alloc;
+            RouteLine {
+                driver: ip,
+                addr: 5,
+                id: 1
+            },
+        ]?),
+        msgs,
+        fulls: FullLines::from_vec(vec![in alloc;
+            FullLine {
+                driver: eth,
+                minor: 0,
+                side: Side::Write
+            },
+        ]?),
     })
 }
 
 #[test]
-fn copies_of_transcripts_are_equal(rt: HostRuntime) -> Result<(), Fail> {
-    let transcript = Transcript {
-        drivers: many_drivers(rt.alloc(), 2)?,
-        entries: Entries::new(rt.alloc()),
-        view: view(rt.alloc())?,
-    };
-    let again = transcript.copy(rt.alloc()).ok().ok_or("memory")?;
-    assert!(rt; again == transcript);
-    Ok(())
-}
-
-#[test]
-fn copies_of_views_are_equal(rt: HostRuntime) -> Result<(), Fail> {
-    let view = view(rt.alloc())?;
-    let again = view.copy(rt.alloc()).ok().ok_or("memory")?;
-    assert!(rt; again == view);
+fn views_are_copied(rt: HostRuntime) -> Result<(), Fail> {
+    let view = shown(rt.alloc())?;
+    let mut again = view.copy(rt.alloc()).ok().ok_or("memory")?;
+    assert!(rt; again.is_same(&view));
+    again.next_serial = 7;
+    assert!(rt; !again.is_same(&view));
     Ok(())
 }

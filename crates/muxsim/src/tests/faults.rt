@@ -1,4 +1,5 @@
-use crate::fault::{ConfigFault, MainFault, RunFault};
+use crate::fault::{MainFault, RunFault};
+use smx_config::ConfigFault;
 use smx_text::{Cause, SpecFault, TextFault};
 use std::alloc::AllocError;
 use std::fmt::InlineText;

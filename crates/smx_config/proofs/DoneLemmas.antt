@@ -1,0 +1,82 @@
+-- What a swept change comes to.
+use Rattle.std.proofs.Common.{◌≡◌, ℕ, true, ◌&&◌, not, eqb, List, [], ◌∷◌, filter, Ok, refl, ap, ◌∙◌}
+use Rattle.std.proofs.lemmas.Bool.{and_parts, and_from, or_left, or_right, eq-eqb}
+use Rattle.std.specs.List.{list_any, list_all}
+use Rattle.smx_types.specs.declared.command.Command.TheVariants as command
+use Rattle.smx_types.specs.declared.command.Which.{Which}
+use Rattle.smx_types.specs.declared.command.Which.TheVariants as which
+use Rattle.smx_types.specs.declared.link.LinkKind.{LinkKind}
+use Rattle.smx_types.specs.declared.link.LinkKind.TheVariants as kind
+use Rattle.smx_types.specs.declared.reply.Fault.TheVariants.{NoLink, Unbound, Unrouted}
+use Rattle.smx_types.specs.declared.stream.StreamId.{StreamId}
+use Rattle.smx_types.specs.declared.driver.DriverSpec.{DriverSpec}
+use Rattle.smx_types.specs.declared.reply.Reply.{Reply}
+use Rattle.smx_types.specs.declared.reply.Reply.TheVariants.{Done}
+use Rattle.smx_model.specs.Commands.{done, outcome}
+use Rattle.smx_model.specs.Configuration.{Configuration, Held, route_before}
+use Rattle.smx_model.specs.Ordered.{placed, rising}
+use Rattle.smx_model.specs.Lookups.{mux_stream}
+use Rattle.smx_model.specs.Outcomes.{refuse}
+use Rattle.smx_model.specs.Removal.{serials, swept, removed, gone_from}
+use Rattle.smx_model.specs.Swept.{IsSwept}
+use Rattle.smx_config.proofs.IdleLemmas.{fewer_binds, other_routes}
+use Rattle.smx_config.specs.Owners.{is_chosen, are_there, unlinks}
+
+pub done_is : (drivers : List DriverSpec) (c new d : Configuration) (old : List ℕ) (r : Reply) → d ≡ swept drivers new → old ≡ serials c.flow
+    → r ≡ Done (rising (filter (λ n. not (list_any (λ m. eqb n m) (serials d.flow))) old)) → done drivers c new ≡ Ok (d, r)
+done_is drivers c new d old r is was gone = rw (gone, was, is) refl
+
+-- ---- the same, behind the refusals of a command
+
+pub unlink_does : (drivers : List DriverSpec) (c : Configuration) (process fd : ℕ) (w : Which) (k : LinkKind) (s : StreamId) (x : Configuration × Reply) → mux_stream drivers c process fd ≡ Ok s → are_there w k s c.links ≡ Ok tt
+    → done drivers c (removed c (is_chosen w k s)) ≡ Ok x → unlinks drivers c process fd w k ≡ Ok x
+unlink_does drivers c process fd w k s x e there h = rw (e, there) h
+
+pub route_does : (drivers : List DriverSpec) (c : Configuration) (process fd addr id : ℕ) (s : StreamId) (x : Configuration × Reply) → mux_stream drivers c process fd ≡ Ok s
+    → refuse NoLink (not (list_any (λ l. eqb l.id id && eqb l.ctl.driver s.driver) c.links)) ≡ Ok tt
+    → done drivers c (record c { routes = placed route_before (filter (λ r. not (eqb r.driver s.driver && eqb r.addr addr)) c.routes) (record { driver = s.driver; addr = addr; id = id }) }) ≡ Ok x
+    → outcome drivers c process (command.Route fd addr id) ≡ Ok x
+route_does drivers c process fd addr id s x e there h = rw (e, there) h
+
+-- ---- no message is dropped
+
+all_there : (f : List Held) (ns : List ℕ) → list_all (λ n. list_any (λ m. eqb n m) (serials f)) ns ≡ true → filter (λ n. not (list_any (λ m. eqb n m) (serials f))) ns ≡ []
+all_there f [] h = refl
+all_there f (n ∷ ns) h = let p = and_parts (list_any (λ m. eqb n m) (serials f)) _ h in rw p.0 (all_there f ns p.1)
+
+in_more : (m : ℕ) (ms ns : List ℕ) → list_all (λ n. list_any (λ k. eqb n k) ms) ns ≡ true → list_all (λ n. list_any (λ k. eqb n k) (m ∷ ms)) ns ≡ true
+in_more m ms [] h = refl
+in_more m ms (n ∷ ns) h = let p = and_parts (list_any (λ k. eqb n k) ms) _ h in and_from _ _ (or_right _ _ p.0) (in_more m ms ns p.1)
+
+in_itself : (ns : List ℕ) → list_all (λ n. list_any (λ k. eqb n k) ns) ns ≡ true
+in_itself [] = refl
+in_itself (n ∷ ns) = and_from _ _ (or_left _ _ (eq-eqb n n refl)) (in_more n ns ns (in_itself ns))
+
+none_gone : (flow : List Held) → gone_from flow flow ≡ []
+none_gone flow = ap rising (all_there flow (serials flow) (in_itself (serials flow)))
+
+done_idle : (drivers : List DriverSpec) (c new : Configuration) → swept drivers new ≡ new → new.flow ≡ c.flow → done drivers c new ≡ Ok (new, Done [])
+done_idle drivers c new idle same =
+    ap (λ (d : Configuration). Ok (d, Done (gone_from c.flow d.flow))) idle
+    ∙ ap (λ (f : List Held). Ok (new, Done (gone_from c.flow f))) same
+    ∙ ap (λ (ns : List ℕ). Ok (new, Done ns)) (none_gone c.flow)
+
+pub unbind_does : (drivers : List DriverSpec) (c : Configuration) (process fd : ℕ) (s : StreamId) (new : Configuration) (r : Reply) → IsSwept drivers c → mux_stream drivers c process fd ≡ Ok s
+    → refuse Unbound (not (list_any (λ b. eqb b.driver s.driver && eqb b.minor s.minor) c.binds)) ≡ Ok tt
+    → new ≡ record c { binds = filter (λ b. not (eqb b.driver s.driver && eqb b.minor s.minor)) c.binds } → r ≡ Done [] → outcome drivers c process (command.Unbind fd) ≡ Ok (new, r)
+unbind_does drivers c process fd s new r clean e there is none = rw (e, there, is, none) (done_idle drivers c (record c { binds = filter (λ b. not (eqb b.driver s.driver && eqb b.minor s.minor)) c.binds }) (fewer_binds drivers c (λ b. not (eqb b.driver s.driver && eqb b.minor s.minor)) clean) refl)
+
+pub unroute_does : (drivers : List DriverSpec) (c : Configuration) (process fd addr : ℕ) (s : StreamId) (new : Configuration) (r : Reply) → IsSwept drivers c → mux_stream drivers c process fd ≡ Ok s
+    → refuse Unrouted (not (list_any (λ x. eqb x.driver s.driver && eqb x.addr addr) c.routes)) ≡ Ok tt
+    → new ≡ record c { routes = filter (λ x. not (eqb x.driver s.driver && eqb x.addr addr)) c.routes } → r ≡ Done [] → outcome drivers c process (command.Unroute fd addr) ≡ Ok (new, r)
+unroute_does drivers c process fd addr s new r clean e there is none = rw (e, there, is, none) (done_idle drivers c (record c { routes = filter (λ x. not (eqb x.driver s.driver && eqb x.addr addr)) c.routes }) (other_routes drivers c (filter (λ x. not (eqb x.driver s.driver && eqb x.addr addr)) c.routes) clean) refl)
+
+-- ---- both kinds of links at once
+
+pub unlink_is : (drivers : List DriverSpec) (c : Configuration) (process fd : ℕ) (w : Which) → outcome drivers c process (command.Unlink fd w) ≡ unlinks drivers c process fd w kind.Ordinary
+unlink_is drivers c process fd which.All = refl
+unlink_is drivers c process fd (which.Id id) = refl
+
+pub punlink_is : (drivers : List DriverSpec) (c : Configuration) (process fd : ℕ) (w : Which) → outcome drivers c process (command.Punlink fd w) ≡ unlinks drivers c process fd w kind.Persistent
+punlink_is drivers c process fd which.All = refl
+punlink_is drivers c process fd (which.Id id) = refl

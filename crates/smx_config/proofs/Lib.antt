@@ -1,0 +1,17 @@
+pub mod PlaceLemmas
+pub mod ClimbLemmas
+pub mod ReachLemmas
+pub mod FrontLemmas
+pub mod FlowLemmas
+pub mod MarkLemmas
+pub mod SettleLemmas
+pub mod RemovalLemmas
+pub mod DroppedLemmas
+pub mod KnownLemmas
+pub mod LookupLemmas
+pub mod DescriptorLemmas
+pub mod DoneLemmas
+pub mod IdleLemmas
+pub mod DriverListLemmas
+pub mod PerformLemmas
+pub mod CountLemmas

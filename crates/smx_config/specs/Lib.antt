@@ -1,0 +1,14 @@
+pub mod Machine
+pub mod DriverFaults
+pub mod ListFields
+pub mod Places
+pub mod Marks
+pub mod Climbs
+pub mod Removals
+pub mod Owners
+pub mod Sending
+pub mod FewMinors
+pub mod Reserved
+pub mod Rooms
+pub mod Performed
+pub mod ConfigFields

@@ -1,0 +1,201 @@
+//! Binding streams to addresses, and routing addresses to links.
+
+ghost use Rattle.std.specs.Prelude.{◌≡◌, ◌<◌, ◌≤◌, ◌==◌, ◌&&◌, ◌||◌, not, filter, length, vec_capacity};
+ghost use Rattle.std.specs.List.{list_any};
+ghost use Rattle.smx_types.specs.declared.command.Command.TheVariants as command;
+ghost use Rattle.smx_types.specs.declared.reply.Fault.TheVariants.{AddressInUse, Unbound, NoLink, Unrouted};
+ghost use Rattle.smx_model.specs.Configuration.{bind_before, route_before};
+ghost use Rattle.smx_model.specs.Ordered.{placed};
+ghost use Rattle.smx_model.specs.Outcomes.{refuse};
+ghost use Rattle.smx_config.specs.Reserved.{HasRoom};
+ghost use Rattle.smx_config.specs.Performed.{IsReady, DoesInPlace, Does};
+
+use crate::lists::Lists;
+use crate::looked_up::mux_stream;
+use crate::ordered::{bind_place, route_place};
+use crate::room::{room_to_sweep, sweep_done};
+use crate::stop::Stop;
+use smx_types::{Binding, DriverSpec, Fault, Link, Process, Reply, Route, Serials, StreamId};
+use std::alloc::Global;
+
+fn is_taken(binds: &[Binding], stream: StreamId, addr: u32) -> bool
+    ensures { result ≡ list_any (λ b. (b.driver == stream.driver) && ((b.addr == addr) || (b.minor == stream.minor))) binds.now }
+{
+    binds.iter().any(|b| b.driver == stream.driver && (b.addr == addr || b.minor == stream.minor))
+}
+
+fn check_bind(lists: &Lists, stream: StreamId, addr: u32) -> Result<(), Fault>
+    ensures { result ≡ refuse AddressInUse (list_any (λ b. (b.driver == stream.driver) && ((b.addr == addr) || (b.minor == stream.minor))) lists.now.binds.items) }
+{
+    if is_taken(&lists.binds, stream, addr) {
+        return Err(Fault::AddressInUse);
+    }
+    Ok(())
+}
+
+#[tactic(auto, using(crate::proofs::PlaceLemmas::place_le, crate::proofs::PlaceLemmas::insert_place))]
+fn put_bind(binds: &mut Vec<Binding>, binding: Binding)
+    requires { length binds.old.items < vec_capacity binds.old }
+    ensures { binds.new.items ≡ placed bind_before binds.old.items binding }
+{
+    let i = bind_place(binds, &binding);
+    let _ = binds.insert(i, binding);
+}
+
+pub fn bind(
+    alloc: Global,
+    drivers: &[DriverSpec],
+    lists: &mut Lists,
+    process: Process,
+    fd: u32,
+    addr: u32,
+) -> Result<Reply, Stop>
+    requires { IsReady drivers.now lists.old }
+    ensures does { Does drivers.now lists.old lists.new process (command.Bind fd addr) result }
+    ensures kept { HasRoom lists.new }
+{
+    let stream = mux_stream(drivers, lists, process, fd)?;
+    check_bind(lists, stream, addr)?;
+    let room = room_to_sweep(alloc, lists)?;
+    lists.binds.reserve(1)?;
+    let binding = Binding {
+        driver: stream.driver,
+        addr,
+        minor: stream.minor,
+    };
+    put_bind(&mut lists.binds, binding);
+    Ok(sweep_done(drivers, lists, room))
+}
+
+fn is_bound(binds: &[Binding], stream: StreamId) -> bool
+    ensures { result ≡ list_any (λ b. (b.driver == stream.driver) && (b.minor == stream.minor)) binds.now }
+{
+    binds
+        .iter()
+        .any(|b| b.driver == stream.driver && b.minor == stream.minor)
+}
+
+fn check_unbind(lists: &Lists, stream: StreamId) -> Result<(), Fault>
+    ensures { result ≡ refuse Unbound (not (list_any (λ b. (b.driver == stream.driver) && (b.minor == stream.minor)) lists.now.binds.items)) }
+{
+    if !is_bound(&lists.binds, stream) {
+        return Err(Fault::Unbound);
+    }
+    Ok(())
+}
+
+fn drop_bind(binds: &mut Vec<Binding>, stream: StreamId)
+    ensures { binds.new.items ≡ filter (λ b. not ((b.driver == stream.driver) && (b.minor == stream.minor))) binds.old.items }
+{
+    binds.retain(|b| !(b.driver == stream.driver && b.minor == stream.minor));
+}
+
+pub fn unbind(
+    alloc: Global,
+    drivers: &[DriverSpec],
+    lists: &mut Lists,
+    process: Process,
+    fd: u32,
+) -> Result<Reply, Fault>
+    requires { IsReady drivers.now lists.old }
+    ensures does { DoesInPlace drivers.now lists.old lists.new process (command.Unbind fd) result }
+    ensures kept { HasRoom lists.new }
+{
+    let stream = mux_stream(drivers, lists, process, fd)?;
+    check_unbind(lists, stream)?;
+    drop_bind(&mut lists.binds, stream);
+    Ok(Reply::Done {
+        dropped: Serials::new(alloc),
+    })
+}
+
+fn has_link(links: &[Link], driver: u8, id: u32) -> bool
+    ensures { result ≡ list_any (λ l. (l.id == id) && (l.ctl.driver == driver)) links.now }
+{
+    links.iter().any(|l| l.id == id && l.ctl.driver == driver)
+}
+
+fn check_route(lists: &Lists, driver: u8, id: u32) -> Result<(), Fault>
+    ensures { result ≡ refuse NoLink (not (list_any (λ l. (l.id == id) && (l.ctl.driver == driver)) lists.now.links.items)) }
+{
+    if !has_link(&lists.links, driver, id) {
+        return Err(Fault::NoLink);
+    }
+    Ok(())
+}
+
+fn drop_route(routes: &mut Vec<Route>, driver: u8, addr: u32)
+    ensures routes { routes.new.items ≡ filter (λ r. not ((r.driver == driver) && (r.addr == addr))) routes.old.items }
+    ensures fewer { length routes.new.items ≤ length routes.old.items }
+    ensures capacity { vec_capacity routes.new ≡ vec_capacity routes.old }
+{
+    routes.retain(|r| !(r.driver == driver && r.addr == addr));
+}
+
+#[tactic(auto, using(crate::proofs::PlaceLemmas::place_le, crate::proofs::PlaceLemmas::insert_place))]
+fn put_route(routes: &mut Vec<Route>, route: Route)
+    requires { length routes.old.items < vec_capacity routes.old }
+    ensures { routes.new.items ≡ placed route_before routes.old.items route }
+{
+    let i = route_place(routes, &route);
+    let _ = routes.insert(i, route);
+}
+
+pub fn route(
+    alloc: Global,
+    drivers: &[DriverSpec],
+    lists: &mut Lists,
+    process: Process,
+    fd: u32,
+    addr: u32,
+    id: u32,
+) -> Result<Reply, Stop>
+    requires { IsReady drivers.now lists.old }
+    ensures does { Does drivers.now lists.old lists.new process (command.Route fd addr id) result }
+    ensures kept { HasRoom lists.new }
+{
+    let stream = mux_stream(drivers, lists, process, fd)?;
+    let driver = stream.driver;
+    check_route(lists, driver, id)?;
+    let room = room_to_sweep(alloc, lists)?;
+    lists.routes.reserve(1)?;
+    drop_route(&mut lists.routes, driver, addr);
+    put_route(&mut lists.routes, Route { driver, addr, id });
+    Ok(sweep_done(drivers, lists, room))
+}
+
+fn has_route(routes: &[Route], driver: u8, addr: u32) -> bool
+    ensures { result ≡ list_any (λ r. (r.driver == driver) && (r.addr == addr)) routes.now }
+{
+    routes.iter().any(|r| r.driver == driver && r.addr == addr)
+}
+
+fn check_unroute(lists: &Lists, driver: u8, addr: u32) -> Result<(), Fault>
+    ensures { result ≡ refuse Unrouted (not (list_any (λ r. (r.driver == driver) && (r.addr == addr)) lists.now.routes.items)) }
+{
+    if !has_route(&lists.routes, driver, addr) {
+        return Err(Fault::Unrouted);
+    }
+    Ok(())
+}
+
+pub fn unroute(
+    alloc: Global,
+    drivers: &[DriverSpec],
+    lists: &mut Lists,
+    process: Process,
+    fd: u32,
+    addr: u32,
+) -> Result<Reply, Fault>
+    requires { IsReady drivers.now lists.old }
+    ensures does { DoesInPlace drivers.now lists.old lists.new process (command.Unroute fd addr) result }
+    ensures kept { HasRoom lists.new }
+{
+    let stream = mux_stream(drivers, lists, process, fd)?;
+    let driver = stream.driver;
+    check_unroute(lists, driver, addr)?;
+    drop_route(&mut lists.routes, driver, addr);
+    Ok(Reply::Done {
+        dropped: Serials::new(alloc),
+    })
+}

@@ -1,0 +1,219 @@
+//! Linking streams below a driver, and removing links.
+
+ghost use Rattle.std.specs.Prelude.{◌≡◌, ◌<◌, ◌==◌, ◌&&◌, not, filter, length, vec_capacity, IfOk};
+ghost use Rattle.std.specs.List.{list_any};
+ghost use Rattle.smx_types.specs.declared.command.Command.TheVariants as command;
+ghost use Rattle.smx_types.specs.declared.link.Link.{Link};
+ghost use Rattle.smx_model.specs.Commands.{linked};
+ghost use Rattle.smx_model.specs.Configuration.{same_stream};
+ghost use Rattle.smx_model.specs.Standing.{is_persistent};
+ghost use Rattle.smx_config.specs.Reserved.{HasRoom};
+ghost use Rattle.smx_config.specs.ListFields.{configuration_of};
+ghost use Rattle.smx_config.specs.Owners.{may_link, is_mine, is_chosen, are_there, unlinks};
+ghost use Rattle.smx_config.specs.Performed.{IsReady, Does, Performs};
+
+use crate::lists::Lists;
+use crate::looked_up::{mux_stream, stream_of};
+use crate::lookups::is_mux;
+use crate::paths::reaches;
+use crate::removal::remove_links;
+use crate::room::{room_to_sweep, sweep_done};
+use crate::standing::{is_below, is_persistent};
+use crate::stop::Stop;
+use crate::streams::same_stream;
+use smx_types::{
+    DriverSpec, Fault, Link, LinkKind, MAX_LINKS, NUMBER_END, Process, Reply, StreamId, Which,
+};
+use std::alloc::{AllocError, Global};
+
+// Whether the streams may be linked; the first refusal that applies.
+fn check_link(
+    drivers: &[DriverSpec],
+    lists: &Lists,
+    upper: StreamId,
+    lower: StreamId,
+) -> Result<(), Fault>
+    ensures { result ≡ may_link drivers.now (configuration_of lists.now) upper lower }
+{
+    if is_below(&lists.links, upper) {
+        return Err(Fault::Below);
+    }
+    if !is_mux(drivers, upper.driver as usize) {
+        return Err(Fault::NotMux);
+    }
+    if is_below(&lists.links, lower) {
+        return Err(Fault::AlreadyBelow);
+    }
+    if lower.driver == upper.driver || reaches(&lists.links, lower.driver, upper.driver) {
+        return Err(Fault::Cycle);
+    }
+    if lists.links.len() >= MAX_LINKS || lists.next_id >= NUMBER_END {
+        return Err(Fault::TooManyLinks);
+    }
+    Ok(())
+}
+
+fn link_as(
+    drivers: &[DriverSpec],
+    lists: &mut Lists,
+    process: Process,
+    fd: u32,
+    arg: u32,
+    kind: LinkKind,
+) -> Result<Reply, Stop>
+    requires { IsReady drivers.now lists.old }
+    ensures does { Performs lists.old lists.new (linked drivers.now (configuration_of lists.old) process fd arg kind) result }
+    ensures kept { HasRoom lists.new }
+{
+    let upper = stream_of(lists, process, fd)?;
+    let lower = stream_of(lists, process, arg)?;
+    check_link(drivers, lists, upper, lower)?;
+    let id = lists.next_id;
+    lists.links.push(Link {
+        id,
+        ctl: upper,
+        lower,
+        kind,
+    })?;
+    lists.next_id = id + 1;
+    Ok(Reply::Id(id))
+}
+
+pub fn link(
+    drivers: &[DriverSpec],
+    lists: &mut Lists,
+    process: Process,
+    fd: u32,
+    arg: u32,
+) -> Result<Reply, Stop>
+    requires { IsReady drivers.now lists.old }
+    ensures does { Does drivers.now lists.old lists.new process (command.Link fd arg) result }
+    ensures kept { HasRoom lists.new }
+{
+    link_as(drivers, lists, process, fd, arg, LinkKind::Ordinary)
+}
+
+pub fn plink(
+    drivers: &[DriverSpec],
+    lists: &mut Lists,
+    process: Process,
+    fd: u32,
+    arg: u32,
+) -> Result<Reply, Stop>
+    requires { IsReady drivers.now lists.old }
+    ensures does { Does drivers.now lists.old lists.new process (command.Plink fd arg) result }
+    ensures kept { HasRoom lists.new }
+{
+    link_as(drivers, lists, process, fd, arg, LinkKind::Persistent)
+}
+
+// Whether a command for links of this kind on this stream is for the link.
+fn is_mine(kind: LinkKind, stream: StreamId, link: &Link) -> bool
+    ensures { result ≡ is_mine kind stream link.now }
+{
+    match kind {
+        LinkKind::Ordinary => !is_persistent(link) && same_stream(link.ctl, stream),
+        LinkKind::Persistent => is_persistent(link) && link.ctl.driver == stream.driver,
+    }
+}
+
+fn is_chosen(which: Which, kind: LinkKind, stream: StreamId, link: &Link) -> bool
+    ensures { result ≡ is_chosen which kind stream link.now }
+{
+    match which {
+        Which::All => is_mine(kind, stream, link),
+        Which::Id(id) => link.id == id && is_mine(kind, stream, link),
+    }
+}
+
+fn has_chosen(links: &[Link], which: Which, kind: LinkKind, stream: StreamId) -> bool
+    ensures { result ≡ list_any (is_chosen which kind stream) links.now }
+{
+    links.iter().any(|l| is_chosen(which, kind, stream, l))
+}
+
+fn chosen(
+    alloc: Global,
+    links: &[Link],
+    which: Which,
+    kind: LinkKind,
+    stream: StreamId,
+) -> Result<Vec<Link>, AllocError>
+    ensures { IfOk result (λ v. v.items ≡ filter (is_chosen which kind stream) links.now) }
+{
+    links
+        .iter()
+        .copied()
+        .filter(|l| is_chosen(which, kind, stream, l))
+        .collect(alloc)
+}
+
+// Whether links are there that are named; links of no id need not be.
+fn check_chosen(lists: &Lists, which: Which, kind: LinkKind, stream: StreamId) -> Result<(), Fault>
+    ensures { result ≡ are_there which kind stream lists.now.links.items }
+{
+    match which {
+        Which::All => Ok(()),
+        Which::Id(_) => {
+            if has_chosen(&lists.links, which, kind, stream) {
+                Ok(())
+            } else {
+                Err(Fault::NoLink)
+            }
+        }
+    }
+}
+
+// Removes links of this kind.
+fn unlink_as(
+    alloc: Global,
+    drivers: &[DriverSpec],
+    lists: &mut Lists,
+    process: Process,
+    fd: u32,
+    which: Which,
+    kind: LinkKind,
+) -> Result<Reply, Stop>
+    requires { IsReady drivers.now lists.old }
+    ensures does { Performs lists.old lists.new (unlinks drivers.now (configuration_of lists.old) process fd which kind) result }
+    ensures kept { HasRoom lists.new }
+{
+    let stream = mux_stream(drivers, lists, process, fd)?;
+    check_chosen(lists, which, kind, stream)?;
+    let gone = chosen(alloc, &lists.links, which, kind, stream)?;
+    let room = room_to_sweep(alloc, lists)?;
+    remove_links(lists, &gone);
+    Ok(sweep_done(drivers, lists, room))
+}
+
+pub fn unlink(
+    alloc: Global,
+    drivers: &[DriverSpec],
+    lists: &mut Lists,
+    process: Process,
+    fd: u32,
+    which: Which,
+) -> Result<Reply, Stop>
+    requires { IsReady drivers.now lists.old }
+    ensures does { Does drivers.now lists.old lists.new process (command.Unlink fd which) result }
+    ensures kept { HasRoom lists.new }
+{
+    let kind = LinkKind::Ordinary;
+    unlink_as(alloc, drivers, lists, process, fd, which, kind)
+}
+
+pub fn punlink(
+    alloc: Global,
+    drivers: &[DriverSpec],
+    lists: &mut Lists,
+    process: Process,
+    fd: u32,
+    which: Which,
+) -> Result<Reply, Stop>
+    requires { IsReady drivers.now lists.old }
+    ensures does { Does drivers.now lists.old lists.new process (command.Punlink fd which) result }
+    ensures kept { HasRoom lists.new }
+{
+    let kind = LinkKind::Persistent;
+    unlink_as(alloc, drivers, lists, process, fd, which, kind)
+}

@@ -1,0 +1,226 @@
+//! Writing, reading, flushing, and the device's side.
+
+ghost use Rattle.std.specs.Prelude.{◌≡◌, ◌<◌, ◌==◌, ◌&&◌, ◌||◌, not, nat_lt, filter, length, vec_capacity};
+ghost use Rattle.smx_types.specs.declared.command.Command.TheVariants.{Write, Read, Flush, Inject, Transmit};
+ghost use Rattle.smx_model.specs.Commands.{sent, received, is_side};
+ghost use Rattle.smx_model.specs.Configuration.{same_stream};
+ghost use Rattle.smx_model.specs.DriverList.{max_of};
+ghost use Rattle.smx_model.specs.Removal.{emptied};
+ghost use Rattle.smx_config.specs.Reserved.{HasRoom};
+ghost use Rattle.smx_config.specs.ListFields.{configuration_of};
+ghost use Rattle.smx_config.specs.Performed.{IsReady, Answers, Performs, DoesInPlace, Does};
+ghost use Rattle.smx_config.specs.Sending.{may_send};
+
+use crate::lists::Lists;
+use crate::looked_up::{free_stream, leaf_stream};
+use crate::lookups::max_of;
+use crate::queued::Queued;
+use crate::queues::{arrive, front_addr, is_full, leave};
+use crate::room::{room_to_sweep, sweep_done};
+use crate::stop::Stop;
+use crate::streams::{same_side, same_stream};
+use smx_types::{
+    Bytes, DriverSpec, Fault, Message, NUMBER_END, Name, Place, Process, Reply, Side, Sides,
+    StreamId,
+};
+use std::alloc::Global;
+
+// Whether bytes may be sent to the place; the first refusal that applies.
+fn check_send(
+    drivers: &[DriverSpec],
+    lists: &Lists,
+    place: Place,
+    bytes: &Bytes,
+) -> Result<(), Fault>
+    ensures { result ≡ may_send drivers.now (configuration_of lists.now) place bytes.now }
+{
+    let len = bytes.as_slice().len();
+    if len == 0 || len > max_of(drivers, place.stream.driver as usize) as usize {
+        return Err(Fault::BadSize);
+    }
+    if is_full(&lists.fulls, place) || lists.next_serial >= NUMBER_END {
+        return Err(Fault::Full);
+    }
+    Ok(())
+}
+
+fn send(
+    alloc: Global,
+    drivers: &[DriverSpec],
+    lists: &mut Lists,
+    place: Place,
+    addr: u32,
+    bytes: &Bytes,
+) -> Result<Reply, Stop>
+    requires { IsReady drivers.now lists.old }
+    ensures does { Performs lists.old lists.new (sent drivers.now (configuration_of lists.old) place addr bytes.now) result }
+    ensures kept { HasRoom lists.new }
+{
+    check_send(drivers, lists, place, bytes)?;
+    let bytes = bytes.copy(alloc)?;
+    lists.flow.reserve(1)?;
+    lists.fulls.reserve(lists.flow.len() + 1)?;
+    let serial = lists.next_serial;
+    let message = Message {
+        serial,
+        addr,
+        bytes,
+    };
+    arrive(drivers, lists, place, message);
+    lists.next_serial = serial + 1;
+    Ok(Reply::Took { serial })
+}
+
+fn receive(drivers: &[DriverSpec], lists: &mut Lists, place: Place) -> Result<Reply, Fault>
+    requires { IsReady drivers.now lists.old }
+    ensures does { Answers lists.old lists.new (received drivers.now (configuration_of lists.old) place) result }
+    ensures kept { HasRoom lists.new }
+{
+    if front_addr(&lists.flow, place).is_none() {
+        return Err(Fault::Empty);
+    }
+    match leave(drivers, lists, place) {
+        Some(message) => Ok(Reply::Got {
+            serial: message.serial,
+            addr: message.addr,
+            bytes: message.bytes,
+        }),
+        None => Err(Fault::Empty),
+    }
+}
+
+pub fn write(
+    alloc: Global,
+    drivers: &[DriverSpec],
+    lists: &mut Lists,
+    process: Process,
+    fd: u32,
+    addr: u32,
+    bytes: &Bytes,
+) -> Result<Reply, Stop>
+    requires { IsReady drivers.now lists.old }
+    ensures does { Does drivers.now lists.old lists.new process (Write fd addr bytes.now) result }
+    ensures kept { HasRoom lists.new }
+{
+    let stream = free_stream(lists, process, fd)?;
+    let place = Place {
+        stream,
+        side: Side::Write,
+    };
+    send(alloc, drivers, lists, place, addr, bytes)
+}
+
+pub fn read(
+    drivers: &[DriverSpec],
+    lists: &mut Lists,
+    process: Process,
+    fd: u32,
+) -> Result<Reply, Fault>
+    requires { IsReady drivers.now lists.old }
+    ensures does { DoesInPlace drivers.now lists.old lists.new process (Read fd) result }
+    ensures kept { HasRoom lists.new }
+{
+    let stream = free_stream(lists, process, fd)?;
+    let place = Place {
+        stream,
+        side: Side::Read,
+    };
+    receive(drivers, lists, place)
+}
+
+fn is_side(sides: Sides, side: Side) -> bool
+    ensures { result ≡ is_side sides side }
+{
+    match sides {
+        Sides::R => same_side(side, Side::Read),
+        Sides::W => same_side(side, Side::Write),
+        Sides::RW => true,
+    }
+}
+
+fn is_flushed(stream: StreamId, sides: Sides, place: Place) -> bool
+    ensures { result ≡ (same_stream place.stream stream && is_side sides place.side) }
+{
+    same_stream(place.stream, stream) && is_side(sides, place.side)
+}
+
+fn flush_flow(flow: &mut Vec<Queued>, stream: StreamId, sides: Sides)
+    ensures { flow.new.items ≡ filter (λ h. not (same_stream h.place.stream stream && is_side sides h.place.side)) flow.old.items }
+{
+    flow.retain(|h| !is_flushed(stream, sides, h.place()));
+}
+
+fn flush_fulls(fulls: &mut Vec<Place>, stream: StreamId, sides: Sides)
+    ensures marks { fulls.new.items ≡ filter (λ p. not (same_stream p.stream stream && is_side sides p.side)) fulls.old.items }
+    ensures capacity { vec_capacity fulls.new ≡ vec_capacity fulls.old }
+{
+    fulls.retain(|p| !is_flushed(stream, sides, *p));
+}
+
+fn empty(lists: &mut Lists, stream: StreamId, sides: Sides)
+    requires { HasRoom lists.old }
+    ensures value { configuration_of lists.new ≡ emptied (configuration_of lists.old) (λ p. same_stream p.stream stream && is_side sides p.side) }
+    ensures kept { HasRoom lists.new }
+{
+    flush_flow(&mut lists.flow, stream, sides);
+    flush_fulls(&mut lists.fulls, stream, sides);
+}
+
+pub fn flush(
+    alloc: Global,
+    drivers: &[DriverSpec],
+    lists: &mut Lists,
+    process: Process,
+    fd: u32,
+    sides: Sides,
+) -> Result<Reply, Stop>
+    requires { IsReady drivers.now lists.old }
+    ensures does { Does drivers.now lists.old lists.new process (Flush fd sides) result }
+    ensures kept { HasRoom lists.new }
+{
+    let stream = free_stream(lists, process, fd)?;
+    let room = room_to_sweep(alloc, lists)?;
+    empty(lists, stream, sides);
+    Ok(sweep_done(drivers, lists, room))
+}
+
+pub fn inject(
+    alloc: Global,
+    drivers: &[DriverSpec],
+    lists: &mut Lists,
+    process: Process,
+    name: &Name,
+    minor: u32,
+    addr: u32,
+    bytes: &Bytes,
+) -> Result<Reply, Stop>
+    requires { IsReady drivers.now lists.old }
+    ensures does { Does drivers.now lists.old lists.new process (Inject name.now minor addr bytes.now) result }
+    ensures kept { HasRoom lists.new }
+{
+    let stream = leaf_stream(drivers, lists, name, minor)?;
+    let place = Place {
+        stream,
+        side: Side::Read,
+    };
+    send(alloc, drivers, lists, place, addr, bytes)
+}
+
+pub fn transmit(
+    drivers: &[DriverSpec],
+    lists: &mut Lists,
+    process: Process,
+    name: &Name,
+    minor: u32,
+) -> Result<Reply, Fault>
+    requires { IsReady drivers.now lists.old }
+    ensures does { DoesInPlace drivers.now lists.old lists.new process (Transmit name.now minor) result }
+    ensures kept { HasRoom lists.new }
+{
+    let stream = leaf_stream(drivers, lists, name, minor)?;
+    let place = Place {
+        stream,
+        side: Side::Write,
+    };
+    receive(drivers, lists, place)
+}

@@ -1,0 +1,155 @@
+//! The sequential configuration.
+
+ghost use Rattle.std.specs.Prelude.{◌≡◌, ◌≤◌, length, IfOk, IfErr, IsOk, IsErr, IsTrue};
+ghost use Rattle.smx_model.specs.Commands.{outcome, step};
+ghost use Rattle.smx_model.specs.Configuration.{empty};
+ghost use Rattle.smx_model.specs.DriverList.{IsDriverList};
+ghost use Rattle.smx_model.specs.KeptConfigurations.{IsKept};
+ghost use Rattle.smx_model.specs.Views.{view};
+ghost use Rattle.smx_config.specs.DriverFaults.{RefusesDrivers};
+ghost use Rattle.smx_config.specs.Machine.{takes_no_memory};
+
+use crate::copied::{copy_lists, empty_lists};
+use crate::driver_list::check_drivers;
+use crate::fault::ConfigFault;
+use crate::lists::Lists;
+use crate::perform::perform;
+use crate::settling::settle;
+use crate::show::{
+    binding_lines, descriptor_lines, full_lines, link_lines, message_lines, route_lines,
+};
+use crate::stop::Stop;
+use smx_model::laws_of_steps::{commands_keep, empty_is_kept};
+use smx_types::{
+    BindingLines, Command, ConfigView, DescriptorLines, DriverSpec, FullLines, LinkLines,
+    MessageLines, NoMemory, Process, Reply, RouteLines,
+};
+use std::alloc::Global;
+use std::marker::Model;
+
+/// Drivers and the configuration over them. A contract sees both as one value.
+#[derive(Debug, Drop)]
+pub struct Config {
+    alloc: Global,
+    drivers: Vec<DriverSpec>,
+    lists: Lists,
+}
+
+impl Model for Config {
+    ghost use Rattle.smx_config.specs.Machine.{Machine};
+
+    ghost Value = { Machine };
+
+    ghost use Rattle.smx_config.specs.ConfigFields.{machine_of, IsWhole};
+
+    ghost view = { machine_of };
+
+    ghost invariant = { IsWhole };
+}
+
+// Links are no more than the ids that were given, and those fit.
+fn count_links(lists: &Lists) -> u32
+    requires { length lists.now.links.items ≤ lists.now.next_id }
+    ensures { result ≡ length lists.now.links.items }
+{
+    let _next_id = lists.next_id;
+    lists.links.len() as u32
+}
+
+impl Config {
+    /// The empty configuration over these drivers. Refused where there are more than 64; or else at the least number
+    /// of a driver that can't be had, or that has the name of an earlier one; or else for want of memory.
+    pub fn new(alloc: Global, drivers: &[DriverSpec]) -> Result<Config, ConfigFault>
+        ensures drivers { IfOk result (λ c. (c.drivers ≡ drivers.now) × IsDriverList drivers.now) }
+        ensures empty { IfOk result (λ c. c.configuration ≡ empty) }
+        ensures refused { IfErr result (RefusesDrivers drivers.now) }
+    {
+        empty_is_kept();
+        check_drivers(drivers)?;
+        let Ok(drivers) = Vec::from_slice(alloc, drivers) else {
+            return Err(ConfigFault::NoMemory);
+        };
+        let Ok(lists) = empty_lists(alloc) else {
+            return Err(ConfigFault::NoMemory);
+        };
+        Ok(Config {
+            alloc,
+            drivers,
+            lists,
+        })
+    }
+
+    /// Does a command of a process: its reply and the new configuration are those of the command table. Want of
+    /// memory changes nothing. Opening, sharing, unbinding, taking a route away, reading, transmitting and every
+    /// refusal take no memory, so they are always answered.
+    pub fn step(&mut self, process: Process, command: &Command) -> Result<Reply, NoMemory>
+        ensures drivers { self.new.drivers ≡ self.old.drivers }
+        ensures ok { IfOk result (λ r. step self.old.drivers self.old.configuration process command.now ≡ (self.new.configuration, r)) }
+        ensures err { IfErr result (λ _. self.new ≡ self.old) }
+        ensures in_place { IsTrue (takes_no_memory command.now) → IsOk result }
+        ensures refused { IsErr (outcome self.old.drivers self.old.configuration process command.now) → IsOk result }
+    {
+        commands_keep();
+        match perform(self.alloc, &self.drivers, &mut self.lists, process, command) {
+            Ok(reply) => {
+                settle(&self.drivers, &mut self.lists);
+                Ok(reply)
+            }
+            Err(Stop::Refused(fault)) => Ok(Reply::Fault(fault)),
+            Err(Stop::NoMemory) => Err(NoMemory),
+        }
+    }
+
+    /// The configuration as it is shown. Fails only for want of memory.
+    pub fn show(&self) -> Result<ConfigView, NoMemory>
+        ensures { IfOk result (λ v. v ≡ view self.now.drivers self.now.configuration) }
+    {
+        let alloc = self.alloc;
+        let drivers: &[DriverSpec] = &self.drivers;
+        let fds = descriptor_lines(alloc, drivers, &self.lists.fds)?;
+        let links = link_lines(alloc, drivers, &self.lists.links)?;
+        let binds = binding_lines(alloc, drivers, &self.lists.binds)?;
+        let routes = route_lines(alloc, drivers, &self.lists.routes)?;
+        let msgs = message_lines(alloc, drivers, &self.lists.flow)?;
+        let fulls = full_lines(alloc, drivers, &self.lists.fulls)?;
+        Ok(ConfigView {
+            next_id: self.lists.next_id,
+            next_serial: self.lists.next_serial,
+            fds: DescriptorLines::from_vec(fds),
+            links: LinkLines::from_vec(links),
+            binds: BindingLines::from_vec(binds),
+            routes: RouteLines::from_vec(routes),
+            msgs: MessageLines::from_vec(msgs),
+            fulls: FullLines::from_vec(fulls),
+        })
+    }
+
+    /// How many links stand. Takes no memory.
+    pub fn link_count(&self) -> u32
+        ensures { result ≡ length self.now.configuration.links }
+    {
+        count_links(&self.lists)
+    }
+
+    /// The drivers that it was made with, which no command changes. Takes no memory.
+    pub fn drivers(&self) -> &[DriverSpec]
+        ensures value { result.now ≡ self.now.drivers }
+        ensures list { IsDriverList self.now.drivers }
+        ensures kept { IsKept self.now.drivers self.now.configuration }
+    {
+        self.drivers.as_slice()
+    }
+
+    /// The same configuration again. Fails only for want of memory.
+    pub fn copy(&self, alloc: Global) -> Result<Config, NoMemory>
+        ensures { IfOk result (λ c. c ≡ self.now) }
+    {
+        let drivers = Vec::from_slice(alloc, &self.drivers)?;
+        let lists = copy_lists(alloc, &self.lists)?;
+        Ok(Config {
+            alloc,
+            drivers,
+            lists,
+        })
+    }
+}

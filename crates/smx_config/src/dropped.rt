@@ -1,0 +1,64 @@
+//! The serials of messages that a change dropped.
+
+ghost use Rattle.std.specs.Prelude.{◌≡◌, ◌<◌, ◌≤◌, ◌==◌, nat_lt, not, filter, length, vec_capacity, IfOk, []};
+ghost use Rattle.std.specs.List.{list_any};
+ghost use Rattle.smx_model.specs.Ordered.{placed, rising};
+ghost use Rattle.smx_model.specs.Removal.{serials};
+
+use crate::ordered::number_place;
+use crate::queued::Queued;
+use std::alloc::{AllocError, Global};
+
+// The serials of all queued messages.
+pub fn serials_of(alloc: Global, flow: &[Queued]) -> Result<Vec<u32>, AllocError>
+    ensures { IfOk result (λ v. v.items ≡ serials flow.now) }
+{
+    flow.iter().map(|h| h.message().serial).collect(alloc)
+}
+
+fn has_serial(flow: &[Queued], serial: u32) -> bool
+    ensures { result ≡ list_any (λ m. serial == m) (serials flow.now) }
+{
+    flow.iter().map(|h| h.message().serial).any(|m| serial == m)
+}
+
+fn keep_gone(old: &mut Vec<u32>, flow: &[Queued])
+    ensures { old.new.items ≡ filter (λ n. not (list_any (λ m. n == m) (serials flow.now))) old.old.items }
+{
+    old.retain(|n| !has_serial(flow, *n));
+}
+
+#[tactic(auto, using(crate::proofs::PlaceLemmas::place_le, crate::proofs::PlaceLemmas::insert_place))]
+fn put_number(numbers: &mut Vec<u32>, n: u32)
+    requires { length numbers.old.items < vec_capacity numbers.old }
+    ensures numbers { numbers.new.items ≡ placed nat_lt numbers.old.items n }
+    ensures capacity { vec_capacity numbers.new ≡ vec_capacity numbers.old }
+{
+    let i = number_place(numbers, n);
+    let _ = numbers.insert(i, n);
+}
+
+// The numbers, rising, in a list that has room for them.
+fn in_order(numbers: Vec<u32>, room: Vec<u32>) -> Vec<u32>
+    requires empty { room.items ≡ [] }
+    requires room { length numbers.items ≤ vec_capacity room }
+    ensures { result.items ≡ rising numbers.items }
+{
+    let mut left = numbers;
+    let mut placed = room;
+    while let Some(n) = left.pop() {
+        put_number(&mut placed, n);
+    }
+    placed
+}
+
+// Those of the old serials that the flow has no more, rising. The last list has room for all of them.
+pub fn dropped(old: Vec<u32>, flow: &[Queued], room: Vec<u32>) -> Vec<u32>
+    requires empty { room.items ≡ [] }
+    requires room { length old.items ≤ vec_capacity room }
+    ensures { result.items ≡ rising (filter (λ n. not (list_any (λ m. n == m) (serials flow.now))) old.items) }
+{
+    let mut gone = old;
+    keep_gone(&mut gone, flow);
+    in_order(gone, room)
+}

@@ -1,0 +1,17 @@
+//! The lists of a configuration.
+
+use crate::queued::Queued;
+use smx_types::{Binding, Descriptor, Link, Place, Route};
+
+/// All of a configuration, each list in the order in which it is shown.
+#[derive(Debug, Drop)]
+pub struct Lists {
+    pub fds: Vec<Descriptor>,
+    pub links: Vec<Link>,
+    pub next_id: u32,
+    pub binds: Vec<Binding>,
+    pub routes: Vec<Route>,
+    pub flow: Vec<Queued>,
+    pub fulls: Vec<Place>,
+    pub next_serial: u32,
+}

@@ -1,0 +1,49 @@
+//! A message with its place.
+
+ghost use Rattle.std.specs.Prelude.{◌≡◌};
+
+use smx_types::{Message, Place};
+use std::marker::Model;
+
+/// A queued message and its place.
+#[derive(Debug, Drop)]
+pub struct Queued {
+    place: Place,
+    message: Message,
+}
+
+impl Model for Queued {
+    ghost use Rattle.smx_model.specs.Configuration.{Held};
+
+    ghost Value = { Held };
+
+    ghost use Rattle.smx_config.specs.ListFields.{held_of};
+
+    ghost view = { held_of };
+}
+
+impl Queued {
+    pub fn new(place: Place, message: Message) -> Queued
+        ensures { result ≡ record { place = place; message = message } }
+    {
+        Queued { place, message }
+    }
+
+    pub fn place(&self) -> Place
+        ensures { result ≡ self.now.place }
+    {
+        self.place
+    }
+
+    pub fn message(&self) -> &Message
+        ensures { result.now ≡ self.now.message }
+    {
+        &self.message
+    }
+
+    pub fn into_message(self) -> Message
+        ensures { result ≡ self.message }
+    {
+        self.message
+    }
+}

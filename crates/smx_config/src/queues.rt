@@ -1,0 +1,160 @@
+//! The messages that are queued at a place, and when its queue is full.
+
+ghost use Rattle.std.specs.Prelude.{◌≡◌, ◌<◌, ◌+◌, not, nat_le, nat_lt, ◌||◌, ◌&&◌, filter, position, option_map, length, vec_len, vec_capacity, IsTrue, IfSome};
+ghost use Rattle.std.specs.List.{list_any};
+ghost use Rattle.smx_model.specs.Configuration.{same_place, is_at, held_before, place_before};
+ghost use Rattle.smx_model.specs.DriverList.{high_of, low_of};
+ghost use Rattle.smx_model.specs.Ordered.{placed, without_first};
+ghost use Rattle.smx_model.specs.Queues.{bytes_at, front, marked, left, arrived};
+ghost use Rattle.smx_config.specs.Reserved.{HasRoom};
+ghost use Rattle.smx_config.specs.ListFields.{configuration_of};
+
+use crate::lists::Lists;
+use crate::lookups::{high_of, low_of};
+use crate::ordered::{mark_place, queued_place};
+use crate::queued::Queued;
+use crate::streams::same_place;
+use smx_types::{DriverSpec, Message, Place};
+
+// Whether the place is marked as full.
+pub fn is_full(fulls: &[Place], place: Place) -> bool
+    ensures { result ≡ list_any (same_place place) fulls.now }
+{
+    fulls.iter().any(|p| same_place(place, *p))
+}
+
+// Whether the messages at the place have at least so many bytes together.
+fn has_bytes(flow: &[Queued], place: Place, bytes: usize) -> bool
+    ensures { result ≡ nat_le bytes (bytes_at flow.now place) }
+{
+    let mut left = bytes;
+    for queued in flow {
+        if same_place(queued.place(), place) {
+            let len = queued.message().bytes.as_slice().len();
+            if len >= left {
+                return true;
+            }
+            left -= len;
+        }
+    }
+    left == 0
+}
+
+// Whether they have more bytes than that.
+fn has_more(flow: &[Queued], place: Place, bytes: u32) -> bool
+    ensures { result ≡ nat_lt bytes (bytes_at flow.now place) }
+{
+    has_bytes(flow, place, bytes as usize + 1)
+}
+
+fn front_at(flow: &[Queued], place: Place) -> Option<usize>
+    ensures { result ≡ position (is_at place) flow.now }
+{
+    flow.iter().position(|h| same_place(h.place(), place))
+}
+
+// The address of the first message at the place.
+pub fn front_addr(flow: &[Queued], place: Place) -> Option<u32>
+    ensures { result ≡ option_map (λ m. m.addr) (front flow.now place) }
+{
+    match front_at(flow, place) {
+        Some(i) => Some(flow[i].message().addr),
+        None => None,
+    }
+}
+
+// Takes the first message of the place.
+pub fn take_front(flow: &mut Vec<Queued>, place: Place) -> Option<Message>
+    ensures front { result ≡ front flow.old.items place }
+    ensures rest { flow.new.items ≡ without_first (is_at place) flow.old.items }
+    ensures capacity { vec_capacity flow.new ≡ vec_capacity flow.old }
+{
+    match front_at(flow, place) {
+        Some(i) => Some(flow.remove(i).into_message()),
+        None => None,
+    }
+}
+
+// Marks the place as full, or not.
+fn mark(fulls: &mut Vec<Place>, place: Place, full: bool)
+    requires { IsTrue full → length (filter (λ q. not (same_place place q)) fulls.old.items) < vec_capacity fulls.old }
+    ensures marked { fulls.new.items ≡ marked place full fulls.old.items }
+    ensures capacity { vec_capacity fulls.new ≡ vec_capacity fulls.old }
+{
+    unmark(fulls, place);
+    if full {
+        put_mark(fulls, place);
+    }
+}
+
+fn unmark(fulls: &mut Vec<Place>, place: Place)
+    ensures marks { fulls.new.items ≡ filter (λ q. not (same_place place q)) fulls.old.items }
+    ensures capacity { vec_capacity fulls.new ≡ vec_capacity fulls.old }
+{
+    fulls.retain(|q| !same_place(place, *q));
+}
+
+#[tactic(auto, using(crate::proofs::PlaceLemmas::place_le, crate::proofs::PlaceLemmas::insert_place))]
+fn put_mark(fulls: &mut Vec<Place>, place: Place)
+    requires { length fulls.old.items < vec_capacity fulls.old }
+    ensures marks { fulls.new.items ≡ placed place_before fulls.old.items place }
+    ensures capacity { vec_capacity fulls.new ≡ vec_capacity fulls.old }
+{
+    let i = mark_place(fulls, place);
+    let _ = fulls.insert(i, place);
+}
+
+#[tactic(auto, using(crate::proofs::PlaceLemmas::place_le, crate::proofs::PlaceLemmas::insert_place))]
+fn put_queued(flow: &mut Vec<Queued>, queued: Queued)
+    requires { length flow.old.items < vec_capacity flow.old }
+    ensures flow { flow.new.items ≡ placed held_before flow.old.items queued }
+    ensures capacity { vec_capacity flow.new ≡ vec_capacity flow.old }
+{
+    let i = queued_place(flow, &queued);
+    let _ = flow.insert(i, queued);
+}
+
+// Whether a place from which a message left is full: it was, and it has more bytes than its low water mark.
+fn stays_full(drivers: &[DriverSpec], flow: &[Queued], fulls: &[Place], place: Place) -> bool
+    ensures { result ≡ (list_any (same_place place) fulls.now && nat_lt (low_of drivers.now place.stream.driver) (bytes_at flow.now place)) }
+{
+    let low = low_of(drivers, place.stream.driver as usize);
+    is_full(fulls, place) && has_more(flow, place, low)
+}
+
+// Whether a place at which a message arrived is full: it was, or it has as many bytes as its high water mark.
+fn becomes_full(drivers: &[DriverSpec], flow: &[Queued], fulls: &[Place], place: Place) -> bool
+    ensures { result ≡ (list_any (same_place place) fulls.now || nat_le (high_of drivers.now place.stream.driver) (bytes_at flow.now place)) }
+{
+    let high = high_of(drivers, place.stream.driver as usize);
+    is_full(fulls, place) || has_bytes(flow, place, high as usize)
+}
+
+// The first message leaves the place.
+pub fn leave(drivers: &[DriverSpec], lists: &mut Lists, place: Place) -> Option<Message>
+    requires { HasRoom lists.old }
+    ensures front { result ≡ front lists.old.flow.items place }
+    ensures value { configuration_of lists.new ≡ left drivers.now (configuration_of lists.old) place }
+    ensures kept { HasRoom lists.new }
+    ensures one_less { IfSome result (λ _. length lists.new.flow.items + 1 ≡ length lists.old.flow.items) }
+    ensures capacity { vec_capacity lists.new.flow ≡ vec_capacity lists.old.flow }
+    ensures marks_capacity { vec_capacity lists.new.fulls ≡ vec_capacity lists.old.fulls }
+{
+    let message = take_front(&mut lists.flow, place);
+    let full = stays_full(drivers, &lists.flow, &lists.fulls, place);
+    mark(&mut lists.fulls, place, full);
+    message
+}
+
+// A message arrives at the place.
+pub fn arrive(drivers: &[DriverSpec], lists: &mut Lists, place: Place, message: Message)
+    requires kept { HasRoom lists.old }
+    requires room { length lists.old.flow.items < vec_capacity lists.old.flow }
+    requires marks_room { length lists.old.flow.items < vec_capacity lists.old.fulls }
+    ensures value { configuration_of lists.new ≡ arrived drivers.now (configuration_of lists.old) place message }
+    ensures kept { HasRoom lists.new }
+{
+    put_queued(&mut lists.flow, Queued::new(place, message));
+    let full = becomes_full(drivers, &lists.flow, &lists.fulls, place);
+    mark(&mut lists.fulls, place, full);
+}

@@ -1,0 +1,52 @@
+//! Room that is made before a change, for the sweep and the reply after it.
+
+ghost use Rattle.std.specs.Prelude.{◌≡◌, ◌≤◌, ◌==◌, not, filter, length, vec_capacity, IfOk, []};
+ghost use Rattle.std.specs.List.{list_any};
+ghost use Rattle.smx_types.specs.declared.reply.Reply.TheVariants.{Done};
+ghost use Rattle.smx_model.specs.Ordered.{rising};
+ghost use Rattle.smx_model.specs.Removal.{serials, swept};
+ghost use Rattle.smx_config.specs.Reserved.{HasRoom};
+ghost use Rattle.smx_config.specs.ListFields.{configuration_of};
+ghost use Rattle.smx_config.specs.Rooms.{IsRoomFor};
+
+use crate::dropped::{dropped, serials_of};
+use crate::lists::Lists;
+use crate::removal::sweep;
+use smx_types::{DriverSpec, Link, Reply, Serials};
+use std::alloc::{AllocError, Global};
+
+/// The serials before the change, and two empty lists with room for all links and all serials.
+#[derive(Debug, Drop)]
+pub struct Room {
+    pub loose: Vec<Link>,
+    pub old: Vec<u32>,
+    pub dropped: Vec<u32>,
+}
+
+pub fn room_to_sweep(alloc: Global, lists: &Lists) -> Result<Room, AllocError>
+    ensures { IfOk result (λ r. IsRoomFor lists.now.links.items (serials lists.now.flow.items) r) }
+{
+    let loose = Vec::with_capacity(alloc, lists.links.len())?;
+    let old = serials_of(alloc, &lists.flow)?;
+    let dropped = Vec::with_capacity(alloc, old.len())?;
+    Ok(Room {
+        loose,
+        old,
+        dropped,
+    })
+}
+
+// Sweeps after a change, and names the messages that were dropped since room was made.
+pub fn sweep_done(drivers: &[DriverSpec], lists: &mut Lists, room: Room) -> Reply
+    requires kept { HasRoom lists.old }
+    requires room { IsRoomFor lists.old.links.items room.old.items room }
+    ensures value { configuration_of lists.new ≡ swept drivers.now (configuration_of lists.old) }
+    ensures reply { result ≡ Done (rising (filter (λ n. not (list_any (λ m. n == m) (serials lists.new.flow.items))) room.old.items)) }
+    ensures kept { HasRoom lists.new }
+{
+    sweep(drivers, lists, room.loose);
+    let dropped = dropped(room.old, &lists.flow, room.dropped);
+    Reply::Done {
+        dropped: Serials::from_vec(dropped),
+    }
+}

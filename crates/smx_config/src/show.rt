@@ -1,0 +1,185 @@
+//! A configuration as it is shown.
+
+ghost use Rattle.std.specs.Prelude.{◌≡◌, ◌<◌, length, map, IfOk};
+ghost use Rattle.std.specs.List.{All};
+ghost use Rattle.smx_model.specs.DriverList.{name_of};
+ghost use Rattle.smx_model.specs.Views.{view_of_fd, view_of_link, view_of_bind, view_of_route, view_of_message, view_of_full};
+
+use crate::queued::Queued;
+use smx_types::{
+    Binding, BindingLine, Descriptor, DescriptorLine, DriverSpec, FullLine, Link, LinkLine,
+    MessageLine, Name, NoMemory, Place, Route, RouteLine,
+};
+use std::alloc::Global;
+
+fn name_of(drivers: &[DriverSpec], driver: u8) -> Name
+    requires { driver < length drivers.now }
+    ensures { result ≡ name_of drivers.now driver }
+{
+    drivers[driver as usize].name
+}
+
+fn descriptor_line(drivers: &[DriverSpec], d: &Descriptor) -> DescriptorLine
+    requires { d.now.stream.driver < length drivers.now }
+    ensures { result ≡ view_of_fd drivers.now d.now }
+{
+    DescriptorLine {
+        process: d.process,
+        fd: d.fd,
+        driver: name_of(drivers, d.stream.driver),
+        minor: u32::from(d.stream.minor),
+    }
+}
+
+fn link_line(drivers: &[DriverSpec], l: &Link) -> LinkLine
+    requires ctl { l.now.ctl.driver < length drivers.now }
+    requires lower { l.now.lower.driver < length drivers.now }
+    ensures { result ≡ view_of_link drivers.now l.now }
+{
+    LinkLine {
+        id: l.id,
+        ctl_driver: name_of(drivers, l.ctl.driver),
+        ctl_minor: u32::from(l.ctl.minor),
+        lower_driver: name_of(drivers, l.lower.driver),
+        lower_minor: u32::from(l.lower.minor),
+        kind: l.kind,
+    }
+}
+
+fn binding_line(drivers: &[DriverSpec], b: &Binding) -> BindingLine
+    requires { b.now.driver < length drivers.now }
+    ensures { result ≡ view_of_bind drivers.now b.now }
+{
+    BindingLine {
+        driver: name_of(drivers, b.driver),
+        addr: b.addr,
+        minor: u32::from(b.minor),
+    }
+}
+
+fn route_line(drivers: &[DriverSpec], r: &Route) -> RouteLine
+    requires { r.now.driver < length drivers.now }
+    ensures { result ≡ view_of_route drivers.now r.now }
+{
+    RouteLine {
+        driver: name_of(drivers, r.driver),
+        addr: r.addr,
+        id: r.id,
+    }
+}
+
+fn message_line(alloc: Global, drivers: &[DriverSpec], h: &Queued) -> Result<MessageLine, NoMemory>
+    requires { h.now.place.stream.driver < length drivers.now }
+    ensures { IfOk result (λ l. l ≡ view_of_message drivers.now h.now) }
+{
+    let place = h.place();
+    let message = h.message().copy(alloc)?;
+    Ok(MessageLine {
+        driver: name_of(drivers, place.stream.driver),
+        minor: u32::from(place.stream.minor),
+        side: place.side,
+        message,
+    })
+}
+
+fn full_line(drivers: &[DriverSpec], p: &Place) -> FullLine
+    requires { p.now.stream.driver < length drivers.now }
+    ensures { result ≡ view_of_full drivers.now p.now }
+{
+    FullLine {
+        driver: name_of(drivers, p.stream.driver),
+        minor: u32::from(p.stream.minor),
+        side: p.side,
+    }
+}
+
+pub fn descriptor_lines(
+    alloc: Global,
+    drivers: &[DriverSpec],
+    fds: &[Descriptor],
+) -> Result<Vec<DescriptorLine>, NoMemory>
+    requires { All (λ d. d.stream.driver < length drivers.now) fds.now }
+    ensures { IfOk result (λ v. v.items ≡ map (view_of_fd drivers.now) fds.now) }
+{
+    let mut lines = Vec::with_capacity(alloc, fds.len())?;
+    for d in fds {
+        lines.push(descriptor_line(drivers, d))?;
+    }
+    Ok(lines)
+}
+
+pub fn link_lines(
+    alloc: Global,
+    drivers: &[DriverSpec],
+    links: &[Link],
+) -> Result<Vec<LinkLine>, NoMemory>
+    requires ctl { All (λ l. l.ctl.driver < length drivers.now) links.now }
+    requires lower { All (λ l. l.lower.driver < length drivers.now) links.now }
+    ensures { IfOk result (λ v. v.items ≡ map (view_of_link drivers.now) links.now) }
+{
+    let mut lines = Vec::with_capacity(alloc, links.len())?;
+    for l in links {
+        lines.push(link_line(drivers, l))?;
+    }
+    Ok(lines)
+}
+
+pub fn binding_lines(
+    alloc: Global,
+    drivers: &[DriverSpec],
+    binds: &[Binding],
+) -> Result<Vec<BindingLine>, NoMemory>
+    requires { All (λ b. b.driver < length drivers.now) binds.now }
+    ensures { IfOk result (λ v. v.items ≡ map (view_of_bind drivers.now) binds.now) }
+{
+    let mut lines = Vec::with_capacity(alloc, binds.len())?;
+    for b in binds {
+        lines.push(binding_line(drivers, b))?;
+    }
+    Ok(lines)
+}
+
+pub fn route_lines(
+    alloc: Global,
+    drivers: &[DriverSpec],
+    routes: &[Route],
+) -> Result<Vec<RouteLine>, NoMemory>
+    requires { All (λ r. r.driver < length drivers.now) routes.now }
+    ensures { IfOk result (λ v. v.items ≡ map (view_of_route drivers.now) routes.now) }
+{
+    let mut lines = Vec::with_capacity(alloc, routes.len())?;
+    for r in routes {
+        lines.push(route_line(drivers, r))?;
+    }
+    Ok(lines)
+}
+
+pub fn message_lines(
+    alloc: Global,
+    drivers: &[DriverSpec],
+    flow: &[Queued],
+) -> Result<Vec<MessageLine>, NoMemory>
+    requires { All (λ h. h.place.stream.driver < length drivers.now) flow.now }
+    ensures { IfOk result (λ v. v.items ≡ map (view_of_message drivers.now) flow.now) }
+{
+    let mut lines = Vec::with_capacity(alloc, flow.len())?;
+    for h in flow {
+        lines.push(message_line(alloc, drivers, h)?)?;
+    }
+    Ok(lines)
+}
+
+pub fn full_lines(
+    alloc: Global,
+    drivers: &[DriverSpec],
+    fulls: &[Place],
+) -> Result<Vec<FullLine>, NoMemory>
+    requires { All (λ p. p.stream.driver < length drivers.now) fulls.now }
+    ensures { IfOk result (λ v. v.items ≡ map (view_of_full drivers.now) fulls.now) }
+{
+    let mut lines = Vec::with_capacity(alloc, fulls.len())?;
+    for p in fulls {
+        lines.push(full_line(drivers, p))?;
+    }
+    Ok(lines)
+}

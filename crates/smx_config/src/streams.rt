@@ -1,0 +1,79 @@
+//! Whether streams, sides and places are the same, and which comes first.
+
+ghost use Rattle.std.specs.Prelude.{◌≡◌};
+ghost use Rattle.smx_model.specs.Configuration.{same_stream, same_side, same_place, fd_before, bind_before, route_before, side_before, place_before, pair_before};
+
+use smx_types::{Binding, Descriptor, Place, Route, Side, StreamId};
+
+pub fn same_stream(s: StreamId, t: StreamId) -> bool
+    ensures { result ≡ same_stream s t }
+{
+    s.driver == t.driver && s.minor == t.minor
+}
+
+pub fn same_side(a: Side, b: Side) -> bool
+    ensures { result ≡ same_side a b }
+{
+    match a {
+        Side::Write => match b {
+            Side::Write => true,
+            Side::Read => false,
+        },
+        Side::Read => match b {
+            Side::Write => false,
+            Side::Read => true,
+        },
+    }
+}
+
+pub fn same_place(p: Place, q: Place) -> bool
+    ensures { result ≡ same_place p q }
+{
+    same_stream(p.stream, q.stream) && same_side(p.side, q.side)
+}
+
+fn side_before(a: Side, b: Side) -> bool
+    ensures { result ≡ side_before a b }
+{
+    match a {
+        Side::Write => match b {
+            Side::Write => false,
+            Side::Read => true,
+        },
+        Side::Read => match b {
+            Side::Write => false,
+            Side::Read => false,
+        },
+    }
+}
+
+fn stream_before(s: StreamId, t: StreamId) -> bool
+    ensures { result ≡ pair_before s.driver s.minor t.driver t.minor }
+{
+    s.driver < t.driver || (s.driver == t.driver && s.minor < t.minor)
+}
+
+pub fn place_before(p: Place, q: Place) -> bool
+    ensures { result ≡ place_before p q }
+{
+    stream_before(p.stream, q.stream)
+        || (same_stream(p.stream, q.stream) && side_before(p.side, q.side))
+}
+
+pub fn fd_before(d: &Descriptor, e: &Descriptor) -> bool
+    ensures { result ≡ fd_before d.now e.now }
+{
+    d.process.get() < e.process.get() || (d.process == e.process && d.fd < e.fd)
+}
+
+pub fn bind_before(b: &Binding, c: &Binding) -> bool
+    ensures { result ≡ bind_before b.now c.now }
+{
+    b.driver < c.driver || (b.driver == c.driver && b.addr < c.addr)
+}
+
+pub fn route_before(r: &Route, s: &Route) -> bool
+    ensures { result ≡ route_before r.now s.now }
+{
+    r.driver < s.driver || (r.driver == s.driver && r.addr < s.addr)
+}

@@ -1,0 +1,236 @@
+-- Each message that was taken is delivered, dropped or queued.
+use Rattle.std.proofs.Common.{◌≡◌, ℕ, zero, suc, ◌+◌, ◌<◌, ◌≤◌, Bool, cond, eqb, List, [], ◌∷◌, ◌++◌, length, filter, Option, Some, None, Ok, Err, refl, rules, sym, ap, ◌∙◌, subst, arith, inl, inr, length-append}
+use Rattle.std.specs.List.{range_with_len}
+use Rattle.std.proofs.lemmas.Bool.{cases_Bool, cases_lt, cases_eq, ne_eqb, eq-eqb}
+use Rattle.smx_types.specs.declared.command.Command.{Command}
+use Rattle.smx_types.specs.declared.command.Command.TheVariants as command
+use Rattle.smx_types.specs.declared.command.Entry.{Entry}
+use Rattle.smx_types.specs.declared.reply.Reply.{Reply}
+use Rattle.smx_types.specs.declared.reply.Reply.TheVariants as reply
+use Rattle.smx_types.specs.declared.command.Which.{Which}
+use Rattle.smx_types.specs.declared.command.Which.TheVariants as which
+use Rattle.smx_types.specs.declared.driver.DriverSpec.{DriverSpec}
+use Rattle.smx_types.specs.declared.link.Link.{Link}
+use Rattle.smx_types.specs.declared.link.LinkKind.{LinkKind}
+use Rattle.smx_types.specs.declared.message.Message.{Message}
+use Rattle.smx_types.specs.declared.stream.Place.{Place}
+use Rattle.smx_model.specs.Commands.{outcome, step, finished, done, linked, unlinked, sent, received}
+use Rattle.smx_model.specs.Configuration.{Configuration, Held, empty, is_at, held_before}
+use Rattle.smx_model.specs.Histories.{after_from, after, IsLegalFrom, IsLegal}
+use Rattle.smx_model.specs.LawfulHistories.{taken_by, delivered_by, dropped_by, taken, delivered, dropped, IsConserving}
+use Rattle.smx_model.specs.Ordered.{placed, without_first}
+use Rattle.smx_model.specs.Outcomes.{Outcome}
+use Rattle.smx_model.specs.Queues.{front, left}
+use Rattle.smx_model.specs.Removal.{swept, removed, emptied, serials}
+use Rattle.smx_model.specs.Settling.{settled_within, least_movable, moved, moved_by, way}
+use Rattle.smx_model.proofs.CountLemmas.{times, times_append, times_gone, permuted}
+use Rattle.smx_model.proofs.OutcomeLemmas.{IfAccepted, at_ok, after_ok, after_test, after_some}
+
+-- serials of a flow
+
+serials_placed : (n : ℕ) (hs : List Held) (h : Held) → times n (serials (placed held_before hs h)) ≡ cond (eqb h.message.serial n) 1 0 + times n (serials hs)
+serials_placed n [] h = refl
+serials_placed n (k ∷ hs) h = elim (cases_Bool (held_before h k)) [ inl t ↦ rw t refl | inr f ↦ rw f (omega (arith, serials_placed n hs h)) ]
+
+serials_filter : (n : ℕ) (test : Held → Bool) (hs : List Held) → times n (serials (filter test hs)) ≤ times n (serials hs)
+serials_filter n test [] = omega arith
+serials_filter n test (h ∷ hs) = elim (cases_Bool (test h)) [ inl t ↦ rw t (omega (arith, serials_filter n test hs)) | inr f ↦ rw f (omega (arith, serials_filter n test hs)) ]
+
+serials_front : (n : ℕ) (hs : List Held) (p : Place) (m : Message) → front hs p ≡ Some m → times n (serials hs) ≡ cond (eqb m.serial n) 1 0 + times n (serials (without_first (is_at p) hs))
+serials_front n [] p m e = cc
+serials_front n (h ∷ hs) p m e = elim (cases_Bool (is_at p h)) [
+  | inl t ↦ let k : Some h.message ≡ Some m = rw t at e in let same : h.message ≡ m = cc in rw (t, same) refl
+  | inr f ↦ rw f (omega (arith, serials_front n hs p m (rw f at e)))
+]
+
+-- from old to new by a reply
+
+pub record Goes (c d : Configuration) (r : Reply) : Type 0 where
+  pub balance : (n : ℕ) → times n (taken_by r) + times n (serials c.flow) ≡ times n (delivered_by r) + (times n (dropped_by r) + times n (serials d.flow))
+  pub numbered : taken_by r ≡ range_with_len c.next_serial (length (taken_by r))
+  pub next : d.next_serial ≡ c.next_serial + length (taken_by r)
+
+pub record IsNumbered (c : Configuration) : Type 0 where
+  pub once : (n : ℕ) → times n (serials c.flow) ≤ 1
+  pub below : (n : ℕ) → c.next_serial ≤ n → times n (serials c.flow) ≡ 0
+
+record IsFewer (c d : Configuration) : Type 0 where
+  each : (n : ℕ) → times n (serials d.flow) ≤ times n (serials c.flow)
+
+fewer_same : (c d : Configuration) → d.flow ≡ c.flow → IsFewer c d
+fewer_same c d e = record { each = λ n. rw e (omega arith) }
+
+fewer_emptied : (c : Configuration) (goes : Place → Bool) → IsFewer c (emptied c goes)
+fewer_emptied c goes = record { each = λ n. serials_filter n _ c.flow }
+
+fewer_removed : (c : Configuration) (goes : Link → Bool) → IsFewer c (removed c goes)
+fewer_removed c goes = record { each = λ n. serials_filter n _ c.flow }
+
+two_filters : (n : ℕ) (f g : Held → Bool) (hs : List Held) → times n (serials (filter g (filter f hs))) ≤ times n (serials hs)
+two_filters n f g hs = omega (arith, serials_filter n g (filter f hs), serials_filter n f hs)
+
+fewer_swept : (n : ℕ) (drivers : List DriverSpec) (c : Configuration) → times n (serials (swept drivers c).flow) ≤ times n (serials c.flow)
+fewer_swept n drivers c = two_filters n _ _ c.flow
+
+goes_done : (drivers : List DriverSpec) (c d : Configuration) → IsNumbered c → d.next_serial ≡ c.next_serial → IsFewer c d → IfAccepted (Goes c) (done drivers c d)
+goes_done drivers c d h same fewer = record {
+  holds = record {
+    balance = λ n. omega (arith, times_gone n (serials c.flow) (serials (swept drivers d).flow) (omega (arith, fewer_swept n drivers d, fewer.each n)) (h.once n));
+    numbered = refl;
+    next = omega arith;
+  };
+}
+
+goes_fd : (c d : Configuration) (fd minor : ℕ) → d.flow ≡ c.flow → d.next_serial ≡ c.next_serial → Goes c d (reply.Fd fd minor)
+goes_fd c d fd minor e same = record { balance = λ n. rw e (omega arith); numbered = refl; next = omega arith }
+
+goes_id : (c d : Configuration) (id : ℕ) → d.flow ≡ c.flow → d.next_serial ≡ c.next_serial → Goes c d (reply.Id id)
+goes_id c d id e same = record { balance = λ n. rw e (omega arith); numbered = refl; next = omega arith }
+
+goes_sent : (drivers : List DriverSpec) (c : Configuration) (p : Place) (addr : ℕ) (bytes : List ℕ) → IfAccepted (Goes c) (sent drivers c p addr bytes)
+goes_sent drivers c p addr bytes = search (after_test, at_ok, took, rules) depth 12 where
+  took : (d : Configuration) → d.flow ≡ placed held_before c.flow (record { place = p; message = record { serial = c.next_serial; addr = addr; bytes = bytes } }) → d.next_serial ≡ c.next_serial + 1 → Goes c d (reply.Took c.next_serial)
+  took d e next = record {
+    balance = λ n. rw e (omega (arith, serials_placed n c.flow (record { place = p; message = record { serial = c.next_serial; addr = addr; bytes = bytes } })));
+    numbered = refl;
+    next = next;
+  }
+
+goes_received : (drivers : List DriverSpec) (c : Configuration) (p : Place) → IfAccepted (Goes c) (received drivers c p)
+goes_received drivers c p = search (after_some, at_ok, got, rules) depth 12 where
+  got : (m : Message) → front c.flow p ≡ Some m → Goes c (left drivers c p) (reply.Got m.serial m.addr m.bytes)
+  got m e = record { balance = λ n. omega (arith, serials_front n c.flow p m e); numbered = refl; next = omega arith }
+
+goes_unlinked : (drivers : List DriverSpec) (c : Configuration) (w : Which) (mine : Link → Bool) → IsNumbered c → IfAccepted (Goes c) (unlinked drivers c w mine)
+goes_unlinked drivers c which.All mine h = goes_done drivers c (removed c mine) h refl (fewer_removed c mine)
+goes_unlinked drivers c (which.Id id) mine h = search (after_test, goes_done, fewer_removed, rules) depth 12
+
+goes_linked : (drivers : List DriverSpec) (c : Configuration) (process fd arg : ℕ) (k : LinkKind) → IfAccepted (Goes c) (linked drivers c process fd arg k)
+goes_linked drivers c process fd arg k = search (after_test, after_ok, at_ok, goes_id, rules) depth 20
+
+pub goes_accepted : (drivers : List DriverSpec) (c : Configuration) (process : ℕ) (k : Command) → IsNumbered c → IfAccepted (Goes c) (outcome drivers c process k)
+goes_accepted drivers c process (command.OpenClone name) h = search (after_ok, at_ok, goes_fd, rules) depth 20
+goes_accepted drivers c process (command.OpenMinor name minor) h = search (after_test, after_ok, at_ok, goes_fd, rules) depth 20
+goes_accepted drivers c process (command.Dup fd) h = search (after_ok, at_ok, goes_fd, rules) depth 20
+goes_accepted drivers c process (command.Close fd) h = search (after_ok, at_ok, goes_done, fewer_same, rules) depth 20
+goes_accepted drivers c process command.CloseAll h = search (at_ok, goes_done, fewer_same, rules) depth 20
+goes_accepted drivers c process (command.Link fd arg) h = search (goes_linked, rules) depth 20
+goes_accepted drivers c process (command.Plink fd arg) h = search (goes_linked, rules) depth 20
+goes_accepted drivers c process (command.Unlink fd w) h = search (after_ok, goes_unlinked, rules) depth 20
+goes_accepted drivers c process (command.Punlink fd w) h = search (after_ok, goes_unlinked, rules) depth 20
+goes_accepted drivers c process (command.Bind fd addr) h = search (after_test, after_ok, at_ok, goes_done, fewer_same, rules) depth 20
+goes_accepted drivers c process (command.Unbind fd) h = search (after_test, after_ok, at_ok, goes_done, fewer_same, rules) depth 20
+goes_accepted drivers c process (command.Route fd addr id) h = search (after_test, after_ok, at_ok, goes_done, fewer_same, rules) depth 20
+goes_accepted drivers c process (command.Unroute fd addr) h = search (after_test, after_ok, at_ok, goes_done, fewer_same, rules) depth 20
+goes_accepted drivers c process (command.Write fd addr bytes) h = search (after_ok, goes_sent, rules) depth 20
+goes_accepted drivers c process (command.Read fd) h = search (after_ok, goes_received, rules) depth 20
+goes_accepted drivers c process (command.Flush fd w) h = search (after_ok, at_ok, goes_done, fewer_emptied, rules) depth 20
+goes_accepted drivers c process (command.Inject name minor addr bytes) h = search (after_ok, goes_sent, rules) depth 20
+goes_accepted drivers c process (command.Transmit name minor) h = search (after_ok, goes_received, rules) depth 20
+
+-- settling keeps what is queued
+
+pub moved_same : (n : ℕ) (drivers : List DriverSpec) (c : Configuration) (p : Place) → times n (serials (moved drivers c p).flow) ≡ times n (serials c.flow)
+moved_same n drivers c p = by (way drivers c p) (front c.flow p) refl where
+  by : (o : Option Place) (m : Option Message) → front c.flow p ≡ m → times n (serials (moved_by drivers c p o m).flow) ≡ times n (serials c.flow)
+  by (Some q) (Some m) e = omega (arith, serials_front n c.flow p m e, serials_placed n (left drivers c p).flow (record { place = q; message = m }))
+  by (Some q) None e = refl
+  by None m e = refl
+
+pub moved_next : (drivers : List DriverSpec) (c : Configuration) (p : Place) → (moved drivers c p).next_serial ≡ c.next_serial
+moved_next drivers c p = by (way drivers c p) (front c.flow p) where
+  by : (o : Option Place) (m : Option Message) → (moved_by drivers c p o m).next_serial ≡ c.next_serial
+  by (Some q) (Some m) = refl
+  by (Some q) None = refl
+  by None m = refl
+
+record KeepsSerials (c d : Configuration) : Type 0 where
+  same : (n : ℕ) → times n (serials d.flow) ≡ times n (serials c.flow)
+  next : d.next_serial ≡ c.next_serial
+
+settled_keeps : (drivers : List DriverSpec) (n : ℕ) (c : Configuration) → KeepsSerials c (settled_within drivers n c)
+settled_keeps drivers zero c = record { same = λ n. refl; next = refl }
+settled_keeps drivers (suc k) c = elim (least_movable drivers c) as (λ o. KeepsSerials c (elim o as (λ _. Configuration) [ None ↦ c | Some p ↦ settled_within drivers k (moved drivers c p) ])) [
+  | None ↦ record { same = λ n. refl; next = refl }
+  | Some p ↦ let r = settled_keeps drivers k (moved drivers c p) in record { same = λ n. r.same n ∙ moved_same n drivers c p; next = r.next ∙ moved_next drivers c p }
+]
+
+-- a step
+
+goes_finished : (drivers : List DriverSpec) (c : Configuration) (o : Outcome) → IfAccepted (Goes c) o → Goes c (finished drivers c o).0 (finished drivers c o).1
+goes_finished drivers c (Ok x) k = let s = settled_keeps drivers _ x.0 in record {
+  balance = λ n. rw (s.same n) (k.holds.balance n);
+  numbered = k.holds.numbered;
+  next = s.next ∙ k.holds.next;
+}
+goes_finished drivers c (Err f) k = record { balance = λ n. omega arith; numbered = refl; next = omega arith }
+
+pub goes_step : (drivers : List DriverSpec) (c : Configuration) (process : ℕ) (k : Command) → IsNumbered c → Goes c (step drivers c process k).0 (step drivers c process k).1
+goes_step drivers c process k h = goes_finished drivers c (outcome drivers c process k) (goes_accepted drivers c process k h)
+
+-- a number among those from a on
+times_range_below : (n a k : ℕ) → n < a → times n (range_with_len a k) ≡ 0
+times_range_below n a zero lt = refl
+times_range_below n a (suc k) lt = rw (ne_eqb a n (λ e. omega (arith, e))) (omega (arith, times_range_below n (a + 1) k (omega arith)))
+
+times_range_above : (n a k : ℕ) → a + k ≤ n → times n (range_with_len a k) ≡ 0
+times_range_above n a zero le = refl
+times_range_above n a (suc k) le = rw (ne_eqb a n (λ e. omega (arith, e))) (omega (arith, times_range_above n (a + 1) k (omega arith)))
+
+times_range_once : (n a k : ℕ) → times n (range_with_len a k) ≤ 1
+times_range_once n a zero = omega arith
+times_range_once n a (suc k) = elim (cases_eq a n) [
+  | inl e ↦ rw (eq-eqb a n e) (omega (arith, times_range_below n (a + 1) k (omega arith)))
+  | inr ne ↦ rw (ne_eqb a n ne) (omega (arith, times_range_once n (a + 1) k))
+]
+
+-- what is queued has lower serials, each once
+pub numbered_goes : (c d : Configuration) (r : Reply) → IsNumbered c → Goes c d r → IsNumbered d
+numbered_goes c d r h g = record { once = at_most; below = λ n le. none n le } where
+  count : (n : ℕ) → times n (taken_by r) ≡ times n (range_with_len c.next_serial (length (taken_by r)))
+  count n = ap (times n) g.numbered
+
+  none : (n : ℕ) → d.next_serial ≤ n → times n (serials d.flow) ≡ 0
+  none n le = omega (arith, g.balance n, count n, g.next, times_range_above n c.next_serial (length (taken_by r)) (omega (arith, g.next)), h.below n (omega (arith, g.next)))
+
+  at_most : (n : ℕ) → times n (serials d.flow) ≤ 1
+  at_most n = elim (cases_lt n c.next_serial) [
+    | inl lt ↦ omega (arith, g.balance n, count n, times_range_below n c.next_serial (length (taken_by r)) lt, h.once n)
+    | inr le ↦ omega (arith, g.balance n, count n, times_range_once n c.next_serial (length (taken_by r)), h.below n le)
+  ]
+
+range_join : (a k m : ℕ) → range_with_len a k ++ range_with_len (a + k) m ≡ range_with_len a (k + m)
+range_join a zero m = let e : a + 0 ≡ a = omega arith in let f : m ≡ 0 + m = omega arith in ap (λ (x : ℕ). range_with_len x m) e ∙ ap (range_with_len a) f
+range_join a (suc k) m =
+    let e : a + suc k ≡ (a + 1) + k = omega arith in
+    let f : suc (k + m) ≡ suc k + m = omega arith in
+    ap (λ (xs : List ℕ). a ∷ xs) (ap (λ (x : ℕ). range_with_len (a + 1) k ++ range_with_len x m) e ∙ range_join (a + 1) k m) ∙ ap (range_with_len a) f
+
+record Ends (drivers : List DriverSpec) (c : Configuration) (es : List Entry) : Type 0 where
+  balance : (n : ℕ) → times n (taken es) + times n (serials c.flow) ≡ times n (delivered es) + (times n (dropped es) + times n (serials (after_from drivers c es).flow))
+  numbered : taken es ≡ range_with_len c.next_serial (length (taken es))
+
+ends : (drivers : List DriverSpec) (c : Configuration) (es : List Entry) → IsNumbered c → IsLegalFrom drivers c es → Ends drivers c es
+ends drivers c [] h legal = record { balance = λ n. omega arith; numbered = refl }
+ends drivers c (e ∷ es) h legal =
+    let d : Configuration = (step drivers c e.process e.command).0 in
+    let g : Goes c (step drivers c e.process e.command).0 e.reply = subst (λ (r : Reply). Goes c (step drivers c e.process e.command).0 r) legal.0 (goes_step drivers c e.process e.command h) in
+    let i = ends drivers (step drivers c e.process e.command).0 es (numbered_goes c (step drivers c e.process e.command).0 e.reply h g) legal.1 in
+    record {
+      balance = λ n. omega (arith, g.balance n, i.balance n, times_append n (taken_by e.reply) (taken es), times_append n (delivered_by e.reply) (delivered es), times_append n (dropped_by e.reply) (dropped es));
+      numbered = joined c.next_serial (step drivers c e.process e.command).0.next_serial (taken_by e.reply) (taken es) g.numbered g.next i.numbered;
+    } where
+      joined : (a b : ℕ) (xs ys : List ℕ) → xs ≡ range_with_len a (length xs) → b ≡ a + length xs → ys ≡ range_with_len b (length ys) → xs ++ ys ≡ range_with_len a (length (xs ++ ys))
+      joined a b xs ys h next k = let j = range_join a (length xs) (length ys) in
+          let l = length-append xs ys in
+          ap (λ (zs : List ℕ). zs ++ ys) h ∙ (ap (λ (zs : List ℕ). range_with_len a (length xs) ++ zs) (k ∙ ap (λ (m : ℕ). range_with_len m (length ys)) next) ∙ (j ∙ ap (range_with_len a) (sym l)))
+
+pub numbered_empty : IsNumbered empty
+numbered_empty = record { once = λ n. omega arith; below = λ n le. refl }
+
+pub conserving : (drivers : List DriverSpec) (history : List Entry) → IsLegal drivers history → IsConserving drivers history
+conserving drivers history legal = let e = ends drivers empty history numbered_empty legal in record {
+  numbered = e.numbered;
+  kept = permuted (taken history) (delivered history ++ (dropped history ++ serials (after drivers history).flow))
+      (λ n. omega (arith, e.balance n, times_append n (delivered history) (dropped history ++ serials (after drivers history).flow), times_append n (dropped history) (serials (after drivers history).flow)));
+}

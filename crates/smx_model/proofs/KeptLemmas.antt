@@ -1,0 +1,246 @@
+-- What every configuration is, is kept by each command.
+use Rattle.std.proofs.Common.{◌≡◌, ◌↔◌, ℕ, zero, suc, ◌+◌, ◌*◌, ◌<◌, Some, None, Ok, Err, true, ◌≤◌, ltb, List, [], ◌∷◌, length, get_or, refl, sym, ◌∙◌, subst, arith, inl, inr}
+use Rattle.std.specs.Prelude.{IfOk}
+use Rattle.std.specs.List.{All, AllPairs}
+use Rattle.std.proofs.lemmas.Bool.{cases_eq, cases_lt, eq-eqb, ltb-true, ne_eqb}
+use Rattle.smx_types.specs.declared.command.Command.{Command}
+use Rattle.smx_types.specs.declared.command.Entry.{Entry}
+use Rattle.smx_types.specs.declared.driver.DriverSpec.{DriverSpec}
+use Rattle.smx_types.specs.declared.link.Link.{Link}
+use Rattle.smx_model.specs.Commands.{outcome, step, finished}
+use Rattle.smx_model.specs.Configuration.{Configuration, empty}
+use Rattle.smx_model.specs.DriverList.{IsDriverList}
+use Rattle.smx_model.specs.FlowOrder.{IsInOrder}
+use Rattle.smx_model.specs.Histories.{after, after_from}
+use Rattle.smx_model.specs.KeptConfigurations.{IsKept, IsSound}
+use Rattle.smx_model.specs.KnownStreams.{AreStreamsKnown, IsKnown}
+use Rattle.smx_model.specs.Ordered.{ComesBefore, IsRising}
+use Rattle.smx_model.specs.Outcomes.{Outcome}
+use Rattle.smx_model.specs.Removal.{serials}
+use Rattle.smx_model.specs.Settling.{least_movable, moved, settled, settled_within}
+use Rattle.smx_model.specs.SoundLinks.{AreIdsRising, AreRoutesSound, AreLinksSound}
+use Rattle.smx_model.specs.Standing.{exists, Stands}
+use Rattle.smx_model.specs.Swept.{IsSwept}
+use Rattle.smx_model.specs.Views.{view}
+use Rattle.smx_model.proofs.ConservationLemmas.{IsNumbered, Goes, goes_accepted, moved_same, moved_next, numbered_empty, numbered_goes}
+use Rattle.smx_model.proofs.CountLemmas.{times}
+use Rattle.smx_model.proofs.FlowLemmas.{order_accepted, order_moved}
+use Rattle.smx_model.proofs.OutcomeLemmas.{IfAccepted}
+use Rattle.smx_model.proofs.RangeLemmas.{AreNamed, named_accepted, named_moved}
+use Rattle.smx_model.proofs.RisingLemmas.{AreRising, rising_accepted, rising_empty, rising_moved}
+use Rattle.smx_model.proofs.RouteLemmas.{AreRouted, Rising, rising_ids, routed_accepted, routed_empty, routed_moved, sound_routes}
+use Rattle.smx_model.proofs.SettlingLemmas.{settled_is}
+use Rattle.smx_model.proofs.SoundLemmas.{sound_accepted, sound_empty, sound_moved}
+use Rattle.smx_model.proofs.SweptLemmas.{stands_exists, swept_accepted, swept_moved}
+use Rattle.smx_model.proofs.ViewLemmas.{EachKnown, each_known, known_of_each, one_configuration}
+use Rattle.smx_types.specs.declared.stream.Place.{Place}
+use Rattle.smx_types.specs.declared.stream.StreamId.{StreamId}
+use Rattle.smx_model.proofs.EachLemmas.{Each, each_map, each_of_all}
+
+-- a number that is in a list is there at least once
+
+times_at : (xs : List ℕ) (j d : ℕ) → j < length xs → 1 ≤ times (get_or xs j d) xs
+times_at [] j d lt = absurd (omega arith)
+times_at (x ∷ xs) zero d lt = rw (eq-eqb x x refl) (omega arith)
+times_at (x ∷ xs) (suc j) d lt = omega (arith, times_at xs j d (omega arith))
+
+record IsAt (n : ℕ) (xs : List ℕ) : Type 0 where
+  index : ℕ
+  within : index < length xs
+  is : (d : ℕ) → get_or xs index d ≡ n
+
+at_some : (n : ℕ) (xs : List ℕ) → 1 ≤ times n xs → IsAt n xs
+at_some n [] h = absurd (omega arith)
+at_some n (x ∷ xs) h = elim (cases_eq x n) [
+  | inl e ↦ record { index = 0; within = omega arith; is = λ d. e }
+  | inr ne ↦ let r = at_some n xs (omega (arith, rw (ne_eqb x n ne) at h)) in record { index = suc r.index; within = omega (arith, r.within); is = r.is }
+]
+
+-- none is there twice where they differ
+
+once_apart : (xs : List ℕ) → ((n : ℕ) → times n xs ≤ 1) → AllPairs (λ m n. m ≡ n → ⊥) xs
+once_apart [] h i j d lt within e = absurd (omega arith)
+once_apart (x ∷ xs) h zero zero d lt within e = absurd (omega arith)
+once_apart (x ∷ xs) h zero (suc j) d lt within e =
+    let k = h x in
+    let k2 : 1 + times x xs ≤ 1 = rw (eq-eqb x x refl) at k in
+    let there : 1 ≤ times x xs = subst (λ (y : ℕ). 1 ≤ times y xs) (sym e) (times_at xs j d (omega (arith, within))) in
+    omega (arith, k2, there)
+once_apart (x ∷ xs) h (suc i) zero d lt within e = absurd (omega (arith, lt))
+once_apart (x ∷ xs) h (suc i) (suc j) d lt within e = once_apart xs (λ n. omega (arith, h n)) i j d (omega (arith, lt)) (omega (arith, within)) e
+
+apart_once : (xs : List ℕ) → AllPairs (λ m n. m ≡ n → ⊥) xs → (n : ℕ) → times n xs ≤ 1
+apart_once [] h n = omega arith
+apart_once (x ∷ xs) h n =
+    let rest = apart_once xs (λ i j d lt within. h (suc i) (suc j) d (omega (arith, lt)) (omega (arith, within))) n in
+    elim (cases_eq x n) [
+      | inl e ↦ elim (cases_lt 0 (times n xs)) [
+        | inl some ↦ let r = at_some n xs (omega (arith, some)) in absurd (h 0 (suc r.index) 0 (omega arith) (omega (arith, r.within)) (e ∙ sym (r.is 0)))
+        | inr none ↦ rw (eq-eqb x n e) (omega (arith, none))
+      ]
+      | inr ne ↦ rw (ne_eqb x n ne) (omega (arith, rest))
+    ]
+
+none_from : (xs : List ℕ) (next : ℕ) → All (λ n. n < next) xs → (n : ℕ) → next ≤ n → times n xs ≡ 0
+none_from [] next h n le = refl
+none_from (x ∷ xs) next h n le = rw (ne_eqb x n (λ e. omega (arith, e, le, h 0 0 (omega arith)))) (omega (arith, none_from xs next (λ k d lt. h (suc k) d (omega (arith, lt))) n le))
+
+all_below : (xs : List ℕ) (next : ℕ) → ((n : ℕ) → next ≤ n → times n xs ≡ 0) → All (λ n. n < next) xs
+all_below xs next h k d lt = elim (cases_lt (get_or xs k d) next) [ inl below ↦ below | inr le ↦ absurd (omega (arith, h (get_or xs k d) le, times_at xs k d lt)) ]
+
+-- from what the laws say to what the lemmas take, and back
+
+named_of : (drivers : List DriverSpec) (c : Configuration) → AreStreamsKnown drivers c → AreNamed drivers c
+named_of drivers c h = record { fds = each_of_all _ c.fds h.fds; links = both c.links (each_of_all _ c.links h.controlling) (each_of_all _ c.links h.lowers) } where
+  both : (ls : List Link) → Each (λ l. IsKnown drivers l.ctl) ls → Each (λ l. IsKnown drivers l.lower) ls → Each (λ l. IsKnown drivers l.ctl × IsKnown drivers l.lower) ls
+  both [] h k = tt
+  both (l ∷ ls) h k = ((h.0, k.0), both ls h.1 k.1)
+
+routed_of : (drivers : List DriverSpec) (c : Configuration) → AreIdsRising c.links c.next_id → AreRoutesSound drivers c → AreRouted drivers c
+routed_of drivers c h k = record {
+  rise = rises c.links h.rise;
+  ids = both c.links (each_of_all _ c.links h.from_one) (each_of_all _ c.links h.below_next);
+  start = h.next;
+  routes = pairs _ _ c.routes (each_of_all _ c.routes k.mux) (each_of_all _ c.routes k.lead);
+} where
+  befores : (l : Link) (ls : List Link) → ComesBefore (λ l k. ltb l.id k.id) l ls → Each (λ k. l.id < k.id) ls
+  befores l [] h = tt
+  befores l (k ∷ ls) h = (ltb-true l.id k.id h.0, befores l ls h.1)
+
+  rises : (ls : List Link) → IsRising (λ l k. ltb l.id k.id) ls → Rising ls
+  rises [] h = tt
+  rises (l ∷ ls) h = (befores l ls h.0, rises ls h.1)
+
+  both : (ls : List Link) → Each (λ l. 1 ≤ l.id) ls → Each (λ l. l.id < c.next_id) ls → Each (λ l. (1 ≤ l.id) × (l.id < c.next_id)) ls
+  both [] h k = tt
+  both (l ∷ ls) h k = ((h.0, k.0), both ls h.1 k.1)
+
+  pairs : {X : Type 0} (P Q : X → Type 0) (xs : List X) → Each P xs → Each Q xs → Each (λ x. P x × Q x) xs
+  pairs P Q [] h k = tt
+  pairs P Q (x ∷ xs) h k = ((h.0, k.0), pairs P Q xs h.1 k.1)
+
+-- all that is kept, as the lemmas take it
+record Parts (drivers : List DriverSpec) (c : Configuration) : Type 0 where
+  links : AreLinksSound c.links
+  named : AreNamed drivers c
+  routed : AreRouted drivers c
+  rising : AreRising c
+  flow : IsInOrder c.flow
+  numbered : IsNumbered c
+  swept_ : IsSwept drivers c
+
+parts_of : (drivers : List DriverSpec) (c : Configuration) → IsSound drivers c → Parts drivers c
+parts_of drivers c h = record {
+  links = h.links;
+  named = named_of drivers c h.known;
+  routed = routed_of drivers c h.ids h.routes;
+  rising = record { fds = h.ordered.fds; binds = h.ordered.binds; routes = h.ordered.routes; fulls = h.ordered.fulls };
+  flow = h.ordered.flow;
+  numbered = record { once = apart_once (serials c.flow) h.serials.apart; below = none_from (serials c.flow) c.next_serial h.serials.below_next };
+  swept_ = h.swept;
+}
+
+of_parts : (drivers : List DriverSpec) (c : Configuration) → Parts drivers c → IsSound drivers c
+of_parts drivers c h = record {
+  links = h.links;
+  ids = rising_ids drivers c h.routed;
+  routes = sound_routes drivers c h.routed;
+  known = known_of_each drivers c (each_known drivers c h.named h.routed h.swept_);
+  ordered = record { fds = h.rising.fds; binds = h.rising.binds; routes = h.rising.routes; fulls = h.rising.fulls; flow = h.flow };
+  serials = record { apart = once_apart (serials c.flow) h.numbered.once; below_next = all_below (serials c.flow) c.next_serial h.numbered.below };
+  swept = h.swept_;
+}
+
+-- each accepted outcome
+
+parts_accepted : (drivers : List DriverSpec) (c : Configuration) (process : ℕ) (k : Command) → Parts drivers c → IfAccepted (λ d r. Parts drivers d) (outcome drivers c process k)
+parts_accepted drivers c process k h = by (outcome drivers c process k) (sound_accepted drivers c process k h.links) (named_accepted drivers c process k h.named) (routed_accepted drivers c process k h.routed)
+    (rising_accepted drivers c process k h.rising) (order_accepted drivers c process k h.flow) (goes_accepted drivers c process k h.numbered) (swept_accepted drivers c process k h.swept_) where
+      by : (o : Outcome) → IfAccepted (λ d r. AreLinksSound d.links) o → IfAccepted (λ d r. AreNamed drivers d) o → IfAccepted (λ d r. AreRouted drivers d) o → IfAccepted (λ d r. AreRising d) o
+          → IfAccepted (λ d r. IsInOrder d.flow) o → IfAccepted (Goes c) o → IfAccepted (λ d r. IsSwept drivers d) o → IfAccepted (λ d r. Parts drivers d) o
+      by (Ok x) e1 e2 e3 e4 e5 e6 e7 = record {
+        holds = record {
+          links = e1.holds;
+          named = e2.holds;
+          routed = e3.holds;
+          rising = e4.holds;
+          flow = e5.holds;
+          numbered = numbered_goes c x.0 x.1 h.numbered e6.holds;
+          swept_ = e7.holds;
+        };
+      }
+      by (Err f) e1 e2 e3 e4 e5 e6 e7 = record { holds = tt }
+
+pub outcome_sound : (drivers : List DriverSpec) (c : Configuration) (process : ℕ) (k : Command) → IsSound drivers c → IfOk (outcome drivers c process k) (λ x. IsSound drivers x.0)
+outcome_sound drivers c process k h = by (outcome drivers c process k) (parts_accepted drivers c process k (parts_of drivers c h)) where
+  by : (o : Outcome) → IfAccepted (λ d r. Parts drivers d) o → IfOk o (λ x. IsSound drivers x.0)
+  by (Ok x) m = of_parts drivers x.0 m.holds
+  by (Err f) m = tt
+
+-- each move
+
+numbered_moved : (drivers : List DriverSpec) (c : Configuration) (p : Place) → IsNumbered c → IsNumbered (moved drivers c p)
+numbered_moved drivers c p h = record {
+  once = λ n. omega (arith, moved_same n drivers c p, h.once n);
+  below = λ n le. omega (arith, moved_same n drivers c p, h.below n (omega (arith, moved_next drivers c p, le)));
+}
+
+parts_moved : (drivers : List DriverSpec) (c : Configuration) (p : Place) → Parts drivers c → Parts drivers (moved drivers c p)
+parts_moved drivers c p h = record {
+  links = sound_moved drivers c p h.links;
+  named = named_moved drivers c p h.named;
+  routed = routed_moved drivers c p h.routed;
+  rising = rising_moved drivers c p h.rising;
+  flow = order_moved drivers c p h.flow;
+  numbered = numbered_moved drivers c p h.numbered;
+  swept_ = swept_moved drivers c p (record { none = h.links.no_cycle; named = h.named; swept_ = h.swept_ });
+}
+
+pub moved_sound : (drivers : List DriverSpec) (c : Configuration) (p : Place) → IsSound drivers c → IsSound drivers (moved drivers c p)
+moved_sound drivers c p h = of_parts drivers (moved drivers c p) (parts_moved drivers c p (parts_of drivers c h))
+
+-- and so settling
+
+parts_settled : (drivers : List DriverSpec) (n : ℕ) (c : Configuration) → Parts drivers c → Parts drivers (settled_within drivers n c)
+parts_settled drivers zero c h = h
+parts_settled drivers (suc k) c h = elim (least_movable drivers c) as (λ o. Parts drivers (elim o as (λ _. Configuration) [ None ↦ c | Some p ↦ settled_within drivers k (moved drivers c p) ]))
+    [ None ↦ h | Some p ↦ parts_settled drivers k (moved drivers c p) (parts_moved drivers c p h) ]
+
+pub settled_kept : (drivers : List DriverSpec) (c : Configuration) → IsSound drivers c → IsKept drivers (settled drivers c)
+settled_kept drivers c h = let p = parts_of drivers c h in record {
+  sound = of_parts drivers (settled drivers c) (parts_settled drivers (length c.flow * length drivers) c p);
+  settled = settled_is drivers c p.links p.named p.routed;
+}
+
+-- and so each command
+
+finished_kept : (drivers : List DriverSpec) (c : Configuration) (o : Outcome) → IsKept drivers c → IfOk o (λ x. IsSound drivers x.0) → IsKept drivers (finished drivers c o).0
+finished_kept drivers c (Ok x) h k = settled_kept drivers x.0 k
+finished_kept drivers c (Err f) h k = h
+
+pub step_keeps : (drivers : List DriverSpec) (c : Configuration) (process : ℕ) (k : Command) → IsKept drivers c → IsKept drivers (step drivers c process k).0
+step_keeps drivers c process k h = finished_kept drivers c (outcome drivers c process k) h (outcome_sound drivers c process k h.sound)
+
+pub empty_kept : (drivers : List DriverSpec) → IsKept drivers empty
+empty_kept drivers = record {
+  sound = of_parts drivers empty (record { links = sound_empty; named = record { fds = tt; links = tt }; routed = routed_empty drivers; rising = rising_empty; flow = tt; numbered = numbered_empty; swept_ = record { links = refl; binds = refl; flow = refl; fulls = refl } });
+  settled = λ p. refl;
+}
+
+after_keeps : (drivers : List DriverSpec) (c : Configuration) (es : List Entry) → IsKept drivers c → IsKept drivers (after_from drivers c es)
+after_keeps drivers c [] h = h
+after_keeps drivers c (e ∷ es) h = after_keeps drivers (step drivers c e.process e.command).0 es (step_keeps drivers c e.process e.command h)
+
+pub always_is_kept : (drivers : List DriverSpec) (history : List Entry) → IsKept drivers (after drivers history)
+always_is_kept drivers history = after_keeps drivers empty history (empty_kept drivers)
+
+-- what holds of sound configurations
+
+pub exists_is_stands : (drivers : List DriverSpec) (c : Configuration) (s : StreamId) → AreLinksSound c.links → All (λ l. IsKnown drivers l.ctl) c.links → (exists drivers c s ≡ true) ↔ Stands c s
+exists_is_stands drivers c s sound known = (λ h. record { climbs = length drivers; within = h }, λ h. stands_exists drivers c s sound.no_cycle (each_map (λ l. IsKnown drivers l.ctl) (λ l. l.ctl.driver < length drivers) c.links (λ l p. p.0) (each_of_all _ c.links known)) h)
+
+known_parts : (drivers : List DriverSpec) (c : Configuration) → IsSound drivers c → EachKnown drivers c
+known_parts drivers c h = let p = parts_of drivers c h in each_known drivers c p.named p.routed p.swept_
+
+pub view_is_of_one : (drivers : List DriverSpec) (c d : Configuration) → IsDriverList drivers → IsSound drivers c → IsSound drivers d → view drivers c ≡ view drivers d → c ≡ d
+view_is_of_one drivers c d h k l e = one_configuration drivers c d h (known_parts drivers c k) (known_parts drivers d l) e

@@ -1,0 +1,250 @@
+-- Settling ends: each move lowers a rank.
+use Rattle.std.proofs.Common.{◌≡◌, ℕ, zero, suc, ◌+◌, ◌*◌, ◌<◌, ◌≤◌, Bool, true, false, ◌&&◌, cond, eqb, List, [], ◌∷◌, length, find, Option, Some, None, refl, sym, ap, ◌∙◌, subst, arith, inl, inr}
+use Rattle.std.specs.Option.{is_some}
+use Rattle.std.proofs.lemmas.Bool.{cases_Bool, cases_eq, eqb-true, and_parts, false≢true, false_from_ne_true}
+use Rattle.smx_types.specs.declared.link.Binding.{Binding}
+use Rattle.smx_types.specs.declared.driver.DriverSpec.{DriverSpec}
+use Rattle.smx_types.specs.declared.link.Link.{Link}
+use Rattle.smx_types.specs.declared.message.Message.{Message}
+use Rattle.smx_types.specs.declared.stream.Place.{Place}
+use Rattle.smx_types.specs.declared.link.Route.{Route}
+use Rattle.smx_types.specs.declared.stream.Side.{Side}
+use Rattle.smx_types.specs.declared.stream.Side.TheVariants as side
+use Rattle.smx_types.specs.declared.stream.StreamId.{StreamId}
+use Rattle.smx_model.specs.Configuration.{Configuration, Held, is_at, held_before, same_place, same_stream, same_side}
+use Rattle.smx_model.specs.DriverList.{is_mux}
+use Rattle.smx_model.specs.Ordered.{placed, without_first}
+use Rattle.smx_model.specs.Paths.{HasNoCycle, reaches}
+use Rattle.smx_model.specs.Queues.{front, left, is_full}
+use Rattle.smx_model.specs.Settling.{settled, settled_within, least_movable, moved, moved_by, way, is_movable, place_of, next_by, next_place, if_open, onward, down_by, up_by, lower_side, bound_side, IsSettled}
+use Rattle.smx_model.specs.SoundLinks.{AreLinksSound}
+use Rattle.smx_model.proofs.PathLemmas.{reaches_path, reaches_trans, reaches_link}
+use Rattle.smx_model.proofs.RangeLemmas.{links_below, AreNamed}
+use Rattle.smx_model.proofs.RouteLemmas.{AreRouted, routes_lead, routed_moved}
+use Rattle.smx_model.proofs.EachLemmas.{Each, each_find}
+use Rattle.smx_model.proofs.TestLemmas.{find_passes}
+
+-- how many numbers below n pass
+abbrev pub count : (ℕ → Bool) → ℕ → ℕ
+count f zero = 0
+count f (suc n) = cond (f n) 1 0 + count f n
+
+pub count_le : (f : ℕ → Bool) (n : ℕ) → count f n ≤ n
+count_le f zero = omega arith
+count_le f (suc n) = elim (cases_Bool (f n)) [ inl t ↦ rw t (omega (arith, count_le f n)) | inr u ↦ rw u (omega (arith, count_le f n)) ]
+
+count_more : (f g : ℕ → Bool) (n : ℕ) → ((x : ℕ) → f x ≡ true → g x ≡ true) → count f n ≤ count g n
+count_more f g zero h = omega arith
+count_more f g (suc n) h = elim (cases_Bool (f n)) [
+  | inl t ↦ rw (t, h n t) (omega (arith, count_more f g n h))
+  | inr u ↦ elim (cases_Bool (g n)) [ inl v ↦ rw (u, v) (omega (arith, count_more f g n h)) | inr v ↦ rw (u, v) (omega (arith, count_more f g n h)) ]
+]
+
+count_less : (f g : ℕ → Bool) (n b : ℕ) → ((x : ℕ) → f x ≡ true → g x ≡ true) → b < n → f b ≡ false → g b ≡ true → count f n < count g n
+count_less f g zero b h lt u v = absurd (omega arith)
+count_less f g (suc n) b h lt u v = elim (cases_eq n b) [
+  | inl e ↦ rw (e) (rw (u, v) (omega (arith, count_more f g b h)))
+  | inr ne ↦ let i = count_less f g n b h (omega (arith, ne)) u v in elim (cases_Bool (f n)) [
+    | inl t ↦ rw (t, h n t) (omega (arith, i))
+    | inr w ↦ elim (cases_Bool (g n)) [ inl z ↦ rw (w, z) (omega (arith, i)) | inr z ↦ rw (w, z) (omega (arith, i)) ]
+  ]
+]
+
+-- how many drivers a place may lead to
+abbrev rank_by : List Link → ℕ → ℕ → Side → ℕ
+rank_by links n d side.Write = count (λ x. reaches links d x) n
+rank_by links n d side.Read = count (λ x. reaches links x d) n
+
+abbrev rank : List Link → ℕ → Place → ℕ
+rank links n p = rank_by links n p.stream.driver p.side
+
+rank_le : (links : List Link) (n d : ℕ) (s : Side) → rank_by links n d s ≤ n
+rank_le links n d side.Write = count_le _ n
+rank_le links n d side.Read = count_le _ n
+
+down_less : (links : List Link) (n a b : ℕ) → HasNoCycle links → reaches links a b ≡ true → b < n → count (λ x. reaches links b x) n < count (λ x. reaches links a x) n
+down_less links n a b none r lt = count_less (λ x. reaches links b x) (λ x. reaches links a x) n b (λ x h. reaches_trans links a b x r h) lt (false_from_ne_true _ (λ h. none b (reaches_path links b b h))) r
+
+pub up_less : (links : List Link) (n a b : ℕ) → HasNoCycle links → reaches links a b ≡ true → a < n → count (λ x. reaches links x a) n < count (λ x. reaches links x b) n
+up_less links n a b none r lt = count_less (λ x. reaches links x a) (λ x. reaches links x b) n a (λ x h. reaches_trans links x a b h r) lt (false_from_ne_true _ (λ h. none a (reaches_path links a a h))) r
+
+abbrev AreBelow : ℕ → List Link → Type 0
+AreBelow n links = Each (λ l. (l.ctl.driver < n) × (l.lower.driver < n)) links
+
+-- what settling needs
+record CanSettle (drivers : List DriverSpec) (c : Configuration) : Type 0 where
+  none : HasNoCycle c.links
+  below : AreBelow (length drivers) c.links
+  routed : AreRouted drivers c
+
+-- the next place has a lower rank
+record Falls (links : List Link) (n : ℕ) (p q : Place) : Type 0 where
+  falls : rank links n q < rank links n p
+
+down_falls : (links : List Link) (routes : List Route) (n d addr : ℕ) (q : Place) → HasNoCycle links → AreBelow n links → Each (λ r. Each (λ l. l.id ≡ r.id → l.ctl.driver ≡ r.driver) links) routes
+    → down_by links (find (λ r. eqb r.driver d && eqb r.addr addr) routes) ≡ Some q → rank links n q < rank_by links n d side.Write
+down_falls links routes n d addr q none below leads e = by (find (λ r. eqb r.driver d && eqb r.addr addr) routes) refl e where
+  via : (r : Route) → r.driver ≡ d → Each (λ l. l.id ≡ r.id → l.ctl.driver ≡ r.driver) links → (o : Option Link) → find (λ l. eqb l.id r.id) links ≡ o → lower_side o ≡ Some q → rank links n q < rank_by links n d side.Write
+  via r same upper None f k = cc
+  via r same upper (Some l) f k =
+      let is : record { stream = l.lower; side = side.Write } ≡ q = cc in
+      let up : l.ctl.driver ≡ r.driver = each_find _ _ links l f upper (eqb-true l.id r.id (find_passes _ links l f)) in
+      let r1 : reaches links d l.lower.driver ≡ true = subst (λ (x : ℕ). reaches links x l.lower.driver ≡ true) (up ∙ same) (reaches_link links _ l f) in
+      subst (λ (x : Place). rank links n x < rank_by links n d side.Write) is (down_less links n d l.lower.driver none r1 (each_find _ _ links l f below).1)
+
+  by : (o : Option Route) → find (λ r. eqb r.driver d && eqb r.addr addr) routes ≡ o → down_by links o ≡ Some q → rank links n q < rank_by links n d side.Write
+  by None f k = cc
+  by (Some r) f k = via r (eqb-true r.driver d (and_parts _ _ (find_passes _ routes r f)).0) (each_find _ _ routes r f leads) (find (λ l. eqb l.id r.id) links) refl k
+
+up_falls : (links : List Link) (binds : List Binding) (n addr : ℕ) (s : StreamId) (q : Place) → HasNoCycle links → AreBelow n links
+    → up_by binds addr (find (λ l. same_stream l.lower s) links) ≡ Some q → rank links n q < rank_by links n s.driver side.Read
+up_falls links binds n addr s q none below e = by (find (λ l. same_stream l.lower s) links) refl e where
+  via : (l : Link) → find (λ l. same_stream l.lower s) links ≡ Some l → (o : Option Binding) → find (λ b. eqb b.driver l.ctl.driver && eqb b.addr addr) binds ≡ o → bound_side o ≡ Some q → rank links n q < rank_by links n s.driver side.Read
+  via l f None g k = cc
+  via l f (Some b) g k =
+      let is : record { stream = record { driver = b.driver; minor = b.minor }; side = side.Read } ≡ q = cc in
+      let up : b.driver ≡ l.ctl.driver = eqb-true b.driver l.ctl.driver (and_parts _ _ (find_passes _ binds b g)).0 in
+      let low : l.lower.driver ≡ s.driver = eqb-true l.lower.driver s.driver (and_parts _ _ (find_passes _ links l f)).0 in
+      let r1 : reaches links b.driver s.driver ≡ true = subst (λ (x : ℕ). reaches links x s.driver ≡ true) (sym up) (subst (λ (x : ℕ). reaches links l.ctl.driver x ≡ true) low (reaches_link links _ l f)) in
+      let lt : b.driver < n = subst (λ (x : ℕ). x < n) (sym up) (each_find _ _ links l f below).0 in
+      subst (λ (x : Place). rank links n x < rank_by links n s.driver side.Read) is (up_less links n b.driver s.driver none r1 lt)
+
+  by : (o : Option Link) → find (λ l. same_stream l.lower s) links ≡ o → up_by binds addr o ≡ Some q → rank links n q < rank_by links n s.driver side.Read
+  by None f k = cc
+  by (Some l) f k = via l f (find (λ b. eqb b.driver l.ctl.driver && eqb b.addr addr) binds) refl k
+
+next_falls : (drivers : List DriverSpec) (c : Configuration) (s : StreamId) (addr : ℕ) (side_ : Side) (q : Place) → CanSettle drivers c → next_by drivers c s addr side_ ≡ Some q → rank c.links (length drivers) q < rank_by c.links (length drivers) s.driver side_
+next_falls drivers c s addr side.Write q h e = elim (cases_Bool (is_mux drivers s.driver)) [
+  | inl t ↦ down_falls c.links c.routes (length drivers) s.driver addr q h.none h.below (routes_lead drivers c h.routed) (rw t at e)
+  | inr f ↦ let k : None ≡ Some q = rw f at e in cc
+]
+next_falls drivers c s addr side.Read q h e = up_falls c.links c.binds (length drivers) addr s q h.none h.below e
+
+pub if_open_is : (c : Configuration) (o : Option Place) (q : Place) → if_open c o ≡ Some q → o ≡ Some q
+if_open_is c None q e = e
+if_open_is c (Some r) q e = elim (cases_Bool (is_full c r)) [ inl t ↦ let k : None ≡ Some q = rw t at e in cc | inr f ↦ rw f at e ]
+
+record Leads (c : Configuration) (n : ℕ) (p q : Place) (o : Option Message) : Type 0 where
+  message : Message
+  is : o ≡ Some message
+  falls : rank c.links n q < rank c.links n p
+
+way_leads : (drivers : List DriverSpec) (c : Configuration) (p q : Place) (o : Option Message) → CanSettle drivers c → onward drivers c p o ≡ Some q → Leads c (length drivers) p q o
+way_leads drivers c p q None h e = cc
+way_leads drivers c p q (Some m) h e = record { message = m; is = refl; falls = next_falls drivers c p.stream m.addr p.side q h (if_open_is c (next_place drivers c p m.addr) q e) }
+
+-- the ranks of the places of all messages
+abbrev weight : (Place → ℕ) → List Held → ℕ
+weight f [] = 0
+weight f (h ∷ hs) = f h.place + weight f hs
+
+weight_le : (f : Place → ℕ) (n : ℕ) (hs : List Held) → ((p : Place) → f p ≤ n) → weight f hs ≤ length hs * n
+weight_le f n [] h = omega arith
+weight_le f n (k ∷ hs) h = rw (mul_suc (length hs) n) (omega (arith, weight_le f n hs h, h k.place)) where
+  mul_suc : (m n : ℕ) → suc m * n ≡ n + m * n
+  mul_suc m n = grind arith
+
+weight_placed : (f : Place → ℕ) (hs : List Held) (h : Held) → weight f (placed held_before hs h) ≡ f h.place + weight f hs
+weight_placed f [] h = refl
+weight_placed f (k ∷ hs) h = elim (cases_Bool (held_before h k)) [ inl t ↦ rw t refl | inr u ↦ rw u (omega (arith, weight_placed f hs h)) ]
+
+same_side_is : (s t : Side) → same_side s t ≡ true → s ≡ t
+same_side_is side.Write side.Write h = refl
+same_side_is side.Write side.Read h = absurd (false≢true h)
+same_side_is side.Read side.Write h = absurd (false≢true h)
+same_side_is side.Read side.Read h = refl
+
+abbrev at_place : ℕ → ℕ → Side → Place
+at_place d m s = record { stream = record { driver = d; minor = m }; side = s }
+
+made : (a b : ℕ) (s : Side) (c d : ℕ) (t : Side) → a ≡ c → b ≡ d → s ≡ t → at_place a b s ≡ at_place c d t
+made a b s c d t e f g = ap (λ (x : ℕ). at_place x b s) e ∙ (ap (λ (x : ℕ). at_place c x s) f ∙ ap (λ (x : Side). at_place c d x) g)
+
+pub same_place_is : (p q : Place) → same_place p q ≡ true → p ≡ q
+same_place_is p q h =
+    let a = and_parts (same_stream p.stream q.stream) (same_side p.side q.side) h in
+    let b = and_parts _ _ a.0 in
+    made p.stream.driver p.stream.minor p.side q.stream.driver q.stream.minor q.side (eqb-true p.stream.driver q.stream.driver b.0) (eqb-true p.stream.minor q.stream.minor b.1) (same_side_is p.side q.side a.1)
+
+weight_front : (f : Place → ℕ) (hs : List Held) (p : Place) (m : Message) → front hs p ≡ Some m → weight f hs ≡ f p + weight f (without_first (is_at p) hs)
+weight_front f [] p m e = cc
+weight_front f (h ∷ hs) p m e = elim (cases_Bool (is_at p h)) [
+  | inl t ↦ rw (t, same_place_is h.place p t) refl
+  | inr u ↦ rw u (omega (arith, weight_front f hs p m (rw u at e)))
+]
+
+moved_weight : (drivers : List DriverSpec) (c : Configuration) (p : Place) → CanSettle drivers c → (q : Place) → way drivers c p ≡ Some q
+    → weight (rank c.links (length drivers)) (moved drivers c p).flow < weight (rank c.links (length drivers)) c.flow
+moved_weight drivers c p h q e =
+    let l = way_leads drivers c p q (front c.flow p) h e in
+    rw (e, l.is) (omega (arith, l.falls, weight_front (rank c.links (length drivers)) c.flow p l.message l.is, weight_placed (rank c.links (length drivers)) (left drivers c p).flow (record { place = q; message = l.message })))
+
+-- no place of the flow is movable, so none is
+none_of : (t : Place → Bool) (hs : List Held) (p : Place) (m : Message) → find (λ h. t h.place) hs ≡ None → front hs p ≡ Some m → t p ≡ false
+none_of t [] p m e f = cc
+none_of t (h ∷ hs) p m e f = elim (cases_Bool (t h.place)) [
+  | inl t1 ↦ let k : Some h ≡ None = rw t1 at e in cc
+  | inr t0 ↦ elim (cases_Bool (is_at p h)) [
+    | inl at_p ↦ ap t (sym (same_place_is h.place p at_p)) ∙ t0
+    | inr not_p ↦ none_of t hs p m (rw t0 at e) (rw not_p at f)
+  ]
+]
+
+pub no_front : (drivers : List DriverSpec) (c : Configuration) (p : Place) (o : Option Message) → front c.flow p ≡ o → find (λ h. is_movable drivers c h.place) c.flow ≡ None → is_movable drivers c p ≡ false
+no_front drivers c p None e none = rw e refl
+no_front drivers c p (Some m) e none = none_of (is_movable drivers c) c.flow p m none e
+
+pub none_least : (o : Option Held) → place_of o ≡ None → o ≡ None
+none_least None e = refl
+none_least (Some h) e = cc
+
+pub some_least : (o : Option Held) (p : Place) → place_of o ≡ Some p → (h : Held) × (o ≡ Some h) × (h.place ≡ p)
+some_least None p e = cc
+some_least (Some h) p e = (h, refl, cc)
+
+movable_way : (o : Option Place) → is_some o ≡ true → (q : Place) × (o ≡ Some q)
+movable_way None e = absurd (false≢true e)
+movable_way (Some q) e = (q, refl)
+
+least_way : (drivers : List DriverSpec) (c : Configuration) (p : Place) → least_movable drivers c ≡ Some p → (q : Place) × (way drivers c p ≡ Some q)
+least_way drivers c p e =
+    let s = some_least (find (λ h. is_movable drivers c h.place) c.flow) p e in
+    movable_way (way drivers c p) (subst (λ (x : Place). is_movable drivers c x ≡ true) s.2 (find_passes (λ h. is_movable drivers c h.place) c.flow s.0 s.1))
+
+pub moved_links : (drivers : List DriverSpec) (c : Configuration) (p : Place) → (moved drivers c p).links ≡ c.links
+moved_links drivers c p = by (way drivers c p) (front c.flow p) where
+  by : (o : Option Place) (m : Option Message) → (moved_by drivers c p o m).links ≡ c.links
+  by (Some q) (Some m) = refl
+  by (Some q) None = refl
+  by None m = refl
+
+can_move : (drivers : List DriverSpec) (c : Configuration) (p : Place) → CanSettle drivers c → CanSettle drivers (moved drivers c p)
+can_move drivers c p h = record {
+  none = subst HasNoCycle (sym (moved_links drivers c p)) h.none;
+  below = subst (AreBelow (length drivers)) (sym (moved_links drivers c p)) h.below;
+  routed = routed_moved drivers c p h.routed;
+}
+
+-- the weight of a configuration, by its own links
+abbrev weight_of : List DriverSpec → Configuration → ℕ
+weight_of drivers c = weight (rank c.links (length drivers)) c.flow
+
+less_weight : (drivers : List DriverSpec) (c : Configuration) (p : Place) → CanSettle drivers c → least_movable drivers c ≡ Some p → weight_of drivers (moved drivers c p) < weight_of drivers c
+less_weight drivers c p h e = let w = least_way drivers c p e in
+    subst (λ (ls : List Link). weight (rank ls (length drivers)) (moved drivers c p).flow < weight_of drivers c) (sym (moved_links drivers c p)) (moved_weight drivers c p h w.0 w.1)
+
+settles : (drivers : List DriverSpec) (k : ℕ) (c : Configuration) → CanSettle drivers c → weight_of drivers c ≤ k → IsSettled drivers (settled_within drivers k c)
+settles drivers zero c h le = by (least_movable drivers c) refl where
+  by : (o : Option Place) → least_movable drivers c ≡ o → IsSettled drivers c
+  by None e = λ p. no_front drivers c p (front c.flow p) refl (none_least _ e)
+  by (Some p) e = absurd (omega (arith, less_weight drivers c p h e))
+settles drivers (suc k) c h le = by (λ p fewer. settles drivers k (moved drivers c p) (can_move drivers c p h) fewer) (least_movable drivers c) refl where
+  by : ((p : Place) → weight_of drivers (moved drivers c p) ≤ k → IsSettled drivers (settled_within drivers k (moved drivers c p)))
+      → (o : Option Place) → least_movable drivers c ≡ o → IsSettled drivers (elim o as (λ _. Configuration) [ None ↦ c | Some p ↦ settled_within drivers k (moved drivers c p) ])
+  by rest None e = λ p. no_front drivers c p (front c.flow p) refl (none_least _ e)
+  by rest (Some p) e = rest p (omega (arith, less_weight drivers c p h e))
+
+-- the bound suffices
+pub settled_is : (drivers : List DriverSpec) (c : Configuration) → AreLinksSound c.links → AreNamed drivers c → AreRouted drivers c → IsSettled drivers (settled drivers c)
+settled_is drivers c sound named routed = settles drivers (length c.flow * length drivers) c (record { none = sound.no_cycle; below = links_below drivers c.links named.links; routed = routed })
+    (weight_le (rank c.links (length drivers)) (length drivers) c.flow (λ p. rank_le c.links (length drivers) p.stream.driver p.side))

@@ -1,0 +1,258 @@
+-- Each configuration is swept.
+use Rattle.std.proofs.Common.{◌≡◌, ℕ, zero, suc, ◌<◌, Bool, true, false, ◌&&◌, ◌||◌, not, eqb, List, [], ◌∷◌, ◌++◌, length, find, Option, Some, None, Ok, Err, refl, rules, sym, ap, ◌∙◌, subst, arith, inl, inr}
+use Rattle.std.specs.Prelude.{Result, IfOk}
+use Rattle.smx_model.specs.Commands.{outcome, done, linked, unlinked, sent, received, with_fd}
+use Rattle.smx_model.specs.Configuration.{Configuration, Held, is_at, held_before, fd_before, same_stream, place_before, is_fd}
+use Rattle.smx_model.specs.DriverList.{is_mux}
+use Rattle.smx_model.specs.Lookups.{driver_of, stream_of, free_stream, leaf_stream}
+use Rattle.smx_model.specs.Outcomes.{Outcome, or_fault, ◌>>=◌, refuse}
+use Rattle.smx_model.specs.Paths.{HasNoCycle}
+use Rattle.smx_model.specs.Queues.{front, left, arrived, marked}
+use Rattle.smx_model.specs.Removal.{swept, removed}
+use Rattle.smx_model.specs.Settling.{moved, moved_by, way, next_by, onward, next_place, down_by, up_by, lower_side, bound_side}
+use Rattle.smx_model.specs.Standing.{is_persistent, is_named, stands_within, exists, is_below, Stands}
+use Rattle.smx_model.specs.Swept.{IsSwept}
+use Rattle.smx_model.proofs.IdleSweepLemmas.{swept_idle}
+use Rattle.smx_model.proofs.OutcomeLemmas.{IfAccepted, at_ok, after_ok, after_test, after_some}
+use Rattle.smx_model.proofs.PathLemmas.{reaches_at}
+use Rattle.smx_model.proofs.RangeLemmas.{AreNamed}
+use Rattle.smx_model.proofs.SettlingLemmas.{same_place_is, if_open_is}
+use Rattle.smx_model.proofs.StandingLemmas.{swept_is, stands_more, IsLinkIn, climbs_suffice}
+use Rattle.std.specs.List.{list_any}
+use Rattle.std.proofs.lemmas.Bool.{cases_Bool, eq-eqb, and_parts, or_cases, or_left, or_right, and_from}
+use Rattle.smx_types.specs.declared.command.Command.{Command}
+use Rattle.smx_types.specs.declared.command.Command.TheVariants as command
+use Rattle.smx_types.specs.declared.reply.Fault.{Fault}
+use Rattle.smx_types.specs.declared.reply.Fault.TheVariants.{BadDescriptor, NoDriver}
+use Rattle.smx_types.specs.declared.command.Which.{Which}
+use Rattle.smx_types.specs.declared.command.Which.TheVariants as which
+use Rattle.smx_types.specs.declared.link.Binding.{Binding}
+use Rattle.smx_types.specs.declared.stream.Descriptor.{Descriptor}
+use Rattle.smx_types.specs.declared.driver.DriverSpec.{DriverSpec}
+use Rattle.smx_types.specs.declared.link.Link.{Link}
+use Rattle.smx_types.specs.declared.link.LinkKind.{LinkKind}
+use Rattle.smx_types.specs.declared.message.Message.{Message}
+use Rattle.smx_types.specs.declared.stream.Place.{Place}
+use Rattle.smx_types.specs.declared.link.Route.{Route}
+use Rattle.smx_types.specs.declared.stream.Side.{Side}
+use Rattle.smx_types.specs.declared.stream.Side.TheVariants as side
+use Rattle.smx_types.specs.declared.stream.StreamId.{StreamId}
+use Rattle.std.specs.List.{list_all}
+use Rattle.smx_types.specs.declared.reply.Fault.TheVariants.{Below, NoMinor}
+use Rattle.smx_model.proofs.EachLemmas.{Each, each_map}
+use Rattle.smx_model.proofs.TestLemmas.{any_more, all_more, all_push, all_placed, all_filter, all_without, any_placed, any_push, found_any, found_all}
+
+-- with more descriptors or links more streams stand
+
+stands_grow : (fds fds2 : List Descriptor) (links links2 : List Link) → ((t : Descriptor → Bool) → list_any t fds ≡ true → list_any t fds2 ≡ true) → ((t : Link → Bool) → list_any t links ≡ true → list_any t links2 ≡ true)
+    → (n : ℕ) (s : StreamId) → stands_within fds links n s ≡ true → stands_within fds2 links2 n s ≡ true
+stands_grow fds fds2 links links2 f g zero s h = elim (or_cases (is_named fds s) (list_any (λ l. is_persistent l && same_stream l.lower s) links) h)
+    [ inl k ↦ or_left _ _ (f (λ d. same_stream d.stream s) k) | inr k ↦ or_right _ _ (g (λ l. is_persistent l && same_stream l.lower s) k) ]
+stands_grow fds fds2 links links2 f g (suc n) s h = elim (or_cases (stands_within fds links n s) (list_any (λ l. not (is_persistent l) && (same_stream l.lower s && stands_within fds links n l.ctl)) links) h) [
+  | inl k ↦ or_left _ _ (stands_grow fds fds2 links links2 f g n s k)
+  | inr k ↦ or_right _ _ (any_more (λ l. not (is_persistent l) && (same_stream l.lower s && stands_within fds links n l.ctl)) (λ l. not (is_persistent l) && (same_stream l.lower s && stands_within fds2 links2 n l.ctl)) links2
+      (deeper (stands_grow fds fds2 links links2 f g n)) (g (λ l. not (is_persistent l) && (same_stream l.lower s && stands_within fds links n l.ctl)) k))
+] where
+  deeper : ((t : StreamId) → stands_within fds links n t ≡ true → stands_within fds2 links2 n t ≡ true) → (l : Link) → (not (is_persistent l) && (same_stream l.lower s && stands_within fds links n l.ctl)) ≡ true → (not (is_persistent l) && (same_stream l.lower s && stands_within fds2 links2 n l.ctl)) ≡ true
+  deeper up l e = let a = and_parts (not (is_persistent l)) (same_stream l.lower s && stands_within fds links n l.ctl) e in
+      let b = and_parts (same_stream l.lower s) (stands_within fds links n l.ctl) a.1 in and_from _ _ a.0 (and_from _ _ b.0 (up l.ctl b.1))
+
+-- a configuration in which as many streams stand, and nothing else changed
+grown : (drivers : List DriverSpec) (c d : Configuration) → IsSwept drivers c → ((s : StreamId) → exists drivers c s ≡ true → exists drivers d s ≡ true)
+    → list_all (λ l. is_persistent l || exists drivers d l.ctl) d.links ≡ true → d.binds ≡ c.binds → d.flow ≡ c.flow → d.fulls ≡ c.fulls → IsSwept drivers d
+grown drivers c d h more links b f u = record {
+  links = links;
+  binds = rw b (all_more _ _ c.binds (λ x. more (record { driver = x.driver; minor = x.minor })) h.binds);
+  flow = rw f (all_more _ _ c.flow (λ x. more x.place.stream) h.flow);
+  fulls = rw u (all_more _ _ c.fulls (λ x. more x.stream) h.fulls);
+}
+
+link_more : (a b d : Bool) → (b ≡ true → d ≡ true) → (a || b) ≡ true → (a || d) ≡ true
+link_more true b d f h = refl
+link_more false b d f h = f h
+
+swept_fd : (drivers : List DriverSpec) (c : Configuration) (process fd : ℕ) (s : StreamId) → IsSwept drivers c → IsSwept drivers (with_fd c process fd s)
+swept_fd drivers c process fd s h = grown drivers c (with_fd c process fd s) h more (all_more _ _ c.links (λ l. link_more (is_persistent l) (exists drivers c l.ctl) (exists drivers (with_fd c process fd s) l.ctl) (more l.ctl)) h.links) refl refl refl where
+  more : (t : StreamId) → exists drivers c t ≡ true → exists drivers (with_fd c process fd s) t ≡ true
+  more = stands_grow c.fds _ c.links c.links (λ t e. any_placed t fd_before c.fds _ e) (λ t e. e) (length drivers)
+
+swept_link : (drivers : List DriverSpec) (c : Configuration) (l : Link) (next : ℕ) → IsSwept drivers c → exists drivers c l.ctl ≡ true → IsSwept drivers (record c { links = c.links ++ l ∷ []; next_id = next })
+swept_link drivers c l next h e = grown drivers c (record c { links = c.links ++ l ∷ []; next_id = next }) h more
+    (all_push _ c.links l (or_right _ _ (more l.ctl e)) (all_more _ _ c.links (λ k. link_more (is_persistent k) (exists drivers c k.ctl) _ (more k.ctl)) h.links)) refl refl refl where
+      more : (t : StreamId) → exists drivers c t ≡ true → stands_within c.fds (c.links ++ l ∷ []) (length drivers) t ≡ true
+      more = stands_grow c.fds c.fds c.links (c.links ++ l ∷ []) (λ t e. e) (λ t e. any_push t c.links l e) (length drivers)
+
+-- a process' stream exists
+named_found : (test : Descriptor → Bool) (ds : List Descriptor) (d : Descriptor) → find test ds ≡ Some d → is_named ds d.stream ≡ true
+named_found test [] d e = cc
+named_found test (x ∷ ds) d e = elim (cases_Bool (test x)) [
+  | inl t ↦ let k : Some x ≡ Some d = rw t at e in let same : x ≡ d = cc in or_left _ _ (subst (λ (y : Descriptor). same_stream y.stream d.stream ≡ true) (sym same) (self d.stream))
+  | inr f ↦ or_right _ _ (named_found test ds d (rw f at e))
+] where
+  self : (t : StreamId) → same_stream t t ≡ true
+  self t = and_from _ _ (eq-eqb t.driver t.driver refl) (eq-eqb t.minor t.minor refl)
+
+stream_exists : (drivers : List DriverSpec) (c : Configuration) (process fd : ℕ) (s : StreamId) → stream_of c process fd ≡ Ok s → exists drivers c s ≡ true
+stream_exists drivers c process fd s e = stands_more c.fds c.links 0 (length drivers) s (omega arith) (or_left _ _ (by (find (is_fd process fd) c.fds) refl e)) where
+  found : Option Descriptor → Option StreamId
+  found None = None
+  found (Some d) = Some d.stream
+
+  by : (o : Option Descriptor) → find (is_fd process fd) c.fds ≡ o → or_fault BadDescriptor (found o) ≡ Ok s → is_named c.fds s ≡ true
+  by None e k = cc
+  by (Some d) e k = let same : d.stream ≡ s = cc in subst (λ (t : StreamId). is_named c.fds t ≡ true) same (named_found (is_fd process fd) c.fds d e)
+
+free_exists : (drivers : List DriverSpec) (c : Configuration) (process fd : ℕ) (s : StreamId) → free_stream c process fd ≡ Ok s → exists drivers c s ≡ true
+free_exists drivers c process fd s e = by (stream_of c process fd) refl e where
+  tested : (t : StreamId) (b : Bool) → (refuse Below b >>= (λ _. Ok t)) ≡ Ok s → t ≡ s
+  tested t true k = cc
+  tested t false k = cc
+
+  by : (r : Result StreamId Fault) → stream_of c process fd ≡ r → (r >>= (λ t. refuse Below (is_below c.links t) >>= (λ _. Ok t))) ≡ Ok s → exists drivers c s ≡ true
+  by (Err f) e k = cc
+  by (Ok t) e k = subst (λ (x : StreamId). exists drivers c x ≡ true) (tested t (is_below c.links t) k) (stream_exists drivers c process fd t e)
+
+leaf_exists : (drivers : List DriverSpec) (c : Configuration) (name : List ℕ) (minor : ℕ) (s : StreamId) → leaf_stream drivers c name minor ≡ Ok s → exists drivers c s ≡ true
+leaf_exists drivers c name minor s e = by (driver_of drivers name) e where
+  there : (n : ℕ) (b : Bool) → exists drivers c (record { driver = n; minor = minor }) ≡ b → (refuse NoMinor (not b) >>= (λ _. Ok (record { driver = n; minor = minor }))) ≡ Ok s → exists drivers c s ≡ true
+  there n true h k = let same : record { driver = n; minor = minor } ≡ s = cc in subst (λ (x : StreamId). exists drivers c x ≡ true) same h
+  there n false h k = cc
+
+  leaf : (n : ℕ) (b : Bool) → (refuse NoDriver b >>= (λ _. refuse NoMinor (not (exists drivers c (record { driver = n; minor = minor }))) >>= (λ _. Ok (record { driver = n; minor = minor })))) ≡ Ok s → exists drivers c s ≡ true
+  leaf n true k = cc
+  leaf n false k = there n (exists drivers c (record { driver = n; minor = minor })) refl k
+
+  by : (r : Result ℕ Fault) → (r >>= (λ n. refuse NoDriver (is_mux drivers n) >>= (λ _. refuse NoMinor (not (exists drivers c (record { driver = n; minor = minor }))) >>= (λ _. Ok (record { driver = n; minor = minor }))))) ≡ Ok s → exists drivers c s ≡ true
+  by (Err f) k = cc
+  by (Ok n) k = leaf n (is_mux drivers n) k
+
+all_marked : (t : Place → Bool) (p : Place) (b : Bool) (ps : List Place) → t p ≡ true → list_all t ps ≡ true → list_all t (marked p b ps) ≡ true
+all_marked t p true ps h e = all_placed t place_before _ p h (all_filter t _ ps e)
+all_marked t p false ps h e = all_filter t _ ps e
+
+swept_arrived : (drivers : List DriverSpec) (c : Configuration) (p : Place) (m : Message) → exists drivers c p.stream ≡ true → IsSwept drivers c → IsSwept drivers (arrived drivers c p m)
+swept_arrived drivers c p m e h = record {
+  links = h.links;
+  binds = h.binds;
+  flow = all_placed _ held_before c.flow (record { place = p; message = m }) e h.flow;
+  fulls = all_marked _ p _ c.fulls e h.fulls;
+}
+
+swept_left : (drivers : List DriverSpec) (c : Configuration) (p : Place) → exists drivers c p.stream ≡ true → IsSwept drivers c → IsSwept drivers (left drivers c p)
+swept_left drivers c p e h = record { links = h.links; binds = h.binds; flow = all_without _ _ c.flow h.flow; fulls = all_marked _ p _ c.fulls e h.fulls }
+
+swept_took : (drivers : List DriverSpec) (c : Configuration) (p : Place) (m : Message) (n : ℕ) → exists drivers c p.stream ≡ true → IsSwept drivers c → IsSwept drivers (record (arrived drivers c p m) { next_serial = n })
+swept_took drivers c p m n e h = let a = swept_arrived drivers c p m e h in record { links = a.links; binds = a.binds; flow = a.flow; fulls = a.fulls }
+
+swept_sent : (drivers : List DriverSpec) (c : Configuration) (p : Place) (addr : ℕ) (bytes : List ℕ) → exists drivers c p.stream ≡ true → IsSwept drivers c → IfAccepted (λ d r. IsSwept drivers d) (sent drivers c p addr bytes)
+swept_sent drivers c p addr bytes e h = search (after_test, at_ok, swept_took, rules) depth 12
+
+swept_received : (drivers : List DriverSpec) (c : Configuration) (p : Place) → exists drivers c p.stream ≡ true → IsSwept drivers c → IfAccepted (λ d r. IsSwept drivers d) (received drivers c p)
+swept_received drivers c p e h = search (after_some, at_ok, swept_left, rules) depth 12
+
+swept_done : (drivers : List DriverSpec) (c d : Configuration) → IfAccepted (λ d r. IsSwept drivers d) (done drivers c d)
+swept_done drivers c d = record { holds = swept_is drivers d }
+
+swept_unlinked : (drivers : List DriverSpec) (c : Configuration) (w : Which) (mine : Link → Bool) → IfAccepted (λ d r. IsSwept drivers d) (unlinked drivers c w mine)
+swept_unlinked drivers c which.All mine = swept_done drivers c (removed c mine)
+swept_unlinked drivers c (which.Id id) mine = search (after_test, swept_done, rules) depth 12
+
+swept_linked : (drivers : List DriverSpec) (c : Configuration) (process fd arg : ℕ) (k : LinkKind) → IsSwept drivers c → IfAccepted (λ d r. IsSwept drivers d) (linked drivers c process fd arg k)
+swept_linked drivers c process fd arg k h = search (after_test, after_ok, at_ok, swept_link, stream_exists, rules) depth 24
+
+pub swept_accepted : (drivers : List DriverSpec) (c : Configuration) (process : ℕ) (k : Command) → IsSwept drivers c → IfAccepted (λ d r. IsSwept drivers d) (outcome drivers c process k)
+swept_accepted drivers c process (command.OpenClone name) h = search (after_ok, at_ok, swept_fd, rules) depth 20
+swept_accepted drivers c process (command.OpenMinor name minor) h = search (after_test, after_ok, at_ok, swept_fd, rules) depth 20
+swept_accepted drivers c process (command.Dup fd) h = search (after_ok, at_ok, swept_fd, rules) depth 20
+swept_accepted drivers c process (command.Close fd) h = search (after_ok, swept_done, rules) depth 20
+swept_accepted drivers c process command.CloseAll h = search (swept_done, rules) depth 20
+swept_accepted drivers c process (command.Link fd arg) h = search (after_ok, swept_linked, rules) depth 20
+swept_accepted drivers c process (command.Plink fd arg) h = search (after_ok, swept_linked, rules) depth 20
+swept_accepted drivers c process (command.Unlink fd w) h = search (after_ok, swept_unlinked, rules) depth 20
+swept_accepted drivers c process (command.Punlink fd w) h = search (after_ok, swept_unlinked, rules) depth 20
+swept_accepted drivers c process (command.Bind fd addr) h = search (after_test, after_ok, swept_done, rules) depth 20
+swept_accepted drivers c process (command.Unbind fd) h = search (after_test, after_ok, swept_done, rules) depth 20
+swept_accepted drivers c process (command.Route fd addr id) h = search (after_test, after_ok, swept_done, rules) depth 20
+swept_accepted drivers c process (command.Unroute fd addr) h = search (after_test, after_ok, swept_done, rules) depth 20
+swept_accepted drivers c process (command.Write fd addr bytes) h = search (after_test, after_ok, at_ok, swept_sent, free_exists, rules) depth 20
+swept_accepted drivers c process (command.Read fd) h = search (after_ok, at_ok, swept_received, free_exists, rules) depth 20
+swept_accepted drivers c process (command.Flush fd w) h = search (after_ok, swept_done, rules) depth 20
+swept_accepted drivers c process (command.Inject name minor addr bytes) h = search (after_test, after_ok, at_ok, swept_sent, free_exists, leaf_exists, rules) depth 20
+swept_accepted drivers c process (command.Transmit name minor) h = search (after_ok, at_ok, swept_received, free_exists, leaf_exists, rules) depth 20
+
+-- a move goes to a stream that exists
+
+pub links_in : (drivers : List DriverSpec) (links : List Link) → Each (λ l. l.ctl.driver < length drivers) links → Each (IsLinkIn drivers links) links
+links_in drivers [] h = tt
+links_in drivers (l ∷ ls) h = (
+  record { ctl = h.0; leads = reaches_at (l ∷ ls) 0 l (omega arith) refl },
+  each_map (IsLinkIn drivers ls) (IsLinkIn drivers (l ∷ ls)) ls (λ k i. record { ctl = i.ctl; leads = or_left _ _ i.leads }) (links_in drivers ls h.1),
+)
+
+pub record IsWhole (drivers : List DriverSpec) (c : Configuration) : Type 0 where
+  pub none : HasNoCycle c.links
+  pub named : AreNamed drivers c
+  pub swept_ : IsSwept drivers c
+
+same_self : (t : StreamId) → same_stream t t ≡ true
+same_self t = and_from _ _ (eq-eqb t.driver t.driver refl) (eq-eqb t.minor t.minor refl)
+
+lower_exists : (drivers : List DriverSpec) (c : Configuration) (test : Link → Bool) (l : Link) → IsWhole drivers c → find test c.links ≡ Some l → exists drivers c l.lower ≡ true
+lower_exists drivers c test l h e = elim (cases_Bool (is_persistent l)) [
+  | inl p ↦ stands_more c.fds c.links 0 (length drivers) l.lower (omega arith) (or_right _ _ (found_any test (λ k. is_persistent k && same_stream k.lower l.lower) c.links l e (and_from _ _ p (same_self l.lower))))
+  | inr o ↦
+      let a = found_all test (λ k. is_persistent k || exists drivers c k.ctl) c.links l e h.swept_.links in
+      let up : exists drivers c l.ctl ≡ true = rw o at a in
+      climbs_suffice drivers c.fds c.links (suc (length drivers)) l.lower h.none (links_in drivers c.links (each_map _ _ c.links (λ l p. p.0.0) h.named.links))
+      (or_right _ _ (found_any test (λ k. not (is_persistent k) && (same_stream k.lower l.lower && stands_within c.fds c.links (length drivers) k.ctl)) c.links l e
+      (and_from _ _ (rw o refl) (and_from _ _ (same_self l.lower) up))))
+]
+
+next_exists : (drivers : List DriverSpec) (c : Configuration) (s : StreamId) (addr : ℕ) (which_side : Side) (q : Place) → IsWhole drivers c → next_by drivers c s addr which_side ≡ Some q → exists drivers c q.stream ≡ true
+next_exists drivers c s addr side.Write q h e = elim (cases_Bool (is_mux drivers s.driver)) [
+  | inl t ↦ by (find (λ r. eqb r.driver s.driver && eqb r.addr addr) c.routes) (rw t at e)
+  | inr f ↦ let k : None ≡ Some q = rw f at e in cc
+] where
+  via : (r : Route) (o : Option Link) → find (λ l. eqb l.id r.id) c.links ≡ o → lower_side o ≡ Some q → exists drivers c q.stream ≡ true
+  via r None f k = cc
+  via r (Some l) f k = let is : record { stream = l.lower; side = side.Write } ≡ q = cc in subst (λ (x : Place). exists drivers c x.stream ≡ true) is (lower_exists drivers c _ l h f)
+
+  by : (o : Option Route) → down_by c.links o ≡ Some q → exists drivers c q.stream ≡ true
+  by None k = cc
+  by (Some r) k = via r (find (λ l. eqb l.id r.id) c.links) refl k
+next_exists drivers c s addr side.Read q h e = by (find (λ l. same_stream l.lower s) c.links) e where
+  via : (l : Link) (o : Option Binding) → find (λ b. eqb b.driver l.ctl.driver && eqb b.addr addr) c.binds ≡ o → bound_side o ≡ Some q → exists drivers c q.stream ≡ true
+  via l None f k = cc
+  via l (Some b) f k = let is : record { stream = record { driver = b.driver; minor = b.minor }; side = side.Read } ≡ q = cc in
+      subst (λ (x : Place). exists drivers c x.stream ≡ true) is (found_all (λ b. eqb b.driver l.ctl.driver && eqb b.addr addr) (λ b. exists drivers c (record { driver = b.driver; minor = b.minor })) c.binds b f h.swept_.binds)
+
+  by : (o : Option Link) → up_by c.binds addr o ≡ Some q → exists drivers c q.stream ≡ true
+  by None k = cc
+  by (Some l) k = via l (find (λ b. eqb b.driver l.ctl.driver && eqb b.addr addr) c.binds) refl k
+
+-- from a queue of a stream that exists
+front_exists : (t : Place → Bool) (hs : List Held) (p : Place) (m : Message) → front hs p ≡ Some m → list_all (λ h. t h.place) hs ≡ true → t p ≡ true
+front_exists t [] p m e h = cc
+front_exists t (k ∷ hs) p m e h = let a = and_parts (t k.place) (list_all (λ h. t h.place) hs) h in elim (cases_Bool (is_at p k))
+    [ inl y ↦ ap t (sym (same_place_is k.place p y)) ∙ a.0 | inr n ↦ front_exists t hs p m (rw n at e) a.1 ]
+
+pub swept_moved : (drivers : List DriverSpec) (c : Configuration) (p : Place) → IsWhole drivers c → IsSwept drivers (moved drivers c p)
+swept_moved drivers c p h = by (way drivers c p) (front c.flow p) refl refl where
+  by : (o : Option Place) (m : Option Message) → way drivers c p ≡ o → front c.flow p ≡ m → IsSwept drivers (moved_by drivers c p o m)
+  by (Some q) (Some m) e f =
+      let w : onward drivers c p (Some m) ≡ Some q = ap (onward drivers c p) (sym f) ∙ e in
+      swept_arrived drivers (left drivers c p) q m (next_exists drivers c p.stream m.addr p.side q h (if_open_is c (next_place drivers c p m.addr) q w))
+      (swept_left drivers c p (front_exists (λ x. exists drivers c x.stream) c.flow p m f h.swept_.flow) h.swept_)
+  by (Some q) None e f = h.swept_
+  by None m e f = h.swept_
+
+-- a stream that stands within some number of climbs exists
+pub stands_exists : (drivers : List DriverSpec) (c : Configuration) (s : StreamId) → HasNoCycle c.links → Each (λ l. l.ctl.driver < length drivers) c.links → Stands c s → exists drivers c s ≡ true
+stands_exists drivers c s none below h = climbs_suffice drivers c.fds c.links h.climbs s none (links_in drivers c.links below) h.within
+
+-- what an accepted command leaves needs no further sweep
+pub swept_once : (drivers : List DriverSpec) (c : Configuration) (process : ℕ) (k : Command) → IsSwept drivers c → IfOk (outcome drivers c process k) (λ x. swept drivers x.0 ≡ x.0)
+swept_once drivers c process k h = by (outcome drivers c process k) (swept_accepted drivers c process k h) where
+  by : (o : Outcome) → IfAccepted (λ d r. IsSwept drivers d) o → IfOk o (λ x. swept drivers x.0 ≡ x.0)
+  by (Ok x) m = swept_idle drivers x.0 m.holds
+  by (Err f) m = tt

@@ -1,0 +1,77 @@
+-- Lawful histories: what the links and messages of every legal history come to.
+use Rattle.std.specs.Prelude.{◌≡◌, ℕ, List, [], ◌∷◌, ◌++◌, length}
+use Rattle.std.specs.List.{AllPairs, range_with_len}
+use Rattle.std.specs.List.Sorted.{IsPermutation}
+use Rattle.smx_types.specs.declared.command.Entry.{Entry}
+use Rattle.smx_types.specs.declared.driver.DriverSpec.{DriverSpec}
+use Rattle.smx_types.specs.declared.reply.Reply.{Reply}
+use Rattle.smx_types.specs.declared.reply.Reply.TheVariants as reply
+use Rattle.smx_model.specs.Histories.{after}
+use Rattle.smx_model.specs.Paths.{HasNoCycle, AreLowersApart}
+use Rattle.smx_model.specs.Removal.{serials}
+
+-- the serial under which a message was taken in, if one was
+abbrev pub taken_by : Reply → List ℕ
+taken_by (reply.Fd fd minor) = []
+taken_by (reply.Id id) = []
+taken_by (reply.Took serial) = serial ∷ []
+taken_by (reply.Got serial addr bytes) = []
+taken_by (reply.Done gone) = []
+taken_by (reply.Fault fault) = []
+
+-- the serial of the message that was delivered, if one was
+abbrev pub delivered_by : Reply → List ℕ
+delivered_by (reply.Fd fd minor) = []
+delivered_by (reply.Id id) = []
+delivered_by (reply.Took serial) = []
+delivered_by (reply.Got serial addr bytes) = serial ∷ []
+delivered_by (reply.Done gone) = []
+delivered_by (reply.Fault fault) = []
+
+-- the serials of the messages that were dropped
+abbrev pub dropped_by : Reply → List ℕ
+dropped_by (reply.Fd fd minor) = []
+dropped_by (reply.Id id) = []
+dropped_by (reply.Took serial) = []
+dropped_by (reply.Got serial addr bytes) = []
+dropped_by (reply.Done gone) = gone
+dropped_by (reply.Fault fault) = []
+
+-- the serials of the messages that were taken in: those of the Took replies, in order
+abbrev pub taken : List Entry → List ℕ
+taken [] = []
+taken (e ∷ es) = taken_by e.reply ++ taken es
+
+-- the serials of the messages that were delivered: those of the Got replies, in order
+abbrev pub delivered : List Entry → List ℕ
+delivered [] = []
+delivered (e ∷ es) = delivered_by e.reply ++ delivered es
+
+-- the serials that were named as dropped, in the Done replies
+abbrev pub dropped : List Entry → List ℕ
+dropped [] = []
+dropped (e ∷ es) = dropped_by e.reply ++ dropped es
+
+-- the serials of the messages that are queued at its end
+abbrev pub queued : List DriverSpec → List Entry → List ℕ
+queued drivers history = serials (after drivers history).flow
+
+-- serials count from 1; and each message that was taken in was delivered, was dropped or is queued, once
+pub record IsConserving (drivers : List DriverSpec) (history : List Entry) : Type 0 where
+  pub numbered : taken history ≡ range_with_len 1 (length (taken history))
+  pub kept : IsPermutation (taken history) (delivered history ++ (dropped history ++ queued drivers history))
+
+-- no cycle, no stream below two links, and no message lost or doubled
+pub record IsLawful (drivers : List DriverSpec) (history : List Entry) : Type 0 where
+  -- at its end the links form no cycle
+  pub no_cycle : HasNoCycle (after drivers history).links
+  -- no stream is below two links
+  pub lowers_apart : AreLowersApart (after drivers history).links
+  -- no two messages were taken in under one serial
+  pub taken_once : AllPairs (λ m n. m ≡ n → ⊥) (taken history)
+  -- each message that was taken in was delivered, was dropped or is queued, and just one of these, once
+  pub conserved : IsPermutation (taken history) (delivered history ++ (dropped history ++ queued drivers history))
+
+-- after each entry too: each of its prefixes is lawful
+abbrev pub IsLawfulThroughout : List DriverSpec → List Entry → Type 0
+IsLawfulThroughout drivers history = (xs ys : List Entry) → history ≡ xs ++ ys → IsLawful drivers xs

@@ -1,0 +1,55 @@
+-- What the words of a command name, and the refusals where they name nothing.
+use Rattle.std.specs.Prelude.{ℕ, not, List, find, position, Option, Some, None, Result, Ok}
+use Rattle.std.specs.List.{list_any, range_with_len}
+use Rattle.std.specs.Str.{bytes_eq}
+use Rattle.smx_types.specs.declared.driver.DriverSpec.{DriverSpec}
+use Rattle.smx_types.specs.declared.limits.TheConstants.{MAX_DESCRIPTORS}
+use Rattle.smx_types.specs.declared.reply.Fault.{Fault}
+use Rattle.smx_types.specs.declared.reply.Fault.TheVariants.{BadDescriptor, Below, NotMux, NoDriver, NoMinor, TooManyDescriptors}
+use Rattle.smx_types.specs.declared.stream.Descriptor.{Descriptor}
+use Rattle.smx_types.specs.declared.stream.StreamId.{StreamId}
+use Rattle.smx_model.specs.Configuration.{Configuration, is_fd}
+use Rattle.smx_model.specs.DriverList.{is_mux, minors_of}
+use Rattle.smx_model.specs.Outcomes.{◌>>=◌, or_fault, refuse}
+use Rattle.smx_model.specs.Standing.{is_below, exists}
+
+-- the number of the driver of this name
+abbrev pub driver_of : List DriverSpec → List ℕ → Result ℕ Fault
+driver_of drivers name = or_fault NoDriver (position (λ d. bytes_eq d.name name) drivers)
+
+-- the stream of the process's descriptor
+abbrev pub stream_of : Configuration → ℕ → ℕ → Result StreamId Fault
+stream_of c process fd = or_fault BadDescriptor (found (find (is_fd process fd) c.fds)) where
+  found : Option Descriptor → Option StreamId
+  found None = None
+  found (Some d) = Some d.stream
+
+-- the least number that is no descriptor of the process; it has 16 at most
+abbrev pub free_fd : Configuration → ℕ → Result ℕ Fault
+free_fd c process = or_fault TooManyDescriptors (find (λ n. not (list_any (is_fd process n) c.fds)) (range_with_len 0 MAX_DESCRIPTORS))
+
+-- the least minor of the driver whose stream doesn't exist
+abbrev pub free_minor : List DriverSpec → Configuration → ℕ → Result ℕ Fault
+free_minor drivers c driver = or_fault NoMinor (find (λ m. not (exists drivers c (record { driver = driver; minor = m }))) (range_with_len 0 (minors_of drivers driver)))
+
+-- the stream of the process's descriptor, where it is not linked below
+abbrev pub free_stream : Configuration → ℕ → ℕ → Result StreamId Fault
+free_stream c process fd = do
+  s ← stream_of c process fd
+  above ← refuse Below (is_below c.links s)
+  Ok s
+
+-- the same, where its driver is a multiplexing one
+abbrev pub mux_stream : List DriverSpec → Configuration → ℕ → ℕ → Result StreamId Fault
+mux_stream drivers c process fd = do
+  s ← free_stream c process fd
+  mux ← refuse NotMux (not (is_mux drivers s.driver))
+  Ok s
+
+-- the stream of a leaf driver and its minor, where it exists
+abbrev pub leaf_stream : List DriverSpec → Configuration → List ℕ → ℕ → Result StreamId Fault
+leaf_stream drivers c name minor = do
+  n ← driver_of drivers name
+  leaf ← refuse NoDriver (is_mux drivers n)
+  there ← refuse NoMinor (not (exists drivers c (record { driver = n; minor = minor })))
+  Ok (record { driver = n; minor = minor })

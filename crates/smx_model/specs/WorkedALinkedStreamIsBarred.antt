@@ -1,0 +1,58 @@
+-- Worked: a stream below a driver takes no read, write or bind; its descriptor can be closed, and another used after the unlink.
+use Rattle.std.specs.Prelude.{◌≡◌, List, [], ◌∷◌, refl, codes}
+use Rattle.smx_types.specs.declared.command.Command.TheVariants as command
+use Rattle.smx_types.specs.declared.command.Entry.{Entry}
+use Rattle.smx_types.specs.declared.command.Sides.TheVariants as sides
+use Rattle.smx_types.specs.declared.command.Which.TheVariants as which
+use Rattle.smx_types.specs.declared.driver.DriverKind.TheVariants as driver
+use Rattle.smx_types.specs.declared.driver.DriverSpec.{DriverSpec}
+use Rattle.smx_types.specs.declared.reply.Fault.TheVariants as fault
+use Rattle.smx_types.specs.declared.reply.Reply.TheVariants as reply
+use Rattle.smx_types.specs.declared.stream.Side.TheVariants as side
+use Rattle.smx_types.specs.declared.view.ConfigView.{ConfigView}
+use Rattle.smx_model.specs.Histories.{IsLegal, after}
+use Rattle.smx_model.specs.Views.{view}
+
+abbrev pub drivers : List DriverSpec
+drivers = record { name = codes "ip"; kind = driver.Mux; minors = 4; high = 8; low = 3; max = 16 }
+    ∷ record { name = codes "eth"; kind = driver.Leaf; minors = 2; high = 8; low = 3; max = 16 }
+    ∷ []
+
+abbrev pub history : List Entry
+history = record { process = 0; command = command.OpenClone (codes "ip"); reply = reply.Fd 0 0 }
+    ∷ record { process = 0; command = command.OpenClone (codes "eth"); reply = reply.Fd 1 0 }
+    ∷ record { process = 0; command = command.OpenClone (codes "ip"); reply = reply.Fd 2 1 }
+    ∷ record { process = 0; command = command.Link 0 1; reply = reply.Id 1 }
+    ∷ record { process = 0; command = command.Plink 2 1; reply = reply.Fault fault.AlreadyBelow }
+    ∷ record { process = 0; command = command.Write 1 5 (170 ∷ []); reply = reply.Fault fault.Below }
+    ∷ record { process = 0; command = command.Read 1; reply = reply.Fault fault.Below }
+    ∷ record { process = 0; command = command.Bind 1 5; reply = reply.Fault fault.Below }
+    ∷ record { process = 0; command = command.Flush 1 sides.RW; reply = reply.Fault fault.Below }
+    ∷ record { process = 0; command = command.OpenMinor (codes "eth") 0; reply = reply.Fault fault.Below }
+    ∷ record { process = 0; command = command.Dup 1; reply = reply.Fd 3 0 }
+    ∷ record { process = 0; command = command.Close 1; reply = reply.Done [] }
+    ∷ record { process = 0; command = command.Unlink 0 (which.Id 1); reply = reply.Done [] }
+    ∷ record { process = 0; command = command.Write 3 5 (170 ∷ []); reply = reply.Took 1 }
+    ∷ []
+
+abbrev pub shown : ConfigView
+shown = record {
+  next_id = 2;
+  next_serial = 2;
+  fds =
+      record { process = 0; fd = 0; driver = codes "ip"; minor = 0 }
+      ∷ record { process = 0; fd = 2; driver = codes "ip"; minor = 1 }
+      ∷ record { process = 0; fd = 3; driver = codes "eth"; minor = 0 }
+      ∷ [];
+  links = [];
+  binds = [];
+  routes = [];
+  msgs = record { driver = codes "eth"; minor = 0; side = side.Write; message = record { serial = 1; addr = 5; bytes = (170 ∷ []) } } ∷ [];
+  fulls = [];
+}
+
+pub is_legal : IsLegal drivers history
+is_legal = (refl, (refl, (refl, (refl, (refl, (refl, (refl, (refl, (refl, (refl, (refl, (refl, (refl, (refl, tt))))))))))))))
+
+pub ends_so : view drivers (after drivers history) ≡ shown
+ends_so = refl

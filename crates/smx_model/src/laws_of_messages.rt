@@ -1,0 +1,25 @@
+//! Laws of messages, each the contract of a function that does nothing.
+
+ghost use Rattle.std.specs.Prelude.{List};
+ghost use Rattle.smx_types.specs.declared.command.Entry.{Entry};
+ghost use Rattle.smx_types.specs.declared.driver.DriverSpec.{DriverSpec};
+ghost use Rattle.smx_model.specs.FlowOrder.{IsInOrder};
+ghost use Rattle.smx_model.specs.Histories.{after, IsLegal};
+ghost use Rattle.smx_model.specs.LawfulHistories.{IsConserving};
+ghost use Rattle.smx_model.specs.Settling.{IsSettled};
+
+/// In a legal history serials count from 1, and each message that was taken in was delivered, was dropped or is
+/// queued, once.
+pub fn messages_are_conserved()
+    ensures { (drivers : List DriverSpec) (history : List Entry) → IsLegal drivers history → IsConserving drivers history }
+{}
+
+/// After any commands no message can move on: the moves of settling suffice.
+pub fn settling_ends()
+    ensures { (drivers : List DriverSpec) (history : List Entry) → IsSettled drivers (after drivers history) }
+{}
+
+/// After any commands the flow is in order of places.
+pub fn flow_is_in_order()
+    ensures { (drivers : List DriverSpec) (history : List Entry) → IsInOrder (after drivers history).flow }
+{}

@@ -1,0 +1,52 @@
+//! Laws of single commands, each the contract of a function that does nothing.
+
+ghost use Rattle.std.specs.Prelude.{◌≡◌, ℕ, List, IfOk};
+ghost use Rattle.smx_types.specs.declared.command.Command.{Command};
+ghost use Rattle.smx_types.specs.declared.command.Entry.{Entry};
+ghost use Rattle.smx_types.specs.declared.driver.DriverSpec.{DriverSpec};
+ghost use Rattle.smx_types.specs.declared.stream.Place.{Place};
+ghost use Rattle.smx_model.specs.Commands.{outcome, step};
+ghost use Rattle.smx_model.specs.Configuration.{Configuration, empty};
+ghost use Rattle.smx_model.specs.Histories.{after};
+ghost use Rattle.smx_model.specs.KeptConfigurations.{IsKept, IsSound};
+ghost use Rattle.smx_model.specs.Removal.{swept};
+ghost use Rattle.smx_model.specs.Settling.{moved, settled};
+
+/// The outcome of a command that is accepted is sound, before it is settled.
+pub fn outcomes_are_sound()
+    ensures { (drivers : List DriverSpec) (c : Configuration) (process : ℕ) (command : Command) → IsSound drivers c
+        → IfOk (outcome drivers c process command) (λ x. IsSound drivers x.0) }
+{}
+
+/// It needs no further sweep.
+pub fn outcomes_are_swept()
+    ensures { (drivers : List DriverSpec) (c : Configuration) (process : ℕ) (command : Command) → IsSound drivers c
+        → IfOk (outcome drivers c process command) (λ x. swept drivers x.0 ≡ x.0) }
+{}
+
+/// A move keeps a configuration sound.
+pub fn moves_keep_soundness()
+    ensures { (drivers : List DriverSpec) (c : Configuration) (p : Place) → IsSound drivers c → IsSound drivers (moved drivers c p) }
+{}
+
+/// Settling ends: after as many moves as there are messages times drivers no message can move on.
+pub fn settling_suffices()
+    ensures { (drivers : List DriverSpec) (c : Configuration) → IsSound drivers c → IsKept drivers (settled drivers c) }
+{}
+
+/// What every configuration is, each command keeps.
+pub fn commands_keep()
+    ensures { (drivers : List DriverSpec) (c : Configuration) (process : ℕ) (command : Command)
+        → IsKept drivers c → IsKept drivers (step drivers c process command).0 }
+{}
+
+/// The empty configuration is as every command leaves one.
+pub fn empty_is_kept()
+    ensures { (drivers : List DriverSpec) → IsKept drivers empty }
+{}
+
+/// So after any commands the configuration is sound and settled: there is no cycle, nothing is left of streams that
+/// don't exist, each list is in order, and no message can move on.
+pub fn configurations_are_kept()
+    ensures { (drivers : List DriverSpec) (history : List Entry) → IsKept drivers (after drivers history) }
+{}

@@ -1,0 +1,36 @@
+//! Laws of streams and what they hold, each the contract of a function that does nothing.
+
+ghost use Rattle.std.specs.Prelude.{◌↔◌, List, IsTrue};
+ghost use Rattle.std.specs.List.{All};
+ghost use Rattle.smx_types.specs.declared.command.Entry.{Entry};
+ghost use Rattle.smx_types.specs.declared.driver.DriverSpec.{DriverSpec};
+ghost use Rattle.smx_types.specs.declared.stream.StreamId.{StreamId};
+ghost use Rattle.smx_model.specs.Configuration.{Configuration};
+ghost use Rattle.smx_model.specs.Histories.{after};
+ghost use Rattle.smx_model.specs.KnownStreams.{AreStreamsKnown, IsKnown};
+ghost use Rattle.smx_model.specs.Removal.{swept};
+ghost use Rattle.smx_model.specs.SoundLinks.{AreLinksSound};
+ghost use Rattle.smx_model.specs.Standing.{exists, Stands};
+ghost use Rattle.smx_model.specs.Swept.{IsSwept};
+
+/// Without a cycle a stream exists exactly where it stands within some number of climbs: as many climbs as there are
+/// drivers suffice. It needs no sweep before.
+pub fn climbs_suffice()
+    ensures { (drivers : List DriverSpec) (c : Configuration) (s : StreamId) → AreLinksSound c.links → All (λ l. IsKnown drivers l.ctl) c.links
+        → (IsTrue (exists drivers c s) ↔ Stands c s) }
+{}
+
+/// After any commands each part of the configuration names a stream that its drivers have.
+pub fn streams_are_known()
+    ensures { (drivers : List DriverSpec) (history : List Entry) → AreStreamsKnown drivers (after drivers history) }
+{}
+
+/// What a sweep leaves is swept.
+pub fn sweeping_is_enough()
+    ensures { (drivers : List DriverSpec) (c : Configuration) → IsSwept drivers (swept drivers c) }
+{}
+
+/// After any commands nothing is left of streams that don't exist.
+pub fn nothing_is_left()
+    ensures { (drivers : List DriverSpec) (history : List Entry) → IsSwept drivers (after drivers history) }
+{}

@@ -1,0 +1,14 @@
+//! Laws of the view, each the contract of a function that does nothing.
+
+ghost use Rattle.std.specs.Prelude.{◌≡◌, List};
+ghost use Rattle.smx_types.specs.declared.driver.DriverSpec.{DriverSpec};
+ghost use Rattle.smx_model.specs.Configuration.{Configuration};
+ghost use Rattle.smx_model.specs.DriverList.{IsDriverList};
+ghost use Rattle.smx_model.specs.KeptConfigurations.{IsSound};
+ghost use Rattle.smx_model.specs.Views.{view};
+
+/// Configurations that are shown in the same way are the same.
+pub fn views_tell_configurations_apart()
+    ensures { (drivers : List DriverSpec) (c d : Configuration) → IsDriverList drivers → IsSound drivers c → IsSound drivers d
+        → view drivers c ≡ view drivers d → c ≡ d }
+{}

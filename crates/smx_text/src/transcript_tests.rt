@@ -1,0 +1,256 @@
+//! Transcripts that were typed in, read and written again.
+
+use super::{Cause, TextFault, read_transcript, write_transcript};
+use std::test::Fail;
+
+const MARKS_ACROSS_THE_JOIN: &[u8] = b"transcript 1
+driver ip mux 4 8 3 16
+driver eth leaf 2 8 3 16
+0 clone ip = fd 0 0
+0 clone eth = fd 1 0
+0 link 0 1 = id 1
+0 route 0 5 1 = done
+0 write 0 5 00000001 = took 1
+0 write 0 5 00000002 = took 2
+0 write 0 5 00000003 = took 3
+0 write 0 5 00000004 = took 4
+0 write 0 5 00000005 = EAGAIN full
+0 transmit eth 0 = got 1 5 00000001
+0 write 0 5 00000005 = EAGAIN full
+0 transmit eth 0 = got 2 5 00000002
+0 write 0 5 00000005 = took 5
+config
+next 2 6
+fd 0 0 ip 0
+fd 0 1 eth 0
+link 1 ip 0 eth 0 link
+route ip 5 1
+msg ip 0 w 5 5 00000005
+msg eth 0 w 3 5 00000003
+msg eth 0 w 4 5 00000004
+full eth 0 w
+end
+";
+
+const WAYS_BY_ROUTE_AND_BINDING: &[u8] = b"transcript 1
+driver ip mux 4 8 3 16
+driver eth leaf 2 8 3 16
+0 clone ip = fd 0 0
+0 clone eth = fd 1 0
+0 clone eth = fd 2 1
+0 link 0 1 = id 1
+0 link 0 2 = id 2
+0 route 0 5 1 = done
+0 write 0 5 0102030405060708 = took 1
+0 write 0 5 0a = took 2
+0 route 0 5 2 = done
+0 transmit eth 1 = got 2 5 0a
+0 transmit eth 0 = got 1 5 0102030405060708
+0 inject eth 0 9 cc = took 3
+0 bind 0 9 = done
+0 read 0 = got 3 9 cc
+0 unlink 0 1 = done
+0 inject eth 0 9 dd = took 4
+0 plink 0 1 = id 3
+0 read 0 = got 4 9 dd
+config
+next 4 5
+fd 0 0 ip 0
+fd 0 1 eth 0
+fd 0 2 eth 1
+link 2 ip 0 eth 1 link
+link 3 ip 0 eth 0 plink
+bind ip 9 0
+route ip 5 2
+end
+";
+
+const SIZES_AND_ENDS: &[u8] = b"transcript 1
+driver eth leaf 1 4 0 2
+0 clone eth = fd 0 0
+0 write 0 5 - = ERANGE
+0 write 0 5 aabb = took 1
+0 write 0 5 aabbcc = ERANGE
+0 inject eth 0 0 - = ERANGE
+0 inject eth 0 4294967295 ccdd = took 2
+0 inject eth 0 0 ccddee = ERANGE
+0 read 0 = got 2 4294967295 ccdd
+0 clone eth = ENXIO minor
+0 clone tr = ENXIO driver
+0 open eth 1 = ENXIO minor
+0 write 0 5 aabb = took 3
+0 write 0 5 aabb = EAGAIN full
+0 write 0 5 - = ERANGE
+0 flush 0 w = done 1 3
+0 write 0 5 01 = took 4
+config
+next 1 5
+fd 0 0 eth 0
+msg eth 0 w 4 5 01
+end
+";
+
+const ORDER_OF_REFUSALS: &[u8] = b"transcript 1
+driver a mux 2 8 3 16
+driver b mux 2 8 3 16
+driver eth leaf 2 8 3 16
+0 clone a = fd 0 0
+0 clone b = fd 1 0
+0 clone eth = fd 2 0
+0 link 0 0 = EINVAL cycle
+0 link 2 0 = EINVAL notmux
+0 link 2 9 = EBADF fd
+0 link 0 1 = id 1
+0 link 1 2 = EINVAL below
+0 clone b = fd 3 1
+0 link 3 1 = EINVAL already
+0 plink 0 2 = id 2
+0 link 2 9 = EBADF fd
+0 link 2 0 = EINVAL below
+0 unlink 2 1 = EINVAL below
+config
+next 3 1
+fd 0 0 a 0
+fd 0 1 b 0
+fd 0 2 eth 0
+fd 0 3 b 1
+link 1 a 0 b 0 link
+link 2 a 0 eth 0 plink
+end
+";
+
+#[test]
+fn reads_and_writes_again(rt: HostRuntime) -> Result<(), Fail> {
+    let texts = [
+        MARKS_ACROSS_THE_JOIN,
+        WAYS_BY_ROUTE_AND_BINDING,
+        SIZES_AND_ENDS,
+        ORDER_OF_REFUSALS,
+    ];
+    for text in texts {
+        let transcript = read_transcript(rt.alloc(), text)?;
+        let written = write_transcript(rt.alloc(), &transcript)?;
+        assert_eq!(rt; written.as_slice(), text);
+    }
+    Ok(())
+}
+
+// The fault of a text whose second line is this.
+fn fault_of(rt: &HostRuntime, line: &[u8]) -> Result<Option<TextFault>, Fail> {
+    let mut text = Vec::from_slice(rt.alloc(), b"transcript 1\n".as_slice())?;
+    text.extend_from_slice(line)?;
+    text.extend_from_slice(b"\nconfig\nnext 1 1\nend\n")?;
+    Ok(read_transcript(rt.alloc(), text.as_slice()).err())
+}
+
+#[test]
+fn takes_each_reply(rt: HostRuntime) -> Result<(), Fail> {
+    let lines = [
+        b"0 exit = done".as_slice(),
+        b"0 exit = done 1 2 3".as_slice(),
+        b"63 exit = fd 1 2".as_slice(),
+        b"0 clone a = took 4294967295".as_slice(),
+        b"0 read 0 = got 1 2 -".as_slice(),
+        b"0 dup 0 = id 0".as_slice(),
+        b"0 dup 0 = EMFILE".as_slice(),
+        b"0 dup 0 = EINVAL unrouted".as_slice(),
+    ];
+    for line in lines {
+        assert_eq!(rt; fault_of(&rt, line)?, None);
+    }
+    Ok(())
+}
+
+#[test]
+fn refuses_ill_formed_entries(rt: HostRuntime) -> Result<(), Fail> {
+    let lines = [
+        b"64 exit = done".as_slice(),
+        b"0 exit".as_slice(),
+        b"0 exit = ".as_slice(),
+        b"0 exit =".as_slice(),
+        b"0 exit= done".as_slice(),
+        b"0 exit =done".as_slice(),
+        b"0 exit  = done".as_slice(),
+        b"0 exit = done ".as_slice(),
+        b"0 exit = done 01".as_slice(),
+        b"0 exit = done = done".as_slice(),
+        b"0 = done".as_slice(),
+        b"0 inject eth 0 0 AA = done".as_slice(),
+        b"0 inject eth 0 0 aab = done".as_slice(),
+        b"0 read 0 = got 1 2 A0".as_slice(),
+        b"0 read 0 = got 1 2".as_slice(),
+        b"0 read 0 = EINVAL".as_slice(),
+        b"0 read 0 = EMFILE fd".as_slice(),
+        b"next 1 1".as_slice(),
+        b"fd 0 0 ip 0".as_slice(),
+        b"end".as_slice(),
+        b"process 0".as_slice(),
+        b"clone ip".as_slice(),
+    ];
+    let fault = TextFault {
+        line: 2,
+        cause: Cause::Form,
+    };
+    for line in lines {
+        assert_eq!(rt; fault_of(&rt, line)?, Some(fault));
+    }
+    Ok(())
+}
+
+#[test]
+fn names_the_line_at_fault(rt: HostRuntime) {
+    let refused = [
+        (b"".as_slice(), 1, Cause::Cut),
+        (b"programs 1\n".as_slice(), 1, Cause::Header),
+        (
+            b"transcript 1\ndriver ip mux 4 8 3 16\n0 clone ip = fd 0 0\n1 clone".as_slice(),
+            4,
+            Cause::Cut,
+        ),
+        (
+            b"transcript 1\nconfig\nnext 1 1\n".as_slice(),
+            4,
+            Cause::Cut,
+        ),
+        (b"transcript 1\nconfig\nend\n".as_slice(), 3, Cause::Form),
+        (
+            b"transcript 1\nconfig\nnext 1 1\nnext 1 1\nend\n".as_slice(),
+            4,
+            Cause::Form,
+        ),
+        (
+            b"transcript 1\nconfig\nnext 1 1\nroute ip 5 1\nbind ip 9 0\nend\n".as_slice(),
+            5,
+            Cause::Form,
+        ),
+        (
+            b"transcript 1\nconfig\nnext 1 1\nend\n ".as_slice(),
+            5,
+            Cause::Trailing,
+        ),
+    ];
+    for (text, line, cause) in refused {
+        assert_eq!(rt;
+            read_transcript(rt.alloc(), text).err(),
+            Some(TextFault { line, cause })
+        );
+    }
+}
+
+#[test]
+fn refuses_the_65th_driver(rt: HostRuntime) -> Result<(), Fail> {
+    let mut text = Vec::from_slice(rt.alloc(), b"transcript 1\n".as_slice())?;
+    for _ in 0u32..65 {
+        text.extend_from_slice(b"driver ip mux 4 8 3 16\n")?;
+    }
+    text.extend_from_slice(b"config\nnext 1 1\nend\n")?;
+    let fault = TextFault {
+        line: 66,
+        cause: Cause::Many,
+    };
+    assert_eq!(rt;
+        read_transcript(rt.alloc(), text.as_slice()).err(),
+        Some(fault)
+    );
+    Ok(())
+}

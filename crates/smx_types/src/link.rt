@@ -1,0 +1,40 @@
+//! Links below a multiplexing driver, and how it finds its way over them.
+
+use crate::stream::StreamId;
+
+/// How long a link stays.
+#[derive(Clone, Copy, Debug, PartialEq, Eq)]
+pub enum LinkKind {
+    /// Until it is removed, or its controlling stream is closed for the last time.
+    Ordinary,
+    /// Until it is removed.
+    Persistent,
+}
+
+/// A stream that is linked below a multiplexing driver.
+#[derive(Clone, Copy, Debug, PartialEq, Eq)]
+pub struct Link {
+    /// The multiplexor id: from 1, and never used again.
+    pub id: u32,
+    /// The controlling stream, on which the link was made; its driver is the upper one.
+    pub ctl: StreamId,
+    /// The stream below.
+    pub lower: StreamId,
+    pub kind: LinkKind,
+}
+
+/// An address that is bound to a stream of a driver: messages for it go up there.
+#[derive(Clone, Copy, Debug, PartialEq, Eq)]
+pub struct Binding {
+    pub driver: u8,
+    pub addr: u32,
+    pub minor: u8,
+}
+
+/// The link down which a driver sends the messages for an address, by its id.
+#[derive(Clone, Copy, Debug, PartialEq, Eq)]
+pub struct Route {
+    pub driver: u8,
+    pub addr: u32,
+    pub id: u32,
+}

@@ -1,0 +1,182 @@
+//! A configuration as it is shown: its drivers by name, its parts as groups of lines.
+
+ghost use Rattle.std.specs.Prelude.{◌≡◌, ◌↔◌, IsTrue, IfOk};
+
+use crate::items::{Copied, Items};
+use crate::link::LinkKind;
+use crate::memory::NoMemory;
+use crate::message::Message;
+use crate::name::Name;
+use crate::process::Process;
+use crate::stream::Side;
+use std::alloc::Global;
+
+/// An open descriptor: its process, its number, and the driver and minor of its stream.
+#[derive(Clone, Copy, Debug, PartialEq, Eq)]
+pub struct DescriptorLine {
+    pub process: Process,
+    pub fd: u32,
+    pub driver: Name,
+    pub minor: u32,
+}
+
+/// A link: its id, its controlling stream, its lower stream and its kind.
+#[derive(Clone, Copy, Debug, PartialEq, Eq)]
+pub struct LinkLine {
+    pub id: u32,
+    pub ctl_driver: Name,
+    pub ctl_minor: u32,
+    pub lower_driver: Name,
+    pub lower_minor: u32,
+    pub kind: LinkKind,
+}
+
+/// An address of a driver that is bound, and the minor of the stream that it is bound to.
+#[derive(Clone, Copy, Debug, PartialEq, Eq)]
+pub struct BindingLine {
+    pub driver: Name,
+    pub addr: u32,
+    pub minor: u32,
+}
+
+/// An address that a driver has a route for, and the id of the link that it goes down.
+#[derive(Clone, Copy, Debug, PartialEq, Eq)]
+pub struct RouteLine {
+    pub driver: Name,
+    pub addr: u32,
+    pub id: u32,
+}
+
+/// A message that is queued, and its place.
+#[derive(Debug, Drop, PartialEq)]
+pub struct MessageLine {
+    pub driver: Name,
+    pub minor: u32,
+    pub side: Side,
+    pub message: Message,
+}
+
+/// A place whose queue is full.
+#[derive(Clone, Copy, Debug, PartialEq, Eq)]
+pub struct FullLine {
+    pub driver: Name,
+    pub minor: u32,
+    pub side: Side,
+}
+
+/// Descriptors as they are shown, by rising process and number.
+pub type DescriptorLines = Items<DescriptorLine>;
+
+/// Links as they are shown, by rising id.
+pub type LinkLines = Items<LinkLine>;
+
+/// Bindings as they are shown, by rising number of the driver and address.
+pub type BindingLines = Items<BindingLine>;
+
+/// Routes as they are shown, by rising number of the driver and address.
+pub type RouteLines = Items<RouteLine>;
+
+/// Queued messages as they are shown, by rising place, and from the front within a place.
+pub type MessageLines = Items<MessageLine>;
+
+/// Full places as they are shown, rising.
+pub type FullLines = Items<FullLine>;
+
+/// A configuration as it is shown.
+#[derive(Debug, Drop, PartialEq)]
+pub struct ConfigView {
+    /// The id that the next link gets. Ids start from 1.
+    pub next_id: u32,
+    /// The serial that the next message gets. Serials start from 1.
+    pub next_serial: u32,
+    pub fds: DescriptorLines,
+    pub links: LinkLines,
+    pub binds: BindingLines,
+    pub routes: RouteLines,
+    pub msgs: MessageLines,
+    pub fulls: FullLines,
+}
+
+impl MessageLine {
+    /// The same line again. Fails only for want of memory.
+    pub fn copy(&self, alloc: Global) -> Result<MessageLine, NoMemory>
+        ensures { IfOk result (λ c. c ≡ self.now) }
+    {
+        let message = self.message.copy(alloc)?;
+        Ok(MessageLine {
+            driver: self.driver,
+            minor: self.minor,
+            side: self.side,
+            message,
+        })
+    }
+}
+
+impl ConfigView {
+    /// The same view again. Fails only for want of memory.
+    pub fn copy(&self, alloc: Global) -> Result<ConfigView, NoMemory>
+        ensures { IfOk result (λ c. c ≡ self.now) }
+    {
+        let fds = self.fds.copy(alloc)?;
+        let links = self.links.copy(alloc)?;
+        let binds = self.binds.copy(alloc)?;
+        let routes = self.routes.copy(alloc)?;
+        let msgs = self.msgs.copy(alloc)?;
+        let fulls = self.fulls.copy(alloc)?;
+        Ok(ConfigView {
+            next_id: self.next_id,
+            next_serial: self.next_serial,
+            fds,
+            links,
+            binds,
+            routes,
+            msgs,
+            fulls,
+        })
+    }
+}
+
+impl ConfigView {
+    /// Whether both views are the same. Takes no memory.
+    pub fn is_same(&self, other: &ConfigView) -> bool
+        ensures { IsTrue result ↔ (self.now ≡ other.now) }
+    {
+        self == other
+    }
+}
+
+impl Copied for DescriptorLine {
+    fn copied(&self, _alloc: Global) -> Result<DescriptorLine, NoMemory> {
+        Ok(*self)
+    }
+}
+
+impl Copied for LinkLine {
+    fn copied(&self, _alloc: Global) -> Result<LinkLine, NoMemory> {
+        Ok(*self)
+    }
+}
+
+impl Copied for BindingLine {
+    fn copied(&self, _alloc: Global) -> Result<BindingLine, NoMemory> {
+        Ok(*self)
+    }
+}
+
+impl Copied for RouteLine {
+    fn copied(&self, _alloc: Global) -> Result<RouteLine, NoMemory> {
+        Ok(*self)
+    }
+}
+
+impl Copied for MessageLine {
+    fn copied(&self, alloc: Global) -> Result<MessageLine, NoMemory> {
+        self.copy(alloc)
+    }
+}
+
+impl Copied for FullLine {
+    fn copied(&self, _alloc: Global) -> Result<FullLine, NoMemory> {
+        Ok(*self)
+    }
+}
