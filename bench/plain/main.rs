@@ -26,12 +26,25 @@ struct Driver {
     max: u32,
 }
 
+// The two commands with bytes are never made: they stand here so that entries are as large as elsewhere.
+#[allow(dead_code)]
 enum Command {
     OpenClone(Name),
     OpenMinor(Name, u32),
     Dup(u32),
     Close(u32),
     CloseAll,
+    Write {
+        fd: u32,
+        addr: u32,
+        bytes: Vec<u8>,
+    },
+    Inject {
+        driver: Name,
+        minor: u32,
+        addr: u32,
+        bytes: Vec<u8>,
+    },
 }
 
 enum Line {
@@ -255,9 +268,19 @@ struct Descriptor {
     minor: u32,
 }
 
+// The same holds of the reply with bytes.
+#[allow(dead_code)]
 enum Reply {
-    Fd { fd: u32, minor: u32 },
-    Done,
+    Fd {
+        fd: u32,
+        minor: u32,
+    },
+    Done(Vec<u32>),
+    Got {
+        serial: u32,
+        addr: u32,
+        bytes: Vec<u8>,
+    },
 }
 
 // What is open, by rising process and number.
@@ -289,11 +312,12 @@ impl Config<'_> {
             Command::Close(fd) => {
                 let i = self.place_of(process, *fd)?;
                 self.fds.remove(i);
-                Ok(Reply::Done)
+                Ok(Reply::Done(Vec::new()))
             }
+            Command::Write { .. } | Command::Inject { .. } => Err("ENXIO minor"),
             Command::CloseAll => {
                 self.fds.retain(|d| d.process != process);
-                Ok(Reply::Done)
+                Ok(Reply::Done(Vec::new()))
             }
         }
     }
@@ -420,7 +444,7 @@ fn put_entry(out: &mut Vec<u8>, entry: &Entry) {
             put_number(out, *fd);
             put_number(out, *minor);
         }
-        Ok(Reply::Done) => out.extend_from_slice(b"done"),
+        Ok(Reply::Done(_)) | Ok(Reply::Got { .. }) => out.extend_from_slice(b"done"),
         Err(fault) => out.extend_from_slice(fault.as_bytes()),
     }
     out.push(b'\n');
@@ -445,6 +469,7 @@ fn put_command(out: &mut Vec<u8>, command: &Command) {
             out.extend_from_slice(b" close");
             put_number(out, *fd);
         }
+        Command::Write { .. } | Command::Inject { .. } => {}
         Command::CloseAll => out.extend_from_slice(b" exit"),
     }
 }
