@@ -1,12 +1,14 @@
 -- What a swept change comes to.
-use Rattle.std.proofs.Common.{◌≡◌, ℕ, true, ◌&&◌, not, eqb, List, [], ◌∷◌, filter, Ok, refl, ap, ◌∙◌}
-use Rattle.std.proofs.lemmas.Bool.{and_parts, and_from, or_left, or_right, eq-eqb}
+use Rattle.std.proofs.Common.{◌≡◌, ℕ, Bool, true, ◌&&◌, not, eqb, List, [], ◌∷◌, filter, Ok, refl, ap, ◌∙◌, inl, inr}
+use Rattle.std.proofs.lemmas.Bool.{cases_Bool, and_parts, and_from, or_left, or_right, eq-eqb}
 use Rattle.std.specs.List.{list_any, list_all}
 use Rattle.smx_types.specs.declared.command.Command.TheVariants as command
 use Rattle.smx_types.specs.declared.command.Which.{Which}
 use Rattle.smx_types.specs.declared.command.Which.TheVariants as which
+use Rattle.smx_types.specs.declared.link.Binding.{Binding}
 use Rattle.smx_types.specs.declared.link.LinkKind.{LinkKind}
 use Rattle.smx_types.specs.declared.link.LinkKind.TheVariants as kind
+use Rattle.smx_types.specs.declared.link.Route.{Route}
 use Rattle.smx_types.specs.declared.reply.Fault.TheVariants.{NoLink, Unbound, Unrouted}
 use Rattle.smx_types.specs.declared.stream.StreamId.{StreamId}
 use Rattle.smx_types.specs.declared.driver.DriverSpec.{DriverSpec}
@@ -19,7 +21,6 @@ use Rattle.smx_model.specs.Lookups.{mux_stream}
 use Rattle.smx_model.specs.Outcomes.{refuse}
 use Rattle.smx_model.specs.Removal.{serials, swept, removed, gone_from}
 use Rattle.smx_model.specs.Swept.{IsSwept}
-use Rattle.smx_config.proofs.IdleLemmas.{fewer_binds, other_routes}
 use Rattle.smx_config.specs.Owners.{is_chosen, are_there, unlinks}
 
 pub done_is : (drivers : List DriverSpec) (c new d : Configuration) (old : List ℕ) (r : Reply) → d ≡ swept drivers new → old ≡ serials c.flow
@@ -61,15 +62,38 @@ done_idle drivers c new idle same =
     ∙ ap (λ (f : List Held). Ok (new, Done (gone_from c.flow f))) same
     ∙ ap (λ (ns : List ℕ). Ok (new, Done ns)) (none_gone c.flow)
 
-pub unbind_does : (drivers : List DriverSpec) (c : Configuration) (process fd : ℕ) (s : StreamId) (new : Configuration) (r : Reply) → IsSwept drivers c → mux_stream drivers c process fd ≡ Ok s
+-- without a few bindings, or with other routes, it stays swept
+
+all_fewer : {X : Type 0} (t u : X → Bool) (xs : List X) → list_all t xs ≡ true → list_all t (filter u xs) ≡ true
+all_fewer t u [] h = refl
+all_fewer t u (x ∷ xs) h = let p = and_parts (t x) (list_all t xs) h in elim (cases_Bool (u x)) [ inl a ↦ rw a (and_from _ _ p.0 (all_fewer t u xs p.1)) | inr b ↦ rw b (all_fewer t u xs p.1) ]
+
+fewer_binds : (drivers : List DriverSpec) (c : Configuration) (t : Binding → Bool) → IsSwept drivers c → IsSwept drivers (record c { binds = filter t c.binds })
+fewer_binds drivers c t h = record { links = h.links; binds = all_fewer _ t c.binds h.binds; flow = h.flow; fulls = h.fulls }
+
+other_routes : (drivers : List DriverSpec) (c : Configuration) (routes : List Route) → IsSwept drivers c → IsSwept drivers (record c { routes = routes })
+other_routes drivers c routes h = record { links = h.links; binds = h.binds; flow = h.flow; fulls = h.fulls }
+
+-- what the law of the model says: sweeping what is swept changes nothing
+abbrev StaysSwept : List DriverSpec → Type 0
+StaysSwept drivers = (c : Configuration) → IsSwept drivers c → swept drivers c ≡ c
+
+pub unbind_does : (drivers : List DriverSpec) (c : Configuration) (process fd : ℕ) (s : StreamId) (new : Configuration) (r : Reply) → StaysSwept drivers → IsSwept drivers c → mux_stream drivers c process fd ≡ Ok s
     → refuse Unbound (not (list_any (λ b. eqb b.driver s.driver && eqb b.minor s.minor) c.binds)) ≡ Ok tt
     → new ≡ record c { binds = filter (λ b. not (eqb b.driver s.driver && eqb b.minor s.minor)) c.binds } → r ≡ Done [] → outcome drivers c process (command.Unbind fd) ≡ Ok (new, r)
-unbind_does drivers c process fd s new r clean e there is none = rw (e, there, is, none) (done_idle drivers c (record c { binds = filter (λ b. not (eqb b.driver s.driver && eqb b.minor s.minor)) c.binds }) (fewer_binds drivers c (λ b. not (eqb b.driver s.driver && eqb b.minor s.minor)) clean) refl)
+unbind_does drivers c process fd s new r stays clean e there is none = rw (e, there, is, none) (done_idle drivers c left (stays left (fewer_binds drivers c other clean)) refl) where
+  other : Binding → Bool
+  other b = not (eqb b.driver s.driver && eqb b.minor s.minor)
 
-pub unroute_does : (drivers : List DriverSpec) (c : Configuration) (process fd addr : ℕ) (s : StreamId) (new : Configuration) (r : Reply) → IsSwept drivers c → mux_stream drivers c process fd ≡ Ok s
+  left : Configuration
+  left = record c { binds = filter other c.binds }
+
+pub unroute_does : (drivers : List DriverSpec) (c : Configuration) (process fd addr : ℕ) (s : StreamId) (new : Configuration) (r : Reply) → StaysSwept drivers → IsSwept drivers c → mux_stream drivers c process fd ≡ Ok s
     → refuse Unrouted (not (list_any (λ x. eqb x.driver s.driver && eqb x.addr addr) c.routes)) ≡ Ok tt
     → new ≡ record c { routes = filter (λ x. not (eqb x.driver s.driver && eqb x.addr addr)) c.routes } → r ≡ Done [] → outcome drivers c process (command.Unroute fd addr) ≡ Ok (new, r)
-unroute_does drivers c process fd addr s new r clean e there is none = rw (e, there, is, none) (done_idle drivers c (record c { routes = filter (λ x. not (eqb x.driver s.driver && eqb x.addr addr)) c.routes }) (other_routes drivers c (filter (λ x. not (eqb x.driver s.driver && eqb x.addr addr)) c.routes) clean) refl)
+unroute_does drivers c process fd addr s new r stays clean e there is none = rw (e, there, is, none) (done_idle drivers c left (stays left (other_routes drivers c left.routes clean)) refl) where
+  left : Configuration
+  left = record c { routes = filter (λ x. not (eqb x.driver s.driver && eqb x.addr addr)) c.routes }
 
 -- ---- both kinds of links at once
 

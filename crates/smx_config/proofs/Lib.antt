@@ -11,7 +11,6 @@ pub mod KnownLemmas
 pub mod LookupLemmas
 pub mod DescriptorLemmas
 pub mod DoneLemmas
-pub mod IdleLemmas
 pub mod DriverListLemmas
 pub mod PerformLemmas
 pub mod CountLemmas

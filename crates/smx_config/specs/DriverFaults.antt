@@ -1,5 +1,5 @@
 -- Why a list of drivers is refused: the first driver that spoils it.
-use Rattle.std.specs.Prelude.{◌≡◌, ℕ, ◌<◌, List, length, take, Any, Ok, Err, Some, slice_get}
+use Rattle.std.specs.Prelude.{◌≡◌, ℕ, ◌<◌, ◌≤◌, List, length, take, Any, Ok, Err, Some, slice_get}
 use Rattle.smx_types.specs.Drivers.{checked}
 use Rattle.smx_types.specs.declared.driver.DriverSpec.{DriverSpec}
 use Rattle.smx_types.specs.declared.limits.TheConstants.{MAX_DRIVERS}
@@ -7,8 +7,9 @@ use Rattle.smx_model.specs.DriverList.{IsDriverList}
 use Rattle.smx_config.specs.declared.fault.ConfigFault.{ConfigFault}
 use Rattle.smx_config.specs.declared.fault.ConfigFault.TheVariants.{BadSpec, SameName, TooMany, NoMemory}
 
--- the drivers before it are in order, numbered from 0
+-- there are not too many, and the drivers before this one are in order, numbered from 0
 pub record IsFirstBad (drivers : List DriverSpec) (i : ℕ) (d : DriverSpec) : Type 0 where
+  pub few : length drivers ≤ MAX_DRIVERS
   pub here : slice_get drivers i ≡ Some d
   pub before : IsDriverList (take i drivers)
 

@@ -1,6 +1,6 @@
 //! Laws of streams and what they hold, each the contract of a function that does nothing.
 
-ghost use Rattle.std.specs.Prelude.{◌↔◌, List, IsTrue};
+ghost use Rattle.std.specs.Prelude.{◌≡◌, ◌↔◌, List, IsTrue};
 ghost use Rattle.std.specs.List.{All};
 ghost use Rattle.smx_types.specs.declared.command.Entry.{Entry};
 ghost use Rattle.smx_types.specs.declared.driver.DriverSpec.{DriverSpec};
@@ -28,6 +28,11 @@ pub fn streams_are_known()
 /// What a sweep leaves is swept.
 pub fn sweeping_is_enough()
     ensures { (drivers : List DriverSpec) (c : Configuration) → IsSwept drivers (swept drivers c) }
+{}
+
+/// Sweeping what is swept changes nothing.
+pub fn sweeping_again_changes_nothing()
+    ensures { (drivers : List DriverSpec) (c : Configuration) → IsSwept drivers c → swept drivers c ≡ c }
 {}
 
 /// After any commands nothing is left of streams that don't exist.

@@ -8,7 +8,7 @@ returns-then-has_name-clause-accepted c = (λ h. absurd cc, λ h. absurd (taken_
 
 pub returns-then-has_name-clause-refused : goal.returns-then-has_name-clause-refused
 returns-then-has_name-clause-refused c =
-    (c.index-drivers-i.result, record { here = slice_get_read c.args.drivers.now _ c.loop-i.i c.index-drivers-i.result refl c.loop-i-test.true c.index-drivers-i.is; before = c.loop-i.invariant }, sym c.check.ensures ∙ c.in_default.is, c.has_name.ensures.0 c.if-has_name.true)
+    (c.index-drivers-i.result, record { few = omega arith; here = slice_get_read c.args.drivers.now _ c.loop-i.i c.index-drivers-i.result refl c.loop-i-test.true c.index-drivers-i.is; before = c.loop-i.invariant }, sym c.check.ensures ∙ c.in_default.is, c.has_name.ensures.0 c.if-has_name.true)
 
 pub loop-i-preserved : goal.loop-i-preserved
 loop-i-preserved c =
