@@ -3,7 +3,9 @@ use Rattle.std.proofs.Common.{◌≡◌, ℕ, zero, suc, ◌+◌, ◌-◌, ◌<�
 use Rattle.std.specs.Prelude.{◌==◌}
 use Rattle.std.proofs.lemmas.Bool.{cases_Bool, eqb-true}
 use Rattle.std.proofs.lemmas.Bool.Decides.{nat_tests}
-use Rattle.std.proofs.lemmas.List.{append-nil, take_more, length-take-le}
+use Rattle.std.specs.List.{sum_by}
+use Rattle.std.proofs.lemmas.List.{append-nil, take_more, length-take-le, length-append, length-map, map_push}
+use Rattle.std.proofs.lemmas.List.Sums.{sum_by-cons}
 use Rattle.smx_types.specs.declared.command.Command.{Command}
 use Rattle.smx_types.specs.declared.command.Entry.{Entry}
 use Rattle.smx_model.specs.Histories.{asked_of, commands_of, HoldsPrograms}
@@ -11,7 +13,7 @@ use Rattle.smx_types.specs.ProgramLists.{ProgramLists}
 use Rattle.smx_types.specs.declared.transcript.Transcript.{Transcript}
 use Rattle.smx_model.specs.DriverList.{IsDriverList}
 use Rattle.smx_model.specs.Headline.{IsReportOf}
-use Rattle.muxsim.specs.Recorded.{Recorded, Reports}
+use Rattle.muxsim.specs.Recorded.{Recorded, Reports, HasOneMore}
 use Rattle.muxsim.specs.Asked.{asked_by, asked_from}
 
 -- one process' commands among what was asked
@@ -61,6 +63,25 @@ pub holds : (es : List Entry) (programs : List (List Command)) → map asked_of 
 holds es programs e p =
     let here : p + 0 ≡ p = omega arith in
     picked_is p es ∙ ap (picked p) e ∙ ap (λ (q : ℕ). picked q (asked_from 0 programs)) (sym here) ∙ picked_at p 0 programs
+
+-- ---- as many as there are commands
+
+one_each : (n : ℕ) (cs : List Command) → length (asked_by n cs) ≡ length cs
+one_each n [] = refl
+one_each n (c ∷ cs) = ap suc (one_each n cs)
+
+count_from : (n : ℕ) (programs : List (List Command)) → length (asked_from n programs) ≡ sum_by length programs
+count_from n [] = refl
+count_from n (cs ∷ programs) =
+    omega (arith, length-append (asked_by n cs) (asked_from (n + 1) programs), one_each n cs, count_from (n + 1) programs, sum_by-cons (length {A = Command}) cs programs)
+
+pub as_many : (es : List Entry) (programs : List (List Command)) → map asked_of es ≡ asked_from 0 programs → length es ≡ sum_by length programs
+as_many es programs e = omega (arith, length-map es asked_of, ap (length {A = ℕ × Command}) e, count_from 0 programs)
+
+-- ---- one command more
+
+pub asked_more : (es fs : List Entry) (process : ℕ) (command : Command) → HasOneMore es fs process command → map asked_of fs ≡ map asked_of es ++ (process, command) ∷ []
+asked_more es fs process command h = ap (map asked_of) h.1 ∙ map_push asked_of es _
 
 -- ---- one program more
 

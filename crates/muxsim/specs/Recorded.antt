@@ -1,17 +1,24 @@
 -- The drivers of a system and the history that it has so far.
-use Rattle.std.specs.Prelude.{◌≡◌, List}
+use Rattle.std.specs.Prelude.{◌≡◌, ℕ, List, [], ◌∷◌, ◌++◌}
+use Rattle.smx_types.specs.declared.command.Command.{Command}
 use Rattle.smx_types.specs.declared.command.Entry.{Entry}
 use Rattle.smx_types.specs.declared.driver.DriverSpec.{DriverSpec}
 use Rattle.smx_model.specs.DriverList.{IsDriverList}
+use Rattle.smx_types.specs.declared.reply.Reply.{Reply}
 use Rattle.smx_types.specs.declared.transcript.Transcript.{Transcript}
 use Rattle.smx_model.specs.Histories.{IsLegal, after}
 use Rattle.smx_model.specs.LawfulHistories.{IsLawfulThroughout}
 use Rattle.smx_model.specs.Views.{view}
 use Rattle.smx_config.specs.Machine.{Machine}
 
+-- what a contract sees of a system
 pub record Recorded : Type 0 where
   pub drivers : List DriverSpec
   pub history : List Entry
+
+-- one entry more, of this command and some reply
+abbrev pub HasOneMore : (old new : List Entry) (process : ℕ) (command : Command) → Type 0
+HasOneMore old new process command = (reply : Reply) × (new ≡ old ++ (record { process = process; command = command; reply = reply }) ∷ [])
 
 -- the history is legal, and the configuration is the one after it
 pub record IsRecord (m : Machine) (history : List Entry) : Type 0 where

@@ -1,6 +1,7 @@
 -- Why a run is refused: its drivers are, or memory was wanting.
 use Rattle.std.specs.Prelude.{◌≢◌, List}
 use Rattle.smx_types.specs.declared.driver.DriverSpec.{DriverSpec}
+use Rattle.smx_model.specs.DriverList.{IsDriverList}
 use Rattle.smx_config.specs.declared.fault.ConfigFault.{ConfigFault}
 use Rattle.smx_config.specs.declared.fault.ConfigFault.TheVariants as config
 use Rattle.muxsim.specs.declared.fault.RunFault.{RunFault}
@@ -14,6 +15,7 @@ run_fault_of config.TooMany = run.ConfigFault config.TooMany
 run_fault_of (config.BadSpec i f) = run.ConfigFault (config.BadSpec i f)
 run_fault_of (config.SameName i) = run.ConfigFault (config.SameName i)
 
+-- the drivers are refused; or they are not, and memory was wanting
 abbrev pub RefusesRun : List DriverSpec → RunFault → Type 0
-RefusesRun drivers run.NoMemory = Unit {0}
+RefusesRun drivers run.NoMemory = IsDriverList drivers
 RefusesRun drivers (run.ConfigFault f) = RefusesDrivers drivers f × (f ≢ config.NoMemory)

@@ -8,7 +8,7 @@ use Rattle.smx_model.specs.Headline.{IsReportOf}
 use Rattle.smx_text.specs.ProgramsReading.{IsFault}
 use Rattle.smx_text.specs.declared.fault.TextFault.{TextFault}
 use Rattle.smx_text.specs.ProgramsText.{SpellsPrograms}
-use Rattle.smx_text.specs.TranscriptText.{transcript_text}
+use Rattle.smx_text.specs.TranscriptReading.{SpellsTranscript}
 use Rattle.smx_text.specs.Words.{split}
 use Rattle.smx_config.specs.declared.fault.ConfigFault.{ConfigFault}
 use Rattle.muxsim.specs.declared.fault.MainFault.{MainFault}
@@ -19,13 +19,13 @@ use Rattle.muxsim.specs.declared.input.TheConstants.{MAX_INPUT}
 use Rattle.muxsim.specs.Output.{AppendsFront}
 use Rattle.muxsim.specs.RunFaults.{RefusesRun}
 
--- the input spells some programs, and the output is the text of a report that is promised for them
+-- the input spells some programs, and the output spells a report that is promised for them
 pub record IsTranscriptFor (input output : List ℕ) : Type 0 where
   pub programs : ProgramLists
   pub report : Transcript
   pub spelled : SpellsPrograms input programs
   pub promised : IsReportOf programs report
-  pub text : output ≡ transcript_text report
+  pub written : SpellsTranscript output report
 
 -- the input spells some programs, and a run of them is refused so
 pub record IsRefusedFor (input : List ℕ) (fault : RunFault) : Type 0 where

@@ -5,9 +5,9 @@
 pub enum Job {
     /// To run the programs of the input and to write their transcript.
     Run {
-        /// On how many threads, 1 to 64.
+        /// How many workers are asked for, 1 to 64. The run doesn't look at it.
         workers: u64,
-        /// Whether to write what each process saw last in place of the transcript.
+        /// Always false: a run writes the transcript.
         fronts: bool,
     },
 }

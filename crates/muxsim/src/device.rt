@@ -54,7 +54,7 @@ pub trait Sink {
         ensures failed { OnErr result (failures self.new ≡ 1) };
 }
 
-/// A reader of std as a feed. Each error of its, an interrupted call too, is a failure.
+/// A reader of std as a feed. Each of its errors, an interrupted call too, is a failure.
 #[derive(Drop)]
 pub struct Source<R> {
     pub reader: R,
@@ -91,7 +91,8 @@ impl<R: Read> Feed for Source<R> {
     }
 }
 
-/// A writer of std as a sink. Each error of its, an interrupted call too, is a failure.
+/// A writer of std as a sink. Each of its errors, an interrupted call too, is a failure, and so is a write of some
+/// bytes that takes none.
 #[derive(Drop)]
 pub struct Target<W> {
     pub writer: W,

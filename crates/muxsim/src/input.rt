@@ -7,7 +7,7 @@ use crate::device::Feed;
 use crate::fault::MainFault;
 use std::alloc::Global;
 
-/// The most bytes that the program reads as its input.
+/// The most bytes that an input may have.
 pub const MAX_INPUT: usize = 16_777_216;
 
 // How many bytes one read asks for.

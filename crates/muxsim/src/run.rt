@@ -3,7 +3,7 @@
 ghost use Rattle.std.specs.Prelude.{◌≡◌, ◌≤◌, ◌++◌, length, map, IfOk, IfErr, OnOk};
 ghost use Rattle.smx_model.specs.Headline.{IsReportOf};
 ghost use Rattle.smx_model.specs.Histories.{asked_of};
-ghost use Rattle.smx_types.specs.declared.limits.TheConstants.{MAX_PROCESSES};
+ghost use Rattle.smx_types.specs.declared.limits.TheConstants.{MAX_COMMANDS, MAX_PROCESSES};
 ghost use Rattle.muxsim.specs.Asked.{asked_by, asked_from};
 ghost use Rattle.muxsim.specs.Recorded.{Reports};
 ghost use Rattle.muxsim.specs.RunFaults.{RefusesRun};
@@ -17,6 +17,7 @@ use std::alloc::Global;
 /// Refused for drivers that a configuration can't have, before any command is run, or for want of memory.
 pub fn run_programs(alloc: Global, programs: &Programs) -> Result<Transcript, RunFault>
     ensures report { IfOk result (IsReportOf programs.now) }
+    ensures few { IfOk result (λ t. length t.entries ≤ MAX_COMMANDS) }
     ensures refused { IfErr result (RefusesRun programs.now.drivers) }
 {
     let mut system = System::new(alloc, programs.drivers())?;

@@ -1,11 +1,12 @@
 //! A configuration together with the history that led to it.
 
-ghost use Rattle.std.specs.Prelude.{◌≡◌, ◌++◌, ◌∷◌, [], map, IfOk, IfErr, OnOk, OnErr};
+ghost use Rattle.std.specs.Prelude.{◌≡◌, [], IfOk, IfErr, OnOk, OnErr};
 ghost use Rattle.smx_model.specs.DriverList.{IsDriverList};
-ghost use Rattle.smx_model.specs.Histories.{IsLegal, after, asked_of};
+ghost use Rattle.smx_model.specs.Histories.{IsLegal, after};
 ghost use Rattle.smx_model.specs.LawfulHistories.{IsLawfulThroughout};
 ghost use Rattle.smx_model.specs.Views.{view};
 ghost use Rattle.smx_config.specs.DriverFaults.{RefusesDrivers};
+ghost use Rattle.muxsim.specs.Recorded.{HasOneMore};
 
 use smx_config::{Config, ConfigFault};
 use smx_model::laws::lawful_after_each_entry;
@@ -44,7 +45,8 @@ impl System {
         })
     }
 
-    /// Performs one command, and adds the entry of it and its reply; or memory was wanting, and nothing has changed.
+    /// Performs one command, and adds the entry of it and its reply after those before it, which stay; or memory was
+    /// wanting, and nothing has changed.
     pub fn apply(
         &mut self,
         alloc: Global,
@@ -52,7 +54,7 @@ impl System {
         command: &Command,
     ) -> Result<(), NoMemory>
         ensures drivers { self.new.drivers ≡ self.old.drivers }
-        ensures ok { OnOk result (map asked_of self.new.history ≡ map asked_of self.old.history ++ (process, command.now) ∷ []) }
+        ensures ok { OnOk result (HasOneMore self.old.history self.new.history process command.now) }
         ensures err { OnErr result (self.new ≡ self.old) }
     {
         self.entries.reserve(1)?;
@@ -68,7 +70,7 @@ impl System {
         Ok(())
     }
 
-    /// The configuration after the history, as it is shown.
+    /// The configuration after the history, as it is shown. Fails only for want of memory.
     pub fn show(&self) -> Result<ConfigView, NoMemory>
         ensures { IfOk result (λ v. v ≡ view self.now.drivers (after self.now.drivers self.now.history)) }
     {

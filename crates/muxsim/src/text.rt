@@ -12,8 +12,9 @@ use smx_text::{read_programs, write_transcript};
 use std::alloc::Global;
 
 /// Reads the programs that `feed` has, runs them, and writes the transcript of the run to `sink`. The
-/// processes are run by rising number on the calling thread, however many workers there are to be.
-/// Faults are found in this order: reading, text, drivers, run, writing.
+/// processes are run by rising number on the calling thread. Neither device has failed before; `_workers`
+/// is 1 to 64 and isn't looked at; `_fronts` is false. Faults are found in this order: reading, text,
+/// drivers, run, writing.
 pub fn run_text<F: Feed, S: Sink>(
     alloc: Global,
     feed: &mut F,

@@ -6,6 +6,7 @@ use Rattle.smx_config.specs.ListFields.{configuration_of}
 use Rattle.smx_config.specs.Machine.{Machine}
 use Rattle.smx_config.specs.Reserved.{HasRoom}
 
+-- the fields as the value that a contract sees
 abbrev pub machine_of : Inside → Machine
 machine_of c = record { drivers = c.drivers.items; configuration = configuration_of c.lists }
 

@@ -3,6 +3,7 @@ use Rattle.smx_config.specs.declared.lists.Lists.{Lists}
 use Rattle.smx_config.specs.declared.queued.Queued.TheInside.{Inside}
 use Rattle.smx_model.specs.Configuration.{Configuration, Held}
 
+-- the fields as a queued message
 abbrev pub held_of : Inside → Held
 held_of q = record { place = q.place; message = q.message }
 

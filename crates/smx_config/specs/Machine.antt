@@ -12,8 +12,8 @@ pub record Machine : Type 0 where
 
 -- commands for which all room is there already
 abbrev pub takes_no_memory : Command → Bool
-takes_no_memory (command.OpenClone name) = true
-takes_no_memory (command.OpenMinor name minor) = true
+takes_no_memory (command.OpenClone name) = false
+takes_no_memory (command.OpenMinor name minor) = false
 takes_no_memory (command.Dup fd) = true
 takes_no_memory (command.Close fd) = false
 takes_no_memory command.CloseAll = false

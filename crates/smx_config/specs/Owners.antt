@@ -39,6 +39,7 @@ abbrev pub is_chosen : Which → LinkKind → StreamId → Link → Bool
 is_chosen which.All k s l = is_mine k s l
 is_chosen (which.Id id) k s l = (l.id == id) && is_mine k s l
 
+-- a link that is named has to be there; links of no id need not be
 abbrev pub are_there : Which → LinkKind → StreamId → List Link → Result (Unit {0}) Fault
 are_there which.All k s links = Ok tt
 are_there (which.Id id) k s links = refuse NoLink (not (list_any (is_chosen (which.Id id) k s) links))

@@ -10,12 +10,14 @@ use Rattle.smx_model.specs.Removal.{emptied, is_read_below}
 use Rattle.smx_model.specs.Standing.{is_persistent, stands_within}
 use Rattle.smx_types.specs.declared.stream.Descriptor.{Descriptor}
 
+-- both ordinary, or both persistent
 abbrev pub same_kind : LinkKind → LinkKind → Bool
 same_kind kind.Ordinary kind.Ordinary = true
 same_kind kind.Ordinary kind.Persistent = false
 same_kind kind.Persistent kind.Ordinary = false
 same_kind kind.Persistent kind.Persistent = true
 
+-- alike in each part
 abbrev pub same_link : Link → Link → Bool
 same_link l k = (l.id == k.id) && (same_stream l.ctl k.ctl && (same_stream l.lower k.lower && same_kind l.kind k.kind))
 

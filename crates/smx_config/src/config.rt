@@ -80,8 +80,8 @@ impl Config {
     }
 
     /// Does a command of a process: its reply and the new configuration are those of the command table. Want of
-    /// memory changes nothing. Opening, sharing, unbinding, taking a route away, reading, transmitting and every
-    /// refusal take no memory, so they are always answered.
+    /// memory changes nothing. `dup`, `unbind`, `unroute`, `read`, `transmit` and every refusal take no memory, so
+    /// they are always answered.
     pub fn step(&mut self, process: Process, command: &Command) -> Result<Reply, NoMemory>
         ensures drivers { self.new.drivers ≡ self.old.drivers }
         ensures ok { IfOk result (λ r. step self.old.drivers self.old.configuration process command.now ≡ (self.new.configuration, r)) }

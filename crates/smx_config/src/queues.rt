@@ -1,6 +1,7 @@
 //! The messages that are queued at a place, and when its queue is full.
 
-ghost use Rattle.std.specs.Prelude.{◌≡◌, ◌<◌, ◌+◌, not, nat_le, nat_lt, ◌||◌, ◌&&◌, filter, position, option_map, length, vec_len, vec_capacity, IsTrue, IfSome};
+ghost use Rattle.std.specs.Prelude.{◌≡◌, ◌<◌, ◌+◌, not, nat_le, nat_lt, ◌||◌, ◌&&◌, filter, position};
+ghost use Rattle.std.specs.Prelude.{option_map, length, vec_len, vec_capacity, IsTrue, IfSome};
 ghost use Rattle.std.specs.List.{list_any};
 ghost use Rattle.smx_model.specs.Configuration.{same_place, is_at, held_before, place_before};
 ghost use Rattle.smx_model.specs.DriverList.{high_of, low_of};

@@ -3,7 +3,8 @@
 ghost use Rattle.std.specs.Prelude.{◌≡◌, ◌<◌, length, map, IfOk};
 ghost use Rattle.std.specs.List.{All};
 ghost use Rattle.smx_model.specs.DriverList.{name_of};
-ghost use Rattle.smx_model.specs.Views.{view_of_fd, view_of_link, view_of_bind, view_of_route, view_of_message, view_of_full};
+ghost use Rattle.smx_model.specs.Views.{view_of_fd, view_of_link, view_of_bind, view_of_route};
+ghost use Rattle.smx_model.specs.Views.{view_of_message, view_of_full};
 
 use crate::queued::Queued;
 use smx_types::{

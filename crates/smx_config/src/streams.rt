@@ -1,7 +1,8 @@
 //! Whether streams, sides and places are the same, and which comes first.
 
 ghost use Rattle.std.specs.Prelude.{◌≡◌};
-ghost use Rattle.smx_model.specs.Configuration.{same_stream, same_side, same_place, fd_before, bind_before, route_before, side_before, place_before, pair_before};
+ghost use Rattle.smx_model.specs.Configuration.{same_stream, same_side, same_place, fd_before, bind_before};
+ghost use Rattle.smx_model.specs.Configuration.{route_before, side_before, place_before, pair_before};
 
 use smx_types::{Binding, Descriptor, Place, Route, Side, StreamId};
 

@@ -1,4 +1,4 @@
--- The headline: what is promised of every report of a run, whatever programs come and however many workers run them.
+-- The headline: what is promised of every report of a run, whatever programs come.
 use Rattle.std.specs.Prelude.{◌≡◌}
 use Rattle.smx_types.specs.ProgramLists.{ProgramLists}
 use Rattle.smx_types.specs.declared.transcript.Transcript.{Transcript}

@@ -10,6 +10,7 @@ Outcome = Result (Configuration × Reply) Fault
 
 -- one after the other, up to the first fault
 infixl 10 ◌>>=◌
+-- with what came of the first, unless that was refused
 abbrev pub ◌>>=◌ : {A B : Type 0} → Result A Fault → (A → Result B Fault) → Result B Fault
 (Ok x) >>= f = f x
 (Err e) >>= f = Err e

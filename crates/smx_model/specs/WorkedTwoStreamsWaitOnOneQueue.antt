@@ -1,5 +1,5 @@
 -- Worked: of two streams that wait on one queue the lesser goes first, and none is forgotten.
-use Rattle.std.specs.Prelude.{◌≡◌, List, [], ◌∷◌, refl, codes}
+use Rattle.std.specs.Prelude.{◌≡◌, List, [], ◌∷◌, take, refl, codes}
 use Rattle.smx_types.specs.declared.command.Command.TheVariants as command
 use Rattle.smx_types.specs.declared.command.Entry.{Entry}
 use Rattle.smx_types.specs.declared.driver.DriverKind.TheVariants as driver
@@ -7,7 +7,9 @@ use Rattle.smx_types.specs.declared.driver.DriverSpec.{DriverSpec}
 use Rattle.smx_types.specs.declared.link.LinkKind.TheVariants as kind
 use Rattle.smx_types.specs.declared.reply.Fault.TheVariants as fault
 use Rattle.smx_types.specs.declared.reply.Reply.TheVariants as reply
+use Rattle.smx_types.specs.declared.stream.Side.TheVariants as side
 use Rattle.smx_types.specs.declared.view.ConfigView.{ConfigView}
+use Rattle.smx_types.specs.declared.view.MessageLine.{MessageLine}
 use Rattle.smx_model.specs.Histories.{IsLegal, after}
 use Rattle.smx_model.specs.Views.{view}
 
@@ -52,3 +54,13 @@ is_legal = (refl, (refl, (refl, (refl, (refl, (refl, (refl, (refl, (refl, (refl,
 
 pub ends_so : view drivers (after drivers history) ≡ shown
 ends_so = refl
+
+-- what is queued once the queue was drained for the first time: both streams have gone on, the lesser first
+abbrev pub woken : List MessageLine
+woken =
+    record { driver = codes "eth"; minor = 0; side = side.Write; message = record { serial = 3; addr = 5; bytes = 11 ∷ [] } }
+    ∷ record { driver = codes "eth"; minor = 0; side = side.Write; message = record { serial = 2; addr = 5; bytes = 10 ∷ [] } }
+    ∷ []
+
+pub both_wake : (view drivers (after drivers (take 9 history))).msgs ≡ woken
+both_wake = refl

@@ -1,4 +1,4 @@
-//! The sequential configuration as lists: all that a contract cites, and laws about it. No running code.
+//! The sequential configuration as lists: all that a contract says of one, and laws about it. No running code.
 #![tactic(auto)]
 
 pub mod laws;

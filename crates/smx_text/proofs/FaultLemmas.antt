@@ -48,10 +48,13 @@ module _ (bytes rest : List ℕ) (v : ProgramLists) (number : ℕ) (text after :
       let w = whole in
       (v, text, at.allowed, w, λ k fits may e. let again = read_again text k fits e in absurd cc, at.numbered)
 
+  out_of_memory : IsFault (split 10 bytes) number cause.NoMemory
+  out_of_memory = (front v, text, inr (v, at.allowed, refl), whole, at.numbered)
+
   -- the line was not read
   pub unread : (f : TextFault) → IsUnread (line_at (split 32 text)) number f → IsFault (split 10 bytes) f.line f.cause
   unread f (inl h) = subst (λ (x : TextFault). IsFault (split 10 bytes) x.line x.cause) (sym h.1) (no_line h.0)
-  unread f (inr memory) = subst (λ (x : TextFault). IsFault (split 10 bytes) x.line x.cause) (sym memory) (front v, split 10 rest, inr (v, at.allowed, refl), at.parts, at.numbered)
+  unread f (inr memory) = subst (λ (x : TextFault). IsFault (split 10 bytes) x.line x.cause) (sym memory) out_of_memory
 
   some_is : (k l : Line) → line_at (split 32 text) ≡ Some k → line_at (split 32 text) ≡ Some l → l ≡ k
   some_is k l e f = cc
@@ -64,7 +67,7 @@ module _ (bytes rest : List ℕ) (v : ProgramLists) (number : ℕ) (text after :
       let w = whole in
       let t = read_is text l e in
       (v, l, at.allowed, (w.0, w.1, w.2 ∙ ap (λ (x : List ℕ). front v ++ x ∷ w.0 ∷ w.1) t.0), t.1, h.0, h.1, at.numbered)
-  refused l cause.NoMemory e h = (front v, split 10 rest, inr (v, at.allowed, refl), at.parts, at.numbered)
+  refused l cause.NoMemory e h = out_of_memory
   refused l cause.Header e h = absurd h
   refused l cause.Cut e h = absurd h
   refused l cause.Trailing e h = absurd h

@@ -95,14 +95,14 @@ at_start bytes rest e = record { parts = e; reached = refl; within = record { dr
 pub cut_at : (bytes rest : List ℕ) (d : TranscriptDraft) (number : ℕ) → IsBetween bytes rest d number → split 10 rest ≡ rest ∷ [] → IsFault (split 10 bytes) number cause.Cut
 cut_at bytes rest d number at cut = (front (lines d), rest, inr (lines d, begun bytes rest d number at, refl), at.parts ∙ ap (λ (ls : List (List ℕ)). front (lines d) ++ ls) cut, at.numbered)
 
-pub out_of_memory : (bytes rest : List ℕ) (d : TranscriptDraft) (number : ℕ) → IsBetween bytes rest d number → IsFault (split 10 bytes) number cause.NoMemory
-out_of_memory bytes rest d number at = (front (lines d), split 10 rest, inr (lines d, begun bytes rest d number at, refl), at.parts, at.numbered)
-
 module _ (bytes rest : List ℕ) (d : TranscriptDraft) (number : ℕ) (text after : List ℕ) (at : IsBetween bytes rest d number) (cut : split 10 rest ≡ text ∷ split 10 after) where
   whole : (next : List ℕ) × (more : List (List ℕ)) × (split 10 bytes ≡ front (lines d) ++ text ∷ next ∷ more)
   whole =
       let s = split_some 10 after in
       (s.0, s.1, at.parts ∙ ap (λ (ls : List (List ℕ)). front (lines d) ++ ls) (cut ∙ ap (λ (ls : List (List ℕ)). text ∷ ls) s.2))
+
+  pub out_of_memory : IsFault (split 10 bytes) number cause.NoMemory
+  out_of_memory = (front (lines d), text, inr (lines d, begun bytes rest d number at, refl), whole, at.numbered)
 
   pub no_line : transcript_line_at (split 32 text) ≡ None → IsFault (split 10 bytes) number cause.Form
   no_line none =
@@ -142,7 +142,7 @@ module _ (bytes rest : List ℕ) (d : TranscriptDraft) (number : ℕ) (text afte
         λ u allowed goes. full_stops (lines d) d l u at.reached h.1 allowed goes,
         at.numbered,
       )
-  refused l cause.NoMemory e h = out_of_memory bytes rest d number at
+  refused l cause.NoMemory e h = out_of_memory
   refused l cause.Header e h = absurd h
   refused l cause.Cut e h = absurd h
   refused l cause.Trailing e h = absurd h

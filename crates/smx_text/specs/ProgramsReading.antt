@@ -11,9 +11,11 @@ use Rattle.smx_text.specs.declared.line.Line.TheVariants as line
 use Rattle.smx_text.specs.Words.{line_of, split}
 use Rattle.smx_text.specs.ProgramsText.{header_words, line_words, body, FitsLine, IsAllowed, SpellsPrograms}
 
+-- a line as bytes, without its line feed
 abbrev pub line_text : Line → List ℕ
 line_text l = line_of (line_words l)
 
+-- the first line
 abbrev pub header : List ℕ
 header = line_of header_words
 
@@ -49,7 +51,7 @@ IsFull v line.End = ⊥
 --   Many: a line that may follow, but of which there are as many as may be
 --   Cut: a line that is not whole
 --   Trailing: a byte after the line `end`
---   NoMemory: nothing is wrong so far
+--   NoMemory: a whole line, with nothing wrong before it
 abbrev pub IsFault : List (List ℕ) → ℕ → Cause → Type 0
 IsFault parts number cause.Header = (text : List ℕ) × Continues parts [] text × (text ≢ header) × (number ≡ 1)
 IsFault parts number cause.Form = (v : ProgramLists) × (text : List ℕ) × IsAllowed v × Continues parts (front v) text
@@ -59,7 +61,7 @@ IsFault parts number cause.Many = (v : ProgramLists) × (k : Line) × IsAllowed 
 IsFault parts number cause.Cut = (lines : List (List ℕ)) × (last : List ℕ) × IsFront lines × (parts ≡ lines ++ last ∷ []) × (number ≡ length lines + 1)
 IsFault parts number cause.Trailing = (v : ProgramLists) × (next : List ℕ) × (more : List (List ℕ)) × IsAllowed v × (parts ≡ front v ++ codes "end" ∷ next ∷ more)
     × (0 < length next + length more) × (number ≡ length (front v) + 2)
-IsFault parts number cause.NoMemory = (lines rest : List (List ℕ)) × IsFront lines × (parts ≡ lines ++ rest) × (number ≡ length lines + 1)
+IsFault parts number cause.NoMemory = (lines : List (List ℕ)) × (text : List ℕ) × IsFront lines × Continues parts lines text × (number ≡ length lines + 1)
 
 -- what a reader may answer: the programs that the bytes spell, or the first line at fault
 abbrev pub Reads : List ℕ → Result ProgramLists TextFault → Type 0

@@ -10,15 +10,18 @@ use Rattle.smx_text.specs.Words.{text_of}
 use Rattle.smx_text.specs.Spelling.{driver_words, command_words}
 use Rattle.smx_text.specs.Spellable.{FitsNumber, FitsDriver, FitsCommand}
 
+-- the words of the first line
 abbrev pub header_words : List (List ℕ)
 header_words = codes "programs" ∷ codes "1" ∷ []
 
+-- the words of each line
 abbrev pub line_words : Line → List (List ℕ)
 line_words (line.Driver d) = driver_words d
 line_words (line.Process number) = codes "process" ∷ decimal number ∷ []
 line_words (line.Command c) = command_words c
 line_words line.End = codes "end" ∷ []
 
+-- what it says can be spelled
 abbrev pub FitsLine : Line → Type 0
 FitsLine (line.Driver d) = FitsDriver d
 FitsLine (line.Process number) = FitsNumber number

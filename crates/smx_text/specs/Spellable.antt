@@ -22,6 +22,7 @@ use Rattle.smx_types.specs.declared.view.RouteLine.{RouteLine}
 abbrev pub FitsNumber : ℕ → Type 0
 FitsNumber n = n < 2 ^ 32
 
+-- a name as drivers have it
 abbrev pub FitsName : List ℕ → Type 0
 FitsName text = is_name text ≡ true
 
@@ -29,10 +30,12 @@ FitsName text = is_name text ≡ true
 abbrev pub FitsBytes : List ℕ → Type 0
 FitsBytes bytes = AllByRecursion (λ b. b < 256) bytes
 
+-- an id is a number
 abbrev pub FitsWhich : Which → Type 0
 FitsWhich (which.Id id) = FitsNumber id
 FitsWhich which.All = Unit {0}
 
+-- its name and its numbers can be spelled
 pub record FitsDriver (d : DriverSpec) : Type 0 where
   pub name : FitsName d.name
   pub minors : FitsNumber d.minors
@@ -40,6 +43,7 @@ pub record FitsDriver (d : DriverSpec) : Type 0 where
   pub low : FitsNumber d.low
   pub max : FitsNumber d.max
 
+-- its names, numbers and bytes can be spelled
 abbrev pub FitsCommand : Command → Type 0
 FitsCommand (command.OpenClone driver) = FitsName driver
 FitsCommand (command.OpenMinor driver minor) = FitsName driver × FitsNumber minor
@@ -60,6 +64,7 @@ FitsCommand (command.Flush fd sides) = FitsNumber fd
 FitsCommand (command.Inject driver minor addr bytes) = FitsName driver × FitsNumber minor × FitsNumber addr × FitsBytes bytes
 FitsCommand (command.Transmit driver minor) = FitsName driver × FitsNumber minor
 
+-- its numbers and bytes can be spelled
 abbrev pub FitsReply : Reply → Type 0
 FitsReply (reply.Fd fd minor) = FitsNumber fd × FitsNumber minor
 FitsReply (reply.Id id) = FitsNumber id
@@ -68,17 +73,20 @@ FitsReply (reply.Got serial addr bytes) = FitsNumber serial × FitsNumber addr �
 FitsReply (reply.Done dropped) = AllByRecursion FitsNumber dropped
 FitsReply (reply.Fault f) = Unit {0}
 
+-- there is such a process, and its command and reply can be spelled
 pub record FitsEntry (e : Entry) : Type 0 where
   pub process : e.process < MAX_PROCESSES
   pub command : FitsCommand e.command
   pub reply : FitsReply e.reply
 
+-- an open descriptor that can be shown
 pub record FitsDescriptor (d : DescriptorLine) : Type 0 where
   pub process : d.process < MAX_PROCESSES
   pub fd : FitsNumber d.fd
   pub driver : FitsName d.driver
   pub minor : FitsNumber d.minor
 
+-- a link that can be shown
 pub record FitsLink (l : LinkLine) : Type 0 where
   pub id : FitsNumber l.id
   pub ctl_driver : FitsName l.ctl_driver
@@ -86,16 +94,19 @@ pub record FitsLink (l : LinkLine) : Type 0 where
   pub lower_driver : FitsName l.lower_driver
   pub lower_minor : FitsNumber l.lower_minor
 
+-- a binding that can be shown
 pub record FitsBinding (b : BindingLine) : Type 0 where
   pub driver : FitsName b.driver
   pub addr : FitsNumber b.addr
   pub minor : FitsNumber b.minor
 
+-- a route that can be shown
 pub record FitsRoute (r : RouteLine) : Type 0 where
   pub driver : FitsName r.driver
   pub addr : FitsNumber r.addr
   pub id : FitsNumber r.id
 
+-- a queued message that can be shown
 pub record FitsMessage (m : MessageLine) : Type 0 where
   pub driver : FitsName m.driver
   pub minor : FitsNumber m.minor
@@ -103,6 +114,7 @@ pub record FitsMessage (m : MessageLine) : Type 0 where
   pub addr : FitsNumber m.message.addr
   pub bytes : FitsBytes m.message.bytes
 
+-- a full place that can be shown
 pub record FitsFull (f : FullLine) : Type 0 where
   pub driver : FitsName f.driver
   pub minor : FitsNumber f.minor

@@ -27,19 +27,23 @@ use Rattle.smx_types.specs.declared.view.MessageLine.{MessageLine}
 use Rattle.smx_types.specs.declared.view.RouteLine.{RouteLine}
 use Rattle.smx_text.specs.HexWords.{hex_word}
 
+-- the kind of a driver
 abbrev pub kind_word : DriverKind → List ℕ
 kind_word kind.Leaf = codes "leaf"
 kind_word kind.Mux = codes "mux"
 
+-- an id, or all
 abbrev pub which_word : Which → List ℕ
 which_word (which.Id id) = decimal id
 which_word which.All = codes "all"
 
+-- the sides of a flush
 abbrev pub sides_word : Sides → List ℕ
 sides_word sides.R = codes "r"
 sides_word sides.W = codes "w"
 sides_word sides.RW = codes "rw"
 
+-- the side of a stream
 abbrev pub side_word : Side → List ℕ
 side_word side.Write = codes "w"
 side_word side.Read = codes "r"
@@ -53,6 +57,7 @@ link_kind_word link.Persistent = codes "plink"
 abbrev pub driver_words : DriverSpec → List (List ℕ)
 driver_words d = codes "driver" ∷ d.name ∷ kind_word d.kind ∷ decimal d.minors ∷ decimal d.high ∷ decimal d.low ∷ decimal d.max ∷ []
 
+-- the words of a command, its own name first
 abbrev pub command_words : Command → List (List ℕ)
 command_words (command.OpenClone driver) = codes "clone" ∷ driver ∷ []
 command_words (command.OpenMinor driver minor) = codes "open" ∷ driver ∷ decimal minor ∷ []
@@ -92,6 +97,7 @@ fault_words fault.Full = codes "EAGAIN" ∷ codes "full" ∷ []
 fault_words fault.Empty = codes "EAGAIN" ∷ codes "empty" ∷ []
 fault_words fault.BadSize = codes "ERANGE" ∷ []
 
+-- the words of a reply
 abbrev pub reply_words : Reply → List (List ℕ)
 reply_words (reply.Fd fd minor) = codes "fd" ∷ decimal fd ∷ decimal minor ∷ []
 reply_words (reply.Id id) = codes "id" ∷ decimal id ∷ []

@@ -16,46 +16,57 @@ use Rattle.smx_text.specs.declared.transcript_line.TranscriptLine.TheVariants as
 abbrev pub new_view : ℕ → ℕ → ConfigView
 new_view id serial = record { next_id = id; next_serial = serial; fds = []; links = []; binds = []; routes = []; msgs = []; fulls = [] }
 
+-- nothing read yet
 abbrev pub new_draft : TranscriptDraft
 new_draft = record { stage = stage.History; transcript = record { drivers = []; entries = []; view = new_view 0 0 } }
 
 -- ---- the groups that are still to come
 
+-- drivers and entries are read
 abbrev pub is_history : Stage → Bool
 is_history stage.History = true
 is_history stage.Config = false
 is_history stage.View = false
 
+-- the line `config` was the last
 abbrev pub is_config : Stage → Bool
 is_config stage.History = false
 is_config stage.Config = true
 is_config stage.View = false
 
+-- groups are read
 abbrev pub is_view : Stage → Bool
 is_view stage.History = false
 is_view stage.Config = false
 is_view stage.View = true
 
+-- a full place may come: it is of the last group
 abbrev pub takes_fulls : TranscriptDraft → Bool
 takes_fulls d = is_view d.stage
 
+-- a message may come: no line of a later group came
 abbrev pub takes_msgs : TranscriptDraft → Bool
 takes_msgs d = takes_fulls d && (length d.transcript.view.fulls == 0)
 
+-- a route may come: no line of a later group came
 abbrev pub takes_routes : TranscriptDraft → Bool
 takes_routes d = takes_msgs d && (length d.transcript.view.msgs == 0)
 
+-- a binding may come: no line of a later group came
 abbrev pub takes_binds : TranscriptDraft → Bool
 takes_binds d = takes_routes d && (length d.transcript.view.routes == 0)
 
+-- a link may come: no line of a later group came
 abbrev pub takes_links : TranscriptDraft → Bool
 takes_links d = takes_binds d && (length d.transcript.view.binds == 0)
 
+-- a descriptor may come: no line of a later group came
 abbrev pub takes_fds : TranscriptDraft → Bool
 takes_fds d = takes_links d && (length d.transcript.view.links == 0)
 
 -- ---- one line more
 
+-- the line may come next
 abbrev pub takes : TranscriptDraft → TranscriptLine → Bool
 takes d (line.Driver x) = is_history d.stage && (length d.transcript.entries == 0)
 takes d (line.Entry x) = is_history d.stage
@@ -83,9 +94,11 @@ is_full d (line.Msg x) = false
 is_full d (line.Full x) = false
 is_full d line.End = false
 
+-- with another view
 abbrev pub with_view : TranscriptDraft → ConfigView → TranscriptDraft
 with_view d v = record { stage = stage.View; transcript = record { drivers = d.transcript.drivers; entries = d.transcript.entries; view = v } }
 
+-- with one line more
 abbrev pub with_line : TranscriptDraft → TranscriptLine → TranscriptDraft
 with_line d (line.Driver x) = record d { transcript = record d.transcript { drivers = d.transcript.drivers ++ x ∷ [] } }
 with_line d (line.Entry x) = record d { transcript = record d.transcript { entries = d.transcript.entries ++ x ∷ [] } }
@@ -114,6 +127,7 @@ Refuses d l cause.Header = ⊥
 Refuses d l cause.Cut = ⊥
 Refuses d l cause.Trailing = ⊥
 
+-- this cause at this line
 abbrev fault : ℕ → Cause → TextFault
 fault number why = record { line = number; cause = why }
 

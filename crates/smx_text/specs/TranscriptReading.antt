@@ -15,6 +15,7 @@ use Rattle.smx_text.specs.Spellable.{FitsNumber, FitsDriver, FitsEntry, FitsDesc
 use Rattle.smx_text.specs.TranscriptText.{transcript_text, IsSpellable}
 use Rattle.smx_text.specs.ProgramsReading.{Continues}
 
+-- the words of the first line
 abbrev pub header_words : List (List ℕ)
 header_words = codes "transcript" ∷ codes "1" ∷ []
 
@@ -67,9 +68,11 @@ pub record SpellsTranscript (bytes : List ℕ) (t : Transcript) : Type 0 where
   pub allowed : IsAllowed t
   pub text : bytes ≡ transcript_text t
 
+-- a line as bytes, without its line feed
 abbrev pub line_text : TranscriptLine → List ℕ
 line_text l = line_of (line_words l)
 
+-- the first line
 abbrev pub header : List ℕ
 header = line_of header_words
 
@@ -103,7 +106,7 @@ IsFull lines k = (t : Transcript) → IsAllowed t → GoesOn t lines k → ⊥
 --   Many: a line that may follow, but of which there are as many as may be
 --   Cut: a line that is not whole
 --   Trailing: a byte after the line `end`
---   NoMemory: nothing is wrong so far
+--   NoMemory: a whole line, with nothing wrong before it
 abbrev pub IsFault : List (List ℕ) → ℕ → Cause → Type 0
 IsFault parts number cause.Header = (text : List ℕ) × Continues parts [] text × (text ≢ header) × (number ≡ 1)
 IsFault parts number cause.Form = (lines : List TranscriptLine) × (text : List ℕ) × IsBegun lines × Continues parts (front lines) text
@@ -113,7 +116,7 @@ IsFault parts number cause.Many = (lines : List TranscriptLine) × (k : Transcri
 IsFault parts number cause.Cut = (texts : List (List ℕ)) × (last : List ℕ) × IsFront texts × (parts ≡ texts ++ last ∷ []) × (number ≡ length texts + 1)
 IsFault parts number cause.Trailing = (t : Transcript) × (next : List ℕ) × (more : List (List ℕ)) × IsAllowed t × (parts ≡ front (body t) ++ codes "end" ∷ next ∷ more)
     × (0 < length next + length more) × (number ≡ length (front (body t)) + 2)
-IsFault parts number cause.NoMemory = (texts rest : List (List ℕ)) × IsFront texts × (parts ≡ texts ++ rest) × (number ≡ length texts + 1)
+IsFault parts number cause.NoMemory = (texts : List (List ℕ)) × (text : List ℕ) × IsFront texts × Continues parts texts text × (number ≡ length texts + 1)
 
 -- what a reader may answer: the transcript that the bytes spell, or the first line at fault
 abbrev pub Reads : List ℕ → Result Transcript TextFault → Type 0

@@ -18,6 +18,7 @@ view_lines v =
     next_words v ∷ map descriptor_words v.fds ++ map link_words v.links ++ map bind_words v.binds ++ map route_words v.routes
     ++ map message_words v.msgs ++ map full_words v.fulls
 
+-- the header, drivers, entries, `config`, the view, `end`
 abbrev pub transcript_lines : Transcript → List (List (List ℕ))
 transcript_lines t =
     (codes "transcript" ∷ codes "1" ∷ []) ∷ map driver_words t.drivers ++ map entry_words t.entries

@@ -2,7 +2,9 @@
 
 ghost use Rattle.std.specs.Prelude.{◌≡◌, ◌≢◌, ◌∷◌, ◌++◌, [], OnOk, IfErr};
 ghost use Rattle.smx_types.specs.ProgramLists.{lists, AreWithinLimits};
-ghost use Rattle.smx_text.specs.declared.line.Line.TheVariants.{End, Driver as DriverLine, Process as ProcessLine, Command as CommandLine};
+ghost use Rattle.smx_text.specs.declared.line.Line.TheVariants.{End, Driver as DriverLine};
+ghost use Rattle.smx_text.specs.declared.line.Line.TheVariants.{Process as ProcessLine};
+ghost use Rattle.smx_text.specs.declared.line.Line.TheVariants.{Command as CommandLine};
 ghost use Rattle.smx_text.specs.ProgramsText.{body};
 ghost use Rattle.smx_text.specs.Drafts.{Refuses};
 

@@ -2,7 +2,9 @@
 
 ghost use Rattle.std.specs.Prelude.{◌≡◌, ◌∷◌, [], IfOk};
 ghost use Rattle.smx_text.specs.Words.{split};
-ghost use Rattle.smx_text.specs.ReplyReading.{invalid_at, again_at, missing_at, bare_fault_at, told_fault_at, numbers_at, onto, only_word, two_words, fd_at, got_at, done_at, short_reply, several_words, reply_at};
+ghost use Rattle.smx_text.specs.ReplyReading.{invalid_at, again_at, missing_at, bare_fault_at, told_fault_at};
+ghost use Rattle.smx_text.specs.ReplyReading.{numbers_at, onto, only_word, two_words, fd_at, got_at, done_at};
+ghost use Rattle.smx_text.specs.ReplyReading.{short_reply, several_words, reply_at};
 
 use crate::cutting::cut;
 use crate::word::{hex, number};

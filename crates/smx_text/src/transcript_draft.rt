@@ -1,8 +1,19 @@
 //! The transcript that is being read.
 
 ghost use Rattle.std.specs.Prelude.{◌≡◌, ◌≢◌, OnOk, IfErr};
-ghost use Rattle.smx_text.specs.declared.transcript_line.TranscriptLine.TheVariants.{End, Driver as DriverLine, Entry as EntryLine, Config as ConfigLine, Next as NextLine, Fd as FdLine, Link as AnyLink, Bind as BindLine, Route as AnyRoute, Msg as MsgLine, Full as AnyFull};
-ghost use Rattle.smx_text.specs.TranscriptDrafts.{new_view, new_draft, takes_fds, takes_links, takes_binds, takes_routes, takes_msgs, takes_fulls, Takes, Refuses};
+ghost use Rattle.smx_text.specs.declared.transcript_line.TranscriptLine.TheVariants.{End};
+ghost use Rattle.smx_text.specs.declared.transcript_line.TranscriptLine.TheVariants.{Driver as DriverLine};
+ghost use Rattle.smx_text.specs.declared.transcript_line.TranscriptLine.TheVariants.{Entry as EntryLine};
+ghost use Rattle.smx_text.specs.declared.transcript_line.TranscriptLine.TheVariants.{Config as ConfigLine};
+ghost use Rattle.smx_text.specs.declared.transcript_line.TranscriptLine.TheVariants.{Next as NextLine};
+ghost use Rattle.smx_text.specs.declared.transcript_line.TranscriptLine.TheVariants.{Fd as FdLine};
+ghost use Rattle.smx_text.specs.declared.transcript_line.TranscriptLine.TheVariants.{Link as AnyLink};
+ghost use Rattle.smx_text.specs.declared.transcript_line.TranscriptLine.TheVariants.{Bind as BindLine};
+ghost use Rattle.smx_text.specs.declared.transcript_line.TranscriptLine.TheVariants.{Route as AnyRoute};
+ghost use Rattle.smx_text.specs.declared.transcript_line.TranscriptLine.TheVariants.{Msg as MsgLine};
+ghost use Rattle.smx_text.specs.declared.transcript_line.TranscriptLine.TheVariants.{Full as AnyFull};
+ghost use Rattle.smx_text.specs.TranscriptDrafts.{new_view, new_draft, takes_fds, takes_links, takes_binds};
+ghost use Rattle.smx_text.specs.TranscriptDrafts.{takes_routes, takes_msgs, takes_fulls, Takes, Refuses};
 
 use crate::fault::Cause;
 use crate::transcript_line::TranscriptLine;

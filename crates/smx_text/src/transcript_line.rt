@@ -2,7 +2,10 @@
 
 ghost use Rattle.std.specs.Prelude.{◌≡◌, MatchOption, IfOk};
 ghost use Rattle.smx_text.specs.Words.{split};
-ghost use Rattle.smx_text.specs.TranscriptLineReading.{process_at, driver_line_at, before_space, after_space, sides_of, entry_words, entry_at, only_word, short_line, plain_line, named_line, transcript_line_at};
+ghost use Rattle.smx_text.specs.TranscriptLineReading.{process_at, driver_line_at, before_space, after_space};
+ghost use Rattle.smx_text.specs.TranscriptLineReading.{sides_of, entry_words, entry_at, only_word};
+ghost use Rattle.smx_text.specs.TranscriptLineReading.{short_line, plain_line, named_line};
+ghost use Rattle.smx_text.specs.TranscriptLineReading.{transcript_line_at};
 
 use crate::command_words::command_of;
 use crate::cutting::cut;

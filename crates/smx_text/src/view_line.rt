@@ -2,7 +2,9 @@
 
 ghost use Rattle.std.specs.Prelude.{◌≡◌, MatchOption, IfOk};
 ghost use Rattle.smx_text.specs.Words.{split};
-ghost use Rattle.smx_text.specs.TranscriptLineReading.{next_at, fd_words, fd_at, link_words, link_at, bind_at, route_at, place_at, message_words, message_at, full_at};
+ghost use Rattle.smx_text.specs.TranscriptLineReading.{next_at, fd_words, fd_at, link_words, link_at};
+ghost use Rattle.smx_text.specs.TranscriptLineReading.{bind_at, route_at, place_at, message_words};
+ghost use Rattle.smx_text.specs.TranscriptLineReading.{message_at, full_at};
 
 use crate::transcript_line::{TranscriptLine, process};
 use crate::word::{hex, link_kind, name, number, side};

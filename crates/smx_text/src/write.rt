@@ -37,7 +37,7 @@ pub fn write_programs(alloc: Global, programs: &Programs) -> Result<Vec<u8>, NoM
 /// The one text of this transcript. Fails only for want of memory.
 pub fn write_transcript(alloc: Global, transcript: &Transcript) -> Result<Vec<u8>, NoMemory>
     ensures written { IfOk result (λ v. v.items ≡ transcript_text transcript.now) }
-    // So what is written is read again, whatever this transcript is.
+    // So what is written is read again, where the transcript is within the limits.
     ensures spellable { OnOk result (IsSpellable transcript.now) }
 {
     let mut out = Vec::from_slice(alloc, b"transcript 1\n")?;

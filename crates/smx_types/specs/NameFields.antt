@@ -10,6 +10,7 @@ pub record IsPadded (n : Inside) : Type 0 where
   pub len : n.len ≡ length (take n.len n.bytes)
   pub padding : n.bytes ≡ padded (take n.len n.bytes)
 
+-- the fields that hold this length and these bytes
 abbrev inside : ℕ → List ℕ → Inside
 inside len bytes = record { len = len; bytes = bytes }
 

@@ -10,6 +10,7 @@ is_letter b = nat_le 97 b && nat_le b 122
 abbrev pub is_digit : ℕ → Bool
 is_digit b = nat_le 48 b && nat_le b 57
 
+-- a to z, or 0 to 9
 abbrev pub is_name_byte : ℕ → Bool
 is_name_byte b = is_letter b || is_digit b
 

@@ -10,6 +10,7 @@ pub record ProgramLists : Type 0 where
   pub drivers : List DriverSpec
   pub programs : List (List Command)
 
+-- these two as one value
 abbrev pub lists : List DriverSpec → List (List Command) → ProgramLists
 lists drivers programs = record { drivers = drivers; programs = programs }
 

@@ -13,9 +13,9 @@ use std::alloc::Global;
 /// Which links an unlinking is for.
 #[derive(Clone, Copy, Debug, PartialEq, Eq)]
 pub enum Which {
-    /// The link of this id.
+    /// The link of this id (streamio(7), I_UNLINK).
     Id(u32),
-    /// Each link that may be named there.
+    /// Each link that may be named there (MUXID_ALL).
     All,
 }
 
@@ -31,91 +31,93 @@ pub enum Sides {
 }
 
 /// What a process asks of the configuration. A descriptor, minor or id is any number: one that is not there is
-/// refused.
+/// refused. docs/COMMANDS.md has the refusals of each, in order.
 #[derive(Debug, Drop, PartialEq)]
 pub enum Command {
-    /// Opens a new stream on the least minor that is not in use.
+    /// Opens a new stream on the least minor that is not in use, under the lowest free descriptor of the process (SVR4
+    /// Programmer's Guide: STREAMS, clone open).
     OpenClone {
         driver: Name,
     },
-    /// Opens the stream of this minor, or shares it.
+    /// Opens the stream of this minor, or shares it (open(2)).
     OpenMinor {
         driver: Name,
         minor: u32,
     },
-    /// Makes one more descriptor of the same stream.
+    /// Makes one more descriptor of the same stream (dup(2)).
     Dup {
         fd: u32,
     },
-    /// Closes a descriptor.
+    /// Closes a descriptor (close(2)).
     Close {
         fd: u32,
     },
-    /// Closes all descriptors of the process.
+    /// Closes all descriptors of the process (exit(2)).
     CloseAll,
-    /// Links the stream of `arg` below the driver of `fd`, until the stream of `fd` is closed for the last time.
+    /// Links the stream of `arg` below the driver of `fd`, until the stream of `fd` is closed for the last time
+    /// (streamio(7), I_LINK).
     Link {
         fd: u32,
         arg: u32,
     },
-    /// The same with a persistent link, which stays until it is removed.
+    /// The same with a persistent link, which stays until it is removed (I_PLINK).
     Plink {
         fd: u32,
         arg: u32,
     },
-    /// Removes ordinary links that were made on this very stream.
+    /// Removes ordinary links that were made on this very stream (I_UNLINK).
     Unlink {
         fd: u32,
         which: Which,
     },
-    /// Removes persistent links of the stream's driver.
+    /// Removes persistent links of the stream's driver (I_PUNLINK).
     Punlink {
         fd: u32,
         which: Which,
     },
-    /// Binds the stream to an address of its driver.
+    /// Binds the stream to an address of its driver (this project's own).
     Bind {
         fd: u32,
         addr: u32,
     },
-    /// Takes the stream's address away.
+    /// Takes the stream's address away (own).
     Unbind {
         fd: u32,
     },
-    /// Sends messages for an address down this link of the stream's driver.
+    /// Sends messages for an address down this link of the stream's driver (own).
     Route {
         fd: u32,
         addr: u32,
         id: u32,
     },
-    /// Takes the route for an address away.
+    /// Takes the route for an address away (own).
     Unroute {
         fd: u32,
         addr: u32,
     },
-    /// Puts a message on the stream's write side.
+    /// Puts a message on the stream's write side (write(2)).
     Write {
         fd: u32,
         addr: u32,
         bytes: Bytes,
     },
-    /// Takes the first message of the stream's read side.
+    /// Takes the first message of the stream's read side (read(2)).
     Read {
         fd: u32,
     },
-    /// Empties queues of the stream.
+    /// Empties queues of the stream (I_FLUSH).
     Flush {
         fd: u32,
         sides: Sides,
     },
-    /// A message arrives from the device at a leaf stream's read side.
+    /// A message arrives from the device at a leaf stream's read side (own).
     Inject {
         driver: Name,
         minor: u32,
         addr: u32,
         bytes: Bytes,
     },
-    /// The device takes the first message of a leaf stream's write side.
+    /// The device takes the first message of a leaf stream's write side (own).
     Transmit {
         driver: Name,
         minor: u32,

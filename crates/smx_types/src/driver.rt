@@ -27,7 +27,7 @@ pub struct DriverSpec {
     pub minors: u32,
     /// The high water mark of each of its queues, in bytes: above `low`, at most 4,096.
     pub high: u32,
-    /// The low water mark of each of its queues, in bytes.
+    /// The low water mark of each of its queues, in bytes: below `high`.
     pub low: u32,
     /// The most bytes of a message that is written to it, 1 to 1,024.
     pub max: u32,

@@ -14,7 +14,7 @@ pub enum LinkKind {
 /// A stream that is linked below a multiplexing driver.
 #[derive(Clone, Copy, Debug, PartialEq, Eq)]
 pub struct Link {
-    /// The multiplexor id: from 1, and never used again.
+    /// The multiplexor id (streamio(7), I_LINK): from 1 to 4,294,967,294, and never used again.
     pub id: u32,
     /// The controlling stream, on which the link was made; its driver is the upper one.
     pub ctl: StreamId,
@@ -23,7 +23,7 @@ pub struct Link {
     pub kind: LinkKind,
 }
 
-/// An address that is bound to a stream of a driver: messages for it go up there.
+/// An address that is bound to a stream of a driver: messages for it go up there. Driver and minor are 0 to 63.
 #[derive(Clone, Copy, Debug, PartialEq, Eq)]
 pub struct Binding {
     pub driver: u8,
@@ -31,7 +31,7 @@ pub struct Binding {
     pub minor: u8,
 }
 
-/// The link down which a driver sends the messages for an address, by its id.
+/// The link down which a driver sends the messages for an address, by its id. The driver is 0 to 63.
 #[derive(Clone, Copy, Debug, PartialEq, Eq)]
 pub struct Route {
     pub driver: u8,

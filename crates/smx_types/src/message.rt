@@ -15,7 +15,7 @@ pub type Serials = Items<u32>;
 /// A message that was taken in.
 #[derive(Debug, Drop, PartialEq)]
 pub struct Message {
-    /// Its number: from 1, and never used again.
+    /// Its number: from 1 to 4,294,967,294, and never used again.
     pub serial: u32,
     /// The address that it is for.
     pub addr: u32,

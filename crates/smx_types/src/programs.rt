@@ -23,6 +23,18 @@ pub struct Many {
     pub programs: ProgramList,
 }
 
+impl Many {
+    /// The same lists again. Fails only for want of memory.
+    pub fn copy(&self, alloc: Global) -> Result<Many, NoMemory>
+        ensures { IfOk result (λ m. m ≡ self.now) }
+    {
+        Ok(Many {
+            drivers: self.drivers.copy(alloc)?,
+            programs: self.programs.copy(alloc)?,
+        })
+    }
+}
+
 /// At most 64 drivers, at most 64 programs, and at most 100,000 commands in all of them.
 #[derive(Debug, Drop)]
 pub struct Programs {

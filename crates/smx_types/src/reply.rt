@@ -96,9 +96,7 @@ impl Reply {
             Reply::Fault(fault) => Reply::Fault(fault),
         })
     }
-}
 
-impl Reply {
     /// Whether both replies are the same. Takes no memory.
     pub fn is_same(&self, other: &Reply) -> bool
         ensures { IsTrue result ↔ (self.now ≡ other.now) }

@@ -2,7 +2,7 @@
 
 use crate::process::Process;
 
-/// A stream, by the number of its driver and its minor, both from 0.
+/// A stream, by the number of its driver and its minor, both 0 to 63 in every configuration.
 #[derive(Clone, Copy, Debug, PartialEq, Eq)]
 pub struct StreamId {
     pub driver: u8,
@@ -25,7 +25,7 @@ pub struct Place {
     pub side: Side,
 }
 
-/// An open descriptor of a process, numbered from 0, and the stream that it names.
+/// An open descriptor of a process, numbered from 0 to 15, and the stream that it names.
 #[derive(Clone, Copy, Debug, PartialEq, Eq)]
 pub struct Descriptor {
     pub process: Process,

@@ -134,9 +134,7 @@ impl ConfigView {
             fulls,
         })
     }
-}
 
-impl ConfigView {
     /// Whether both views are the same. Takes no memory.
     pub fn is_same(&self, other: &ConfigView) -> bool
         ensures { IsTrue result ↔ (self.now ≡ other.now) }

@@ -1,8 +1,10 @@
 //! The lines of a view.
 
 ghost use Rattle.std.specs.Prelude.{◌≡◌, ◌∷◌, ◌++◌, [], OnOk};
-ghost use Rattle.smx_text.specs.Spellable.{FitsBinding, FitsDescriptor, FitsFull, FitsLink, FitsMessage, FitsNumber, FitsRoute};
-ghost use Rattle.smx_text.specs.Spelling.{bind_words, descriptor_words, full_words, link_words, message_words, route_words};
+ghost use Rattle.smx_text.specs.Spellable.{FitsBinding, FitsDescriptor, FitsFull, FitsLink, FitsMessage};
+ghost use Rattle.smx_text.specs.Spellable.{FitsNumber, FitsRoute};
+ghost use Rattle.smx_text.specs.Spelling.{bind_words, descriptor_words, full_words, link_words};
+ghost use Rattle.smx_text.specs.Spelling.{message_words, route_words};
 ghost use Rattle.smx_text.specs.TranscriptText.{next_words, view_lines, IsSpellableView};
 ghost use Rattle.smx_text.specs.Words.{text_of};
 

@@ -7,7 +7,7 @@ pub returns-in_default : goal.returns-in_default
 returns-in_default c = rw c.at.ensures (cut_at _ _ _ _ c.lines.invariant.between c.in_default.ensures.parts)
 
 pub returns-in_default-transcript_line_of : goal.returns-in_default-transcript_line_of
-returns-in_default-transcript_line_of c = rw c.at-in_default-transcript_line_of.ensures (out_of_memory _ _ _ _ c.lines.invariant.between)
+returns-in_default-transcript_line_of c = rw c.at-in_default-transcript_line_of.ensures (out_of_memory _ _ _ _ _ c.in-Some.after.now c.lines.invariant.between c.in-Some.ensures.parts)
 
 pub returns-in_default-read : goal.returns-in_default-read
 returns-in_default-read c = rw c.at-in_default-read.ensures (no_line _ _ _ _ _ c.in-Some.after.now c.lines.invariant.between c.in-Some.ensures.parts (sym c.in-Ok.ensures ∙ c.in_default-read.is))
