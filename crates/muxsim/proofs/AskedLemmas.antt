@@ -9,6 +9,7 @@ use Rattle.std.proofs.lemmas.List.Sums.{sum_by-cons}
 use Rattle.smx_types.specs.declared.command.Command.{Command}
 use Rattle.smx_types.specs.declared.command.Entry.{Entry}
 use Rattle.smx_model.specs.Histories.{asked_of, commands_of, HoldsPrograms}
+use Rattle.smx_model.specs.LawfulHistories.{AreDropsAllowed}
 use Rattle.smx_types.specs.ProgramLists.{ProgramLists}
 use Rattle.smx_types.specs.declared.transcript.Transcript.{Transcript}
 use Rattle.smx_model.specs.DriverList.{IsDriverList}
@@ -99,12 +100,13 @@ next_program ps i cs lt here =
 
 -- ---- the report of a system that was asked all of it
 
-pub report_of : (programs : ProgramLists) (s : Recorded) (t : Transcript) → Reports s t → s.drivers ≡ programs.drivers → IsDriverList programs.drivers → map asked_of s.history ≡ asked_from 0 programs.programs → IsReportOf programs t
-report_of programs s t h same can asked = record {
+pub report_of : (programs : ProgramLists) (s : Recorded) (t : Transcript) → Reports s t → AreDropsAllowed s.history → s.drivers ≡ programs.drivers → IsDriverList programs.drivers → map asked_of s.history ≡ asked_from 0 programs.programs → IsReportOf programs t
+report_of programs s t h drops same can asked = record {
   drivers = h.drivers ∙ same;
   can_be_had = can;
   legal = rw (← same, h.entries) h.legal;
   holds = holds t.entries programs.programs (ap (map asked_of) h.entries ∙ asked);
   shown = rw (← same, h.entries) h.shown;
   lawful = rw (← same, h.entries) h.lawful;
+  drops = rw h.entries drops;
 }

@@ -10,6 +10,7 @@ ghost use Rattle.muxsim.specs.RunFaults.{RefusesRun};
 
 use crate::fault::RunFault;
 use crate::system::System;
+use smx_model::laws_of_messages::few_commands_drop;
 use smx_types::{Command, Commands, DriverSpec, Drivers, NoMemory, Process, Programs, Transcript};
 use std::alloc::Global;
 
@@ -20,6 +21,7 @@ pub fn run_programs(alloc: Global, programs: &Programs) -> Result<Transcript, Ru
     ensures few { IfOk result (λ t. length t.entries ≤ MAX_COMMANDS) }
     ensures refused { IfErr result (RefusesRun programs.now.drivers) }
 {
+    few_commands_drop();
     let mut system = System::new(alloc, programs.drivers())?;
     run_all(alloc, &mut system, programs.programs())?;
     Ok(report(alloc, system, programs.drivers())?)

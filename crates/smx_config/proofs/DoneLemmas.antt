@@ -1,6 +1,6 @@
 -- What a swept change comes to.
-use Rattle.std.proofs.Common.{◌≡◌, ℕ, Bool, true, ◌&&◌, not, eqb, List, [], ◌∷◌, filter, Ok, refl, ap, ◌∙◌, inl, inr}
-use Rattle.std.proofs.lemmas.Bool.{cases_Bool, and_parts, and_from, or_left, or_right, eq-eqb}
+use Rattle.std.proofs.Common.{◌≡◌, ℕ, Bool, true, ◌&&◌, not, eqb, List, [], ◌∷◌, filter, Ok, refl, inl, inr}
+use Rattle.std.proofs.lemmas.Bool.{cases_Bool, and_parts, and_from}
 use Rattle.std.specs.List.{list_any, list_all}
 use Rattle.smx_types.specs.declared.command.Command.TheVariants as command
 use Rattle.smx_types.specs.declared.command.Which.{Which}
@@ -15,11 +15,11 @@ use Rattle.smx_types.specs.declared.driver.DriverSpec.{DriverSpec}
 use Rattle.smx_types.specs.declared.reply.Reply.{Reply}
 use Rattle.smx_types.specs.declared.reply.Reply.TheVariants.{Done}
 use Rattle.smx_model.specs.Commands.{done, outcome}
-use Rattle.smx_model.specs.Configuration.{Configuration, Held, route_before}
+use Rattle.smx_model.specs.Configuration.{Configuration, route_before}
 use Rattle.smx_model.specs.Ordered.{placed, rising}
 use Rattle.smx_model.specs.Lookups.{mux_stream}
 use Rattle.smx_model.specs.Outcomes.{refuse}
-use Rattle.smx_model.specs.Removal.{serials, swept, removed, gone_from}
+use Rattle.smx_model.specs.Removal.{serials, swept, removed}
 use Rattle.smx_model.specs.Swept.{IsSwept}
 use Rattle.smx_config.specs.Owners.{is_chosen, are_there, unlinks}
 
@@ -39,30 +39,7 @@ pub route_does : (drivers : List DriverSpec) (c : Configuration) (process fd add
     → outcome drivers c process (command.Route fd addr id) ≡ Ok x
 route_does drivers c process fd addr id s x e there h = rw (e, there) h
 
--- ---- no message is dropped
-
-all_there : (f : List Held) (ns : List ℕ) → list_all (λ n. list_any (λ m. eqb n m) (serials f)) ns ≡ true → filter (λ n. not (list_any (λ m. eqb n m) (serials f))) ns ≡ []
-all_there f [] h = refl
-all_there f (n ∷ ns) h = let p = and_parts (list_any (λ m. eqb n m) (serials f)) _ h in rw p.0 (all_there f ns p.1)
-
-in_more : (m : ℕ) (ms ns : List ℕ) → list_all (λ n. list_any (λ k. eqb n k) ms) ns ≡ true → list_all (λ n. list_any (λ k. eqb n k) (m ∷ ms)) ns ≡ true
-in_more m ms [] h = refl
-in_more m ms (n ∷ ns) h = let p = and_parts (list_any (λ k. eqb n k) ms) _ h in and_from _ _ (or_right _ _ p.0) (in_more m ms ns p.1)
-
-in_itself : (ns : List ℕ) → list_all (λ n. list_any (λ k. eqb n k) ns) ns ≡ true
-in_itself [] = refl
-in_itself (n ∷ ns) = and_from _ _ (or_left _ _ (eq-eqb n n refl)) (in_more n ns ns (in_itself ns))
-
-none_gone : (flow : List Held) → gone_from flow flow ≡ []
-none_gone flow = ap rising (all_there flow (serials flow) (in_itself (serials flow)))
-
-done_idle : (drivers : List DriverSpec) (c new : Configuration) → swept drivers new ≡ new → new.flow ≡ c.flow → done drivers c new ≡ Ok (new, Done [])
-done_idle drivers c new idle same =
-    ap (λ (d : Configuration). Ok (d, Done (gone_from c.flow d.flow))) idle
-    ∙ ap (λ (f : List Held). Ok (new, Done (gone_from c.flow f))) same
-    ∙ ap (λ (ns : List ℕ). Ok (new, Done ns)) (none_gone c.flow)
-
--- without a few bindings, or with other routes, it stays swept
+-- ---- without a few bindings, or with other routes, nothing is left to sweep
 
 all_fewer : {X : Type 0} (t u : X → Bool) (xs : List X) → list_all t xs ≡ true → list_all t (filter u xs) ≡ true
 all_fewer t u [] h = refl
@@ -74,24 +51,24 @@ fewer_binds drivers c t h = record { links = h.links; binds = all_fewer _ t c.bi
 other_routes : (drivers : List DriverSpec) (c : Configuration) (routes : List Route) → IsSwept drivers c → IsSwept drivers (record c { routes = routes })
 other_routes drivers c routes h = record { links = h.links; binds = h.binds; flow = h.flow; fulls = h.fulls }
 
--- what the law of the model says: sweeping what is swept changes nothing
-abbrev StaysSwept : List DriverSpec → Type 0
-StaysSwept drivers = (c : Configuration) → IsSwept drivers c → swept drivers c ≡ c
+-- what the law of the model says: then no message is dropped
+abbrev IdleDropsNone : List DriverSpec → Type 0
+IdleDropsNone drivers = (c new : Configuration) → IsSwept drivers new → new.flow ≡ c.flow → done drivers c new ≡ Ok (new, Done [])
 
-pub unbind_does : (drivers : List DriverSpec) (c : Configuration) (process fd : ℕ) (s : StreamId) (new : Configuration) (r : Reply) → StaysSwept drivers → IsSwept drivers c → mux_stream drivers c process fd ≡ Ok s
+pub unbind_does : (drivers : List DriverSpec) (c : Configuration) (process fd : ℕ) (s : StreamId) (new : Configuration) (r : Reply) → IdleDropsNone drivers → IsSwept drivers c → mux_stream drivers c process fd ≡ Ok s
     → refuse Unbound (not (list_any (λ b. eqb b.driver s.driver && eqb b.minor s.minor) c.binds)) ≡ Ok tt
     → new ≡ record c { binds = filter (λ b. not (eqb b.driver s.driver && eqb b.minor s.minor)) c.binds } → r ≡ Done [] → outcome drivers c process (command.Unbind fd) ≡ Ok (new, r)
-unbind_does drivers c process fd s new r stays clean e there is none = rw (e, there, is, none) (done_idle drivers c left (stays left (fewer_binds drivers c other clean)) refl) where
+unbind_does drivers c process fd s new r idle clean e there is none = rw (e, there, is, none) (idle c left (fewer_binds drivers c other clean) refl) where
   other : Binding → Bool
   other b = not (eqb b.driver s.driver && eqb b.minor s.minor)
 
   left : Configuration
   left = record c { binds = filter other c.binds }
 
-pub unroute_does : (drivers : List DriverSpec) (c : Configuration) (process fd addr : ℕ) (s : StreamId) (new : Configuration) (r : Reply) → StaysSwept drivers → IsSwept drivers c → mux_stream drivers c process fd ≡ Ok s
+pub unroute_does : (drivers : List DriverSpec) (c : Configuration) (process fd addr : ℕ) (s : StreamId) (new : Configuration) (r : Reply) → IdleDropsNone drivers → IsSwept drivers c → mux_stream drivers c process fd ≡ Ok s
     → refuse Unrouted (not (list_any (λ x. eqb x.driver s.driver && eqb x.addr addr) c.routes)) ≡ Ok tt
     → new ≡ record c { routes = filter (λ x. not (eqb x.driver s.driver && eqb x.addr addr)) c.routes } → r ≡ Done [] → outcome drivers c process (command.Unroute fd addr) ≡ Ok (new, r)
-unroute_does drivers c process fd addr s new r stays clean e there is none = rw (e, there, is, none) (done_idle drivers c left (stays left (other_routes drivers c left.routes clean)) refl) where
+unroute_does drivers c process fd addr s new r idle clean e there is none = rw (e, there, is, none) (idle c left (other_routes drivers c left.routes clean) refl) where
   left : Configuration
   left = record c { routes = filter (λ x. not (eqb x.driver s.driver && eqb x.addr addr)) c.routes }
 

@@ -15,7 +15,7 @@ use crate::looked_up::mux_stream;
 use crate::ordered::{bind_place, route_place};
 use crate::room::{room_to_sweep, sweep_done};
 use crate::stop::Stop;
-use smx_model::laws_of_streams::sweeping_again_changes_nothing;
+use smx_model::laws_of_steps::idle_changes_drop_none;
 use smx_types::{Binding, DriverSpec, Fault, Link, Process, Reply, Route, Serials, StreamId};
 use std::alloc::Global;
 
@@ -102,7 +102,7 @@ pub fn unbind(
     ensures does { DoesInPlace drivers.now lists.old lists.new process (command.Unbind fd) result }
     ensures kept { HasRoom lists.new }
 {
-    sweeping_again_changes_nothing();
+    idle_changes_drop_none();
     let stream = mux_stream(drivers, lists, process, fd)?;
     check_unbind(lists, stream)?;
     drop_bind(&mut lists.binds, stream);
@@ -193,7 +193,7 @@ pub fn unroute(
     ensures does { DoesInPlace drivers.now lists.old lists.new process (command.Unroute fd addr) result }
     ensures kept { HasRoom lists.new }
 {
-    sweeping_again_changes_nothing();
+    idle_changes_drop_none();
     let stream = mux_stream(drivers, lists, process, fd)?;
     let driver = stream.driver;
     check_unroute(lists, driver, addr)?;

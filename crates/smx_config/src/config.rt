@@ -1,6 +1,8 @@
 //! The sequential configuration.
 
 ghost use Rattle.std.specs.Prelude.{◌≡◌, ◌≤◌, length, IfOk, IfErr, IsOk, IsErr, IsTrue};
+ghost use Rattle.smx_types.specs.declared.reply.Fault.{Fault};
+ghost use Rattle.smx_types.specs.declared.reply.Reply.TheVariants as reply;
 ghost use Rattle.smx_model.specs.Commands.{outcome, step};
 ghost use Rattle.smx_model.specs.Configuration.{empty};
 ghost use Rattle.smx_model.specs.DriverList.{IsDriverList};
@@ -19,7 +21,7 @@ use crate::show::{
     binding_lines, descriptor_lines, full_lines, link_lines, message_lines, route_lines,
 };
 use crate::stop::Stop;
-use smx_model::laws_of_steps::{commands_keep, empty_is_kept};
+use smx_model::laws_of_steps::{commands_keep, empty_is_kept, refusals_change_nothing};
 use smx_types::{
     BindingLines, Command, ConfigView, DescriptorLines, DriverSpec, FullLines, LinkLines,
     MessageLines, NoMemory, Process, Reply, RouteLines,
@@ -79,17 +81,22 @@ impl Config {
         })
     }
 
-    /// Does a command of a process: its reply and the new configuration are those of the command table. Want of
-    /// memory changes nothing. `dup`, `unbind`, `unroute`, `read`, `transmit` and every refusal take no memory, so
-    /// they are always answered.
+    /// Does a command of a process: its reply and the new configuration are those of the command table. A fault for a
+    /// reply changes nothing, and neither does want of memory. `dup`, `unbind`, `unroute`, `read`, `transmit` and every
+    /// refusal take no memory, so they are always answered.
     pub fn step(&mut self, process: Process, command: &Command) -> Result<Reply, NoMemory>
+        // What it does.
         ensures drivers { self.new.drivers ≡ self.old.drivers }
         ensures ok { IfOk result (λ r. step self.old.drivers self.old.configuration process command.now ≡ (self.new.configuration, r)) }
+        // What changes nothing.
+        ensures fault { IfOk result (λ r. (f : Fault) → r ≡ reply.Fault f → self.new ≡ self.old) }
         ensures err { IfErr result (λ _. self.new ≡ self.old) }
+        // What is always answered.
         ensures in_place { IsTrue (takes_no_memory command.now) → IsOk result }
         ensures refused { IsErr (outcome self.old.drivers self.old.configuration process command.now) → IsOk result }
     {
         commands_keep();
+        refusals_change_nothing();
         match perform(self.alloc, &self.drivers, &mut self.lists, process, command) {
             Ok(reply) => {
                 settle(&self.drivers, &mut self.lists);

@@ -239,6 +239,9 @@ always_is_kept drivers history = after_keeps drivers empty history (empty_kept d
 pub exists_is_stands : (drivers : List DriverSpec) (c : Configuration) (s : StreamId) → AreLinksSound c.links → All (λ l. IsKnown drivers l.ctl) c.links → (exists drivers c s ≡ true) ↔ Stands c s
 exists_is_stands drivers c s sound known = (λ h. record { climbs = length drivers; within = h }, λ h. stands_exists drivers c s sound.no_cycle (each_map (λ l. IsKnown drivers l.ctl) (λ l. l.ctl.driver < length drivers) c.links (λ l p. p.0) (each_of_all _ c.links known)) h)
 
+pub always_exists_is_stands : (drivers : List DriverSpec) (history : List Entry) (s : StreamId) → (exists drivers (after drivers history) s ≡ true) ↔ Stands (after drivers history) s
+always_exists_is_stands drivers history s = let k = (always_is_kept drivers history).sound in exists_is_stands drivers (after drivers history) s k.links k.known.controlling
+
 known_parts : (drivers : List DriverSpec) (c : Configuration) → IsSound drivers c → EachKnown drivers c
 known_parts drivers c h = let p = parts_of drivers c h in each_known drivers c p.named p.routed p.swept_
 

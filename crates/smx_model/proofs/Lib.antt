@@ -17,4 +17,6 @@ pub mod CountLemmas
 pub mod ConservationLemmas
 pub mod ViewLemmas
 pub mod KeptLemmas
+pub mod RefusalLemmas
+pub mod DropLemmas
 pub mod HistoryLemmas

@@ -102,7 +102,7 @@ stream_exists drivers c process fd s e = stands_more c.fds c.links 0 (length dri
   by None e k = cc
   by (Some d) e k = let same : d.stream ≡ s = cc in subst (λ (t : StreamId). is_named c.fds t ≡ true) same (named_found (is_fd process fd) c.fds d e)
 
-free_exists : (drivers : List DriverSpec) (c : Configuration) (process fd : ℕ) (s : StreamId) → free_stream c process fd ≡ Ok s → exists drivers c s ≡ true
+pub free_exists : (drivers : List DriverSpec) (c : Configuration) (process fd : ℕ) (s : StreamId) → free_stream c process fd ≡ Ok s → exists drivers c s ≡ true
 free_exists drivers c process fd s e = by (stream_of c process fd) refl e where
   tested : (t : StreamId) (b : Bool) → (refuse Below b >>= (λ _. Ok t)) ≡ Ok s → t ≡ s
   tested t true k = cc

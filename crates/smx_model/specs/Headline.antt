@@ -4,7 +4,7 @@ use Rattle.smx_types.specs.ProgramLists.{ProgramLists}
 use Rattle.smx_types.specs.declared.transcript.Transcript.{Transcript}
 use Rattle.smx_model.specs.DriverList.{IsDriverList}
 use Rattle.smx_model.specs.Histories.{IsLegal, after, HoldsPrograms}
-use Rattle.smx_model.specs.LawfulHistories.{IsLawfulThroughout}
+use Rattle.smx_model.specs.LawfulHistories.{AreDropsAllowed, IsLawfulThroughout}
 use Rattle.smx_model.specs.Views.{view}
 
 -- the report of a run of these programs
@@ -19,5 +19,7 @@ pub record IsReportOf (programs : ProgramLists) (report : Transcript) : Type 0 w
   -- The view is that of the configuration after the whole history.
   pub shown : report.view ≡ view programs.drivers (after programs.drivers report.entries)
   -- After each entry the links form no cycle, no stream lies below two links, and every message taken in was
-  -- delivered once, is queued, or is named as dropped by unlink, close or flush.
+  -- delivered once, is queued, or is named as dropped.
   pub lawful : IsLawfulThroughout programs.drivers report.entries
+  -- Only unlink, punlink, close, exit and flush name dropped messages.
+  pub drops : AreDropsAllowed report.entries

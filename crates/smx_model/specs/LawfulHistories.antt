@@ -1,7 +1,9 @@
 -- Lawful histories: what the links and messages of every legal history come to.
-use Rattle.std.specs.Prelude.{◌≡◌, ℕ, List, [], ◌∷◌, ◌++◌, length}
-use Rattle.std.specs.List.{AllPairs, range_with_len}
+use Rattle.std.specs.Prelude.{◌≡◌, ◌≢◌, ℕ, Bool, true, false, IsTrue, List, [], ◌∷◌, ◌++◌, length}
+use Rattle.std.specs.List.{All, AllPairs, range_with_len}
 use Rattle.std.specs.List.Sorted.{IsPermutation}
+use Rattle.smx_types.specs.declared.command.Command.{Command}
+use Rattle.smx_types.specs.declared.command.Command.TheVariants as command
 use Rattle.smx_types.specs.declared.command.Entry.{Entry}
 use Rattle.smx_types.specs.declared.driver.DriverSpec.{DriverSpec}
 use Rattle.smx_types.specs.declared.reply.Reply.{Reply}
@@ -36,6 +38,31 @@ dropped_by (reply.Took serial) = []
 dropped_by (reply.Got serial addr bytes) = []
 dropped_by (reply.Done gone) = gone
 dropped_by (reply.Fault fault) = []
+
+-- unlink, punlink, close, exit and flush may drop messages: they remove links, close streams or empty queues
+abbrev pub may_drop : Command → Bool
+may_drop (command.OpenClone name) = false
+may_drop (command.OpenMinor name minor) = false
+may_drop (command.Dup fd) = false
+may_drop (command.Close fd) = true
+may_drop command.CloseAll = true
+may_drop (command.Link fd arg) = false
+may_drop (command.Plink fd arg) = false
+may_drop (command.Unlink fd w) = true
+may_drop (command.Punlink fd w) = true
+may_drop (command.Bind fd addr) = false
+may_drop (command.Unbind fd) = false
+may_drop (command.Route fd addr id) = false
+may_drop (command.Unroute fd addr) = false
+may_drop (command.Write fd addr bytes) = false
+may_drop (command.Read fd) = false
+may_drop (command.Flush fd w) = true
+may_drop (command.Inject name minor addr bytes) = false
+may_drop (command.Transmit name minor) = false
+
+-- only commands that may drop messages name dropped ones
+abbrev pub AreDropsAllowed : List Entry → Type 0
+AreDropsAllowed history = All (λ e. dropped_by e.reply ≢ [] → IsTrue (may_drop e.command)) history
 
 -- the serials of the messages that were taken in: those of the Took replies, in order
 abbrev pub taken : List Entry → List ℕ

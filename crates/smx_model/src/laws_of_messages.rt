@@ -5,13 +5,18 @@ ghost use Rattle.smx_types.specs.declared.command.Entry.{Entry};
 ghost use Rattle.smx_types.specs.declared.driver.DriverSpec.{DriverSpec};
 ghost use Rattle.smx_model.specs.FlowOrder.{IsInOrder};
 ghost use Rattle.smx_model.specs.Histories.{after, IsLegal};
-ghost use Rattle.smx_model.specs.LawfulHistories.{IsConserving};
+ghost use Rattle.smx_model.specs.LawfulHistories.{IsConserving, AreDropsAllowed};
 ghost use Rattle.smx_model.specs.Settling.{IsSettled};
 
 /// In a legal history serials count from 1, and each message that was taken in was delivered, was dropped or is
 /// queued, once.
 pub fn messages_are_conserved()
     ensures { (drivers : List DriverSpec) (history : List Entry) → IsLegal drivers history → IsConserving drivers history }
+{}
+
+/// In a legal history only unlink, punlink, close, exit and flush name dropped messages.
+pub fn few_commands_drop()
+    ensures { (drivers : List DriverSpec) (history : List Entry) → IsLegal drivers history → AreDropsAllowed history }
 {}
 
 /// After any commands no message can move on: the moves of settling suffice.

@@ -1,16 +1,20 @@
 //! Laws of single commands, each the contract of a function that does nothing.
 
-ghost use Rattle.std.specs.Prelude.{◌≡◌, ℕ, List, IfOk};
+ghost use Rattle.std.specs.Prelude.{◌≡◌, ◌≢◌, ℕ, List, [], Ok, IfOk, IsTrue};
 ghost use Rattle.smx_types.specs.declared.command.Command.{Command};
 ghost use Rattle.smx_types.specs.declared.command.Entry.{Entry};
 ghost use Rattle.smx_types.specs.declared.driver.DriverSpec.{DriverSpec};
+ghost use Rattle.smx_types.specs.declared.reply.Fault.{Fault};
+ghost use Rattle.smx_types.specs.declared.reply.Reply.TheVariants as reply;
 ghost use Rattle.smx_types.specs.declared.stream.Place.{Place};
-ghost use Rattle.smx_model.specs.Commands.{outcome, step};
+ghost use Rattle.smx_model.specs.Commands.{done, outcome, step};
 ghost use Rattle.smx_model.specs.Configuration.{Configuration, empty};
 ghost use Rattle.smx_model.specs.Histories.{after};
 ghost use Rattle.smx_model.specs.KeptConfigurations.{IsKept, IsSound};
+ghost use Rattle.smx_model.specs.LawfulHistories.{dropped_by, may_drop};
 ghost use Rattle.smx_model.specs.Removal.{swept};
 ghost use Rattle.smx_model.specs.Settling.{moved, settled};
+ghost use Rattle.smx_model.specs.Swept.{IsSwept};
 
 /// The outcome of a command that is accepted is sound, before it is settled.
 pub fn outcomes_are_sound()
@@ -22,6 +26,23 @@ pub fn outcomes_are_sound()
 pub fn outcomes_are_swept()
     ensures { (drivers : List DriverSpec) (c : Configuration) (process : ℕ) (command : Command) → IsSound drivers c
         → IfOk (outcome drivers c process command) (λ x. swept drivers x.0 ≡ x.0) }
+{}
+
+/// A fault is the reply of refused commands alone, and those leave the configuration as it was.
+pub fn refusals_change_nothing()
+    ensures { (drivers : List DriverSpec) (c : Configuration) (process : ℕ) (command : Command) (f : Fault)
+        → (step drivers c process command).1 ≡ reply.Fault f → (step drivers c process command).0 ≡ c }
+{}
+
+/// Where nothing is left of streams that don't exist, only a command that may drop messages names dropped ones.
+pub fn other_commands_drop_none()
+    ensures { (drivers : List DriverSpec) (c : Configuration) (process : ℕ) (command : Command) → IsSwept drivers c
+        → dropped_by (step drivers c process command).1 ≢ [] → IsTrue (may_drop command) }
+{}
+
+/// What leaves nothing to sweep, and the flow as it was, is done with no message dropped.
+pub fn idle_changes_drop_none()
+    ensures { (drivers : List DriverSpec) (c new : Configuration) → IsSwept drivers new → new.flow ≡ c.flow → done drivers c new ≡ Ok (new, reply.Done []) }
 {}
 
 /// A move keeps a configuration sound.

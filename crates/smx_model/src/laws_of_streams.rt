@@ -20,6 +20,12 @@ pub fn climbs_suffice()
         → (IsTrue (exists drivers c s) ↔ Stands c s) }
 {}
 
+/// So it is after any commands.
+pub fn climbs_always_suffice()
+    ensures { (drivers : List DriverSpec) (history : List Entry) (s : StreamId)
+        → (IsTrue (exists drivers (after drivers history) s) ↔ Stands (after drivers history) s) }
+{}
+
 /// After any commands each part of the configuration names a stream that its drivers have.
 pub fn streams_are_known()
     ensures { (drivers : List DriverSpec) (history : List Entry) → AreStreamsKnown drivers (after drivers history) }
