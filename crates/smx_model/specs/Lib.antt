@@ -38,3 +38,5 @@ pub mod WorkedAnOrdinaryLinkUnderAPersistentOne
 pub mod WorkedFullDescriptorTable
 pub mod WorkedBarredWhileLinkedUsableAfterwards
 pub mod WorkedEnabledByARouteABindingAndALink
+pub mod WorkedFlushOfEachSide
+pub mod WorkedAllLinksRemoved

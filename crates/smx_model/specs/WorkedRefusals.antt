@@ -1,4 +1,4 @@
--- A worked history of two processes: each refusal, and a shared stream that stays until its last close.
+-- Worked, with two processes: an open without its driver or a minor is refused, and so is a dup or close without its descriptor; a shared stream stays until its last close.
 use Rattle.std.specs.Prelude.{◌≡◌, List, [], ◌∷◌, refl, codes}
 use Rattle.smx_types.specs.declared.command.Command.TheVariants as command
 use Rattle.smx_types.specs.declared.command.Entry.{Entry}

@@ -10,7 +10,8 @@ ghost use Rattle.smx_model.specs.Ordered.{IsRising};
 
 /// A prefix of a legal history is legal.
 pub fn prefixes_are_legal()
-    ensures { (drivers : List DriverSpec) (early late : List Entry) → IsLegal drivers (early ++ late) → IsLegal drivers early }
+    ensures { (drivers : List DriverSpec) (early late : List Entry) → IsLegal drivers (early ++ late)
+        → IsLegal drivers early }
 {}
 
 /// Commands in a given order have one legal history: their replies are determined.
@@ -27,7 +28,8 @@ pub fn legal_histories_are_lawful()
 
 /// So is each of its prefixes: it is lawful after each entry.
 pub fn lawful_after_each_entry()
-    ensures { (drivers : List DriverSpec) (history : List Entry) → IsLegal drivers history → IsLawfulThroughout drivers history }
+    ensures { (drivers : List DriverSpec) (history : List Entry) → IsLegal drivers history
+        → IsLawfulThroughout drivers history }
 {}
 
 /// After any commands the open descriptors are in the order in which they are shown, and so all differ.

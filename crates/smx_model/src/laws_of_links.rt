@@ -17,7 +17,8 @@ pub fn reaches_is_path()
 /// A new link joins what reaches its upper driver to what its lower driver reaches.
 pub fn one_link_more_joins()
     ensures { (links : List Link) (l : Link) (a b : ℕ) → reaches (links ++ l ∷ []) a b
-        ≡ (reaches links a b || (((a == l.ctl.driver) || reaches links a l.ctl.driver) && ((l.lower.driver == b) || reaches links l.lower.driver b))) }
+        ≡ (reaches links a b || (((a == l.ctl.driver) || reaches links a l.ctl.driver)
+        && ((l.lower.driver == b) || reaches links l.lower.driver b))) }
 {}
 
 /// After any commands the links form no cycle, and no stream is below two of them.
@@ -27,7 +28,8 @@ pub fn links_stay_sound()
 
 /// After any commands the ids of links rise, from 1 on and below the next one.
 pub fn ids_rise()
-    ensures { (drivers : List DriverSpec) (history : List Entry) → AreIdsRising (after drivers history).links (after drivers history).next_id }
+    ensures { (drivers : List DriverSpec) (history : List Entry)
+        → AreIdsRising (after drivers history).links (after drivers history).next_id }
 {}
 
 /// After any commands each route names a link of its own driver, which is a multiplexing one.

@@ -11,7 +11,8 @@ ghost use Rattle.smx_model.specs.Settling.{IsSettled};
 /// In a legal history serials count from 1, and each message that was taken in was delivered, was dropped or is
 /// queued, once.
 pub fn messages_are_conserved()
-    ensures { (drivers : List DriverSpec) (history : List Entry) → IsLegal drivers history → IsConserving drivers history }
+    ensures { (drivers : List DriverSpec) (history : List Entry) → IsLegal drivers history
+        → IsConserving drivers history }
 {}
 
 /// In a legal history only unlink, punlink, close, exit and flush name dropped messages.

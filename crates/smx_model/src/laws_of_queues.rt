@@ -1,7 +1,7 @@
 //! Laws of single queues, each the contract of a function that does nothing.
 
-ghost use Rattle.std.specs.Prelude.{◌≡◌, ◌≢◌, ◌++◌, ◌∷◌, [], not, Bool, false, List, filter, drop, slice_get};
-ghost use Rattle.std.specs.Prelude.{if◌then◌else◌};
+ghost use Rattle.std.specs.Prelude.{◌≡◌, ◌≢◌, ◌++◌, ◌∷◌, [], not, Bool, false, if◌then◌else◌};
+ghost use Rattle.std.specs.Prelude.{List, filter, drop, slice_get};
 ghost use Rattle.std.specs.List.{AllPairs, list_any};
 ghost use Rattle.smx_types.specs.declared.driver.DriverSpec.{DriverSpec};
 ghost use Rattle.smx_types.specs.declared.message.Message.{Message};
@@ -21,31 +21,38 @@ pub fn queues_make_the_flow()
 
 /// What arrives goes to the end of its queue, and no other queue changes.
 pub fn arrivals_go_to_the_end()
-    ensures { (flow : List Held) (p q : Place) (m : Message) → IsInOrder flow → queue (placed held_before flow (record { place = p; message = m })) q
+    ensures { (flow : List Held) (p q : Place) (m : Message) → IsInOrder flow
+        → queue (placed held_before flow (record { place = p; message = m })) q
         ≡ (if same_place p q then queue flow q ++ m ∷ [] else queue flow q) }
 {}
 
 /// What leaves was the first of its queue, and no other queue changes.
 pub fn the_first_leaves()
-    ensures queues { (flow : List Held) (p q : Place) → queue (without_first (is_at p) flow) q ≡ (if same_place p q then drop 1 (queue flow q) else queue flow q) }
+    ensures queues { (flow : List Held) (p q : Place) → queue (without_first (is_at p) flow) q
+        ≡ (if same_place p q then drop 1 (queue flow q) else queue flow q) }
     ensures front { (flow : List Held) (p : Place) → front flow p ≡ slice_get (queue flow p) 0 }
 {}
 
 /// Emptied places have no messages and are not full, and the others stay as they were.
 pub fn emptied_places_are_empty()
-    ensures queues { (flow : List Held) (goes : Place → Bool) (q : Place) → queue (filter (λ h. not (goes h.place)) flow) q ≡ (if goes q then [] else queue flow q) }
-    ensures marks { (fulls : List Place) (goes : Place → Bool) (q : Place) → list_any (same_place q) (filter (λ p. not (goes p)) fulls)
+    ensures queues { (flow : List Held) (goes : Place → Bool) (q : Place)
+        → queue (filter (λ h. not (goes h.place)) flow) q
+        ≡ (if goes q then [] else queue flow q) }
+    ensures marks { (fulls : List Place) (goes : Place → Bool) (q : Place)
+        → list_any (same_place q) (filter (λ p. not (goes p)) fulls)
         ≡ (if goes q then false else list_any (same_place q) fulls) }
 {}
 
 /// A mark that is set or taken away is that of one place.
 pub fn marks_are_of_one_place()
-    ensures { (p q : Place) (full : Bool) (fulls : List Place) → list_any (same_place q) (marked p full fulls) ≡ (if same_place p q then full else list_any (same_place q) fulls) }
+    ensures { (p q : Place) (full : Bool) (fulls : List Place) → list_any (same_place q) (marked p full fulls)
+        ≡ (if same_place p q then full else list_any (same_place q) fulls) }
 {}
 
 /// The first movable place of a flow in order is the least one, and where there is none, nothing can move.
 pub fn the_first_is_the_least()
-    ensures { (drivers : List DriverSpec) (c : Configuration) → IsInOrder c.flow → IsLeastMovable drivers c (least_movable drivers c) }
+    ensures { (drivers : List DriverSpec) (c : Configuration) → IsInOrder c.flow
+        → IsLeastMovable drivers c (least_movable drivers c) }
 {}
 
 /// The dropped serials are those of the messages that are not kept, rising.

@@ -47,7 +47,8 @@ pub fn idle_changes_drop_none()
 
 /// A move keeps a configuration sound.
 pub fn moves_keep_soundness()
-    ensures { (drivers : List DriverSpec) (c : Configuration) (p : Place) → IsSound drivers c → IsSound drivers (moved drivers c p) }
+    ensures { (drivers : List DriverSpec) (c : Configuration) (p : Place) → IsSound drivers c
+        → IsSound drivers (moved drivers c p) }
 {}
 
 /// Settling ends: after as many moves as there are messages times drivers no message can move on.

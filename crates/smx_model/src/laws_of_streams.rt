@@ -16,7 +16,8 @@ ghost use Rattle.smx_model.specs.Swept.{IsSwept};
 /// Without a cycle a stream exists exactly where it stands within some number of climbs: as many climbs as there are
 /// drivers suffice. It needs no sweep before.
 pub fn climbs_suffice()
-    ensures { (drivers : List DriverSpec) (c : Configuration) (s : StreamId) → AreLinksSound c.links → All (λ l. IsKnown drivers l.ctl) c.links
+    ensures { (drivers : List DriverSpec) (c : Configuration) (s : StreamId) → AreLinksSound c.links
+        → All (λ l. IsKnown drivers l.ctl) c.links
         → (IsTrue (exists drivers c s) ↔ Stands c s) }
 {}
 

@@ -9,6 +9,7 @@ ghost use Rattle.smx_model.specs.Views.{view};
 
 /// Configurations that are shown in the same way are the same.
 pub fn views_tell_configurations_apart()
-    ensures { (drivers : List DriverSpec) (c d : Configuration) → IsDriverList drivers → IsSound drivers c → IsSound drivers d
+    ensures { (drivers : List DriverSpec) (c d : Configuration) → IsDriverList drivers
+        → IsSound drivers c → IsSound drivers d
         → view drivers c ≡ view drivers d → c ≡ d }
 {}
