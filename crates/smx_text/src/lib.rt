@@ -15,8 +15,6 @@ mod transcript_draft;
 pub mod transcript_laws;
 mod transcript_line;
 mod transcript_read;
-#[cfg(test)]
-mod transcript_tests;
 mod view_line;
 mod word;
 mod word_counts;

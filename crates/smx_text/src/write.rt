@@ -9,8 +9,6 @@ ghost use Rattle.smx_text.specs.Words.{text_of};
 mod command;
 mod reply;
 mod spelled;
-#[cfg(test)]
-mod tests;
 mod view;
 mod words;
 

@@ -16,6 +16,7 @@ use smx_types::{
 };
 
 /// The lines of a view, its groups in their order.
+#[tactic(auto, using(crate::proofs::WritingLemmas::view_written))]
 pub(super) fn put_view(out: &mut Vec<u8>, view: &ConfigView) -> Result<(), NoMemory>
     ensures written { OnOk result (out.new.items ≡ out.old.items ++ text_of (view_lines view.now)) }
     ensures spellable { OnOk result (IsSpellableView view.now) }
