@@ -106,10 +106,7 @@ fn an_entry(alloc: Global) -> Result<Entry, Fail> {
 #[test]
 fn copies_are_equal(rt: HostRuntime) -> Result<(), Fail> {
     let mut entries = Entries::new(rt.alloc());
-    entries
-        .push(an_entry(rt.alloc())?)
-        .ok()
-        .ok_or("memory")?;
+    entries.push(an_entry(rt.alloc())?).ok().ok_or("memory")?;
     let again = entries.copy(rt.alloc()).ok().ok_or("memory")?;
     assert!(rt; again == entries);
     Ok(())
