@@ -1,6 +1,6 @@
 //! The serials of messages that a change dropped.
 
-ghost use Rattle.std.specs.Prelude.{◌≡◌, ◌<◌, ◌≤◌, ◌==◌, nat_lt, not, filter, length, vec_capacity, IfOk, []};
+ghost use Rattle.std.specs.Prelude.{◌≡◌, ◌<◌, ◌≤◌, ◌==◌, nat_lt, not, true, filter, length, vec_capacity, IfOk, IsTrue, []};
 ghost use Rattle.std.specs.List.{list_any};
 ghost use Rattle.smx_model.specs.Ordered.{placed, rising};
 ghost use Rattle.smx_model.specs.Removal.{serials};
@@ -22,10 +22,13 @@ fn has_serial(flow: &[Queued], serial: u32) -> bool
     flow.iter().map(|h| h.message().serial).any(|m| serial == m)
 }
 
-fn keep_gone(old: &mut Vec<u32>, flow: &[Queued])
-    ensures { old.new.items ≡ filter (λ n. not (list_any (λ m. n == m) (serials flow.now))) old.old.items }
+// Whether this serial is the last of the first `count` messages.
+fn is_last(flow: &[Queued], count: usize, serial: u32) -> bool
+    requires { count ≤ length flow.now }
+    ensures there { IsTrue result → list_any (λ m. serial == m) (serials flow.now) ≡ true }
+    ensures some { IsTrue result → 0 < count }
 {
-    old.retain(|n| !has_serial(flow, *n));
+    count > 0 && flow[count - 1].message().serial == serial
 }
 
 #[tactic(auto, using(crate::proofs::PlaceLemmas::place_le, crate::proofs::PlaceLemmas::insert_place))]
@@ -38,27 +41,22 @@ fn put_number(numbers: &mut Vec<u32>, n: u32)
     let _ = numbers.insert(i, n);
 }
 
-// The numbers, rising, in a list that has room for them.
-fn in_order(numbers: Vec<u32>, room: Vec<u32>) -> Vec<u32>
-    requires empty { room.items ≡ [] }
-    requires room { length numbers.items ≤ vec_capacity room }
-    ensures { result.items ≡ rising numbers.items }
-{
-    let mut left = numbers;
-    let mut placed = room;
-    while let Some(n) = left.pop() {
-        put_number(&mut placed, n);
-    }
-    placed
-}
-
-// Those of the old serials that the flow has no more, rising. The last list has room for all of them.
+// Those of the old serials that the flow has no more, rising. The last list has room for all of them. Both lists are
+// gone through from their ends, side by side, so that only a serial that is gone takes a look at the whole flow.
 pub fn dropped(old: Vec<u32>, flow: &[Queued], room: Vec<u32>) -> Vec<u32>
     requires empty { room.items ≡ [] }
     requires room { length old.items ≤ vec_capacity room }
     ensures { result.items ≡ rising (filter (λ n. not (list_any (λ m. n == m) (serials flow.now))) old.items) }
 {
-    let mut gone = old;
-    keep_gone(&mut gone, flow);
-    in_order(gone, room)
+    let mut left = old;
+    let mut count = flow.len();
+    let mut gone = room;
+    while let Some(n) = left.pop() {
+        if is_last(flow, count, n) {
+            count -= 1;
+        } else if !has_serial(flow, n) {
+            put_number(&mut gone, n);
+        }
+    }
+    gone
 }

@@ -1,6 +1,6 @@
 //! Messages that move on.
 
-ghost use Rattle.std.specs.Prelude.{◌≡◌, ◌≤◌, ◌==◌, ◌&&◌, find, map, length, vec_capacity};
+ghost use Rattle.std.specs.Prelude.{◌≡◌, ◌≤◌, ◌==◌, ◌&&◌, false, find, map, length, vec_capacity, IfSome};
 ghost use Rattle.smx_model.specs.Configuration.{same_stream};
 ghost use Rattle.smx_model.specs.Settling.{down_by, up_by, next_place, way, is_movable, least_movable, moved, settled};
 ghost use Rattle.smx_config.specs.Reserved.{HasRoom};
@@ -10,7 +10,7 @@ use crate::lists::Lists;
 use crate::lookups::is_mux;
 use crate::queued::Queued;
 use crate::queues::{arrive, front_addr, is_full, leave};
-use crate::streams::same_stream;
+use crate::streams::{same_place, same_stream};
 use smx_types::{Binding, DriverSpec, Link, Place, Route, Side, StreamId};
 
 fn route_of(routes: &[Route], driver: u8, addr: u32) -> Option<Route>
@@ -106,12 +106,35 @@ fn is_movable(drivers: &[DriverSpec], lists: &Lists, place: Place) -> bool
     way(drivers, lists, place).is_some()
 }
 
+// The same, where the place that was tested last can't.
+fn is_movable_after(
+    drivers: &[DriverSpec],
+    lists: &Lists,
+    stuck: Option<Place>,
+    place: Place,
+) -> bool
+    requires { IfSome stuck (λ p. is_movable drivers.now (configuration_of lists.now) p ≡ false) }
+    ensures { result ≡ is_movable drivers.now (configuration_of lists.now) place }
+{
+    match stuck {
+        Some(p) => !same_place(p, place) && is_movable(drivers, lists, place),
+        None => is_movable(drivers, lists, place),
+    }
+}
+
+// A place is tested once, at its first message.
 fn first_movable(drivers: &[DriverSpec], lists: &Lists, flow: &[Queued]) -> Option<Place>
     ensures { result ≡ find (is_movable drivers.now (configuration_of lists.now)) (map (λ h. h.place) flow.now) }
 {
-    flow.iter()
-        .map(|h| h.place())
-        .find(|p| is_movable(drivers, lists, *p))
+    let mut stuck = None;
+    for queued in flow {
+        let place = queued.place();
+        if is_movable_after(drivers, lists, stuck, place) {
+            return Some(place);
+        }
+        stuck = Some(place);
+    }
+    None
 }
 
 // The first place of the flow from which a message may move on.
