@@ -8,7 +8,7 @@ use Rattle.std.proofs.lemmas.List.{append-nil, take_more, length-take-le, length
 use Rattle.std.proofs.lemmas.List.Sums.{sum_by-cons}
 use Rattle.smx_types.specs.declared.command.Command.{Command}
 use Rattle.smx_types.specs.declared.command.Entry.{Entry}
-use Rattle.smx_model.specs.Histories.{asked_of, commands_of, HoldsPrograms}
+use Rattle.smx_model.specs.Histories.{call_of, commands_of, HoldsPrograms}
 use Rattle.smx_model.specs.LawfulHistories.{AreDropsAllowed}
 use Rattle.smx_types.specs.ProgramLists.{ProgramLists}
 use Rattle.smx_types.specs.declared.transcript.Transcript.{Transcript}
@@ -21,7 +21,7 @@ use Rattle.muxsim.specs.Asked.{asked_by, asked_from}
 abbrev picked : ℕ → List (ℕ × Command) → List Command
 picked p asked = map (λ a. a.1) (filter (λ a. a.0 == p) asked)
 
-picked_is : (p : ℕ) (es : List Entry) → commands_of p es ≡ picked p (map asked_of es)
+picked_is : (p : ℕ) (es : List Entry) → commands_of p es ≡ picked p (map call_of es)
 picked_is p [] = refl
 picked_is p (e ∷ es) = elim (cases_Bool (e.process == p)) [
   | inl t ↦ rw (t, picked_is p es) refl
@@ -60,7 +60,7 @@ picked_at (suc k) n (cs ∷ programs) =
     let next : suc k + n ≡ k + (n + 1) = omega arith in
     picked_more (suc k + n) (asked_by n cs) (asked_from (n + 1) programs) ∙ rw (picked_other (suc k + n) n cs other) (ap (λ (p : ℕ). picked p (asked_from (n + 1) programs)) next ∙ picked_at k (n + 1) programs)
 
-pub holds : (es : List Entry) (programs : List (List Command)) → map asked_of es ≡ asked_from 0 programs → HoldsPrograms es programs
+pub holds : (es : List Entry) (programs : List (List Command)) → map call_of es ≡ asked_from 0 programs → HoldsPrograms es programs
 holds es programs e p =
     let here : p + 0 ≡ p = omega arith in
     picked_is p es ∙ ap (picked p) e ∙ ap (λ (q : ℕ). picked q (asked_from 0 programs)) (sym here) ∙ picked_at p 0 programs
@@ -76,13 +76,13 @@ count_from n [] = refl
 count_from n (cs ∷ programs) =
     omega (arith, length-append (asked_by n cs) (asked_from (n + 1) programs), one_each n cs, count_from (n + 1) programs, sum_by-cons (length {A = Command}) cs programs)
 
-pub as_many : (es : List Entry) (programs : List (List Command)) → map asked_of es ≡ asked_from 0 programs → length es ≡ sum_by length programs
-as_many es programs e = omega (arith, length-map es asked_of, ap (length {A = ℕ × Command}) e, count_from 0 programs)
+pub as_many : (es : List Entry) (programs : List (List Command)) → map call_of es ≡ asked_from 0 programs → length es ≡ sum_by length programs
+as_many es programs e = omega (arith, length-map es call_of, ap (length {A = ℕ × Command}) e, count_from 0 programs)
 
 -- ---- one command more
 
-pub asked_more : (es fs : List Entry) (process : ℕ) (command : Command) → HasOneMore es fs process command → map asked_of fs ≡ map asked_of es ++ (process, command) ∷ []
-asked_more es fs process command h = ap (map asked_of) h.1 ∙ map_push asked_of es _
+pub asked_more : (es fs : List Entry) (process : ℕ) (command : Command) → HasOneMore es fs process command → map call_of fs ≡ map call_of es ++ (process, command) ∷ []
+asked_more es fs process command h = ap (map call_of) h.1 ∙ map_push call_of es _
 
 -- ---- one program more
 
@@ -100,12 +100,12 @@ next_program ps i cs lt here =
 
 -- ---- the report of a system that was asked all of it
 
-pub report_of : (programs : ProgramLists) (s : Recorded) (t : Transcript) → Reports s t → AreDropsAllowed s.history → s.drivers ≡ programs.drivers → IsDriverList programs.drivers → map asked_of s.history ≡ asked_from 0 programs.programs → IsReportOf programs t
+pub report_of : (programs : ProgramLists) (s : Recorded) (t : Transcript) → Reports s t → AreDropsAllowed s.history → s.drivers ≡ programs.drivers → IsDriverList programs.drivers → map call_of s.history ≡ asked_from 0 programs.programs → IsReportOf programs t
 report_of programs s t h drops same can asked = record {
   drivers = h.drivers ∙ same;
   can_be_had = can;
   legal = rw (← same, h.entries) h.legal;
-  holds = holds t.entries programs.programs (ap (map asked_of) h.entries ∙ asked);
+  holds = holds t.entries programs.programs (ap (map call_of) h.entries ∙ asked);
   shown = rw (← same, h.entries) h.shown;
   lawful = rw (← same, h.entries) h.lawful;
   drops = rw h.entries drops;

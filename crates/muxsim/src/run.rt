@@ -2,7 +2,7 @@
 
 ghost use Rattle.std.specs.Prelude.{◌≡◌, ◌≤◌, ◌++◌, length, map, IfOk, IfErr, OnOk};
 ghost use Rattle.smx_model.specs.Headline.{IsReportOf};
-ghost use Rattle.smx_model.specs.Histories.{asked_of};
+ghost use Rattle.smx_model.specs.Histories.{call_of};
 ghost use Rattle.smx_types.specs.declared.limits.TheConstants.{MAX_COMMANDS, MAX_PROCESSES};
 ghost use Rattle.muxsim.specs.Asked.{asked_by, asked_from};
 ghost use Rattle.muxsim.specs.Recorded.{Reports};
@@ -31,7 +31,7 @@ pub fn run_programs(alloc: Global, programs: &Programs) -> Result<Transcript, Ru
 fn run_all(alloc: Global, system: &mut System, programs: &[Commands]) -> Result<(), NoMemory>
     requires { length programs.now ≤ MAX_PROCESSES }
     ensures drivers { system.new.drivers ≡ system.old.drivers }
-    ensures asked { OnOk result (map asked_of system.new.history ≡ map asked_of system.old.history ++ asked_from 0 programs.now) }
+    ensures asked { OnOk result (map call_of system.new.history ≡ map call_of system.old.history ++ asked_from 0 programs.now) }
 {
     for (i, commands) in programs.iter().enumerate() {
         let process = Process::new(i as u32).unwrap();
@@ -48,7 +48,7 @@ fn run_one(
     commands: &[Command],
 ) -> Result<(), NoMemory>
     ensures drivers { system.new.drivers ≡ system.old.drivers }
-    ensures asked { OnOk result (map asked_of system.new.history ≡ map asked_of system.old.history ++ asked_by process commands.now) }
+    ensures asked { OnOk result (map call_of system.new.history ≡ map call_of system.old.history ++ asked_by process commands.now) }
 {
     for command in commands {
         system.apply(alloc, process, command)?;

@@ -4,7 +4,7 @@ use Rattle.std.specs.List.{list_any}
 use Rattle.std.proofs.lemmas.Bool.{cases_Bool, and_parts, and_from, or_parts, or_cases, ltb-true, ltb-false, eqb-true, eq-eqb, cases_order, false≢true}
 use Rattle.smx_types.specs.declared.stream.Descriptor.{Descriptor}
 use Rattle.smx_model.specs.Configuration.{is_fd, fd_before}
-use Rattle.smx_model.specs.Ordered.{placed}
+use Rattle.smx_model.specs.Ordered.{with_inserted}
 use Rattle.smx_config.specs.Reserved.{code_of, RiseFrom, IsFree}
 
 before_less : (d e : Descriptor) → d.fd < 16 → e.fd < 16 → fd_before d e ≡ true → code_of d < code_of e
@@ -29,7 +29,7 @@ not_before_more d e a b h other =
       | inr differ ↦ elim differ [ inl x ↦ omega arith | inr x ↦ omega arith ]
     ]
 
-pub rise_placed : (n : ℕ) (fds : List Descriptor) (d : Descriptor) → n ≤ code_of d → d.fd < 16 → d.process < 64 → list_any (is_fd d.process d.fd) fds ≡ false → RiseFrom n fds → RiseFrom n (placed fd_before fds d)
+pub rise_placed : (n : ℕ) (fds : List Descriptor) (d : Descriptor) → n ≤ code_of d → d.fd < 16 → d.process < 64 → list_any (is_fd d.process d.fd) fds ≡ false → RiseFrom n fds → RiseFrom n (with_inserted fd_before fds d)
 rise_placed n [] d le fd process free h = (le, fd, omega arith)
 rise_placed n (e ∷ es) d le fd process free h = let p = or_parts (is_fd d.process d.fd e) (list_any (is_fd d.process d.fd) es) free in elim (cases_Bool (fd_before d e)) [
   | inl t ↦ let less = before_less d e fd h.1 t in rw t (le, fd, (omega arith, h.1, h.2))
@@ -40,15 +40,15 @@ rise_room : (n : ℕ) (fds : List Descriptor) → RiseFrom n fds → n + length 
 rise_room n [] h = omega arith
 rise_room n (e ∷ es) h = let r = rise_room (code_of e + 1) es h.2 in let a = h.0 in omega arith
 
-length_placed : (fds : List Descriptor) (d : Descriptor) → length (placed fd_before fds d) ≡ length fds + 1
+length_placed : (fds : List Descriptor) (d : Descriptor) → length (with_inserted fd_before fds d) ≡ length fds + 1
 length_placed [] d = omega arith
 length_placed (e ∷ es) d = elim (cases_Bool (fd_before d e)) [ inl a ↦ rw a (omega arith) | inr b ↦ rw b (omega (arith, length_placed es d)) ]
 
 -- one more has room
 pub fd_room : (fds : List Descriptor) (d : Descriptor) → d.process < 64 → IsFree d.process d.fd fds → RiseFrom 0 fds → length fds < 1024
-fd_room fds d process free h = omega (arith, rise_room 0 (placed fd_before fds d) (rise_placed 0 fds d (omega arith) free.below process free.free h), length_placed fds d)
+fd_room fds d process free h = omega (arith, rise_room 0 (with_inserted fd_before fds d) (rise_placed 0 fds d (omega arith) free.below process free.free h), length_placed fds d)
 
-pub fds_rise_on : (fds new : List Descriptor) (d : Descriptor) → d.process < 64 → IsFree d.process d.fd fds → RiseFrom 0 fds → new ≡ placed fd_before fds d → RiseFrom 0 new
+pub fds_rise_on : (fds new : List Descriptor) (d : Descriptor) → d.process < 64 → IsFree d.process d.fd fds → RiseFrom 0 fds → new ≡ with_inserted fd_before fds d → RiseFrom 0 new
 fds_rise_on fds new d process free h e = rw e (rise_placed 0 fds d (omega arith) free.below process free.free h)
 
 rise_less : (m n : ℕ) (fds : List Descriptor) → m ≤ n → RiseFrom n fds → RiseFrom m fds

@@ -14,28 +14,28 @@ use Rattle.smx_types.specs.declared.stream.StreamId.{StreamId}
 use Rattle.smx_types.specs.declared.driver.DriverSpec.{DriverSpec}
 use Rattle.smx_types.specs.declared.reply.Reply.{Reply}
 use Rattle.smx_types.specs.declared.reply.Reply.TheVariants.{Done}
-use Rattle.smx_model.specs.Commands.{done, outcome}
+use Rattle.smx_model.specs.Commands.{done_outcome, outcome}
 use Rattle.smx_model.specs.Configuration.{Configuration, route_before}
-use Rattle.smx_model.specs.Ordered.{placed, rising}
+use Rattle.smx_model.specs.Ordered.{with_inserted, in_rising_order}
 use Rattle.smx_model.specs.Lookups.{mux_stream}
 use Rattle.smx_model.specs.Outcomes.{refuse}
-use Rattle.smx_model.specs.Removal.{serials, swept, removed}
+use Rattle.smx_model.specs.Removal.{serials, after_sweep, without_links}
 use Rattle.smx_model.specs.Swept.{IsSwept}
 use Rattle.smx_config.specs.Owners.{is_chosen, are_there, unlinks}
 
-pub done_is : (drivers : List DriverSpec) (c new d : Configuration) (old : List ℕ) (r : Reply) → d ≡ swept drivers new → old ≡ serials c.flow
-    → r ≡ Done (rising (filter (λ n. not (list_any (λ m. eqb n m) (serials d.flow))) old)) → done drivers c new ≡ Ok (d, r)
+pub done_is : (drivers : List DriverSpec) (c new d : Configuration) (old : List ℕ) (r : Reply) → d ≡ after_sweep drivers new → old ≡ serials c.flow
+    → r ≡ Done (in_rising_order (filter (λ n. not (list_any (λ m. eqb n m) (serials d.flow))) old)) → done_outcome drivers c new ≡ Ok (d, r)
 done_is drivers c new d old r is was gone = rw (gone, was, is) refl
 
 -- ---- the same, behind the refusals of a command
 
 pub unlink_does : (drivers : List DriverSpec) (c : Configuration) (process fd : ℕ) (w : Which) (k : LinkKind) (s : StreamId) (x : Configuration × Reply) → mux_stream drivers c process fd ≡ Ok s → are_there w k s c.links ≡ Ok tt
-    → done drivers c (removed c (is_chosen w k s)) ≡ Ok x → unlinks drivers c process fd w k ≡ Ok x
+    → done_outcome drivers c (without_links c (is_chosen w k s)) ≡ Ok x → unlinks drivers c process fd w k ≡ Ok x
 unlink_does drivers c process fd w k s x e there h = rw (e, there) h
 
 pub route_does : (drivers : List DriverSpec) (c : Configuration) (process fd addr id : ℕ) (s : StreamId) (x : Configuration × Reply) → mux_stream drivers c process fd ≡ Ok s
     → refuse NoLink (not (list_any (λ l. eqb l.id id && eqb l.ctl.driver s.driver) c.links)) ≡ Ok tt
-    → done drivers c (record c { routes = placed route_before (filter (λ r. not (eqb r.driver s.driver && eqb r.addr addr)) c.routes) (record { driver = s.driver; addr = addr; id = id }) }) ≡ Ok x
+    → done_outcome drivers c (record c { routes = with_inserted route_before (filter (λ r. not (eqb r.driver s.driver && eqb r.addr addr)) c.routes) (record { driver = s.driver; addr = addr; id = id }) }) ≡ Ok x
     → outcome drivers c process (command.Route fd addr id) ≡ Ok x
 route_does drivers c process fd addr id s x e there h = rw (e, there) h
 
@@ -53,23 +53,23 @@ other_routes drivers c routes h = record { links = h.links; binds = h.binds; flo
 
 -- what the law of the model says: then no message is dropped
 abbrev IdleDropsNone : List DriverSpec → Type 0
-IdleDropsNone drivers = (c new : Configuration) → IsSwept drivers new → new.flow ≡ c.flow → done drivers c new ≡ Ok (new, Done [])
+IdleDropsNone drivers = (c new : Configuration) → IsSwept drivers new → new.flow ≡ c.flow → done_outcome drivers c new ≡ Ok (new, Done [])
 
 pub unbind_does : (drivers : List DriverSpec) (c : Configuration) (process fd : ℕ) (s : StreamId) (new : Configuration) (r : Reply) → IdleDropsNone drivers → IsSwept drivers c → mux_stream drivers c process fd ≡ Ok s
     → refuse Unbound (not (list_any (λ b. eqb b.driver s.driver && eqb b.minor s.minor) c.binds)) ≡ Ok tt
     → new ≡ record c { binds = filter (λ b. not (eqb b.driver s.driver && eqb b.minor s.minor)) c.binds } → r ≡ Done [] → outcome drivers c process (command.Unbind fd) ≡ Ok (new, r)
-unbind_does drivers c process fd s new r idle clean e there is none = rw (e, there, is, none) (idle c left (fewer_binds drivers c other clean) refl) where
+unbind_does drivers c process fd s new r idle clean e there is none = rw (e, there, is, none) (idle c after_leaving (fewer_binds drivers c other clean) refl) where
   other : Binding → Bool
   other b = not (eqb b.driver s.driver && eqb b.minor s.minor)
 
-  left : Configuration
+  after_leaving : Configuration
   left = record c { binds = filter other c.binds }
 
 pub unroute_does : (drivers : List DriverSpec) (c : Configuration) (process fd addr : ℕ) (s : StreamId) (new : Configuration) (r : Reply) → IdleDropsNone drivers → IsSwept drivers c → mux_stream drivers c process fd ≡ Ok s
     → refuse Unrouted (not (list_any (λ x. eqb x.driver s.driver && eqb x.addr addr) c.routes)) ≡ Ok tt
     → new ≡ record c { routes = filter (λ x. not (eqb x.driver s.driver && eqb x.addr addr)) c.routes } → r ≡ Done [] → outcome drivers c process (command.Unroute fd addr) ≡ Ok (new, r)
-unroute_does drivers c process fd addr s new r idle clean e there is none = rw (e, there, is, none) (idle c left (other_routes drivers c left.routes clean) refl) where
-  left : Configuration
+unroute_does drivers c process fd addr s new r idle clean e there is none = rw (e, there, is, none) (idle c after_leaving (other_routes drivers c after_leaving.routes clean) refl) where
+  after_leaving : Configuration
   left = record c { routes = filter (λ x. not (eqb x.driver s.driver && eqb x.addr addr)) c.routes }
 
 -- ---- both kinds of links at once

@@ -7,7 +7,7 @@ use Rattle.std.proofs.lemmas.Bool.Decides.{nat_tests}
 use Rattle.std.proofs.lemmas.List.{take_more, length-take-le, get_or_default, get_or-take}
 use Rattle.std.proofs.lemmas.List.Elements.{All-push, recursion_from_All}
 use Rattle.std.proofs.lemmas.List.Quantifiers.{all_pairs_push}
-use Rattle.smx_types.specs.Drivers.{checked}
+use Rattle.smx_types.specs.Drivers.{spec_check}
 use Rattle.smx_types.specs.declared.driver.DriverSpec.{DriverSpec}
 use Rattle.smx_types.specs.declared.limits.TheConstants.{MAX_DRIVERS, MAX_MINORS}
 use Rattle.smx_model.specs.DriverList.{IsDriverList}
@@ -17,15 +17,15 @@ pub no_drivers : IsDriverList []
 no_drivers = record { few = omega arith; each = λ k d lt. absurd (omega arith); names = λ i j d lt more. absurd (omega arith) }
 
 -- one more, of a name that none has yet
-one_more : (ds : List DriverSpec) (d : DriverSpec) → length ds < MAX_DRIVERS → IsDriverList ds → checked d ≡ Ok tt → (Any (λ e. e.name ≡ d.name) ds → ⊥) → IsDriverList (ds ++ d ∷ [])
+one_more : (ds : List DriverSpec) (d : DriverSpec) → length ds < MAX_DRIVERS → IsDriverList ds → spec_check d ≡ Ok tt → (Any (λ e. e.name ≡ d.name) ds → ⊥) → IsDriverList (ds ++ d ∷ [])
 one_more ds d few h can new = record {
   few = omega (arith, length-append ds (d ∷ []));
-  each = All-push (λ e. checked e ≡ Ok tt) ds d h.each can;
+  each = All-push (λ e. spec_check e ≡ Ok tt) ds d h.each can;
   names = all_pairs_push (λ e f. e.name ≢ f.name) ds d h.names (λ k e lt same. new (k, get_or ds k e, lt, get_or_default ds k (get_or ds k e) e lt, same));
 }
 
 pub next_driver : (ds : List DriverSpec) (i : ℕ) (d : DriverSpec) → i < length ds → length ds ≤ MAX_DRIVERS → d ≡ get_or ds i d
-    → IsDriverList (take i ds) → checked d ≡ Ok tt → (Any (λ e. e.name ≡ d.name) (take i ds) → ⊥) → IsDriverList (take (i + 1) ds)
+    → IsDriverList (take i ds) → spec_check d ≡ Ok tt → (Any (λ e. e.name ≡ d.name) (take i ds) → ⊥) → IsDriverList (take (i + 1) ds)
 next_driver ds i d lt few here h can new =
     let next : take (i + 1) ds ≡ take i ds ++ d ∷ [] = take_more ds i d lt ∙ ap (λ (e : DriverSpec). take i ds ++ e ∷ []) (sym here) in
     subst IsDriverList (sym next) (one_more (take i ds) d (omega (arith, length-take-le i ds (omega arith))) h can new)
@@ -40,15 +40,15 @@ taken_name ds i d lt here (k, e, before, at, same) h =
 
 -- ---- what a list of drivers says of their minors
 
-few_minors : (d : DriverSpec) → checked d ≡ Ok tt → d.minors ≤ MAX_MINORS
+few_minors : (d : DriverSpec) → spec_check d ≡ Ok tt → d.minors ≤ MAX_MINORS
 few_minors d can = elim (cases_Bool (ltb d.minors 1 || ltb MAX_MINORS d.minors)) [
   | inl t ↦ let bad = rw t at can in absurd cc
   | inr f ↦ grind (arith, nat_tests)
 ]
 
-all_few : (ds : List DriverSpec) → AllByRecursion (λ d. checked d ≡ Ok tt) ds → AllByRecursion (λ d. d.minors ≤ MAX_MINORS) ds
+all_few : (ds : List DriverSpec) → AllByRecursion (λ d. spec_check d ≡ Ok tt) ds → AllByRecursion (λ d. d.minors ≤ MAX_MINORS) ds
 all_few [] h = tt
 all_few (d ∷ ds) h = (few_minors d h.0, all_few ds h.1)
 
 pub minors_within : (ds : List DriverSpec) → IsDriverList ds → AllByRecursion (λ d. d.minors ≤ MAX_MINORS) ds
-minors_within ds h = all_few ds (recursion_from_All (λ d. checked d ≡ Ok tt) ds h.each)
+minors_within ds h = all_few ds (recursion_from_All (λ d. spec_check d ≡ Ok tt) ds h.each)

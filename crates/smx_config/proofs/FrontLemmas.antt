@@ -4,9 +4,9 @@ use Rattle.std.specs.Prelude.{position, remove}
 use Rattle.std.specs.List.{position_or_len}
 use Rattle.std.proofs.lemmas.Bool.{cases_Bool, ltb-true, ltb-false}
 use Rattle.smx_types.specs.declared.stream.Place.{Place}
-use Rattle.smx_model.specs.Configuration.{Held, is_at}
+use Rattle.smx_model.specs.Configuration.{QueuedMessage, is_at}
 use Rattle.smx_model.specs.Ordered.{without_first}
-use Rattle.smx_model.specs.Queues.{front}
+use Rattle.smx_model.specs.Queues.{first_message}
 
 by_test : (b : Bool) (k i : ℕ) → cond b (Some k) None ≡ Some i → (k ≡ i) × (b ≡ true)
 by_test true k i e = (cc, refl)
@@ -35,22 +35,22 @@ none_without t (x ∷ xs) h = elim (cases_Bool (t x)) [ inl a ↦ let k = rw a a
 pub without_none : {X : Type 0} (t : X → Bool) (xs : List X) → position t xs ≡ None → xs ≡ without_first t xs
 without_none t xs e = none_without t xs (none_found t xs e)
 
-front_place : (flow : List Held) (p : Place) (h : Held) → position_or_len (is_at p) flow < length flow → h ≡ get_or flow (position_or_len (is_at p) flow) h → front flow p ≡ Some h.message
+front_place : (flow : List QueuedMessage) (p : Place) (h : QueuedMessage) → position_or_len (is_at p) flow < length flow → h ≡ get_or flow (position_or_len (is_at p) flow) h → first_message flow p ≡ Some h.message
 front_place [] p h lt is = absurd (omega arith)
 front_place (k ∷ ks) p h lt is = elim (cases_Bool (is_at p k)) [
-  | inl a ↦ let same : h ≡ k = rw a at is in rw a (ap (λ (x : Held). Some x.message) (sym same))
+  | inl a ↦ let same : h ≡ k = rw a at is in rw a (ap (λ (x : QueuedMessage). Some x.message) (sym same))
   | inr b ↦
       let one : 1 + position_or_len (is_at p) ks ≡ suc (position_or_len (is_at p) ks) = omega arith in
       let less = rw b at lt in
       rw b (front_place ks p h (omega arith) (rw (b, one) at is))
 ]
 
-pub front_found : (flow : List Held) (p : Place) (i : ℕ) (h : Held) → position (is_at p) flow ≡ Some i → h ≡ get_or flow i h → front flow p ≡ Some h.message
+pub front_found : (flow : List QueuedMessage) (p : Place) (i : ℕ) (h : QueuedMessage) → position (is_at p) flow ≡ Some i → h ≡ get_or flow i h → first_message flow p ≡ Some h.message
 front_found flow p i h e is = let r = found_is (is_at p) flow i e in front_place flow p h (let same = r.0 in let lt = r.1 in omega arith) (rw r.0 is)
 
-front_past : (flow : List Held) (p : Place) → length flow ≤ position_or_len (is_at p) flow → front flow p ≡ None
+front_past : (flow : List QueuedMessage) (p : Place) → length flow ≤ position_or_len (is_at p) flow → first_message flow p ≡ None
 front_past [] p h = refl
 front_past (k ∷ ks) p h = elim (cases_Bool (is_at p k)) [ inl a ↦ let k = rw a at h in absurd (omega arith) | inr b ↦ let k = rw b at h in rw b (front_past ks p (omega arith)) ]
 
-pub front_none : (flow : List Held) (p : Place) → position (is_at p) flow ≡ None → front flow p ≡ None
+pub front_none : (flow : List QueuedMessage) (p : Place) → position (is_at p) flow ≡ None → first_message flow p ≡ None
 front_none flow p e = front_past flow p (none_found (is_at p) flow e)

@@ -7,9 +7,9 @@ use Rattle.smx_types.specs.declared.message.Message.{Message}
 use Rattle.smx_types.specs.declared.stream.Place.{Place}
 use Rattle.smx_types.specs.declared.stream.Side.{Side}
 use Rattle.smx_types.specs.declared.stream.Side.TheVariants as side
-use Rattle.smx_model.specs.Configuration.{Held, same_stream, same_side, same_place, is_at, place_before, held_before}
-use Rattle.smx_model.specs.Ordered.{placed, without_first}
-use Rattle.smx_model.specs.Queues.{bytes_at, front, marked}
+use Rattle.smx_model.specs.Configuration.{QueuedMessage, same_stream, same_side, same_place, is_at, place_before, queued_before}
+use Rattle.smx_model.specs.Ordered.{with_inserted, without_first}
+use Rattle.smx_model.specs.Queues.{bytes_at, first_message, with_mark}
 use Rattle.smx_config.specs.Reserved.{AreApart, AreMarksHeld}
 
 -- ---- equal places
@@ -45,12 +45,12 @@ place_turned p q h = elim (cases_Bool (same_place q p)) [
 ]
 
 -- a message at p is not at another place
-not_at : (p q : Place) (h : Held) → same_place p q ≡ false → is_at p h ≡ true → is_at q h ≡ false
+not_at : (p q : Place) (h : QueuedMessage) → same_place p q ≡ false → is_at p h ≡ true → is_at q h ≡ false
 not_at p q h apart at = rw (place_is h.place p at) apart
 
 -- ---- messages at other places stay
 
-pub any_without : (p q : Place) (flow : List Held) → same_place p q ≡ false → list_any (is_at q) (without_first (is_at p) flow) ≡ list_any (is_at q) flow
+pub any_without : (p q : Place) (flow : List QueuedMessage) → same_place p q ≡ false → list_any (is_at q) (without_first (is_at p) flow) ≡ list_any (is_at q) flow
 any_without p q [] apart = refl
 any_without p q (h ∷ hs) apart = elim (cases_Bool (is_at p h)) [
   | inl t ↦ rw (t, not_at p q h apart t) refl
@@ -64,7 +64,7 @@ length_without t (x ∷ xs) h = elim (cases_Bool (t x)) [
   | inr b ↦ let k : list_any t xs ≡ true = rw b at h in let e = length_without t xs k in rw b (omega arith)
 ]
 
-all_without : (p : Place) (flow : List Held) (ps : List Place) → list_any (same_place p) ps ≡ false → list_all (λ q. list_any (is_at q) flow) ps ≡ true → list_all (λ q. list_any (is_at q) (without_first (is_at p) flow)) ps ≡ true
+all_without : (p : Place) (flow : List QueuedMessage) (ps : List Place) → list_any (same_place p) ps ≡ false → list_all (λ q. list_any (is_at q) flow) ps ≡ true → list_all (λ q. list_any (is_at q) (without_first (is_at p) flow)) ps ≡ true
 all_without p flow [] apart held = refl
 all_without p flow (q ∷ ps) apart held =
     let a = or_parts (same_place p q) (list_any (same_place p) ps) apart in
@@ -72,7 +72,7 @@ all_without p flow (q ∷ ps) apart held =
     and_from _ _ (any_without p q flow a.0 ∙ h.0) (all_without p flow ps a.1 h.1)
 
 -- no more marks than messages
-few_marks : (flow : List Held) (ps : List Place) → AreApart ps → list_all (λ p. list_any (is_at p) flow) ps ≡ true → length ps ≤ length flow
+few_marks : (flow : List QueuedMessage) (ps : List Place) → AreApart ps → list_all (λ p. list_any (is_at p) flow) ps ≡ true → length ps ≤ length flow
 few_marks flow [] apart held = omega arith
 few_marks flow (p ∷ ps) apart held =
     let h = and_parts (list_any (is_at p) flow) (list_all (λ q. list_any (is_at q) flow) ps) held in
@@ -80,7 +80,7 @@ few_marks flow (p ∷ ps) apart held =
     let one = length_without (is_at p) flow h.0 in
     omega arith
 
-pub marks_few : (flow : List Held) (fulls : List Place) → AreMarksHeld flow fulls → length fulls ≤ length flow
+pub marks_few : (flow : List QueuedMessage) (fulls : List Place) → AreMarksHeld flow fulls → length fulls ≤ length flow
 marks_few flow fulls h = few_marks flow fulls h.apart h.held
 
 -- ---- a list of marks without one place
@@ -100,10 +100,10 @@ fewer_others p (q ∷ ps) h = elim (cases_Bool (same_place p q)) [
   | inr b ↦ let k : list_any (same_place p) ps ≡ true = rw b at h in rw b (omega (arith, fewer_others p ps k))
 ]
 
-pub room_to_mark : (flow : List Held) (fulls : List Place) (p : Place) (n : ℕ) → AreMarksHeld flow fulls → length flow < n → length (others p fulls) < n
+pub room_to_mark : (flow : List QueuedMessage) (fulls : List Place) (p : Place) (n : ℕ) → AreMarksHeld flow fulls → length flow < n → length (others p fulls) < n
 room_to_mark flow fulls p n h lt = omega (arith, fewer (λ q. not (same_place p q)) fulls, marks_few flow fulls h)
 
-pub room_to_mark_again : (flow : List Held) (fulls : List Place) (p : Place) (n : ℕ) (low : Bool) → AreMarksHeld flow fulls → length flow ≤ n → (list_any (same_place p) fulls && low) ≡ true → length (others p fulls) < n
+pub room_to_mark_again : (flow : List QueuedMessage) (fulls : List Place) (p : Place) (n : ℕ) (low : Bool) → AreMarksHeld flow fulls → length flow ≤ n → (list_any (same_place p) fulls && low) ≡ true → length (others p fulls) < n
 room_to_mark_again flow fulls p n low h le both = omega (arith, fewer_others p fulls (and_parts _ _ both).0, marks_few flow fulls h)
 
 -- an element is in a filtered list only where it was there
@@ -122,14 +122,14 @@ none_of_others : (p : Place) (ps : List Place) → list_any (same_place p) (othe
 none_of_others p [] = refl
 none_of_others p (q ∷ ps) = elim (cases_Bool (same_place p q)) [ inl y ↦ rw y (none_of_others p ps) | inr n ↦ rw n (or_from _ _ n (none_of_others p ps)) ]
 
-any_placed : (q p : Place) (ps : List Place) → same_place q p ≡ false → list_any (same_place q) ps ≡ false → list_any (same_place q) (placed place_before ps p) ≡ false
+any_placed : (q p : Place) (ps : List Place) → same_place q p ≡ false → list_any (same_place q) ps ≡ false → list_any (same_place q) (with_inserted place_before ps p) ≡ false
 any_placed q p [] a h = or_from _ _ a h
 any_placed q p (r ∷ ps) a h = elim (cases_Bool (place_before p r)) [
   | inl y ↦ rw y (or_from _ _ a h)
   | inr n ↦ let b = or_parts (same_place q r) (list_any (same_place q) ps) h in rw n (or_from _ _ b.0 (any_placed q p ps a b.1))
 ]
 
-apart_placed : (p : Place) (ps : List Place) → list_any (same_place p) ps ≡ false → AreApart ps → AreApart (placed place_before ps p)
+apart_placed : (p : Place) (ps : List Place) → list_any (same_place p) ps ≡ false → AreApart ps → AreApart (with_inserted place_before ps p)
 apart_placed p [] a h = (refl, tt)
 apart_placed p (q ∷ ps) a h = elim (cases_Bool (place_before p q)) [
   | inl y ↦ rw y (a, h)
@@ -138,7 +138,7 @@ apart_placed p (q ∷ ps) a h = elim (cases_Bool (place_before p q)) [
 
 -- ---- each place of a list has a message
 
-all_placed : (t : Place → Bool) (p : Place) (ps : List Place) → t p ≡ true → list_all t ps ≡ true → list_all t (placed place_before ps p) ≡ true
+all_placed : (t : Place → Bool) (p : Place) (ps : List Place) → t p ≡ true → list_all t ps ≡ true → list_all t (with_inserted place_before ps p) ≡ true
 all_placed t p [] a h = and_from _ _ a h
 all_placed t p (q ∷ ps) a h = elim (cases_Bool (place_before p q)) [
   | inl y ↦ rw y (and_from _ _ a h)
@@ -152,9 +152,9 @@ all_others t u p (q ∷ ps) f h = let b = and_parts (t q) (list_all t ps) h in e
   | inr n ↦ rw n (and_from _ _ (f q n b.0) (all_others t u p ps f b.1))
 ]
 
-marks_changed : (flow new : List Held) (fulls : List Place) (p : Place) (full : Bool) → AreMarksHeld flow fulls
+marks_changed : (flow new : List QueuedMessage) (fulls : List Place) (p : Place) (full : Bool) → AreMarksHeld flow fulls
     → ((q : Place) → same_place p q ≡ false → list_any (is_at q) flow ≡ true → list_any (is_at q) new ≡ true) → (full ≡ true → list_any (is_at p) new ≡ true)
-    → AreMarksHeld new (marked p full fulls)
+    → AreMarksHeld new (with_mark p full fulls)
 marks_changed flow new fulls p true h others_stay here = record {
   apart = apart_placed p (others p fulls) (none_of_others p fulls) (apart_filter _ fulls h.apart);
   held = all_placed (λ q. list_any (is_at q) new) p (others p fulls) (here refl) (all_others (λ q. list_any (is_at q) flow) (λ q. list_any (is_at q) new) p fulls others_stay h.held);
@@ -166,43 +166,43 @@ marks_changed flow new fulls p false h others_stay here = record {
 
 -- ---- a message arrives
 
-any_arrived : (q : Place) (flow : List Held) (k : Held) → list_any (is_at q) flow ≡ true → list_any (is_at q) (placed held_before flow k) ≡ true
+any_arrived : (q : Place) (flow : List QueuedMessage) (k : QueuedMessage) → list_any (is_at q) flow ≡ true → list_any (is_at q) (with_inserted queued_before flow k) ≡ true
 any_arrived q [] k h = absurd cc
-any_arrived q (h ∷ hs) k any = elim (cases_Bool (held_before k h)) [
+any_arrived q (h ∷ hs) k any = elim (cases_Bool (queued_before k h)) [
   | inl y ↦ rw y (or_right _ _ any)
   | inr n ↦ elim (cases_Bool (is_at q h)) [ inl a ↦ rw n (or_left _ _ a) | inr b ↦ let m : list_any (is_at q) hs ≡ true = rw b at any in rw n (or_right _ _ (any_arrived q hs k m)) ]
 ]
 
-is_there : (q : Place) (flow : List Held) (k : Held) → is_at q k ≡ true → list_any (is_at q) (placed held_before flow k) ≡ true
+is_there : (q : Place) (flow : List QueuedMessage) (k : QueuedMessage) → is_at q k ≡ true → list_any (is_at q) (with_inserted queued_before flow k) ≡ true
 is_there q [] k a = or_left _ _ a
-is_there q (h ∷ hs) k a = elim (cases_Bool (held_before k h)) [ inl y ↦ rw y (or_left _ _ a) | inr n ↦ rw n (or_right _ _ (is_there q hs k a)) ]
+is_there q (h ∷ hs) k a = elim (cases_Bool (queued_before k h)) [ inl y ↦ rw y (or_left _ _ a) | inr n ↦ rw n (or_right _ _ (is_there q hs k a)) ]
 
-pub marks_arrived : (flow : List Held) (fulls : List Place) (p : Place) (m : Message) (full : Bool) → AreMarksHeld flow fulls → AreMarksHeld (placed held_before flow (record { place = p; message = m })) (marked p full fulls)
+pub marks_arrived : (flow : List QueuedMessage) (fulls : List Place) (p : Place) (m : Message) (full : Bool) → AreMarksHeld flow fulls → AreMarksHeld (with_inserted queued_before flow (record { place = p; message = m })) (with_mark p full fulls)
 marks_arrived flow fulls p m full h =
-    marks_changed flow (placed held_before flow (record { place = p; message = m })) fulls p full h (λ q apart any. any_arrived q flow (record { place = p; message = m }) any) (λ t. is_there p flow (record { place = p; message = m }) (place_self p))
+    marks_changed flow (with_inserted queued_before flow (record { place = p; message = m })) fulls p full h (λ q apart any. any_arrived q flow (record { place = p; message = m }) any) (λ t. is_there p flow (record { place = p; message = m }) (place_self p))
 
-pub length_arrived : {X : Type 0} (before : X → X → Bool) (xs : List X) (x : X) → length (placed before xs x) ≡ length xs + 1
+pub length_arrived : {X : Type 0} (before : X → X → Bool) (xs : List X) (x : X) → length (with_inserted before xs x) ≡ length xs + 1
 length_arrived before [] x = omega arith
 length_arrived before (y ∷ ys) x = elim (cases_Bool (before x y)) [ inl a ↦ rw a (omega arith) | inr b ↦ rw b (omega (arith, length_arrived before ys x)) ]
 
 -- ---- a message leaves
 
-no_bytes : (p : Place) (flow : List Held) → list_any (is_at p) flow ≡ false → bytes_at flow p ≡ 0
+no_bytes : (p : Place) (flow : List QueuedMessage) → list_any (is_at p) flow ≡ false → bytes_at flow p ≡ 0
 no_bytes p [] h = refl
 no_bytes p (k ∷ ks) h = let b = or_parts (is_at p k) (list_any (is_at p) ks) h in rw b.0 (no_bytes p ks b.1)
 
-some_bytes : (p : Place) (flow : List Held) (low : ℕ) → ltb low (bytes_at flow p) ≡ true → list_any (is_at p) flow ≡ true
+some_bytes : (p : Place) (flow : List QueuedMessage) (low : ℕ) → ltb low (bytes_at flow p) ≡ true → list_any (is_at p) flow ≡ true
 some_bytes p flow low h = elim (cases_Bool (list_any (is_at p) flow)) [ inl t ↦ t | inr f ↦ let k = rw (no_bytes p flow f) at h in absurd (omega (arith, ltb-true low 0 k)) ]
 
-pub marks_left : (flow : List Held) (fulls : List Place) (p : Place) (low : ℕ) → AreMarksHeld flow fulls
-    → AreMarksHeld (without_first (is_at p) flow) (marked p (list_any (same_place p) fulls && ltb low (bytes_at (without_first (is_at p) flow) p)) fulls)
+pub marks_left : (flow : List QueuedMessage) (fulls : List Place) (p : Place) (low : ℕ) → AreMarksHeld flow fulls
+    → AreMarksHeld (without_first (is_at p) flow) (with_mark p (list_any (same_place p) fulls && ltb low (bytes_at (without_first (is_at p) flow) p)) fulls)
 marks_left flow fulls p low h =
     marks_changed flow (without_first (is_at p) flow) fulls p (list_any (same_place p) fulls && ltb low (bytes_at (without_first (is_at p) flow) p)) h
     (λ q apart any. any_without p q flow apart ∙ any) (λ t. some_bytes p (without_first (is_at p) flow) low (and_parts _ _ t).1)
 
-pub one_left : (flow : List Held) (p : Place) → IfSome (front flow p) (λ _. length (without_first (is_at p) flow) + 1 ≡ length flow)
+pub one_left : (flow : List QueuedMessage) (p : Place) → IfSome (first_message flow p) (λ _. length (without_first (is_at p) flow) + 1 ≡ length flow)
 one_left [] p = tt
-one_left (h ∷ hs) p = elim (cases_Bool (is_at p h)) [ inl a ↦ rw a (omega arith) | inr b ↦ rw b (more (front hs p) (one_left hs p)) ] where
+one_left (h ∷ hs) p = elim (cases_Bool (is_at p h)) [ inl a ↦ rw a (omega arith) | inr b ↦ rw b (more (first_message hs p) (one_left hs p)) ] where
   more : (o : Option Message) → IfSome o (λ _. length (without_first (is_at p) hs) + 1 ≡ length hs) → IfSome o (λ _. length (h ∷ without_first (is_at p) hs) + 1 ≡ length (h ∷ hs))
   more None k = tt
   more (Some m) k = omega arith
@@ -213,14 +213,14 @@ length_left t (x ∷ xs) = elim (cases_Bool (t x)) [ inl a ↦ rw a (omega arith
 
 -- ---- places are emptied
 
-any_emptied : (goes : Place → Bool) (flow : List Held) (p : Place) → goes p ≡ false → list_any (is_at p) flow ≡ true → list_any (is_at p) (filter (λ h. not (goes h.place)) flow) ≡ true
+any_emptied : (goes : Place → Bool) (flow : List QueuedMessage) (p : Place) → goes p ≡ false → list_any (is_at p) flow ≡ true → list_any (is_at p) (filter (λ h. not (goes h.place)) flow) ≡ true
 any_emptied goes [] p stays h = absurd cc
 any_emptied goes (k ∷ ks) p stays h = elim (cases_Bool (is_at p k)) [
   | inl a ↦ let stay : goes k.place ≡ false = rw (place_is k.place p a) stays in rw stay (or_left _ _ a)
   | inr b ↦ let m : list_any (is_at p) ks ≡ true = rw b at h in elim (cases_Bool (goes k.place)) [ inl g ↦ rw g (any_emptied goes ks p stays m) | inr g ↦ rw g (or_right _ _ (any_emptied goes ks p stays m)) ]
 ]
 
-all_emptied : (goes : Place → Bool) (flow : List Held) (ps : List Place) → list_all (λ p. list_any (is_at p) flow) ps ≡ true
+all_emptied : (goes : Place → Bool) (flow : List QueuedMessage) (ps : List Place) → list_all (λ p. list_any (is_at p) flow) ps ≡ true
     → list_all (λ p. list_any (is_at p) (filter (λ h. not (goes h.place)) flow)) (filter (λ p. not (goes p)) ps) ≡ true
 all_emptied goes flow [] h = refl
 all_emptied goes flow (p ∷ ps) h = let b = and_parts (list_any (is_at p) flow) (list_all (λ p. list_any (is_at p) flow) ps) h in elim (cases_Bool (goes p)) [
@@ -228,7 +228,7 @@ all_emptied goes flow (p ∷ ps) h = let b = and_parts (list_any (is_at p) flow)
   | inr g ↦ rw g (and_from _ _ (any_emptied goes flow p g b.0) (all_emptied goes flow ps b.1))
 ]
 
-pub marks_emptied : (goes : Place → Bool) (flow : List Held) (fulls : List Place) → AreMarksHeld flow fulls → AreMarksHeld (filter (λ h. not (goes h.place)) flow) (filter (λ p. not (goes p)) fulls)
+pub marks_emptied : (goes : Place → Bool) (flow : List QueuedMessage) (fulls : List Place) → AreMarksHeld flow fulls → AreMarksHeld (filter (λ h. not (goes h.place)) flow) (filter (λ p. not (goes p)) fulls)
 marks_emptied goes flow fulls h = record { apart = apart_filter _ fulls h.apart; held = all_emptied goes flow fulls h.held }
 
 pub length_filtered : {X : Type 0} (t : X → Bool) (xs : List X) → length (filter t xs) ≤ length xs
@@ -236,25 +236,25 @@ length_filtered t xs = fewer t xs
 
 -- ---- the same, for what a call leaves
 
-pub room_to_stay : (flow new : List Held) (fulls : List Place) (p : Place) (n low : ℕ) (full : Bool) → AreMarksHeld flow fulls → length flow ≤ n
+pub room_to_stay : (flow new : List QueuedMessage) (fulls : List Place) (p : Place) (n low : ℕ) (full : Bool) → AreMarksHeld flow fulls → length flow ≤ n
     → full ≡ (list_any (same_place p) fulls && ltb low (bytes_at new p)) → full ≡ true → length (filter (λ q. not (same_place p q)) fulls) < n
 room_to_stay flow new fulls p n low full h le is t = room_to_mark_again flow fulls p n (ltb low (bytes_at new p)) h le (sym is ∙ t)
 
-pub marks_after_left : (flow new : List Held) (fulls marks : List Place) (p : Place) (low : ℕ) (full : Bool) → AreMarksHeld flow fulls
-    → new ≡ without_first (is_at p) flow → full ≡ (list_any (same_place p) fulls && ltb low (bytes_at new p)) → marks ≡ marked p full fulls → AreMarksHeld new marks
+pub marks_after_left : (flow new : List QueuedMessage) (fulls marks : List Place) (p : Place) (low : ℕ) (full : Bool) → AreMarksHeld flow fulls
+    → new ≡ without_first (is_at p) flow → full ≡ (list_any (same_place p) fulls && ltb low (bytes_at new p)) → marks ≡ with_mark p full fulls → AreMarksHeld new marks
 marks_after_left flow new fulls marks p low full h rest is e = rw (e, is, rest) (marks_left flow fulls p low h)
 
-pub marks_after_arrived : (flow new : List Held) (fulls marks : List Place) (p : Place) (m : Message) (full : Bool) → AreMarksHeld flow fulls
-    → new ≡ placed held_before flow (record { place = p; message = m }) → marks ≡ marked p full fulls → AreMarksHeld new marks
+pub marks_after_arrived : (flow new : List QueuedMessage) (fulls marks : List Place) (p : Place) (m : Message) (full : Bool) → AreMarksHeld flow fulls
+    → new ≡ with_inserted queued_before flow (record { place = p; message = m }) → marks ≡ with_mark p full fulls → AreMarksHeld new marks
 marks_after_arrived flow new fulls marks p m full h more e = rw (e, more) (marks_arrived flow fulls p m full h)
 
-pub longer_by_one : {X : Type 0} (before : X → X → Bool) (xs new : List X) (x : X) → new ≡ placed before xs x → length new ≡ length xs + 1
+pub longer_by_one : {X : Type 0} (before : X → X → Bool) (xs new : List X) (x : X) → new ≡ with_inserted before xs x → length new ≡ length xs + 1
 longer_by_one before xs new x e = rw e (length_arrived before xs x)
 
 pub not_longer : {X : Type 0} (t : X → Bool) (xs new : List X) → new ≡ without_first t xs → length new ≤ length xs
 not_longer t xs new e = rw e (length_left t xs)
 
-pub marks_after_emptied : (goes : Place → Bool) (flow new : List Held) (fulls marks : List Place) → AreMarksHeld flow fulls
+pub marks_after_emptied : (goes : Place → Bool) (flow new : List QueuedMessage) (fulls marks : List Place) → AreMarksHeld flow fulls
     → new ≡ filter (λ h. not (goes h.place)) flow → marks ≡ filter (λ p. not (goes p)) fulls → AreMarksHeld new marks
 marks_after_emptied goes flow new fulls marks h fewer_held fewer_marks = rw (fewer_held, fewer_marks) (marks_emptied goes flow fulls h)
 

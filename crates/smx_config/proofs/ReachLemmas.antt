@@ -91,10 +91,10 @@ marked_more marks ls b l h sound x m = elim (cases_eq x l.ctl.driver) [
 ]
 
 -- how many drivers are not marked
-abbrev pub unmarked : List Bool → ℕ
-unmarked marks = sum_by (λ m. cond m 0 1) marks
+abbrev pub without_mark : List Bool → ℕ
+without_mark marks = sum_by (λ m. cond m 0 1) marks
 
-pub fewer_unmarked : (marks : List Bool) (u : ℕ) → u < length marks → is_marked marks u ≡ false → unmarked (set marks u true) < unmarked marks
+pub fewer_unmarked : (marks : List Bool) (u : ℕ) → u < length marks → is_marked marks u ≡ false → without_mark (set marks u true) < without_mark marks
 fewer_unmarked marks u lt f = let e = rw f at (sum_by-set (λ m. cond m 0 1) marks u true false lt) in omega arith
 
 pub all_unmarked : (n x : ℕ) → is_marked (replicate n false) x ≡ false
@@ -112,5 +112,5 @@ reaches_is_mark marks ls a b sound closed = elim (cases_Bool (is_marked marks a)
 pub not_marked : (marks : List Bool) (b : ℕ) (ls : List Link) (l : Link) → find (leads marks b) ls ≡ Some l → is_marked marks l.ctl.driver ≡ false
 not_marked marks b ls l h = not-true _ (and_parts (not (is_marked marks l.ctl.driver)) (eqb l.lower.driver b || is_marked marks l.lower.driver) (found_leads marks b ls l h)).0
 
-pub length-unmarked : (n : ℕ) → length (replicate n false) ≡ n
-length-unmarked n = length-replicate n false
+pub length-without_mark : (n : ℕ) → length (replicate n false) ≡ n
+length-without_mark n = length-replicate n false

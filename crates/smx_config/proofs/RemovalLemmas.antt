@@ -7,8 +7,8 @@ use Rattle.smx_types.specs.declared.link.LinkKind.{LinkKind}
 use Rattle.smx_types.specs.declared.link.LinkKind.TheVariants as kind
 use Rattle.smx_types.specs.declared.stream.StreamId.{StreamId}
 use Rattle.smx_model.specs.Configuration.{Configuration, same_stream}
-use Rattle.smx_model.specs.Removal.{removed, emptied, is_read_below}
-use Rattle.smx_config.specs.Removals.{same_kind, same_link, is_one, has_id, without_links}
+use Rattle.smx_model.specs.Removal.{without_links, without_queues_at, is_read_below}
+use Rattle.smx_config.specs.Removals.{same_kind, same_link, is_one, has_id, without_listed_links}
 
 kind_is : (a b : LinkKind) → same_kind a b ≡ true → a ≡ b
 kind_is kind.Ordinary kind.Ordinary h = refl
@@ -83,7 +83,7 @@ all_in : (xs : List Link) → list_all (is_one xs) xs ≡ true
 all_in [] = refl
 all_in (x ∷ xs) = and_from _ _ (or_left _ _ (link_self x)) (all_more xs xs x (all_in xs))
 
-pub without_is_removed : (c : Configuration) (goes : Link → Bool) (gone : List Link) → gone ≡ filter goes c.links → without_links c gone ≡ removed c goes
+pub without_is_removed : (c : Configuration) (goes : Link → Bool) (gone : List Link) → gone ≡ filter goes c.links → without_listed_links c gone ≡ without_links c goes
 without_is_removed c goes gone e =
-    ap (without_links c) e
-    ∙ ap (λ (ls : List Link). emptied (record c { links = ls; routes = filter (λ r. not (has_id (filter goes c.links) r.id)) c.routes }) (is_read_below (filter goes c.links))) (kept_same goes c.links c.links (all_in c.links))
+    ap (without_listed_links c) e
+    ∙ ap (λ (ls : List Link). without_queues_at (record c { links = ls; routes = filter (λ r. not (has_id (filter goes c.links) r.id)) c.routes }) (is_read_below (filter goes c.links))) (kept_same goes c.links c.links (all_in c.links))

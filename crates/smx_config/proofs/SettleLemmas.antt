@@ -5,36 +5,36 @@ use Rattle.std.proofs.lemmas.Bool.{cases_Bool}
 use Rattle.smx_types.specs.declared.driver.DriverSpec.{DriverSpec}
 use Rattle.smx_types.specs.declared.message.Message.{Message}
 use Rattle.smx_types.specs.declared.stream.Place.{Place}
-use Rattle.smx_model.specs.Configuration.{Configuration, Held}
-use Rattle.smx_model.specs.Queues.{front, arrived, left}
-use Rattle.smx_model.specs.Settling.{onward, way, is_movable, place_of, least_movable, moved, moved_by, settled_within}
+use Rattle.smx_model.specs.Configuration.{Configuration, QueuedMessage}
+use Rattle.smx_model.specs.Queues.{first_message, after_arrival, after_leaving}
+use Rattle.smx_model.specs.Settling.{next_open_place_for, next_open_place, is_movable, place_of, least_movable, after_move, after_move_to, after_settling_within}
 
-pub moved_is : (drivers : List DriverSpec) (c mid new : Configuration) (p q : Place) (m : Message) → way drivers c p ≡ Some q → front c.flow p ≡ Some m
-    → mid ≡ left drivers c p → new ≡ arrived drivers mid q m → new ≡ moved drivers c p
-moved_is drivers c mid new p q m to first gone here = here ∙ (ap (λ (x : Configuration). arrived drivers x q m) gone ∙ sym (ap (λ (o : Option Place). moved_by drivers c p o (front c.flow p)) to ∙ ap (moved_by drivers c p (Some q)) first))
+pub moved_is : (drivers : List DriverSpec) (c mid new : Configuration) (p q : Place) (m : Message) → next_open_place drivers c p ≡ Some q → first_message c.flow p ≡ Some m
+    → mid ≡ after_leaving drivers c p → new ≡ after_arrival drivers mid q m → new ≡ after_move drivers c p
+moved_is drivers c mid new p q m to first gone here = here ∙ (ap (λ (x : Configuration). after_arrival drivers x q m) gone ∙ sym (ap (λ (o : Option Place). after_move_to drivers c p o (first_message c.flow p)) to ∙ ap (after_move_to drivers c p (Some q)) first))
 
-pub no_way : {A : Type 0} (drivers : List DriverSpec) (c : Configuration) (p q : Place) → way drivers c p ≡ Some q → front c.flow p ≡ None → A
-no_way drivers c p q to none = let k : None ≡ Some q = sym (ap (onward drivers c p) none) ∙ to in absurd cc
+pub no_way : {A : Type 0} (drivers : List DriverSpec) (c : Configuration) (p q : Place) → next_open_place drivers c p ≡ Some q → first_message c.flow p ≡ None → A
+no_way drivers c p q to none = let k : None ≡ Some q = sym (ap (next_open_place_for drivers c p) none) ∙ to in absurd cc
 
-found_place : (t : Place → Bool) (hs : List Held) (p : Place) → place_of (find (λ h. t h.place) hs) ≡ Some p → t p ≡ true
+found_place : (t : Place → Bool) (hs : List QueuedMessage) (p : Place) → place_of (find (λ h. t h.place) hs) ≡ Some p → t p ≡ true
 found_place t [] p e = absurd cc
 found_place t (h ∷ hs) p e = elim (cases_Bool (t h.place)) [
   | inl y ↦ let k : Some h.place ≡ Some p = rw y at e in let same : h.place ≡ p = cc in ap t (sym same) ∙ y
   | inr n ↦ found_place t hs p (rw n at e)
 ]
 
-pub least_moves : {A : Type 0} (drivers : List DriverSpec) (c : Configuration) (p : Place) → least_movable drivers c ≡ Some p → way drivers c p ≡ None → A
-least_moves drivers c p least none = let k = found_place (is_movable drivers c) c.flow p least in let m : is_some (way drivers c p) ≡ false = rw none refl in absurd cc
+pub least_moves : {A : Type 0} (drivers : List DriverSpec) (c : Configuration) (p : Place) → least_movable drivers c ≡ Some p → next_open_place drivers c p ≡ None → A
+least_moves drivers c p least none = let k = found_place (is_movable drivers c) c.flow p least in let m : is_some (next_open_place drivers c p) ≡ false = rw none refl in absurd cc
 
 -- one round, by what the least movable place is
 round : (drivers : List DriverSpec) (n : ℕ) (c : Configuration) (o : Option Place) → least_movable drivers c ≡ o
-    → settled_within drivers (suc n) c ≡ elim o as (λ _. Configuration) [ None ↦ c | Some p ↦ settled_within drivers n (moved drivers c p) ]
-round drivers n c o e = ap (λ (x : Option Place). elim x as (λ _. Configuration) [ None ↦ c | Some p ↦ settled_within drivers n (moved drivers c p) ]) e
+    → after_settling_within drivers (suc n) c ≡ elim o as (λ _. Configuration) [ None ↦ c | Some p ↦ after_settling_within drivers n (after_move drivers c p) ]
+round drivers n c o e = ap (λ (x : Option Place). elim x as (λ _. Configuration) [ None ↦ c | Some p ↦ after_settling_within drivers n (after_move drivers c p) ]) e
 
-pub settled_none : (drivers : List DriverSpec) (n : ℕ) (c : Configuration) → least_movable drivers c ≡ None → settled_within drivers n c ≡ c
+pub settled_none : (drivers : List DriverSpec) (n : ℕ) (c : Configuration) → least_movable drivers c ≡ None → after_settling_within drivers n c ≡ c
 settled_none drivers zero c e = refl
 settled_none drivers (suc n) c e = round drivers n c None e
 
-pub settled_one : (drivers : List DriverSpec) (n : ℕ) (c d : Configuration) (p : Place) → 0 < n → least_movable drivers c ≡ Some p → d ≡ moved drivers c p → settled_within drivers (n - 1) d ≡ settled_within drivers n c
+pub settled_one : (drivers : List DriverSpec) (n : ℕ) (c d : Configuration) (p : Place) → 0 < n → least_movable drivers c ≡ Some p → d ≡ after_move drivers c p → after_settling_within drivers (n - 1) d ≡ after_settling_within drivers n c
 settled_one drivers zero c d p some e m = absurd (omega arith)
-settled_one drivers (suc n) c d p some e m = let k : suc n - 1 ≡ n = omega arith in ap (λ (j : ℕ). settled_within drivers j d) k ∙ (ap (settled_within drivers n) m ∙ sym (round drivers n c (Some p) e))
+settled_one drivers (suc n) c d p some e m = let k : suc n - 1 ≡ n = omega arith in ap (λ (j : ℕ). after_settling_within drivers j d) k ∙ (ap (after_settling_within drivers n) m ∙ sym (round drivers n c (Some p) e))

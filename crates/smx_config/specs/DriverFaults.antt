@@ -1,6 +1,6 @@
 -- Why a list of drivers is refused: the first driver that spoils it.
 use Rattle.std.specs.Prelude.{◌≡◌, ℕ, ◌<◌, ◌≤◌, List, length, take, Any, Ok, Err, Some, slice_get}
-use Rattle.smx_types.specs.Drivers.{checked}
+use Rattle.smx_types.specs.Drivers.{spec_check}
 use Rattle.smx_types.specs.declared.driver.DriverSpec.{DriverSpec}
 use Rattle.smx_types.specs.declared.limits.TheConstants.{MAX_DRIVERS}
 use Rattle.smx_model.specs.DriverList.{IsDriverList}
@@ -16,6 +16,6 @@ pub record IsFirstBad (drivers : List DriverSpec) (i : ℕ) (d : DriverSpec) : T
 -- There are too many; or else the least number of a driver that can't be had, or that has the name of an earlier one: a bad driver before a same name.
 abbrev pub RefusesDrivers : List DriverSpec → ConfigFault → Type 0
 RefusesDrivers drivers TooMany = MAX_DRIVERS < length drivers
-RefusesDrivers drivers (BadSpec i f) = (d : DriverSpec) × IsFirstBad drivers i d × (checked d ≡ Err f)
-RefusesDrivers drivers (SameName i) = (d : DriverSpec) × IsFirstBad drivers i d × (checked d ≡ Ok tt) × Any (λ e. e.name ≡ d.name) (take i drivers)
+RefusesDrivers drivers (BadSpec i f) = (d : DriverSpec) × IsFirstBad drivers i d × (spec_check d ≡ Err f)
+RefusesDrivers drivers (SameName i) = (d : DriverSpec) × IsFirstBad drivers i d × (spec_check d ≡ Ok tt) × Any (λ e. e.name ≡ d.name) (take i drivers)
 RefusesDrivers drivers NoMemory = IsDriverList drivers

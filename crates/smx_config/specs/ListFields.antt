@@ -1,10 +1,10 @@
 -- The fields of a queued message and of the lists. No public clause needs this.
 use Rattle.smx_config.specs.declared.lists.Lists.{Lists}
 use Rattle.smx_config.specs.declared.queued.Queued.TheInside.{Inside}
-use Rattle.smx_model.specs.Configuration.{Configuration, Held}
+use Rattle.smx_model.specs.Configuration.{Configuration, QueuedMessage}
 
 -- the fields as a queued message
-abbrev pub held_of : Inside → Held
+abbrev pub held_of : Inside → QueuedMessage
 held_of q = record { place = q.place; message = q.message }
 
 -- the configuration that the lists make

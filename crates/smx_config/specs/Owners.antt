@@ -11,11 +11,11 @@ use Rattle.smx_types.specs.declared.link.LinkKind.TheVariants as kind
 use Rattle.smx_types.specs.declared.reply.Fault.{Fault}
 use Rattle.smx_types.specs.declared.reply.Fault.TheVariants.{Below, NotMux, AlreadyBelow, Cycle, TooManyLinks, NoLink}
 use Rattle.smx_types.specs.declared.stream.StreamId.{StreamId}
-use Rattle.smx_model.specs.Commands.{done}
+use Rattle.smx_model.specs.Commands.{done_outcome}
 use Rattle.smx_model.specs.Configuration.{Configuration, same_stream}
 use Rattle.smx_model.specs.DriverList.{is_mux}
 use Rattle.smx_model.specs.Lookups.{mux_stream}
-use Rattle.smx_model.specs.Removal.{removed}
+use Rattle.smx_model.specs.Removal.{without_links}
 use Rattle.smx_model.specs.Outcomes.{Outcome, ◌>>=◌, refuse}
 use Rattle.smx_model.specs.Paths.{reaches}
 use Rattle.smx_model.specs.Standing.{is_persistent, is_below}
@@ -49,4 +49,4 @@ abbrev pub unlinks : List DriverSpec → Configuration → ℕ → ℕ → Which
 unlinks drivers c process fd w k = do
   s ← mux_stream drivers c process fd
   there ← are_there w k s c.links
-  done drivers c (removed c (is_chosen w k s))
+  done_outcome drivers c (without_links c (is_chosen w k s))

@@ -5,8 +5,8 @@ use Rattle.smx_types.specs.declared.link.Link.{Link}
 use Rattle.smx_types.specs.declared.link.LinkKind.{LinkKind}
 use Rattle.smx_types.specs.declared.link.LinkKind.TheVariants as kind
 use Rattle.smx_model.specs.Configuration.{Configuration, same_stream}
-use Rattle.smx_model.specs.Ordered.{placed}
-use Rattle.smx_model.specs.Removal.{emptied, is_read_below}
+use Rattle.smx_model.specs.Ordered.{with_inserted}
+use Rattle.smx_model.specs.Removal.{without_queues_at, is_read_below}
 use Rattle.smx_model.specs.Standing.{is_persistent, stands_within}
 use Rattle.smx_types.specs.declared.stream.Descriptor.{Descriptor}
 
@@ -30,8 +30,8 @@ abbrev pub has_id : List Link → ℕ → Bool
 has_id gone id = list_any (λ l. l.id == id) gone
 
 -- without these links
-abbrev pub without_links : Configuration → List Link → Configuration
-without_links c gone = emptied (record c { links = filter (λ l. not (is_one gone l)) c.links; routes = filter (λ r. not (has_id gone r.id)) c.routes }) (is_read_below gone)
+abbrev pub without_listed_links : Configuration → List Link → Configuration
+without_listed_links c gone = without_queues_at (record c { links = filter (λ l. not (is_one gone l)) c.links; routes = filter (λ r. not (has_id gone r.id)) c.routes }) (is_read_below gone)
 
 -- an ordinary link whose controlling stream doesn't stand
 abbrev pub is_loose : List Descriptor → List Link → ℕ → Link → Bool
@@ -40,4 +40,4 @@ is_loose fds links climbs l = not (is_persistent l) && not (stands_within fds li
 -- numbers put in order into a list of numbers, the last first
 abbrev pub rising_onto : List ℕ → List ℕ → List ℕ
 rising_onto placed_already [] = placed_already
-rising_onto placed_already (n ∷ ns) = placed nat_lt (rising_onto placed_already ns) n
+rising_onto placed_already (n ∷ ns) = with_inserted nat_lt (rising_onto placed_already ns) n

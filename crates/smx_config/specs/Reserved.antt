@@ -4,7 +4,7 @@ use Rattle.std.specs.List.{list_any, list_all}
 use Rattle.smx_types.specs.declared.stream.Descriptor.{Descriptor}
 use Rattle.smx_types.specs.declared.stream.Place.{Place}
 use Rattle.smx_config.specs.declared.lists.Lists.{Lists}
-use Rattle.smx_model.specs.Configuration.{Held, is_fd, same_place, is_at}
+use Rattle.smx_model.specs.Configuration.{QueuedMessage, is_fd, same_place, is_at}
 
 -- no place twice
 abbrev pub AreApart : List Place → Type 0
@@ -12,7 +12,7 @@ AreApart [] = Unit {0}
 AreApart (p ∷ ps) = (list_any (same_place p) ps ≡ false) × AreApart ps
 
 -- each full place is marked once, and has a message: so there are no more marks than messages
-pub record AreMarksHeld (flow : List Held) (fulls : List Place) : Type 0 where
+pub record AreMarksHeld (flow : List QueuedMessage) (fulls : List Place) : Type 0 where
   pub apart : AreApart fulls
   pub held : list_all (λ p. list_any (is_at p) flow) fulls ≡ true
 

@@ -5,7 +5,7 @@ ghost use Rattle.std.specs.List.{list_any};
 ghost use Rattle.smx_types.specs.declared.command.Command.TheVariants as command;
 ghost use Rattle.smx_types.specs.declared.reply.Fault.TheVariants.{AddressInUse, Unbound, NoLink, Unrouted};
 ghost use Rattle.smx_model.specs.Configuration.{bind_before, route_before};
-ghost use Rattle.smx_model.specs.Ordered.{placed};
+ghost use Rattle.smx_model.specs.Ordered.{with_inserted};
 ghost use Rattle.smx_model.specs.Outcomes.{refuse};
 ghost use Rattle.smx_config.specs.Reserved.{HasRoom};
 ghost use Rattle.smx_config.specs.Performed.{IsReady, DoesInPlace, Does};
@@ -37,7 +37,7 @@ fn check_bind(lists: &Lists, stream: StreamId, addr: u32) -> Result<(), Fault>
 #[tactic(auto, using(crate::proofs::PlaceLemmas::place_le, crate::proofs::PlaceLemmas::insert_place))]
 fn put_bind(binds: &mut Vec<Binding>, binding: Binding)
     requires { length binds.old.items < vec_capacity binds.old }
-    ensures { binds.new.items ≡ placed bind_before binds.old.items binding }
+    ensures { binds.new.items ≡ with_inserted bind_before binds.old.items binding }
 {
     let i = bind_place(binds, &binding);
     let _ = binds.insert(i, binding);
@@ -137,7 +137,7 @@ fn drop_route(routes: &mut Vec<Route>, driver: u8, addr: u32)
 #[tactic(auto, using(crate::proofs::PlaceLemmas::place_le, crate::proofs::PlaceLemmas::insert_place))]
 fn put_route(routes: &mut Vec<Route>, route: Route)
     requires { length routes.old.items < vec_capacity routes.old }
-    ensures { routes.new.items ≡ placed route_before routes.old.items route }
+    ensures { routes.new.items ≡ with_inserted route_before routes.old.items route }
 {
     let i = route_place(routes, &route);
     let _ = routes.insert(i, route);

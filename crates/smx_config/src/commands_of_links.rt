@@ -4,7 +4,7 @@ ghost use Rattle.std.specs.Prelude.{◌≡◌, ◌<◌, ◌==◌, ◌&&◌, not,
 ghost use Rattle.std.specs.List.{list_any};
 ghost use Rattle.smx_types.specs.declared.command.Command.TheVariants as command;
 ghost use Rattle.smx_types.specs.declared.link.Link.{Link};
-ghost use Rattle.smx_model.specs.Commands.{linked};
+ghost use Rattle.smx_model.specs.Commands.{link_outcome};
 ghost use Rattle.smx_model.specs.Configuration.{same_stream};
 ghost use Rattle.smx_model.specs.Standing.{is_persistent};
 ghost use Rattle.smx_config.specs.Reserved.{HasRoom};
@@ -62,7 +62,7 @@ fn link_as(
     kind: LinkKind,
 ) -> Result<Reply, Stop>
     requires { IsReady drivers.now lists.old }
-    ensures does { Performs lists.old lists.new (linked drivers.now (configuration_of lists.old) process fd arg kind) result }
+    ensures does { Performs lists.old lists.new (link_outcome drivers.now (configuration_of lists.old) process fd arg kind) result }
     ensures kept { HasRoom lists.new }
 {
     let upper = stream_of(lists, process, fd)?;

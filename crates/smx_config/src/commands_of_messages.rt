@@ -2,10 +2,10 @@
 
 ghost use Rattle.std.specs.Prelude.{◌≡◌, ◌<◌, ◌==◌, ◌&&◌, ◌||◌, not, nat_lt, filter, length, vec_capacity};
 ghost use Rattle.smx_types.specs.declared.command.Command.TheVariants.{Write, Read, Flush, Inject, Transmit};
-ghost use Rattle.smx_model.specs.Commands.{sent, received, is_side};
+ghost use Rattle.smx_model.specs.Commands.{send_outcome, receive_outcome, is_side};
 ghost use Rattle.smx_model.specs.Configuration.{same_stream};
 ghost use Rattle.smx_model.specs.DriverList.{max_of};
-ghost use Rattle.smx_model.specs.Removal.{emptied};
+ghost use Rattle.smx_model.specs.Removal.{without_queues_at};
 ghost use Rattle.smx_config.specs.Reserved.{HasRoom};
 ghost use Rattle.smx_config.specs.ListFields.{configuration_of};
 ghost use Rattle.smx_config.specs.Performed.{IsReady, Answers, Performs, DoesInPlace, Does};
@@ -53,7 +53,7 @@ fn send(
     bytes: &Bytes,
 ) -> Result<Reply, Stop>
     requires { IsReady drivers.now lists.old }
-    ensures does { Performs lists.old lists.new (sent drivers.now (configuration_of lists.old) place addr bytes.now) result }
+    ensures does { Performs lists.old lists.new (send_outcome drivers.now (configuration_of lists.old) place addr bytes.now) result }
     ensures kept { HasRoom lists.new }
 {
     check_send(drivers, lists, place, bytes)?;
@@ -73,7 +73,7 @@ fn send(
 
 fn receive(drivers: &[DriverSpec], lists: &mut Lists, place: Place) -> Result<Reply, Fault>
     requires { IsReady drivers.now lists.old }
-    ensures does { Answers lists.old lists.new (received drivers.now (configuration_of lists.old) place) result }
+    ensures does { Answers lists.old lists.new (receive_outcome drivers.now (configuration_of lists.old) place) result }
     ensures kept { HasRoom lists.new }
 {
     if front_addr(&lists.flow, place).is_none() {
@@ -159,7 +159,7 @@ fn flush_fulls(fulls: &mut Vec<Place>, stream: StreamId, sides: Sides)
 
 fn empty(lists: &mut Lists, stream: StreamId, sides: Sides)
     requires { HasRoom lists.old }
-    ensures value { configuration_of lists.new ≡ emptied (configuration_of lists.old) (λ p. same_stream p.stream stream && is_side sides p.side) }
+    ensures value { configuration_of lists.new ≡ without_queues_at (configuration_of lists.old) (λ p. same_stream p.stream stream && is_side sides p.side) }
     ensures kept { HasRoom lists.new }
 {
     flush_flow(&mut lists.flow, stream, sides);

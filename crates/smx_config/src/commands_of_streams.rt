@@ -4,7 +4,7 @@ ghost use Rattle.std.specs.Prelude.{◌≡◌, ◌<◌, ◌==◌, not, filter, l
 ghost use Rattle.smx_types.specs.declared.command.Command.TheVariants.{OpenClone, OpenMinor, Dup, Close, CloseAll};
 ghost use Rattle.smx_model.specs.Commands.{with_fd};
 ghost use Rattle.smx_model.specs.Configuration.{is_fd, fd_before};
-ghost use Rattle.smx_model.specs.Ordered.{placed};
+ghost use Rattle.smx_model.specs.Ordered.{with_inserted};
 ghost use Rattle.smx_config.specs.Reserved.{HasRoom, IsFree};
 ghost use Rattle.smx_config.specs.ListFields.{configuration_of};
 ghost use Rattle.smx_config.specs.Performed.{IsReady, DoesInPlace, Does};
@@ -22,7 +22,7 @@ use std::alloc::Global;
 #[tactic(auto, using(crate::proofs::PlaceLemmas::place_le, crate::proofs::PlaceLemmas::insert_place))]
 fn put_fd(fds: &mut Vec<Descriptor>, fd: Descriptor)
     requires { length fds.old.items < vec_capacity fds.old }
-    ensures fds { fds.new.items ≡ placed fd_before fds.old.items fd }
+    ensures fds { fds.new.items ≡ with_inserted fd_before fds.old.items fd }
     ensures capacity { vec_capacity fds.new ≡ vec_capacity fds.old }
 {
     let i = fd_place(fds, &fd);

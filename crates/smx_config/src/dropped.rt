@@ -2,7 +2,7 @@
 
 ghost use Rattle.std.specs.Prelude.{◌≡◌, ◌<◌, ◌≤◌, ◌==◌, nat_lt, not, true, filter, length, vec_capacity, IfOk, IsTrue, []};
 ghost use Rattle.std.specs.List.{list_any};
-ghost use Rattle.smx_model.specs.Ordered.{placed, rising};
+ghost use Rattle.smx_model.specs.Ordered.{with_inserted, in_rising_order};
 ghost use Rattle.smx_model.specs.Removal.{serials};
 
 use crate::ordered::number_place;
@@ -34,7 +34,7 @@ fn is_last(flow: &[Queued], count: usize, serial: u32) -> bool
 #[tactic(auto, using(crate::proofs::PlaceLemmas::place_le, crate::proofs::PlaceLemmas::insert_place))]
 fn put_number(numbers: &mut Vec<u32>, n: u32)
     requires { length numbers.old.items < vec_capacity numbers.old }
-    ensures numbers { numbers.new.items ≡ placed nat_lt numbers.old.items n }
+    ensures numbers { numbers.new.items ≡ with_inserted nat_lt numbers.old.items n }
     ensures capacity { vec_capacity numbers.new ≡ vec_capacity numbers.old }
 {
     let i = number_place(numbers, n);
@@ -46,7 +46,7 @@ fn put_number(numbers: &mut Vec<u32>, n: u32)
 pub fn dropped(old: Vec<u32>, flow: &[Queued], room: Vec<u32>) -> Vec<u32>
     requires empty { room.items ≡ [] }
     requires room { length old.items ≤ vec_capacity room }
-    ensures { result.items ≡ rising (filter (λ n. not (list_any (λ m. n == m) (serials flow.now))) old.items) }
+    ensures { result.items ≡ in_rising_order (filter (λ n. not (list_any (λ m. n == m) (serials flow.now))) old.items) }
 {
     let mut left = old;
     let mut count = flow.len();

@@ -1,7 +1,7 @@
 //! Lists that are kept in order: where an element goes, before the first that comes after it.
 
 ghost use Rattle.std.specs.Prelude.{◌≡◌, nat_lt};
-ghost use Rattle.smx_model.specs.Configuration.{fd_before, bind_before, route_before, place_before, held_before};
+ghost use Rattle.smx_model.specs.Configuration.{fd_before, bind_before, route_before, place_before, queued_before};
 ghost use Rattle.smx_config.specs.Places.{place_in};
 
 use crate::queued::Queued;
@@ -53,7 +53,7 @@ pub fn mark_place(fulls: &[Place], p: Place) -> usize
 }
 
 pub fn queued_place(flow: &[Queued], h: &Queued) -> usize
-    ensures { result ≡ place_in held_before h.now flow.now }
+    ensures { result ≡ place_in queued_before h.now flow.now }
 {
     for (i, k) in flow.iter().enumerate() {
         if place_before(h.place(), k.place()) {

@@ -13,9 +13,9 @@ pub struct Queued {
 }
 
 impl Model for Queued {
-    ghost use Rattle.smx_model.specs.Configuration.{Held};
+    ghost use Rattle.smx_model.specs.Configuration.{QueuedMessage};
 
-    ghost Value = { Held };
+    ghost Value = { QueuedMessage };
 
     ghost use Rattle.smx_config.specs.ListFields.{held_of};
 

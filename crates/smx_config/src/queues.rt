@@ -3,10 +3,10 @@
 ghost use Rattle.std.specs.Prelude.{◌≡◌, ◌<◌, ◌+◌, not, nat_le, nat_lt, ◌||◌, ◌&&◌, filter, position};
 ghost use Rattle.std.specs.Prelude.{option_map, length, vec_len, vec_capacity, IsTrue, IfSome};
 ghost use Rattle.std.specs.List.{list_any};
-ghost use Rattle.smx_model.specs.Configuration.{same_place, is_at, held_before, place_before};
+ghost use Rattle.smx_model.specs.Configuration.{same_place, is_at, queued_before, place_before};
 ghost use Rattle.smx_model.specs.DriverList.{high_of, low_of};
-ghost use Rattle.smx_model.specs.Ordered.{placed, without_first};
-ghost use Rattle.smx_model.specs.Queues.{bytes_at, front, marked, left, arrived};
+ghost use Rattle.smx_model.specs.Ordered.{with_inserted, without_first};
+ghost use Rattle.smx_model.specs.Queues.{bytes_at, first_message, with_mark, after_leaving, after_arrival};
 ghost use Rattle.smx_config.specs.Reserved.{HasRoom};
 ghost use Rattle.smx_config.specs.ListFields.{configuration_of};
 
@@ -56,7 +56,7 @@ fn front_at(flow: &[Queued], place: Place) -> Option<usize>
 
 // The address of the first message at the place.
 pub fn front_addr(flow: &[Queued], place: Place) -> Option<u32>
-    ensures { result ≡ option_map (λ m. m.addr) (front flow.now place) }
+    ensures { result ≡ option_map (λ m. m.addr) (first_message flow.now place) }
 {
     match front_at(flow, place) {
         Some(i) => Some(flow[i].message().addr),
@@ -66,7 +66,7 @@ pub fn front_addr(flow: &[Queued], place: Place) -> Option<u32>
 
 // Takes the first message of the place.
 pub fn take_front(flow: &mut Vec<Queued>, place: Place) -> Option<Message>
-    ensures front { result ≡ front flow.old.items place }
+    ensures front { result ≡ first_message flow.old.items place }
     ensures rest { flow.new.items ≡ without_first (is_at place) flow.old.items }
     ensures capacity { vec_capacity flow.new ≡ vec_capacity flow.old }
 {
@@ -79,7 +79,7 @@ pub fn take_front(flow: &mut Vec<Queued>, place: Place) -> Option<Message>
 // Marks the place as full, or not.
 fn mark(fulls: &mut Vec<Place>, place: Place, full: bool)
     requires { IsTrue full → length (filter (λ q. not (same_place place q)) fulls.old.items) < vec_capacity fulls.old }
-    ensures marked { fulls.new.items ≡ marked place full fulls.old.items }
+    ensures marked { fulls.new.items ≡ with_mark place full fulls.old.items }
     ensures capacity { vec_capacity fulls.new ≡ vec_capacity fulls.old }
 {
     unmark(fulls, place);
@@ -98,7 +98,7 @@ fn unmark(fulls: &mut Vec<Place>, place: Place)
 #[tactic(auto, using(crate::proofs::PlaceLemmas::place_le, crate::proofs::PlaceLemmas::insert_place))]
 fn put_mark(fulls: &mut Vec<Place>, place: Place)
     requires { length fulls.old.items < vec_capacity fulls.old }
-    ensures marks { fulls.new.items ≡ placed place_before fulls.old.items place }
+    ensures marks { fulls.new.items ≡ with_inserted place_before fulls.old.items place }
     ensures capacity { vec_capacity fulls.new ≡ vec_capacity fulls.old }
 {
     let i = mark_place(fulls, place);
@@ -108,7 +108,7 @@ fn put_mark(fulls: &mut Vec<Place>, place: Place)
 #[tactic(auto, using(crate::proofs::PlaceLemmas::place_le, crate::proofs::PlaceLemmas::insert_place))]
 fn put_queued(flow: &mut Vec<Queued>, queued: Queued)
     requires { length flow.old.items < vec_capacity flow.old }
-    ensures flow { flow.new.items ≡ placed held_before flow.old.items queued }
+    ensures flow { flow.new.items ≡ with_inserted queued_before flow.old.items queued_serials }
     ensures capacity { vec_capacity flow.new ≡ vec_capacity flow.old }
 {
     let i = queued_place(flow, &queued);
@@ -134,8 +134,8 @@ fn becomes_full(drivers: &[DriverSpec], flow: &[Queued], fulls: &[Place], place:
 // The first message leaves the place.
 pub fn leave(drivers: &[DriverSpec], lists: &mut Lists, place: Place) -> Option<Message>
     requires { HasRoom lists.old }
-    ensures front { result ≡ front lists.old.flow.items place }
-    ensures value { configuration_of lists.new ≡ left drivers.now (configuration_of lists.old) place }
+    ensures front { result ≡ first_message lists.old.flow.items place }
+    ensures value { configuration_of lists.new ≡ after_leaving drivers.now (configuration_of lists.old) place }
     ensures kept { HasRoom lists.new }
     ensures one_less { IfSome result (λ _. length lists.new.flow.items + 1 ≡ length lists.old.flow.items) }
     ensures capacity { vec_capacity lists.new.flow ≡ vec_capacity lists.old.flow }
@@ -152,7 +152,7 @@ pub fn arrive(drivers: &[DriverSpec], lists: &mut Lists, place: Place, message: 
     requires kept { HasRoom lists.old }
     requires room { length lists.old.flow.items < vec_capacity lists.old.flow }
     requires marks_room { length lists.old.flow.items < vec_capacity lists.old.fulls }
-    ensures value { configuration_of lists.new ≡ arrived drivers.now (configuration_of lists.old) place message }
+    ensures value { configuration_of lists.new ≡ after_arrival drivers.now (configuration_of lists.old) place message }
     ensures kept { HasRoom lists.new }
 {
     put_queued(&mut lists.flow, Queued::new(place, message));

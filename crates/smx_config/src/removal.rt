@@ -2,11 +2,11 @@
 
 ghost use Rattle.std.specs.Prelude.{◌≡◌, ◌≤◌, not, ◌&&◌, filter, length, map, vec_capacity, []};
 ghost use Rattle.smx_types.specs.declared.stream.StreamId.{StreamId};
-ghost use Rattle.smx_model.specs.Removal.{is_read_below, without_dead, swept};
+ghost use Rattle.smx_model.specs.Removal.{is_read_below, without_dead_streams, after_sweep};
 ghost use Rattle.smx_model.specs.Standing.{stands_within};
 ghost use Rattle.smx_config.specs.Reserved.{HasRoom};
 ghost use Rattle.smx_config.specs.ListFields.{configuration_of};
-ghost use Rattle.smx_config.specs.Removals.{same_kind, same_link, is_one, has_id, without_links, is_loose};
+ghost use Rattle.smx_config.specs.Removals.{same_kind, same_link, is_one, has_id, without_listed_links, is_loose};
 
 use crate::lists::Lists;
 use crate::queued::Queued;
@@ -85,7 +85,7 @@ fn keep_fulls(fulls: &mut Vec<Place>, gone: &[Link])
 // Removes these links, the routes to them, and what their lower streams' read sides hold.
 pub fn remove_links(lists: &mut Lists, gone: &[Link])
     requires { HasRoom lists.old }
-    ensures value { configuration_of lists.new ≡ without_links (configuration_of lists.old) gone.now }
+    ensures value { configuration_of lists.new ≡ without_listed_links (configuration_of lists.old) gone.now }
     ensures kept { HasRoom lists.new }
     ensures fewer { length lists.new.links.items ≤ length lists.old.links.items }
 {
@@ -148,7 +148,7 @@ fn keep_live_fulls(fulls: &mut Vec<Place>, fds: &[Descriptor], links: &[Link], c
 // Drops the bindings, messages and full marks of streams that don't exist.
 fn drop_dead(drivers: &[DriverSpec], lists: &mut Lists)
     requires { HasRoom lists.old }
-    ensures value { configuration_of lists.new ≡ without_dead drivers.now (configuration_of lists.old) }
+    ensures value { configuration_of lists.new ≡ without_dead_streams drivers.now (configuration_of lists.old) }
     ensures kept { HasRoom lists.new }
 {
     let climbs = drivers.len();
@@ -163,7 +163,7 @@ pub fn sweep(drivers: &[DriverSpec], lists: &mut Lists, room: Vec<Link>)
     requires kept { HasRoom lists.old }
     requires empty { room.items ≡ [] }
     requires room { length lists.old.links.items ≤ vec_capacity room }
-    ensures value { configuration_of lists.new ≡ swept drivers.now (configuration_of lists.old) }
+    ensures value { configuration_of lists.new ≡ after_sweep drivers.now (configuration_of lists.old) }
     ensures kept { HasRoom lists.new }
 {
     let loose = loose_links(&lists.fds, &lists.links, drivers.len(), room);

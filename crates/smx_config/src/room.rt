@@ -3,8 +3,8 @@
 ghost use Rattle.std.specs.Prelude.{◌≡◌, ◌≤◌, ◌==◌, not, filter, length, vec_capacity, IfOk, []};
 ghost use Rattle.std.specs.List.{list_any};
 ghost use Rattle.smx_types.specs.declared.reply.Reply.TheVariants.{Done};
-ghost use Rattle.smx_model.specs.Ordered.{rising};
-ghost use Rattle.smx_model.specs.Removal.{serials, swept};
+ghost use Rattle.smx_model.specs.Ordered.{in_rising_order};
+ghost use Rattle.smx_model.specs.Removal.{serials, after_sweep};
 ghost use Rattle.smx_config.specs.Reserved.{HasRoom};
 ghost use Rattle.smx_config.specs.ListFields.{configuration_of};
 ghost use Rattle.smx_config.specs.Rooms.{IsRoomFor};
@@ -40,8 +40,8 @@ pub fn room_to_sweep(alloc: Global, lists: &Lists) -> Result<Room, AllocError>
 pub fn sweep_done(drivers: &[DriverSpec], lists: &mut Lists, room: Room) -> Reply
     requires kept { HasRoom lists.old }
     requires room { IsRoomFor lists.old.links.items room.old.items room }
-    ensures value { configuration_of lists.new ≡ swept drivers.now (configuration_of lists.old) }
-    ensures reply { result ≡ Done (rising (filter (λ n. not (list_any (λ m. n == m) (serials lists.new.flow.items))) room.old.items)) }
+    ensures value { configuration_of lists.new ≡ after_sweep drivers.now (configuration_of lists.old) }
+    ensures reply { result ≡ Done (in_rising_order (filter (λ n. not (list_any (λ m. n == m) (serials lists.new.flow.items))) room.old.items)) }
     ensures kept { HasRoom lists.new }
 {
     sweep(drivers, lists, room.loose);

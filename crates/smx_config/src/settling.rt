@@ -2,7 +2,7 @@
 
 ghost use Rattle.std.specs.Prelude.{◌≡◌, ◌≤◌, ◌==◌, ◌&&◌, false, find, map, length, vec_capacity, IfSome};
 ghost use Rattle.smx_model.specs.Configuration.{same_stream};
-ghost use Rattle.smx_model.specs.Settling.{down_by, up_by, next_place, way, is_movable, least_movable, moved, settled};
+ghost use Rattle.smx_model.specs.Settling.{down_by, up_by, next_place, next_open_place, is_movable, least_movable, after_move, after_settling};
 ghost use Rattle.smx_config.specs.Reserved.{HasRoom};
 ghost use Rattle.smx_config.specs.ListFields.{configuration_of};
 
@@ -89,7 +89,7 @@ fn next_place(drivers: &[DriverSpec], lists: &Lists, place: Place, addr: u32) ->
 
 // Where the first message of the place may go on to.
 fn way(drivers: &[DriverSpec], lists: &Lists, place: Place) -> Option<Place>
-    ensures { result ≡ way drivers.now (configuration_of lists.now) place }
+    ensures { result ≡ next_open_place drivers.now (configuration_of lists.now) place }
 {
     let addr = front_addr(&lists.flow, place)?;
     let next = next_place(drivers, lists, place, addr)?;
@@ -147,8 +147,8 @@ fn least_movable(drivers: &[DriverSpec], lists: &Lists) -> Option<Place>
 // The first message of the place moves on to its next place.
 fn move_on(drivers: &[DriverSpec], lists: &mut Lists, from: Place, to: Place)
     requires kept { HasRoom lists.old }
-    requires way { way drivers.now (configuration_of lists.old) from ≡ Some to }
-    ensures value { configuration_of lists.new ≡ moved drivers.now (configuration_of lists.old) from }
+    requires way { next_open_place drivers.now (configuration_of lists.old) from ≡ Some to }
+    ensures value { configuration_of lists.new ≡ after_move drivers.now (configuration_of lists.old) from }
     ensures kept { HasRoom lists.new }
 {
     if let Some(message) = leave(drivers, lists, from) {
@@ -159,7 +159,7 @@ fn move_on(drivers: &[DriverSpec], lists: &mut Lists, from: Place, to: Place)
 // Moves messages on until none can.
 pub fn settle(drivers: &[DriverSpec], lists: &mut Lists)
     requires { HasRoom lists.old }
-    ensures value { configuration_of lists.new ≡ settled drivers.now (configuration_of lists.old) }
+    ensures value { configuration_of lists.new ≡ after_settling drivers.now (configuration_of lists.old) }
     ensures kept { HasRoom lists.new }
 {
     let mut left = lists.flow.len() as u128 * drivers.len() as u128;

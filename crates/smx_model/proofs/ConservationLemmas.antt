@@ -14,29 +14,29 @@ use Rattle.smx_types.specs.declared.link.Link.{Link}
 use Rattle.smx_types.specs.declared.link.LinkKind.{LinkKind}
 use Rattle.smx_types.specs.declared.message.Message.{Message}
 use Rattle.smx_types.specs.declared.stream.Place.{Place}
-use Rattle.smx_model.specs.Commands.{outcome, step, finished, done, linked, unlinked, sent, received}
-use Rattle.smx_model.specs.Configuration.{Configuration, Held, empty, is_at, held_before}
+use Rattle.smx_model.specs.Commands.{outcome, step, after_outcome, done_outcome, link_outcome, unlink_outcome, send_outcome, receive_outcome}
+use Rattle.smx_model.specs.Configuration.{Configuration, QueuedMessage, empty, is_at, queued_before}
 use Rattle.smx_model.specs.Histories.{after_from, after, IsLegalFrom, IsLegal}
-use Rattle.smx_model.specs.LawfulHistories.{taken_by, delivered_by, dropped_by, taken, delivered, dropped, IsConserving}
-use Rattle.smx_model.specs.Ordered.{placed, without_first}
+use Rattle.smx_model.specs.LawfulHistories.{taken_by, delivered_by, dropped_by, taken_serials, delivered_serials, dropped_serials, IsConserving}
+use Rattle.smx_model.specs.Ordered.{with_inserted, without_first}
 use Rattle.smx_model.specs.Outcomes.{Outcome}
-use Rattle.smx_model.specs.Queues.{front, left}
-use Rattle.smx_model.specs.Removal.{swept, removed, emptied, serials}
-use Rattle.smx_model.specs.Settling.{settled_within, least_movable, moved, moved_by, way}
+use Rattle.smx_model.specs.Queues.{first_message, after_leaving}
+use Rattle.smx_model.specs.Removal.{after_sweep, without_links, without_queues_at, serials}
+use Rattle.smx_model.specs.Settling.{after_settling_within, least_movable, after_move, after_move_to, next_open_place}
 use Rattle.smx_model.proofs.CountLemmas.{times, times_append, times_gone, permuted}
 use Rattle.smx_model.proofs.OutcomeLemmas.{IfAccepted, at_ok, after_ok, after_test, after_some}
 
 -- serials of a flow
 
-serials_placed : (n : ℕ) (hs : List Held) (h : Held) → times n (serials (placed held_before hs h)) ≡ cond (eqb h.message.serial n) 1 0 + times n (serials hs)
+serials_placed : (n : ℕ) (hs : List QueuedMessage) (h : QueuedMessage) → times n (serials (with_inserted queued_before hs h)) ≡ cond (eqb h.message.serial n) 1 0 + times n (serials hs)
 serials_placed n [] h = refl
-serials_placed n (k ∷ hs) h = elim (cases_Bool (held_before h k)) [ inl t ↦ rw t refl | inr f ↦ rw f (omega (arith, serials_placed n hs h)) ]
+serials_placed n (k ∷ hs) h = elim (cases_Bool (queued_before h k)) [ inl t ↦ rw t refl | inr f ↦ rw f (omega (arith, serials_placed n hs h)) ]
 
-serials_filter : (n : ℕ) (test : Held → Bool) (hs : List Held) → times n (serials (filter test hs)) ≤ times n (serials hs)
+serials_filter : (n : ℕ) (test : QueuedMessage → Bool) (hs : List QueuedMessage) → times n (serials (filter test hs)) ≤ times n (serials hs)
 serials_filter n test [] = omega arith
 serials_filter n test (h ∷ hs) = elim (cases_Bool (test h)) [ inl t ↦ rw t (omega (arith, serials_filter n test hs)) | inr f ↦ rw f (omega (arith, serials_filter n test hs)) ]
 
-serials_front : (n : ℕ) (hs : List Held) (p : Place) (m : Message) → front hs p ≡ Some m → times n (serials hs) ≡ cond (eqb m.serial n) 1 0 + times n (serials (without_first (is_at p) hs))
+serials_front : (n : ℕ) (hs : List QueuedMessage) (p : Place) (m : Message) → first_message hs p ≡ Some m → times n (serials hs) ≡ cond (eqb m.serial n) 1 0 + times n (serials (without_first (is_at p) hs))
 serials_front n [] p m e = cc
 serials_front n (h ∷ hs) p m e = elim (cases_Bool (is_at p h)) [
   | inl t ↦ let k : Some h.message ≡ Some m = rw t at e in let same : h.message ≡ m = cc in rw (t, same) refl
@@ -60,22 +60,22 @@ record IsFewer (c d : Configuration) : Type 0 where
 fewer_same : (c d : Configuration) → d.flow ≡ c.flow → IsFewer c d
 fewer_same c d e = record { each = λ n. rw e (omega arith) }
 
-fewer_emptied : (c : Configuration) (goes : Place → Bool) → IsFewer c (emptied c goes)
+fewer_emptied : (c : Configuration) (goes : Place → Bool) → IsFewer c (without_queues_at c goes)
 fewer_emptied c goes = record { each = λ n. serials_filter n _ c.flow }
 
-fewer_removed : (c : Configuration) (goes : Link → Bool) → IsFewer c (removed c goes)
+fewer_removed : (c : Configuration) (goes : Link → Bool) → IsFewer c (without_links c goes)
 fewer_removed c goes = record { each = λ n. serials_filter n _ c.flow }
 
-two_filters : (n : ℕ) (f g : Held → Bool) (hs : List Held) → times n (serials (filter g (filter f hs))) ≤ times n (serials hs)
+two_filters : (n : ℕ) (f g : QueuedMessage → Bool) (hs : List QueuedMessage) → times n (serials (filter g (filter f hs))) ≤ times n (serials hs)
 two_filters n f g hs = omega (arith, serials_filter n g (filter f hs), serials_filter n f hs)
 
-fewer_swept : (n : ℕ) (drivers : List DriverSpec) (c : Configuration) → times n (serials (swept drivers c).flow) ≤ times n (serials c.flow)
+fewer_swept : (n : ℕ) (drivers : List DriverSpec) (c : Configuration) → times n (serials (after_sweep drivers c).flow) ≤ times n (serials c.flow)
 fewer_swept n drivers c = two_filters n _ _ c.flow
 
-goes_done : (drivers : List DriverSpec) (c d : Configuration) → IsNumbered c → d.next_serial ≡ c.next_serial → IsFewer c d → IfAccepted (Goes c) (done drivers c d)
+goes_done : (drivers : List DriverSpec) (c d : Configuration) → IsNumbered c → d.next_serial ≡ c.next_serial → IsFewer c d → IfAccepted (Goes c) (done_outcome drivers c d)
 goes_done drivers c d h same fewer = record {
   holds = record {
-    balance = λ n. omega (arith, times_gone n (serials c.flow) (serials (swept drivers d).flow) (omega (arith, fewer_swept n drivers d, fewer.each n)) (h.once n));
+    balance = λ n. omega (arith, times_gone n (serials c.flow) (serials (after_sweep drivers d).flow) (omega (arith, fewer_swept n drivers d, fewer.each n)) (h.once n));
     numbered = refl;
     next = omega arith;
   };
@@ -87,25 +87,25 @@ goes_fd c d fd minor e same = record { balance = λ n. rw e (omega arith); numbe
 goes_id : (c d : Configuration) (id : ℕ) → d.flow ≡ c.flow → d.next_serial ≡ c.next_serial → Goes c d (reply.Id id)
 goes_id c d id e same = record { balance = λ n. rw e (omega arith); numbered = refl; next = omega arith }
 
-goes_sent : (drivers : List DriverSpec) (c : Configuration) (p : Place) (addr : ℕ) (bytes : List ℕ) → IfAccepted (Goes c) (sent drivers c p addr bytes)
+goes_sent : (drivers : List DriverSpec) (c : Configuration) (p : Place) (addr : ℕ) (bytes : List ℕ) → IfAccepted (Goes c) (send_outcome drivers c p addr bytes)
 goes_sent drivers c p addr bytes = search (after_test, at_ok, took, rules) depth 12 where
-  took : (d : Configuration) → d.flow ≡ placed held_before c.flow (record { place = p; message = record { serial = c.next_serial; addr = addr; bytes = bytes } }) → d.next_serial ≡ c.next_serial + 1 → Goes c d (reply.Took c.next_serial)
+  took : (d : Configuration) → d.flow ≡ with_inserted queued_before c.flow (record { place = p; message = record { serial = c.next_serial; addr = addr; bytes = bytes } }) → d.next_serial ≡ c.next_serial + 1 → Goes c d (reply.Took c.next_serial)
   took d e next = record {
     balance = λ n. rw e (omega (arith, serials_placed n c.flow (record { place = p; message = record { serial = c.next_serial; addr = addr; bytes = bytes } })));
     numbered = refl;
     next = next;
   }
 
-goes_received : (drivers : List DriverSpec) (c : Configuration) (p : Place) → IfAccepted (Goes c) (received drivers c p)
+goes_received : (drivers : List DriverSpec) (c : Configuration) (p : Place) → IfAccepted (Goes c) (receive_outcome drivers c p)
 goes_received drivers c p = search (after_some, at_ok, got, rules) depth 12 where
-  got : (m : Message) → front c.flow p ≡ Some m → Goes c (left drivers c p) (reply.Got m.serial m.addr m.bytes)
+  got : (m : Message) → first_message c.flow p ≡ Some m → Goes c (after_leaving drivers c p) (reply.Got m.serial m.addr m.bytes)
   got m e = record { balance = λ n. omega (arith, serials_front n c.flow p m e); numbered = refl; next = omega arith }
 
-goes_unlinked : (drivers : List DriverSpec) (c : Configuration) (w : Which) (mine : Link → Bool) → IsNumbered c → IfAccepted (Goes c) (unlinked drivers c w mine)
-goes_unlinked drivers c which.All mine h = goes_done drivers c (removed c mine) h refl (fewer_removed c mine)
+goes_unlinked : (drivers : List DriverSpec) (c : Configuration) (w : Which) (mine : Link → Bool) → IsNumbered c → IfAccepted (Goes c) (unlink_outcome drivers c w mine)
+goes_unlinked drivers c which.All mine h = goes_done drivers c (without_links c mine) h refl (fewer_removed c mine)
 goes_unlinked drivers c (which.Id id) mine h = search (after_test, goes_done, fewer_removed, rules) depth 12
 
-goes_linked : (drivers : List DriverSpec) (c : Configuration) (process fd arg : ℕ) (k : LinkKind) → IfAccepted (Goes c) (linked drivers c process fd arg k)
+goes_linked : (drivers : List DriverSpec) (c : Configuration) (process fd arg : ℕ) (k : LinkKind) → IfAccepted (Goes c) (link_outcome drivers c process fd arg k)
 goes_linked drivers c process fd arg k = search (after_test, after_ok, at_ok, goes_id, rules) depth 20
 
 pub goes_accepted : (drivers : List DriverSpec) (c : Configuration) (process : ℕ) (k : Command) → IsNumbered c → IfAccepted (Goes c) (outcome drivers c process k)
@@ -130,16 +130,16 @@ goes_accepted drivers c process (command.Transmit name minor) h = search (after_
 
 -- settling keeps what is queued
 
-pub moved_same : (n : ℕ) (drivers : List DriverSpec) (c : Configuration) (p : Place) → times n (serials (moved drivers c p).flow) ≡ times n (serials c.flow)
-moved_same n drivers c p = by (way drivers c p) (front c.flow p) refl where
-  by : (o : Option Place) (m : Option Message) → front c.flow p ≡ m → times n (serials (moved_by drivers c p o m).flow) ≡ times n (serials c.flow)
-  by (Some q) (Some m) e = omega (arith, serials_front n c.flow p m e, serials_placed n (left drivers c p).flow (record { place = q; message = m }))
+pub moved_same : (n : ℕ) (drivers : List DriverSpec) (c : Configuration) (p : Place) → times n (serials (after_move drivers c p).flow) ≡ times n (serials c.flow)
+moved_same n drivers c p = by (next_open_place drivers c p) (first_message c.flow p) refl where
+  by : (o : Option Place) (m : Option Message) → first_message c.flow p ≡ m → times n (serials (after_move_to drivers c p o m).flow) ≡ times n (serials c.flow)
+  by (Some q) (Some m) e = omega (arith, serials_front n c.flow p m e, serials_placed n (after_leaving drivers c p).flow (record { place = q; message = m }))
   by (Some q) None e = refl
   by None m e = refl
 
-pub moved_next : (drivers : List DriverSpec) (c : Configuration) (p : Place) → (moved drivers c p).next_serial ≡ c.next_serial
-moved_next drivers c p = by (way drivers c p) (front c.flow p) where
-  by : (o : Option Place) (m : Option Message) → (moved_by drivers c p o m).next_serial ≡ c.next_serial
+pub moved_next : (drivers : List DriverSpec) (c : Configuration) (p : Place) → (after_move drivers c p).next_serial ≡ c.next_serial
+moved_next drivers c p = by (next_open_place drivers c p) (first_message c.flow p) where
+  by : (o : Option Place) (m : Option Message) → (after_move_to drivers c p o m).next_serial ≡ c.next_serial
   by (Some q) (Some m) = refl
   by (Some q) None = refl
   by None m = refl
@@ -148,16 +148,16 @@ record KeepsSerials (c d : Configuration) : Type 0 where
   same : (n : ℕ) → times n (serials d.flow) ≡ times n (serials c.flow)
   next : d.next_serial ≡ c.next_serial
 
-settled_keeps : (drivers : List DriverSpec) (n : ℕ) (c : Configuration) → KeepsSerials c (settled_within drivers n c)
+settled_keeps : (drivers : List DriverSpec) (n : ℕ) (c : Configuration) → KeepsSerials c (after_settling_within drivers n c)
 settled_keeps drivers zero c = record { same = λ n. refl; next = refl }
-settled_keeps drivers (suc k) c = elim (least_movable drivers c) as (λ o. KeepsSerials c (elim o as (λ _. Configuration) [ None ↦ c | Some p ↦ settled_within drivers k (moved drivers c p) ])) [
+settled_keeps drivers (suc k) c = elim (least_movable drivers c) as (λ o. KeepsSerials c (elim o as (λ _. Configuration) [ None ↦ c | Some p ↦ after_settling_within drivers k (after_move drivers c p) ])) [
   | None ↦ record { same = λ n. refl; next = refl }
-  | Some p ↦ let r = settled_keeps drivers k (moved drivers c p) in record { same = λ n. r.same n ∙ moved_same n drivers c p; next = r.next ∙ moved_next drivers c p }
+  | Some p ↦ let r = settled_keeps drivers k (after_move drivers c p) in record { same = λ n. r.same n ∙ moved_same n drivers c p; next = r.next ∙ moved_next drivers c p }
 ]
 
 -- a step
 
-goes_finished : (drivers : List DriverSpec) (c : Configuration) (o : Outcome) → IfAccepted (Goes c) o → Goes c (finished drivers c o).0 (finished drivers c o).1
+goes_finished : (drivers : List DriverSpec) (c : Configuration) (o : Outcome) → IfAccepted (Goes c) o → Goes c (after_outcome drivers c o).0 (after_outcome drivers c o).1
 goes_finished drivers c (Ok x) k = let s = settled_keeps drivers _ x.0 in record {
   balance = λ n. rw (s.same n) (k.holds.balance n);
   numbered = k.holds.numbered;
@@ -207,8 +207,8 @@ range_join a (suc k) m =
     ap (λ (xs : List ℕ). a ∷ xs) (ap (λ (x : ℕ). range_with_len (a + 1) k ++ range_with_len x m) e ∙ range_join (a + 1) k m) ∙ ap (range_with_len a) f
 
 record Ends (drivers : List DriverSpec) (c : Configuration) (es : List Entry) : Type 0 where
-  balance : (n : ℕ) → times n (taken es) + times n (serials c.flow) ≡ times n (delivered es) + (times n (dropped es) + times n (serials (after_from drivers c es).flow))
-  numbered : taken es ≡ range_with_len c.next_serial (length (taken es))
+  balance : (n : ℕ) → times n (taken_serials es) + times n (serials c.flow) ≡ times n (delivered_serials es) + (times n (dropped_serials es) + times n (serials (after_from drivers c es).flow))
+  numbered : taken_serials es ≡ range_with_len c.next_serial (length (taken_serials es))
 
 ends : (drivers : List DriverSpec) (c : Configuration) (es : List Entry) → IsNumbered c → IsLegalFrom drivers c es → Ends drivers c es
 ends drivers c [] h legal = record { balance = λ n. omega arith; numbered = refl }
@@ -217,8 +217,8 @@ ends drivers c (e ∷ es) h legal =
     let g : Goes c (step drivers c e.process e.command).0 e.reply = subst (λ (r : Reply). Goes c (step drivers c e.process e.command).0 r) legal.0 (goes_step drivers c e.process e.command h) in
     let i = ends drivers (step drivers c e.process e.command).0 es (numbered_goes c (step drivers c e.process e.command).0 e.reply h g) legal.1 in
     record {
-      balance = λ n. omega (arith, g.balance n, i.balance n, times_append n (taken_by e.reply) (taken es), times_append n (delivered_by e.reply) (delivered es), times_append n (dropped_by e.reply) (dropped es));
-      numbered = joined c.next_serial (step drivers c e.process e.command).0.next_serial (taken_by e.reply) (taken es) g.numbered g.next i.numbered;
+      balance = λ n. omega (arith, g.balance n, i.balance n, times_append n (taken_by e.reply) (taken_serials es), times_append n (delivered_by e.reply) (delivered_serials es), times_append n (dropped_by e.reply) (dropped_serials es));
+      numbered = joined c.next_serial (step drivers c e.process e.command).0.next_serial (taken_by e.reply) (taken_serials es) g.numbered g.next i.numbered;
     } where
       joined : (a b : ℕ) (xs ys : List ℕ) → xs ≡ range_with_len a (length xs) → b ≡ a + length xs → ys ≡ range_with_len b (length ys) → xs ++ ys ≡ range_with_len a (length (xs ++ ys))
       joined a b xs ys h next k = let j = range_join a (length xs) (length ys) in
@@ -231,6 +231,6 @@ numbered_empty = record { once = λ n. omega arith; below = λ n le. refl }
 pub conserving : (drivers : List DriverSpec) (history : List Entry) → IsLegal drivers history → IsConserving drivers history
 conserving drivers history legal = let e = ends drivers empty history numbered_empty legal in record {
   numbered = e.numbered;
-  kept = permuted (taken history) (delivered history ++ (dropped history ++ serials (after drivers history).flow))
-      (λ n. omega (arith, e.balance n, times_append n (delivered history) (dropped history ++ serials (after drivers history).flow), times_append n (dropped history) (serials (after drivers history).flow)));
+  kept = permuted (taken_serials history) (delivered_serials history ++ (dropped_serials history ++ serials (after drivers history).flow))
+      (λ n. omega (arith, e.balance n, times_append n (delivered_serials history) (dropped_serials history ++ serials (after drivers history).flow), times_append n (dropped_serials history) (serials (after drivers history).flow)));
 }

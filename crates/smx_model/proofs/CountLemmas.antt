@@ -4,7 +4,7 @@ use Rattle.std.specs.List.{list_any}
 use Rattle.std.specs.List.Sorted.{IsPermutation}
 use Rattle.std.proofs.lemmas.Bool.{cases_Bool, cases_eq, eqb-true, eq-eqb, ne_eqb, false≢true, or_cases, or_parts}
 use Rattle.std.proofs.lemmas.List.Sorted.{IsPermutation-refl, IsPermutation-cons, IsPermutation-trans, IsPermutation-sym, IsPermutation-to_front, IsPermutation-append_left}
-use Rattle.smx_model.specs.Ordered.{placed, rising}
+use Rattle.smx_model.specs.Ordered.{with_inserted, in_rising_order}
 
 abbrev pub times : ℕ → List ℕ → ℕ
 times n [] = 0
@@ -14,13 +14,13 @@ pub times_append : (n : ℕ) (xs ys : List ℕ) → times n (xs ++ ys) ≡ times
 times_append n [] ys = omega arith
 times_append n (x ∷ xs) ys = omega (arith, times_append n xs ys)
 
-times_placed : (n : ℕ) (xs : List ℕ) (x : ℕ) → times n (placed ltb xs x) ≡ cond (eqb x n) 1 0 + times n xs
+times_placed : (n : ℕ) (xs : List ℕ) (x : ℕ) → times n (with_inserted ltb xs x) ≡ cond (eqb x n) 1 0 + times n xs
 times_placed n [] x = refl
 times_placed n (y ∷ ys) x = elim (cases_Bool (ltb x y)) [ inl t ↦ rw t refl | inr f ↦ rw f (omega (arith, times_placed n ys x)) ]
 
-pub times_rising : (n : ℕ) (xs : List ℕ) → times n (rising xs) ≡ times n xs
+pub times_rising : (n : ℕ) (xs : List ℕ) → times n (in_rising_order xs) ≡ times n xs
 times_rising n [] = refl
-times_rising n (x ∷ xs) = omega (arith, times_placed n (rising xs) x, times_rising n xs)
+times_rising n (x ∷ xs) = omega (arith, times_placed n (in_rising_order xs) x, times_rising n xs)
 
 pub times_filter : (n : ℕ) (test : ℕ → Bool) (xs : List ℕ) → times n (filter test xs) ≡ cond (test n) (times n xs) 0
 times_filter n test [] = elim (cases_Bool (test n)) [ inl t ↦ rw t refl | inr f ↦ rw f refl ]
@@ -47,7 +47,7 @@ times_some n (x ∷ xs) h = elim (or_cases (eqb n x) (list_any (λ m. eqb n m) x
     [ inl e ↦ rw (eq-eqb x n (sym (eqb-true n x e))) (omega arith) | inr r ↦ omega (arith, times_some n xs r) ]
 
 -- what left, and what is left
-pub times_gone : (n : ℕ) (old new : List ℕ) → times n new ≤ times n old → times n old ≤ 1 → times n (rising (filter (λ m. not (list_any (λ k. eqb m k) new)) old)) + times n new ≡ times n old
+pub times_gone : (n : ℕ) (old new : List ℕ) → times n new ≤ times n old → times n old ≤ 1 → times n (in_rising_order (filter (λ m. not (list_any (λ k. eqb m k) new)) old)) + times n new ≡ times n old
 times_gone n old new fewer once =
     let r = times_rising n (filter (λ m. not (list_any (λ k. eqb m k) new)) old) in
     let f = times_filter n (λ m. not (list_any (λ k. eqb m k) new)) old in

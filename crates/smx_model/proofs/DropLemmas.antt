@@ -14,16 +14,16 @@ use Rattle.smx_types.specs.declared.reply.Fault.TheVariants.{NotMux}
 use Rattle.smx_types.specs.declared.reply.Reply.TheVariants.{Done}
 use Rattle.smx_types.specs.declared.stream.Place.{Place}
 use Rattle.smx_types.specs.declared.stream.StreamId.{StreamId}
-use Rattle.smx_model.specs.Commands.{outcome, step, finished, done, linked, sent, received}
-use Rattle.smx_model.specs.Configuration.{Configuration, Held, empty, bind_before}
+use Rattle.smx_model.specs.Commands.{outcome, step, after_outcome, done_outcome, link_outcome, send_outcome, receive_outcome}
+use Rattle.smx_model.specs.Configuration.{Configuration, QueuedMessage, empty, bind_before}
 use Rattle.smx_model.specs.DriverList.{is_mux}
 use Rattle.smx_model.specs.Histories.{IsLegal, IsLegalFrom}
 use Rattle.smx_model.specs.KeptConfigurations.{IsKept}
 use Rattle.smx_model.specs.LawfulHistories.{dropped_by, may_drop, AreDropsAllowed}
 use Rattle.smx_model.specs.Lookups.{free_stream, mux_stream}
-use Rattle.smx_model.specs.Ordered.{placed, rising}
+use Rattle.smx_model.specs.Ordered.{with_inserted, in_rising_order}
 use Rattle.smx_model.specs.Outcomes.{Outcome, ◌>>=◌, refuse}
-use Rattle.smx_model.specs.Removal.{gone_from, serials}
+use Rattle.smx_model.specs.Removal.{serials_that_left, serials}
 use Rattle.smx_model.specs.Standing.{exists}
 use Rattle.smx_model.specs.Swept.{IsSwept}
 use Rattle.smx_model.proofs.EachLemmas.{Each, all_of_each}
@@ -47,22 +47,22 @@ in_itself : (ns : List ℕ) → list_all (λ n. list_any (λ k. eqb n k) ns) ns 
 in_itself [] = refl
 in_itself (n ∷ ns) = and_from _ _ (or_left _ _ (eq-eqb n n refl)) (in_more n ns ns (in_itself ns))
 
-none_gone : (flow : List Held) → gone_from flow flow ≡ []
-none_gone flow = ap rising (all_there (serials flow) (serials flow) (in_itself (serials flow)))
+none_gone : (flow : List QueuedMessage) → serials_that_left flow flow ≡ []
+none_gone flow = ap in_rising_order (all_there (serials flow) (serials flow) (in_itself (serials flow)))
 
 -- what leaves nothing to sweep, and the flow as it was, is done with none dropped
 
-pub done_idle : (drivers : List DriverSpec) (c new : Configuration) → IsSwept drivers new → new.flow ≡ c.flow → done drivers c new ≡ Ok (new, Done [])
+pub done_idle : (drivers : List DriverSpec) (c new : Configuration) → IsSwept drivers new → new.flow ≡ c.flow → done_outcome drivers c new ≡ Ok (new, Done [])
 done_idle drivers c new clean same =
-    ap (λ (d : Configuration). Ok (d, Done (gone_from c.flow d.flow))) (swept_idle drivers new clean)
-    ∙ (ap (λ (f : List Held). Ok (new, Done (gone_from c.flow f))) same
+    ap (λ (d : Configuration). Ok (d, Done (serials_that_left c.flow d.flow))) (swept_idle drivers new clean)
+    ∙ (ap (λ (f : List QueuedMessage). Ok (new, Done (serials_that_left c.flow f))) same
     ∙ ap (λ (ns : List ℕ). Ok (new, Done ns)) (none_gone c.flow))
 
 -- it is accepted with no dropped messages
 abbrev DropsNone : Outcome → Type 0
 DropsNone o = IfAccepted (λ d r. dropped_by r ≡ []) o
 
-idle_drops : (drivers : List DriverSpec) (c d : Configuration) → IsSwept drivers d → d.flow ≡ c.flow → DropsNone (done drivers c d)
+idle_drops : (drivers : List DriverSpec) (c d : Configuration) → IsSwept drivers d → d.flow ≡ c.flow → DropsNone (done_outcome drivers c d)
 idle_drops drivers c d clean same = rw (done_idle drivers c d clean same) (at_ok _ d (Done []) refl)
 
 mux_exists : (drivers : List DriverSpec) (c : Configuration) (process fd : ℕ) (s : StreamId) → mux_stream drivers c process fd ≡ Ok s → exists drivers c s ≡ true
@@ -78,25 +78,25 @@ mux_exists drivers c process fd s e = by (free_stream c process fd) refl e where
 -- a binding of a stream that exists, fewer bindings, or other routes
 
 bind_drops : (drivers : List DriverSpec) (c : Configuration) (s : StreamId) (addr : ℕ) → IsSwept drivers c → exists drivers c s ≡ true
-    → DropsNone (done drivers c (record c { binds = placed bind_before c.binds (record { driver = s.driver; addr = addr; minor = s.minor }) }))
-bind_drops drivers c s addr h e = idle_drops drivers c (record c { binds = placed bind_before c.binds (record { driver = s.driver; addr = addr; minor = s.minor }) })
+    → DropsNone (done_outcome drivers c (record c { binds = with_inserted bind_before c.binds (record { driver = s.driver; addr = addr; minor = s.minor }) }))
+bind_drops drivers c s addr h e = idle_drops drivers c (record c { binds = with_inserted bind_before c.binds (record { driver = s.driver; addr = addr; minor = s.minor }) })
     (record { links = h.links; binds = all_placed _ bind_before c.binds _ e h.binds; flow = h.flow; fulls = h.fulls }) refl
 
-unbind_drops : (drivers : List DriverSpec) (c : Configuration) (keep : Binding → Bool) → IsSwept drivers c → DropsNone (done drivers c (record c { binds = filter keep c.binds }))
+unbind_drops : (drivers : List DriverSpec) (c : Configuration) (keep : Binding → Bool) → IsSwept drivers c → DropsNone (done_outcome drivers c (record c { binds = filter keep c.binds }))
 unbind_drops drivers c keep h = idle_drops drivers c (record c { binds = filter keep c.binds }) (record { links = h.links; binds = all_filter _ keep c.binds h.binds; flow = h.flow; fulls = h.fulls }) refl
 
-route_drops : (drivers : List DriverSpec) (c : Configuration) (routes : List Route) → IsSwept drivers c → DropsNone (done drivers c (record c { routes = routes }))
+route_drops : (drivers : List DriverSpec) (c : Configuration) (routes : List Route) → IsSwept drivers c → DropsNone (done_outcome drivers c (record c { routes = routes }))
 route_drops drivers c routes h = idle_drops drivers c (record c { routes = routes }) (record { links = h.links; binds = h.binds; flow = h.flow; fulls = h.fulls }) refl
 
 -- what replies no Done
 
-linked_drops : (drivers : List DriverSpec) (c : Configuration) (process fd arg : ℕ) (k : LinkKind) → DropsNone (linked drivers c process fd arg k)
+linked_drops : (drivers : List DriverSpec) (c : Configuration) (process fd arg : ℕ) (k : LinkKind) → DropsNone (link_outcome drivers c process fd arg k)
 linked_drops drivers c process fd arg k = search (after_test, after_ok, at_ok, rules) depth 24
 
-sent_drops : (drivers : List DriverSpec) (c : Configuration) (p : Place) (addr : ℕ) (bytes : List ℕ) → DropsNone (sent drivers c p addr bytes)
+sent_drops : (drivers : List DriverSpec) (c : Configuration) (p : Place) (addr : ℕ) (bytes : List ℕ) → DropsNone (send_outcome drivers c p addr bytes)
 sent_drops drivers c p addr bytes = search (after_test, at_ok, rules) depth 12
 
-received_drops : (drivers : List DriverSpec) (c : Configuration) (p : Place) → DropsNone (received drivers c p)
+received_drops : (drivers : List DriverSpec) (c : Configuration) (p : Place) → DropsNone (receive_outcome drivers c p)
 received_drops drivers c p = search (after_some, at_ok, rules) depth 12
 
 -- each command that may not drop
@@ -123,7 +123,7 @@ drops_accepted drivers c process (command.Transmit name minor) never h = search 
 
 pub step_drops : (drivers : List DriverSpec) (c : Configuration) (process : ℕ) (k : Command) → IsSwept drivers c → (dropped_by (step drivers c process k).1 ≡ [] → ⊥) → may_drop k ≡ true
 step_drops drivers c process k h some = elim (cases_Bool (may_drop k)) [ inl may ↦ may | inr never ↦ absurd (some (by (outcome drivers c process k) (drops_accepted drivers c process k never h))) ] where
-  by : (o : Outcome) → DropsNone o → dropped_by (finished drivers c o).1 ≡ []
+  by : (o : Outcome) → DropsNone o → dropped_by (after_outcome drivers c o).1 ≡ []
   by (Ok x) m = m.holds
   by (Err f) m = refl
 

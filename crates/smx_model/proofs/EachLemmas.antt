@@ -2,7 +2,7 @@
 use Rattle.std.proofs.Common.{◌≡◌, zero, suc, Bool, false, arith, List, [], ◌∷◌, ◌++◌, filter, find, Some, subst, inl, inr, true}
 use Rattle.std.specs.List.{list_any, All, list_all}
 use Rattle.std.proofs.lemmas.Bool.{cases_Bool, and_parts, or_parts}
-use Rattle.smx_model.specs.Ordered.{placed}
+use Rattle.smx_model.specs.Ordered.{with_inserted}
 
 -- P of each element
 abbrev pub Each : {X : Type 0} → (X → Type 0) → List X → Type 0
@@ -13,7 +13,7 @@ pub each_filter : {X : Type 0} (P : X → Type 0) (test : X → Bool) (xs : List
 each_filter P test [] h = tt
 each_filter P test (x ∷ xs) h = elim (cases_Bool (test x)) [ inl t ↦ rw t (h.0, each_filter P test xs h.1) | inr f ↦ rw f (each_filter P test xs h.1) ]
 
-pub each_placed : {X : Type 0} (P : X → Type 0) (before : X → X → Bool) (xs : List X) (x : X) → P x → Each P xs → Each P (placed before xs x)
+pub each_placed : {X : Type 0} (P : X → Type 0) (before : X → X → Bool) (xs : List X) (x : X) → P x → Each P xs → Each P (with_inserted before xs x)
 each_placed P before [] x p h = (p, tt)
 each_placed P before (y ∷ ys) x p h = elim (cases_Bool (before x y)) [ inl t ↦ rw t (p, h) | inr f ↦ rw f (h.0, each_placed P before ys x p h.1) ]
 

@@ -9,29 +9,29 @@ use Rattle.smx_types.specs.declared.link.Link.{Link}
 use Rattle.smx_types.specs.declared.link.LinkKind.{LinkKind}
 use Rattle.smx_types.specs.declared.message.Message.{Message}
 use Rattle.smx_types.specs.declared.stream.Place.{Place}
-use Rattle.smx_model.specs.Commands.{outcome, done, linked, unlinked, sent, received}
+use Rattle.smx_model.specs.Commands.{outcome, done_outcome, link_outcome, unlink_outcome, send_outcome, receive_outcome}
 use Rattle.smx_model.specs.Configuration.{Configuration, is_at}
 use Rattle.smx_model.specs.FlowOrder.{IsInOrder}
-use Rattle.smx_model.specs.Queues.{front}
-use Rattle.smx_model.specs.Removal.{removed}
-use Rattle.smx_model.specs.Settling.{moved, moved_by, way}
+use Rattle.smx_model.specs.Queues.{first_message}
+use Rattle.smx_model.specs.Removal.{without_links}
+use Rattle.smx_model.specs.Settling.{after_move, after_move_to, next_open_place}
 use Rattle.smx_model.proofs.OrderLemmas.{order_placed, order_filter, order_without}
 use Rattle.smx_model.proofs.OutcomeLemmas.{IfAccepted, at_ok, after_ok, after_test, after_some}
 
-order_done : (drivers : List DriverSpec) (c d : Configuration) → IsInOrder d.flow → IfAccepted (λ d r. IsInOrder d.flow) (done drivers c d)
+order_done : (drivers : List DriverSpec) (c d : Configuration) → IsInOrder d.flow → IfAccepted (λ d r. IsInOrder d.flow) (done_outcome drivers c d)
 order_done drivers c d h = record { holds = order_filter _ _ (order_filter _ d.flow h) }
 
-order_unlinked : (drivers : List DriverSpec) (c : Configuration) (w : Which) (mine : Link → Bool) → IsInOrder c.flow → IfAccepted (λ d r. IsInOrder d.flow) (unlinked drivers c w mine)
-order_unlinked drivers c which.All mine h = order_done drivers c (removed c mine) (order_filter _ c.flow h)
+order_unlinked : (drivers : List DriverSpec) (c : Configuration) (w : Which) (mine : Link → Bool) → IsInOrder c.flow → IfAccepted (λ d r. IsInOrder d.flow) (unlink_outcome drivers c w mine)
+order_unlinked drivers c which.All mine h = order_done drivers c (without_links c mine) (order_filter _ c.flow h)
 order_unlinked drivers c (which.Id id) mine h = search (after_test, order_done, order_filter, rules) depth 12
 
-order_linked : (drivers : List DriverSpec) (c : Configuration) (process fd arg : ℕ) (k : LinkKind) → IsInOrder c.flow → IfAccepted (λ d r. IsInOrder d.flow) (linked drivers c process fd arg k)
+order_linked : (drivers : List DriverSpec) (c : Configuration) (process fd arg : ℕ) (k : LinkKind) → IsInOrder c.flow → IfAccepted (λ d r. IsInOrder d.flow) (link_outcome drivers c process fd arg k)
 order_linked drivers c process fd arg k h = search (after_test, after_ok, at_ok, rules) depth 24
 
-order_sent : (drivers : List DriverSpec) (c : Configuration) (p : Place) (addr : ℕ) (bytes : List ℕ) → IsInOrder c.flow → IfAccepted (λ d r. IsInOrder d.flow) (sent drivers c p addr bytes)
+order_sent : (drivers : List DriverSpec) (c : Configuration) (p : Place) (addr : ℕ) (bytes : List ℕ) → IsInOrder c.flow → IfAccepted (λ d r. IsInOrder d.flow) (send_outcome drivers c p addr bytes)
 order_sent drivers c p addr bytes h = search (after_test, at_ok, order_placed, rules) depth 12
 
-order_received : (drivers : List DriverSpec) (c : Configuration) (p : Place) → IsInOrder c.flow → IfAccepted (λ d r. IsInOrder d.flow) (received drivers c p)
+order_received : (drivers : List DriverSpec) (c : Configuration) (p : Place) → IsInOrder c.flow → IfAccepted (λ d r. IsInOrder d.flow) (receive_outcome drivers c p)
 order_received drivers c p h = search (after_some, at_ok, order_without, rules) depth 12
 
 pub order_accepted : (drivers : List DriverSpec) (c : Configuration) (process : ℕ) (k : Command) → IsInOrder c.flow → IfAccepted (λ d r. IsInOrder d.flow) (outcome drivers c process k)
@@ -54,9 +54,9 @@ order_accepted drivers c process (command.Flush fd w) h = search (after_ok, at_o
 order_accepted drivers c process (command.Inject name minor addr bytes) h = search (after_test, after_ok, order_sent, rules) depth 20
 order_accepted drivers c process (command.Transmit name minor) h = search (after_ok, at_ok, order_received, rules) depth 20
 
-pub order_moved : (drivers : List DriverSpec) (c : Configuration) (p : Place) → IsInOrder c.flow → IsInOrder (moved drivers c p).flow
-order_moved drivers c p h = by (way drivers c p) (front c.flow p) where
-  by : (o : Option Place) (m : Option Message) → IsInOrder (moved_by drivers c p o m).flow
+pub order_moved : (drivers : List DriverSpec) (c : Configuration) (p : Place) → IsInOrder c.flow → IsInOrder (after_move drivers c p).flow
+order_moved drivers c p h = by (next_open_place drivers c p) (first_message c.flow p) where
+  by : (o : Option Place) (m : Option Message) → IsInOrder (after_move_to drivers c p o m).flow
   by (Some q) (Some m) = order_placed _ (record { place = q; message = m }) (order_without (is_at p) c.flow h)
   by (Some q) None = h
   by None m = h

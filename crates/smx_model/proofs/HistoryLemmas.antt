@@ -8,8 +8,8 @@ use Rattle.smx_types.specs.declared.driver.DriverSpec.{DriverSpec}
 use Rattle.smx_types.specs.declared.reply.Reply.{Reply}
 use Rattle.smx_model.specs.Commands.{step}
 use Rattle.smx_model.specs.Configuration.{Configuration, empty}
-use Rattle.smx_model.specs.Histories.{asked_of, IsLegal, IsLegalFrom}
-use Rattle.smx_model.specs.LawfulHistories.{taken, IsLawful, IsLawfulThroughout}
+use Rattle.smx_model.specs.Histories.{call_of, IsLegal, IsLegalFrom}
+use Rattle.smx_model.specs.LawfulHistories.{taken_serials, IsLawful, IsLawfulThroughout}
 use Rattle.smx_model.proofs.ConservationLemmas.{conserving}
 use Rattle.smx_model.proofs.KeptLemmas.{always_is_kept}
 
@@ -27,21 +27,21 @@ entry_of asked reply = record { process = asked.0; command = asked.1; reply = re
 abbrev step_of : List DriverSpec → Configuration → ℕ × Command → Configuration × Reply
 step_of drivers c asked = step drivers c asked.0 asked.1
 
-determined_from : (drivers : List DriverSpec) (c : Configuration) (xs ys : List Entry) → IsLegalFrom drivers c xs → IsLegalFrom drivers c ys → map asked_of xs ≡ map asked_of ys → xs ≡ ys
+determined_from : (drivers : List DriverSpec) (c : Configuration) (xs ys : List Entry) → IsLegalFrom drivers c xs → IsLegalFrom drivers c ys → map call_of xs ≡ map call_of ys → xs ≡ ys
 determined_from drivers c [] [] h k e = refl
-determined_from drivers c [] (y ∷ ys) h k e = let differ : [] ≡ asked_of y ∷ map asked_of ys = e in absurd cc
-determined_from drivers c (x ∷ xs) [] h k e = let differ : asked_of x ∷ map asked_of xs ≡ [] = e in absurd cc
+determined_from drivers c [] (y ∷ ys) h k e = let differ : [] ≡ call_of y ∷ map call_of ys = e in absurd cc
+determined_from drivers c (x ∷ xs) [] h k e = let differ : call_of x ∷ map call_of xs ≡ [] = e in absurd cc
 determined_from drivers c (x ∷ xs) (y ∷ ys) h k e =
-    let all : asked_of x ∷ map asked_of xs ≡ asked_of y ∷ map asked_of ys = e in
-    let asked : asked_of x ≡ asked_of y = cc in
-    let rest : map asked_of xs ≡ map asked_of ys = cc in
+    let all : call_of x ∷ map call_of xs ≡ call_of y ∷ map call_of ys = e in
+    let asked : call_of x ≡ call_of y = cc in
+    let rest : map call_of xs ≡ map call_of ys = cc in
     let steps = ap (step_of drivers c) asked in
     let reply : x.reply ≡ y.reply = sym h.0 ∙ ap (λ (s : Configuration × Reply). s.1) steps ∙ k.0 in
     let later = determined_from drivers (step drivers c x.process x.command).0 xs ys h.1 (subst (λ (s : Configuration × Reply). IsLegalFrom drivers s.0 ys) (sym steps) k.1) rest in
-    let first : x ≡ y = ap (λ (a : ℕ × Command). entry_of a x.reply) asked ∙ ap (entry_of (asked_of y)) reply in
+    let first : x ≡ y = ap (λ (a : ℕ × Command). entry_of a x.reply) asked ∙ ap (entry_of (call_of y)) reply in
     cc
 
-pub determined : (drivers : List DriverSpec) (xs ys : List Entry) → IsLegal drivers xs → IsLegal drivers ys → map asked_of xs ≡ map asked_of ys → xs ≡ ys
+pub determined : (drivers : List DriverSpec) (xs ys : List Entry) → IsLegal drivers xs → IsLegal drivers ys → map call_of xs ≡ map call_of ys → xs ≡ ys
 determined drivers xs ys h k e = determined_from drivers empty xs ys h k e
 
 -- numbers from a on differ
@@ -57,7 +57,7 @@ lawful drivers history legal =
     record {
       no_cycle = sound.no_cycle;
       lowers_apart = sound.lowers;
-      taken_once = subst (AllPairs (λ x y. x ≡ y → ⊥)) (sym kept.numbered) (range_apart 1 (length (taken history)));
+      taken_once = subst (AllPairs (λ x y. x ≡ y → ⊥)) (sym kept.numbered) (range_apart 1 (length (taken_serials history)));
       conserved = kept.kept;
     }
 

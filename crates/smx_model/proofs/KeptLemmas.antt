@@ -7,7 +7,7 @@ use Rattle.smx_types.specs.declared.command.Command.{Command}
 use Rattle.smx_types.specs.declared.command.Entry.{Entry}
 use Rattle.smx_types.specs.declared.driver.DriverSpec.{DriverSpec}
 use Rattle.smx_types.specs.declared.link.Link.{Link}
-use Rattle.smx_model.specs.Commands.{outcome, step, finished}
+use Rattle.smx_model.specs.Commands.{outcome, step, after_outcome}
 use Rattle.smx_model.specs.Configuration.{Configuration, empty}
 use Rattle.smx_model.specs.DriverList.{IsDriverList}
 use Rattle.smx_model.specs.FlowOrder.{IsInOrder}
@@ -17,7 +17,7 @@ use Rattle.smx_model.specs.KnownStreams.{AreStreamsKnown, IsKnown}
 use Rattle.smx_model.specs.Ordered.{ComesBefore, IsRising}
 use Rattle.smx_model.specs.Outcomes.{Outcome}
 use Rattle.smx_model.specs.Removal.{serials}
-use Rattle.smx_model.specs.Settling.{least_movable, moved, settled, settled_within}
+use Rattle.smx_model.specs.Settling.{least_movable, after_move, after_settling, after_settling_within}
 use Rattle.smx_model.specs.SoundLinks.{AreIdsRising, AreRoutesSound, AreLinksSound}
 use Rattle.smx_model.specs.Standing.{exists, Stands}
 use Rattle.smx_model.specs.Swept.{IsSwept}
@@ -124,7 +124,7 @@ record Parts (drivers : List DriverSpec) (c : Configuration) : Type 0 where
   links : AreLinksSound c.links
   named : AreNamed drivers c
   routed : AreRouted drivers c
-  rising : AreRising c
+  in_rising_order : AreRising c
   flow : IsInOrder c.flow
   numbered : IsNumbered c
   swept_ : IsSwept drivers c
@@ -179,13 +179,13 @@ outcome_sound drivers c process k h = by (outcome drivers c process k) (parts_ac
 
 -- each move
 
-numbered_moved : (drivers : List DriverSpec) (c : Configuration) (p : Place) → IsNumbered c → IsNumbered (moved drivers c p)
+numbered_moved : (drivers : List DriverSpec) (c : Configuration) (p : Place) → IsNumbered c → IsNumbered (after_move drivers c p)
 numbered_moved drivers c p h = record {
   once = λ n. omega (arith, moved_same n drivers c p, h.once n);
   below = λ n le. omega (arith, moved_same n drivers c p, h.below n (omega (arith, moved_next drivers c p, le)));
 }
 
-parts_moved : (drivers : List DriverSpec) (c : Configuration) (p : Place) → Parts drivers c → Parts drivers (moved drivers c p)
+parts_moved : (drivers : List DriverSpec) (c : Configuration) (p : Place) → Parts drivers c → Parts drivers (after_move drivers c p)
 parts_moved drivers c p h = record {
   links = sound_moved drivers c p h.links;
   named = named_moved drivers c p h.named;
@@ -196,25 +196,25 @@ parts_moved drivers c p h = record {
   swept_ = swept_moved drivers c p (record { none = h.links.no_cycle; named = h.named; swept_ = h.swept_ });
 }
 
-pub moved_sound : (drivers : List DriverSpec) (c : Configuration) (p : Place) → IsSound drivers c → IsSound drivers (moved drivers c p)
-moved_sound drivers c p h = of_parts drivers (moved drivers c p) (parts_moved drivers c p (parts_of drivers c h))
+pub moved_sound : (drivers : List DriverSpec) (c : Configuration) (p : Place) → IsSound drivers c → IsSound drivers (after_move drivers c p)
+moved_sound drivers c p h = of_parts drivers (after_move drivers c p) (parts_moved drivers c p (parts_of drivers c h))
 
 -- and so settling
 
-parts_settled : (drivers : List DriverSpec) (n : ℕ) (c : Configuration) → Parts drivers c → Parts drivers (settled_within drivers n c)
+parts_settled : (drivers : List DriverSpec) (n : ℕ) (c : Configuration) → Parts drivers c → Parts drivers (after_settling_within drivers n c)
 parts_settled drivers zero c h = h
-parts_settled drivers (suc k) c h = elim (least_movable drivers c) as (λ o. Parts drivers (elim o as (λ _. Configuration) [ None ↦ c | Some p ↦ settled_within drivers k (moved drivers c p) ]))
-    [ None ↦ h | Some p ↦ parts_settled drivers k (moved drivers c p) (parts_moved drivers c p h) ]
+parts_settled drivers (suc k) c h = elim (least_movable drivers c) as (λ o. Parts drivers (elim o as (λ _. Configuration) [ None ↦ c | Some p ↦ after_settling_within drivers k (after_move drivers c p) ]))
+    [ None ↦ h | Some p ↦ parts_settled drivers k (after_move drivers c p) (parts_moved drivers c p h) ]
 
-pub settled_kept : (drivers : List DriverSpec) (c : Configuration) → IsSound drivers c → IsKept drivers (settled drivers c)
+pub settled_kept : (drivers : List DriverSpec) (c : Configuration) → IsSound drivers c → IsKept drivers (after_settling drivers c)
 settled_kept drivers c h = let p = parts_of drivers c h in record {
-  sound = of_parts drivers (settled drivers c) (parts_settled drivers (length c.flow * length drivers) c p);
+  sound = of_parts drivers (after_settling drivers c) (parts_settled drivers (length c.flow * length drivers) c p);
   settled = settled_is drivers c p.links p.named p.routed;
 }
 
 -- and so each command
 
-finished_kept : (drivers : List DriverSpec) (c : Configuration) (o : Outcome) → IsKept drivers c → IfOk o (λ x. IsSound drivers x.0) → IsKept drivers (finished drivers c o).0
+finished_kept : (drivers : List DriverSpec) (c : Configuration) (o : Outcome) → IsKept drivers c → IfOk o (λ x. IsSound drivers x.0) → IsKept drivers (after_outcome drivers c o).0
 finished_kept drivers c (Ok x) h k = settled_kept drivers x.0 k
 finished_kept drivers c (Err f) h k = h
 

@@ -6,9 +6,9 @@ use Rattle.smx_types.specs.declared.message.Message.{Message}
 use Rattle.smx_types.specs.declared.stream.Place.{Place}
 use Rattle.smx_types.specs.declared.stream.Side.{Side}
 use Rattle.smx_types.specs.declared.stream.Side.TheVariants as side
-use Rattle.smx_model.specs.Configuration.{Held, is_at, held_before, place_before, same_place, same_side, side_before, pair_before}
+use Rattle.smx_model.specs.Configuration.{QueuedMessage, is_at, queued_before, place_before, same_place, same_side, side_before, pair_before}
 use Rattle.smx_model.specs.FlowOrder.{NoneBefore, IsInOrder}
-use Rattle.smx_model.specs.Ordered.{placed, without_first}
+use Rattle.smx_model.specs.Ordered.{with_inserted, without_first}
 use Rattle.smx_model.specs.Queues.{queue}
 use Rattle.smx_model.proofs.SettlingLemmas.{same_place_is}
 
@@ -84,7 +84,7 @@ same_not_before p = before_is p p ∙ self3 p.stream.driver p.stream.minor (numb
   self3 : (a b c : ℕ) → before3 a b c a b c ≡ false
   self3 a b c = grind (arith, nat_tests)
 
-abbrev made_of : Place → Message → Held
+abbrev made_of : Place → Message → QueuedMessage
 made_of p m = record { place = p; message = m }
 
 no_head : (m : Message) (ms : List Message) → m ∷ ms ≡ [] → ⊥
@@ -92,46 +92,46 @@ no_head m ms e = cc
 
 -- order is kept
 
-none_before_less : (h k : Held) (hs : List Held) → held_before h k ≡ true → NoneBefore k hs → NoneBefore h hs
+none_before_less : (h k : QueuedMessage) (hs : List QueuedMessage) → queued_before h k ≡ true → NoneBefore k hs → NoneBefore h hs
 none_before_less h k [] lt n = tt
 none_before_less h k (j ∷ hs) lt n = (place_trans h.place k.place j.place lt n.0, none_before_less h k hs lt n.1)
 
-none_before_placed : (k h : Held) (hs : List Held) → held_before h k ≡ false → NoneBefore k hs → NoneBefore k (placed held_before hs h)
+none_before_placed : (k h : QueuedMessage) (hs : List QueuedMessage) → queued_before h k ≡ false → NoneBefore k hs → NoneBefore k (with_inserted queued_before hs h)
 none_before_placed k h [] lt n = (lt, tt)
-none_before_placed k h (j ∷ hs) lt n = elim (cases_Bool (held_before h j)) [ inl t ↦ rw t (lt, n) | inr f ↦ rw f (n.0, none_before_placed k h hs lt n.1) ]
+none_before_placed k h (j ∷ hs) lt n = elim (cases_Bool (queued_before h j)) [ inl t ↦ rw t (lt, n) | inr f ↦ rw f (n.0, none_before_placed k h hs lt n.1) ]
 
-pub order_placed : (hs : List Held) (h : Held) → IsInOrder hs → IsInOrder (placed held_before hs h)
+pub order_placed : (hs : List QueuedMessage) (h : QueuedMessage) → IsInOrder hs → IsInOrder (with_inserted queued_before hs h)
 order_placed [] h o = (tt, tt)
-order_placed (k ∷ hs) h o = elim (cases_Bool (held_before h k)) [
+order_placed (k ∷ hs) h o = elim (cases_Bool (queued_before h k)) [
   | inl t ↦ rw t ((place_not_after h.place k.place t, none_before_less h k hs t o.0), o)
   | inr f ↦ rw f (none_before_placed k h hs f o.0, order_placed hs h o.1)
 ]
 
-none_before_filter : (k : Held) (test : Held → Bool) (hs : List Held) → NoneBefore k hs → NoneBefore k (filter test hs)
+none_before_filter : (k : QueuedMessage) (test : QueuedMessage → Bool) (hs : List QueuedMessage) → NoneBefore k hs → NoneBefore k (filter test hs)
 none_before_filter k test [] n = tt
 none_before_filter k test (h ∷ hs) n = elim (cases_Bool (test h)) [ inl t ↦ rw t (n.0, none_before_filter k test hs n.1) | inr f ↦ rw f (none_before_filter k test hs n.1) ]
 
-pub order_filter : (test : Held → Bool) (hs : List Held) → IsInOrder hs → IsInOrder (filter test hs)
+pub order_filter : (test : QueuedMessage → Bool) (hs : List QueuedMessage) → IsInOrder hs → IsInOrder (filter test hs)
 order_filter test [] o = tt
 order_filter test (h ∷ hs) o = elim (cases_Bool (test h)) [ inl t ↦ rw t (none_before_filter h test hs o.0, order_filter test hs o.1) | inr f ↦ rw f (order_filter test hs o.1) ]
 
-none_before_without : (k : Held) (test : Held → Bool) (hs : List Held) → NoneBefore k hs → NoneBefore k (without_first test hs)
+none_before_without : (k : QueuedMessage) (test : QueuedMessage → Bool) (hs : List QueuedMessage) → NoneBefore k hs → NoneBefore k (without_first test hs)
 none_before_without k test [] n = tt
 none_before_without k test (h ∷ hs) n = elim (cases_Bool (test h)) [ inl t ↦ rw t n.1 | inr f ↦ rw f (n.0, none_before_without k test hs n.1) ]
 
-pub order_without : (test : Held → Bool) (hs : List Held) → IsInOrder hs → IsInOrder (without_first test hs)
+pub order_without : (test : QueuedMessage → Bool) (hs : List QueuedMessage) → IsInOrder hs → IsInOrder (without_first test hs)
 order_without test [] o = tt
 order_without test (h ∷ hs) o = elim (cases_Bool (test h)) [ inl t ↦ rw t o.1 | inr f ↦ rw f (none_before_without h test hs o.0, order_without test hs o.1) ]
 
 -- what arrives goes to the end of its queue, and no other changes
 
-none_queued : (h : Held) (hs : List Held) (k : Held) → held_before h k ≡ true → NoneBefore k hs → queue hs h.place ≡ []
+none_queued : (h : QueuedMessage) (hs : List QueuedMessage) (k : QueuedMessage) → queued_before h k ≡ true → NoneBefore k hs → queue hs h.place ≡ []
 none_queued h [] k lt n = refl
 none_queued h (j ∷ hs) k lt n = rw (place_apart h.place k.place j.place lt n.0) (none_queued h hs k lt n.1)
 
-pub queue_placed : (hs : List Held) (h : Held) → IsInOrder hs → queue (placed held_before hs h) h.place ≡ queue hs h.place ++ h.message ∷ []
+pub queue_placed : (hs : List QueuedMessage) (h : QueuedMessage) → IsInOrder hs → queue (with_inserted queued_before hs h) h.place ≡ queue hs h.place ++ h.message ∷ []
 queue_placed [] h o = rw (same_self h.place) refl
-queue_placed (k ∷ hs) h o = elim (cases_Bool (held_before h k)) [
+queue_placed (k ∷ hs) h o = elim (cases_Bool (queued_before h k)) [
   | inl t ↦ let e = none_queued h (k ∷ hs) k t (same_not_before k.place, o.0) in rw (t, same_self h.place) (ap (λ (ms : List Message). h.message ∷ ms) e ∙ ap (λ (ms : List Message). ms ++ h.message ∷ []) (sym e))
   | inr f ↦ elim (cases_Bool (is_at h.place k)) [
     | inl at_h ↦ rw (f, at_h) (ap (λ (ms : List Message). k.message ∷ ms) (queue_placed hs h o.1))
@@ -139,9 +139,9 @@ queue_placed (k ∷ hs) h o = elim (cases_Bool (held_before h k)) [
   ]
 ]
 
-pub queue_elsewhere : (hs : List Held) (h : Held) (q : Place) → same_place h.place q ≡ false → queue (placed held_before hs h) q ≡ queue hs q
+pub queue_elsewhere : (hs : List QueuedMessage) (h : QueuedMessage) (q : Place) → same_place h.place q ≡ false → queue (with_inserted queued_before hs h) q ≡ queue hs q
 queue_elsewhere [] h q apart_ = rw apart_ refl
-queue_elsewhere (k ∷ hs) h q apart_ = elim (cases_Bool (held_before h k)) [
+queue_elsewhere (k ∷ hs) h q apart_ = elim (cases_Bool (queued_before h k)) [
   | inl t ↦ rw (t, apart_) refl
   | inr f ↦ elim (cases_Bool (is_at q k)) [
     | inl at_q ↦ rw (f, at_q) (ap (λ (ms : List Message). k.message ∷ ms) (queue_elsewhere hs h q apart_))
@@ -154,10 +154,10 @@ queue_elsewhere (k ∷ hs) h q apart_ = elim (cases_Bool (held_before h k)) [
 tail_queue : (m n : Message) (xs ys : List Message) → m ∷ xs ≡ n ∷ ys → xs ≡ ys
 tail_queue m n xs ys e = cc
 
-held_is : (h k : Held) → h.place ≡ k.place → h.message ≡ k.message → h ≡ k
+held_is : (h k : QueuedMessage) → h.place ≡ k.place → h.message ≡ k.message → h ≡ k
 held_is h k e f = ap (λ (p : Place). made_of p h.message) e ∙ ap (made_of k.place) f
 
-pub one_flow : (xs ys : List Held) → IsInOrder xs → IsInOrder ys → ((p : Place) → queue xs p ≡ queue ys p) → xs ≡ ys
+pub one_flow : (xs ys : List QueuedMessage) → IsInOrder xs → IsInOrder ys → ((p : Place) → queue xs p ≡ queue ys p) → xs ≡ ys
 one_flow [] [] o u same = refl
 one_flow [] (k ∷ ys) o u same = let e = same k.place in let f : [] ≡ k.message ∷ queue ys k.place = rw (same_self k.place) at e in cc
 one_flow (h ∷ xs) [] o u same = let e = same h.place in let f : h.message ∷ queue xs h.place ≡ [] = rw (same_self h.place) at e in cc
@@ -168,12 +168,12 @@ one_flow (h ∷ xs) (k ∷ ys) o u same = elim (cases_Bool (same_place h.place k
       let f : h.message ∷ queue xs k.place ≡ k.message ∷ queue ys k.place = rw (t, same_self k.place) at e in
       let message : h.message ≡ k.message = cc in
       let head : h ≡ k = held_is h k place message in
-      ap (λ (x : Held). x ∷ xs) head ∙ ap (λ (zs : List Held). k ∷ zs) (one_flow xs ys o.1 u.1 (rest head))
+      ap (λ (x : QueuedMessage). x ∷ xs) head ∙ ap (λ (zs : List QueuedMessage). k ∷ zs) (one_flow xs ys o.1 u.1 (rest head))
   | inr not_same ↦ elim (cases_Bool (place_before h.place k.place)) [
     | inl t ↦ let e = same h.place in let g = none_queued h (k ∷ ys) k t (same_not_before k.place, u.0) in let f : h.message ∷ queue xs h.place ≡ queue (k ∷ ys) h.place = rw (same_self h.place) at e in absurd (no_head h.message (queue xs h.place) (f ∙ g))
     | inr w ↦ let t = place_either h.place k.place not_same w in let e = same k.place in let g = none_queued k (h ∷ xs) h t (same_not_before h.place, o.0) in let f : queue (h ∷ xs) k.place ≡ k.message ∷ queue ys k.place = rw (same_self k.place) at e in absurd (no_head k.message (queue ys k.place) (sym f ∙ g))
   ]
 ] where
   rest : h ≡ k → (p : Place) → queue xs p ≡ queue ys p
-  rest head p = let s = subst (λ (x : Held). queue (x ∷ xs) p ≡ queue (k ∷ ys) p) head (same p) in elim (cases_Bool (is_at p k))
+  rest head p = let s = subst (λ (x : QueuedMessage). queue (x ∷ xs) p ≡ queue (k ∷ ys) p) head (same p) in elim (cases_Bool (is_at p k))
       [ inl t ↦ tail_queue k.message k.message (queue xs p) (queue ys p) (rw t at s) | inr f ↦ rw f at s ]

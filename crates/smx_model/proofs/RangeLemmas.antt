@@ -17,15 +17,15 @@ use Rattle.smx_types.specs.declared.link.LinkKind.{LinkKind}
 use Rattle.smx_types.specs.declared.message.Message.{Message}
 use Rattle.smx_types.specs.declared.stream.Place.{Place}
 use Rattle.smx_types.specs.declared.stream.StreamId.{StreamId}
-use Rattle.smx_model.specs.Commands.{outcome, done, linked, unlinked, with_fd}
+use Rattle.smx_model.specs.Commands.{outcome, done_outcome, link_outcome, unlink_outcome, with_fd}
 use Rattle.smx_model.specs.Configuration.{Configuration, fd_before, is_fd}
 use Rattle.smx_model.specs.DriverList.{minors_of}
 use Rattle.smx_model.specs.KnownStreams.{IsKnown}
 use Rattle.smx_model.specs.Lookups.{driver_of, stream_of, free_minor}
 use Rattle.smx_model.specs.Outcomes.{or_fault}
-use Rattle.smx_model.specs.Queues.{front}
-use Rattle.smx_model.specs.Removal.{removed}
-use Rattle.smx_model.specs.Settling.{moved, moved_by, way}
+use Rattle.smx_model.specs.Queues.{first_message}
+use Rattle.smx_model.specs.Removal.{without_links}
+use Rattle.smx_model.specs.Settling.{after_move, after_move_to, next_open_place}
 use Rattle.smx_model.specs.Standing.{exists}
 use Rattle.smx_model.proofs.OutcomeLemmas.{IfAccepted, at_ok, after_ok, after_test, after_some}
 use Rattle.smx_model.proofs.EachLemmas.{Each, each_filter, each_placed, each_push, each_find}
@@ -87,7 +87,7 @@ named_fd drivers c process fd s h k = record { fds = each_placed (λ d. IsKnown 
 named_link : (drivers : List DriverSpec) (c : Configuration) (l : Link) (next : ℕ) → AreNamed drivers c → IsKnown drivers l.ctl → IsKnown drivers l.lower → AreNamed drivers (record c { links = c.links ++ l ∷ []; next_id = next })
 named_link drivers c l next h a b = record { fds = h.fds; links = each_push (λ l. IsKnown drivers l.ctl × IsKnown drivers l.lower) c.links l (a, b) h.links }
 
-named_done : (drivers : List DriverSpec) (c d : Configuration) → AreNamed drivers d → IfAccepted (λ d r. AreNamed drivers d) (done drivers c d)
+named_done : (drivers : List DriverSpec) (c d : Configuration) → AreNamed drivers d → IfAccepted (λ d r. AreNamed drivers d) (done_outcome drivers c d)
 named_done drivers c d h = record { holds = record { fds = h.fds; links = each_filter _ _ d.links h.links } }
 
 -- descriptors, links as they were or fewer
@@ -97,14 +97,14 @@ named_same drivers c d h e f = record { fds = rw e h.fds; links = rw f h.links }
 named_closed : (drivers : List DriverSpec) (c : Configuration) (test : Descriptor → Bool) → AreNamed drivers c → AreNamed drivers (record c { fds = filter test c.fds })
 named_closed drivers c test h = record { fds = each_filter _ test c.fds h.fds; links = h.links }
 
-named_removed : (drivers : List DriverSpec) (c : Configuration) (goes : Link → Bool) → AreNamed drivers c → AreNamed drivers (removed c goes)
+named_removed : (drivers : List DriverSpec) (c : Configuration) (goes : Link → Bool) → AreNamed drivers c → AreNamed drivers (without_links c goes)
 named_removed drivers c goes h = record { fds = h.fds; links = each_filter _ _ c.links h.links }
 
-named_unlinked : (drivers : List DriverSpec) (c : Configuration) (w : Which) (mine : Link → Bool) → AreNamed drivers c → IfAccepted (λ d r. AreNamed drivers d) (unlinked drivers c w mine)
-named_unlinked drivers c which.All mine h = named_done drivers c (removed c mine) (named_removed drivers c mine h)
+named_unlinked : (drivers : List DriverSpec) (c : Configuration) (w : Which) (mine : Link → Bool) → AreNamed drivers c → IfAccepted (λ d r. AreNamed drivers d) (unlink_outcome drivers c w mine)
+named_unlinked drivers c which.All mine h = named_done drivers c (without_links c mine) (named_removed drivers c mine h)
 named_unlinked drivers c (which.Id id) mine h = search (after_test, named_done, named_removed, rules) depth 12
 
-named_linked : (drivers : List DriverSpec) (c : Configuration) (process fd arg : ℕ) (k : LinkKind) → AreNamed drivers c → IfAccepted (λ d r. AreNamed drivers d) (linked drivers c process fd arg k)
+named_linked : (drivers : List DriverSpec) (c : Configuration) (process fd arg : ℕ) (k : LinkKind) → AreNamed drivers c → IfAccepted (λ d r. AreNamed drivers d) (link_outcome drivers c process fd arg k)
 named_linked drivers c process fd arg k h = search (after_test, after_ok, at_ok, named_link, stream_known, rules) depth 24
 
 pub named_accepted : (drivers : List DriverSpec) (c : Configuration) (process : ℕ) (k : Command) → AreNamed drivers c → IfAccepted (λ d r. AreNamed drivers d) (outcome drivers c process k)
@@ -127,9 +127,9 @@ named_accepted drivers c process (command.Flush fd w) h = search (after_ok, at_o
 named_accepted drivers c process (command.Inject name minor addr bytes) h = search (after_test, after_ok, at_ok, named_same, rules) depth 20
 named_accepted drivers c process (command.Transmit name minor) h = search (after_some, after_ok, at_ok, named_same, rules) depth 20
 
-pub named_moved : (drivers : List DriverSpec) (c : Configuration) (p : Place) → AreNamed drivers c → AreNamed drivers (moved drivers c p)
-named_moved drivers c p h = by (way drivers c p) (front c.flow p) where
-  by : (o : Option Place) (m : Option Message) → AreNamed drivers (moved_by drivers c p o m)
+pub named_moved : (drivers : List DriverSpec) (c : Configuration) (p : Place) → AreNamed drivers c → AreNamed drivers (after_move drivers c p)
+named_moved drivers c p h = by (next_open_place drivers c p) (first_message c.flow p) where
+  by : (o : Option Place) (m : Option Message) → AreNamed drivers (after_move_to drivers c p o m)
   by (Some q) (Some m) = record { fds = h.fds; links = h.links }
   by (Some q) None = h
   by None m = h

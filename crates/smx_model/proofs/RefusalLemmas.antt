@@ -12,10 +12,10 @@ use Rattle.smx_types.specs.declared.reply.Fault.{Fault}
 use Rattle.smx_types.specs.declared.reply.Reply.{Reply}
 use Rattle.smx_types.specs.declared.reply.Reply.TheVariants as reply
 use Rattle.smx_types.specs.declared.stream.Place.{Place}
-use Rattle.smx_model.specs.Commands.{outcome, step, finished, done, linked, unlinked, sent, received}
+use Rattle.smx_model.specs.Commands.{outcome, step, after_outcome, done_outcome, link_outcome, unlink_outcome, send_outcome, receive_outcome}
 use Rattle.smx_model.specs.Configuration.{Configuration}
 use Rattle.smx_model.specs.Outcomes.{Outcome}
-use Rattle.smx_model.specs.Removal.{removed}
+use Rattle.smx_model.specs.Removal.{without_links}
 use Rattle.smx_model.proofs.OutcomeLemmas.{IfAccepted, at_ok, after_ok, after_test, after_some}
 
 abbrev is_fault : Reply → Bool
@@ -30,20 +30,20 @@ is_fault (reply.Fault fault) = true
 abbrev IsAnswered : Outcome → Type 0
 IsAnswered o = IfAccepted (λ d r. is_fault r ≡ false) o
 
-done_answers : (drivers : List DriverSpec) (c d : Configuration) → IsAnswered (done drivers c d)
+done_answers : (drivers : List DriverSpec) (c d : Configuration) → IsAnswered (done_outcome drivers c d)
 done_answers drivers c d = record { holds = refl }
 
-unlinked_answers : (drivers : List DriverSpec) (c : Configuration) (w : Which) (mine : Link → Bool) → IsAnswered (unlinked drivers c w mine)
-unlinked_answers drivers c which.All mine = done_answers drivers c (removed c mine)
+unlinked_answers : (drivers : List DriverSpec) (c : Configuration) (w : Which) (mine : Link → Bool) → IsAnswered (unlink_outcome drivers c w mine)
+unlinked_answers drivers c which.All mine = done_answers drivers c (without_links c mine)
 unlinked_answers drivers c (which.Id id) mine = search (after_test, done_answers, rules) depth 12
 
-linked_answers : (drivers : List DriverSpec) (c : Configuration) (process fd arg : ℕ) (k : LinkKind) → IsAnswered (linked drivers c process fd arg k)
+linked_answers : (drivers : List DriverSpec) (c : Configuration) (process fd arg : ℕ) (k : LinkKind) → IsAnswered (link_outcome drivers c process fd arg k)
 linked_answers drivers c process fd arg k = search (after_test, after_ok, at_ok, rules) depth 24
 
-sent_answers : (drivers : List DriverSpec) (c : Configuration) (p : Place) (addr : ℕ) (bytes : List ℕ) → IsAnswered (sent drivers c p addr bytes)
+sent_answers : (drivers : List DriverSpec) (c : Configuration) (p : Place) (addr : ℕ) (bytes : List ℕ) → IsAnswered (send_outcome drivers c p addr bytes)
 sent_answers drivers c p addr bytes = search (after_test, at_ok, rules) depth 12
 
-received_answers : (drivers : List DriverSpec) (c : Configuration) (p : Place) → IsAnswered (received drivers c p)
+received_answers : (drivers : List DriverSpec) (c : Configuration) (p : Place) → IsAnswered (receive_outcome drivers c p)
 received_answers drivers c p = search (after_some, at_ok, rules) depth 12
 
 answers_accepted : (drivers : List DriverSpec) (c : Configuration) (process : ℕ) (k : Command) → IsAnswered (outcome drivers c process k)
@@ -70,6 +70,6 @@ answers_accepted drivers c process (command.Transmit name minor) = search (after
 
 pub refused_same : (drivers : List DriverSpec) (c : Configuration) (process : ℕ) (k : Command) (f : Fault) → (step drivers c process k).1 ≡ reply.Fault f → (step drivers c process k).0 ≡ c
 refused_same drivers c process k f e = by (outcome drivers c process k) (answers_accepted drivers c process k) e where
-  by : (o : Outcome) → IsAnswered o → (finished drivers c o).1 ≡ reply.Fault f → (finished drivers c o).0 ≡ c
+  by : (o : Outcome) → IsAnswered o → (after_outcome drivers c o).1 ≡ reply.Fault f → (after_outcome drivers c o).0 ≡ c
   by (Ok x) h e = absurd (false≢true (sym h.holds ∙ ap is_fault e))
   by (Err g) h e = refl

@@ -18,14 +18,14 @@ use Rattle.smx_types.specs.declared.reply.Fault.TheVariants.{TooManyDescriptors}
 use Rattle.smx_types.specs.declared.stream.Descriptor.{Descriptor}
 use Rattle.smx_types.specs.declared.stream.Place.{Place}
 use Rattle.smx_types.specs.declared.stream.StreamId.{StreamId}
-use Rattle.smx_model.specs.Commands.{outcome, done, linked, received, sent, unlinked, with_fd}
+use Rattle.smx_model.specs.Commands.{outcome, done_outcome, link_outcome, receive_outcome, send_outcome, unlink_outcome, with_fd}
 use Rattle.smx_model.specs.Configuration.{Configuration, empty, is_fd, fd_before, bind_before, route_before, place_before, pair_before, same_place}
 use Rattle.smx_model.specs.Lookups.{free_fd}
-use Rattle.smx_model.specs.Ordered.{placed, ComesBefore, IsRising}
+use Rattle.smx_model.specs.Ordered.{with_inserted, ComesBefore, IsRising}
 use Rattle.smx_model.specs.Outcomes.{or_fault}
-use Rattle.smx_model.specs.Queues.{front, marked, arrived, left}
-use Rattle.smx_model.specs.Removal.{emptied, removed}
-use Rattle.smx_model.specs.Settling.{moved, moved_by, way}
+use Rattle.smx_model.specs.Queues.{first_message, with_mark, after_arrival, after_leaving}
+use Rattle.smx_model.specs.Removal.{without_queues_at, without_links}
+use Rattle.smx_model.specs.Settling.{after_move, after_move_to, next_open_place}
 use Rattle.smx_model.proofs.OrderLemmas.{place_before_trans, place_either}
 use Rattle.smx_model.proofs.OutcomeLemmas.{IfAccepted, after_ok, after_some, after_test, at_ok}
 use Rattle.smx_model.proofs.EachLemmas.{Each, none_passes, kept_passes}
@@ -41,12 +41,12 @@ before_all : {X : Type 0} (before : X → X → Bool) → IsTransitive before �
 before_all before trans x y [] h k = tt
 before_all before trans x y (z ∷ zs) h k = (trans x y z h k.0, before_all before trans x y zs h k.1)
 
-before_placed : {X : Type 0} (before : X → X → Bool) (y x : X) (xs : List X) → before y x ≡ true → ComesBefore before y xs → ComesBefore before y (placed before xs x)
+before_placed : {X : Type 0} (before : X → X → Bool) (y x : X) (xs : List X) → before y x ≡ true → ComesBefore before y xs → ComesBefore before y (with_inserted before xs x)
 before_placed before y x [] h k = (h, tt)
 before_placed before y x (z ∷ zs) h k = elim (cases_Bool (before x z)) [ inl t ↦ rw t (h, k) | inr f ↦ rw f (k.0, before_placed before y x zs h k.1) ]
 
 -- an element that is comparable with each goes to its place
-pub rising_placed : {X : Type 0} (before : X → X → Bool) → IsTransitive before → (x : X) (xs : List X) → Each (λ y. before x y ≡ false → before y x ≡ true) xs → IsRising before xs → IsRising before (placed before xs x)
+pub rising_placed : {X : Type 0} (before : X → X → Bool) → IsTransitive before → (x : X) (xs : List X) → Each (λ y. before x y ≡ false → before y x ≡ true) xs → IsRising before xs → IsRising before (with_inserted before xs x)
 rising_placed before trans x [] other h = (tt, tt)
 rising_placed before trans x (y ∷ ys) other h = elim (cases_Bool (before x y)) [
   | inl t ↦ rw t ((t, before_all before trans x y ys t h.0), h)
@@ -105,13 +105,13 @@ rising_same c d h e f g k = record { fds = rw e h.fds; binds = rw f h.binds; rou
 rising_closed : (c : Configuration) (test : Descriptor → Bool) → AreRising c → AreRising (record c { fds = filter test c.fds })
 rising_closed c test h = record { fds = rising_filter fd_before test c.fds h.fds; binds = h.binds; routes = h.routes; fulls = h.fulls }
 
-rising_emptied : (c : Configuration) (goes : Place → Bool) → AreRising c → AreRising (emptied c goes)
+rising_emptied : (c : Configuration) (goes : Place → Bool) → AreRising c → AreRising (without_queues_at c goes)
 rising_emptied c goes h = record { fds = h.fds; binds = h.binds; routes = h.routes; fulls = rising_filter place_before _ c.fulls h.fulls }
 
-rising_removed : (c : Configuration) (goes : Link → Bool) → AreRising c → AreRising (removed c goes)
+rising_removed : (c : Configuration) (goes : Link → Bool) → AreRising c → AreRising (without_links c goes)
 rising_removed c goes h = record { fds = h.fds; binds = h.binds; routes = rising_filter route_before _ c.routes h.routes; fulls = rising_filter place_before _ c.fulls h.fulls }
 
-rising_done : (drivers : List DriverSpec) (c d : Configuration) → AreRising d → IfAccepted (λ d r. AreRising d) (done drivers c d)
+rising_done : (drivers : List DriverSpec) (c d : Configuration) → AreRising d → IfAccepted (λ d r. AreRising d) (done_outcome drivers c d)
 rising_done drivers c d h = record {
   holds = record {
     fds = h.fds;
@@ -138,7 +138,7 @@ rising_fd c process fd s h e = record {
 }
 
 rising_bind : (c : Configuration) (driver addr minor : ℕ) → AreRising c → list_any (λ b. eqb b.driver driver && (eqb b.addr addr || eqb b.minor minor)) c.binds ≡ false
-    → AreRising (record c { binds = placed bind_before c.binds (record { driver = driver; addr = addr; minor = minor }) })
+    → AreRising (record c { binds = with_inserted bind_before c.binds (record { driver = driver; addr = addr; minor = minor }) })
 rising_bind c driver addr minor h e = record {
   fds = h.fds;
   binds = rising_placed bind_before bind_trans (record { driver = driver; addr = addr; minor = minor }) c.binds
@@ -151,7 +151,7 @@ rising_unbind : (c : Configuration) (test : Binding → Bool) → AreRising c �
 rising_unbind c test h = record { fds = h.fds; binds = rising_filter bind_before test c.binds h.binds; routes = h.routes; fulls = h.fulls }
 
 rising_route : (c : Configuration) (driver addr id : ℕ) → AreRising c
-    → AreRising (record c { routes = placed route_before (filter (λ r. not (eqb r.driver driver && eqb r.addr addr)) c.routes) (record { driver = driver; addr = addr; id = id }) })
+    → AreRising (record c { routes = with_inserted route_before (filter (λ r. not (eqb r.driver driver && eqb r.addr addr)) c.routes) (record { driver = driver; addr = addr; id = id }) })
 rising_route c driver addr id h = record {
   fds = h.fds;
   binds = h.binds;
@@ -163,30 +163,30 @@ rising_route c driver addr id h = record {
 rising_unroute : (c : Configuration) (test : Route → Bool) → AreRising c → AreRising (record c { routes = filter test c.routes })
 rising_unroute c test h = record { fds = h.fds; binds = h.binds; routes = rising_filter route_before test c.routes h.routes; fulls = h.fulls }
 
-rising_marked : (p : Place) (b : Bool) (ps : List Place) → IsRising place_before ps → IsRising place_before (marked p b ps)
+rising_marked : (p : Place) (b : Bool) (ps : List Place) → IsRising place_before ps → IsRising place_before (with_mark p b ps)
 rising_marked p true ps h = rising_placed place_before place_before_trans p _ (kept_passes (λ q. not (same_place p q)) _ ps (λ q t k. place_either p q (not_true _ t) k)) (rising_filter place_before _ ps h)
 rising_marked p false ps h = rising_filter place_before _ ps h
 
-rising_arrived : (drivers : List DriverSpec) (c : Configuration) (p : Place) (m : Message) → AreRising c → AreRising (arrived drivers c p m)
+rising_arrived : (drivers : List DriverSpec) (c : Configuration) (p : Place) (m : Message) → AreRising c → AreRising (after_arrival drivers c p m)
 rising_arrived drivers c p m h = record { fds = h.fds; binds = h.binds; routes = h.routes; fulls = rising_marked p _ c.fulls h.fulls }
 
-rising_left : (drivers : List DriverSpec) (c : Configuration) (p : Place) → AreRising c → AreRising (left drivers c p)
+rising_left : (drivers : List DriverSpec) (c : Configuration) (p : Place) → AreRising c → AreRising (after_leaving drivers c p)
 rising_left drivers c p h = record { fds = h.fds; binds = h.binds; routes = h.routes; fulls = rising_marked p _ c.fulls h.fulls }
 
-rising_took : (drivers : List DriverSpec) (c : Configuration) (p : Place) (m : Message) (n : ℕ) → AreRising c → AreRising (record (arrived drivers c p m) { next_serial = n })
+rising_took : (drivers : List DriverSpec) (c : Configuration) (p : Place) (m : Message) (n : ℕ) → AreRising c → AreRising (record (after_arrival drivers c p m) { next_serial = n })
 rising_took drivers c p m n h = let a = rising_arrived drivers c p m h in record { fds = a.fds; binds = a.binds; routes = a.routes; fulls = a.fulls }
 
-rising_sent : (drivers : List DriverSpec) (c : Configuration) (p : Place) (addr : ℕ) (bytes : List ℕ) → AreRising c → IfAccepted (λ d r. AreRising d) (sent drivers c p addr bytes)
+rising_sent : (drivers : List DriverSpec) (c : Configuration) (p : Place) (addr : ℕ) (bytes : List ℕ) → AreRising c → IfAccepted (λ d r. AreRising d) (send_outcome drivers c p addr bytes)
 rising_sent drivers c p addr bytes h = search (after_test, at_ok, rising_took, rules) depth 12
 
-rising_received : (drivers : List DriverSpec) (c : Configuration) (p : Place) → AreRising c → IfAccepted (λ d r. AreRising d) (received drivers c p)
+rising_received : (drivers : List DriverSpec) (c : Configuration) (p : Place) → AreRising c → IfAccepted (λ d r. AreRising d) (receive_outcome drivers c p)
 rising_received drivers c p h = search (after_some, at_ok, rising_left, rules) depth 12
 
-rising_unlinked : (drivers : List DriverSpec) (c : Configuration) (w : Which) (mine : Link → Bool) → AreRising c → IfAccepted (λ d r. AreRising d) (unlinked drivers c w mine)
-rising_unlinked drivers c which.All mine h = rising_done drivers c (removed c mine) (rising_removed c mine h)
+rising_unlinked : (drivers : List DriverSpec) (c : Configuration) (w : Which) (mine : Link → Bool) → AreRising c → IfAccepted (λ d r. AreRising d) (unlink_outcome drivers c w mine)
+rising_unlinked drivers c which.All mine h = rising_done drivers c (without_links c mine) (rising_removed c mine h)
 rising_unlinked drivers c (which.Id id) mine h = search (after_test, rising_done, rising_removed, rules) depth 12
 
-rising_linked : (drivers : List DriverSpec) (c : Configuration) (process fd arg : ℕ) (k : LinkKind) → AreRising c → IfAccepted (λ d r. AreRising d) (linked drivers c process fd arg k)
+rising_linked : (drivers : List DriverSpec) (c : Configuration) (process fd arg : ℕ) (k : LinkKind) → AreRising c → IfAccepted (λ d r. AreRising d) (link_outcome drivers c process fd arg k)
 rising_linked drivers c process fd arg k h = search (after_test, after_ok, at_ok, rising_same, rules) depth 24
 
 pub rising_accepted : (drivers : List DriverSpec) (c : Configuration) (process : ℕ) (k : Command) → AreRising c → IfAccepted (λ d r. AreRising d) (outcome drivers c process k)
@@ -209,10 +209,10 @@ rising_accepted drivers c process (command.Flush fd w) h = search (after_ok, at_
 rising_accepted drivers c process (command.Inject name minor addr bytes) h = search (after_test, after_ok, rising_sent, rules) depth 20
 rising_accepted drivers c process (command.Transmit name minor) h = search (after_ok, at_ok, rising_received, rules) depth 20
 
-pub rising_moved : (drivers : List DriverSpec) (c : Configuration) (p : Place) → AreRising c → AreRising (moved drivers c p)
-rising_moved drivers c p h = by (way drivers c p) (front c.flow p) where
-  by : (o : Option Place) (m : Option Message) → AreRising (moved_by drivers c p o m)
-  by (Some q) (Some m) = rising_arrived drivers (left drivers c p) q m (rising_left drivers c p h)
+pub rising_moved : (drivers : List DriverSpec) (c : Configuration) (p : Place) → AreRising c → AreRising (after_move drivers c p)
+rising_moved drivers c p h = by (next_open_place drivers c p) (first_message c.flow p) where
+  by : (o : Option Place) (m : Option Message) → AreRising (after_move_to drivers c p o m)
+  by (Some q) (Some m) = rising_arrived drivers (after_leaving drivers c p) q m (rising_left drivers c p h)
   by (Some q) None = h
   by None m = h
 

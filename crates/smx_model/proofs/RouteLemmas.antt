@@ -16,15 +16,15 @@ use Rattle.smx_types.specs.declared.reply.Fault.{Fault}
 use Rattle.smx_types.specs.declared.reply.Fault.TheVariants.{NotMux}
 use Rattle.smx_types.specs.declared.stream.Place.{Place}
 use Rattle.smx_types.specs.declared.stream.StreamId.{StreamId}
-use Rattle.smx_model.specs.Commands.{outcome, done, linked, unlinked}
+use Rattle.smx_model.specs.Commands.{outcome, done_outcome, link_outcome, unlink_outcome}
 use Rattle.smx_model.specs.Configuration.{Configuration, empty, route_before}
 use Rattle.smx_model.specs.DriverList.{is_mux}
 use Rattle.smx_model.specs.Lookups.{free_stream, mux_stream}
-use Rattle.smx_model.specs.Ordered.{placed, ComesBefore, IsRising}
+use Rattle.smx_model.specs.Ordered.{with_inserted, ComesBefore, IsRising}
 use Rattle.smx_model.specs.Outcomes.{◌>>=◌, refuse}
-use Rattle.smx_model.specs.Queues.{front}
-use Rattle.smx_model.specs.Removal.{removed}
-use Rattle.smx_model.specs.Settling.{moved, moved_by, way}
+use Rattle.smx_model.specs.Queues.{first_message}
+use Rattle.smx_model.specs.Removal.{without_links}
+use Rattle.smx_model.specs.Settling.{after_move, after_move_to, next_open_place}
 use Rattle.smx_model.specs.SoundLinks.{AreIdsRising, AreRoutesSound}
 use Rattle.smx_model.proofs.OutcomeLemmas.{IfAccepted, after_ok, after_some, after_test, at_ok}
 use Rattle.smx_model.proofs.EachLemmas.{Each, each_filter, each_placed, each_push, each_map, all_of_each}
@@ -111,7 +111,7 @@ routed_same drivers c d h e f g = record { rise = rw e h.rise; ids = rw (e, g) h
 routed_fewer : (drivers : List DriverSpec) (c : Configuration) (test : Route → Bool) → AreRouted drivers c → AreRouted drivers (record c { routes = filter test c.routes })
 routed_fewer drivers c test h = record { rise = h.rise; ids = h.ids; start = h.start; routes = each_filter _ test c.routes h.routes }
 
-routed_removed : (drivers : List DriverSpec) (c : Configuration) (goes : Link → Bool) → AreRouted drivers c → AreRouted drivers (removed c goes)
+routed_removed : (drivers : List DriverSpec) (c : Configuration) (goes : Link → Bool) → AreRouted drivers c → AreRouted drivers (without_links c goes)
 routed_removed drivers c goes h = record {
   rise = rising_filter _ c.links h.rise;
   ids = each_filter _ _ c.links h.ids;
@@ -124,11 +124,11 @@ routed_removed drivers c goes h = record {
   kept (r ∷ rs) k = elim (cases_Bool (not (list_any (λ l. eqb l.id r.id) (filter goes c.links))))
       [ inl t ↦ rw t ((k.0.0, leads_kept goes c.links r.id r.driver k.0.1 t), kept rs k.1) | inr f ↦ rw f (kept rs k.1) ]
 
-routed_done : (drivers : List DriverSpec) (c d : Configuration) → AreRouted drivers d → IfAccepted (λ d r. AreRouted drivers d) (done drivers c d)
+routed_done : (drivers : List DriverSpec) (c d : Configuration) → AreRouted drivers d → IfAccepted (λ d r. AreRouted drivers d) (done_outcome drivers c d)
 routed_done drivers c d h = let k = routed_removed drivers d _ h in record { holds = record { rise = k.rise; ids = k.ids; start = k.start; routes = k.routes } }
 
-routed_unlinked : (drivers : List DriverSpec) (c : Configuration) (w : Which) (mine : Link → Bool) → AreRouted drivers c → IfAccepted (λ d r. AreRouted drivers d) (unlinked drivers c w mine)
-routed_unlinked drivers c which.All mine h = routed_done drivers c (removed c mine) (routed_removed drivers c mine h)
+routed_unlinked : (drivers : List DriverSpec) (c : Configuration) (w : Which) (mine : Link → Bool) → AreRouted drivers c → IfAccepted (λ d r. AreRouted drivers d) (unlink_outcome drivers c w mine)
+routed_unlinked drivers c which.All mine h = routed_done drivers c (without_links c mine) (routed_removed drivers c mine h)
 routed_unlinked drivers c (which.Id id) mine h = search (after_test, routed_done, routed_removed, rules) depth 12
 
 routed_link : (drivers : List DriverSpec) (c : Configuration) (ctl lower : StreamId) (k : LinkKind) → AreRouted drivers c
@@ -142,11 +142,11 @@ routed_link drivers c ctl lower k h = record {
   l : Link
   l = record { id = c.next_id; ctl = ctl; lower = lower; kind = k }
 
-routed_linked : (drivers : List DriverSpec) (c : Configuration) (process fd arg : ℕ) (k : LinkKind) → AreRouted drivers c → IfAccepted (λ d r. AreRouted drivers d) (linked drivers c process fd arg k)
+routed_linked : (drivers : List DriverSpec) (c : Configuration) (process fd arg : ℕ) (k : LinkKind) → AreRouted drivers c → IfAccepted (λ d r. AreRouted drivers d) (link_outcome drivers c process fd arg k)
 routed_linked drivers c process fd arg k h = search (after_test, after_ok, at_ok, routed_link, rules) depth 24
 
 routed_route : (drivers : List DriverSpec) (c : Configuration) (test : Route → Bool) (driver addr id : ℕ) → AreRouted drivers c → is_mux drivers driver ≡ true → not (leads_from c.links id driver) ≡ false
-    → AreRouted drivers (record c { routes = placed route_before (filter test c.routes) (record { driver = driver; addr = addr; id = id }) })
+    → AreRouted drivers (record c { routes = with_inserted route_before (filter test c.routes) (record { driver = driver; addr = addr; id = id }) })
 routed_route drivers c test driver addr id h mux there = record {
   rise = h.rise;
   ids = h.ids;
@@ -188,9 +188,9 @@ routed_accepted drivers c process (command.Flush fd w) h = search (after_ok, at_
 routed_accepted drivers c process (command.Inject name minor addr bytes) h = search (after_test, after_ok, at_ok, routed_same, rules) depth 20
 routed_accepted drivers c process (command.Transmit name minor) h = search (after_some, after_ok, at_ok, routed_same, rules) depth 20
 
-pub routed_moved : (drivers : List DriverSpec) (c : Configuration) (p : Place) → AreRouted drivers c → AreRouted drivers (moved drivers c p)
-routed_moved drivers c p h = by (way drivers c p) (front c.flow p) where
-  by : (o : Option Place) (m : Option Message) → AreRouted drivers (moved_by drivers c p o m)
+pub routed_moved : (drivers : List DriverSpec) (c : Configuration) (p : Place) → AreRouted drivers c → AreRouted drivers (after_move drivers c p)
+routed_moved drivers c p h = by (next_open_place drivers c p) (first_message c.flow p) where
+  by : (o : Option Place) (m : Option Message) → AreRouted drivers (after_move_to drivers c p o m)
   by (Some q) (Some m) = record { rise = h.rise; ids = h.ids; start = h.start; routes = h.routes }
   by (Some q) None = h
   by None m = h

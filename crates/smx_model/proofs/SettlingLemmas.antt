@@ -11,12 +11,12 @@ use Rattle.smx_types.specs.declared.link.Route.{Route}
 use Rattle.smx_types.specs.declared.stream.Side.{Side}
 use Rattle.smx_types.specs.declared.stream.Side.TheVariants as side
 use Rattle.smx_types.specs.declared.stream.StreamId.{StreamId}
-use Rattle.smx_model.specs.Configuration.{Configuration, Held, is_at, held_before, same_place, same_stream, same_side}
+use Rattle.smx_model.specs.Configuration.{Configuration, QueuedMessage, is_at, queued_before, same_place, same_stream, same_side}
 use Rattle.smx_model.specs.DriverList.{is_mux}
-use Rattle.smx_model.specs.Ordered.{placed, without_first}
+use Rattle.smx_model.specs.Ordered.{with_inserted, without_first}
 use Rattle.smx_model.specs.Paths.{HasNoCycle, reaches}
-use Rattle.smx_model.specs.Queues.{front, left, is_full}
-use Rattle.smx_model.specs.Settling.{settled, settled_within, least_movable, moved, moved_by, way, is_movable, place_of, next_by, next_place, if_open, onward, down_by, up_by, lower_side, bound_side, IsSettled}
+use Rattle.smx_model.specs.Queues.{first_message, after_leaving, is_full}
+use Rattle.smx_model.specs.Settling.{after_settling, after_settling_within, least_movable, after_move, after_move_to, next_open_place, is_movable, place_of, next_by, next_place, unless_full, next_open_place_for, down_by, up_by, lower_side, bound_side, IsSettled}
 use Rattle.smx_model.specs.SoundLinks.{AreLinksSound}
 use Rattle.smx_model.proofs.PathLemmas.{reaches_path, reaches_trans, reaches_link}
 use Rattle.smx_model.proofs.RangeLemmas.{links_below, AreNamed}
@@ -120,7 +120,7 @@ next_falls drivers c s addr side.Write q h e = elim (cases_Bool (is_mux drivers 
 ]
 next_falls drivers c s addr side.Read q h e = up_falls c.links c.binds (length drivers) addr s q h.none h.below e
 
-pub if_open_is : (c : Configuration) (o : Option Place) (q : Place) → if_open c o ≡ Some q → o ≡ Some q
+pub if_open_is : (c : Configuration) (o : Option Place) (q : Place) → unless_full c o ≡ Some q → o ≡ Some q
 if_open_is c None q e = e
 if_open_is c (Some r) q e = elim (cases_Bool (is_full c r)) [ inl t ↦ let k : None ≡ Some q = rw t at e in cc | inr f ↦ rw f at e ]
 
@@ -129,24 +129,24 @@ record Leads (c : Configuration) (n : ℕ) (p q : Place) (o : Option Message) : 
   is : o ≡ Some message
   falls : rank c.links n q < rank c.links n p
 
-way_leads : (drivers : List DriverSpec) (c : Configuration) (p q : Place) (o : Option Message) → CanSettle drivers c → onward drivers c p o ≡ Some q → Leads c (length drivers) p q o
+way_leads : (drivers : List DriverSpec) (c : Configuration) (p q : Place) (o : Option Message) → CanSettle drivers c → next_open_place_for drivers c p o ≡ Some q → Leads c (length drivers) p q o
 way_leads drivers c p q None h e = cc
 way_leads drivers c p q (Some m) h e = record { message = m; is = refl; falls = next_falls drivers c p.stream m.addr p.side q h (if_open_is c (next_place drivers c p m.addr) q e) }
 
 -- the ranks of the places of all messages
-abbrev weight : (Place → ℕ) → List Held → ℕ
+abbrev weight : (Place → ℕ) → List QueuedMessage → ℕ
 weight f [] = 0
 weight f (h ∷ hs) = f h.place + weight f hs
 
-weight_le : (f : Place → ℕ) (n : ℕ) (hs : List Held) → ((p : Place) → f p ≤ n) → weight f hs ≤ length hs * n
+weight_le : (f : Place → ℕ) (n : ℕ) (hs : List QueuedMessage) → ((p : Place) → f p ≤ n) → weight f hs ≤ length hs * n
 weight_le f n [] h = omega arith
 weight_le f n (k ∷ hs) h = rw (mul_suc (length hs) n) (omega (arith, weight_le f n hs h, h k.place)) where
   mul_suc : (m n : ℕ) → suc m * n ≡ n + m * n
   mul_suc m n = grind arith
 
-weight_placed : (f : Place → ℕ) (hs : List Held) (h : Held) → weight f (placed held_before hs h) ≡ f h.place + weight f hs
+weight_placed : (f : Place → ℕ) (hs : List QueuedMessage) (h : QueuedMessage) → weight f (with_inserted queued_before hs h) ≡ f h.place + weight f hs
 weight_placed f [] h = refl
-weight_placed f (k ∷ hs) h = elim (cases_Bool (held_before h k)) [ inl t ↦ rw t refl | inr u ↦ rw u (omega (arith, weight_placed f hs h)) ]
+weight_placed f (k ∷ hs) h = elim (cases_Bool (queued_before h k)) [ inl t ↦ rw t refl | inr u ↦ rw u (omega (arith, weight_placed f hs h)) ]
 
 same_side_is : (s t : Side) → same_side s t ≡ true → s ≡ t
 same_side_is side.Write side.Write h = refl
@@ -166,21 +166,21 @@ same_place_is p q h =
     let b = and_parts _ _ a.0 in
     made p.stream.driver p.stream.minor p.side q.stream.driver q.stream.minor q.side (eqb-true p.stream.driver q.stream.driver b.0) (eqb-true p.stream.minor q.stream.minor b.1) (same_side_is p.side q.side a.1)
 
-weight_front : (f : Place → ℕ) (hs : List Held) (p : Place) (m : Message) → front hs p ≡ Some m → weight f hs ≡ f p + weight f (without_first (is_at p) hs)
+weight_front : (f : Place → ℕ) (hs : List QueuedMessage) (p : Place) (m : Message) → first_message hs p ≡ Some m → weight f hs ≡ f p + weight f (without_first (is_at p) hs)
 weight_front f [] p m e = cc
 weight_front f (h ∷ hs) p m e = elim (cases_Bool (is_at p h)) [
   | inl t ↦ rw (t, same_place_is h.place p t) refl
   | inr u ↦ rw u (omega (arith, weight_front f hs p m (rw u at e)))
 ]
 
-moved_weight : (drivers : List DriverSpec) (c : Configuration) (p : Place) → CanSettle drivers c → (q : Place) → way drivers c p ≡ Some q
-    → weight (rank c.links (length drivers)) (moved drivers c p).flow < weight (rank c.links (length drivers)) c.flow
+moved_weight : (drivers : List DriverSpec) (c : Configuration) (p : Place) → CanSettle drivers c → (q : Place) → next_open_place drivers c p ≡ Some q
+    → weight (rank c.links (length drivers)) (after_move drivers c p).flow < weight (rank c.links (length drivers)) c.flow
 moved_weight drivers c p h q e =
-    let l = way_leads drivers c p q (front c.flow p) h e in
-    rw (e, l.is) (omega (arith, l.falls, weight_front (rank c.links (length drivers)) c.flow p l.message l.is, weight_placed (rank c.links (length drivers)) (left drivers c p).flow (record { place = q; message = l.message })))
+    let l = way_leads drivers c p q (first_message c.flow p) h e in
+    rw (e, l.is) (omega (arith, l.falls, weight_front (rank c.links (length drivers)) c.flow p l.message l.is, weight_placed (rank c.links (length drivers)) (after_leaving drivers c p).flow (record { place = q; message = l.message })))
 
 -- no place of the flow is movable, so none is
-none_of : (t : Place → Bool) (hs : List Held) (p : Place) (m : Message) → find (λ h. t h.place) hs ≡ None → front hs p ≡ Some m → t p ≡ false
+none_of : (t : Place → Bool) (hs : List QueuedMessage) (p : Place) (m : Message) → find (λ h. t h.place) hs ≡ None → first_message hs p ≡ Some m → t p ≡ false
 none_of t [] p m e f = cc
 none_of t (h ∷ hs) p m e f = elim (cases_Bool (t h.place)) [
   | inl t1 ↦ let k : Some h ≡ None = rw t1 at e in cc
@@ -190,15 +190,15 @@ none_of t (h ∷ hs) p m e f = elim (cases_Bool (t h.place)) [
   ]
 ]
 
-pub no_front : (drivers : List DriverSpec) (c : Configuration) (p : Place) (o : Option Message) → front c.flow p ≡ o → find (λ h. is_movable drivers c h.place) c.flow ≡ None → is_movable drivers c p ≡ false
+pub no_front : (drivers : List DriverSpec) (c : Configuration) (p : Place) (o : Option Message) → first_message c.flow p ≡ o → find (λ h. is_movable drivers c h.place) c.flow ≡ None → is_movable drivers c p ≡ false
 no_front drivers c p None e none = rw e refl
 no_front drivers c p (Some m) e none = none_of (is_movable drivers c) c.flow p m none e
 
-pub none_least : (o : Option Held) → place_of o ≡ None → o ≡ None
+pub none_least : (o : Option QueuedMessage) → place_of o ≡ None → o ≡ None
 none_least None e = refl
 none_least (Some h) e = cc
 
-pub some_least : (o : Option Held) (p : Place) → place_of o ≡ Some p → (h : Held) × (o ≡ Some h) × (h.place ≡ p)
+pub some_least : (o : Option QueuedMessage) (p : Place) → place_of o ≡ Some p → (h : QueuedMessage) × (o ≡ Some h) × (h.place ≡ p)
 some_least None p e = cc
 some_least (Some h) p e = (h, refl, cc)
 
@@ -206,19 +206,19 @@ movable_way : (o : Option Place) → is_some o ≡ true → (q : Place) × (o �
 movable_way None e = absurd (false≢true e)
 movable_way (Some q) e = (q, refl)
 
-least_way : (drivers : List DriverSpec) (c : Configuration) (p : Place) → least_movable drivers c ≡ Some p → (q : Place) × (way drivers c p ≡ Some q)
+least_way : (drivers : List DriverSpec) (c : Configuration) (p : Place) → least_movable drivers c ≡ Some p → (q : Place) × (next_open_place drivers c p ≡ Some q)
 least_way drivers c p e =
     let s = some_least (find (λ h. is_movable drivers c h.place) c.flow) p e in
-    movable_way (way drivers c p) (subst (λ (x : Place). is_movable drivers c x ≡ true) s.2 (find_passes (λ h. is_movable drivers c h.place) c.flow s.0 s.1))
+    movable_way (next_open_place drivers c p) (subst (λ (x : Place). is_movable drivers c x ≡ true) s.2 (find_passes (λ h. is_movable drivers c h.place) c.flow s.0 s.1))
 
-pub moved_links : (drivers : List DriverSpec) (c : Configuration) (p : Place) → (moved drivers c p).links ≡ c.links
-moved_links drivers c p = by (way drivers c p) (front c.flow p) where
-  by : (o : Option Place) (m : Option Message) → (moved_by drivers c p o m).links ≡ c.links
+pub moved_links : (drivers : List DriverSpec) (c : Configuration) (p : Place) → (after_move drivers c p).links ≡ c.links
+moved_links drivers c p = by (next_open_place drivers c p) (first_message c.flow p) where
+  by : (o : Option Place) (m : Option Message) → (after_move_to drivers c p o m).links ≡ c.links
   by (Some q) (Some m) = refl
   by (Some q) None = refl
   by None m = refl
 
-can_move : (drivers : List DriverSpec) (c : Configuration) (p : Place) → CanSettle drivers c → CanSettle drivers (moved drivers c p)
+can_move : (drivers : List DriverSpec) (c : Configuration) (p : Place) → CanSettle drivers c → CanSettle drivers (after_move drivers c p)
 can_move drivers c p h = record {
   none = subst HasNoCycle (sym (moved_links drivers c p)) h.none;
   below = subst (AreBelow (length drivers)) (sym (moved_links drivers c p)) h.below;
@@ -229,22 +229,22 @@ can_move drivers c p h = record {
 abbrev weight_of : List DriverSpec → Configuration → ℕ
 weight_of drivers c = weight (rank c.links (length drivers)) c.flow
 
-less_weight : (drivers : List DriverSpec) (c : Configuration) (p : Place) → CanSettle drivers c → least_movable drivers c ≡ Some p → weight_of drivers (moved drivers c p) < weight_of drivers c
+less_weight : (drivers : List DriverSpec) (c : Configuration) (p : Place) → CanSettle drivers c → least_movable drivers c ≡ Some p → weight_of drivers (after_move drivers c p) < weight_of drivers c
 less_weight drivers c p h e = let w = least_way drivers c p e in
-    subst (λ (ls : List Link). weight (rank ls (length drivers)) (moved drivers c p).flow < weight_of drivers c) (sym (moved_links drivers c p)) (moved_weight drivers c p h w.0 w.1)
+    subst (λ (ls : List Link). weight (rank ls (length drivers)) (after_move drivers c p).flow < weight_of drivers c) (sym (moved_links drivers c p)) (moved_weight drivers c p h w.0 w.1)
 
-settles : (drivers : List DriverSpec) (k : ℕ) (c : Configuration) → CanSettle drivers c → weight_of drivers c ≤ k → IsSettled drivers (settled_within drivers k c)
+settles : (drivers : List DriverSpec) (k : ℕ) (c : Configuration) → CanSettle drivers c → weight_of drivers c ≤ k → IsSettled drivers (after_settling_within drivers k c)
 settles drivers zero c h le = by (least_movable drivers c) refl where
   by : (o : Option Place) → least_movable drivers c ≡ o → IsSettled drivers c
-  by None e = λ p. no_front drivers c p (front c.flow p) refl (none_least _ e)
+  by None e = λ p. no_front drivers c p (first_message c.flow p) refl (none_least _ e)
   by (Some p) e = absurd (omega (arith, less_weight drivers c p h e))
-settles drivers (suc k) c h le = by (λ p fewer. settles drivers k (moved drivers c p) (can_move drivers c p h) fewer) (least_movable drivers c) refl where
-  by : ((p : Place) → weight_of drivers (moved drivers c p) ≤ k → IsSettled drivers (settled_within drivers k (moved drivers c p)))
-      → (o : Option Place) → least_movable drivers c ≡ o → IsSettled drivers (elim o as (λ _. Configuration) [ None ↦ c | Some p ↦ settled_within drivers k (moved drivers c p) ])
-  by rest None e = λ p. no_front drivers c p (front c.flow p) refl (none_least _ e)
+settles drivers (suc k) c h le = by (λ p fewer. settles drivers k (after_move drivers c p) (can_move drivers c p h) fewer) (least_movable drivers c) refl where
+  by : ((p : Place) → weight_of drivers (after_move drivers c p) ≤ k → IsSettled drivers (after_settling_within drivers k (after_move drivers c p)))
+      → (o : Option Place) → least_movable drivers c ≡ o → IsSettled drivers (elim o as (λ _. Configuration) [ None ↦ c | Some p ↦ after_settling_within drivers k (after_move drivers c p) ])
+  by rest None e = λ p. no_front drivers c p (first_message c.flow p) refl (none_least _ e)
   by rest (Some p) e = rest p (omega (arith, less_weight drivers c p h e))
 
 -- the bound suffices
-pub settled_is : (drivers : List DriverSpec) (c : Configuration) → AreLinksSound c.links → AreNamed drivers c → AreRouted drivers c → IsSettled drivers (settled drivers c)
+pub settled_is : (drivers : List DriverSpec) (c : Configuration) → AreLinksSound c.links → AreNamed drivers c → AreRouted drivers c → IsSettled drivers (after_settling drivers c)
 settled_is drivers c sound named routed = settles drivers (length c.flow * length drivers) c (record { none = sound.no_cycle; below = links_below drivers c.links named.links; routed = routed })
     (weight_le (rank c.links (length drivers)) (length drivers) c.flow (λ p. rank_le c.links (length drivers) p.stream.driver p.side))

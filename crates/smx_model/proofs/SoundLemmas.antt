@@ -14,12 +14,12 @@ use Rattle.smx_types.specs.declared.driver.DriverSpec.{DriverSpec}
 use Rattle.smx_types.specs.declared.link.Link.{Link}
 use Rattle.smx_types.specs.declared.link.LinkKind.{LinkKind}
 use Rattle.std.proofs.lemmas.List.Elements.{Contains-append_cases, Contains-append_left, Contains-append_right}
-use Rattle.smx_model.specs.Commands.{outcome, done, linked, unlinked}
+use Rattle.smx_model.specs.Commands.{outcome, done_outcome, link_outcome, unlink_outcome}
 use Rattle.smx_model.specs.Configuration.{Configuration, same_stream}
 use Rattle.smx_model.specs.Paths.{reaches}
-use Rattle.smx_model.specs.Queues.{front}
-use Rattle.smx_model.specs.Removal.{removed}
-use Rattle.smx_model.specs.Settling.{moved, moved_by, way}
+use Rattle.smx_model.specs.Queues.{first_message}
+use Rattle.smx_model.specs.Removal.{without_links}
+use Rattle.smx_model.specs.Settling.{after_move, after_move_to, next_open_place}
 use Rattle.smx_model.specs.SoundLinks.{AreLinksSound}
 use Rattle.smx_model.specs.Standing.{is_below}
 use Rattle.smx_model.proofs.OutcomeLemmas.{IfAccepted, at_ok, after_ok, after_test, after_some}
@@ -50,14 +50,14 @@ sound_push ls l h free apart = record {
 abbrev Sound : Configuration → Reply → Type 0
 Sound d r = AreLinksSound d.links
 
-sound_done : (drivers : List DriverSpec) (c d : Configuration) → AreLinksSound d.links → IfAccepted Sound (done drivers c d)
+sound_done : (drivers : List DriverSpec) (c d : Configuration) → AreLinksSound d.links → IfAccepted Sound (done_outcome drivers c d)
 sound_done drivers c d h = record { holds = sound_filter _ d.links h }
 
-sound_unlinked : (drivers : List DriverSpec) (c : Configuration) (w : Which) (mine : Link → Bool) → AreLinksSound c.links → IfAccepted Sound (unlinked drivers c w mine)
-sound_unlinked drivers c which.All mine h = sound_done drivers c (removed c mine) (sound_filter _ c.links h)
+sound_unlinked : (drivers : List DriverSpec) (c : Configuration) (w : Which) (mine : Link → Bool) → AreLinksSound c.links → IfAccepted Sound (unlink_outcome drivers c w mine)
+sound_unlinked drivers c which.All mine h = sound_done drivers c (without_links c mine) (sound_filter _ c.links h)
 sound_unlinked drivers c (which.Id id) mine h = search (after_test, sound_done, sound_filter, rules) depth 12
 
-sound_linked : (drivers : List DriverSpec) (c : Configuration) (process fd arg : ℕ) (k : LinkKind) → AreLinksSound c.links → IfAccepted Sound (linked drivers c process fd arg k)
+sound_linked : (drivers : List DriverSpec) (c : Configuration) (process fd arg : ℕ) (k : LinkKind) → AreLinksSound c.links → IfAccepted Sound (link_outcome drivers c process fd arg k)
 sound_linked drivers c process fd arg k h = search (after_test, after_ok, at_ok, sound_push, rules) depth 20
 
 pub sound_accepted : (drivers : List DriverSpec) (c : Configuration) (process : ℕ) (k : Command) → AreLinksSound c.links → IfAccepted Sound (outcome drivers c process k)
@@ -80,9 +80,9 @@ sound_accepted drivers c process (command.Flush fd w) h = search (after_ok, at_o
 sound_accepted drivers c process (command.Inject name minor addr bytes) h = search (after_test, after_ok, at_ok, rules) depth 20
 sound_accepted drivers c process (command.Transmit name minor) h = search (after_some, after_ok, at_ok, rules) depth 20
 
-pub sound_moved : (drivers : List DriverSpec) (c : Configuration) (p : Place) → AreLinksSound c.links → AreLinksSound (moved drivers c p).links
-sound_moved drivers c p h = onto (way drivers c p) (front c.flow p) where
-  onto : (o : Option Place) (m : Option Message) → AreLinksSound (moved_by drivers c p o m).links
+pub sound_moved : (drivers : List DriverSpec) (c : Configuration) (p : Place) → AreLinksSound c.links → AreLinksSound (after_move drivers c p).links
+sound_moved drivers c p h = onto (next_open_place drivers c p) (first_message c.flow p) where
+  onto : (o : Option Place) (m : Option Message) → AreLinksSound (after_move_to drivers c p o m).links
   onto (Some q) (Some m) = h
   onto (Some q) None = h
   onto None m = h

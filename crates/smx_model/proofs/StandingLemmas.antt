@@ -8,7 +8,7 @@ use Rattle.smx_types.specs.declared.link.Link.{Link}
 use Rattle.smx_types.specs.declared.stream.StreamId.{StreamId}
 use Rattle.smx_model.specs.Configuration.{Configuration, same_stream}
 use Rattle.smx_model.specs.Paths.{HasNoCycle, reaches}
-use Rattle.smx_model.specs.Removal.{swept, removed}
+use Rattle.smx_model.specs.Removal.{after_sweep, without_links}
 use Rattle.smx_model.specs.Standing.{is_persistent, is_named, stands_within, exists}
 use Rattle.smx_model.specs.Swept.{IsSwept}
 use Rattle.smx_model.proofs.SettlingLemmas.{count, count_le, up_less}
@@ -44,15 +44,15 @@ stands_filter fds links m (suc n) s le = both _ _ _ _ (stands_filter fds links m
       kept false true h = refl
       kept false false h = absurd (false≢true h)
 
-swept_exists : (drivers : List DriverSpec) (c : Configuration) (s : StreamId) → exists drivers (swept drivers c) s ≡ exists drivers c s
+swept_exists : (drivers : List DriverSpec) (c : Configuration) (s : StreamId) → exists drivers (after_sweep drivers c) s ≡ exists drivers c s
 swept_exists drivers c s = stands_filter c.fds c.links (length drivers) (length drivers) s (omega arith)
 
-pub swept_is : (drivers : List DriverSpec) (c : Configuration) → IsSwept drivers (swept drivers c)
+pub swept_is : (drivers : List DriverSpec) (c : Configuration) → IsSwept drivers (after_sweep drivers c)
 swept_is drivers c = record {
-  links = all_passes _ _ c.links (λ l h. alive (is_persistent l) (exists drivers c l.ctl) (exists drivers (swept drivers c) l.ctl) (sym (swept_exists drivers c l.ctl)) h);
+  links = all_passes _ _ c.links (λ l h. alive (is_persistent l) (exists drivers c l.ctl) (exists drivers (after_sweep drivers c) l.ctl) (sym (swept_exists drivers c l.ctl)) h);
   binds = all_passes _ _ c.binds (λ b h. h);
-  flow = all_passes _ _ (removed c (λ l. not (is_persistent l) && not (exists drivers c l.ctl))).flow (λ h k. not_not _ k);
-  fulls = all_passes _ _ (removed c (λ l. not (is_persistent l) && not (exists drivers c l.ctl))).fulls (λ p k. not_not _ k);
+  flow = all_passes _ _ (without_links c (λ l. not (is_persistent l) && not (exists drivers c l.ctl))).flow (λ h k. not_not _ k);
+  fulls = all_passes _ _ (without_links c (λ l. not (is_persistent l) && not (exists drivers c l.ctl))).fulls (λ p k. not_not _ k);
 } where
   not_not : (b : Bool) → not (not b) ≡ true → b ≡ true
   not_not true h = refl

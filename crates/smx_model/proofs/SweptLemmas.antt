@@ -1,15 +1,15 @@
 -- Each configuration is swept.
 use Rattle.std.proofs.Common.{◌≡◌, ℕ, zero, suc, ◌<◌, Bool, true, false, ◌&&◌, ◌||◌, not, eqb, List, [], ◌∷◌, ◌++◌, length, find, Option, Some, None, Ok, Err, refl, rules, sym, ap, ◌∙◌, subst, arith, inl, inr}
 use Rattle.std.specs.Prelude.{Result, IfOk}
-use Rattle.smx_model.specs.Commands.{outcome, done, linked, unlinked, sent, received, with_fd}
-use Rattle.smx_model.specs.Configuration.{Configuration, Held, is_at, held_before, fd_before, same_stream, place_before, is_fd}
+use Rattle.smx_model.specs.Commands.{outcome, done_outcome, link_outcome, unlink_outcome, send_outcome, receive_outcome, with_fd}
+use Rattle.smx_model.specs.Configuration.{Configuration, QueuedMessage, is_at, queued_before, fd_before, same_stream, place_before, is_fd}
 use Rattle.smx_model.specs.DriverList.{is_mux}
 use Rattle.smx_model.specs.Lookups.{driver_of, stream_of, free_stream, leaf_stream}
 use Rattle.smx_model.specs.Outcomes.{Outcome, or_fault, ◌>>=◌, refuse}
 use Rattle.smx_model.specs.Paths.{HasNoCycle}
-use Rattle.smx_model.specs.Queues.{front, left, arrived, marked}
-use Rattle.smx_model.specs.Removal.{swept, removed}
-use Rattle.smx_model.specs.Settling.{moved, moved_by, way, next_by, onward, next_place, down_by, up_by, lower_side, bound_side}
+use Rattle.smx_model.specs.Queues.{first_message, after_leaving, after_arrival, with_mark}
+use Rattle.smx_model.specs.Removal.{after_sweep, without_links}
+use Rattle.smx_model.specs.Settling.{after_move, after_move_to, next_open_place, next_by, next_open_place_for, next_place, down_by, up_by, lower_side, bound_side}
 use Rattle.smx_model.specs.Standing.{is_persistent, is_named, stands_within, exists, is_below, Stands}
 use Rattle.smx_model.specs.Swept.{IsSwept}
 use Rattle.smx_model.proofs.IdleSweepLemmas.{swept_idle}
@@ -126,38 +126,38 @@ leaf_exists drivers c name minor s e = by (driver_of drivers name) e where
   by (Err f) k = cc
   by (Ok n) k = leaf n (is_mux drivers n) k
 
-all_marked : (t : Place → Bool) (p : Place) (b : Bool) (ps : List Place) → t p ≡ true → list_all t ps ≡ true → list_all t (marked p b ps) ≡ true
+all_marked : (t : Place → Bool) (p : Place) (b : Bool) (ps : List Place) → t p ≡ true → list_all t ps ≡ true → list_all t (with_mark p b ps) ≡ true
 all_marked t p true ps h e = all_placed t place_before _ p h (all_filter t _ ps e)
 all_marked t p false ps h e = all_filter t _ ps e
 
-swept_arrived : (drivers : List DriverSpec) (c : Configuration) (p : Place) (m : Message) → exists drivers c p.stream ≡ true → IsSwept drivers c → IsSwept drivers (arrived drivers c p m)
+swept_arrived : (drivers : List DriverSpec) (c : Configuration) (p : Place) (m : Message) → exists drivers c p.stream ≡ true → IsSwept drivers c → IsSwept drivers (after_arrival drivers c p m)
 swept_arrived drivers c p m e h = record {
   links = h.links;
   binds = h.binds;
-  flow = all_placed _ held_before c.flow (record { place = p; message = m }) e h.flow;
+  flow = all_placed _ queued_before c.flow (record { place = p; message = m }) e h.flow;
   fulls = all_marked _ p _ c.fulls e h.fulls;
 }
 
-swept_left : (drivers : List DriverSpec) (c : Configuration) (p : Place) → exists drivers c p.stream ≡ true → IsSwept drivers c → IsSwept drivers (left drivers c p)
+swept_left : (drivers : List DriverSpec) (c : Configuration) (p : Place) → exists drivers c p.stream ≡ true → IsSwept drivers c → IsSwept drivers (after_leaving drivers c p)
 swept_left drivers c p e h = record { links = h.links; binds = h.binds; flow = all_without _ _ c.flow h.flow; fulls = all_marked _ p _ c.fulls e h.fulls }
 
-swept_took : (drivers : List DriverSpec) (c : Configuration) (p : Place) (m : Message) (n : ℕ) → exists drivers c p.stream ≡ true → IsSwept drivers c → IsSwept drivers (record (arrived drivers c p m) { next_serial = n })
+swept_took : (drivers : List DriverSpec) (c : Configuration) (p : Place) (m : Message) (n : ℕ) → exists drivers c p.stream ≡ true → IsSwept drivers c → IsSwept drivers (record (after_arrival drivers c p m) { next_serial = n })
 swept_took drivers c p m n e h = let a = swept_arrived drivers c p m e h in record { links = a.links; binds = a.binds; flow = a.flow; fulls = a.fulls }
 
-swept_sent : (drivers : List DriverSpec) (c : Configuration) (p : Place) (addr : ℕ) (bytes : List ℕ) → exists drivers c p.stream ≡ true → IsSwept drivers c → IfAccepted (λ d r. IsSwept drivers d) (sent drivers c p addr bytes)
+swept_sent : (drivers : List DriverSpec) (c : Configuration) (p : Place) (addr : ℕ) (bytes : List ℕ) → exists drivers c p.stream ≡ true → IsSwept drivers c → IfAccepted (λ d r. IsSwept drivers d) (send_outcome drivers c p addr bytes)
 swept_sent drivers c p addr bytes e h = search (after_test, at_ok, swept_took, rules) depth 12
 
-swept_received : (drivers : List DriverSpec) (c : Configuration) (p : Place) → exists drivers c p.stream ≡ true → IsSwept drivers c → IfAccepted (λ d r. IsSwept drivers d) (received drivers c p)
+swept_received : (drivers : List DriverSpec) (c : Configuration) (p : Place) → exists drivers c p.stream ≡ true → IsSwept drivers c → IfAccepted (λ d r. IsSwept drivers d) (receive_outcome drivers c p)
 swept_received drivers c p e h = search (after_some, at_ok, swept_left, rules) depth 12
 
-swept_done : (drivers : List DriverSpec) (c d : Configuration) → IfAccepted (λ d r. IsSwept drivers d) (done drivers c d)
+swept_done : (drivers : List DriverSpec) (c d : Configuration) → IfAccepted (λ d r. IsSwept drivers d) (done_outcome drivers c d)
 swept_done drivers c d = record { holds = swept_is drivers d }
 
-swept_unlinked : (drivers : List DriverSpec) (c : Configuration) (w : Which) (mine : Link → Bool) → IfAccepted (λ d r. IsSwept drivers d) (unlinked drivers c w mine)
-swept_unlinked drivers c which.All mine = swept_done drivers c (removed c mine)
+swept_unlinked : (drivers : List DriverSpec) (c : Configuration) (w : Which) (mine : Link → Bool) → IfAccepted (λ d r. IsSwept drivers d) (unlink_outcome drivers c w mine)
+swept_unlinked drivers c which.All mine = swept_done drivers c (without_links c mine)
 swept_unlinked drivers c (which.Id id) mine = search (after_test, swept_done, rules) depth 12
 
-swept_linked : (drivers : List DriverSpec) (c : Configuration) (process fd arg : ℕ) (k : LinkKind) → IsSwept drivers c → IfAccepted (λ d r. IsSwept drivers d) (linked drivers c process fd arg k)
+swept_linked : (drivers : List DriverSpec) (c : Configuration) (process fd arg : ℕ) (k : LinkKind) → IsSwept drivers c → IfAccepted (λ d r. IsSwept drivers d) (link_outcome drivers c process fd arg k)
 swept_linked drivers c process fd arg k h = search (after_test, after_ok, at_ok, swept_link, stream_exists, rules) depth 24
 
 pub swept_accepted : (drivers : List DriverSpec) (c : Configuration) (process : ℕ) (k : Command) → IsSwept drivers c → IfAccepted (λ d r. IsSwept drivers d) (outcome drivers c process k)
@@ -231,17 +231,17 @@ next_exists drivers c s addr side.Read q h e = by (find (λ l. same_stream l.low
   by (Some l) k = via l (find (λ b. eqb b.driver l.ctl.driver && eqb b.addr addr) c.binds) refl k
 
 -- from a queue of a stream that exists
-front_exists : (t : Place → Bool) (hs : List Held) (p : Place) (m : Message) → front hs p ≡ Some m → list_all (λ h. t h.place) hs ≡ true → t p ≡ true
+front_exists : (t : Place → Bool) (hs : List QueuedMessage) (p : Place) (m : Message) → first_message hs p ≡ Some m → list_all (λ h. t h.place) hs ≡ true → t p ≡ true
 front_exists t [] p m e h = cc
 front_exists t (k ∷ hs) p m e h = let a = and_parts (t k.place) (list_all (λ h. t h.place) hs) h in elim (cases_Bool (is_at p k))
     [ inl y ↦ ap t (sym (same_place_is k.place p y)) ∙ a.0 | inr n ↦ front_exists t hs p m (rw n at e) a.1 ]
 
-pub swept_moved : (drivers : List DriverSpec) (c : Configuration) (p : Place) → IsWhole drivers c → IsSwept drivers (moved drivers c p)
-swept_moved drivers c p h = by (way drivers c p) (front c.flow p) refl refl where
-  by : (o : Option Place) (m : Option Message) → way drivers c p ≡ o → front c.flow p ≡ m → IsSwept drivers (moved_by drivers c p o m)
+pub swept_moved : (drivers : List DriverSpec) (c : Configuration) (p : Place) → IsWhole drivers c → IsSwept drivers (after_move drivers c p)
+swept_moved drivers c p h = by (next_open_place drivers c p) (first_message c.flow p) refl refl where
+  by : (o : Option Place) (m : Option Message) → next_open_place drivers c p ≡ o → first_message c.flow p ≡ m → IsSwept drivers (after_move_to drivers c p o m)
   by (Some q) (Some m) e f =
-      let w : onward drivers c p (Some m) ≡ Some q = ap (onward drivers c p) (sym f) ∙ e in
-      swept_arrived drivers (left drivers c p) q m (next_exists drivers c p.stream m.addr p.side q h (if_open_is c (next_place drivers c p m.addr) q w))
+      let w : next_open_place_for drivers c p (Some m) ≡ Some q = ap (next_open_place_for drivers c p) (sym f) ∙ e in
+      swept_arrived drivers (after_leaving drivers c p) q m (next_exists drivers c p.stream m.addr p.side q h (if_open_is c (next_place drivers c p m.addr) q w))
       (swept_left drivers c p (front_exists (λ x. exists drivers c x.stream) c.flow p m f h.swept_.flow) h.swept_)
   by (Some q) None e f = h.swept_
   by None m e f = h.swept_
@@ -251,8 +251,8 @@ pub stands_exists : (drivers : List DriverSpec) (c : Configuration) (s : StreamI
 stands_exists drivers c s none below h = climbs_suffice drivers c.fds c.links h.climbs s none (links_in drivers c.links below) h.within
 
 -- what an accepted command leaves needs no further sweep
-pub swept_once : (drivers : List DriverSpec) (c : Configuration) (process : ℕ) (k : Command) → IsSwept drivers c → IfOk (outcome drivers c process k) (λ x. swept drivers x.0 ≡ x.0)
+pub swept_once : (drivers : List DriverSpec) (c : Configuration) (process : ℕ) (k : Command) → IsSwept drivers c → IfOk (outcome drivers c process k) (λ x. after_sweep drivers x.0 ≡ x.0)
 swept_once drivers c process k h = by (outcome drivers c process k) (swept_accepted drivers c process k h) where
-  by : (o : Outcome) → IfAccepted (λ d r. IsSwept drivers d) o → IfOk o (λ x. swept drivers x.0 ≡ x.0)
+  by : (o : Outcome) → IfAccepted (λ d r. IsSwept drivers d) o → IfOk o (λ x. after_sweep drivers x.0 ≡ x.0)
   by (Ok x) m = swept_idle drivers x.0 m.holds
   by (Err f) m = tt

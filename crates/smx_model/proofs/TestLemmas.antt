@@ -2,7 +2,7 @@
 use Rattle.std.proofs.Common.{◌≡◌, Bool, true, false, ◌||◌, not, List, [], ◌∷◌, filter, refl, sym, ap, ◌∙◌, inl, inr, ◌++◌, find, Some}
 use Rattle.std.specs.List.{list_any, list_all}
 use Rattle.std.proofs.lemmas.Bool.{cases_Bool, and_parts, or_cases, or_left, or_right, and_from, false≢true, both_ways, false_from_ne_true}
-use Rattle.smx_model.specs.Ordered.{placed, without_first}
+use Rattle.smx_model.specs.Ordered.{with_inserted, without_first}
 use Rattle.smx_model.proofs.EachLemmas.{Each}
 
 pub any_same : {X : Type 0} (t u : X → Bool) (xs : List X) → ((x : X) → t x ≡ u x) → list_any t xs ≡ list_any u xs
@@ -48,7 +48,7 @@ pub all_push : {X : Type 0} (t : X → Bool) (xs : List X) (x : X) → t x ≡ t
 all_push t [] x h e = and_from _ _ h refl
 all_push t (y ∷ ys) x h e = let p = and_parts (t y) (list_all t ys) e in and_from _ _ p.0 (all_push t ys x h p.1)
 
-pub all_placed : {X : Type 0} (t : X → Bool) (before : X → X → Bool) (xs : List X) (x : X) → t x ≡ true → list_all t xs ≡ true → list_all t (placed before xs x) ≡ true
+pub all_placed : {X : Type 0} (t : X → Bool) (before : X → X → Bool) (xs : List X) (x : X) → t x ≡ true → list_all t xs ≡ true → list_all t (with_inserted before xs x) ≡ true
 all_placed t before [] x h e = and_from _ _ h refl
 all_placed t before (y ∷ ys) x h e = let p = and_parts (t y) (list_all t ys) e in elim (cases_Bool (before x y))
     [ inl a ↦ rw a (and_from _ _ h e) | inr b ↦ rw b (and_from _ _ p.0 (all_placed t before ys x h p.1)) ]
@@ -63,7 +63,7 @@ all_without t test [] e = e
 all_without t test (x ∷ xs) e = let p = and_parts (t x) (list_all t xs) e in elim (cases_Bool (test x))
     [ inl a ↦ rw a p.1 | inr b ↦ rw b (and_from _ _ p.0 (all_without t test xs p.1)) ]
 
-pub any_placed : {X : Type 0} (t : X → Bool) (before : X → X → Bool) (xs : List X) (x : X) → list_any t xs ≡ true → list_any t (placed before xs x) ≡ true
+pub any_placed : {X : Type 0} (t : X → Bool) (before : X → X → Bool) (xs : List X) (x : X) → list_any t xs ≡ true → list_any t (with_inserted before xs x) ≡ true
 any_placed t before [] x e = absurd (false≢true e)
 any_placed t before (y ∷ ys) x e = elim (cases_Bool (before x y)) [
   | inl a ↦ rw a (or_right _ _ e)
@@ -112,7 +112,7 @@ find_passes test (y ∷ ys) x e = elim (cases_Bool (test y)) [
   | inr f ↦ find_passes test ys x (rw f at e)
 ]
 
-pub any_of_placed : {X : Type 0} (t : X → Bool) (before : X → X → Bool) (xs : List X) (x : X) → list_any t (placed before xs x) ≡ (t x || list_any t xs)
+pub any_of_placed : {X : Type 0} (t : X → Bool) (before : X → X → Bool) (xs : List X) (x : X) → list_any t (with_inserted before xs x) ≡ (t x || list_any t xs)
 any_of_placed t before [] x = refl
 any_of_placed t before (y ∷ ys) x = elim (cases_Bool (before x y)) [ inl a ↦ rw a refl | inr b ↦ rw (b, any_of_placed t before ys x) (turned (t y) (t x) (list_any t ys)) ] where
   turned : (a b c : Bool) → (a || (b || c)) ≡ (b || (a || c))

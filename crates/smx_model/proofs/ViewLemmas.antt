@@ -22,7 +22,7 @@ use Rattle.smx_types.specs.declared.view.FullLine.{FullLine}
 use Rattle.smx_types.specs.declared.view.LinkLine.{LinkLine}
 use Rattle.smx_types.specs.declared.view.MessageLine.{MessageLine}
 use Rattle.smx_types.specs.declared.view.RouteLine.{RouteLine}
-use Rattle.smx_model.specs.Configuration.{Configuration, Held, same_stream}
+use Rattle.smx_model.specs.Configuration.{Configuration, QueuedMessage, same_stream}
 use Rattle.smx_model.specs.DriverList.{IsDriverList, is_mux, minors_of, name_of}
 use Rattle.smx_model.specs.KnownStreams.{AreStreamsKnown, IsKnown}
 use Rattle.smx_model.specs.Standing.{is_named, is_persistent, stands_within}
@@ -152,13 +152,13 @@ place_made : (driver minor : ℕ) (s : Side) (driver2 minor2 : ℕ) (s2 : Side) 
     → Same Place (record { stream = record { driver = driver; minor = minor }; side = s }) (record { stream = record { driver = driver2; minor = minor2 }; side = s2 })
 place_made driver minor s driver2 minor2 s2 e f g = cc
 
-held_made : (p : Place) (m : Message) (p2 : Place) (m2 : Message) → p ≡ p2 → m ≡ m2 → Same Held (record { place = p; message = m }) (record { place = p2; message = m2 })
+held_made : (p : Place) (m : Message) (p2 : Place) (m2 : Message) → p ≡ p2 → m ≡ m2 → Same QueuedMessage (record { place = p; message = m }) (record { place = p2; message = m2 })
 held_made p m p2 m2 e f = cc
 
-abbrev configuration : List Descriptor → List Link → ℕ → List Binding → List Route → List Held → List Place → ℕ → Configuration
+abbrev configuration : List Descriptor → List Link → ℕ → List Binding → List Route → List QueuedMessage → List Place → ℕ → Configuration
 configuration fds links id binds routes flow fulls serial = record { fds = fds; links = links; next_id = id; binds = binds; routes = routes; flow = flow; fulls = fulls; next_serial = serial }
 
-configuration_made : (fds fds2 : List Descriptor) (links links2 : List Link) (id id2 : ℕ) (binds binds2 : List Binding) (routes routes2 : List Route) (flow flow2 : List Held) (fulls fulls2 : List Place) (serial serial2 : ℕ)
+configuration_made : (fds fds2 : List Descriptor) (links links2 : List Link) (id id2 : ℕ) (binds binds2 : List Binding) (routes routes2 : List Route) (flow flow2 : List QueuedMessage) (fulls fulls2 : List Place) (serial serial2 : ℕ)
     → fds ≡ fds2 → links ≡ links2 → id ≡ id2 → binds ≡ binds2 → routes ≡ routes2 → flow ≡ flow2 → fulls ≡ fulls2 → serial ≡ serial2
     → configuration fds links id binds routes flow fulls serial ≡ configuration fds2 links2 id2 binds2 routes2 flow2 fulls2 serial2
 configuration_made fds fds2 links links2 id id2 binds binds2 routes routes2 flow flow2 fulls fulls2 serial serial2 e1 e2 e3 e4 e5 e6 e7 e8 = cc
@@ -188,7 +188,7 @@ one_full : (drivers : List DriverSpec) → IsDriverList drivers → (p q : Place
 one_full drivers h p q lt lt2 k = place_made p.stream.driver p.stream.minor p.side q.stream.driver q.stream.minor q.side
     (one_number drivers p.stream.driver q.stream.driver h lt.0 lt2.0 (ap (λ (l : FullLine). l.driver) k)) (ap (λ (l : FullLine). l.minor) k) (ap (λ (l : FullLine). l.side) k)
 
-one_held : (drivers : List DriverSpec) → IsDriverList drivers → (x y : Held) → IsKnown drivers x.place.stream → IsKnown drivers y.place.stream → view_of_message drivers x ≡ view_of_message drivers y → x ≡ y
+one_held : (drivers : List DriverSpec) → IsDriverList drivers → (x y : QueuedMessage) → IsKnown drivers x.place.stream → IsKnown drivers y.place.stream → view_of_message drivers x ≡ view_of_message drivers y → x ≡ y
 one_held drivers h x y lt lt2 k = held_made x.place x.message y.place y.message
     (place_made x.place.stream.driver x.place.stream.minor x.place.side y.place.stream.driver y.place.stream.minor y.place.side
     (one_number drivers x.place.stream.driver y.place.stream.driver h lt.0 lt2.0 (ap (λ (l : MessageLine). l.driver) k)) (ap (λ (l : MessageLine). l.minor) k) (ap (λ (l : MessageLine). l.side) k))

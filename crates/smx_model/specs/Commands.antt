@@ -22,27 +22,27 @@ use Rattle.smx_types.specs.declared.stream.StreamId.{StreamId}
 use Rattle.smx_model.specs.Configuration.{Configuration, same_stream, same_side, fd_before, bind_before, route_before, is_fd}
 use Rattle.smx_model.specs.DriverList.{is_mux, minors_of, max_of}
 use Rattle.smx_model.specs.Lookups.{driver_of, stream_of, free_fd, free_minor, free_stream, mux_stream, leaf_stream}
-use Rattle.smx_model.specs.Ordered.{placed}
+use Rattle.smx_model.specs.Ordered.{with_inserted}
 use Rattle.smx_model.specs.Outcomes.{Outcome, ◌>>=◌, or_fault, refuse}
 use Rattle.smx_model.specs.Paths.{reaches}
-use Rattle.smx_model.specs.Queues.{is_full, front, arrived, left}
-use Rattle.smx_model.specs.Removal.{emptied, removed, swept, gone_from}
-use Rattle.smx_model.specs.Settling.{settled}
+use Rattle.smx_model.specs.Queues.{is_full, first_message, after_arrival, after_leaving}
+use Rattle.smx_model.specs.Removal.{without_queues_at, without_links, after_sweep, serials_that_left}
+use Rattle.smx_model.specs.Settling.{after_settling}
 use Rattle.smx_model.specs.Standing.{is_persistent, is_below}
 
 -- with one more descriptor of the process
 abbrev pub with_fd : Configuration → ℕ → ℕ → StreamId → Configuration
-with_fd c process fd s = record c { fds = placed fd_before c.fds (record { process = process; fd = fd; stream = s }) }
+with_fd c process fd s = record c { fds = with_inserted fd_before c.fds (record { process = process; fd = fd; stream = s }) }
 
 -- done: the new configuration is swept, and the reply names the serials that left
-abbrev pub done : List DriverSpec → Configuration → Configuration → Outcome
-done drivers c new = named (swept drivers new) where
+abbrev pub done_outcome : List DriverSpec → Configuration → Configuration → Outcome
+done_outcome drivers c new = named (after_sweep drivers new) where
   named : Configuration → Outcome
-  named d = Ok (d, reply.Done (gone_from c.flow d.flow))
+  named d = Ok (d, reply.Done (serials_that_left c.flow d.flow))
 
 -- the stream of arg below the driver of fd, under the next id (streamio(7), I_LINK and I_PLINK)
-abbrev pub linked : List DriverSpec → Configuration → ℕ → ℕ → ℕ → LinkKind → Outcome
-linked drivers c process fd arg k = do
+abbrev pub link_outcome : List DriverSpec → Configuration → ℕ → ℕ → ℕ → LinkKind → Outcome
+link_outcome drivers c process fd arg k = do
   upper ← stream_of c process fd
   lower ← stream_of c process arg
   above ← refuse Below (is_below c.links upper)
@@ -53,24 +53,24 @@ linked drivers c process fd arg k = do
   Ok (record c { links = c.links ++ record { id = c.next_id; ctl = upper; lower = lower; kind = k } ∷ []; next_id = c.next_id + 1 }, reply.Id c.next_id)
 
 -- one of my links, or each of them, removed (streamio(7), I_UNLINK and I_PUNLINK, MUXID_ALL)
-abbrev pub unlinked : List DriverSpec → Configuration → Which → (Link → Bool) → Outcome
-unlinked drivers c which.All mine = done drivers c (removed c mine)
-unlinked drivers c (which.Id id) mine = do
+abbrev pub unlink_outcome : List DriverSpec → Configuration → Which → (Link → Bool) → Outcome
+unlink_outcome drivers c which.All mine = done_outcome drivers c (without_links c mine)
+unlink_outcome drivers c (which.Id id) mine = do
   there ← refuse NoLink (not (list_any (λ l. (l.id == id) && mine l) c.links))
-  done drivers c (removed c (λ l. (l.id == id) && mine l))
+  done_outcome drivers c (without_links c (λ l. (l.id == id) && mine l))
 
 -- a message arrives under the next serial
-abbrev pub sent : List DriverSpec → Configuration → Place → ℕ → List ℕ → Outcome
-sent drivers c p addr bytes = do
+abbrev pub send_outcome : List DriverSpec → Configuration → Place → ℕ → List ℕ → Outcome
+send_outcome drivers c p addr bytes = do
   size ← refuse BadSize ((length bytes == 0) || nat_lt (max_of drivers p.stream.driver) (length bytes))
   room ← refuse Full (is_full c p || nat_le NUMBER_END c.next_serial)
-  Ok (record (arrived drivers c p (record { serial = c.next_serial; addr = addr; bytes = bytes })) { next_serial = c.next_serial + 1 }, reply.Took c.next_serial)
+  Ok (record (after_arrival drivers c p (record { serial = c.next_serial; addr = addr; bytes = bytes })) { next_serial = c.next_serial + 1 }, reply.Took c.next_serial)
 
 -- the first message of a place is delivered
-abbrev pub received : List DriverSpec → Configuration → Place → Outcome
-received drivers c p = do
-  m ← or_fault Empty (front c.flow p)
-  Ok (left drivers c p, reply.Got m.serial m.addr m.bytes)
+abbrev pub receive_outcome : List DriverSpec → Configuration → Place → Outcome
+receive_outcome drivers c p = do
+  m ← or_fault Empty (first_message c.flow p)
+  Ok (after_leaving drivers c p, reply.Got m.serial m.addr m.bytes)
 
 -- one of the sides that are named (streamio(7), I_FLUSH)
 abbrev pub is_side : Sides → Side → Bool
@@ -97,53 +97,53 @@ outcome drivers c process (command.Dup fd) = do
   Ok (with_fd c process new s, reply.Fd new s.minor)
 outcome drivers c process (command.Close fd) = do
   s ← stream_of c process fd
-  done drivers c (record c { fds = filter (λ d. not (is_fd process fd d)) c.fds })
-outcome drivers c process command.CloseAll = done drivers c (record c { fds = filter (λ d. not (d.process == process)) c.fds })
-outcome drivers c process (command.Link fd arg) = linked drivers c process fd arg kind.Ordinary
-outcome drivers c process (command.Plink fd arg) = linked drivers c process fd arg kind.Persistent
+  done_outcome drivers c (record c { fds = filter (λ d. not (is_fd process fd d)) c.fds })
+outcome drivers c process command.CloseAll = done_outcome drivers c (record c { fds = filter (λ d. not (d.process == process)) c.fds })
+outcome drivers c process (command.Link fd arg) = link_outcome drivers c process fd arg kind.Ordinary
+outcome drivers c process (command.Plink fd arg) = link_outcome drivers c process fd arg kind.Persistent
 outcome drivers c process (command.Unlink fd w) = do
   s ← mux_stream drivers c process fd
-  unlinked drivers c w (λ l. not (is_persistent l) && same_stream l.ctl s)
+  unlink_outcome drivers c w (λ l. not (is_persistent l) && same_stream l.ctl s)
 outcome drivers c process (command.Punlink fd w) = do
   s ← mux_stream drivers c process fd
-  unlinked drivers c w (λ l. is_persistent l && (l.ctl.driver == s.driver))
+  unlink_outcome drivers c w (λ l. is_persistent l && (l.ctl.driver == s.driver))
 outcome drivers c process (command.Bind fd addr) = do
   s ← mux_stream drivers c process fd
   free ← refuse AddressInUse (list_any (λ b. (b.driver == s.driver) && ((b.addr == addr) || (b.minor == s.minor))) c.binds)
-  done drivers c (record c { binds = placed bind_before c.binds (record { driver = s.driver; addr = addr; minor = s.minor }) })
+  done_outcome drivers c (record c { binds = with_inserted bind_before c.binds (record { driver = s.driver; addr = addr; minor = s.minor }) })
 outcome drivers c process (command.Unbind fd) = do
   s ← mux_stream drivers c process fd
   bound ← refuse Unbound (not (list_any (λ b. (b.driver == s.driver) && (b.minor == s.minor)) c.binds))
-  done drivers c (record c { binds = filter (λ b. not ((b.driver == s.driver) && (b.minor == s.minor))) c.binds })
+  done_outcome drivers c (record c { binds = filter (λ b. not ((b.driver == s.driver) && (b.minor == s.minor))) c.binds })
 outcome drivers c process (command.Route fd addr id) = do
   s ← mux_stream drivers c process fd
   there ← refuse NoLink (not (list_any (λ l. (l.id == id) && (l.ctl.driver == s.driver)) c.links))
-  done drivers c (record c { routes = placed route_before (filter (λ r. not ((r.driver == s.driver) && (r.addr == addr))) c.routes) (record { driver = s.driver; addr = addr; id = id }) })
+  done_outcome drivers c (record c { routes = with_inserted route_before (filter (λ r. not ((r.driver == s.driver) && (r.addr == addr))) c.routes) (record { driver = s.driver; addr = addr; id = id }) })
 outcome drivers c process (command.Unroute fd addr) = do
   s ← mux_stream drivers c process fd
   there ← refuse Unrouted (not (list_any (λ r. (r.driver == s.driver) && (r.addr == addr)) c.routes))
-  done drivers c (record c { routes = filter (λ r. not ((r.driver == s.driver) && (r.addr == addr))) c.routes })
+  done_outcome drivers c (record c { routes = filter (λ r. not ((r.driver == s.driver) && (r.addr == addr))) c.routes })
 outcome drivers c process (command.Write fd addr bytes) = do
   s ← free_stream c process fd
-  sent drivers c (record { stream = s; side = side.Write }) addr bytes
+  send_outcome drivers c (record { stream = s; side = side.Write }) addr bytes
 outcome drivers c process (command.Read fd) = do
   s ← free_stream c process fd
-  received drivers c (record { stream = s; side = side.Read })
+  receive_outcome drivers c (record { stream = s; side = side.Read })
 outcome drivers c process (command.Flush fd w) = do
   s ← free_stream c process fd
-  done drivers c (emptied c (λ p. same_stream p.stream s && is_side w p.side))
+  done_outcome drivers c (without_queues_at c (λ p. same_stream p.stream s && is_side w p.side))
 outcome drivers c process (command.Inject name minor addr bytes) = do
   s ← leaf_stream drivers c name minor
-  sent drivers c (record { stream = s; side = side.Read }) addr bytes
+  send_outcome drivers c (record { stream = s; side = side.Read }) addr bytes
 outcome drivers c process (command.Transmit name minor) = do
   s ← leaf_stream drivers c name minor
-  received drivers c (record { stream = s; side = side.Write })
+  receive_outcome drivers c (record { stream = s; side = side.Write })
 
 -- an accepted outcome is settled; a refusal changes nothing
-abbrev pub finished : List DriverSpec → Configuration → Outcome → Configuration × Reply
-finished drivers c (Err f) = (c, reply.Fault f)
-finished drivers c (Ok x) = (settled drivers x.0, x.1)
+abbrev pub after_outcome : List DriverSpec → Configuration → Outcome → Configuration × Reply
+after_outcome drivers c (Err f) = (c, reply.Fault f)
+after_outcome drivers c (Ok x) = (after_settling drivers x.0, x.1)
 
 -- what a command of a process does: the new configuration, and the reply
 abbrev pub step : List DriverSpec → Configuration → ℕ → Command → Configuration × Reply
-step drivers c process command = finished drivers c (outcome drivers c process command)
+step drivers c process command = after_outcome drivers c (outcome drivers c process command)

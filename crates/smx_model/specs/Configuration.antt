@@ -11,7 +11,7 @@ use Rattle.smx_types.specs.declared.stream.Side.TheVariants as side
 use Rattle.smx_types.specs.declared.stream.StreamId.{StreamId}
 
 -- a queued message and its place
-pub record Held : Type 0 where
+pub record QueuedMessage : Type 0 where
   pub place : Place
   pub message : Message
 
@@ -23,7 +23,7 @@ pub record Configuration : Type 0 where
   pub next_id : ℕ
   pub binds : List Binding
   pub routes : List Route
-  pub flow : List Held
+  pub flow : List QueuedMessage
   pub fulls : List Place
   pub next_serial : ℕ
 
@@ -47,7 +47,7 @@ abbrev pub same_place : Place → Place → Bool
 same_place p q = same_stream p.stream q.stream && same_side p.side q.side
 
 -- the message is queued at this place
-abbrev pub is_at : Place → Held → Bool
+abbrev pub is_at : Place → QueuedMessage → Bool
 is_at p h = same_place h.place p
 
 -- it is the process's descriptor of this number
@@ -82,5 +82,5 @@ abbrev pub place_before : Place → Place → Bool
 place_before p q = pair_before p.stream.driver p.stream.minor q.stream.driver q.stream.minor || (same_stream p.stream q.stream && side_before p.side q.side)
 
 -- by place
-abbrev pub held_before : Held → Held → Bool
-held_before h k = place_before h.place k.place
+abbrev pub queued_before : QueuedMessage → QueuedMessage → Bool
+queued_before h k = place_before h.place k.place

@@ -2,7 +2,7 @@
 use Rattle.std.specs.Prelude.{◌≡◌, ◌≢◌, ℕ, ◌≤◌, Bool, true, false, List, [], length, slice_get, Ok}
 use Rattle.std.specs.List.{All, AllPairs}
 use Rattle.std.specs.Option.{option_map_or}
-use Rattle.smx_types.specs.Drivers.{checked}
+use Rattle.smx_types.specs.Drivers.{spec_check}
 use Rattle.smx_types.specs.declared.driver.DriverKind.{DriverKind}
 use Rattle.smx_types.specs.declared.driver.DriverKind.TheVariants as driver
 use Rattle.smx_types.specs.declared.driver.DriverSpec.{DriverSpec}
@@ -40,5 +40,5 @@ name_of drivers n = option_map_or (λ d. d.name) (slice_get drivers n) []
 -- at most 64, each of which can be had, no two of one name; they are numbered from 0 (this project's own limits)
 pub record IsDriverList (drivers : List DriverSpec) : Type 0 where
   pub few : length drivers ≤ MAX_DRIVERS
-  pub each : All (λ d. checked d ≡ Ok tt) drivers
+  pub each : All (λ d. spec_check d ≡ Ok tt) drivers
   pub names : AllPairs (λ d e. d.name ≢ e.name) drivers

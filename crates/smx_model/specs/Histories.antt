@@ -25,8 +25,8 @@ abbrev pub IsLegal : List DriverSpec → List Entry → Type 0
 IsLegal drivers history = IsLegalFrom drivers empty history
 
 -- the process and its command, without the reply
-abbrev pub asked_of : Entry → ℕ × Command
-asked_of e = (e.process, e.command)
+abbrev pub call_of : Entry → ℕ × Command
+call_of e = (e.process, e.command)
 
 -- the commands of one process, in their order
 abbrev pub commands_of : ℕ → List Entry → List Command

@@ -65,28 +65,28 @@ abbrev pub AreDropsAllowed : List Entry → Type 0
 AreDropsAllowed history = All (λ e. dropped_by e.reply ≢ [] → IsTrue (may_drop e.command)) history
 
 -- the serials of the messages that were taken in: those of the Took replies, in order
-abbrev pub taken : List Entry → List ℕ
-taken [] = []
-taken (e ∷ es) = taken_by e.reply ++ taken es
+abbrev pub taken_serials : List Entry → List ℕ
+taken_serials [] = []
+taken_serials (e ∷ es) = taken_by e.reply ++ taken_serials es
 
 -- the serials of the messages that were delivered: those of the Got replies, in order
-abbrev pub delivered : List Entry → List ℕ
-delivered [] = []
-delivered (e ∷ es) = delivered_by e.reply ++ delivered es
+abbrev pub delivered_serials : List Entry → List ℕ
+delivered_serials [] = []
+delivered_serials (e ∷ es) = delivered_by e.reply ++ delivered_serials es
 
 -- the serials that were named as dropped, in the Done replies
-abbrev pub dropped : List Entry → List ℕ
-dropped [] = []
-dropped (e ∷ es) = dropped_by e.reply ++ dropped es
+abbrev pub dropped_serials : List Entry → List ℕ
+dropped_serials [] = []
+dropped_serials (e ∷ es) = dropped_by e.reply ++ dropped_serials es
 
 -- the serials of the messages that are queued at its end
-abbrev pub queued : List DriverSpec → List Entry → List ℕ
-queued drivers history = serials (after drivers history).flow
+abbrev pub queued_serials : List DriverSpec → List Entry → List ℕ
+queued_serials drivers history = serials (after drivers history).flow
 
 -- serials count from 1; and each message that was taken in was delivered, was dropped or is queued, once
 pub record IsConserving (drivers : List DriverSpec) (history : List Entry) : Type 0 where
-  pub numbered : taken history ≡ range_with_len 1 (length (taken history))
-  pub kept : IsPermutation (taken history) (delivered history ++ (dropped history ++ queued drivers history))
+  pub numbered : taken_serials history ≡ range_with_len 1 (length (taken_serials history))
+  pub kept : IsPermutation (taken_serials history) (delivered_serials history ++ (dropped_serials history ++ queued_serials drivers history))
 
 -- no cycle, no stream below two links, and no message lost or doubled
 pub record IsLawful (drivers : List DriverSpec) (history : List Entry) : Type 0 where
@@ -95,9 +95,9 @@ pub record IsLawful (drivers : List DriverSpec) (history : List Entry) : Type 0 
   -- no stream is below two links
   pub lowers_apart : AreLowersApart (after drivers history).links
   -- no two messages were taken in under one serial
-  pub taken_once : AllPairs (λ m n. m ≡ n → ⊥) (taken history)
+  pub taken_once : AllPairs (λ m n. m ≡ n → ⊥) (taken_serials history)
   -- each message that was taken in was delivered, was dropped or is queued, and just one of these, once
-  pub conserved : IsPermutation (taken history) (delivered history ++ (dropped history ++ queued drivers history))
+  pub conserved : IsPermutation (taken_serials history) (delivered_serials history ++ (dropped_serials history ++ queued_serials drivers history))
 
 -- after each entry too: each of its prefixes is lawful
 abbrev pub IsLawfulThroughout : List DriverSpec → List Entry → Type 0

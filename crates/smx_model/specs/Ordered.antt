@@ -2,9 +2,9 @@
 use Rattle.std.specs.Prelude.{◌≡◌, ℕ, Bool, true, nat_lt, if◌then◌else◌, List, [], ◌∷◌}
 
 -- with one more element, just before the first that comes after it
-abbrev pub placed : {X : Type 0} → (X → X → Bool) → List X → X → List X
-placed before [] x = x ∷ []
-placed before (y ∷ ys) x = if before x y then x ∷ y ∷ ys else y ∷ placed before ys x
+abbrev pub with_inserted : {X : Type 0} → (X → X → Bool) → List X → X → List X
+with_inserted before [] x = x ∷ []
+with_inserted before (y ∷ ys) x = if before x y then x ∷ y ∷ ys else y ∷ with_inserted before ys x
 
 -- it comes before each of them
 abbrev pub ComesBefore : {X : Type 0} → (X → X → Bool) → X → List X → Type 0
@@ -17,9 +17,9 @@ IsRising before [] = Unit {0}
 IsRising before (x ∷ xs) = ComesBefore before x xs × IsRising before xs
 
 -- the same numbers, rising
-abbrev pub rising : List ℕ → List ℕ
-rising [] = []
-rising (n ∷ ns) = placed nat_lt (rising ns) n
+abbrev pub in_rising_order : List ℕ → List ℕ
+in_rising_order [] = []
+in_rising_order (n ∷ ns) = with_inserted nat_lt (in_rising_order ns) n
 
 -- without the first element that passes the test
 abbrev pub without_first : {X : Type 0} → (X → Bool) → List X → List X

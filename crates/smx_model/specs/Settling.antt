@@ -10,9 +10,9 @@ use Rattle.smx_types.specs.declared.stream.Place.{Place}
 use Rattle.smx_types.specs.declared.stream.Side.{Side}
 use Rattle.smx_types.specs.declared.stream.Side.TheVariants as side
 use Rattle.smx_types.specs.declared.stream.StreamId.{StreamId}
-use Rattle.smx_model.specs.Configuration.{Configuration, Held, same_stream}
+use Rattle.smx_model.specs.Configuration.{Configuration, QueuedMessage, same_stream}
 use Rattle.smx_model.specs.DriverList.{is_mux}
-use Rattle.smx_model.specs.Queues.{is_full, front, arrived, left}
+use Rattle.smx_model.specs.Queues.{is_full, first_message, after_arrival, after_leaving}
 
 -- the write side of the stream below the link
 abbrev pub lower_side : Option Link → Option Place
@@ -44,25 +44,25 @@ abbrev pub next_place : List DriverSpec → Configuration → Place → ℕ → 
 next_place drivers c p addr = next_by drivers c p.stream addr p.side
 
 -- a place, unless it is full
-abbrev pub if_open : Configuration → Option Place → Option Place
-if_open c None = None
-if_open c (Some q) = if is_full c q then None else Some q
+abbrev pub unless_full : Configuration → Option Place → Option Place
+unless_full c None = None
+unless_full c (Some q) = if is_full c q then None else Some q
 
 -- where a message may go on to
-abbrev pub onward : List DriverSpec → Configuration → Place → Option Message → Option Place
-onward drivers c p None = None
-onward drivers c p (Some m) = if_open c (next_place drivers c p m.addr)
+abbrev pub next_open_place_for : List DriverSpec → Configuration → Place → Option Message → Option Place
+next_open_place_for drivers c p None = None
+next_open_place_for drivers c p (Some m) = unless_full c (next_place drivers c p m.addr)
 
 -- where the first message of a place may go on to
-abbrev pub way : List DriverSpec → Configuration → Place → Option Place
-way drivers c p = onward drivers c p (front c.flow p)
+abbrev pub next_open_place : List DriverSpec → Configuration → Place → Option Place
+next_open_place drivers c p = next_open_place_for drivers c p (first_message c.flow p)
 
 -- its first message has a next place that is not full
 abbrev pub is_movable : List DriverSpec → Configuration → Place → Bool
-is_movable drivers c p = is_some (way drivers c p)
+is_movable drivers c p = is_some (next_open_place drivers c p)
 
 -- the place of a message, if there is one
-abbrev pub place_of : Option Held → Option Place
+abbrev pub place_of : Option QueuedMessage → Option Place
 place_of None = None
 place_of (Some h) = Some h.place
 
@@ -71,23 +71,23 @@ abbrev pub least_movable : List DriverSpec → Configuration → Option Place
 least_movable drivers c = place_of (find (λ h. is_movable drivers c h.place) c.flow)
 
 -- a message from one place to another, where both are there
-abbrev pub moved_by : List DriverSpec → Configuration → Place → Option Place → Option Message → Configuration
-moved_by drivers c p (Some q) (Some m) = arrived drivers (left drivers c p) q m
-moved_by drivers c p (Some q) None = c
-moved_by drivers c p None m = c
+abbrev pub after_move_to : List DriverSpec → Configuration → Place → Option Place → Option Message → Configuration
+after_move_to drivers c p (Some q) (Some m) = after_arrival drivers (after_leaving drivers c p) q m
+after_move_to drivers c p (Some q) None = c
+after_move_to drivers c p None m = c
 
 -- the first message of a place leaves it and arrives at its next place
-abbrev pub moved : List DriverSpec → Configuration → Place → Configuration
-moved drivers c p = moved_by drivers c p (way drivers c p) (front c.flow p)
+abbrev pub after_move : List DriverSpec → Configuration → Place → Configuration
+after_move drivers c p = after_move_to drivers c p (next_open_place drivers c p) (first_message c.flow p)
 
 -- at most so many moves, each from the least movable place
-abbrev pub settled_within : List DriverSpec → ℕ → Configuration → Configuration
-settled_within drivers zero c = c
-settled_within drivers (suc n) c = elim (least_movable drivers c) [ None ↦ c | Some p ↦ settled_within drivers n (moved drivers c p) ]
+abbrev pub after_settling_within : List DriverSpec → ℕ → Configuration → Configuration
+after_settling_within drivers zero c = c
+after_settling_within drivers (suc n) c = elim (least_movable drivers c) [ None ↦ c | Some p ↦ after_settling_within drivers n (after_move drivers c p) ]
 
 -- as many moves as there are messages times drivers (the guide's joining of both sides, in kind)
-abbrev pub settled : List DriverSpec → Configuration → Configuration
-settled drivers c = settled_within drivers (length c.flow * length drivers) c
+abbrev pub after_settling : List DriverSpec → Configuration → Configuration
+after_settling drivers c = after_settling_within drivers (length c.flow * length drivers) c
 
 -- no place is movable
 abbrev pub IsSettled : List DriverSpec → Configuration → Type 0

@@ -13,7 +13,7 @@ use Rattle.smx_types.specs.declared.view.FullLine.{FullLine}
 use Rattle.smx_types.specs.declared.view.LinkLine.{LinkLine}
 use Rattle.smx_types.specs.declared.view.MessageLine.{MessageLine}
 use Rattle.smx_types.specs.declared.view.RouteLine.{RouteLine}
-use Rattle.smx_model.specs.Configuration.{Configuration, Held}
+use Rattle.smx_model.specs.Configuration.{Configuration, QueuedMessage}
 use Rattle.smx_model.specs.DriverList.{name_of}
 
 -- a descriptor, with its driver by name
@@ -33,7 +33,7 @@ abbrev pub view_of_route : List DriverSpec → Route → RouteLine
 view_of_route drivers r = record { driver = name_of drivers r.driver; addr = r.addr; id = r.id }
 
 -- a queued message, with the driver of its place by name
-abbrev pub view_of_message : List DriverSpec → Held → MessageLine
+abbrev pub view_of_message : List DriverSpec → QueuedMessage → MessageLine
 view_of_message drivers h = record { driver = name_of drivers h.place.stream.driver; minor = h.place.stream.minor; side = h.place.side; message = h.message }
 
 -- a full place, with its driver by name

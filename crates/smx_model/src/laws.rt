@@ -4,7 +4,7 @@ ghost use Rattle.std.specs.Prelude.{◌≡◌, ◌++◌, List, map};
 ghost use Rattle.smx_types.specs.declared.command.Entry.{Entry};
 ghost use Rattle.smx_types.specs.declared.driver.DriverSpec.{DriverSpec};
 ghost use Rattle.smx_model.specs.Configuration.{fd_before};
-ghost use Rattle.smx_model.specs.Histories.{after, asked_of, IsLegal};
+ghost use Rattle.smx_model.specs.Histories.{after, call_of, IsLegal};
 ghost use Rattle.smx_model.specs.LawfulHistories.{IsLawful, IsLawfulThroughout};
 ghost use Rattle.smx_model.specs.Ordered.{IsRising};
 
@@ -17,7 +17,7 @@ pub fn prefixes_are_legal()
 /// Commands in a given order have one legal history: their replies are determined.
 pub fn histories_are_determined()
     ensures { (drivers : List DriverSpec) (one other : List Entry) → IsLegal drivers one → IsLegal drivers other
-        → map asked_of one ≡ map asked_of other → one ≡ other }
+        → map call_of one ≡ map call_of other → one ≡ other }
 {}
 
 /// A legal history is lawful: at its end there is no cycle, no stream is below two links, and each message that was

@@ -6,36 +6,36 @@ ghost use Rattle.std.specs.List.{AllPairs, list_any};
 ghost use Rattle.smx_types.specs.declared.driver.DriverSpec.{DriverSpec};
 ghost use Rattle.smx_types.specs.declared.message.Message.{Message};
 ghost use Rattle.smx_types.specs.declared.stream.Place.{Place};
-ghost use Rattle.smx_model.specs.Configuration.{Configuration, Held, held_before, is_at, same_place};
+ghost use Rattle.smx_model.specs.Configuration.{Configuration, QueuedMessage, queued_before, is_at, same_place};
 ghost use Rattle.smx_model.specs.FlowOrder.{IsInOrder};
 ghost use Rattle.smx_model.specs.LeastMovable.{IsLeastMovable};
-ghost use Rattle.smx_model.specs.Ordered.{placed, rising, without_first};
-ghost use Rattle.smx_model.specs.Queues.{front, marked, queue};
-ghost use Rattle.smx_model.specs.Removal.{gone_from, serials};
+ghost use Rattle.smx_model.specs.Ordered.{with_inserted, in_rising_order, without_first};
+ghost use Rattle.smx_model.specs.Queues.{first_message, with_mark, queue};
+ghost use Rattle.smx_model.specs.Removal.{serials_that_left, serials};
 ghost use Rattle.smx_model.specs.Settling.{least_movable};
 
 /// Flows in order with the same queues are the same.
 pub fn queues_make_the_flow()
-    ensures { (xs ys : List Held) → IsInOrder xs → IsInOrder ys → ((p : Place) → queue xs p ≡ queue ys p) → xs ≡ ys }
+    ensures { (xs ys : List QueuedMessage) → IsInOrder xs → IsInOrder ys → ((p : Place) → queue xs p ≡ queue ys p) → xs ≡ ys }
 {}
 
 /// What arrives goes to the end of its queue, and no other queue changes.
 pub fn arrivals_go_to_the_end()
-    ensures { (flow : List Held) (p q : Place) (m : Message) → IsInOrder flow
-        → queue (placed held_before flow (record { place = p; message = m })) q
+    ensures { (flow : List QueuedMessage) (p q : Place) (m : Message) → IsInOrder flow
+        → queue (with_inserted queued_before flow (record { place = p; message = m })) q
         ≡ (if same_place p q then queue flow q ++ m ∷ [] else queue flow q) }
 {}
 
 /// What leaves was the first of its queue, and no other queue changes.
 pub fn the_first_leaves()
-    ensures queues { (flow : List Held) (p q : Place) → queue (without_first (is_at p) flow) q
+    ensures queues { (flow : List QueuedMessage) (p q : Place) → queue (without_first (is_at p) flow) q
         ≡ (if same_place p q then drop 1 (queue flow q) else queue flow q) }
-    ensures front { (flow : List Held) (p : Place) → front flow p ≡ slice_get (queue flow p) 0 }
+    ensures front { (flow : List QueuedMessage) (p : Place) → first_message flow p ≡ slice_get (queue flow p) 0 }
 {}
 
 /// Emptied places have no messages and are not full, and the others stay as they were.
 pub fn emptied_places_are_empty()
-    ensures queues { (flow : List Held) (goes : Place → Bool) (q : Place)
+    ensures queues { (flow : List QueuedMessage) (goes : Place → Bool) (q : Place)
         → queue (filter (λ h. not (goes h.place)) flow) q
         ≡ (if goes q then [] else queue flow q) }
     ensures marks { (fulls : List Place) (goes : Place → Bool) (q : Place)
@@ -45,7 +45,7 @@ pub fn emptied_places_are_empty()
 
 /// A mark that is set or taken away is that of one place.
 pub fn marks_are_of_one_place()
-    ensures { (p q : Place) (full : Bool) (fulls : List Place) → list_any (same_place q) (marked p full fulls)
+    ensures { (p q : Place) (full : Bool) (fulls : List Place) → list_any (same_place q) (with_mark p full fulls)
         ≡ (if same_place p q then full else list_any (same_place q) fulls) }
 {}
 
@@ -57,6 +57,6 @@ pub fn the_first_is_the_least()
 
 /// The dropped serials are those of the messages that are not kept, rising.
 pub fn dropped_are_not_kept()
-    ensures { (flow : List Held) (keep : Held → Bool) → AllPairs (λ m n. m ≢ n) (serials flow)
-        → gone_from flow (filter keep flow) ≡ rising (serials (filter (λ h. not (keep h)) flow)) }
+    ensures { (flow : List QueuedMessage) (keep : QueuedMessage → Bool) → AllPairs (λ m n. m ≢ n) (serials flow)
+        → serials_that_left flow (filter keep flow) ≡ in_rising_order (serials (filter (λ h. not (keep h)) flow)) }
 {}

@@ -7,13 +7,13 @@ ghost use Rattle.smx_types.specs.declared.driver.DriverSpec.{DriverSpec};
 ghost use Rattle.smx_types.specs.declared.reply.Fault.{Fault};
 ghost use Rattle.smx_types.specs.declared.reply.Reply.TheVariants as reply;
 ghost use Rattle.smx_types.specs.declared.stream.Place.{Place};
-ghost use Rattle.smx_model.specs.Commands.{done, outcome, step};
+ghost use Rattle.smx_model.specs.Commands.{done_outcome, outcome, step};
 ghost use Rattle.smx_model.specs.Configuration.{Configuration, empty};
 ghost use Rattle.smx_model.specs.Histories.{after};
 ghost use Rattle.smx_model.specs.KeptConfigurations.{IsKept, IsSound};
 ghost use Rattle.smx_model.specs.LawfulHistories.{dropped_by, may_drop};
-ghost use Rattle.smx_model.specs.Removal.{swept};
-ghost use Rattle.smx_model.specs.Settling.{moved, settled};
+ghost use Rattle.smx_model.specs.Removal.{after_sweep};
+ghost use Rattle.smx_model.specs.Settling.{after_move, after_settling};
 ghost use Rattle.smx_model.specs.Swept.{IsSwept};
 
 /// The outcome of a command that is accepted is sound, before it is settled.
@@ -25,7 +25,7 @@ pub fn outcomes_are_sound()
 /// It needs no further sweep.
 pub fn outcomes_are_swept()
     ensures { (drivers : List DriverSpec) (c : Configuration) (process : ℕ) (command : Command) → IsSound drivers c
-        → IfOk (outcome drivers c process command) (λ x. swept drivers x.0 ≡ x.0) }
+        → IfOk (outcome drivers c process command) (λ x. after_sweep drivers x.0 ≡ x.0) }
 {}
 
 /// A fault is the reply of refused commands alone, and those leave the configuration as it was.
@@ -42,18 +42,18 @@ pub fn other_commands_drop_none()
 
 /// What leaves nothing to sweep, and the flow as it was, is done with no message dropped.
 pub fn idle_changes_drop_none()
-    ensures { (drivers : List DriverSpec) (c new : Configuration) → IsSwept drivers new → new.flow ≡ c.flow → done drivers c new ≡ Ok (new, reply.Done []) }
+    ensures { (drivers : List DriverSpec) (c new : Configuration) → IsSwept drivers new → new.flow ≡ c.flow → done_outcome drivers c new ≡ Ok (new, reply.Done []) }
 {}
 
 /// A move keeps a configuration sound.
 pub fn moves_keep_soundness()
     ensures { (drivers : List DriverSpec) (c : Configuration) (p : Place) → IsSound drivers c
-        → IsSound drivers (moved drivers c p) }
+        → IsSound drivers (after_move drivers c p) }
 {}
 
 /// Settling ends: after as many moves as there are messages times drivers no message can move on.
 pub fn settling_suffices()
-    ensures { (drivers : List DriverSpec) (c : Configuration) → IsSound drivers c → IsKept drivers (settled drivers c) }
+    ensures { (drivers : List DriverSpec) (c : Configuration) → IsSound drivers c → IsKept drivers (after_settling drivers c) }
 {}
 
 /// What every configuration is, each command keeps.

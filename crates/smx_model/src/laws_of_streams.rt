@@ -8,7 +8,7 @@ ghost use Rattle.smx_types.specs.declared.stream.StreamId.{StreamId};
 ghost use Rattle.smx_model.specs.Configuration.{Configuration};
 ghost use Rattle.smx_model.specs.Histories.{after};
 ghost use Rattle.smx_model.specs.KnownStreams.{AreStreamsKnown, IsKnown};
-ghost use Rattle.smx_model.specs.Removal.{swept};
+ghost use Rattle.smx_model.specs.Removal.{after_sweep};
 ghost use Rattle.smx_model.specs.SoundLinks.{AreLinksSound};
 ghost use Rattle.smx_model.specs.Standing.{exists, Stands};
 ghost use Rattle.smx_model.specs.Swept.{IsSwept};
@@ -34,12 +34,12 @@ pub fn streams_are_known()
 
 /// What a sweep leaves is swept.
 pub fn sweeping_is_enough()
-    ensures { (drivers : List DriverSpec) (c : Configuration) → IsSwept drivers (swept drivers c) }
+    ensures { (drivers : List DriverSpec) (c : Configuration) → IsSwept drivers (after_sweep drivers c) }
 {}
 
 /// Sweeping what is swept changes nothing.
 pub fn sweeping_again_changes_nothing()
-    ensures { (drivers : List DriverSpec) (c : Configuration) → IsSwept drivers c → swept drivers c ≡ c }
+    ensures { (drivers : List DriverSpec) (c : Configuration) → IsSwept drivers c → after_sweep drivers c ≡ c }
 {}
 
 /// After any commands nothing is left of streams that don't exist.

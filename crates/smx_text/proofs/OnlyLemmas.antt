@@ -8,7 +8,7 @@ use Rattle.std.proofs.lemmas.Bool.{le-leb}
 use Rattle.std.proofs.lemmas.Bool.Decides.{nat_tests}
 use Rattle.std.proofs.lemmas.List.{length-append, append-nil, length-map}
 use Rattle.std.proofs.lemmas.List.Sums.{sum_by-append, sum_by-cons}
-use Rattle.smx_types.specs.ProgramLists.{ProgramLists, AreWithinLimits, lists}
+use Rattle.smx_types.specs.ProgramLists.{ProgramLists, AreWithinLimits, program_lists}
 use Rattle.smx_types.specs.declared.command.Command.{Command}
 use Rattle.smx_types.specs.declared.driver.DriverSpec.{DriverSpec}
 use Rattle.smx_types.specs.declared.limits.TheConstants.{MAX_DRIVERS, MAX_PROCESSES, MAX_COMMANDS}
@@ -31,9 +31,9 @@ onto_last c (p ∷ q ∷ ps) = p ∷ onto_last c (q ∷ ps)
 
 -- v with one line more
 abbrev adds : ProgramLists → Line → Result ProgramLists Cause
-adds v (line.Driver d) = cond (eqb (length v.programs) 0) (cond (leb MAX_DRIVERS (length v.drivers)) (Err cause.Many) (Ok (lists (v.drivers ++ d ∷ []) v.programs))) (Err cause.Form)
-adds v (line.Process n) = cond (eqb n (length v.programs)) (cond (leb MAX_PROCESSES (length v.programs)) (Err cause.Many) (Ok (lists v.drivers (v.programs ++ [] ∷ [])))) (Err cause.Form)
-adds v (line.Command c) = cond (eqb (length v.programs) 0) (Err cause.Form) (cond (leb MAX_COMMANDS (sum_by length v.programs)) (Err cause.Many) (Ok (lists v.drivers (onto_last c v.programs))))
+adds v (line.Driver d) = cond (eqb (length v.programs) 0) (cond (leb MAX_DRIVERS (length v.drivers)) (Err cause.Many) (Ok (program_lists (v.drivers ++ d ∷ []) v.programs))) (Err cause.Form)
+adds v (line.Process n) = cond (eqb n (length v.programs)) (cond (leb MAX_PROCESSES (length v.programs)) (Err cause.Many) (Ok (program_lists v.drivers (v.programs ++ [] ∷ [])))) (Err cause.Form)
+adds v (line.Command c) = cond (eqb (length v.programs) 0) (Err cause.Form) (cond (leb MAX_COMMANDS (sum_by length v.programs)) (Err cause.Many) (Ok (program_lists v.drivers (onto_last c v.programs))))
 adds v line.End = Err cause.Form
 
 abbrev fault : ℕ → Cause → TextFault
@@ -58,7 +58,7 @@ goes v n (l ∷ next ∷ more) = by_line (line_at (split 32 l)) v n next more (�
 abbrev starts : List (List ℕ) → Result ProgramLists TextFault
 starts [] = Err (fault 1 cause.Cut)
 starts (l ∷ []) = Err (fault 1 cause.Cut)
-starts (l ∷ next ∷ more) = cond (bytes_eq l header) (goes (lists [] []) 2 (next ∷ more)) (Err (fault 1 cause.Header))
+starts (l ∷ next ∷ more) = cond (bytes_eq l header) (goes (program_lists [] []) 2 (next ∷ more)) (Err (fault 1 cause.Header))
 
 -- ---- adding the lines of a value gives the value
 
@@ -73,11 +73,11 @@ adds_all v (k ∷ ks) = and_then (adds v k) (λ w. adds_all w ks)
 push_assoc : {A : Type 0} (xs : List A) (y : A) (ys : List A) → (xs ++ y ∷ []) ++ ys ≡ xs ++ y ∷ ys
 push_assoc xs y ys = append_assoc xs (y ∷ []) ys
 
-add_drivers : (ds0 ds : List DriverSpec) (rest : List Line) → length ds0 + length ds ≤ MAX_DRIVERS → adds_all (lists ds0 []) (map line.Driver ds ++ rest) ≡ adds_all (lists (ds0 ++ ds) []) rest
-add_drivers ds0 [] rest h = ap (λ (ds : List DriverSpec). adds_all (lists ds []) rest) (sym (append-nil ds0))
+add_drivers : (ds0 ds : List DriverSpec) (rest : List Line) → length ds0 + length ds ≤ MAX_DRIVERS → adds_all (program_lists ds0 []) (map line.Driver ds ++ rest) ≡ adds_all (program_lists (ds0 ++ ds) []) rest
+add_drivers ds0 [] rest h = ap (λ (ds : List DriverSpec). adds_all (program_lists ds []) rest) (sym (append-nil ds0))
 add_drivers ds0 (d ∷ ds) rest h =
     let room : leb MAX_DRIVERS (length ds0) ≡ false = grind (arith, nat_tests) in
-    rw room (add_drivers (ds0 ++ d ∷ []) ds rest (omega (arith, length-append ds0 (d ∷ []))) ∙ ap (λ (es : List DriverSpec). adds_all (lists es []) rest) (push_assoc ds0 d ds))
+    rw room (add_drivers (ds0 ++ d ∷ []) ds rest (omega (arith, length-append ds0 (d ∷ []))) ∙ ap (λ (es : List DriverSpec). adds_all (program_lists es []) rest) (push_assoc ds0 d ds))
 
 onto_last_is : (c : Command) (ps : List (List Command)) (cs : List Command) → onto_last c (ps ++ cs ∷ []) ≡ ps ++ (cs ++ c ∷ []) ∷ []
 onto_last_is c [] cs = refl
@@ -88,26 +88,26 @@ sum_push : (ps : List (List Command)) (cs : List Command) → sum_by length (ps 
 sum_push ps cs = omega (arith, sum_by-append (length {A = Command}) ps (cs ∷ []))
 
 add_commands : (ds : List DriverSpec) (ps : List (List Command)) (cs0 cs : List Command) (rest : List Line) → sum_by length ps + (length cs0 + length cs) ≤ MAX_COMMANDS
-    → adds_all (lists ds (ps ++ cs0 ∷ [])) (map line.Command cs ++ rest) ≡ adds_all (lists ds (ps ++ (cs0 ++ cs) ∷ [])) rest
-add_commands ds ps cs0 [] rest h = ap (λ (xs : List Command). adds_all (lists ds (ps ++ xs ∷ [])) rest) (sym (append-nil cs0))
+    → adds_all (program_lists ds (ps ++ cs0 ∷ [])) (map line.Command cs ++ rest) ≡ adds_all (program_lists ds (ps ++ (cs0 ++ cs) ∷ [])) rest
+add_commands ds ps cs0 [] rest h = ap (λ (xs : List Command). adds_all (program_lists ds (ps ++ xs ∷ [])) rest) (sym (append-nil cs0))
 add_commands ds ps cs0 (c ∷ cs) rest h =
     let total = sum_push ps cs0 in
     let some : eqb (length (ps ++ cs0 ∷ [])) 0 ≡ false = let l = length-append ps (cs0 ∷ []) in grind (arith, nat_tests) in
     let room : leb MAX_COMMANDS (sum_by length (ps ++ cs0 ∷ [])) ≡ false = grind (arith, nat_tests) in
-    rw (some, room, onto_last_is c ps cs0) (add_commands ds ps (cs0 ++ c ∷ []) cs rest (omega (arith, length-append cs0 (c ∷ []))) ∙ ap (λ (xs : List Command). adds_all (lists ds (ps ++ xs ∷ [])) rest) (push_assoc cs0 c cs))
+    rw (some, room, onto_last_is c ps cs0) (add_commands ds ps (cs0 ++ c ∷ []) cs rest (omega (arith, length-append cs0 (c ∷ []))) ∙ ap (λ (xs : List Command). adds_all (program_lists ds (ps ++ xs ∷ [])) rest) (push_assoc cs0 c cs))
 
 add_programs : (ds : List DriverSpec) (ps0 ps : List (List Command)) → length ps0 + length ps ≤ MAX_PROCESSES → sum_by length ps0 + sum_by length ps ≤ MAX_COMMANDS
-    → adds_all (lists ds ps0) (program_lines (length ps0) ps) ≡ Ok (lists ds (ps0 ++ ps))
-add_programs ds ps0 [] h k = ap (λ (xs : List (List Command)). Ok (lists ds xs)) (sym (append-nil ps0))
+    → adds_all (program_lists ds ps0) (program_lines (length ps0) ps) ≡ Ok (program_lists ds (ps0 ++ ps))
+add_programs ds ps0 [] h k = ap (λ (xs : List (List Command)). Ok (program_lists ds xs)) (sym (append-nil ps0))
 add_programs ds ps0 (p ∷ ps) h k =
     let same : eqb (length ps0) (length ps0) ≡ true = grind (arith, nat_tests) in
     let room : leb MAX_PROCESSES (length ps0) ≡ false = grind (arith, nat_tests) in
     let sums = sum_by-cons length p ps in
     let len : length ps0 + 1 ≡ length (ps0 ++ p ∷ []) = omega (arith, length-append ps0 (p ∷ [])) in
     let rec = add_programs ds (ps0 ++ p ∷ []) ps (omega (arith, len)) (omega (arith, sum_push ps0 p, sums)) in
-    rw (same, room) (add_commands ds ps0 [] p (program_lines (length ps0 + 1) ps) (omega (arith, sums)) ∙ rw len (rec ∙ ap (λ (xs : List (List Command)). Ok (lists ds xs)) (push_assoc ps0 p ps)))
+    rw (same, room) (add_commands ds ps0 [] p (program_lines (length ps0 + 1) ps) (omega (arith, sums)) ∙ rw len (rec ∙ ap (λ (xs : List (List Command)). Ok (program_lists ds xs)) (push_assoc ps0 p ps)))
 
-add_body : (v : ProgramLists) → AreWithinLimits v → adds_all (lists [] []) (body v) ≡ Ok v
+add_body : (v : ProgramLists) → AreWithinLimits v → adds_all (program_lists [] []) (body v) ≡ Ok v
 add_body v within = add_drivers [] v.drivers (program_lines 0 v.programs) (omega (arith, within.drivers)) ∙ add_programs v.drivers [] v.programs (omega (arith, within.programs)) (omega (arith, within.commands))
 
 -- ---- a front leads to its value
@@ -144,8 +144,8 @@ front_leads : (v : ProgramLists) (y : List ℕ) (ys : List (List ℕ)) → IsAll
 front_leads v y ys allowed =
     let s = some_list (body v) y ys in
     let len : 2 + length (body v) ≡ length (front v) + 1 = omega (arith, length-map (body v) line_text) in
-    ap (λ (x : List (List ℕ)). starts (header ∷ x)) s.2 ∙ ap (λ (x : List (List ℕ)). goes (lists [] []) 2 x) (sym s.2)
-    ∙ lines_go (body v) (lists [] []) v 2 y ys allowed.fits (add_body v allowed.within) ∙ ap (λ (m : ℕ). goes v m (y ∷ ys)) len
+    ap (λ (x : List (List ℕ)). starts (header ∷ x)) s.2 ∙ ap (λ (x : List (List ℕ)). goes (program_lists [] []) 2 x) (sym s.2)
+    ∙ lines_go (body v) (program_lists [] []) v 2 y ys allowed.fits (add_body v allowed.within) ∙ ap (λ (m : ℕ). goes v m (y ∷ ys)) len
 
 -- ---- each thing that can be read is what the machine reads
 

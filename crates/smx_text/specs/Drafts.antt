@@ -1,7 +1,7 @@
 -- What holds of the programs that are being read, and why a line can't join them. No public clause needs this.
 use Rattle.std.specs.Prelude.{◌≡◌, ◌⊎◌, ℕ, length, Option, None}
 use Rattle.std.specs.List.{sum_by}
-use Rattle.smx_types.specs.ProgramLists.{ProgramLists, AreWithinLimits, lists}
+use Rattle.smx_types.specs.ProgramLists.{ProgramLists, AreWithinLimits, program_lists}
 use Rattle.smx_text.specs.declared.draft.Draft.TheInside.{Inside}
 use Rattle.smx_text.specs.declared.fault.Cause.{Cause}
 use Rattle.smx_text.specs.declared.fault.Cause.TheVariants as cause
@@ -11,7 +11,7 @@ use Rattle.smx_text.specs.ProgramsReading.{MayFollow, IsFull}
 
 -- they are within the limits, and their commands are counted
 pub record IsCounted (d : Inside) : Type 0 where
-  pub within : AreWithinLimits (lists d.drivers.items d.programs.items)
+  pub within : AreWithinLimits (program_lists d.drivers.items d.programs.items)
   pub count : d.count ≡ sum_by length d.programs.items
 
 -- it may not follow, or is one too many, or there is no room for it

@@ -1,7 +1,7 @@
 //! The programs that are being read.
 
 ghost use Rattle.std.specs.Prelude.{◌≡◌, ◌≢◌, ◌∷◌, ◌++◌, [], OnOk, IfErr};
-ghost use Rattle.smx_types.specs.ProgramLists.{lists, AreWithinLimits};
+ghost use Rattle.smx_types.specs.ProgramLists.{program_lists, AreWithinLimits};
 ghost use Rattle.smx_text.specs.declared.line.Line.TheVariants.{End, Driver as DriverLine};
 ghost use Rattle.smx_text.specs.declared.line.Line.TheVariants.{Process as ProcessLine};
 ghost use Rattle.smx_text.specs.declared.line.Line.TheVariants.{Command as CommandLine};
@@ -26,12 +26,12 @@ pub struct Draft {
 }
 
 impl Model for Draft {
-    ghost use Rattle.smx_types.specs.ProgramLists.{ProgramLists, lists};
+    ghost use Rattle.smx_types.specs.ProgramLists.{ProgramLists, program_lists};
     ghost use Rattle.smx_text.specs.Drafts.{IsCounted};
 
     ghost Value = { ProgramLists };
 
-    ghost view = { λ d. lists d.drivers.items d.programs.items };
+    ghost view = { λ d. program_lists d.drivers.items d.programs.items };
 
     ghost invariant = { IsCounted };
 }
@@ -39,7 +39,7 @@ impl Model for Draft {
 impl Draft {
     // None yet.
     pub fn new(alloc: Global) -> Draft
-        ensures empty { result ≡ lists [] [] }
+        ensures empty { result ≡ program_lists [] [] }
         ensures within { AreWithinLimits result }
     {
         Draft {

@@ -16,8 +16,8 @@ use Rattle.smx_types.specs.declared.view.RouteLine.{RouteLine}
 abbrev pub SaysSame : {X : Type 0} → (X → X → Bool) → Type 0
 SaysSame {X} test = (a b : X) → Decides (test a b) (a ≡ b)
 
-lists : {X : Type 0} (test : X → X → Bool) → SaysSame test → (xs ys : List X) → Decides (pointwise test xs ys) (xs ≡ ys)
-lists test says xs ys = slice_eq-Decides says xs ys (pointwise test xs ys) refl
+program_lists : {X : Type 0} (test : X → X → Bool) → SaysSame test → (xs ys : List X) → Decides (pointwise test xs ys) (xs ≡ ys)
+program_lists test says xs ys = slice_eq-Decides says xs ys (pointwise test xs ys) refl
 
 abbrev view_of : ℕ → ℕ → List DescriptorLine → List LinkLine → List BindingLine → List RouteLine → List MessageLine → List FullLine → ConfigView
 view_of id serial fds links binds routes msgs fulls = record { next_id = id; next_serial = serial; fds = fds; links = links; binds = binds; routes = routes; msgs = msgs; fulls = fulls }
@@ -33,8 +33,8 @@ pub same_view : (t1 : DescriptorLine → DescriptorLine → Bool) (t2 : LinkLine
     → SaysSame t1 → SaysSame t2 → SaysSame t3 → SaysSame t4 → SaysSame t5 → SaysSame t6
     → Decides r (a ≡ b)
 same_view t1 t2 t3 t4 t5 t6 a b r e s1 s2 s3 s4 s5 s6 =
-    let d = Decides-and _ _ (Decides-eqb a.next_id b.next_id) (Decides-and _ _ (Decides-eqb a.next_serial b.next_serial) (Decides-and _ _ (lists t1 s1 a.fds b.fds) (Decides-and _ _ (lists t2 s2 a.links b.links)
-    (Decides-and _ _ (lists t3 s3 a.binds b.binds) (Decides-and _ _ (lists t4 s4 a.routes b.routes) (Decides-and _ _ (lists t5 s5 a.msgs b.msgs) (lists t6 s6 a.fulls b.fulls))))))) in (
+    let d = Decides-and _ _ (Decides-eqb a.next_id b.next_id) (Decides-and _ _ (Decides-eqb a.next_serial b.next_serial) (Decides-and _ _ (program_lists t1 s1 a.fds b.fds) (Decides-and _ _ (program_lists t2 s2 a.links b.links)
+    (Decides-and _ _ (program_lists t3 s3 a.binds b.binds) (Decides-and _ _ (program_lists t4 s4 a.routes b.routes) (Decides-and _ _ (program_lists t5 s5 a.msgs b.msgs) (program_lists t6 s6 a.fulls b.fulls))))))) in (
       λ h. let p = d.0 (sym e ∙ h) in
           made a.next_id b.next_id a.next_serial b.next_serial a.fds b.fds a.links b.links a.binds b.binds a.routes b.routes a.msgs b.msgs a.fulls b.fulls
           p.0 p.1.0 p.1.1.0 p.1.1.1.0 p.1.1.1.1.0 p.1.1.1.1.1.0 p.1.1.1.1.1.1.0 p.1.1.1.1.1.1.1,

@@ -11,8 +11,8 @@ pub record ProgramLists : Type 0 where
   pub programs : List (List Command)
 
 -- these two as one value
-abbrev pub lists : List DriverSpec → List (List Command) → ProgramLists
-lists drivers programs = record { drivers = drivers; programs = programs }
+abbrev pub program_lists : List DriverSpec → List (List Command) → ProgramLists
+program_lists drivers programs = record { drivers = drivers; programs = programs }
 
 -- at most 64 drivers, 64 programs, and 100,000 commands in all of them
 pub record AreWithinLimits (p : ProgramLists) : Type 0 where

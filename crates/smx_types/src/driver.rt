@@ -1,7 +1,7 @@
 //! Drivers, as they are asked for.
 
 ghost use Rattle.std.specs.Prelude.{◌≡◌};
-ghost use Rattle.smx_types.specs.Drivers.{checked};
+ghost use Rattle.smx_types.specs.Drivers.{spec_check};
 
 use crate::items::{Copied, Items};
 use crate::limits::{MAX_HIGH, MAX_MESSAGE, MAX_MINORS};
@@ -50,7 +50,7 @@ pub type Drivers = Items<DriverSpec>;
 impl DriverSpec {
     /// The first fault in the order of `SpecFault`, if there is one. Takes no memory.
     pub fn check(&self) -> Result<(), SpecFault>
-        ensures { result ≡ checked self.now }
+        ensures { result ≡ spec_check self.now }
     {
         if self.minors < 1 || self.minors > MAX_MINORS {
             return Err(SpecFault::BadMinors);

@@ -3,7 +3,7 @@
 ghost use Rattle.std.specs.Prelude.{◌≡◌, ◌≤◌, ◌<◌, ◌↔◌, length, IfOk, IfErr, IsOk, IsTrue};
 ghost use Rattle.std.specs.List.{sum_by};
 ghost use Rattle.smx_types.specs.declared.limits.TheConstants.{MAX_COMMANDS};
-ghost use Rattle.smx_types.specs.ProgramLists.{lists, AreWithinLimits};
+ghost use Rattle.smx_types.specs.ProgramLists.{program_lists, AreWithinLimits};
 
 use crate::command::Commands;
 use crate::driver::{DriverSpec, Drivers};
@@ -56,9 +56,9 @@ impl Programs {
     /// These drivers and programs, unless they are too many: `Many` hands both lists back, and comes
     /// exactly where there are over 64 drivers, 64 programs or 100,000 commands. Takes no memory.
     pub fn new(drivers: Drivers, programs: ProgramList) -> Result<Programs, Many>
-        ensures taken { IfOk result (λ p. p ≡ lists drivers programs) }
+        ensures taken { IfOk result (λ p. p ≡ program_lists drivers programs) }
         ensures given_back { IfErr result (λ m. m ≡ record { drivers = drivers; programs = programs }) }
-        ensures within { IsOk result ↔ AreWithinLimits (lists drivers programs) }
+        ensures within { IsOk result ↔ AreWithinLimits (program_lists drivers programs) }
     {
         if drivers.as_slice().len() > MAX_DRIVERS
             || programs.as_slice().len() > MAX_PROCESSES as usize

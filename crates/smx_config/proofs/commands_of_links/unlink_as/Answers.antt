@@ -1,5 +1,5 @@
 use Rattle.std.proofs.Common.{refl, sym, ap, ◌∙◌}
-use Rattle.smx_model.specs.Removal.{swept}
+use Rattle.smx_model.specs.Removal.{after_sweep}
 use Rattle.smx_config.specs.ListFields.{configuration_of}
 use Rattle.smx_config.specs.Owners.{is_chosen}
 use Rattle.smx_config.proofs.DoneLemmas.{done_is, unlink_does}
@@ -12,4 +12,4 @@ returns-clause-does c =
     let goes = is_chosen c.args.which c.args.kind c.in_ok-stream.stream in
     unlink_does c.args.drivers.now (configuration_of c.args.lists.now) c.args.process c.args.fd c.args.which c.args.kind c.in_ok-stream.stream _ (sym c.mux_stream.ensures ∙ c.in_ok-stream.was) (sym c.check_chosen.ensures ∙ c.in_ok-check_chosen.was)
     (done_is c.args.drivers.now (configuration_of c.args.lists.now) _ (configuration_of c.sweep_done.new.lists) c.in_ok-room.room.old.items c.sweep_done.result
-    (c.sweep_done.ensures.value ∙ ap (swept c.args.drivers.now) (c.remove_links.ensures.value ∙ without_is_removed old goes _ (c.deref-2.ensures.value ∙ (c.in_ok-gone.ensures ∙ rw c.deref.ensures.value refl)))) c.in_ok-room.ensures.old_serials c.sweep_done.ensures.reply)
+    (c.sweep_done.ensures.value ∙ ap (after_sweep c.args.drivers.now) (c.remove_links.ensures.value ∙ without_is_removed old goes _ (c.deref-2.ensures.value ∙ (c.in_ok-gone.ensures ∙ rw c.deref.ensures.value refl)))) c.in_ok-room.ensures.old_serials c.sweep_done.ensures.reply)

@@ -1,7 +1,7 @@
 use Rattle.std.proofs.Common.{arith, not, ◌&&◌}
 use Rattle.smx_types.specs.declared.stream.Place.{Place}
 use Rattle.smx_model.specs.Commands.{is_side}
-use Rattle.smx_model.specs.Configuration.{Held, same_stream}
+use Rattle.smx_model.specs.Configuration.{QueuedMessage, same_stream}
 use Rattle.smx_config.proofs.MarkLemmas.{marks_after_emptied, not_more}
 use Rattle.smx_config.proofs.commands_of_messages.empty.Goals as goal
 
@@ -11,6 +11,6 @@ returns-clause-kept c =
     record {
       fds_room = c.requires.fds_room;
       fds_rise = c.requires.fds_rise;
-      marks_room = omega (arith, not_more (λ (h : Held). not (goes h.place)) c.args.lists.now.flow.items c.flush_flow.new.flow.items c.flush_flow.ensures);
+      marks_room = omega (arith, not_more (λ (h : QueuedMessage). not (goes h.place)) c.args.lists.now.flow.items c.flush_flow.new.flow.items c.flush_flow.ensures);
       marks = marks_after_emptied goes c.args.lists.now.flow.items c.flush_flow.new.flow.items c.args.lists.now.fulls.items c.flush_fulls.new.fulls.items c.requires.marks c.flush_flow.ensures c.flush_fulls.ensures.marks;
     }

@@ -1,7 +1,7 @@
 use Rattle.std.proofs.Common.{◌≡◌, ◌+◌, ◌≤◌, eqb, filter, length, not, vec_len}
 use Rattle.std.specs.List.{list_any}
 use Rattle.std.specs.Prelude.{vec_capacity}
-use Rattle.smx_model.specs.Ordered.{rising}
+use Rattle.smx_model.specs.Ordered.{in_rising_order}
 use Rattle.smx_model.specs.Removal.{serials}
 use Rattle.smx_config.specs.Removals.{rising_onto}
 use Rattle.smx_config.proofs.dropped.dropped.Given as goal
@@ -11,7 +11,7 @@ decreases-loop-n l = vec_len l.left
 
 abbrev pub invariant-loop-n : goal.invariant-loop-n
 invariant-loop-n l = record {
-  comes_to : rising_onto l.gone.items (filter (λ n. not (list_any (λ m. eqb n m) (serials l.flow))) l.left.items) ≡ rising (filter (λ n. not (list_any (λ m. eqb n m) (serials l.flow))) l.initial.left.items);
+  comes_to : rising_onto l.gone.items (filter (λ n. not (list_any (λ m. eqb n m) (serials l.flow))) l.left.items) ≡ in_rising_order (filter (λ n. not (list_any (λ m. eqb n m) (serials l.flow))) l.initial.left.items);
   room : length l.gone.items + length l.left.items ≤ vec_capacity l.gone;
   within : l.count ≤ length l.flow;
 }

@@ -1,5 +1,5 @@
 use Rattle.std.proofs.Common.{arith}
-use Rattle.smx_model.specs.Configuration.{held_before}
+use Rattle.smx_model.specs.Configuration.{queued_before}
 use Rattle.smx_config.proofs.MarkLemmas.{room_to_mark, marks_after_arrived, longer_by_one}
 use Rattle.smx_config.proofs.queues.arrive.Goals as goal
 
@@ -10,7 +10,7 @@ pub returns-clause-kept : goal.returns-clause-kept
 returns-clause-kept c = record {
   fds_room = c.requires.kept.fds_room;
   fds_rise = c.requires.kept.fds_rise;
-  marks_room = omega (arith, longer_by_one held_before c.args.lists.now.flow.items c.put_queued.new.flow.items c.new.result c.put_queued.ensures.flow);
+  marks_room = omega (arith, longer_by_one queued_before c.args.lists.now.flow.items c.put_queued.new.flow.items c.new.result c.put_queued.ensures.flow);
   marks = marks_after_arrived c.args.lists.now.flow.items c.put_queued.new.flow.items c.args.lists.now.fulls.items c.mark.new.fulls.items c.args.place c.args.message c.becomes_full-full.result
       c.requires.kept.marks (rw (← c.new.ensures) c.put_queued.ensures.flow) c.mark.ensures.marked;
 }

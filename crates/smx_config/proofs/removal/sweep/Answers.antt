@@ -1,5 +1,5 @@
 use Rattle.std.proofs.Common.{length, refl, ap, ◌∙◌}
-use Rattle.smx_model.specs.Removal.{without_dead}
+use Rattle.smx_model.specs.Removal.{without_dead_streams}
 use Rattle.smx_config.specs.ListFields.{configuration_of}
 use Rattle.smx_config.specs.Removals.{is_loose}
 use Rattle.smx_config.proofs.RemovalLemmas.{without_is_removed}
@@ -7,4 +7,4 @@ use Rattle.smx_config.proofs.removal.sweep.Goals as goal
 
 pub returns-clause-value : goal.returns-clause-value
 returns-clause-value c =
-    c.drop_dead.ensures.value ∙ ap (without_dead c.args.drivers.now) (c.remove_links.ensures.value ∙ without_is_removed (configuration_of c.args.lists.now) (is_loose c.args.lists.now.fds.items c.args.lists.now.links.items (length c.args.drivers.now)) _ (c.deref-3.ensures.value ∙ (c.loose_links-loose.ensures ∙ rw (c.deref.ensures.value, c.deref-2.ensures.value) refl)))
+    c.drop_dead.ensures.value ∙ ap (without_dead_streams c.args.drivers.now) (c.remove_links.ensures.value ∙ without_is_removed (configuration_of c.args.lists.now) (is_loose c.args.lists.now.fds.items c.args.lists.now.links.items (length c.args.drivers.now)) _ (c.deref-3.ensures.value ∙ (c.loose_links-loose.ensures ∙ rw (c.deref.ensures.value, c.deref-2.ensures.value) refl)))

@@ -1,5 +1,5 @@
 use Rattle.std.proofs.Common.{◌≡◌}
-use Rattle.smx_model.specs.Settling.{settled, settled_within}
+use Rattle.smx_model.specs.Settling.{after_settling, after_settling_within}
 use Rattle.smx_config.specs.Reserved.{HasRoom}
 use Rattle.smx_config.specs.ListFields.{configuration_of}
 use Rattle.smx_config.proofs.settling.settle.Given as goal
@@ -8,4 +8,4 @@ abbrev pub decreases-loop-left : goal.decreases-loop-left
 decreases-loop-left l = l.left
 
 abbrev pub invariant-loop-left : goal.invariant-loop-left
-invariant-loop-left l = record { comes_to : settled_within l.drivers l.left (configuration_of l.lists) ≡ settled l.drivers (configuration_of l.initial.lists); kept : HasRoom l.lists }
+invariant-loop-left l = record { comes_to : after_settling_within l.drivers l.left (configuration_of l.lists) ≡ after_settling l.drivers (configuration_of l.initial.lists); kept : HasRoom l.lists }
