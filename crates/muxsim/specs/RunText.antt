@@ -9,7 +9,7 @@ use Rattle.smx_text.specs.ProgramsReading.{IsFault}
 use Rattle.smx_text.specs.declared.fault.TextFault.{TextFault}
 use Rattle.smx_text.specs.ProgramsText.{SpellsPrograms}
 use Rattle.smx_text.specs.TranscriptReading.{SpellsTranscript}
-use Rattle.smx_text.specs.Words.{split}
+use Rattle.smx_words.specs.Words.{split}
 use Rattle.smx_config.specs.declared.fault.ConfigFault.{ConfigFault}
 use Rattle.muxsim.specs.declared.fault.MainFault.{MainFault}
 use Rattle.muxsim.specs.declared.fault.MainFault.TheVariants.{Refused, Text, TooLong, ReadFailed, WriteFailed}

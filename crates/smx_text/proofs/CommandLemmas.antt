@@ -7,9 +7,9 @@ use Rattle.smx_types.specs.declared.command.Command.{Command}
 use Rattle.smx_types.specs.declared.command.Command.TheVariants as command
 use Rattle.smx_types.specs.declared.command.Sides.{Sides}
 use Rattle.smx_types.specs.declared.command.Which.{Which}
-use Rattle.smx_text.specs.HexWords.{hex_word}
-use Rattle.smx_text.specs.Spelling.{command_words, which_word}
-use Rattle.smx_text.specs.Spellable.{FitsBytes, FitsCommand, FitsName, FitsNumber, FitsWhich}
+use Rattle.smx_words.specs.HexWords.{hex_word}
+use Rattle.smx_words.specs.Spelling.{command_words, which_word}
+use Rattle.smx_words.specs.Spellable.{FitsBytes, FitsCommand, FitsName, FitsNumber, FitsWhich}
 use Rattle.smx_text.specs.WordReading.{◌>>=◌, number_at, name_at, which_at, sides_at, hex_at}
 use Rattle.smx_text.specs.CommandReading.{with_number, with_numbers, with_which, with_stream, flush_at, route_at, write_at, inject_at, one_word, two_words, two_numbers, descriptor_words, three_words, four_words, five_words, command_at}
 use Rattle.smx_text.proofs.NumberLemmas.{number_takes, number_again}

@@ -21,10 +21,10 @@ use Rattle.smx_types.specs.declared.reply.Fault.{Fault}
 use Rattle.smx_types.specs.declared.reply.Fault.TheVariants as fault
 use Rattle.smx_types.specs.declared.reply.Reply.{Reply}
 use Rattle.smx_types.specs.declared.reply.Reply.TheVariants as reply
-use Rattle.smx_text.specs.HexWords.{hex_word}
-use Rattle.smx_text.specs.Words.{line_of, split}
-use Rattle.smx_text.specs.Spelling.{command_words, reply_words, fault_words, which_word, sides_word}
-use Rattle.smx_text.specs.Spellable.{FitsBytes, FitsCommand, FitsName, FitsNumber, FitsReply, FitsWhich}
+use Rattle.smx_words.specs.HexWords.{hex_word}
+use Rattle.smx_words.specs.Words.{line_of, split}
+use Rattle.smx_words.specs.Spelling.{command_words, reply_words, fault_words, which_word, sides_word}
+use Rattle.smx_words.specs.Spellable.{FitsBytes, FitsCommand, FitsName, FitsNumber, FitsReply, FitsWhich}
 use Rattle.smx_text.specs.WordReading.{◌>>=◌}
 use Rattle.smx_text.specs.WordCounts.{two_of}
 use Rattle.smx_text.specs.TranscriptLineReading.{before_space, after_space, sides_of}

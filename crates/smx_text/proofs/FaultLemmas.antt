@@ -9,7 +9,7 @@ use Rattle.smx_text.specs.declared.fault.Cause.TheVariants as cause
 use Rattle.smx_text.specs.declared.fault.TextFault.{TextFault}
 use Rattle.smx_text.specs.declared.line.Line.{Line}
 use Rattle.smx_text.specs.declared.line.Line.TheVariants as line
-use Rattle.smx_text.specs.Words.{split}
+use Rattle.smx_words.specs.Words.{split}
 use Rattle.smx_text.specs.ProgramsText.{body, FitsLine, IsAllowed, SpellsPrograms}
 use Rattle.smx_text.specs.ProgramsReading.{line_text, header, front, MayFollow, IsFault, Reads}
 use Rattle.smx_text.specs.LineReading.{line_at}

@@ -4,7 +4,7 @@ use Rattle.std.specs.List.{join_with_byte, AllByRecursion}
 use Rattle.std.specs.Prelude.{codes}
 use Rattle.std.proofs.lemmas.List.Splits.{slice_split_at}
 use Rattle.std.proofs.lemmas.List.Elements.{All-from_recursion}
-use Rattle.smx_text.specs.Words.{line_of, text_of, split}
+use Rattle.smx_words.specs.Words.{line_of, text_of, split}
 use Rattle.smx_text.proofs.JoinLemmas.{IsFree}
 
 abbrev pub end_words : List (List ℕ)

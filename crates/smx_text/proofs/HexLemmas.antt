@@ -11,8 +11,8 @@ use Rattle.std.proofs.lemmas.Slice.Eq.{bytes_eq-Decides}
 use Rattle.hex.specs.Hex.{◌>>=◌, IsBytes, decode_of, decode_pairs, digit_or_error, encode_lower, encode_with, hex_digit_value, lower_digits, pair_value, value_at}
 use Rattle.hex.specs.declared.error.FromHexError.{FromHexError}
 use Rattle.hex.proofs.HexLemmas.{decode_of-encode_lower, decode_of-even, decode_of-ok}
-use Rattle.smx_text.specs.HexWords.{hex_word}
-use Rattle.smx_text.specs.Spellable.{FitsBytes}
+use Rattle.smx_words.specs.HexWords.{hex_word}
+use Rattle.smx_words.specs.Spellable.{FitsBytes}
 use Rattle.smx_text.specs.WordReading.{hex_at, is_lower, no_capitals, when_ok}
 use Rattle.smx_text.proofs.WordLemmas.{no_word}
 

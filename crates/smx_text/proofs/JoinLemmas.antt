@@ -23,10 +23,10 @@ use Rattle.smx_types.specs.declared.stream.Side.{Side}
 use Rattle.smx_types.specs.declared.stream.Side.TheVariants as side
 use Rattle.smx_text.specs.declared.line.Line.{Line}
 use Rattle.smx_text.specs.declared.line.Line.TheVariants as line
-use Rattle.smx_text.specs.HexWords.{hex_word}
-use Rattle.smx_text.specs.Words.{line_of, split}
-use Rattle.smx_text.specs.Spelling.{command_words, driver_words, kind_word, which_word, sides_word, side_word, link_kind_word}
-use Rattle.smx_text.specs.Spellable.{FitsBytes, FitsCommand, FitsDriver, FitsName, FitsNumber, FitsWhich}
+use Rattle.smx_words.specs.HexWords.{hex_word}
+use Rattle.smx_words.specs.Words.{line_of, split}
+use Rattle.smx_words.specs.Spelling.{command_words, driver_words, kind_word, which_word, sides_word, side_word, link_kind_word}
+use Rattle.smx_words.specs.Spellable.{FitsBytes, FitsCommand, FitsDriver, FitsName, FitsNumber, FitsWhich}
 use Rattle.smx_text.specs.ProgramsText.{line_words, FitsLine}
 use Rattle.smx_text.specs.ProgramsReading.{line_text}
 use Rattle.smx_text.specs.LineReading.{line_at}

@@ -9,8 +9,8 @@ use Rattle.smx_types.specs.declared.driver.DriverKind.{DriverKind}
 use Rattle.smx_types.specs.declared.driver.DriverSpec.{DriverSpec}
 use Rattle.smx_text.specs.declared.line.Line.{Line}
 use Rattle.smx_text.specs.declared.line.Line.TheVariants as line
-use Rattle.smx_text.specs.Spelling.{kind_word, command_words, driver_words}
-use Rattle.smx_text.specs.Spellable.{FitsDriver}
+use Rattle.smx_words.specs.Spelling.{kind_word, command_words, driver_words}
+use Rattle.smx_words.specs.Spellable.{FitsDriver}
 use Rattle.smx_text.specs.ProgramsText.{line_words, FitsLine}
 use Rattle.smx_text.specs.WordReading.{◌>>=◌, kind_at}
 use Rattle.smx_text.specs.CommandReading.{command_at}

@@ -9,7 +9,7 @@ use Rattle.std.proofs.lemmas.Int.Digits.{digits_value_more}
 use Rattle.std.proofs.lemmas.Fmt.{decimal-digits_value, digits_decimal, digits_value-decimal, first_decimal, decimal_nonempty, decimal_digit}
 use Rattle.std.proofs.lemmas.Bool.{cases_lt, lt-ltb}
 use Rattle.std.proofs.lemmas.Bool.Decides.{nat_tests}
-use Rattle.smx_text.specs.Spellable.{FitsNumber}
+use Rattle.smx_words.specs.Spellable.{FitsNumber}
 use Rattle.smx_text.specs.WordReading.{starts_wrong, digits_at, number_at}
 
 pub own : IsNumeralModel (λ ds. all_ascii_digits ds ≡ true) (digits_value 10)

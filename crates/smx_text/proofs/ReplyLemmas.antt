@@ -8,9 +8,9 @@ use Rattle.smx_types.specs.declared.reply.Fault.{Fault}
 use Rattle.smx_types.specs.declared.reply.Fault.TheVariants as fault
 use Rattle.smx_types.specs.declared.reply.Reply.{Reply}
 use Rattle.smx_types.specs.declared.reply.Reply.TheVariants as reply
-use Rattle.smx_text.specs.HexWords.{hex_word}
-use Rattle.smx_text.specs.Spelling.{fault_words, reply_words}
-use Rattle.smx_text.specs.Spellable.{FitsBytes, FitsNumber, FitsReply}
+use Rattle.smx_words.specs.HexWords.{hex_word}
+use Rattle.smx_words.specs.Spelling.{fault_words, reply_words}
+use Rattle.smx_words.specs.Spellable.{FitsBytes, FitsNumber, FitsReply}
 use Rattle.smx_text.specs.WordReading.{◌>>=◌, number_at, hex_at}
 use Rattle.smx_text.specs.WordCounts.{two_of, three_of}
 use Rattle.smx_text.specs.ReplyReading.{invalid_at, again_at, missing_at, bare_fault_at, told_fault_at, numbers_at, onto, two_words, fd_at, got_at, done_at, short_reply, reply_at}

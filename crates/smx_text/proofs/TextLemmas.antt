@@ -7,7 +7,7 @@ use Rattle.std.proofs.lemmas.List.Elements.{All-from_recursion}
 use Rattle.smx_types.specs.ProgramLists.{ProgramLists}
 use Rattle.smx_text.specs.declared.line.Line.{Line}
 use Rattle.smx_text.specs.declared.line.Line.TheVariants as line
-use Rattle.smx_text.specs.Words.{text_of, split}
+use Rattle.smx_words.specs.Words.{text_of, split}
 use Rattle.smx_text.specs.ProgramsText.{line_words, FitsLine, body, IsAllowed, SpellsPrograms}
 use Rattle.smx_text.specs.ProgramsReading.{line_text, header, front}
 use Rattle.smx_text.proofs.JoinLemmas.{line_free}

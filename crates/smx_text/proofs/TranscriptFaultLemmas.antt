@@ -14,8 +14,8 @@ use Rattle.smx_text.specs.declared.transcript_draft.Stage.TheVariants as stage
 use Rattle.smx_text.specs.declared.transcript_draft.TranscriptDraft.{TranscriptDraft}
 use Rattle.smx_text.specs.declared.transcript_line.TranscriptLine.{TranscriptLine}
 use Rattle.smx_text.specs.declared.transcript_line.TranscriptLine.TheVariants as line
-use Rattle.smx_text.specs.Words.{text_of, split}
-use Rattle.smx_text.specs.Spelling.{driver_words, entry_words}
+use Rattle.smx_words.specs.Words.{text_of, split}
+use Rattle.smx_words.specs.Spelling.{driver_words, entry_words}
 use Rattle.smx_text.specs.TranscriptText.{view_lines, transcript_lines, transcript_text}
 use Rattle.smx_text.specs.TranscriptReading.{header_words, line_words, line_text, header, FitsLine, view_body, body, front, IsAllowed, IsBegun, SpellsTranscript, IsFault, Reads}
 use Rattle.smx_text.specs.TranscriptLineReading.{transcript_line_at}

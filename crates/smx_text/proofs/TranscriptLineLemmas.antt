@@ -13,9 +13,9 @@ use Rattle.smx_types.specs.declared.reply.Reply.{Reply}
 use Rattle.smx_types.specs.declared.reply.Reply.TheVariants as reply
 use Rattle.smx_text.specs.declared.transcript_line.TranscriptLine.{TranscriptLine}
 use Rattle.smx_text.specs.declared.transcript_line.TranscriptLine.TheVariants as line
-use Rattle.smx_text.specs.Words.{line_of, split}
-use Rattle.smx_text.specs.Spelling.{command_words, reply_words, fault_words, entry_words as words_of}
-use Rattle.smx_text.specs.Spellable.{FitsNumber, FitsReply}
+use Rattle.smx_words.specs.Words.{line_of, split}
+use Rattle.smx_words.specs.Spelling.{command_words, reply_words, fault_words, entry_words as words_of}
+use Rattle.smx_words.specs.Spellable.{FitsNumber, FitsReply}
 use Rattle.smx_text.specs.CommandReading.{command_at}
 use Rattle.smx_text.specs.ReplyReading.{reply_at}
 use Rattle.smx_text.specs.TranscriptReading.{line_words, line_text, FitsLine}

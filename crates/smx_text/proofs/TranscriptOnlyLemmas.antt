@@ -14,7 +14,7 @@ use Rattle.smx_text.specs.declared.transcript_draft.Stage.TheVariants as stage
 use Rattle.smx_text.specs.declared.transcript_draft.TranscriptDraft.{TranscriptDraft}
 use Rattle.smx_text.specs.declared.transcript_line.TranscriptLine.{TranscriptLine}
 use Rattle.smx_text.specs.declared.transcript_line.TranscriptLine.TheVariants as line
-use Rattle.smx_text.specs.Words.{split}
+use Rattle.smx_words.specs.Words.{split}
 use Rattle.smx_text.specs.WordReading.{◌>>=◌}
 use Rattle.smx_text.specs.TranscriptText.{transcript_text}
 use Rattle.smx_text.specs.TranscriptReading.{line_text, header, FitsLine, body, front, IsAllowed, IsBegun, GoesOn, IsFull, IsFault, Reads}

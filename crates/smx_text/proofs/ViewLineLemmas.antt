@@ -9,8 +9,8 @@ use Rattle.smx_types.specs.declared.link.LinkKind.{LinkKind}
 use Rattle.smx_types.specs.declared.stream.Side.{Side}
 use Rattle.smx_text.specs.declared.transcript_line.TranscriptLine.{TranscriptLine}
 use Rattle.smx_text.specs.declared.transcript_line.TranscriptLine.TheVariants as line
-use Rattle.smx_text.specs.Spelling.{side_word, link_kind_word}
-use Rattle.smx_text.specs.Spellable.{FitsName, FitsNumber}
+use Rattle.smx_words.specs.Spelling.{side_word, link_kind_word}
+use Rattle.smx_words.specs.Spellable.{FitsName, FitsNumber}
 use Rattle.smx_text.specs.WordReading.{◌>>=◌, number_at, name_at, side_at, link_kind_at}
 use Rattle.smx_text.specs.WordCounts.{two_of, three_of, four_of, six_of}
 use Rattle.smx_text.specs.LineReading.{driver_at}

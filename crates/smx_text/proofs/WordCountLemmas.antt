@@ -1,6 +1,6 @@
 -- Parts of a text, exactly so many.
 use Rattle.std.proofs.Common.{◌≡◌, ℕ, List, [], ◌∷◌, Some, None, refl, ap, subst, ◌∙◌}
-use Rattle.smx_text.specs.Words.{split}
+use Rattle.smx_words.specs.Words.{split}
 use Rattle.smx_text.specs.WordCounts.{one_of, two_of, three_of, four_of, six_of}
 use Rattle.smx_text.proofs.SplitLemmas.{split_some}
 use Rattle.smx_text.proofs.WordLemmas.{chained}

@@ -16,8 +16,8 @@ use Rattle.smx_types.specs.declared.link.LinkKind.{LinkKind}
 use Rattle.smx_types.specs.declared.link.LinkKind.TheVariants as link
 use Rattle.smx_types.specs.declared.stream.Side.{Side}
 use Rattle.smx_types.specs.declared.stream.Side.TheVariants as side
-use Rattle.smx_text.specs.Spelling.{kind_word, which_word, sides_word, side_word, link_kind_word}
-use Rattle.smx_text.specs.Spellable.{FitsName, FitsWhich}
+use Rattle.smx_words.specs.Spelling.{kind_word, which_word, sides_word, side_word, link_kind_word}
+use Rattle.smx_words.specs.Spellable.{FitsName, FitsWhich}
 use Rattle.smx_text.specs.WordReading.{◌>>=◌, number_at, name_at, kind_at, which_at, sides_at, side_at, link_kind_at}
 use Rattle.smx_text.proofs.NumberLemmas.{own, number_takes, number_again}
 

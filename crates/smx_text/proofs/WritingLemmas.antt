@@ -17,10 +17,10 @@ use Rattle.smx_types.specs.declared.transcript.Transcript.{Transcript}
 use Rattle.smx_types.specs.declared.view.ConfigView.{ConfigView}
 use Rattle.smx_text.specs.declared.line.Line.TheVariants as line
 use Rattle.smx_text.specs.ProgramsText.{line_words, program_lines, body, programs_text, FitsLine}
-use Rattle.smx_text.specs.Spelling.{bind_words, command_words, descriptor_words, driver_words, entry_words, fault_words, full_words, link_words, message_words, reply_words, route_words}
-use Rattle.smx_text.specs.Spellable.{FitsCommand, FitsDriver}
+use Rattle.smx_words.specs.Spelling.{bind_words, command_words, descriptor_words, driver_words, entry_words, fault_words, full_words, link_words, message_words, reply_words, route_words}
+use Rattle.smx_words.specs.Spellable.{FitsCommand, FitsDriver}
 use Rattle.smx_text.specs.TranscriptText.{next_words, view_lines, transcript_text}
-use Rattle.smx_text.specs.Words.{line_of, text_of}
+use Rattle.smx_words.specs.Words.{line_of, text_of}
 use Rattle.smx_text.proofs.CommandLemmas.{command_some}
 
 -- two rows of words, neither of them empty, in one line

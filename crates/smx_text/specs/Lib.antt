@@ -1,7 +1,3 @@
-pub mod Words
-pub mod HexWords
-pub mod Spelling
-pub mod Spellable
 pub mod ProgramsText
 pub mod ProgramsReading
 pub mod TranscriptText

@@ -8,7 +8,7 @@ use Rattle.smx_text.specs.declared.fault.Cause.TheVariants as cause
 use Rattle.smx_text.specs.declared.fault.TextFault.{TextFault}
 use Rattle.smx_text.specs.declared.line.Line.{Line}
 use Rattle.smx_text.specs.declared.line.Line.TheVariants as line
-use Rattle.smx_text.specs.Words.{line_of, split}
+use Rattle.smx_words.specs.Words.{line_of, split}
 use Rattle.smx_text.specs.ProgramsText.{header_words, line_words, body, FitsLine, IsAllowed, SpellsPrograms}
 
 -- a line as bytes, without its line feed

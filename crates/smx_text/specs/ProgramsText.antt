@@ -6,9 +6,9 @@ use Rattle.smx_types.specs.ProgramLists.{ProgramLists, AreWithinLimits}
 use Rattle.smx_types.specs.declared.command.Command.{Command}
 use Rattle.smx_text.specs.declared.line.Line.{Line}
 use Rattle.smx_text.specs.declared.line.Line.TheVariants as line
-use Rattle.smx_text.specs.Words.{text_of}
-use Rattle.smx_text.specs.Spelling.{driver_words, command_words}
-use Rattle.smx_text.specs.Spellable.{FitsNumber, FitsDriver, FitsCommand}
+use Rattle.smx_words.specs.Words.{text_of}
+use Rattle.smx_words.specs.Spelling.{driver_words, command_words}
+use Rattle.smx_words.specs.Spellable.{FitsNumber, FitsDriver, FitsCommand}
 
 -- the words of the first line
 abbrev pub header_words : List (List ℕ)

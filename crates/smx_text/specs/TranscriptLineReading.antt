@@ -5,7 +5,7 @@ use Rattle.smx_types.specs.declared.limits.TheConstants.{MAX_PROCESSES}
 use Rattle.smx_types.specs.declared.stream.Side.{Side}
 use Rattle.smx_text.specs.declared.transcript_line.TranscriptLine.{TranscriptLine}
 use Rattle.smx_text.specs.declared.transcript_line.TranscriptLine.TheVariants as line
-use Rattle.smx_text.specs.Words.{line_of, split}
+use Rattle.smx_words.specs.Words.{line_of, split}
 use Rattle.smx_text.specs.WordCounts.{two_of, three_of, four_of, six_of}
 use Rattle.smx_text.specs.WordReading.{◌>>=◌, number_at, name_at, side_at, link_kind_at, hex_at}
 use Rattle.smx_text.specs.LineReading.{driver_at}

@@ -9,9 +9,9 @@ use Rattle.smx_text.specs.declared.fault.Cause.TheVariants as cause
 use Rattle.smx_text.specs.declared.fault.TextFault.{TextFault}
 use Rattle.smx_text.specs.declared.transcript_line.TranscriptLine.{TranscriptLine}
 use Rattle.smx_text.specs.declared.transcript_line.TranscriptLine.TheVariants as line
-use Rattle.smx_text.specs.Words.{line_of, split}
-use Rattle.smx_text.specs.Spelling.{driver_words, entry_words, descriptor_words, link_words, bind_words, route_words, message_words, full_words}
-use Rattle.smx_text.specs.Spellable.{FitsNumber, FitsDriver, FitsEntry, FitsDescriptor, FitsLink, FitsBinding, FitsRoute, FitsMessage, FitsFull}
+use Rattle.smx_words.specs.Words.{line_of, split}
+use Rattle.smx_words.specs.Spelling.{driver_words, entry_words, descriptor_words, link_words, bind_words, route_words, message_words, full_words}
+use Rattle.smx_words.specs.Spellable.{FitsNumber, FitsDriver, FitsEntry, FitsDescriptor, FitsLink, FitsBinding, FitsRoute, FitsMessage, FitsFull}
 use Rattle.smx_text.specs.TranscriptText.{transcript_text, IsSpellable}
 use Rattle.smx_text.specs.ProgramsReading.{Continues}
 

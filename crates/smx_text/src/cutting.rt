@@ -2,7 +2,7 @@
 
 ghost use Rattle.std.specs.Prelude.{◌≡◌, ◌<◌, ◌∷◌, [], ◌==◌, length, MatchOption, IfSome};
 ghost use Rattle.std.specs.List.{position};
-ghost use Rattle.smx_text.specs.Words.{split};
+ghost use Rattle.smx_words.specs.Words.{split};
 
 // The place of the first separator.
 fn place_of(bytes: &[u8], separator: u8) -> Option<usize>

@@ -3,7 +3,7 @@
 ghost use Rattle.std.specs.Prelude.{◌≡◌, ◌<◌, ◌∷◌, ◌↔◌, length, Some, IsTrue, IfOk, IfErr};
 ghost use Rattle.smx_text.specs.declared.fault.Cause.TheVariants.{Trailing};
 ghost use Rattle.smx_text.specs.declared.line.Line.TheVariants.{End};
-ghost use Rattle.smx_text.specs.Words.{split};
+ghost use Rattle.smx_words.specs.Words.{split};
 ghost use Rattle.smx_text.specs.Drafts.{IsUnread};
 ghost use Rattle.smx_text.specs.LineReading.{line_at};
 ghost use Rattle.smx_text.specs.ProgramsReading.{Reads, header, IsFault};

@@ -1,7 +1,7 @@
 //! The words of a reply.
 
 ghost use Rattle.std.specs.Prelude.{◌≡◌, ◌∷◌, [], IfOk};
-ghost use Rattle.smx_text.specs.Words.{split};
+ghost use Rattle.smx_words.specs.Words.{split};
 ghost use Rattle.smx_text.specs.ReplyReading.{invalid_at, again_at, missing_at, bare_fault_at, told_fault_at};
 ghost use Rattle.smx_text.specs.ReplyReading.{numbers_at, onto, only_word, two_words, fd_at, got_at, done_at};
 ghost use Rattle.smx_text.specs.ReplyReading.{short_reply, several_words, reply_at};

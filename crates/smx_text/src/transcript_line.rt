@@ -1,7 +1,7 @@
 //! The lines of a transcript text.
 
 ghost use Rattle.std.specs.Prelude.{◌≡◌, MatchOption, IfOk};
-ghost use Rattle.smx_text.specs.Words.{split};
+ghost use Rattle.smx_words.specs.Words.{split};
 ghost use Rattle.smx_text.specs.TranscriptLineReading.{process_at, driver_line_at, before_space, after_space};
 ghost use Rattle.smx_text.specs.TranscriptLineReading.{sides_of, entry_words, entry_at, only_word};
 ghost use Rattle.smx_text.specs.TranscriptLineReading.{short_line, plain_line, named_line};

@@ -2,7 +2,7 @@
 
 ghost use Rattle.std.specs.Prelude.{◌≡◌, ◌<◌, ◌-◌, ◌^◌, ◌∷◌, ◌↔◌, length, IsTrue, IfOk, IfErr};
 ghost use Rattle.smx_text.specs.declared.transcript_line.TranscriptLine.TheVariants.{End};
-ghost use Rattle.smx_text.specs.Words.{split};
+ghost use Rattle.smx_words.specs.Words.{split};
 ghost use Rattle.smx_text.specs.TranscriptReading.{Reads, header, IsFault};
 ghost use Rattle.smx_text.specs.TranscriptDrafts.{EndsAs};
 

@@ -1,7 +1,7 @@
 //! The lines of a view, by what follows their first word.
 
 ghost use Rattle.std.specs.Prelude.{◌≡◌, MatchOption, IfOk};
-ghost use Rattle.smx_text.specs.Words.{split};
+ghost use Rattle.smx_words.specs.Words.{split};
 ghost use Rattle.smx_text.specs.TranscriptLineReading.{next_at, fd_words, fd_at, link_words, link_at};
 ghost use Rattle.smx_text.specs.TranscriptLineReading.{bind_at, route_at, place_at, message_words};
 ghost use Rattle.smx_text.specs.TranscriptLineReading.{message_at, full_at};

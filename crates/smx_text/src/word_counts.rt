@@ -1,7 +1,7 @@
 //! A number of words, exactly.
 
 ghost use Rattle.std.specs.Prelude.{◌≡◌, MatchOption};
-ghost use Rattle.smx_text.specs.Words.{split};
+ghost use Rattle.smx_words.specs.Words.{split};
 ghost use Rattle.smx_text.specs.WordCounts.{one_of, two_of, three_of, four_of, six_of};
 
 use crate::cutting::cut;

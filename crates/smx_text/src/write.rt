@@ -4,7 +4,7 @@ ghost use Rattle.std.specs.Prelude.{◌≡◌, ◌<◌, ◌^◌, ◌++◌, lengt
 ghost use Rattle.std.specs.List.{AllByRecursion};
 ghost use Rattle.smx_text.specs.ProgramsText.{line_words, program_lines, programs_text, FitsLine, IsAllowed};
 ghost use Rattle.smx_text.specs.TranscriptText.{transcript_text, IsSpellable};
-ghost use Rattle.smx_text.specs.Words.{text_of};
+ghost use Rattle.smx_words.specs.Words.{text_of};
 
 mod command;
 mod reply;

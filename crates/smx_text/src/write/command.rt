@@ -2,10 +2,10 @@
 
 ghost use Rattle.std.specs.Prelude.{◌≡◌, ◌∷◌, ◌++◌, [], codes, OnOk};
 ghost use Rattle.std.specs.Fmt.{decimal};
-ghost use Rattle.smx_text.specs.HexWords.{hex_word};
-ghost use Rattle.smx_text.specs.Spellable.{FitsBytes, FitsCommand, FitsName, FitsNumber, FitsWhich};
-ghost use Rattle.smx_text.specs.Spelling.{command_words, sides_word, which_word};
-ghost use Rattle.smx_text.specs.Words.{line_of};
+ghost use Rattle.smx_words.specs.HexWords.{hex_word};
+ghost use Rattle.smx_words.specs.Spellable.{FitsBytes, FitsCommand, FitsName, FitsNumber, FitsWhich};
+ghost use Rattle.smx_words.specs.Spelling.{command_words, sides_word, which_word};
+ghost use Rattle.smx_words.specs.Words.{line_of};
 
 use super::spelled::Spelled;
 use super::words::{put_hex, put_name, put_spaced};

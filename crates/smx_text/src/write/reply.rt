@@ -3,9 +3,9 @@
 ghost use Rattle.std.specs.Prelude.{◌≡◌, ◌∷◌, ◌++◌, codes, map, OnOk};
 ghost use Rattle.std.specs.Fmt.{decimal};
 ghost use Rattle.std.specs.List.{AllByRecursion};
-ghost use Rattle.smx_text.specs.Spellable.{FitsNumber, FitsReply};
-ghost use Rattle.smx_text.specs.Spelling.{fault_words, reply_words};
-ghost use Rattle.smx_text.specs.Words.{line_of};
+ghost use Rattle.smx_words.specs.Spellable.{FitsNumber, FitsReply};
+ghost use Rattle.smx_words.specs.Spelling.{fault_words, reply_words};
+ghost use Rattle.smx_words.specs.Words.{line_of};
 
 use super::command::{put_bytes, put_one, put_two};
 use super::spelled::Spelled;

@@ -2,9 +2,9 @@
 
 ghost use Rattle.std.specs.Prelude.{◌≡◌, ℕ, ◌++◌, List, map, OnOk};
 ghost use Rattle.std.specs.List.{AllByRecursion};
-ghost use Rattle.smx_text.specs.Spellable.{FitsDriver, FitsEntry};
-ghost use Rattle.smx_text.specs.Spelling.{driver_words, entry_words};
-ghost use Rattle.smx_text.specs.Words.{line_of, text_of};
+ghost use Rattle.smx_words.specs.Spellable.{FitsDriver, FitsEntry};
+ghost use Rattle.smx_words.specs.Spelling.{driver_words, entry_words};
+ghost use Rattle.smx_words.specs.Words.{line_of, text_of};
 
 use super::words::{put_name, put_number, put_spaced};
 use smx_types::{DriverKind, DriverSpec, Entry, NoMemory};

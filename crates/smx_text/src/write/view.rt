@@ -1,12 +1,12 @@
 //! The lines of a view.
 
 ghost use Rattle.std.specs.Prelude.{◌≡◌, ◌∷◌, ◌++◌, [], OnOk};
-ghost use Rattle.smx_text.specs.Spellable.{FitsBinding, FitsDescriptor, FitsFull, FitsLink, FitsMessage};
-ghost use Rattle.smx_text.specs.Spellable.{FitsNumber, FitsRoute};
-ghost use Rattle.smx_text.specs.Spelling.{bind_words, descriptor_words, full_words, link_words};
-ghost use Rattle.smx_text.specs.Spelling.{message_words, route_words};
+ghost use Rattle.smx_words.specs.Spellable.{FitsBinding, FitsDescriptor, FitsFull, FitsLink, FitsMessage};
+ghost use Rattle.smx_words.specs.Spellable.{FitsNumber, FitsRoute};
+ghost use Rattle.smx_words.specs.Spelling.{bind_words, descriptor_words, full_words, link_words};
+ghost use Rattle.smx_words.specs.Spelling.{message_words, route_words};
 ghost use Rattle.smx_text.specs.TranscriptText.{next_words, view_lines, IsSpellableView};
-ghost use Rattle.smx_text.specs.Words.{text_of};
+ghost use Rattle.smx_words.specs.Words.{text_of};
 
 use super::spelled::{Spelled, put_lines};
 use super::words::{put_hex, put_name, put_side, put_spaced};

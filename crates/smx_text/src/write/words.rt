@@ -4,9 +4,9 @@ ghost use Rattle.std.specs.Prelude.{◌≡◌, ◌∷◌, ◌++◌, OnOk};
 ghost use Rattle.std.specs.Fmt.{decimal};
 ghost use Rattle.std.specs.List.{flat_map, AllByRecursion};
 ghost use Rattle.hex.specs.Hex.{encode_lower};
-ghost use Rattle.smx_text.specs.HexWords.{hex_word};
-ghost use Rattle.smx_text.specs.Spellable.{FitsBytes, FitsName, FitsNumber};
-ghost use Rattle.smx_text.specs.Spelling.{side_word};
+ghost use Rattle.smx_words.specs.HexWords.{hex_word};
+ghost use Rattle.smx_words.specs.Spellable.{FitsBytes, FitsName, FitsNumber};
+ghost use Rattle.smx_words.specs.Spelling.{side_word};
 
 use itoa::Buffer;
 use smx_types::{Name, NoMemory, Side};

@@ -1,5 +1,5 @@
 use Rattle.std.proofs.Common.{◌≡◌, ◌∷◌, List, ℕ, ap, ◌∙◌}
-use Rattle.smx_text.specs.Words.{split}
+use Rattle.smx_words.specs.Words.{split}
 use Rattle.smx_text.specs.LineReading.{line_at, command_line_at}
 use Rattle.smx_text.proofs.LineLemmas.{other_word, several_is}
 use Rattle.smx_text.proofs.SplitLemmas.{split_some}

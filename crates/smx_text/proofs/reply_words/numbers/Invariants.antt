@@ -1,5 +1,5 @@
 use Rattle.std.proofs.Common.{◌≡◌, length}
-use Rattle.smx_text.specs.Words.{split}
+use Rattle.smx_words.specs.Words.{split}
 use Rattle.smx_text.specs.ReplyReading.{numbers_at, onto}
 use Rattle.smx_text.proofs.reply_words.numbers.Given as goal
 

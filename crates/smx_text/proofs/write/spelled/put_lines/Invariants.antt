@@ -1,6 +1,6 @@
 use Rattle.std.proofs.Common.{◌≡◌, ◌++◌, map, take}
 use Rattle.std.specs.List.{AllByRecursion}
-use Rattle.smx_text.specs.Words.{text_of}
+use Rattle.smx_words.specs.Words.{text_of}
 use Rattle.smx_text.proofs.write.spelled.put_lines.Given as goal
 
 abbrev pub invariant-loop-item : goal.invariant-loop-item

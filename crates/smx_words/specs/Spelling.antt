@@ -25,7 +25,7 @@ use Rattle.smx_types.specs.declared.view.FullLine.{FullLine}
 use Rattle.smx_types.specs.declared.view.LinkLine.{LinkLine}
 use Rattle.smx_types.specs.declared.view.MessageLine.{MessageLine}
 use Rattle.smx_types.specs.declared.view.RouteLine.{RouteLine}
-use Rattle.smx_text.specs.HexWords.{hex_word}
+use Rattle.smx_words.specs.HexWords.{hex_word}
 
 -- the kind of a driver
 abbrev pub kind_word : DriverKind → List ℕ

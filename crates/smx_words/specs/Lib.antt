@@ -1,0 +1,5 @@
+pub mod Words
+pub mod HexWords
+pub mod Spelling
+pub mod Spellable
+pub mod LineReading

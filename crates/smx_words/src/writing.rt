@@ -1,0 +1,1 @@
+//! Values written as the words of a line.
