@@ -1,5 +1,5 @@
 //! The words of one line: what each value's one spelling is, read from a line and written to one.
 #![tactic(auto)]
 
-mod reading;
+pub mod reading;
 mod writing;
