@@ -1,11 +1,12 @@
 -- Bytes cut at a separator, and two ways to cut the same bytes.
-use Rattle.std.proofs.Common.{◌≡◌, ◌≢◌, ℕ, zero, suc, ◌+◌, ◌-◌, ◌<◌, ◌≤◌, true, eqb, List, [], ◌∷◌, ◌++◌, length, slice_index, get_or, take, drop, refl, sym, ap, ◌∙◌, arith, drop-cons}
+use Rattle.std.proofs.Common.{◌≡◌, ◌≢◌, ℕ, zero, suc, ◌+◌, ◌-◌, ◌<◌, ◌≤◌, true, eqb, List, [], ◌∷◌, ◌++◌, length, slice_index, get_or, take, drop, refl, sym, ap, ◌∙◌, arith, drop-cons, add-one}
 use Rattle.std.proofs.lemmas.Bool.Decides.{nat_tests}
 use Rattle.std.proofs.lemmas.List.{length-append, take-append-drop, take_rest}
 use Rattle.memchr.specs.Find.{Nowhere, Passes, is_byte}
-use Rattle.smx_words.specs.Words.{IsFree}
+use Rattle.smx_words.specs.Words.{SPACE, IsFree}
 
-at_seam : (before after : List ℕ) (s : ℕ) → slice_index (before ++ s ∷ after) (length before) ≡ s
+-- what stands at the separator
+pub at_seam : (before after : List ℕ) (s : ℕ) → slice_index (before ++ s ∷ after) (length before) ≡ s
 at_seam [] after s = refl
 at_seam (b ∷ before) after s = at_seam before after s
 
@@ -28,7 +29,7 @@ pub is_cut : (s : ℕ) (bytes : List ℕ) (i : ℕ) → i < length bytes → sli
 is_cut s bytes i lt here =
     let rest = take_rest bytes (i + 1) in
     let at = drop-cons bytes i 0 lt in
-    sym (take-append-drop i bytes) ∙ ap (λ (xs : List ℕ). take i bytes ++ xs) (rw (at, rest) (ap (λ (b : ℕ). b ∷ drop (i + 1) bytes) here))
+    sym (take-append-drop i bytes) ∙ ap (λ (xs : List ℕ). take i bytes ++ xs) (rw (at, rest, add-one) (ap (λ (b : ℕ). b ∷ drop (suc i) bytes) here))
 
 -- two ways to cut at the first separator are one
 pub apart : (s : ℕ) (v w after rest : List ℕ) → IsFree s v → IsFree s w → v ++ s ∷ after ≡ w ++ s ∷ rest → (v ≡ w) × (after ≡ rest)
@@ -39,3 +40,8 @@ apart s (b ∷ v) (c ∷ w) after rest h k e =
     let more = apart s v w after rest h.1 k.1 (cc e) in
     let first : b ≡ c = cc e in
     (cc (first, more.0), more.1)
+
+-- what no field is, none that the bytes begin with is
+pub no_field : {X : Type 0} (Fits : X → Type 0) (word_of : X → List ℕ) → ((x : X) → Fits x → IsFree SPACE (word_of x)) → (bytes word rest : List ℕ) → IsFree SPACE word → bytes ≡ word ++ SPACE ∷ rest
+    → ((x : X) → Fits x → word ≢ word_of x) → (x : X) (after : List ℕ) → Fits x → bytes ≢ word_of x ++ SPACE ∷ after
+no_field Fits word_of free bytes word rest clear is none x after fits e = none x fits (apart SPACE word (word_of x) rest after clear (free x fits) (sym is ∙ e)).0

@@ -1,1 +1,5 @@
 pub mod CutLemmas
+pub mod NumberLemmas
+pub mod WordLemmas
+pub mod HexLemmas
+pub mod EntryLemmas

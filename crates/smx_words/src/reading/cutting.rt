@@ -22,3 +22,10 @@ pub fn after<'a>(bytes: &'a [u8], front: &[u8]) -> Option<&'a [u8]>
 {
     bytes.strip_prefix(front)
 }
+
+// The bytes before others that they end with.
+pub fn before<'a>(bytes: &'a [u8], back: &[u8]) -> Option<&'a [u8]>
+    ensures { MatchOption result ((rest : List ℕ) → bytes.now ≢ rest ++ back.now) (λ rest. bytes.now ≡ rest.now ++ back.now) }
+{
+    bytes.strip_suffix(back)
+}

@@ -7,7 +7,7 @@ ghost use Rattle.smx_words.specs.Spelling.{entry_words};
 ghost use Rattle.smx_words.specs.Words.{EQUALS, IsFree};
 
 use crate::reading::command::command_of;
-use crate::reading::cutting::cut;
+use crate::reading::cutting::{after, before, cut};
 use crate::reading::number::first_process;
 use crate::reading::reply::reply_of;
 use smx_types::{Entry, NoMemory};
@@ -42,13 +42,13 @@ fn sides(text: &[u8]) -> Option<(&[u8], &[u8])>
         ((command reply : List ℕ) → IsFree EQUALS command → text.now ≢ command ++ codes " = " ++ reply)
         (λ p. IsFree EQUALS p.0.now × (text.now ≡ p.0.now ++ codes " = " ++ p.1.now)) }
 {
-    let Some((before, after)) = cut(text, b'=') else {
+    let Some((front, back)) = cut(text, b'=') else {
         return None;
     };
-    let [command @ .., b' '] = before else {
+    let Some(command) = before(front, b" ".as_slice()) else {
         return None;
     };
-    let [b' ', reply @ ..] = after else {
+    let Some(reply) = after(back, b" ".as_slice()) else {
         return None;
     };
     Some((command, reply))

@@ -1,6 +1,6 @@
 //! Numbers in words: decimal, below 2^32, without a sign or a leading zero.
 
-ghost use Rattle.std.specs.Prelude.{◌≡◌, ◌≢◌, ◌++◌, List, ℕ, take, drop, MatchOption, ◌≤◌, length};
+ghost use Rattle.std.specs.Prelude.{◌≡◌, ◌≢◌, ◌++◌, List, ℕ, take, drop, ◌≤◌, ◌==◌, ◌&&◌, ◌||◌, nat_lt, length, slice_index, MatchOption};
 ghost use Rattle.std.specs.Fmt.{decimal};
 ghost use Rattle.smx_words.specs.LineReading.{IsFoundIn, BeginsWith};
 ghost use Rattle.smx_words.specs.Numbers.{NoDigitFirst};
@@ -12,7 +12,9 @@ use smx_types::Process;
 pub fn number(word: &[u8]) -> Option<u32>
     ensures { IsFoundIn FitsNumber decimal word.now result }
 {
-    let (number, end) = leading_number(word)?;
+    let Some((number, end)) = leading_number(word) else {
+        return None;
+    };
     if end == word.len() {
         return Some(number);
     }
@@ -61,8 +63,16 @@ fn leading_number(text: &[u8]) -> Option<(u32, usize)>
         }
         end += 1;
     }
-    if end == 0 || (text[0] == b'0' && end > 1) {
+    if starts_wrong(text, end) {
         return None;
     }
     Some((value as u32, end))
+}
+
+// There is no digit, or a leading zero.
+fn starts_wrong(text: &[u8], end: usize) -> bool
+    requires { end ≤ length text.now }
+    ensures { result ≡ ((end == 0) || ((slice_index text.now 0 == 48) && nat_lt 1 end)) }
+{
+    end == 0 || (text[0] == b'0' && end > 1)
 }
