@@ -3,3 +3,5 @@ pub mod NumberLemmas
 pub mod WordLemmas
 pub mod HexLemmas
 pub mod EntryLemmas
+pub mod ReplyLemmas
+pub mod CommandLemmas

@@ -13,7 +13,9 @@ use smx_types::DriverSpec;
 pub fn driver_of(line: &[u8]) -> Option<DriverSpec>
     ensures { IsReadAs FitsDriver driver_words line.now result }
 {
-    let rest = after(line, b"driver ".as_slice())?;
+    let Some(rest) = after(line, b"driver ".as_slice()) else {
+        return None;
+    };
     let Some((name, rest)) = first_name(rest) else {
         return None;
     };
@@ -36,7 +38,9 @@ pub fn driver_of(line: &[u8]) -> Option<DriverSpec>
 pub fn process_of(line: &[u8]) -> Option<u32>
     ensures { IsReadAs FitsNumber process_words line.now result }
 {
-    let rest = after(line, b"process ".as_slice())?;
+    let Some(rest) = after(line, b"process ".as_slice()) else {
+        return None;
+    };
     number(rest)
 }
 
@@ -44,7 +48,9 @@ pub fn process_of(line: &[u8]) -> Option<u32>
 pub fn next_of(line: &[u8]) -> Option<(u32, u32)>
     ensures { IsReadAs FitsNext next_words line.now result }
 {
-    let rest = after(line, b"next ".as_slice())?;
+    let Some(rest) = after(line, b"next ".as_slice()) else {
+        return None;
+    };
     let (id, rest) = first_number(rest)?;
     let serial = number(rest)?;
     Some((id, serial))

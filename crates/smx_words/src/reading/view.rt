@@ -25,7 +25,9 @@ use std::alloc::Global;
 pub fn descriptor_of(line: &[u8]) -> Option<DescriptorLine>
     ensures { IsReadAs FitsDescriptor descriptor_words line.now result }
 {
-    let rest = after(line, b"fd ".as_slice())?;
+    let Some(rest) = after(line, b"fd ".as_slice()) else {
+        return None;
+    };
     let Some((process, rest)) = first_process(rest) else {
         return None;
     };
@@ -46,7 +48,9 @@ pub fn descriptor_of(line: &[u8]) -> Option<DescriptorLine>
 pub fn link_of(line: &[u8]) -> Option<LinkLine>
     ensures { IsReadAs FitsLink link_words line.now result }
 {
-    let rest = after(line, b"link ".as_slice())?;
+    let Some(rest) = after(line, b"link ".as_slice()) else {
+        return None;
+    };
     let (id, rest) = first_number(rest)?;
     let Some((ctl_driver, rest)) = first_name(rest) else {
         return None;
@@ -56,7 +60,9 @@ pub fn link_of(line: &[u8]) -> Option<LinkLine>
         return None;
     };
     let (lower_minor, rest) = first_number(rest)?;
-    let kind = link_kind(rest)?;
+    let Some(kind) = link_kind(rest) else {
+        return None;
+    };
     Some(LinkLine {
         id,
         ctl_driver,
@@ -71,7 +77,9 @@ pub fn link_of(line: &[u8]) -> Option<LinkLine>
 pub fn bind_of(line: &[u8]) -> Option<BindingLine>
     ensures { IsReadAs FitsBinding bind_words line.now result }
 {
-    let rest = after(line, b"bind ".as_slice())?;
+    let Some(rest) = after(line, b"bind ".as_slice()) else {
+        return None;
+    };
     let Some((driver, rest)) = first_name(rest) else {
         return None;
     };
@@ -88,7 +96,9 @@ pub fn bind_of(line: &[u8]) -> Option<BindingLine>
 pub fn route_of(line: &[u8]) -> Option<RouteLine>
     ensures { IsReadAs FitsRoute route_words line.now result }
 {
-    let rest = after(line, b"route ".as_slice())?;
+    let Some(rest) = after(line, b"route ".as_slice()) else {
+        return None;
+    };
     let Some((driver, rest)) = first_name(rest) else {
         return None;
     };
@@ -105,7 +115,9 @@ pub fn route_of(line: &[u8]) -> Option<RouteLine>
 pub fn full_of(line: &[u8]) -> Option<FullLine>
     ensures { IsReadAs FitsFull full_words line.now result }
 {
-    let rest = after(line, b"full ".as_slice())?;
+    let Some(rest) = after(line, b"full ".as_slice()) else {
+        return None;
+    };
     let Some((driver, rest)) = first_name(rest) else {
         return None;
     };
