@@ -44,10 +44,10 @@ digit_below (suc n) k h lt =
 pub digit_is : (k : ℕ) → k < 16 → slice_index lower_digits k ≡ digit k
 digit_is k lt = digit_below 16 k refl lt
 
-digit_range : (k : ℕ) → k < 16 → (47 < digit k) × (digit k < 103) × (is_ascii_uppercase (digit k) ≡ false)
+pub digit_range : (k : ℕ) → k < 16 → (47 < digit k) × (digit k < 103) × (digit k ≢ 61) × (is_ascii_uppercase (digit k) ≡ false)
 digit_range k lt = elim (cases_lt k 10) [
-  | inl small ↦ (grind (arith, nat_tests), grind (arith, nat_tests), grind (arith, nat_tests))
-  | inr large ↦ (grind (arith, nat_tests), grind (arith, nat_tests), grind (arith, nat_tests))
+  | inl small ↦ let is : digit k ≡ 48 + k = grind (arith, nat_tests) in (omega (arith, is), omega (arith, is), λ e. omega (arith, is, e), grind (arith, nat_tests))
+  | inr large ↦ let is : digit k ≡ 87 + k = grind (arith, nat_tests) in (omega (arith, is), omega (arith, is), λ e. omega (arith, is, e), grind (arith, nat_tests))
 ]
 
 -- a digit that is no capital is the one of its value
@@ -113,7 +113,7 @@ encoded_lower (b ∷ bs) h =
     let low : b % 16 < 16 = omega arith in
     let a = digit_range (b / 16) high in
     let z = digit_range (b % 16) low in
-    rw (digit_is (b / 16) high, digit_is (b % 16) low, a.2, z.2, encoded_lower bs h.1) refl
+    rw (digit_is (b / 16) high, digit_is (b % 16) low, a.3, z.3, encoded_lower bs h.1) refl
 
 some_digits : (w bs : List ℕ) → 0 < length w → w ≡ encode_lower bs → w ≡ hex_word bs
 unfolding encode_with

@@ -5,3 +5,4 @@ pub mod HexLemmas
 pub mod EntryLemmas
 pub mod ReplyLemmas
 pub mod CommandLemmas
+pub mod PlainLemmas

@@ -8,16 +8,19 @@ ghost use Rattle.smx_words.specs.Words.{EQUALS, IsFree};
 
 use crate::reading::command::command_of;
 use crate::reading::cutting::{after, before, cut};
-use crate::reading::number::first_process;
+use crate::reading::number::first_number;
 use crate::reading::reply::reply_of;
-use smx_types::{Entry, NoMemory};
+use smx_types::{Entry, NoMemory, Process};
 use std::alloc::Global;
 
 /// The entry whose words a line is, if it is one's. Fails only for want of memory.
 pub fn entry_of(alloc: Global, line: &[u8]) -> Result<Option<Entry>, NoMemory>
     ensures { IfOk result (IsReadAs FitsEntry entry_words line.now) }
 {
-    let Some((process, rest)) = first_process(line) else {
+    let Some((number, rest)) = first_number(line) else {
+        return Ok(None);
+    };
+    let Some(process) = Process::new(number) else {
         return Ok(None);
     };
     let Some((command, reply)) = sides(rest) else {

@@ -1,4 +1,5 @@
-use Rattle.std.proofs.Common.{sym}
+use Rattle.std.proofs.Common.{sym, arith}
+use Rattle.std.proofs.lemmas.Grind.{common_steps}
 use Rattle.std.specs.Prelude.{codes}
 use Rattle.smx_words.proofs.CutLemmas.{behind, not_behind}
 use Rattle.smx_words.proofs.reading.view.link_of.Goals as goal
@@ -11,7 +12,4 @@ returns-in_default-link_kind c = λ x fits e.
     let id = behind c.args.line.now c.as_slice.result.now (codes "link ") c.in-Some.rest.now _ c.as_slice.ensures c.in-Some.ensures e in
     let driver = sym (c.in_ok-id.ensures.2 x.id _ fits.id id) in
     let minor = sym (c.in-Some-first_name.ensures.2 x.ctl_driver _ fits.ctl_driver driver) in
-    let lower = sym (c.in_ok-ctl_minor.ensures.2 x.ctl_minor _ fits.ctl_minor minor) in
-    let lower_minor = sym (c.in-Some-first_name-2.ensures.2 x.lower_driver _ fits.lower_driver lower) in
-    let kind = sym (c.in_ok-lower_minor.ensures.2 x.lower_minor _ fits.lower_minor lower_minor) in
-    c.in_default-link_kind.ensures x.kind tt kind
+    grind (arith, common_steps)

@@ -1,4 +1,5 @@
-use Rattle.std.proofs.Common.{sym}
+use Rattle.std.proofs.Common.{sym, arith}
+use Rattle.std.proofs.lemmas.Grind.{common_steps}
 use Rattle.std.specs.Prelude.{codes}
 use Rattle.smx_words.proofs.CutLemmas.{behind, not_behind}
 use Rattle.smx_words.proofs.reading.view.message_of.Goals as goal
@@ -10,18 +11,10 @@ pub returns-in_default-first_number-3 : goal.returns-in_default-first_number-3
 returns-in_default-first_number-3 c = λ x fits e.
     let driver = behind c.args.line.now c.as_slice.result.now (codes "msg ") c.in-Some.rest.now _ c.as_slice.ensures c.in-Some.ensures e in
     let minor = sym (c.in-Some-first_name.ensures.2 x.driver _ fits.driver driver) in
-    let side = sym (c.in-Some-first_number.ensures.2 x.minor _ fits.minor minor) in
-    let serial = sym (c.in-Some-first_side.ensures.2 x.side _ tt side) in
-    let addr = sym (c.in-Some-first_number-2.ensures.2 x.message.serial _ fits.serial serial) in
-    c.in_default-first_number-3.ensures x.message.addr _ fits.addr addr
+    grind (arith, common_steps)
 
 pub returns-in_default-2 : goal.returns-in_default-2
 returns-in_default-2 c = λ x fits e.
     let driver = behind c.args.line.now c.as_slice.result.now (codes "msg ") c.in-Some.rest.now _ c.as_slice.ensures c.in-Some.ensures e in
     let minor = sym (c.in-Some-first_name.ensures.2 x.driver _ fits.driver driver) in
-    let side = sym (c.in-Some-first_number.ensures.2 x.minor _ fits.minor minor) in
-    let serial = sym (c.in-Some-first_side.ensures.2 x.side _ tt side) in
-    let addr = sym (c.in-Some-first_number-2.ensures.2 x.message.serial _ fits.serial serial) in
-    let bytes = sym (c.in-Some-first_number-3.ensures.2 x.message.addr _ fits.addr addr) in
-    let none = rw c.in_default-2.is at c.in_ok-bytes.ensures in
-    none x.message.bytes fits.bytes bytes
+    grind (arith, common_steps)
