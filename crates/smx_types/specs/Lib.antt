@@ -2,3 +2,4 @@ pub mod Names
 pub mod NameFields
 pub mod Drivers
 pub mod ProgramLists
+pub mod SameLemmas

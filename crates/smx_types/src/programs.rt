@@ -36,7 +36,7 @@ impl Many {
 }
 
 /// At most 64 drivers, at most 64 programs, and at most 100,000 commands in all of them.
-#[derive(Debug, Drop)]
+#[derive(Debug, Drop, PartialEq)]
 pub struct Programs {
     drivers: Drivers,
     programs: ProgramList,
@@ -50,6 +50,8 @@ impl Model for Programs {
     ghost view = { λ p. record { drivers = p.drivers; programs = p.programs } };
 
     ghost invariant = { λ p. AreWithinLimits (record { drivers = p.drivers; programs = p.programs }) };
+
+    ghost inverse = { λ lists. record { drivers = lists.drivers; programs = lists.programs } };
 }
 
 impl Programs {

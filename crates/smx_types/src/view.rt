@@ -147,11 +147,19 @@ impl Copied for DescriptorLine {
     fn copied(&self, _alloc: Global) -> Result<DescriptorLine, NoMemory> {
         Ok(*self)
     }
+
+    fn copies(alloc: Global, items: &[DescriptorLine]) -> Result<Vec<DescriptorLine>, NoMemory> {
+        Ok(Vec::from_slice(alloc, items)?)
+    }
 }
 
 impl Copied for LinkLine {
     fn copied(&self, _alloc: Global) -> Result<LinkLine, NoMemory> {
         Ok(*self)
+    }
+
+    fn copies(alloc: Global, items: &[LinkLine]) -> Result<Vec<LinkLine>, NoMemory> {
+        Ok(Vec::from_slice(alloc, items)?)
     }
 }
 
@@ -159,11 +167,19 @@ impl Copied for BindingLine {
     fn copied(&self, _alloc: Global) -> Result<BindingLine, NoMemory> {
         Ok(*self)
     }
+
+    fn copies(alloc: Global, items: &[BindingLine]) -> Result<Vec<BindingLine>, NoMemory> {
+        Ok(Vec::from_slice(alloc, items)?)
+    }
 }
 
 impl Copied for RouteLine {
     fn copied(&self, _alloc: Global) -> Result<RouteLine, NoMemory> {
         Ok(*self)
+    }
+
+    fn copies(alloc: Global, items: &[RouteLine]) -> Result<Vec<RouteLine>, NoMemory> {
+        Ok(Vec::from_slice(alloc, items)?)
     }
 }
 
@@ -176,5 +192,9 @@ impl Copied for MessageLine {
 impl Copied for FullLine {
     fn copied(&self, _alloc: Global) -> Result<FullLine, NoMemory> {
         Ok(*self)
+    }
+
+    fn copies(alloc: Global, items: &[FullLine]) -> Result<Vec<FullLine>, NoMemory> {
+        Ok(Vec::from_slice(alloc, items)?)
     }
 }
