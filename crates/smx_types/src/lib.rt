@@ -14,8 +14,6 @@ mod programs;
 mod reply;
 mod same;
 mod stream;
-#[cfg(test)]
-mod tests;
 mod transcript;
 mod view;
 

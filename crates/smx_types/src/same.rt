@@ -21,6 +21,13 @@ pub trait Same: PartialEq {
     ghost use Rattle.std.specs.Prelude.{◌≡◌, ◌↔◌, IsTrue};
 
     ghost tells: { (a b : Self) → IsTrue (Self.eq a b) ↔ (a ≡ b) };
+
+    /// Whether both are the same, which is what `==` tells. Takes no memory.
+    final fn is_same(&self, other: &Self) -> bool
+        ensures { IsTrue result ↔ (self.now ≡ other.now) }
+    {
+        self == other
+    }
 }
 
 impl<T: Same> Same for Items<T> {

@@ -1,6 +1,6 @@
 //! A configuration as it is shown: its drivers by name, its parts as groups of lines.
 
-ghost use Rattle.std.specs.Prelude.{◌≡◌, ◌↔◌, IsTrue, IfOk};
+ghost use Rattle.std.specs.Prelude.{◌≡◌, IfOk};
 
 use crate::items::{Copied, Items};
 use crate::link::LinkKind;
@@ -133,13 +133,6 @@ impl ConfigView {
             msgs,
             fulls,
         })
-    }
-
-    /// Whether both views are the same. Takes no memory.
-    pub fn is_same(&self, other: &ConfigView) -> bool
-        ensures { IsTrue result ↔ (self.now ≡ other.now) }
-    {
-        self == other
     }
 }
 
