@@ -22,6 +22,7 @@ pub mod TwoLevelsDownAndUp
 pub mod TwoStreamsWaitOnOneQueue
 pub mod OrdinaryLinksKeepAChain
 pub mod TheLastNumbers
+pub mod Reports
 pub mod BarredBelowAndOnALeaf
 pub mod BoundToAnotherStream
 pub mod MarksAndSizesOfEachDriver
