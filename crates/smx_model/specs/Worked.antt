@@ -22,7 +22,6 @@ pub mod TwoLevelsDownAndUp
 pub mod TwoStreamsWaitOnOneQueue
 pub mod OrdinaryLinksKeepAChain
 pub mod TheLastNumbers
-pub mod Reports
 pub mod BarredBelowAndOnALeaf
 pub mod BoundToAnotherStream
 pub mod MarksAndSizesOfEachDriver
@@ -31,3 +30,9 @@ pub mod AddressesOfTwoDrivers
 pub mod RefusalsBehindAFullTable
 pub mod TheEndOfALinkEmptiesAndFrees
 pub mod ExitAtOnce
+pub mod NeighboursKeepTheirBindings
+pub mod NeighboursKeepTheirRoutes
+pub mod NeighboursKeepTheirLinks
+pub mod PlacesInOrder
+pub mod EachNumberIsItsOwn
+pub mod Reports
