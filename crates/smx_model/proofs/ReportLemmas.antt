@@ -1,5 +1,5 @@
 -- Reports of the same programs in the same order are the same; and the example, and what is none.
-use Rattle.std.proofs.Common.{◌≡◌, ◌≢◌, ℕ, zero, suc, Bool, true, false, List, [], ◌∷◌, map, refl, sym, ap, ◌∙◌, length, arith}
+use Rattle.std.proofs.Common.{◌≡◌, zero, suc, false, List, [], ◌∷◌, map, refl, sym, ap, ◌∙◌, length, arith}
 use Rattle.std.specs.Prelude.{◌==◌, Ok}
 use Rattle.std.proofs.lemmas.Bool.Decides.{nat_tests}
 use Rattle.smx_types.specs.Drivers.{spec_check}
@@ -7,7 +7,6 @@ use Rattle.smx_types.specs.ProgramLists.{ProgramLists}
 use Rattle.smx_types.specs.declared.command.Command.{Command}
 use Rattle.smx_types.specs.declared.command.Entry.{Entry}
 use Rattle.smx_types.specs.declared.driver.DriverSpec.{DriverSpec}
-use Rattle.smx_types.specs.declared.reply.Reply.{Reply}
 use Rattle.smx_types.specs.declared.transcript.Transcript.{Transcript}
 use Rattle.smx_types.specs.declared.view.ConfigView.{ConfigView}
 use Rattle.smx_model.specs.DriverList.{IsDriverList}
@@ -31,7 +30,7 @@ pub one_report : (programs : ProgramLists) (r s : Transcript) → IsReportOf pro
 one_report programs r s h k e =
     let same : r.entries ≡ s.entries = determined programs.drivers r.entries s.entries h.legal k.legal e in
     transcript_of r.drivers s.drivers r.entries s.entries r.view s.view (h.drivers ∙ sym k.drivers) same
-        (h.shown ∙ (ap (λ (es : List Entry). view programs.drivers (after programs.drivers es)) same ∙ sym k.shown))
+    (h.shown ∙ (ap (λ (es : List Entry). view programs.drivers (after programs.drivers es)) same ∙ sym k.shown))
 
 -- what a report needs is enough
 pub report_of : (programs : ProgramLists) (r : Transcript) → r.drivers ≡ programs.drivers → IsDriverList programs.drivers → IsLegal programs.drivers r.entries → HoldsPrograms r.entries programs.programs

@@ -35,4 +35,5 @@ pub mod NeighboursKeepTheirRoutes
 pub mod NeighboursKeepTheirLinks
 pub mod PlacesInOrder
 pub mod EachNumberIsItsOwn
+pub mod CommandsThatDrop
 pub mod Reports
