@@ -18,5 +18,7 @@ pub mod ConservationLemmas
 pub mod ViewLemmas
 pub mod KeptLemmas
 pub mod RefusalLemmas
+pub mod LastRefusalLemmas
 pub mod DropLemmas
 pub mod HistoryLemmas
+pub mod ReportLemmas

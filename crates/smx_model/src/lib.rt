@@ -5,6 +5,7 @@ pub mod laws;
 pub mod laws_of_links;
 pub mod laws_of_messages;
 pub mod laws_of_queues;
+pub mod laws_of_reports;
 pub mod laws_of_steps;
 pub mod laws_of_streams;
 pub mod laws_of_views;
