@@ -20,3 +20,4 @@ pub mod KeptLemmas
 pub mod RefusalLemmas
 pub mod DropLemmas
 pub mod HistoryLemmas
+pub mod LimitLemmas

@@ -2,6 +2,7 @@
 #![tactic(auto)]
 
 pub mod laws;
+pub mod laws_of_limits;
 pub mod laws_of_links;
 pub mod laws_of_messages;
 pub mod laws_of_queues;
