@@ -21,3 +21,6 @@ pub mod RefusalLemmas
 pub mod DropLemmas
 pub mod HistoryLemmas
 pub mod LimitLemmas
+pub mod MemberLemmas
+pub mod SettledLemmas
+pub mod RemovalLemmas
