@@ -24,3 +24,5 @@ pub mod LimitLemmas
 pub mod MemberLemmas
 pub mod SettledLemmas
 pub mod RemovalLemmas
+pub mod DeliveryLemmas
+pub mod MarkLemmas

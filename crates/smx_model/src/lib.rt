@@ -2,8 +2,10 @@
 #![tactic(auto)]
 
 pub mod laws;
+pub mod laws_of_deliveries;
 pub mod laws_of_limits;
 pub mod laws_of_links;
+pub mod laws_of_marks;
 pub mod laws_of_messages;
 pub mod laws_of_queues;
 pub mod laws_of_removals;
