@@ -26,3 +26,6 @@ pub mod SettledLemmas
 pub mod RemovalLemmas
 pub mod DeliveryLemmas
 pub mod MarkLemmas
+pub mod DescriptorLemmas
+pub mod BindingLemmas
+pub mod RoutingLemmas

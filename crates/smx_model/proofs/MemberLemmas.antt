@@ -1,7 +1,7 @@
 -- What is in a list after an insertion or a filter.
-use Rattle.std.proofs.Common.{◌≡◌, ◌⊎◌, ℕ, zero, suc, ◌<◌, Bool, true, arith, List, [], ◌∷◌, length, get_or, filter, refl, sym, ap, ◌∙◌, subst, inl, inr}
-use Rattle.std.specs.List.{All, Contains, list_all}
-use Rattle.std.proofs.lemmas.Bool.{cases_Bool, and_parts, both_ways}
+use Rattle.std.proofs.Common.{◌≡◌, ◌⊎◌, ℕ, zero, suc, ◌<◌, Bool, true, false, ◌||◌, not, arith, List, [], ◌∷◌, length, get_or, filter, refl, sym, ap, ◌∙◌, subst, inl, inr}
+use Rattle.std.specs.List.{All, Contains, list_all, list_any}
+use Rattle.std.proofs.lemmas.Bool.{cases_Bool, and_parts, false≢true, or_cases, or_left, or_parts, or_right}
 use Rattle.std.proofs.lemmas.List.Elements.{All-contains, All-contains_itself, All-filter, Contains-get_or, filter_passes}
 use Rattle.smx_model.specs.Ordered.{with_inserted}
 
@@ -49,3 +49,23 @@ in_placed before (z ∷ zs) x y h = elim (cases_Bool (before y z)) [
 
 pub all_in : {X : Type 0} (P : X → Type 0) (xs : List X) → ((x : X) → Contains xs x → P x) → All P xs
 all_in P xs f k d lt = f (get_or xs k d) (Contains-get_or xs k d lt)
+
+-- and where none passes, it does not
+pub none_in : {X : Type 0} (t : X → Bool) (xs : List X) → list_any t xs ≡ false → (x : X) → Contains xs x → t x ≡ false
+none_in t xs e x h = not_true (t x) (in_all (λ y. not (t y)) xs x (all_not xs e) h) where
+  not_true : (b : Bool) → not b ≡ true → b ≡ false
+  not_true true h = absurd (false≢true h)
+  not_true false h = refl
+
+  all_not : (ys : List _) → list_any t ys ≡ false → list_all (λ y. not (t y)) ys ≡ true
+  all_not [] e = refl
+  all_not (y ∷ ys) e = let p = or_parts (t y) (list_any t ys) e in rw p.0 (all_not ys p.1)
+
+-- what passes among those that are left passed before
+pub any_filtered : {X : Type 0} (t keep : X → Bool) (xs : List X) → list_any t (filter keep xs) ≡ true → list_any t xs ≡ true
+any_filtered t keep [] h = h
+any_filtered t keep (x ∷ xs) h = elim (cases_Bool (keep x)) [
+  | inl k ↦ let g : (t x || list_any t (filter keep xs)) ≡ true = rw k at h in
+      elim (or_cases (t x) (list_any t (filter keep xs)) g) [ inl a ↦ or_left _ _ a | inr b ↦ or_right _ _ (any_filtered t keep xs b) ]
+  | inr k ↦ or_right _ _ (any_filtered t keep xs (rw k at h))
+]

@@ -26,21 +26,13 @@ use Rattle.smx_model.specs.Removal.{after_sweep, without_links}
 use Rattle.smx_model.specs.Settling.{after_settling, after_settling_within}
 use Rattle.smx_model.specs.Standing.{exists, is_named, is_persistent, stands_within}
 use Rattle.smx_model.specs.Swept.{IsSwept}
-use Rattle.smx_model.proofs.MemberLemmas.{all_in, filtered_passes, in_all, in_filtered, of_filtered}
+use Rattle.smx_model.proofs.MemberLemmas.{all_in, any_filtered, filtered_passes, in_all, in_filtered, none_in, of_filtered}
 use Rattle.smx_model.proofs.OutcomeLemmas.{IfAccepted, at_ok, after_ok, after_test, after_some}
 use Rattle.smx_model.proofs.SettledLemmas.{settled_alone}
 use Rattle.smx_model.proofs.StandingLemmas.{swept_is}
 use Rattle.smx_model.proofs.TestLemmas.{any_more}
 
 -- with fewer links no more streams stand
-
-any_filtered : {X : Type 0} (t keep : X → Bool) (xs : List X) → list_any t (filter keep xs) ≡ true → list_any t xs ≡ true
-any_filtered t keep [] h = h
-any_filtered t keep (x ∷ xs) h = elim (cases_Bool (keep x)) [
-  | inl k ↦ let g : (t x || list_any t (filter keep xs)) ≡ true = rw k at h in
-      elim (or_cases (t x) (list_any t (filter keep xs)) g) [ inl a ↦ or_left _ _ a | inr b ↦ or_right _ _ (any_filtered t keep xs b) ]
-  | inr k ↦ or_right _ _ (any_filtered t keep xs (rw k at h))
-]
 
 stands_fewer : (fds : List Descriptor) (links : List Link) (keep : Link → Bool) (n : ℕ) (s : StreamId) → stands_within fds (filter keep links) n s ≡ true → stands_within fds links n s ≡ true
 stands_fewer fds links keep zero s h = elim (or_cases (is_named fds s) (list_any (λ l. is_persistent l && same_stream l.lower s) (filter keep links)) h)
@@ -84,16 +76,6 @@ just_settled : (drivers : List DriverSpec) (c : Configuration) (taken : Link →
 just_settled drivers c taken n d h = let s = settled_alone drivers n d in record { each = λ l k. rw (s.links, s.fds) (h.each l k) }
 
 -- each unlinking
-
-none_in : {X : Type 0} (t : X → Bool) (xs : List X) → list_any t xs ≡ false → (x : X) → Contains xs x → t x ≡ false
-none_in t xs e x h = not_true (t x) (in_all (λ y. not (t y)) xs x (all_not xs e) h) where
-  not_true : (b : Bool) → not b ≡ true → b ≡ false
-  not_true true h = absurd (false≢true h)
-  not_true false h = refl
-
-  all_not : (ys : List _) → list_any t ys ≡ false → list_all (λ y. not (t y)) ys ≡ true
-  all_not [] e = refl
-  all_not (y ∷ ys) e = let p = or_parts (t y) (list_any t ys) e in rw p.0 (all_not ys p.1)
 
 just_unlinked : (drivers : List DriverSpec) (c : Configuration) (w : Which) (mine : Link → Bool) → IsSwept drivers c → Just drivers c (λ l. is_meant w l && mine l) (after_outcome drivers c (unlink_outcome drivers c w mine)).0
 just_unlinked drivers c which.All mine h = just_settled drivers c mine _ (after_sweep drivers (without_links c mine)) (just_removed drivers c mine)
