@@ -1,8 +1,6 @@
 -- Which bindings a command takes away.
-use Rattle.std.proofs.Common.{◌≡◌, ◌↔◌, ◌⊎◌, ℕ, zero, suc, ◌+◌, ◌<◌, Bool, true, false, ◌&&◌, ◌||◌, not, eqb, ltb, arith, List, [], ◌∷◌, ◌++◌, length, filter, find, Option, Some, None, Result, Ok, Err, refl, rules, sym, ap, ◌∙◌, subst, inl, inr}
+use Rattle.std.proofs.Common.{◌≡◌, ◌↔◌, ℕ, Bool, true, false, ◌&&◌, not, eqb, List, [], filter, Result, Ok, Err, refl, rules, sym, subst}
 use Rattle.std.specs.List.{All, Contains, list_any}
-use Rattle.std.specs.Prelude.{IfOk}
-use Rattle.std.proofs.lemmas.Bool.{cases_Bool, and_from, and_parts, both_ways, eqb-true, false_from_ne_true, false≢true, ltb-true, or_cases, or_left, or_right}
 use Rattle.smx_types.specs.declared.command.Command.{Command}
 use Rattle.smx_types.specs.declared.command.Command.TheVariants as command
 use Rattle.smx_types.specs.declared.command.Which.{Which}
@@ -11,31 +9,26 @@ use Rattle.smx_types.specs.declared.driver.DriverSpec.{DriverSpec}
 use Rattle.smx_types.specs.declared.link.Binding.{Binding}
 use Rattle.smx_types.specs.declared.link.Link.{Link}
 use Rattle.smx_types.specs.declared.link.LinkKind.{LinkKind}
-use Rattle.smx_types.specs.declared.link.Route.{Route}
 use Rattle.smx_types.specs.declared.reply.Fault.{Fault}
-use Rattle.smx_types.specs.declared.reply.Fault.TheVariants.{BadDescriptor, NoLink, Unbound, Unrouted}
+use Rattle.smx_types.specs.declared.reply.Fault.TheVariants.{Unbound}
 use Rattle.smx_types.specs.declared.reply.Reply.TheVariants as reply
-use Rattle.smx_types.specs.declared.stream.Descriptor.{Descriptor}
 use Rattle.smx_types.specs.declared.stream.Place.{Place}
 use Rattle.smx_types.specs.declared.stream.StreamId.{StreamId}
-use Rattle.smx_model.specs.Commands.{outcome, step, after_outcome, done_outcome, link_outcome, unlink_outcome, send_outcome, receive_outcome, with_fd}
-use Rattle.smx_model.specs.Configuration.{Configuration, bind_before, fd_before, is_fd, route_before}
-use Rattle.smx_model.specs.KeptConfigurations.{IsSound}
-use Rattle.smx_model.specs.Lookups.{mux_stream, stream_of}
-use Rattle.smx_model.specs.Ordered.{ComesBefore, IsRising, with_inserted}
-use Rattle.smx_model.specs.Outcomes.{Outcome, ◌>>=◌, or_fault, refuse}
-use Rattle.smx_model.specs.Removal.{after_sweep, without_links}
-use Rattle.smx_model.specs.Settling.{after_settling, after_settling_within}
+use Rattle.smx_model.specs.Commands.{outcome, step, after_outcome, done_outcome, link_outcome, unlink_outcome, send_outcome, receive_outcome}
+use Rattle.smx_model.specs.Configuration.{Configuration, bind_before}
+use Rattle.smx_model.specs.Lookups.{mux_stream}
+use Rattle.smx_model.specs.Ordered.{with_inserted}
+use Rattle.smx_model.specs.Outcomes.{Outcome, ◌>>=◌, refuse}
+use Rattle.smx_model.specs.Removal.{without_links}
+use Rattle.smx_model.specs.Settling.{after_settling_within}
 use Rattle.smx_model.specs.Standing.{exists}
 use Rattle.smx_model.specs.Swept.{IsSwept}
 use Rattle.smx_model.proofs.DropLemmas.{done_idle}
-use Rattle.smx_model.proofs.KeptLemmas.{outcome_sound}
 use Rattle.smx_model.proofs.MemberLemmas.{all_in, filtered_passes, in_all, in_filtered, in_placed, none_in}
 use Rattle.smx_model.proofs.OutcomeLemmas.{IfAccepted, at_ok, after_ok, after_test, after_some}
-use Rattle.smx_model.proofs.RisingLemmas.{rising_filter}
 use Rattle.smx_model.proofs.SettledLemmas.{settled_alone}
 use Rattle.smx_model.proofs.SweptLemmas.{swept_accepted}
-use Rattle.smx_model.proofs.TestLemmas.{all_filter, any_more}
+use Rattle.smx_model.proofs.TestLemmas.{all_filter}
 
 abbrev stream : Binding → StreamId
 stream b = record { driver = b.driver; minor = b.minor }

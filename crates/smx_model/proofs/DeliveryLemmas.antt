@@ -1,5 +1,5 @@
 -- Messages keep their serial, address and bytes from where they are taken in to where they are delivered.
-use Rattle.std.proofs.Common.{◌≡◌, ◌⊎◌, ℕ, zero, suc, Bool, List, [], ◌∷◌, ◌++◌, filter, Option, Some, None, Ok, Err, refl, rules, sym, ap, ◌∙◌, subst, inl, inr}
+use Rattle.std.proofs.Common.{◌≡◌, ◌⊎◌, ℕ, zero, suc, Bool, List, [], ◌∷◌, ◌++◌, Option, Some, None, Ok, Err, refl, rules, ap, ◌∙◌, subst, inl, inr}
 use Rattle.std.specs.List.{All, Contains}
 use Rattle.std.proofs.lemmas.Bool.{cases_Bool}
 use Rattle.smx_types.specs.declared.command.Command.{Command}
@@ -19,7 +19,7 @@ use Rattle.smx_model.specs.Configuration.{Configuration, QueuedMessage, empty, i
 use Rattle.smx_model.specs.Histories.{after, after_from, IsLegal, IsLegalFrom}
 use Rattle.smx_model.specs.Ordered.{with_inserted, without_first}
 use Rattle.smx_model.specs.Outcomes.{Outcome}
-use Rattle.smx_model.specs.Queues.{first_message, after_arrival, after_leaving}
+use Rattle.smx_model.specs.Queues.{first_message, after_leaving}
 use Rattle.smx_model.specs.Removal.{without_links, without_queues_at}
 use Rattle.smx_model.specs.Settling.{after_move, after_move_to, after_settling_within, least_movable, next_open_place}
 use Rattle.smx_model.proofs.EachLemmas.{Each, all_of_each, each_filter, each_map, each_placed}

@@ -1,40 +1,26 @@
 -- Which descriptors a command closes.
-use Rattle.std.proofs.Common.{◌≡◌, ◌↔◌, ◌⊎◌, ℕ, zero, suc, ◌+◌, ◌<◌, Bool, true, false, ◌&&◌, ◌||◌, not, eqb, ltb, arith, List, [], ◌∷◌, ◌++◌, length, filter, find, Option, Some, None, Result, Ok, Err, refl, rules, sym, ap, ◌∙◌, subst, inl, inr}
+use Rattle.std.proofs.Common.{◌≡◌, ◌↔◌, ℕ, Bool, true, false, not, eqb, List, [], ◌∷◌, filter, find, Option, Some, None, Ok, Err, refl, rules, sym, subst, inl, inr}
 use Rattle.std.specs.List.{All, Contains, list_any}
-use Rattle.std.specs.Prelude.{IfOk}
-use Rattle.std.proofs.lemmas.Bool.{cases_Bool, and_from, and_parts, both_ways, eqb-true, false_from_ne_true, false≢true, ltb-true, or_cases, or_left, or_right}
+use Rattle.std.proofs.lemmas.Bool.{cases_Bool}
 use Rattle.smx_types.specs.declared.command.Command.{Command}
 use Rattle.smx_types.specs.declared.command.Command.TheVariants as command
 use Rattle.smx_types.specs.declared.command.Which.{Which}
 use Rattle.smx_types.specs.declared.command.Which.TheVariants as which
 use Rattle.smx_types.specs.declared.driver.DriverSpec.{DriverSpec}
-use Rattle.smx_types.specs.declared.link.Binding.{Binding}
 use Rattle.smx_types.specs.declared.link.Link.{Link}
 use Rattle.smx_types.specs.declared.link.LinkKind.{LinkKind}
-use Rattle.smx_types.specs.declared.link.Route.{Route}
-use Rattle.smx_types.specs.declared.reply.Fault.{Fault}
-use Rattle.smx_types.specs.declared.reply.Fault.TheVariants.{BadDescriptor, NoLink, Unbound, Unrouted}
+use Rattle.smx_types.specs.declared.reply.Fault.TheVariants.{BadDescriptor}
 use Rattle.smx_types.specs.declared.stream.Descriptor.{Descriptor}
 use Rattle.smx_types.specs.declared.stream.Place.{Place}
 use Rattle.smx_types.specs.declared.stream.StreamId.{StreamId}
 use Rattle.smx_model.specs.Commands.{outcome, step, after_outcome, done_outcome, link_outcome, unlink_outcome, send_outcome, receive_outcome, with_fd}
-use Rattle.smx_model.specs.Configuration.{Configuration, bind_before, fd_before, is_fd, route_before}
-use Rattle.smx_model.specs.KeptConfigurations.{IsSound}
-use Rattle.smx_model.specs.Lookups.{mux_stream, stream_of}
-use Rattle.smx_model.specs.Ordered.{ComesBefore, IsRising, with_inserted}
-use Rattle.smx_model.specs.Outcomes.{Outcome, ◌>>=◌, or_fault, refuse}
+use Rattle.smx_model.specs.Configuration.{Configuration, fd_before, is_fd}
+use Rattle.smx_model.specs.Outcomes.{Outcome, ◌>>=◌, or_fault}
 use Rattle.smx_model.specs.Removal.{after_sweep, without_links}
 use Rattle.smx_model.specs.Settling.{after_settling}
-use Rattle.smx_model.specs.Standing.{exists}
-use Rattle.smx_model.specs.Swept.{IsSwept}
-use Rattle.smx_model.proofs.DropLemmas.{done_idle}
-use Rattle.smx_model.proofs.KeptLemmas.{outcome_sound}
-use Rattle.smx_model.proofs.MemberLemmas.{all_in, filtered_passes, in_all, in_filtered, in_placed, none_in}
+use Rattle.smx_model.proofs.MemberLemmas.{all_in, filtered_passes, in_filtered, in_placed, none_in}
 use Rattle.smx_model.proofs.OutcomeLemmas.{IfAccepted, at_ok, after_ok, after_test, after_some}
-use Rattle.smx_model.proofs.RisingLemmas.{rising_filter}
 use Rattle.smx_model.proofs.SettledLemmas.{settled_alone}
-use Rattle.smx_model.proofs.SweptLemmas.{swept_accepted}
-use Rattle.smx_model.proofs.TestLemmas.{all_filter, any_more}
 
 -- what no search found fails the test
 none_found : {X : Type 0} (t : X → Bool) (xs : List X) → find t xs ≡ None → list_any t xs ≡ false
@@ -47,8 +33,10 @@ record Shut (c d : Configuration) (goes : Descriptor → Bool) : Type 0 where
   each : (x : Descriptor) → Contains c.fds x → Contains d.fds x ↔ (not (goes x) ≡ true)
 
 shut_done : (drivers : List DriverSpec) (c : Configuration) (goes : Descriptor → Bool) → Shut c (after_settling drivers (after_sweep drivers (record c { fds = filter (λ d. not (goes d)) c.fds }))) goes
-shut_done drivers c goes = record { each = λ x h. rw ((settled_alone drivers _ (after_sweep drivers (record c { fds = filter (λ d. not (goes d)) c.fds }))).fds)
-    (λ k. filtered_passes (λ d. not (goes d)) c.fds x k, λ e. in_filtered (λ d. not (goes d)) c.fds x h e) }
+shut_done drivers c goes = record {
+  each = λ x h. rw ((settled_alone drivers _ (after_sweep drivers (record c { fds = filter (λ d. not (goes d)) c.fds }))).fds)
+      (λ k. filtered_passes (λ d. not (goes d)) c.fds x k, λ e. in_filtered (λ d. not (goes d)) c.fds x h e);
+}
 
 shut_none : (c : Configuration) (goes : Descriptor → Bool) → list_any goes c.fds ≡ false → Shut c c goes
 shut_none c goes e = record { each = λ x h. (λ k. rw (none_in goes c.fds e x h) refl, λ e. h) }

@@ -1,10 +1,7 @@
 -- A full place has more bytes than its low water mark, and one that is not full fewer than its high one.
-use Rattle.std.proofs.Common.{◌≡◌, ℕ, zero, suc, ◌+◌, ◌<◌, ◌≤◌, Bool, true, false, ◌&&◌, ◌||◌, not, cond, leb, ltb, arith, List, [], ◌∷◌, drop, length, filter, Option, Some, None, Result, Ok, Err, refl, rules, sym, ap, ◌∙◌, subst, inl, inr}
-use Rattle.std.specs.Option.{option_map_or}
-use Rattle.std.specs.Prelude.{slice_get}
-use Rattle.std.specs.List.{All, list_any, sum_by}
+use Rattle.std.proofs.Common.{◌≡◌, ℕ, zero, suc, ◌<◌, ◌≤◌, Bool, true, false, ◌&&◌, ◌||◌, not, cond, leb, ltb, arith, List, [], ◌∷◌, drop, length, filter, Option, Some, None, Result, Ok, Err, refl, rules, sym, ap, ◌∙◌, subst, inl, inr}
+use Rattle.std.specs.List.{list_any, sum_by}
 use Rattle.std.proofs.lemmas.Bool.{and_cases, and_parts, cases_Bool, false≢true, leb-false, leb-true, ltb-false, ltb-true, or_cases, or_parts}
-use Rattle.std.proofs.lemmas.List.Elements.{All-contains}
 use Rattle.std.proofs.lemmas.List.Sums.{sum_by-cons}
 use Rattle.smx_types.specs.Drivers.{spec_check}
 use Rattle.smx_types.specs.declared.command.Command.{Command}
@@ -27,7 +24,7 @@ use Rattle.smx_model.specs.Histories.{after, after_from}
 use Rattle.smx_model.specs.KnownStreams.{IsKnown}
 use Rattle.smx_model.specs.Ordered.{with_inserted, without_first}
 use Rattle.smx_model.specs.Outcomes.{Outcome}
-use Rattle.smx_model.specs.Queues.{after_arrival, after_leaving, bytes_at, first_message, is_full, queue, with_mark}
+use Rattle.smx_model.specs.Queues.{after_arrival, after_leaving, bytes_at, first_message, is_full, queue}
 use Rattle.smx_model.specs.Removal.{without_links, without_queues_at}
 use Rattle.smx_model.specs.Settling.{after_move, after_move_to, after_settling_within, least_movable, next_open_place}
 use Rattle.smx_model.proofs.EachLemmas.{Each, each_of_all}

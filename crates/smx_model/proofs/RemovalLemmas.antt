@@ -1,7 +1,7 @@
 -- Which links a command removes, and which it leaves.
-use Rattle.std.proofs.Common.{◌≡◌, ◌↔◌, ◌⊎◌, ℕ, zero, suc, ◌+◌, Bool, true, false, ◌&&◌, ◌||◌, not, eqb, List, [], ◌∷◌, ◌++◌, length, filter, Result, Ok, Err, refl, rules, sym, ap, ◌∙◌, subst, inl, inr}
-use Rattle.std.specs.List.{All, Contains, list_all, list_any}
-use Rattle.std.proofs.lemmas.Bool.{cases_Bool, and_from, and_parts, or_cases, or_left, or_parts, or_right, false≢true}
+use Rattle.std.proofs.Common.{◌≡◌, ◌↔◌, ◌⊎◌, ℕ, zero, suc, ◌+◌, Bool, true, false, ◌&&◌, ◌||◌, not, eqb, List, [], ◌∷◌, ◌++◌, length, filter, Result, Ok, Err, refl, rules, sym, ap, subst, inl, inr}
+use Rattle.std.specs.List.{All, Contains, list_any}
+use Rattle.std.proofs.lemmas.Bool.{and_from, and_parts, or_cases, or_left, or_right, false≢true}
 use Rattle.std.proofs.lemmas.List.Elements.{Contains-append_left, Contains-push_cases}
 use Rattle.smx_types.specs.declared.command.Command.{Command}
 use Rattle.smx_types.specs.declared.command.Command.TheVariants as command
@@ -23,7 +23,7 @@ use Rattle.smx_model.specs.Lookups.{mux_stream, stream_of}
 use Rattle.smx_model.specs.MeantLinks.{is_meant}
 use Rattle.smx_model.specs.Outcomes.{Outcome, ◌>>=◌, refuse}
 use Rattle.smx_model.specs.Removal.{after_sweep, without_links}
-use Rattle.smx_model.specs.Settling.{after_settling, after_settling_within}
+use Rattle.smx_model.specs.Settling.{after_settling_within}
 use Rattle.smx_model.specs.Standing.{exists, is_named, is_persistent, stands_within}
 use Rattle.smx_model.specs.Swept.{IsSwept}
 use Rattle.smx_model.proofs.MemberLemmas.{all_in, any_filtered, filtered_passes, in_all, in_filtered, none_in, of_filtered}
@@ -131,12 +131,16 @@ keeps_push : (c : Configuration) (l : Link) (next : ℕ) → Keeps c (record c {
 keeps_push c l next = record { each = λ k h. Contains-append_left c.links (l ∷ []) k h }
 
 keeps_done : (drivers : List DriverSpec) (c d : Configuration) → IsSwept drivers c → d.links ≡ c.links → d.fds ≡ c.fds → IfAccepted (λ d r. Keeps c d) (done_outcome drivers c d)
-keeps_done drivers c d h e f = record { holds = record { each = λ l k. in_filtered _ d.links l (subst (λ (ls : List Link). Contains ls l) (sym e) k)
-    (alive (is_persistent l) (exists drivers d l.ctl) (rw (e, f) (in_all _ c.links l h.links k))) } } where
-      alive : (a b : Bool) → (a || b) ≡ true → not (not a && not b) ≡ true
-      alive true b h = refl
-      alive false true h = refl
-      alive false false h = h
+keeps_done drivers c d h e f = record {
+  holds = record {
+    each = λ l k. in_filtered _ d.links l (subst (λ (ls : List Link). Contains ls l) (sym e) k)
+        (alive (is_persistent l) (exists drivers d l.ctl) (rw (e, f) (in_all _ c.links l h.links k)));
+  };
+} where
+  alive : (a b : Bool) → (a || b) ≡ true → not (not a && not b) ≡ true
+  alive true b h = refl
+  alive false true h = refl
+  alive false false h = h
 
 keeps_linked : (drivers : List DriverSpec) (c : Configuration) (process fd arg : ℕ) (k : LinkKind) → IfAccepted (λ d r. Keeps c d) (link_outcome drivers c process fd arg k)
 keeps_linked drivers c process fd arg k = search (after_test, after_ok, at_ok, keeps_push, rules) depth 24
