@@ -2,7 +2,7 @@
 
 ghost use Rattle.std.specs.Prelude.{◌≡◌, ◌≤◌, ◌==◌, ◌&&◌, false, find, map, length, vec_capacity, IfSome};
 ghost use Rattle.smx_model.specs.Configuration.{same_stream};
-ghost use Rattle.smx_model.specs.Settling.{down_by, up_by, next_place, next_open_place, is_movable, least_movable, after_move, after_settling};
+ghost use Rattle.smx_model.specs.Settling.{place_below, place_above, next_place, next_open_place, is_movable, least_movable, after_move, after_settling};
 ghost use Rattle.smx_config.specs.Reserved.{HasRoom};
 ghost use Rattle.smx_config.specs.ListFields.{configuration_of};
 
@@ -45,7 +45,7 @@ fn binding_of(binds: &[Binding], driver: u8, addr: u32) -> Option<Binding>
 
 // The write side of the stream below the link of the driver's route.
 fn down(links: &[Link], routes: &[Route], driver: u8, addr: u32) -> Option<Place>
-    ensures { result ≡ down_by links.now (find (λ r. (r.driver == driver) && (r.addr == addr)) routes.now) }
+    ensures { result ≡ place_below links.now routes.now driver addr }
 {
     let route = route_of(routes, driver, addr)?;
     let link = link_of(links, route.id)?;
@@ -57,7 +57,7 @@ fn down(links: &[Link], routes: &[Route], driver: u8, addr: u32) -> Option<Place
 
 // The read side of the stream that is bound to the address on the upper driver.
 fn up(links: &[Link], binds: &[Binding], stream: StreamId, addr: u32) -> Option<Place>
-    ensures { result ≡ up_by binds.now addr (find (λ l. same_stream l.lower stream) links.now) }
+    ensures { result ≡ place_above links.now binds.now stream addr }
 {
     let link = link_above(links, stream)?;
     let binding = binding_of(binds, link.ctl.driver, addr)?;
