@@ -1,6 +1,7 @@
 -- Messages keep their serial, address and bytes from where they are taken in to where they are delivered.
-use Rattle.std.proofs.Common.{◌≡◌, ◌⊎◌, ℕ, zero, suc, Bool, List, [], ◌∷◌, ◌++◌, Option, Some, None, Ok, Err, refl, rules, ap, ◌∙◌, subst, inl, inr}
+use Rattle.std.proofs.Common.{◌≡◌, ◌⊎◌, ℕ, zero, suc, Bool, List, [], ◌∷◌, ◌++◌, Option, Some, None, Ok, Err, refl, rules, ap, ◌∙◌, subst, inl, inr, arith}
 use Rattle.std.specs.List.{All, Contains}
+use Rattle.std.specs.List.Sorted.{IsPermutation}
 use Rattle.std.proofs.lemmas.Bool.{cases_Bool}
 use Rattle.smx_types.specs.declared.command.Command.{Command}
 use Rattle.smx_types.specs.declared.command.Command.TheVariants as command
@@ -20,8 +21,11 @@ use Rattle.smx_model.specs.Histories.{after, after_from, IsLegal, IsLegalFrom}
 use Rattle.smx_model.specs.Ordered.{with_inserted, without_first}
 use Rattle.smx_model.specs.Outcomes.{Outcome}
 use Rattle.smx_model.specs.Queues.{first_message, after_leaving}
-use Rattle.smx_model.specs.Removal.{without_links, without_queues_at}
+use Rattle.smx_model.specs.LawfulHistories.{delivered_by, dropped_by, taken_by}
+use Rattle.smx_model.specs.Removal.{serials, without_links, without_queues_at}
 use Rattle.smx_model.specs.Settling.{after_move, after_move_to, after_settling_within, least_movable, next_open_place}
+use Rattle.smx_model.proofs.ConservationLemmas.{Goes, goes_step, IsNumbered, numbered_empty, numbered_goes}
+use Rattle.smx_model.proofs.CountLemmas.{permuted, times_append}
 use Rattle.smx_model.proofs.EachLemmas.{Each, all_of_each, each_filter, each_map, each_placed}
 use Rattle.smx_model.proofs.MemberLemmas.{is_first, is_later}
 use Rattle.smx_model.proofs.OutcomeLemmas.{IfAccepted, at_ok, after_ok, after_test, after_some}
@@ -181,3 +185,18 @@ queued_from P drivers c (e ∷ es) h legal = each_map _ _ _ (λ x k. told P e es
 pub stay_whole : (drivers : List DriverSpec) (history : List Entry) → IsLegal drivers history → All (λ h. TakenIn history h.message) (after drivers history).flow
 stay_whole drivers history legal = all_of_each (λ h. TakenIn history h.message) (after drivers history).flow
     (each_map (λ h. ⊥ ⊎ TakenIn history h.message) (λ h. TakenIn history h.message) (after drivers history).flow (λ h k. elim k [ inl none ↦ absurd none | inr t ↦ t ]) (queued_from (λ m. ⊥) drivers empty history tt legal))
+
+-- a command keeps, delivers or drops each message that was queued
+
+numbered_from : (drivers : List DriverSpec) (c : Configuration) (es : List Entry) → IsNumbered c → IsNumbered (after_from drivers c es)
+numbered_from drivers c [] h = h
+numbered_from drivers c (e ∷ es) h = numbered_from drivers (step drivers c e.process e.command).0 es (numbered_goes c _ _ h (goes_step drivers c e.process e.command h))
+
+balanced : (c d : Configuration) (r : Reply) → Goes c d r → IsPermutation (taken_by r ++ serials c.flow) (delivered_by r ++ (dropped_by r ++ serials d.flow))
+balanced c d r g = permuted (taken_by r ++ serials c.flow) (delivered_by r ++ (dropped_by r ++ serials d.flow)) (λ n. omega (arith, g.balance n,
+    times_append n (taken_by r) (serials c.flow), times_append n (delivered_by r) (dropped_by r ++ serials d.flow), times_append n (dropped_by r) (serials d.flow)))
+
+pub go_by_name : (drivers : List DriverSpec) (history : List Entry) (process : ℕ) (k : Command)
+    → IsPermutation (taken_by (step drivers (after drivers history) process k).1 ++ serials (after drivers history).flow)
+    (delivered_by (step drivers (after drivers history) process k).1 ++ (dropped_by (step drivers (after drivers history) process k).1 ++ serials (step drivers (after drivers history) process k).0.flow))
+go_by_name drivers history process k = balanced _ _ _ (goes_step drivers (after drivers history) process k (numbered_from drivers empty history numbered_empty))

@@ -208,24 +208,11 @@ persistent_stays drivers c process k h never = all_in _ c.links (by k never) whe
   unlinked w (Ok s) l m p = ((just_unlinked drivers c w (λ l. not (is_persistent l) && same_stream l.ctl s) h).each l m).1 (and_from _ _ (not_ordinary (is_meant w l) (is_persistent l) (same_stream l.ctl s) p) (or_left _ _ p))
 
   by : (k : Command) → ((fd : ℕ) (w : Which) → k ≡ command.Punlink fd w → ⊥) → (l : Link) → Contains c.links l → is_persistent l ≡ true → Contains (step drivers c process k).0.links l
-  by (command.OpenClone name) n = others (command.OpenClone name) (record { close = λ fd e. cc; exit = λ e. cc; unlink = λ fd w e. cc; punlink = n })
-  by (command.OpenMinor name minor) n = others (command.OpenMinor name minor) (record { close = λ fd e. cc; exit = λ e. cc; unlink = λ fd w e. cc; punlink = n })
-  by (command.Dup fd) n = others (command.Dup fd) (record { close = λ fd e. cc; exit = λ e. cc; unlink = λ fd w e. cc; punlink = n })
   by (command.Close fd) n = λ l m p. ((close_just drivers c process fd h).each l m).1 (or_left _ _ p)
   by command.CloseAll n = λ l m p. ((exit_just drivers c process).each l m).1 (or_left _ _ p)
-  by (command.Link fd arg) n = others (command.Link fd arg) (record { close = λ fd e. cc; exit = λ e. cc; unlink = λ fd w e. cc; punlink = n })
-  by (command.Plink fd arg) n = others (command.Plink fd arg) (record { close = λ fd e. cc; exit = λ e. cc; unlink = λ fd w e. cc; punlink = n })
   by (command.Unlink fd w) n = unlinked w (mux_stream drivers c process fd)
   by (command.Punlink fd w) n = absurd (n fd w refl)
-  by (command.Bind fd addr) n = others (command.Bind fd addr) (record { close = λ fd e. cc; exit = λ e. cc; unlink = λ fd w e. cc; punlink = n })
-  by (command.Unbind fd) n = others (command.Unbind fd) (record { close = λ fd e. cc; exit = λ e. cc; unlink = λ fd w e. cc; punlink = n })
-  by (command.Route fd addr id) n = others (command.Route fd addr id) (record { close = λ fd e. cc; exit = λ e. cc; unlink = λ fd w e. cc; punlink = n })
-  by (command.Unroute fd addr) n = others (command.Unroute fd addr) (record { close = λ fd e. cc; exit = λ e. cc; unlink = λ fd w e. cc; punlink = n })
-  by (command.Write fd addr bytes) n = others (command.Write fd addr bytes) (record { close = λ fd e. cc; exit = λ e. cc; unlink = λ fd w e. cc; punlink = n })
-  by (command.Read fd) n = others (command.Read fd) (record { close = λ fd e. cc; exit = λ e. cc; unlink = λ fd w e. cc; punlink = n })
-  by (command.Flush fd w) n = others (command.Flush fd w) (record { close = λ fd e. cc; exit = λ e. cc; unlink = λ fd w e. cc; punlink = n })
-  by (command.Inject name minor addr bytes) n = others (command.Inject name minor addr bytes) (record { close = λ fd e. cc; exit = λ e. cc; unlink = λ fd w e. cc; punlink = n })
-  by (command.Transmit name minor) n = others (command.Transmit name minor) (record { close = λ fd e. cc; exit = λ e. cc; unlink = λ fd w e. cc; punlink = n })
+  by k n = others k (record { close = λ fd e. cc; exit = λ e. cc; unlink = λ fd w e. cc; punlink = n })
 
 -- a link that stands after a command stood before it, or was made by it
 
