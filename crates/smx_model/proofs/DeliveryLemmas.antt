@@ -193,8 +193,13 @@ numbered_from drivers c [] h = h
 numbered_from drivers c (e ∷ es) h = numbered_from drivers (step drivers c e.process e.command).0 es (numbered_goes c _ _ h (goes_step drivers c e.process e.command h))
 
 balanced : (c d : Configuration) (r : Reply) → Goes c d r → IsPermutation (taken_by r ++ serials c.flow) (delivered_by r ++ (dropped_by r ++ serials d.flow))
-balanced c d r g = permuted (taken_by r ++ serials c.flow) (delivered_by r ++ (dropped_by r ++ serials d.flow)) (λ n. omega (arith, g.balance n,
-    times_append n (taken_by r) (serials c.flow), times_append n (delivered_by r) (dropped_by r ++ serials d.flow), times_append n (dropped_by r) (serials d.flow)))
+balanced c d r g = permuted (taken_by r ++ serials c.flow) (delivered_by r ++ (dropped_by r ++ serials d.flow)) (λ n. omega (
+  arith,
+  g.balance n,
+  times_append n (taken_by r) (serials c.flow),
+  times_append n (delivered_by r) (dropped_by r ++ serials d.flow),
+  times_append n (dropped_by r) (serials d.flow),
+))
 
 pub go_by_name : (drivers : List DriverSpec) (history : List Entry) (process : ℕ) (k : Command)
     → IsPermutation (taken_by (step drivers (after drivers history) process k).1 ++ serials (after drivers history).flow)

@@ -14,18 +14,14 @@ ghost use Rattle.smx_model.specs.LawfulHistories.{delivered_by, dropped_by, take
 ghost use Rattle.smx_model.specs.Removal.{serials};
 
 /// A message arrives whole: what is delivered has the serial, the address and the bytes of an earlier entry, which
-/// wrote or injected just these bytes to that address and was told that serial.
+/// wrote or injected just these bytes to that address and was told that serial. So it is with what is still queued.
 pub fn messages_arrive_whole()
-    ensures { (drivers : List DriverSpec) (early late : List Entry) (e : Entry) (serial addr : ℕ) (bytes : List ℕ)
+    ensures delivered { (drivers : List DriverSpec) (early late : List Entry) (e : Entry) (serial addr : ℕ) (bytes : List ℕ)
         → IsLegal drivers (early ++ e ∷ late) → e.reply ≡ reply.Got serial addr bytes
         → (took : Entry) × Contains early took × (took.reply ≡ reply.Took serial)
         × (((fd : ℕ) × (took.command ≡ command.Write fd addr bytes))
         ⊎ ((name : List ℕ) × (minor : ℕ) × (took.command ≡ command.Inject name minor addr bytes))) }
-{}
-
-/// So it is while a message is queued.
-pub fn messages_stay_whole()
-    ensures { (drivers : List DriverSpec) (history : List Entry) → IsLegal drivers history
+    ensures queued { (drivers : List DriverSpec) (history : List Entry) → IsLegal drivers history
         → All (λ h. (took : Entry) × Contains history took × (took.reply ≡ reply.Took h.message.serial)
         × (((fd : ℕ) × (took.command ≡ command.Write fd h.message.addr h.message.bytes))
         ⊎ ((name : List ℕ) × (minor : ℕ) × (took.command ≡ command.Inject name minor h.message.addr h.message.bytes))))
