@@ -18,6 +18,7 @@ pub mod ConservationLemmas
 pub mod ViewLemmas
 pub mod KeptLemmas
 pub mod RefusalLemmas
+pub mod LastRefusalLemmas
 pub mod DropLemmas
 pub mod HistoryLemmas
 pub mod LimitLemmas
@@ -29,3 +30,4 @@ pub mod MarkLemmas
 pub mod DescriptorLemmas
 pub mod BindingLemmas
 pub mod RoutingLemmas
+pub mod ReportLemmas

@@ -30,3 +30,10 @@ pub mod AddressesOfTwoDrivers
 pub mod RefusalsBehindAFullTable
 pub mod TheEndOfALinkEmptiesAndFrees
 pub mod ExitAtOnce
+pub mod NeighboursKeepTheirBindings
+pub mod NeighboursKeepTheirRoutes
+pub mod NeighboursKeepTheirLinks
+pub mod PlacesInOrder
+pub mod EachNumberIsItsOwn
+pub mod CommandsThatDrop
+pub mod Reports

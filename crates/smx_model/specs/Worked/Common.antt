@@ -33,7 +33,7 @@ process does command gets reply = record { process = process; command = command;
 abbrev pub replies_from : List DriverSpec → Configuration → List Entry → List Reply
 replies_from drivers c [] = []
 replies_from drivers c (e ∷ es) =
-  (step drivers c e.process e.command).1 ∷ replies_from drivers (step drivers c e.process e.command).0 es
+    (step drivers c e.process e.command).1 ∷ replies_from drivers (step drivers c e.process e.command).0 es
 
 -- where they are those of the history, it is legal
 pub legal_from : (drivers : List DriverSpec) (c : Configuration) (es : List Entry)
