@@ -21,7 +21,6 @@ pub mod RefusalLemmas
 pub mod LastRefusalLemmas
 pub mod DropLemmas
 pub mod HistoryLemmas
-pub mod ReportLemmas
 pub mod LimitLemmas
 pub mod MemberLemmas
 pub mod SettledLemmas
@@ -31,3 +30,4 @@ pub mod MarkLemmas
 pub mod DescriptorLemmas
 pub mod BindingLemmas
 pub mod RoutingLemmas
+pub mod ReportLemmas
