@@ -21,7 +21,7 @@ use Rattle.smx_model.specs.Lookups.{mux_stream}
 use Rattle.smx_model.specs.Outcomes.{refuse}
 use Rattle.smx_model.specs.Removal.{serials, after_sweep, without_links}
 use Rattle.smx_model.specs.Swept.{IsSwept}
-use Rattle.smx_config.specs.Owners.{is_chosen, are_there, unlinks}
+use Rattle.smx_config.specs.UnlinkTargets.{is_target, are_there, unlinks}
 
 pub done_is : (drivers : List DriverSpec) (c new d : Configuration) (old : List ℕ) (r : Reply) → d ≡ after_sweep drivers new → old ≡ serials c.flow
     → r ≡ Done (in_rising_order (filter (λ n. not (list_any (λ m. eqb n m) (serials d.flow))) old)) → done_outcome drivers c new ≡ Ok (d, r)
@@ -30,7 +30,7 @@ done_is drivers c new d old r is was gone = rw (gone, was, is) refl
 -- ---- the same, behind the refusals of a command
 
 pub unlink_does : (drivers : List DriverSpec) (c : Configuration) (process fd : ℕ) (w : Which) (k : LinkKind) (s : StreamId) (x : Configuration × Reply) → mux_stream drivers c process fd ≡ Ok s → are_there w k s c.links ≡ Ok tt
-    → done_outcome drivers c (without_links c (is_chosen w k s)) ≡ Ok x → unlinks drivers c process fd w k ≡ Ok x
+    → done_outcome drivers c (without_links c (is_target w k s)) ≡ Ok x → unlinks drivers c process fd w k ≡ Ok x
 unlink_does drivers c process fd w k s x e there h = rw (e, there) h
 
 pub route_does : (drivers : List DriverSpec) (c : Configuration) (process fd addr id : ℕ) (s : StreamId) (x : Configuration × Reply) → mux_stream drivers c process fd ≡ Ok s

@@ -5,7 +5,7 @@ use Rattle.std.proofs.lemmas.Bool.{cases_Bool, eq-eqb, or_left, or_right}
 use Rattle.smx_model.specs.Configuration.{QueuedMessage}
 use Rattle.smx_model.specs.Ordered.{with_inserted}
 use Rattle.smx_model.specs.Removal.{serials}
-use Rattle.smx_config.specs.Removals.{rising_onto}
+use Rattle.smx_config.specs.ListedLinks.{rising_onto}
 
 onto_last : (done_outcome ns : List ℕ) (n : ℕ) → rising_onto (with_inserted ltb done_outcome n) ns ≡ rising_onto done_outcome (ns ++ n ∷ [])
 onto_last done_outcome [] n = refl

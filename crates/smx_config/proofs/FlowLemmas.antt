@@ -1,4 +1,4 @@
--- Places of the flow.
+-- InsertionIndexes of the flow.
 use Rattle.std.proofs.Common.{◌≡◌, Bool, List, [], ◌∷◌, map, find, refl, inl, inr}
 use Rattle.std.proofs.lemmas.Bool.{cases_Bool}
 use Rattle.smx_types.specs.declared.stream.Place.{Place}

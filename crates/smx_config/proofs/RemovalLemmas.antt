@@ -8,7 +8,7 @@ use Rattle.smx_types.specs.declared.link.LinkKind.TheVariants as kind
 use Rattle.smx_types.specs.declared.stream.StreamId.{StreamId}
 use Rattle.smx_model.specs.Configuration.{Configuration, same_stream}
 use Rattle.smx_model.specs.Removal.{without_links, without_queues_at, is_read_below}
-use Rattle.smx_config.specs.Removals.{same_kind, same_link, is_one, has_id, without_listed_links}
+use Rattle.smx_config.specs.ListedLinks.{same_kind, same_link, is_one, has_id, without_listed_links}
 
 kind_is : (a b : LinkKind) → same_kind a b ≡ true → a ≡ b
 kind_is kind.Ordinary kind.Ordinary h = refl

@@ -7,14 +7,14 @@ ghost use Rattle.smx_types.specs.declared.reply.Fault.TheVariants.{AddressInUse,
 ghost use Rattle.smx_model.specs.Configuration.{bind_before, route_before};
 ghost use Rattle.smx_model.specs.Ordered.{with_inserted};
 ghost use Rattle.smx_model.specs.Outcomes.{refuse};
-ghost use Rattle.smx_config.specs.Reserved.{HasRoom};
-ghost use Rattle.smx_config.specs.Performed.{IsReady, DoesInPlace, Does};
+ghost use Rattle.smx_config.specs.ReservedRoom.{HasRoom};
+ghost use Rattle.smx_config.specs.Refinement.{StepInvariant, Refines, RefinesOrNoMemory};
 
 use crate::lists::Lists;
-use crate::looked_up::mux_stream;
-use crate::ordered::{bind_place, route_place};
-use crate::room::{room_to_sweep, sweep_done};
-use crate::stop::Stop;
+use crate::lookups::mux_stream;
+use crate::insertion_index::{bind_insertion_index, route_insertion_index};
+use crate::sweep::{reserve_for_sweep, sweep_and_reply};
+use crate::step_error::StepError;
 use smx_model::laws_of_steps::idle_changes_drop_none;
 use smx_types::{Binding, DriverSpec, Fault, Link, Process, Reply, Route, Serials, StreamId};
 use std::alloc::Global;
@@ -34,12 +34,12 @@ fn check_bind(lists: &Lists, stream: StreamId, addr: u32) -> Result<(), Fault>
     Ok(())
 }
 
-#[tactic(auto, using(crate::proofs::PlaceLemmas::place_le, crate::proofs::PlaceLemmas::insert_place))]
+#[tactic(auto, using(crate::proofs::InsertionLemmas::index_le, crate::proofs::InsertionLemmas::insert_at_index))]
 fn put_bind(binds: &mut Vec<Binding>, binding: Binding)
     requires { length binds.old.items < vec_capacity binds.old }
     ensures { binds.new.items ≡ with_inserted bind_before binds.old.items binding }
 {
-    let i = bind_place(binds, &binding);
+    let i = bind_insertion_index(binds, &binding);
     let _ = binds.insert(i, binding);
 }
 
@@ -50,14 +50,14 @@ pub fn bind(
     process: Process,
     fd: u32,
     addr: u32,
-) -> Result<Reply, Stop>
-    requires { IsReady drivers.now lists.old }
-    ensures does { Does drivers.now lists.old lists.new process (command.Bind fd addr) result }
+) -> Result<Reply, StepError>
+    requires { StepInvariant drivers.now lists.old }
+    ensures refines { RefinesOrNoMemory drivers.now lists.old lists.new process (command.Bind fd addr) result }
     ensures kept { HasRoom lists.new }
 {
     let stream = mux_stream(drivers, lists, process, fd)?;
     check_bind(lists, stream, addr)?;
-    let room = room_to_sweep(alloc, lists)?;
+    let room = reserve_for_sweep(alloc, lists)?;
     lists.binds.reserve(1)?;
     let binding = Binding {
         driver: stream.driver,
@@ -65,7 +65,7 @@ pub fn bind(
         minor: stream.minor,
     };
     put_bind(&mut lists.binds, binding);
-    Ok(sweep_done(drivers, lists, room))
+    Ok(sweep_and_reply(drivers, lists, room))
 }
 
 fn is_bound(binds: &[Binding], stream: StreamId) -> bool
@@ -98,8 +98,8 @@ pub fn unbind(
     process: Process,
     fd: u32,
 ) -> Result<Reply, Fault>
-    requires { IsReady drivers.now lists.old }
-    ensures does { DoesInPlace drivers.now lists.old lists.new process (command.Unbind fd) result }
+    requires { StepInvariant drivers.now lists.old }
+    ensures refines { Refines drivers.now lists.old lists.new process (command.Unbind fd) result }
     ensures kept { HasRoom lists.new }
 {
     idle_changes_drop_none();
@@ -134,12 +134,12 @@ fn drop_route(routes: &mut Vec<Route>, driver: u8, addr: u32)
     routes.retain(|r| !(r.driver == driver && r.addr == addr));
 }
 
-#[tactic(auto, using(crate::proofs::PlaceLemmas::place_le, crate::proofs::PlaceLemmas::insert_place))]
+#[tactic(auto, using(crate::proofs::InsertionLemmas::index_le, crate::proofs::InsertionLemmas::insert_at_index))]
 fn put_route(routes: &mut Vec<Route>, route: Route)
     requires { length routes.old.items < vec_capacity routes.old }
     ensures { routes.new.items ≡ with_inserted route_before routes.old.items route }
 {
-    let i = route_place(routes, &route);
+    let i = route_insertion_index(routes, &route);
     let _ = routes.insert(i, route);
 }
 
@@ -151,19 +151,19 @@ pub fn route(
     fd: u32,
     addr: u32,
     id: u32,
-) -> Result<Reply, Stop>
-    requires { IsReady drivers.now lists.old }
-    ensures does { Does drivers.now lists.old lists.new process (command.Route fd addr id) result }
+) -> Result<Reply, StepError>
+    requires { StepInvariant drivers.now lists.old }
+    ensures refines { RefinesOrNoMemory drivers.now lists.old lists.new process (command.Route fd addr id) result }
     ensures kept { HasRoom lists.new }
 {
     let stream = mux_stream(drivers, lists, process, fd)?;
     let driver = stream.driver;
     check_route(lists, driver, id)?;
-    let room = room_to_sweep(alloc, lists)?;
+    let room = reserve_for_sweep(alloc, lists)?;
     lists.routes.reserve(1)?;
     drop_route(&mut lists.routes, driver, addr);
     put_route(&mut lists.routes, Route { driver, addr, id });
-    Ok(sweep_done(drivers, lists, room))
+    Ok(sweep_and_reply(drivers, lists, room))
 }
 
 fn has_route(routes: &[Route], driver: u8, addr: u32) -> bool
@@ -189,8 +189,8 @@ pub fn unroute(
     fd: u32,
     addr: u32,
 ) -> Result<Reply, Fault>
-    requires { IsReady drivers.now lists.old }
-    ensures does { DoesInPlace drivers.now lists.old lists.new process (command.Unroute fd addr) result }
+    requires { StepInvariant drivers.now lists.old }
+    ensures refines { Refines drivers.now lists.old lists.new process (command.Unroute fd addr) result }
     ensures kept { HasRoom lists.new }
 {
     idle_changes_drop_none();

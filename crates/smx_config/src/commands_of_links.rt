@@ -7,19 +7,19 @@ ghost use Rattle.smx_types.specs.declared.link.Link.{Link};
 ghost use Rattle.smx_model.specs.Commands.{link_outcome};
 ghost use Rattle.smx_model.specs.Configuration.{same_stream};
 ghost use Rattle.smx_model.specs.Standing.{is_persistent};
-ghost use Rattle.smx_config.specs.Reserved.{HasRoom};
-ghost use Rattle.smx_config.specs.ListFields.{configuration_of};
-ghost use Rattle.smx_config.specs.Owners.{may_link, is_mine, is_chosen, are_there, unlinks};
-ghost use Rattle.smx_config.specs.Performed.{IsReady, Does, Performs};
+ghost use Rattle.smx_config.specs.ReservedRoom.{HasRoom};
+ghost use Rattle.smx_config.specs.ModelOfLists.{configuration_of};
+ghost use Rattle.smx_config.specs.UnlinkTargets.{may_link, may_unlink, is_target, are_there, unlinks};
+ghost use Rattle.smx_config.specs.Refinement.{StepInvariant, RefinesOrNoMemory, HasOutcomeOrNoMemory};
 
 use crate::lists::Lists;
-use crate::looked_up::{mux_stream, stream_of};
-use crate::lookups::is_mux;
+use crate::lookups::{mux_stream, stream_of};
+use crate::driver_specs::is_mux;
 use crate::paths::reaches;
 use crate::removal::remove_links;
-use crate::room::{room_to_sweep, sweep_done};
+use crate::sweep::{reserve_for_sweep, sweep_and_reply};
 use crate::standing::{is_below, is_persistent};
-use crate::stop::Stop;
+use crate::step_error::StepError;
 use crate::streams::same_stream;
 use smx_types::{
     DriverSpec, Fault, Link, LinkKind, MAX_LINKS, NUMBER_END, Process, Reply, StreamId, Which,
@@ -60,9 +60,9 @@ fn link_as(
     fd: u32,
     arg: u32,
     kind: LinkKind,
-) -> Result<Reply, Stop>
-    requires { IsReady drivers.now lists.old }
-    ensures does { Performs lists.old lists.new (link_outcome drivers.now (configuration_of lists.old) process fd arg kind) result }
+) -> Result<Reply, StepError>
+    requires { StepInvariant drivers.now lists.old }
+    ensures refines { HasOutcomeOrNoMemory lists.old lists.new (link_outcome drivers.now (configuration_of lists.old) process fd arg kind) result }
     ensures kept { HasRoom lists.new }
 {
     let upper = stream_of(lists, process, fd)?;
@@ -85,9 +85,9 @@ pub fn link(
     process: Process,
     fd: u32,
     arg: u32,
-) -> Result<Reply, Stop>
-    requires { IsReady drivers.now lists.old }
-    ensures does { Does drivers.now lists.old lists.new process (command.Link fd arg) result }
+) -> Result<Reply, StepError>
+    requires { StepInvariant drivers.now lists.old }
+    ensures refines { RefinesOrNoMemory drivers.now lists.old lists.new process (command.Link fd arg) result }
     ensures kept { HasRoom lists.new }
 {
     link_as(drivers, lists, process, fd, arg, LinkKind::Ordinary)
@@ -99,17 +99,17 @@ pub fn plink(
     process: Process,
     fd: u32,
     arg: u32,
-) -> Result<Reply, Stop>
-    requires { IsReady drivers.now lists.old }
-    ensures does { Does drivers.now lists.old lists.new process (command.Plink fd arg) result }
+) -> Result<Reply, StepError>
+    requires { StepInvariant drivers.now lists.old }
+    ensures refines { RefinesOrNoMemory drivers.now lists.old lists.new process (command.Plink fd arg) result }
     ensures kept { HasRoom lists.new }
 {
     link_as(drivers, lists, process, fd, arg, LinkKind::Persistent)
 }
 
 // Whether a command for links of this kind on this stream is for the link.
-fn is_mine(kind: LinkKind, stream: StreamId, link: &Link) -> bool
-    ensures { result ≡ is_mine kind stream link.now }
+fn may_unlink(kind: LinkKind, stream: StreamId, link: &Link) -> bool
+    ensures { result ≡ may_unlink kind stream link.now }
 {
     match kind {
         LinkKind::Ordinary => !is_persistent(link) && same_stream(link.ctl, stream),
@@ -117,45 +117,45 @@ fn is_mine(kind: LinkKind, stream: StreamId, link: &Link) -> bool
     }
 }
 
-fn is_chosen(which: Which, kind: LinkKind, stream: StreamId, link: &Link) -> bool
-    ensures { result ≡ is_chosen which kind stream link.now }
+fn is_target(which: Which, kind: LinkKind, stream: StreamId, link: &Link) -> bool
+    ensures { result ≡ is_target which kind stream link.now }
 {
     match which {
-        Which::All => is_mine(kind, stream, link),
-        Which::Id(id) => link.id == id && is_mine(kind, stream, link),
+        Which::All => may_unlink(kind, stream, link),
+        Which::Id(id) => link.id == id && may_unlink(kind, stream, link),
     }
 }
 
-fn has_chosen(links: &[Link], which: Which, kind: LinkKind, stream: StreamId) -> bool
-    ensures { result ≡ list_any (is_chosen which kind stream) links.now }
+fn has_target(links: &[Link], which: Which, kind: LinkKind, stream: StreamId) -> bool
+    ensures { result ≡ list_any (is_target which kind stream) links.now }
 {
-    links.iter().any(|l| is_chosen(which, kind, stream, l))
+    links.iter().any(|l| is_target(which, kind, stream, l))
 }
 
-fn chosen(
+fn targets(
     alloc: Global,
     links: &[Link],
     which: Which,
     kind: LinkKind,
     stream: StreamId,
 ) -> Result<Vec<Link>, AllocError>
-    ensures { IfOk result (λ v. v.items ≡ filter (is_chosen which kind stream) links.now) }
+    ensures { IfOk result (λ v. v.items ≡ filter (is_target which kind stream) links.now) }
 {
     links
         .iter()
         .copied()
-        .filter(|l| is_chosen(which, kind, stream, l))
+        .filter(|l| is_target(which, kind, stream, l))
         .collect(alloc)
 }
 
 // Whether links are there that are named; links of no id need not be.
-fn check_chosen(lists: &Lists, which: Which, kind: LinkKind, stream: StreamId) -> Result<(), Fault>
+fn check_targets(lists: &Lists, which: Which, kind: LinkKind, stream: StreamId) -> Result<(), Fault>
     ensures { result ≡ are_there which kind stream lists.now.links.items }
 {
     match which {
         Which::All => Ok(()),
         Which::Id(_) => {
-            if has_chosen(&lists.links, which, kind, stream) {
+            if has_target(&lists.links, which, kind, stream) {
                 Ok(())
             } else {
                 Err(Fault::NoLink)
@@ -173,17 +173,17 @@ fn unlink_as(
     fd: u32,
     which: Which,
     kind: LinkKind,
-) -> Result<Reply, Stop>
-    requires { IsReady drivers.now lists.old }
-    ensures does { Performs lists.old lists.new (unlinks drivers.now (configuration_of lists.old) process fd which kind) result }
+) -> Result<Reply, StepError>
+    requires { StepInvariant drivers.now lists.old }
+    ensures refines { HasOutcomeOrNoMemory lists.old lists.new (unlinks drivers.now (configuration_of lists.old) process fd which kind) result }
     ensures kept { HasRoom lists.new }
 {
     let stream = mux_stream(drivers, lists, process, fd)?;
-    check_chosen(lists, which, kind, stream)?;
-    let gone = chosen(alloc, &lists.links, which, kind, stream)?;
-    let room = room_to_sweep(alloc, lists)?;
+    check_targets(lists, which, kind, stream)?;
+    let gone = targets(alloc, &lists.links, which, kind, stream)?;
+    let room = reserve_for_sweep(alloc, lists)?;
     remove_links(lists, &gone);
-    Ok(sweep_done(drivers, lists, room))
+    Ok(sweep_and_reply(drivers, lists, room))
 }
 
 pub fn unlink(
@@ -193,9 +193,9 @@ pub fn unlink(
     process: Process,
     fd: u32,
     which: Which,
-) -> Result<Reply, Stop>
-    requires { IsReady drivers.now lists.old }
-    ensures does { Does drivers.now lists.old lists.new process (command.Unlink fd which) result }
+) -> Result<Reply, StepError>
+    requires { StepInvariant drivers.now lists.old }
+    ensures refines { RefinesOrNoMemory drivers.now lists.old lists.new process (command.Unlink fd which) result }
     ensures kept { HasRoom lists.new }
 {
     let kind = LinkKind::Ordinary;
@@ -209,9 +209,9 @@ pub fn punlink(
     process: Process,
     fd: u32,
     which: Which,
-) -> Result<Reply, Stop>
-    requires { IsReady drivers.now lists.old }
-    ensures does { Does drivers.now lists.old lists.new process (command.Punlink fd which) result }
+) -> Result<Reply, StepError>
+    requires { StepInvariant drivers.now lists.old }
+    ensures refines { RefinesOrNoMemory drivers.now lists.old lists.new process (command.Punlink fd which) result }
     ensures kept { HasRoom lists.new }
 {
     let kind = LinkKind::Persistent;

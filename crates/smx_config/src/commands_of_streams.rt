@@ -5,27 +5,27 @@ ghost use Rattle.smx_types.specs.declared.command.Command.TheVariants.{OpenClone
 ghost use Rattle.smx_model.specs.Commands.{with_fd};
 ghost use Rattle.smx_model.specs.Configuration.{is_fd, fd_before};
 ghost use Rattle.smx_model.specs.Ordered.{with_inserted};
-ghost use Rattle.smx_config.specs.Reserved.{HasRoom, IsFree};
-ghost use Rattle.smx_config.specs.ListFields.{configuration_of};
-ghost use Rattle.smx_config.specs.Performed.{IsReady, DoesInPlace, Does};
+ghost use Rattle.smx_config.specs.ReservedRoom.{HasRoom, IsFree};
+ghost use Rattle.smx_config.specs.ModelOfLists.{configuration_of};
+ghost use Rattle.smx_config.specs.Refinement.{StepInvariant, Refines, RefinesOrNoMemory};
 
 use crate::lists::Lists;
-use crate::looked_up::{free_fd, free_minor, stream_of};
-use crate::lookups::{driver_of, is_fd, minors_of};
-use crate::ordered::fd_place;
-use crate::room::{room_to_sweep, sweep_done};
+use crate::lookups::{free_fd, free_minor, stream_of};
+use crate::driver_specs::{driver_of, is_fd, minors_of};
+use crate::insertion_index::fd_insertion_index;
+use crate::sweep::{reserve_for_sweep, sweep_and_reply};
 use crate::standing::is_below;
-use crate::stop::Stop;
+use crate::step_error::StepError;
 use smx_types::{Descriptor, DriverSpec, Fault, Name, Process, Reply, StreamId};
 use std::alloc::Global;
 
-#[tactic(auto, using(crate::proofs::PlaceLemmas::place_le, crate::proofs::PlaceLemmas::insert_place))]
+#[tactic(auto, using(crate::proofs::InsertionLemmas::index_le, crate::proofs::InsertionLemmas::insert_at_index))]
 fn put_fd(fds: &mut Vec<Descriptor>, fd: Descriptor)
     requires { length fds.old.items < vec_capacity fds.old }
     ensures fds { fds.new.items ≡ with_inserted fd_before fds.old.items fd }
     ensures capacity { vec_capacity fds.new ≡ vec_capacity fds.old }
 {
-    let i = fd_place(fds, &fd);
+    let i = fd_insertion_index(fds, &fd);
     let _ = fds.insert(i, fd);
 }
 
@@ -51,8 +51,8 @@ pub fn open_clone(
     process: Process,
     name: &Name,
 ) -> Result<Reply, Fault>
-    requires { IsReady drivers.now lists.old }
-    ensures does { DoesInPlace drivers.now lists.old lists.new process (OpenClone name.now) result }
+    requires { StepInvariant drivers.now lists.old }
+    ensures refines { Refines drivers.now lists.old lists.new process (OpenClone name.now) result }
     ensures kept { HasRoom lists.new }
 {
     let driver = driver_of(drivers, name)?;
@@ -76,8 +76,8 @@ pub fn open_minor(
     name: &Name,
     minor: u32,
 ) -> Result<Reply, Fault>
-    requires { IsReady drivers.now lists.old }
-    ensures does { DoesInPlace drivers.now lists.old lists.new process (OpenMinor name.now minor) result }
+    requires { StepInvariant drivers.now lists.old }
+    ensures refines { Refines drivers.now lists.old lists.new process (OpenMinor name.now minor) result }
     ensures kept { HasRoom lists.new }
 {
     let driver = driver_of(drivers, name)?;
@@ -102,8 +102,8 @@ pub fn dup(
     process: Process,
     fd: u32,
 ) -> Result<Reply, Fault>
-    requires { IsReady drivers.now lists.old }
-    ensures does { DoesInPlace drivers.now lists.old lists.new process (Dup fd) result }
+    requires { StepInvariant drivers.now lists.old }
+    ensures refines { Refines drivers.now lists.old lists.new process (Dup fd) result }
     ensures kept { HasRoom lists.new }
 {
     let stream = stream_of(lists, process, fd)?;
@@ -135,15 +135,15 @@ pub fn close(
     lists: &mut Lists,
     process: Process,
     fd: u32,
-) -> Result<Reply, Stop>
-    requires { IsReady drivers.now lists.old }
-    ensures does { Does drivers.now lists.old lists.new process (Close fd) result }
+) -> Result<Reply, StepError>
+    requires { StepInvariant drivers.now lists.old }
+    ensures refines { RefinesOrNoMemory drivers.now lists.old lists.new process (Close fd) result }
     ensures kept { HasRoom lists.new }
 {
     let _stream = stream_of(lists, process, fd)?;
-    let room = room_to_sweep(alloc, lists)?;
+    let room = reserve_for_sweep(alloc, lists)?;
     drop_fd(&mut lists.fds, process, fd);
-    Ok(sweep_done(drivers, lists, room))
+    Ok(sweep_and_reply(drivers, lists, room))
 }
 
 pub fn close_all(
@@ -151,12 +151,12 @@ pub fn close_all(
     drivers: &[DriverSpec],
     lists: &mut Lists,
     process: Process,
-) -> Result<Reply, Stop>
-    requires { IsReady drivers.now lists.old }
-    ensures does { Does drivers.now lists.old lists.new process CloseAll result }
+) -> Result<Reply, StepError>
+    requires { StepInvariant drivers.now lists.old }
+    ensures refines { RefinesOrNoMemory drivers.now lists.old lists.new process CloseAll result }
     ensures kept { HasRoom lists.new }
 {
-    let room = room_to_sweep(alloc, lists)?;
+    let room = reserve_for_sweep(alloc, lists)?;
     drop_process(&mut lists.fds, process);
-    Ok(sweep_done(drivers, lists, room))
+    Ok(sweep_and_reply(drivers, lists, room))
 }

@@ -11,7 +11,7 @@ ghost use Rattle.smx_model.specs.Views.{view};
 ghost use Rattle.smx_config.specs.DriverFaults.{RefusesDrivers};
 ghost use Rattle.smx_config.specs.Machine.{takes_no_memory};
 
-use crate::copied::{copy_lists, empty_lists};
+use crate::copies::{copy_lists, empty_lists};
 use crate::driver_list::check_drivers;
 use crate::fault::ConfigFault;
 use crate::lists::Lists;
@@ -20,7 +20,7 @@ use crate::settling::settle;
 use crate::show::{
     binding_lines, descriptor_lines, full_lines, link_lines, message_lines, route_lines,
 };
-use crate::stop::Stop;
+use crate::step_error::StepError;
 use smx_model::laws_of_steps::{commands_keep, empty_is_kept, refusals_change_nothing};
 use smx_types::{
     BindingLines, Command, ConfigView, DescriptorLines, DriverSpec, FullLines, LinkLines,
@@ -42,11 +42,11 @@ impl Model for Config {
 
     ghost Value = { Machine };
 
-    ghost use Rattle.smx_config.specs.ConfigFields.{machine_of, IsWhole};
+    ghost use Rattle.smx_config.specs.ModelOfConfig.{machine_of, ConfigInvariant};
 
     ghost view = { machine_of };
 
-    ghost invariant = { IsWhole };
+    ghost invariant = { ConfigInvariant };
 }
 
 // Links are no more than the ids that were given, and those fit.
@@ -81,7 +81,7 @@ impl Config {
         })
     }
 
-    /// Does a command of a process: its reply and the new configuration are those of the command table. A fault for a
+    /// RefinesOrNoMemory a command of a process: its reply and the new configuration are those of the command table. A fault for a
     /// reply changes nothing, and neither does want of memory. `dup`, `unbind`, `unroute`, `read`, `transmit` and every
     /// refusal take no memory, so they are always answered.
     pub fn step(&mut self, process: Process, command: &Command) -> Result<Reply, NoMemory>
@@ -102,8 +102,8 @@ impl Config {
                 settle(&self.drivers, &mut self.lists);
                 Ok(reply)
             }
-            Err(Stop::Refused(fault)) => Ok(Reply::Fault(fault)),
-            Err(Stop::NoMemory) => Err(NoMemory),
+            Err(StepError::Refused(fault)) => Ok(Reply::Fault(fault)),
+            Err(StepError::NoMemory) => Err(NoMemory),
         }
     }
 

@@ -4,12 +4,12 @@ ghost use Rattle.std.specs.Prelude.{◌≡◌, ◌≤◌, not, ◌&&◌, filter,
 ghost use Rattle.smx_types.specs.declared.stream.StreamId.{StreamId};
 ghost use Rattle.smx_model.specs.Removal.{is_read_below, without_dead_streams, after_sweep};
 ghost use Rattle.smx_model.specs.Standing.{stands_within};
-ghost use Rattle.smx_config.specs.Reserved.{HasRoom};
-ghost use Rattle.smx_config.specs.ListFields.{configuration_of};
-ghost use Rattle.smx_config.specs.Removals.{same_kind, same_link, is_one, has_id, without_listed_links, is_loose};
+ghost use Rattle.smx_config.specs.ReservedRoom.{HasRoom};
+ghost use Rattle.smx_config.specs.ModelOfLists.{configuration_of};
+ghost use Rattle.smx_config.specs.ListedLinks.{same_kind, same_link, is_one, has_id, without_listed_links, is_orphaned};
 
 use crate::lists::Lists;
-use crate::queued::Queued;
+use crate::queued_message::QueuedMessage;
 use crate::standing::{is_below, is_persistent, stands_within};
 use crate::streams::{same_side, same_stream};
 use smx_types::{Binding, Descriptor, DriverSpec, Link, LinkKind, Place, Route, Side, StreamId};
@@ -69,7 +69,7 @@ fn keep_routes(routes: &mut Vec<Route>, gone: &[Link])
     routes.retain(|r| !has_id(gone, r.id));
 }
 
-fn keep_flow(flow: &mut Vec<Queued>, gone: &[Link])
+fn keep_flow(flow: &mut Vec<QueuedMessage>, gone: &[Link])
     ensures { flow.new.items ≡ filter (λ h. not (is_read_below gone.now h.place)) flow.old.items }
 {
     flow.retain(|h| !is_read_below(gone, h.place()));
@@ -95,25 +95,25 @@ pub fn remove_links(lists: &mut Lists, gone: &[Link])
     keep_fulls(&mut lists.fulls, gone);
 }
 
-fn is_loose(fds: &[Descriptor], links: &[Link], climbs: usize, link: &Link) -> bool
-    ensures { result ≡ is_loose fds.now links.now climbs link.now }
+fn is_orphaned(fds: &[Descriptor], links: &[Link], climbs: usize, link: &Link) -> bool
+    ensures { result ≡ is_orphaned fds.now links.now climbs link.now }
 {
     !is_persistent(link) && !stands_within(fds, links, climbs, link.ctl)
 }
 
 // The ordinary links whose controlling stream doesn't stand, in a list that has room for all links.
-fn loose_links(fds: &[Descriptor], links: &[Link], climbs: usize, room: Vec<Link>) -> Vec<Link>
+fn orphaned_links(fds: &[Descriptor], links: &[Link], climbs: usize, room: Vec<Link>) -> Vec<Link>
     requires empty { room.items ≡ [] }
     requires room { length links.now ≤ vec_capacity room }
-    ensures { result.items ≡ filter (is_loose fds.now links.now climbs) links.now }
+    ensures { result.items ≡ filter (is_orphaned fds.now links.now climbs) links.now }
 {
-    let mut loose = room;
+    let mut orphaned = room;
     for link in links {
-        if is_loose(fds, links, climbs, link) {
-            let _ = loose.push(*link);
+        if is_orphaned(fds, links, climbs, link) {
+            let _ = orphaned.push(*link);
         }
     }
-    loose
+    orphaned
 }
 
 fn stands(fds: &[Descriptor], links: &[Link], climbs: usize, binding: &Binding) -> bool
@@ -132,7 +132,7 @@ fn keep_live_binds(binds: &mut Vec<Binding>, fds: &[Descriptor], links: &[Link],
     binds.retain(|b| stands(fds, links, climbs, b));
 }
 
-fn keep_live_flow(flow: &mut Vec<Queued>, fds: &[Descriptor], links: &[Link], climbs: usize)
+fn keep_live_flow(flow: &mut Vec<QueuedMessage>, fds: &[Descriptor], links: &[Link], climbs: usize)
     ensures { flow.new.items ≡ filter (λ h. not (not (stands_within fds.now links.now climbs h.place.stream))) flow.old.items }
 {
     flow.retain(|h| stands_within(fds, links, climbs, h.place().stream));
@@ -166,7 +166,7 @@ pub fn sweep(drivers: &[DriverSpec], lists: &mut Lists, room: Vec<Link>)
     ensures value { configuration_of lists.new ≡ after_sweep drivers.now (configuration_of lists.old) }
     ensures kept { HasRoom lists.new }
 {
-    let loose = loose_links(&lists.fds, &lists.links, drivers.len(), room);
-    remove_links(lists, &loose);
+    let orphaned = orphaned_links(&lists.fds, &lists.links, drivers.len(), room);
+    remove_links(lists, &orphaned);
     drop_dead(drivers, lists);
 }

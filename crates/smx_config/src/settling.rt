@@ -3,13 +3,13 @@
 ghost use Rattle.std.specs.Prelude.{◌≡◌, ◌≤◌, ◌==◌, ◌&&◌, false, find, map, length, vec_capacity, IfSome};
 ghost use Rattle.smx_model.specs.Configuration.{same_stream};
 ghost use Rattle.smx_model.specs.Settling.{down_by, up_by, next_place, next_open_place, is_movable, least_movable, after_move, after_settling};
-ghost use Rattle.smx_config.specs.Reserved.{HasRoom};
-ghost use Rattle.smx_config.specs.ListFields.{configuration_of};
+ghost use Rattle.smx_config.specs.ReservedRoom.{HasRoom};
+ghost use Rattle.smx_config.specs.ModelOfLists.{configuration_of};
 
 use crate::lists::Lists;
-use crate::lookups::is_mux;
-use crate::queued::Queued;
-use crate::queues::{arrive, front_addr, is_full, leave};
+use crate::driver_specs::is_mux;
+use crate::queued_message::QueuedMessage;
+use crate::queues::{arrive, first_addr, is_full, leave};
 use crate::streams::{same_place, same_stream};
 use smx_types::{Binding, DriverSpec, Link, Place, Route, Side, StreamId};
 
@@ -91,7 +91,7 @@ fn next_place(drivers: &[DriverSpec], lists: &Lists, place: Place, addr: u32) ->
 fn next_open_place(drivers: &[DriverSpec], lists: &Lists, place: Place) -> Option<Place>
     ensures { result ≡ next_open_place drivers.now (configuration_of lists.now) place }
 {
-    let addr = front_addr(&lists.flow, place)?;
+    let addr = first_addr(&lists.flow, place)?;
     let next = next_place(drivers, lists, place, addr)?;
     if is_full(&lists.fulls, next) {
         None
@@ -123,7 +123,7 @@ fn is_movable_after(
 }
 
 // A place is tested once, at its first message.
-fn first_movable(drivers: &[DriverSpec], lists: &Lists, flow: &[Queued]) -> Option<Place>
+fn first_movable(drivers: &[DriverSpec], lists: &Lists, flow: &[QueuedMessage]) -> Option<Place>
     ensures { result ≡ find (is_movable drivers.now (configuration_of lists.now)) (map (λ h. h.place) flow.now) }
 {
     let mut stuck = None;

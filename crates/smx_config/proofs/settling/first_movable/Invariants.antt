@@ -1,7 +1,7 @@
 use Rattle.std.proofs.Common.{◌≡◌, false, drop, find, map}
 use Rattle.std.specs.Prelude.{IfSome}
 use Rattle.smx_model.specs.Settling.{is_movable}
-use Rattle.smx_config.specs.ListFields.{configuration_of}
+use Rattle.smx_config.specs.ModelOfLists.{configuration_of}
 use Rattle.smx_config.proofs.settling.first_movable.Given as goal
 
 abbrev pub invariant-loop-queued : goal.invariant-loop-queued

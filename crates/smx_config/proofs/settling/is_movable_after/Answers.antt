@@ -1,7 +1,7 @@
 use Rattle.std.proofs.Common.{◌≡◌, false, not, sym, ap, subst, ◌∙◌}
 use Rattle.smx_types.specs.declared.stream.Place.{Place}
 use Rattle.smx_model.specs.Settling.{is_movable}
-use Rattle.smx_config.specs.ListFields.{configuration_of}
+use Rattle.smx_config.specs.ModelOfLists.{configuration_of}
 use Rattle.smx_config.proofs.MarkLemmas.{place_is}
 use Rattle.smx_config.proofs.settling.is_movable_after.Goals as goal
 

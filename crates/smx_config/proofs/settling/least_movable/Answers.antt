@@ -1,6 +1,6 @@
 use Rattle.std.proofs.Common.{◌∙◌}
 use Rattle.smx_model.specs.Settling.{is_movable}
-use Rattle.smx_config.specs.ListFields.{configuration_of}
+use Rattle.smx_config.specs.ModelOfLists.{configuration_of}
 use Rattle.smx_config.proofs.FlowLemmas.{find_place}
 use Rattle.smx_config.proofs.settling.least_movable.Goals as goal
 

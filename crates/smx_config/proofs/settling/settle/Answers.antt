@@ -1,5 +1,5 @@
 use Rattle.std.proofs.Common.{sym, ◌∙◌}
-use Rattle.smx_config.specs.ListFields.{configuration_of}
+use Rattle.smx_config.specs.ModelOfLists.{configuration_of}
 use Rattle.smx_config.proofs.SettleLemmas.{least_moves}
 use Rattle.smx_config.proofs.settling.settle.Goals as goal
 

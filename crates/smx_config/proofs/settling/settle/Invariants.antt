@@ -1,7 +1,7 @@
 use Rattle.std.proofs.Common.{◌≡◌}
 use Rattle.smx_model.specs.Settling.{after_settling, after_settling_within}
-use Rattle.smx_config.specs.Reserved.{HasRoom}
-use Rattle.smx_config.specs.ListFields.{configuration_of}
+use Rattle.smx_config.specs.ReservedRoom.{HasRoom}
+use Rattle.smx_config.specs.ModelOfLists.{configuration_of}
 use Rattle.smx_config.proofs.settling.settle.Given as goal
 
 abbrev pub decreases-loop-left : goal.decreases-loop-left
