@@ -1,22 +1,22 @@
 -- Moves, one after another.
 use Rattle.std.proofs.Common.{◌≡◌, ℕ, zero, suc, ◌-◌, ◌<◌, Bool, true, false, List, [], ◌∷◌, find, Option, Some, None, refl, sym, ap, ◌∙◌, arith, inl, inr}
-use Rattle.std.specs.Option.{is_some}
+use Rattle.std.specs.Option.{is_some, option_map}
 use Rattle.std.proofs.lemmas.Bool.{cases_Bool}
 use Rattle.smx_types.specs.declared.driver.DriverSpec.{DriverSpec}
 use Rattle.smx_types.specs.declared.message.Message.{Message}
 use Rattle.smx_types.specs.declared.stream.Place.{Place}
 use Rattle.smx_model.specs.Configuration.{Configuration, QueuedMessage}
 use Rattle.smx_model.specs.Queues.{first_message, after_arrival, after_leaving}
-use Rattle.smx_model.specs.Settling.{next_open_place_for, next_open_place, is_movable, place_of, least_movable, after_move, after_move_to, after_settling_within}
+use Rattle.smx_model.specs.Settling.{◌>>=◌, next_open_place, next_place, is_movable, least_movable, after_move, after_move_to, after_settling_within}
 
 pub moved_is : (drivers : List DriverSpec) (c mid new : Configuration) (p q : Place) (m : Message) → next_open_place drivers c p ≡ Some q → first_message c.flow p ≡ Some m
     → mid ≡ after_leaving drivers c p → new ≡ after_arrival drivers mid q m → new ≡ after_move drivers c p
 moved_is drivers c mid new p q m to first gone here = here ∙ (ap (λ (x : Configuration). after_arrival drivers x q m) gone ∙ sym (ap (λ (o : Option Place). after_move_to drivers c p o (first_message c.flow p)) to ∙ ap (after_move_to drivers c p (Some q)) first))
 
 pub no_way : {A : Type 0} (drivers : List DriverSpec) (c : Configuration) (p q : Place) → next_open_place drivers c p ≡ Some q → first_message c.flow p ≡ None → A
-no_way drivers c p q to none = let k : None ≡ Some q = sym (ap (next_open_place_for drivers c p) none) ∙ to in absurd cc
+no_way drivers c p q to none = let k : None ≡ Some q = rw none at to in absurd cc
 
-found_place : (t : Place → Bool) (hs : List QueuedMessage) (p : Place) → place_of (find (λ h. t h.place) hs) ≡ Some p → t p ≡ true
+found_place : (t : Place → Bool) (hs : List QueuedMessage) (p : Place) → option_map (λ h. h.place) (find (λ h. t h.place) hs) ≡ Some p → t p ≡ true
 found_place t [] p e = absurd cc
 found_place t (h ∷ hs) p e = elim (cases_Bool (t h.place)) [
   | inl y ↦ let k : Some h.place ≡ Some p = rw y at e in let same : h.place ≡ p = cc in ap t (sym same) ∙ y

@@ -3,6 +3,7 @@ pub mod DriverFaults
 pub mod ModelOfLists
 pub mod InsertionIndexes
 pub mod Visited
+pub mod Moves
 pub mod Climbs
 pub mod ListedLinks
 pub mod UnlinkTargets

@@ -3,18 +3,17 @@
 ghost use Rattle.std.specs.Prelude.{◌≡◌, ◌<◌, ◌≤◌, ◌==◌, ◌&&◌, ◌||◌, not, filter, length, vec_capacity};
 ghost use Rattle.std.specs.List.{list_any};
 ghost use Rattle.smx_types.specs.declared.command.Command.TheVariants as command;
-ghost use Rattle.smx_types.specs.declared.reply.Fault.TheVariants.{AddressInUse, Unbound, NoLink, Unrouted};
 ghost use Rattle.smx_model.specs.Configuration.{bind_before, route_before};
 ghost use Rattle.smx_model.specs.Ordered.{with_inserted};
-ghost use Rattle.smx_model.specs.Outcomes.{refuse};
 ghost use Rattle.smx_config.specs.ReservedRoom.{HasRoom};
 ghost use Rattle.smx_config.specs.Refinement.{StepInvariant, Refines, RefinesOrNoMemory};
 
 use crate::lists::Lists;
-use crate::lookups::mux_stream;
 use crate::insertion_index::{bind_insertion_index, route_insertion_index};
-use crate::sweep::{reserve_for_sweep, sweep_and_reply};
+use crate::lookups::mux_stream;
+use crate::refuse::refuse;
 use crate::step_error::StepError;
+use crate::sweep::{reserve_for_sweep, sweep_and_reply};
 use smx_model::laws_of_steps::idle_changes_drop_none;
 use smx_types::{Binding, DriverSpec, Fault, Link, Process, Reply, Route, Serials, StreamId};
 use std::alloc::Global;
@@ -23,15 +22,6 @@ fn is_taken(binds: &[Binding], stream: StreamId, addr: u32) -> bool
     ensures { result ≡ list_any (λ b. (b.driver == stream.driver) && ((b.addr == addr) || (b.minor == stream.minor))) binds.now }
 {
     binds.iter().any(|b| b.driver == stream.driver && (b.addr == addr || b.minor == stream.minor))
-}
-
-fn check_bind(lists: &Lists, stream: StreamId, addr: u32) -> Result<(), Fault>
-    ensures { result ≡ refuse AddressInUse (list_any (λ b. (b.driver == stream.driver) && ((b.addr == addr) || (b.minor == stream.minor))) lists.now.binds.items) }
-{
-    if is_taken(&lists.binds, stream, addr) {
-        return Err(Fault::AddressInUse);
-    }
-    Ok(())
 }
 
 #[tactic(auto, using(crate::proofs::InsertionLemmas::index_le, crate::proofs::InsertionLemmas::insert_at_index))]
@@ -56,7 +46,7 @@ pub fn bind(
     ensures kept { HasRoom lists.new }
 {
     let stream = mux_stream(drivers, lists, process, fd)?;
-    check_bind(lists, stream, addr)?;
+    refuse(Fault::AddressInUse, is_taken(&lists.binds, stream, addr))?;
     let room = reserve_for_sweep(alloc, lists)?;
     lists.binds.reserve(1)?;
     let binding = Binding {
@@ -74,15 +64,6 @@ fn is_bound(binds: &[Binding], stream: StreamId) -> bool
     binds
         .iter()
         .any(|b| b.driver == stream.driver && b.minor == stream.minor)
-}
-
-fn check_unbind(lists: &Lists, stream: StreamId) -> Result<(), Fault>
-    ensures { result ≡ refuse Unbound (not (list_any (λ b. (b.driver == stream.driver) && (b.minor == stream.minor)) lists.now.binds.items)) }
-{
-    if !is_bound(&lists.binds, stream) {
-        return Err(Fault::Unbound);
-    }
-    Ok(())
 }
 
 fn drop_bind(binds: &mut Vec<Binding>, stream: StreamId)
@@ -104,7 +85,7 @@ pub fn unbind(
 {
     idle_changes_drop_none();
     let stream = mux_stream(drivers, lists, process, fd)?;
-    check_unbind(lists, stream)?;
+    refuse(Fault::Unbound, !is_bound(&lists.binds, stream))?;
     drop_bind(&mut lists.binds, stream);
     Ok(Reply::Done {
         dropped: Serials::new(alloc),
@@ -115,15 +96,6 @@ fn has_link(links: &[Link], driver: u8, id: u32) -> bool
     ensures { result ≡ list_any (λ l. (l.id == id) && (l.ctl.driver == driver)) links.now }
 {
     links.iter().any(|l| l.id == id && l.ctl.driver == driver)
-}
-
-fn check_route(lists: &Lists, driver: u8, id: u32) -> Result<(), Fault>
-    ensures { result ≡ refuse NoLink (not (list_any (λ l. (l.id == id) && (l.ctl.driver == driver)) lists.now.links.items)) }
-{
-    if !has_link(&lists.links, driver, id) {
-        return Err(Fault::NoLink);
-    }
-    Ok(())
 }
 
 fn drop_route(routes: &mut Vec<Route>, driver: u8, addr: u32)
@@ -158,7 +130,7 @@ pub fn route(
 {
     let stream = mux_stream(drivers, lists, process, fd)?;
     let driver = stream.driver;
-    check_route(lists, driver, id)?;
+    refuse(Fault::NoLink, !has_link(&lists.links, driver, id))?;
     let room = reserve_for_sweep(alloc, lists)?;
     lists.routes.reserve(1)?;
     drop_route(&mut lists.routes, driver, addr);
@@ -170,15 +142,6 @@ fn has_route(routes: &[Route], driver: u8, addr: u32) -> bool
     ensures { result ≡ list_any (λ r. (r.driver == driver) && (r.addr == addr)) routes.now }
 {
     routes.iter().any(|r| r.driver == driver && r.addr == addr)
-}
-
-fn check_unroute(lists: &Lists, driver: u8, addr: u32) -> Result<(), Fault>
-    ensures { result ≡ refuse Unrouted (not (list_any (λ r. (r.driver == driver) && (r.addr == addr)) lists.now.routes.items)) }
-{
-    if !has_route(&lists.routes, driver, addr) {
-        return Err(Fault::Unrouted);
-    }
-    Ok(())
 }
 
 pub fn unroute(
@@ -196,7 +159,7 @@ pub fn unroute(
     idle_changes_drop_none();
     let stream = mux_stream(drivers, lists, process, fd)?;
     let driver = stream.driver;
-    check_unroute(lists, driver, addr)?;
+    refuse(Fault::Unrouted, !has_route(&lists.routes, driver, addr))?;
     drop_route(&mut lists.routes, driver, addr);
     Ok(Reply::Done {
         dropped: Serials::new(alloc),

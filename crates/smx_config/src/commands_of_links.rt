@@ -1,11 +1,13 @@
 //! Linking streams below a driver, and removing links.
 
-ghost use Rattle.std.specs.Prelude.{◌≡◌, ◌<◌, ◌==◌, ◌&&◌, not, filter, length, vec_capacity, IfOk};
+ghost use Rattle.std.specs.Prelude.{◌≡◌, ◌<◌, ◌==◌, ◌&&◌, ◌||◌, not, nat_le, filter, length, vec_capacity, IfOk};
 ghost use Rattle.std.specs.List.{list_any};
 ghost use Rattle.smx_types.specs.declared.command.Command.TheVariants as command;
+ghost use Rattle.smx_types.specs.declared.limits.TheConstants.{MAX_LINKS, NUMBER_END};
 ghost use Rattle.smx_types.specs.declared.link.Link.{Link};
 ghost use Rattle.smx_model.specs.Commands.{link_outcome};
 ghost use Rattle.smx_model.specs.Configuration.{same_stream};
+ghost use Rattle.smx_model.specs.Paths.{reaches};
 ghost use Rattle.smx_model.specs.Standing.{is_persistent};
 ghost use Rattle.smx_config.specs.ReservedRoom.{HasRoom};
 ghost use Rattle.smx_config.specs.ModelOfLists.{configuration_of};
@@ -16,6 +18,7 @@ use crate::lists::Lists;
 use crate::lookups::{mux_stream, stream_of};
 use crate::driver_specs::is_mux;
 use crate::paths::reaches;
+use crate::refuse::refuse;
 use crate::removal::remove_links;
 use crate::sweep::{reserve_for_sweep, sweep_and_reply};
 use crate::standing::{is_below, is_persistent};
@@ -26,6 +29,20 @@ use smx_types::{
 };
 use std::alloc::{AllocError, Global};
 
+// Whether a link would close a cycle of drivers.
+fn makes_cycle(links: &[Link], upper: StreamId, lower: StreamId) -> bool
+    ensures { result ≡ ((lower.driver == upper.driver) || reaches links.now lower.driver upper.driver) }
+{
+    lower.driver == upper.driver || reaches(links, lower.driver, upper.driver)
+}
+
+// Whether there are as many links as there may be, or no next id.
+fn has_no_number(lists: &Lists) -> bool
+    ensures { result ≡ (nat_le MAX_LINKS (length lists.now.links.items) || nat_le NUMBER_END lists.now.next_id) }
+{
+    lists.links.len() >= MAX_LINKS || lists.next_id >= NUMBER_END
+}
+
 // Whether the streams may be linked; the first refusal that applies.
 fn check_link(
     drivers: &[DriverSpec],
@@ -35,22 +52,11 @@ fn check_link(
 ) -> Result<(), Fault>
     ensures { result ≡ may_link drivers.now (configuration_of lists.now) upper lower }
 {
-    if is_below(&lists.links, upper) {
-        return Err(Fault::Below);
-    }
-    if !is_mux(drivers, upper.driver as usize) {
-        return Err(Fault::NotMux);
-    }
-    if is_below(&lists.links, lower) {
-        return Err(Fault::AlreadyBelow);
-    }
-    if lower.driver == upper.driver || reaches(&lists.links, lower.driver, upper.driver) {
-        return Err(Fault::Cycle);
-    }
-    if lists.links.len() >= MAX_LINKS || lists.next_id >= NUMBER_END {
-        return Err(Fault::TooManyLinks);
-    }
-    Ok(())
+    refuse(Fault::Below, is_below(&lists.links, upper))?;
+    refuse(Fault::NotMux, !is_mux(drivers, upper.driver as usize))?;
+    refuse(Fault::AlreadyBelow, is_below(&lists.links, lower))?;
+    refuse(Fault::Cycle, makes_cycle(&lists.links, upper, lower))?;
+    refuse(Fault::TooManyLinks, has_no_number(lists))
 }
 
 fn link_as(
@@ -154,13 +160,10 @@ fn check_targets(lists: &Lists, which: Which, kind: LinkKind, stream: StreamId) 
 {
     match which {
         Which::All => Ok(()),
-        Which::Id(_) => {
-            if has_target(&lists.links, which, kind, stream) {
-                Ok(())
-            } else {
-                Err(Fault::NoLink)
-            }
-        }
+        Which::Id(_) => refuse(
+            Fault::NoLink,
+            !has_target(&lists.links, which, kind, stream),
+        ),
     }
 }
 

@@ -1,10 +1,12 @@
 //! Writing, reading, flushing, and the device's side.
 
-ghost use Rattle.std.specs.Prelude.{◌≡◌, ◌<◌, ◌==◌, ◌&&◌, ◌||◌, not, nat_lt, filter, length, vec_capacity};
+ghost use Rattle.std.specs.Prelude.{◌≡◌, ◌<◌, ◌==◌, ◌&&◌, ◌||◌, not, nat_lt, nat_le, filter, length, vec_capacity};
 ghost use Rattle.smx_types.specs.declared.command.Command.TheVariants.{Write, Read, Flush, Inject, Transmit};
+ghost use Rattle.smx_types.specs.declared.limits.TheConstants.{NUMBER_END};
 ghost use Rattle.smx_model.specs.Commands.{send_outcome, receive_outcome, is_side};
 ghost use Rattle.smx_model.specs.Configuration.{same_stream};
 ghost use Rattle.smx_model.specs.DriverList.{max_of};
+ghost use Rattle.smx_model.specs.Queues.{is_full};
 ghost use Rattle.smx_model.specs.Removal.{without_queues_at};
 ghost use Rattle.smx_config.specs.ReservedRoom.{HasRoom};
 ghost use Rattle.smx_config.specs.ModelOfLists.{configuration_of};
@@ -17,6 +19,7 @@ use crate::driver_specs::max_of;
 use crate::queued_message::QueuedMessage;
 use crate::queues::{arrive, first_addr, is_full, leave};
 use crate::sweep::{reserve_for_sweep, sweep_and_reply};
+use crate::refuse::refuse;
 use crate::step_error::StepError;
 use crate::streams::{same_side, same_stream};
 use smx_types::{
@@ -24,6 +27,21 @@ use smx_types::{
     StreamId,
 };
 use std::alloc::Global;
+
+// Whether there are no bytes, or more than the driver lets a message have.
+fn has_bad_size(drivers: &[DriverSpec], place: Place, bytes: &Bytes) -> bool
+    ensures { result ≡ ((length bytes.now == 0) || nat_lt (max_of drivers.now place.stream.driver) (length bytes.now)) }
+{
+    let len = bytes.as_slice().len();
+    len == 0 || len > max_of(drivers, place.stream.driver as usize) as usize
+}
+
+// Whether the place is full, or there is no next serial.
+fn has_no_room(lists: &Lists, place: Place) -> bool
+    ensures { result ≡ (is_full (configuration_of lists.now) place || nat_le NUMBER_END lists.now.next_serial) }
+{
+    is_full(&lists.fulls, place) || lists.next_serial >= NUMBER_END
+}
 
 // Whether bytes may be sent to the place; the first refusal that applies.
 fn check_send(
@@ -34,14 +52,8 @@ fn check_send(
 ) -> Result<(), Fault>
     ensures { result ≡ may_send drivers.now (configuration_of lists.now) place bytes.now }
 {
-    let len = bytes.as_slice().len();
-    if len == 0 || len > max_of(drivers, place.stream.driver as usize) as usize {
-        return Err(Fault::BadSize);
-    }
-    if is_full(&lists.fulls, place) || lists.next_serial >= NUMBER_END {
-        return Err(Fault::Full);
-    }
-    Ok(())
+    refuse(Fault::BadSize, has_bad_size(drivers, place, bytes))?;
+    refuse(Fault::Full, has_no_room(lists, place))
 }
 
 fn send(
@@ -76,9 +88,7 @@ fn receive(drivers: &[DriverSpec], lists: &mut Lists, place: Place) -> Result<Re
     ensures refines { HasOutcome lists.old lists.new (receive_outcome drivers.now (configuration_of lists.old) place) result }
     ensures kept { HasRoom lists.new }
 {
-    if first_addr(&lists.flow, place).is_none() {
-        return Err(Fault::Empty);
-    }
+    refuse(Fault::Empty, first_addr(&lists.flow, place).is_none())?;
     match leave(drivers, lists, place) {
         Some(message) => Ok(Reply::Got {
             serial: message.serial,

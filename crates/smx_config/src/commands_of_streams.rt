@@ -11,9 +11,11 @@ ghost use Rattle.smx_config.specs.Refinement.{StepInvariant, Refines, RefinesOrN
 
 use crate::lists::Lists;
 use crate::lookups::{free_fd, free_minor, stream_of};
-use crate::driver_specs::{driver_of, is_fd, minors_of};
+use crate::descriptors::is_fd;
+use crate::driver_specs::{driver_of, minors_of};
 use crate::insertion_index::fd_insertion_index;
 use crate::sweep::{reserve_for_sweep, sweep_and_reply};
+use crate::refuse::refuse;
 use crate::standing::is_below;
 use crate::step_error::StepError;
 use smx_types::{Descriptor, DriverSpec, Fault, Name, Process, Reply, StreamId};
@@ -81,16 +83,12 @@ pub fn open_minor(
     ensures kept { HasRoom lists.new }
 {
     let driver = driver_of(drivers, name)?;
-    if minors_of(drivers, driver) <= minor {
-        return Err(Fault::NoMinor);
-    }
+    refuse(Fault::NoMinor, minors_of(drivers, driver) <= minor)?;
     let stream = StreamId {
         driver: driver as u8,
         minor: minor as u8,
     };
-    if is_below(&lists.links, stream) {
-        return Err(Fault::Below);
-    }
+    refuse(Fault::Below, is_below(&lists.links, stream))?;
     let fd = free_fd(lists, process)?;
     add_fd(lists, process, fd, stream);
     Ok(Reply::Fd { fd, minor })

@@ -43,7 +43,7 @@ fn put_number(numbers: &mut Vec<u32>, n: u32)
 
 // Those of the old serials that the flow has no more, rising. The last list has room for all of them. Both lists are
 // gone through from their ends, side by side, so that only a serial that is gone takes a look at the whole flow.
-pub fn dropped(old: Vec<u32>, flow: &[QueuedMessage], room: Vec<u32>) -> Vec<u32>
+pub fn serials_that_left(old: Vec<u32>, flow: &[QueuedMessage], room: Vec<u32>) -> Vec<u32>
     requires empty { room.items ≡ [] }
     requires room { length old.items ≤ vec_capacity room }
     ensures { result.items ≡ in_rising_order (filter (λ n. not (list_any (λ m. n == m) (serials flow.now))) old.items) }

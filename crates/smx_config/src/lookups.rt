@@ -10,7 +10,9 @@ ghost use Rattle.smx_config.specs.ReservedRoom.{IsFree};
 ghost use Rattle.smx_config.specs.ModelOfLists.{configuration_of};
 
 use crate::lists::Lists;
-use crate::driver_specs::{driver_of, descriptor_of, is_mux, least_fd, minors_of};
+use crate::descriptors::{descriptor_of, least_fd};
+use crate::driver_specs::{driver_of, is_mux, minors_of};
+use crate::refuse::refuse;
 use crate::standing::{is_below, least_minor, stands_within};
 use smx_types::{DriverSpec, Fault, Name, Process, StreamId};
 
@@ -61,9 +63,7 @@ pub fn free_stream(lists: &Lists, process: Process, fd: u32) -> Result<StreamId,
     ensures { result ≡ free_stream (configuration_of lists.now) process fd }
 {
     let stream = stream_of(lists, process, fd)?;
-    if is_below(&lists.links, stream) {
-        return Err(Fault::Below);
-    }
+    refuse(Fault::Below, is_below(&lists.links, stream))?;
     Ok(stream)
 }
 
@@ -76,9 +76,7 @@ pub fn mux_stream(
     ensures { result ≡ mux_stream drivers.now (configuration_of lists.now) process fd }
 {
     let stream = free_stream(lists, process, fd)?;
-    if !is_mux(drivers, stream.driver as usize) {
-        return Err(Fault::NotMux);
-    }
+    refuse(Fault::NotMux, !is_mux(drivers, stream.driver as usize))?;
     Ok(stream)
 }
 
@@ -94,9 +92,7 @@ pub fn leaf_stream(
     ensures { result ≡ leaf_stream drivers.now (configuration_of lists.now) name.now minor }
 {
     let driver = driver_of(drivers, name)?;
-    if is_mux(drivers, driver) {
-        return Err(Fault::NoDriver);
-    }
+    refuse(Fault::NoDriver, is_mux(drivers, driver))?;
     if minor >= minors_of(drivers, driver) {
         return Err(Fault::NoMinor);
     }
@@ -104,8 +100,6 @@ pub fn leaf_stream(
         driver: driver as u8,
         minor: minor as u8,
     };
-    if !exists(drivers, lists, stream) {
-        return Err(Fault::NoMinor);
-    }
+    refuse(Fault::NoMinor, !exists(drivers, lists, stream))?;
     Ok(stream)
 }

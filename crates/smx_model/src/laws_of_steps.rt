@@ -1,6 +1,6 @@
 //! Laws of single commands, each the contract of a function that does nothing.
 
-ghost use Rattle.std.specs.Prelude.{◌≡◌, ◌≢◌, ℕ, List, [], Ok, IfOk, IsTrue};
+ghost use Rattle.std.specs.Prelude.{◌≡◌, ◌≢◌, ◌↔◌, ℕ, List, [], Ok, Err, IfOk, IsTrue};
 ghost use Rattle.smx_types.specs.declared.command.Command.{Command};
 ghost use Rattle.smx_types.specs.declared.command.Entry.{Entry};
 ghost use Rattle.smx_types.specs.declared.driver.DriverSpec.{DriverSpec};
@@ -28,7 +28,13 @@ pub fn outcomes_are_swept()
         → IfOk (outcome drivers c process command) (λ x. after_sweep drivers x.0 ≡ x.0) }
 {}
 
-/// A fault is the reply of refused commands alone, and those leave the configuration as it was.
+/// A fault is the reply of refused commands alone, and it is the fault that they are refused with.
+pub fn faults_are_refusals()
+    ensures { (drivers : List DriverSpec) (c : Configuration) (process : ℕ) (command : Command) (f : Fault)
+        → ((step drivers c process command).1 ≡ reply.Fault f ↔ outcome drivers c process command ≡ Err f) }
+{}
+
+/// They leave the configuration as it was.
 pub fn refusals_change_nothing()
     ensures { (drivers : List DriverSpec) (c : Configuration) (process : ℕ) (command : Command) (f : Fault)
         → (step drivers c process command).1 ≡ reply.Fault f → (step drivers c process command).0 ≡ c }
