@@ -1,4 +1,4 @@
--- Marking back from a driver finds the drivers from which a path leads to it.
+-- Visiting drivers back from one finds those from which a path leads to it.
 use Rattle.std.proofs.Common.{◌≡◌, ℕ, zero, suc, ◌<◌, Bool, true, false, ◌&&◌, ◌||◌, not, eqb, cond, List, [], ◌∷◌, length, get_or, set, replicate, Some, None, refl, sym, ap, ◌∙◌, arith, inl, inr}
 use Rattle.std.specs.Prelude.{find}
 use Rattle.std.specs.List.{sum_by}
@@ -54,7 +54,7 @@ closed_reach visited b (l ∷ ls) x t c m h = elim (or_cases (reaches ls x t) _ 
       ]
 ]
 
--- where no link leads on, the visited are closed
+-- where no link leads on, the visited drivers are closed
 pub none_leads : (visited : List Bool) (b : ℕ) (ls : List Link) → find (leads visited b) ls ≡ None → IsClosed visited b ls
 none_leads visited b [] h = tt
 none_leads visited b (l ∷ ls) h = elim (cases_Bool (leads visited b l)) [ inl t ↦ let k = rw t at h in absurd cc | inr f ↦ (f, none_leads visited b ls (rw f at h)) ]
@@ -76,7 +76,7 @@ found_step p ls l t h on =
     let k : (eqb (get_or ls r.0 l).lower.driver t || reaches ls (get_or ls r.0 l).lower.driver t) ≡ true = rw r.2 on in
     rw r.2 at (step_first ls r.0 l t r.1 k)
 
--- one more mark keeps what visited tell
+-- one more visit keeps what the visited drivers tell
 pub visited_more : (visited : List Bool) (ls : List Link) (b : ℕ) (l : Link) → find (leads visited b) ls ≡ Some l
     → ((x : ℕ) → is_visited visited x ≡ true → reaches ls x b ≡ true) → (x : ℕ) → is_visited (set visited l.ctl.driver true) x ≡ true → reaches ls x b ≡ true
 visited_more visited ls b l h sound x m = elim (cases_eq x l.ctl.driver) [

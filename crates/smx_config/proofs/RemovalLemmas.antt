@@ -25,7 +25,7 @@ stream_is s t h =
     let b = and_parts _ _ h in
     ap (λ (x : ℕ). record { driver = x; minor = s.minor }) (eqb-true s.driver t.driver b.0) ∙ ap (λ (x : ℕ). record { driver = t.driver; minor = x }) (eqb-true s.minor t.minor b.1)
 
-stream_self : (s : StreamId) → same_stream s s ≡ true
+pub stream_self : (s : StreamId) → same_stream s s ≡ true
 stream_self s = and_from _ _ (eq-eqb s.driver s.driver refl) (eq-eqb s.minor s.minor refl)
 
 abbrev link_of : ℕ → StreamId → StreamId → LinkKind → Link

@@ -1,4 +1,4 @@
--- SweepReserve for a sweep. No public clause needs this.
+-- What is reserved for a sweep. No public clause needs this.
 use Rattle.std.specs.Prelude.{◌≡◌, ℕ, ◌≤◌, List, [], length, vec_capacity}
 use Rattle.smx_types.specs.declared.link.Link.{Link}
 use Rattle.smx_config.specs.declared.sweep.SweepReserve.{SweepReserve}

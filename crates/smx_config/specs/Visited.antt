@@ -1,4 +1,4 @@
--- Marks on drivers. No public clause needs this.
+-- Drivers that were visited. No public clause needs this.
 use Rattle.std.specs.Prelude.{ℕ, Bool, false, ◌&&◌, ◌||◌, not, ◌==◌, List, slice_index_or}
 use Rattle.smx_types.specs.declared.link.Link.{Link}
 

@@ -3,8 +3,10 @@
 ghost use Rattle.std.specs.Prelude.{◌≡◌, ◌<◌, ◌≤◌, ◌==◌, ◌&&◌, ◌||◌, not, filter, length, vec_capacity};
 ghost use Rattle.std.specs.List.{list_any};
 ghost use Rattle.smx_types.specs.declared.command.Command.TheVariants as command;
+ghost use Rattle.smx_types.specs.declared.reply.Fault.TheVariants.{AddressInUse, Unbound, NoLink, Unrouted};
 ghost use Rattle.smx_model.specs.Configuration.{bind_before, route_before};
 ghost use Rattle.smx_model.specs.Ordered.{with_inserted};
+ghost use Rattle.smx_model.specs.Outcomes.{refuse};
 ghost use Rattle.smx_config.specs.ReservedRoom.{HasRoom};
 ghost use Rattle.smx_config.specs.Refinement.{StepInvariant, Refines, RefinesOrNoMemory};
 
@@ -13,7 +15,6 @@ use crate::insertion_index::{bind_insertion_index, route_insertion_index};
 use crate::lookups::mux_stream;
 use crate::refuse::refuse;
 use crate::step_error::StepError;
-use crate::sweep::{reserve_for_sweep, sweep_and_reply};
 use smx_model::laws_of_steps::idle_changes_drop_none;
 use smx_types::{Binding, DriverSpec, Fault, Link, Process, Reply, Route, Serials, StreamId};
 use std::alloc::Global;
@@ -22,6 +23,12 @@ fn is_taken(binds: &[Binding], stream: StreamId, addr: u32) -> bool
     ensures { result ≡ list_any (λ b. (b.driver == stream.driver) && ((b.addr == addr) || (b.minor == stream.minor))) binds.now }
 {
     binds.iter().any(|b| b.driver == stream.driver && (b.addr == addr || b.minor == stream.minor))
+}
+
+fn refuse_taken_address(lists: &Lists, stream: StreamId, addr: u32) -> Result<(), Fault>
+    ensures { result ≡ refuse AddressInUse (list_any (λ b. (b.driver == stream.driver) && ((b.addr == addr) || (b.minor == stream.minor))) lists.now.binds.items) }
+{
+    refuse(Fault::AddressInUse, is_taken(&lists.binds, stream, addr))
 }
 
 #[tactic(auto, using(crate::proofs::InsertionLemmas::index_le, crate::proofs::InsertionLemmas::insert_at_index))]
@@ -33,6 +40,7 @@ fn put_bind(binds: &mut Vec<Binding>, binding: Binding)
     let _ = binds.insert(i, binding);
 }
 
+// What is left to sweep stays as it is, here and below: the stream exists, and a route holds no stream.
 pub fn bind(
     alloc: Global,
     drivers: &[DriverSpec],
@@ -45,9 +53,9 @@ pub fn bind(
     ensures refines { RefinesOrNoMemory drivers.now lists.old lists.new process (command.Bind fd addr) result }
     ensures kept { HasRoom lists.new }
 {
+    idle_changes_drop_none();
     let stream = mux_stream(drivers, lists, process, fd)?;
-    refuse(Fault::AddressInUse, is_taken(&lists.binds, stream, addr))?;
-    let room = reserve_for_sweep(alloc, lists)?;
+    refuse_taken_address(lists, stream, addr)?;
     lists.binds.reserve(1)?;
     let binding = Binding {
         driver: stream.driver,
@@ -55,7 +63,9 @@ pub fn bind(
         minor: stream.minor,
     };
     put_bind(&mut lists.binds, binding);
-    Ok(sweep_and_reply(drivers, lists, room))
+    Ok(Reply::Done {
+        dropped: Serials::new(alloc),
+    })
 }
 
 fn is_bound(binds: &[Binding], stream: StreamId) -> bool
@@ -64,6 +74,12 @@ fn is_bound(binds: &[Binding], stream: StreamId) -> bool
     binds
         .iter()
         .any(|b| b.driver == stream.driver && b.minor == stream.minor)
+}
+
+fn refuse_unbound(lists: &Lists, stream: StreamId) -> Result<(), Fault>
+    ensures { result ≡ refuse Unbound (not (list_any (λ b. (b.driver == stream.driver) && (b.minor == stream.minor)) lists.now.binds.items)) }
+{
+    refuse(Fault::Unbound, !is_bound(&lists.binds, stream))
 }
 
 fn drop_bind(binds: &mut Vec<Binding>, stream: StreamId)
@@ -85,7 +101,7 @@ pub fn unbind(
 {
     idle_changes_drop_none();
     let stream = mux_stream(drivers, lists, process, fd)?;
-    refuse(Fault::Unbound, !is_bound(&lists.binds, stream))?;
+    refuse_unbound(lists, stream)?;
     drop_bind(&mut lists.binds, stream);
     Ok(Reply::Done {
         dropped: Serials::new(alloc),
@@ -96,6 +112,12 @@ fn has_link(links: &[Link], driver: u8, id: u32) -> bool
     ensures { result ≡ list_any (λ l. (l.id == id) && (l.ctl.driver == driver)) links.now }
 {
     links.iter().any(|l| l.id == id && l.ctl.driver == driver)
+}
+
+fn refuse_no_link(lists: &Lists, driver: u8, id: u32) -> Result<(), Fault>
+    ensures { result ≡ refuse NoLink (not (list_any (λ l. (l.id == id) && (l.ctl.driver == driver)) lists.now.links.items)) }
+{
+    refuse(Fault::NoLink, !has_link(&lists.links, driver, id))
 }
 
 fn drop_route(routes: &mut Vec<Route>, driver: u8, addr: u32)
@@ -128,20 +150,28 @@ pub fn route(
     ensures refines { RefinesOrNoMemory drivers.now lists.old lists.new process (command.Route fd addr id) result }
     ensures kept { HasRoom lists.new }
 {
+    idle_changes_drop_none();
     let stream = mux_stream(drivers, lists, process, fd)?;
     let driver = stream.driver;
-    refuse(Fault::NoLink, !has_link(&lists.links, driver, id))?;
-    let room = reserve_for_sweep(alloc, lists)?;
+    refuse_no_link(lists, driver, id)?;
     lists.routes.reserve(1)?;
     drop_route(&mut lists.routes, driver, addr);
     put_route(&mut lists.routes, Route { driver, addr, id });
-    Ok(sweep_and_reply(drivers, lists, room))
+    Ok(Reply::Done {
+        dropped: Serials::new(alloc),
+    })
 }
 
 fn has_route(routes: &[Route], driver: u8, addr: u32) -> bool
     ensures { result ≡ list_any (λ r. (r.driver == driver) && (r.addr == addr)) routes.now }
 {
     routes.iter().any(|r| r.driver == driver && r.addr == addr)
+}
+
+fn refuse_unrouted(lists: &Lists, driver: u8, addr: u32) -> Result<(), Fault>
+    ensures { result ≡ refuse Unrouted (not (list_any (λ r. (r.driver == driver) && (r.addr == addr)) lists.now.routes.items)) }
+{
+    refuse(Fault::Unrouted, !has_route(&lists.routes, driver, addr))
 }
 
 pub fn unroute(
@@ -159,7 +189,7 @@ pub fn unroute(
     idle_changes_drop_none();
     let stream = mux_stream(drivers, lists, process, fd)?;
     let driver = stream.driver;
-    refuse(Fault::Unrouted, !has_route(&lists.routes, driver, addr))?;
+    refuse_unrouted(lists, driver, addr)?;
     drop_route(&mut lists.routes, driver, addr);
     Ok(Reply::Done {
         dropped: Serials::new(alloc),

@@ -113,11 +113,18 @@ pub fn dup(
     })
 }
 
+// Whether it is not the process's descriptor of this number.
+fn is_other(process: Process, fd: u32, d: &Descriptor) -> bool
+    ensures { result ≡ not (is_fd process fd d.now) }
+{
+    !is_fd(process, fd, d)
+}
+
 fn drop_fd(fds: &mut Vec<Descriptor>, process: Process, fd: u32)
     ensures fds { fds.new.items ≡ filter (λ d. not (is_fd process fd d)) fds.old.items }
     ensures capacity { vec_capacity fds.new ≡ vec_capacity fds.old }
 {
-    fds.retain(|d| !is_fd(process, fd, d));
+    fds.retain(|d| is_other(process, fd, d));
 }
 
 fn drop_process(fds: &mut Vec<Descriptor>, process: Process)

@@ -83,7 +83,7 @@ impl Config {
         })
     }
 
-    /// RefinesOrNoMemory a command of a process: its reply and the new configuration are those of the command table. A fault for a
+    /// Does a command of a process: its reply and the new configuration are those of the command table. A fault for a
     /// reply changes nothing, and neither does want of memory. `dup`, `unbind`, `unroute`, `read`, `transmit` and every
     /// refusal take no memory, so they are always answered.
     pub fn step(&mut self, process: Process, command: &Command) -> Result<Reply, NoMemory>
@@ -155,7 +155,9 @@ impl Config {
     pub fn is_sound_and_settled(&self)
         ensures drivers { IsDriverList self.now.drivers }
         ensures kept { IsKept self.now.drivers self.now.configuration }
-    {}
+    {
+        let _drivers = &self.drivers;
+    }
 
     /// The same configuration again, by the allocator that this one has. Fails only for want of memory.
     pub fn copy(&self) -> Result<Config, NoMemory>

@@ -20,7 +20,7 @@ fn leading_link(links: &[Link], visited: &[bool; 256], b: u8) -> Option<Link>
     links.iter().copied().find(|l| leads(visited, b, l))
 }
 
-// Whether a path leads from driver a to driver b. It visited the drivers from which one does, back from b, so it takes
+// Whether a path leads from driver a to driver b. It visits the drivers from which one does, back from b, so it takes
 // at most a pass over the links for each driver.
 pub fn reaches(links: &[Link], a: u8, b: u8) -> bool
     ensures { result ≡ reaches links.now a b }

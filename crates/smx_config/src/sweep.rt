@@ -40,7 +40,7 @@ fn orphaned_links(fds: &[Descriptor], links: &[Link], climbs: usize, room: Vec<L
     orphaned
 }
 
-fn stands(fds: &[Descriptor], links: &[Link], climbs: usize, binding: &Binding) -> bool
+fn binding_stands(fds: &[Descriptor], links: &[Link], climbs: usize, binding: &Binding) -> bool
     ensures { result ≡ stands_within fds.now links.now climbs (record { driver = binding.now.driver; minor = binding.now.minor }) }
 {
     let stream = StreamId {
@@ -53,13 +53,24 @@ fn stands(fds: &[Descriptor], links: &[Link], climbs: usize, binding: &Binding) 
 fn keep_live_binds(binds: &mut Vec<Binding>, fds: &[Descriptor], links: &[Link], climbs: usize)
     ensures { binds.new.items ≡ filter (λ b. stands_within fds.now links.now climbs (record { driver = b.driver; minor = b.minor })) binds.old.items }
 {
-    binds.retain(|b| stands(fds, links, climbs, b));
+    binds.retain(|b| binding_stands(fds, links, climbs, b));
+}
+
+fn message_stands(
+    fds: &[Descriptor],
+    links: &[Link],
+    climbs: usize,
+    queued: &QueuedMessage,
+) -> bool
+    ensures { result ≡ stands_within fds.now links.now climbs queued.now.place.stream }
+{
+    stands_within(fds, links, climbs, queued.place().stream)
 }
 
 fn keep_live_flow(flow: &mut Vec<QueuedMessage>, fds: &[Descriptor], links: &[Link], climbs: usize)
     ensures { flow.new.items ≡ filter (λ h. not (not (stands_within fds.now links.now climbs h.place.stream))) flow.old.items }
 {
-    flow.retain(|h| stands_within(fds, links, climbs, h.place().stream));
+    flow.retain(|h| message_stands(fds, links, climbs, h));
 }
 
 fn keep_live_fulls(fulls: &mut Vec<Place>, fds: &[Descriptor], links: &[Link], climbs: usize)

@@ -1,4 +1,5 @@
 use Rattle.std.proofs.Common.{◌≡◌}
+use Rattle.smx_model.specs.KeptConfigurations.{IsSound}
 use Rattle.smx_model.specs.Settling.{after_settling, after_settling_within}
 use Rattle.smx_config.specs.ReservedRoom.{HasRoom}
 use Rattle.smx_config.specs.ModelOfLists.{configuration_of}
@@ -8,4 +9,8 @@ abbrev pub decreases-loop-left : goal.decreases-loop-left
 decreases-loop-left l = l.left
 
 abbrev pub invariant-loop-left : goal.invariant-loop-left
-invariant-loop-left l = record { comes_to : after_settling_within l.drivers l.left (configuration_of l.lists) ≡ after_settling l.drivers (configuration_of l.initial.lists); kept : HasRoom l.lists }
+invariant-loop-left l = record {
+  comes_to : after_settling_within l.drivers l.left (configuration_of l.lists) ≡ after_settling l.drivers (configuration_of l.initial.lists);
+  kept : HasRoom l.lists;
+  sound : IsSound l.drivers (configuration_of l.lists);
+}
