@@ -1,14 +1,13 @@
 -- Moves, one after another.
-use Rattle.std.proofs.Common.{◌≡◌, ℕ, zero, suc, ◌-◌, ◌<◌, Bool, true, false, List, [], ◌∷◌, find, Option, Some, None, refl, sym, ap, subst, ◌∙◌, arith, inl, inr}
-use Rattle.std.specs.Option.{is_some, option_map}
+use Rattle.std.proofs.Common.{◌≡◌, ℕ, zero, suc, ◌-◌, ◌<◌, true, false, List, Option, Some, None, refl, sym, ap, subst, ◌∙◌, arith}
+use Rattle.std.specs.Option.{is_some}
 use Rattle.std.specs.Prelude.{IfSome}
-use Rattle.std.proofs.lemmas.Bool.{cases_Bool}
 use Rattle.smx_types.specs.declared.driver.DriverSpec.{DriverSpec}
 use Rattle.smx_types.specs.declared.message.Message.{Message}
 use Rattle.smx_types.specs.declared.stream.Place.{Place}
-use Rattle.smx_model.specs.Configuration.{Configuration, QueuedMessage}
+use Rattle.smx_model.specs.Configuration.{Configuration}
 use Rattle.smx_model.specs.Queues.{first_message, after_arrival, after_leaving}
-use Rattle.smx_model.specs.Settling.{◌>>=◌, next_open_place, next_place, is_movable, least_movable, after_move, after_move_to, after_settling_within}
+use Rattle.smx_model.specs.Settling.{next_open_place, is_movable, least_movable, after_move, after_move_to, after_settling_within}
 use Rattle.smx_config.specs.Moves.{is_same}
 use Rattle.smx_config.proofs.MarkLemmas.{place_is}
 

@@ -10,8 +10,8 @@ ghost use Rattle.smx_model.specs.Outcomes.{refuse};
 ghost use Rattle.smx_config.specs.ReservedRoom.{HasRoom};
 ghost use Rattle.smx_config.specs.Refinement.{StepInvariant, Refines, RefinesOrNoMemory};
 
-use crate::lists::Lists;
 use crate::insertion_index::{bind_insertion_index, route_insertion_index};
+use crate::lists::Lists;
 use crate::lookups::mux_stream;
 use crate::refuse::refuse;
 use crate::step_error::StepError;

@@ -14,16 +14,16 @@ ghost use Rattle.smx_config.specs.ModelOfLists.{configuration_of};
 ghost use Rattle.smx_config.specs.UnlinkTargets.{may_link, may_unlink, is_target, are_there, unlinks};
 ghost use Rattle.smx_config.specs.Refinement.{StepInvariant, RefinesOrNoMemory, HasOutcomeOrNoMemory};
 
+use crate::driver_specs::is_mux;
 use crate::lists::Lists;
 use crate::lookups::{mux_stream, stream_of};
-use crate::driver_specs::is_mux;
 use crate::paths::reaches;
 use crate::refuse::refuse;
 use crate::removal::remove_links;
-use crate::sweep::{reserve_for_sweep, sweep_and_reply};
 use crate::standing::{is_below, is_persistent};
 use crate::step_error::StepError;
 use crate::streams::same_stream;
+use crate::sweep::{reserve_for_sweep, sweep_and_reply};
 use smx_types::{
     DriverSpec, Fault, Link, LinkKind, MAX_LINKS, NUMBER_END, Process, Reply, StreamId, Which,
 };

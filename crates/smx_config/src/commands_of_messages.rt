@@ -13,15 +13,15 @@ ghost use Rattle.smx_config.specs.ModelOfLists.{configuration_of};
 ghost use Rattle.smx_config.specs.Refinement.{StepInvariant, HasOutcome, HasOutcomeOrNoMemory, Refines, RefinesOrNoMemory};
 ghost use Rattle.smx_config.specs.Sending.{may_send};
 
+use crate::driver_specs::max_of;
 use crate::lists::Lists;
 use crate::lookups::{free_stream, leaf_stream};
-use crate::driver_specs::max_of;
 use crate::queued_message::QueuedMessage;
 use crate::queues::{arrive, first_addr, is_full, leave};
-use crate::sweep::{reserve_for_sweep, sweep_and_reply};
 use crate::refuse::refuse;
 use crate::step_error::StepError;
 use crate::streams::{same_side, same_stream};
+use crate::sweep::{reserve_for_sweep, sweep_and_reply};
 use smx_types::{
     Bytes, DriverSpec, Fault, Message, NUMBER_END, Name, Place, Process, Reply, Side, Sides,
     StreamId,

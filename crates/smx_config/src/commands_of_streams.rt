@@ -9,15 +9,15 @@ ghost use Rattle.smx_config.specs.ReservedRoom.{HasRoom, IsFree};
 ghost use Rattle.smx_config.specs.ModelOfLists.{configuration_of};
 ghost use Rattle.smx_config.specs.Refinement.{StepInvariant, Refines, RefinesOrNoMemory};
 
-use crate::lists::Lists;
-use crate::lookups::{free_fd, free_minor, stream_of};
 use crate::descriptors::is_fd;
 use crate::driver_specs::{driver_of, minors_of};
 use crate::insertion_index::fd_insertion_index;
-use crate::sweep::{reserve_for_sweep, sweep_and_reply};
+use crate::lists::Lists;
+use crate::lookups::{free_fd, free_minor, stream_of};
 use crate::refuse::refuse;
 use crate::standing::is_below;
 use crate::step_error::StepError;
+use crate::sweep::{reserve_for_sweep, sweep_and_reply};
 use smx_types::{Descriptor, DriverSpec, Fault, Name, Process, Reply, StreamId};
 use std::alloc::Global;
 

@@ -9,9 +9,9 @@ ghost use Rattle.smx_config.specs.FewMinors.{HaveFewMinors};
 ghost use Rattle.smx_config.specs.ReservedRoom.{IsFree};
 ghost use Rattle.smx_config.specs.ModelOfLists.{configuration_of};
 
-use crate::lists::Lists;
 use crate::descriptors::{descriptor_of, least_fd};
 use crate::driver_specs::{driver_of, is_mux, minors_of};
+use crate::lists::Lists;
 use crate::refuse::refuse;
 use crate::standing::{is_below, least_minor, stands_within};
 use smx_types::{DriverSpec, Fault, Name, Process, StreamId};

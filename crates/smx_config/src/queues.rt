@@ -10,9 +10,9 @@ ghost use Rattle.smx_model.specs.Queues.{bytes_at, first_message, with_mark, aft
 ghost use Rattle.smx_config.specs.ReservedRoom.{HasRoom};
 ghost use Rattle.smx_config.specs.ModelOfLists.{configuration_of};
 
-use crate::lists::Lists;
 use crate::driver_specs::{high_of, low_of};
 use crate::insertion_index::{mark_insertion_index, message_insertion_index};
+use crate::lists::Lists;
 use crate::queued_message::QueuedMessage;
 use crate::streams::same_place;
 use smx_types::{DriverSpec, Message, Place};
@@ -124,7 +124,12 @@ fn stays_full(drivers: &[DriverSpec], flow: &[QueuedMessage], fulls: &[Place], p
 }
 
 // Whether a place at which a message arrived is full: it was, or it has as many bytes as its high water mark.
-fn becomes_full(drivers: &[DriverSpec], flow: &[QueuedMessage], fulls: &[Place], place: Place) -> bool
+fn becomes_full(
+    drivers: &[DriverSpec],
+    flow: &[QueuedMessage],
+    fulls: &[Place],
+    place: Place,
+) -> bool
     ensures { result ≡ (list_any (same_place place) fulls.now || nat_le (high_of drivers.now place.stream.driver) (bytes_at flow.now place)) }
 {
     let high = high_of(drivers, place.stream.driver as usize);

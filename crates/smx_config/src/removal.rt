@@ -8,7 +8,7 @@ ghost use Rattle.smx_config.specs.ListedLinks.{same_kind, same_link, is_one, has
 
 use crate::lists::Lists;
 use crate::queued_message::QueuedMessage;
-use crate::standing::{is_below};
+use crate::standing::is_below;
 use crate::streams::{same_side, same_stream};
 use smx_types::{Link, LinkKind, Place, Route, Side};
 

@@ -11,8 +11,8 @@ ghost use Rattle.smx_config.specs.ModelOfLists.{configuration_of};
 ghost use Rattle.smx_config.specs.Moves.{open_place, is_same, IsLeastMove};
 ghost use Rattle.smx_config.specs.ReservedRoom.{HasRoom};
 
-use crate::lists::Lists;
 use crate::driver_specs::is_mux;
+use crate::lists::Lists;
 use crate::queued_message::QueuedMessage;
 use crate::queues::{arrive, is_full, leave};
 use crate::streams::{same_place, same_stream};

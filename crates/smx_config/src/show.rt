@@ -69,7 +69,11 @@ fn route_line(drivers: &[DriverSpec], r: &Route) -> RouteLine
     }
 }
 
-fn message_line(alloc: Global, drivers: &[DriverSpec], h: &QueuedMessage) -> Result<MessageLine, NoMemory>
+fn message_line(
+    alloc: Global,
+    drivers: &[DriverSpec],
+    h: &QueuedMessage,
+) -> Result<MessageLine, NoMemory>
     requires { h.now.place.stream.driver < length drivers.now }
     ensures { IfOk result (λ l. l ≡ view_of_message drivers.now h.now) }
 {

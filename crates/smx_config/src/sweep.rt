@@ -56,12 +56,7 @@ fn keep_live_binds(binds: &mut Vec<Binding>, fds: &[Descriptor], links: &[Link],
     binds.retain(|b| binding_stands(fds, links, climbs, b));
 }
 
-fn message_stands(
-    fds: &[Descriptor],
-    links: &[Link],
-    climbs: usize,
-    queued: &QueuedMessage,
-) -> bool
+fn message_stands(fds: &[Descriptor], links: &[Link], climbs: usize, queued: &QueuedMessage) -> bool
     ensures { result ≡ stands_within fds.now links.now climbs queued.now.place.stream }
 {
     stands_within(fds, links, climbs, queued.place().stream)

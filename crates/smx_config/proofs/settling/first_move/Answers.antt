@@ -1,4 +1,4 @@
-use Rattle.std.proofs.Common.{rules, ◌≡◌, List, Some, subst}
+use Rattle.std.proofs.Common.{◌≡◌, List, Some, subst}
 use Rattle.smx_model.specs.Configuration.{QueuedMessage}
 use Rattle.smx_model.specs.Queues.{first_message}
 use Rattle.smx_config.proofs.FlowLemmas.{first_here}

@@ -1,4 +1,4 @@
-use Rattle.std.proofs.Common.{sym, ◌∙◌, arith}
+use Rattle.std.proofs.Common.{◌∙◌, arith}
 use Rattle.smx_config.specs.ModelOfLists.{configuration_of}
 use Rattle.smx_config.proofs.SettleLemmas.{settled_one}
 use Rattle.smx_config.proofs.settling.settle.Goals as goal
