@@ -108,9 +108,9 @@ named_linked : (drivers : List DriverSpec) (c : Configuration) (process fd arg :
 named_linked drivers c process fd arg k h = search (after_test, after_ok, at_ok, named_link, stream_known, rules) depth 24
 
 pub named_accepted : (drivers : List DriverSpec) (c : Configuration) (process : ℕ) (k : Command) → AreNamed drivers c → IfAccepted (λ d r. AreNamed drivers d) (outcome drivers c process k)
-named_accepted drivers c process (command.OpenClone name) h = search (after_some, after_ok, at_ok, named_fd, stream_known, known_made, minor_free, minor_in, driver_below, named_same, rules) depth 20
-named_accepted drivers c process (command.OpenMinor name minor) h = search (after_test, after_some, after_ok, at_ok, named_done, named_fd, named_closed, named_linked, named_unlinked, stream_known, known_made, minor_free, minor_in, driver_below, named_same, rules) depth 20
-named_accepted drivers c process (command.Dup fd) h = search (after_some, after_ok, at_ok, named_fd, stream_known, named_same, rules) depth 20
+named_accepted drivers c process (command.OpenClone name) h = search (after_ok, at_ok, named_fd, known_made, minor_free, driver_below, rules) depth 20
+named_accepted drivers c process (command.OpenMinor name minor) h = search (after_test, after_ok, at_ok, named_fd, known_made, minor_in, driver_below, rules) depth 20
+named_accepted drivers c process (command.Dup fd) h = search (after_ok, at_ok, named_fd, stream_known, rules) depth 20
 named_accepted drivers c process (command.Close fd) h = search (after_some, after_ok, at_ok, named_done, named_closed, rules) depth 20
 named_accepted drivers c process command.CloseAll h = search (at_ok, named_done, named_closed, rules) depth 20
 named_accepted drivers c process (command.Link fd arg) h = search (after_some, after_ok, named_linked, rules) depth 20
