@@ -12,6 +12,7 @@ pub mod OrderedParts
 pub mod Settling
 pub mod LeastMovable
 pub mod Removal
+pub mod MeantLinks
 pub mod Outcomes
 pub mod Lookups
 pub mod Commands
