@@ -1,5 +1,6 @@
 -- What is written piece by piece, as one line.
-use Rattle.std.proofs.Common.{◌≡◌, ℕ, ◌<◌, List, [], ◌∷◌, ◌++◌, length, map, refl, sym, ap, ◌∙◌, append_assoc, arith}
+use Rattle.std.proofs.Common.{◌≡◌, ℕ, ◌+◌, ◌/◌, ◌%◌, ◌<◌, ◌≤◌, List, [], ◌∷◌, ◌++◌, length, map, refl, sym, ap, ◌∙◌, append_assoc, arith}
+use Rattle.std.proofs.lemmas.Fmt.{decimal_digit, decimal_step}
 use Rattle.std.proofs.lemmas.List.{append-nil}
 use Rattle.std.specs.Fmt.{decimal}
 use Rattle.std.specs.List.{flat_map}
@@ -79,3 +80,15 @@ entry_line e =
 pub numbers_line : (w : List ℕ) (ns : List ℕ) → line_of (w ∷ map decimal ns) ≡ w ++ flat_map (λ n. 32 ∷ decimal n) ns
 numbers_line w [] = sym (append-nil w)
 numbers_line w (n ∷ ns) = ap (λ (l : List ℕ). w ++ 32 ∷ l) (numbers_line (decimal n) ns)
+
+-- two digits
+pub decimal_two : (n : ℕ) → 10 ≤ n → n < 100 → decimal n ≡ (48 + n / 10) ∷ (48 + n % 10) ∷ []
+decimal_two n least most =
+    decimal_step n least (omega arith) ∙ ap (λ (l : List ℕ). l ++ (48 + n % 10) ∷ []) (decimal_digit (n / 10) (omega arith))
+
+-- three digits
+pub decimal_three : (n : ℕ) → 100 ≤ n → n < 1000 → decimal n ≡ (48 + n / 100) ∷ (48 + n / 10 % 10) ∷ (48 + n % 10) ∷ []
+decimal_three n least most =
+    let same : n / 10 / 10 ≡ n / 100 = omega arith in
+    decimal_step n (omega arith) (omega arith) ∙ ap (λ (l : List ℕ). l ++ (48 + n % 10) ∷ []) (decimal_two (n / 10) (omega arith) (omega arith))
+    ∙ ap (λ (h : ℕ). (48 + h) ∷ (48 + n / 10 % 10) ∷ (48 + n % 10) ∷ []) same

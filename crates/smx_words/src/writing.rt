@@ -13,8 +13,8 @@ mod reply;
 mod view;
 mod word;
 
-use smx_types::NoMemory;
 pub use number::{write_next, write_process};
+use smx_types::NoMemory;
 
 /// A value that one line of a text spells.
 pub trait Spell {

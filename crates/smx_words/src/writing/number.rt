@@ -1,6 +1,6 @@
 //! Numbers, and the lines that have nothing but numbers behind their name.
 
-ghost use Rattle.std.specs.Prelude.{◌≡◌, ◌<◌, ◌≤◌, ◌^◌, ◌∷◌, ◌++◌, [], codes, OnOk};
+ghost use Rattle.std.specs.Prelude.{◌≡◌, ◌+◌, ◌<◌, ◌≤◌, ◌∷◌, ◌++◌, [], codes, OnOk};
 ghost use Rattle.std.specs.Fmt.{decimal};
 ghost use Rattle.smx_words.specs.Spellable.{FitsNumber};
 ghost use Rattle.smx_words.specs.Words.{line_of};
@@ -31,57 +31,78 @@ pub fn write_next(out: &mut Vec<u8>, id: u32, serial: u32) -> Result<(), NoMemor
 
 /// A space and the digits of a number.
 #[inline(always)]
-#[tactic(auto, using(std::proofs::lemmas::Fmt::decimal_digit))]
 pub(super) fn put_spaced(out: &mut Vec<u8>, n: u32) -> Result<(), NoMemory>
     ensures written { OnOk result (out.new.items ≡ out.old.items ++ 32 ∷ decimal n) }
     ensures fits { FitsNumber n }
 {
     if n < 10 {
-        out.extend_from_slice(&[b' ', b'0' + n as u8])?;
+        out.extend_from_slice(&[b' ', digit(n)])?;
         return Ok(());
     }
-    out.push(b' ')?;
-    put_digits(out, n)
+    put_longer(out, n)
 }
 
 /// A space, the digits of a number, and a line feed.
 #[inline(always)]
-#[tactic(auto, using(std::proofs::lemmas::Fmt::decimal_digit))]
 pub(super) fn put_last(out: &mut Vec<u8>, n: u32) -> Result<(), NoMemory>
     ensures written { OnOk result (out.new.items ≡ out.old.items ++ 32 ∷ decimal n ++ 10 ∷ []) }
     ensures fits { FitsNumber n }
 {
     if n < 10 {
-        out.extend_from_slice(&[b' ', b'0' + n as u8, b'\n'])?;
+        out.extend_from_slice(&[b' ', digit(n), b'\n'])?;
         return Ok(());
     }
-    out.push(b' ')?;
-    put_digits(out, n)?;
+    put_longer(out, n)?;
     out.push(b'\n')?;
     Ok(())
 }
 
 /// The digits of a number and a space.
 #[inline(always)]
-#[tactic(auto, using(std::proofs::lemmas::Fmt::decimal_digit))]
 pub(super) fn put_first(out: &mut Vec<u8>, n: u32) -> Result<(), NoMemory>
     ensures written { OnOk result (out.new.items ≡ out.old.items ++ decimal n ++ 32 ∷ []) }
     ensures fits { FitsNumber n }
 {
     if n < 10 {
-        out.extend_from_slice(&[b'0' + n as u8, b' '])?;
+        out.extend_from_slice(&[digit(n), b' '])?;
         return Ok(());
     }
-    put_digits(out, n)?;
+    put_any(out, n)?;
     out.push(b' ')?;
     Ok(())
 }
 
-// Apart, so that the short path is inlined.
+// A space and two digits or more. Apart, so that the short path is inlined.
 #[inline(never)]
-fn put_digits(out: &mut Vec<u8>, n: u32) -> Result<(), NoMemory>
+fn put_longer(out: &mut Vec<u8>, n: u32) -> Result<(), NoMemory>
+    requires { 10 ≤ n }
+    ensures { OnOk result (out.new.items ≡ out.old.items ++ 32 ∷ decimal n) }
+{
+    let (tens, hundreds) = (n / 10, n / 100);
+    if n < 100 {
+        out.extend_from_slice(&[b' ', digit(tens), digit(n % 10)])?;
+    } else if n < 1000 {
+        out.extend_from_slice(&[b' ', digit(hundreds), digit(tens % 10), digit(n % 10)])?;
+    } else {
+        out.push(b' ')?;
+        put_any(out, n)?;
+    }
+    Ok(())
+}
+
+// Digits, however many.
+#[inline(never)]
+fn put_any(out: &mut Vec<u8>, n: u32) -> Result<(), NoMemory>
     ensures { OnOk result (out.new.items ≡ out.old.items ++ decimal n) }
 {
     out.extend_from_slice(Buffer::new().format(n).as_bytes())?;
     Ok(())
+}
+
+#[inline(always)]
+fn digit(value: u32) -> u8
+    requires { value < 10 }
+    ensures { result ≡ 48 + value }
+{
+    b'0' + value as u8
 }

@@ -32,6 +32,7 @@ pub(super) fn put_reply(out: &mut Vec<u8>, reply: &Reply) -> Result<(), NoMemory
     }
 }
 
+#[inline(always)]
 fn put_descriptor(out: &mut Vec<u8>, fd: u32, minor: u32) -> Result<(), NoMemory>
     ensures written { OnOk result (out.new.items
         ≡ out.old.items ++ codes " = " ++ line_of (codes "fd" ∷ decimal fd ∷ decimal minor ∷ []) ++ 10 ∷ []) }
@@ -42,6 +43,7 @@ fn put_descriptor(out: &mut Vec<u8>, fd: u32, minor: u32) -> Result<(), NoMemory
     put_last(out, minor)
 }
 
+#[inline(always)]
 fn put_number(out: &mut Vec<u8>, before: &[u8], n: u32) -> Result<(), NoMemory>
     ensures written { OnOk result (out.new.items ≡ out.old.items ++ before.now ++ 32 ∷ decimal n ++ 10 ∷ []) }
     ensures fits { FitsNumber n }
@@ -53,7 +55,7 @@ fn put_number(out: &mut Vec<u8>, before: &[u8], n: u32) -> Result<(), NoMemory>
 fn put_got(out: &mut Vec<u8>, serial: u32, addr: u32, bytes: &[u8]) -> Result<(), NoMemory>
     ensures written { OnOk result (out.new.items
         ≡ out.old.items ++ codes " = "
-            ++ line_of (codes "got" ∷ decimal serial ∷ decimal addr ∷ hex_word bytes.now ∷ []) ++ 10 ∷ []) }
+        ++ line_of (codes "got" ∷ decimal serial ∷ decimal addr ∷ hex_word bytes.now ∷ []) ++ 10 ∷ []) }
     ensures fits { FitsNumber serial × FitsNumber addr × FitsBytes bytes.now }
 {
     out.extend_from_slice(b" = got")?;
@@ -86,32 +88,34 @@ fn put_serials(out: &mut Vec<u8>, serials: &[u32]) -> Result<(), NoMemory>
     Ok(())
 }
 
+// Each of its texts has a length that the compiler knows.
 fn put_fault(out: &mut Vec<u8>, fault: Fault) -> Result<(), NoMemory>
     ensures { OnOk result (out.new.items ≡ out.old.items ++ codes " = " ++ line_of (fault_words fault) ++ 10 ∷ []) }
 {
-    out.extend_from_slice(fault_text(fault))?;
-    Ok(())
+    match fault {
+        Fault::BadDescriptor => put_text(out, b" = EBADF fd\n"),
+        Fault::Below => put_text(out, b" = EINVAL below\n"),
+        Fault::NotMux => put_text(out, b" = EINVAL notmux\n"),
+        Fault::AlreadyBelow => put_text(out, b" = EINVAL already\n"),
+        Fault::Cycle => put_text(out, b" = EINVAL cycle\n"),
+        Fault::TooManyLinks => put_text(out, b" = EAGAIN links\n"),
+        Fault::NoLink => put_text(out, b" = EINVAL id\n"),
+        Fault::NoDriver => put_text(out, b" = ENXIO driver\n"),
+        Fault::NoMinor => put_text(out, b" = ENXIO minor\n"),
+        Fault::TooManyDescriptors => put_text(out, b" = EMFILE\n"),
+        Fault::AddressInUse => put_text(out, b" = EADDRINUSE\n"),
+        Fault::Unbound => put_text(out, b" = EINVAL unbound\n"),
+        Fault::Unrouted => put_text(out, b" = EINVAL unrouted\n"),
+        Fault::Full => put_text(out, b" = EAGAIN full\n"),
+        Fault::Empty => put_text(out, b" = EAGAIN empty\n"),
+        Fault::BadSize => put_text(out, b" = ERANGE\n"),
+    }
 }
 
-fn fault_text(fault: Fault) -> &'static [u8]
-    ensures { result.now ≡ codes " = " ++ line_of (fault_words fault) ++ 10 ∷ [] }
+#[inline(always)]
+fn put_text(out: &mut Vec<u8>, text: &[u8]) -> Result<(), NoMemory>
+    ensures { OnOk result (out.new.items ≡ out.old.items ++ text.now) }
 {
-    match fault {
-        Fault::BadDescriptor => b" = EBADF fd\n",
-        Fault::Below => b" = EINVAL below\n",
-        Fault::NotMux => b" = EINVAL notmux\n",
-        Fault::AlreadyBelow => b" = EINVAL already\n",
-        Fault::Cycle => b" = EINVAL cycle\n",
-        Fault::TooManyLinks => b" = EAGAIN links\n",
-        Fault::NoLink => b" = EINVAL id\n",
-        Fault::NoDriver => b" = ENXIO driver\n",
-        Fault::NoMinor => b" = ENXIO minor\n",
-        Fault::TooManyDescriptors => b" = EMFILE\n",
-        Fault::AddressInUse => b" = EADDRINUSE\n",
-        Fault::Unbound => b" = EINVAL unbound\n",
-        Fault::Unrouted => b" = EINVAL unrouted\n",
-        Fault::Full => b" = EAGAIN full\n",
-        Fault::Empty => b" = EAGAIN empty\n",
-        Fault::BadSize => b" = ERANGE\n",
-    }
+    out.extend_from_slice(text)?;
+    Ok(())
 }
