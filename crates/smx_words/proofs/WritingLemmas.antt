@@ -1,5 +1,5 @@
 -- What is written piece by piece, as one line.
-use Rattle.std.proofs.Common.{◌≡◌, ℕ, ◌+◌, ◌/◌, ◌%◌, ◌<◌, ◌≤◌, List, [], ◌∷◌, ◌++◌, length, map, refl, sym, ap, ◌∙◌, append_assoc, arith}
+use Rattle.std.proofs.Common.{◌≡◌, ℕ, ◌+◌, ◌/◌, ◌%◌, ◌^◌, ◌<◌, ◌≤◌, List, [], ◌∷◌, ◌++◌, length, map, refl, sym, ap, ◌∙◌, append_assoc, arith}
 use Rattle.std.proofs.lemmas.Fmt.{decimal_digit, decimal_step}
 use Rattle.std.proofs.lemmas.List.{append-nil}
 use Rattle.std.specs.Fmt.{decimal}
@@ -81,14 +81,34 @@ pub numbers_line : (w : List ℕ) (ns : List ℕ) → line_of (w ∷ map decimal
 numbers_line w [] = sym (append-nil w)
 numbers_line w (n ∷ ns) = ap (λ (l : List ℕ). w ++ 32 ∷ l) (numbers_line (decimal n) ns)
 
--- two digits
-pub decimal_two : (n : ℕ) → 10 ≤ n → n < 100 → decimal n ≡ (48 + n / 10) ∷ (48 + n % 10) ∷ []
-decimal_two n least most =
-    decimal_step n least (omega arith) ∙ ap (λ (l : List ℕ). l ++ (48 + n % 10) ∷ []) (decimal_digit (n / 10) (omega arith))
+-- ---- short numbers, digit by digit
 
--- three digits
-pub decimal_three : (n : ℕ) → 100 ≤ n → n < 1000 → decimal n ≡ (48 + n / 100) ∷ (48 + n / 10 % 10) ∷ (48 + n % 10) ∷ []
+pub decimal_one : (n : ℕ) → n < 10 → decimal n ≡ (48 + n % 10) ∷ []
+decimal_one n most = decimal_digit n most ∙ ap (λ (d : ℕ). (48 + d) ∷ []) (omega arith)
+
+-- the last digit behind the others
+one_more : (n : ℕ) (ds : List ℕ) → 10 ≤ n → n < 2 ^ 32 → decimal (n / 10) ≡ ds → decimal n ≡ ds ++ (48 + n % 10) ∷ []
+one_more n ds least most before = decimal_step n least (omega arith) ∙ ap (λ (l : List ℕ). l ++ (48 + n % 10) ∷ []) before
+
+pub decimal_two : (n : ℕ) → 10 ≤ n → n < 100 → decimal n ≡ (48 + n / 10 % 10) ∷ (48 + n % 10) ∷ []
+decimal_two n least most = one_more n _ least (omega arith) (decimal_one (n / 10) (omega arith))
+
+pub decimal_three : (n : ℕ) → 100 ≤ n → n < 1000 → decimal n ≡ (48 + n / 100 % 10) ∷ (48 + n / 10 % 10) ∷ (48 + n % 10) ∷ []
 decimal_three n least most =
-    let same : n / 10 / 10 ≡ n / 100 = omega arith in
-    decimal_step n (omega arith) (omega arith) ∙ ap (λ (l : List ℕ). l ++ (48 + n % 10) ∷ []) (decimal_two (n / 10) (omega arith) (omega arith))
-    ∙ ap (λ (h : ℕ). (48 + h) ∷ (48 + n / 10 % 10) ∷ (48 + n % 10) ∷ []) same
+    let hundreds : n / 10 / 10 ≡ n / 100 = omega arith in
+    rw (← hundreds) (one_more n _ (omega arith) (omega arith) (decimal_two (n / 10) (omega arith) (omega arith)))
+
+pub decimal_four : (n : ℕ) → 1000 ≤ n → n < 10000
+    → decimal n ≡ (48 + n / 1000 % 10) ∷ (48 + n / 100 % 10) ∷ (48 + n / 10 % 10) ∷ (48 + n % 10) ∷ []
+decimal_four n least most =
+    let hundreds : n / 10 / 10 ≡ n / 100 = omega arith in
+    let thousands : n / 10 / 100 ≡ n / 1000 = omega arith in
+    rw (← hundreds, ← thousands) (one_more n _ (omega arith) (omega arith) (decimal_three (n / 10) (omega arith) (omega arith)))
+
+pub decimal_five : (n : ℕ) → 10000 ≤ n → n < 100000
+    → decimal n ≡ (48 + n / 10000 % 10) ∷ (48 + n / 1000 % 10) ∷ (48 + n / 100 % 10) ∷ (48 + n / 10 % 10) ∷ (48 + n % 10) ∷ []
+decimal_five n least most =
+    let hundreds : n / 10 / 10 ≡ n / 100 = omega arith in
+    let thousands : n / 10 / 100 ≡ n / 1000 = omega arith in
+    let many : n / 10 / 1000 ≡ n / 10000 = omega arith in
+    rw (← hundreds, ← thousands, ← many) (one_more n _ (omega arith) (omega arith) (decimal_four (n / 10) (omega arith) (omega arith)))

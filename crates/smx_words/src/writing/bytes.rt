@@ -10,6 +10,9 @@ ghost use Rattle.smx_words.specs.Spellable.{FitsBytes, FitsNumber};
 use super::number::put_spaced;
 use smx_types::NoMemory;
 
+// What lies between the digit 9 and the letter a.
+const GAP: u8 = b'a' - b'9' - 1;
+
 /// The serial, the address and the bytes of a message, each behind a space, and a line feed.
 pub(super) fn put_message(
     out: &mut Vec<u8>,
@@ -60,8 +63,9 @@ fn set_pairs(pairs: &mut [u8], bytes: &[u8])
     ensures { pairs.new ≡ encode_lower bytes.now }
 {
     for i in 0..bytes.len() {
-        pairs[2 * i] = digit_of(bytes[i] / 16);
-        pairs[2 * i + 1] = digit_of(bytes[i] % 16);
+        let byte = bytes[i];
+        pairs[2 * i] = digit_of(byte / 16);
+        pairs[2 * i + 1] = digit_of(byte % 16);
     }
 }
 
@@ -70,9 +74,6 @@ fn digit_of(value: u8) -> u8
     requires { value < 16 }
     ensures { result ≡ slice_index lower_digits value }
 {
-    if value < 10 {
-        b'0' + value
-    } else {
-        b'a' - 10 + value
-    }
+    let gap = if value < 10 { 0 } else { GAP };
+    b'0' + value + gap
 }

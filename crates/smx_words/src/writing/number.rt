@@ -1,10 +1,11 @@
 //! Numbers, and the lines that have nothing but numbers behind their name.
 
-ghost use Rattle.std.specs.Prelude.{◌≡◌, ◌+◌, ◌<◌, ◌≤◌, ◌∷◌, ◌++◌, [], codes, OnOk};
+ghost use Rattle.std.specs.Prelude.{◌≡◌, ◌+◌, ◌%◌, ◌≤◌, ◌∷◌, ◌++◌, [], codes, OnOk};
 ghost use Rattle.std.specs.Fmt.{decimal};
 ghost use Rattle.smx_words.specs.Spellable.{FitsNumber};
 ghost use Rattle.smx_words.specs.Words.{line_of};
 
+use super::word::put_text;
 use itoa::Buffer;
 use smx_types::NoMemory;
 
@@ -78,16 +79,34 @@ fn put_longer(out: &mut Vec<u8>, n: u32) -> Result<(), NoMemory>
     requires { 10 ≤ n }
     ensures { OnOk result (out.new.items ≡ out.old.items ++ 32 ∷ decimal n) }
 {
-    let (tens, hundreds) = (n / 10, n / 100);
     if n < 100 {
-        out.extend_from_slice(&[b' ', digit(tens), digit(n % 10)])?;
-    } else if n < 1000 {
-        out.extend_from_slice(&[b' ', digit(hundreds), digit(tens % 10), digit(n % 10)])?;
+        put_text(out, &[b' ', digit(n / 10), digit(n)])
+    } else if n < 1_000 {
+        put_text(out, &[b' ', digit(n / 100), digit(n / 10), digit(n)])
+    } else {
+        put_longest(out, n)
+    }
+}
+
+// A space and four digits or more.
+#[inline(always)]
+fn put_longest(out: &mut Vec<u8>, n: u32) -> Result<(), NoMemory>
+    requires { 1000 ≤ n }
+    ensures { OnOk result (out.new.items ≡ out.old.items ++ 32 ∷ decimal n) }
+{
+    if n < 10_000 {
+        let (thousands, hundreds) = (digit(n / 1_000), digit(n / 100));
+        put_text(out, &[b' ', thousands, hundreds, digit(n / 10), digit(n)])
+    } else if n < 100_000 {
+        let (many, thousands, hundreds) = (digit(n / 10_000), digit(n / 1_000), digit(n / 100));
+        put_text(
+            out,
+            &[b' ', many, thousands, hundreds, digit(n / 10), digit(n)],
+        )
     } else {
         out.push(b' ')?;
-        put_any(out, n)?;
+        put_any(out, n)
     }
-    Ok(())
 }
 
 // Digits, however many.
@@ -99,10 +118,10 @@ fn put_any(out: &mut Vec<u8>, n: u32) -> Result<(), NoMemory>
     Ok(())
 }
 
+// The last digit of a number.
 #[inline(always)]
-fn digit(value: u32) -> u8
-    requires { value < 10 }
-    ensures { result ≡ 48 + value }
+fn digit(n: u32) -> u8
+    ensures { result ≡ 48 + n % 10 }
 {
-    b'0' + value as u8
+    b'0' + (n % 10) as u8
 }

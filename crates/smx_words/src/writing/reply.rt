@@ -10,6 +10,7 @@ ghost use Rattle.smx_words.specs.Words.{line_of};
 
 use super::bytes::put_message;
 use super::number::{put_last, put_spaced};
+use super::word::put_text;
 use smx_types::{Fault, NoMemory, Reply};
 
 /// An equals sign between spaces, the words of a reply, and a line feed.
@@ -110,12 +111,4 @@ fn put_fault(out: &mut Vec<u8>, fault: Fault) -> Result<(), NoMemory>
         Fault::Empty => put_text(out, b" = EAGAIN empty\n"),
         Fault::BadSize => put_text(out, b" = ERANGE\n"),
     }
-}
-
-#[inline(always)]
-fn put_text(out: &mut Vec<u8>, text: &[u8]) -> Result<(), NoMemory>
-    ensures { OnOk result (out.new.items ≡ out.old.items ++ text.now) }
-{
-    out.extend_from_slice(text)?;
-    Ok(())
 }

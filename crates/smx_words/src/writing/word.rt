@@ -1,4 +1,4 @@
-//! Words of a line other than numbers and bytes, each behind a space.
+//! Words of a line other than numbers and bytes.
 
 ghost use Rattle.std.specs.Prelude.{◌≡◌, ◌∷◌, ◌++◌, [], codes, OnOk};
 ghost use Rattle.smx_words.specs.Spellable.{FitsName};
@@ -24,5 +24,14 @@ pub(super) fn put_side(out: &mut Vec<u8>, side: Side) -> Result<(), NoMemory>
         Side::Write => b" w",
         Side::Read => b" r",
     })?;
+    Ok(())
+}
+
+/// These bytes.
+#[inline(always)]
+pub(super) fn put_text(out: &mut Vec<u8>, text: &[u8]) -> Result<(), NoMemory>
+    ensures { OnOk result (out.new.items ≡ out.old.items ++ text.now) }
+{
+    out.extend_from_slice(text)?;
     Ok(())
 }
