@@ -1,10 +1,11 @@
 -- What is written piece by piece, as one line.
-use Rattle.std.proofs.Common.{◌≡◌, ℕ, ◌+◌, ◌/◌, ◌%◌, ◌^◌, ◌<◌, ◌≤◌, List, [], ◌∷◌, ◌++◌, length, map, refl, sym, ap, ◌∙◌, append_assoc, arith}
+use Rattle.std.proofs.Common.{◌≡◌, ℕ, ◌+◌, ◌/◌, ◌%◌, ◌^◌, ◌<◌, ◌≤◌, List, [], ◌∷◌, ◌++◌, length, get_or, slice_index, take, map, refl, sym, ap, ◌∙◌, append_assoc, arith}
 use Rattle.std.proofs.lemmas.Fmt.{decimal_digit, decimal_step}
-use Rattle.std.proofs.lemmas.List.{append-nil}
+use Rattle.std.proofs.lemmas.List.{append-nil, take_more}
 use Rattle.std.specs.Fmt.{decimal}
 use Rattle.std.specs.List.{flat_map}
 use Rattle.std.specs.Prelude.{codes}
+use Rattle.hex.specs.Hex.{encode_lower, encode_with, lower_digits}
 use Rattle.smx_types.specs.declared.command.Command.{Command}
 use Rattle.smx_types.specs.declared.command.Command.TheVariants as command
 use Rattle.smx_types.specs.declared.command.Entry.{Entry}
@@ -112,3 +113,16 @@ decimal_five n least most =
     let thousands : n / 10 / 100 ≡ n / 1000 = omega arith in
     let many : n / 10 / 1000 ≡ n / 10000 = omega arith in
     rw (← hundreds, ← thousands, ← many) (one_more n _ (omega arith) (omega arith) (decimal_four (n / 10) (omega arith) (omega arith)))
+
+-- ---- bytes as hex digits
+
+-- one byte more behind others
+encode_push : (bs : List ℕ) (b : ℕ)
+    → encode_lower (bs ++ b ∷ []) ≡ encode_lower bs ++ slice_index lower_digits (b / 16) ∷ slice_index lower_digits (b % 16) ∷ []
+unfolding encode_with
+encode_push [] b = refl
+encode_push (a ∷ bs) b = rw (encode_push bs b) refl
+
+pub encode_more : (bs : List ℕ) (i : ℕ) → i < length bs
+    → encode_lower (take (i + 1) bs) ≡ encode_lower (take i bs) ++ slice_index lower_digits (get_or bs i 0 / 16) ∷ slice_index lower_digits (get_or bs i 0 % 16) ∷ []
+encode_more bs i lt = ap encode_lower (take_more bs i 0 lt) ∙ encode_push (take i bs) (get_or bs i 0)

@@ -4,6 +4,7 @@ ghost use Rattle.std.specs.Prelude.{◌≡◌, ◌∷◌, ◌++◌, ◌<◌, ◌
 ghost use Rattle.std.specs.Fmt.{decimal};
 ghost use Rattle.hex.specs.Hex.{encode_lower, lower_digits};
 ghost use Rattle.std.specs.List.{slice_index};
+ghost use Rattle.smx_words.specs.declared.writing.bytes.TheConstants.{MANY};
 ghost use Rattle.smx_words.specs.HexWords.{hex_word};
 ghost use Rattle.smx_words.specs.Spellable.{FitsBytes, FitsNumber};
 
@@ -12,6 +13,9 @@ use smx_types::NoMemory;
 
 // What lies between the digit 9 and the letter a.
 const GAP: u8 = b'a' - b'9' - 1;
+
+// From this length on it is quicker to fill with zeros and then set all digits.
+const MANY: usize = 8;
 
 /// The serial, the address and the bytes of a message, each behind a space, and a line feed.
 pub(super) fn put_message(
@@ -40,8 +44,25 @@ pub(super) fn put_bytes(out: &mut Vec<u8>, bytes: &[u8]) -> Result<(), NoMemory>
         out.extend_from_slice(b" -")?;
         return Ok(());
     }
+    if bytes.len() < MANY {
+        return put_few(out, bytes);
+    }
     out.push(b' ')?;
     put_pairs(out, bytes)
+}
+
+// A space and two digits for each of a few bytes.
+fn put_few(out: &mut Vec<u8>, bytes: &[u8]) -> Result<(), NoMemory>
+    requires { length bytes.now < MANY }
+    ensures { OnOk result (out.new.items ≡ out.old.items ++ 32 ∷ encode_lower bytes.now) }
+{
+    out.reserve(1 + 2 * bytes.len())?;
+    out.push_reserved(b' ');
+    for byte in bytes {
+        out.push_reserved(digit_of(*byte / 16));
+        out.push_reserved(digit_of(*byte % 16));
+    }
+    Ok(())
 }
 
 // Two digits for each byte.

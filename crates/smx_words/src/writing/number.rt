@@ -1,6 +1,6 @@
 //! Numbers, and the lines that have nothing but numbers behind their name.
 
-ghost use Rattle.std.specs.Prelude.{◌≡◌, ◌+◌, ◌%◌, ◌≤◌, ◌∷◌, ◌++◌, [], codes, OnOk};
+ghost use Rattle.std.specs.Prelude.{◌≡◌, ◌+◌, ◌%◌, ◌<◌, ◌≤◌, ◌∷◌, ◌++◌, [], codes, OnOk};
 ghost use Rattle.std.specs.Fmt.{decimal};
 ghost use Rattle.smx_words.specs.Spellable.{FitsNumber};
 ghost use Rattle.smx_words.specs.Words.{line_of};
@@ -58,19 +58,17 @@ pub(super) fn put_last(out: &mut Vec<u8>, n: u32) -> Result<(), NoMemory>
     Ok(())
 }
 
-/// The digits of a number and a space.
+/// The digits of a short number, and a space.
 #[inline(always)]
 pub(super) fn put_first(out: &mut Vec<u8>, n: u32) -> Result<(), NoMemory>
-    ensures written { OnOk result (out.new.items ≡ out.old.items ++ decimal n ++ 32 ∷ []) }
-    ensures fits { FitsNumber n }
+    requires { n < 100 }
+    ensures { OnOk result (out.new.items ≡ out.old.items ++ decimal n ++ 32 ∷ []) }
 {
     if n < 10 {
-        out.extend_from_slice(&[digit(n), b' '])?;
-        return Ok(());
+        put_text(out, &[digit(n), b' '])
+    } else {
+        put_text(out, &[digit(n / 10), digit(n), b' '])
     }
-    put_any(out, n)?;
-    out.push(b' ')?;
-    Ok(())
 }
 
 // A space and two digits or more. Apart, so that the short path is inlined.
