@@ -7,9 +7,13 @@ ghost use Rattle.std.specs.List.{slice_index};
 ghost use Rattle.smx_words.specs.declared.writing.bytes.TheConstants.{MANY};
 ghost use Rattle.smx_words.specs.HexWords.{hex_word};
 ghost use Rattle.smx_words.specs.Spellable.{FitsBytes, FitsNumber};
+ghost use Rattle.smx_words.specs.Words.{LINE_FEED, SPACE};
 
 use super::number::put_spaced;
 use smx_types::NoMemory;
+
+// Quicker than a test where the bytes are few.
+const DIGITS: [u8; 16] = *b"0123456789abcdef";
 
 // What lies between the digit 9 and the letter a.
 const GAP: u8 = b'a' - b'9' - 1;
@@ -25,7 +29,7 @@ pub(super) fn put_message(
     bytes: &[u8],
 ) -> Result<(), NoMemory>
     ensures written { OnOk result (out.new.items
-        ≡ out.old.items ++ 32 ∷ decimal serial ++ 32 ∷ decimal addr ++ 32 ∷ hex_word bytes.now ++ 10 ∷ []) }
+        ≡ out.old.items ++ SPACE ∷ decimal serial ++ SPACE ∷ decimal addr ++ SPACE ∷ hex_word bytes.now ++ LINE_FEED ∷ []) }
     ensures fits { FitsNumber serial × FitsNumber addr × FitsBytes bytes.now }
 {
     put_spaced(out, serial)?;
@@ -37,7 +41,7 @@ pub(super) fn put_message(
 
 /// A space and the word of some bytes.
 pub(super) fn put_bytes(out: &mut Vec<u8>, bytes: &[u8]) -> Result<(), NoMemory>
-    ensures written { OnOk result (out.new.items ≡ out.old.items ++ 32 ∷ hex_word bytes.now) }
+    ensures written { OnOk result (out.new.items ≡ out.old.items ++ SPACE ∷ hex_word bytes.now) }
     ensures fits { FitsBytes bytes.now }
 {
     if bytes.is_empty() {
@@ -54,13 +58,13 @@ pub(super) fn put_bytes(out: &mut Vec<u8>, bytes: &[u8]) -> Result<(), NoMemory>
 // A space and two digits for each of a few bytes.
 fn put_few(out: &mut Vec<u8>, bytes: &[u8]) -> Result<(), NoMemory>
     requires { length bytes.now < MANY }
-    ensures { OnOk result (out.new.items ≡ out.old.items ++ 32 ∷ encode_lower bytes.now) }
+    ensures { OnOk result (out.new.items ≡ out.old.items ++ SPACE ∷ encode_lower bytes.now) }
 {
     out.reserve(1 + 2 * bytes.len())?;
     out.push_reserved(b' ');
     for byte in bytes {
-        out.push_reserved(digit_of(*byte / 16));
-        out.push_reserved(digit_of(*byte % 16));
+        out.push_reserved(DIGITS[(*byte / 16) as usize]);
+        out.push_reserved(DIGITS[(*byte % 16) as usize]);
     }
     Ok(())
 }

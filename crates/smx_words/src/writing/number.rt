@@ -3,16 +3,19 @@
 ghost use Rattle.std.specs.Prelude.{◌≡◌, ◌+◌, ◌%◌, ◌<◌, ◌≤◌, ◌∷◌, ◌++◌, [], codes, OnOk};
 ghost use Rattle.std.specs.Fmt.{decimal};
 ghost use Rattle.smx_words.specs.Spellable.{FitsNumber};
-ghost use Rattle.smx_words.specs.Words.{line_of};
+ghost use Rattle.smx_words.specs.declared.writing.number.TheConstants.{ZERO};
+ghost use Rattle.smx_words.specs.Spelling.{next_words, process_words};
+ghost use Rattle.smx_words.specs.Words.{LINE_FEED, SPACE, line_of};
 
 use super::word::put_text;
 use itoa::Buffer;
 use smx_types::NoMemory;
 
+const ZERO: u8 = b'0';
+
 /// The line `process NUMBER`, behind `out`. Where memory runs out, `out` may have a part of it.
 pub fn write_process(out: &mut Vec<u8>, number: u32) -> Result<(), NoMemory>
-    ensures written { OnOk result (out.new.items
-        ≡ out.old.items ++ line_of (codes "process" ∷ decimal number ∷ []) ++ 10 ∷ []) }
+    ensures written { OnOk result (out.new.items ≡ out.old.items ++ line_of (process_words number) ++ LINE_FEED ∷ []) }
     ensures fits { FitsNumber number }
 {
     out.extend_from_slice(b"process")?;
@@ -21,8 +24,7 @@ pub fn write_process(out: &mut Vec<u8>, number: u32) -> Result<(), NoMemory>
 
 /// The line `next ID SERIAL`, behind `out`. Where memory runs out, `out` may have a part of it.
 pub fn write_next(out: &mut Vec<u8>, id: u32, serial: u32) -> Result<(), NoMemory>
-    ensures written { OnOk result (out.new.items
-        ≡ out.old.items ++ line_of (codes "next" ∷ decimal id ∷ decimal serial ∷ []) ++ 10 ∷ []) }
+    ensures written { OnOk result (out.new.items ≡ out.old.items ++ line_of (next_words (id, serial)) ++ LINE_FEED ∷ []) }
     ensures fits { FitsNumber id × FitsNumber serial }
 {
     out.extend_from_slice(b"next")?;
@@ -33,7 +35,7 @@ pub fn write_next(out: &mut Vec<u8>, id: u32, serial: u32) -> Result<(), NoMemor
 /// A space and the digits of a number.
 #[inline(always)]
 pub(super) fn put_spaced(out: &mut Vec<u8>, n: u32) -> Result<(), NoMemory>
-    ensures written { OnOk result (out.new.items ≡ out.old.items ++ 32 ∷ decimal n) }
+    ensures written { OnOk result (out.new.items ≡ out.old.items ++ SPACE ∷ decimal n) }
     ensures fits { FitsNumber n }
 {
     if n < 10 {
@@ -46,7 +48,7 @@ pub(super) fn put_spaced(out: &mut Vec<u8>, n: u32) -> Result<(), NoMemory>
 /// A space, the digits of a number, and a line feed.
 #[inline(always)]
 pub(super) fn put_last(out: &mut Vec<u8>, n: u32) -> Result<(), NoMemory>
-    ensures written { OnOk result (out.new.items ≡ out.old.items ++ 32 ∷ decimal n ++ 10 ∷ []) }
+    ensures written { OnOk result (out.new.items ≡ out.old.items ++ SPACE ∷ decimal n ++ LINE_FEED ∷ []) }
     ensures fits { FitsNumber n }
 {
     if n < 10 {
@@ -62,7 +64,7 @@ pub(super) fn put_last(out: &mut Vec<u8>, n: u32) -> Result<(), NoMemory>
 #[inline(always)]
 pub(super) fn put_first(out: &mut Vec<u8>, n: u32) -> Result<(), NoMemory>
     requires { n < 100 }
-    ensures { OnOk result (out.new.items ≡ out.old.items ++ decimal n ++ 32 ∷ []) }
+    ensures { OnOk result (out.new.items ≡ out.old.items ++ decimal n ++ SPACE ∷ []) }
 {
     if n < 10 {
         put_text(out, &[digit(n), b' '])
@@ -75,7 +77,7 @@ pub(super) fn put_first(out: &mut Vec<u8>, n: u32) -> Result<(), NoMemory>
 #[inline(never)]
 fn put_longer(out: &mut Vec<u8>, n: u32) -> Result<(), NoMemory>
     requires { 10 ≤ n }
-    ensures { OnOk result (out.new.items ≡ out.old.items ++ 32 ∷ decimal n) }
+    ensures { OnOk result (out.new.items ≡ out.old.items ++ SPACE ∷ decimal n) }
 {
     if n < 100 {
         put_text(out, &[b' ', digit(n / 10), digit(n)])
@@ -90,7 +92,7 @@ fn put_longer(out: &mut Vec<u8>, n: u32) -> Result<(), NoMemory>
 #[inline(always)]
 fn put_longest(out: &mut Vec<u8>, n: u32) -> Result<(), NoMemory>
     requires { 1000 ≤ n }
-    ensures { OnOk result (out.new.items ≡ out.old.items ++ 32 ∷ decimal n) }
+    ensures { OnOk result (out.new.items ≡ out.old.items ++ SPACE ∷ decimal n) }
 {
     if n < 10_000 {
         let (thousands, hundreds) = (digit(n / 1_000), digit(n / 100));
@@ -119,7 +121,7 @@ fn put_any(out: &mut Vec<u8>, n: u32) -> Result<(), NoMemory>
 // The last digit of a number.
 #[inline(always)]
 fn digit(n: u32) -> u8
-    ensures { result ≡ 48 + n % 10 }
+    ensures { result ≡ ZERO + n % 10 }
 {
-    b'0' + (n % 10) as u8
+    ZERO + (n % 10) as u8
 }

@@ -16,6 +16,6 @@ loop-byte-preserved c =
     let high = c.push_reserved-in-loop-byte.ensures.items in
     let low = c.push_reserved-in-loop-byte-2.ensures.items in
     record {
-      written = rw (more, low, c.digit_of-in-loop-byte.ensures, high, c.digit_of.ensures, c.loop-byte.invariant.written) (simp append_assoc);
+      written = rw (more, low, high, c.loop-byte.invariant.written) (simp append_assoc);
       room = omega arith;
     }
