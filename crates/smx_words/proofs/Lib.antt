@@ -1,1 +1,11 @@
 pub mod WritingLemmas
+pub mod CutLemmas
+pub mod NumberLemmas
+pub mod WordLemmas
+pub mod HexLemmas
+pub mod EntryLemmas
+pub mod ReplyLemmas
+pub mod CommandLemmas
+pub mod PlainLemmas
+pub mod SameLemmas
+pub mod LawLemmas
