@@ -4,8 +4,8 @@ use Rattle.smx_types.specs.declared.driver.DriverSpec.{DriverSpec}
 use Rattle.smx_model.specs.DriverList.{IsDriverList}
 use Rattle.smx_config.specs.declared.fault.ConfigFault.{ConfigFault}
 use Rattle.smx_config.specs.declared.fault.ConfigFault.TheVariants as config
-use Rattle.muxsim.specs.declared.fault.RunFault.{RunFault}
-use Rattle.muxsim.specs.declared.fault.RunFault.TheVariants as run
+use Rattle.smx_run.specs.declared.fault.RunFault.{RunFault}
+use Rattle.smx_run.specs.declared.fault.RunFault.TheVariants as run
 use Rattle.smx_config.specs.DriverFaults.{RefusesDrivers}
 
 -- want of memory is one fault, whoever met it

@@ -1,7 +1,7 @@
 use Rattle.std.proofs.Common.{subst}
 use Rattle.smx_model.specs.Histories.{IsLegal}
-use Rattle.muxsim.specs.Recorded.{Recorded}
-use Rattle.muxsim.proofs.system.System.into_entries.Goals as goal
+use Rattle.smx_run.specs.Recorded.{Recorded}
+use Rattle.smx_run.proofs.system.System.into_entries.Goals as goal
 
 pub returns-clause-lawful : goal.returns-clause-lawful
 returns-clause-lawful c =

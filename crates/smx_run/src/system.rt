@@ -4,13 +4,12 @@ ghost use Rattle.std.specs.Prelude.{◌≡◌, [], IfOk, IfErr, OnOk, OnErr};
 ghost use Rattle.smx_model.specs.DriverList.{IsDriverList};
 ghost use Rattle.smx_model.specs.Histories.{IsLegal, after};
 ghost use Rattle.smx_model.specs.LawfulHistories.{IsLawfulThroughout};
-ghost use Rattle.smx_model.specs.Views.{view};
 ghost use Rattle.smx_config.specs.DriverFaults.{RefusesDrivers};
-ghost use Rattle.muxsim.specs.Recorded.{HasOneMore};
+ghost use Rattle.smx_run.specs.Recorded.{with_entry};
 
 use smx_config::{Config, ConfigFault};
 use smx_model::laws::lawful_after_each_entry;
-use smx_types::{Command, ConfigView, DriverSpec, Entries, Entry, NoMemory, Process};
+use smx_types::{Command, DriverSpec, Entries, Entry, NoMemory, Process};
 use std::alloc::Global;
 use std::marker::Model;
 
@@ -22,7 +21,7 @@ pub struct System {
 }
 
 impl Model for System {
-    ghost use Rattle.muxsim.specs.Recorded.{Recorded, IsRecord};
+    ghost use Rattle.smx_run.specs.Recorded.{Recorded, IsRecord};
 
     ghost Value = { Recorded };
 
@@ -45,36 +44,37 @@ impl System {
         })
     }
 
-    /// Performs one command, and adds the entry of it and its reply after those before it, which stay; or memory was
-    /// wanting, and nothing has changed.
-    pub fn apply(
-        &mut self,
-        alloc: Global,
-        process: Process,
-        command: &Command,
-    ) -> Result<(), NoMemory>
-        ensures drivers { self.new.drivers ≡ self.old.drivers }
-        ensures ok { OnOk result (HasOneMore self.old.history self.new.history process command.now) }
-        ensures err { OnErr result (self.new ≡ self.old) }
+    /// Makes room for this many more entries. Nothing else changes, nor does anything where memory is wanting.
+    pub fn reserve(&mut self, count: usize) -> Result<(), NoMemory>
+        ensures { self.new ≡ self.old }
     {
-        self.entries.reserve(1)?;
-        let command = command.copy(alloc)?;
-        let reply = self.config.step(process, &command)?;
-        self.entries
-            .push(Entry {
-                process,
-                command,
-                reply,
-            })
-            .unwrap();
+        self.entries.reserve(count)?;
         Ok(())
     }
 
-    /// The configuration after the history, as it is shown. Fails only for want of memory.
-    pub fn show(&self) -> Result<ConfigView, NoMemory>
-        ensures { IfOk result (λ v. v ≡ view self.now.drivers (after self.now.drivers self.now.history)) }
+    /// Performs one command, and adds the entry of it and its reply after those before it, which stay; or memory was
+    /// wanting, and nothing has changed. The command is given up then. Takes no memory for the entry where there is
+    /// room for it.
+    pub fn apply(&mut self, process: Process, command: Command) -> Result<(), NoMemory>
+        ensures ok { OnOk result (self.new ≡ with_entry self.old process command) }
+        ensures err { OnErr result (self.new ≡ self.old) }
     {
-        self.config.show()
+        self.entries.reserve(1)?;
+        let reply = self.config.step(process, &command)?;
+        self.entries.push_reserved(Entry {
+            process,
+            command,
+            reply,
+        });
+        Ok(())
+    }
+
+    /// The configuration after the history. Takes no memory.
+    pub fn config(&self) -> &Config
+        ensures drivers { result.now.drivers ≡ self.now.drivers }
+        ensures now { result.now.configuration ≡ after self.now.drivers self.now.history }
+    {
+        &self.config
     }
 
     /// The history, which is legal, and lawful after each entry. Takes no memory.

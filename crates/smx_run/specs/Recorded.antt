@@ -3,9 +3,9 @@ use Rattle.std.specs.Prelude.{◌≡◌, ℕ, List, [], ◌∷◌, ◌++◌}
 use Rattle.smx_types.specs.declared.command.Command.{Command}
 use Rattle.smx_types.specs.declared.command.Entry.{Entry}
 use Rattle.smx_types.specs.declared.driver.DriverSpec.{DriverSpec}
-use Rattle.smx_model.specs.DriverList.{IsDriverList}
-use Rattle.smx_types.specs.declared.reply.Reply.{Reply}
 use Rattle.smx_types.specs.declared.transcript.Transcript.{Transcript}
+use Rattle.smx_model.specs.Commands.{step}
+use Rattle.smx_model.specs.DriverList.{IsDriverList}
 use Rattle.smx_model.specs.Histories.{IsLegal, after}
 use Rattle.smx_model.specs.LawfulHistories.{IsLawfulThroughout}
 use Rattle.smx_model.specs.Views.{view}
@@ -16,9 +16,20 @@ pub record Recorded : Type 0 where
   pub drivers : List DriverSpec
   pub history : List Entry
 
--- one entry more, of this command and some reply
-abbrev pub HasOneMore : (old new : List Entry) (process : ℕ) (command : Command) → Type 0
-HasOneMore old new process command = (reply : Reply) × (new ≡ old ++ (record { process = process; command = command; reply = reply }) ∷ [])
+-- what a command makes an entry of: its process, itself, and the reply that it gets after the history
+abbrev pub next_entry : Recorded → ℕ → Command → Entry
+next_entry s process command = record {
+  process = process;
+  command = command;
+  reply = (step s.drivers (after s.drivers s.history) process command).1;
+}
+
+-- that one entry more, at the end
+abbrev pub with_entry : Recorded → ℕ → Command → Recorded
+with_entry s process command = record {
+  drivers = s.drivers;
+  history = s.history ++ next_entry s process command ∷ [];
+}
 
 -- the history is legal, and the configuration is the one after it
 pub record IsRecord (m : Machine) (history : List Entry) : Type 0 where
