@@ -1,5 +1,5 @@
 -- What a run says where no transcript comes of the bytes that it read.
-use Rattle.std.proofs.Common.{◌≡◌, ◌≢◌, ℕ, List, Option, Some, None, Bool, Result, Ok, Err, Vec, refl, sym, subst, ap, ◌∙◌, rules, arith, inl}
+use Rattle.std.proofs.Common.{◌≡◌, ◌≢◌, ℕ, List, Option, Some, None, Bool, Result, Ok, Err, Vec, sym, subst, rules, arith, inl}
 use Rattle.std.specs.Prelude.{IsErrAnd, IsErrOf}
 use Rattle.std.specs.Global.{Global}
 use Rattle.std.specs.Io.KnownBytes.{Keeps}

@@ -1,4 +1,4 @@
-//! Devices that move a few bytes a call, stop once at a given call, and would then go on. As a feed
+//! Devices that move one byte a call, stop once at a given call, and would then go on. As a feed
 //! and a sink they stand in `Source` and `Target`.
 
 ghost use Rattle.std.specs.Prelude.{◌≡◌, Some, false};
@@ -22,13 +22,11 @@ pub enum Stop {
 /// Each way to stop.
 pub const STOPS: [Stop; 3] = [Stop::Fails, Stop::IsInterrupted, Stop::TakesNone];
 
-/// A reader of bytes in memory that gives a few a read, and then none.
+/// A reader of bytes in memory that gives one byte a read, and then none.
 #[derive(Drop)]
-pub struct PieceReader<'a> {
+pub struct OneByteReader<'a> {
     /// What it still has.
     pub bytes: &'a [u8],
-    /// How many bytes it gives a read.
-    pub size: usize,
     /// How many reads it still does before the one that stops.
     pub reads: usize,
     /// The error of that read.
@@ -38,19 +36,14 @@ pub struct PieceReader<'a> {
 /// A feed of these bytes, one byte a read. The read after this many reads is an error of this kind,
 /// and later ones go on; the read that shows the end is one of them, so `bytes.len() + 1` reads are
 /// enough.
-pub fn one_byte_feed(bytes: &[u8], reads: usize, kind: ErrorKind) -> Source<PieceReader<'_>>
+pub fn one_byte_feed(bytes: &[u8], reads: usize, kind: ErrorKind) -> Source<OneByteReader<'_>>
     ensures before_the_end { result.ended ≡ false }
     ensures fine { result.failures ≡ 0 }
 {
-    Source::new(PieceReader {
-        bytes,
-        size: 1,
-        reads,
-        kind,
-    })
+    Source::new(OneByteReader { bytes, reads, kind })
 }
 
-impl Read for PieceReader<'_> {
+impl Read for OneByteReader<'_> {
     ghost remaining = { λ reader. Some reader.bytes.now };
 
     fn read(&mut self, buffer: &mut [u8]) -> io::Result<usize> {
@@ -59,7 +52,7 @@ impl Read for PieceReader<'_> {
             return Err(io::Error::from(self.kind));
         }
         self.reads -= 1;
-        let size = buffer.len().min(self.size);
+        let size = buffer.len().min(1);
         self.bytes.read(&mut buffer[..size])
     }
 }

@@ -1,12 +1,9 @@
 //! The limits of a run: the most of each, and one more.
 
-use super::devices::PieceReader;
-use super::runs::{Ran, ending, run_bytes};
-use crate::device::{Source, Target};
-use crate::text::run_text;
+use super::runs::{Ran, run_bytes};
 use std::alloc::Global;
 use std::io;
-use std::io::{ErrorKind, Read};
+use std::io::Read;
 use std::process::Abort;
 use std::test::Fail;
 
@@ -134,15 +131,8 @@ fn runs_the_longest_texts(rt: HostRuntime) -> Result<(), Fail> {
     input.extend_from_slice(b"end\n")?;
     output.extend_from_slice(b"config\nnext 1 1\nend\n")?;
     assert_eq!(rt; input.len(), 16_776_757);
-    let mut feed = Source::new(PieceReader {
-        bytes: &input,
-        size: 1_000_003,
-        reads: usize::MAX,
-        kind: ErrorKind::Other,
-    });
-    let mut sink = Target::new(Vec::new(rt.alloc()));
-    let (_line, status) = ending(run_text(rt.alloc(), &mut feed, &mut sink, 1, false));
-    assert_eq!(rt; status, 0);
-    assert!(rt; sink.writer == output);
+    let ran = run_bytes(rt.alloc(), &input);
+    assert_eq!(rt; ran.status, 0);
+    assert!(rt; ran.output == output);
     Ok(())
 }
