@@ -1,3 +1,4 @@
+pub mod WritingLemmas
 pub mod CutLemmas
 pub mod NumberLemmas
 pub mod WordLemmas
