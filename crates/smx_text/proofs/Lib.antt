@@ -23,3 +23,4 @@ pub mod AnswerLemmas
 pub mod ViewLineLemmas
 pub mod TranscriptWholeLemmas
 pub mod TranscriptFollowLemmas
+pub mod ReadingLemmas

@@ -1,3 +1,5 @@
+pub mod Grammar
+pub mod Reading
 pub mod ProgramsText
 pub mod ProgramsReading
 pub mod TranscriptText

@@ -8,6 +8,7 @@ mod fault;
 pub mod laws;
 mod line;
 mod read;
+mod reading;
 mod reply_words;
 #[cfg(test)]
 mod tests;
