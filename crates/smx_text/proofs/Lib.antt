@@ -24,3 +24,4 @@ pub mod ViewLineLemmas
 pub mod TranscriptWholeLemmas
 pub mod TranscriptFollowLemmas
 pub mod ReadingLemmas
+pub mod GrammarLemmas
