@@ -1,5 +1,7 @@
 pub mod Grammar
 pub mod Reading
+pub mod ProgramLines
+pub mod TranscriptLines
 pub mod ProgramsText
 pub mod ProgramsReading
 pub mod TranscriptText
