@@ -3,3 +3,5 @@
 
 mod reading;
 mod writing;
+
+pub use writing::{Spell, write_lines, write_next, write_process};

@@ -2,7 +2,7 @@ use Rattle.std.proofs.Common.{◌≡◌, ◌++◌, map, take}
 use Rattle.std.specs.List.{AllByRecursion}
 use Rattle.smx_text.specs.ProgramsText.{line_words, program_lines, FitsLine}
 use Rattle.smx_words.specs.Words.{text_of}
-use Rattle.smx_text.proofs.write.put_programs.Given as goal
+use Rattle.smx_text.proofs.write.write_each.Given as goal
 
 abbrev pub invariant-loop-i : goal.invariant-loop-i
 invariant-loop-i l = record {

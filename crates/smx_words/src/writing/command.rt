@@ -7,47 +7,59 @@ ghost use Rattle.smx_words.specs.Spellable.{FitsBytes, FitsCommand, FitsName, Fi
 ghost use Rattle.smx_words.specs.Spelling.{command_words, sides_word, which_word};
 ghost use Rattle.smx_words.specs.Words.{line_of};
 
-use super::spelled::Spelled;
-use super::words::{put_hex, put_name, put_spaced};
+use super::Spell;
+use super::bytes::put_bytes;
+use super::number::put_spaced;
+use super::word::put_name;
 use smx_types::{Command, Name, NoMemory, Sides, Which};
 
-impl Spelled for Command {
+impl Spell for Command {
     ghost words = { command_words };
 
     ghost Fits = { FitsCommand };
 
-    fn put(&self, out: &mut Vec<u8>) -> Result<(), NoMemory> {
-        match self {
-            Command::OpenClone { driver } => put_named(out, driver),
-            Command::OpenMinor { driver, minor } => put_stream(out, b"open", driver, *minor),
-            Command::Dup { fd } => put_one(out, b"dup", *fd),
-            Command::Close { fd } => put_one(out, b"close", *fd),
-            Command::CloseAll => put_exit(out),
-            Command::Link { fd, arg } => put_two(out, b"link", *fd, *arg),
-            Command::Plink { fd, arg } => put_two(out, b"plink", *fd, *arg),
-            Command::Unlink { fd, which } => put_which(out, b"unlink", *fd, *which),
-            Command::Punlink { fd, which } => put_which(out, b"punlink", *fd, *which),
-            Command::Bind { fd, addr } => put_two(out, b"bind", *fd, *addr),
-            Command::Unbind { fd } => put_one(out, b"unbind", *fd),
-            Command::Route { fd, addr, id } => put_three(out, b"route", *fd, *addr, *id),
-            Command::Unroute { fd, addr } => put_two(out, b"unroute", *fd, *addr),
-            Command::Write { fd, addr, bytes } => put_bytes(
-                out,
-                b"write",
-                *fd,
-                *addr,
-                bytes.as_slice(),
-            ),
-            Command::Read { fd } => put_one(out, b"read", *fd),
-            Command::Flush { fd, sides } => put_flush(out, *fd, *sides),
-            Command::Inject {
-                driver,
-                minor,
-                addr,
-                bytes,
-            } => put_inject(out, driver, *minor, *addr, bytes.as_slice()),
-            Command::Transmit { driver, minor } => put_stream(out, b"transmit", driver, *minor),
-        }
+    fn write_line(&self, out: &mut Vec<u8>) -> Result<(), NoMemory> {
+        put_command(out, self)?;
+        out.push(b'\n')?;
+        Ok(())
+    }
+}
+
+/// The words of a command, with a space between them.
+pub(super) fn put_command(out: &mut Vec<u8>, command: &Command) -> Result<(), NoMemory>
+    ensures written { OnOk result (out.new.items ≡ out.old.items ++ line_of (command_words command.now)) }
+    ensures fits { OnOk result (FitsCommand command.now) }
+{
+    match command {
+        Command::OpenClone { driver } => put_clone(out, driver),
+        Command::OpenMinor { driver, minor } => put_stream(out, b"open", driver, *minor),
+        Command::Dup { fd } => put_one(out, b"dup", *fd),
+        Command::Close { fd } => put_one(out, b"close", *fd),
+        Command::CloseAll => put_exit(out),
+        Command::Link { fd, arg } => put_two(out, b"link", *fd, *arg),
+        Command::Plink { fd, arg } => put_two(out, b"plink", *fd, *arg),
+        Command::Unlink { fd, which } => put_which(out, b"unlink", *fd, *which),
+        Command::Punlink { fd, which } => put_which(out, b"punlink", *fd, *which),
+        Command::Bind { fd, addr } => put_two(out, b"bind", *fd, *addr),
+        Command::Unbind { fd } => put_one(out, b"unbind", *fd),
+        Command::Route { fd, addr, id } => put_three(out, b"route", *fd, *addr, *id),
+        Command::Unroute { fd, addr } => put_two(out, b"unroute", *fd, *addr),
+        Command::Write { fd, addr, bytes } => put_write(
+            out,
+            b"write",
+            *fd,
+            *addr,
+            bytes.as_slice(),
+        ),
+        Command::Read { fd } => put_one(out, b"read", *fd),
+        Command::Flush { fd, sides } => put_flush(out, *fd, *sides),
+        Command::Inject {
+            driver,
+            minor,
+            addr,
+            bytes,
+        } => put_inject(out, driver, *minor, *addr, bytes.as_slice()),
+        Command::Transmit { driver, minor } => put_stream(out, b"transmit", driver, *minor),
     }
 }
 
@@ -58,7 +70,7 @@ fn put_exit(out: &mut Vec<u8>) -> Result<(), NoMemory>
     Ok(())
 }
 
-fn put_named(out: &mut Vec<u8>, driver: &Name) -> Result<(), NoMemory>
+fn put_clone(out: &mut Vec<u8>, driver: &Name) -> Result<(), NoMemory>
     ensures written { OnOk result (out.new.items
         ≡ out.old.items ++ line_of (codes "clone" ∷ driver.now ∷ [])) }
     ensures fits { OnOk result (FitsName driver.now) }
@@ -107,7 +119,7 @@ fn put_three(out: &mut Vec<u8>, word: &[u8], a: u32, b: u32, c: u32) -> Result<(
 }
 
 /// A word, two numbers and bytes.
-pub(super) fn put_bytes(
+fn put_write(
     out: &mut Vec<u8>,
     word: &[u8],
     a: u32,
@@ -119,7 +131,7 @@ pub(super) fn put_bytes(
     ensures fits { FitsNumber a × FitsNumber b × FitsBytes bytes.now }
 {
     put_two(out, word, a, b)?;
-    put_hex(out, bytes)
+    put_bytes(out, bytes)
 }
 
 fn put_which(out: &mut Vec<u8>, word: &[u8], fd: u32, which: Which) -> Result<(), NoMemory>
@@ -168,5 +180,5 @@ fn put_inject(
 {
     put_stream(out, b"inject", driver, minor)?;
     put_spaced(out, addr)?;
-    put_hex(out, bytes)
+    put_bytes(out, bytes)
 }

@@ -2,7 +2,7 @@ use Rattle.std.proofs.Common.{◌≡◌, ◌∷◌, ◌++◌, take}
 use Rattle.std.specs.Fmt.{decimal}
 use Rattle.std.specs.List.{flat_map, AllByRecursion}
 use Rattle.smx_words.specs.Spellable.{FitsNumber}
-use Rattle.smx_text.proofs.write.words.put_serials.Given as goal
+use Rattle.smx_words.proofs.writing.reply.put_serials.Given as goal
 
 abbrev pub invariant-loop-serial : goal.invariant-loop-serial
 invariant-loop-serial l = record {
