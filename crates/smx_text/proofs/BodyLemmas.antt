@@ -4,8 +4,8 @@ use Rattle.std.proofs.Math.ListN.{set}
 use Rattle.std.proofs.lemmas.List.{map_push}
 use Rattle.smx_types.specs.declared.command.Command.{Command}
 use Rattle.smx_types.specs.declared.driver.DriverSpec.{DriverSpec}
-use Rattle.smx_text.specs.declared.line.Line.{Line}
-use Rattle.smx_text.specs.declared.line.Line.TheVariants as line
+use Rattle.smx_text.specs.ProgramLines.{Line}
+use Rattle.smx_text.specs.ProgramLines as line
 use Rattle.smx_text.specs.ProgramsText.{program_lines}
 
 lines_push : (n : ℕ) (ps : List (List Command)) → program_lines n (ps ++ [] ∷ []) ≡ program_lines n ps ++ line.Process (n + length ps) ∷ []

@@ -308,16 +308,13 @@ module _ {V K : Type 0} (g : Grammar V K) (made : IsWellMade g) (decides : (line
   stops : (bytes : List ℕ) (n : ℕ) (c : Cause) → IsFault g bytes n c → c ≢ cause.NoMemory → HasReading g bytes
   stops bytes n c fault other = (Err (record { line = n; cause = c }), fault, other)
 
-  one_end : (k : K) → g.FitsLine k → line_text g k ≡ line_text g g.end → k ≡ g.end
-  one_end k fits e = made.tells_apart k g.end fits made.fits_end e
-
   ends : (bytes rest : List ℕ) (lines : List K) (number : ℕ) (text after : List ℕ) → IsBetween g bytes rest lines number → IsOneLine text × (rest ≡ text ++ LINE_FEED ∷ after)
       → (text ≡ line_text g g.end) → (v : V) → g.IsAllowed v → g.body v ≡ lines → HasReading g bytes
   ends bytes rest lines number text [] at next end v allowed e =
-      (Ok v, read_to_end g bytes rest lines number text [] at next end one_end (Ok v) (allowed, e, refl), tt)
+      (Ok v, read_to_end g bytes rest lines number text [] at next end (Ok v) (allowed, e, refl), tt)
   ends bytes rest lines number text (b ∷ after) at next end v allowed e =
       let fault : TextFault = record { line = number + 1; cause = cause.Trailing } in
-      (Err fault, read_to_end g bytes rest lines number text (b ∷ after) at next end one_end (Err fault) (inr (v, allowed, e, omega arith, refl)), λ c. cc)
+      (Err fault, read_to_end g bytes rest lines number text (b ∷ after) at next end (Err fault) (inr (v, allowed, e, omega arith, refl)), λ c. cc)
 
   goes : (n : ℕ) (bytes rest : List ℕ) (lines : List K) (number : ℕ) → length rest < n → IsBetween g bytes rest lines number → HasReading g bytes
   goes zero bytes rest lines number short at = absurd (omega arith)

@@ -1,9 +1,11 @@
 -- Which lines may follow those of some programs.
 use Rattle.std.proofs.Common.{◌≡◌, ◌≢◌, ℕ, zero, suc, ◌+◌, ◌-◌, ◌<◌, ◌≤◌, List, [], ◌∷◌, ◌++◌, length, map, get_or, refl, sym, ap, subst, ◌∙◌, append_assoc, arith, inl, inr}
 use Rattle.std.specs.List.{sum_by, AllByRecursion}
-use Rattle.std.specs.Prelude.{◌⊎◌}
+use Rattle.std.specs.Prelude.{◌↔◌, Result, Ok, Err, IfOk, IsOk}
+use Rattle.std.specs.Result.{result_ok}
+use Rattle.smx_types.specs.declared.programs.Many.{Many}
 use Rattle.std.proofs.Math.ListN.{set}
-use Rattle.std.proofs.lemmas.List.{append-nil, map_push, nil_from_length, length-append}
+use Rattle.std.proofs.lemmas.List.{append-nil, map_push, nil_from_length, length-append, length-set}
 use Rattle.std.proofs.lemmas.List.Sums.{sum_by-append, sum_by-cons}
 use Rattle.smx_types.specs.ProgramLists.{ProgramLists, AreWithinLimits, program_lists}
 use Rattle.smx_types.specs.declared.command.Command.{Command}
@@ -13,8 +15,10 @@ use Rattle.smx_text.specs.Grammar.{IsBegun, GoesOn, MayFollow, IsFull}
 use Rattle.smx_text.specs.ProgramLines.{Line}
 use Rattle.smx_text.specs.ProgramLines as line
 use Rattle.smx_text.specs.ProgramsText.{FitsLine, program_lines, body, IsAllowed, programs_grammar}
+use Rattle.smx_text.specs.Reading.{EndsAs, AddsLine, RefusesLine}
+use Rattle.smx_text.specs.declared.fault.Cause.TheVariants as cause
 use Rattle.smx_text.proofs.BodyLemmas.{added_process, lines_more}
-use Rattle.smx_text.proofs.EachLemmas.{all_left}
+use Rattle.smx_text.proofs.EachLemmas.{all_left, all_push}
 
 -- ---- how many lines there are of each kind
 
@@ -144,7 +148,7 @@ stands v n (line.Command c) more e h = omega (arith, e, h.0)
 stands v n line.End more e h = tt
 
 pub may_stand : (v : ProgramLists) (k : Line) → MayFollow programs_grammar (body v) k → MayStand v k
-may_stand v k (w, more, e) =
+may_stand v k (w, (more, e)) =
     let c = counts v in
     stands v (0 + sum_by a_process (body v)) k more (omega (arith, c.processes)) (order_behind 0 (body v) (k ∷ more) (subst (InOrder 0) e (body_in_order w)))
 
@@ -185,7 +189,75 @@ pub stand_may : (v : ProgramLists) (k : Line) → MayStand v k → MayFollow pro
 stand_may v (line.Driver d) h = (with_line v (line.Driver d), goes_on (with_line v (line.Driver d)) (body v) (line.Driver d) (body_more v (line.Driver d) h (λ e. cc)))
 stand_may v (line.Process n) h = (with_line v (line.Process n), goes_on (with_line v (line.Process n)) (body v) (line.Process n) (body_more v (line.Process n) h (λ e. cc)))
 stand_may v (line.Command c) h = (with_line v (line.Command c), goes_on (with_line v (line.Command c)) (body v) (line.Command c) (body_more v (line.Command c) h (λ e. cc)))
-stand_may v line.End h = (v, [], refl)
+stand_may v line.End h = (v, ([], refl))
+
+-- ---- what a reader does with a line behind those of these programs
+
+-- it is not one too many
+abbrev pub HasRoom : ProgramLists → Line → Type 0
+HasRoom v (line.Driver d) = length v.drivers < MAX_DRIVERS
+HasRoom v (line.Process number) = length v.programs < MAX_PROCESSES
+HasRoom v (line.Command c) = sum_by length v.programs < MAX_COMMANDS
+HasRoom v line.End = ⊥
+
+not_end : (v : ProgramLists) (k : Line) → HasRoom v k → k ≢ line.End
+not_end v (line.Driver d) h e = cc
+not_end v (line.Process n) h e = cc
+not_end v (line.Command c) h e = cc
+not_end v line.End h e = h
+
+within_by : (v w : ProgramLists) (k : Line) → AreWithinLimits v → HasRoom v k → body w ≡ body v ++ k ∷ [] → AreWithinLimits w
+within_by v w k within room e = by_kind k room e where
+  sums : (weight : Line → ℕ) (k : Line) → body w ≡ body v ++ k ∷ [] → sum_by weight (body w) ≡ sum_by weight (body v) + weight k
+  sums weight k e = omega (arith, ap (sum_by weight) e, sum_by-append weight (body v) (k ∷ []), sum_by-cons weight k [])
+
+  by_kind : (k : Line) → HasRoom v k → body w ≡ body v ++ k ∷ [] → AreWithinLimits w
+  by_kind k room e = let a = counts v in let b = counts w in limits k room (sums a_driver k e) (sums a_process k e) (sums a_command k e) where
+    limits : (k : Line) → HasRoom v k → sum_by a_driver (body w) ≡ sum_by a_driver (body v) + a_driver k → sum_by a_process (body w) ≡ sum_by a_process (body v) + a_process k
+        → sum_by a_command (body w) ≡ sum_by a_command (body v) + a_command k → AreWithinLimits w
+    limits (line.Driver d) room x y z = let a = counts v in let b = counts w in record {
+      drivers = omega (arith, x, a.drivers, b.drivers, within.drivers, room);
+      programs = omega (arith, y, a.processes, b.processes, within.programs);
+      commands = omega (arith, z, a.commands, b.commands, within.commands);
+    }
+    limits (line.Process n) room x y z = let a = counts v in let b = counts w in record {
+      drivers = omega (arith, x, a.drivers, b.drivers, within.drivers);
+      programs = omega (arith, y, a.processes, b.processes, within.programs, room);
+      commands = omega (arith, z, a.commands, b.commands, within.commands);
+    }
+    limits (line.Command c) room x y z = let a = counts v in let b = counts w in record {
+      drivers = omega (arith, x, a.drivers, b.drivers, within.drivers);
+      programs = omega (arith, y, a.processes, b.processes, within.programs);
+      commands = omega (arith, z, a.commands, b.commands, within.commands, room);
+    }
+    limits line.End room x y z = absurd room
+
+-- they are allowed where their lines begin an allowed value
+pub allowed_of : (v : ProgramLists) → AreWithinLimits v → IsBegun programs_grammar (body v) → IsAllowed v
+allowed_of v within (w, more, allowed, e) = record { within = within; fits = all_left FitsLine (body v) more (subst (AllByRecursion FitsLine) e allowed.fits) }
+
+-- programs with this line more
+pub adds : (v w : ProgramLists) (k : Line) → AreWithinLimits v → IsBegun programs_grammar (body v) → HasRoom v k → FitsLine k → body w ≡ body v ++ k ∷ [] → AddsLine programs_grammar (body v) k (body w)
+adds v w k within begun room fits e =
+    let all = subst (AllByRecursion FitsLine) (sym e) (all_push FitsLine (body v) k (allowed_of v within begun).fits fits) in
+    (e, (w, [], record { within = within_by v w k within room e; fits = all }, sym (append-nil (body w))))
+
+-- memory was wanting for it
+pub wanting : (v : ProgramLists) (k : Line) → AreWithinLimits v → IsBegun programs_grammar (body v) → MayStand v k → HasRoom v k → FitsLine k → RefusesLine programs_grammar (body v) k cause.NoMemory
+wanting v k within begun may room fits =
+    let more = body_more v k may (not_end v k room) in
+    subst (IsBegun programs_grammar) more (adds v (with_line v k) k within begun room fits more).1
+
+-- so nothing hinders the end
+pub finished : (v : ProgramLists) → AreWithinLimits v → IsBegun programs_grammar (body v) → (r : Result ProgramLists Many) → IfOk r (λ p. p ≡ v) → IsOk r ↔ AreWithinLimits v → EndsAs programs_grammar (body v) (result_ok r)
+finished v within begun (Ok p) same ok = (subst IsAllowed (sym same) (allowed_of v within begun), ap body same)
+finished v within begun (Err m) same ok = let never = ok.1 within in absurd cc
+
+pub misplaced : (v : ProgramLists) (k : Line) → (MayStand v k → ⊥) → RefusesLine programs_grammar (body v) k cause.Form
+misplaced v k h may = h (may_stand v k may)
+
+pub too_many : (v : ProgramLists) (k : Line) → MayStand v k → AreMany v k → RefusesLine programs_grammar (body v) k cause.Many
+too_many v k may many = (stand_may v k may, are_full v k many)
 
 -- ---- lines that some programs begin with are those of some programs
 

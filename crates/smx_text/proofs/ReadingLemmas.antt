@@ -1,14 +1,14 @@
 -- Where a reader stands between two lines, and what it may answer there. For any kind of text.
 use Rattle.std.proofs.Common.{◌≡◌, ◌≢◌, ℕ, suc, ◌+◌, ◌-◌, ◌<◌, List, [], ◌∷◌, ◌++◌, length, map, Result, Ok, Err, refl, sym, ap, subst, ◌∙◌, append_assoc, arith, inl, inr}
-use Rattle.std.specs.Prelude.{codes, ◌⊎◌}
+use Rattle.std.specs.Prelude.{codes, ◌⊎◌, OnOk, IfErr}
 use Rattle.std.proofs.lemmas.List.{append-nil, map-append, length-append, nil_from_length}
 use Rattle.std.proofs.lemmas.List.Concat.{flat_map-append}
 use Rattle.smx_words.specs.Words.{line_of, text_of}
 use Rattle.smx_text.specs.declared.fault.Cause.{Cause}
 use Rattle.smx_text.specs.declared.fault.Cause.TheVariants as cause
 use Rattle.smx_text.specs.declared.fault.TextFault.{TextFault}
-use Rattle.smx_text.specs.Grammar.{Grammar, LINE_FEED, IsOneLine, HasNext, header, line_text, beginning, full_text, Spells, IsBegun, Continues, MayFollow, Reaches, Begins, IsFault, Reads}
-use Rattle.smx_text.specs.Reading.{Refuses, EndsText}
+use Rattle.smx_text.specs.Grammar.{Grammar, LINE_FEED, IsOneLine, HasNext, header, line_text, beginning, full_text, Spells, IsBegun, Continues, IsNoLine, MayFollow, Reaches, Begins, IsFault, Reads}
+use Rattle.smx_text.specs.Reading.{Refuses, AddsLine, RefusesLine, EndsText}
 
 texts_append : (ls ks : List (List (List ℕ))) → text_of (ls ++ ks) ≡ text_of ls ++ text_of ks
 texts_append ls ks = flat_map-append (λ words. line_of words ++ LINE_FEED ∷ []) ls ks
@@ -76,13 +76,13 @@ module _ {V K : Type 0} (g : Grammar V K) where
     }
 
     -- at the last line
-    module _ (end : text ≡ line_text g g.end) (one_end : (k : K) → g.FitsLine k → line_text g k ≡ line_text g g.end → k ≡ g.end) where
+    module _ (end : text ≡ line_text g g.end) where
       whole : (v : V) → g.body v ≡ lines → bytes ≡ full_text g v ++ after
       whole v e =
           all ∙ ap (λ (t : List ℕ). beginning g lines ++ (t ++ LINE_FEED ∷ after)) end ∙ ap (λ (ls : List K). beginning g ls ++ (line_text g g.end ++ LINE_FEED ∷ after)) (sym e) ∙ sym (full_and v after)
 
-      may_not : (MayFollow g lines g.end → ⊥) → IsFault g bytes number cause.Form
-      may_not never = (lines, text, reaches, λ k fits may e. never (subst (λ (x : K). MayFollow g lines x) (one_end k fits (sym e ∙ end)) may))
+      may_not : IsNoLine g lines (line_text g g.end) → IsFault g bytes number cause.Form
+      may_not never = (lines, text, reaches, subst (IsNoLine g lines) (sym end) never)
 
       trails : (v : V) → g.IsAllowed v → g.body v ≡ lines → (xs : List ℕ) → after ≡ xs → 0 < length xs → IsFault g bytes (number + 1) cause.Trailing
       trails v allowed e [] is some = absurd (omega arith)
@@ -93,3 +93,26 @@ module _ {V K : Type 0} (g : Grammar V K) where
       read_to_end (Ok v) (allowed, e, none) = record { allowed = allowed; text = whole v e ∙ ap (λ (xs : List ℕ). full_text g v ++ xs) (nil_from_length after none) ∙ append-nil (full_text g v) }
       read_to_end (Err f) (inl (never, is)) = subst (λ (x : TextFault). IsFault g bytes x.line x.cause) (sym is) (may_not never)
       read_to_end (Err f) (inr (v, allowed, e, some, is)) = subst (λ (x : TextFault). IsFault g bytes x.line x.cause) (sym is) (trails v allowed e after refl some)
+
+  -- ---- what is done with a line that was read is done with its text
+
+  pub continues : (lines longer : List K) (k : K) (text : List ℕ) → text ≡ line_text g k → AddsLine g lines k longer → Continues g lines text longer
+  continues lines longer k text is adds = (k, is, adds.0, adds.1)
+
+  pub refuses : ((k l : K) → g.FitsLine k → g.FitsLine l → line_text g k ≡ line_text g l → k ≡ l) → (lines : List K) (k : K) (text : List ℕ)
+      → g.FitsLine k → text ≡ line_text g k → (why : Cause) → RefusesLine g lines k why → Refuses g lines text why
+  refuses tells_apart lines k text fits is cause.Form h = λ l also may same. h (subst (λ (x : K). MayFollow g lines x) (tells_apart l k also fits (sym same ∙ is)) may)
+  refuses tells_apart lines k text fits is cause.Many h = (k, is, fits, h.0, h.1)
+  refuses tells_apart lines k text fits is cause.NoMemory h = (lines ++ k ∷ [], (k, is, refl, h))
+  refuses tells_apart lines k text fits is cause.Header h = absurd h
+  refuses tells_apart lines k text fits is cause.Cut h = absurd h
+  refuses tells_apart lines k text fits is cause.Trailing h = absurd h
+
+  pub on_added : {A : Type 0} (lines longer : List K) (k : K) (text : List ℕ) → text ≡ line_text g k → (r : Result A Cause) → OnOk r (AddsLine g lines k longer) → OnOk r (Continues g lines text longer)
+  on_added lines longer k text is (Ok x) adds = continues lines longer k text is adds
+  on_added lines longer k text is (Err e) adds = tt
+
+  pub on_refused : {A : Type 0} → ((k l : K) → g.FitsLine k → g.FitsLine l → line_text g k ≡ line_text g l → k ≡ l) → (lines : List K) (k : K) (text : List ℕ)
+      → g.FitsLine k → text ≡ line_text g k → (r : Result A Cause) → IfErr r (RefusesLine g lines k) → IfErr r (Refuses g lines text)
+  on_refused tells_apart lines k text fits is (Ok x) h = tt
+  on_refused tells_apart lines k text fits is (Err e) h = refuses tells_apart lines k text fits is e h

@@ -33,14 +33,10 @@ pub trait Draft: Drop {
 
     // What the lines say, if a text may end behind them.
     fn finish(self) -> Option<Self::Whole>
+        requires begun { IsBegun grammar (lines self) }
         ensures { EndsAs grammar (lines self) result };
 
     ghost end_is: { line_text grammar grammar.end ≡ codes "end" };
-
-    // No other line looks like the last.
-    ghost one_end: {
-      (k : Line) → grammar.FitsLine k → line_text grammar k ≡ line_text grammar grammar.end → k ≡ grammar.end
-    };
 }
 
 // The first line, and what follows it; nothing where no line is whole.
@@ -92,7 +88,8 @@ fn after_header<D: Draft>(bytes: &[u8]) -> Result<&[u8], TextFault>
 
 // What the text says, if it may end at this line and no byte follows.
 fn ended<D: Draft>(draft: D, after: &[u8], number: usize) -> Result<D::Whole, TextFault>
-    requires { number < 2 ^ 64 - 1 }
+    requires begun { IsBegun D.grammar (D.lines draft) }
+    requires room { number < 2 ^ 64 - 1 }
     ensures { EndsText D.grammar (D.lines draft) after.now number result }
 {
     let Some(whole) = draft.finish() else {

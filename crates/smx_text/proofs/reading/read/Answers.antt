@@ -5,7 +5,7 @@ use Rattle.smx_text.proofs.reading.read.Goals as goal
 pub returns-then-eq : goal.returns-then-eq
 returns-then-eq g c =
     let end : c.in-Some.text.now ≡ codes "end" = search rules in
-    read_to_end g.D.Draft.grammar c.args.bytes.now _ _ _ c.in-Some.text.now c.in-Some.after.now c.lines.invariant.between c.in-Some.ensures.next (end ∙ sym g.met.D.Draft.end_is) g.met.D.Draft.one_end c.ended.result c.ended.ensures
+    read_to_end g.D.Draft.grammar c.args.bytes.now _ _ _ c.in-Some.text.now c.in-Some.after.now c.lines.invariant.between c.in-Some.ensures.next (end ∙ sym g.met.D.Draft.end_is) c.ended.result c.ended.ensures
 
 pub returns-in-Err : goal.returns-in-Err
 returns-in-Err g c =
