@@ -6,4 +6,10 @@ pub mod GrammarLemmas
 pub mod ProgramsLemmas
 pub mod ProgramsGrammarLemmas
 pub mod DecisionLemmas
+pub mod TranscriptDrafts
+pub mod TranscriptDraftLemmas
+pub mod TranscriptWholeLemmas
+pub mod TranscriptFollowLemmas
+pub mod TranscriptLemmas
+pub mod TranscriptGrammarLemmas
 pub mod ProgramsDecidedLemmas

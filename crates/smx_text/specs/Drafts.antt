@@ -1,10 +1,57 @@
--- What holds of the programs that are being read. No public clause needs this.
-use Rattle.std.specs.Prelude.{◌≡◌, length}
+-- What was read so far, and what holds of it. No public clause needs this.
+use Rattle.std.specs.Prelude.{◌≡◌, Bool, true, false, ◌&&◌, ◌==◌, List, [], ◌∷◌, ◌++◌, length, map}
 use Rattle.std.specs.List.{sum_by}
 use Rattle.smx_types.specs.ProgramLists.{AreWithinLimits, program_lists}
+use Rattle.smx_types.specs.declared.view.ConfigView.{ConfigView}
 use Rattle.smx_text.specs.declared.programs.draft.ProgramsDraft.TheInside.{Inside}
+use Rattle.smx_text.specs.declared.transcript.draft.Stage.{Stage}
+use Rattle.smx_text.specs.declared.transcript.draft.Stage.TheVariants as stage
+use Rattle.smx_text.specs.declared.transcript.draft.TranscriptDraft.{TranscriptDraft}
+use Rattle.smx_text.specs.TranscriptLines.{TranscriptLine}
+use Rattle.smx_text.specs.TranscriptLines as line
+use Rattle.smx_text.specs.TranscriptText.{view_body}
 
--- they are within the limits, and their commands are counted
+-- programs within the limits, whose commands are counted
 pub record IsCounted (d : Inside) : Type 0 where
   pub within : AreWithinLimits (program_lists d.drivers.items d.programs.items)
   pub count : d.count ≡ sum_by length d.programs.items
+
+-- the lines of a transcript behind its entries, as far as they were read
+abbrev pub shown : Stage → ConfigView → List TranscriptLine
+shown stage.History v = []
+shown stage.Config v = line.Config ∷ []
+shown stage.View v = line.Config ∷ view_body v
+
+-- the lines of a transcript, as far as they were read
+abbrev pub lines : TranscriptDraft → List TranscriptLine
+lines d = map line.Driver d.transcript.drivers ++ (map line.Entry d.transcript.entries ++ shown d.stage d.transcript.view)
+
+-- groups are read
+abbrev pub is_view : Stage → Bool
+is_view stage.History = false
+is_view stage.Config = false
+is_view stage.View = true
+
+-- a full place may come: it is of the last group
+abbrev pub takes_fulls : TranscriptDraft → Bool
+takes_fulls d = is_view d.stage
+
+-- a message may come: no line of a later group came
+abbrev pub takes_msgs : TranscriptDraft → Bool
+takes_msgs d = takes_fulls d && (length d.transcript.view.fulls == 0)
+
+-- a route may come: no line of a later group came
+abbrev pub takes_routes : TranscriptDraft → Bool
+takes_routes d = takes_msgs d && (length d.transcript.view.msgs == 0)
+
+-- a binding may come: no line of a later group came
+abbrev pub takes_binds : TranscriptDraft → Bool
+takes_binds d = takes_routes d && (length d.transcript.view.routes == 0)
+
+-- a link may come: no line of a later group came
+abbrev pub takes_links : TranscriptDraft → Bool
+takes_links d = takes_binds d && (length d.transcript.view.binds == 0)
+
+-- a descriptor may come: no line of a later group came
+abbrev pub takes_fds : TranscriptDraft → Bool
+takes_fds d = takes_links d && (length d.transcript.view.links == 0)

@@ -5,7 +5,9 @@ mod fault;
 pub mod laws;
 mod programs;
 mod reading;
+mod transcript;
 mod words_stub;
 
 pub use fault::{Cause, TextFault};
 pub use programs::read_programs;
+pub use transcript::read_transcript;
