@@ -6,11 +6,11 @@ use Rattle.std.proofs.lemmas.Bool.Decides.{nat_tests}
 use Rattle.std.proofs.lemmas.List.{append-nil, length-append}
 use Rattle.std.proofs.lemmas.Slice.Eq.{bytes_eq-Decides}
 use Rattle.std.specs.Str.{bytes_eq}
-use Rattle.smx_words.specs.Words.{line_of, text_of}
+use Rattle.smx_words.specs.Words.{LINE_FEED, line_of, text_of}
 use Rattle.smx_text.specs.declared.fault.Cause.{Cause}
 use Rattle.smx_text.specs.declared.fault.Cause.TheVariants as cause
 use Rattle.smx_text.specs.declared.fault.TextFault.{TextFault}
-use Rattle.smx_text.specs.Grammar.{Grammar, LINE_FEED, IsOneLine, HasNext, header, line_text, beginning, full_text, Spells, IsBegun, GoesOn, MayFollow, IsFull, IsNoLine, IsOneTooMany, Continues, Reaches, Begins, IsFault, Reads}
+use Rattle.smx_text.specs.Grammar.{Grammar, IsOneLine, HasNext, header, line_text, beginning, full_text, Spells, IsBegun, GoesOn, MayFollow, IsFull, IsNoLine, IsOneTooMany, Continues, Reaches, Begins, IsFault, Reads}
 use Rattle.smx_text.proofs.EachLemmas.{all_left, all_right}
 use Rattle.smx_text.proofs.ReadingLemmas.{full_and, IsBetween, started, cut_at, refused, one_more, read_to_end}
 

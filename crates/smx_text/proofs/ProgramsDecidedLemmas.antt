@@ -1,5 +1,5 @@
 -- Each line behind those of some programs is decided.
-use Rattle.std.proofs.Common.{◌≡◌, ◌≢◌, ℕ, ◌<◌, List, [], Option, Some, None, refl, sym, subst, arith, inl, inr}
+use Rattle.std.proofs.Common.{◌≡◌, ◌≢◌, ℕ, ◌<◌, List, [], ◌∷◌, ◌++◌, Option, Some, None, refl, sym, subst, arith, inl, inr}
 use Rattle.std.specs.List.{sum_by}
 use Rattle.std.proofs.lemmas.List.{append-nil}
 use Rattle.std.specs.Prelude.{◌⊎◌, length, codes}
@@ -18,9 +18,8 @@ use Rattle.smx_text.specs.ProgramLines as line
 use Rattle.smx_text.specs.ProgramsText.{FitsLine, body, IsAllowed, programs_grammar}
 use Rattle.smx_text.proofs.DecisionLemmas.{same_or_not, below_or_not, same_bytes_or_not}
 use Rattle.smx_text.proofs.GrammarLemmas.{Decision, HasReading, has_reading}
-use Rattle.smx_text.proofs.ProgramsGrammarLemmas.{tells_apart, well_made, no_line}
-use Rattle.smx_text.proofs.ProgramsLemmas.{MayStand, AreMany, HasRoom, misplaced, too_many, wanting, begun_is_body}
-use Rattle.smx_text.proofs.ReadingLemmas.{refuses}
+use Rattle.smx_text.proofs.ProgramsGrammarLemmas.{refused_line, well_made, no_line}
+use Rattle.smx_text.proofs.ProgramsLemmas.{MayStand, AreMany, HasRoom, misplaced, too_many, longer_begun, begun_is_body}
 use Rattle.smx_text.proofs.WordLemmas.{command_decided, driver_decided, process_decided}
 
 stands_or_not : (v : ProgramLists) (k : Line) → MayStand v k ⊎ (MayStand v k → ⊥)
@@ -41,10 +40,10 @@ begun_by v allowed = (v, [], allowed, sym (append-nil (body v)))
 -- a line that was read
 judged : (v : ProgramLists) → IsAllowed v → (k : Line) (text : List ℕ) → k ≢ line.End → FitsLine k → text ≡ line_text programs_grammar k → Decision programs_grammar (body v) text
 judged v allowed k text other fits is = elim (stands_or_not v k) [
-  | inr misplaced_there ↦ inr (inl (refuses programs_grammar tells_apart (body v) k text fits is cause.Form (misplaced v k misplaced_there)))
+  | inr misplaced_there ↦ inr (inl (refused_line (body v) k text fits is cause.Form (misplaced v k misplaced_there)))
   | inl may ↦ elim (room_or_many v k other) [
-    | inr many ↦ inr (inr (inl (refuses programs_grammar tells_apart (body v) k text fits is cause.Many (too_many v k may many))))
-    | inl room ↦ inl (refuses programs_grammar tells_apart (body v) k text fits is cause.NoMemory (wanting v k allowed.within (begun_by v allowed) may room fits))
+    | inr many ↦ inr (inr (inl (refused_line (body v) k text fits is cause.Many (too_many v k may many))))
+    | inl room ↦ inl (body v ++ k ∷ [], (k, is, refl, longer_begun v k allowed.within (begun_by v allowed) may room fits))
   ]
 ]
 

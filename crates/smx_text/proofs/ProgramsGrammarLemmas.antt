@@ -19,7 +19,7 @@ use Rattle.smx_text.specs.ProgramLines.{Line}
 use Rattle.smx_text.specs.ProgramLines as line
 use Rattle.smx_text.specs.ProgramsText.{line_words, FitsLine, body, IsAllowed, programs_grammar}
 use Rattle.smx_text.proofs.GrammarLemmas.{IsWellMade}
-use Rattle.smx_text.proofs.ProgramsLemmas.{MayStand, HasRoom, end_is_last, one_value, wanting}
+use Rattle.smx_text.proofs.ProgramsLemmas.{end_is_last, one_value}
 use Rattle.smx_text.proofs.WordLemmas.{IsSpelling, one_spelling, first_word, command_spelled, driver_spelled, process_spelled, end_spelled, one_line_of, one_command, one_driver, one_process}
 
 -- ---- the first word of a command
@@ -90,11 +90,10 @@ on_added_line lines longer k text is r h = on_added programs_grammar lines longe
 
 pub on_refused_line : {A : Type 0} (lines : List Line) (k : Line) (text : List ℕ) → FitsLine k → text ≡ line_text programs_grammar k → (r : Result A Cause)
     → IfErr r (RefusesLine programs_grammar lines k) → IfErr r (Refuses programs_grammar lines text)
-on_refused_line lines k text fits is r h = on_refused programs_grammar tells_apart lines k text fits is r h
+on_refused_line lines k text fits is r h = on_refused programs_grammar tells_apart tt lines k text fits is r h
 
-pub wanting_line : (v : ProgramLists) (k : Line) (text : List ℕ) → AreWithinLimits v → IsBegun programs_grammar (body v) → MayStand v k → HasRoom v k → FitsLine k → text ≡ line_text programs_grammar k
-    → Refuses programs_grammar (body v) text cause.NoMemory
-wanting_line v k text within begun may room fits is = refuses programs_grammar tells_apart (body v) k text fits is cause.NoMemory (wanting v k within begun may room fits)
+pub refused_line : (lines : List Line) (k : Line) (text : List ℕ) → FitsLine k → text ≡ line_text programs_grammar k → (why : Cause) → RefusesLine programs_grammar lines k why → Refuses programs_grammar lines text why
+refused_line lines k text fits is why h = refuses programs_grammar tells_apart tt lines k text fits is why h
 
 -- what is none of these is no line
 pub no_line : (lines : List Line) (text : List ℕ) → ((c : Command) → FitsCommand c → text ≢ line_of (command_words c)) → ((d : DriverSpec) → FitsDriver d → text ≢ line_of (driver_words d))

@@ -242,9 +242,9 @@ adds v w k within begun room fits e =
     let all = subst (AllByRecursion FitsLine) (sym e) (all_push FitsLine (body v) k (allowed_of v within begun).fits fits) in
     (e, (w, [], record { within = within_by v w k within room e; fits = all }, sym (append-nil (body w))))
 
--- memory was wanting for it
-pub wanting : (v : ProgramLists) (k : Line) → AreWithinLimits v → IsBegun programs_grammar (body v) → MayStand v k → HasRoom v k → FitsLine k → RefusesLine programs_grammar (body v) k cause.NoMemory
-wanting v k within begun may room fits =
+-- their lines and this one begin some programs
+pub longer_begun : (v : ProgramLists) (k : Line) → AreWithinLimits v → IsBegun programs_grammar (body v) → MayStand v k → HasRoom v k → FitsLine k → IsBegun programs_grammar (body v ++ k ∷ [])
+longer_begun v k within begun may room fits =
     let more = body_more v k may (not_end v k room) in
     subst (IsBegun programs_grammar) more (adds v (with_line v k) k within begun room fits more).1
 

@@ -35,7 +35,7 @@ use Rattle.smx_text.proofs.GrammarLemmas.{IsWellMade}
 use Rattle.smx_text.proofs.ReadingLemmas.{refuses, on_added, on_refused}
 use Rattle.smx_text.proofs.TranscriptDrafts.{new_draft, takes, is_full}
 use Rattle.smx_text.proofs.TranscriptDraftLemmas.{draft, run, run_append, run_body, taken}
-use Rattle.smx_text.proofs.TranscriptLemmas.{misplaced, wanting, whole, some_of}
+use Rattle.smx_text.proofs.TranscriptLemmas.{misplaced, some_of}
 use Rattle.smx_text.proofs.TranscriptWholeLemmas.{fits_body}
 use Rattle.smx_text.proofs.WordLemmas.{IsSpelling, one_spelling, first_word, end_spelled, config_spelled, one_line_of}
 use Rattle.smx_text.proofs.WordLemmas.{driver_spelled, entry_spelled, next_spelled, descriptor_spelled, link_spelled, binding_spelled, route_spelled, message_spelled, full_spelled}
@@ -164,11 +164,11 @@ on_added_line ls longer k text is r h = on_added transcript_grammar ls longer k 
 
 pub on_refused_line : {A : Type 0} (ls : List TranscriptLine) (k : TranscriptLine) (text : List ℕ) → FitsLine k → text ≡ line_text transcript_grammar k → (r : Result A Cause)
     → IfErr r (RefusesLine transcript_grammar ls k) → IfErr r (Refuses transcript_grammar ls text)
-on_refused_line ls k text fits is r h = on_refused transcript_grammar tells_apart ls k text fits is r h
+on_refused_line ls k text fits is r h = on_refused transcript_grammar tells_apart tt ls k text fits is r h
 
 pub refused_line : (ls : List TranscriptLine) (k : TranscriptLine) (text : List ℕ) → FitsLine k → text ≡ line_text transcript_grammar k → (why : Cause)
     → RefusesLine transcript_grammar ls k why → Refuses transcript_grammar ls text why
-refused_line ls k text fits is why h = refuses transcript_grammar tells_apart ls k text fits is why h
+refused_line ls k text fits is why h = refuses transcript_grammar tells_apart tt ls k text fits is why h
 
 pub not_at_end : (d : TranscriptDraft) → takes d line.End ≡ false → EndsAs transcript_grammar (lines d) None
 not_at_end d h = refused_line (lines d) line.End (line_text transcript_grammar line.End) tt refl cause.Form (misplaced d line.End h)

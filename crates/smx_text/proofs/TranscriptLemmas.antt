@@ -121,9 +121,9 @@ adds d e k begun may room fits other same =
     let next = next_allowed d k may room (draft_within d begun) (fits_of (lines d) begun) fits in
     (same ∙ more, (next_of d k, still (with_line d k).stage, next, completes (with_line d k) ∙ ap (λ (ls : List TranscriptLine). ls ++ still (with_line d k).stage) (sym same)))
 
--- memory was wanting for it
-pub wanting : (d : TranscriptDraft) (k : TranscriptLine) → IsBegun transcript_grammar (lines d) → takes d k ≡ true → is_full d k ≡ false → FitsLine k → k ≢ line.End → RefusesLine transcript_grammar (lines d) k cause.NoMemory
-wanting d k begun may room fits other =
+-- its lines and this one begin some transcript
+pub longer_begun : (d : TranscriptDraft) (k : TranscriptLine) → IsBegun transcript_grammar (lines d) → takes d k ≡ true → is_full d k ≡ false → FitsLine k → k ≢ line.End → IsBegun transcript_grammar (lines d ++ k ∷ [])
+longer_begun d k begun may room fits other =
     subst (IsBegun transcript_grammar) (lines_more d k may (not_end k other)) (adds d (with_line d k) k begun may room fits other refl).1
 
 -- the end
@@ -132,3 +132,36 @@ whole d begun view =
     let same : d ≡ draft stage.View d.transcript = ap (λ (s : Stage). draft s d.transcript) view in
     let is : body d.transcript ≡ lines d = sym (ap lines same) in
     (allowed (draft stage.View d.transcript) (subst IsWithin same (draft_within d begun)) (subst (λ (e : TranscriptDraft). AllByRecursion FitsLine (lines e)) same (fits_of (lines d) begun)), is)
+
+-- ---- lines of the groups of a view
+
+abbrev is_group : TranscriptLine → Bool
+is_group (line.Driver x) = false
+is_group (line.Entry x) = false
+is_group line.Config = false
+is_group (line.Next id serial) = false
+is_group (line.Fd x) = true
+is_group (line.Link x) = true
+is_group (line.Bind x) = true
+is_group (line.Route x) = true
+is_group (line.Msg x) = true
+is_group (line.Full x) = true
+is_group line.End = false
+
+in_view_by : (s : Stage) (t : Transcript) (k : TranscriptLine) → is_group k ≡ true → takes (draft s t) k ≡ true → s ≡ stage.View
+in_view_by stage.View t k group may = refl
+in_view_by s t k group may = absurd cc
+
+pub group_added : (d : TranscriptDraft) (t : Transcript) (k : TranscriptLine) → IsBegun transcript_grammar (lines d) → takes d k ≡ true → is_group k ≡ true → is_full d k ≡ false → FitsLine k → k ≢ line.End
+    → with_line d k ≡ draft stage.View t → AddsLine transcript_grammar (lines d) k (lines (draft d.stage t))
+group_added d t k begun may group room fits other is =
+    let view = in_view_by d.stage d.transcript k group may in
+    adds d (draft d.stage t) k begun may room fits other (ap (λ (s : Stage). lines (draft s t)) view ∙ sym (ap lines is))
+
+pub nothing_begun : IsBegun transcript_grammar []
+nothing_begun = (
+  record { drivers = []; entries = []; view = new_view 0 0 },
+  line.Config ∷ line.Next 0 0 ∷ [],
+  record { drivers = omega arith; entries = omega arith; spellable = record { drivers = tt; entries = tt; view = record { next_id = omega arith; next_serial = omega arith; fds = tt; links = tt; binds = tt; routes = tt; msgs = tt; fulls = tt } } },
+  refl,
+)

@@ -12,10 +12,10 @@ use Rattle.smx_types.specs.declared.view.LinkLine.{LinkLine}
 use Rattle.smx_types.specs.declared.view.MessageLine.{MessageLine}
 use Rattle.smx_types.specs.declared.view.RouteLine.{RouteLine}
 use Rattle.smx_words.specs.LineReading.{IsReadAs}
-use Rattle.smx_words.specs.Words.{line_of, IsWord}
+use Rattle.smx_words.specs.Words.{LINE_FEED, line_of, IsWord}
 use Rattle.smx_words.specs.Spelling.{command_words, driver_words, process_words, entry_words, descriptor_words, link_words, bind_words, route_words, message_words, full_words, next_words}
 use Rattle.smx_words.specs.Spellable.{FitsNumber, FitsDriver, FitsCommand, FitsEntry, FitsDescriptor, FitsLink, FitsBinding, FitsRoute, FitsMessage, FitsFull, FitsNext}
-use Rattle.smx_text.specs.Grammar.{LINE_FEED, IsOneLine}
+use Rattle.smx_text.specs.Grammar.{IsOneLine}
 
 -- some words
 abbrev pub IsSpelling : List (List ℕ) → Type 0

@@ -1,14 +1,9 @@
 -- A kind of text: the one text of each value, and the first line at which a text goes wrong. No reader is named.
 use Rattle.std.specs.Prelude.{◌≡◌, ◌≢◌, ℕ, ◌+◌, List, [], ◌∷◌, ◌++◌, length, map, ◌⊎◌, Result, Ok, Err}
-use Rattle.std.specs.List.{AllByRecursion}
-use Rattle.smx_words.specs.Words.{line_of, text_of}
+use Rattle.smx_words.specs.Words.{LINE_FEED, IsFree, line_of, text_of}
 use Rattle.smx_text.specs.declared.fault.Cause.{Cause}
 use Rattle.smx_text.specs.declared.fault.Cause.TheVariants as cause
 use Rattle.smx_text.specs.declared.fault.TextFault.{TextFault}
-
--- the byte that ends a line
-abbrev pub LINE_FEED : ℕ
-LINE_FEED = 10
 
 -- How values of V are spelled by lines of K: a header, the lines of the value, and a last line.
 pub record Grammar (V K : Type 0) : Type 1 where
@@ -27,7 +22,7 @@ pub record Grammar (V K : Type 0) : Type 1 where
 
 -- no line feed stands in it
 abbrev pub IsOneLine : List ℕ → Type 0
-IsOneLine text = AllByRecursion (λ b. b ≢ LINE_FEED) text
+IsOneLine text = IsFree LINE_FEED text
 
 -- the bytes are these, then this line, which is whole, and then any
 abbrev pub HasNext : List ℕ → List ℕ → List ℕ → Type 0
@@ -105,7 +100,7 @@ module _ {V K : Type 0} (g : Grammar V K) where
   --   Many: a line that may follow, but of which there are as many as may be
   --   Cut: a line that is not whole
   --   Trailing: the first byte behind the text of some value
-  --   NoMemory: a line with which some value goes on; it is never the first or the last
+  --   NoMemory: a whole line that is neither the header nor the end
   abbrev pub IsFault : List ℕ → ℕ → Cause → Type 0
   IsFault bytes number cause.Header = (text : List ℕ) × HasNext bytes [] text × (text ≢ header) × (number ≡ 1)
   IsFault bytes number cause.Form = (lines : List K) × (text : List ℕ) × Reaches bytes lines text number × IsNoLine lines text
@@ -113,7 +108,7 @@ module _ {V K : Type 0} (g : Grammar V K) where
   IsFault bytes number cause.Cut = (before last : List ℕ) × Begins before number × IsOneLine last × (bytes ≡ before ++ last)
   IsFault bytes number cause.Trailing = (v : V) × (byte : ℕ) × (more : List ℕ) × g.IsAllowed v
       × (bytes ≡ full_text v ++ byte ∷ more) × (number ≡ length (g.body v) + 3)
-  IsFault bytes number cause.NoMemory = (lines longer : List K) × (text : List ℕ) × Reaches bytes lines text number × Continues lines text longer
+  IsFault bytes number cause.NoMemory = (lines : List K) × (text : List ℕ) × Reaches bytes lines text number × (text ≢ line_text g.end)
 
   -- what a reader may answer: the value that the bytes spell, or the first line at fault
   abbrev pub Reads : List ℕ → Result V TextFault → Type 0

@@ -6,7 +6,6 @@ pub mod laws;
 mod programs;
 mod reading;
 mod transcript;
-mod words_stub;
 
 pub use fault::{Cause, TextFault};
 pub use programs::read_programs;

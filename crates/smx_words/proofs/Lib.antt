@@ -1,6 +1,4 @@
-<<<<<<< HEAD
 pub mod WritingLemmas
-=======
 pub mod CutLemmas
 pub mod NumberLemmas
 pub mod WordLemmas
@@ -9,4 +7,3 @@ pub mod EntryLemmas
 pub mod ReplyLemmas
 pub mod CommandLemmas
 pub mod PlainLemmas
->>>>>>> words

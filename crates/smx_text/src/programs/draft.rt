@@ -3,7 +3,7 @@
 ghost use Rattle.std.specs.Prelude.{◌≡◌, ◌≢◌, ◌<◌, ◌∷◌, [], length, OnOk, IfErr};
 ghost use Rattle.std.specs.List.{sum_by};
 ghost use Rattle.smx_types.specs.declared.limits.TheConstants.{MAX_COMMANDS};
-ghost use Rattle.smx_types.specs.ProgramLists.{program_lists, AreWithinLimits};
+ghost use Rattle.smx_types.specs.ProgramLists.{program_lists};
 ghost use Rattle.smx_types.specs.declared.command.Command.{Command as AnyCommand};
 ghost use Rattle.smx_words.specs.Words.{line_of};
 ghost use Rattle.smx_words.specs.Spelling.{command_words};
@@ -19,7 +19,7 @@ use smx_types::{
     Command, Commands, DriverSpec, Drivers, MAX_COMMANDS, MAX_DRIVERS, MAX_PROCESSES, ProgramList,
     Programs,
 };
-use crate::words_stub::{command_of, driver_of, process_of};
+use smx_words::{command_of, driver_of, process_of};
 use std::alloc::Global;
 use std::marker::Model;
 
@@ -60,12 +60,7 @@ impl Draft for ProgramsDraft {
     }
 
     fn add(&mut self, alloc: Global, text: &[u8]) -> Result<(), Cause> {
-        let Ok(read) = command_of(alloc, text) else {
-            // The line spells a command, so that it is wrong only where none may come.
-            self.room_for_command()?;
-            return Err(Cause::NoMemory);
-        };
-        match read {
+        match command_of(alloc, text)? {
             Some(command) => self.add_command(command),
             None => self.add_other(alloc, text),
         }
@@ -160,7 +155,6 @@ impl ProgramsDraft {
 
     // Whether a command may come and is not one too many.
     fn room_for_command(&self) -> Result<(), Cause>
-        ensures within { AreWithinLimits self.now }
         ensures some { OnOk result (0 < length self.now.programs) }
         ensures few { OnOk result (sum_by length self.now.programs < MAX_COMMANDS) }
         ensures refused { IfErr result (λ why. (c : AnyCommand) → RefusesLine programs_grammar (body self.now) (CommandLine c) why) }

@@ -20,7 +20,7 @@ ghost use Rattle.smx_text.specs.TranscriptText.{transcript_grammar};
 
 use crate::fault::Cause;
 use crate::reading::Draft;
-use crate::words_stub::{
+use smx_words::{
     bind_of, descriptor_of, driver_of, entry_of, full_of, link_of, message_of, next_of, route_of,
 };
 use smx_types::{
@@ -66,12 +66,7 @@ impl Draft for TranscriptDraft {
     }
 
     fn add(&mut self, alloc: Global, text: &[u8]) -> Result<(), Cause> {
-        let Ok(read) = entry_of(alloc, text) else {
-            // The line spells an entry, so that it is wrong only where none may come.
-            self.room_for_entry()?;
-            return Err(Cause::NoMemory);
-        };
-        match read {
+        match entry_of(alloc, text)? {
             Some(entry) => self.add_entry(entry),
             None => self.add_other(alloc, text),
         }
@@ -129,13 +124,7 @@ impl TranscriptDraft {
         ensures added { OnOk result (Continues transcript_grammar (lines self.old) text.now (lines self.new)) }
         ensures refused { IfErr result (Refuses transcript_grammar (lines self.old) text.now) }
     {
-        let Ok(read) = message_of(alloc, text) else {
-            if !self.takes_msgs() {
-                return Err(Cause::Form);
-            }
-            return Err(Cause::NoMemory);
-        };
-        match read {
+        match message_of(alloc, text)? {
             Some(message) => self.add_message(message),
             None => self.add_plain(alloc, text),
         }

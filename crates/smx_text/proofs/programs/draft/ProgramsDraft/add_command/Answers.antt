@@ -1,13 +1,9 @@
 use Rattle.std.proofs.Common.{arith, rules}
 use Rattle.smx_text.specs.ProgramLines as line
 use Rattle.smx_text.proofs.BodyLemmas.{added_command}
-use Rattle.smx_text.proofs.ProgramsLemmas.{wanting, adds}
+use Rattle.smx_text.proofs.ProgramsLemmas.{adds}
 use Rattle.smx_text.proofs.programs.draft.ProgramsDraft.add_command.Goals as goal
 
-pub returns-in_err-push-clause-refused : goal.returns-in_err-push-clause-refused
-returns-in_err-push-clause-refused c =
-    let memory = wanting c.args.self.now (line.Command c.args.command) (search rules) c.requires.begun (search rules) (search rules) c.requires.fits in
-    search rules
 
 pub returns-clause-added : goal.returns-clause-added
 returns-clause-added c =
