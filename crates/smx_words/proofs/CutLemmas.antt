@@ -59,3 +59,10 @@ behind bytes given front rest more same is e = append_cancel_left front rest mor
 -- what the code's test says of other bytes
 pub differs : (bytes given word : List ℕ) (r : Bool) → given ≡ word → r ≡ bytes_eq bytes given → r ≡ false → bytes ≢ word
 differs bytes given word r is test other e = let same = (bytes_eq-Decides bytes given).1 (e ∙ sym is) in let bad : true ≡ false = sym same ∙ sym test ∙ other in absurd (cc bad)
+
+-- a word has no space in it
+pub no_space_in : (v after w : List ℕ) → IsFree SPACE w → v ++ SPACE ∷ after ≡ w → ⊥
+no_space_in [] after [] free bad = absurd (cc bad)
+no_space_in [] after (c ∷ w) free bad = free.0 (sym (cc bad))
+no_space_in (b ∷ v) after [] free bad = absurd (cc bad)
+no_space_in (b ∷ v) after (c ∷ w) free bad = no_space_in v after w free.1 (cc bad)

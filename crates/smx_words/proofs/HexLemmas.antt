@@ -70,7 +70,7 @@ lower_parts b w h = parts (is_ascii_uppercase b) (no_capitals w) h where
   parts true u h = absurd (cc h)
   parts false u h = (refl, h)
 
-ok_same : {A : Type 0} (x y : A) → ◌≡◌ {A = Result A FromHexError} (Ok x) (Ok y) → x ≡ y
+pub ok_same : {A : Type 0} (x y : A) → ◌≡◌ {A = Result A FromHexError} (Ok x) (Ok y) → x ≡ y
 ok_same x y e = cc e
 
 pairs_are : (i : ℕ) (w bs : List ℕ) → no_capitals w ≡ true → decode_pairs i w ≡ Ok bs → w ≡ encode_lower bs
@@ -99,7 +99,7 @@ fits_bytes : (bs : List ℕ) → IsBytes bs → FitsBytes bs
 fits_bytes [] h = tt
 fits_bytes (b ∷ bs) h = (h 0, fits_bytes bs (λ k. h (suc k)))
 
-are_bytes : (bs : List ℕ) → FitsBytes bs → IsBytes bs
+pub are_bytes : (bs : List ℕ) → FitsBytes bs → IsBytes bs
 are_bytes [] h i = omega arith
 are_bytes (b ∷ bs) h zero = h.0
 are_bytes (b ∷ bs) h (suc i) = are_bytes bs h.1 i
@@ -131,7 +131,7 @@ long : (b : ℕ) (bs : List ℕ) → 1 < length (encode_lower (b ∷ bs))
 unfolding encode_with
 long b bs = omega arith
 
-dash : (bs : List ℕ) → hex_word bs ≡ codes "-" → bs ≡ []
+pub dash : (bs : List ℕ) → hex_word bs ≡ codes "-" → bs ≡ []
 dash [] e = refl
 dash (b ∷ bs) e = absurd (omega (arith, long b bs, ap (length {A = ℕ}) e))
 

@@ -7,3 +7,5 @@ pub mod EntryLemmas
 pub mod ReplyLemmas
 pub mod CommandLemmas
 pub mod PlainLemmas
+pub mod SameLemmas
+pub mod LawLemmas

@@ -13,7 +13,7 @@ use Rattle.smx_words.specs.Spellable.{FitsAlways, FitsNumber, FitsReply, FitsSer
 use Rattle.smx_words.specs.Spelling.{fault_words, reply_words}
 use Rattle.smx_words.specs.Verbs.{reply_verb_word}
 use Rattle.smx_words.specs.Words.{SPACE, IsFree, line_of}
-use Rattle.smx_words.proofs.CutLemmas.{apart}
+use Rattle.smx_words.proofs.CutLemmas.{apart, no_space_in}
 use Rattle.smx_words.proofs.NumberLemmas.{number_free, same_number}
 
 -- the words of these serials, one or more
@@ -28,12 +28,6 @@ pub record AreThen (line before rest : List ℕ) : Type 0 where
 
 pub at_first : (line : List ℕ) → AreThen line [] line
 at_first line = record { fit = tt; then = λ more h. h; only = λ all h. (all, refl, h) }
-
-no_space_in : (v after w : List ℕ) → IsFree SPACE w → v ++ SPACE ∷ after ≡ w → ⊥
-no_space_in [] after [] free bad = absurd (cc bad)
-no_space_in [] after (c ∷ w) free bad = free.0 (sym (cc bad))
-no_space_in (b ∷ v) after [] free bad = absurd (cc bad)
-no_space_in (b ∷ v) after (c ∷ w) free bad = no_space_in v after w free.1 (cc bad)
 
 no_space : (m n : ℕ) (after : List ℕ) → FitsNumber m → decimal n ++ SPACE ∷ after ≡ decimal m → ⊥
 no_space m n after fits_m bad = no_space_in (decimal n) after (decimal m) (number_free m fits_m) bad

@@ -18,6 +18,10 @@ LINE_FEED = 10
 abbrev pub IsWord : List ℕ → Type 0
 IsWord w = (0 < length w) × AllByRecursion (λ b. (0x21 ≤ b) × (b ≤ 0x7E)) w
 
+-- words, one or more
+abbrev pub AreWords : List (List ℕ) → Type 0
+AreWords words = AllByRecursion IsWord words × (0 < length words)
+
 -- a byte that stands nowhere in these
 abbrev pub IsFree : ℕ → List ℕ → Type 0
 IsFree byte bytes = AllByRecursion (λ b. b ≢ byte) bytes

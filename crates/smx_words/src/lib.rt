@@ -1,6 +1,7 @@
 //! The words of one line: what each value's one spelling is, read from a line and written to one.
 #![tactic(auto)]
 
+pub mod laws;
 mod reading;
 mod writing;
 

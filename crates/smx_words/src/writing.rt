@@ -2,7 +2,7 @@
 
 ghost use Rattle.std.specs.Prelude.{◌≡◌, ℕ, ◌++◌, ◌∷◌, [], List, map, OnOk};
 ghost use Rattle.std.specs.List.{AllByRecursion};
-ghost use Rattle.smx_words.specs.Words.{line_of, text_of};
+ghost use Rattle.smx_words.specs.Words.{LINE_FEED, line_of, text_of};
 
 mod bytes;
 mod command;
@@ -13,8 +13,8 @@ mod reply;
 mod view;
 mod word;
 
-use smx_types::NoMemory;
 pub use number::{write_next, write_process};
+use smx_types::NoMemory;
 
 /// A value that one line of a text spells.
 pub trait Spell {
@@ -26,7 +26,7 @@ pub trait Spell {
 
     /// Its line, with the line feed, behind `out`. Where memory runs out, `out` may have a part of it.
     fn write_line(&self, out: &mut Vec<u8>) -> Result<(), NoMemory>
-        ensures written { OnOk result (out.new.items ≡ out.old.items ++ line_of (words self.now) ++ 10 ∷ []) }
+        ensures written { OnOk result (out.new.items ≡ out.old.items ++ line_of (words self.now) ++ LINE_FEED ∷ []) }
         // The type keeps this, so that what is written can be read again.
         ensures fits { OnOk result (Fits self.now) };
 }

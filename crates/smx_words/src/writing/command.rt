@@ -70,6 +70,7 @@ fn put_exit(out: &mut Vec<u8>) -> Result<(), NoMemory>
     Ok(())
 }
 
+#[inline(always)]
 fn put_clone(out: &mut Vec<u8>, driver: &Name) -> Result<(), NoMemory>
     ensures written { OnOk result (out.new.items
         ≡ out.old.items ++ line_of (codes "clone" ∷ driver.now ∷ [])) }
@@ -79,6 +80,7 @@ fn put_clone(out: &mut Vec<u8>, driver: &Name) -> Result<(), NoMemory>
     put_name(out, driver)
 }
 
+#[inline(always)]
 fn put_stream(out: &mut Vec<u8>, word: &[u8], driver: &Name, minor: u32) -> Result<(), NoMemory>
     ensures written { OnOk result (out.new.items
         ≡ out.old.items ++ line_of (word.now ∷ driver.now ∷ decimal minor ∷ [])) }
@@ -89,8 +91,9 @@ fn put_stream(out: &mut Vec<u8>, word: &[u8], driver: &Name, minor: u32) -> Resu
     put_spaced(out, minor)
 }
 
-/// A word and a number.
-pub(super) fn put_one(out: &mut Vec<u8>, word: &[u8], a: u32) -> Result<(), NoMemory>
+// A word and a number.
+#[inline(always)]
+fn put_one(out: &mut Vec<u8>, word: &[u8], a: u32) -> Result<(), NoMemory>
     ensures written { OnOk result (out.new.items ≡ out.old.items ++ line_of (word.now ∷ decimal a ∷ [])) }
     ensures fits { FitsNumber a }
 {
@@ -98,8 +101,9 @@ pub(super) fn put_one(out: &mut Vec<u8>, word: &[u8], a: u32) -> Result<(), NoMe
     put_spaced(out, a)
 }
 
-/// A word and two numbers.
-pub(super) fn put_two(out: &mut Vec<u8>, word: &[u8], a: u32, b: u32) -> Result<(), NoMemory>
+// A word and two numbers.
+#[inline(always)]
+fn put_two(out: &mut Vec<u8>, word: &[u8], a: u32, b: u32) -> Result<(), NoMemory>
     ensures written { OnOk result (out.new.items
         ≡ out.old.items ++ line_of (word.now ∷ decimal a ∷ decimal b ∷ [])) }
     ensures fits { FitsNumber a × FitsNumber b }
@@ -109,6 +113,7 @@ pub(super) fn put_two(out: &mut Vec<u8>, word: &[u8], a: u32, b: u32) -> Result<
     put_spaced(out, b)
 }
 
+#[inline(always)]
 fn put_three(out: &mut Vec<u8>, word: &[u8], a: u32, b: u32, c: u32) -> Result<(), NoMemory>
     ensures written { OnOk result (out.new.items
         ≡ out.old.items ++ line_of (word.now ∷ decimal a ∷ decimal b ∷ decimal c ∷ [])) }
@@ -118,14 +123,8 @@ fn put_three(out: &mut Vec<u8>, word: &[u8], a: u32, b: u32, c: u32) -> Result<(
     put_spaced(out, c)
 }
 
-/// A word, two numbers and bytes.
-fn put_write(
-    out: &mut Vec<u8>,
-    word: &[u8],
-    a: u32,
-    b: u32,
-    bytes: &[u8],
-) -> Result<(), NoMemory>
+// A word, two numbers and bytes.
+fn put_write(out: &mut Vec<u8>, word: &[u8], a: u32, b: u32, bytes: &[u8]) -> Result<(), NoMemory>
     ensures written { OnOk result (out.new.items
         ≡ out.old.items ++ line_of (word.now ∷ decimal a ∷ decimal b ∷ hex_word bytes.now ∷ [])) }
     ensures fits { FitsNumber a × FitsNumber b × FitsBytes bytes.now }

@@ -6,16 +6,17 @@ ghost use Rattle.std.specs.List.{flat_map, AllByRecursion};
 ghost use Rattle.smx_words.specs.HexWords.{hex_word};
 ghost use Rattle.smx_words.specs.Spellable.{FitsBytes, FitsNumber, FitsReply};
 ghost use Rattle.smx_words.specs.Spelling.{fault_words, reply_words};
-ghost use Rattle.smx_words.specs.Words.{line_of};
+ghost use Rattle.smx_words.specs.Words.{LINE_FEED, SPACE, line_of};
 
 use super::bytes::put_message;
 use super::number::{put_last, put_spaced};
+use super::word::put_text;
 use smx_types::{Fault, NoMemory, Reply};
 
 /// An equals sign between spaces, the words of a reply, and a line feed.
 pub(super) fn put_reply(out: &mut Vec<u8>, reply: &Reply) -> Result<(), NoMemory>
     ensures written { OnOk result (out.new.items
-        ≡ out.old.items ++ codes " = " ++ line_of (reply_words reply.now) ++ 10 ∷ []) }
+        ≡ out.old.items ++ codes " = " ++ line_of (reply_words reply.now) ++ LINE_FEED ∷ []) }
     ensures fits { OnOk result (FitsReply reply.now) }
 {
     match reply {
@@ -32,9 +33,10 @@ pub(super) fn put_reply(out: &mut Vec<u8>, reply: &Reply) -> Result<(), NoMemory
     }
 }
 
+#[inline(always)]
 fn put_descriptor(out: &mut Vec<u8>, fd: u32, minor: u32) -> Result<(), NoMemory>
     ensures written { OnOk result (out.new.items
-        ≡ out.old.items ++ codes " = " ++ line_of (codes "fd" ∷ decimal fd ∷ decimal minor ∷ []) ++ 10 ∷ []) }
+        ≡ out.old.items ++ codes " = " ++ line_of (codes "fd" ∷ decimal fd ∷ decimal minor ∷ []) ++ LINE_FEED ∷ []) }
     ensures fits { FitsNumber fd × FitsNumber minor }
 {
     out.extend_from_slice(b" = fd")?;
@@ -42,8 +44,9 @@ fn put_descriptor(out: &mut Vec<u8>, fd: u32, minor: u32) -> Result<(), NoMemory
     put_last(out, minor)
 }
 
+#[inline(always)]
 fn put_number(out: &mut Vec<u8>, before: &[u8], n: u32) -> Result<(), NoMemory>
-    ensures written { OnOk result (out.new.items ≡ out.old.items ++ before.now ++ 32 ∷ decimal n ++ 10 ∷ []) }
+    ensures written { OnOk result (out.new.items ≡ out.old.items ++ before.now ++ SPACE ∷ decimal n ++ LINE_FEED ∷ []) }
     ensures fits { FitsNumber n }
 {
     out.extend_from_slice(before)?;
@@ -53,7 +56,7 @@ fn put_number(out: &mut Vec<u8>, before: &[u8], n: u32) -> Result<(), NoMemory>
 fn put_got(out: &mut Vec<u8>, serial: u32, addr: u32, bytes: &[u8]) -> Result<(), NoMemory>
     ensures written { OnOk result (out.new.items
         ≡ out.old.items ++ codes " = "
-            ++ line_of (codes "got" ∷ decimal serial ∷ decimal addr ∷ hex_word bytes.now ∷ []) ++ 10 ∷ []) }
+        ++ line_of (codes "got" ∷ decimal serial ∷ decimal addr ∷ hex_word bytes.now ∷ []) ++ LINE_FEED ∷ []) }
     ensures fits { FitsNumber serial × FitsNumber addr × FitsBytes bytes.now }
 {
     out.extend_from_slice(b" = got")?;
@@ -62,7 +65,7 @@ fn put_got(out: &mut Vec<u8>, serial: u32, addr: u32, bytes: &[u8]) -> Result<()
 
 fn put_done(out: &mut Vec<u8>, dropped: &[u32]) -> Result<(), NoMemory>
     ensures written { OnOk result (out.new.items
-        ≡ out.old.items ++ codes " = " ++ line_of (codes "done" ∷ map decimal dropped.now) ++ 10 ∷ []) }
+        ≡ out.old.items ++ codes " = " ++ line_of (codes "done" ∷ map decimal dropped.now) ++ LINE_FEED ∷ []) }
     ensures fits { OnOk result (AllByRecursion FitsNumber dropped.now) }
 {
     if dropped.is_empty() {
@@ -77,7 +80,7 @@ fn put_done(out: &mut Vec<u8>, dropped: &[u32]) -> Result<(), NoMemory>
 
 // A space and the digits of each.
 fn put_serials(out: &mut Vec<u8>, serials: &[u32]) -> Result<(), NoMemory>
-    ensures written { OnOk result (out.new.items ≡ out.old.items ++ flat_map (λ n. 32 ∷ decimal n) serials.now) }
+    ensures written { OnOk result (out.new.items ≡ out.old.items ++ flat_map (λ n. SPACE ∷ decimal n) serials.now) }
     ensures fits { OnOk result (AllByRecursion FitsNumber serials.now) }
 {
     for serial in serials {
@@ -86,32 +89,26 @@ fn put_serials(out: &mut Vec<u8>, serials: &[u32]) -> Result<(), NoMemory>
     Ok(())
 }
 
+// Each of its texts has a length that the compiler knows.
 fn put_fault(out: &mut Vec<u8>, fault: Fault) -> Result<(), NoMemory>
-    ensures { OnOk result (out.new.items ≡ out.old.items ++ codes " = " ++ line_of (fault_words fault) ++ 10 ∷ []) }
-{
-    out.extend_from_slice(fault_text(fault))?;
-    Ok(())
-}
-
-fn fault_text(fault: Fault) -> &'static [u8]
-    ensures { result.now ≡ codes " = " ++ line_of (fault_words fault) ++ 10 ∷ [] }
+    ensures { OnOk result (out.new.items ≡ out.old.items ++ codes " = " ++ line_of (fault_words fault) ++ LINE_FEED ∷ []) }
 {
     match fault {
-        Fault::BadDescriptor => b" = EBADF fd\n",
-        Fault::Below => b" = EINVAL below\n",
-        Fault::NotMux => b" = EINVAL notmux\n",
-        Fault::AlreadyBelow => b" = EINVAL already\n",
-        Fault::Cycle => b" = EINVAL cycle\n",
-        Fault::TooManyLinks => b" = EAGAIN links\n",
-        Fault::NoLink => b" = EINVAL id\n",
-        Fault::NoDriver => b" = ENXIO driver\n",
-        Fault::NoMinor => b" = ENXIO minor\n",
-        Fault::TooManyDescriptors => b" = EMFILE\n",
-        Fault::AddressInUse => b" = EADDRINUSE\n",
-        Fault::Unbound => b" = EINVAL unbound\n",
-        Fault::Unrouted => b" = EINVAL unrouted\n",
-        Fault::Full => b" = EAGAIN full\n",
-        Fault::Empty => b" = EAGAIN empty\n",
-        Fault::BadSize => b" = ERANGE\n",
+        Fault::BadDescriptor => put_text(out, b" = EBADF fd\n"),
+        Fault::Below => put_text(out, b" = EINVAL below\n"),
+        Fault::NotMux => put_text(out, b" = EINVAL notmux\n"),
+        Fault::AlreadyBelow => put_text(out, b" = EINVAL already\n"),
+        Fault::Cycle => put_text(out, b" = EINVAL cycle\n"),
+        Fault::TooManyLinks => put_text(out, b" = EAGAIN links\n"),
+        Fault::NoLink => put_text(out, b" = EINVAL id\n"),
+        Fault::NoDriver => put_text(out, b" = ENXIO driver\n"),
+        Fault::NoMinor => put_text(out, b" = ENXIO minor\n"),
+        Fault::TooManyDescriptors => put_text(out, b" = EMFILE\n"),
+        Fault::AddressInUse => put_text(out, b" = EADDRINUSE\n"),
+        Fault::Unbound => put_text(out, b" = EINVAL unbound\n"),
+        Fault::Unrouted => put_text(out, b" = EINVAL unrouted\n"),
+        Fault::Full => put_text(out, b" = EAGAIN full\n"),
+        Fault::Empty => put_text(out, b" = EAGAIN empty\n"),
+        Fault::BadSize => put_text(out, b" = ERANGE\n"),
     }
 }

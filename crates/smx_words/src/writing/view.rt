@@ -6,7 +6,7 @@ ghost use Rattle.smx_words.specs.Spellable.{FitsBinding, FitsDescriptor, FitsFul
 ghost use Rattle.smx_words.specs.Spellable.{FitsName, FitsNumber, FitsRoute};
 ghost use Rattle.smx_words.specs.Spelling.{bind_words, descriptor_words, full_words, link_words};
 ghost use Rattle.smx_words.specs.Spelling.{link_kind_word, message_words, route_words, side_word};
-ghost use Rattle.smx_words.specs.Words.{line_of};
+ghost use Rattle.smx_words.specs.Words.{LINE_FEED, SPACE, line_of};
 
 use super::Spell;
 use super::bytes::put_message;
@@ -49,7 +49,7 @@ impl Spell for LinkLine {
 
 // A space, the kind of a link, and a line feed.
 fn put_last_kind(out: &mut Vec<u8>, kind: LinkKind) -> Result<(), NoMemory>
-    ensures { OnOk result (out.new.items ≡ out.old.items ++ 32 ∷ link_kind_word kind ++ 10 ∷ []) }
+    ensures { OnOk result (out.new.items ≡ out.old.items ++ SPACE ∷ link_kind_word kind ++ LINE_FEED ∷ []) }
 {
     out.extend_from_slice(match kind {
         LinkKind::Ordinary => b" link\n",
@@ -113,7 +113,7 @@ impl Spell for FullLine {
 // A space and the words of a place.
 fn put_place(out: &mut Vec<u8>, driver: &Name, minor: u32, side: Side) -> Result<(), NoMemory>
     ensures written { OnOk result (out.new.items
-        ≡ out.old.items ++ 32 ∷ driver.now ++ 32 ∷ decimal minor ++ 32 ∷ side_word side) }
+        ≡ out.old.items ++ SPACE ∷ driver.now ++ SPACE ∷ decimal minor ++ SPACE ∷ side_word side) }
     ensures fits { OnOk result (FitsName driver.now × FitsNumber minor) }
 {
     put_name(out, driver)?;
