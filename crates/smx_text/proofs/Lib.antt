@@ -12,4 +12,4 @@ pub mod TranscriptWholeLemmas
 pub mod TranscriptFollowLemmas
 pub mod TranscriptLemmas
 pub mod TranscriptGrammarLemmas
-pub mod ProgramsDecidedLemmas
+pub mod WritingLemmas

@@ -20,7 +20,9 @@ use Rattle.smx_text.specs.ProgramLines as line
 use Rattle.smx_text.specs.ProgramsText.{line_words, FitsLine, body, IsAllowed, programs_grammar}
 use Rattle.smx_text.proofs.GrammarLemmas.{IsWellMade}
 use Rattle.smx_text.proofs.ProgramsLemmas.{end_is_last, one_value}
-use Rattle.smx_text.proofs.WordLemmas.{IsSpelling, one_spelling, first_word, command_spelled, driver_spelled, process_spelled, end_spelled, one_line_of, one_command, one_driver, one_process}
+use Rattle.smx_words.specs.Words.{AreWords}
+use Rattle.smx_words.proofs.LawLemmas.{command_spelled, driver_spelled, process_spelled, one_command, one_driver, one_process}
+use Rattle.smx_text.proofs.WordLemmas.{one_spelling, first_word, end_spelled, one_line_of}
 
 -- ---- the first word of a command
 
@@ -56,7 +58,7 @@ not_verb c ws e h = let t = verb_first c in let same = ap (λ (vs : List (List �
 
 -- ---- lines
 
-spelling : (k : Line) → FitsLine k → IsSpelling (line_words k)
+spelling : (k : Line) → FitsLine k → AreWords (line_words k)
 spelling (line.Driver d) fits = driver_spelled d fits
 spelling (line.Process n) fits = process_spelled n fits
 spelling (line.Command c) fits = command_spelled c fits

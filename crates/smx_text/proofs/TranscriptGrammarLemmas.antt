@@ -37,9 +37,10 @@ use Rattle.smx_text.proofs.TranscriptDrafts.{new_draft, takes, is_full}
 use Rattle.smx_text.proofs.TranscriptDraftLemmas.{draft, run, run_append, run_body, taken}
 use Rattle.smx_text.proofs.TranscriptLemmas.{misplaced, some_of}
 use Rattle.smx_text.proofs.TranscriptWholeLemmas.{fits_body}
-use Rattle.smx_text.proofs.WordLemmas.{IsSpelling, one_spelling, first_word, end_spelled, config_spelled, one_line_of}
-use Rattle.smx_text.proofs.WordLemmas.{driver_spelled, entry_spelled, next_spelled, descriptor_spelled, link_spelled, binding_spelled, route_spelled, message_spelled, full_spelled}
-use Rattle.smx_text.proofs.WordLemmas.{one_driver, one_entry, one_next, one_descriptor, one_link, one_binding, one_route, one_message, one_full}
+use Rattle.smx_text.proofs.WordLemmas.{one_spelling, first_word, end_spelled, config_spelled, one_line_of}
+use Rattle.smx_words.specs.Words.{AreWords}
+use Rattle.smx_words.proofs.LawLemmas.{driver_spelled, entry_spelled, next_spelled, descriptor_spelled, link_spelled, bind_spelled, route_spelled, message_spelled, full_spelled}
+use Rattle.smx_words.proofs.LawLemmas.{one_driver, one_entry, one_next, one_descriptor, one_link, one_bind, one_route, one_message, one_full}
 
 -- ---- kinds of lines, by their first words
 
@@ -98,14 +99,14 @@ kind_first line.End fits = refl
 
 -- ---- lines
 
-spelling : (k : TranscriptLine) → FitsLine k → IsSpelling (line_words k)
+spelling : (k : TranscriptLine) → FitsLine k → AreWords (line_words k)
 spelling (line.Driver d) fits = driver_spelled d fits
 spelling (line.Entry e) fits = entry_spelled e fits
 spelling line.Config fits = config_spelled
 spelling (line.Next id serial) fits = next_spelled (id, serial) fits
 spelling (line.Fd d) fits = descriptor_spelled d fits
 spelling (line.Link l) fits = link_spelled l fits
-spelling (line.Bind b) fits = binding_spelled b fits
+spelling (line.Bind b) fits = bind_spelled b fits
 spelling (line.Route r) fits = route_spelled r fits
 spelling (line.Msg m) fits = message_spelled m fits
 spelling (line.Full f) fits = full_spelled f fits
@@ -119,7 +120,7 @@ kinds_apart (line.Next id serial) (line.Next jd terial) fits also kinds same =
     let pair = one_next (id, serial) (jd, terial) fits also same in ap (λ (p : ℕ × ℕ). line.Next p.0 p.1) pair
 kinds_apart (line.Fd d) (line.Fd e) fits also kinds same = ap (λ x. line.Fd x) (one_descriptor d e fits also same)
 kinds_apart (line.Link d) (line.Link e) fits also kinds same = ap (λ x. line.Link x) (one_link d e fits also same)
-kinds_apart (line.Bind d) (line.Bind e) fits also kinds same = ap (λ x. line.Bind x) (one_binding d e fits also same)
+kinds_apart (line.Bind d) (line.Bind e) fits also kinds same = ap (λ x. line.Bind x) (one_bind d e fits also same)
 kinds_apart (line.Route d) (line.Route e) fits also kinds same = ap (λ x. line.Route x) (one_route d e fits also same)
 kinds_apart (line.Msg d) (line.Msg e) fits also kinds same = ap (λ x. line.Msg x) (one_message d e fits also same)
 kinds_apart (line.Full d) (line.Full e) fits also kinds same = ap (λ x. line.Full x) (one_full d e fits also same)

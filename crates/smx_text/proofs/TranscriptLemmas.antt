@@ -150,7 +150,28 @@ is_group line.End = false
 
 in_view_by : (s : Stage) (t : Transcript) (k : TranscriptLine) → is_group k ≡ true → takes (draft s t) k ≡ true → s ≡ stage.View
 in_view_by stage.View t k group may = refl
-in_view_by s t k group may = absurd cc
+in_view_by stage.History t (line.Driver x) group may = absurd cc
+in_view_by stage.History t (line.Entry x) group may = absurd cc
+in_view_by stage.History t line.Config group may = absurd cc
+in_view_by stage.History t (line.Next id serial) group may = absurd cc
+in_view_by stage.History t (line.Fd x) group may = absurd cc
+in_view_by stage.History t (line.Link x) group may = absurd cc
+in_view_by stage.History t (line.Bind x) group may = absurd cc
+in_view_by stage.History t (line.Route x) group may = absurd cc
+in_view_by stage.History t (line.Msg x) group may = absurd cc
+in_view_by stage.History t (line.Full x) group may = absurd cc
+in_view_by stage.History t line.End group may = absurd cc
+in_view_by stage.Config t (line.Driver x) group may = absurd cc
+in_view_by stage.Config t (line.Entry x) group may = absurd cc
+in_view_by stage.Config t line.Config group may = absurd cc
+in_view_by stage.Config t (line.Next id serial) group may = absurd cc
+in_view_by stage.Config t (line.Fd x) group may = absurd cc
+in_view_by stage.Config t (line.Link x) group may = absurd cc
+in_view_by stage.Config t (line.Bind x) group may = absurd cc
+in_view_by stage.Config t (line.Route x) group may = absurd cc
+in_view_by stage.Config t (line.Msg x) group may = absurd cc
+in_view_by stage.Config t (line.Full x) group may = absurd cc
+in_view_by stage.Config t line.End group may = absurd cc
 
 pub group_added : (d : TranscriptDraft) (t : Transcript) (k : TranscriptLine) → IsBegun transcript_grammar (lines d) → takes d k ≡ true → is_group k ≡ true → is_full d k ≡ false → FitsLine k → k ≢ line.End
     → with_line d k ≡ draft stage.View t → AddsLine transcript_grammar (lines d) k (lines (draft d.stage t))

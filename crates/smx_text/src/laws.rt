@@ -4,6 +4,9 @@ ghost use Rattle.std.specs.Prelude.{◌≡◌, ◌≢◌, List, ℕ, Result, Ok,
 ghost use Rattle.smx_types.specs.ProgramLists.{ProgramLists};
 ghost use Rattle.smx_text.specs.declared.fault.TextFault.{TextFault};
 ghost use Rattle.smx_text.specs.declared.fault.Cause.TheVariants.{NoMemory};
+ghost use Rattle.smx_types.specs.declared.transcript.Transcript.{Transcript};
+ghost use Rattle.smx_text.specs.TranscriptText.{transcript_grammar, transcript_text};
+ghost use Rattle.smx_text.specs.TranscriptText.{IsAllowed as TranscriptIsAllowed};
 ghost use Rattle.smx_text.specs.Grammar.{Reads};
 ghost use Rattle.smx_text.specs.ProgramsText.{IsAllowed, programs_grammar, programs_text};
 
@@ -27,8 +30,22 @@ pub fn one_text_has_one_reading()
         → IfErr r (λ f. f.cause ≢ NoMemory) → IfErr s (λ f. f.cause ≢ NoMemory) → r ≡ s }
 {}
 
-/// Any bytes have a reading, so that want of memory is never the only answer.
-pub fn each_text_has_a_reading()
-    ensures { (bytes : List ℕ) → (r : Result ProgramLists TextFault)
-        × Reads programs_grammar bytes r × IfErr r (λ f. f.cause ≢ NoMemory) }
+/// What is written of a transcript within the limits is read as that transcript, unless memory runs out.
+pub fn transcript_written_is_read()
+    ensures { (t : Transcript) (r : Result Transcript TextFault)
+        → TranscriptIsAllowed t → Reads transcript_grammar (transcript_text t) r
+        → MatchResult r (λ u. u ≡ t) (λ f. f.cause ≡ NoMemory) }
+{}
+
+/// A text that is read is the one that is written of what was read.
+pub fn transcript_read_is_written()
+    ensures { (bytes : List ℕ) (t : Transcript)
+        → Reads transcript_grammar bytes (Ok t) → bytes ≡ transcript_text t }
+{}
+
+/// Two readings of one text are the same, faults and their lines among them, unless memory runs out.
+pub fn one_transcript_has_one_reading()
+    ensures { (bytes : List ℕ) (r s : Result Transcript TextFault)
+        → Reads transcript_grammar bytes r → Reads transcript_grammar bytes s
+        → IfErr r (λ f. f.cause ≢ NoMemory) → IfErr s (λ f. f.cause ≢ NoMemory) → r ≡ s }
 {}

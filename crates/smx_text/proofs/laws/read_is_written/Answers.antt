@@ -1,2 +1,0 @@
-use Rattle.smx_text.proofs.TranscriptGrammarLemmas
-use Rattle.smx_text.proofs.laws.read_is_written.Goals as goal
