@@ -9,3 +9,7 @@ pub mod CommandLemmas
 pub mod PlainLemmas
 pub mod SameLemmas
 pub mod LawLemmas
+pub mod DecidedLemmas
+pub mod DecidedWordLemmas
+pub mod DecidedLineLemmas
+pub mod DecidedCommandLemmas

@@ -2,6 +2,7 @@
 #![tactic(auto)]
 
 pub mod laws;
+pub mod laws_of_reading;
 mod reading;
 mod writing;
 

@@ -26,7 +26,8 @@ pub trait Spell {
 
     /// Its line, with the line feed, behind `out`. Where memory runs out, `out` may have a part of it.
     fn write_line(&self, out: &mut Vec<u8>) -> Result<(), NoMemory>
-        ensures written { OnOk result (out.new.items ≡ out.old.items ++ line_of (words self.now) ++ LINE_FEED ∷ []) }
+        ensures written { OnOk result (out.new.items
+            ≡ out.old.items ++ line_of (words self.now) ++ LINE_FEED ∷ []) }
         // The type keeps this, so that what is written can be read again.
         ensures fits { OnOk result (Fits self.now) };
 }

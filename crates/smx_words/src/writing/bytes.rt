@@ -29,7 +29,8 @@ pub(super) fn put_message(
     bytes: &[u8],
 ) -> Result<(), NoMemory>
     ensures written { OnOk result (out.new.items
-        ≡ out.old.items ++ SPACE ∷ decimal serial ++ SPACE ∷ decimal addr ++ SPACE ∷ hex_word bytes.now ++ LINE_FEED ∷ []) }
+        ≡ out.old.items ++ SPACE ∷ decimal serial ++ SPACE ∷ decimal addr ++ SPACE ∷ hex_word bytes.now
+        ++ LINE_FEED ∷ []) }
     ensures fits { FitsNumber serial × FitsNumber addr × FitsBytes bytes.now }
 {
     put_spaced(out, serial)?;

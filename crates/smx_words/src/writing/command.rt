@@ -27,7 +27,8 @@ impl Spell for Command {
 
 /// The words of a command, with a space between them.
 pub(super) fn put_command(out: &mut Vec<u8>, command: &Command) -> Result<(), NoMemory>
-    ensures written { OnOk result (out.new.items ≡ out.old.items ++ line_of (command_words command.now)) }
+    ensures written { OnOk result (out.new.items
+        ≡ out.old.items ++ line_of (command_words command.now)) }
     ensures fits { OnOk result (FitsCommand command.now) }
 {
     match command {
@@ -94,7 +95,8 @@ fn put_stream(out: &mut Vec<u8>, word: &[u8], driver: &Name, minor: u32) -> Resu
 // A word and a number.
 #[inline(always)]
 fn put_one(out: &mut Vec<u8>, word: &[u8], a: u32) -> Result<(), NoMemory>
-    ensures written { OnOk result (out.new.items ≡ out.old.items ++ line_of (word.now ∷ decimal a ∷ [])) }
+    ensures written { OnOk result (out.new.items
+        ≡ out.old.items ++ line_of (word.now ∷ decimal a ∷ [])) }
     ensures fits { FitsNumber a }
 {
     out.extend_from_slice(word)?;
@@ -174,8 +176,10 @@ fn put_inject(
     bytes: &[u8],
 ) -> Result<(), NoMemory>
     ensures written { OnOk result (out.new.items
-        ≡ out.old.items ++ line_of (codes "inject" ∷ driver.now ∷ decimal minor ∷ decimal addr ∷ hex_word bytes.now ∷ [])) }
-    ensures fits { OnOk result (FitsName driver.now × FitsNumber minor × FitsNumber addr × FitsBytes bytes.now) }
+        ≡ out.old.items
+        ++ line_of (codes "inject" ∷ driver.now ∷ decimal minor ∷ decimal addr ∷ hex_word bytes.now ∷ [])) }
+    ensures fits { OnOk result (FitsName driver.now × FitsNumber minor
+        × FitsNumber addr × FitsBytes bytes.now) }
 {
     put_stream(out, b"inject", driver, minor)?;
     put_spaced(out, addr)?;

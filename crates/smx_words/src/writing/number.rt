@@ -15,7 +15,8 @@ const ZERO: u8 = b'0';
 
 /// The line `process NUMBER`, behind `out`. Where memory runs out, `out` may have a part of it.
 pub fn write_process(out: &mut Vec<u8>, number: u32) -> Result<(), NoMemory>
-    ensures written { OnOk result (out.new.items ≡ out.old.items ++ line_of (process_words number) ++ LINE_FEED ∷ []) }
+    ensures written { OnOk result (out.new.items
+        ≡ out.old.items ++ line_of (process_words number) ++ LINE_FEED ∷ []) }
     ensures fits { FitsNumber number }
 {
     out.extend_from_slice(b"process")?;
@@ -24,7 +25,8 @@ pub fn write_process(out: &mut Vec<u8>, number: u32) -> Result<(), NoMemory>
 
 /// The line `next ID SERIAL`, behind `out`. Where memory runs out, `out` may have a part of it.
 pub fn write_next(out: &mut Vec<u8>, id: u32, serial: u32) -> Result<(), NoMemory>
-    ensures written { OnOk result (out.new.items ≡ out.old.items ++ line_of (next_words (id, serial)) ++ LINE_FEED ∷ []) }
+    ensures written { OnOk result (out.new.items
+        ≡ out.old.items ++ line_of (next_words (id, serial)) ++ LINE_FEED ∷ []) }
     ensures fits { FitsNumber id × FitsNumber serial }
 {
     out.extend_from_slice(b"next")?;
@@ -48,7 +50,8 @@ pub(super) fn put_spaced(out: &mut Vec<u8>, n: u32) -> Result<(), NoMemory>
 /// A space, the digits of a number, and a line feed.
 #[inline(always)]
 pub(super) fn put_last(out: &mut Vec<u8>, n: u32) -> Result<(), NoMemory>
-    ensures written { OnOk result (out.new.items ≡ out.old.items ++ SPACE ∷ decimal n ++ LINE_FEED ∷ []) }
+    ensures written { OnOk result (out.new.items
+        ≡ out.old.items ++ SPACE ∷ decimal n ++ LINE_FEED ∷ []) }
     ensures fits { FitsNumber n }
 {
     if n < 10 {

@@ -36,7 +36,8 @@ pub(super) fn put_reply(out: &mut Vec<u8>, reply: &Reply) -> Result<(), NoMemory
 #[inline(always)]
 fn put_descriptor(out: &mut Vec<u8>, fd: u32, minor: u32) -> Result<(), NoMemory>
     ensures written { OnOk result (out.new.items
-        ≡ out.old.items ++ codes " = " ++ line_of (codes "fd" ∷ decimal fd ∷ decimal minor ∷ []) ++ LINE_FEED ∷ []) }
+        ≡ out.old.items ++ codes " = " ++ line_of (codes "fd" ∷ decimal fd ∷ decimal minor ∷ [])
+        ++ LINE_FEED ∷ []) }
     ensures fits { FitsNumber fd × FitsNumber minor }
 {
     out.extend_from_slice(b" = fd")?;
@@ -46,7 +47,8 @@ fn put_descriptor(out: &mut Vec<u8>, fd: u32, minor: u32) -> Result<(), NoMemory
 
 #[inline(always)]
 fn put_number(out: &mut Vec<u8>, before: &[u8], n: u32) -> Result<(), NoMemory>
-    ensures written { OnOk result (out.new.items ≡ out.old.items ++ before.now ++ SPACE ∷ decimal n ++ LINE_FEED ∷ []) }
+    ensures written { OnOk result (out.new.items
+        ≡ out.old.items ++ before.now ++ SPACE ∷ decimal n ++ LINE_FEED ∷ []) }
     ensures fits { FitsNumber n }
 {
     out.extend_from_slice(before)?;
@@ -56,7 +58,8 @@ fn put_number(out: &mut Vec<u8>, before: &[u8], n: u32) -> Result<(), NoMemory>
 fn put_got(out: &mut Vec<u8>, serial: u32, addr: u32, bytes: &[u8]) -> Result<(), NoMemory>
     ensures written { OnOk result (out.new.items
         ≡ out.old.items ++ codes " = "
-        ++ line_of (codes "got" ∷ decimal serial ∷ decimal addr ∷ hex_word bytes.now ∷ []) ++ LINE_FEED ∷ []) }
+        ++ line_of (codes "got" ∷ decimal serial ∷ decimal addr ∷ hex_word bytes.now ∷ [])
+        ++ LINE_FEED ∷ []) }
     ensures fits { FitsNumber serial × FitsNumber addr × FitsBytes bytes.now }
 {
     out.extend_from_slice(b" = got")?;
@@ -65,7 +68,8 @@ fn put_got(out: &mut Vec<u8>, serial: u32, addr: u32, bytes: &[u8]) -> Result<()
 
 fn put_done(out: &mut Vec<u8>, dropped: &[u32]) -> Result<(), NoMemory>
     ensures written { OnOk result (out.new.items
-        ≡ out.old.items ++ codes " = " ++ line_of (codes "done" ∷ map decimal dropped.now) ++ LINE_FEED ∷ []) }
+        ≡ out.old.items ++ codes " = " ++ line_of (codes "done" ∷ map decimal dropped.now)
+        ++ LINE_FEED ∷ []) }
     ensures fits { OnOk result (AllByRecursion FitsNumber dropped.now) }
 {
     if dropped.is_empty() {
@@ -80,7 +84,8 @@ fn put_done(out: &mut Vec<u8>, dropped: &[u32]) -> Result<(), NoMemory>
 
 // A space and the digits of each.
 fn put_serials(out: &mut Vec<u8>, serials: &[u32]) -> Result<(), NoMemory>
-    ensures written { OnOk result (out.new.items ≡ out.old.items ++ flat_map (λ n. SPACE ∷ decimal n) serials.now) }
+    ensures written { OnOk result (out.new.items
+        ≡ out.old.items ++ flat_map (λ n. SPACE ∷ decimal n) serials.now) }
     ensures fits { OnOk result (AllByRecursion FitsNumber serials.now) }
 {
     for serial in serials {
@@ -91,7 +96,8 @@ fn put_serials(out: &mut Vec<u8>, serials: &[u32]) -> Result<(), NoMemory>
 
 // Each of its texts has a length that the compiler knows.
 fn put_fault(out: &mut Vec<u8>, fault: Fault) -> Result<(), NoMemory>
-    ensures { OnOk result (out.new.items ≡ out.old.items ++ codes " = " ++ line_of (fault_words fault) ++ LINE_FEED ∷ []) }
+    ensures { OnOk result (out.new.items
+        ≡ out.old.items ++ codes " = " ++ line_of (fault_words fault) ++ LINE_FEED ∷ []) }
 {
     match fault {
         Fault::BadDescriptor => put_text(out, b" = EBADF fd\n"),

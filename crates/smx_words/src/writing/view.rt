@@ -49,7 +49,8 @@ impl Spell for LinkLine {
 
 // A space, the kind of a link, and a line feed.
 fn put_last_kind(out: &mut Vec<u8>, kind: LinkKind) -> Result<(), NoMemory>
-    ensures { OnOk result (out.new.items ≡ out.old.items ++ SPACE ∷ link_kind_word kind ++ LINE_FEED ∷ []) }
+    ensures { OnOk result (out.new.items
+        ≡ out.old.items ++ SPACE ∷ link_kind_word kind ++ LINE_FEED ∷ []) }
 {
     out.extend_from_slice(match kind {
         LinkKind::Ordinary => b" link\n",
