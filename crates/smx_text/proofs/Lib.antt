@@ -6,6 +6,7 @@ pub mod GrammarLemmas
 pub mod ProgramsLemmas
 pub mod ProgramsGrammarLemmas
 pub mod DecisionLemmas
+pub mod ProgramsDecidedLemmas
 pub mod TranscriptDrafts
 pub mod TranscriptDraftLemmas
 pub mod TranscriptWholeLemmas
