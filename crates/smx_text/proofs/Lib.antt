@@ -13,4 +13,5 @@ pub mod TranscriptWholeLemmas
 pub mod TranscriptFollowLemmas
 pub mod TranscriptLemmas
 pub mod TranscriptGrammarLemmas
+pub mod TranscriptDecidedLemmas
 pub mod WritingLemmas

@@ -55,3 +55,9 @@ pub fn one_transcript_has_one_reading()
         → Reads transcript_grammar bytes r → Reads transcript_grammar bytes s
         → IfErr r (λ f. f.cause ≢ NoMemory) → IfErr s (λ f. f.cause ≢ NoMemory) → r ≡ s }
 {}
+
+/// Any bytes have a reading, so that want of memory is never the only answer.
+pub fn each_transcript_has_a_reading()
+    ensures { (bytes : List ℕ) → (r : Result Transcript TextFault)
+        × Reads transcript_grammar bytes r × IfErr r (λ f. f.cause ≢ NoMemory) }
+{}
