@@ -6,10 +6,12 @@ pub mod GrammarLemmas
 pub mod ProgramsLemmas
 pub mod ProgramsGrammarLemmas
 pub mod DecisionLemmas
+pub mod ProgramsDecidedLemmas
 pub mod TranscriptDrafts
 pub mod TranscriptDraftLemmas
 pub mod TranscriptWholeLemmas
 pub mod TranscriptFollowLemmas
 pub mod TranscriptLemmas
 pub mod TranscriptGrammarLemmas
+pub mod TranscriptDecidedLemmas
 pub mod WritingLemmas

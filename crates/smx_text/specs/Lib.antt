@@ -5,3 +5,4 @@ pub mod ProgramsText
 pub mod TranscriptLines
 pub mod TranscriptText
 pub mod Drafts
+pub mod WorkedTexts

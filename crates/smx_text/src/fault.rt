@@ -5,6 +5,7 @@ ghost use Rattle.smx_text.specs.declared.fault.Cause.TheVariants.{NoMemory as me
 
 use smx_types::NoMemory;
 use std::alloc::AllocFailed;
+use std::fmt;
 
 /// What is wrong with a line of a text.
 #[derive(Clone, Copy, Debug, PartialEq, Eq)]
@@ -19,7 +20,7 @@ pub enum Cause {
     Cut,
     /// A byte follows the line `end`.
     Trailing,
-    /// A growth was refused while the line was read.
+    /// A growth was refused while the line was read; it is never the first line or the line `end`.
     NoMemory,
 }
 
@@ -52,5 +53,27 @@ impl From<NoMemory> for Cause {
 
     fn from(_e: NoMemory) -> Cause {
         Cause::NoMemory
+    }
+}
+
+impl fmt::Display for Cause {
+    fn fmt<W: fmt::Write>(&self, f: &mut fmt::Formatter<W>) -> fmt::Result {
+        let word = match self {
+            Cause::Header => "header",
+            Cause::Form => "form",
+            Cause::Many => "many",
+            Cause::Cut => "cut",
+            Cause::Trailing => "trailing",
+            Cause::NoMemory => "no memory",
+        };
+        write!(f, "{word}")
+    }
+}
+
+impl fmt::Display for TextFault {
+    fn fmt<W: fmt::Write>(&self, f: &mut fmt::Formatter<W>) -> fmt::Result {
+        let line = self.line;
+        let cause = self.cause;
+        write!(f, "line {line}: {cause}")
     }
 }

@@ -30,6 +30,12 @@ pub fn one_text_has_one_reading()
         → IfErr r (λ f. f.cause ≢ NoMemory) → IfErr s (λ f. f.cause ≢ NoMemory) → r ≡ s }
 {}
 
+/// Any bytes have a reading, so that want of memory is never the only answer.
+pub fn each_text_has_a_reading()
+    ensures { (bytes : List ℕ) → (r : Result ProgramLists TextFault)
+        × Reads programs_grammar bytes r × IfErr r (λ f. f.cause ≢ NoMemory) }
+{}
+
 /// What is written of a transcript within the limits is read as that transcript, unless memory runs out.
 pub fn transcript_written_is_read()
     ensures { (t : Transcript) (r : Result Transcript TextFault)
@@ -48,4 +54,10 @@ pub fn one_transcript_has_one_reading()
     ensures { (bytes : List ℕ) (r s : Result Transcript TextFault)
         → Reads transcript_grammar bytes r → Reads transcript_grammar bytes s
         → IfErr r (λ f. f.cause ≢ NoMemory) → IfErr s (λ f. f.cause ≢ NoMemory) → r ≡ s }
+{}
+
+/// Any bytes have a reading, so that want of memory is never the only answer.
+pub fn each_transcript_has_a_reading()
+    ensures { (bytes : List ℕ) → (r : Result Transcript TextFault)
+        × Reads transcript_grammar bytes r × IfErr r (λ f. f.cause ≢ NoMemory) }
 {}
