@@ -1,7 +1,7 @@
-pub mod PlaceLemmas
+pub mod InsertionLemmas
 pub mod ClimbLemmas
 pub mod ReachLemmas
-pub mod FrontLemmas
+pub mod FirstMessageLemmas
 pub mod FlowLemmas
 pub mod MarkLemmas
 pub mod SettleLemmas
@@ -14,3 +14,4 @@ pub mod DoneLemmas
 pub mod DriverListLemmas
 pub mod PerformLemmas
 pub mod CountLemmas
+pub mod OpenLemmas

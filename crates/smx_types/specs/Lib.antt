@@ -1,4 +1,6 @@
 pub mod Names
 pub mod NameFields
 pub mod Drivers
+pub mod FaultWords
 pub mod ProgramLists
+pub mod SameLemmas

@@ -8,6 +8,7 @@ use crate::limits::{MAX_HIGH, MAX_MESSAGE, MAX_MINORS};
 use crate::memory::NoMemory;
 use crate::name::Name;
 use std::alloc::Global;
+use std::fmt;
 
 /// Whether streams can be linked below a driver.
 #[derive(Clone, Copy, Debug, PartialEq, Eq)]
@@ -69,4 +70,25 @@ impl Copied for DriverSpec {
     fn copied(&self, _alloc: Global) -> Result<DriverSpec, NoMemory> {
         Ok(*self)
     }
+
+    fn copies(alloc: Global, items: &[DriverSpec]) -> Result<Vec<DriverSpec>, NoMemory> {
+        Ok(Vec::from_slice(alloc, items)?)
+    }
 }
+
+impl fmt::Display for SpecFault {
+    ghost use Rattle.std.specs.Prelude.{Some};
+    ghost use Rattle.smx_types.specs.FaultWords.{spec_fault_words};
+
+    ghost output = { λ fault. Some (spec_fault_words fault) };
+
+    fn fmt<W: fmt::Write>(&self, f: &mut fmt::Formatter<W>) -> fmt::Result {
+        match self {
+            SpecFault::BadMinors => f.write_str("minors"),
+            SpecFault::BadMarks => f.write_str("marks"),
+            SpecFault::BadMax => f.write_str("max"),
+        }
+    }
+}
+
+impl std::error::Error for SpecFault {}

@@ -13,17 +13,38 @@ pub trait Copied: Drop {
     where
         Self: Sized,
         ensures { IfOk result (λ c. c ≡ self.now) };
+
+    /// The same values again, in a vector with room for just them. Fails only for want of memory.
+    fn copies(alloc: Global, items: &[Self]) -> Result<Vec<Self>, NoMemory>
+    where
+        Self: Sized,
+        ensures { IfOk result (λ v. v.items ≡ items.now) }
+    {
+        let mut made = Vec::with_capacity(alloc, items.len())?;
+        for item in items {
+            made.push_reserved(item.copied(alloc)?);
+        }
+        Ok(made)
+    }
 }
 
 impl Copied for u8 {
     fn copied(&self, _alloc: Global) -> Result<u8, NoMemory> {
         Ok(*self)
     }
+
+    fn copies(alloc: Global, items: &[u8]) -> Result<Vec<u8>, NoMemory> {
+        Ok(Vec::from_slice(alloc, items)?)
+    }
 }
 
 impl Copied for u32 {
     fn copied(&self, _alloc: Global) -> Result<u32, NoMemory> {
         Ok(*self)
+    }
+
+    fn copies(alloc: Global, items: &[u32]) -> Result<Vec<u32>, NoMemory> {
+        Ok(Vec::from_slice(alloc, items)?)
     }
 }
 
@@ -89,7 +110,7 @@ impl<T: Copied> Items<T> {
     pub fn copy(&self, alloc: Global) -> Result<Items<T>, NoMemory>
         ensures { IfOk result (λ c. c ≡ self.now) }
     {
-        let items = copies(alloc, self.items.as_slice())?;
+        let items = T::copies(alloc, self.items.as_slice())?;
         Ok(Items { items })
     }
 }
@@ -98,16 +119,6 @@ impl<T: Copied> Copied for Items<T> {
     fn copied(&self, alloc: Global) -> Result<Items<T>, NoMemory> {
         self.copy(alloc)
     }
-}
-
-fn copies<T: Copied>(alloc: Global, items: &[T]) -> Result<Vec<T>, NoMemory>
-    ensures { IfOk result (λ v. v.items ≡ items.now) }
-{
-    let mut made = Vec::with_capacity(alloc, items.len())?;
-    for item in items {
-        made.push(item.copied(alloc)?)?;
-    }
-    Ok(made)
 }
 
 impl<T: PartialEq> PartialEq for Items<T> {

@@ -12,9 +12,8 @@ mod name;
 mod process;
 mod programs;
 mod reply;
+mod same;
 mod stream;
-#[cfg(test)]
-mod tests;
 mod transcript;
 mod view;
 
@@ -32,6 +31,7 @@ pub use name::Name;
 pub use process::Process;
 pub use programs::{Many, ProgramList, Programs};
 pub use reply::{Fault, Reply};
+pub use same::Same;
 pub use stream::{Descriptor, Place, Side, StreamId};
 pub use transcript::Transcript;
 pub use view::{

@@ -1,6 +1,7 @@
 //! Want of memory.
 
 use std::alloc::{AllocError, AllocFailed};
+use std::fmt;
 
 /// A growth was refused, and nothing has changed.
 #[derive(Clone, Copy, Debug, PartialEq, Eq)]
@@ -17,3 +18,16 @@ impl<T: Drop> From<AllocFailed<T>> for NoMemory {
         NoMemory
     }
 }
+
+impl fmt::Display for NoMemory {
+    ghost use Rattle.std.specs.Prelude.{Some};
+    ghost use Rattle.smx_types.specs.FaultWords.{no_memory_words};
+
+    ghost output = { λ _. Some no_memory_words };
+
+    fn fmt<W: fmt::Write>(&self, f: &mut fmt::Formatter<W>) -> fmt::Result {
+        f.write_str("no memory")
+    }
+}
+
+impl std::error::Error for NoMemory {}

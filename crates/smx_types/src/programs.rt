@@ -11,6 +11,7 @@ use crate::items::Items;
 use crate::limits::{MAX_COMMANDS, MAX_DRIVERS, MAX_PROCESSES};
 use crate::memory::NoMemory;
 use std::alloc::Global;
+use std::fmt;
 use std::marker::Model;
 
 /// The commands of process 0, of process 1, and so on.
@@ -35,8 +36,21 @@ impl Many {
     }
 }
 
+impl fmt::Display for Many {
+    ghost use Rattle.std.specs.Prelude.{Some};
+    ghost use Rattle.smx_types.specs.FaultWords.{many_words};
+
+    ghost output = { λ _. Some many_words };
+
+    fn fmt<W: fmt::Write>(&self, f: &mut fmt::Formatter<W>) -> fmt::Result {
+        f.write_str("too many drivers, programs or commands")
+    }
+}
+
+impl std::error::Error for Many {}
+
 /// At most 64 drivers, at most 64 programs, and at most 100,000 commands in all of them.
-#[derive(Debug, Drop)]
+#[derive(Debug, Drop, PartialEq)]
 pub struct Programs {
     drivers: Drivers,
     programs: ProgramList,
@@ -50,6 +64,8 @@ impl Model for Programs {
     ghost view = { λ p. record { drivers = p.drivers; programs = p.programs } };
 
     ghost invariant = { λ p. AreWithinLimits (record { drivers = p.drivers; programs = p.programs }) };
+
+    ghost inverse = { λ lists. record { drivers = lists.drivers; programs = lists.programs } };
 }
 
 impl Programs {
@@ -83,6 +99,15 @@ impl Programs {
         ensures within { AreWithinLimits self.now }
     {
         self.programs.as_slice()
+    }
+
+    /// The drivers, and the program of each process. Takes no memory.
+    pub fn into_parts(self) -> (Drivers, ProgramList)
+        ensures drivers { result.0 ≡ self.drivers }
+        ensures programs { result.1 ≡ self.programs }
+        ensures within { AreWithinLimits self }
+    {
+        (self.drivers, self.programs)
     }
 
     /// The same programs again. Fails only for want of memory.

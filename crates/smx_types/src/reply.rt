@@ -1,6 +1,6 @@
 //! Replies, and the faults with which commands are refused.
 
-ghost use Rattle.std.specs.Prelude.{◌≡◌, ◌↔◌, IsTrue, IfOk};
+ghost use Rattle.std.specs.Prelude.{◌≡◌, IfOk};
 
 use crate::items::Copied;
 use crate::memory::NoMemory;
@@ -95,13 +95,6 @@ impl Reply {
             },
             Reply::Fault(fault) => Reply::Fault(fault),
         })
-    }
-
-    /// Whether both replies are the same. Takes no memory.
-    pub fn is_same(&self, other: &Reply) -> bool
-        ensures { IsTrue result ↔ (self.now ≡ other.now) }
-    {
-        self == other
     }
 }
 

@@ -1,6 +1,6 @@
 //! A configuration as it is shown: its drivers by name, its parts as groups of lines.
 
-ghost use Rattle.std.specs.Prelude.{◌≡◌, ◌↔◌, IsTrue, IfOk};
+ghost use Rattle.std.specs.Prelude.{◌≡◌, IfOk};
 
 use crate::items::{Copied, Items};
 use crate::link::LinkKind;
@@ -134,18 +134,15 @@ impl ConfigView {
             fulls,
         })
     }
-
-    /// Whether both views are the same. Takes no memory.
-    pub fn is_same(&self, other: &ConfigView) -> bool
-        ensures { IsTrue result ↔ (self.now ≡ other.now) }
-    {
-        self == other
-    }
 }
 
 impl Copied for DescriptorLine {
     fn copied(&self, _alloc: Global) -> Result<DescriptorLine, NoMemory> {
         Ok(*self)
+    }
+
+    fn copies(alloc: Global, items: &[DescriptorLine]) -> Result<Vec<DescriptorLine>, NoMemory> {
+        Ok(Vec::from_slice(alloc, items)?)
     }
 }
 
@@ -153,17 +150,29 @@ impl Copied for LinkLine {
     fn copied(&self, _alloc: Global) -> Result<LinkLine, NoMemory> {
         Ok(*self)
     }
+
+    fn copies(alloc: Global, items: &[LinkLine]) -> Result<Vec<LinkLine>, NoMemory> {
+        Ok(Vec::from_slice(alloc, items)?)
+    }
 }
 
 impl Copied for BindingLine {
     fn copied(&self, _alloc: Global) -> Result<BindingLine, NoMemory> {
         Ok(*self)
     }
+
+    fn copies(alloc: Global, items: &[BindingLine]) -> Result<Vec<BindingLine>, NoMemory> {
+        Ok(Vec::from_slice(alloc, items)?)
+    }
 }
 
 impl Copied for RouteLine {
     fn copied(&self, _alloc: Global) -> Result<RouteLine, NoMemory> {
         Ok(*self)
+    }
+
+    fn copies(alloc: Global, items: &[RouteLine]) -> Result<Vec<RouteLine>, NoMemory> {
+        Ok(Vec::from_slice(alloc, items)?)
     }
 }
 
@@ -176,5 +185,9 @@ impl Copied for MessageLine {
 impl Copied for FullLine {
     fn copied(&self, _alloc: Global) -> Result<FullLine, NoMemory> {
         Ok(*self)
+    }
+
+    fn copies(alloc: Global, items: &[FullLine]) -> Result<Vec<FullLine>, NoMemory> {
+        Ok(Vec::from_slice(alloc, items)?)
     }
 }

@@ -1,3 +1,4 @@
+pub mod WritingLemmas
 pub mod CutLemmas
 pub mod NumberLemmas
 pub mod WordLemmas
@@ -8,3 +9,7 @@ pub mod CommandLemmas
 pub mod PlainLemmas
 pub mod SameLemmas
 pub mod LawLemmas
+pub mod DecidedLemmas
+pub mod DecidedWordLemmas
+pub mod DecidedLineLemmas
+pub mod DecidedCommandLemmas

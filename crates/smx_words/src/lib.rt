@@ -2,6 +2,7 @@
 #![tactic(auto)]
 
 pub mod laws;
+pub mod laws_of_reading;
 mod reading;
 mod writing;
 
@@ -9,3 +10,4 @@ pub use reading::{
     bind_of, command_of, descriptor_of, driver_of, entry_of, full_of, link_of, message_of, next_of,
     process_of, route_of,
 };
+pub use writing::{Spell, write_lines, write_next, write_process};

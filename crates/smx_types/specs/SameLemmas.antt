@@ -1,0 +1,106 @@
+-- What `==` tells of the larger values, where a search through all cases at once finds nothing.
+use Rattle.std.specs.Prelude.{◌≡◌, Bool, List}
+use Rattle.std.proofs.Common.{rules, ap, ◌∙◌}
+use Rattle.std.specs.Bool.{Decides}
+use Rattle.std.specs.Cmp.Lexicographic.{pointwise, pointwise_decides}
+use Rattle.std.proofs.lemmas.Bool.Decides.{Decides-and}
+use Rattle.smx_types.specs.declared.command.Command.{Command}
+use Rattle.smx_types.specs.declared.command.Command.TheVariants as command
+use Rattle.smx_types.specs.declared.driver.DriverSpec.{DriverSpec}
+use Rattle.smx_types.specs.declared.programs.Many.{Many}
+use Rattle.smx_types.specs.ProgramLists.{ProgramLists, program_lists}
+use Rattle.smx_types.specs.contracts.command.CommandPartialEq.TheImpl as of_command
+use Rattle.smx_types.specs.contracts.command.EntryPartialEq.TheImpl as of_entry
+use Rattle.smx_types.specs.contracts.driver.DriverSpecPartialEq.TheImpl as of_driver
+use Rattle.smx_types.specs.contracts.programs.ManyPartialEq.TheImpl as of_many
+use Rattle.smx_types.specs.contracts.programs.ProgramsPartialEq.TheImpl as of_programs
+use Rattle.smx_types.specs.contracts.reply.ReplyPartialEq.TheImpl as of_reply
+use Rattle.smx_types.specs.contracts.transcript.TranscriptPartialEq.TheImpl as of_transcript
+use Rattle.smx_types.specs.contracts.view.BindingLinePartialEq.TheImpl as of_binding_line
+use Rattle.smx_types.specs.contracts.view.ConfigViewPartialEq.TheImpl as of_view
+use Rattle.smx_types.specs.contracts.view.DescriptorLinePartialEq.TheImpl as of_descriptor_line
+use Rattle.smx_types.specs.contracts.view.FullLinePartialEq.TheImpl as of_full_line
+use Rattle.smx_types.specs.contracts.view.LinkLinePartialEq.TheImpl as of_link_line
+use Rattle.smx_types.specs.contracts.view.MessageLinePartialEq.TheImpl as of_message_line
+use Rattle.smx_types.specs.contracts.view.RouteLinePartialEq.TheImpl as of_route_line
+
+-- the test tells exactly whether both are the same
+abbrev pub Tells : {X : Type 0} → (X → X → Bool) → Type 0
+Tells {X} test = (a b : X) → Decides (test a b) (a ≡ b)
+
+-- a search for each command, since all of them at once are too many for one
+pub command_tells : Tells of_command.ghosts.eq
+command_tells (command.OpenClone d) b = search rules
+command_tells (command.OpenMinor d m) b = search rules
+command_tells (command.Dup f) b = search rules
+command_tells (command.Close f) b = search rules
+command_tells command.CloseAll b = search rules
+command_tells (command.Link f a) b = search rules
+command_tells (command.Plink f a) b = search rules
+command_tells (command.Unlink f w) b = search rules
+command_tells (command.Punlink f w) b = search rules
+command_tells (command.Bind f a) b = search rules
+command_tells (command.Unbind f) b = search rules
+command_tells (command.Route f a i) b = search rules
+command_tells (command.Unroute f a) b = search rules
+command_tells (command.Write f a bytes) b = search rules
+command_tells (command.Read f) b = search rules
+command_tells (command.Flush f s) b = search rules
+command_tells (command.Inject d m a bytes) b = search rules
+command_tells (command.Transmit d m) b = search rules
+
+pub reply_tells : Tells of_reply.ghosts.eq
+reply_tells a b = search rules
+
+pub entry_tells : Tells of_entry.ghosts.eq
+entry_tells a b = search (rules, command_tells, reply_tells)
+
+drivers_tell : Tells (pointwise of_driver.ghosts.eq)
+drivers_tell = pointwise_decides (λ a b. search rules)
+
+program_lists_tell : Tells (pointwise (pointwise of_command.ghosts.eq))
+program_lists_tell = pointwise_decides (pointwise_decides command_tells)
+
+entries_tell : Tells (pointwise of_entry.ghosts.eq)
+entries_tell = pointwise_decides entry_tells
+
+abbrev many_of : List DriverSpec → List (List Command) → Many
+many_of drivers programs = record { drivers = drivers; programs = programs }
+
+pub many_tells : Tells of_many.ghosts.eq
+many_tells a b =
+    let both = Decides-and _ _ (drivers_tell a.drivers b.drivers) (program_lists_tell a.programs b.programs) in (
+      λ h. ap (λ ds. many_of ds a.programs) (both.0 h).0 ∙ ap (many_of b.drivers) (both.0 h).1,
+      λ h. both.1 (ap (λ (m : Many). m.drivers) h, ap (λ (m : Many). m.programs) h),
+    )
+
+pub programs_tell : Tells of_programs.ghosts.eq
+programs_tell a b =
+    let both = Decides-and _ _ (drivers_tell a.drivers b.drivers) (program_lists_tell a.programs b.programs) in (
+      λ h. ap (λ ds. program_lists ds a.programs) (both.0 h).0 ∙ ap (program_lists b.drivers) (both.0 h).1,
+      λ h. both.1 (ap (λ (p : ProgramLists). p.drivers) h, ap (λ (p : ProgramLists). p.programs) h),
+    )
+
+descriptors_tell : Tells (pointwise of_descriptor_line.ghosts.eq)
+descriptors_tell = pointwise_decides (λ a b. search rules)
+
+links_tell : Tells (pointwise of_link_line.ghosts.eq)
+links_tell = pointwise_decides (λ a b. search rules)
+
+bindings_tell : Tells (pointwise of_binding_line.ghosts.eq)
+bindings_tell = pointwise_decides (λ a b. search rules)
+
+routes_tell : Tells (pointwise of_route_line.ghosts.eq)
+routes_tell = pointwise_decides (λ a b. search rules)
+
+messages_tell : Tells (pointwise of_message_line.ghosts.eq)
+messages_tell = pointwise_decides (λ a b. search rules)
+
+fulls_tell : Tells (pointwise of_full_line.ghosts.eq)
+fulls_tell = pointwise_decides (λ a b. search rules)
+
+pub view_tells : Tells of_view.ghosts.eq
+view_tells a b = search (rules, descriptors_tell, links_tell, bindings_tell, routes_tell, messages_tell, fulls_tell)
+
+pub transcript_tells : Tells of_transcript.ghosts.eq
+transcript_tells a b = search (rules, drivers_tell, entries_tell, view_tells)

@@ -1,0 +1,235 @@
+//! What `==` tells of the values of this crate: exactly whether both are the same.
+
+use crate::command::{Command, Entry, Sides, Which};
+use crate::driver::{DriverKind, DriverSpec, SpecFault};
+use crate::items::Items;
+use crate::link::{Binding, Link, LinkKind, Route};
+use crate::memory::NoMemory;
+use crate::message::Message;
+use crate::name::Name;
+use crate::process::Process;
+use crate::programs::{Many, Programs};
+use crate::reply::{Fault, Reply};
+use crate::stream::{Descriptor, Place, Side, StreamId};
+use crate::transcript::Transcript;
+use crate::view::{
+    BindingLine, ConfigView, DescriptorLine, FullLine, LinkLine, MessageLine, RouteLine,
+};
+
+/// What is equal exactly where it is the same, so that `==` leaves nothing out.
+pub trait Same: PartialEq {
+    ghost use Rattle.std.specs.Prelude.{◌≡◌, ◌↔◌, IsTrue};
+
+    ghost tells: { (a b : Self) → IsTrue (Self.eq a b) ↔ (a ≡ b) };
+
+    /// Whether both are the same, which is what `==` tells. Takes no memory.
+    final fn is_same(&self, other: &Self) -> bool
+        ensures { IsTrue result ↔ (self.now ≡ other.now) }
+    {
+        self == other
+    }
+}
+
+impl<T: Same> Same for Items<T> {
+    ghost use Rattle.std.specs.Cmp.Lexicographic.{pointwise_decides};
+
+    ghost tells = { pointwise_decides T.tells };
+}
+
+impl Same for u8 {
+    ghost use Rattle.std.proofs.Common.{rules};
+
+    ghost tells = { Prim.search rules };
+}
+
+impl Same for u32 {
+    ghost use Rattle.std.proofs.Common.{rules};
+
+    ghost tells = { Prim.search rules };
+}
+
+impl Same for Name {
+    ghost use Rattle.std.proofs.Common.{rules};
+
+    ghost tells = { Prim.search rules };
+}
+
+impl Same for Process {
+    ghost use Rattle.std.proofs.Common.{rules};
+
+    ghost tells = { Prim.search rules };
+}
+
+impl Same for NoMemory {
+    ghost use Rattle.std.proofs.Common.{rules};
+
+    ghost tells = { Prim.search rules };
+}
+
+impl Same for Which {
+    ghost use Rattle.std.proofs.Common.{rules};
+
+    ghost tells = { Prim.search rules };
+}
+
+impl Same for Sides {
+    ghost use Rattle.std.proofs.Common.{rules};
+
+    ghost tells = { Prim.search rules };
+}
+
+impl Same for DriverKind {
+    ghost use Rattle.std.proofs.Common.{rules};
+
+    ghost tells = { Prim.search rules };
+}
+
+impl Same for DriverSpec {
+    ghost use Rattle.std.proofs.Common.{rules};
+
+    ghost tells = { Prim.search rules };
+}
+
+impl Same for SpecFault {
+    ghost use Rattle.std.proofs.Common.{rules};
+
+    ghost tells = { Prim.search rules };
+}
+
+impl Same for LinkKind {
+    ghost use Rattle.std.proofs.Common.{rules};
+
+    ghost tells = { Prim.search rules };
+}
+
+impl Same for Link {
+    ghost use Rattle.std.proofs.Common.{rules};
+
+    ghost tells = { Prim.search rules };
+}
+
+impl Same for Binding {
+    ghost use Rattle.std.proofs.Common.{rules};
+
+    ghost tells = { Prim.search rules };
+}
+
+impl Same for Route {
+    ghost use Rattle.std.proofs.Common.{rules};
+
+    ghost tells = { Prim.search rules };
+}
+
+impl Same for StreamId {
+    ghost use Rattle.std.proofs.Common.{rules};
+
+    ghost tells = { Prim.search rules };
+}
+
+impl Same for Side {
+    ghost use Rattle.std.proofs.Common.{rules};
+
+    ghost tells = { Prim.search rules };
+}
+
+impl Same for Place {
+    ghost use Rattle.std.proofs.Common.{rules};
+
+    ghost tells = { Prim.search rules };
+}
+
+impl Same for Descriptor {
+    ghost use Rattle.std.proofs.Common.{rules};
+
+    ghost tells = { Prim.search rules };
+}
+
+impl Same for Fault {
+    ghost use Rattle.std.proofs.Common.{rules};
+
+    ghost tells = { Prim.search rules };
+}
+
+impl Same for DescriptorLine {
+    ghost use Rattle.std.proofs.Common.{rules};
+
+    ghost tells = { Prim.search rules };
+}
+
+impl Same for LinkLine {
+    ghost use Rattle.std.proofs.Common.{rules};
+
+    ghost tells = { Prim.search rules };
+}
+
+impl Same for BindingLine {
+    ghost use Rattle.std.proofs.Common.{rules};
+
+    ghost tells = { Prim.search rules };
+}
+
+impl Same for RouteLine {
+    ghost use Rattle.std.proofs.Common.{rules};
+
+    ghost tells = { Prim.search rules };
+}
+
+impl Same for FullLine {
+    ghost use Rattle.std.proofs.Common.{rules};
+
+    ghost tells = { Prim.search rules };
+}
+
+impl Same for Message {
+    ghost use Rattle.std.proofs.Common.{rules};
+
+    ghost tells = { Prim.search rules };
+}
+
+impl Same for Reply {
+    ghost use Rattle.std.proofs.Common.{rules};
+
+    ghost tells = { Prim.search rules };
+}
+
+impl Same for MessageLine {
+    ghost use Rattle.std.proofs.Common.{rules};
+
+    ghost tells = { Prim.search rules };
+}
+
+impl Same for Command {
+    ghost use Rattle.smx_types.specs.SameLemmas.{command_tells};
+
+    ghost tells = { command_tells };
+}
+
+impl Same for Entry {
+    ghost use Rattle.smx_types.specs.SameLemmas.{entry_tells};
+
+    ghost tells = { entry_tells };
+}
+
+impl Same for Many {
+    ghost use Rattle.smx_types.specs.SameLemmas.{many_tells};
+
+    ghost tells = { many_tells };
+}
+
+impl Same for ConfigView {
+    ghost use Rattle.smx_types.specs.SameLemmas.{view_tells};
+
+    ghost tells = { view_tells };
+}
+
+impl Same for Transcript {
+    ghost use Rattle.smx_types.specs.SameLemmas.{transcript_tells};
+
+    ghost tells = { transcript_tells };
+}
+
+impl Same for Programs {
+    ghost use Rattle.smx_types.specs.SameLemmas.{programs_tell};
+
+    ghost tells = { programs_tell };
+}
