@@ -2,13 +2,14 @@
 
 ghost use Rattle.std.specs.Prelude.{◌≡◌, ◌≢◌, ◌<◌, ◌≤◌, ◌*◌, ◌%◌, true, length, slice_index, IfOk, IfErr};
 ghost use Rattle.std.specs.List.{list_all};
+ghost use Rattle.std.specs.Vec.{vec_len};
 ghost use Rattle.hex.specs.Hex.{encode_lower, lower_digits};
 ghost use Rattle.smx_words.specs.HexWords.{hex_word, is_digit};
 ghost use Rattle.smx_words.specs.LineReading.{IsFoundIn, IsSpelled};
 ghost use Rattle.smx_words.specs.Spellable.{FitsBytes};
 
 use smx_types::{Bytes, NoMemory};
-use std::alloc::Global;
+use std::alloc::{AllocError, Global};
 
 // The bytes that a word spells: two lower-case digits for each, or a dash for none. Fails only for want of memory, and
 // then the word spells some.
@@ -19,15 +20,23 @@ pub fn bytes_of(alloc: Global, word: &[u8]) -> Result<Option<Bytes>, NoMemory>
     if word.is_empty() || word.len() % 2 == 1 {
         return Ok(dash(alloc, word));
     }
-    let mut bytes = Vec::new(alloc);
-    if bytes.resize(word.len() / 2, 0).is_err() {
+    let Ok(mut bytes) = zeros(alloc, word.len() / 2) else {
         return unless_bad(word);
-    }
+    };
     if set_bytes(bytes.as_mut_slice(), word) < 16 {
         Ok(Some(Bytes::from_vec(bytes)))
     } else {
         Ok(None)
     }
+}
+
+// So many bytes, in a block that has no room for more.
+fn zeros(alloc: Global, count: usize) -> Result<Vec<u8>, AllocError>
+    ensures { IfOk result (λ v. vec_len v ≡ count) }
+{
+    let mut bytes = Vec::with_capacity(alloc, count)?;
+    bytes.resize(count, 0)?;
+    Ok(bytes)
 }
 
 // No bytes, of a dash.
@@ -66,8 +75,8 @@ fn set_bytes(bytes: &mut [u8], digits: &[u8]) -> u8
     for i in 0..bytes.len() {
         let high = value_of(digits[2 * i]);
         let low = value_of(digits[2 * i + 1]);
-        worst = worst.max(high).max(low);
         bytes[i] = (high % 16) * 16 + low % 16;
+        worst = worst.max(high).max(low);
     }
     worst
 }
@@ -79,10 +88,12 @@ fn value_of(digit: u8) -> u8
     ensures digit { is_digit digit ≡ true → result < 16 }
     ensures range { result ≤ 16 }
 {
-    match digit {
-        b'0'..=b'9' => digit - b'0',
-        b'a'..=b'f' => digit - b'a' + 10,
-        _ => 16,
+    if b'0' <= digit && digit <= b'9' {
+        digit - b'0'
+    } else if b'a' <= digit && digit <= b'f' {
+        digit - b'a' + 10
+    } else {
+        16
     }
 }
 
