@@ -66,7 +66,7 @@ bytes = record { answer = answer } where
   answer : (w : List ℕ) → Answer FitsBytes hex_word w
   answer w = elim (same_or_not w (codes "-")) [
     | inl is ↦ inl ([], tt, is)
-    | inr other ↦ elim (cases_lt 0 (length w)) [ | inl some ↦ by_length w some other | inr none ↦ inr (odd_is_none w (λ h. absurd (omega (arith, h, none))) other) ]
+    | inr other ↦ elim (cases_lt 0 (length w)) [ inl some ↦ by_length w some other | inr none ↦ inr (odd_is_none w (λ h. absurd (omega (arith, h, none))) other) ]
   ]
 
 -- ---- words of few values
