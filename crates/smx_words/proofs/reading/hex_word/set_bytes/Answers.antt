@@ -15,7 +15,7 @@ loop-i-preserved c =
       spelled = λ small.
           let each = worst.0 small in
           one_byte_more c.args.digits.now c.loop-i.bytes c.loop-i.i c.value_of-high.result c.value_of-low.result (omega arith) (omega arith) each.1 each.2
-            (c.value_of-high.ensures.value each.1) (c.value_of-low.ensures.value each.2) (loop.spelled each.0);
+          (c.value_of-high.ensures.value each.1) (c.value_of-low.ensures.value each.2) (loop.spelled each.0);
       digits = λ all. worst.1 (loop.digits all)
           (c.value_of-high.ensures.digit (all_at c.args.digits.now (2 * c.loop-i.i) (omega arith) all))
           (c.value_of-low.ensures.digit (all_at c.args.digits.now (2 * c.loop-i.i + 1) (omega arith) all));
