@@ -209,5 +209,10 @@ fn inject(alloc: Global, rest: &[u8]) -> Result<Option<Command>, NoMemory>
         Ok(None) => return Ok(None),
         Err(error) => return Err(error),
     };
-    Ok(Some(Command::Inject { driver, minor, addr, bytes }))
+    Ok(Some(Command::Inject {
+        driver,
+        minor,
+        addr,
+        bytes,
+    }))
 }

@@ -104,11 +104,7 @@ pub fn route_of(line: &[u8]) -> Option<RouteLine>
     };
     let (addr, rest) = first_number(rest)?;
     let id = number(rest)?;
-    Some(RouteLine {
-        driver,
-        addr,
-        id,
-    })
+    Some(RouteLine { driver, addr, id })
 }
 
 /// The full place whose words a line is, if it is one's.

@@ -29,13 +29,13 @@ pub returns-in-Err-clause-wanted : goal.returns-in-Err-clause-wanted
 returns-in-Err-clause-wanted c =
     let process = c.in-Some-new.ensures.value in
     entry_spelled c.args.line.now c.in-Some.rest.now c.in-Some-sides.command.now c.in-Some-sides.reply.now c.in-Some-new.process
-      (omega (arith, process, c.in-Some-new.ensures.valid.0 refl)) (c.in-Some.ensures.1 ∙ ap (λ (n : ℕ). decimal n ++ SPACE ∷ c.in-Some.rest.now) (sym process)) c.in-Some-sides.ensures.1
-      c.in-Err.ensures.wanted.0 c.in-Err.ensures.wanted.1
+    (omega (arith, process, c.in-Some-new.ensures.valid.0 refl)) (c.in-Some.ensures.1 ∙ ap (λ (n : ℕ). decimal n ++ SPACE ∷ c.in-Some.rest.now) (sym process)) c.in-Some-sides.ensures.1
+    c.in-Err.ensures.wanted.0 c.in-Err.ensures.wanted.1
 
 pub returns-in-Ok-Some-clause-reading : goal.returns-in-Ok-Some-clause-reading
 returns-in-Ok-Some-clause-reading c =
     let process = c.in-Some-new.ensures.value in
     let read = rw c.in-Ok-Some.field-0-is at c.in-Ok-Some.ensures.reading in
     entry_is c.args.line.now c.in-Some.rest.now c.in-Some-sides.command.now c.in-Some-sides.reply.now c.in-Some-new.process c.in-Ok-Some.command c.in-Ok-Some.reply
-      (omega (arith, process, c.in-Some-new.ensures.valid.0 refl)) (c.in-Some.ensures.1 ∙ ap (λ (n : ℕ). decimal n ++ SPACE ∷ c.in-Some.rest.now) (sym process)) c.in-Some-sides.ensures.1
-      (read.0, read.2) (read.1, read.3) _ refl
+    (omega (arith, process, c.in-Some-new.ensures.valid.0 refl)) (c.in-Some.ensures.1 ∙ ap (λ (n : ℕ). decimal n ++ SPACE ∷ c.in-Some.rest.now) (sym process)) c.in-Some-sides.ensures.1
+    (read.0, read.2) (read.1, read.3) _ refl

@@ -18,4 +18,4 @@ returns-in_default-after c = λ command reply free e.
 pub returns : goal.returns
 returns c =
     sides_are c.args.text.now c.in-Some.front.now c.in-Some.back.now c.in-Some-before.command.now c.in-Some-after.reply.now c.as_slice.result.now
-      c.as_slice.ensures c.in-Some.ensures.0 c.in-Some.ensures.1 c.in-Some-before.ensures (c.in-Some-after.ensures ∙ ap (λ (x : List ℕ). x ++ c.in-Some-after.reply.now) (c.as_slice-2.ensures ∙ sym c.as_slice.ensures))
+    c.as_slice.ensures c.in-Some.ensures.0 c.in-Some.ensures.1 c.in-Some-before.ensures (c.in-Some-after.ensures ∙ ap (λ (x : List ℕ). x ++ c.in-Some-after.reply.now) (c.as_slice-2.ensures ∙ sym c.as_slice.ensures))

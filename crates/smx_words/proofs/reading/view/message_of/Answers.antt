@@ -21,6 +21,8 @@ returns-in-Ok-None-clause-reading c = λ x fits e.
 
 pub returns-in-Err-clause-wanted : goal.returns-in-Err-clause-wanted
 returns-in-Err-clause-wanted c =
-    let bytes = c.in-Err.ensures.wanted in
-    (record { driver = c.in-Some-first_name.driver; minor = c.in-Some-first_number.minor; side = c.in-Some-first_side.side; message = record { serial = c.in-Some-first_number-2.serial; addr = c.in-Some-first_number-3.addr; bytes = bytes.0 } },
-      record { driver = c.in-Some-first_name.ensures.0; minor = c.in-Some-first_number.ensures.0; serial = c.in-Some-first_number-2.ensures.0; addr = c.in-Some-first_number-3.ensures.0; bytes = bytes.1 }, grind (arith, common_steps))
+    let bytes = c.in-Err.ensures.wanted in (
+      record { driver = c.in-Some-first_name.driver; minor = c.in-Some-first_number.minor; side = c.in-Some-first_side.side; message = record { serial = c.in-Some-first_number-2.serial; addr = c.in-Some-first_number-3.addr; bytes = bytes.0 } },
+      record { driver = c.in-Some-first_name.ensures.0; minor = c.in-Some-first_number.ensures.0; serial = c.in-Some-first_number-2.ensures.0; addr = c.in-Some-first_number-3.ensures.0; bytes = bytes.1 },
+      grind (arith, common_steps),
+    )
