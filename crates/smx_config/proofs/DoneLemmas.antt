@@ -58,19 +58,19 @@ IdleDropsNone drivers = (c new : Configuration) → IsSwept drivers new → new.
 pub unbind_does : (drivers : List DriverSpec) (c : Configuration) (process fd : ℕ) (s : StreamId) (new : Configuration) (r : Reply) → IdleDropsNone drivers → IsSwept drivers c → mux_stream drivers c process fd ≡ Ok s
     → refuse Unbound (not (list_any (λ b. eqb b.driver s.driver && eqb b.minor s.minor) c.binds)) ≡ Ok tt
     → new ≡ record c { binds = filter (λ b. not (eqb b.driver s.driver && eqb b.minor s.minor)) c.binds } → r ≡ Done [] → outcome drivers c process (command.Unbind fd) ≡ Ok (new, r)
-unbind_does drivers c process fd s new r idle clean e there is none = rw (e, there, is, none) (idle c after_leaving (fewer_binds drivers c other clean) refl) where
+unbind_does drivers c process fd s new r idle clean e there is none = rw (e, there, is, none) (idle c rest (fewer_binds drivers c other clean) refl) where
   other : Binding → Bool
   other b = not (eqb b.driver s.driver && eqb b.minor s.minor)
 
-  after_leaving : Configuration
-  left = record c { binds = filter other c.binds }
+  rest : Configuration
+  rest = record c { binds = filter other c.binds }
 
 pub unroute_does : (drivers : List DriverSpec) (c : Configuration) (process fd addr : ℕ) (s : StreamId) (new : Configuration) (r : Reply) → IdleDropsNone drivers → IsSwept drivers c → mux_stream drivers c process fd ≡ Ok s
     → refuse Unrouted (not (list_any (λ x. eqb x.driver s.driver && eqb x.addr addr) c.routes)) ≡ Ok tt
     → new ≡ record c { routes = filter (λ x. not (eqb x.driver s.driver && eqb x.addr addr)) c.routes } → r ≡ Done [] → outcome drivers c process (command.Unroute fd addr) ≡ Ok (new, r)
-unroute_does drivers c process fd addr s new r idle clean e there is none = rw (e, there, is, none) (idle c after_leaving (other_routes drivers c after_leaving.routes clean) refl) where
-  after_leaving : Configuration
-  left = record c { routes = filter (λ x. not (eqb x.driver s.driver && eqb x.addr addr)) c.routes }
+unroute_does drivers c process fd addr s new r idle clean e there is none = rw (e, there, is, none) (idle c rest (other_routes drivers c rest.routes clean) refl) where
+  rest : Configuration
+  rest = record c { routes = filter (λ x. not (eqb x.driver s.driver && eqb x.addr addr)) c.routes }
 
 -- ---- both kinds of links at once
 

@@ -11,7 +11,7 @@ use smx_types::{Descriptor, NoMemory, Place};
 use std::alloc::Global;
 
 fn copy_queued(alloc: Global, queued: &Queued) -> Result<Queued, NoMemory>
-    ensures { IfOk result (λ q. q ≡ queued_serials.now) }
+    ensures { IfOk result (λ q. q ≡ queued.now) }
 {
     let message = queued.message().copy(alloc)?;
     Ok(Queued::new(queued.place(), message))

@@ -108,7 +108,7 @@ fn put_mark(fulls: &mut Vec<Place>, place: Place)
 #[tactic(auto, using(crate::proofs::PlaceLemmas::place_le, crate::proofs::PlaceLemmas::insert_place))]
 fn put_queued(flow: &mut Vec<Queued>, queued: Queued)
     requires { length flow.old.items < vec_capacity flow.old }
-    ensures flow { flow.new.items ≡ with_inserted queued_before flow.old.items queued_serials }
+    ensures flow { flow.new.items ≡ with_inserted queued_before flow.old.items queued }
     ensures capacity { vec_capacity flow.new ≡ vec_capacity flow.old }
 {
     let i = queued_place(flow, &queued);

@@ -88,7 +88,7 @@ fn next_place(drivers: &[DriverSpec], lists: &Lists, place: Place, addr: u32) ->
 }
 
 // Where the first message of the place may go on to.
-fn way(drivers: &[DriverSpec], lists: &Lists, place: Place) -> Option<Place>
+fn next_open_place(drivers: &[DriverSpec], lists: &Lists, place: Place) -> Option<Place>
     ensures { result ≡ next_open_place drivers.now (configuration_of lists.now) place }
 {
     let addr = front_addr(&lists.flow, place)?;
@@ -103,7 +103,7 @@ fn way(drivers: &[DriverSpec], lists: &Lists, place: Place) -> Option<Place>
 fn is_movable(drivers: &[DriverSpec], lists: &Lists, place: Place) -> bool
     ensures { result ≡ is_movable drivers.now (configuration_of lists.now) place }
 {
-    way(drivers, lists, place).is_some()
+    next_open_place(drivers, lists, place).is_some()
 }
 
 // The same, where the place that was tested last can't.
@@ -167,7 +167,7 @@ pub fn settle(drivers: &[DriverSpec], lists: &mut Lists)
         let Some(from) = least_movable(drivers, lists) else {
             return;
         };
-        let Some(to) = way(drivers, lists, from) else {
+        let Some(to) = next_open_place(drivers, lists, from) else {
             return;
         };
         move_on(drivers, lists, from, to);

@@ -124,7 +124,7 @@ record Parts (drivers : List DriverSpec) (c : Configuration) : Type 0 where
   links : AreLinksSound c.links
   named : AreNamed drivers c
   routed : AreRouted drivers c
-  in_rising_order : AreRising c
+  rising : AreRising c
   flow : IsInOrder c.flow
   numbered : IsNumbered c
   swept_ : IsSwept drivers c
