@@ -101,6 +101,15 @@ impl Programs {
         self.programs.as_slice()
     }
 
+    /// The drivers, and the program of each process. Takes no memory.
+    pub fn into_parts(self) -> (Drivers, ProgramList)
+        ensures drivers { result.0 ≡ self.drivers }
+        ensures programs { result.1 ≡ self.programs }
+        ensures within { AreWithinLimits self }
+    {
+        (self.drivers, self.programs)
+    }
+
     /// The same programs again. Fails only for want of memory.
     pub fn copy(&self, alloc: Global) -> Result<Programs, NoMemory>
         ensures { IfOk result (λ c. c ≡ self.now) }

@@ -92,20 +92,6 @@ fn fill(rt: &(impl AllocGlobal + Print), config: &mut Config) -> Result<(), Fail
     Ok(())
 }
 
-#[test]
-fn the_most_messages_of_a_queue(rt: HostRuntime) -> Result<(), Fail> {
-    let mut config = one_long_queue(rt.alloc())?;
-    play(&rt, &mut config, &[(Call::Clone("eth"), Answer::Fd(0, 0))])?;
-    fill(&rt, &mut config)?;
-    let refused = [(Call::Write(0, 5, &[187]), Answer::Refused(Fault::Full))];
-    play(&rt, &mut config, &refused)?;
-    let want = most_messages(rt.alloc(), 187)?;
-    let again = config.copy(rt.alloc())?;
-    assert!(rt; shown(&config)?.msgs == want);
-    assert!(rt; shown(&again)?.msgs == want);
-    Ok(())
-}
-
 fn first_serials(alloc: Global, count: u32) -> Result<Vec<u32>, Fail> {
     let mut serials = Vec::new(alloc);
     for serial in 1..count + 1 {
@@ -114,14 +100,26 @@ fn first_serials(alloc: Global, count: u32) -> Result<Vec<u32>, Fail> {
     Ok(serials)
 }
 
+// The full queue takes no more, and a flush drops all.
+fn empty_again(rt: &(impl AllocGlobal + Print), config: &mut Config) -> Result<(), Fail> {
+    let dropped = first_serials(rt.alloc(), 4_096)?;
+    let lines = [
+        (Call::Write(0, 5, &[187]), Answer::Refused(Fault::Full)),
+        (Call::Flush(0, Sides::W), Answer::Done(dropped.as_slice())),
+    ];
+    play(rt, config, &lines)
+}
+
 #[test]
-fn the_most_dropped_of_a_queue(rt: HostRuntime) -> Result<(), Fail> {
+fn the_most_messages_of_a_queue(rt: HostRuntime) -> Result<(), Fail> {
     let mut config = one_long_queue(rt.alloc())?;
     play(&rt, &mut config, &[(Call::Clone("eth"), Answer::Fd(0, 0))])?;
     fill(&rt, &mut config)?;
-    let dropped = first_serials(rt.alloc(), 4_096)?;
-    let lines = [(Call::Flush(0, Sides::W), Answer::Done(dropped.as_slice()))];
-    play(&rt, &mut config, &lines)
+    let want = most_messages(rt.alloc(), 187)?;
+    let again = config.copy(rt.alloc())?;
+    assert!(rt; shown(&config)?.msgs == want);
+    assert!(rt; shown(&again)?.msgs == want);
+    empty_again(&rt, &mut config)
 }
 
 #[test]
