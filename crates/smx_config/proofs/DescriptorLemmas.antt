@@ -5,7 +5,7 @@ use Rattle.std.proofs.lemmas.Bool.{cases_Bool, and_parts, and_from, or_parts, or
 use Rattle.smx_types.specs.declared.stream.Descriptor.{Descriptor}
 use Rattle.smx_model.specs.Configuration.{is_fd, fd_before}
 use Rattle.smx_model.specs.Ordered.{with_inserted}
-use Rattle.smx_config.specs.Reserved.{code_of, RiseFrom, IsFree}
+use Rattle.smx_config.specs.ReservedRoom.{code_of, RiseFrom, IsFree}
 
 before_less : (d e : Descriptor) → d.fd < 16 → e.fd < 16 → fd_before d e ≡ true → code_of d < code_of e
 before_less d e a b h = elim (or_cases (ltb d.process e.process) (eqb d.process e.process && ltb d.fd e.fd) h) [

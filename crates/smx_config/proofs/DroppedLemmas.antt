@@ -5,19 +5,19 @@ use Rattle.std.proofs.lemmas.Bool.{cases_Bool, eq-eqb, or_left, or_right}
 use Rattle.smx_model.specs.Configuration.{QueuedMessage}
 use Rattle.smx_model.specs.Ordered.{with_inserted}
 use Rattle.smx_model.specs.Removal.{serials}
-use Rattle.smx_config.specs.Removals.{rising_onto}
+use Rattle.smx_config.specs.ListedLinks.{rising_onto}
 
-onto_last : (done_outcome ns : List ℕ) (n : ℕ) → rising_onto (with_inserted ltb done_outcome n) ns ≡ rising_onto done_outcome (ns ++ n ∷ [])
-onto_last done_outcome [] n = refl
-onto_last done_outcome (m ∷ ns) n = ap (λ (xs : List ℕ). with_inserted ltb xs m) (onto_last done_outcome ns n)
+onto_last : (placed_already ns : List ℕ) (n : ℕ) → rising_onto (with_inserted ltb placed_already n) ns ≡ rising_onto placed_already (ns ++ n ∷ [])
+onto_last placed_already [] n = refl
+onto_last placed_already (m ∷ ns) n = ap (λ (xs : List ℕ). with_inserted ltb xs m) (onto_last placed_already ns n)
 
 kept_last : (t : ℕ → Bool) (ns : List ℕ) (n : ℕ) → t n ≡ true → filter t (ns ++ n ∷ []) ≡ filter t ns ++ n ∷ []
 kept_last t [] n h = rw h refl
 kept_last t (m ∷ ns) n h = elim (cases_Bool (t m)) [ inl a ↦ rw a (ap (λ (xs : List ℕ). m ∷ xs) (kept_last t ns n h)) | inr b ↦ rw b (kept_last t ns n h) ]
 
 -- one more that is gone
-pub onto_gone : (gone : ℕ → Bool) (done_outcome new old rest : List ℕ) (n : ℕ) → new ≡ with_inserted ltb done_outcome n → old ≡ rest ++ n ∷ [] → gone n ≡ true → rising_onto new (filter gone rest) ≡ rising_onto done_outcome (filter gone old)
-onto_gone gone done_outcome new old rest n e h is = rw (e, h, kept_last gone rest n is) (onto_last done_outcome (filter gone rest) n)
+pub onto_gone : (gone : ℕ → Bool) (placed_already new old rest : List ℕ) (n : ℕ) → new ≡ with_inserted ltb placed_already n → old ≡ rest ++ n ∷ [] → gone n ≡ true → rising_onto new (filter gone rest) ≡ rising_onto placed_already (filter gone old)
+onto_gone gone placed_already new old rest n e h is = rw (e, h, kept_last gone rest n is) (onto_last placed_already (filter gone rest) n)
 
 -- the serial of a message of the flow is there
 pub is_there : (flow : List QueuedMessage) (k serial : ℕ) (h : QueuedMessage) → k < length flow → h ≡ get_or flow k h → h.message.serial ≡ serial → list_any (λ m. eqb serial m) (serials flow) ≡ true

@@ -1,7 +1,7 @@
-pub mod PlaceLemmas
+pub mod InsertionLemmas
 pub mod ClimbLemmas
 pub mod ReachLemmas
-pub mod FrontLemmas
+pub mod FirstMessageLemmas
 pub mod FlowLemmas
 pub mod MarkLemmas
 pub mod SettleLemmas

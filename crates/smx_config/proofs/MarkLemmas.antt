@@ -10,7 +10,7 @@ use Rattle.smx_types.specs.declared.stream.Side.TheVariants as side
 use Rattle.smx_model.specs.Configuration.{QueuedMessage, same_stream, same_side, same_place, is_at, place_before, queued_before}
 use Rattle.smx_model.specs.Ordered.{with_inserted, without_first}
 use Rattle.smx_model.specs.Queues.{bytes_at, first_message, with_mark}
-use Rattle.smx_config.specs.Reserved.{AreApart, AreMarksHeld}
+use Rattle.smx_config.specs.ReservedRoom.{AreApart, AreMarksHeld}
 
 -- ---- equal places
 

@@ -5,20 +5,20 @@ use Rattle.smx_types.specs.declared.reply.Fault.{Fault}
 use Rattle.smx_types.specs.declared.reply.Reply.{Reply}
 use Rattle.smx_config.specs.declared.lists.Lists.{Lists}
 use Rattle.smx_model.specs.Outcomes.{Outcome}
-use Rattle.smx_config.specs.declared.stop.Stop.{Stop}
-use Rattle.smx_config.specs.declared.stop.Stop.TheVariants as stop
-use Rattle.smx_config.specs.Performed.{Answers, Performs, as_stop}
+use Rattle.smx_config.specs.declared.step_error.StepError.{StepError}
+use Rattle.smx_config.specs.declared.step_error.StepError.TheVariants as step_error
+use Rattle.smx_config.specs.Refinement.{HasOutcome, HasOutcomeOrNoMemory, as_step_error}
 
-performs : (old new : Lists) (o : Outcome) (a : Result Reply Fault) → Answers old new o a → Performs old new o (as_stop a)
+performs : (old new : Lists) (o : Outcome) (a : Result Reply Fault) → HasOutcome old new o a → HasOutcomeOrNoMemory old new o (as_step_error a)
 performs old new o (Ok r) h = h
 performs old new o (Err f) h = h
 
-pub answers_performs : (old new : Lists) (o : Outcome) (a : Result Reply Fault) (r : Result Reply Stop) → r ≡ as_stop a → Answers old new o a → Performs old new o r
+pub answers_performs : (old new : Lists) (o : Outcome) (a : Result Reply Fault) (r : Result Reply StepError) → r ≡ as_step_error a → HasOutcome old new o a → HasOutcomeOrNoMemory old new o r
 answers_performs old new o a r e h = rw e (performs old new o a h)
 
-never : (a : Result Reply Fault) → as_stop a ≢ Err stop.NoMemory
+never : (a : Result Reply Fault) → as_step_error a ≢ Err step_error.NoMemory
 never (Ok r) = λ h. cc
 never (Err f) = λ h. cc
 
-pub never_wants : (a : Result Reply Fault) (r : Result Reply Stop) → r ≡ as_stop a → r ≢ Err stop.NoMemory
+pub never_wants : (a : Result Reply Fault) (r : Result Reply StepError) → r ≡ as_step_error a → r ≢ Err step_error.NoMemory
 never_wants a r e = rw e (never a)

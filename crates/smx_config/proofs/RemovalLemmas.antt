@@ -8,7 +8,7 @@ use Rattle.smx_types.specs.declared.link.LinkKind.TheVariants as kind
 use Rattle.smx_types.specs.declared.stream.StreamId.{StreamId}
 use Rattle.smx_model.specs.Configuration.{Configuration, same_stream}
 use Rattle.smx_model.specs.Removal.{without_links, without_queues_at, is_read_below}
-use Rattle.smx_config.specs.Removals.{same_kind, same_link, is_one, has_id, without_listed_links}
+use Rattle.smx_config.specs.ListedLinks.{same_kind, same_link, is_one, has_id, without_listed_links}
 
 kind_is : (a b : LinkKind) → same_kind a b ≡ true → a ≡ b
 kind_is kind.Ordinary kind.Ordinary h = refl
@@ -25,7 +25,7 @@ stream_is s t h =
     let b = and_parts _ _ h in
     ap (λ (x : ℕ). record { driver = x; minor = s.minor }) (eqb-true s.driver t.driver b.0) ∙ ap (λ (x : ℕ). record { driver = t.driver; minor = x }) (eqb-true s.minor t.minor b.1)
 
-stream_self : (s : StreamId) → same_stream s s ≡ true
+pub stream_self : (s : StreamId) → same_stream s s ≡ true
 stream_self s = and_from _ _ (eq-eqb s.driver s.driver refl) (eq-eqb s.minor s.minor refl)
 
 abbrev link_of : ℕ → StreamId → StreamId → LinkKind → Link

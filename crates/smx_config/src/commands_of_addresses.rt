@@ -7,14 +7,14 @@ ghost use Rattle.smx_types.specs.declared.reply.Fault.TheVariants.{AddressInUse,
 ghost use Rattle.smx_model.specs.Configuration.{bind_before, route_before};
 ghost use Rattle.smx_model.specs.Ordered.{with_inserted};
 ghost use Rattle.smx_model.specs.Outcomes.{refuse};
-ghost use Rattle.smx_config.specs.Reserved.{HasRoom};
-ghost use Rattle.smx_config.specs.Performed.{IsReady, DoesInPlace, Does};
+ghost use Rattle.smx_config.specs.ReservedRoom.{HasRoom};
+ghost use Rattle.smx_config.specs.Refinement.{StepInvariant, Refines, RefinesOrNoMemory};
 
+use crate::insertion_index::{bind_insertion_index, route_insertion_index};
 use crate::lists::Lists;
-use crate::looked_up::mux_stream;
-use crate::ordered::{bind_place, route_place};
-use crate::room::{room_to_sweep, sweep_done};
-use crate::stop::Stop;
+use crate::lookups::mux_stream;
+use crate::refuse::refuse;
+use crate::step_error::StepError;
 use smx_model::laws_of_steps::idle_changes_drop_none;
 use smx_types::{Binding, DriverSpec, Fault, Link, Process, Reply, Route, Serials, StreamId};
 use std::alloc::Global;
@@ -25,24 +25,22 @@ fn is_taken(binds: &[Binding], stream: StreamId, addr: u32) -> bool
     binds.iter().any(|b| b.driver == stream.driver && (b.addr == addr || b.minor == stream.minor))
 }
 
-fn check_bind(lists: &Lists, stream: StreamId, addr: u32) -> Result<(), Fault>
+fn refuse_taken_address(lists: &Lists, stream: StreamId, addr: u32) -> Result<(), Fault>
     ensures { result ≡ refuse AddressInUse (list_any (λ b. (b.driver == stream.driver) && ((b.addr == addr) || (b.minor == stream.minor))) lists.now.binds.items) }
 {
-    if is_taken(&lists.binds, stream, addr) {
-        return Err(Fault::AddressInUse);
-    }
-    Ok(())
+    refuse(Fault::AddressInUse, is_taken(&lists.binds, stream, addr))
 }
 
-#[tactic(auto, using(crate::proofs::PlaceLemmas::place_le, crate::proofs::PlaceLemmas::insert_place))]
+#[tactic(auto, using(crate::proofs::InsertionLemmas::index_le, crate::proofs::InsertionLemmas::insert_at_index))]
 fn put_bind(binds: &mut Vec<Binding>, binding: Binding)
     requires { length binds.old.items < vec_capacity binds.old }
     ensures { binds.new.items ≡ with_inserted bind_before binds.old.items binding }
 {
-    let i = bind_place(binds, &binding);
+    let i = bind_insertion_index(binds, &binding);
     let _ = binds.insert(i, binding);
 }
 
+// What is left to sweep stays as it is, here and below: the stream exists, and a route holds no stream.
 pub fn bind(
     alloc: Global,
     drivers: &[DriverSpec],
@@ -50,14 +48,14 @@ pub fn bind(
     process: Process,
     fd: u32,
     addr: u32,
-) -> Result<Reply, Stop>
-    requires { IsReady drivers.now lists.old }
-    ensures does { Does drivers.now lists.old lists.new process (command.Bind fd addr) result }
+) -> Result<Reply, StepError>
+    requires { StepInvariant drivers.now lists.old }
+    ensures refines { RefinesOrNoMemory drivers.now lists.old lists.new process (command.Bind fd addr) result }
     ensures kept { HasRoom lists.new }
 {
+    idle_changes_drop_none();
     let stream = mux_stream(drivers, lists, process, fd)?;
-    check_bind(lists, stream, addr)?;
-    let room = room_to_sweep(alloc, lists)?;
+    refuse_taken_address(lists, stream, addr)?;
     lists.binds.reserve(1)?;
     let binding = Binding {
         driver: stream.driver,
@@ -65,7 +63,9 @@ pub fn bind(
         minor: stream.minor,
     };
     put_bind(&mut lists.binds, binding);
-    Ok(sweep_done(drivers, lists, room))
+    Ok(Reply::Done {
+        dropped: Serials::new(alloc),
+    })
 }
 
 fn is_bound(binds: &[Binding], stream: StreamId) -> bool
@@ -76,13 +76,10 @@ fn is_bound(binds: &[Binding], stream: StreamId) -> bool
         .any(|b| b.driver == stream.driver && b.minor == stream.minor)
 }
 
-fn check_unbind(lists: &Lists, stream: StreamId) -> Result<(), Fault>
+fn refuse_unbound(lists: &Lists, stream: StreamId) -> Result<(), Fault>
     ensures { result ≡ refuse Unbound (not (list_any (λ b. (b.driver == stream.driver) && (b.minor == stream.minor)) lists.now.binds.items)) }
 {
-    if !is_bound(&lists.binds, stream) {
-        return Err(Fault::Unbound);
-    }
-    Ok(())
+    refuse(Fault::Unbound, !is_bound(&lists.binds, stream))
 }
 
 fn drop_bind(binds: &mut Vec<Binding>, stream: StreamId)
@@ -98,13 +95,13 @@ pub fn unbind(
     process: Process,
     fd: u32,
 ) -> Result<Reply, Fault>
-    requires { IsReady drivers.now lists.old }
-    ensures does { DoesInPlace drivers.now lists.old lists.new process (command.Unbind fd) result }
+    requires { StepInvariant drivers.now lists.old }
+    ensures refines { Refines drivers.now lists.old lists.new process (command.Unbind fd) result }
     ensures kept { HasRoom lists.new }
 {
     idle_changes_drop_none();
     let stream = mux_stream(drivers, lists, process, fd)?;
-    check_unbind(lists, stream)?;
+    refuse_unbound(lists, stream)?;
     drop_bind(&mut lists.binds, stream);
     Ok(Reply::Done {
         dropped: Serials::new(alloc),
@@ -117,13 +114,10 @@ fn has_link(links: &[Link], driver: u8, id: u32) -> bool
     links.iter().any(|l| l.id == id && l.ctl.driver == driver)
 }
 
-fn check_route(lists: &Lists, driver: u8, id: u32) -> Result<(), Fault>
+fn refuse_no_link(lists: &Lists, driver: u8, id: u32) -> Result<(), Fault>
     ensures { result ≡ refuse NoLink (not (list_any (λ l. (l.id == id) && (l.ctl.driver == driver)) lists.now.links.items)) }
 {
-    if !has_link(&lists.links, driver, id) {
-        return Err(Fault::NoLink);
-    }
-    Ok(())
+    refuse(Fault::NoLink, !has_link(&lists.links, driver, id))
 }
 
 fn drop_route(routes: &mut Vec<Route>, driver: u8, addr: u32)
@@ -134,12 +128,12 @@ fn drop_route(routes: &mut Vec<Route>, driver: u8, addr: u32)
     routes.retain(|r| !(r.driver == driver && r.addr == addr));
 }
 
-#[tactic(auto, using(crate::proofs::PlaceLemmas::place_le, crate::proofs::PlaceLemmas::insert_place))]
+#[tactic(auto, using(crate::proofs::InsertionLemmas::index_le, crate::proofs::InsertionLemmas::insert_at_index))]
 fn put_route(routes: &mut Vec<Route>, route: Route)
     requires { length routes.old.items < vec_capacity routes.old }
     ensures { routes.new.items ≡ with_inserted route_before routes.old.items route }
 {
-    let i = route_place(routes, &route);
+    let i = route_insertion_index(routes, &route);
     let _ = routes.insert(i, route);
 }
 
@@ -151,19 +145,21 @@ pub fn route(
     fd: u32,
     addr: u32,
     id: u32,
-) -> Result<Reply, Stop>
-    requires { IsReady drivers.now lists.old }
-    ensures does { Does drivers.now lists.old lists.new process (command.Route fd addr id) result }
+) -> Result<Reply, StepError>
+    requires { StepInvariant drivers.now lists.old }
+    ensures refines { RefinesOrNoMemory drivers.now lists.old lists.new process (command.Route fd addr id) result }
     ensures kept { HasRoom lists.new }
 {
+    idle_changes_drop_none();
     let stream = mux_stream(drivers, lists, process, fd)?;
     let driver = stream.driver;
-    check_route(lists, driver, id)?;
-    let room = room_to_sweep(alloc, lists)?;
+    refuse_no_link(lists, driver, id)?;
     lists.routes.reserve(1)?;
     drop_route(&mut lists.routes, driver, addr);
     put_route(&mut lists.routes, Route { driver, addr, id });
-    Ok(sweep_done(drivers, lists, room))
+    Ok(Reply::Done {
+        dropped: Serials::new(alloc),
+    })
 }
 
 fn has_route(routes: &[Route], driver: u8, addr: u32) -> bool
@@ -172,13 +168,10 @@ fn has_route(routes: &[Route], driver: u8, addr: u32) -> bool
     routes.iter().any(|r| r.driver == driver && r.addr == addr)
 }
 
-fn check_unroute(lists: &Lists, driver: u8, addr: u32) -> Result<(), Fault>
+fn refuse_unrouted(lists: &Lists, driver: u8, addr: u32) -> Result<(), Fault>
     ensures { result ≡ refuse Unrouted (not (list_any (λ r. (r.driver == driver) && (r.addr == addr)) lists.now.routes.items)) }
 {
-    if !has_route(&lists.routes, driver, addr) {
-        return Err(Fault::Unrouted);
-    }
-    Ok(())
+    refuse(Fault::Unrouted, !has_route(&lists.routes, driver, addr))
 }
 
 pub fn unroute(
@@ -189,14 +182,14 @@ pub fn unroute(
     fd: u32,
     addr: u32,
 ) -> Result<Reply, Fault>
-    requires { IsReady drivers.now lists.old }
-    ensures does { DoesInPlace drivers.now lists.old lists.new process (command.Unroute fd addr) result }
+    requires { StepInvariant drivers.now lists.old }
+    ensures refines { Refines drivers.now lists.old lists.new process (command.Unroute fd addr) result }
     ensures kept { HasRoom lists.new }
 {
     idle_changes_drop_none();
     let stream = mux_stream(drivers, lists, process, fd)?;
     let driver = stream.driver;
-    check_unroute(lists, driver, addr)?;
+    refuse_unrouted(lists, driver, addr)?;
     drop_route(&mut lists.routes, driver, addr);
     Ok(Reply::Done {
         dropped: Serials::new(alloc),

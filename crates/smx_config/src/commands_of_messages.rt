@@ -1,29 +1,47 @@
 //! Writing, reading, flushing, and the device's side.
 
-ghost use Rattle.std.specs.Prelude.{◌≡◌, ◌<◌, ◌==◌, ◌&&◌, ◌||◌, not, nat_lt, filter, length, vec_capacity};
+ghost use Rattle.std.specs.Prelude.{◌≡◌, ◌<◌, ◌==◌, ◌&&◌, ◌||◌, not, nat_lt, nat_le, filter, length, vec_capacity};
 ghost use Rattle.smx_types.specs.declared.command.Command.TheVariants.{Write, Read, Flush, Inject, Transmit};
+ghost use Rattle.smx_types.specs.declared.limits.TheConstants.{NUMBER_END};
 ghost use Rattle.smx_model.specs.Commands.{send_outcome, receive_outcome, is_side};
 ghost use Rattle.smx_model.specs.Configuration.{same_stream};
 ghost use Rattle.smx_model.specs.DriverList.{max_of};
+ghost use Rattle.smx_model.specs.Queues.{is_full};
 ghost use Rattle.smx_model.specs.Removal.{without_queues_at};
-ghost use Rattle.smx_config.specs.Reserved.{HasRoom};
-ghost use Rattle.smx_config.specs.ListFields.{configuration_of};
-ghost use Rattle.smx_config.specs.Performed.{IsReady, Answers, Performs, DoesInPlace, Does};
+ghost use Rattle.smx_config.specs.ReservedRoom.{HasRoom};
+ghost use Rattle.smx_config.specs.ModelOfLists.{configuration_of};
+ghost use Rattle.smx_config.specs.Refinement.{StepInvariant, HasOutcome, HasOutcomeOrNoMemory, Refines, RefinesOrNoMemory};
 ghost use Rattle.smx_config.specs.Sending.{may_send};
 
+use crate::driver_specs::max_of;
 use crate::lists::Lists;
-use crate::looked_up::{free_stream, leaf_stream};
-use crate::lookups::max_of;
-use crate::queued::Queued;
-use crate::queues::{arrive, front_addr, is_full, leave};
-use crate::room::{room_to_sweep, sweep_done};
-use crate::stop::Stop;
+use crate::lookups::{free_stream, leaf_stream};
+use crate::queued_message::QueuedMessage;
+use crate::queues::{arrive, first_addr, is_full, leave};
+use crate::refuse::refuse;
+use crate::step_error::StepError;
 use crate::streams::{same_side, same_stream};
+use crate::sweep::{reserve_for_sweep, sweep_and_reply};
 use smx_types::{
     Bytes, DriverSpec, Fault, Message, NUMBER_END, Name, Place, Process, Reply, Side, Sides,
     StreamId,
 };
 use std::alloc::Global;
+
+// Whether there are no bytes, or more than the driver lets a message have.
+fn has_bad_size(drivers: &[DriverSpec], place: Place, bytes: &Bytes) -> bool
+    ensures { result ≡ ((length bytes.now == 0) || nat_lt (max_of drivers.now place.stream.driver) (length bytes.now)) }
+{
+    let len = bytes.as_slice().len();
+    len == 0 || len > max_of(drivers, place.stream.driver as usize) as usize
+}
+
+// Whether the place is full, or there is no next serial.
+fn has_no_room(lists: &Lists, place: Place) -> bool
+    ensures { result ≡ (is_full (configuration_of lists.now) place || nat_le NUMBER_END lists.now.next_serial) }
+{
+    is_full(&lists.fulls, place) || lists.next_serial >= NUMBER_END
+}
 
 // Whether bytes may be sent to the place; the first refusal that applies.
 fn check_send(
@@ -34,14 +52,8 @@ fn check_send(
 ) -> Result<(), Fault>
     ensures { result ≡ may_send drivers.now (configuration_of lists.now) place bytes.now }
 {
-    let len = bytes.as_slice().len();
-    if len == 0 || len > max_of(drivers, place.stream.driver as usize) as usize {
-        return Err(Fault::BadSize);
-    }
-    if is_full(&lists.fulls, place) || lists.next_serial >= NUMBER_END {
-        return Err(Fault::Full);
-    }
-    Ok(())
+    refuse(Fault::BadSize, has_bad_size(drivers, place, bytes))?;
+    refuse(Fault::Full, has_no_room(lists, place))
 }
 
 fn send(
@@ -51,9 +63,9 @@ fn send(
     place: Place,
     addr: u32,
     bytes: &Bytes,
-) -> Result<Reply, Stop>
-    requires { IsReady drivers.now lists.old }
-    ensures does { Performs lists.old lists.new (send_outcome drivers.now (configuration_of lists.old) place addr bytes.now) result }
+) -> Result<Reply, StepError>
+    requires { StepInvariant drivers.now lists.old }
+    ensures refines { HasOutcomeOrNoMemory lists.old lists.new (send_outcome drivers.now (configuration_of lists.old) place addr bytes.now) result }
     ensures kept { HasRoom lists.new }
 {
     check_send(drivers, lists, place, bytes)?;
@@ -72,13 +84,11 @@ fn send(
 }
 
 fn receive(drivers: &[DriverSpec], lists: &mut Lists, place: Place) -> Result<Reply, Fault>
-    requires { IsReady drivers.now lists.old }
-    ensures does { Answers lists.old lists.new (receive_outcome drivers.now (configuration_of lists.old) place) result }
+    requires { StepInvariant drivers.now lists.old }
+    ensures refines { HasOutcome lists.old lists.new (receive_outcome drivers.now (configuration_of lists.old) place) result }
     ensures kept { HasRoom lists.new }
 {
-    if front_addr(&lists.flow, place).is_none() {
-        return Err(Fault::Empty);
-    }
+    refuse(Fault::Empty, first_addr(&lists.flow, place).is_none())?;
     match leave(drivers, lists, place) {
         Some(message) => Ok(Reply::Got {
             serial: message.serial,
@@ -97,9 +107,9 @@ pub fn write(
     fd: u32,
     addr: u32,
     bytes: &Bytes,
-) -> Result<Reply, Stop>
-    requires { IsReady drivers.now lists.old }
-    ensures does { Does drivers.now lists.old lists.new process (Write fd addr bytes.now) result }
+) -> Result<Reply, StepError>
+    requires { StepInvariant drivers.now lists.old }
+    ensures refines { RefinesOrNoMemory drivers.now lists.old lists.new process (Write fd addr bytes.now) result }
     ensures kept { HasRoom lists.new }
 {
     let stream = free_stream(lists, process, fd)?;
@@ -116,8 +126,8 @@ pub fn read(
     process: Process,
     fd: u32,
 ) -> Result<Reply, Fault>
-    requires { IsReady drivers.now lists.old }
-    ensures does { DoesInPlace drivers.now lists.old lists.new process (Read fd) result }
+    requires { StepInvariant drivers.now lists.old }
+    ensures refines { Refines drivers.now lists.old lists.new process (Read fd) result }
     ensures kept { HasRoom lists.new }
 {
     let stream = free_stream(lists, process, fd)?;
@@ -144,7 +154,7 @@ fn is_flushed(stream: StreamId, sides: Sides, place: Place) -> bool
     same_stream(place.stream, stream) && is_side(sides, place.side)
 }
 
-fn flush_flow(flow: &mut Vec<Queued>, stream: StreamId, sides: Sides)
+fn flush_flow(flow: &mut Vec<QueuedMessage>, stream: StreamId, sides: Sides)
     ensures { flow.new.items ≡ filter (λ h. not (same_stream h.place.stream stream && is_side sides h.place.side)) flow.old.items }
 {
     flow.retain(|h| !is_flushed(stream, sides, h.place()));
@@ -173,15 +183,15 @@ pub fn flush(
     process: Process,
     fd: u32,
     sides: Sides,
-) -> Result<Reply, Stop>
-    requires { IsReady drivers.now lists.old }
-    ensures does { Does drivers.now lists.old lists.new process (Flush fd sides) result }
+) -> Result<Reply, StepError>
+    requires { StepInvariant drivers.now lists.old }
+    ensures refines { RefinesOrNoMemory drivers.now lists.old lists.new process (Flush fd sides) result }
     ensures kept { HasRoom lists.new }
 {
     let stream = free_stream(lists, process, fd)?;
-    let room = room_to_sweep(alloc, lists)?;
+    let room = reserve_for_sweep(alloc, lists)?;
     empty(lists, stream, sides);
-    Ok(sweep_done(drivers, lists, room))
+    Ok(sweep_and_reply(drivers, lists, room))
 }
 
 pub fn inject(
@@ -193,9 +203,9 @@ pub fn inject(
     minor: u32,
     addr: u32,
     bytes: &Bytes,
-) -> Result<Reply, Stop>
-    requires { IsReady drivers.now lists.old }
-    ensures does { Does drivers.now lists.old lists.new process (Inject name.now minor addr bytes.now) result }
+) -> Result<Reply, StepError>
+    requires { StepInvariant drivers.now lists.old }
+    ensures refines { RefinesOrNoMemory drivers.now lists.old lists.new process (Inject name.now minor addr bytes.now) result }
     ensures kept { HasRoom lists.new }
 {
     let stream = leaf_stream(drivers, lists, name, minor)?;
@@ -213,8 +223,8 @@ pub fn transmit(
     name: &Name,
     minor: u32,
 ) -> Result<Reply, Fault>
-    requires { IsReady drivers.now lists.old }
-    ensures does { DoesInPlace drivers.now lists.old lists.new process (Transmit name.now minor) result }
+    requires { StepInvariant drivers.now lists.old }
+    ensures refines { Refines drivers.now lists.old lists.new process (Transmit name.now minor) result }
     ensures kept { HasRoom lists.new }
 {
     let stream = leaf_stream(drivers, lists, name, minor)?;

@@ -5,27 +5,29 @@ ghost use Rattle.smx_types.specs.declared.command.Command.TheVariants.{OpenClone
 ghost use Rattle.smx_model.specs.Commands.{with_fd};
 ghost use Rattle.smx_model.specs.Configuration.{is_fd, fd_before};
 ghost use Rattle.smx_model.specs.Ordered.{with_inserted};
-ghost use Rattle.smx_config.specs.Reserved.{HasRoom, IsFree};
-ghost use Rattle.smx_config.specs.ListFields.{configuration_of};
-ghost use Rattle.smx_config.specs.Performed.{IsReady, DoesInPlace, Does};
+ghost use Rattle.smx_config.specs.ReservedRoom.{HasRoom, IsFree};
+ghost use Rattle.smx_config.specs.ModelOfLists.{configuration_of};
+ghost use Rattle.smx_config.specs.Refinement.{StepInvariant, Refines, RefinesOrNoMemory};
 
+use crate::descriptors::is_fd;
+use crate::driver_specs::{driver_of, minors_of};
+use crate::insertion_index::fd_insertion_index;
 use crate::lists::Lists;
-use crate::looked_up::{free_fd, free_minor, stream_of};
-use crate::lookups::{driver_of, is_fd, minors_of};
-use crate::ordered::fd_place;
-use crate::room::{room_to_sweep, sweep_done};
+use crate::lookups::{free_fd, free_minor, stream_of};
+use crate::refuse::refuse;
 use crate::standing::is_below;
-use crate::stop::Stop;
+use crate::step_error::StepError;
+use crate::sweep::{reserve_for_sweep, sweep_and_reply};
 use smx_types::{Descriptor, DriverSpec, Fault, Name, Process, Reply, StreamId};
 use std::alloc::Global;
 
-#[tactic(auto, using(crate::proofs::PlaceLemmas::place_le, crate::proofs::PlaceLemmas::insert_place))]
+#[tactic(auto, using(crate::proofs::InsertionLemmas::index_le, crate::proofs::InsertionLemmas::insert_at_index))]
 fn put_fd(fds: &mut Vec<Descriptor>, fd: Descriptor)
     requires { length fds.old.items < vec_capacity fds.old }
     ensures fds { fds.new.items ≡ with_inserted fd_before fds.old.items fd }
     ensures capacity { vec_capacity fds.new ≡ vec_capacity fds.old }
 {
-    let i = fd_place(fds, &fd);
+    let i = fd_insertion_index(fds, &fd);
     let _ = fds.insert(i, fd);
 }
 
@@ -51,8 +53,8 @@ pub fn open_clone(
     process: Process,
     name: &Name,
 ) -> Result<Reply, Fault>
-    requires { IsReady drivers.now lists.old }
-    ensures does { DoesInPlace drivers.now lists.old lists.new process (OpenClone name.now) result }
+    requires { StepInvariant drivers.now lists.old }
+    ensures refines { Refines drivers.now lists.old lists.new process (OpenClone name.now) result }
     ensures kept { HasRoom lists.new }
 {
     let driver = driver_of(drivers, name)?;
@@ -76,21 +78,17 @@ pub fn open_minor(
     name: &Name,
     minor: u32,
 ) -> Result<Reply, Fault>
-    requires { IsReady drivers.now lists.old }
-    ensures does { DoesInPlace drivers.now lists.old lists.new process (OpenMinor name.now minor) result }
+    requires { StepInvariant drivers.now lists.old }
+    ensures refines { Refines drivers.now lists.old lists.new process (OpenMinor name.now minor) result }
     ensures kept { HasRoom lists.new }
 {
     let driver = driver_of(drivers, name)?;
-    if minors_of(drivers, driver) <= minor {
-        return Err(Fault::NoMinor);
-    }
+    refuse(Fault::NoMinor, minors_of(drivers, driver) <= minor)?;
     let stream = StreamId {
         driver: driver as u8,
         minor: minor as u8,
     };
-    if is_below(&lists.links, stream) {
-        return Err(Fault::Below);
-    }
+    refuse(Fault::Below, is_below(&lists.links, stream))?;
     let fd = free_fd(lists, process)?;
     add_fd(lists, process, fd, stream);
     Ok(Reply::Fd { fd, minor })
@@ -102,8 +100,8 @@ pub fn dup(
     process: Process,
     fd: u32,
 ) -> Result<Reply, Fault>
-    requires { IsReady drivers.now lists.old }
-    ensures does { DoesInPlace drivers.now lists.old lists.new process (Dup fd) result }
+    requires { StepInvariant drivers.now lists.old }
+    ensures refines { Refines drivers.now lists.old lists.new process (Dup fd) result }
     ensures kept { HasRoom lists.new }
 {
     let stream = stream_of(lists, process, fd)?;
@@ -115,11 +113,18 @@ pub fn dup(
     })
 }
 
+// Whether it is not the process's descriptor of this number.
+fn is_other(process: Process, fd: u32, d: &Descriptor) -> bool
+    ensures { result ≡ not (is_fd process fd d.now) }
+{
+    !is_fd(process, fd, d)
+}
+
 fn drop_fd(fds: &mut Vec<Descriptor>, process: Process, fd: u32)
     ensures fds { fds.new.items ≡ filter (λ d. not (is_fd process fd d)) fds.old.items }
     ensures capacity { vec_capacity fds.new ≡ vec_capacity fds.old }
 {
-    fds.retain(|d| !is_fd(process, fd, d));
+    fds.retain(|d| is_other(process, fd, d));
 }
 
 fn drop_process(fds: &mut Vec<Descriptor>, process: Process)
@@ -135,15 +140,15 @@ pub fn close(
     lists: &mut Lists,
     process: Process,
     fd: u32,
-) -> Result<Reply, Stop>
-    requires { IsReady drivers.now lists.old }
-    ensures does { Does drivers.now lists.old lists.new process (Close fd) result }
+) -> Result<Reply, StepError>
+    requires { StepInvariant drivers.now lists.old }
+    ensures refines { RefinesOrNoMemory drivers.now lists.old lists.new process (Close fd) result }
     ensures kept { HasRoom lists.new }
 {
     let _stream = stream_of(lists, process, fd)?;
-    let room = room_to_sweep(alloc, lists)?;
+    let room = reserve_for_sweep(alloc, lists)?;
     drop_fd(&mut lists.fds, process, fd);
-    Ok(sweep_done(drivers, lists, room))
+    Ok(sweep_and_reply(drivers, lists, room))
 }
 
 pub fn close_all(
@@ -151,12 +156,12 @@ pub fn close_all(
     drivers: &[DriverSpec],
     lists: &mut Lists,
     process: Process,
-) -> Result<Reply, Stop>
-    requires { IsReady drivers.now lists.old }
-    ensures does { Does drivers.now lists.old lists.new process CloseAll result }
+) -> Result<Reply, StepError>
+    requires { StepInvariant drivers.now lists.old }
+    ensures refines { RefinesOrNoMemory drivers.now lists.old lists.new process CloseAll result }
     ensures kept { HasRoom lists.new }
 {
-    let room = room_to_sweep(alloc, lists)?;
+    let room = reserve_for_sweep(alloc, lists)?;
     drop_process(&mut lists.fds, process);
-    Ok(sweep_done(drivers, lists, room))
+    Ok(sweep_and_reply(drivers, lists, room))
 }

@@ -11,7 +11,7 @@ ghost use Rattle.smx_model.specs.Views.{view};
 ghost use Rattle.smx_config.specs.DriverFaults.{RefusesDrivers};
 ghost use Rattle.smx_config.specs.Machine.{takes_no_memory};
 
-use crate::copied::{copy_lists, empty_lists};
+use crate::copies::{copy_lists, empty_lists};
 use crate::driver_list::check_drivers;
 use crate::fault::ConfigFault;
 use crate::lists::Lists;
@@ -20,8 +20,10 @@ use crate::settling::settle;
 use crate::show::{
     binding_lines, descriptor_lines, full_lines, link_lines, message_lines, route_lines,
 };
-use crate::stop::Stop;
-use smx_model::laws_of_steps::{commands_keep, empty_is_kept, refusals_change_nothing};
+use crate::step_error::StepError;
+use smx_model::laws_of_steps::{
+    commands_keep, empty_is_kept, outcomes_are_sound, refusals_change_nothing,
+};
 use smx_types::{
     BindingLines, Command, ConfigView, DescriptorLines, DriverSpec, FullLines, LinkLines,
     MessageLines, NoMemory, Process, Reply, RouteLines,
@@ -42,11 +44,11 @@ impl Model for Config {
 
     ghost Value = { Machine };
 
-    ghost use Rattle.smx_config.specs.ConfigFields.{machine_of, IsWhole};
+    ghost use Rattle.smx_config.specs.ModelOfConfig.{machine_of, ConfigInvariant};
 
     ghost view = { machine_of };
 
-    ghost invariant = { IsWhole };
+    ghost invariant = { ConfigInvariant };
 }
 
 // Links are no more than the ids that were given, and those fit.
@@ -59,7 +61,7 @@ fn count_links(lists: &Lists) -> u32
 }
 
 impl Config {
-    /// The empty configuration over these drivers. Refused where there are more than 64; or else at the least number
+    /// The empty configuration over these drivers, which keeps the allocator for all that it makes. Refused where there are more than 64; or else at the least number
     /// of a driver that can't be had, or that has the name of an earlier one; or else for want of memory.
     pub fn new(alloc: Global, drivers: &[DriverSpec]) -> Result<Config, ConfigFault>
         ensures drivers { IfOk result (λ c. (c.drivers ≡ drivers.now) × IsDriverList drivers.now) }
@@ -96,14 +98,15 @@ impl Config {
         ensures refused { IsErr (outcome self.old.drivers self.old.configuration process command.now) → IsOk result }
     {
         commands_keep();
+        outcomes_are_sound();
         refusals_change_nothing();
         match perform(self.alloc, &self.drivers, &mut self.lists, process, command) {
             Ok(reply) => {
                 settle(&self.drivers, &mut self.lists);
                 Ok(reply)
             }
-            Err(Stop::Refused(fault)) => Ok(Reply::Fault(fault)),
-            Err(Stop::NoMemory) => Err(NoMemory),
+            Err(StepError::Refused(fault)) => Ok(Reply::Fault(fault)),
+            Err(StepError::NoMemory) => Err(NoMemory),
         }
     }
 
@@ -142,15 +145,25 @@ impl Config {
     pub fn drivers(&self) -> &[DriverSpec]
         ensures value { result.now ≡ self.now.drivers }
         ensures list { IsDriverList self.now.drivers }
-        ensures kept { IsKept self.now.drivers self.now.configuration }
     {
         self.drivers.as_slice()
     }
 
-    /// The same configuration again. Fails only for want of memory.
-    pub fn copy(&self, alloc: Global) -> Result<Config, NoMemory>
+    /// What every configuration is, whichever commands came before: its links form no cycle and no stream is below two
+    /// of them, nothing is left of a stream that doesn't exist, each list is in its order, and no message can move on.
+    /// It does nothing: a caller who needs these facts calls it.
+    pub fn is_sound_and_settled(&self)
+        ensures drivers { IsDriverList self.now.drivers }
+        ensures kept { IsKept self.now.drivers self.now.configuration }
+    {
+        let _drivers = &self.drivers;
+    }
+
+    /// The same configuration again, by the allocator that this one has. Fails only for want of memory.
+    pub fn copy(&self) -> Result<Config, NoMemory>
         ensures { IfOk result (λ c. c ≡ self.now) }
     {
+        let alloc = self.alloc;
         let drivers = Vec::from_slice(alloc, &self.drivers)?;
         let lists = copy_lists(alloc, &self.lists)?;
         Ok(Config {

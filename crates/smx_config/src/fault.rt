@@ -1,8 +1,10 @@
 //! Why there is no configuration for some drivers.
 
 use smx_types::SpecFault;
+use std::fmt;
 
-/// Why there is no configuration for some drivers, whose numbers start from 0.
+/// Why there is no configuration for some drivers, whose numbers start from 0. It prints itself: `driver 3 marks`,
+/// `driver 3 same name`, `too many drivers`, `no memory`.
 #[derive(Clone, Copy, Debug, PartialEq, Eq)]
 pub enum ConfigFault {
     /// The driver of this number can't be had.
@@ -14,3 +16,16 @@ pub enum ConfigFault {
     /// A growth was refused.
     NoMemory,
 }
+
+impl fmt::Display for ConfigFault {
+    fn fmt<W: fmt::Write>(&self, f: &mut fmt::Formatter<W>) -> fmt::Result {
+        match self {
+            ConfigFault::BadSpec(i, fault) => write!(f, "driver {i} {fault}"),
+            ConfigFault::SameName(i) => write!(f, "driver {i} same name"),
+            ConfigFault::TooMany => f.write_str("too many drivers"),
+            ConfigFault::NoMemory => f.write_str("no memory"),
+        }
+    }
+}
+
+impl std::error::Error for ConfigFault {}

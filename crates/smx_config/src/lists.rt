@@ -1,6 +1,6 @@
 //! The lists of a configuration.
 
-use crate::queued::Queued;
+use crate::queued_message::QueuedMessage;
 use smx_types::{Binding, Descriptor, Link, Place, Route};
 
 /// All of a configuration, each list in the order in which it is shown.
@@ -11,7 +11,7 @@ pub struct Lists {
     pub next_id: u32,
     pub binds: Vec<Binding>,
     pub routes: Vec<Route>,
-    pub flow: Vec<Queued>,
+    pub flow: Vec<QueuedMessage>,
     pub fulls: Vec<Place>,
     pub next_serial: u32,
 }

@@ -1,108 +1,105 @@
-//! What the words of a command name.
+//! What the words of a command name in a configuration, and the refusals where they name nothing.
 
-ghost use Rattle.std.specs.Prelude.{◌≡◌, ◌<◌, ◌==◌, ◌&&◌, not, find, position, option_map, length, IfOk, OnOk};
-ghost use Rattle.std.specs.List.{list_any, range_with_len};
-ghost use Rattle.std.specs.Str.{bytes_eq};
-ghost use Rattle.smx_types.specs.declared.limits.TheConstants.{MAX_DESCRIPTORS};
-ghost use Rattle.smx_model.specs.DriverList.{kind_is_mux, is_mux, minors_of, high_of, low_of, max_of};
-ghost use Rattle.smx_model.specs.Lookups.{driver_of};
-ghost use Rattle.smx_model.specs.Configuration.{is_fd};
+ghost use Rattle.std.specs.Prelude.{◌≡◌, ◌<◌, ◌≤◌, length, IfOk};
+ghost use Rattle.smx_model.specs.DriverList.{minors_of};
+ghost use Rattle.smx_model.specs.KnownStreams.{AreStreamsKnown};
+ghost use Rattle.smx_model.specs.Lookups.{stream_of, free_fd, free_minor, free_stream, mux_stream, leaf_stream};
+ghost use Rattle.smx_model.specs.Standing.{exists};
+ghost use Rattle.smx_config.specs.FewMinors.{HaveFewMinors};
+ghost use Rattle.smx_config.specs.ReservedRoom.{IsFree};
+ghost use Rattle.smx_config.specs.ModelOfLists.{configuration_of};
 
-use smx_types::{Descriptor, DriverKind, DriverSpec, Fault, MAX_DESCRIPTORS, Name, Process};
+use crate::descriptors::{descriptor_of, least_fd};
+use crate::driver_specs::{driver_of, is_mux, minors_of};
+use crate::lists::Lists;
+use crate::refuse::refuse;
+use crate::standing::{is_below, least_minor, stands_within};
+use smx_types::{DriverSpec, Fault, Name, Process, StreamId};
 
-fn position_of(drivers: &[DriverSpec], name: &Name) -> Option<usize>
-    ensures { result ≡ position (λ d. bytes_eq d.name name.now) drivers.now }
+pub fn exists(drivers: &[DriverSpec], lists: &Lists, stream: StreamId) -> bool
+    ensures { result ≡ exists drivers.now (configuration_of lists.now) stream }
 {
-    drivers.iter().position(|d| d.name == *name)
+    stands_within(&lists.fds, &lists.links, drivers.len(), stream)
 }
 
-// The number of the driver of this name.
-pub fn driver_of(drivers: &[DriverSpec], name: &Name) -> Result<usize, Fault>
-    ensures found { result ≡ driver_of drivers.now name.now }
-    ensures in_range { IfOk result (λ n. n < length drivers.now) }
+pub fn stream_of(lists: &Lists, process: Process, fd: u32) -> Result<StreamId, Fault>
+    ensures { result ≡ stream_of (configuration_of lists.now) process fd }
 {
-    match position_of(drivers, name) {
+    match descriptor_of(&lists.fds, process, fd) {
+        Some(d) => Ok(d.stream),
+        None => Err(Fault::BadDescriptor),
+    }
+}
+
+pub fn free_fd(lists: &Lists, process: Process) -> Result<u32, Fault>
+    ensures least { result ≡ free_fd (configuration_of lists.now) process }
+    ensures free { IfOk result (λ n. IsFree process n lists.now.fds.items) }
+{
+    match least_fd(&lists.fds, process) {
         Some(n) => Ok(n),
-        None => Err(Fault::NoDriver),
+        None => Err(Fault::TooManyDescriptors),
     }
 }
 
-fn kind_is_mux(kind: DriverKind) -> bool
-    ensures { result ≡ kind_is_mux kind }
+pub fn free_minor(drivers: &[DriverSpec], lists: &Lists, driver: usize) -> Result<u8, Fault>
+    requires few { driver < 256 }
+    requires minors { minors_of drivers.now driver ≤ 64 }
+    ensures { result ≡ free_minor drivers.now (configuration_of lists.now) driver }
 {
-    match kind {
-        DriverKind::Mux => true,
-        DriverKind::Leaf => false,
+    let minors = minors_of(drivers, driver) as u8;
+    match least_minor(
+        &lists.fds,
+        &lists.links,
+        drivers.len(),
+        driver as u8,
+        minors,
+    ) {
+        Some(minor) => Ok(minor),
+        None => Err(Fault::NoMinor),
     }
 }
 
-pub fn is_mux(drivers: &[DriverSpec], driver: usize) -> bool
-    ensures { result ≡ is_mux drivers.now driver }
+pub fn free_stream(lists: &Lists, process: Process, fd: u32) -> Result<StreamId, Fault>
+    ensures { result ≡ free_stream (configuration_of lists.now) process fd }
 {
-    match drivers.get(driver) {
-        Some(d) => kind_is_mux(d.kind),
-        None => false,
+    let stream = stream_of(lists, process, fd)?;
+    refuse(Fault::Below, is_below(&lists.links, stream))?;
+    Ok(stream)
+}
+
+pub fn mux_stream(
+    drivers: &[DriverSpec],
+    lists: &Lists,
+    process: Process,
+    fd: u32,
+) -> Result<StreamId, Fault>
+    ensures { result ≡ mux_stream drivers.now (configuration_of lists.now) process fd }
+{
+    let stream = free_stream(lists, process, fd)?;
+    refuse(Fault::NotMux, !is_mux(drivers, stream.driver as usize))?;
+    Ok(stream)
+}
+
+pub fn leaf_stream(
+    drivers: &[DriverSpec],
+    lists: &Lists,
+    name: &Name,
+    minor: u32,
+) -> Result<StreamId, Fault>
+    requires few { length drivers.now ≤ 64 }
+    requires minors { HaveFewMinors drivers.now }
+    requires known { AreStreamsKnown drivers.now (configuration_of lists.now) }
+    ensures { result ≡ leaf_stream drivers.now (configuration_of lists.now) name.now minor }
+{
+    let driver = driver_of(drivers, name)?;
+    refuse(Fault::NoDriver, is_mux(drivers, driver))?;
+    if minor >= minors_of(drivers, driver) {
+        return Err(Fault::NoMinor);
     }
-}
-
-pub fn minors_of(drivers: &[DriverSpec], driver: usize) -> u32
-    ensures { result ≡ minors_of drivers.now driver }
-{
-    match drivers.get(driver) {
-        Some(d) => d.minors,
-        None => 0,
-    }
-}
-
-pub fn high_of(drivers: &[DriverSpec], driver: usize) -> u32
-    ensures { result ≡ high_of drivers.now driver }
-{
-    match drivers.get(driver) {
-        Some(d) => d.high,
-        None => 0,
-    }
-}
-
-pub fn low_of(drivers: &[DriverSpec], driver: usize) -> u32
-    ensures { result ≡ low_of drivers.now driver }
-{
-    match drivers.get(driver) {
-        Some(d) => d.low,
-        None => 0,
-    }
-}
-
-pub fn max_of(drivers: &[DriverSpec], driver: usize) -> u32
-    ensures { result ≡ max_of drivers.now driver }
-{
-    match drivers.get(driver) {
-        Some(d) => d.max,
-        None => 0,
-    }
-}
-
-pub fn is_fd(process: Process, fd: u32, d: &Descriptor) -> bool
-    ensures { result ≡ is_fd process fd d.now }
-{
-    d.process == process && d.fd == fd
-}
-
-// The descriptor of the process of this number.
-pub fn found_fd(fds: &[Descriptor], process: Process, fd: u32) -> Option<Descriptor>
-    ensures { result ≡ find (is_fd process fd) fds.now }
-{
-    fds.iter().copied().find(|d| is_fd(process, fd, d))
-}
-
-fn is_open(fds: &[Descriptor], process: Process, fd: u32) -> bool
-    ensures { result ≡ list_any (is_fd process fd) fds.now }
-{
-    fds.iter().any(|d| is_fd(process, fd, d))
-}
-
-// The least number that is no descriptor of the process.
-pub fn least_fd(fds: &[Descriptor], process: Process) -> Option<u32>
-    ensures { result ≡ find (λ n. not (list_any (is_fd process n) fds.now)) (range_with_len 0 MAX_DESCRIPTORS) }
-{
-    (0..MAX_DESCRIPTORS).find(|n| !is_open(fds, process, *n))
+    let stream = StreamId {
+        driver: driver as u8,
+        minor: minor as u8,
+    };
+    refuse(Fault::NoMinor, !exists(drivers, lists, stream))?;
+    Ok(stream)
 }

@@ -1,26 +1,26 @@
 //! One command, before messages move on.
 
 ghost use Rattle.std.specs.Prelude.{◌≡◌, ◌≢◌, IsTrue, Err};
-ghost use Rattle.smx_config.specs.declared.stop.Stop.TheVariants as stop;
+ghost use Rattle.smx_config.specs.declared.step_error.StepError.TheVariants as step_error;
 ghost use Rattle.smx_config.specs.Machine.{takes_no_memory};
-ghost use Rattle.smx_config.specs.Performed.{IsReady, Does, as_stop};
-ghost use Rattle.smx_config.specs.Reserved.{HasRoom};
+ghost use Rattle.smx_config.specs.Refinement.{StepInvariant, RefinesOrNoMemory, as_step_error};
+ghost use Rattle.smx_config.specs.ReservedRoom.{HasRoom};
 
 use crate::commands_of_addresses::{bind, route, unbind, unroute};
 use crate::commands_of_links::{link, plink, punlink, unlink};
 use crate::commands_of_messages::{flush, inject, read, transmit, write};
 use crate::commands_of_streams::{close, close_all, dup, open_clone, open_minor};
 use crate::lists::Lists;
-use crate::stop::Stop;
+use crate::step_error::StepError;
 use smx_types::{Command, DriverSpec, Fault, Process, Reply};
 use std::alloc::Global;
 
-fn as_stop(answer: Result<Reply, Fault>) -> Result<Reply, Stop>
-    ensures { result ≡ as_stop answer }
+fn as_step_error(answer: Result<Reply, Fault>) -> Result<Reply, StepError>
+    ensures { result ≡ as_step_error answer }
 {
     match answer {
         Ok(reply) => Ok(reply),
-        Err(fault) => Err(Stop::Refused(fault)),
+        Err(fault) => Err(StepError::Refused(fault)),
     }
 }
 
@@ -31,18 +31,18 @@ pub fn perform(
     lists: &mut Lists,
     process: Process,
     command: &Command,
-) -> Result<Reply, Stop>
-    requires { IsReady drivers.now lists.old }
-    ensures does { Does drivers.now lists.old lists.new process command.now result }
-    ensures in_place { IsTrue (takes_no_memory command.now) → result ≢ Err stop.NoMemory }
+) -> Result<Reply, StepError>
+    requires { StepInvariant drivers.now lists.old }
+    ensures refines { RefinesOrNoMemory drivers.now lists.old lists.new process command.now result }
+    ensures in_place { IsTrue (takes_no_memory command.now) → result ≢ Err step_error.NoMemory }
     ensures room { HasRoom lists.new }
 {
     match command {
-        Command::OpenClone { driver } => as_stop(open_clone(drivers, lists, process, driver)),
+        Command::OpenClone { driver } => as_step_error(open_clone(drivers, lists, process, driver)),
         Command::OpenMinor { driver, minor } => {
-            as_stop(open_minor(drivers, lists, process, driver, *minor))
+            as_step_error(open_minor(drivers, lists, process, driver, *minor))
         }
-        Command::Dup { fd } => as_stop(dup(drivers, lists, process, *fd)),
+        Command::Dup { fd } => as_step_error(dup(drivers, lists, process, *fd)),
         Command::Close { fd } => close(alloc, drivers, lists, process, *fd),
         Command::CloseAll => close_all(alloc, drivers, lists, process),
         Command::Link { fd, arg } => link(drivers, lists, process, *fd, *arg),
@@ -50,17 +50,17 @@ pub fn perform(
         Command::Unlink { fd, which } => unlink(alloc, drivers, lists, process, *fd, *which),
         Command::Punlink { fd, which } => punlink(alloc, drivers, lists, process, *fd, *which),
         Command::Bind { fd, addr } => bind(alloc, drivers, lists, process, *fd, *addr),
-        Command::Unbind { fd } => as_stop(unbind(alloc, drivers, lists, process, *fd)),
+        Command::Unbind { fd } => as_step_error(unbind(alloc, drivers, lists, process, *fd)),
         Command::Route { fd, addr, id } => {
             route(alloc, drivers, lists, process, *fd, *addr, *id)
         }
         Command::Unroute { fd, addr } => {
-            as_stop(unroute(alloc, drivers, lists, process, *fd, *addr))
+            as_step_error(unroute(alloc, drivers, lists, process, *fd, *addr))
         }
         Command::Write { fd, addr, bytes } => {
             write(alloc, drivers, lists, process, *fd, *addr, bytes)
         }
-        Command::Read { fd } => as_stop(read(drivers, lists, process, *fd)),
+        Command::Read { fd } => as_step_error(read(drivers, lists, process, *fd)),
         Command::Flush { fd, sides } => flush(alloc, drivers, lists, process, *fd, *sides),
         Command::Inject {
             driver,
@@ -69,7 +69,7 @@ pub fn perform(
             bytes,
         } => inject(alloc, drivers, lists, process, driver, *minor, *addr, bytes),
         Command::Transmit { driver, minor } => {
-            as_stop(transmit(drivers, lists, process, driver, *minor))
+            as_step_error(transmit(drivers, lists, process, driver, *minor))
         }
     }
 }

@@ -7,13 +7,13 @@ ghost use Rattle.smx_model.specs.Configuration.{same_place, is_at, queued_before
 ghost use Rattle.smx_model.specs.DriverList.{high_of, low_of};
 ghost use Rattle.smx_model.specs.Ordered.{with_inserted, without_first};
 ghost use Rattle.smx_model.specs.Queues.{bytes_at, first_message, with_mark, after_leaving, after_arrival};
-ghost use Rattle.smx_config.specs.Reserved.{HasRoom};
-ghost use Rattle.smx_config.specs.ListFields.{configuration_of};
+ghost use Rattle.smx_config.specs.ReservedRoom.{HasRoom};
+ghost use Rattle.smx_config.specs.ModelOfLists.{configuration_of};
 
+use crate::driver_specs::{high_of, low_of};
+use crate::insertion_index::{mark_insertion_index, message_insertion_index};
 use crate::lists::Lists;
-use crate::lookups::{high_of, low_of};
-use crate::ordered::{mark_place, queued_place};
-use crate::queued::Queued;
+use crate::queued_message::QueuedMessage;
 use crate::streams::same_place;
 use smx_types::{DriverSpec, Message, Place};
 
@@ -25,7 +25,7 @@ pub fn is_full(fulls: &[Place], place: Place) -> bool
 }
 
 // Whether the messages at the place have at least so many bytes together.
-fn has_bytes(flow: &[Queued], place: Place, bytes: usize) -> bool
+fn has_bytes(flow: &[QueuedMessage], place: Place, bytes: usize) -> bool
     ensures { result ≡ nat_le bytes (bytes_at flow.now place) }
 {
     let mut left = bytes;
@@ -42,35 +42,35 @@ fn has_bytes(flow: &[Queued], place: Place, bytes: usize) -> bool
 }
 
 // Whether they have more bytes than that.
-fn has_more(flow: &[Queued], place: Place, bytes: u32) -> bool
+fn has_more(flow: &[QueuedMessage], place: Place, bytes: u32) -> bool
     ensures { result ≡ nat_lt bytes (bytes_at flow.now place) }
 {
     has_bytes(flow, place, bytes as usize + 1)
 }
 
-fn front_at(flow: &[Queued], place: Place) -> Option<usize>
+fn first_at(flow: &[QueuedMessage], place: Place) -> Option<usize>
     ensures { result ≡ position (is_at place) flow.now }
 {
     flow.iter().position(|h| same_place(h.place(), place))
 }
 
 // The address of the first message at the place.
-pub fn front_addr(flow: &[Queued], place: Place) -> Option<u32>
+pub fn first_addr(flow: &[QueuedMessage], place: Place) -> Option<u32>
     ensures { result ≡ option_map (λ m. m.addr) (first_message flow.now place) }
 {
-    match front_at(flow, place) {
+    match first_at(flow, place) {
         Some(i) => Some(flow[i].message().addr),
         None => None,
     }
 }
 
 // Takes the first message of the place.
-pub fn take_front(flow: &mut Vec<Queued>, place: Place) -> Option<Message>
-    ensures front { result ≡ first_message flow.old.items place }
+pub fn take_first(flow: &mut Vec<QueuedMessage>, place: Place) -> Option<Message>
+    ensures first { result ≡ first_message flow.old.items place }
     ensures rest { flow.new.items ≡ without_first (is_at place) flow.old.items }
     ensures capacity { vec_capacity flow.new ≡ vec_capacity flow.old }
 {
-    match front_at(flow, place) {
+    match first_at(flow, place) {
         Some(i) => Some(flow.remove(i).into_message()),
         None => None,
     }
@@ -95,28 +95,28 @@ fn unmark(fulls: &mut Vec<Place>, place: Place)
     fulls.retain(|q| !same_place(place, *q));
 }
 
-#[tactic(auto, using(crate::proofs::PlaceLemmas::place_le, crate::proofs::PlaceLemmas::insert_place))]
+#[tactic(auto, using(crate::proofs::InsertionLemmas::index_le, crate::proofs::InsertionLemmas::insert_at_index))]
 fn put_mark(fulls: &mut Vec<Place>, place: Place)
     requires { length fulls.old.items < vec_capacity fulls.old }
     ensures marks { fulls.new.items ≡ with_inserted place_before fulls.old.items place }
     ensures capacity { vec_capacity fulls.new ≡ vec_capacity fulls.old }
 {
-    let i = mark_place(fulls, place);
+    let i = mark_insertion_index(fulls, place);
     let _ = fulls.insert(i, place);
 }
 
-#[tactic(auto, using(crate::proofs::PlaceLemmas::place_le, crate::proofs::PlaceLemmas::insert_place))]
-fn put_queued(flow: &mut Vec<Queued>, queued: Queued)
+#[tactic(auto, using(crate::proofs::InsertionLemmas::index_le, crate::proofs::InsertionLemmas::insert_at_index))]
+fn put_message(flow: &mut Vec<QueuedMessage>, queued: QueuedMessage)
     requires { length flow.old.items < vec_capacity flow.old }
     ensures flow { flow.new.items ≡ with_inserted queued_before flow.old.items queued }
     ensures capacity { vec_capacity flow.new ≡ vec_capacity flow.old }
 {
-    let i = queued_place(flow, &queued);
+    let i = message_insertion_index(flow, &queued);
     let _ = flow.insert(i, queued);
 }
 
 // Whether a place from which a message left is full: it was, and it has more bytes than its low water mark.
-fn stays_full(drivers: &[DriverSpec], flow: &[Queued], fulls: &[Place], place: Place) -> bool
+fn stays_full(drivers: &[DriverSpec], flow: &[QueuedMessage], fulls: &[Place], place: Place) -> bool
     ensures { result ≡ (list_any (same_place place) fulls.now && nat_lt (low_of drivers.now place.stream.driver) (bytes_at flow.now place)) }
 {
     let low = low_of(drivers, place.stream.driver as usize);
@@ -124,7 +124,12 @@ fn stays_full(drivers: &[DriverSpec], flow: &[Queued], fulls: &[Place], place: P
 }
 
 // Whether a place at which a message arrived is full: it was, or it has as many bytes as its high water mark.
-fn becomes_full(drivers: &[DriverSpec], flow: &[Queued], fulls: &[Place], place: Place) -> bool
+fn becomes_full(
+    drivers: &[DriverSpec],
+    flow: &[QueuedMessage],
+    fulls: &[Place],
+    place: Place,
+) -> bool
     ensures { result ≡ (list_any (same_place place) fulls.now || nat_le (high_of drivers.now place.stream.driver) (bytes_at flow.now place)) }
 {
     let high = high_of(drivers, place.stream.driver as usize);
@@ -134,14 +139,14 @@ fn becomes_full(drivers: &[DriverSpec], flow: &[Queued], fulls: &[Place], place:
 // The first message leaves the place.
 pub fn leave(drivers: &[DriverSpec], lists: &mut Lists, place: Place) -> Option<Message>
     requires { HasRoom lists.old }
-    ensures front { result ≡ first_message lists.old.flow.items place }
+    ensures first { result ≡ first_message lists.old.flow.items place }
     ensures value { configuration_of lists.new ≡ after_leaving drivers.now (configuration_of lists.old) place }
     ensures kept { HasRoom lists.new }
     ensures one_less { IfSome result (λ _. length lists.new.flow.items + 1 ≡ length lists.old.flow.items) }
     ensures capacity { vec_capacity lists.new.flow ≡ vec_capacity lists.old.flow }
     ensures marks_capacity { vec_capacity lists.new.fulls ≡ vec_capacity lists.old.fulls }
 {
-    let message = take_front(&mut lists.flow, place);
+    let message = take_first(&mut lists.flow, place);
     let full = stays_full(drivers, &lists.flow, &lists.fulls, place);
     mark(&mut lists.fulls, place, full);
     message
@@ -155,7 +160,7 @@ pub fn arrive(drivers: &[DriverSpec], lists: &mut Lists, place: Place, message: 
     ensures value { configuration_of lists.new ≡ after_arrival drivers.now (configuration_of lists.old) place message }
     ensures kept { HasRoom lists.new }
 {
-    put_queued(&mut lists.flow, Queued::new(place, message));
+    put_message(&mut lists.flow, QueuedMessage::new(place, message));
     let full = becomes_full(drivers, &lists.flow, &lists.fulls, place);
     mark(&mut lists.fulls, place, full);
 }

@@ -1,17 +1,30 @@
 //! Messages that move on.
 
-ghost use Rattle.std.specs.Prelude.{◌≡◌, ◌≤◌, ◌==◌, ◌&&◌, false, find, map, length, vec_capacity, IfSome};
+ghost use Rattle.std.specs.Prelude.{◌≡◌, ◌≤◌, ◌==◌, ◌&&◌, false, find, length, IfSome, Some};
 ghost use Rattle.smx_model.specs.Configuration.{same_stream};
-ghost use Rattle.smx_model.specs.Settling.{down_by, up_by, next_place, next_open_place, is_movable, least_movable, after_move, after_settling};
-ghost use Rattle.smx_config.specs.Reserved.{HasRoom};
-ghost use Rattle.smx_config.specs.ListFields.{configuration_of};
+ghost use Rattle.smx_model.specs.FlowOrder.{IsInOrder};
+ghost use Rattle.smx_model.specs.KeptConfigurations.{IsSound};
+ghost use Rattle.smx_model.specs.Queues.{first_message};
+ghost use Rattle.smx_model.specs.Settling.{place_below, place_above, next_place, next_open_place, is_movable};
+ghost use Rattle.smx_model.specs.Settling.{after_move, after_settling};
+ghost use Rattle.smx_config.specs.ModelOfLists.{configuration_of};
+ghost use Rattle.smx_config.specs.Moves.{open_place, is_same, IsLeastMove};
+ghost use Rattle.smx_config.specs.ReservedRoom.{HasRoom};
 
+use crate::driver_specs::is_mux;
 use crate::lists::Lists;
-use crate::lookups::is_mux;
-use crate::queued::Queued;
-use crate::queues::{arrive, front_addr, is_full, leave};
+use crate::queued_message::QueuedMessage;
+use crate::queues::{arrive, is_full, leave};
 use crate::streams::{same_place, same_stream};
+use smx_model::laws_of_steps::moves_keep_soundness;
 use smx_types::{Binding, DriverSpec, Link, Place, Route, Side, StreamId};
+
+// A message goes from one place to another.
+#[derive(Clone, Copy, Debug)]
+pub struct Move {
+    pub from: Place,
+    pub to: Place,
+}
 
 fn route_of(routes: &[Route], driver: u8, addr: u32) -> Option<Route>
     ensures { result ≡ find (λ r. (r.driver == driver) && (r.addr == addr)) routes.now }
@@ -45,7 +58,7 @@ fn binding_of(binds: &[Binding], driver: u8, addr: u32) -> Option<Binding>
 
 // The write side of the stream below the link of the driver's route.
 fn down(links: &[Link], routes: &[Route], driver: u8, addr: u32) -> Option<Place>
-    ensures { result ≡ down_by links.now (find (λ r. (r.driver == driver) && (r.addr == addr)) routes.now) }
+    ensures { result ≡ place_below links.now routes.now driver addr }
 {
     let route = route_of(routes, driver, addr)?;
     let link = link_of(links, route.id)?;
@@ -57,7 +70,7 @@ fn down(links: &[Link], routes: &[Route], driver: u8, addr: u32) -> Option<Place
 
 // The read side of the stream that is bound to the address on the upper driver.
 fn up(links: &[Link], binds: &[Binding], stream: StreamId, addr: u32) -> Option<Place>
-    ensures { result ≡ up_by binds.now addr (find (λ l. same_stream l.lower stream) links.now) }
+    ensures { result ≡ place_above links.now binds.now stream addr }
 {
     let link = link_above(links, stream)?;
     let binding = binding_of(binds, link.ctl.driver, addr)?;
@@ -87,11 +100,10 @@ fn next_place(drivers: &[DriverSpec], lists: &Lists, place: Place, addr: u32) ->
     }
 }
 
-// Where the first message of the place may go on to.
-fn next_open_place(drivers: &[DriverSpec], lists: &Lists, place: Place) -> Option<Place>
-    ensures { result ≡ next_open_place drivers.now (configuration_of lists.now) place }
+// The same, unless that is full.
+fn open_place(drivers: &[DriverSpec], lists: &Lists, place: Place, addr: u32) -> Option<Place>
+    ensures { result ≡ open_place drivers.now (configuration_of lists.now) place addr }
 {
-    let addr = front_addr(&lists.flow, place)?;
     let next = next_place(drivers, lists, place, addr)?;
     if is_full(&lists.fulls, next) {
         None
@@ -100,77 +112,80 @@ fn next_open_place(drivers: &[DriverSpec], lists: &Lists, place: Place) -> Optio
     }
 }
 
-fn is_movable(drivers: &[DriverSpec], lists: &Lists, place: Place) -> bool
-    ensures { result ≡ is_movable drivers.now (configuration_of lists.now) place }
+// Whether this is the place before.
+fn is_same(before: Option<Place>, place: Place) -> bool
+    ensures { result ≡ is_same before place }
 {
-    next_open_place(drivers, lists, place).is_some()
-}
-
-// The same, where the place that was tested last can't.
-fn is_movable_after(
-    drivers: &[DriverSpec],
-    lists: &Lists,
-    stuck: Option<Place>,
-    place: Place,
-) -> bool
-    requires { IfSome stuck (λ p. is_movable drivers.now (configuration_of lists.now) p ≡ false) }
-    ensures { result ≡ is_movable drivers.now (configuration_of lists.now) place }
-{
-    match stuck {
-        Some(p) => !same_place(p, place) && is_movable(drivers, lists, place),
-        None => is_movable(drivers, lists, place),
+    match before {
+        Some(p) => same_place(p, place),
+        None => false,
     }
 }
 
-// A place is tested once, at its first message.
-fn first_movable(drivers: &[DriverSpec], lists: &Lists, flow: &[Queued]) -> Option<Place>
-    ensures { result ≡ find (is_movable drivers.now (configuration_of lists.now)) (map (λ h. h.place) flow.now) }
+// Where the first message of this one's place may go on to. From the place before none may, and a message of another
+// place is the first there.
+fn next_open_place(
+    drivers: &[DriverSpec],
+    lists: &Lists,
+    before: Option<Place>,
+    queued: &QueuedMessage,
+) -> Option<Place>
+    requires stuck { IfSome before (λ p. is_movable drivers.now (configuration_of lists.now) p ≡ false) }
+    requires first { is_same before queued.now.place ≡ false
+        → first_message lists.now.flow.items queued.now.place ≡ Some queued.now.message }
+    ensures { result ≡ next_open_place drivers.now (configuration_of lists.now) queued.now.place }
 {
-    let mut stuck = None;
+    let place = queued.place();
+    if is_same(before, place) {
+        return None;
+    }
+    open_place(drivers, lists, place, queued.message().addr)
+}
+
+// The least movable place, with where its first message goes. The messages of a place stand together, so each place is
+// looked at once, at its first message.
+fn first_move(drivers: &[DriverSpec], lists: &Lists, flow: &[QueuedMessage]) -> Option<Move>
+    requires same { flow.now ≡ lists.now.flow.items }
+    requires order { IsInOrder flow.now }
+    ensures { IsLeastMove drivers.now (configuration_of lists.now) result }
+{
+    let mut before = None;
     for queued in flow {
-        let place = queued.place();
-        if is_movable_after(drivers, lists, stuck, place) {
-            return Some(place);
+        if let Some(to) = next_open_place(drivers, lists, before, queued) {
+            let from = queued.place();
+            return Some(Move { from, to });
         }
-        stuck = Some(place);
+        before = Some(queued.place());
     }
     None
 }
 
-// The first place of the flow from which a message may move on.
-fn least_movable(drivers: &[DriverSpec], lists: &Lists) -> Option<Place>
-    ensures { result ≡ least_movable drivers.now (configuration_of lists.now) }
-{
-    first_movable(drivers, lists, &lists.flow)
-}
-
-// The first message of the place moves on to its next place.
-fn move_on(drivers: &[DriverSpec], lists: &mut Lists, from: Place, to: Place)
+// The first message of a place moves on to its next place.
+fn move_on(drivers: &[DriverSpec], lists: &mut Lists, next: Move)
     requires kept { HasRoom lists.old }
-    requires way { next_open_place drivers.now (configuration_of lists.old) from ≡ Some to }
-    ensures value { configuration_of lists.new ≡ after_move drivers.now (configuration_of lists.old) from }
+    requires open { next_open_place drivers.now (configuration_of lists.old) next.from ≡ Some next.to }
+    ensures value { configuration_of lists.new ≡ after_move drivers.now (configuration_of lists.old) next.from }
     ensures kept { HasRoom lists.new }
 {
-    if let Some(message) = leave(drivers, lists, from) {
-        arrive(drivers, lists, to, message);
+    if let Some(message) = leave(drivers, lists, next.from) {
+        arrive(drivers, lists, next.to, message);
     }
 }
 
 // Moves messages on until none can.
 pub fn settle(drivers: &[DriverSpec], lists: &mut Lists)
-    requires { HasRoom lists.old }
+    requires kept { HasRoom lists.old }
+    requires sound { IsSound drivers.now (configuration_of lists.old) }
     ensures value { configuration_of lists.new ≡ after_settling drivers.now (configuration_of lists.old) }
     ensures kept { HasRoom lists.new }
 {
+    moves_keep_soundness();
     let mut left = lists.flow.len() as u128 * drivers.len() as u128;
     while left > 0 {
-        let Some(from) = least_movable(drivers, lists) else {
+        let Some(next) = first_move(drivers, lists, &lists.flow) else {
             return;
         };
-        let Some(to) = next_open_place(drivers, lists, from) else {
-            return;
-        };
-        move_on(drivers, lists, from, to);
+        move_on(drivers, lists, next);
         left -= 1;
     }
 }

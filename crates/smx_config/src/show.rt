@@ -6,7 +6,7 @@ ghost use Rattle.smx_model.specs.DriverList.{name_of};
 ghost use Rattle.smx_model.specs.Views.{view_of_fd, view_of_link, view_of_bind, view_of_route};
 ghost use Rattle.smx_model.specs.Views.{view_of_message, view_of_full};
 
-use crate::queued::Queued;
+use crate::queued_message::QueuedMessage;
 use smx_types::{
     Binding, BindingLine, Descriptor, DescriptorLine, DriverSpec, FullLine, Link, LinkLine,
     MessageLine, Name, NoMemory, Place, Route, RouteLine,
@@ -69,7 +69,11 @@ fn route_line(drivers: &[DriverSpec], r: &Route) -> RouteLine
     }
 }
 
-fn message_line(alloc: Global, drivers: &[DriverSpec], h: &Queued) -> Result<MessageLine, NoMemory>
+fn message_line(
+    alloc: Global,
+    drivers: &[DriverSpec],
+    h: &QueuedMessage,
+) -> Result<MessageLine, NoMemory>
     requires { h.now.place.stream.driver < length drivers.now }
     ensures { IfOk result (λ l. l ≡ view_of_message drivers.now h.now) }
 {
@@ -158,7 +162,7 @@ pub fn route_lines(
 pub fn message_lines(
     alloc: Global,
     drivers: &[DriverSpec],
-    flow: &[Queued],
+    flow: &[QueuedMessage],
 ) -> Result<Vec<MessageLine>, NoMemory>
     requires { All (λ h. h.place.stream.driver < length drivers.now) flow.now }
     ensures { IfOk result (λ v. v.items ≡ map (view_of_message drivers.now) flow.now) }

@@ -231,6 +231,6 @@ numbered_empty = record { once = λ n. omega arith; below = λ n le. refl }
 pub conserving : (drivers : List DriverSpec) (history : List Entry) → IsLegal drivers history → IsConserving drivers history
 conserving drivers history legal = let e = ends drivers empty history numbered_empty legal in record {
   numbered = e.numbered;
-  kept = permuted (taken_serials history) (delivered_serials history ++ (dropped_serials history ++ serials (after drivers history).flow))
+  conserved = permuted (taken_serials history) (delivered_serials history ++ (dropped_serials history ++ serials (after drivers history).flow))
       (λ n. omega (arith, e.balance n, times_append n (delivered_serials history) (dropped_serials history ++ serials (after drivers history).flow), times_append n (dropped_serials history) (serials (after drivers history).flow)));
 }

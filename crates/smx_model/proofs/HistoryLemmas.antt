@@ -1,5 +1,5 @@
 -- Legal histories: their prefixes, that replies are determined, and that they are lawful.
-use Rattle.std.proofs.Common.{◌≡◌, ℕ, List, [], ◌∷◌, ◌++◌, length, map, refl, sym, ap, ◌∙◌, subst, arith}
+use Rattle.std.proofs.Common.{◌≡◌, ◌≢◌, ℕ, List, [], ◌∷◌, ◌++◌, length, map, refl, sym, ap, ◌∙◌, subst, arith}
 use Rattle.std.specs.List.{AllPairs, range_with_len}
 use Rattle.std.proofs.lemmas.List.FromFn.{get_or-range_with_len, length-range_with_len}
 use Rattle.smx_types.specs.declared.command.Command.{Command}
@@ -45,7 +45,7 @@ pub determined : (drivers : List DriverSpec) (xs ys : List Entry) → IsLegal dr
 determined drivers xs ys h k e = determined_from drivers empty xs ys h k e
 
 -- numbers from a on differ
-range_apart : (a n : ℕ) → AllPairs (λ x y. x ≡ y → ⊥) (range_with_len a n)
+range_apart : (a n : ℕ) → AllPairs (λ x y. x ≢ y) (range_with_len a n)
 range_apart a n i j d lt within e =
     let in_range = length-range_with_len a n in
     omega (arith, e, in_range, within, lt, get_or-range_with_len a n i d (omega (arith, in_range, within, lt)), get_or-range_with_len a n j d (omega (arith, in_range, within)))
@@ -57,8 +57,8 @@ lawful drivers history legal =
     record {
       no_cycle = sound.no_cycle;
       lowers_apart = sound.lowers;
-      taken_once = subst (AllPairs (λ x y. x ≡ y → ⊥)) (sym kept.numbered) (range_apart 1 (length (taken_serials history)));
-      conserved = kept.kept;
+      taken_once = subst (AllPairs (λ x y. x ≢ y)) (sym kept.numbered) (range_apart 1 (length (taken_serials history)));
+      conserved = kept.conserved;
     }
 
 pub lawful_throughout : (drivers : List DriverSpec) (history : List Entry) → IsLegal drivers history → IsLawfulThroughout drivers history

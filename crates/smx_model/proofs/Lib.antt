@@ -18,5 +18,16 @@ pub mod ConservationLemmas
 pub mod ViewLemmas
 pub mod KeptLemmas
 pub mod RefusalLemmas
+pub mod LastRefusalLemmas
 pub mod DropLemmas
 pub mod HistoryLemmas
+pub mod LimitLemmas
+pub mod MemberLemmas
+pub mod SettledLemmas
+pub mod RemovalLemmas
+pub mod DeliveryLemmas
+pub mod MarkLemmas
+pub mod DescriptorLemmas
+pub mod BindingLemmas
+pub mod RoutingLemmas
+pub mod ReportLemmas

@@ -1,6 +1,6 @@
 -- Settling ends: each move lowers a rank.
 use Rattle.std.proofs.Common.{◌≡◌, ℕ, zero, suc, ◌+◌, ◌*◌, ◌<◌, ◌≤◌, Bool, true, false, ◌&&◌, cond, eqb, List, [], ◌∷◌, length, find, Option, Some, None, refl, sym, ap, ◌∙◌, subst, arith, inl, inr}
-use Rattle.std.specs.Option.{is_some}
+use Rattle.std.specs.Option.{is_some, option_map}
 use Rattle.std.proofs.lemmas.Bool.{cases_Bool, cases_eq, eqb-true, and_parts, false≢true, false_from_ne_true}
 use Rattle.smx_types.specs.declared.link.Binding.{Binding}
 use Rattle.smx_types.specs.declared.driver.DriverSpec.{DriverSpec}
@@ -16,7 +16,7 @@ use Rattle.smx_model.specs.DriverList.{is_mux}
 use Rattle.smx_model.specs.Ordered.{with_inserted, without_first}
 use Rattle.smx_model.specs.Paths.{HasNoCycle, reaches}
 use Rattle.smx_model.specs.Queues.{first_message, after_leaving, is_full}
-use Rattle.smx_model.specs.Settling.{after_settling, after_settling_within, least_movable, after_move, after_move_to, next_open_place, is_movable, place_of, next_by, next_place, unless_full, next_open_place_for, down_by, up_by, lower_side, bound_side, IsSettled}
+use Rattle.smx_model.specs.Settling.{◌>>=◌, after_settling, after_settling_within, least_movable, after_move, after_move_to, next_open_place, is_movable, next_place, place_below, place_above, IsSettled}
 use Rattle.smx_model.specs.SoundLinks.{AreLinksSound}
 use Rattle.smx_model.proofs.PathLemmas.{reaches_path, reaches_trans, reaches_link}
 use Rattle.smx_model.proofs.RangeLemmas.{links_below, AreNamed}
@@ -81,57 +81,67 @@ record CanSettle (drivers : List DriverSpec) (c : Configuration) : Type 0 where
 record Falls (links : List Link) (n : ℕ) (p q : Place) : Type 0 where
   falls : rank links n q < rank links n p
 
-down_falls : (links : List Link) (routes : List Route) (n d addr : ℕ) (q : Place) → HasNoCycle links → AreBelow n links → Each (λ r. Each (λ l. l.id ≡ r.id → l.ctl.driver ≡ r.driver) links) routes
-    → down_by links (find (λ r. eqb r.driver d && eqb r.addr addr) routes) ≡ Some q → rank links n q < rank_by links n d side.Write
-down_falls links routes n d addr q none below leads e = by (find (λ r. eqb r.driver d && eqb r.addr addr) routes) refl e where
-  via : (r : Route) → r.driver ≡ d → Each (λ l. l.id ≡ r.id → l.ctl.driver ≡ r.driver) links → (o : Option Link) → find (λ l. eqb l.id r.id) links ≡ o → lower_side o ≡ Some q → rank links n q < rank_by links n d side.Write
-  via r same upper None f k = cc
-  via r same upper (Some l) f k =
-      let is : record { stream = l.lower; side = side.Write } ≡ q = cc in
-      let up : l.ctl.driver ≡ r.driver = each_find _ _ links l f upper (eqb-true l.id r.id (find_passes _ links l f)) in
-      let r1 : reaches links d l.lower.driver ≡ true = subst (λ (x : ℕ). reaches links x l.lower.driver ≡ true) (up ∙ same) (reaches_link links _ l f) in
-      subst (λ (x : Place). rank links n x < rank_by links n d side.Write) is (down_less links n d l.lower.driver none r1 (each_find _ _ links l f below).1)
+-- what came of two steps came of the first
+pub bound : {A B : Type 0} (o : Option A) (f : A → Option B) (y : B) → (o >>= f) ≡ Some y → (x : A) × (o ≡ Some x) × (f x ≡ Some y)
+bound None f y e = cc
+bound (Some x) f y e = (x, refl, e)
 
-  by : (o : Option Route) → find (λ r. eqb r.driver d && eqb r.addr addr) routes ≡ o → down_by links o ≡ Some q → rank links n q < rank_by links n d side.Write
-  by None f k = cc
-  by (Some r) f k = via r (eqb-true r.driver d (and_parts _ _ (find_passes _ routes r f)).0) (each_find _ _ routes r f leads) (find (λ l. eqb l.id r.id) links) refl k
+-- the link that leads to the place below
+pub below_link : (links : List Link) (routes : List Route) (d addr : ℕ) (q : Place) → place_below links routes d addr ≡ Some q
+    → (r : Route) × (find (λ r. eqb r.driver d && eqb r.addr addr) routes ≡ Some r) × (l : Link) × (find (λ l. eqb l.id r.id) links ≡ Some l) × (record { stream = l.lower; side = side.Write } ≡ q)
+below_link links routes d addr q e =
+    let r = bound (find (λ r. eqb r.driver d && eqb r.addr addr) routes) (λ r. find (λ l. eqb l.id r.id) links >>= (λ l. Some (record { stream = l.lower; side = side.Write }))) q e in
+    let l = bound (find (λ l. eqb l.id r.0.id) links) (λ l. Some (record { stream = l.lower; side = side.Write })) q r.2 in
+    (r.0, r.1, l.0, l.1, cc)
+
+-- the link and the binding that lead to the place above
+pub above_binding : (links : List Link) (binds : List Binding) (s : StreamId) (addr : ℕ) (q : Place) → place_above links binds s addr ≡ Some q
+    → (l : Link) × (find (λ l. same_stream l.lower s) links ≡ Some l) × (b : Binding) × (find (λ b. eqb b.driver l.ctl.driver && eqb b.addr addr) binds ≡ Some b)
+    × (record { stream = record { driver = b.driver; minor = b.minor }; side = side.Read } ≡ q)
+above_binding links binds s addr q e =
+    let l = bound (find (λ l. same_stream l.lower s) links) (λ l. find (λ b. eqb b.driver l.ctl.driver && eqb b.addr addr) binds >>= (λ b. Some (record { stream = record { driver = b.driver; minor = b.minor }; side = side.Read }))) q e in
+    let b = bound (find (λ b. eqb b.driver l.0.ctl.driver && eqb b.addr addr) binds) (λ b. Some (record { stream = record { driver = b.driver; minor = b.minor }; side = side.Read })) q l.2 in
+    (l.0, l.1, b.0, b.1, cc)
+
+down_falls : (links : List Link) (routes : List Route) (n d addr : ℕ) (q : Place) → HasNoCycle links → AreBelow n links → Each (λ r. Each (λ l. l.id ≡ r.id → l.ctl.driver ≡ r.driver) links) routes
+    → place_below links routes d addr ≡ Some q → rank links n q < rank_by links n d side.Write
+down_falls links routes n d addr q none below leads e = via (below_link links routes d addr q e) where
+  via : (w : (r : Route) × (find (λ r. eqb r.driver d && eqb r.addr addr) routes ≡ Some r) × (l : Link) × (find (λ l. eqb l.id r.id) links ≡ Some l) × (record { stream = l.lower; side = side.Write } ≡ q))
+      → rank links n q < rank_by links n d side.Write
+  via (r, f, l, g, is) =
+      let same : r.driver ≡ d = eqb-true r.driver d (and_parts _ _ (find_passes _ routes r f)).0 in
+      let up : l.ctl.driver ≡ r.driver = each_find _ _ links l g (each_find _ _ routes r f leads) (eqb-true l.id r.id (find_passes _ links l g)) in
+      let r1 : reaches links d l.lower.driver ≡ true = subst (λ (x : ℕ). reaches links x l.lower.driver ≡ true) (up ∙ same) (reaches_link links _ l g) in
+      subst (λ (x : Place). rank links n x < rank_by links n d side.Write) is (down_less links n d l.lower.driver none r1 (each_find _ _ links l g below).1)
 
 up_falls : (links : List Link) (binds : List Binding) (n addr : ℕ) (s : StreamId) (q : Place) → HasNoCycle links → AreBelow n links
-    → up_by binds addr (find (λ l. same_stream l.lower s) links) ≡ Some q → rank links n q < rank_by links n s.driver side.Read
-up_falls links binds n addr s q none below e = by (find (λ l. same_stream l.lower s) links) refl e where
-  via : (l : Link) → find (λ l. same_stream l.lower s) links ≡ Some l → (o : Option Binding) → find (λ b. eqb b.driver l.ctl.driver && eqb b.addr addr) binds ≡ o → bound_side o ≡ Some q → rank links n q < rank_by links n s.driver side.Read
-  via l f None g k = cc
-  via l f (Some b) g k =
-      let is : record { stream = record { driver = b.driver; minor = b.minor }; side = side.Read } ≡ q = cc in
+    → place_above links binds s addr ≡ Some q → rank links n q < rank_by links n s.driver side.Read
+up_falls links binds n addr s q none below e = via (above_binding links binds s addr q e) where
+  via : (w : (l : Link) × (find (λ l. same_stream l.lower s) links ≡ Some l) × (b : Binding) × (find (λ b. eqb b.driver l.ctl.driver && eqb b.addr addr) binds ≡ Some b)
+      × (record { stream = record { driver = b.driver; minor = b.minor }; side = side.Read } ≡ q)) → rank links n q < rank_by links n s.driver side.Read
+  via (l, f, b, g, is) =
       let up : b.driver ≡ l.ctl.driver = eqb-true b.driver l.ctl.driver (and_parts _ _ (find_passes _ binds b g)).0 in
       let low : l.lower.driver ≡ s.driver = eqb-true l.lower.driver s.driver (and_parts _ _ (find_passes _ links l f)).0 in
       let r1 : reaches links b.driver s.driver ≡ true = subst (λ (x : ℕ). reaches links x s.driver ≡ true) (sym up) (subst (λ (x : ℕ). reaches links l.ctl.driver x ≡ true) low (reaches_link links _ l f)) in
       let lt : b.driver < n = subst (λ (x : ℕ). x < n) (sym up) (each_find _ _ links l f below).0 in
       subst (λ (x : Place). rank links n x < rank_by links n s.driver side.Read) is (up_less links n b.driver s.driver none r1 lt)
 
-  by : (o : Option Link) → find (λ l. same_stream l.lower s) links ≡ o → up_by binds addr o ≡ Some q → rank links n q < rank_by links n s.driver side.Read
-  by None f k = cc
-  by (Some l) f k = via l f (find (λ b. eqb b.driver l.ctl.driver && eqb b.addr addr) binds) refl k
-
-next_falls : (drivers : List DriverSpec) (c : Configuration) (s : StreamId) (addr : ℕ) (side_ : Side) (q : Place) → CanSettle drivers c → next_by drivers c s addr side_ ≡ Some q → rank c.links (length drivers) q < rank_by c.links (length drivers) s.driver side_
+next_falls : (drivers : List DriverSpec) (c : Configuration) (s : StreamId) (addr : ℕ) (side_ : Side) (q : Place) → CanSettle drivers c → next_place drivers c (record { stream = s; side = side_ }) addr ≡ Some q → rank c.links (length drivers) q < rank_by c.links (length drivers) s.driver side_
 next_falls drivers c s addr side.Write q h e = elim (cases_Bool (is_mux drivers s.driver)) [
   | inl t ↦ down_falls c.links c.routes (length drivers) s.driver addr q h.none h.below (routes_lead drivers c h.routed) (rw t at e)
   | inr f ↦ let k : None ≡ Some q = rw f at e in cc
 ]
 next_falls drivers c s addr side.Read q h e = up_falls c.links c.binds (length drivers) addr s q h.none h.below e
 
-pub if_open_is : (c : Configuration) (o : Option Place) (q : Place) → unless_full c o ≡ Some q → o ≡ Some q
-if_open_is c None q e = e
-if_open_is c (Some r) q e = elim (cases_Bool (is_full c r)) [ inl t ↦ let k : None ≡ Some q = rw t at e in cc | inr f ↦ rw f at e ]
-
-record Leads (c : Configuration) (n : ℕ) (p q : Place) (o : Option Message) : Type 0 where
-  message : Message
-  is : o ≡ Some message
-  falls : rank c.links n q < rank c.links n p
-
-way_leads : (drivers : List DriverSpec) (c : Configuration) (p q : Place) (o : Option Message) → CanSettle drivers c → next_open_place_for drivers c p o ≡ Some q → Leads c (length drivers) p q o
-way_leads drivers c p q None h e = cc
-way_leads drivers c p q (Some m) h e = record { message = m; is = refl; falls = next_falls drivers c p.stream m.addr p.side q h (if_open_is c (next_place drivers c p m.addr) q e) }
+-- the next place for the first message, where it is open
+pub open_next : (drivers : List DriverSpec) (c : Configuration) (p q : Place) → next_open_place drivers c p ≡ Some q → (m : Message) × (first_message c.flow p ≡ Some m) × (next_place drivers c p m.addr ≡ Some q)
+open_next drivers c p q e =
+    let m = bound (first_message c.flow p) (λ m. next_place drivers c p m.addr >>= (λ r. cond (is_full c r) None (Some r))) q e in
+    let r = bound (next_place drivers c p m.0.addr) (λ r. cond (is_full c r) None (Some r)) q m.2 in
+    (m.0, m.1, r.1 ∙ same r.0 (is_full c r.0) r.2) where
+      same : (r : Place) (full : Bool) → cond full None (Some r) ≡ Some q → Some r ≡ Some q
+      same r true e = cc
+      same r false e = e
 
 -- the ranks of the places of all messages
 abbrev weight : (Place → ℕ) → List QueuedMessage → ℕ
@@ -176,8 +186,9 @@ weight_front f (h ∷ hs) p m e = elim (cases_Bool (is_at p h)) [
 moved_weight : (drivers : List DriverSpec) (c : Configuration) (p : Place) → CanSettle drivers c → (q : Place) → next_open_place drivers c p ≡ Some q
     → weight (rank c.links (length drivers)) (after_move drivers c p).flow < weight (rank c.links (length drivers)) c.flow
 moved_weight drivers c p h q e =
-    let l = way_leads drivers c p q (first_message c.flow p) h e in
-    rw (e, l.is) (omega (arith, l.falls, weight_front (rank c.links (length drivers)) c.flow p l.message l.is, weight_placed (rank c.links (length drivers)) (after_leaving drivers c p).flow (record { place = q; message = l.message })))
+    let l = open_next drivers c p q e in
+    let falls : rank c.links (length drivers) q < rank c.links (length drivers) p = next_falls drivers c p.stream l.0.addr p.side q h l.2 in
+    rw (e, l.1) (omega (arith, falls, weight_front (rank c.links (length drivers)) c.flow p l.0 l.1, weight_placed (rank c.links (length drivers)) (after_leaving drivers c p).flow (record { place = q; message = l.0 })))
 
 -- no place of the flow is movable, so none is
 none_of : (t : Place → Bool) (hs : List QueuedMessage) (p : Place) (m : Message) → find (λ h. t h.place) hs ≡ None → first_message hs p ≡ Some m → t p ≡ false
@@ -194,11 +205,11 @@ pub no_front : (drivers : List DriverSpec) (c : Configuration) (p : Place) (o : 
 no_front drivers c p None e none = rw e refl
 no_front drivers c p (Some m) e none = none_of (is_movable drivers c) c.flow p m none e
 
-pub none_least : (o : Option QueuedMessage) → place_of o ≡ None → o ≡ None
+pub none_least : (o : Option QueuedMessage) → option_map (λ h. h.place) o ≡ None → o ≡ None
 none_least None e = refl
 none_least (Some h) e = cc
 
-pub some_least : (o : Option QueuedMessage) (p : Place) → place_of o ≡ Some p → (h : QueuedMessage) × (o ≡ Some h) × (h.place ≡ p)
+pub some_least : (o : Option QueuedMessage) (p : Place) → option_map (λ h. h.place) o ≡ Some p → (h : QueuedMessage) × (o ≡ Some h) × (h.place ≡ p)
 some_least None p e = cc
 some_least (Some h) p e = (h, refl, cc)
 

@@ -9,14 +9,14 @@ use Rattle.smx_model.specs.Outcomes.{Outcome, or_fault, ◌>>=◌, refuse}
 use Rattle.smx_model.specs.Paths.{HasNoCycle}
 use Rattle.smx_model.specs.Queues.{first_message, after_leaving, after_arrival, with_mark}
 use Rattle.smx_model.specs.Removal.{after_sweep, without_links}
-use Rattle.smx_model.specs.Settling.{after_move, after_move_to, next_open_place, next_by, next_open_place_for, next_place, down_by, up_by, lower_side, bound_side}
+use Rattle.smx_model.specs.Settling.{after_move, after_move_to, next_open_place, next_place}
 use Rattle.smx_model.specs.Standing.{is_persistent, is_named, stands_within, exists, is_below, Stands}
 use Rattle.smx_model.specs.Swept.{IsSwept}
 use Rattle.smx_model.proofs.IdleSweepLemmas.{swept_idle}
 use Rattle.smx_model.proofs.OutcomeLemmas.{IfAccepted, at_ok, after_ok, after_test, after_some}
 use Rattle.smx_model.proofs.PathLemmas.{reaches_at}
 use Rattle.smx_model.proofs.RangeLemmas.{AreNamed}
-use Rattle.smx_model.proofs.SettlingLemmas.{same_place_is, if_open_is}
+use Rattle.smx_model.proofs.SettlingLemmas.{same_place_is, below_link, above_binding, open_next}
 use Rattle.smx_model.proofs.StandingLemmas.{swept_is, stands_more, IsLinkIn, climbs_suffice}
 use Rattle.std.specs.List.{list_any}
 use Rattle.std.proofs.lemmas.Bool.{cases_Bool, eq-eqb, and_parts, or_cases, or_left, or_right, and_from}
@@ -26,14 +26,12 @@ use Rattle.smx_types.specs.declared.reply.Fault.{Fault}
 use Rattle.smx_types.specs.declared.reply.Fault.TheVariants.{BadDescriptor, NoDriver}
 use Rattle.smx_types.specs.declared.command.Which.{Which}
 use Rattle.smx_types.specs.declared.command.Which.TheVariants as which
-use Rattle.smx_types.specs.declared.link.Binding.{Binding}
 use Rattle.smx_types.specs.declared.stream.Descriptor.{Descriptor}
 use Rattle.smx_types.specs.declared.driver.DriverSpec.{DriverSpec}
 use Rattle.smx_types.specs.declared.link.Link.{Link}
 use Rattle.smx_types.specs.declared.link.LinkKind.{LinkKind}
 use Rattle.smx_types.specs.declared.message.Message.{Message}
 use Rattle.smx_types.specs.declared.stream.Place.{Place}
-use Rattle.smx_types.specs.declared.link.Route.{Route}
 use Rattle.smx_types.specs.declared.stream.Side.{Side}
 use Rattle.smx_types.specs.declared.stream.Side.TheVariants as side
 use Rattle.smx_types.specs.declared.stream.StreamId.{StreamId}
@@ -208,27 +206,16 @@ lower_exists drivers c test l h e = elim (cases_Bool (is_persistent l)) [
       (and_from _ _ (rw o refl) (and_from _ _ (same_self l.lower) up))))
 ]
 
-next_exists : (drivers : List DriverSpec) (c : Configuration) (s : StreamId) (addr : ℕ) (which_side : Side) (q : Place) → IsWhole drivers c → next_by drivers c s addr which_side ≡ Some q → exists drivers c q.stream ≡ true
+next_exists : (drivers : List DriverSpec) (c : Configuration) (s : StreamId) (addr : ℕ) (which_side : Side) (q : Place) → IsWhole drivers c → next_place drivers c (record { stream = s; side = which_side }) addr ≡ Some q → exists drivers c q.stream ≡ true
 next_exists drivers c s addr side.Write q h e = elim (cases_Bool (is_mux drivers s.driver)) [
-  | inl t ↦ by (find (λ r. eqb r.driver s.driver && eqb r.addr addr) c.routes) (rw t at e)
+  | inl t ↦ let w = below_link c.links c.routes s.driver addr q (rw t at e) in
+      subst (λ (x : Place). exists drivers c x.stream ≡ true) w.4 (lower_exists drivers c _ w.2 h w.3)
   | inr f ↦ let k : None ≡ Some q = rw f at e in cc
-] where
-  via : (r : Route) (o : Option Link) → find (λ l. eqb l.id r.id) c.links ≡ o → lower_side o ≡ Some q → exists drivers c q.stream ≡ true
-  via r None f k = cc
-  via r (Some l) f k = let is : record { stream = l.lower; side = side.Write } ≡ q = cc in subst (λ (x : Place). exists drivers c x.stream ≡ true) is (lower_exists drivers c _ l h f)
-
-  by : (o : Option Route) → down_by c.links o ≡ Some q → exists drivers c q.stream ≡ true
-  by None k = cc
-  by (Some r) k = via r (find (λ l. eqb l.id r.id) c.links) refl k
-next_exists drivers c s addr side.Read q h e = by (find (λ l. same_stream l.lower s) c.links) e where
-  via : (l : Link) (o : Option Binding) → find (λ b. eqb b.driver l.ctl.driver && eqb b.addr addr) c.binds ≡ o → bound_side o ≡ Some q → exists drivers c q.stream ≡ true
-  via l None f k = cc
-  via l (Some b) f k = let is : record { stream = record { driver = b.driver; minor = b.minor }; side = side.Read } ≡ q = cc in
-      subst (λ (x : Place). exists drivers c x.stream ≡ true) is (found_all (λ b. eqb b.driver l.ctl.driver && eqb b.addr addr) (λ b. exists drivers c (record { driver = b.driver; minor = b.minor })) c.binds b f h.swept_.binds)
-
-  by : (o : Option Link) → up_by c.binds addr o ≡ Some q → exists drivers c q.stream ≡ true
-  by None k = cc
-  by (Some l) k = via l (find (λ b. eqb b.driver l.ctl.driver && eqb b.addr addr) c.binds) refl k
+]
+next_exists drivers c s addr side.Read q h e =
+    let w = above_binding c.links c.binds s addr q e in
+    subst (λ (x : Place). exists drivers c x.stream ≡ true) w.4
+    (found_all (λ b. eqb b.driver w.0.ctl.driver && eqb b.addr addr) (λ b. exists drivers c (record { driver = b.driver; minor = b.minor })) c.binds w.2 w.3 h.swept_.binds)
 
 -- from a queue of a stream that exists
 front_exists : (t : Place → Bool) (hs : List QueuedMessage) (p : Place) (m : Message) → first_message hs p ≡ Some m → list_all (λ h. t h.place) hs ≡ true → t p ≡ true
@@ -240,8 +227,8 @@ pub swept_moved : (drivers : List DriverSpec) (c : Configuration) (p : Place) �
 swept_moved drivers c p h = by (next_open_place drivers c p) (first_message c.flow p) refl refl where
   by : (o : Option Place) (m : Option Message) → next_open_place drivers c p ≡ o → first_message c.flow p ≡ m → IsSwept drivers (after_move_to drivers c p o m)
   by (Some q) (Some m) e f =
-      let w : next_open_place_for drivers c p (Some m) ≡ Some q = ap (next_open_place_for drivers c p) (sym f) ∙ e in
-      swept_arrived drivers (after_leaving drivers c p) q m (next_exists drivers c p.stream m.addr p.side q h (if_open_is c (next_place drivers c p m.addr) q w))
+      let w = open_next drivers c p q e in
+      swept_arrived drivers (after_leaving drivers c p) q m (next_exists drivers c p.stream w.0.addr p.side q h w.2)
       (swept_left drivers c p (front_exists (λ x. exists drivers c x.stream) c.flow p m f h.swept_.flow) h.swept_)
   by (Some q) None e f = h.swept_
   by None m e f = h.swept_

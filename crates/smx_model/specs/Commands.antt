@@ -36,9 +36,9 @@ with_fd c process fd s = record c { fds = with_inserted fd_before c.fds (record 
 
 -- done: the new configuration is swept, and the reply names the serials that left
 abbrev pub done_outcome : List DriverSpec → Configuration → Configuration → Outcome
-done_outcome drivers c new = named (after_sweep drivers new) where
-  named : Configuration → Outcome
-  named d = Ok (d, reply.Done (serials_that_left c.flow d.flow))
+done_outcome drivers c new = with_serials (after_sweep drivers new) where
+  with_serials : Configuration → Outcome
+  with_serials d = Ok (d, reply.Done (serials_that_left c.flow d.flow))
 
 -- the stream of arg below the driver of fd, under the next id (streamio(7), I_LINK and I_PLINK)
 abbrev pub link_outcome : List DriverSpec → Configuration → ℕ → ℕ → ℕ → LinkKind → Outcome

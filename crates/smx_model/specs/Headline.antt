@@ -7,7 +7,8 @@ use Rattle.smx_model.specs.Histories.{IsLegal, after, HoldsPrograms}
 use Rattle.smx_model.specs.LawfulHistories.{AreDropsAllowed, IsLawfulThroughout}
 use Rattle.smx_model.specs.Views.{view}
 
--- the report of a run of these programs
+-- the report of a run of these programs; `lawful` and `drops` follow from `legal` (`lawful_after_each_entry`,
+-- `few_commands_drop`), and stand here for the reader
 pub record IsReportOf (programs : ProgramLists) (report : Transcript) : Type 0 where
   -- The drivers are those of the programs, and a configuration can have them.
   pub drivers : report.drivers ≡ programs.drivers

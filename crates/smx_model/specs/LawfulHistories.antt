@@ -83,10 +83,15 @@ dropped_serials (e ∷ es) = dropped_by e.reply ++ dropped_serials es
 abbrev pub queued_serials : List DriverSpec → List Entry → List ℕ
 queued_serials drivers history = serials (after drivers history).flow
 
--- serials count from 1; and each message that was taken in was delivered, was dropped or is queued, once
+-- each message that was taken in was delivered, was dropped or is queued, and just one of these, once
+abbrev pub AreMessagesConserved : List DriverSpec → List Entry → Type 0
+AreMessagesConserved drivers history =
+    IsPermutation (taken_serials history) (delivered_serials history ++ (dropped_serials history ++ queued_serials drivers history))
+
+-- serials count from 1, and no message is lost or doubled
 pub record IsConserving (drivers : List DriverSpec) (history : List Entry) : Type 0 where
   pub numbered : taken_serials history ≡ range_with_len 1 (length (taken_serials history))
-  pub kept : IsPermutation (taken_serials history) (delivered_serials history ++ (dropped_serials history ++ queued_serials drivers history))
+  pub conserved : AreMessagesConserved drivers history
 
 -- no cycle, no stream below two links, and no message lost or doubled
 pub record IsLawful (drivers : List DriverSpec) (history : List Entry) : Type 0 where
@@ -95,9 +100,9 @@ pub record IsLawful (drivers : List DriverSpec) (history : List Entry) : Type 0 
   -- no stream is below two links
   pub lowers_apart : AreLowersApart (after drivers history).links
   -- no two messages were taken in under one serial
-  pub taken_once : AllPairs (λ m n. m ≡ n → ⊥) (taken_serials history)
+  pub taken_once : AllPairs (λ m n. m ≢ n) (taken_serials history)
   -- each message that was taken in was delivered, was dropped or is queued, and just one of these, once
-  pub conserved : IsPermutation (taken_serials history) (delivered_serials history ++ (dropped_serials history ++ queued_serials drivers history))
+  pub conserved : AreMessagesConserved drivers history
 
 -- after each entry too: each of its prefixes is lawful
 abbrev pub IsLawfulThroughout : List DriverSpec → List Entry → Type 0

@@ -1,12 +1,12 @@
 -- What the words of a command name, and the refusals where they name nothing.
-use Rattle.std.specs.Prelude.{ℕ, not, List, find, position, Option, Some, None, Result, Ok}
+use Rattle.std.specs.Prelude.{ℕ, not, List, find, position, Result, Ok}
 use Rattle.std.specs.List.{list_any, range_with_len}
+use Rattle.std.specs.Option.{option_map}
 use Rattle.std.specs.Str.{bytes_eq}
 use Rattle.smx_types.specs.declared.driver.DriverSpec.{DriverSpec}
 use Rattle.smx_types.specs.declared.limits.TheConstants.{MAX_DESCRIPTORS}
 use Rattle.smx_types.specs.declared.reply.Fault.{Fault}
 use Rattle.smx_types.specs.declared.reply.Fault.TheVariants.{BadDescriptor, Below, NotMux, NoDriver, NoMinor, TooManyDescriptors}
-use Rattle.smx_types.specs.declared.stream.Descriptor.{Descriptor}
 use Rattle.smx_types.specs.declared.stream.StreamId.{StreamId}
 use Rattle.smx_model.specs.Configuration.{Configuration, is_fd}
 use Rattle.smx_model.specs.DriverList.{is_mux, minors_of}
@@ -19,10 +19,7 @@ driver_of drivers name = or_fault NoDriver (position (λ d. bytes_eq d.name name
 
 -- the stream of the process's descriptor
 abbrev pub stream_of : Configuration → ℕ → ℕ → Result StreamId Fault
-stream_of c process fd = or_fault BadDescriptor (found (find (is_fd process fd) c.fds)) where
-  found : Option Descriptor → Option StreamId
-  found None = None
-  found (Some d) = Some d.stream
+stream_of c process fd = or_fault BadDescriptor (option_map (λ d. d.stream) (find (is_fd process fd) c.fds))
 
 -- the least number that is no descriptor of the process; it has 16 at most
 abbrev pub free_fd : Configuration → ℕ → Result ℕ Fault

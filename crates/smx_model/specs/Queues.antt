@@ -1,6 +1,7 @@
 -- The messages that are queued at a place, and when its queue is full.
-use Rattle.std.specs.Prelude.{ℕ, Bool, ◌&&◌, ◌||◌, not, nat_lt, nat_le, if◌then◌else◌, List, length, map, filter, find, Option, Some, None}
+use Rattle.std.specs.Prelude.{ℕ, Bool, ◌&&◌, ◌||◌, not, nat_lt, nat_le, if◌then◌else◌, List, length, map, filter, find, Option}
 use Rattle.std.specs.List.{list_any, sum_by}
+use Rattle.std.specs.Option.{option_map}
 use Rattle.smx_types.specs.declared.driver.DriverSpec.{DriverSpec}
 use Rattle.smx_types.specs.declared.message.Message.{Message}
 use Rattle.smx_types.specs.declared.stream.Place.{Place}
@@ -8,7 +9,7 @@ use Rattle.smx_model.specs.Configuration.{Configuration, QueuedMessage, same_pla
 use Rattle.smx_model.specs.DriverList.{high_of, low_of}
 use Rattle.smx_model.specs.Ordered.{with_inserted, without_first}
 
--- the messages of the flow at a place, the first to arrive at the front
+-- the messages of the flow at a place, in order of arrival
 abbrev pub queue : List QueuedMessage → Place → List Message
 queue flow p = map (λ h. h.message) (filter (is_at p) flow)
 
@@ -18,10 +19,7 @@ bytes_at flow p = sum_by (λ m. length m.bytes) (queue flow p)
 
 -- the first message at a place
 abbrev pub first_message : List QueuedMessage → Place → Option Message
-first_message flow p = message_of (find (is_at p) flow) where
-  message_of : Option QueuedMessage → Option Message
-  message_of None = None
-  message_of (Some h) = Some h.message
+first_message flow p = option_map (λ h. h.message) (find (is_at p) flow)
 
 -- the place is marked as full
 abbrev pub is_full : Configuration → Place → Bool

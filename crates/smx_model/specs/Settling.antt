@@ -1,6 +1,6 @@
 -- Messages move on through the multiplexers until none can.
 use Rattle.std.specs.Prelude.{◌≡◌, ℕ, zero, suc, ◌*◌, Bool, false, ◌&&◌, ◌==◌, List, length, find, Option, Some, None, if◌then◌else◌}
-use Rattle.std.specs.Option.{is_some}
+use Rattle.std.specs.Option.{is_some, option_map}
 use Rattle.smx_types.specs.declared.driver.DriverSpec.{DriverSpec}
 use Rattle.smx_types.specs.declared.link.Binding.{Binding}
 use Rattle.smx_types.specs.declared.link.Link.{Link}
@@ -10,65 +10,52 @@ use Rattle.smx_types.specs.declared.stream.Place.{Place}
 use Rattle.smx_types.specs.declared.stream.Side.{Side}
 use Rattle.smx_types.specs.declared.stream.Side.TheVariants as side
 use Rattle.smx_types.specs.declared.stream.StreamId.{StreamId}
-use Rattle.smx_model.specs.Configuration.{Configuration, QueuedMessage, same_stream}
+use Rattle.smx_model.specs.Configuration.{Configuration, same_stream}
 use Rattle.smx_model.specs.DriverList.{is_mux}
 use Rattle.smx_model.specs.Queues.{is_full, first_message, after_arrival, after_leaving}
 
--- the write side of the stream below the link
-abbrev pub lower_side : Option Link → Option Place
-lower_side None = None
-lower_side (Some l) = Some (record { stream = l.lower; side = side.Write })
+-- with what is there, as long as something is
+infixl 10 ◌>>=◌
+abbrev pub ◌>>=◌ : {A B : Type 0} → Option A → (A → Option B) → Option B
+None >>= f = None
+(Some x) >>= f = f x
 
--- down: the write side of the lower stream of the link that the route names
-abbrev pub down_by : List Link → Option Route → Option Place
-down_by links None = None
-down_by links (Some r) = lower_side (find (λ l. l.id == r.id) links)
+-- down by the driver's route for the address: the write side of the lower stream of the link that the route names
+abbrev pub place_below : List Link → List Route → ℕ → ℕ → Option Place
+place_below links routes driver addr = do
+  r ← find (λ r. (r.driver == driver) && (r.addr == addr)) routes
+  l ← find (λ l. l.id == r.id) links
+  Some (record { stream = l.lower; side = side.Write })
 
--- the read side of the stream that has the address
-abbrev pub bound_side : Option Binding → Option Place
-bound_side None = None
-bound_side (Some b) = Some (record { stream = record { driver = b.driver; minor = b.minor }; side = side.Read })
+-- up by a binding: the read side of the stream that is bound to the address on the upper driver of the link above
+abbrev pub place_above : List Link → List Binding → StreamId → ℕ → Option Place
+place_above links binds s addr = do
+  l ← find (λ l. same_stream l.lower s) links
+  b ← find (λ b. (b.driver == l.ctl.driver) && (b.addr == addr)) binds
+  Some (record { stream = record { driver = b.driver; minor = b.minor }; side = side.Read })
 
--- up: the read side of the stream that is bound to the address on the link's upper driver
-abbrev pub up_by : List Binding → ℕ → Option Link → Option Place
-up_by binds addr None = None
-up_by binds addr (Some l) = bound_side (find (λ b. (b.driver == l.ctl.driver) && (b.addr == addr)) binds)
-
--- from a multiplexer's write side down by its route, from the read side of a stream below up by a binding
-abbrev pub next_by : List DriverSpec → Configuration → StreamId → ℕ → Side → Option Place
-next_by drivers c s addr side.Write = if is_mux drivers s.driver then down_by c.links (find (λ r. (r.driver == s.driver) && (r.addr == addr)) c.routes) else None
-next_by drivers c s addr side.Read = up_by c.binds addr (find (λ l. same_stream l.lower s) c.links)
-
--- the next place for a message of this address (the STREAMS guide's internet driver, in kind)
+-- the next place for a message of this address: from a multiplexer's write side down, from a read side up (the
+-- STREAMS guide's internet driver, in kind)
 abbrev pub next_place : List DriverSpec → Configuration → Place → ℕ → Option Place
-next_place drivers c p addr = next_by drivers c p.stream addr p.side
+next_place drivers c p addr = toward p.side where
+  toward : Side → Option Place
+  toward side.Write = if is_mux drivers p.stream.driver then place_below c.links c.routes p.stream.driver addr else None
+  toward side.Read = place_above c.links c.binds p.stream addr
 
--- a place, unless it is full
-abbrev pub unless_full : Configuration → Option Place → Option Place
-unless_full c None = None
-unless_full c (Some q) = if is_full c q then None else Some q
-
--- where a message may go on to
-abbrev pub next_open_place_for : List DriverSpec → Configuration → Place → Option Message → Option Place
-next_open_place_for drivers c p None = None
-next_open_place_for drivers c p (Some m) = unless_full c (next_place drivers c p m.addr)
-
--- where the first message of a place may go on to
+-- where the first message of a place may go on to: its next place, unless that is full (STREAMS guide, canput)
 abbrev pub next_open_place : List DriverSpec → Configuration → Place → Option Place
-next_open_place drivers c p = next_open_place_for drivers c p (first_message c.flow p)
+next_open_place drivers c p = do
+  m ← first_message c.flow p
+  q ← next_place drivers c p m.addr
+  if is_full c q then None else Some q
 
 -- its first message has a next place that is not full
 abbrev pub is_movable : List DriverSpec → Configuration → Place → Bool
 is_movable drivers c p = is_some (next_open_place drivers c p)
 
--- the place of a message, if there is one
-abbrev pub place_of : Option QueuedMessage → Option Place
-place_of None = None
-place_of (Some h) = Some h.place
-
 -- the least movable place, which is the first of the flow, for its places rise
 abbrev pub least_movable : List DriverSpec → Configuration → Option Place
-least_movable drivers c = place_of (find (λ h. is_movable drivers c h.place) c.flow)
+least_movable drivers c = option_map (λ h. h.place) (find (λ h. is_movable drivers c h.place) c.flow)
 
 -- a message from one place to another, where both are there
 abbrev pub after_move_to : List DriverSpec → Configuration → Place → Option Place → Option Message → Configuration

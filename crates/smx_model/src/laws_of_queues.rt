@@ -30,7 +30,7 @@ pub fn arrivals_go_to_the_end()
 pub fn the_first_leaves()
     ensures queues { (flow : List QueuedMessage) (p q : Place) → queue (without_first (is_at p) flow) q
         ≡ (if same_place p q then drop 1 (queue flow q) else queue flow q) }
-    ensures front { (flow : List QueuedMessage) (p : Place) → first_message flow p ≡ slice_get (queue flow p) 0 }
+    ensures first { (flow : List QueuedMessage) (p : Place) → first_message flow p ≡ slice_get (queue flow p) 0 }
 {}
 
 /// Emptied places have no messages and are not full, and the others stay as they were.

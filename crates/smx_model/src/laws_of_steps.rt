@@ -1,13 +1,16 @@
 //! Laws of single commands, each the contract of a function that does nothing.
 
-ghost use Rattle.std.specs.Prelude.{◌≡◌, ◌≢◌, ℕ, List, [], Ok, IfOk, IsTrue};
+ghost use Rattle.std.specs.Prelude.{◌≡◌, ◌≢◌, ◌↔◌, ◌⊎◌, ℕ, ◌≤◌, List, [], length, Ok, Err, IfOk, IsTrue};
 ghost use Rattle.smx_types.specs.declared.command.Command.{Command};
 ghost use Rattle.smx_types.specs.declared.command.Entry.{Entry};
 ghost use Rattle.smx_types.specs.declared.driver.DriverSpec.{DriverSpec};
+ghost use Rattle.smx_types.specs.declared.limits.TheConstants.{MAX_LINKS, NUMBER_END};
+ghost use Rattle.smx_types.specs.declared.link.LinkKind.{LinkKind};
 ghost use Rattle.smx_types.specs.declared.reply.Fault.{Fault};
+ghost use Rattle.smx_types.specs.declared.reply.Fault.TheVariants.{TooManyLinks};
 ghost use Rattle.smx_types.specs.declared.reply.Reply.TheVariants as reply;
 ghost use Rattle.smx_types.specs.declared.stream.Place.{Place};
-ghost use Rattle.smx_model.specs.Commands.{done_outcome, outcome, step};
+ghost use Rattle.smx_model.specs.Commands.{done_outcome, link_outcome, outcome, step};
 ghost use Rattle.smx_model.specs.Configuration.{Configuration, empty};
 ghost use Rattle.smx_model.specs.Histories.{after};
 ghost use Rattle.smx_model.specs.KeptConfigurations.{IsKept, IsSound};
@@ -28,10 +31,23 @@ pub fn outcomes_are_swept()
         → IfOk (outcome drivers c process command) (λ x. after_sweep drivers x.0 ≡ x.0) }
 {}
 
-/// A fault is the reply of refused commands alone, and those leave the configuration as it was.
+/// A fault is the reply of refused commands alone, and it is the fault that they are refused with.
+pub fn faults_are_refusals()
+    ensures { (drivers : List DriverSpec) (c : Configuration) (process : ℕ) (command : Command) (f : Fault)
+        → ((step drivers c process command).1 ≡ reply.Fault f ↔ outcome drivers c process command ≡ Err f) }
+{}
+
+/// They leave the configuration as it was.
 pub fn refusals_change_nothing()
     ensures { (drivers : List DriverSpec) (c : Configuration) (process : ℕ) (command : Command) (f : Fault)
         → (step drivers c process command).1 ≡ reply.Fault f → (step drivers c process command).0 ≡ c }
+{}
+
+/// Too many links is the last refusal of a link: there are 1,024 of them, or all ids are used up.
+pub fn links_have_room()
+    ensures { (drivers : List DriverSpec) (c : Configuration) (process fd arg : ℕ) (k : LinkKind)
+        → link_outcome drivers c process fd arg k ≡ Err TooManyLinks
+        → (MAX_LINKS ≤ length c.links) ⊎ (NUMBER_END ≤ c.next_id) }
 {}
 
 /// Where nothing is left of streams that don't exist, only a command that may drop messages names dropped ones.

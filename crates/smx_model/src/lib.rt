@@ -2,9 +2,14 @@
 #![tactic(auto)]
 
 pub mod laws;
+pub mod laws_of_deliveries;
+pub mod laws_of_limits;
 pub mod laws_of_links;
+pub mod laws_of_marks;
 pub mod laws_of_messages;
 pub mod laws_of_queues;
+pub mod laws_of_removals;
+pub mod laws_of_reports;
 pub mod laws_of_steps;
 pub mod laws_of_streams;
 pub mod laws_of_views;

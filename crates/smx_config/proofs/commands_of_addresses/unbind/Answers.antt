@@ -1,9 +1,10 @@
 use Rattle.std.proofs.Common.{refl, sym, ◌∙◌}
-use Rattle.smx_config.specs.ListFields.{configuration_of}
+use Rattle.smx_config.specs.ModelOfLists.{configuration_of}
 use Rattle.smx_config.proofs.DoneLemmas.{unbind_does}
 use Rattle.smx_config.proofs.commands_of_addresses.unbind.Goals as goal
 
-pub returns-clause-does : goal.returns-clause-does
-returns-clause-does c =
-    unbind_does c.args.drivers.now (configuration_of c.args.lists.now) c.args.process c.args.fd c.in_ok-stream.stream _ _ (c.idle_changes_drop_none.ensures c.args.drivers.now) c.requires.swept_already (sym c.mux_stream.ensures ∙ c.in_ok-stream.was) (sym c.check_unbind.ensures ∙ c.in_ok-check_unbind.was)
+pub returns-clause-refines : goal.returns-clause-refines
+returns-clause-refines c =
+    unbind_does c.args.drivers.now (configuration_of c.args.lists.now) c.args.process c.args.fd c.in_ok-stream.stream _ _ (c.idle_changes_drop_none.ensures c.args.drivers.now) c.requires.swept_already (sym c.mux_stream.ensures ∙ c.in_ok-stream.was)
+    (sym c.refuse_unbound.ensures ∙ c.in_ok-refuse_unbound.was)
     (rw c.drop_bind.ensures refl) (rw c.new.ensures refl)

@@ -1,7 +1,11 @@
-use Rattle.std.proofs.Common.{sym, ◌∙◌}
-use Rattle.smx_config.specs.ListFields.{configuration_of}
-use Rattle.smx_config.proofs.SettleLemmas.{least_moves}
+use Rattle.std.proofs.Common.{◌∙◌, arith}
+use Rattle.smx_config.specs.ModelOfLists.{configuration_of}
+use Rattle.smx_config.proofs.SettleLemmas.{settled_one}
 use Rattle.smx_config.proofs.settling.settle.Goals as goal
 
-pub returns-in_default-next_open_place-clause-value : goal.returns-in_default-next_open_place-clause-value
-returns-in_default-next_open_place-clause-value c = least_moves c.args.drivers.now (configuration_of c.loop-left.lists) c.in-Some.from (sym c.least_movable.ensures ∙ c.in-Some.is) (sym c.next_open_place.ensures ∙ c.in_default-next_open_place.is)
+pub loop-left-preserved : goal.loop-left-preserved
+loop-left-preserved c = record {
+  comes_to = settled_one c.args.drivers.now c.loop-left.left (configuration_of c.loop-left.lists) (configuration_of c.move_on.new.lists) c.in-Some.next.from (omega arith) c.in-Some.ensures.0 c.move_on.ensures.value ∙ c.loop-left.invariant.comes_to;
+  kept = c.move_on.ensures.kept;
+  sound = rw c.move_on.ensures.value (c.moves_keep_soundness.ensures c.args.drivers.now (configuration_of c.loop-left.lists) c.in-Some.next.from c.loop-left.invariant.sound);
+}

@@ -4,5 +4,5 @@ use Rattle.smx_model.proofs.laws_of_queues.the_first_leaves.Goals as goal
 pub returns-clause-queues : goal.returns-clause-queues
 returns-clause-queues c = left_queue
 
-pub returns-clause-front : goal.returns-clause-front
-returns-clause-front c = front_is
+pub returns-clause-first : goal.returns-clause-first
+returns-clause-first c = front_is

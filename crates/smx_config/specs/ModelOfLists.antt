@@ -1,0 +1,12 @@
+-- The fields of a queued message and of the lists. No public clause needs this.
+use Rattle.smx_config.specs.declared.lists.Lists.{Lists}
+use Rattle.smx_config.specs.declared.queued_message.QueuedMessage.TheInside.{Inside}
+use Rattle.smx_model.specs.Configuration.{Configuration, QueuedMessage}
+
+-- the fields as a queued message
+abbrev pub queued_message_of : Inside → QueuedMessage
+queued_message_of q = record { place = q.place; message = q.message }
+
+-- the configuration that the lists make
+abbrev pub configuration_of : Lists → Configuration
+configuration_of l = record { fds = l.fds.items; links = l.links.items; next_id = l.next_id; binds = l.binds.items; routes = l.routes.items; flow = l.flow.items; fulls = l.fulls.items; next_serial = l.next_serial }

@@ -1,0 +1,52 @@
+-- Which links a command may name, for both kinds of links at once. No public clause needs this.
+use Rattle.std.specs.Prelude.{ℕ, Bool, ◌&&◌, ◌||◌, not, ◌==◌, nat_le, List, length, Result, Ok}
+use Rattle.std.specs.List.{list_any}
+use Rattle.smx_types.specs.declared.command.Which.{Which}
+use Rattle.smx_types.specs.declared.command.Which.TheVariants as which
+use Rattle.smx_types.specs.declared.driver.DriverSpec.{DriverSpec}
+use Rattle.smx_types.specs.declared.limits.TheConstants.{MAX_LINKS, NUMBER_END}
+use Rattle.smx_types.specs.declared.link.Link.{Link}
+use Rattle.smx_types.specs.declared.link.LinkKind.{LinkKind}
+use Rattle.smx_types.specs.declared.link.LinkKind.TheVariants as kind
+use Rattle.smx_types.specs.declared.reply.Fault.{Fault}
+use Rattle.smx_types.specs.declared.reply.Fault.TheVariants.{Below, NotMux, AlreadyBelow, Cycle, TooManyLinks, NoLink}
+use Rattle.smx_types.specs.declared.stream.StreamId.{StreamId}
+use Rattle.smx_model.specs.Commands.{done_outcome}
+use Rattle.smx_model.specs.Configuration.{Configuration, same_stream}
+use Rattle.smx_model.specs.DriverList.{is_mux}
+use Rattle.smx_model.specs.Lookups.{mux_stream}
+use Rattle.smx_model.specs.Removal.{without_links}
+use Rattle.smx_model.specs.Outcomes.{Outcome, ◌>>=◌, refuse}
+use Rattle.smx_model.specs.Paths.{reaches}
+use Rattle.smx_model.specs.Standing.{is_persistent, is_below}
+
+-- the refusals of linking once both streams are known
+abbrev pub may_link : List DriverSpec → Configuration → StreamId → StreamId → Result (Unit {0}) Fault
+may_link drivers c upper lower = do
+  above ← refuse Below (is_below c.links upper)
+  mux ← refuse NotMux (not (is_mux drivers upper.driver))
+  free ← refuse AlreadyBelow (is_below c.links lower)
+  no_cycle ← refuse Cycle ((lower.driver == upper.driver) || reaches c.links lower.driver upper.driver)
+  refuse TooManyLinks (nat_le MAX_LINKS (length c.links) || nat_le NUMBER_END c.next_id)
+
+-- ordinary links made on this very stream, persistent links of its driver
+abbrev pub may_unlink : LinkKind → StreamId → Link → Bool
+may_unlink kind.Ordinary s l = not (is_persistent l) && same_stream l.ctl s
+may_unlink kind.Persistent s l = is_persistent l && (l.ctl.driver == s.driver)
+
+-- each of them, or the one of this id
+abbrev pub is_target : Which → LinkKind → StreamId → Link → Bool
+is_target which.All k s l = may_unlink k s l
+is_target (which.Id id) k s l = (l.id == id) && may_unlink k s l
+
+-- a link that is named has to be there; links of no id need not be
+abbrev pub are_there : Which → LinkKind → StreamId → List Link → Result (Unit {0}) Fault
+are_there which.All k s links = Ok tt
+are_there (which.Id id) k s links = refuse NoLink (not (list_any (is_target (which.Id id) k s) links))
+
+-- the command that removes links of this kind
+abbrev pub unlinks : List DriverSpec → Configuration → ℕ → ℕ → Which → LinkKind → Outcome
+unlinks drivers c process fd w k = do
+  s ← mux_stream drivers c process fd
+  there ← are_there w k s c.links
+  done_outcome drivers c (without_links c (is_target w k s))

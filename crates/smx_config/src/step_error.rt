@@ -1,0 +1,55 @@
+//! Why a command made no step.
+
+use smx_types::{Fault, NoMemory};
+use std::alloc::{AllocError, AllocFailed};
+
+/// The command was refused, or a growth was.
+#[derive(Clone, Copy, Debug, PartialEq, Eq)]
+pub enum StepError {
+    Refused(Fault),
+    NoMemory,
+}
+
+impl From<Fault> for StepError {
+    ghost use Rattle.std.specs.Prelude.{◌≡◌};
+    ghost use Rattle.smx_config.specs.declared.step_error.StepError.TheVariants.{Refused};
+
+    ghost from_gives = { λ f e. e ≡ Refused f };
+
+    fn from(fault: Fault) -> StepError {
+        StepError::Refused(fault)
+    }
+}
+
+impl From<NoMemory> for StepError {
+    ghost use Rattle.std.specs.Prelude.{◌≡◌};
+    ghost use Rattle.smx_config.specs.declared.step_error.StepError.TheVariants as step_error;
+
+    ghost from_gives = { λ _ e. e ≡ step_error.NoMemory };
+
+    fn from(_e: NoMemory) -> StepError {
+        StepError::NoMemory
+    }
+}
+
+impl From<AllocError> for StepError {
+    ghost use Rattle.std.specs.Prelude.{◌≡◌};
+    ghost use Rattle.smx_config.specs.declared.step_error.StepError.TheVariants as step_error;
+
+    ghost from_gives = { λ _ e. e ≡ step_error.NoMemory };
+
+    fn from(_e: AllocError) -> StepError {
+        StepError::NoMemory
+    }
+}
+
+impl<T: Drop> From<AllocFailed<T>> for StepError {
+    ghost use Rattle.std.specs.Prelude.{◌≡◌};
+    ghost use Rattle.smx_config.specs.declared.step_error.StepError.TheVariants as step_error;
+
+    ghost from_gives = { λ _ e. e ≡ step_error.NoMemory };
+
+    fn from(_e: AllocFailed<T>) -> StepError {
+        StepError::NoMemory
+    }
+}

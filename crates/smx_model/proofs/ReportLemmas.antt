@@ -1,0 +1,85 @@
+-- Reports of the same programs in the same order are the same; and the example, and what is none.
+use Rattle.std.proofs.Common.{◌≡◌, zero, suc, false, List, [], ◌∷◌, map, refl, sym, ap, ◌∙◌, length, arith}
+use Rattle.std.specs.Prelude.{◌==◌, Ok}
+use Rattle.std.proofs.lemmas.Bool.Decides.{nat_tests}
+use Rattle.smx_types.specs.Drivers.{spec_check}
+use Rattle.smx_types.specs.ProgramLists.{ProgramLists}
+use Rattle.smx_types.specs.declared.command.Command.{Command}
+use Rattle.smx_types.specs.declared.command.Entry.{Entry}
+use Rattle.smx_types.specs.declared.driver.DriverSpec.{DriverSpec}
+use Rattle.smx_types.specs.declared.transcript.Transcript.{Transcript}
+use Rattle.smx_types.specs.declared.view.ConfigView.{ConfigView}
+use Rattle.smx_model.specs.DriverList.{IsDriverList}
+use Rattle.smx_model.specs.Headline.{IsReportOf}
+use Rattle.smx_model.specs.Histories.{after, call_of, HoldsPrograms, IsLegal}
+use Rattle.smx_model.specs.Views.{view}
+use Rattle.smx_model.specs.Worked.Common.{OpenClone, Dup, CloseAll, Fd, Fault, BadDescriptor, ip}
+use Rattle.smx_model.specs.Worked.Reports.{another_exited, copied, drivers, exited, once_more, one, opened, programs, report_with, three, too_early, two}
+use Rattle.smx_model.proofs.DropLemmas.{few_drop}
+use Rattle.smx_model.proofs.EachLemmas.{all_of_each}
+use Rattle.smx_model.proofs.HistoryLemmas.{determined, lawful_throughout}
+
+abbrev transcript : List DriverSpec → List Entry → ConfigView → Transcript
+transcript drivers entries v = record { drivers = drivers; entries = entries; view = v }
+
+transcript_of : (ds ds2 : List DriverSpec) (es es2 : List Entry) (v v2 : ConfigView) → ds ≡ ds2 → es ≡ es2 → v ≡ v2 → transcript ds es v ≡ transcript ds2 es2 v2
+transcript_of ds ds2 es es2 v v2 e f g = cc
+
+-- the drivers, the history and the view of a report follow from the calls
+pub one_report : (programs : ProgramLists) (r s : Transcript) → IsReportOf programs r → IsReportOf programs s → map call_of r.entries ≡ map call_of s.entries → r ≡ s
+one_report programs r s h k e =
+    let same : r.entries ≡ s.entries = determined programs.drivers r.entries s.entries h.legal k.legal e in
+    transcript_of r.drivers s.drivers r.entries s.entries r.view s.view (h.drivers ∙ sym k.drivers) same
+    (h.shown ∙ (ap (λ (es : List Entry). view programs.drivers (after programs.drivers es)) same ∙ sym k.shown))
+
+-- what a report needs is enough
+pub report_of : (programs : ProgramLists) (r : Transcript) → r.drivers ≡ programs.drivers → IsDriverList programs.drivers → IsLegal programs.drivers r.entries → HoldsPrograms r.entries programs.programs
+    → r.view ≡ view programs.drivers (after programs.drivers r.entries) → IsReportOf programs r
+report_of programs r same can legal holds shown = record {
+  drivers = same;
+  can_be_had = can;
+  legal = legal;
+  holds = holds;
+  shown = shown;
+  lawful = lawful_throughout programs.drivers r.entries legal;
+  drops = few_drop programs.drivers r.entries legal;
+}
+
+-- the example
+
+example_holds : HoldsPrograms (opened ∷ exited ∷ copied ∷ []) programs.programs
+example_holds zero = refl
+example_holds (suc zero) = refl
+example_holds (suc (suc p)) =
+    let not_first : (0 == suc (suc p)) ≡ false = grind (arith, nat_tests) in
+    let not_second : (1 == suc (suc p)) ≡ false = grind (arith, nat_tests) in
+    rw (not_first, not_second) refl
+
+example_drivers : IsDriverList drivers
+example_drivers = record { few = omega arith; each = all_of_each (λ d. spec_check d ≡ Ok tt) drivers (refl, tt); names = λ i j d lt lt2. absurd (omega (arith, lt, lt2)) }
+
+pub is_report : IsReportOf programs (report_with (opened ∷ exited ∷ copied ∷ []) two)
+is_report = report_of programs (report_with (opened ∷ exited ∷ copied ∷ []) two) refl example_drivers (refl, (refl, (refl, tt))) example_holds refl
+
+-- and what is none
+
+abbrev both : List Command
+both = OpenClone ip ∷ Dup 0 ∷ []
+
+pub left_out : IsReportOf programs (report_with (opened ∷ exited ∷ []) one) → ⊥
+left_out h = let e : OpenClone ip ∷ [] ≡ both = h.holds 0 in absurd cc
+
+pub done_twice : IsReportOf programs (report_with (opened ∷ copied ∷ once_more ∷ exited ∷ []) three) → ⊥
+done_twice h = let e : OpenClone ip ∷ Dup 0 ∷ Dup 0 ∷ [] ≡ both = h.holds 0 in absurd cc
+
+pub exchanged : IsReportOf programs (report_with (too_early ∷ opened ∷ exited ∷ []) one) → ⊥
+exchanged h = let e : Dup 0 ∷ OpenClone ip ∷ [] ≡ both = h.holds 0 in absurd cc
+
+pub of_another : IsReportOf programs (report_with (opened ∷ copied ∷ another_exited ∷ []) two) → ⊥
+of_another h = let e : CloseAll ∷ [] ≡ [] = h.holds 7 in absurd cc
+
+pub another_reply : IsReportOf programs (report_with (opened ∷ too_early ∷ exited ∷ []) one) → ⊥
+another_reply h = let e : Fd 1 0 ≡ Fault BadDescriptor = h.legal.1.0 in absurd cc
+
+pub another_view : IsReportOf programs (report_with (opened ∷ copied ∷ exited ∷ []) one) → ⊥
+another_view h = let e : 1 ≡ 2 = ap (λ (v : ConfigView). length v.fds) h.shown in absurd (omega (arith, e))

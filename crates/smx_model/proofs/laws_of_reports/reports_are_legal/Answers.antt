@@ -1,0 +1,17 @@
+use Rattle.smx_model.proofs.ReportLemmas.{report_of}
+use Rattle.smx_model.proofs.laws_of_reports.reports_are_legal.Goals as goal
+
+pub returns-clause-drivers : goal.returns-clause-drivers
+returns-clause-drivers c programs r h = (h.drivers, h.can_be_had)
+
+pub returns-clause-legal : goal.returns-clause-legal
+returns-clause-legal c programs r h = h.legal
+
+pub returns-clause-holds : goal.returns-clause-holds
+returns-clause-holds c programs r h = h.holds
+
+pub returns-clause-shown : goal.returns-clause-shown
+returns-clause-shown c programs r h = h.shown
+
+pub returns-clause-enough : goal.returns-clause-enough
+returns-clause-enough c = report_of

@@ -1,0 +1,45 @@
+-- The programs of two processes, their report, and what reports that are wrong in one thing consist of.
+use Rattle.std.specs.Prelude.{List, [], ◌∷◌}
+use Rattle.smx_types.specs.ProgramLists.{ProgramLists}
+use Rattle.smx_types.specs.declared.transcript.Transcript.{Transcript}
+use Rattle.smx_model.specs.Worked.Common.{OpenClone, Dup, CloseAll, Fd, Done, Fault, BadDescriptor, Entry, ConfigView, DriverSpec, ◌does◌gets◌, ip, mux, no_lines, fd_of}
+
+abbrev pub drivers : List DriverSpec
+drivers = mux ip 4 ∷ []
+
+-- process 0 opens a stream and copies its descriptor; process 1 exits
+abbrev pub programs : ProgramLists
+programs = record { drivers = drivers; programs = (OpenClone ip ∷ Dup 0 ∷ []) ∷ (CloseAll ∷ []) ∷ [] }
+
+abbrev pub opened : Entry
+opened = 0 does OpenClone ip gets Fd 0 0
+
+abbrev pub copied : Entry
+copied = 0 does Dup 0 gets Fd 1 0
+
+-- the same before the open, and once more
+abbrev pub too_early : Entry
+too_early = 0 does Dup 0 gets Fault BadDescriptor
+
+abbrev pub once_more : Entry
+once_more = 0 does Dup 0 gets Fd 2 0
+
+abbrev pub exited : Entry
+exited = 1 does CloseAll gets Done []
+
+-- the same by a process without a program
+abbrev pub another_exited : Entry
+another_exited = 7 does CloseAll gets Done []
+
+-- the views with one, two and three descriptors
+abbrev pub one : ConfigView
+one = record (no_lines 1 1) { fds = fd_of 0 0 ip 0 ∷ [] }
+
+abbrev pub two : ConfigView
+two = record (no_lines 1 1) { fds = fd_of 0 0 ip 0 ∷ fd_of 0 1 ip 0 ∷ [] }
+
+abbrev pub three : ConfigView
+three = record (no_lines 1 1) { fds = fd_of 0 0 ip 0 ∷ fd_of 0 1 ip 0 ∷ fd_of 0 2 ip 0 ∷ [] }
+
+abbrev pub report_with : List Entry → ConfigView → Transcript
+report_with entries v = record { drivers = drivers; entries = entries; view = v }

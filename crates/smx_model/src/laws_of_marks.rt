@@ -1,0 +1,20 @@
+//! The law of the water marks, the contract of a function that does nothing.
+
+ghost use Rattle.std.specs.Prelude.{◌≡◌, ◌<◌, false, List, length, IsTrue};
+ghost use Rattle.smx_types.specs.declared.command.Entry.{Entry};
+ghost use Rattle.smx_types.specs.declared.driver.DriverSpec.{DriverSpec};
+ghost use Rattle.smx_types.specs.declared.stream.Place.{Place};
+ghost use Rattle.smx_model.specs.DriverList.{high_of, IsDriverList, low_of};
+ghost use Rattle.smx_model.specs.Histories.{after};
+ghost use Rattle.smx_model.specs.Queues.{bytes_at, is_full};
+
+/// After any commands a full place has more bytes than its low water mark, and each other place of the drivers has
+/// fewer than its high one.
+pub fn marks_bound_the_bytes()
+    ensures full { (drivers : List DriverSpec) (history : List Entry) (p : Place) → IsDriverList drivers
+        → IsTrue (is_full (after drivers history) p)
+        → low_of drivers p.stream.driver < bytes_at (after drivers history).flow p }
+    ensures others { (drivers : List DriverSpec) (history : List Entry) (p : Place) → IsDriverList drivers
+        → p.stream.driver < length drivers → is_full (after drivers history) p ≡ false
+        → bytes_at (after drivers history).flow p < high_of drivers p.stream.driver }
+{}

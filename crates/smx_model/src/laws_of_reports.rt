@@ -1,0 +1,50 @@
+//! Laws of reports, each the contract of a function that does nothing.
+
+ghost use Rattle.std.specs.Prelude.{◌≡◌, [], ◌∷◌, map};
+ghost use Rattle.smx_types.specs.ProgramLists.{ProgramLists};
+ghost use Rattle.smx_types.specs.declared.transcript.Transcript.{Transcript};
+ghost use Rattle.smx_model.specs.DriverList.{IsDriverList};
+ghost use Rattle.smx_model.specs.Headline.{IsReportOf};
+ghost use Rattle.smx_model.specs.Histories.{after, call_of, HoldsPrograms, IsLegal};
+ghost use Rattle.smx_model.specs.Views.{view};
+ghost use Rattle.smx_model.specs.Worked.Reports.{another_exited, copied, exited, once_more, one, opened, programs, report_with, three, too_early, two};
+
+/// What makes a report: drivers that can be had, a legal history that holds the programs, and the view that it
+/// leaves. All else follows.
+pub fn reports_are_legal()
+    ensures drivers { (programs : ProgramLists) (report : Transcript) → IsReportOf programs report
+        → (report.drivers ≡ programs.drivers) × IsDriverList programs.drivers }
+    ensures legal { (programs : ProgramLists) (report : Transcript) → IsReportOf programs report
+        → IsLegal programs.drivers report.entries }
+    ensures holds { (programs : ProgramLists) (report : Transcript) → IsReportOf programs report
+        → HoldsPrograms report.entries programs.programs }
+    ensures shown { (programs : ProgramLists) (report : Transcript) → IsReportOf programs report
+        → report.view ≡ view programs.drivers (after programs.drivers report.entries) }
+    ensures enough { (programs : ProgramLists) (report : Transcript) → report.drivers ≡ programs.drivers
+        → IsDriverList programs.drivers → IsLegal programs.drivers report.entries
+        → HoldsPrograms report.entries programs.programs
+        → report.view ≡ view programs.drivers (after programs.drivers report.entries)
+        → IsReportOf programs report }
+{}
+
+/// Programs have one report for each order in which their commands were taken: its drivers, replies and view follow.
+pub fn reports_are_determined()
+    ensures { (programs : ProgramLists) (one other : Transcript) → IsReportOf programs one → IsReportOf programs other
+        → map call_of one.entries ≡ map call_of other.entries → one ≡ other }
+{}
+
+/// The example is a report of its programs.
+pub fn the_example_is_a_report()
+    ensures { IsReportOf programs (report_with (opened ∷ exited ∷ copied ∷ []) two) }
+{}
+
+/// What is wrong in one thing is none: a command left out, done twice, exchanged, of another process, with another
+/// reply, or another view.
+pub fn others_are_none()
+    ensures left_out { IsReportOf programs (report_with (opened ∷ exited ∷ []) one) → ⊥ }
+    ensures done_twice { IsReportOf programs (report_with (opened ∷ copied ∷ once_more ∷ exited ∷ []) three) → ⊥ }
+    ensures exchanged { IsReportOf programs (report_with (too_early ∷ opened ∷ exited ∷ []) one) → ⊥ }
+    ensures of_another { IsReportOf programs (report_with (opened ∷ copied ∷ another_exited ∷ []) two) → ⊥ }
+    ensures another_reply { IsReportOf programs (report_with (opened ∷ too_early ∷ exited ∷ []) one) → ⊥ }
+    ensures another_view { IsReportOf programs (report_with (opened ∷ copied ∷ exited ∷ []) one) → ⊥ }
+{}
