@@ -6,6 +6,7 @@ mod configurations_at_limits;
 mod copies;
 mod copies_at_limits;
 mod entry_lines;
+mod fault_words;
 mod histories;
 mod history_lines;
 mod most;

@@ -14,7 +14,7 @@ fn the_most_drivers(rt: HostRuntime) -> Result<(), Fail> {
     let drivers = leaves(rt.alloc(), 64)?;
     let config = Config::new(rt.alloc(), drivers.as_slice())?;
     assert!(rt; config.drivers() == drivers.as_slice());
-    let again = config.copy(rt.alloc())?;
+    let again = config.copy()?;
     assert!(rt; again.drivers() == drivers.as_slice());
     Ok(())
 }
@@ -67,7 +67,7 @@ fn the_most_links(rt: HostRuntime) -> Result<(), Fail> {
     ];
     play(&rt, &mut config, &full)?;
     assert_eq!(rt; config.link_count(), 1_024);
-    let again = config.copy(rt.alloc())?;
+    let again = config.copy()?;
     assert_eq!(rt; again.link_count(), 1_024);
     assert_eq!(rt; shown(&again)?.links.as_slice().len(), 1_024);
     Ok(())
@@ -92,9 +92,10 @@ fn fill(rt: &(impl AllocGlobal + Print), config: &mut Config) -> Result<(), Fail
     Ok(())
 }
 
-fn first_serials(alloc: Global, count: u32) -> Result<Vec<u32>, Fail> {
+// The serials of all messages of the queue.
+fn all_serials(alloc: Global) -> Result<Vec<u32>, Fail> {
     let mut serials = Vec::new(alloc);
-    for serial in 1..count + 1 {
+    for serial in 1..4_097u32 {
         serials.push(serial)?;
     }
     Ok(serials)
@@ -102,7 +103,7 @@ fn first_serials(alloc: Global, count: u32) -> Result<Vec<u32>, Fail> {
 
 // The full queue takes no more, and a flush drops all.
 fn empty_again(rt: &(impl AllocGlobal + Print), config: &mut Config) -> Result<(), Fail> {
-    let dropped = first_serials(rt.alloc(), 4_096)?;
+    let dropped = all_serials(rt.alloc())?;
     let lines = [
         (Call::Write(0, 5, &[187]), Answer::Refused(Fault::Full)),
         (Call::Flush(0, Sides::W), Answer::Done(dropped.as_slice())),
@@ -116,7 +117,7 @@ fn the_most_messages_of_a_queue(rt: HostRuntime) -> Result<(), Fail> {
     play(&rt, &mut config, &[(Call::Clone("eth"), Answer::Fd(0, 0))])?;
     fill(&rt, &mut config)?;
     let want = most_messages(rt.alloc(), 187)?;
-    let again = config.copy(rt.alloc())?;
+    let again = config.copy()?;
     assert!(rt; shown(&config)?.msgs == want);
     assert!(rt; shown(&again)?.msgs == want);
     empty_again(&rt, &mut config)
@@ -170,7 +171,7 @@ fn an_ip() -> Result<DriverSpec, Fail> {
 fn the_most_descriptors(rt: HostRuntime) -> Result<(), Fail> {
     let mut config = made_over(rt.alloc(), &[an_ip()?])?;
     open_all(&rt, &mut config)?;
-    let again = config.copy(rt.alloc())?;
+    let again = config.copy()?;
     assert_eq!(rt; shown(&again)?.fds.as_slice().len(), 1_024);
     Ok(())
 }

@@ -14,7 +14,7 @@ fn the_first_stream(rt: HostRuntime) -> Result<(), Fail> {
     let mut config = ip_and_eth(rt.alloc())?;
     play(&rt, &mut config, &FIRST)?;
     shows(&config, first_stream(rt.alloc())?)?;
-    let again = config.copy(rt.alloc())?;
+    let again = config.copy()?;
     assert!(rt; again.drivers() == config.drivers());
     shows(&again, first_stream(rt.alloc())?)
 }
@@ -51,7 +51,7 @@ const STAYED: [Line; 1] = [(Call::Read(0), Answer::Refused(Fault::Empty))];
 fn a_copy_goes_its_own_way(rt: HostRuntime) -> Result<(), Fail> {
     let mut config = ip_and_eth(rt.alloc())?;
     play(&rt, &mut config, &JOIN)?;
-    let mut again = config.copy(rt.alloc())?;
+    let mut again = config.copy()?;
     play(&rt, &mut again, &LEFT)?;
     assert_eq!(rt; again.link_count(), 0);
     assert_eq!(rt; config.link_count(), 1);

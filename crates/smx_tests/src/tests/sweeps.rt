@@ -14,7 +14,7 @@ use std::test::Fail;
 fn makes_and_copies(rt: &impl Abort, alloc: Global, count: usize) -> Result<(), Fail> {
     let drivers = leaves(alloc, count)?;
     let config = Config::new(alloc, drivers.as_slice())?;
-    let again = config.copy(alloc)?;
+    let again = config.copy()?;
     assert!(rt; again.drivers() == drivers.as_slice());
     let view = again.show()?;
     assert_eq!(rt; view.next_id, 1);
