@@ -100,7 +100,7 @@ fn every_number_of_programs(rt: HostRuntime) -> Result<(), Fail> {
 fn payload(alloc: Global, size: u32) -> Result<Vec<u8>, Fail> {
     let mut bytes = Vec::new(alloc);
     for k in 0..size {
-        bytes.push(((size + k) % 251) as u8)?;
+        bytes.push((size.wrapping_add(k) % 251) as u8)?;
     }
     Ok(bytes)
 }

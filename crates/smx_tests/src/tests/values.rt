@@ -46,8 +46,10 @@ pub fn eth0() -> Result<DriverSpec, Fail> {
 
 /// These, as a list.
 pub fn items<T: Copy>(alloc: Global, values: &[T]) -> Result<Items<T>, Fail> {
-    let made = Vec::from_slice(alloc, values).or_else(|_| Vec::from_slice(alloc, values))?;
-    Ok(Items::from_vec(made))
+    if let Ok(made) = Vec::from_slice(alloc, values) {
+        return Ok(Items::from_vec(made));
+    }
+    Ok(Items::from_vec(Vec::from_slice(alloc, values)?))
 }
 
 /// A descriptor of process 0 for a stream of `ip`.
@@ -90,5 +92,8 @@ pub fn ip_and_eth(alloc: Global) -> Result<Config, Fail> {
 
 /// The configuration, as it is shown.
 pub fn shown(config: &Config) -> Result<ConfigView, Fail> {
-    Ok(config.show().or_else(|_| config.show())?)
+    if let Ok(view) = config.show() {
+        return Ok(view);
+    }
+    Ok(config.show()?)
 }

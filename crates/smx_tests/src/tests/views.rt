@@ -61,7 +61,10 @@ fn message(alloc: Global, driver: &str, serial: u32, bytes: &[u8]) -> Result<Mes
 }
 
 fn room_for_three(alloc: Global) -> Result<Vec<MessageLine>, Fail> {
-    Ok(Vec::with_capacity(alloc, 3).or_else(|_| Vec::with_capacity(alloc, 3))?)
+    if let Ok(made) = Vec::with_capacity(alloc, 3) {
+        return Ok(made);
+    }
+    Ok(Vec::with_capacity(alloc, 3)?)
 }
 
 const HELD: [(&str, u32, &[u8]); 3] = [
