@@ -1,56 +1,56 @@
 -- What a run says where no transcript comes of the bytes that it read.
-use Rattle.std.proofs.Common.{◌≡◌, ◌≢◌, ℕ, List, Option, Some, None, Result, Ok, Err, Vec, refl, sym, subst, ap, ◌∙◌, rules, arith}
-use Rattle.std.specs.Prelude.{IfSome, IsErrAnd, IsErrOf}
+use Rattle.std.proofs.Common.{◌≡◌, ◌≢◌, ℕ, List, Option, Some, None, Bool, Result, Ok, Err, Vec, sym, subst, rules, arith, inl}
+use Rattle.std.specs.Prelude.{IsErrAnd, IsErrOf}
 use Rattle.std.specs.Global.{Global}
 use Rattle.std.specs.Io.KnownBytes.{Keeps}
 use Rattle.smx_text.specs.ProgramsReading.{IsFault}
 use Rattle.smx_words.specs.Words.{split}
 use Rattle.smx_text.specs.declared.fault.TextFault.{TextFault}
-use Rattle.smx_config.specs.declared.fault.ConfigFault.{ConfigFault}
+use Rattle.smx_run.specs.declared.fault.RunFault.{RunFault}
 use Rattle.muxsim.specs.declared.fault.MainFault.{MainFault}
 use Rattle.muxsim.specs.declared.fault.MainFault.TheVariants.{Refused, Text, TooLong, ReadFailed, WriteFailed}
-use Rattle.muxsim.specs.declared.fault.RunFault.TheVariants as run
-use Rattle.muxsim.specs.Input.{IsInput}
+use Rattle.muxsim.specs.Input.{IsInput, IsWhole}
 use Rattle.muxsim.specs.RunText.{Answers, IsRefusedFor, RunsText}
 
+-- known bytes that stay are kept
 kept : (known : Option (List ℕ)) → Keeps known known
 kept None = search rules
 kept (Some bytes) = search rules
 
+-- an error is the one that it is
 fault_of : {e f : MainFault} → IsErrOf {T = Unit {0}} (Err e) f → e ≡ f
 fault_of is = cc
 
-module _ (had left : Option (List ℕ)) (failures : ℕ) (held : Option (List ℕ)) (written : ℕ) (v : Vec ℕ Global) (read : List ℕ) (h : IsInput had left failures (Ok v) read) (fine : written ≡ 0) where
+module _ (had left : Option (List ℕ)) (ended : Bool) (failures : ℕ) (held : Option (List ℕ)) (flushed : Bool) (written : ℕ) (v : Vec ℕ Global) (read : List ℕ) (h : IsInput had left ended failures (Ok v) read) (fine : written ≡ 0) where
   -- the part that every such fault has
-  said : (e : MainFault) → e ≢ TooLong → e ≢ ReadFailed → e ≢ WriteFailed → ((f : TextFault) → e ≡ Text f → IsFault (split 10 read) f.line f.cause) → ((f : ConfigFault) → e ≡ Refused (run.ConfigFault f) → IsRefusedFor read (run.ConfigFault f))
-      → RunsText had left failures held held written (Err e)
-  said e not_long not_read not_written text drivers = record {
+  said : (e : MainFault) → e ≢ TooLong → e ≢ ReadFailed → e ≢ WriteFailed → ((f : TextFault) → e ≡ Text f → IsFault (split 10 read) f.line f.cause) → ((f : RunFault) → e ≡ Refused f → IsRefusedFor read f)
+      → RunsText had left ended failures held held flushed written (Err e)
+  said e not_long not_read not_written text refused = record {
     read = read;
     consumed = h.consumed;
     done = tt;
     text = λ f is. (whole, text f is);
-    drivers = λ f is. (whole, drivers f is);
+    refused = λ f is. inl (whole, refused f is);
     too_long = (λ is. absurd (not_long (fault_of is)), λ long. let over : ok ≡ Err TooLong = h.too_long.1 long in absurd cc);
     read_failed = (λ is. absurd (not_read (fault_of is)), λ failed. let broken : ok ≡ Err ReadFailed = h.read_failed.1 failed in absurd cc);
     write_failed = (λ is. absurd (not_written (fault_of is)), λ failed. absurd (omega arith));
     cut_short = λ is. absurd (not_written is);
     unwritten = λ differs. kept held;
   } where
-    whole : IfSome had (λ all. all ≡ read)
+    whole : IsWhole had ended read
     whole = h.whole
 
     ok : Result (Vec ℕ Global) MainFault
     ok = Ok v
 
-  at_answer : (e : MainFault) → Answers v.items (Err e) → RunsText had left failures held held written (Err e)
+  at_answer : (e : MainFault) → Answers v.items (Err e) → RunsText had left ended failures held held flushed written (Err e)
   at_answer (Text f) a = said (Text f) (λ is. cc) (λ is. cc) (λ is. cc) (λ g is. let same : f ≡ g = cc in subst (λ (x : TextFault). IsFault (split 10 read) x.line x.cause) same (subst (λ (bytes : List ℕ). IsFault (split 10 bytes) f.line f.cause) h.answered a)) (λ g is. absurd cc)
-  at_answer (Refused run.NoMemory) a = said (Refused run.NoMemory) (λ is. cc) (λ is. cc) (λ is. cc) (λ g is. absurd cc) (λ g is. absurd cc)
-  at_answer (Refused (run.ConfigFault f)) a = said (Refused (run.ConfigFault f)) (λ is. cc) (λ is. cc) (λ is. cc) (λ g is. absurd cc) (λ g is. let same : f ≡ g = cc in subst (λ (x : ConfigFault). IsRefusedFor read (run.ConfigFault x)) same (subst (λ (bytes : List ℕ). IsRefusedFor bytes (run.ConfigFault f)) h.answered a))
+  at_answer (Refused f) a = said (Refused f) (λ is. cc) (λ is. cc) (λ is. cc) (λ g is. absurd cc) (λ g is. let same : f ≡ g = cc in subst (λ (x : RunFault). IsRefusedFor read x) same (subst (λ (bytes : List ℕ). IsRefusedFor bytes f) h.answered a))
   at_answer TooLong a = absurd a
   at_answer ReadFailed a = absurd a
   at_answer WriteFailed a = absurd a
 
   -- and a `?` passes the fault on as it is
-  pub passed_on : (e : MainFault) (answer : Result (Unit {0}) MainFault) → IsErrAnd answer (λ f. f ≡ e) → Answers v.items (Err e) → RunsText had left failures held held written answer
+  pub passed_on : (e : MainFault) (answer : Result (Unit {0}) MainFault) → IsErrAnd answer (λ f. f ≡ e) → Answers v.items (Err e) → RunsText had left ended failures held held flushed written answer
   passed_on e (Ok x) is a = absurd is
-  passed_on e (Err f) is a = subst (λ (x : MainFault). RunsText had left failures held held written (Err x)) (sym is) (at_answer e a)
+  passed_on e (Err f) is a = subst (λ (x : MainFault). RunsText had left ended failures held held flushed written (Err x)) (sym is) (at_answer e a)

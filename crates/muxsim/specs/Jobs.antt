@@ -1,7 +1,7 @@
 -- Which jobs can be done.
 use Rattle.std.specs.Prelude.{◌≡◌, ◌≤◌, false}
-use Rattle.muxsim.specs.declared.asked.Job.{Job}
-use Rattle.muxsim.specs.declared.asked.Job.TheVariants.{Run}
+use Rattle.muxsim.specs.declared.jobs.Job.{Job}
+use Rattle.muxsim.specs.declared.jobs.Job.TheVariants.{Run}
 
 -- a run has 1 to 64 workers and writes the transcript
 abbrev pub CanRun : Job → Type 0

@@ -1,6 +1,3 @@
-pub mod Asked
-pub mod Recorded
-pub mod RunFaults
 pub mod Statuses
 pub mod Input
 pub mod Output

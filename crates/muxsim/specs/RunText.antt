@@ -1,5 +1,5 @@
 -- The headline over bytes: what a run says of the bytes that it read, and what it writes.
-use Rattle.std.specs.Prelude.{◌≡◌, ◌≢◌, ℕ, ◌<◌, ◌↔◌, List, length, Option, Result, Vec, Ok, Err, IfErr, IfSome, OnOk, IsErrOf}
+use Rattle.std.specs.Prelude.{◌≡◌, ◌≢◌, ℕ, ◌<◌, ◌↔◌, ◌⊎◌, Bool, true, false, List, length, Option, Result, Vec, Ok, Err, IfErr, OnOk, IsErrOf}
 use Rattle.std.specs.Global.{Global}
 use Rattle.std.specs.Io.KnownBytes.{Consumes, Appends, Keeps}
 use Rattle.smx_types.specs.ProgramLists.{ProgramLists}
@@ -10,14 +10,14 @@ use Rattle.smx_text.specs.declared.fault.TextFault.{TextFault}
 use Rattle.smx_text.specs.ProgramsText.{SpellsPrograms}
 use Rattle.smx_text.specs.TranscriptReading.{SpellsTranscript}
 use Rattle.smx_words.specs.Words.{split}
-use Rattle.smx_config.specs.declared.fault.ConfigFault.{ConfigFault}
+use Rattle.smx_run.specs.declared.fault.RunFault.{RunFault}
+use Rattle.smx_run.specs.declared.fault.RunFault.TheVariants as run
+use Rattle.smx_run.specs.RunFaults.{RefusesRun}
 use Rattle.muxsim.specs.declared.fault.MainFault.{MainFault}
 use Rattle.muxsim.specs.declared.fault.MainFault.TheVariants.{Refused, Text, TooLong, ReadFailed, WriteFailed}
-use Rattle.muxsim.specs.declared.fault.RunFault.{RunFault}
-use Rattle.muxsim.specs.declared.fault.RunFault.TheVariants as run
 use Rattle.muxsim.specs.declared.input.TheConstants.{MAX_INPUT}
-use Rattle.muxsim.specs.Output.{AppendsFront}
-use Rattle.muxsim.specs.RunFaults.{RefusesRun}
+use Rattle.muxsim.specs.Input.{IsWhole}
+use Rattle.muxsim.specs.Output.{AppendsBeginning}
 
 -- the input spells some programs, and the output spells a report that is promised for them
 pub record IsTranscriptFor (input output : List ℕ) : Type 0 where
@@ -42,29 +42,28 @@ items_of (Err e) = Err e
 abbrev pub Answers : List ℕ → Result (List ℕ) MainFault → Type 0
 Answers input (Ok output) = IsTranscriptFor input output
 Answers input (Err (Text fault)) = IsFault (split 10 input) fault.line fault.cause
-Answers input (Err (Refused run.NoMemory)) = Unit {0}
-Answers input (Err (Refused (run.ConfigFault fault))) = IsRefusedFor input (run.ConfigFault fault)
+Answers input (Err (Refused fault)) = IsRefusedFor input fault
 Answers input (Err TooLong) = ⊥
 Answers input (Err ReadFailed) = ⊥
 Answers input (Err WriteFailed) = ⊥
 
--- The reader had `had` and has `left`, the writer held `before` and holds `after`, where they tell; and each has failed so many times in this call.
-pub record RunsText (had left : Option (List ℕ)) (read_failures : ℕ) (before after : Option (List ℕ)) (write_failures : ℕ) (answer : Result (Unit {0}) MainFault) : Type 0 where
+-- The reader had `had` and has `left`, and has shown the end or not; the writer held `before` and holds `after`, flushed or not; and each has failed so many times in this call.
+pub record RunsText (had left : Option (List ℕ)) (ended : Bool) (read_failures : ℕ) (before after : Option (List ℕ)) (flushed : Bool) (write_failures : ℕ) (answer : Result (Unit {0}) MainFault) : Type 0 where
   -- These bytes were read, and no others.
   pub read : List ℕ
   pub consumed : Consumes had left read
-  -- Where the answer is Ok, they are all that the reader had, they spell some programs, and what was written is the transcript of a report that is promised for them, and nothing else.
-  pub done : OnOk answer (IfSome had (λ all. all ≡ read) × (output : List ℕ) × IsTranscriptFor read output × Appends before after output)
-  -- Where the text is refused, they are all that the reader had, and the fault is the first one, with its line and cause.
-  pub text : IfErr answer (λ e. (fault : TextFault) → e ≡ Text fault → IfSome had (λ all. all ≡ read) × IsFault (split 10 read) fault.line fault.cause)
-  -- Where the drivers are refused, they are all that the reader had, and the fault is that of the drivers of the programs that they spell.
-  pub drivers : IfErr answer (λ e. (fault : ConfigFault) → e ≡ Refused (run.ConfigFault fault) → IfSome had (λ all. all ≡ read) × IsRefusedFor read (run.ConfigFault fault))
+  -- Where the answer is Ok, they are the whole input and spell some programs, and what was written is the transcript of a report that is promised for them, and nothing else. All of it is flushed.
+  pub done : OnOk answer (IsWhole had ended read × (flushed ≡ true) × (output : List ℕ) × IsTranscriptFor read output × Appends before after output)
+  -- Where the text is refused, they are the whole input, and the fault is the first one, with its line and cause.
+  pub text : IfErr answer (λ e. (fault : TextFault) → e ≡ Text fault → IsWhole had ended read × IsFault (split 10 read) fault.line fault.cause)
+  -- Where a run is refused, they are the whole input and spell some programs, for which it is refused so; or memory was wanting before the end was seen.
+  pub refused : IfErr answer (λ e. (fault : RunFault) → e ≡ Refused fault → (IsWhole had ended read × IsRefusedFor read fault) ⊎ ((fault ≡ run.NoMemory) × (ended ≡ false)))
   -- The input is too long exactly where more than 16,777,216 bytes were read.
   pub too_long : IsErrOf answer TooLong ↔ (MAX_INPUT < length read)
   -- Reading failed exactly where the reader failed.
   pub read_failed : IsErrOf answer ReadFailed ↔ (read_failures ≡ 1)
-  -- Writing failed exactly where the writer failed; a front of such a transcript is then out.
+  -- Writing failed exactly where the writer failed; a beginning of such a transcript is then out.
   pub write_failed : IsErrOf answer WriteFailed ↔ (write_failures ≡ 1)
-  pub cut_short : IfErr answer (λ e. e ≡ WriteFailed → IfSome had (λ all. all ≡ read) × (output : List ℕ) × IsTranscriptFor read output × AppendsFront before after output)
+  pub cut_short : IfErr answer (λ e. e ≡ WriteFailed → IsWhole had ended read × (output : List ℕ) × IsTranscriptFor read output × AppendsBeginning before after output)
   -- On every other fault nothing was written.
   pub unwritten : IfErr answer (λ e. e ≢ WriteFailed → Keeps before after)

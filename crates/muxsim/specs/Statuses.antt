@@ -1,5 +1,5 @@
 -- The exit status of each fault.
-use Rattle.std.specs.Prelude.{ℕ}
+use Rattle.std.specs.Prelude.{ℕ, Result, Ok, Err}
 use Rattle.smx_text.specs.declared.fault.Cause.{Cause}
 use Rattle.smx_text.specs.declared.fault.Cause.TheVariants.{Header, Form, Many, Cut, Trailing, NoMemory}
 use Rattle.muxsim.specs.declared.fault.MainFault.{MainFault}
@@ -21,3 +21,8 @@ status_of (Text fault) = status_of_cause fault.cause
 status_of TooLong = 3
 status_of ReadFailed = 5
 status_of WriteFailed = 5
+
+-- 0 where all is well
+abbrev pub status_of_outcome : Result (Unit {0}) MainFault → ℕ
+status_of_outcome (Ok done) = 0
+status_of_outcome (Err fault) = status_of fault

@@ -3,21 +3,32 @@
 ghost use Rattle.std.specs.Prelude.{IfOk};
 ghost use Rattle.muxsim.specs.Jobs.{CanRun};
 
-use crate::asked::Job;
+use crate::jobs::Job;
 use clap::{Command, Error};
 use std::alloc::Global;
 use std::convert::AsStr;
 
+// What `--version` shows behind the program's name.
+const VERSION: &str = "0.1.0";
+
+// What each help ends with.
+const SEE: &str =
+    "Exit status: 0 done, 1 refused, 2 wrong words, 3 wrong text, 5 input or output failed.
+Both texts are in docs/FORMATS.md, commands and replies in docs/COMMANDS.md, and more in docs/MUXSIM.md.";
+
 /// What the words ask for, of which the first is the program's name. Any other words than `run`
-/// are clap's error, and so is a request for help; want of memory is its kind `OutOfMemory`.
+/// are clap's error, and so is a request for help or the version; want of memory is its kind
+/// `OutOfMemory`.
 pub fn job<'a, S: AsStr>(alloc: Global, words: &'a [S]) -> Result<Job, Error>
     ensures { IfOk result CanRun }
 {
-    let run = Command::new(alloc, "run").about(
-        "Run the programs on standard input and write the transcript to standard output",
-    );
+    let run = Command::new(alloc, "run")
+        .about("Run the programs on standard input and write the transcript to standard output")
+        .after_help(SEE);
     let command = Command::new(alloc, "muxsim")
+        .version(VERSION)
         .about("Simulate a STREAMS multiplexer configuration with persistent links")
+        .after_help(SEE)
         .subcommand_required(true)
         .subcommand(run)?;
     command.try_get_matches_from(words)?;

@@ -1,6 +1,6 @@
 //! What the program reads from and writes to, with a count of failures.
 
-ghost use Rattle.std.specs.Prelude.{◌≡◌, ℕ, ◌<◌, ◌≤◌, List, Option, length, IfOk, OnOk, OnErr};
+ghost use Rattle.std.specs.Prelude.{◌≡◌, ℕ, ◌<◌, ◌≤◌, Bool, true, false, List, Option, length, IfOk, OnOk, OnErr};
 ghost use Rattle.std.specs.Io.KnownBytes.{Keeps, ReadConsumes, WriteAppends};
 
 use std::io::{Read, Write};
@@ -9,20 +9,27 @@ use std::io::{Read, Write};
 #[derive(Clone, Copy, Debug, PartialEq, Eq)]
 pub struct Failed;
 
-/// What is read. It is read from only while no read has failed.
+/// What is read. It is read from only while no read has failed or shown the end.
 pub trait Feed {
     /// The bytes that reads will give from here on, where they are known.
     ghost remaining: { Self → Option (List ℕ) };
 
+    /// Whether a read has shown the end, by giving none.
+    ghost ended: { Self → Bool };
+
     /// How many reads have failed.
     ghost failures: { Self → ℕ };
 
-    /// Reads into the front of the buffer, and answers how many bytes those are: none only at the
-    /// end, or where the buffer is empty. `Failed` comes only where the device failed; it has then
-    /// given nothing.
+    /// Reads into the beginning of the buffer, which has room, and answers how many bytes those
+    /// are: none only at the end. `Failed` comes only where the device failed; it has then given
+    /// nothing.
     fn read(&mut self, buffer: &mut [u8]) -> Result<usize, Failed>
-        requires { failures self.old ≡ 0 }
+        requires room { 0 < length buffer.old }
+        requires before_the_end { ended self.old ≡ false }
+        requires fine_so_far { failures self.old ≡ 0 }
         ensures bound { IfOk result (λ n. n ≤ length buffer.new) }
+        ensures end { IfOk result (λ n. n ≡ 0 → ended self.new ≡ true) }
+        ensures more { IfOk result (λ n. 0 < n → ended self.new ≡ false) }
         ensures bytes { ReadConsumes (remaining self.old) (remaining self.new) result buffer.new }
         ensures fine { OnOk result (failures self.new ≡ 0) }
         ensures failed { OnErr result (failures self.new ≡ 1) };
@@ -33,16 +40,20 @@ pub trait Sink {
     /// The bytes that it holds, where they are known.
     ghost contents: { Self → Option (List ℕ) };
 
+    /// Whether it was flushed after the last write.
+    ghost flushed: { Self → Bool };
+
     /// How many writes and flushes have failed. A write of some bytes that takes none has failed.
     ghost failures: { Self → ℕ };
 
-    /// Writes the front of some bytes, and answers how many, which is one at least. `Failed` comes
+    /// Writes the beginning of some bytes, and answers how many, which is one at least. `Failed` comes
     /// only where the device failed or took none; nothing was then written.
     fn write(&mut self, bytes: &[u8]) -> Result<usize, Failed>
         requires some { 0 < length bytes.now }
         requires fine_so_far { failures self.old ≡ 0 }
         ensures bound { IfOk result (λ n. (0 < n) × (n ≤ length bytes.now)) }
         ensures bytes { WriteAppends (contents self.old) (contents self.new) result bytes.now }
+        ensures unflushed { OnOk result (flushed self.new ≡ false) }
         ensures fine { OnOk result (failures self.new ≡ 0) }
         ensures failed { OnErr result (failures self.new ≡ 1) };
 
@@ -50,6 +61,7 @@ pub trait Sink {
     fn flush(&mut self) -> Result<(), Failed>
         requires { failures self.old ≡ 0 }
         ensures bytes { Keeps (contents self.old) (contents self.new) }
+        ensures flushed { OnOk result (flushed self.new ≡ true) }
         ensures fine { OnOk result (failures self.new ≡ 0) }
         ensures failed { OnErr result (failures self.new ≡ 1) };
 }
@@ -58,18 +70,22 @@ pub trait Sink {
 #[derive(Drop)]
 pub struct Source<R> {
     pub reader: R,
+    /// Whether a read has given none.
+    pub ended: bool,
     /// How many reads have failed.
     pub failures: u64,
 }
 
 impl<R> Source<R> {
-    /// A reader of which no read has failed.
+    /// A reader of which no read has failed or shown the end.
     pub fn new(reader: R) -> Source<R>
         ensures reader { result.reader ≡ reader }
+        ensures before_the_end { result.ended ≡ false }
         ensures fine { result.failures ≡ 0 }
     {
         Source {
             reader,
+            ended: false,
             failures: 0,
         }
     }
@@ -78,11 +94,16 @@ impl<R> Source<R> {
 impl<R: Read> Feed for Source<R> {
     ghost remaining = { λ source. R.remaining source.reader };
 
+    ghost ended = { λ source. source.ended };
+
     ghost failures = { λ source. source.failures };
 
     fn read(&mut self, buffer: &mut [u8]) -> Result<usize, Failed> {
         match self.reader.read(buffer) {
-            Ok(n) => Ok(n),
+            Ok(n) => {
+                self.ended = n == 0;
+                Ok(n)
+            }
             Err(_) => {
                 self.failures += 1;
                 Err(Failed)
@@ -96,6 +117,8 @@ impl<R: Read> Feed for Source<R> {
 #[derive(Drop)]
 pub struct Target<W> {
     pub writer: W,
+    /// Whether it was flushed after the last write.
+    pub flushed: bool,
     /// How many writes and flushes have failed.
     pub failures: u64,
 }
@@ -104,10 +127,12 @@ impl<W> Target<W> {
     /// A writer of which no write and no flush has failed.
     pub fn new(writer: W) -> Target<W>
         ensures writer { result.writer ≡ writer }
+        ensures unflushed { result.flushed ≡ false }
         ensures fine { result.failures ≡ 0 }
     {
         Target {
             writer,
+            flushed: false,
             failures: 0,
         }
     }
@@ -115,6 +140,8 @@ impl<W> Target<W> {
 
 impl<W: Write> Sink for Target<W> {
     ghost contents = { λ target. W.contents target.writer };
+
+    ghost flushed = { λ target. target.flushed };
 
     ghost failures = { λ target. target.failures };
 
@@ -124,13 +151,19 @@ impl<W: Write> Sink for Target<W> {
                 self.failures += 1;
                 Err(Failed)
             }
-            Ok(n) => Ok(n),
+            Ok(n) => {
+                self.flushed = false;
+                Ok(n)
+            }
         }
     }
 
     fn flush(&mut self) -> Result<(), Failed> {
         match self.writer.flush() {
-            Ok(()) => Ok(()),
+            Ok(()) => {
+                self.flushed = true;
+                Ok(())
+            }
             Err(_) => {
                 self.failures += 1;
                 Err(Failed)

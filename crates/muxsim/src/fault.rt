@@ -3,11 +3,11 @@
 ghost use Rattle.std.specs.Prelude.{◌≡◌};
 ghost use Rattle.muxsim.specs.Statuses.{status_of};
 ghost use Rattle.muxsim.specs.declared.fault.MainFault.TheVariants.{Refused};
-ghost use Rattle.muxsim.specs.declared.fault.RunFault.TheVariants.{NoMemory};
+ghost use Rattle.smx_run.specs.declared.fault.RunFault.TheVariants.{NoMemory};
 
-use smx_config::ConfigFault;
+use smx_run::RunFault;
 use smx_text::{Cause, TextFault};
-use smx_types::{NoMemory, SpecFault};
+use smx_types::NoMemory;
 use std::alloc::{AllocError, AllocFailed};
 use std::fmt;
 use thiserror::Error;
@@ -32,17 +32,6 @@ pub enum MainFault {
     WriteFailed,
 }
 
-/// Why a run was refused.
-#[derive(Debug, Drop, Error)]
-pub enum RunFault {
-    /// A growth was refused.
-    #[error("no memory")]
-    NoMemory,
-    /// There is no configuration of these drivers.
-    #[error("{}", ConfigWords(*.0))]
-    ConfigFault(ConfigFault),
-}
-
 impl MainFault {
     /// The program's exit status: 1 for a refusal or want of memory, 3 for a text that is refused
     /// or too long, 5 where input or output failed. Takes no memory.
@@ -58,33 +47,6 @@ impl MainFault {
             MainFault::TooLong => 3,
             MainFault::ReadFailed | MainFault::WriteFailed => 5,
         }
-    }
-}
-
-impl From<ConfigFault> for RunFault {
-    ghost use Rattle.std.specs.Prelude.{◌≡◌};
-    ghost use Rattle.muxsim.specs.RunFaults.{run_fault_of};
-
-    ghost from_gives = { λ f e. e ≡ run_fault_of f };
-
-    fn from(fault: ConfigFault) -> RunFault {
-        match fault {
-            ConfigFault::NoMemory => RunFault::NoMemory,
-            ConfigFault::BadSpec(_, _) | ConfigFault::SameName(_) | ConfigFault::TooMany => {
-                RunFault::ConfigFault(fault)
-            }
-        }
-    }
-}
-
-impl From<NoMemory> for RunFault {
-    ghost use Rattle.std.specs.Prelude.{◌≡◌};
-    ghost use Rattle.muxsim.specs.declared.fault.RunFault.TheVariants as run;
-
-    ghost from_gives = { λ _ e. e ≡ run.NoMemory };
-
-    fn from(_e: NoMemory) -> RunFault {
-        RunFault::NoMemory
     }
 }
 
@@ -154,28 +116,5 @@ fn cause_word(cause: Cause) -> Option<&'static str> {
         Cause::Cut => Some("cut"),
         Cause::Trailing => Some("trailing"),
         Cause::NoMemory => None,
-    }
-}
-
-// The words of a fault of the drivers.
-#[derive(Drop)]
-struct ConfigWords(ConfigFault);
-
-impl fmt::Display for ConfigWords {
-    fn fmt<W: fmt::Write>(&self, f: &mut fmt::Formatter<W>) -> fmt::Result {
-        match self.0 {
-            ConfigFault::BadSpec(i, fault) => write!(f, "driver {i} {}", spec_word(fault)),
-            ConfigFault::SameName(i) => write!(f, "driver {i} same name"),
-            ConfigFault::TooMany => write!(f, "too many drivers"),
-            ConfigFault::NoMemory => write!(f, "no memory"),
-        }
-    }
-}
-
-fn spec_word(fault: SpecFault) -> &'static str {
-    match fault {
-        SpecFault::BadMinors => "minors",
-        SpecFault::BadMarks => "marks",
-        SpecFault::BadMax => "max",
     }
 }

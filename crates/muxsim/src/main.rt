@@ -1,32 +1,36 @@
 //! Runs the programs on standard input against a STREAMS multiplexer, and writes the transcript.
 #![tactic(auto)]
 
-mod asked;
 mod command_line;
 mod device;
 mod fault;
 mod input;
+mod jobs;
 mod output;
-mod run;
-mod system;
 #[cfg(test)]
 mod tests;
 mod text;
 
-ghost use Rattle.std.specs.Prelude.{◌≡◌, ◌≢◌, ◌≤◌, IfErr, OnOk, false};
+ghost use Rattle.std.specs.Prelude.{◌≡◌, ◌≢◌, ◌≤◌, ◌⊎◌, false};
+ghost use Rattle.std.specs.IoError.{error_kind};
 ghost use Rattle.std.specs.Process.{exit_status};
 ghost use Rattle.clap.specs.Values.{kind_of};
-ghost use Rattle.muxsim.specs.Statuses.{status_of};
+ghost use Rattle.muxsim.specs.Statuses.{status_of_outcome};
 
-use asked::Job;
 use clap::error::ErrorKind;
 use command_line::job;
 use device::{Source, Target};
-use fault::{MainFault, RunFault};
+use fault::MainFault;
+use jobs::Job;
+use smx_run::RunFault;
+use std::io::ErrorKind as IoKind;
 use std::process::ExitCode;
 use std::{env, io};
 use text::run_text;
 
+/// Does what the words ask for. The exit status is 0 where that was done, also for help and the
+/// version; 1 where a run is refused, also for want of memory; 2 where the words are wrong; 3 where
+/// the text is; and 5 where input or output failed.
 fn main(rt: HostRuntime) -> ExitCode {
     let words = match words(&rt) {
         Ok(words) => words,
@@ -55,8 +59,7 @@ fn run_stdin(rt: &HostRuntime, workers: u64, fronts: bool) -> Result<(), MainFau
 
 // The status of what was run, with the line on standard error that says why nothing came of it.
 fn ended<R: Eprint>(rt: &R, outcome: Result<(), MainFault>) -> ExitCode
-    ensures ok { OnOk outcome (exit_status result ≡ 0) }
-    ensures fault { IfErr outcome (λ fault. exit_status result ≡ status_of fault) }
+    ensures { exit_status result ≡ status_of_outcome outcome }
 {
     match outcome {
         Ok(()) => ExitCode::SUCCESS,
@@ -68,29 +71,37 @@ fn ended<R: Eprint>(rt: &R, outcome: Result<(), MainFault>) -> ExitCode
     }
 }
 
-// Prints clap's text where clap says. The status is 1 for want of memory, 2 for a mistake in the
-// words, and 0 for help, or 5 where that could not be shown.
+// Prints clap's text, a mistake in the words to standard error and all else to standard output.
+// The status is 1 for want of memory, 2 for a mistake, and 0 for help or the version, or 5 where
+// that could not be shown.
 fn no_job<R: Print + Eprint>(rt: &R, error: &clap::Error) -> ExitCode
     ensures no_memory { kind_of error.now ≡ ErrorKind.OutOfMemory → exit_status result ≡ 1 }
     ensures mistake { kind_of error.now ≢ ErrorKind.OutOfMemory
         → kind_of error.now ≢ ErrorKind.DisplayHelp → kind_of error.now ≢ ErrorKind.DisplayVersion
         → exit_status result ≡ 2 }
+    ensures shown { (kind_of error.now ≡ ErrorKind.DisplayHelp)
+        ⊎ (kind_of error.now ≡ ErrorKind.DisplayVersion)
+        → (exit_status result ≡ 0) ⊎ (exit_status result ≡ 5) }
 {
     if error.kind() == ErrorKind::OutOfMemory {
         return ended(rt, Err(MainFault::Refused(RunFault::NoMemory)));
     }
-    let printed = error.print(rt);
     if error.use_stderr() {
+        let _ = eprint!(rt; "muxsim: {error}");
         return ExitCode::from(2);
     }
+    let printed = error.print(rt);
     ended(rt, printed.map_err(|_| MainFault::WriteFailed))
 }
 
 // The words of the command line could not be had: they are no text, or there is no memory.
-fn no_words<R: Eprint>(rt: &R, error: &io::Error) -> ExitCode {
-    if error.kind() == io::ErrorKind::OutOfMemory {
+fn no_words<R: Eprint>(rt: &R, error: &io::Error) -> ExitCode
+    ensures no_memory { error_kind error.now ≡ IoKind.OutOfMemory → exit_status result ≡ 1 }
+    ensures mistake { error_kind error.now ≢ IoKind.OutOfMemory → exit_status result ≡ 2 }
+{
+    if error.kind() == IoKind::OutOfMemory {
         return ended(rt, Err(MainFault::Refused(RunFault::NoMemory)));
     }
-    let _ = eprintln!(rt; "error: the command line is not UTF-8");
+    let _ = eprintln!(rt; "muxsim: error: the command line is not UTF-8");
     ExitCode::from(2)
 }

@@ -14,3 +14,4 @@ pub mod DoneLemmas
 pub mod DriverListLemmas
 pub mod PerformLemmas
 pub mod CountLemmas
+pub mod OpenLemmas

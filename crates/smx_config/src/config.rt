@@ -16,7 +16,7 @@ use crate::driver_list::check_drivers;
 use crate::fault::ConfigFault;
 use crate::lists::Lists;
 use crate::perform::perform;
-use crate::settling::settle;
+use crate::settling::settle_after;
 use crate::show::{
     binding_lines, descriptor_lines, full_lines, link_lines, message_lines, route_lines,
 };
@@ -102,7 +102,7 @@ impl Config {
         refusals_change_nothing();
         match perform(self.alloc, &self.drivers, &mut self.lists, process, command) {
             Ok(reply) => {
-                settle(&self.drivers, &mut self.lists);
+                settle_after(&self.drivers, &mut self.lists, command);
                 Ok(reply)
             }
             Err(StepError::Refused(fault)) => Ok(Reply::Fault(fault)),

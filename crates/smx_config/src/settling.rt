@@ -1,14 +1,14 @@
 //! Messages that move on.
 
-ghost use Rattle.std.specs.Prelude.{◌≡◌, ◌≤◌, ◌==◌, ◌&&◌, false, find, length, IfSome, Some};
+ghost use Rattle.std.specs.Prelude.{IsTrue, ◌≡◌, ◌≤◌, ◌==◌, ◌&&◌, false, find, length, IfSome, Some};
 ghost use Rattle.smx_model.specs.Configuration.{same_stream};
 ghost use Rattle.smx_model.specs.FlowOrder.{IsInOrder};
 ghost use Rattle.smx_model.specs.KeptConfigurations.{IsSound};
 ghost use Rattle.smx_model.specs.Queues.{first_message};
-ghost use Rattle.smx_model.specs.Settling.{place_below, place_above, next_place, next_open_place, is_movable};
+ghost use Rattle.smx_model.specs.Settling.{place_below, place_above, next_place, next_open_place, is_movable, IsSettled};
 ghost use Rattle.smx_model.specs.Settling.{after_move, after_settling};
 ghost use Rattle.smx_config.specs.ModelOfLists.{configuration_of};
-ghost use Rattle.smx_config.specs.Moves.{open_place, is_same, IsLeastMove};
+ghost use Rattle.smx_config.specs.Moves.{open_place, is_same, is_open, IsLeastMove};
 ghost use Rattle.smx_config.specs.ReservedRoom.{HasRoom};
 
 use crate::driver_specs::is_mux;
@@ -17,7 +17,7 @@ use crate::queued_message::QueuedMessage;
 use crate::queues::{arrive, is_full, leave};
 use crate::streams::{same_place, same_stream};
 use smx_model::laws_of_steps::moves_keep_soundness;
-use smx_types::{Binding, DriverSpec, Link, Place, Route, Side, StreamId};
+use smx_types::{Binding, Command, DriverSpec, Link, Place, Route, Side, StreamId};
 
 // A message goes from one place to another.
 #[derive(Clone, Copy, Debug)]
@@ -173,7 +173,7 @@ fn move_on(drivers: &[DriverSpec], lists: &mut Lists, next: Move)
 }
 
 // Moves messages on until none can.
-pub fn settle(drivers: &[DriverSpec], lists: &mut Lists)
+fn settle(drivers: &[DriverSpec], lists: &mut Lists)
     requires kept { HasRoom lists.old }
     requires sound { IsSound drivers.now (configuration_of lists.old) }
     ensures value { configuration_of lists.new ≡ after_settling drivers.now (configuration_of lists.old) }
@@ -187,5 +187,42 @@ pub fn settle(drivers: &[DriverSpec], lists: &mut Lists)
         };
         move_on(drivers, lists, next);
         left -= 1;
+    }
+}
+
+// Whether it opens or shares a stream. No message can move on after it that could not before.
+fn is_open(command: &Command) -> bool
+    ensures { result ≡ is_open command.now }
+{
+    match command {
+        Command::OpenClone { .. } | Command::OpenMinor { .. } | Command::Dup { .. } => true,
+        Command::Close { .. }
+        | Command::CloseAll
+        | Command::Link { .. }
+        | Command::Plink { .. }
+        | Command::Unlink { .. }
+        | Command::Punlink { .. }
+        | Command::Bind { .. }
+        | Command::Unbind { .. }
+        | Command::Route { .. }
+        | Command::Unroute { .. }
+        | Command::Write { .. }
+        | Command::Read { .. }
+        | Command::Flush { .. }
+        | Command::Inject { .. }
+        | Command::Transmit { .. } => false,
+    }
+}
+
+// Settles after a command, without a look at the messages where it opened or shared a stream.
+pub fn settle_after(drivers: &[DriverSpec], lists: &mut Lists, command: &Command)
+    requires kept { HasRoom lists.old }
+    requires sound { IsSound drivers.now (configuration_of lists.old) }
+    requires open { IsTrue (is_open command.now) → IsSettled drivers.now (configuration_of lists.old) }
+    ensures value { configuration_of lists.new ≡ after_settling drivers.now (configuration_of lists.old) }
+    ensures kept { HasRoom lists.new }
+{
+    if !is_open(command) {
+        settle(drivers, lists);
     }
 }

@@ -55,6 +55,7 @@ rest_has P test (k ∷ ks) h = elim (cases_Bool (test k)) [ inl t ↦ rw t h.1 |
 
 -- a reply to a command leaves messages that were there or that it took in, and delivers one that was there
 
+-- P is of the messages that were there
 pub record Carries (P : Message → Type 0) (k : Command) (d : Configuration) (r : Reply) : Type 0 where
   pub flow : OfEach (λ m. P m ⊎ ((r ≡ reply.Took m.serial) × Sends k m.addr m.bytes)) d.flow
   pub got : (m : Message) → r ≡ reply.Got m.serial m.addr m.bytes → P m

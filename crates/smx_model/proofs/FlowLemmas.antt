@@ -38,21 +38,21 @@ pub order_accepted : (drivers : List DriverSpec) (c : Configuration) (process : 
 order_accepted drivers c process (command.OpenClone name) h = search (after_ok, at_ok, rules) depth 20
 order_accepted drivers c process (command.OpenMinor name minor) h = search (after_test, after_ok, at_ok, rules) depth 20
 order_accepted drivers c process (command.Dup fd) h = search (after_ok, at_ok, rules) depth 20
-order_accepted drivers c process (command.Close fd) h = search (after_ok, at_ok, order_done, order_filter, rules) depth 20
-order_accepted drivers c process command.CloseAll h = search (at_ok, order_done, order_filter, rules) depth 20
+order_accepted drivers c process (command.Close fd) h = search (after_ok, order_done, rules) depth 20
+order_accepted drivers c process command.CloseAll h = search (order_done, rules) depth 20
 order_accepted drivers c process (command.Link fd arg) h = search (after_ok, order_linked, rules) depth 20
 order_accepted drivers c process (command.Plink fd arg) h = search (after_ok, order_linked, rules) depth 20
 order_accepted drivers c process (command.Unlink fd w) h = search (after_ok, order_unlinked, rules) depth 20
 order_accepted drivers c process (command.Punlink fd w) h = search (after_ok, order_unlinked, rules) depth 20
-order_accepted drivers c process (command.Bind fd addr) h = search (after_test, after_ok, at_ok, order_done, order_filter, rules) depth 20
-order_accepted drivers c process (command.Unbind fd) h = search (after_test, after_ok, at_ok, order_done, order_filter, rules) depth 20
-order_accepted drivers c process (command.Route fd addr id) h = search (after_test, after_ok, at_ok, order_done, order_filter, rules) depth 20
-order_accepted drivers c process (command.Unroute fd addr) h = search (after_test, after_ok, at_ok, order_done, order_filter, rules) depth 20
+order_accepted drivers c process (command.Bind fd addr) h = search (after_test, after_ok, order_done, rules) depth 20
+order_accepted drivers c process (command.Unbind fd) h = search (after_test, after_ok, order_done, rules) depth 20
+order_accepted drivers c process (command.Route fd addr id) h = search (after_test, after_ok, order_done, rules) depth 20
+order_accepted drivers c process (command.Unroute fd addr) h = search (after_test, after_ok, order_done, rules) depth 20
 order_accepted drivers c process (command.Write fd addr bytes) h = search (after_test, after_ok, order_sent, rules) depth 20
-order_accepted drivers c process (command.Read fd) h = search (after_ok, at_ok, order_received, rules) depth 20
-order_accepted drivers c process (command.Flush fd w) h = search (after_ok, at_ok, order_done, order_filter, rules) depth 20
+order_accepted drivers c process (command.Read fd) h = search (after_ok, order_received, rules) depth 20
+order_accepted drivers c process (command.Flush fd w) h = search (after_ok, order_done, order_filter, rules) depth 20
 order_accepted drivers c process (command.Inject name minor addr bytes) h = search (after_test, after_ok, order_sent, rules) depth 20
-order_accepted drivers c process (command.Transmit name minor) h = search (after_ok, at_ok, order_received, rules) depth 20
+order_accepted drivers c process (command.Transmit name minor) h = search (after_ok, order_received, rules) depth 20
 
 pub order_moved : (drivers : List DriverSpec) (c : Configuration) (p : Place) → IsInOrder c.flow → IsInOrder (after_move drivers c p).flow
 order_moved drivers c p h = by (next_open_place drivers c p) (first_message c.flow p) where

@@ -31,6 +31,7 @@ use Rattle.smx_model.proofs.EachLemmas.{Each, each_filter, each_placed}
 use Rattle.smx_model.proofs.KeptLemmas.{always_is_kept}
 use Rattle.smx_model.proofs.OutcomeLemmas.{IfAccepted, at_ok, after_ok, after_test, after_some}
 
+-- it keeps to the limits
 pub record IsWithin (c : Configuration) : Type 0 where
   pub links : length c.links ≤ MAX_LINKS
   pub numbers : Each (λ d. d.fd < MAX_DESCRIPTORS) c.fds

@@ -63,6 +63,7 @@ fewer_left (m ∷ ms) = omega (arith, sum_by-cons (λ m. length m.bytes) m ms)
 
 -- the marks of one place
 
+-- a full place has more bytes than the low mark, and one that isn't fewer than the high one
 pub record IsMarked (drivers : List DriverSpec) (p : Place) (c : Configuration) : Type 0 where
   pub full : is_full c p ≡ true → low_of drivers p.stream.driver < bytes_at c.flow p
   pub free : is_full c p ≡ false → bytes_at c.flow p < high_of drivers p.stream.driver

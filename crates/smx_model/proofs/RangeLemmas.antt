@@ -5,6 +5,7 @@ use Rattle.std.specs.Str.{bytes_eq}
 use Rattle.std.specs.List.{range_with_len}
 use Rattle.std.proofs.lemmas.Bool.{cases_Bool, leb-false}
 use Rattle.std.proofs.lemmas.List.Quantifiers.{position-Some}
+use Rattle.std.specs.Option.{option_map}
 use Rattle.smx_types.specs.declared.command.Command.{Command}
 use Rattle.smx_types.specs.declared.command.Command.TheVariants as command
 use Rattle.smx_types.specs.declared.reply.Fault.TheVariants.{BadDescriptor, NoDriver, NoMinor}
@@ -73,11 +74,7 @@ known_made drivers n m lt lt2 = (lt, lt2)
 
 stream_known : (drivers : List DriverSpec) (c : Configuration) (process fd : ℕ) (s : StreamId) → AreNamed drivers c → stream_of c process fd ≡ Ok s → IsKnown drivers s
 stream_known drivers c process fd s h e = by (find (is_fd process fd) c.fds) refl e where
-  found : Option Descriptor → Option StreamId
-  found None = None
-  found (Some d) = Some d.stream
-
-  by : (o : Option Descriptor) → find (is_fd process fd) c.fds ≡ o → or_fault BadDescriptor (found o) ≡ Ok s → IsKnown drivers s
+  by : (o : Option Descriptor) → find (is_fd process fd) c.fds ≡ o → or_fault BadDescriptor (option_map (λ d. d.stream) o) ≡ Ok s → IsKnown drivers s
   by None e k = cc
   by (Some d) e k = let same : d.stream ≡ s = cc in subst (IsKnown drivers) same (each_find (λ d. IsKnown drivers d.stream) (is_fd process fd) c.fds d e h.fds)
 
@@ -108,22 +105,22 @@ named_linked : (drivers : List DriverSpec) (c : Configuration) (process fd arg :
 named_linked drivers c process fd arg k h = search (after_test, after_ok, at_ok, named_link, stream_known, rules) depth 24
 
 pub named_accepted : (drivers : List DriverSpec) (c : Configuration) (process : ℕ) (k : Command) → AreNamed drivers c → IfAccepted (λ d r. AreNamed drivers d) (outcome drivers c process k)
-named_accepted drivers c process (command.OpenClone name) h = search (after_some, after_ok, at_ok, named_fd, stream_known, known_made, minor_free, minor_in, driver_below, named_same, rules) depth 20
-named_accepted drivers c process (command.OpenMinor name minor) h = search (after_test, after_some, after_ok, at_ok, named_done, named_fd, named_closed, named_linked, named_unlinked, stream_known, known_made, minor_free, minor_in, driver_below, named_same, rules) depth 20
-named_accepted drivers c process (command.Dup fd) h = search (after_some, after_ok, at_ok, named_fd, stream_known, named_same, rules) depth 20
-named_accepted drivers c process (command.Close fd) h = search (after_some, after_ok, at_ok, named_done, named_closed, rules) depth 20
+named_accepted drivers c process (command.OpenClone name) h = search (after_ok, at_ok, named_fd, known_made, minor_free, driver_below, rules) depth 20
+named_accepted drivers c process (command.OpenMinor name minor) h = search (after_test, after_ok, at_ok, named_fd, known_made, minor_in, driver_below, rules) depth 20
+named_accepted drivers c process (command.Dup fd) h = search (after_ok, at_ok, named_fd, stream_known, rules) depth 20
+named_accepted drivers c process (command.Close fd) h = search (after_ok, named_done, named_closed, rules) depth 20
 named_accepted drivers c process command.CloseAll h = search (at_ok, named_done, named_closed, rules) depth 20
-named_accepted drivers c process (command.Link fd arg) h = search (after_some, after_ok, named_linked, rules) depth 20
-named_accepted drivers c process (command.Plink fd arg) h = search (after_some, after_ok, named_linked, rules) depth 20
+named_accepted drivers c process (command.Link fd arg) h = search (named_linked, rules) depth 20
+named_accepted drivers c process (command.Plink fd arg) h = search (named_linked, rules) depth 20
 named_accepted drivers c process (command.Unlink fd w) h = search (after_ok, named_unlinked, rules) depth 20
 named_accepted drivers c process (command.Punlink fd w) h = search (after_ok, named_unlinked, rules) depth 20
-named_accepted drivers c process (command.Bind fd addr) h = search (after_test, after_ok, at_ok, named_done, named_same, rules) depth 20
-named_accepted drivers c process (command.Unbind fd) h = search (after_test, after_ok, at_ok, named_done, named_same, rules) depth 20
-named_accepted drivers c process (command.Route fd addr id) h = search (after_test, after_ok, at_ok, named_done, named_same, rules) depth 20
-named_accepted drivers c process (command.Unroute fd addr) h = search (after_test, after_ok, at_ok, named_done, named_same, rules) depth 20
+named_accepted drivers c process (command.Bind fd addr) h = search (after_test, after_ok, named_done, named_same, rules) depth 20
+named_accepted drivers c process (command.Unbind fd) h = search (after_test, after_ok, named_done, named_same, rules) depth 20
+named_accepted drivers c process (command.Route fd addr id) h = search (after_test, after_ok, named_done, named_same, rules) depth 20
+named_accepted drivers c process (command.Unroute fd addr) h = search (after_test, after_ok, named_done, named_same, rules) depth 20
 named_accepted drivers c process (command.Write fd addr bytes) h = search (after_test, after_ok, at_ok, named_same, rules) depth 20
 named_accepted drivers c process (command.Read fd) h = search (after_some, after_ok, at_ok, named_same, rules) depth 20
-named_accepted drivers c process (command.Flush fd w) h = search (after_ok, at_ok, named_done, named_same, rules) depth 20
+named_accepted drivers c process (command.Flush fd w) h = search (after_ok, named_done, named_same, rules) depth 20
 named_accepted drivers c process (command.Inject name minor addr bytes) h = search (after_test, after_ok, at_ok, named_same, rules) depth 20
 named_accepted drivers c process (command.Transmit name minor) h = search (after_some, after_ok, at_ok, named_same, rules) depth 20
 

@@ -55,10 +55,10 @@ spared drivers d l h e = in_filtered _ d.links l h (alive (is_persistent l) (exi
 
 -- those stand that aren't taken, and that are persistent or whose controlling stream exists
 
-record Just (drivers : List DriverSpec) (c : Configuration) (taken : Link → Bool) (d : Configuration) : Type 0 where
+record LeavesJust (drivers : List DriverSpec) (c : Configuration) (taken : Link → Bool) (d : Configuration) : Type 0 where
   each : (l : Link) → Contains c.links l → Contains d.links l ↔ ((not (taken l) && (is_persistent l || exists drivers d l.ctl)) ≡ true)
 
-just_removed : (drivers : List DriverSpec) (c : Configuration) (taken : Link → Bool) → Just drivers c taken (after_sweep drivers (without_links c taken))
+just_removed : (drivers : List DriverSpec) (c : Configuration) (taken : Link → Bool) → LeavesJust drivers c taken (after_sweep drivers (without_links c taken))
 just_removed drivers c taken = record {
   each = λ l h. (
     λ k. and_from _ _ (filtered_passes (λ l. not (taken l)) c.links l (of_filtered _ _ l k)) (in_all _ _ l (swept_is drivers (without_links c taken)).links k),
@@ -66,47 +66,47 @@ just_removed drivers c taken = record {
   );
 }
 
-just_done : (drivers : List DriverSpec) (c d : Configuration) → d.links ≡ c.links → Just drivers c (λ l. false) (after_sweep drivers d)
+just_done : (drivers : List DriverSpec) (c d : Configuration) → d.links ≡ c.links → LeavesJust drivers c (λ l. false) (after_sweep drivers d)
 just_done drivers c d same = record { each = λ l h. (λ k. in_all _ _ l (swept_is drivers d).links k, λ e. spared drivers d l (subst (λ (ls : List Link). Contains ls l) (sym same) h) e) }
 
-just_refused : (drivers : List DriverSpec) (c : Configuration) (taken : Link → Bool) → IsSwept drivers c → ((l : Link) → Contains c.links l → taken l ≡ false) → Just drivers c taken c
+just_refused : (drivers : List DriverSpec) (c : Configuration) (taken : Link → Bool) → IsSwept drivers c → ((l : Link) → Contains c.links l → taken l ≡ false) → LeavesJust drivers c taken c
 just_refused drivers c taken h none = record { each = λ l k. (λ m. and_from _ _ (rw (none l k) refl) (in_all _ c.links l h.links k), λ e. k) }
 
-just_settled : (drivers : List DriverSpec) (c : Configuration) (taken : Link → Bool) (n : ℕ) (d : Configuration) → Just drivers c taken d → Just drivers c taken (after_settling_within drivers n d)
+just_settled : (drivers : List DriverSpec) (c : Configuration) (taken : Link → Bool) (n : ℕ) (d : Configuration) → LeavesJust drivers c taken d → LeavesJust drivers c taken (after_settling_within drivers n d)
 just_settled drivers c taken n d h = let s = settled_alone drivers n d in record { each = λ l k. rw (s.links, s.fds) (h.each l k) }
 
 -- each unlinking
 
-just_unlinked : (drivers : List DriverSpec) (c : Configuration) (w : Which) (mine : Link → Bool) → IsSwept drivers c → Just drivers c (λ l. is_meant w l && mine l) (after_outcome drivers c (unlink_outcome drivers c w mine)).0
+just_unlinked : (drivers : List DriverSpec) (c : Configuration) (w : Which) (mine : Link → Bool) → IsSwept drivers c → LeavesJust drivers c (λ l. is_meant w l && mine l) (after_outcome drivers c (unlink_outcome drivers c w mine)).0
 just_unlinked drivers c which.All mine h = just_settled drivers c mine _ (after_sweep drivers (without_links c mine)) (just_removed drivers c mine)
 just_unlinked drivers c (which.Id id) mine h = by (list_any (λ l. eqb l.id id && mine l) c.links) refl where
   by : (b : Bool) → list_any (λ l. eqb l.id id && mine l) c.links ≡ b
-      → Just drivers c (λ l. eqb l.id id && mine l) (after_outcome drivers c (refuse NoLink (not b) >>= (λ there. done_outcome drivers c (without_links c (λ l. eqb l.id id && mine l))))).0
+      → LeavesJust drivers c (λ l. eqb l.id id && mine l) (after_outcome drivers c (refuse NoLink (not b) >>= (λ there. done_outcome drivers c (without_links c (λ l. eqb l.id id && mine l))))).0
   by true e = just_settled drivers c (λ l. eqb l.id id && mine l) _ (after_sweep drivers (without_links c (λ l. eqb l.id id && mine l))) (just_removed drivers c (λ l. eqb l.id id && mine l))
   by false e = just_refused drivers c (λ l. eqb l.id id && mine l) h (none_in (λ l. eqb l.id id && mine l) c.links e)
 
 pub unlink_just : (drivers : List DriverSpec) (c : Configuration) (process fd : ℕ) (w : Which) (s : StreamId) → IsSwept drivers c → mux_stream drivers c process fd ≡ Ok s
     → All (λ l. Contains (step drivers c process (command.Unlink fd w)).0.links l ↔ ((not (is_meant w l && (not (is_persistent l) && same_stream l.ctl s)) && (is_persistent l || exists drivers (step drivers c process (command.Unlink fd w)).0 l.ctl)) ≡ true)) c.links
-unlink_just drivers c process fd w s h e = all_in _ c.links (subst (λ (r : Result StreamId Fault). Just drivers c (λ l. is_meant w l && (not (is_persistent l) && same_stream l.ctl s))
+unlink_just drivers c process fd w s h e = all_in _ c.links (subst (λ (r : Result StreamId Fault). LeavesJust drivers c (λ l. is_meant w l && (not (is_persistent l) && same_stream l.ctl s))
     (after_outcome drivers c (r >>= (λ s. unlink_outcome drivers c w (λ l. not (is_persistent l) && same_stream l.ctl s)))).0) (sym e) (just_unlinked drivers c w (λ l. not (is_persistent l) && same_stream l.ctl s) h)).each
 
 pub punlink_just : (drivers : List DriverSpec) (c : Configuration) (process fd : ℕ) (w : Which) (s : StreamId) → IsSwept drivers c → mux_stream drivers c process fd ≡ Ok s
     → All (λ l. Contains (step drivers c process (command.Punlink fd w)).0.links l ↔ ((not (is_meant w l && (is_persistent l && eqb l.ctl.driver s.driver)) && (is_persistent l || exists drivers (step drivers c process (command.Punlink fd w)).0 l.ctl)) ≡ true)) c.links
-punlink_just drivers c process fd w s h e = all_in _ c.links (subst (λ (r : Result StreamId Fault). Just drivers c (λ l. is_meant w l && (is_persistent l && eqb l.ctl.driver s.driver))
+punlink_just drivers c process fd w s h e = all_in _ c.links (subst (λ (r : Result StreamId Fault). LeavesJust drivers c (λ l. is_meant w l && (is_persistent l && eqb l.ctl.driver s.driver))
     (after_outcome drivers c (r >>= (λ s. unlink_outcome drivers c w (λ l. is_persistent l && eqb l.ctl.driver s.driver)))).0) (sym e) (just_unlinked drivers c w (λ l. is_persistent l && eqb l.ctl.driver s.driver) h)).each
 
 -- closing
 
-close_just : (drivers : List DriverSpec) (c : Configuration) (process fd : ℕ) → IsSwept drivers c → Just drivers c (λ l. false) (step drivers c process (command.Close fd)).0
+close_just : (drivers : List DriverSpec) (c : Configuration) (process fd : ℕ) → IsSwept drivers c → LeavesJust drivers c (λ l. false) (step drivers c process (command.Close fd)).0
 close_just drivers c process fd h = by (stream_of c process fd) where
   fewer : Configuration
   fewer = record c { fds = filter (λ d. not (is_fd process fd d)) c.fds }
 
-  by : (r : Result StreamId Fault) → Just drivers c (λ l. false) (after_outcome drivers c (r >>= (λ s. done_outcome drivers c fewer))).0
+  by : (r : Result StreamId Fault) → LeavesJust drivers c (λ l. false) (after_outcome drivers c (r >>= (λ s. done_outcome drivers c fewer))).0
   by (Ok s) = just_settled drivers c (λ l. false) _ (after_sweep drivers fewer) (just_done drivers c fewer refl)
   by (Err f) = just_refused drivers c (λ l. false) h (λ l k. refl)
 
-exit_just : (drivers : List DriverSpec) (c : Configuration) (process : ℕ) → Just drivers c (λ l. false) (step drivers c process command.CloseAll).0
+exit_just : (drivers : List DriverSpec) (c : Configuration) (process : ℕ) → LeavesJust drivers c (λ l. false) (step drivers c process command.CloseAll).0
 exit_just drivers c process = just_settled drivers c (λ l. false) _ (after_sweep drivers fewer) (just_done drivers c fewer refl) where
   fewer : Configuration
   fewer = record c { fds = filter (λ d. not (eqb d.process process)) c.fds }
@@ -121,16 +121,17 @@ exit_takes drivers c process h = all_in _ c.links (exit_just drivers c process).
 
 -- each other command leaves every link
 
-record Keeps (c d : Configuration) : Type 0 where
+-- all of the old links are left
+record KeepsLinks (c d : Configuration) : Type 0 where
   each : (l : Link) → Contains c.links l → Contains d.links l
 
-keeps_same : (c d : Configuration) → d.links ≡ c.links → Keeps c d
+keeps_same : (c d : Configuration) → d.links ≡ c.links → KeepsLinks c d
 keeps_same c d e = record { each = λ l h. subst (λ (ls : List Link). Contains ls l) (sym e) h }
 
-keeps_push : (c : Configuration) (l : Link) (next : ℕ) → Keeps c (record c { links = c.links ++ l ∷ []; next_id = next })
+keeps_push : (c : Configuration) (l : Link) (next : ℕ) → KeepsLinks c (record c { links = c.links ++ l ∷ []; next_id = next })
 keeps_push c l next = record { each = λ k h. Contains-append_left c.links (l ∷ []) k h }
 
-keeps_done : (drivers : List DriverSpec) (c d : Configuration) → IsSwept drivers c → d.links ≡ c.links → d.fds ≡ c.fds → IfAccepted (λ d r. Keeps c d) (done_outcome drivers c d)
+keeps_done : (drivers : List DriverSpec) (c d : Configuration) → IsSwept drivers c → d.links ≡ c.links → d.fds ≡ c.fds → IfAccepted (λ d r. KeepsLinks c d) (done_outcome drivers c d)
 keeps_done drivers c d h e f = record {
   holds = record {
     each = λ l k. in_filtered _ d.links l (subst (λ (ls : List Link). Contains ls l) (sym e) k)
@@ -142,13 +143,13 @@ keeps_done drivers c d h e f = record {
   alive false true h = refl
   alive false false h = h
 
-keeps_linked : (drivers : List DriverSpec) (c : Configuration) (process fd arg : ℕ) (k : LinkKind) → IfAccepted (λ d r. Keeps c d) (link_outcome drivers c process fd arg k)
+keeps_linked : (drivers : List DriverSpec) (c : Configuration) (process fd arg : ℕ) (k : LinkKind) → IfAccepted (λ d r. KeepsLinks c d) (link_outcome drivers c process fd arg k)
 keeps_linked drivers c process fd arg k = search (after_test, after_ok, at_ok, keeps_push, rules) depth 24
 
-keeps_sent : (drivers : List DriverSpec) (c : Configuration) (p : Place) (addr : ℕ) (bytes : List ℕ) → IfAccepted (λ d r. Keeps c d) (send_outcome drivers c p addr bytes)
+keeps_sent : (drivers : List DriverSpec) (c : Configuration) (p : Place) (addr : ℕ) (bytes : List ℕ) → IfAccepted (λ d r. KeepsLinks c d) (send_outcome drivers c p addr bytes)
 keeps_sent drivers c p addr bytes = search (after_test, at_ok, keeps_same, rules) depth 12
 
-keeps_received : (drivers : List DriverSpec) (c : Configuration) (p : Place) → IfAccepted (λ d r. Keeps c d) (receive_outcome drivers c p)
+keeps_received : (drivers : List DriverSpec) (c : Configuration) (p : Place) → IfAccepted (λ d r. KeepsLinks c d) (receive_outcome drivers c p)
 keeps_received drivers c p = search (after_some, at_ok, keeps_same, rules) depth 12
 
 -- it is neither close, exit, unlink nor punlink
@@ -158,7 +159,7 @@ record IsOther (k : Command) : Type 0 where
   unlink : (fd : ℕ) (w : Which) → k ≡ command.Unlink fd w → ⊥
   punlink : (fd : ℕ) (w : Which) → k ≡ command.Punlink fd w → ⊥
 
-keeps_accepted : (drivers : List DriverSpec) (c : Configuration) (process : ℕ) (k : Command) → IsOther k → IsSwept drivers c → IfAccepted (λ d r. Keeps c d) (outcome drivers c process k)
+keeps_accepted : (drivers : List DriverSpec) (c : Configuration) (process : ℕ) (k : Command) → IsOther k → IsSwept drivers c → IfAccepted (λ d r. KeepsLinks c d) (outcome drivers c process k)
 keeps_accepted drivers c process (command.OpenClone name) other h = search (after_ok, at_ok, keeps_same, rules) depth 20
 keeps_accepted drivers c process (command.OpenMinor name minor) other h = search (after_test, after_ok, at_ok, keeps_same, rules) depth 20
 keeps_accepted drivers c process (command.Dup fd) other h = search (after_ok, at_ok, keeps_same, rules) depth 20
@@ -178,11 +179,11 @@ keeps_accepted drivers c process (command.Flush fd w) other h = search (after_ok
 keeps_accepted drivers c process (command.Inject name minor addr bytes) other h = search (after_ok, keeps_sent, rules) depth 20
 keeps_accepted drivers c process (command.Transmit name minor) other h = search (after_ok, keeps_received, rules) depth 20
 
-keeps_finished : (drivers : List DriverSpec) (c : Configuration) (o : Outcome) → IfAccepted (λ d r. Keeps c d) o → Keeps c (after_outcome drivers c o).0
+keeps_finished : (drivers : List DriverSpec) (c : Configuration) (o : Outcome) → IfAccepted (λ d r. KeepsLinks c d) o → KeepsLinks c (after_outcome drivers c o).0
 keeps_finished drivers c (Ok x) h = record { each = λ l k. rw ((settled_alone drivers _ x.0).links) (h.holds.each l k) }
 keeps_finished drivers c (Err f) h = record { each = λ l k. k }
 
-keeps_step : (drivers : List DriverSpec) (c : Configuration) (process : ℕ) (k : Command) → IsOther k → IsSwept drivers c → Keeps c (step drivers c process k).0
+keeps_step : (drivers : List DriverSpec) (c : Configuration) (process : ℕ) (k : Command) → IsOther k → IsSwept drivers c → KeepsLinks c (step drivers c process k).0
 keeps_step drivers c process k other h = keeps_finished drivers c (outcome drivers c process k) (keeps_accepted drivers c process k other h)
 
 pub others_keep : (drivers : List DriverSpec) (c : Configuration) (process : ℕ) (k : Command) → IsSwept drivers c → ((fd : ℕ) → k ≡ command.Close fd → ⊥) → (k ≡ command.CloseAll → ⊥)
@@ -216,40 +217,41 @@ persistent_stays drivers c process k h never = all_in _ c.links (by k never) whe
 
 -- a link that stands after a command stood before it, or was made by it
 
-record Came (c d : Configuration) (r : Reply) : Type 0 where
+-- each new link is an old one, or has the id of the reply
+record HasCome (c d : Configuration) (r : Reply) : Type 0 where
   each : (l : Link) → Contains d.links l → Contains c.links l ⊎ (r ≡ reply.Id l.id)
 
-came_same : (c d : Configuration) (r : Reply) → d.links ≡ c.links → Came c d r
+came_same : (c d : Configuration) (r : Reply) → d.links ≡ c.links → HasCome c d r
 came_same c d r e = record { each = λ l h. inl (subst (λ (ls : List Link). Contains ls l) e h) }
 
-came_link : (c : Configuration) (l : Link) (next : ℕ) → Came c (record c { links = c.links ++ l ∷ []; next_id = next }) (reply.Id l.id)
+came_link : (c : Configuration) (l : Link) (next : ℕ) → HasCome c (record c { links = c.links ++ l ∷ []; next_id = next }) (reply.Id l.id)
 came_link c l next = record { each = λ k h. elim (Contains-push_cases c.links l k h) [ inl m ↦ inl m | inr e ↦ inr (ap (λ (x : Link). reply.Id x.id) e) ] }
 
-came_done : (drivers : List DriverSpec) (c d : Configuration) → ((l : Link) → Contains d.links l → Contains c.links l) → IfAccepted (Came c) (done_outcome drivers c d)
+came_done : (drivers : List DriverSpec) (c d : Configuration) → ((l : Link) → Contains d.links l → Contains c.links l) → IfAccepted (HasCome c) (done_outcome drivers c d)
 came_done drivers c d f = record { holds = record { each = λ l h. inl (f l (of_filtered _ d.links l h)) } }
 
-came_removed : (drivers : List DriverSpec) (c : Configuration) (goes : Link → Bool) → IfAccepted (Came c) (done_outcome drivers c (without_links c goes))
+came_removed : (drivers : List DriverSpec) (c : Configuration) (goes : Link → Bool) → IfAccepted (HasCome c) (done_outcome drivers c (without_links c goes))
 came_removed drivers c goes = came_done drivers c (without_links c goes) (λ l h. of_filtered _ c.links l h)
 
-came_like : (drivers : List DriverSpec) (c d : Configuration) → d.links ≡ c.links → IfAccepted (Came c) (done_outcome drivers c d)
+came_like : (drivers : List DriverSpec) (c d : Configuration) → d.links ≡ c.links → IfAccepted (HasCome c) (done_outcome drivers c d)
 came_like drivers c d e = came_done drivers c d (λ l h. subst (λ (ls : List Link). Contains ls l) e h)
 
-came_unlinked : (drivers : List DriverSpec) (c : Configuration) (w : Which) (mine : Link → Bool) → IfAccepted (Came c) (unlink_outcome drivers c w mine)
+came_unlinked : (drivers : List DriverSpec) (c : Configuration) (w : Which) (mine : Link → Bool) → IfAccepted (HasCome c) (unlink_outcome drivers c w mine)
 came_unlinked drivers c which.All mine = came_removed drivers c mine
 came_unlinked drivers c (which.Id id) mine = search (after_test, came_removed, rules) depth 12
 
-came_linked : (drivers : List DriverSpec) (c : Configuration) (process fd arg : ℕ) (k : LinkKind) → IfAccepted (Came c) (link_outcome drivers c process fd arg k)
+came_linked : (drivers : List DriverSpec) (c : Configuration) (process fd arg : ℕ) (k : LinkKind) → IfAccepted (HasCome c) (link_outcome drivers c process fd arg k)
 came_linked drivers c process fd arg k = search (after_test, after_ok, at_ok, made, rules) depth 24 where
-  made : (ctl lower : StreamId) → Came c (record c { links = c.links ++ record { id = c.next_id; ctl = ctl; lower = lower; kind = k } ∷ []; next_id = c.next_id + 1 }) (reply.Id c.next_id)
+  made : (ctl lower : StreamId) → HasCome c (record c { links = c.links ++ record { id = c.next_id; ctl = ctl; lower = lower; kind = k } ∷ []; next_id = c.next_id + 1 }) (reply.Id c.next_id)
   made ctl lower = came_link c (record { id = c.next_id; ctl = ctl; lower = lower; kind = k }) (c.next_id + 1)
 
-came_sent : (drivers : List DriverSpec) (c : Configuration) (p : Place) (addr : ℕ) (bytes : List ℕ) → IfAccepted (Came c) (send_outcome drivers c p addr bytes)
+came_sent : (drivers : List DriverSpec) (c : Configuration) (p : Place) (addr : ℕ) (bytes : List ℕ) → IfAccepted (HasCome c) (send_outcome drivers c p addr bytes)
 came_sent drivers c p addr bytes = search (after_test, at_ok, came_same, rules) depth 12
 
-came_received : (drivers : List DriverSpec) (c : Configuration) (p : Place) → IfAccepted (Came c) (receive_outcome drivers c p)
+came_received : (drivers : List DriverSpec) (c : Configuration) (p : Place) → IfAccepted (HasCome c) (receive_outcome drivers c p)
 came_received drivers c p = search (after_some, at_ok, came_same, rules) depth 12
 
-came_accepted : (drivers : List DriverSpec) (c : Configuration) (process : ℕ) (k : Command) → IfAccepted (Came c) (outcome drivers c process k)
+came_accepted : (drivers : List DriverSpec) (c : Configuration) (process : ℕ) (k : Command) → IfAccepted (HasCome c) (outcome drivers c process k)
 came_accepted drivers c process (command.OpenClone name) = search (after_ok, at_ok, came_same, rules) depth 20
 came_accepted drivers c process (command.OpenMinor name minor) = search (after_test, after_ok, at_ok, came_same, rules) depth 20
 came_accepted drivers c process (command.Dup fd) = search (after_ok, at_ok, came_same, rules) depth 20
@@ -269,7 +271,7 @@ came_accepted drivers c process (command.Flush fd w) = search (after_ok, came_li
 came_accepted drivers c process (command.Inject name minor addr bytes) = search (after_ok, came_sent, rules) depth 20
 came_accepted drivers c process (command.Transmit name minor) = search (after_ok, came_received, rules) depth 20
 
-came_finished : (drivers : List DriverSpec) (c : Configuration) (o : Outcome) → IfAccepted (Came c) o → Came c (after_outcome drivers c o).0 (after_outcome drivers c o).1
+came_finished : (drivers : List DriverSpec) (c : Configuration) (o : Outcome) → IfAccepted (HasCome c) o → HasCome c (after_outcome drivers c o).0 (after_outcome drivers c o).1
 came_finished drivers c (Ok x) h = record { each = λ l k. h.holds.each l (subst (λ (ls : List Link). Contains ls l) (settled_alone drivers _ x.0).links k) }
 came_finished drivers c (Err f) h = record { each = λ l k. inl k }
 

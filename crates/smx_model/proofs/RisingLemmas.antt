@@ -193,21 +193,21 @@ pub rising_accepted : (drivers : List DriverSpec) (c : Configuration) (process :
 rising_accepted drivers c process (command.OpenClone name) h = search (after_ok, at_ok, rising_fd, rules) depth 20
 rising_accepted drivers c process (command.OpenMinor name minor) h = search (after_test, after_ok, at_ok, rising_fd, rules) depth 20
 rising_accepted drivers c process (command.Dup fd) h = search (after_ok, at_ok, rising_fd, rules) depth 20
-rising_accepted drivers c process (command.Close fd) h = search (after_ok, at_ok, rising_done, rising_closed, rising_emptied, rules) depth 20
-rising_accepted drivers c process command.CloseAll h = search (at_ok, rising_done, rising_closed, rising_emptied, rules) depth 20
+rising_accepted drivers c process (command.Close fd) h = search (after_ok, rising_done, rising_closed, rules) depth 20
+rising_accepted drivers c process command.CloseAll h = search (rising_done, rising_closed, rules) depth 20
 rising_accepted drivers c process (command.Link fd arg) h = search (after_ok, rising_linked, rules) depth 20
 rising_accepted drivers c process (command.Plink fd arg) h = search (after_ok, rising_linked, rules) depth 20
 rising_accepted drivers c process (command.Unlink fd w) h = search (after_ok, rising_unlinked, rules) depth 20
 rising_accepted drivers c process (command.Punlink fd w) h = search (after_ok, rising_unlinked, rules) depth 20
-rising_accepted drivers c process (command.Bind fd addr) h = search (after_test, after_ok, at_ok, rising_done, rising_bind, rising_emptied, rules) depth 20
-rising_accepted drivers c process (command.Unbind fd) h = search (after_test, after_ok, at_ok, rising_done, rising_unbind, rising_emptied, rules) depth 20
-rising_accepted drivers c process (command.Route fd addr id) h = search (after_test, after_ok, at_ok, rising_done, rising_route, rising_emptied, rules) depth 20
-rising_accepted drivers c process (command.Unroute fd addr) h = search (after_test, after_ok, at_ok, rising_done, rising_unroute, rising_emptied, rules) depth 20
+rising_accepted drivers c process (command.Bind fd addr) h = search (after_test, after_ok, rising_done, rising_bind, rules) depth 20
+rising_accepted drivers c process (command.Unbind fd) h = search (after_test, after_ok, rising_done, rising_unbind, rules) depth 20
+rising_accepted drivers c process (command.Route fd addr id) h = search (after_test, after_ok, rising_done, rising_route, rules) depth 20
+rising_accepted drivers c process (command.Unroute fd addr) h = search (after_test, after_ok, rising_done, rising_unroute, rules) depth 20
 rising_accepted drivers c process (command.Write fd addr bytes) h = search (after_test, after_ok, rising_sent, rules) depth 20
-rising_accepted drivers c process (command.Read fd) h = search (after_ok, at_ok, rising_received, rules) depth 20
-rising_accepted drivers c process (command.Flush fd w) h = search (after_ok, at_ok, rising_done, rising_emptied, rules) depth 20
+rising_accepted drivers c process (command.Read fd) h = search (after_ok, rising_received, rules) depth 20
+rising_accepted drivers c process (command.Flush fd w) h = search (after_ok, rising_done, rising_emptied, rules) depth 20
 rising_accepted drivers c process (command.Inject name minor addr bytes) h = search (after_test, after_ok, rising_sent, rules) depth 20
-rising_accepted drivers c process (command.Transmit name minor) h = search (after_ok, at_ok, rising_received, rules) depth 20
+rising_accepted drivers c process (command.Transmit name minor) h = search (after_ok, rising_received, rules) depth 20
 
 pub rising_moved : (drivers : List DriverSpec) (c : Configuration) (p : Place) → AreRising c → AreRising (after_move drivers c p)
 rising_moved drivers c p h = by (next_open_place drivers c p) (first_message c.flow p) where

@@ -169,22 +169,22 @@ mux_is drivers c process fd s e = by (free_stream c process fd) e where
   by (Ok t) k = tested t (is_mux drivers t.driver) refl k
 
 pub routed_accepted : (drivers : List DriverSpec) (c : Configuration) (process : ℕ) (k : Command) → AreRouted drivers c → IfAccepted (λ d r. AreRouted drivers d) (outcome drivers c process k)
-routed_accepted drivers c process (command.OpenClone name) h = search (after_some, after_ok, at_ok, routed_same, rules) depth 20
-routed_accepted drivers c process (command.OpenMinor name minor) h = search (after_test, after_some, after_ok, at_ok, routed_same, rules) depth 20
-routed_accepted drivers c process (command.Dup fd) h = search (after_some, after_ok, at_ok, routed_same, rules) depth 20
-routed_accepted drivers c process (command.Close fd) h = search (after_some, after_ok, at_ok, routed_done, routed_same, rules) depth 20
-routed_accepted drivers c process command.CloseAll h = search (at_ok, routed_done, routed_same, rules) depth 20
-routed_accepted drivers c process (command.Link fd arg) h = search (after_some, after_ok, routed_linked, rules) depth 20
-routed_accepted drivers c process (command.Plink fd arg) h = search (after_some, after_ok, routed_linked, rules) depth 20
+routed_accepted drivers c process (command.OpenClone name) h = search (after_ok, at_ok, routed_same, rules) depth 20
+routed_accepted drivers c process (command.OpenMinor name minor) h = search (after_test, after_ok, at_ok, routed_same, rules) depth 20
+routed_accepted drivers c process (command.Dup fd) h = search (after_ok, at_ok, routed_same, rules) depth 20
+routed_accepted drivers c process (command.Close fd) h = search (after_ok, routed_done, routed_same, rules) depth 20
+routed_accepted drivers c process command.CloseAll h = search (routed_done, routed_same, rules) depth 20
+routed_accepted drivers c process (command.Link fd arg) h = search (routed_linked, rules) depth 20
+routed_accepted drivers c process (command.Plink fd arg) h = search (routed_linked, rules) depth 20
 routed_accepted drivers c process (command.Unlink fd w) h = search (after_ok, routed_unlinked, rules) depth 20
 routed_accepted drivers c process (command.Punlink fd w) h = search (after_ok, routed_unlinked, rules) depth 20
-routed_accepted drivers c process (command.Bind fd addr) h = search (after_test, after_ok, at_ok, routed_done, routed_same, rules) depth 20
-routed_accepted drivers c process (command.Unbind fd) h = search (after_test, after_ok, at_ok, routed_done, routed_same, rules) depth 20
-routed_accepted drivers c process (command.Route fd addr id) h = search (after_test, after_ok, at_ok, routed_done, routed_route, mux_is, routed_same, rules) depth 20
-routed_accepted drivers c process (command.Unroute fd addr) h = search (after_test, after_ok, at_ok, routed_done, routed_fewer, rules) depth 20
+routed_accepted drivers c process (command.Bind fd addr) h = search (after_test, after_ok, routed_done, routed_same, rules) depth 20
+routed_accepted drivers c process (command.Unbind fd) h = search (after_test, after_ok, routed_done, routed_same, rules) depth 20
+routed_accepted drivers c process (command.Route fd addr id) h = search (after_test, after_ok, routed_done, routed_route, mux_is, routed_same, rules) depth 20
+routed_accepted drivers c process (command.Unroute fd addr) h = search (after_test, after_ok, routed_done, routed_fewer, rules) depth 20
 routed_accepted drivers c process (command.Write fd addr bytes) h = search (after_test, after_ok, at_ok, routed_same, rules) depth 20
 routed_accepted drivers c process (command.Read fd) h = search (after_some, after_ok, at_ok, routed_same, rules) depth 20
-routed_accepted drivers c process (command.Flush fd w) h = search (after_ok, at_ok, routed_done, routed_same, rules) depth 20
+routed_accepted drivers c process (command.Flush fd w) h = search (after_ok, routed_done, routed_same, rules) depth 20
 routed_accepted drivers c process (command.Inject name minor addr bytes) h = search (after_test, after_ok, at_ok, routed_same, rules) depth 20
 routed_accepted drivers c process (command.Transmit name minor) h = search (after_some, after_ok, at_ok, routed_same, rules) depth 20
 

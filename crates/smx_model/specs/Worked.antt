@@ -3,7 +3,6 @@ pub mod Common
 pub mod ALinkedStreamIsBarred
 pub mod AllLinksRemoved
 pub mod AnOrdinaryLinkUnderAPersistentOne
-pub mod BarredWhileLinkedUsableAfterwards
 pub mod Bindings
 pub mod CycleOfTwoDrivers
 pub mod EnabledByARouteABindingAndALink

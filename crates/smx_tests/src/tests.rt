@@ -14,6 +14,7 @@ mod plain_values;
 mod program_faults;
 mod program_texts;
 mod refused_drivers;
+mod runs;
 mod sweeps;
 mod texts_at_limits;
 mod transcript_faults;

@@ -27,7 +27,7 @@ use Rattle.smx_text.proofs.WordLemmas.{chained, name_again, side_again, link_kin
 use Rattle.smx_text.proofs.CommandLemmas.{command_takes, command_again, command_some}
 use Rattle.smx_text.proofs.LineLemmas.{driver_again}
 use Rattle.smx_text.proofs.JoinLemmas.{IsWord, IsFree, number_is_word, name_is_word, hex_is_word, side_is_word, link_kind_is_word, words_of_command, words_of_driver, words_free, joined}
-use Rattle.smx_text.proofs.WritingLemmas.{entry_line}
+use Rattle.smx_words.proofs.WritingLemmas.{entry_line}
 use Rattle.smx_text.proofs.WordCountLemmas.{some_is}
 use Rattle.smx_text.proofs.ReplyLemmas.{reply_takes, reply_again}
 use Rattle.smx_text.proofs.EntryLemmas.{with_sign, sides_are, entry_sides}

@@ -1,4 +1,4 @@
--- What is written piece by piece, as the lines of a whole.
+-- What is written group by group, as the lines of a whole.
 use Rattle.std.proofs.Common.{◌≡◌, ℕ, suc, ◌+◌, ◌<◌, List, [], ◌∷◌, ◌++◌, length, get_or, take, map, refl, sym, ap, ◌∙◌, append_assoc, arith, add-zero}
 use Rattle.std.proofs.lemmas.List.{append-nil, length-take-le, map-append, take_more}
 use Rattle.std.proofs.lemmas.List.Concat.{flat_map-append}
@@ -8,11 +8,6 @@ use Rattle.std.specs.List.{flat_map, AllByRecursion}
 use Rattle.std.specs.Prelude.{codes}
 use Rattle.smx_types.specs.ProgramLists.{ProgramLists}
 use Rattle.smx_types.specs.declared.command.Command.{Command}
-use Rattle.smx_types.specs.declared.command.Entry.{Entry}
-use Rattle.smx_types.specs.declared.reply.Fault.{Fault}
-use Rattle.smx_types.specs.declared.reply.Fault.TheVariants as fault
-use Rattle.smx_types.specs.declared.reply.Reply.{Reply}
-use Rattle.smx_types.specs.declared.reply.Reply.TheVariants as reply
 use Rattle.smx_types.specs.declared.transcript.Transcript.{Transcript}
 use Rattle.smx_types.specs.declared.view.ConfigView.{ConfigView}
 use Rattle.smx_text.specs.declared.line.Line.TheVariants as line
@@ -21,53 +16,6 @@ use Rattle.smx_words.specs.Spelling.{bind_words, command_words, descriptor_words
 use Rattle.smx_words.specs.Spellable.{FitsCommand, FitsDriver}
 use Rattle.smx_text.specs.TranscriptText.{next_words, view_lines, transcript_text}
 use Rattle.smx_words.specs.Words.{line_of, text_of}
-use Rattle.smx_text.proofs.CommandLemmas.{command_some}
-
--- two rows of words, neither of them empty, in one line
-line_append : (ws vs : List (List ℕ)) → 0 < length ws → 0 < length vs → line_of (ws ++ vs) ≡ line_of ws ++ 32 ∷ line_of vs
-line_append [] vs h k = absurd (omega arith)
-line_append (w ∷ []) [] h k = absurd (omega arith)
-line_append (w ∷ []) (v ∷ vs) h k = refl
-line_append (w ∷ x ∷ ws) vs h k = rw (line_append (x ∷ ws) vs (omega arith) k, append_assoc) refl
-
-fault_some : (f : Fault) → 0 < length (fault_words f)
-fault_some fault.BadDescriptor = omega arith
-fault_some fault.Below = omega arith
-fault_some fault.NotMux = omega arith
-fault_some fault.AlreadyBelow = omega arith
-fault_some fault.Cycle = omega arith
-fault_some fault.TooManyLinks = omega arith
-fault_some fault.NoLink = omega arith
-fault_some fault.NoDriver = omega arith
-fault_some fault.NoMinor = omega arith
-fault_some fault.TooManyDescriptors = omega arith
-fault_some fault.AddressInUse = omega arith
-fault_some fault.Unbound = omega arith
-fault_some fault.Unrouted = omega arith
-fault_some fault.Full = omega arith
-fault_some fault.Empty = omega arith
-fault_some fault.BadSize = omega arith
-
-reply_some : (r : Reply) → 0 < length (reply_words r)
-reply_some (reply.Fd fd minor) = omega arith
-reply_some (reply.Id id) = omega arith
-reply_some (reply.Took serial) = omega arith
-reply_some (reply.Got serial addr bytes) = omega arith
-reply_some (reply.Done dropped) = omega arith
-reply_some (reply.Fault f) = fault_some f
-
--- the process, the command and the reply, each with what stands before it
-pub entry_line : (e : Entry) → line_of (entry_words e) ≡ decimal e.process ++ 32 ∷ (line_of (command_words e.command) ++ codes " = " ++ line_of (reply_words e.reply))
-entry_line e =
-    let before = line_append (decimal e.process ∷ []) (command_words e.command) (omega arith) (command_some e.command) in
-    let after = line_append (codes "=" ∷ []) (reply_words e.reply) (omega arith) (reply_some e.reply) in
-    let all = line_append (decimal e.process ∷ command_words e.command) (codes "=" ∷ reply_words e.reply) (omega arith) (omega arith) in
-    all ∙ rw (before, after) (simp append_assoc)
-
--- a word and then numbers
-pub numbers_line : (w : List ℕ) (ns : List ℕ) → line_of (w ∷ map decimal ns) ≡ w ++ flat_map (λ n. 32 ∷ decimal n) ns
-numbers_line w [] = sym (append-nil w)
-numbers_line w (n ∷ ns) = ap (λ (l : List ℕ). w ++ 32 ∷ l) (numbers_line (decimal n) ns)
 
 lines_append : (ls ks : List (List (List ℕ))) → text_of (ls ++ ks) ≡ text_of ls ++ text_of ks
 lines_append ls ks = flat_map-append (λ words. line_of words ++ 10 ∷ []) ls ks
@@ -153,3 +101,13 @@ whole_text t =
 
     regroup : (h ds es c v e : List ℕ) → (h ++ ds) ++ es ++ (c ++ v) ++ e ≡ h ++ ds ++ es ++ c ++ v ++ e
     regroup h ds es c v e = simp append_assoc
+
+-- the parts of a transcript, one after the other
+pub transcript_written : (t : Transcript) (start header drivers entries config view end : List ℕ) → header ≡ start ++ codes "transcript 1\n"
+    → drivers ≡ header ++ text_of (map driver_words t.drivers) → entries ≡ drivers ++ text_of (map entry_words t.entries)
+    → config ≡ entries ++ codes "config\n" → view ≡ config ++ text_of (view_lines t.view) → end ≡ view ++ codes "end\n" → end ≡ start ++ transcript_text t
+transcript_written t start header drivers entries config view end a b c d e f =
+    f ∙ rw (e, d, c, b, a) (regroup start (codes "transcript 1\n") (text_of (map driver_words t.drivers)) (text_of (map entry_words t.entries)) (codes "config\n") (text_of (view_lines t.view)) (codes "end\n"))
+    ∙ ap (λ (more : List ℕ). start ++ more) (sym (whole_text t)) where
+      regroup : (s h ds es c v e : List ℕ) → (((((s ++ h) ++ ds) ++ es) ++ c) ++ v) ++ e ≡ s ++ (h ++ ds ++ es ++ c ++ v ++ e)
+      regroup s h ds es c v e = simp append_assoc

@@ -34,4 +34,4 @@ pub use smx_types::{
 };
 pub use transcript_line::TranscriptLine;
 pub use transcript_read::read_transcript;
-pub use write::{write_programs, write_transcript};
+pub use write::{write_programs, write_transcript, write_transcript_to};

@@ -3,20 +3,12 @@
 ghost use Rattle.std.specs.Prelude.{◌≡◌, ◌<◌, ◌^◌, ◌++◌, length, map, IfOk, OnOk};
 ghost use Rattle.std.specs.List.{AllByRecursion};
 ghost use Rattle.smx_text.specs.ProgramsText.{line_words, program_lines, programs_text, FitsLine, IsAllowed};
-ghost use Rattle.smx_text.specs.TranscriptText.{transcript_text, IsSpellable};
+ghost use Rattle.smx_text.specs.TranscriptText.{transcript_text, view_lines, IsSpellable, IsSpellableView};
 ghost use Rattle.smx_words.specs.Words.{text_of};
 
-mod command;
-mod reply;
-mod spelled;
-mod view;
-mod words;
-
-use smx_types::{Commands, NoMemory, Programs, Transcript};
-use spelled::put_lines;
+use smx_types::{Commands, ConfigView, NoMemory, Programs, Transcript};
+use smx_words::{write_lines, write_next, write_process};
 use std::alloc::Global;
-use view::put_view;
-use words::put_number;
 
 /// The one text of these programs. Fails only for want of memory.
 #[tactic(auto, using(crate::proofs::WritingLemmas::body_fits))]
@@ -26,8 +18,8 @@ pub fn write_programs(alloc: Global, programs: &Programs) -> Result<Vec<u8>, NoM
     ensures allowed { OnOk result (IsAllowed programs.now) }
 {
     let mut out = Vec::from_slice(alloc, b"programs 1\n")?;
-    put_lines(&mut out, programs.drivers())?;
-    put_programs(&mut out, programs.programs())?;
+    write_lines(&mut out, programs.drivers())?;
+    write_each(&mut out, programs.programs())?;
     out.extend_from_slice(b"end\n")?;
     Ok(out)
 }
@@ -38,25 +30,53 @@ pub fn write_transcript(alloc: Global, transcript: &Transcript) -> Result<Vec<u8
     // So what is written is read again, where the transcript is within the limits.
     ensures spellable { OnOk result (IsSpellable transcript.now) }
 {
-    let mut out = Vec::from_slice(alloc, b"transcript 1\n")?;
-    put_lines(&mut out, transcript.drivers.as_slice())?;
-    put_lines(&mut out, transcript.entries.as_slice())?;
-    out.extend_from_slice(b"config\n")?;
-    put_view(&mut out, &transcript.view)?;
-    out.extend_from_slice(b"end\n")?;
+    let mut out = Vec::new(alloc);
+    write_transcript_to(&mut out, transcript)?;
     Ok(out)
 }
 
-fn put_programs(out: &mut Vec<u8>, programs: &[Commands]) -> Result<(), NoMemory>
+/// The one text of this transcript, behind what `out` has. Fails only for want of memory, and what
+/// `out` then has is left open.
+pub fn write_transcript_to(out: &mut Vec<u8>, transcript: &Transcript) -> Result<(), NoMemory>
+    ensures written { OnOk result (out.new.items ≡ out.old.items ++ transcript_text transcript.now) }
+    // So what is written is read again, where the transcript is within the limits.
+    ensures spellable { OnOk result (IsSpellable transcript.now) }
+{
+    out.extend_from_slice(b"transcript 1\n")?;
+    write_lines(out, transcript.drivers.as_slice())?;
+    write_lines(out, transcript.entries.as_slice())?;
+    out.extend_from_slice(b"config\n")?;
+    write_view(out, &transcript.view)?;
+    out.extend_from_slice(b"end\n")?;
+    Ok(())
+}
+
+// Each program behind the line of its process.
+fn write_each(out: &mut Vec<u8>, programs: &[Commands]) -> Result<(), NoMemory>
     requires { length programs.now < 2 ^ 32 }
-    ensures written { OnOk result (out.new.items ≡ out.old.items ++ text_of (map line_words (program_lines 0 programs.now))) }
+    ensures written { OnOk result (out.new.items
+        ≡ out.old.items ++ text_of (map line_words (program_lines 0 programs.now))) }
     ensures fits { OnOk result (AllByRecursion FitsLine (program_lines 0 programs.now)) }
 {
     for (i, commands) in programs.iter().enumerate() {
-        out.extend_from_slice(b"process ")?;
-        put_number(out, i as u32)?;
-        out.push(b'\n')?;
-        put_lines(out, commands.as_slice())?;
+        write_process(out, i as u32)?;
+        write_lines(out, commands.as_slice())?;
     }
+    Ok(())
+}
+
+// The lines of a view, its groups in their order.
+#[tactic(auto, using(crate::proofs::WritingLemmas::view_written))]
+fn write_view(out: &mut Vec<u8>, view: &ConfigView) -> Result<(), NoMemory>
+    ensures written { OnOk result (out.new.items ≡ out.old.items ++ text_of (view_lines view.now)) }
+    ensures spellable { OnOk result (IsSpellableView view.now) }
+{
+    write_next(out, view.next_id, view.next_serial)?;
+    write_lines(out, view.fds.as_slice())?;
+    write_lines(out, view.links.as_slice())?;
+    write_lines(out, view.binds.as_slice())?;
+    write_lines(out, view.routes.as_slice())?;
+    write_lines(out, view.msgs.as_slice())?;
+    write_lines(out, view.fulls.as_slice())?;
     Ok(())
 }

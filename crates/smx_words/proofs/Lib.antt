@@ -1,0 +1,15 @@
+pub mod WritingLemmas
+pub mod CutLemmas
+pub mod NumberLemmas
+pub mod WordLemmas
+pub mod HexLemmas
+pub mod EntryLemmas
+pub mod ReplyLemmas
+pub mod CommandLemmas
+pub mod PlainLemmas
+pub mod SameLemmas
+pub mod LawLemmas
+pub mod DecidedLemmas
+pub mod DecidedWordLemmas
+pub mod DecidedLineLemmas
+pub mod DecidedCommandLemmas

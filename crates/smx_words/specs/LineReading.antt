@@ -1,7 +1,24 @@
--- What the reader of a line may answer. No reader is named.
-use Rattle.std.specs.Prelude.{◌≡◌, ◌↔◌, ℕ, List, Option, Some}
-use Rattle.smx_words.specs.Words.{line_of}
+-- What a reader may answer. No reader is named.
+use Rattle.std.specs.Prelude.{◌≡◌, ◌≢◌, ℕ, List, ◌++◌, ◌∷◌, Option, Some, None, MatchOption}
+use denote.Ref.{Bor}
+use Rattle.smx_words.specs.Words.{SPACE, line_of}
 
--- a value, exactly where it can be spelled and the line is its words
+-- a value that fits and that the bytes spell, or nothing where they spell none
+abbrev pub IsFoundIn : {X : Type 0} → (X → Type 0) → (X → List ℕ) → List ℕ → Option X → Type 0
+IsFoundIn {X} Fits spelling bytes (Some x) = Fits x × (bytes ≡ spelling x)
+IsFoundIn {X} Fits spelling bytes None = (x : X) → Fits x → bytes ≢ spelling x
+
+-- a value that fits and whose words the line is, or nothing where it is the words of none
 abbrev pub IsReadAs : {X : Type 0} → (X → Type 0) → (X → List (List ℕ)) → List ℕ → Option X → Type 0
-IsReadAs {X} Fits words_of line answer = (x : X) → (answer ≡ Some x) ↔ (Fits x × (line ≡ line_of (words_of x)))
+IsReadAs {X} Fits words_of line answer = IsFoundIn Fits (λ x. line_of (words_of x)) line answer
+
+-- the value whose word begins the bytes, and all that stands behind the space after it, or nothing where no value's word begins them
+abbrev pub BeginsWith : {X : Type 0} → (X → Type 0) → (X → List ℕ) → List ℕ → Option (X × Bor (List ℕ)) → Type 0
+BeginsWith {X} Fits word_of bytes answer =
+    MatchOption answer ((x : X) (after : List ℕ) → Fits x → bytes ≢ word_of x ++ SPACE ∷ after)
+    (λ p. Fits p.0 × (bytes ≡ word_of p.0 ++ SPACE ∷ p.1.now)
+    × ((x : X) (after : List ℕ) → Fits x → bytes ≡ word_of x ++ SPACE ∷ after → after ≡ p.1.now))
+
+-- some value that fits is spelled so
+abbrev pub IsSpelled : {X : Type 0} → (X → Type 0) → (X → List ℕ) → List ℕ → Type 0
+IsSpelled {X} Fits spelling bytes = (x : X) × Fits x × (bytes ≡ spelling x)

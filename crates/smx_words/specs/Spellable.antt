@@ -1,5 +1,5 @@
 -- Which values can be spelled: names are names, and numbers and bytes are in range. The types keep this.
-use Rattle.std.specs.Prelude.{◌≡◌, ℕ, ◌<◌, ◌^◌, true, List}
+use Rattle.std.specs.Prelude.{◌≡◌, ℕ, ◌<◌, ◌^◌, true, List, length}
 use Rattle.std.specs.List.{AllByRecursion}
 use Rattle.smx_types.specs.Names.{is_name}
 use Rattle.smx_types.specs.declared.command.Command.{Command}
@@ -30,10 +30,22 @@ FitsName text = is_name text ≡ true
 abbrev pub FitsBytes : List ℕ → Type 0
 FitsBytes bytes = AllByRecursion (λ b. b < 256) bytes
 
+-- a process has one of these numbers
+abbrev pub FitsProcess : ℕ → Type 0
+FitsProcess process = process < MAX_PROCESSES
+
+-- each value of a few that have a word each
+abbrev pub FitsAlways : {X : Type 0} → X → Type 0
+FitsAlways x = Unit {0}
+
 -- an id is a number
 abbrev pub FitsWhich : Which → Type 0
 FitsWhich (which.Id id) = FitsNumber id
 FitsWhich which.All = Unit {0}
+
+-- the next id and the next serial are numbers
+abbrev pub FitsNext : ℕ × ℕ → Type 0
+FitsNext next = FitsNumber next.0 × FitsNumber next.1
 
 -- its name and its numbers can be spelled
 pub record FitsDriver (d : DriverSpec) : Type 0 where
@@ -63,6 +75,10 @@ FitsCommand (command.Read fd) = FitsNumber fd
 FitsCommand (command.Flush fd sides) = FitsNumber fd
 FitsCommand (command.Inject driver minor addr bytes) = FitsName driver × FitsNumber minor × FitsNumber addr × FitsBytes bytes
 FitsCommand (command.Transmit driver minor) = FitsName driver × FitsNumber minor
+
+-- serials of which there is one or more
+abbrev pub FitsSerials : List ℕ → Type 0
+FitsSerials serials = (0 < length serials) × AllByRecursion FitsNumber serials
 
 -- its numbers and bytes can be spelled
 abbrev pub FitsReply : Reply → Type 0

@@ -110,6 +110,14 @@ reply_words (reply.Fault f) = fault_words f
 abbrev pub entry_words : Entry → List (List ℕ)
 entry_words e = decimal e.process ∷ (command_words e.command ++ codes "=" ∷ reply_words e.reply)
 
+-- where the program of the process of this number begins
+abbrev pub process_words : ℕ → List (List ℕ)
+process_words number = codes "process" ∷ decimal number ∷ []
+
+-- the id that the next link gets, and the serial that the next message gets
+abbrev pub next_words : ℕ × ℕ → List (List ℕ)
+next_words next = codes "next" ∷ decimal next.0 ∷ decimal next.1 ∷ []
+
 -- an open descriptor: its process and number, and the driver and the minor of its stream
 abbrev pub descriptor_words : DescriptorLine → List (List ℕ)
 descriptor_words d = codes "fd" ∷ decimal d.process ∷ decimal d.fd ∷ d.driver ∷ decimal d.minor ∷ []

@@ -1,5 +1,13 @@
 //! The words of one line: what each value's one spelling is, read from a line and written to one.
 #![tactic(auto)]
 
+pub mod laws;
+pub mod laws_of_reading;
 mod reading;
 mod writing;
+
+pub use reading::{
+    bind_of, command_of, descriptor_of, driver_of, entry_of, full_of, link_of, message_of, next_of,
+    process_of, route_of,
+};
+pub use writing::{Spell, write_lines, write_next, write_process};

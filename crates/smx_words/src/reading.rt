@@ -1,1 +1,17 @@
 //! Values read from the words of a line.
+
+mod command;
+mod cutting;
+mod entry;
+mod hex_word;
+mod line;
+mod number;
+mod reply;
+mod verb;
+mod view;
+mod word;
+
+pub use command::command_of;
+pub use entry::entry_of;
+pub use line::{driver_of, next_of, process_of};
+pub use view::{bind_of, descriptor_of, full_of, link_of, message_of, route_of};

@@ -64,13 +64,13 @@ fn names_the_first_wrong_line(rt: HostRuntime) -> Result<(), Fail> {
 }
 
 #[test]
-fn finds_every_front_cut(rt: HostRuntime) -> Result<(), Fail> {
+fn finds_every_cut(rt: HostRuntime) -> Result<(), Fail> {
     assert_eq!(rt; OPENS_AND_CLOSES.len(), 83);
     for k in 0..OPENS_AND_CLOSES.len() {
-        let front = &OPENS_AND_CLOSES[..k];
-        let line = lines_in(front).saturating_add(1);
+        let beginning = &OPENS_AND_CLOSES[..k];
+        let line = lines_in(beginning).saturating_add(1);
         let line = format!(in rt.alloc(); "line {line}: cut")?;
-        wants(&rt, front, line.as_str());
+        wants(&rt, beginning, line.as_str());
     }
     Ok(())
 }

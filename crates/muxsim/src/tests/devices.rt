@@ -1,39 +1,46 @@
-//! Devices that move one byte a call and fail at a given call. As a feed and a sink they stand in
-//! `Source` and `Target`.
+//! Devices that move one byte a call, stop once at a given call, and would then go on. As a feed
+//! and a sink they stand in `Source` and `Target`.
 
-ghost use Rattle.std.specs.Prelude.{◌≡◌, Some};
+ghost use Rattle.std.specs.Prelude.{◌≡◌, Some, false};
 
 use crate::device::{Source, Target};
 use std::alloc::Global;
 use std::io;
-use std::io::{Read, Write};
+use std::io::{ErrorKind, Read, Write};
 
 /// What a device does at the call at which it stops.
 #[derive(Clone, Copy, Debug, PartialEq, Eq)]
 pub enum Stop {
     /// The call is an error.
     Fails,
+    /// The call is interrupted, which is an error that may be tried again.
+    IsInterrupted,
     /// A write takes no byte; a flush is done all the same.
     TakesNone,
 }
+
+/// Each way to stop.
+pub const STOPS: [Stop; 3] = [Stop::Fails, Stop::IsInterrupted, Stop::TakesNone];
 
 /// A reader of bytes in memory that gives one byte a read, and then none.
 #[derive(Drop)]
 pub struct OneByteReader<'a> {
     /// What it still has.
     pub bytes: &'a [u8],
-    /// How many reads it still does. Each later one is an error.
+    /// How many reads it still does before the one that stops.
     pub reads: usize,
+    /// The error of that read.
+    pub kind: ErrorKind,
 }
 
-/// A feed of these bytes, one byte a read. The read after this many reads fails; the read that
-/// shows the end is one of them, so `bytes.len() + 1` reads are enough.
-pub fn one_byte_feed(bytes: &[u8], reads: usize) -> Source<OneByteReader<'_>>
-    ensures bytes { result.reader.bytes ≡ bytes.entry }
-    ensures reads { result.reader.reads ≡ reads }
+/// A feed of these bytes, one byte a read. The read after this many reads is an error of this kind,
+/// and later ones go on; the read that shows the end is one of them, so `bytes.len() + 1` reads are
+/// enough.
+pub fn one_byte_feed(bytes: &[u8], reads: usize, kind: ErrorKind) -> Source<OneByteReader<'_>>
+    ensures before_the_end { result.ended ≡ false }
     ensures fine { result.failures ≡ 0 }
 {
-    Source::new(OneByteReader { bytes, reads })
+    Source::new(OneByteReader { bytes, reads, kind })
 }
 
 impl Read for OneByteReader<'_> {
@@ -41,7 +48,8 @@ impl Read for OneByteReader<'_> {
 
     fn read(&mut self, buffer: &mut [u8]) -> io::Result<usize> {
         if self.reads == 0 {
-            return Err(io::Error::from(io::ErrorKind::Other));
+            self.reads = usize::MAX;
+            return Err(io::Error::from(self.kind));
         }
         self.reads -= 1;
         let size = buffer.len().min(1);
@@ -54,16 +62,14 @@ impl Read for OneByteReader<'_> {
 pub struct OneByteWriter {
     /// What it has taken.
     pub taken: Vec<u8>,
-    /// How many writes and flushes it still does. It stops at each later one.
+    /// How many writes and flushes it still does before the one that stops.
     pub calls: usize,
     pub stop: Stop,
 }
 
-/// A sink that takes one byte a write. The write or flush after this many writes stops it; for
-/// `n` bytes and their flush `n + 1` calls are enough.
+/// A sink that takes one byte a write. The write or flush after this many writes stops it, and later
+/// ones go on; for `n` bytes and their flush `n + 1` calls are enough.
 pub fn one_byte_sink(alloc: Global, calls: usize, stop: Stop) -> Target<OneByteWriter>
-    ensures calls { result.writer.calls ≡ calls }
-    ensures stop { result.writer.stop ≡ stop }
     ensures fine { result.failures ≡ 0 }
 {
     Target::new(OneByteWriter {
@@ -78,8 +84,10 @@ impl Write for OneByteWriter {
 
     fn write(&mut self, bytes: &[u8]) -> io::Result<usize> {
         if self.calls == 0 {
+            self.calls = usize::MAX;
             return match self.stop {
-                Stop::Fails => Err(io::Error::from(io::ErrorKind::Other)),
+                Stop::Fails => Err(io::Error::from(ErrorKind::Other)),
+                Stop::IsInterrupted => Err(io::Error::from(ErrorKind::Interrupted)),
                 Stop::TakesNone => Ok(0),
             };
         }
@@ -89,9 +97,14 @@ impl Write for OneByteWriter {
     }
 
     fn flush(&mut self) -> io::Result<()> {
+        if self.calls > 0 {
+            return Ok(());
+        }
+        self.calls = usize::MAX;
         match self.stop {
-            Stop::Fails if self.calls == 0 => Err(io::Error::from(io::ErrorKind::Other)),
-            Stop::Fails | Stop::TakesNone => Ok(()),
+            Stop::Fails => Err(io::Error::from(ErrorKind::Other)),
+            Stop::IsInterrupted => Err(io::Error::from(ErrorKind::Interrupted)),
+            Stop::TakesNone => Ok(()),
         }
     }
 }

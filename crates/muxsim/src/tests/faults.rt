@@ -1,6 +1,8 @@
-use crate::fault::{MainFault, RunFault};
+use crate::fault::MainFault;
 use smx_config::ConfigFault;
-use smx_text::{Cause, SpecFault, TextFault};
+use smx_run::RunFault;
+use smx_text::{Cause, TextFault};
+use smx_types::SpecFault;
 use std::alloc::AllocError;
 use std::fmt::InlineText;
 

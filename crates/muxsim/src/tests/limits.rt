@@ -78,3 +78,61 @@ fn refuses_an_input_that_is_too_long(rt: HostRuntime) -> Result<(), Fail> {
     refused(&rt, &run_bytes(rt.alloc(), &input), "input too long");
     Ok(())
 }
+
+#[test]
+fn runs_with_every_number_of_drivers(rt: HostRuntime) -> Result<(), Fail> {
+    for count in 0..65 {
+        let drivers = with_drivers(rt.alloc(), count)?;
+        assert_eq!(rt;
+            run_bytes(rt.alloc(), &drivers).status,
+            0,
+            "for {count} drivers"
+        );
+    }
+    Ok(())
+}
+
+#[test]
+fn passes_every_size_of_a_message(rt: HostRuntime) -> Result<(), Fail> {
+    let mut hex = Vec::new(rt.alloc());
+    for size in 1..1025 {
+        hex.extend_from_slice(b"5a")?;
+        let payload = std::str::from_utf8(&hex)?;
+        let input = format!(in rt.alloc();
+            "programs 1\ndriver eth leaf 1 1024 0 1024\nprocess 0\nclone eth\ninject eth 0 9 {payload}\nread 0\nend\n"
+        )?;
+        let output = format!(in rt.alloc();
+            "transcript 1\ndriver eth leaf 1 1024 0 1024\n0 clone eth = fd 0 0\n0 inject eth 0 9 {payload} = took 1\n0 read 0 = got 1 9 {payload}\nconfig\nnext 1 2\nfd 0 0 eth 0\nend\n"
+        )?;
+        let ran = run_bytes(rt.alloc(), input.as_bytes());
+        assert!(rt;
+            ran.output.as_slice() == output.as_bytes(),
+            "for {size} bytes"
+        );
+    }
+    Ok(())
+}
+
+// Nearly 16 MiB, read in pieces and written at once.
+#[test]
+fn runs_the_longest_texts(rt: HostRuntime) -> Result<(), Fail> {
+    let mut payload = Vec::new(rt.alloc());
+    io::repeat(b'7').take(2048).read_to_end(&mut payload)?;
+    let mut input = Vec::from_slice(rt.alloc(), b"programs 1\nprocess 0\n")?;
+    let mut output = Vec::from_slice(rt.alloc(), b"transcript 1\n")?;
+    for _ in 0..8148 {
+        input.extend_from_slice(b"write 0 5 ")?;
+        input.extend_from_slice(&payload)?;
+        input.extend_from_slice(b"\n")?;
+        output.extend_from_slice(b"0 write 0 5 ")?;
+        output.extend_from_slice(&payload)?;
+        output.extend_from_slice(b" = EBADF fd\n")?;
+    }
+    input.extend_from_slice(b"end\n")?;
+    output.extend_from_slice(b"config\nnext 1 1\nend\n")?;
+    assert_eq!(rt; input.len(), 16_776_757);
+    let ran = run_bytes(rt.alloc(), &input);
+    assert_eq!(rt; ran.status, 0);
+    assert!(rt; ran.output == output);
+    Ok(())
+}

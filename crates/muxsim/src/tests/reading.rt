@@ -3,33 +3,36 @@ use crate::device::Source;
 use crate::fault::MainFault;
 use crate::input::{MAX_INPUT, read_all};
 use std::io;
-use std::io::Read;
+use std::io::{ErrorKind, Read};
 use std::test::Fail;
 
 #[test]
 fn reads_to_the_end(rt: HostRuntime) -> Result<(), Fail> {
     let bytes: [&[u8]; 3] = [b"", b"a", b"abc"];
     for bytes in bytes {
-        let mut feed = one_byte_feed(bytes, 4);
+        let mut feed = one_byte_feed(bytes, 4, ErrorKind::Other);
         let read = read_all(rt.alloc(), &mut feed)?;
         assert_eq!(rt; read.as_slice(), bytes);
+        assert!(rt; feed.ended);
         assert_eq!(rt; feed.failures, 0);
     }
     Ok(())
 }
 
 #[test]
-fn stops_at_each_failed_read(rt: HostRuntime) {
+fn tries_no_read_again(rt: HostRuntime) {
     let bytes = b"abc".as_slice();
-    for reads in 0..4 {
-        let mut feed = one_byte_feed(bytes, reads);
-        let answer = read_all(rt.alloc(), &mut feed);
-        assert!(rt;
-            matches!(answer, Err(MainFault::ReadFailed)),
-            "after {reads} reads"
-        );
-        assert_eq!(rt; feed.failures, 1);
-        assert_eq!(rt; feed.reader.bytes, &bytes[reads..]);
+    for kind in [ErrorKind::Other, ErrorKind::Interrupted] {
+        for reads in 0..4 {
+            let mut feed = one_byte_feed(bytes, reads, kind);
+            let answer = read_all(rt.alloc(), &mut feed);
+            assert!(rt;
+                matches!(answer, Err(MainFault::ReadFailed)),
+                "after {reads} reads"
+            );
+            assert_eq!(rt; feed.failures, 1);
+            assert_eq!(rt; feed.reader.bytes, &bytes[reads..]);
+        }
     }
 }
 

@@ -21,12 +21,8 @@ pub fn run_bytes(alloc: Global, input: &[u8]) -> Ran {
     let mut sink = Target::new(Vec::new(alloc));
     let outcome = run_text(alloc, &mut feed, &mut sink, 1, false);
     let (line, status) = ending(outcome);
-    let Target {
-        writer,
-        failures: _,
-    } = sink;
     Ran {
-        output: writer,
+        output: sink.writer,
         line,
         status,
     }

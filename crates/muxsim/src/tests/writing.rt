@@ -1,4 +1,4 @@
-use super::devices::{Stop, one_byte_sink};
+use super::devices::{STOPS, Stop, one_byte_sink};
 use crate::device::Target;
 use crate::fault::MainFault;
 use crate::output::write_all;
@@ -9,6 +9,7 @@ fn writes_all(rt: HostRuntime) -> Result<(), Fail> {
     let mut sink = one_byte_sink(rt.alloc(), 4, Stop::Fails);
     write_all(&mut sink, b"abc")?;
     assert_eq!(rt; sink.writer.taken.as_slice(), b"abc".as_slice());
+    assert!(rt; sink.flushed);
     assert_eq!(rt; sink.failures, 0);
     let mut sink = Target::new(Vec::new(rt.alloc()));
     write_all(&mut sink, b"abc")?;
@@ -17,29 +18,28 @@ fn writes_all(rt: HostRuntime) -> Result<(), Fail> {
 }
 
 #[test]
-fn stops_at_each_failed_write_and_flush(rt: HostRuntime) {
-    for calls in 0..4 {
-        let mut sink = one_byte_sink(rt.alloc(), calls, Stop::Fails);
-        let answer = write_all(&mut sink, b"abc");
-        assert!(rt;
-            matches!(answer, Err(MainFault::WriteFailed)),
-            "after {calls} calls"
-        );
-        assert_eq!(rt; sink.failures, 1);
-        assert_eq!(rt; sink.writer.taken.as_slice(), &b"abc"[..calls]);
+fn tries_no_write_again(rt: HostRuntime) {
+    for stop in STOPS {
+        for calls in 0..3 {
+            let mut sink = one_byte_sink(rt.alloc(), calls, stop);
+            let answer = write_all(&mut sink, b"abc");
+            assert!(rt;
+                matches!(answer, Err(MainFault::WriteFailed)),
+                "after {calls} calls"
+            );
+            assert_eq!(rt; sink.failures, 1);
+            assert_eq!(rt; sink.writer.taken.as_slice(), &b"abc"[..calls]);
+        }
     }
 }
 
 #[test]
-fn stops_at_a_write_that_takes_none(rt: HostRuntime) {
-    for calls in 0..3 {
-        let mut sink = one_byte_sink(rt.alloc(), calls, Stop::TakesNone);
+fn tries_no_flush_again(rt: HostRuntime) {
+    for stop in [Stop::Fails, Stop::IsInterrupted] {
+        let mut sink = one_byte_sink(rt.alloc(), 3, stop);
         let answer = write_all(&mut sink, b"abc");
-        assert!(rt;
-            matches!(answer, Err(MainFault::WriteFailed)),
-            "after {calls} calls"
-        );
+        assert!(rt; matches!(answer, Err(MainFault::WriteFailed)));
         assert_eq!(rt; sink.failures, 1);
-        assert_eq!(rt; sink.writer.taken.as_slice(), &b"abc"[..calls]);
+        assert_eq!(rt; sink.writer.taken.as_slice(), b"abc".as_slice());
     }
 }

@@ -1,0 +1,2 @@
+pub mod ProgramOrderLemmas
+pub mod RecordLemmas

@@ -1,0 +1,3 @@
+pub mod ProgramOrder
+pub mod Recorded
+pub mod RunFaults

@@ -1,0 +1,12 @@
+-- The order in which the programs of all processes are run: process by process.
+use Rattle.std.specs.Prelude.{ℕ, ◌+◌, List, [], ◌∷◌, ◌++◌, map}
+use Rattle.smx_types.specs.declared.command.Command.{Command}
+
+-- each command of one process, with the process
+abbrev pub calls_of : ℕ → List Command → List (ℕ × Command)
+calls_of process commands = map (λ command. (process, command)) commands
+
+-- those of process n, then those of the next, and so on
+abbrev pub calls_from : ℕ → List (List Command) → List (ℕ × Command)
+calls_from n [] = []
+calls_from n (commands ∷ programs) = calls_of n commands ++ calls_from (n + 1) programs

@@ -1,0 +1,107 @@
+-- Each line of any bytes has a reading as each kind of value.
+use Rattle.std.proofs.Common.{ℕ, List, Option, refl}
+use Rattle.std.specs.Prelude.{codes}
+use Rattle.smx_types.specs.declared.driver.DriverSpec.{DriverSpec}
+use Rattle.smx_types.specs.declared.view.BindingLine.{BindingLine}
+use Rattle.smx_types.specs.declared.view.DescriptorLine.{DescriptorLine}
+use Rattle.smx_types.specs.declared.view.FullLine.{FullLine}
+use Rattle.smx_types.specs.declared.view.LinkLine.{LinkLine}
+use Rattle.smx_types.specs.declared.view.MessageLine.{MessageLine}
+use Rattle.smx_types.specs.declared.view.RouteLine.{RouteLine}
+use Rattle.smx_words.specs.LineReading.{IsReadAs}
+use Rattle.smx_words.specs.Spellable.{FitsBinding, FitsDescriptor, FitsDriver, FitsFull, FitsLink, FitsMessage, FitsNext, FitsNumber, FitsRoute}
+use Rattle.smx_words.specs.Spelling.{bind_words, descriptor_words, driver_words, full_words, link_words, message_words, next_words, process_words, route_words}
+use Rattle.smx_words.proofs.DecidedLemmas.{IsDecided, after, first, last, reading, via}
+use Rattle.smx_words.proofs.DecidedWordLemmas.{bytes, driver_kind, link_kind, name, number, process, stream_side}
+use Rattle.smx_words.proofs.LawLemmas.{bind_spelled, descriptor_spelled, driver_spelled, full_spelled, link_spelled, message_spelled, next_spelled, process_spelled, route_spelled}
+
+process_decided : IsDecided FitsNumber process_words
+process_decided = after (codes "process") (last number)
+
+next_decided : IsDecided FitsNext next_words
+next_decided = after (codes "next") (first number (last number))
+
+driver_decided : IsDecided FitsDriver driver_words
+driver_decided = via (after (codes "driver") (first name (first driver_kind (first number (first number (first number (last number)))))))
+    (λ p. record { name = p.0; kind = p.1.0; minors = p.1.1.0; high = p.1.1.1.0; low = p.1.1.1.1.0; max = p.1.1.1.1.1 })
+    (λ d. (d.name, (d.kind, (d.minors, (d.high, (d.low, d.max))))))
+    (λ p h. record { name = h.0; minors = h.1.1.0; high = h.1.1.1.0; low = h.1.1.1.1.0; max = h.1.1.1.1.1 })
+    (λ d h. (h.name, (tt, (h.minors, (h.high, (h.low, h.max))))))
+    (λ p. refl) (λ d. refl)
+
+descriptor_decided : IsDecided FitsDescriptor descriptor_words
+descriptor_decided = via (after (codes "fd") (first process (first number (first name (last number)))))
+    (λ p. record { process = p.0; fd = p.1.0; driver = p.1.1.0; minor = p.1.1.1 })
+    (λ d. (d.process, (d.fd, (d.driver, d.minor))))
+    (λ p h. record { process = h.0; fd = h.1.0; driver = h.1.1.0; minor = h.1.1.1 })
+    (λ d h. (h.process, (h.fd, (h.driver, h.minor))))
+    (λ p. refl) (λ d. refl)
+
+link_decided : IsDecided FitsLink link_words
+link_decided = via (after (codes "link") (first number (first name (first number (first name (first number (last link_kind)))))))
+    (λ p. record { id = p.0; ctl_driver = p.1.0; ctl_minor = p.1.1.0; lower_driver = p.1.1.1.0; lower_minor = p.1.1.1.1.0; kind = p.1.1.1.1.1 })
+    (λ l. (l.id, (l.ctl_driver, (l.ctl_minor, (l.lower_driver, (l.lower_minor, l.kind))))))
+    (λ p h. record { id = h.0; ctl_driver = h.1.0; ctl_minor = h.1.1.0; lower_driver = h.1.1.1.0; lower_minor = h.1.1.1.1.0 })
+    (λ l h. (h.id, (h.ctl_driver, (h.ctl_minor, (h.lower_driver, (h.lower_minor, tt))))))
+    (λ p. refl) (λ l. refl)
+
+bind_decided : IsDecided FitsBinding bind_words
+bind_decided = via (after (codes "bind") (first name (first number (last number))))
+    (λ p. record { driver = p.0; addr = p.1.0; minor = p.1.1 })
+    (λ b. (b.driver, (b.addr, b.minor)))
+    (λ p h. record { driver = h.0; addr = h.1.0; minor = h.1.1 })
+    (λ b h. (h.driver, (h.addr, h.minor)))
+    (λ p. refl) (λ b. refl)
+
+route_decided : IsDecided FitsRoute route_words
+route_decided = via (after (codes "route") (first name (first number (last number))))
+    (λ p. record { driver = p.0; addr = p.1.0; id = p.1.1 })
+    (λ r. (r.driver, (r.addr, r.id)))
+    (λ p h. record { driver = h.0; addr = h.1.0; id = h.1.1 })
+    (λ r h. (h.driver, (h.addr, h.id)))
+    (λ p. refl) (λ r. refl)
+
+message_decided : IsDecided FitsMessage message_words
+message_decided = via (after (codes "msg") (first name (first number (first stream_side (first number (first number (last bytes)))))))
+    (λ p. record { driver = p.0; minor = p.1.0; side = p.1.1.0; message = record { serial = p.1.1.1.0; addr = p.1.1.1.1.0; bytes = p.1.1.1.1.1 } })
+    (λ m. (m.driver, (m.minor, (m.side, (m.message.serial, (m.message.addr, m.message.bytes))))))
+    (λ p h. record { driver = h.0; minor = h.1.0; serial = h.1.1.1.0; addr = h.1.1.1.1.0; bytes = h.1.1.1.1.1 })
+    (λ m h. (h.driver, (h.minor, (tt, (h.serial, (h.addr, h.bytes))))))
+    (λ p. refl) (λ m. refl)
+
+full_decided : IsDecided FitsFull full_words
+full_decided = via (after (codes "full") (first name (first number (last stream_side))))
+    (λ p. record { driver = p.0; minor = p.1.0; side = p.1.1 })
+    (λ f. (f.driver, (f.minor, f.side)))
+    (λ p h. record { driver = h.0; minor = h.1.0 })
+    (λ f h. (h.driver, (h.minor, tt)))
+    (λ p. refl) (λ f. refl)
+
+-- ---- so each line has a reading
+
+pub process_reading : (line : List ℕ) → (o : Option ℕ) × IsReadAs FitsNumber process_words line o
+process_reading = reading process_decided process_spelled
+
+pub next_reading : (line : List ℕ) → (o : Option (ℕ × ℕ)) × IsReadAs FitsNext next_words line o
+next_reading = reading next_decided next_spelled
+
+pub driver_reading : (line : List ℕ) → (o : Option DriverSpec) × IsReadAs FitsDriver driver_words line o
+driver_reading = reading driver_decided driver_spelled
+
+pub descriptor_reading : (line : List ℕ) → (o : Option DescriptorLine) × IsReadAs FitsDescriptor descriptor_words line o
+descriptor_reading = reading descriptor_decided descriptor_spelled
+
+pub link_reading : (line : List ℕ) → (o : Option LinkLine) × IsReadAs FitsLink link_words line o
+link_reading = reading link_decided link_spelled
+
+pub bind_reading : (line : List ℕ) → (o : Option BindingLine) × IsReadAs FitsBinding bind_words line o
+bind_reading = reading bind_decided bind_spelled
+
+pub route_reading : (line : List ℕ) → (o : Option RouteLine) × IsReadAs FitsRoute route_words line o
+route_reading = reading route_decided route_spelled
+
+pub message_reading : (line : List ℕ) → (o : Option MessageLine) × IsReadAs FitsMessage message_words line o
+message_reading = reading message_decided message_spelled
+
+pub full_reading : (line : List ℕ) → (o : Option FullLine) × IsReadAs FitsFull full_words line o
+full_reading = reading full_decided full_spelled

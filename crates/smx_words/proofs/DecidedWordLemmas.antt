@@ -1,0 +1,117 @@
+-- Whether some value is spelled so is told for each kind of word.
+use Rattle.std.proofs.Common.{◌≡◌, ◌≢◌, ℕ, ◌<◌, ◌≤◌, ◌^◌, Bool, true, false, List, [], ◌∷◌, length, Result, Ok, Err, refl, sym, ap, ◌∙◌, arith, inl, inr}
+use Rattle.std.specs.Prelude.{codes}
+use Rattle.std.specs.Fmt.{decimal}
+use Rattle.std.specs.Str.Parse.{digits_value}
+use Rattle.std.proofs.lemmas.Bool.{cases_lt}
+use Rattle.std.proofs.lemmas.Fmt.{digits_value-decimal}
+use Rattle.hex.specs.Hex.{decode_of}
+use Rattle.hex.specs.declared.error.FromHexError.{FromHexError}
+use Rattle.smx_types.specs.Names.{is_name}
+use Rattle.smx_types.specs.declared.command.Sides.TheVariants as sides
+use Rattle.smx_types.specs.declared.command.Which.{Which}
+use Rattle.smx_types.specs.declared.command.Which.TheVariants as which
+use Rattle.smx_types.specs.declared.driver.DriverKind.TheVariants as kind
+use Rattle.smx_types.specs.declared.link.LinkKind.TheVariants as link
+use Rattle.smx_types.specs.declared.stream.Side.TheVariants as side
+use Rattle.smx_words.specs.HexWords.{hex_word}
+use Rattle.smx_words.specs.Spellable.{FitsAlways, FitsBytes, FitsName, FitsNumber, FitsProcess, FitsWhich}
+use Rattle.smx_words.specs.Spelling.{kind_word, link_kind_word, side_word, sides_word, which_word}
+use Rattle.smx_words.proofs.DecidedLemmas.{Answer, IsDecided, one_of, same_or_not}
+use Rattle.smx_words.proofs.HexLemmas.{decoded, no_capitals, no_error, spelled}
+use Rattle.smx_words.proofs.NumberLemmas.{own}
+
+-- a word of a number below a limit is the word of its digits' value
+below : (limit : ℕ) → limit ≤ 2 ^ 32 → IsDecided (λ n. n < limit) decimal
+below limit le = record { answer = answer } where
+  value : (w : List ℕ) (n : ℕ) → n < limit → w ≡ decimal n → digits_value 10 w ≡ n
+  value w n lt e = ap (digits_value 10) e ∙ digits_value-decimal own n (omega (arith, lt, le))
+
+  answer : (w : List ℕ) → Answer (λ n. n < limit) decimal w
+  answer w =
+      elim (cases_lt (digits_value 10 w) limit) [
+        | inl lt ↦ elim (same_or_not w (decimal (digits_value 10 w))) [
+          | inl is ↦ inl (digits_value 10 w, lt, is)
+          | inr other ↦ inr (λ n fits e. other (e ∙ ap decimal (sym (value w n fits e))))
+        ]
+        | inr large ↦ inr (λ n fits e. omega (arith, large, fits, value w n fits e))
+      ]
+
+pub number : IsDecided FitsNumber decimal
+number = below (2 ^ 32) (omega arith)
+
+pub process : IsDecided FitsProcess decimal
+process = below _ (omega arith)
+
+pub name : IsDecided FitsName (λ (w : List ℕ). w)
+name = record { answer = λ w. by_test w (is_name w) refl } where
+  by_test : (w : List ℕ) (t : Bool) → is_name w ≡ t → Answer FitsName (λ (w : List ℕ). w) w
+  by_test w true e = inl (w, e, refl)
+  by_test w false e = inr (λ x fits is. wrong (sym fits ∙ ap is_name (sym is) ∙ e)) where
+    wrong : true ≡ false → ⊥
+    wrong bad = absurd (cc bad)
+
+-- bytes are a dash, or what the digits decode to, where none is a capital
+pub bytes : IsDecided FitsBytes hex_word
+bytes = record { answer = λ w. elim (same_or_not w (codes "-")) [ inl is ↦ inl ([], tt, is) | inr other ↦ by_length w other ] } where
+  by_result : (w : List ℕ) → w ≢ codes "-" → 0 < length w → no_capitals w ≡ true → (r : Result (List ℕ) FromHexError) → decode_of w ≡ r → Answer FitsBytes hex_word w
+  by_result w other some lower (Ok bs) e = let d = decoded w bs some lower e in inl (bs, d.0, d.1)
+  by_result w other some lower (Err f) e = inr (λ bs fits is. no_error w bs f (spelled w bs other fits is).2 e)
+
+  by_capitals : (w : List ℕ) → w ≢ codes "-" → 0 < length w → (t : Bool) → no_capitals w ≡ t → Answer FitsBytes hex_word w
+  by_capitals w other some true e = by_result w other some e (decode_of w) refl
+  by_capitals w other some false e = inr (λ bs fits is. wrong (sym (spelled w bs other fits is).1 ∙ e)) where
+    wrong : true ≡ false → ⊥
+    wrong bad = absurd (cc bad)
+
+  by_length : (w : List ℕ) → w ≢ codes "-" → Answer FitsBytes hex_word w
+  by_length w other = elim (cases_lt 0 (length w)) [
+    | inl some ↦ by_capitals w other some (no_capitals w) refl
+    | inr none ↦ inr (λ bs fits is. omega (arith, none, (spelled w bs other fits is).0))
+  ]
+
+-- ---- words of few values
+
+pub driver_kind : IsDecided FitsAlways kind_word
+driver_kind = record { answer = answer } where
+  answer : (w : List ℕ) → Answer FitsAlways kind_word w
+  answer w = elim (one_of kind_word same_or_not (kind.Leaf ∷ kind.Mux ∷ []) w) [
+    | inl p ↦ inl (p.0, tt, p.1)
+    | inr none ↦ inr (λ x fits. (elim x as (λ x. w ≢ kind_word x) [ kind.Leaf ↦ none.0 | kind.Mux ↦ none.1.0 ]))
+  ]
+
+pub link_kind : IsDecided FitsAlways link_kind_word
+link_kind = record { answer = answer } where
+  answer : (w : List ℕ) → Answer FitsAlways link_kind_word w
+  answer w = elim (one_of link_kind_word same_or_not (link.Ordinary ∷ link.Persistent ∷ []) w) [
+    | inl p ↦ inl (p.0, tt, p.1)
+    | inr none ↦ inr (λ x fits. (elim x as (λ x. w ≢ link_kind_word x) [ link.Ordinary ↦ none.0 | link.Persistent ↦ none.1.0 ]))
+  ]
+
+pub stream_side : IsDecided FitsAlways side_word
+stream_side = record { answer = answer } where
+  answer : (w : List ℕ) → Answer FitsAlways side_word w
+  answer w = elim (one_of side_word same_or_not (side.Write ∷ side.Read ∷ []) w) [
+    | inl p ↦ inl (p.0, tt, p.1)
+    | inr none ↦ inr (λ x fits. (elim x as (λ x. w ≢ side_word x) [ side.Write ↦ none.0 | side.Read ↦ none.1.0 ]))
+  ]
+
+pub flush_sides : IsDecided FitsAlways sides_word
+flush_sides = record { answer = answer } where
+  answer : (w : List ℕ) → Answer FitsAlways sides_word w
+  answer w = elim (one_of sides_word same_or_not (sides.R ∷ sides.W ∷ sides.RW ∷ []) w) [
+    | inl p ↦ inl (p.0, tt, p.1)
+    | inr none ↦ inr (λ x fits. (elim x as (λ x. w ≢ sides_word x) [ sides.R ↦ none.0 | sides.W ↦ none.1.0 | sides.RW ↦ none.1.1.0 ]))
+  ]
+
+pub id_or_all : IsDecided FitsWhich which_word
+id_or_all = record { answer = answer } where
+  neither : (w : List ℕ) → w ≢ codes "all" → ((n : ℕ) → FitsNumber n → w ≢ decimal n) → (x : Which) → FitsWhich x → w ≢ which_word x
+  neither w no_word none which.All fits e = no_word e
+  neither w no_word none (which.Id n) fits e = none n fits e
+
+  answer : (w : List ℕ) → Answer FitsWhich which_word w
+  answer w = elim (same_or_not w (codes "all")) [
+    | inl is ↦ inl (which.All, tt, is)
+    | inr other ↦ elim (number.answer w) [ inl p ↦ inl (which.Id p.0, p.1, p.2) | inr none ↦ inr (neither w other none) ]
+  ]

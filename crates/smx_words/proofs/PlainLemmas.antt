@@ -1,0 +1,185 @@
+-- The words of values are of bytes that can be seen, and none but an entry's has an equals sign.
+use Rattle.std.proofs.Common.{◌≡◌, ◌≢◌, ℕ, ◌+◌, ◌/◌, ◌%◌, ◌<◌, ◌≤◌, Bool, true, false, ◌&&◌, List, [], ◌∷◌, ◌++◌, length, map, arith, rules}
+use Rattle.std.specs.List.{list_all, AllByRecursion}
+use Rattle.std.specs.Prelude.{codes}
+use Rattle.std.specs.Fmt.{decimal}
+use Rattle.std.specs.Str.{all_ascii_digits}
+use Rattle.std.proofs.lemmas.Bool.Decides.{nat_tests}
+use Rattle.std.proofs.lemmas.Fmt.{decimal_nonempty}
+use Rattle.hex.specs.Hex.{encode_lower, encode_with}
+use Rattle.smx_types.specs.Names.{is_name_byte}
+use Rattle.smx_types.specs.declared.command.Command.{Command}
+use Rattle.smx_types.specs.declared.command.Command.TheVariants as command
+use Rattle.smx_types.specs.declared.command.Sides.{Sides}
+use Rattle.smx_types.specs.declared.command.Sides.TheVariants as sides
+use Rattle.smx_types.specs.declared.command.Which.{Which}
+use Rattle.smx_types.specs.declared.command.Which.TheVariants as which
+use Rattle.smx_types.specs.declared.reply.Fault.{Fault}
+use Rattle.smx_types.specs.declared.reply.Fault.TheVariants as fault
+use Rattle.smx_types.specs.declared.reply.Reply.{Reply}
+use Rattle.smx_types.specs.declared.reply.Reply.TheVariants as reply
+use Rattle.smx_words.specs.HexWords.{hex_word}
+use Rattle.smx_words.specs.Spellable.{FitsBytes, FitsCommand, FitsName, FitsNumber, FitsReply, FitsWhich}
+use Rattle.smx_words.specs.Spelling.{command_words, fault_words, reply_words, which_word, sides_word}
+use Rattle.smx_words.specs.Words.{EQUALS, IsFree, IsWord, line_of}
+use Rattle.smx_words.proofs.HexLemmas.{digit, digit_is, digit_range}
+use Rattle.smx_words.proofs.NumberLemmas.{decimal_digits}
+
+-- a byte that can be seen, and no equals sign
+abbrev pub IsPlainByte : ℕ → Type 0
+IsPlainByte b = (0x21 ≤ b) × (b ≤ 0x7E) × (b ≢ EQUALS)
+
+-- some of them
+abbrev pub IsPlain : List ℕ → Type 0
+IsPlain w = (0 < length w) × AllByRecursion IsPlainByte w
+
+digits_plain : (w : List ℕ) → all_ascii_digits w ≡ true → AllByRecursion IsPlainByte w
+digits_plain [] h = tt
+digits_plain (b ∷ w) h = ((grind (arith, nat_tests), grind (arith, nat_tests), λ e. no_sign b w e h), digits_plain w (grind (arith, nat_tests))) where
+  no_sign : (b : ℕ) (w : List ℕ) → b ≡ 61 → all_ascii_digits (b ∷ w) ≡ true → ⊥
+  no_sign b w e h = grind (arith, nat_tests)
+
+pub number_plain : (n : ℕ) → FitsNumber n → IsPlain (decimal n)
+number_plain n fits = (decimal_nonempty n (omega arith), digits_plain (decimal n) (decimal_digits n fits))
+
+name_bytes_plain : (w : List ℕ) → list_all is_name_byte w ≡ true → AllByRecursion IsPlainByte w
+name_bytes_plain [] h = tt
+name_bytes_plain (b ∷ w) h = ((grind (arith, nat_tests), grind (arith, nat_tests), λ e. no_sign b w e h), name_bytes_plain w (grind (arith, nat_tests))) where
+  no_sign : (b : ℕ) (w : List ℕ) → b ≡ 61 → list_all is_name_byte (b ∷ w) ≡ true → ⊥
+  no_sign b w e h = grind (arith, nat_tests)
+
+and_right : (a b c : Bool) → (a && (b && c)) ≡ true → c ≡ true
+and_right true true c h = h
+and_right true false c h = absurd cc
+and_right false b c h = absurd cc
+
+pub name_plain : (w : List ℕ) → FitsName w → IsPlain w
+name_plain [] h = absurd (cc h)
+name_plain (b ∷ w) h = (omega arith, name_bytes_plain (b ∷ w) (and_right _ _ _ h))
+
+pub which_plain : (x : Which) → FitsWhich x → IsPlain (which_word x)
+which_plain (which.Id id) fits = number_plain id fits
+which_plain which.All fits = search rules
+
+pub sides_plain : (s : Sides) → IsPlain (sides_word s)
+sides_plain sides.R = search rules
+sides_plain sides.W = search rules
+sides_plain sides.RW = search rules
+
+digit_plain : (k : ℕ) → k < 16 → IsPlainByte (digit k)
+digit_plain k lt = let r = digit_range k lt in (omega (arith, r.0), omega (arith, r.1), r.2)
+
+encoded_plain : (bs : List ℕ) → FitsBytes bs → AllByRecursion IsPlainByte (encode_lower bs)
+unfolding encode_with
+encoded_plain [] h = tt
+encoded_plain (b ∷ bs) h =
+    let small = h.0 in
+    let high : b / 16 < 16 = omega arith in
+    let low : b % 16 < 16 = omega arith in
+    rw (digit_is (b / 16) high, digit_is (b % 16) low) (digit_plain (b / 16) high, (digit_plain (b % 16) low, encoded_plain bs h.1))
+
+some_digits : (b : ℕ) (bs : List ℕ) → 0 < length (encode_lower (b ∷ bs))
+unfolding encode_with
+some_digits b bs = omega arith
+
+pub hex_plain : (bs : List ℕ) → FitsBytes bs → IsPlain (hex_word bs)
+hex_plain [] fits = search rules
+hex_plain (b ∷ bs) fits = (some_digits b bs, encoded_plain (b ∷ bs) fits)
+
+-- ---- commands and replies
+
+pub command_plain : (c : Command) → FitsCommand c → AllByRecursion IsPlain (command_words c)
+command_plain (command.OpenClone d) fits = (search rules, (name_plain d fits, tt))
+command_plain (command.OpenMinor d n) fits = (search rules, (name_plain d fits.0, (number_plain n fits.1, tt)))
+command_plain (command.Dup n) fits = (search rules, (number_plain n fits, tt))
+command_plain (command.Close n) fits = (search rules, (number_plain n fits, tt))
+command_plain command.CloseAll fits = search rules
+command_plain (command.Link n m) fits = (search rules, (number_plain n fits.0, (number_plain m fits.1, tt)))
+command_plain (command.Plink n m) fits = (search rules, (number_plain n fits.0, (number_plain m fits.1, tt)))
+command_plain (command.Unlink n x) fits = (search rules, (number_plain n fits.0, (which_plain x fits.1, tt)))
+command_plain (command.Punlink n x) fits = (search rules, (number_plain n fits.0, (which_plain x fits.1, tt)))
+command_plain (command.Bind n m) fits = (search rules, (number_plain n fits.0, (number_plain m fits.1, tt)))
+command_plain (command.Unbind n) fits = (search rules, (number_plain n fits, tt))
+command_plain (command.Route n m k) fits = (search rules, (number_plain n fits.0, (number_plain m fits.1, (number_plain k fits.2, tt))))
+command_plain (command.Unroute n m) fits = (search rules, (number_plain n fits.0, (number_plain m fits.1, tt)))
+command_plain (command.Write n m bs) fits = (search rules, (number_plain n fits.0, (number_plain m fits.1, (hex_plain bs fits.2, tt))))
+command_plain (command.Read n) fits = (search rules, (number_plain n fits, tt))
+command_plain (command.Flush n s) fits = (search rules, (number_plain n fits, (sides_plain s, tt)))
+command_plain (command.Inject d n m bs) fits = (search rules, (name_plain d fits.0, (number_plain n fits.1, (number_plain m fits.2, (hex_plain bs fits.3, tt)))))
+command_plain (command.Transmit d n) fits = (search rules, (name_plain d fits.0, (number_plain n fits.1, tt)))
+
+pub some_command : (c : Command) → 0 < length (command_words c)
+some_command (command.OpenClone d) = omega arith
+some_command (command.OpenMinor d n) = omega arith
+some_command (command.Dup n) = omega arith
+some_command (command.Close n) = omega arith
+some_command command.CloseAll = omega arith
+some_command (command.Link n m) = omega arith
+some_command (command.Plink n m) = omega arith
+some_command (command.Unlink n x) = omega arith
+some_command (command.Punlink n x) = omega arith
+some_command (command.Bind n m) = omega arith
+some_command (command.Unbind n) = omega arith
+some_command (command.Route n m k) = omega arith
+some_command (command.Unroute n m) = omega arith
+some_command (command.Write n m bs) = omega arith
+some_command (command.Read n) = omega arith
+some_command (command.Flush n s) = omega arith
+some_command (command.Inject d n m bs) = omega arith
+some_command (command.Transmit d n) = omega arith
+
+fault_plain : (f : Fault) → (0 < length (fault_words f)) × AllByRecursion IsPlain (fault_words f)
+fault_plain fault.BadDescriptor = search rules
+fault_plain fault.Below = search rules
+fault_plain fault.NotMux = search rules
+fault_plain fault.AlreadyBelow = search rules
+fault_plain fault.Cycle = search rules
+fault_plain fault.TooManyLinks = search rules
+fault_plain fault.NoLink = search rules
+fault_plain fault.NoDriver = search rules
+fault_plain fault.NoMinor = search rules
+fault_plain fault.TooManyDescriptors = search rules
+fault_plain fault.AddressInUse = search rules
+fault_plain fault.Unbound = search rules
+fault_plain fault.Unrouted = search rules
+fault_plain fault.Full = search rules
+fault_plain fault.Empty = search rules
+fault_plain fault.BadSize = search rules
+
+numbers_plain : (ns : List ℕ) → AllByRecursion FitsNumber ns → AllByRecursion IsPlain (map decimal ns)
+numbers_plain [] h = tt
+numbers_plain (n ∷ ns) h = (number_plain n h.0, numbers_plain ns h.1)
+
+pub reply_plain : (r : Reply) → FitsReply r → AllByRecursion IsPlain (reply_words r)
+reply_plain (reply.Fd n m) fits = (search rules, (number_plain n fits.0, (number_plain m fits.1, tt)))
+reply_plain (reply.Id n) fits = (search rules, (number_plain n fits, tt))
+reply_plain (reply.Took n) fits = (search rules, (number_plain n fits, tt))
+reply_plain (reply.Got n m bs) fits = (search rules, (number_plain n fits.0, (number_plain m fits.1, (hex_plain bs fits.2, tt))))
+reply_plain (reply.Done ns) fits = (search rules, numbers_plain ns fits)
+reply_plain (reply.Fault f) fits = (fault_plain f).1
+
+pub some_reply : (r : Reply) → 0 < length (reply_words r)
+some_reply (reply.Fd n m) = omega arith
+some_reply (reply.Id n) = omega arith
+some_reply (reply.Took n) = omega arith
+some_reply (reply.Got n m bs) = omega arith
+some_reply (reply.Done ns) = omega arith
+some_reply (reply.Fault f) = (fault_plain f).0
+
+-- ---- so no equals sign stands in their lines
+
+plain_free : (w : List ℕ) → AllByRecursion IsPlainByte w → IsFree EQUALS w
+plain_free [] h = tt
+plain_free (b ∷ w) h = (h.0.2, plain_free w h.1)
+
+pub free_append : (byte : ℕ) (xs ys : List ℕ) → IsFree byte xs → IsFree byte ys → IsFree byte (xs ++ ys)
+free_append byte [] ys h k = k
+free_append byte (x ∷ xs) ys h k = (h.0, free_append byte xs ys h.1 k)
+
+pub space_free : IsFree EQUALS (32 ∷ [])
+space_free = search rules
+
+pub line_free : (ws : List (List ℕ)) → AllByRecursion IsPlain ws → IsFree EQUALS (line_of ws)
+line_free [] h = tt
+line_free (w ∷ []) h = plain_free w h.0.1
+line_free (w ∷ v ∷ ws) h = free_append EQUALS w (32 ∷ line_of (v ∷ ws)) (plain_free w h.0.1) (space_free.0, line_free (v ∷ ws) h.1)

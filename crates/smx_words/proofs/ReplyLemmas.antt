@@ -1,0 +1,85 @@
+-- The serials of a reply, and replies of one word or of a fault's.
+use Rattle.std.proofs.Common.{◌≡◌, ◌≢◌, ℕ, suc, ◌+◌, ◌<◌, List, [], ◌∷◌, ◌++◌, length, map, Option, Some, None, Result, Ok, Err, refl, sym, ap, ◌∙◌, append_assoc, arith}
+use Rattle.std.specs.List.{AllByRecursion}
+use Rattle.std.specs.Fmt.{decimal}
+use Rattle.std.specs.Prelude.{codes, IfOk, MatchOption}
+use Rattle.smx_types.specs.declared.reply.Fault.{Fault}
+use Rattle.smx_types.specs.declared.reply.Reply.{Reply}
+use Rattle.smx_types.specs.declared.reply.Reply.TheVariants as reply
+use Rattle.smx_words.specs.declared.reading.verb.ReplyVerb.{ReplyVerb}
+use Rattle.smx_words.specs.declared.reading.verb.ReplyVerb.TheVariants as reply_verb
+use Rattle.smx_words.specs.LineReading.{IsReadAs}
+use Rattle.smx_words.specs.Spellable.{FitsAlways, FitsNumber, FitsReply, FitsSerials}
+use Rattle.smx_words.specs.Spelling.{fault_words, reply_words}
+use Rattle.smx_words.specs.Verbs.{reply_verb_word}
+use Rattle.smx_words.specs.Words.{SPACE, IsFree, line_of}
+use Rattle.smx_words.proofs.CutLemmas.{apart, no_space_in}
+use Rattle.smx_words.proofs.NumberLemmas.{number_free, same_number}
+
+-- the words of these serials, one or more
+abbrev pub Spell : List ℕ → List ℕ → Type 0
+Spell line serials = FitsSerials serials × (line ≡ line_of (map decimal serials))
+
+-- a line is the words of these serials and of those that the rest is the words of, and of no others
+pub record AreThen (line before rest : List ℕ) : Type 0 where
+  pub fit : AllByRecursion FitsNumber before
+  pub then : (more : List ℕ) → Spell rest more → Spell line (before ++ more)
+  pub only : (all : List ℕ) → Spell line all → (more : List ℕ) × (all ≡ before ++ more) × Spell rest more
+
+pub at_first : (line : List ℕ) → AreThen line [] line
+at_first line = record { fit = tt; then = λ more h. h; only = λ all h. (all, refl, h) }
+
+no_space : (m n : ℕ) (after : List ℕ) → FitsNumber m → decimal n ++ SPACE ∷ after ≡ decimal m → ⊥
+no_space m n after fits_m bad = no_space_in (decimal n) after (decimal m) (number_free m fits_m) bad
+
+-- one more serial before a space
+pub one_more : (line before rest after : List ℕ) (n : ℕ) → AreThen line before rest → FitsNumber n → rest ≡ decimal n ++ SPACE ∷ after → AreThen line (before ++ n ∷ []) after
+one_more line before rest after n h fits is = record { fit = fit_append before (n ∷ []) h.fit (fits, tt); then = then; only = only } where
+  fit_append : (xs ys : List ℕ) → AllByRecursion FitsNumber xs → AllByRecursion FitsNumber ys → AllByRecursion FitsNumber (xs ++ ys)
+  fit_append [] ys a b = b
+  fit_append (x ∷ xs) ys a b = (a.0, fit_append xs ys a.1 b)
+
+  then : (more : List ℕ) → Spell after more → Spell line ((before ++ n ∷ []) ++ more)
+  then [] s = absurd (omega (arith, s.0.0))
+  then (m ∷ more) s =
+      let all = h.then (n ∷ m ∷ more) ((omega arith, (fits, s.0.1)), is ∙ ap (λ (x : List ℕ). decimal n ++ SPACE ∷ x) s.1) in
+      rw (append_assoc before (n ∷ []) (m ∷ more)) all
+
+  only : (all : List ℕ) → Spell line all → (more : List ℕ) × (all ≡ (before ++ n ∷ []) ++ more) × Spell after more
+  only all s = let o = h.only all s in by_rest o.0 o.1 o.2 where
+    by_rest : (more : List ℕ) → all ≡ before ++ more → Spell rest more → (more : List ℕ) × (all ≡ (before ++ n ∷ []) ++ more) × Spell after more
+    by_rest [] e t = absurd (omega (arith, t.0.0))
+    by_rest (m ∷ []) e t = absurd (no_space m n after t.0.1.0 (sym is ∙ t.1))
+    by_rest (m ∷ k ∷ more) e t =
+        let words = apart SPACE (decimal m) (decimal n) (line_of (map decimal (k ∷ more))) after (number_free m t.0.1.0) (number_free n fits) (sym t.1 ∙ is) in
+        let same = same_number m n t.0.1.0 fits words.0 in
+        (k ∷ more, e ∙ ap (λ (x : ℕ). before ++ x ∷ k ∷ more) same ∙ sym (append_assoc before (n ∷ []) (k ∷ more)), ((omega arith, t.0.1.1), sym words.1))
+
+-- the last serial, behind which no space stands
+pub last : {E : Type 0} (line before rest : List ℕ) (r : Result (Option (List ℕ)) E) → AreThen line before rest
+    → ((n : ℕ) (after : List ℕ) → FitsNumber n → rest ≢ decimal n ++ SPACE ∷ after)
+    → IfOk r (λ o. MatchOption o ((n : ℕ) → FitsNumber n → rest ≢ decimal n) (λ all. (n : ℕ) × FitsNumber n × (rest ≡ decimal n) × (all ≡ before ++ n ∷ [])))
+    → IfOk r (IsReadAs FitsSerials (map decimal) line)
+last line before rest (Err e) h alone one = tt
+last line before rest (Ok None) h alone one = λ all fits e. let o = h.only all (fits, e) in by_rest o.0 o.2 where
+  by_rest : (more : List ℕ) → Spell rest more → ⊥
+  by_rest [] t = omega (arith, t.0.0)
+  by_rest (m ∷ []) t = one m t.0.1.0 t.1
+  by_rest (m ∷ k ∷ more) t = alone m (line_of (map decimal (k ∷ more))) t.0.1.0 t.1
+last line before rest (Ok (Some all)) h alone one = rw one.3 (h.then (one.0 ∷ []) ((omega arith, (one.1, tt)), one.2))
+
+-- ---- a reply that stands alone
+
+pub standing_alone : (line : List ℕ) (r : Option Reply) → ((v : ReplyVerb) (after : List ℕ) → FitsAlways v → line ≢ reply_verb_word v ++ SPACE ∷ after)
+    → MatchOption r ((line ≢ codes "done") × ((f : Fault) → line ≢ line_of (fault_words f))) (λ x. FitsReply x × (line ≡ line_of (reply_words x)))
+    → IsReadAs FitsReply reply_words line r
+standing_alone line (Some x) none found = found
+standing_alone line None none found = nothing where
+  nothing : (x : Reply) → FitsReply x → line ≢ line_of (reply_words x)
+  nothing (reply.Fd fd minor) fits e = none reply_verb.Fd _ tt e
+  nothing (reply.Id id) fits e = none reply_verb.Id _ tt e
+  nothing (reply.Took serial) fits e = none reply_verb.Took _ tt e
+  nothing (reply.Got serial addr bytes) fits e = none reply_verb.Got _ tt e
+  nothing (reply.Done []) fits e = found.0 e
+  nothing (reply.Done (n ∷ ns)) fits e = none reply_verb.Done _ tt e
+  nothing (reply.Fault f) fits e = found.1 f e

@@ -1,0 +1,73 @@
+-- Words have no space in them.
+use Rattle.std.proofs.Common.{◌≡◌, ℕ, Bool, true, false, ◌&&◌, List, [], ◌∷◌, ◌++◌, sym, ap, ◌∙◌, arith, rules}
+use Rattle.std.specs.List.{list_all}
+use Rattle.std.proofs.lemmas.Bool.Decides.{nat_tests}
+use Rattle.smx_types.specs.Names.{is_name_byte}
+use Rattle.smx_types.specs.declared.driver.DriverKind.{DriverKind}
+use Rattle.smx_types.specs.declared.driver.DriverKind.TheVariants as kind
+use Rattle.smx_types.specs.declared.stream.Side.{Side}
+use Rattle.smx_types.specs.declared.stream.Side.TheVariants as side
+use Rattle.smx_words.specs.declared.reading.verb.ReplyVerb.{ReplyVerb}
+use Rattle.smx_words.specs.declared.reading.verb.ReplyVerb.TheVariants as reply_verb
+use Rattle.smx_words.specs.declared.reading.verb.Verb.{Verb}
+use Rattle.smx_words.specs.declared.reading.verb.Verb.TheVariants as verb
+use Rattle.smx_words.specs.Spellable.{FitsAlways, FitsName}
+use Rattle.smx_words.specs.Spelling.{kind_word, side_word}
+use Rattle.smx_words.specs.Verbs.{verb_word, reply_verb_word}
+use Rattle.smx_words.specs.Words.{SPACE, IsFree}
+use Rattle.smx_words.proofs.CutLemmas.{apart}
+
+name_bytes_free : (w : List ℕ) → list_all is_name_byte w ≡ true → IsFree SPACE w
+name_bytes_free [] h = tt
+name_bytes_free (b ∷ w) h = (λ e. space_is_none b w e h, name_bytes_free w (grind (arith, nat_tests))) where
+  space_is_none : (b : ℕ) (w : List ℕ) → b ≡ 32 → list_all is_name_byte (b ∷ w) ≡ true → ⊥
+  space_is_none b w e h = grind (arith, nat_tests)
+
+and_right : (a b c : Bool) → (a && (b && c)) ≡ true → c ≡ true
+and_right true true c h = h
+and_right true false c h = absurd cc
+and_right false b c h = absurd cc
+
+pub name_free : (n : List ℕ) → FitsName n → IsFree SPACE n
+name_free n fits = name_bytes_free n (and_right _ _ _ fits)
+
+pub kind_free : (k : DriverKind) → FitsAlways k → IsFree SPACE (kind_word k)
+kind_free kind.Leaf fits = search rules
+kind_free kind.Mux fits = search rules
+
+pub side_free : (s : Side) → FitsAlways s → IsFree SPACE (side_word s)
+side_free side.Write fits = search rules
+side_free side.Read fits = search rules
+
+pub reply_verb_free : (v : ReplyVerb) → FitsAlways v → IsFree SPACE (reply_verb_word v)
+reply_verb_free reply_verb.Fd fits = search rules
+reply_verb_free reply_verb.Id fits = search rules
+reply_verb_free reply_verb.Took fits = search rules
+reply_verb_free reply_verb.Got fits = search rules
+reply_verb_free reply_verb.Done fits = search rules
+
+pub verb_free : (v : Verb) → FitsAlways v → IsFree SPACE (verb_word v)
+verb_free verb.Clone fits = search rules
+verb_free verb.Open fits = search rules
+verb_free verb.Dup fits = search rules
+verb_free verb.Close fits = search rules
+verb_free verb.Exit fits = search rules
+verb_free verb.Link fits = search rules
+verb_free verb.Plink fits = search rules
+verb_free verb.Unlink fits = search rules
+verb_free verb.Punlink fits = search rules
+verb_free verb.Bind fits = search rules
+verb_free verb.Unbind fits = search rules
+verb_free verb.Route fits = search rules
+verb_free verb.Unroute fits = search rules
+verb_free verb.Write fits = search rules
+verb_free verb.Read fits = search rules
+verb_free verb.Flush fits = search rules
+verb_free verb.Inject fits = search rules
+verb_free verb.Transmit fits = search rules
+
+-- the name before the first space, and no other
+pub first_name_is : (text word rest name : List ℕ) → IsFree SPACE word → text ≡ word ++ SPACE ∷ rest → FitsName name → word ≡ name
+    → FitsName name × (text ≡ name ++ SPACE ∷ rest) × ((x : List ℕ) (after : List ℕ) → FitsName x → text ≡ x ++ SPACE ∷ after → after ≡ rest)
+first_name_is text word rest name free is fits same =
+    (fits, is ∙ ap (λ (w : List ℕ). w ++ SPACE ∷ rest) same, λ x after h e. (apart SPACE x word after rest (name_free x h) free (sym e ∙ is)).1)

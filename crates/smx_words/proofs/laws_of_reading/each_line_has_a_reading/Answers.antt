@@ -1,0 +1,36 @@
+use Rattle.smx_words.proofs.DecidedCommandLemmas.{command_reading, entry_reading}
+use Rattle.smx_words.proofs.DecidedLineLemmas.{bind_reading, descriptor_reading, driver_reading, full_reading, link_reading, message_reading, next_reading, process_reading, route_reading}
+use Rattle.smx_words.proofs.laws_of_reading.each_line_has_a_reading.Goals as goal
+
+pub returns-clause-driver : goal.returns-clause-driver
+returns-clause-driver c = driver_reading
+
+pub returns-clause-process : goal.returns-clause-process
+returns-clause-process c = process_reading
+
+pub returns-clause-next : goal.returns-clause-next
+returns-clause-next c = next_reading
+
+pub returns-clause-descriptor : goal.returns-clause-descriptor
+returns-clause-descriptor c = descriptor_reading
+
+pub returns-clause-link : goal.returns-clause-link
+returns-clause-link c = link_reading
+
+pub returns-clause-bind : goal.returns-clause-bind
+returns-clause-bind c = bind_reading
+
+pub returns-clause-route : goal.returns-clause-route
+returns-clause-route c = route_reading
+
+pub returns-clause-message : goal.returns-clause-message
+returns-clause-message c = message_reading
+
+pub returns-clause-full : goal.returns-clause-full
+returns-clause-full c = full_reading
+
+pub returns-clause-command : goal.returns-clause-command
+returns-clause-command c = command_reading
+
+pub returns-clause-entry : goal.returns-clause-entry
+returns-clause-entry c = entry_reading

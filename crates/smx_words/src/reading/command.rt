@@ -1,0 +1,205 @@
+//! The words of a command.
+
+ghost use Rattle.std.specs.Prelude.{◌≡◌, ◌∷◌, [], codes, IfOk};
+ghost use Rattle.smx_words.specs.LineReading.{IsReadAs};
+ghost use Rattle.smx_words.specs.Spellable.{FitsCommand};
+ghost use Rattle.smx_words.specs.Spelling.{command_words};
+ghost use Rattle.smx_words.specs.Verbs.{verb_word};
+ghost use Rattle.smx_words.specs.Words.{line_of};
+
+use crate::reading::hex_word::bytes_of;
+use crate::reading::number::{first_number, number};
+use crate::reading::verb::{Verb, first_verb};
+use crate::reading::word::{first_name, name, sides, which};
+use smx_types::{Command, NoMemory};
+use std::alloc::Global;
+
+/// The command whose words a line is, if it is one's. Fails only for want of memory.
+pub fn command_of(alloc: Global, line: &[u8]) -> Result<Option<Command>, NoMemory>
+    ensures { IfOk result (IsReadAs FitsCommand command_words line.now) }
+{
+    match first_verb(line) {
+        Some((verb, rest)) => command_after(alloc, verb, rest),
+        None if line == b"exit".as_slice() => Ok(Some(Command::CloseAll)),
+        None => Ok(None),
+    }
+}
+
+// The command of a verb and what stands behind it.
+fn command_after(alloc: Global, verb: Verb, rest: &[u8]) -> Result<Option<Command>, NoMemory>
+    ensures { IfOk result (IsReadAs FitsCommand command_words (line_of (verb_word verb ∷ rest.now ∷ []))) }
+{
+    match verb {
+        Verb::Write => write(alloc, rest),
+        Verb::Inject => inject(alloc, rest),
+        Verb::Clone => Ok(clone(rest)),
+        Verb::Open => Ok(open(rest)),
+        Verb::Dup => Ok(dup(rest)),
+        Verb::Close => Ok(close(rest)),
+        Verb::Exit => Ok(None),
+        Verb::Link => Ok(link(rest)),
+        Verb::Plink => Ok(plink(rest)),
+        Verb::Unlink => Ok(unlink(rest)),
+        Verb::Punlink => Ok(punlink(rest)),
+        Verb::Bind => Ok(bind(rest)),
+        Verb::Unbind => Ok(unbind(rest)),
+        Verb::Route => Ok(route(rest)),
+        Verb::Unroute => Ok(unroute(rest)),
+        Verb::Read => Ok(read(rest)),
+        Verb::Flush => Ok(flush(rest)),
+        Verb::Transmit => Ok(transmit(rest)),
+    }
+}
+
+fn clone(rest: &[u8]) -> Option<Command>
+    ensures { IsReadAs FitsCommand command_words (line_of (codes "clone" ∷ rest.now ∷ [])) result }
+{
+    let driver = name(rest)?;
+    Some(Command::OpenClone { driver })
+}
+
+fn open(rest: &[u8]) -> Option<Command>
+    ensures { IsReadAs FitsCommand command_words (line_of (codes "open" ∷ rest.now ∷ [])) result }
+{
+    let Some((driver, rest)) = first_name(rest) else {
+        return None;
+    };
+    let minor = number(rest)?;
+    Some(Command::OpenMinor { driver, minor })
+}
+
+fn dup(rest: &[u8]) -> Option<Command>
+    ensures { IsReadAs FitsCommand command_words (line_of (codes "dup" ∷ rest.now ∷ [])) result }
+{
+    let fd = number(rest)?;
+    Some(Command::Dup { fd })
+}
+
+fn close(rest: &[u8]) -> Option<Command>
+    ensures { IsReadAs FitsCommand command_words (line_of (codes "close" ∷ rest.now ∷ [])) result }
+{
+    let fd = number(rest)?;
+    Some(Command::Close { fd })
+}
+
+fn link(rest: &[u8]) -> Option<Command>
+    ensures { IsReadAs FitsCommand command_words (line_of (codes "link" ∷ rest.now ∷ [])) result }
+{
+    let (fd, rest) = first_number(rest)?;
+    let arg = number(rest)?;
+    Some(Command::Link { fd, arg })
+}
+
+fn plink(rest: &[u8]) -> Option<Command>
+    ensures { IsReadAs FitsCommand command_words (line_of (codes "plink" ∷ rest.now ∷ [])) result }
+{
+    let (fd, rest) = first_number(rest)?;
+    let arg = number(rest)?;
+    Some(Command::Plink { fd, arg })
+}
+
+fn unlink(rest: &[u8]) -> Option<Command>
+    ensures { IsReadAs FitsCommand command_words (line_of (codes "unlink" ∷ rest.now ∷ [])) result }
+{
+    let (fd, rest) = first_number(rest)?;
+    let which = which(rest)?;
+    Some(Command::Unlink { fd, which })
+}
+
+fn punlink(rest: &[u8]) -> Option<Command>
+    ensures { IsReadAs FitsCommand command_words (line_of (codes "punlink" ∷ rest.now ∷ [])) result }
+{
+    let (fd, rest) = first_number(rest)?;
+    let which = which(rest)?;
+    Some(Command::Punlink { fd, which })
+}
+
+fn bind(rest: &[u8]) -> Option<Command>
+    ensures { IsReadAs FitsCommand command_words (line_of (codes "bind" ∷ rest.now ∷ [])) result }
+{
+    let (fd, rest) = first_number(rest)?;
+    let addr = number(rest)?;
+    Some(Command::Bind { fd, addr })
+}
+
+fn unbind(rest: &[u8]) -> Option<Command>
+    ensures { IsReadAs FitsCommand command_words (line_of (codes "unbind" ∷ rest.now ∷ [])) result }
+{
+    let fd = number(rest)?;
+    Some(Command::Unbind { fd })
+}
+
+fn route(rest: &[u8]) -> Option<Command>
+    ensures { IsReadAs FitsCommand command_words (line_of (codes "route" ∷ rest.now ∷ [])) result }
+{
+    let (fd, rest) = first_number(rest)?;
+    let (addr, rest) = first_number(rest)?;
+    let id = number(rest)?;
+    Some(Command::Route { fd, addr, id })
+}
+
+fn unroute(rest: &[u8]) -> Option<Command>
+    ensures { IsReadAs FitsCommand command_words (line_of (codes "unroute" ∷ rest.now ∷ [])) result }
+{
+    let (fd, rest) = first_number(rest)?;
+    let addr = number(rest)?;
+    Some(Command::Unroute { fd, addr })
+}
+
+fn read(rest: &[u8]) -> Option<Command>
+    ensures { IsReadAs FitsCommand command_words (line_of (codes "read" ∷ rest.now ∷ [])) result }
+{
+    let fd = number(rest)?;
+    Some(Command::Read { fd })
+}
+
+fn flush(rest: &[u8]) -> Option<Command>
+    ensures { IsReadAs FitsCommand command_words (line_of (codes "flush" ∷ rest.now ∷ [])) result }
+{
+    let (fd, rest) = first_number(rest)?;
+    let sides = sides(rest)?;
+    Some(Command::Flush { fd, sides })
+}
+
+fn transmit(rest: &[u8]) -> Option<Command>
+    ensures { IsReadAs FitsCommand command_words (line_of (codes "transmit" ∷ rest.now ∷ [])) result }
+{
+    let Some((driver, rest)) = first_name(rest) else {
+        return None;
+    };
+    let minor = number(rest)?;
+    Some(Command::Transmit { driver, minor })
+}
+
+fn write(alloc: Global, rest: &[u8]) -> Result<Option<Command>, NoMemory>
+    ensures { IfOk result (IsReadAs FitsCommand command_words (line_of (codes "write" ∷ rest.now ∷ []))) }
+{
+    let Some((fd, rest)) = first_number(rest) else {
+        return Ok(None);
+    };
+    let Some((addr, rest)) = first_number(rest) else {
+        return Ok(None);
+    };
+    let Some(bytes) = bytes_of(alloc, rest)? else {
+        return Ok(None);
+    };
+    Ok(Some(Command::Write { fd, addr, bytes }))
+}
+
+fn inject(alloc: Global, rest: &[u8]) -> Result<Option<Command>, NoMemory>
+    ensures { IfOk result (IsReadAs FitsCommand command_words (line_of (codes "inject" ∷ rest.now ∷ []))) }
+{
+    let Some((driver, rest)) = first_name(rest) else {
+        return Ok(None);
+    };
+    let Some((minor, rest)) = first_number(rest) else {
+        return Ok(None);
+    };
+    let Some((addr, rest)) = first_number(rest) else {
+        return Ok(None);
+    };
+    let Some(bytes) = bytes_of(alloc, rest)? else {
+        return Ok(None);
+    };
+    Ok(Some(Command::Inject { driver, minor, addr, bytes }))
+}

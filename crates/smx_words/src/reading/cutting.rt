@@ -1,0 +1,31 @@
+//! Bytes before and after a separator.
+
+ghost use Rattle.std.specs.Prelude.{◌≡◌, ◌≢◌, ◌∷◌, ◌++◌, List, ℕ, MatchOption};
+ghost use Rattle.smx_words.specs.Words.{IsFree};
+
+use memchr::memchr;
+
+// The bytes before the first separator, and those after it.
+pub fn cut(bytes: &[u8], separator: u8) -> Option<(&[u8], &[u8])>
+    ensures { MatchOption result ((before after : List ℕ) → bytes.now ≢ before ++ separator ∷ after)
+        (λ p. IsFree separator p.0.now × (bytes.now ≡ p.0.now ++ separator ∷ p.1.now)) }
+{
+    match memchr(separator, bytes) {
+        None => None,
+        Some(i) => Some((&bytes[..i], &bytes[i + 1..])),
+    }
+}
+
+// The bytes behind others that they begin with.
+pub fn after<'a>(bytes: &'a [u8], front: &[u8]) -> Option<&'a [u8]>
+    ensures { MatchOption result ((rest : List ℕ) → bytes.now ≢ front.now ++ rest) (λ rest. bytes.now ≡ front.now ++ rest.now) }
+{
+    bytes.strip_prefix(front)
+}
+
+// The bytes before others that they end with.
+pub fn before<'a>(bytes: &'a [u8], back: &[u8]) -> Option<&'a [u8]>
+    ensures { MatchOption result ((rest : List ℕ) → bytes.now ≢ rest ++ back.now) (λ rest. bytes.now ≡ rest.now ++ back.now) }
+{
+    bytes.strip_suffix(back)
+}

@@ -1,0 +1,99 @@
+//! Bytes in a word.
+
+ghost use Rattle.std.specs.Prelude.{◌≡◌, ◌≢◌, ◌<◌, ◌≤◌, ◌*◌, ◌%◌, true, length, slice_index, IfOk, IfErr};
+ghost use Rattle.std.specs.List.{list_all};
+ghost use Rattle.hex.specs.Hex.{encode_lower, lower_digits};
+ghost use Rattle.smx_words.specs.HexWords.{hex_word, is_digit};
+ghost use Rattle.smx_words.specs.LineReading.{IsFoundIn, IsSpelled};
+ghost use Rattle.smx_words.specs.Spellable.{FitsBytes};
+
+use smx_types::{Bytes, NoMemory};
+use std::alloc::Global;
+
+// The bytes that a word spells: two lower-case digits for each, or a dash for none. Fails only for want of memory, and
+// then the word spells some.
+pub fn bytes_of(alloc: Global, word: &[u8]) -> Result<Option<Bytes>, NoMemory>
+    ensures reading { IfOk result (IsFoundIn FitsBytes hex_word word.now) }
+    ensures wanted { IfErr result (λ _. IsSpelled FitsBytes hex_word word.now) }
+{
+    if word.is_empty() || word.len() % 2 == 1 {
+        return Ok(dash(alloc, word));
+    }
+    let mut bytes = Vec::new(alloc);
+    if bytes.resize(word.len() / 2, 0).is_err() {
+        return unless_bad(word);
+    }
+    if set_bytes(bytes.as_mut_slice(), word) < 16 {
+        Ok(Some(Bytes::from_vec(bytes)))
+    } else {
+        Ok(None)
+    }
+}
+
+// No bytes, of a dash.
+fn dash(alloc: Global, word: &[u8]) -> Option<Bytes>
+    requires { 0 < length word.now → length word.now % 2 ≡ 1 }
+    ensures { IsFoundIn FitsBytes hex_word word.now result }
+{
+    if word == b"-".as_slice() {
+        return Some(Bytes::new(alloc));
+    }
+    None
+}
+
+// Want of memory where there are digits alone.
+fn unless_bad(word: &[u8]) -> Result<Option<Bytes>, NoMemory>
+    requires some { 0 < length word.now }
+    requires even { length word.now % 2 ≢ 1 }
+    ensures reading { IfOk result (IsFoundIn FitsBytes hex_word word.now) }
+    ensures wanted { IfErr result (λ _. IsSpelled FitsBytes hex_word word.now) }
+{
+    if are_digits(word) {
+        return Err(NoMemory);
+    }
+    Ok(None)
+}
+
+// Sets the bytes that digits spell; 16 or more where one of them is no digit. By index, with no test in it, so that the
+// compiler takes many bytes at once.
+fn set_bytes(bytes: &mut [u8], digits: &[u8]) -> u8
+    requires { length digits.now ≡ 2 * length bytes.old }
+    ensures spelled { result < 16 → digits.now ≡ encode_lower bytes.new }
+    ensures digits { list_all is_digit digits.now ≡ true → result < 16 }
+    ensures fits { FitsBytes bytes.new }
+{
+    let mut worst = 0u8;
+    for i in 0..bytes.len() {
+        let high = value_of(digits[2 * i]);
+        let low = value_of(digits[2 * i + 1]);
+        worst = worst.max(high).max(low);
+        bytes[i] = (high % 16) * 16 + low % 16;
+    }
+    worst
+}
+
+// The value of a digit; 16 where a byte is none.
+#[inline(always)]
+fn value_of(digit: u8) -> u8
+    ensures value { result < 16 → slice_index lower_digits result ≡ digit }
+    ensures digit { is_digit digit ≡ true → result < 16 }
+    ensures range { result ≤ 16 }
+{
+    match digit {
+        b'0'..=b'9' => digit - b'0',
+        b'a'..=b'f' => digit - b'a' + 10,
+        _ => 16,
+    }
+}
+
+fn is_digit(byte: u8) -> bool
+    ensures { result ≡ is_digit byte }
+{
+    (b'0' <= byte && byte <= b'9') || (b'a' <= byte && byte <= b'f')
+}
+
+fn are_digits(word: &[u8]) -> bool
+    ensures { result ≡ list_all is_digit word.now }
+{
+    word.iter().all(|b| is_digit(*b))
+}

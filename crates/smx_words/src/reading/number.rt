@@ -1,0 +1,78 @@
+//! Numbers in words: decimal, below 2^32, without a sign or a leading zero.
+
+ghost use Rattle.std.specs.Prelude.{◌≡◌, ◌≢◌, ◌++◌, List, ℕ, take, drop, ◌≤◌, ◌==◌, ◌&&◌, ◌||◌, nat_lt, length, slice_index, MatchOption};
+ghost use Rattle.std.specs.Fmt.{decimal};
+ghost use Rattle.smx_words.specs.LineReading.{IsFoundIn, BeginsWith};
+ghost use Rattle.smx_words.specs.Numbers.{NoDigitFirst};
+ghost use Rattle.smx_words.specs.Spellable.{FitsNumber, FitsProcess};
+
+use smx_types::Process;
+
+// The number that a word spells.
+pub fn number(word: &[u8]) -> Option<u32>
+    ensures { IsFoundIn FitsNumber decimal word.now result }
+{
+    let Some((number, end)) = leading_number(word) else {
+        return None;
+    };
+    if end == word.len() {
+        return Some(number);
+    }
+    None
+}
+
+// The number before the first space.
+pub fn first_number(text: &[u8]) -> Option<(u32, &[u8])>
+    ensures { BeginsWith FitsNumber decimal text.now result }
+{
+    let Some((number, end)) = leading_number(text) else {
+        return None;
+    };
+    if end < text.len() && text[end] == b' ' {
+        Some((number, &text[end + 1..]))
+    } else {
+        None
+    }
+}
+
+// The process before the first space.
+pub fn first_process(text: &[u8]) -> Option<(Process, &[u8])>
+    ensures { BeginsWith FitsProcess decimal text.now result }
+{
+    let Some((number, rest)) = first_number(text) else {
+        return None;
+    };
+    match Process::new(number) {
+        Some(process) => Some((process, rest)),
+        None => None,
+    }
+}
+
+// The number that all leading digits spell, and how many they are.
+fn leading_number(text: &[u8]) -> Option<(u32, usize)>
+    ensures { MatchOption result
+        ((n : ℕ) (after : List ℕ) → FitsNumber n → NoDigitFirst after → text.now ≢ decimal n ++ after)
+        (λ p. FitsNumber p.0 × (p.1 ≤ length text.now) × (take p.1 text.now ≡ decimal p.0) × NoDigitFirst (drop p.1 text.now)) }
+{
+    let mut value = 0u64;
+    let mut end = 0;
+    'digits: while end < text.len() && text[end].is_ascii_digit() {
+        value = value * 10 + (text[end] - b'0') as u64;
+        if value > u32::MAX as u64 {
+            return None;
+        }
+        end += 1;
+    }
+    if starts_wrong(text, end) {
+        return None;
+    }
+    Some((value as u32, end))
+}
+
+// There is no digit, or a leading zero.
+fn starts_wrong(text: &[u8], end: usize) -> bool
+    requires { end ≤ length text.now }
+    ensures { result ≡ ((end == 0) || ((slice_index text.now 0 == 48) && nat_lt 1 end)) }
+{
+    end == 0 || (text[0] == b'0' && end > 1)
+}

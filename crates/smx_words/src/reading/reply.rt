@@ -1,0 +1,153 @@
+//! The words of a reply.
+
+ghost use Rattle.std.specs.Prelude.{◌≡◌, ◌≢◌, ◌∷◌, ◌++◌, [], ℕ, codes, map, MatchOption, IfOk};
+ghost use Rattle.std.specs.Fmt.{decimal};
+ghost use Rattle.smx_words.specs.LineReading.{IsReadAs};
+ghost use Rattle.smx_words.specs.Spellable.{FitsAlways, FitsNumber, FitsReply, FitsSerials};
+ghost use Rattle.smx_words.specs.Spelling.{fault_words, reply_words};
+ghost use Rattle.smx_words.specs.Verbs.{reply_verb_word};
+ghost use Rattle.smx_words.specs.Words.{line_of};
+
+use crate::reading::hex_word::bytes_of;
+use crate::reading::number::{first_number, number};
+use crate::reading::verb::{ReplyVerb, first_reply_verb};
+use smx_types::{Fault, NoMemory, Reply, Serials};
+use std::alloc::Global;
+
+// The reply whose words a line is, if it is one's. Fails only for want of memory.
+pub fn reply_of(alloc: Global, line: &[u8]) -> Result<Option<Reply>, NoMemory>
+    ensures { IfOk result (IsReadAs FitsReply reply_words line.now) }
+{
+    match first_reply_verb(line) {
+        Some((verb, rest)) => reply_after(alloc, verb, rest),
+        None => Ok(lone_reply(alloc, line)),
+    }
+}
+
+// The reply of a verb and what stands behind it.
+fn reply_after(alloc: Global, verb: ReplyVerb, rest: &[u8]) -> Result<Option<Reply>, NoMemory>
+    ensures { IfOk result (IsReadAs FitsReply reply_words (line_of (reply_verb_word verb ∷ rest.now ∷ []))) }
+{
+    match verb {
+        ReplyVerb::Fd => Ok(fd(rest)),
+        ReplyVerb::Id => Ok(id(rest)),
+        ReplyVerb::Took => Ok(took(rest)),
+        ReplyVerb::Got => got(alloc, rest),
+        ReplyVerb::Done => done(alloc, rest),
+    }
+}
+
+fn fd(rest: &[u8]) -> Option<Reply>
+    ensures { IsReadAs FitsReply reply_words (line_of (codes "fd" ∷ rest.now ∷ [])) result }
+{
+    let (fd, rest) = first_number(rest)?;
+    let minor = number(rest)?;
+    Some(Reply::Fd { fd, minor })
+}
+
+fn id(rest: &[u8]) -> Option<Reply>
+    ensures { IsReadAs FitsReply reply_words (line_of (codes "id" ∷ rest.now ∷ [])) result }
+{
+    let id = number(rest)?;
+    Some(Reply::Id(id))
+}
+
+fn took(rest: &[u8]) -> Option<Reply>
+    ensures { IsReadAs FitsReply reply_words (line_of (codes "took" ∷ rest.now ∷ [])) result }
+{
+    let serial = number(rest)?;
+    Some(Reply::Took { serial })
+}
+
+fn got(alloc: Global, rest: &[u8]) -> Result<Option<Reply>, NoMemory>
+    ensures { IfOk result (IsReadAs FitsReply reply_words (line_of (codes "got" ∷ rest.now ∷ []))) }
+{
+    let Some((serial, rest)) = first_number(rest) else {
+        return Ok(None);
+    };
+    let Some((addr, rest)) = first_number(rest) else {
+        return Ok(None);
+    };
+    let Some(bytes) = bytes_of(alloc, rest)? else {
+        return Ok(None);
+    };
+    Ok(Some(Reply::Got {
+        serial,
+        addr,
+        bytes,
+    }))
+}
+
+fn done(alloc: Global, rest: &[u8]) -> Result<Option<Reply>, NoMemory>
+    ensures { IfOk result (IsReadAs FitsReply reply_words (line_of (codes "done" ∷ rest.now ∷ []))) }
+{
+    match serials(alloc, rest)? {
+        Some(dropped) => Ok(Some(Reply::Done { dropped })),
+        None => Ok(None),
+    }
+}
+
+// The serials whose words a line is, one or more.
+fn serials(alloc: Global, line: &[u8]) -> Result<Option<Serials>, NoMemory>
+    ensures { IfOk result (IsReadAs FitsSerials (map decimal) line.now) }
+{
+    let mut serials = Serials::new(alloc);
+    let mut rest = line;
+    'words: loop {
+        let Some((serial, after)) = first_number(rest) else {
+            return last_serial(serials, rest);
+        };
+        serials.push(serial)?;
+        rest = after;
+    }
+}
+
+fn last_serial(mut serials: Serials, word: &[u8]) -> Result<Option<Serials>, NoMemory>
+    ensures { IfOk result (λ o. MatchOption o ((n : ℕ) → FitsNumber n → word.now ≢ decimal n)
+        (λ all. (n : ℕ) × FitsNumber n × (word.now ≡ decimal n) × (all ≡ serials ++ n ∷ []))) }
+{
+    let Some(serial) = number(word) else {
+        return Ok(None);
+    };
+    serials.push(serial)?;
+    Ok(Some(serials))
+}
+
+// The reply that stands alone: nothing dropped, or a fault.
+fn lone_reply(alloc: Global, line: &[u8]) -> Option<Reply>
+    ensures { MatchOption result ((line.now ≢ codes "done") × ((f : _) → line.now ≢ line_of (fault_words f)))
+        (λ r. FitsReply r × (line.now ≡ line_of (reply_words r))) }
+{
+    if line == b"done".as_slice() {
+        return Some(Reply::Done {
+            dropped: Serials::new(alloc),
+        });
+    }
+    let fault = fault_of(line)?;
+    Some(Reply::Fault(fault))
+}
+
+// The fault whose words a line is.
+fn fault_of(line: &[u8]) -> Option<Fault>
+    ensures { IsReadAs FitsAlways fault_words line.now result }
+{
+    match line {
+        b"EBADF fd" => Some(Fault::BadDescriptor),
+        b"EINVAL below" => Some(Fault::Below),
+        b"EINVAL notmux" => Some(Fault::NotMux),
+        b"EINVAL already" => Some(Fault::AlreadyBelow),
+        b"EINVAL cycle" => Some(Fault::Cycle),
+        b"EAGAIN links" => Some(Fault::TooManyLinks),
+        b"EINVAL id" => Some(Fault::NoLink),
+        b"ENXIO driver" => Some(Fault::NoDriver),
+        b"ENXIO minor" => Some(Fault::NoMinor),
+        b"EMFILE" => Some(Fault::TooManyDescriptors),
+        b"EADDRINUSE" => Some(Fault::AddressInUse),
+        b"EINVAL unbound" => Some(Fault::Unbound),
+        b"EINVAL unrouted" => Some(Fault::Unrouted),
+        b"EAGAIN full" => Some(Fault::Full),
+        b"EAGAIN empty" => Some(Fault::Empty),
+        b"ERANGE" => Some(Fault::BadSize),
+        _ => None,
+    }
+}

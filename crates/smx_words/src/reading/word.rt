@@ -1,0 +1,111 @@
+//! Words of few values, and names.
+
+ghost use Rattle.smx_words.specs.LineReading.{IsFoundIn, BeginsWith};
+ghost use Rattle.smx_words.specs.Spellable.{FitsName, FitsWhich, FitsAlways};
+ghost use Rattle.smx_words.specs.Spelling.{kind_word, which_word, sides_word, side_word, link_kind_word};
+
+use crate::reading::cutting::cut;
+use crate::reading::number::number;
+use smx_types::{DriverKind, LinkKind, Name, Side, Sides, Which};
+
+// The name that a word is.
+pub fn name(word: &[u8]) -> Option<Name>
+    ensures { IsFoundIn FitsName (λ n. n) word.now result }
+{
+    Name::from_bytes(word)
+}
+
+// The name before the first space.
+pub fn first_name(text: &[u8]) -> Option<(Name, &[u8])>
+    ensures { BeginsWith FitsName (λ n. n) text.now result }
+{
+    let Some((word, rest)) = cut(text, b' ') else {
+        return None;
+    };
+    match name(word) {
+        Some(name) => Some((name, rest)),
+        None => None,
+    }
+}
+
+// The kind of driver that a word names.
+fn kind(word: &[u8]) -> Option<DriverKind>
+    ensures { IsFoundIn FitsAlways kind_word word.now result }
+{
+    match word {
+        b"leaf" => Some(DriverKind::Leaf),
+        b"mux" => Some(DriverKind::Mux),
+        _ => None,
+    }
+}
+
+// The kind of driver before the first space.
+pub fn first_kind(text: &[u8]) -> Option<(DriverKind, &[u8])>
+    ensures { BeginsWith FitsAlways kind_word text.now result }
+{
+    let Some((word, rest)) = cut(text, b' ') else {
+        return None;
+    };
+    match kind(word) {
+        Some(kind) => Some((kind, rest)),
+        None => None,
+    }
+}
+
+// The links that a word names: one by its id, or all.
+pub fn which(word: &[u8]) -> Option<Which>
+    ensures { IsFoundIn FitsWhich which_word word.now result }
+{
+    if word == b"all".as_slice() {
+        return Some(Which::All);
+    }
+    let id = number(word)?;
+    Some(Which::Id(id))
+}
+
+// The sides that a flush names.
+pub fn sides(word: &[u8]) -> Option<Sides>
+    ensures { IsFoundIn FitsAlways sides_word word.now result }
+{
+    match word {
+        b"r" => Some(Sides::R),
+        b"w" => Some(Sides::W),
+        b"rw" => Some(Sides::RW),
+        _ => None,
+    }
+}
+
+// The side of a place.
+pub fn side(word: &[u8]) -> Option<Side>
+    ensures { IsFoundIn FitsAlways side_word word.now result }
+{
+    match word {
+        b"w" => Some(Side::Write),
+        b"r" => Some(Side::Read),
+        _ => None,
+    }
+}
+
+// The side of a place before the first space.
+pub fn first_side(text: &[u8]) -> Option<(Side, &[u8])>
+    ensures { BeginsWith FitsAlways side_word text.now result }
+{
+    let Some((word, rest)) = cut(text, b' ') else {
+        return None;
+    };
+    match side(word) {
+        Some(side) => Some((side, rest)),
+        None => None,
+    }
+}
+
+// The kind of a link.
+pub fn link_kind(word: &[u8]) -> Option<LinkKind>
+    ensures { IsFoundIn FitsAlways link_kind_word word.now result }
+{
+    match word {
+        b"link" => Some(LinkKind::Ordinary),
+        b"plink" => Some(LinkKind::Persistent),
+        _ => None,
+    }
+}

@@ -1,0 +1,120 @@
+//! What a reply adds to the line of an entry.
+
+ghost use Rattle.std.specs.Prelude.{◌≡◌, ◌∷◌, ◌++◌, [], codes, map, OnOk};
+ghost use Rattle.std.specs.Fmt.{decimal};
+ghost use Rattle.std.specs.List.{flat_map, AllByRecursion};
+ghost use Rattle.smx_words.specs.HexWords.{hex_word};
+ghost use Rattle.smx_words.specs.Spellable.{FitsBytes, FitsNumber, FitsReply};
+ghost use Rattle.smx_words.specs.Spelling.{fault_words, reply_words};
+ghost use Rattle.smx_words.specs.Words.{LINE_FEED, SPACE, line_of};
+
+use super::bytes::put_message;
+use super::number::{put_last, put_spaced};
+use super::word::put_text;
+use smx_types::{Fault, NoMemory, Reply};
+
+/// An equals sign between spaces, the words of a reply, and a line feed.
+pub(super) fn put_reply(out: &mut Vec<u8>, reply: &Reply) -> Result<(), NoMemory>
+    ensures written { OnOk result (out.new.items
+        ≡ out.old.items ++ codes " = " ++ line_of (reply_words reply.now) ++ LINE_FEED ∷ []) }
+    ensures fits { OnOk result (FitsReply reply.now) }
+{
+    match reply {
+        Reply::Fd { fd, minor } => put_descriptor(out, *fd, *minor),
+        Reply::Id(id) => put_number(out, b" = id", *id),
+        Reply::Took { serial } => put_number(out, b" = took", *serial),
+        Reply::Got {
+            serial,
+            addr,
+            bytes,
+        } => put_got(out, *serial, *addr, bytes.as_slice()),
+        Reply::Done { dropped } => put_done(out, dropped.as_slice()),
+        Reply::Fault(fault) => put_fault(out, *fault),
+    }
+}
+
+#[inline(always)]
+fn put_descriptor(out: &mut Vec<u8>, fd: u32, minor: u32) -> Result<(), NoMemory>
+    ensures written { OnOk result (out.new.items
+        ≡ out.old.items ++ codes " = " ++ line_of (codes "fd" ∷ decimal fd ∷ decimal minor ∷ [])
+        ++ LINE_FEED ∷ []) }
+    ensures fits { FitsNumber fd × FitsNumber minor }
+{
+    out.extend_from_slice(b" = fd")?;
+    put_spaced(out, fd)?;
+    put_last(out, minor)
+}
+
+#[inline(always)]
+fn put_number(out: &mut Vec<u8>, before: &[u8], n: u32) -> Result<(), NoMemory>
+    ensures written { OnOk result (out.new.items
+        ≡ out.old.items ++ before.now ++ SPACE ∷ decimal n ++ LINE_FEED ∷ []) }
+    ensures fits { FitsNumber n }
+{
+    out.extend_from_slice(before)?;
+    put_last(out, n)
+}
+
+fn put_got(out: &mut Vec<u8>, serial: u32, addr: u32, bytes: &[u8]) -> Result<(), NoMemory>
+    ensures written { OnOk result (out.new.items
+        ≡ out.old.items ++ codes " = "
+        ++ line_of (codes "got" ∷ decimal serial ∷ decimal addr ∷ hex_word bytes.now ∷ [])
+        ++ LINE_FEED ∷ []) }
+    ensures fits { FitsNumber serial × FitsNumber addr × FitsBytes bytes.now }
+{
+    out.extend_from_slice(b" = got")?;
+    put_message(out, serial, addr, bytes)
+}
+
+fn put_done(out: &mut Vec<u8>, dropped: &[u32]) -> Result<(), NoMemory>
+    ensures written { OnOk result (out.new.items
+        ≡ out.old.items ++ codes " = " ++ line_of (codes "done" ∷ map decimal dropped.now)
+        ++ LINE_FEED ∷ []) }
+    ensures fits { OnOk result (AllByRecursion FitsNumber dropped.now) }
+{
+    if dropped.is_empty() {
+        out.extend_from_slice(b" = done\n")?;
+        return Ok(());
+    }
+    out.extend_from_slice(b" = done")?;
+    put_serials(out, dropped)?;
+    out.push(b'\n')?;
+    Ok(())
+}
+
+// A space and the digits of each.
+fn put_serials(out: &mut Vec<u8>, serials: &[u32]) -> Result<(), NoMemory>
+    ensures written { OnOk result (out.new.items
+        ≡ out.old.items ++ flat_map (λ n. SPACE ∷ decimal n) serials.now) }
+    ensures fits { OnOk result (AllByRecursion FitsNumber serials.now) }
+{
+    for serial in serials {
+        put_spaced(out, *serial)?;
+    }
+    Ok(())
+}
+
+// Each of its texts has a length that the compiler knows.
+fn put_fault(out: &mut Vec<u8>, fault: Fault) -> Result<(), NoMemory>
+    ensures { OnOk result (out.new.items
+        ≡ out.old.items ++ codes " = " ++ line_of (fault_words fault) ++ LINE_FEED ∷ []) }
+{
+    match fault {
+        Fault::BadDescriptor => put_text(out, b" = EBADF fd\n"),
+        Fault::Below => put_text(out, b" = EINVAL below\n"),
+        Fault::NotMux => put_text(out, b" = EINVAL notmux\n"),
+        Fault::AlreadyBelow => put_text(out, b" = EINVAL already\n"),
+        Fault::Cycle => put_text(out, b" = EINVAL cycle\n"),
+        Fault::TooManyLinks => put_text(out, b" = EAGAIN links\n"),
+        Fault::NoLink => put_text(out, b" = EINVAL id\n"),
+        Fault::NoDriver => put_text(out, b" = ENXIO driver\n"),
+        Fault::NoMinor => put_text(out, b" = ENXIO minor\n"),
+        Fault::TooManyDescriptors => put_text(out, b" = EMFILE\n"),
+        Fault::AddressInUse => put_text(out, b" = EADDRINUSE\n"),
+        Fault::Unbound => put_text(out, b" = EINVAL unbound\n"),
+        Fault::Unrouted => put_text(out, b" = EINVAL unrouted\n"),
+        Fault::Full => put_text(out, b" = EAGAIN full\n"),
+        Fault::Empty => put_text(out, b" = EAGAIN empty\n"),
+        Fault::BadSize => put_text(out, b" = ERANGE\n"),
+    }
+}

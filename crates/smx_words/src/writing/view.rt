@@ -1,0 +1,123 @@
+//! The lines of a view.
+
+ghost use Rattle.std.specs.Prelude.{◌≡◌, ◌∷◌, ◌++◌, [], OnOk};
+ghost use Rattle.std.specs.Fmt.{decimal};
+ghost use Rattle.smx_words.specs.Spellable.{FitsBinding, FitsDescriptor, FitsFull, FitsLink, FitsMessage};
+ghost use Rattle.smx_words.specs.Spellable.{FitsName, FitsNumber, FitsRoute};
+ghost use Rattle.smx_words.specs.Spelling.{bind_words, descriptor_words, full_words, link_words};
+ghost use Rattle.smx_words.specs.Spelling.{link_kind_word, message_words, route_words, side_word};
+ghost use Rattle.smx_words.specs.Words.{LINE_FEED, SPACE, line_of};
+
+use super::Spell;
+use super::bytes::put_message;
+use super::number::{put_last, put_spaced};
+use super::word::{put_name, put_side};
+use smx_types::{
+    BindingLine, DescriptorLine, FullLine, LinkKind, LinkLine, MessageLine, Name, NoMemory,
+    RouteLine, Side,
+};
+
+impl Spell for DescriptorLine {
+    ghost words = { descriptor_words };
+
+    ghost Fits = { FitsDescriptor };
+
+    fn write_line(&self, out: &mut Vec<u8>) -> Result<(), NoMemory> {
+        out.extend_from_slice(b"fd")?;
+        put_spaced(out, self.process.get())?;
+        put_spaced(out, self.fd)?;
+        put_name(out, &self.driver)?;
+        put_last(out, self.minor)
+    }
+}
+
+impl Spell for LinkLine {
+    ghost words = { link_words };
+
+    ghost Fits = { FitsLink };
+
+    fn write_line(&self, out: &mut Vec<u8>) -> Result<(), NoMemory> {
+        out.extend_from_slice(b"link")?;
+        put_spaced(out, self.id)?;
+        put_name(out, &self.ctl_driver)?;
+        put_spaced(out, self.ctl_minor)?;
+        put_name(out, &self.lower_driver)?;
+        put_spaced(out, self.lower_minor)?;
+        put_last_kind(out, self.kind)
+    }
+}
+
+// A space, the kind of a link, and a line feed.
+fn put_last_kind(out: &mut Vec<u8>, kind: LinkKind) -> Result<(), NoMemory>
+    ensures { OnOk result (out.new.items
+        ≡ out.old.items ++ SPACE ∷ link_kind_word kind ++ LINE_FEED ∷ []) }
+{
+    out.extend_from_slice(match kind {
+        LinkKind::Ordinary => b" link\n",
+        LinkKind::Persistent => b" plink\n",
+    })?;
+    Ok(())
+}
+
+impl Spell for BindingLine {
+    ghost words = { bind_words };
+
+    ghost Fits = { FitsBinding };
+
+    fn write_line(&self, out: &mut Vec<u8>) -> Result<(), NoMemory> {
+        out.extend_from_slice(b"bind")?;
+        put_name(out, &self.driver)?;
+        put_spaced(out, self.addr)?;
+        put_last(out, self.minor)
+    }
+}
+
+impl Spell for RouteLine {
+    ghost words = { route_words };
+
+    ghost Fits = { FitsRoute };
+
+    fn write_line(&self, out: &mut Vec<u8>) -> Result<(), NoMemory> {
+        out.extend_from_slice(b"route")?;
+        put_name(out, &self.driver)?;
+        put_spaced(out, self.addr)?;
+        put_last(out, self.id)
+    }
+}
+
+impl Spell for MessageLine {
+    ghost words = { message_words };
+
+    ghost Fits = { FitsMessage };
+
+    fn write_line(&self, out: &mut Vec<u8>) -> Result<(), NoMemory> {
+        out.extend_from_slice(b"msg")?;
+        put_place(out, &self.driver, self.minor, self.side)?;
+        let message = &self.message;
+        put_message(out, message.serial, message.addr, message.bytes.as_slice())
+    }
+}
+
+impl Spell for FullLine {
+    ghost words = { full_words };
+
+    ghost Fits = { FitsFull };
+
+    fn write_line(&self, out: &mut Vec<u8>) -> Result<(), NoMemory> {
+        out.extend_from_slice(b"full")?;
+        put_place(out, &self.driver, self.minor, self.side)?;
+        out.push(b'\n')?;
+        Ok(())
+    }
+}
+
+// A space and the words of a place.
+fn put_place(out: &mut Vec<u8>, driver: &Name, minor: u32, side: Side) -> Result<(), NoMemory>
+    ensures written { OnOk result (out.new.items
+        ≡ out.old.items ++ SPACE ∷ driver.now ++ SPACE ∷ decimal minor ++ SPACE ∷ side_word side) }
+    ensures fits { OnOk result (FitsName driver.now × FitsNumber minor) }
+{
+    put_name(out, driver)?;
+    put_spaced(out, minor)?;
+    put_side(out, side)
+}

@@ -1,0 +1,38 @@
+//! Words of a line other than numbers and bytes.
+
+ghost use Rattle.std.specs.Prelude.{◌≡◌, ◌∷◌, ◌++◌, [], codes, OnOk};
+ghost use Rattle.smx_words.specs.Spellable.{FitsName};
+ghost use Rattle.smx_words.specs.Spelling.{side_word};
+ghost use Rattle.smx_words.specs.Words.{SPACE};
+
+use smx_types::{Name, NoMemory, Side};
+
+/// A space and a name.
+pub(super) fn put_name(out: &mut Vec<u8>, name: &Name) -> Result<(), NoMemory>
+    ensures written { OnOk result (out.new.items ≡ out.old.items ++ SPACE ∷ name.now) }
+    ensures fits { OnOk result (FitsName name.now) }
+{
+    out.push(b' ')?;
+    out.extend_from_slice(name.as_bytes())?;
+    Ok(())
+}
+
+/// A space and the side of a place.
+pub(super) fn put_side(out: &mut Vec<u8>, side: Side) -> Result<(), NoMemory>
+    ensures { OnOk result (out.new.items ≡ out.old.items ++ SPACE ∷ side_word side) }
+{
+    out.extend_from_slice(match side {
+        Side::Write => b" w",
+        Side::Read => b" r",
+    })?;
+    Ok(())
+}
+
+/// These bytes.
+#[inline(always)]
+pub(super) fn put_text(out: &mut Vec<u8>, text: &[u8]) -> Result<(), NoMemory>
+    ensures { OnOk result (out.new.items ≡ out.old.items ++ text.now) }
+{
+    out.extend_from_slice(text)?;
+    Ok(())
+}
