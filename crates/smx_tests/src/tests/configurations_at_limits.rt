@@ -30,27 +30,26 @@ fn one_over_many(alloc: Global) -> Result<Config, Fail> {
     made_over(alloc, drivers.as_slice())
 }
 
-// The persistent link of this id, to the next stream of the leaves.
+// The persistent link of this id, to the next stream of a leaf.
 fn add_link(
     rt: &(impl AllocGlobal + Print),
     config: &mut Config,
-    leaf: u32,
+    leaf: &str,
     minor: u32,
+    id: u32,
 ) -> Result<(), Fail> {
-    let name = format!(in rt.alloc(); "l{leaf}")?;
     let lines = [
-        (Call::Clone(name.as_str()), Answer::Fd(1, minor)),
-        (Call::Plink(0, 1), Answer::Id(leaf * 64 + minor + 1)),
+        (Call::Clone(leaf), Answer::Fd(1, minor)),
+        (Call::Plink(0, 1), Answer::Id(id)),
         (Call::Close(1), Answer::Done(&[])),
     ];
     play(rt, config, &lines)
 }
 
 fn add_links(rt: &(impl AllocGlobal + Print), config: &mut Config) -> Result<(), Fail> {
-    for leaf in 0..16u32 {
-        for minor in 0..64u32 {
-            add_link(rt, config, leaf, minor)?;
-        }
+    for k in 0..1_024u32 {
+        let leaf = format!(in rt.alloc(); "l{}", k / 64)?;
+        add_link(rt, config, leaf.as_str(), k % 64, k + 1)?;
     }
     Ok(())
 }

@@ -33,7 +33,10 @@ fn what_there_is_not_enough_of(rt: HostRuntime) -> Result<(), Fail> {
 #[test]
 fn faults_of_drivers(rt: HostRuntime) -> Result<(), Fail> {
     let wants = [
-        (ConfigFault::BadSpec(3, SpecFault::BadMarks), "driver 3 marks"),
+        (
+            ConfigFault::BadSpec(3, SpecFault::BadMarks),
+            "driver 3 marks",
+        ),
         (ConfigFault::SameName(12), "driver 12 same name"),
         (ConfigFault::TooMany, "too many drivers"),
         (ConfigFault::NoMemory, "no memory"),

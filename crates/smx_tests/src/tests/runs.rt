@@ -75,7 +75,12 @@ fn of_drivers(alloc: Global, begin: &[u8], count: usize, end: &[u8]) -> Result<V
 #[test]
 fn runs_with_every_number_of_drivers(rt: HostRuntime) -> Result<(), Fail> {
     for count in 0..65 {
-        let input = of_drivers(rt.alloc(), b"programs 1\n", count, b"process 0\nexit\nend\n")?;
+        let input = of_drivers(
+            rt.alloc(),
+            b"programs 1\n",
+            count,
+            b"process 0\nexit\nend\n",
+        )?;
         let end = b"0 exit = done\nconfig\nnext 1 1\nend\n";
         let output = of_drivers(rt.alloc(), b"transcript 1\n", count, end)?;
         assert!(rt; ran(rt.alloc(), input.as_slice())? == output);

@@ -150,14 +150,13 @@ fn transcripts_of_every_size_of_a_message(rt: HostRuntime) -> Result<(), Fail> {
 fn send_size(rt: &(impl AllocGlobal + Print), config: &mut Config, size: u32) -> Result<(), Fail> {
     let payload = payload(rt.alloc(), size)?;
     let bytes = payload.as_slice();
+    let up = size.wrapping_mul(2);
+    let down = up.wrapping_sub(1);
     let lines = [
-        (Call::Write(0, 5, bytes), Answer::Took(2 * size - 1)),
-        (Call::Inject("eth0", 0, 9, bytes), Answer::Took(2 * size)),
-        (
-            Call::Transmit("eth0", 0),
-            Answer::Got(2 * size - 1, 5, bytes),
-        ),
-        (Call::Read(0), Answer::Got(2 * size, 9, bytes)),
+        (Call::Write(0, 5, bytes), Answer::Took(down)),
+        (Call::Inject("eth0", 0, 9, bytes), Answer::Took(up)),
+        (Call::Transmit("eth0", 0), Answer::Got(down, 5, bytes)),
+        (Call::Read(0), Answer::Got(up, 9, bytes)),
     ];
     play(rt, config, &lines)
 }
@@ -187,23 +186,20 @@ const ADDRESSES: [u32; 12] = [
     4_294_967_295,
 ];
 
-// All commands that name an address. Messages went by serials below this.
+// All commands that name an address. Its messages have these serials.
 fn use_address(
     rt: &(impl AllocGlobal + Print),
     config: &mut Config,
     addr: u32,
-    serial: u32,
+    (down, up): (u32, u32),
 ) -> Result<(), Fail> {
     let lines = [
         (Call::Bind(0, addr), Answer::Done(&[])),
         (Call::Route(0, addr, 1), Answer::Done(&[])),
-        (Call::Write(0, addr, &[170]), Answer::Took(serial)),
-        (
-            Call::Inject("eth", 0, addr, &[187]),
-            Answer::Took(serial + 1),
-        ),
-        (Call::Transmit("eth", 0), Answer::Got(serial, addr, &[170])),
-        (Call::Read(0), Answer::Got(serial + 1, addr, &[187])),
+        (Call::Write(0, addr, &[170]), Answer::Took(down)),
+        (Call::Inject("eth", 0, addr, &[187]), Answer::Took(up)),
+        (Call::Transmit("eth", 0), Answer::Got(down, addr, &[170])),
+        (Call::Read(0), Answer::Got(up, addr, &[187])),
         (Call::Unroute(0, addr), Answer::Done(&[])),
         (Call::Unbind(0), Answer::Done(&[])),
     ];
@@ -214,10 +210,10 @@ fn use_address(
 fn steps_at_many_addresses(rt: HostRuntime) -> Result<(), Fail> {
     let mut config = ip_and_eth(rt.alloc())?;
     play(&rt, &mut config, &JOIN)?;
-    let mut serial = 1u32;
+    let mut up = 0u32;
     for addr in ADDRESSES {
-        use_address(&rt, &mut config, addr, serial)?;
-        serial += 2;
+        up = up.wrapping_add(2);
+        use_address(&rt, &mut config, addr, (up.wrapping_sub(1), up))?;
     }
     Ok(())
 }
