@@ -4,8 +4,8 @@ use Rattle.std.proofs.Math.ListN.{set}
 use Rattle.std.proofs.lemmas.List.{map_push}
 use Rattle.smx_types.specs.declared.command.Command.{Command}
 use Rattle.smx_types.specs.declared.driver.DriverSpec.{DriverSpec}
-use Rattle.smx_text.specs.declared.line.Line.{Line}
-use Rattle.smx_text.specs.declared.line.Line.TheVariants as line
+use Rattle.smx_text.specs.ProgramLines.{Line}
+use Rattle.smx_text.specs.ProgramLines as line
 use Rattle.smx_text.specs.ProgramsText.{program_lines}
 
 lines_push : (n : ℕ) (ps : List (List Command)) → program_lines n (ps ++ [] ∷ []) ≡ program_lines n ps ++ line.Process (n + length ps) ∷ []
@@ -19,7 +19,7 @@ pub added_process : (ds : List DriverSpec) (ps : List (List Command)) (k : ℕ) 
     → map line.Driver ds ++ program_lines 0 (ps ++ [] ∷ []) ≡ (map line.Driver ds ++ program_lines 0 ps) ++ line.Process k ∷ []
 added_process ds ps k e = rw (e, lines_push 0 ps, append_assoc (map line.Driver ds)) (ap (λ (m : ℕ). map line.Driver ds ++ (program_lines 0 ps ++ line.Process m ∷ [])) (omega arith))
 
-lines_more : (n : ℕ) (ps : List (List Command)) (d : List Command) (c : Command) → 0 < length ps
+pub lines_more : (n : ℕ) (ps : List (List Command)) (d : List Command) (c : Command) → 0 < length ps
     → program_lines n (set ps (length ps - 1) (get_or ps (length ps - 1) d ++ c ∷ [])) ≡ program_lines n ps ++ line.Command c ∷ []
 lines_more n [] d c h = absurd (omega arith)
 lines_more n (p ∷ []) d c h = rw (map_push line.Command p c, append_assoc, append_assoc) refl

@@ -13,27 +13,21 @@ use Rattle.smx_types.specs.declared.view.FullLine.{FullLine}
 use Rattle.smx_types.specs.declared.view.LinkLine.{LinkLine}
 use Rattle.smx_types.specs.declared.view.MessageLine.{MessageLine}
 use Rattle.smx_types.specs.declared.view.RouteLine.{RouteLine}
-use Rattle.smx_text.specs.declared.transcript_draft.Stage.{Stage}
-use Rattle.smx_text.specs.declared.transcript_draft.Stage.TheVariants as stage
-use Rattle.smx_text.specs.declared.transcript_draft.TranscriptDraft.{TranscriptDraft}
-use Rattle.smx_text.specs.declared.transcript_line.TranscriptLine.{TranscriptLine}
-use Rattle.smx_text.specs.declared.transcript_line.TranscriptLine.TheVariants as line
-use Rattle.smx_text.specs.WordReading.{◌>>=◌}
-use Rattle.smx_text.specs.TranscriptReading.{view_body, body}
-use Rattle.smx_text.specs.TranscriptDrafts.{new_view, new_draft, takes_links, takes_binds, takes_routes, takes_msgs, takes_fulls, takes, with_line}
+use Rattle.smx_text.specs.declared.transcript.draft.Stage.{Stage}
+use Rattle.smx_text.specs.declared.transcript.draft.Stage.TheVariants as stage
+use Rattle.smx_text.specs.declared.transcript.draft.TranscriptDraft.{TranscriptDraft}
+use Rattle.smx_text.specs.TranscriptLines.{TranscriptLine}
+use Rattle.smx_text.specs.TranscriptLines as line
+use Rattle.smx_text.proofs.TranscriptDrafts.{◌>>=◌}
+use Rattle.smx_text.specs.TranscriptText.{view_body, body}
+use Rattle.smx_text.specs.Drafts.{shown, lines}
+use Rattle.smx_text.proofs.TranscriptDrafts.{new_view, new_draft, takes, with_line}
+use Rattle.smx_text.specs.Drafts.{takes_links, takes_binds, takes_routes, takes_msgs, takes_fulls}
 
 -- ---- the lines so far
 
-abbrev pub shown : Stage → ConfigView → List TranscriptLine
-shown stage.History v = []
-shown stage.Config v = line.Config ∷ []
-shown stage.View v = line.Config ∷ view_body v
-
 abbrev pub draft : Stage → Transcript → TranscriptDraft
 draft s t = record { stage = s; transcript = t }
-
-abbrev pub lines : TranscriptDraft → List TranscriptLine
-lines d = map line.Driver d.transcript.drivers ++ (map line.Entry d.transcript.entries ++ shown d.stage d.transcript.view)
 
 abbrev pub is_line : TranscriptLine → Bool
 is_line (line.Driver x) = true
@@ -190,11 +184,11 @@ in_history ds es = draft stage.History (record { drivers = ds; entries = es; vie
 push_assoc : {A : Type 0} (xs : List A) (y : A) (ys : List A) → (xs ++ y ∷ []) ++ ys ≡ xs ++ y ∷ ys
 push_assoc xs y ys = append_assoc xs (y ∷ []) ys
 
-run_drivers : (ds0 ds : List DriverSpec) (rest : List TranscriptLine) → run (in_history ds0 []) (map line.Driver ds ++ rest) ≡ run (in_history (ds0 ++ ds) []) rest
+pub run_drivers : (ds0 ds : List DriverSpec) (rest : List TranscriptLine) → run (in_history ds0 []) (map line.Driver ds ++ rest) ≡ run (in_history (ds0 ++ ds) []) rest
 run_drivers ds0 [] rest = ap (λ (ds : List DriverSpec). run (in_history ds []) rest) (sym (append-nil ds0))
 run_drivers ds0 (d ∷ ds) rest = run_drivers (ds0 ++ d ∷ []) ds rest ∙ ap (λ (es : List DriverSpec). run (in_history es []) rest) (push_assoc ds0 d ds)
 
-run_entries : (ds : List DriverSpec) (es0 es : List Entry) (rest : List TranscriptLine) → run (in_history ds es0) (map line.Entry es ++ rest) ≡ run (in_history ds (es0 ++ es)) rest
+pub run_entries : (ds : List DriverSpec) (es0 es : List Entry) (rest : List TranscriptLine) → run (in_history ds es0) (map line.Entry es ++ rest) ≡ run (in_history ds (es0 ++ es)) rest
 run_entries ds es0 [] rest = ap (λ (es : List Entry). run (in_history ds es) rest) (sym (append-nil es0))
 run_entries ds es0 (e ∷ es) rest = run_entries ds (es0 ++ e ∷ []) es rest ∙ ap (λ (xs : List Entry). run (in_history ds xs) rest) (push_assoc es0 e es)
 

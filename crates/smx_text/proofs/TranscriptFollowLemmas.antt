@@ -5,16 +5,19 @@ use Rattle.std.specs.Prelude.{◌⊎◌}
 use Rattle.std.proofs.lemmas.Bool.Decides.{nat_tests}
 use Rattle.std.proofs.lemmas.List.{length-append}
 use Rattle.smx_types.specs.declared.transcript.Transcript.{Transcript}
-use Rattle.smx_text.specs.declared.transcript_draft.Stage.{Stage}
-use Rattle.smx_text.specs.declared.transcript_draft.Stage.TheVariants as stage
-use Rattle.smx_text.specs.declared.transcript_draft.TranscriptDraft.{TranscriptDraft}
-use Rattle.smx_text.specs.declared.transcript_line.TranscriptLine.{TranscriptLine}
-use Rattle.smx_text.specs.declared.transcript_line.TranscriptLine.TheVariants as line
-use Rattle.smx_text.specs.WordReading.{◌>>=◌}
-use Rattle.smx_text.specs.TranscriptReading.{FitsLine, body, IsAllowed, GoesOn}
-use Rattle.smx_text.specs.TranscriptDrafts.{new_draft, is_view, takes, is_full, with_line}
+use Rattle.smx_text.specs.declared.transcript.draft.Stage.{Stage}
+use Rattle.smx_text.specs.declared.transcript.draft.Stage.TheVariants as stage
+use Rattle.smx_text.specs.declared.transcript.draft.TranscriptDraft.{TranscriptDraft}
+use Rattle.smx_text.specs.TranscriptLines.{TranscriptLine}
+use Rattle.smx_text.specs.TranscriptLines as line
+use Rattle.smx_text.proofs.TranscriptDrafts.{◌>>=◌}
+use Rattle.smx_text.specs.Grammar.{GoesOn}
+use Rattle.smx_text.specs.TranscriptText.{FitsLine, body, IsAllowed, transcript_grammar}
+use Rattle.smx_text.proofs.TranscriptDrafts.{new_draft, takes, is_full, with_line}
+use Rattle.smx_text.specs.Drafts.{is_view}
+use Rattle.smx_text.specs.Drafts.{lines}
 use Rattle.smx_text.proofs.EachLemmas.{all_push}
-use Rattle.smx_text.proofs.TranscriptDraftLemmas.{draft, lines, is_line, lines_more, run, run_append, run_body, taken}
+use Rattle.smx_text.proofs.TranscriptDraftLemmas.{draft, is_line, lines_more, run, run_append, run_body, taken}
 use Rattle.smx_text.proofs.TranscriptWholeLemmas.{ended, completed, completes, still, IsWithin, allowed}
 
 -- there are as many or more
@@ -100,7 +103,7 @@ rest_leads t ls rest d led e =
     bind_some (λ (c : TranscriptDraft). run c rest) (run new_draft ls) d (draft stage.View t) led (sym (run_append new_draft ls rest) ∙ sym (ap (run new_draft) e) ∙ run_body t)
 
 -- what may follow is taken
-pub may_takes : (ls : List TranscriptLine) (d : TranscriptDraft) (k : TranscriptLine) (t : Transcript) → run new_draft ls ≡ Some d → GoesOn t ls k → takes d k ≡ true
+pub may_takes : (ls : List TranscriptLine) (d : TranscriptDraft) (k : TranscriptLine) (t : Transcript) → run new_draft ls ≡ Some d → GoesOn transcript_grammar t ls k → takes d k ≡ true
 may_takes ls d k t led (more, e) =
     elim (split_end (body t) ls more k e) [
       | inl (is, all) ↦ let same = some_is d (draft stage.View t) (sym led ∙ ap (run new_draft) all ∙ run_body t) in rw (is, same) refl
@@ -108,7 +111,7 @@ may_takes ls d k t led (more, e) =
     ]
 
 -- where there are as many as may be, no transcript within the limits goes on so
-pub full_stops : (ls : List TranscriptLine) (d : TranscriptDraft) (k : TranscriptLine) (t : Transcript) → run new_draft ls ≡ Some d → is_full d k ≡ true → IsAllowed t → GoesOn t ls k → ⊥
+pub full_stops : (ls : List TranscriptLine) (d : TranscriptDraft) (k : TranscriptLine) (t : Transcript) → run new_draft ls ≡ Some d → is_full d k ≡ true → IsAllowed t → GoesOn transcript_grammar t ls k → ⊥
 full_stops ls d k t led full allowed (more, e) =
     elim (split_end (body t) ls more k e) [
       | inl (is, all) ↦ let never : is_full d line.End ≡ true = subst (λ (x : TranscriptLine). is_full d x ≡ true) is full in absurd cc
@@ -123,14 +126,14 @@ full_stops ls d k t led full allowed (more, e) =
 abbrev pub next_of : TranscriptDraft → TranscriptLine → Transcript
 next_of d k = completed (with_line d k)
 
-pub takes_may : (d : TranscriptDraft) (k : TranscriptLine) → takes d k ≡ true → GoesOn (next_of d k) (lines d) k
+pub takes_may : (d : TranscriptDraft) (k : TranscriptLine) → takes d k ≡ true → GoesOn transcript_grammar (next_of d k) (lines d) k
 takes_may d k h = by_kind (is_line k) refl where
-  at_end : (s : Stage) (t : Transcript) → is_view s ≡ true → GoesOn (ended s t) (lines (draft s t)) line.End
+  at_end : (s : Stage) (t : Transcript) → is_view s ≡ true → GoesOn transcript_grammar (ended s t) (lines (draft s t)) line.End
   at_end stage.History t h = absurd cc
   at_end stage.Config t h = absurd cc
   at_end stage.View t h = ([], refl)
 
-  is_end : (d : TranscriptDraft) (k : TranscriptLine) → is_line k ≡ false → takes d k ≡ true → GoesOn (next_of d k) (lines d) k
+  is_end : (d : TranscriptDraft) (k : TranscriptLine) → is_line k ≡ false → takes d k ≡ true → GoesOn transcript_grammar (next_of d k) (lines d) k
   is_end d (line.Driver x) off h = absurd cc
   is_end d (line.Entry x) off h = absurd cc
   is_end d line.Config off h = absurd cc
@@ -146,7 +149,7 @@ takes_may d k h = by_kind (is_line k) refl where
   regroup : (ls : List TranscriptLine) (k : TranscriptLine) (rest : List TranscriptLine) → ((ls ++ k ∷ []) ++ rest) ++ line.End ∷ [] ≡ ls ++ k ∷ (rest ++ line.End ∷ [])
   regroup ls k rest = simp append_assoc
 
-  by_kind : (b : Bool) → is_line k ≡ b → GoesOn (next_of d k) (lines d) k
+  by_kind : (b : Bool) → is_line k ≡ b → GoesOn transcript_grammar (next_of d k) (lines d) k
   by_kind true l =
       let e = completes (with_line d k) in
       let more = lines_more d k h l in

@@ -5,16 +5,16 @@ use Rattle.std.proofs.lemmas.List.{append-nil}
 use Rattle.smx_types.specs.declared.limits.TheConstants.{MAX_DRIVERS, MAX_COMMANDS}
 use Rattle.smx_types.specs.declared.transcript.Transcript.{Transcript}
 use Rattle.smx_types.specs.declared.view.ConfigView.{ConfigView}
-use Rattle.smx_text.specs.declared.transcript_draft.Stage.{Stage}
-use Rattle.smx_text.specs.declared.transcript_draft.Stage.TheVariants as stage
-use Rattle.smx_text.specs.declared.transcript_draft.TranscriptDraft.{TranscriptDraft}
-use Rattle.smx_text.specs.declared.transcript_line.TranscriptLine.{TranscriptLine}
-use Rattle.smx_text.specs.declared.transcript_line.TranscriptLine.TheVariants as line
-use Rattle.smx_text.specs.TranscriptText.{IsSpellable, IsSpellableView}
-use Rattle.smx_text.specs.TranscriptReading.{FitsLine, view_body, body, IsAllowed}
-use Rattle.smx_text.specs.TranscriptDrafts.{new_view}
+use Rattle.smx_text.specs.declared.transcript.draft.Stage.{Stage}
+use Rattle.smx_text.specs.declared.transcript.draft.Stage.TheVariants as stage
+use Rattle.smx_text.specs.declared.transcript.draft.TranscriptDraft.{TranscriptDraft}
+use Rattle.smx_text.specs.TranscriptLines.{TranscriptLine}
+use Rattle.smx_text.specs.TranscriptLines as line
+use Rattle.smx_text.specs.TranscriptText.{IsSpellable, IsSpellableView, FitsLine, view_body, body, IsAllowed}
+use Rattle.smx_text.proofs.TranscriptDrafts.{new_view}
 use Rattle.smx_text.proofs.EachLemmas.{all_left, all_right, all_append, all_map, of_map}
-use Rattle.smx_text.proofs.TranscriptDraftLemmas.{shown, draft, lines}
+use Rattle.smx_text.proofs.TranscriptDraftLemmas.{draft}
+use Rattle.smx_text.specs.Drafts.{shown, lines}
 
 abbrev pub ended : Stage → Transcript → Transcript
 ended stage.History t = record t { view = new_view 0 0 }

@@ -1,28 +1,57 @@
--- What holds of the programs that are being read, and why a line can't join them. No public clause needs this.
-use Rattle.std.specs.Prelude.{◌≡◌, ◌⊎◌, ℕ, length, Option, None}
+-- What was read so far, and what holds of it. No public clause needs this.
+use Rattle.std.specs.Prelude.{◌≡◌, Bool, true, false, ◌&&◌, ◌==◌, List, [], ◌∷◌, ◌++◌, length, map}
 use Rattle.std.specs.List.{sum_by}
-use Rattle.smx_types.specs.ProgramLists.{ProgramLists, AreWithinLimits, program_lists}
-use Rattle.smx_text.specs.declared.draft.Draft.TheInside.{Inside}
-use Rattle.smx_text.specs.declared.fault.Cause.{Cause}
-use Rattle.smx_text.specs.declared.fault.Cause.TheVariants as cause
-use Rattle.smx_text.specs.declared.fault.TextFault.{TextFault}
-use Rattle.smx_text.specs.declared.line.Line.{Line}
-use Rattle.smx_text.specs.ProgramsReading.{MayFollow, IsFull}
+use Rattle.smx_types.specs.ProgramLists.{AreWithinLimits, program_lists}
+use Rattle.smx_types.specs.declared.view.ConfigView.{ConfigView}
+use Rattle.smx_text.specs.declared.programs.draft.ProgramsDraft.TheInside.{Inside}
+use Rattle.smx_text.specs.declared.transcript.draft.Stage.{Stage}
+use Rattle.smx_text.specs.declared.transcript.draft.Stage.TheVariants as stage
+use Rattle.smx_text.specs.declared.transcript.draft.TranscriptDraft.{TranscriptDraft}
+use Rattle.smx_text.specs.TranscriptLines.{TranscriptLine}
+use Rattle.smx_text.specs.TranscriptLines as line
+use Rattle.smx_text.specs.TranscriptText.{view_body}
 
--- they are within the limits, and their commands are counted
+-- programs within the limits, whose commands are counted
 pub record IsCounted (d : Inside) : Type 0 where
   pub within : AreWithinLimits (program_lists d.drivers.items d.programs.items)
   pub count : d.count ≡ sum_by length d.programs.items
 
--- it may not follow, or is one too many, or there is no room for it
-abbrev pub Refuses : ProgramLists → Line → Cause → Type 0
-Refuses v l cause.Form = MayFollow v l → ⊥
-Refuses v l cause.Many = MayFollow v l × IsFull v l
-Refuses v l cause.NoMemory = Unit {0}
-Refuses v l cause.Header = ⊥
-Refuses v l cause.Cut = ⊥
-Refuses v l cause.Trailing = ⊥
+-- the lines of a transcript behind its entries, as far as they were read
+abbrev pub shown : Stage → ConfigView → List TranscriptLine
+shown stage.History v = []
+shown stage.Config v = line.Config ∷ []
+shown stage.View v = line.Config ∷ view_body v
 
--- its words spell no line, or there was no memory for it
-abbrev pub IsUnread : Option Line → ℕ → TextFault → Type 0
-IsUnread taken number f = ((taken ≡ None) × (f ≡ record { line = number; cause = cause.Form })) ⊎ (f ≡ record { line = number; cause = cause.NoMemory })
+-- the lines of a transcript, as far as they were read
+abbrev pub lines : TranscriptDraft → List TranscriptLine
+lines d = map line.Driver d.transcript.drivers ++ (map line.Entry d.transcript.entries ++ shown d.stage d.transcript.view)
+
+-- groups are read
+abbrev pub is_view : Stage → Bool
+is_view stage.History = false
+is_view stage.Config = false
+is_view stage.View = true
+
+-- a full place may come: it is of the last group
+abbrev pub takes_fulls : TranscriptDraft → Bool
+takes_fulls d = is_view d.stage
+
+-- a message may come: no line of a later group came
+abbrev pub takes_msgs : TranscriptDraft → Bool
+takes_msgs d = takes_fulls d && (length d.transcript.view.fulls == 0)
+
+-- a route may come: no line of a later group came
+abbrev pub takes_routes : TranscriptDraft → Bool
+takes_routes d = takes_msgs d && (length d.transcript.view.msgs == 0)
+
+-- a binding may come: no line of a later group came
+abbrev pub takes_binds : TranscriptDraft → Bool
+takes_binds d = takes_routes d && (length d.transcript.view.routes == 0)
+
+-- a link may come: no line of a later group came
+abbrev pub takes_links : TranscriptDraft → Bool
+takes_links d = takes_binds d && (length d.transcript.view.binds == 0)
+
+-- a descriptor may come: no line of a later group came
+abbrev pub takes_fds : TranscriptDraft → Bool
+takes_fds d = takes_links d && (length d.transcript.view.links == 0)

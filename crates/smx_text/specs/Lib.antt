@@ -1,12 +1,7 @@
+pub mod Grammar
+pub mod Reading
+pub mod ProgramLines
 pub mod ProgramsText
-pub mod ProgramsReading
+pub mod TranscriptLines
 pub mod TranscriptText
-pub mod WordReading
-pub mod CommandReading
-pub mod LineReading
 pub mod Drafts
-pub mod TranscriptReading
-pub mod WordCounts
-pub mod ReplyReading
-pub mod TranscriptLineReading
-pub mod TranscriptDrafts

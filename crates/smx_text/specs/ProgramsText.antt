@@ -1,18 +1,14 @@
 -- The programs text: drivers, and a program of commands for each process.
-use Rattle.std.specs.Prelude.{◌≡◌, ℕ, ◌+◌, List, [], ◌∷◌, ◌++◌, map, codes}
+use Rattle.std.specs.Prelude.{ℕ, ◌+◌, List, [], ◌∷◌, ◌++◌, map, codes}
 use Rattle.std.specs.List.{AllByRecursion}
 use Rattle.std.specs.Fmt.{decimal}
 use Rattle.smx_types.specs.ProgramLists.{ProgramLists, AreWithinLimits}
 use Rattle.smx_types.specs.declared.command.Command.{Command}
-use Rattle.smx_text.specs.declared.line.Line.{Line}
-use Rattle.smx_text.specs.declared.line.Line.TheVariants as line
-use Rattle.smx_words.specs.Words.{text_of}
 use Rattle.smx_words.specs.Spelling.{driver_words, command_words}
 use Rattle.smx_words.specs.Spellable.{FitsNumber, FitsDriver, FitsCommand}
-
--- the words of the first line
-abbrev pub header_words : List (List ℕ)
-header_words = codes "programs" ∷ codes "1" ∷ []
+use Rattle.smx_text.specs.Grammar.{Grammar, full_text, Spells}
+use Rattle.smx_text.specs.ProgramLines.{Line}
+use Rattle.smx_text.specs.ProgramLines as line
 
 -- the words of each line
 abbrev pub line_words : Line → List (List ℕ)
@@ -37,16 +33,26 @@ program_lines n (commands ∷ programs) = line.Process n ∷ (map line.Command c
 abbrev pub body : ProgramLists → List Line
 body v = map line.Driver v.drivers ++ program_lines 0 v.programs
 
--- the one text of these programs
-abbrev pub programs_text : ProgramLists → List ℕ
-programs_text v = text_of (header_words ∷ map line_words (body v) ++ line_words line.End ∷ [])
-
 -- within the limits, and each line can be spelled
 pub record IsAllowed (v : ProgramLists) : Type 0 where
   pub within : AreWithinLimits v
   pub fits : AllByRecursion FitsLine (body v)
 
+-- the grammar of this text
+abbrev pub programs_grammar : Grammar ProgramLists Line
+programs_grammar = record {
+  header_words = codes "programs" ∷ codes "1" ∷ [];
+  line_words = line_words;
+  FitsLine = FitsLine;
+  body = body;
+  end = line.End;
+  IsAllowed = IsAllowed;
+}
+
+-- the one text of these programs
+abbrev pub programs_text : ProgramLists → List ℕ
+programs_text v = full_text programs_grammar v
+
 -- these bytes spell these programs
-pub record SpellsPrograms (bytes : List ℕ) (v : ProgramLists) : Type 0 where
-  pub allowed : IsAllowed v
-  pub text : bytes ≡ programs_text v
+abbrev pub SpellsPrograms : List ℕ → ProgramLists → Type 0
+SpellsPrograms bytes v = Spells programs_grammar bytes v

@@ -1,32 +1,53 @@
 -- The transcript text: drivers, history, and the configuration at its end.
-use Rattle.std.specs.Prelude.{ℕ, List, [], ◌∷◌, ◌++◌, map, codes}
+use Rattle.std.specs.Prelude.{◌≤◌, ℕ, List, [], ◌∷◌, ◌++◌, length, map, codes}
 use Rattle.std.specs.List.{AllByRecursion}
 use Rattle.std.specs.Fmt.{decimal}
+use Rattle.smx_types.specs.declared.limits.TheConstants.{MAX_DRIVERS, MAX_COMMANDS}
 use Rattle.smx_types.specs.declared.transcript.Transcript.{Transcript}
 use Rattle.smx_types.specs.declared.view.ConfigView.{ConfigView}
-use Rattle.smx_words.specs.Words.{text_of}
 use Rattle.smx_words.specs.Spelling.{driver_words, entry_words, descriptor_words, link_words, bind_words, route_words, message_words, full_words}
 use Rattle.smx_words.specs.Spellable.{FitsNumber, FitsDriver, FitsEntry, FitsDescriptor, FitsLink, FitsBinding, FitsRoute, FitsMessage, FitsFull}
+use Rattle.smx_text.specs.Grammar.{Grammar, full_text, Spells}
+use Rattle.smx_text.specs.TranscriptLines.{TranscriptLine}
+use Rattle.smx_text.specs.TranscriptLines as line
 
--- the next id and the next serial
-abbrev pub next_words : ConfigView → List (List ℕ)
-next_words v = codes "next" ∷ decimal v.next_id ∷ decimal v.next_serial ∷ []
+-- the words of each line
+abbrev pub line_words : TranscriptLine → List (List ℕ)
+line_words (line.Driver d) = driver_words d
+line_words (line.Entry e) = entry_words e
+line_words line.Config = codes "config" ∷ []
+line_words (line.Next id serial) = codes "next" ∷ decimal id ∷ decimal serial ∷ []
+line_words (line.Fd d) = descriptor_words d
+line_words (line.Link l) = link_words l
+line_words (line.Bind b) = bind_words b
+line_words (line.Route r) = route_words r
+line_words (line.Msg m) = message_words m
+line_words (line.Full f) = full_words f
+line_words line.End = codes "end" ∷ []
+
+-- what it says can be spelled
+abbrev pub FitsLine : TranscriptLine → Type 0
+FitsLine (line.Driver d) = FitsDriver d
+FitsLine (line.Entry e) = FitsEntry e
+FitsLine line.Config = Unit {0}
+FitsLine (line.Next id serial) = FitsNumber id × FitsNumber serial
+FitsLine (line.Fd d) = FitsDescriptor d
+FitsLine (line.Link l) = FitsLink l
+FitsLine (line.Bind b) = FitsBinding b
+FitsLine (line.Route r) = FitsRoute r
+FitsLine (line.Msg m) = FitsMessage m
+FitsLine (line.Full f) = FitsFull f
+FitsLine line.End = Unit {0}
 
 -- what comes next, and then open descriptors, links, bindings, routes, messages and full places
-abbrev pub view_lines : ConfigView → List (List (List ℕ))
-view_lines v =
-    next_words v ∷ map descriptor_words v.fds ++ map link_words v.links ++ map bind_words v.binds ++ map route_words v.routes
-    ++ map message_words v.msgs ++ map full_words v.fulls
+abbrev pub view_body : ConfigView → List TranscriptLine
+view_body v =
+    line.Next v.next_id v.next_serial ∷ (map line.Fd v.fds ++ (map line.Link v.links ++ (map line.Bind v.binds ++ (map line.Route v.routes
+    ++ (map line.Msg v.msgs ++ map line.Full v.fulls)))))
 
--- the header, drivers, entries, `config`, the view, `end`
-abbrev pub transcript_lines : Transcript → List (List (List ℕ))
-transcript_lines t =
-    (codes "transcript" ∷ codes "1" ∷ []) ∷ map driver_words t.drivers ++ map entry_words t.entries
-    ++ (codes "config" ∷ []) ∷ view_lines t.view ++ (codes "end" ∷ []) ∷ []
-
--- the one text of this transcript
-abbrev pub transcript_text : Transcript → List ℕ
-transcript_text t = text_of (transcript_lines t)
+-- the lines between the header and the end: drivers, entries, `config`, the view
+abbrev pub body : Transcript → List TranscriptLine
+body t = map line.Driver t.drivers ++ (map line.Entry t.entries ++ line.Config ∷ view_body t.view)
 
 -- each line of a view can be spelled
 pub record IsSpellableView (v : ConfigView) : Type 0 where
@@ -44,3 +65,28 @@ pub record IsSpellable (t : Transcript) : Type 0 where
   pub drivers : AllByRecursion FitsDriver t.drivers
   pub entries : AllByRecursion FitsEntry t.entries
   pub view : IsSpellableView t.view
+
+-- within the limits, and each line can be spelled
+pub record IsAllowed (t : Transcript) : Type 0 where
+  pub drivers : length t.drivers ≤ MAX_DRIVERS
+  pub entries : length t.entries ≤ MAX_COMMANDS
+  pub spellable : IsSpellable t
+
+-- the grammar of this text
+abbrev pub transcript_grammar : Grammar Transcript TranscriptLine
+transcript_grammar = record {
+  header_words = codes "transcript" ∷ codes "1" ∷ [];
+  line_words = line_words;
+  FitsLine = FitsLine;
+  body = body;
+  end = line.End;
+  IsAllowed = IsAllowed;
+}
+
+-- the one text of this transcript
+abbrev pub transcript_text : Transcript → List ℕ
+transcript_text t = full_text transcript_grammar t
+
+-- these bytes spell this transcript
+abbrev pub SpellsTranscript : List ℕ → Transcript → Type 0
+SpellsTranscript bytes t = Spells transcript_grammar bytes t

@@ -1,25 +1,51 @@
-//! Laws of the programs text.
+//! Laws of the texts.
 
 ghost use Rattle.std.specs.Prelude.{◌≡◌, ◌≢◌, List, ℕ, Result, Ok, MatchResult, IfErr};
 ghost use Rattle.smx_types.specs.ProgramLists.{ProgramLists};
 ghost use Rattle.smx_text.specs.declared.fault.TextFault.{TextFault};
 ghost use Rattle.smx_text.specs.declared.fault.Cause.TheVariants.{NoMemory};
-ghost use Rattle.smx_text.specs.ProgramsText.{IsAllowed, programs_text};
-ghost use Rattle.smx_text.specs.ProgramsReading.{Reads};
+ghost use Rattle.smx_types.specs.declared.transcript.Transcript.{Transcript};
+ghost use Rattle.smx_text.specs.TranscriptText.{transcript_grammar, transcript_text};
+ghost use Rattle.smx_text.specs.TranscriptText.{IsAllowed as TranscriptIsAllowed};
+ghost use Rattle.smx_text.specs.Grammar.{Reads};
+ghost use Rattle.smx_text.specs.ProgramsText.{IsAllowed, programs_grammar, programs_text};
 
 /// What is written of programs is read as those programs, unless memory runs out.
 pub fn written_is_read()
-    ensures { (v : ProgramLists) (r : Result ProgramLists TextFault) → IsAllowed v → Reads (programs_text v) r
+    ensures { (v : ProgramLists) (r : Result ProgramLists TextFault)
+        → IsAllowed v → Reads programs_grammar (programs_text v) r
         → MatchResult r (λ w. w ≡ v) (λ f. f.cause ≡ NoMemory) }
 {}
 
 /// A text that is read is the one that is written of what was read.
 pub fn read_is_written()
-    ensures { (bytes : List ℕ) (v : ProgramLists) → Reads bytes (Ok v) → bytes ≡ programs_text v }
+    ensures { (bytes : List ℕ) (v : ProgramLists)
+        → Reads programs_grammar bytes (Ok v) → bytes ≡ programs_text v }
 {}
 
 /// Two readings of one text are the same, faults and their lines among them, unless memory runs out.
 pub fn one_text_has_one_reading()
-    ensures { (bytes : List ℕ) (r s : Result ProgramLists TextFault) → Reads bytes r → Reads bytes s
+    ensures { (bytes : List ℕ) (r s : Result ProgramLists TextFault)
+        → Reads programs_grammar bytes r → Reads programs_grammar bytes s
+        → IfErr r (λ f. f.cause ≢ NoMemory) → IfErr s (λ f. f.cause ≢ NoMemory) → r ≡ s }
+{}
+
+/// What is written of a transcript within the limits is read as that transcript, unless memory runs out.
+pub fn transcript_written_is_read()
+    ensures { (t : Transcript) (r : Result Transcript TextFault)
+        → TranscriptIsAllowed t → Reads transcript_grammar (transcript_text t) r
+        → MatchResult r (λ u. u ≡ t) (λ f. f.cause ≡ NoMemory) }
+{}
+
+/// A text that is read is the one that is written of what was read.
+pub fn transcript_read_is_written()
+    ensures { (bytes : List ℕ) (t : Transcript)
+        → Reads transcript_grammar bytes (Ok t) → bytes ≡ transcript_text t }
+{}
+
+/// Two readings of one text are the same, faults and their lines among them, unless memory runs out.
+pub fn one_transcript_has_one_reading()
+    ensures { (bytes : List ℕ) (r s : Result Transcript TextFault)
+        → Reads transcript_grammar bytes r → Reads transcript_grammar bytes s
         → IfErr r (λ f. f.cause ≢ NoMemory) → IfErr s (λ f. f.cause ≢ NoMemory) → r ≡ s }
 {}

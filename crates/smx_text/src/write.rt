@@ -3,7 +3,8 @@
 ghost use Rattle.std.specs.Prelude.{◌≡◌, ◌<◌, ◌^◌, ◌++◌, length, map, IfOk, OnOk};
 ghost use Rattle.std.specs.List.{AllByRecursion};
 ghost use Rattle.smx_text.specs.ProgramsText.{line_words, program_lines, programs_text, FitsLine, IsAllowed};
-ghost use Rattle.smx_text.specs.TranscriptText.{transcript_text, view_lines, IsSpellable, IsSpellableView};
+ghost use Rattle.smx_text.specs.TranscriptText.{transcript_text, view_body, IsSpellable, IsSpellableView};
+ghost use Rattle.smx_text.specs.TranscriptText.{line_words as view_words};
 ghost use Rattle.smx_words.specs.Words.{text_of};
 
 use smx_types::{Commands, ConfigView, NoMemory, Programs, Transcript};
@@ -68,7 +69,7 @@ fn write_each(out: &mut Vec<u8>, programs: &[Commands]) -> Result<(), NoMemory>
 // The lines of a view, its groups in their order.
 #[tactic(auto, using(crate::proofs::WritingLemmas::view_written))]
 fn write_view(out: &mut Vec<u8>, view: &ConfigView) -> Result<(), NoMemory>
-    ensures written { OnOk result (out.new.items ≡ out.old.items ++ text_of (view_lines view.now)) }
+    ensures written { OnOk result (out.new.items ≡ out.old.items ++ text_of (map view_words (view_body view.now))) }
     ensures spellable { OnOk result (IsSpellableView view.now) }
 {
     write_next(out, view.next_id, view.next_serial)?;

@@ -1,12 +1,11 @@
 -- Whether some value is spelled so is told for each kind of word.
-use Rattle.std.proofs.Common.{◌≡◌, ◌≢◌, ℕ, ◌<◌, ◌≤◌, ◌^◌, Bool, true, false, List, [], ◌∷◌, length, Result, Ok, Err, refl, sym, ap, ◌∙◌, arith, inl, inr}
+use Rattle.std.proofs.Common.{◌≡◌, ◌≢◌, ℕ, ◌<◌, ◌≤◌, ◌^◌, ◌%◌, Bool, true, false, List, [], ◌∷◌, length, refl, sym, ap, ◌∙◌, arith, inl, inr}
 use Rattle.std.specs.Prelude.{codes}
+use Rattle.std.specs.List.{list_all}
 use Rattle.std.specs.Fmt.{decimal}
 use Rattle.std.specs.Str.Parse.{digits_value}
 use Rattle.std.proofs.lemmas.Bool.{cases_lt}
 use Rattle.std.proofs.lemmas.Fmt.{digits_value-decimal}
-use Rattle.hex.specs.Hex.{decode_of}
-use Rattle.hex.specs.declared.error.FromHexError.{FromHexError}
 use Rattle.smx_types.specs.Names.{is_name}
 use Rattle.smx_types.specs.declared.command.Sides.TheVariants as sides
 use Rattle.smx_types.specs.declared.command.Which.{Which}
@@ -14,11 +13,11 @@ use Rattle.smx_types.specs.declared.command.Which.TheVariants as which
 use Rattle.smx_types.specs.declared.driver.DriverKind.TheVariants as kind
 use Rattle.smx_types.specs.declared.link.LinkKind.TheVariants as link
 use Rattle.smx_types.specs.declared.stream.Side.TheVariants as side
-use Rattle.smx_words.specs.HexWords.{hex_word}
+use Rattle.smx_words.specs.HexWords.{hex_word, is_digit}
 use Rattle.smx_words.specs.Spellable.{FitsAlways, FitsBytes, FitsName, FitsNumber, FitsProcess, FitsWhich}
 use Rattle.smx_words.specs.Spelling.{kind_word, link_kind_word, side_word, sides_word, which_word}
 use Rattle.smx_words.proofs.DecidedLemmas.{Answer, IsDecided, one_of, same_or_not}
-use Rattle.smx_words.proofs.HexLemmas.{decoded, no_capitals, no_error, spelled}
+use Rattle.smx_words.proofs.HexLemmas.{no_digits, odd_is_none, spell_some}
 use Rattle.smx_words.proofs.NumberLemmas.{own}
 
 -- a word of a number below a limit is the word of its digits' value
@@ -51,23 +50,23 @@ name = record { answer = λ w. by_test w (is_name w) refl } where
     wrong : true ≡ false → ⊥
     wrong bad = absurd (cc bad)
 
--- bytes are a dash, or what the digits decode to, where none is a capital
+-- bytes are a dash, or an even number of digits
 pub bytes : IsDecided FitsBytes hex_word
-bytes = record { answer = λ w. elim (same_or_not w (codes "-")) [ inl is ↦ inl ([], tt, is) | inr other ↦ by_length w other ] } where
-  by_result : (w : List ℕ) → w ≢ codes "-" → 0 < length w → no_capitals w ≡ true → (r : Result (List ℕ) FromHexError) → decode_of w ≡ r → Answer FitsBytes hex_word w
-  by_result w other some lower (Ok bs) e = let d = decoded w bs some lower e in inl (bs, d.0, d.1)
-  by_result w other some lower (Err f) e = inr (λ bs fits is. no_error w bs f (spelled w bs other fits is).2 e)
+bytes = record { answer = answer } where
+  by_test : (w : List ℕ) → 0 < length w → length w % 2 ≢ 1 → (t : Bool) → list_all is_digit w ≡ t → Answer FitsBytes hex_word w
+  by_test w some even true e = inl (spell_some w some even e)
+  by_test w some even false e = inr (no_digits w even e)
 
-  by_capitals : (w : List ℕ) → w ≢ codes "-" → 0 < length w → (t : Bool) → no_capitals w ≡ t → Answer FitsBytes hex_word w
-  by_capitals w other some true e = by_result w other some e (decode_of w) refl
-  by_capitals w other some false e = inr (λ bs fits is. wrong (sym (spelled w bs other fits is).1 ∙ e)) where
-    wrong : true ≡ false → ⊥
-    wrong bad = absurd (cc bad)
+  by_length : (w : List ℕ) → 0 < length w → w ≢ codes "-" → Answer FitsBytes hex_word w
+  by_length w some other = elim (cases_lt (length w % 2) 1) [
+    | inl even ↦ by_test w some (λ odd. omega (arith, even, odd)) (list_all is_digit w) refl
+    | inr odd ↦ inr (odd_is_none w (λ h. omega (arith, odd)) other)
+  ]
 
-  by_length : (w : List ℕ) → w ≢ codes "-" → Answer FitsBytes hex_word w
-  by_length w other = elim (cases_lt 0 (length w)) [
-    | inl some ↦ by_capitals w other some (no_capitals w) refl
-    | inr none ↦ inr (λ bs fits is. omega (arith, none, (spelled w bs other fits is).0))
+  answer : (w : List ℕ) → Answer FitsBytes hex_word w
+  answer w = elim (same_or_not w (codes "-")) [
+    | inl is ↦ inl ([], tt, is)
+    | inr other ↦ elim (cases_lt 0 (length w)) [ | inl some ↦ by_length w some other | inr none ↦ inr (odd_is_none w (λ h. absurd (omega (arith, h, none))) other) ]
   ]
 
 -- ---- words of few values

@@ -1,7 +1,6 @@
 -- The words of values are of bytes that can be seen, and none but an entry's has an equals sign.
-use Rattle.std.proofs.Common.{◌≡◌, ◌≢◌, ℕ, ◌+◌, ◌/◌, ◌%◌, ◌<◌, ◌≤◌, Bool, true, false, ◌&&◌, List, [], ◌∷◌, ◌++◌, length, map, arith, rules}
+use Rattle.std.proofs.Common.{◌≡◌, ◌≢◌, ℕ, ◌/◌, ◌%◌, ◌<◌, ◌≤◌, Bool, true, false, ◌&&◌, List, [], ◌∷◌, ◌++◌, length, map, arith, rules}
 use Rattle.std.specs.List.{list_all, AllByRecursion}
-use Rattle.std.specs.Prelude.{codes}
 use Rattle.std.specs.Fmt.{decimal}
 use Rattle.std.specs.Str.{all_ascii_digits}
 use Rattle.std.proofs.lemmas.Bool.Decides.{nat_tests}
@@ -21,7 +20,7 @@ use Rattle.smx_types.specs.declared.reply.Reply.TheVariants as reply
 use Rattle.smx_words.specs.HexWords.{hex_word}
 use Rattle.smx_words.specs.Spellable.{FitsBytes, FitsCommand, FitsName, FitsNumber, FitsReply, FitsWhich}
 use Rattle.smx_words.specs.Spelling.{command_words, fault_words, reply_words, which_word, sides_word}
-use Rattle.smx_words.specs.Words.{EQUALS, IsFree, IsWord, line_of}
+use Rattle.smx_words.specs.Words.{EQUALS, IsFree, line_of}
 use Rattle.smx_words.proofs.HexLemmas.{digit, digit_is, digit_range}
 use Rattle.smx_words.proofs.NumberLemmas.{decimal_digits}
 

@@ -1,18 +1,18 @@
 -- The serials of a reply, and replies of one word or of a fault's.
-use Rattle.std.proofs.Common.{◌≡◌, ◌≢◌, ℕ, suc, ◌+◌, ◌<◌, List, [], ◌∷◌, ◌++◌, length, map, Option, Some, None, Result, Ok, Err, refl, sym, ap, ◌∙◌, append_assoc, arith}
+use Rattle.std.proofs.Common.{◌≡◌, ◌≢◌, Bool, ℕ, List, [], ◌∷◌, ◌++◌, map, Option, Some, None, Result, Ok, Err, refl, sym, ap, ◌∙◌, append_assoc, arith}
 use Rattle.std.specs.List.{AllByRecursion}
 use Rattle.std.specs.Fmt.{decimal}
-use Rattle.std.specs.Prelude.{codes, IfOk, MatchOption}
+use Rattle.std.specs.Prelude.{codes, is_some, IfErr, IfOk, MatchBool, MatchOption, MatchResult}
 use Rattle.smx_types.specs.declared.reply.Fault.{Fault}
 use Rattle.smx_types.specs.declared.reply.Reply.{Reply}
 use Rattle.smx_types.specs.declared.reply.Reply.TheVariants as reply
 use Rattle.smx_words.specs.declared.reading.verb.ReplyVerb.{ReplyVerb}
 use Rattle.smx_words.specs.declared.reading.verb.ReplyVerb.TheVariants as reply_verb
-use Rattle.smx_words.specs.LineReading.{IsReadAs}
+use Rattle.smx_words.specs.LineReading.{IsFoundIn, IsLineOf, IsReadAs}
 use Rattle.smx_words.specs.Spellable.{FitsAlways, FitsNumber, FitsReply, FitsSerials}
 use Rattle.smx_words.specs.Spelling.{fault_words, reply_words}
 use Rattle.smx_words.specs.Verbs.{reply_verb_word}
-use Rattle.smx_words.specs.Words.{SPACE, IsFree, line_of}
+use Rattle.smx_words.specs.Words.{SPACE, line_of}
 use Rattle.smx_words.proofs.CutLemmas.{apart, no_space_in}
 use Rattle.smx_words.proofs.NumberLemmas.{number_free, same_number}
 
@@ -68,6 +68,37 @@ last line before rest (Ok None) h alone one = λ all fits e. let o = h.only all 
   by_rest (m ∷ k ∷ more) t = alone m (line_of (map decimal (k ∷ more))) t.0.1.0 t.1
 last line before rest (Ok (Some all)) h alone one = rw one.3 (h.then (one.0 ∷ []) ((omega arith, (one.1, tt)), one.2))
 
+-- the serials of the rest are the last of the line's, and where the rest has none the line has none
+pub went_on : (line before rest : List ℕ) → AreThen line before rest → IsLineOf FitsSerials (map decimal) rest → IsLineOf FitsSerials (map decimal) line
+went_on line before rest h more = let all = h.then more.0 (more.1, more.2) in (before ++ more.0, all.0, all.1)
+
+pub none_left : (line before rest : List ℕ) → AreThen line before rest → ((all : List ℕ) → FitsSerials all → rest ≢ line_of (map decimal all))
+    → (all : List ℕ) → FitsSerials all → line ≢ line_of (map decimal all)
+none_left line before rest h none all fits e = let o = h.only all (fits, e) in none o.0 o.2.0 o.2.1
+
+-- the one serial that is left
+pub last_is : (rest : List ℕ) (n : ℕ) → FitsNumber n → rest ≡ decimal n → IsLineOf FitsSerials (map decimal) rest
+last_is rest n fits is = (n ∷ [], (omega arith, (fits, tt)), is)
+
+last_is_none : (rest : List ℕ) → ((n : ℕ) (after : List ℕ) → FitsNumber n → rest ≢ decimal n ++ SPACE ∷ after) → ((n : ℕ) → FitsNumber n → rest ≢ decimal n)
+    → (all : List ℕ) → FitsSerials all → rest ≢ line_of (map decimal all)
+last_is_none rest alone one [] fits e = omega (arith, fits.0)
+last_is_none rest alone one (m ∷ []) fits e = one m fits.1.0 e
+last_is_none rest alone one (m ∷ k ∷ more) fits e = alone m (line_of (map decimal (k ∷ more))) fits.1.0 e
+
+pub tells_last : (line : List ℕ) (before : List ℕ) (rest : List ℕ) (o : Option ℕ) (r : Bool) → r ≡ is_some o → AreThen line before rest
+    → ((n : ℕ) (after : List ℕ) → FitsNumber n → rest ≢ decimal n ++ SPACE ∷ after) → IsFoundIn FitsNumber decimal rest o
+    → MatchBool r (IsLineOf FitsSerials (map decimal) line) ((all : List ℕ) → FitsSerials all → line ≢ line_of (map decimal all))
+tells_last line before rest (Some n) r test h alone found = rw test (went_on line before rest h (last_is rest n found.0 found.1))
+tells_last line before rest None r test h alone found = rw test (none_left line before rest h (last_is_none rest alone found))
+
+-- a reply of dropped serials
+pub done_line : (rest : List ℕ) → IsLineOf FitsSerials (map decimal) rest → IsLineOf FitsReply reply_words (line_of (codes "done" ∷ rest ∷ []))
+done_line rest h = by_serials h.0 h.1 h.2 where
+  by_serials : (ns : List ℕ) → FitsSerials ns → rest ≡ line_of (map decimal ns) → IsLineOf FitsReply reply_words (line_of (codes "done" ∷ rest ∷ []))
+  by_serials [] fits e = absurd (omega (arith, fits.0))
+  by_serials (n ∷ ns) fits e = (reply.Done (n ∷ ns), fits.1, ap (λ (x : List ℕ). codes "done" ++ SPACE ∷ x) e)
+
 -- ---- a reply that stands alone
 
 pub standing_alone : (line : List ℕ) (r : Option Reply) → ((v : ReplyVerb) (after : List ℕ) → FitsAlways v → line ≢ reply_verb_word v ++ SPACE ∷ after)
@@ -83,3 +114,15 @@ standing_alone line None none found = nothing where
   nothing (reply.Done []) fits e = found.0 e
   nothing (reply.Done (n ∷ ns)) fits e = none reply_verb.Done _ tt e
   nothing (reply.Fault f) fits e = found.1 f e
+
+pub last_wanted : {A E : Type 0} (line before rest : List ℕ) (r : Result A E) → AreThen line before rest → IfErr r (λ _. (n : ℕ) × FitsNumber n × (rest ≡ decimal n)) → IfErr r (λ _. IsLineOf FitsSerials (map decimal) line)
+last_wanted line before rest (Ok o) h wanted = tt
+last_wanted line before rest (Err e) h wanted = went_on line before rest h (last_is rest wanted.0 wanted.1 wanted.2)
+
+-- no memory for a serial: the rest decides
+pub went_bad : {E : Type 0} (line before rest : List ℕ) (r : Result (Option (List ℕ)) E) → AreThen line before rest
+    → MatchResult r (λ o. (o ≡ None) × ((all : List ℕ) → FitsSerials all → rest ≢ line_of (map decimal all))) (λ _. IsLineOf FitsSerials (map decimal) rest)
+    → IfOk r (IsReadAs FitsSerials (map decimal) line) × IfErr r (λ _. IsLineOf FitsSerials (map decimal) line)
+went_bad line before rest (Err e) h m = (tt, went_on line before rest h m)
+went_bad line before rest (Ok None) h m = (none_left line before rest h m.1, tt)
+went_bad line before rest (Ok (Some all)) h m = absurd (cc m.0)

@@ -22,3 +22,7 @@ BeginsWith {X} Fits word_of bytes answer =
 -- some value that fits is spelled so
 abbrev pub IsSpelled : {X : Type 0} → (X → Type 0) → (X → List ℕ) → List ℕ → Type 0
 IsSpelled {X} Fits spelling bytes = (x : X) × Fits x × (bytes ≡ spelling x)
+
+-- the line is the words of some value that fits
+abbrev pub IsLineOf : {X : Type 0} → (X → Type 0) → (X → List (List ℕ)) → List ℕ → Type 0
+IsLineOf {X} Fits words_of line = IsSpelled Fits (λ x. line_of (words_of x)) line

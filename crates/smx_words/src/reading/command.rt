@@ -1,7 +1,7 @@
 //! The words of a command.
 
-ghost use Rattle.std.specs.Prelude.{◌≡◌, ◌∷◌, [], codes, IfOk};
-ghost use Rattle.smx_words.specs.LineReading.{IsReadAs};
+ghost use Rattle.std.specs.Prelude.{◌≡◌, ◌∷◌, [], codes, IfOk, IfErr};
+ghost use Rattle.smx_words.specs.LineReading.{IsReadAs, IsLineOf};
 ghost use Rattle.smx_words.specs.Spellable.{FitsCommand};
 ghost use Rattle.smx_words.specs.Spelling.{command_words};
 ghost use Rattle.smx_words.specs.Verbs.{verb_word};
@@ -14,9 +14,10 @@ use crate::reading::word::{first_name, name, sides, which};
 use smx_types::{Command, NoMemory};
 use std::alloc::Global;
 
-/// The command whose words a line is, if it is one's. Fails only for want of memory.
+/// The command whose words a line is, if it is one's. Fails only for want of memory, and then the line is some command's.
 pub fn command_of(alloc: Global, line: &[u8]) -> Result<Option<Command>, NoMemory>
-    ensures { IfOk result (IsReadAs FitsCommand command_words line.now) }
+    ensures reading { IfOk result (IsReadAs FitsCommand command_words line.now) }
+    ensures wanted { IfErr result (λ _. IsLineOf FitsCommand command_words line.now) }
 {
     match first_verb(line) {
         Some((verb, rest)) => command_after(alloc, verb, rest),
@@ -27,7 +28,8 @@ pub fn command_of(alloc: Global, line: &[u8]) -> Result<Option<Command>, NoMemor
 
 // The command of a verb and what stands behind it.
 fn command_after(alloc: Global, verb: Verb, rest: &[u8]) -> Result<Option<Command>, NoMemory>
-    ensures { IfOk result (IsReadAs FitsCommand command_words (line_of (verb_word verb ∷ rest.now ∷ []))) }
+    ensures reading { IfOk result (IsReadAs FitsCommand command_words (line_of (verb_word verb ∷ rest.now ∷ []))) }
+    ensures wanted { IfErr result (λ _. IsLineOf FitsCommand command_words (line_of (verb_word verb ∷ rest.now ∷ []))) }
 {
     match verb {
         Verb::Write => write(alloc, rest),
@@ -172,7 +174,8 @@ fn transmit(rest: &[u8]) -> Option<Command>
 }
 
 fn write(alloc: Global, rest: &[u8]) -> Result<Option<Command>, NoMemory>
-    ensures { IfOk result (IsReadAs FitsCommand command_words (line_of (codes "write" ∷ rest.now ∷ []))) }
+    ensures reading { IfOk result (IsReadAs FitsCommand command_words (line_of (codes "write" ∷ rest.now ∷ []))) }
+    ensures wanted { IfErr result (λ _. IsLineOf FitsCommand command_words (line_of (codes "write" ∷ rest.now ∷ []))) }
 {
     let Some((fd, rest)) = first_number(rest) else {
         return Ok(None);
@@ -180,14 +183,17 @@ fn write(alloc: Global, rest: &[u8]) -> Result<Option<Command>, NoMemory>
     let Some((addr, rest)) = first_number(rest) else {
         return Ok(None);
     };
-    let Some(bytes) = bytes_of(alloc, rest)? else {
-        return Ok(None);
+    let bytes = match bytes_of(alloc, rest) {
+        Ok(Some(bytes)) => bytes,
+        Ok(None) => return Ok(None),
+        Err(error) => return Err(error),
     };
     Ok(Some(Command::Write { fd, addr, bytes }))
 }
 
 fn inject(alloc: Global, rest: &[u8]) -> Result<Option<Command>, NoMemory>
-    ensures { IfOk result (IsReadAs FitsCommand command_words (line_of (codes "inject" ∷ rest.now ∷ []))) }
+    ensures reading { IfOk result (IsReadAs FitsCommand command_words (line_of (codes "inject" ∷ rest.now ∷ []))) }
+    ensures wanted { IfErr result (λ _. IsLineOf FitsCommand command_words (line_of (codes "inject" ∷ rest.now ∷ []))) }
 {
     let Some((driver, rest)) = first_name(rest) else {
         return Ok(None);
@@ -198,8 +204,10 @@ fn inject(alloc: Global, rest: &[u8]) -> Result<Option<Command>, NoMemory>
     let Some((addr, rest)) = first_number(rest) else {
         return Ok(None);
     };
-    let Some(bytes) = bytes_of(alloc, rest)? else {
-        return Ok(None);
+    let bytes = match bytes_of(alloc, rest) {
+        Ok(Some(bytes)) => bytes,
+        Ok(None) => return Ok(None),
+        Err(error) => return Err(error),
     };
     Ok(Some(Command::Inject { driver, minor, addr, bytes }))
 }

@@ -1,21 +1,22 @@
 //! The words of an entry.
 
-ghost use Rattle.std.specs.Prelude.{◌≡◌, ◌≢◌, ◌++◌, ◌∷◌, List, ℕ, codes, MatchOption, IfOk};
-ghost use Rattle.smx_words.specs.LineReading.{IsReadAs};
-ghost use Rattle.smx_words.specs.Spellable.{FitsEntry};
-ghost use Rattle.smx_words.specs.Spelling.{entry_words};
-ghost use Rattle.smx_words.specs.Words.{EQUALS, IsFree};
+ghost use Rattle.std.specs.Prelude.{◌≡◌, ◌≢◌, ◌++◌, ◌∷◌, List, ℕ, codes, MatchOption, IfOk, IfErr};
+ghost use Rattle.smx_words.specs.LineReading.{IsReadAs, IsLineOf};
+ghost use Rattle.smx_words.specs.Spellable.{FitsCommand, FitsEntry, FitsReply};
+ghost use Rattle.smx_words.specs.Spelling.{command_words, entry_words, reply_words};
+ghost use Rattle.smx_words.specs.Words.{EQUALS, IsFree, line_of};
 
 use crate::reading::command::command_of;
 use crate::reading::cutting::{after, before, cut};
 use crate::reading::number::first_number;
 use crate::reading::reply::reply_of;
-use smx_types::{Entry, NoMemory, Process};
+use smx_types::{Command, Entry, NoMemory, Process, Reply};
 use std::alloc::Global;
 
-/// The entry whose words a line is, if it is one's. Fails only for want of memory.
+/// The entry whose words a line is, if it is one's. Fails only for want of memory, and then the line is some entry's.
 pub fn entry_of(alloc: Global, line: &[u8]) -> Result<Option<Entry>, NoMemory>
-    ensures { IfOk result (IsReadAs FitsEntry entry_words line.now) }
+    ensures reading { IfOk result (IsReadAs FitsEntry entry_words line.now) }
+    ensures wanted { IfErr result (λ _. IsLineOf FitsEntry entry_words line.now) }
 {
     let Some((number, rest)) = first_number(line) else {
         return Ok(None);
@@ -26,17 +27,40 @@ pub fn entry_of(alloc: Global, line: &[u8]) -> Result<Option<Entry>, NoMemory>
     let Some((command, reply)) = sides(rest) else {
         return Ok(None);
     };
-    let Some(command) = command_of(alloc, command)? else {
-        return Ok(None);
-    };
-    let Some(reply) = reply_of(alloc, reply)? else {
-        return Ok(None);
-    };
-    Ok(Some(Entry {
-        process,
-        command,
-        reply,
-    }))
+    match both(alloc, command, reply) {
+        Ok(Some((command, reply))) => Ok(Some(Entry {
+            process,
+            command,
+            reply,
+        })),
+        Ok(None) => Ok(None),
+        Err(error) => Err(error),
+    }
+}
+
+// A command and a reply. Where memory is wanting for the command, the reply is still read, and has to be one.
+fn both(
+    alloc: Global,
+    command: &[u8],
+    reply: &[u8],
+) -> Result<Option<(Command, Reply)>, NoMemory>
+    ensures reading { IfOk result (λ o. MatchOption o
+        ((c : _) (r : _) → FitsCommand c → FitsReply r → command.now ≡ line_of (command_words c) → reply.now ≢ line_of (reply_words r))
+        (λ p. FitsCommand p.0 × FitsReply p.1 × (command.now ≡ line_of (command_words p.0)) × (reply.now ≡ line_of (reply_words p.1)))) }
+    ensures wanted { IfErr result (λ _. IsLineOf FitsCommand command_words command.now × IsLineOf FitsReply reply_words reply.now) }
+{
+    match command_of(alloc, command) {
+        Ok(Some(command)) => match reply_of(alloc, reply) {
+            Ok(Some(reply)) => Ok(Some((command, reply))),
+            Ok(None) => Ok(None),
+            Err(error) => Err(error),
+        },
+        Ok(None) => Ok(None),
+        Err(error) => match reply_of(alloc, reply) {
+            Ok(None) => Ok(None),
+            Ok(Some(_)) | Err(_) => Err(error),
+        },
+    }
 }
 
 // What stands on both sides of the first equals sign and the spaces around it.

@@ -1,8 +1,8 @@
 //! The words of a reply.
 
-ghost use Rattle.std.specs.Prelude.{◌≡◌, ◌≢◌, ◌∷◌, ◌++◌, [], ℕ, codes, map, MatchOption, IfOk};
+ghost use Rattle.std.specs.Prelude.{◌≡◌, ◌≢◌, ◌∷◌, ◌++◌, [], ℕ, codes, None, map, MatchBool, MatchOption, MatchResult, IfOk, IfErr};
 ghost use Rattle.std.specs.Fmt.{decimal};
-ghost use Rattle.smx_words.specs.LineReading.{IsReadAs};
+ghost use Rattle.smx_words.specs.LineReading.{IsReadAs, IsLineOf};
 ghost use Rattle.smx_words.specs.Spellable.{FitsAlways, FitsNumber, FitsReply, FitsSerials};
 ghost use Rattle.smx_words.specs.Spelling.{fault_words, reply_words};
 ghost use Rattle.smx_words.specs.Verbs.{reply_verb_word};
@@ -16,7 +16,8 @@ use std::alloc::Global;
 
 // The reply whose words a line is, if it is one's. Fails only for want of memory.
 pub fn reply_of(alloc: Global, line: &[u8]) -> Result<Option<Reply>, NoMemory>
-    ensures { IfOk result (IsReadAs FitsReply reply_words line.now) }
+    ensures reading { IfOk result (IsReadAs FitsReply reply_words line.now) }
+    ensures wanted { IfErr result (λ _. IsLineOf FitsReply reply_words line.now) }
 {
     match first_reply_verb(line) {
         Some((verb, rest)) => reply_after(alloc, verb, rest),
@@ -26,7 +27,8 @@ pub fn reply_of(alloc: Global, line: &[u8]) -> Result<Option<Reply>, NoMemory>
 
 // The reply of a verb and what stands behind it.
 fn reply_after(alloc: Global, verb: ReplyVerb, rest: &[u8]) -> Result<Option<Reply>, NoMemory>
-    ensures { IfOk result (IsReadAs FitsReply reply_words (line_of (reply_verb_word verb ∷ rest.now ∷ []))) }
+    ensures reading { IfOk result (IsReadAs FitsReply reply_words (line_of (reply_verb_word verb ∷ rest.now ∷ []))) }
+    ensures wanted { IfErr result (λ _. IsLineOf FitsReply reply_words (line_of (reply_verb_word verb ∷ rest.now ∷ []))) }
 {
     match verb {
         ReplyVerb::Fd => Ok(fd(rest)),
@@ -60,7 +62,8 @@ fn took(rest: &[u8]) -> Option<Reply>
 }
 
 fn got(alloc: Global, rest: &[u8]) -> Result<Option<Reply>, NoMemory>
-    ensures { IfOk result (IsReadAs FitsReply reply_words (line_of (codes "got" ∷ rest.now ∷ []))) }
+    ensures reading { IfOk result (IsReadAs FitsReply reply_words (line_of (codes "got" ∷ rest.now ∷ []))) }
+    ensures wanted { IfErr result (λ _. IsLineOf FitsReply reply_words (line_of (codes "got" ∷ rest.now ∷ []))) }
 {
     let Some((serial, rest)) = first_number(rest) else {
         return Ok(None);
@@ -68,8 +71,10 @@ fn got(alloc: Global, rest: &[u8]) -> Result<Option<Reply>, NoMemory>
     let Some((addr, rest)) = first_number(rest) else {
         return Ok(None);
     };
-    let Some(bytes) = bytes_of(alloc, rest)? else {
-        return Ok(None);
+    let bytes = match bytes_of(alloc, rest) {
+        Ok(Some(bytes)) => bytes,
+        Ok(None) => return Ok(None),
+        Err(error) => return Err(error),
     };
     Ok(Some(Reply::Got {
         serial,
@@ -79,17 +84,20 @@ fn got(alloc: Global, rest: &[u8]) -> Result<Option<Reply>, NoMemory>
 }
 
 fn done(alloc: Global, rest: &[u8]) -> Result<Option<Reply>, NoMemory>
-    ensures { IfOk result (IsReadAs FitsReply reply_words (line_of (codes "done" ∷ rest.now ∷ []))) }
+    ensures reading { IfOk result (IsReadAs FitsReply reply_words (line_of (codes "done" ∷ rest.now ∷ []))) }
+    ensures wanted { IfErr result (λ _. IsLineOf FitsReply reply_words (line_of (codes "done" ∷ rest.now ∷ []))) }
 {
-    match serials(alloc, rest)? {
-        Some(dropped) => Ok(Some(Reply::Done { dropped })),
-        None => Ok(None),
+    match serials(alloc, rest) {
+        Ok(Some(dropped)) => Ok(Some(Reply::Done { dropped })),
+        Ok(None) => Ok(None),
+        Err(error) => Err(error),
     }
 }
 
 // The serials whose words a line is, one or more.
 fn serials(alloc: Global, line: &[u8]) -> Result<Option<Serials>, NoMemory>
-    ensures { IfOk result (IsReadAs FitsSerials (map decimal) line.now) }
+    ensures reading { IfOk result (IsReadAs FitsSerials (map decimal) line.now) }
+    ensures wanted { IfErr result (λ _. IsLineOf FitsSerials (map decimal) line.now) }
 {
     let mut serials = Serials::new(alloc);
     let mut rest = line;
@@ -97,20 +105,49 @@ fn serials(alloc: Global, line: &[u8]) -> Result<Option<Serials>, NoMemory>
         let Some((serial, after)) = first_number(rest) else {
             return last_serial(serials, rest);
         };
-        serials.push(serial)?;
+        match serials.push(serial) {
+            Ok(()) => rest = after,
+            Err(error) => return unless_bad(error, after),
+        }
+    }
+}
+
+// Want of memory where a line is the words of serials.
+fn unless_bad(error: NoMemory, line: &[u8]) -> Result<Option<Serials>, NoMemory>
+    ensures { MatchResult result (λ o. (o ≡ None) × ((all : _) → FitsSerials all → line.now ≢ line_of (map decimal all)))
+        (λ _. IsLineOf FitsSerials (map decimal) line.now) }
+{
+    if are_serials(line) {
+        return Err(error);
+    }
+    Ok(None)
+}
+
+// Whether a line is the words of serials.
+fn are_serials(line: &[u8]) -> bool
+    ensures { MatchBool result (IsLineOf FitsSerials (map decimal) line.now) ((all : _) → FitsSerials all → line.now ≢ line_of (map decimal all)) }
+{
+    let mut rest = line;
+    'words: loop {
+        let Some((_, after)) = first_number(rest) else {
+            return number(rest).is_some();
+        };
         rest = after;
     }
 }
 
 fn last_serial(mut serials: Serials, word: &[u8]) -> Result<Option<Serials>, NoMemory>
-    ensures { IfOk result (λ o. MatchOption o ((n : ℕ) → FitsNumber n → word.now ≢ decimal n)
+    ensures reading { IfOk result (λ o. MatchOption o ((n : ℕ) → FitsNumber n → word.now ≢ decimal n)
         (λ all. (n : ℕ) × FitsNumber n × (word.now ≡ decimal n) × (all ≡ serials ++ n ∷ []))) }
+    ensures wanted { IfErr result (λ _. (n : ℕ) × FitsNumber n × (word.now ≡ decimal n)) }
 {
     let Some(serial) = number(word) else {
         return Ok(None);
     };
-    serials.push(serial)?;
-    Ok(Some(serials))
+    match serials.push(serial) {
+        Ok(()) => Ok(Some(serials)),
+        Err(error) => Err(error),
+    }
 }
 
 // The reply that stands alone: nothing dropped, or a fault.

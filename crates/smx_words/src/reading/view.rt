@@ -1,7 +1,7 @@
 //! The lines of a view.
 
-ghost use Rattle.std.specs.Prelude.{◌≡◌, IfOk};
-ghost use Rattle.smx_words.specs.LineReading.{IsReadAs};
+ghost use Rattle.std.specs.Prelude.{◌≡◌, IfOk, IfErr};
+ghost use Rattle.smx_words.specs.LineReading.{IsReadAs, IsLineOf};
 ghost use Rattle.smx_words.specs.Spellable.{FitsDescriptor, FitsLink, FitsBinding, FitsRoute, FitsMessage, FitsFull};
 ghost use Rattle.smx_words.specs.Spelling.{
   descriptor_words,
@@ -130,9 +130,11 @@ pub fn full_of(line: &[u8]) -> Option<FullLine>
     })
 }
 
-/// The queued message whose words a line is, if it is one's. Fails only for want of memory.
+/// The queued message whose words a line is, if it is one's. Fails only for want of memory, and then the line is some
+/// message's.
 pub fn message_of(alloc: Global, line: &[u8]) -> Result<Option<MessageLine>, NoMemory>
-    ensures { IfOk result (IsReadAs FitsMessage message_words line.now) }
+    ensures reading { IfOk result (IsReadAs FitsMessage message_words line.now) }
+    ensures wanted { IfErr result (λ _. IsLineOf FitsMessage message_words line.now) }
 {
     let Some(rest) = after(line, b"msg ".as_slice()) else {
         return Ok(None);
@@ -152,8 +154,10 @@ pub fn message_of(alloc: Global, line: &[u8]) -> Result<Option<MessageLine>, NoM
     let Some((addr, rest)) = first_number(rest) else {
         return Ok(None);
     };
-    let Some(bytes) = bytes_of(alloc, rest)? else {
-        return Ok(None);
+    let bytes = match bytes_of(alloc, rest) {
+        Ok(Some(bytes)) => bytes,
+        Ok(None) => return Ok(None),
+        Err(error) => return Err(error),
     };
     let message = Message {
         serial,

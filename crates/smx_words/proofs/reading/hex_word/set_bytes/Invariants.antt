@@ -1,4 +1,4 @@
-use Rattle.std.proofs.Common.{◌≡◌, ◌*◌, ◌<◌, ◌≤◌, take, true}
+use Rattle.std.proofs.Common.{◌≡◌, ◌*◌, ◌<◌, take, true}
 use Rattle.std.specs.List.{list_all}
 use Rattle.hex.specs.Hex.{encode_lower}
 use Rattle.smx_words.specs.HexWords.{is_digit}

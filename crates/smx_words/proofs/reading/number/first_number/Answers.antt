@@ -1,4 +1,4 @@
-use Rattle.std.proofs.Common.{◌<◌, ◌≡◌, length, slice_index, arith}
+use Rattle.std.proofs.Common.{arith}
 use Rattle.smx_words.proofs.NumberLemmas.{is_first, not_first}
 use Rattle.smx_words.proofs.reading.number.first_number.Goals as goal
 use Rattle.smx_words.proofs.reading.number.first_number.Goals.{else-end-text-via-then-end-text+else-text-end-eq32, else-end-text-via-else-end-text}

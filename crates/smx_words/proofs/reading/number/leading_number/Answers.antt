@@ -1,4 +1,4 @@
-use Rattle.std.proofs.Common.{sym, ◌∙◌, drop, arith}
+use Rattle.std.proofs.Common.{sym, drop, arith}
 use Rattle.smx_words.specs.Numbers.{NoDigitFirst}
 use Rattle.smx_words.proofs.NumberLemmas.{all_more, value_more, ends, too_large, wrong_start, right_start}
 use Rattle.smx_words.proofs.reading.number.leading_number.Goals as goal

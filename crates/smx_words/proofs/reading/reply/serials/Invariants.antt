@@ -1,7 +1,4 @@
-use Rattle.std.proofs.Common.{◌≡◌, ℕ, List, ◌++◌, length, map}
-use Rattle.std.specs.Fmt.{decimal}
-use Rattle.smx_words.specs.Spellable.{FitsSerials}
-use Rattle.smx_words.specs.Words.{line_of}
+use Rattle.std.proofs.Common.{length}
 use Rattle.smx_words.proofs.ReplyLemmas.{AreThen}
 use Rattle.smx_words.proofs.reading.reply.serials.Given as goal
 

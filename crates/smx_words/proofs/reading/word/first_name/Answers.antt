@@ -1,7 +1,5 @@
-use Rattle.std.proofs.Common.{sym, ◌∙◌}
 use Rattle.smx_words.specs.Spellable.{FitsName}
-use Rattle.smx_words.specs.Words.{SPACE}
-use Rattle.smx_words.proofs.CutLemmas.{apart, no_field}
+use Rattle.smx_words.proofs.CutLemmas.{no_field}
 use Rattle.smx_words.proofs.WordLemmas.{name_free, first_name_is}
 use Rattle.smx_words.proofs.reading.word.first_name.Goals as goal
 

@@ -1,0 +1,87 @@
+-- A transcript that is being read, as a machine that takes line after line.
+use Rattle.std.specs.Prelude.{ℕ, Bool, true, false, ◌&&◌, ◌==◌, nat_le, List, [], ◌∷◌, ◌++◌, length, Option, Some, None}
+use Rattle.smx_types.specs.declared.limits.TheConstants.{MAX_DRIVERS, MAX_COMMANDS}
+use Rattle.smx_types.specs.declared.transcript.Transcript.{Transcript}
+use Rattle.smx_types.specs.declared.view.ConfigView.{ConfigView}
+use Rattle.smx_text.specs.declared.transcript.draft.Stage.{Stage}
+use Rattle.smx_text.specs.declared.transcript.draft.Stage.TheVariants as stage
+use Rattle.smx_text.specs.declared.transcript.draft.TranscriptDraft.{TranscriptDraft}
+use Rattle.smx_text.specs.Drafts.{is_view, takes_fds, takes_links, takes_binds, takes_routes, takes_msgs, takes_fulls}
+use Rattle.smx_text.specs.TranscriptLines.{TranscriptLine}
+use Rattle.smx_text.specs.TranscriptLines as line
+
+-- a view with nothing in it yet
+abbrev pub new_view : ℕ → ℕ → ConfigView
+new_view id serial = record { next_id = id; next_serial = serial; fds = []; links = []; binds = []; routes = []; msgs = []; fulls = [] }
+
+-- nothing read yet
+abbrev pub new_draft : TranscriptDraft
+new_draft = record { stage = stage.History; transcript = record { drivers = []; entries = []; view = new_view 0 0 } }
+
+-- ---- stages
+
+-- drivers and entries are read
+abbrev pub is_history : Stage → Bool
+is_history stage.History = true
+is_history stage.Config = false
+is_history stage.View = false
+
+-- the line `config` was the last
+abbrev pub is_config : Stage → Bool
+is_config stage.History = false
+is_config stage.Config = true
+is_config stage.View = false
+
+-- ---- one line more
+
+-- the line may come next
+abbrev pub takes : TranscriptDraft → TranscriptLine → Bool
+takes d (line.Driver x) = is_history d.stage && (length d.transcript.entries == 0)
+takes d (line.Entry x) = is_history d.stage
+takes d line.Config = is_history d.stage
+takes d (line.Next id serial) = is_config d.stage
+takes d (line.Fd x) = takes_fds d
+takes d (line.Link x) = takes_links d
+takes d (line.Bind x) = takes_binds d
+takes d (line.Route x) = takes_routes d
+takes d (line.Msg x) = takes_msgs d
+takes d (line.Full x) = takes_fulls d
+takes d line.End = is_view d.stage
+
+-- as many as there may be of it
+abbrev pub is_full : TranscriptDraft → TranscriptLine → Bool
+is_full d (line.Driver x) = nat_le MAX_DRIVERS (length d.transcript.drivers)
+is_full d (line.Entry x) = nat_le MAX_COMMANDS (length d.transcript.entries)
+is_full d line.Config = false
+is_full d (line.Next id serial) = false
+is_full d (line.Fd x) = false
+is_full d (line.Link x) = false
+is_full d (line.Bind x) = false
+is_full d (line.Route x) = false
+is_full d (line.Msg x) = false
+is_full d (line.Full x) = false
+is_full d line.End = false
+
+-- what may follow, if this is there
+infixl 10 ◌>>=◌
+abbrev pub ◌>>=◌ : {A B : Type 0} → Option A → (A → Option B) → Option B
+(Some x) >>= f = f x
+None >>= f = None
+
+-- with another view
+abbrev pub with_view : TranscriptDraft → ConfigView → TranscriptDraft
+with_view d v = record { stage = stage.View; transcript = record { drivers = d.transcript.drivers; entries = d.transcript.entries; view = v } }
+
+-- with one line more
+abbrev pub with_line : TranscriptDraft → TranscriptLine → TranscriptDraft
+with_line d (line.Driver x) = record d { transcript = record d.transcript { drivers = d.transcript.drivers ++ x ∷ [] } }
+with_line d (line.Entry x) = record d { transcript = record d.transcript { entries = d.transcript.entries ++ x ∷ [] } }
+with_line d line.Config = record d { stage = stage.Config }
+with_line d (line.Next id serial) = with_view d (new_view id serial)
+with_line d (line.Fd x) = with_view d (record d.transcript.view { fds = d.transcript.view.fds ++ x ∷ [] })
+with_line d (line.Link x) = with_view d (record d.transcript.view { links = d.transcript.view.links ++ x ∷ [] })
+with_line d (line.Bind x) = with_view d (record d.transcript.view { binds = d.transcript.view.binds ++ x ∷ [] })
+with_line d (line.Route x) = with_view d (record d.transcript.view { routes = d.transcript.view.routes ++ x ∷ [] })
+with_line d (line.Msg x) = with_view d (record d.transcript.view { msgs = d.transcript.view.msgs ++ x ∷ [] })
+with_line d (line.Full x) = with_view d (record d.transcript.view { fulls = d.transcript.view.fulls ++ x ∷ [] })
+with_line d line.End = d

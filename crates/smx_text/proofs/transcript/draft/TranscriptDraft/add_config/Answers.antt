@@ -1,0 +1,11 @@
+use Rattle.std.proofs.Common.{rules, refl}
+use Rattle.smx_text.specs.TranscriptLines as line
+use Rattle.smx_text.proofs.TranscriptDrafts.{with_line}
+use Rattle.smx_text.proofs.TranscriptLemmas.{misplaced, adds}
+use Rattle.smx_text.proofs.transcript.draft.TranscriptDraft.add_config.Goals as goal
+
+pub returns-then-ne-clause-refused : goal.returns-then-ne-clause-refused
+returns-then-ne-clause-refused c = misplaced c.args.self.now line.Config (search rules)
+
+pub returns-clause-added : goal.returns-clause-added
+returns-clause-added c = adds c.args.self.now (with_line c.args.self.now line.Config) line.Config c.requires.begun (search rules) refl tt (λ e. cc) refl

@@ -1,0 +1,12 @@
+use Rattle.std.proofs.Common.{rules, refl}
+use Rattle.smx_text.specs.TranscriptLines as line
+use Rattle.smx_text.proofs.TranscriptDrafts.{with_line}
+use Rattle.smx_text.proofs.TranscriptLemmas.{misplaced, group_added}
+use Rattle.smx_text.proofs.transcript.draft.TranscriptDraft.add_route.Goals as goal
+
+pub returns-then-not-takes_routes-clause-refused : goal.returns-then-not-takes_routes-clause-refused
+returns-then-not-takes_routes-clause-refused c = misplaced c.args.self.now (line.Route c.args.route) (search rules)
+
+pub returns-clause-added : goal.returns-clause-added
+returns-clause-added c =
+    rw c.in_ok-push.ensures.ok (group_added c.args.self.now (with_line c.args.self.now (line.Route c.args.route)).transcript (line.Route c.args.route) c.requires.begun (search rules) refl refl c.requires.fits (λ e. cc) refl)

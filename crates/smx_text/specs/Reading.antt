@@ -1,0 +1,45 @@
+-- What a draft does with the next line. No public clause needs this.
+use Rattle.std.specs.Prelude.{◌≡◌, ◌≢◌, ℕ, ◌+◌, ◌<◌, List, [], ◌∷◌, ◌++◌, length, ◌⊎◌, Option, Some, None, Result, Ok, Err}
+use Rattle.smx_text.specs.declared.fault.Cause.{Cause}
+use Rattle.smx_text.specs.declared.fault.Cause.TheVariants as cause
+use Rattle.smx_text.specs.declared.fault.TextFault.{TextFault}
+use Rattle.smx_text.specs.Grammar.{Grammar, line_text, IsBegun, MayFollow, IsFull, IsNoLine, IsOneTooMany}
+
+module _ {V K : Type 0} (g : Grammar V K) where
+  -- ---- a line as bytes
+
+  -- why it is refused behind these lines
+  abbrev pub Refuses : List K → List ℕ → Cause → Type 0
+  Refuses lines text cause.Form = IsNoLine g lines text
+  Refuses lines text cause.Many = IsOneTooMany g lines text
+  Refuses lines text cause.NoMemory = text ≢ line_text g g.end
+  Refuses lines text cause.Header = ⊥
+  Refuses lines text cause.Cut = ⊥
+  Refuses lines text cause.Trailing = ⊥
+
+  -- at the end these lines are those of this allowed value, or they may not end there
+  abbrev pub EndsAs : List K → Option V → Type 0
+  EndsAs lines None = IsNoLine g lines (line_text g g.end)
+  EndsAs lines (Some v) = g.IsAllowed v × (g.body v ≡ lines)
+
+  -- what is answered at the last line, which is the line `number`
+  abbrev pub EndsText : List K → List ℕ → ℕ → Result V TextFault → Type 0
+  EndsText lines after number (Ok v) = g.IsAllowed v × (g.body v ≡ lines) × (length after ≡ 0)
+  EndsText lines after number (Err f) =
+      (IsNoLine g lines (line_text g g.end) × (f ≡ record { line = number; cause = cause.Form }))
+      ⊎ ((v : V) × g.IsAllowed v × (g.body v ≡ lines) × (0 < length after) × (f ≡ record { line = number + 1; cause = cause.Trailing }))
+
+  -- ---- a line that was read
+
+  -- it is the last of these lines now, with which some allowed value begins
+  abbrev pub AddsLine : List K → K → List K → Type 0
+  AddsLine lines k longer = (longer ≡ lines ++ k ∷ []) × IsBegun g longer
+
+  -- why it is refused behind these lines
+  abbrev pub RefusesLine : List K → K → Cause → Type 0
+  RefusesLine lines k cause.Form = MayFollow g lines k → ⊥
+  RefusesLine lines k cause.Many = MayFollow g lines k × IsFull g lines k
+  RefusesLine lines k cause.NoMemory = k ≢ g.end
+  RefusesLine lines k cause.Header = ⊥
+  RefusesLine lines k cause.Cut = ⊥
+  RefusesLine lines k cause.Trailing = ⊥

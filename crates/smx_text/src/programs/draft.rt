@@ -1,0 +1,170 @@
+//! The programs that are being read.
+
+ghost use Rattle.std.specs.Prelude.{◌≡◌, ◌≢◌, ◌<◌, ◌∷◌, [], length, OnOk, IfErr};
+ghost use Rattle.std.specs.List.{sum_by};
+ghost use Rattle.smx_types.specs.declared.limits.TheConstants.{MAX_COMMANDS};
+ghost use Rattle.smx_types.specs.ProgramLists.{program_lists};
+ghost use Rattle.smx_types.specs.declared.command.Command.{Command as AnyCommand};
+ghost use Rattle.smx_words.specs.Words.{line_of};
+ghost use Rattle.smx_words.specs.Spelling.{command_words};
+ghost use Rattle.smx_words.specs.Spellable.{FitsNumber, FitsDriver, FitsCommand};
+ghost use Rattle.smx_text.specs.Grammar.{IsBegun, Continues, line_text};
+ghost use Rattle.smx_text.specs.Reading.{Refuses, AddsLine, RefusesLine, EndsAs};
+ghost use Rattle.smx_text.specs.ProgramLines.{Driver as DriverLine, Process as ProcessLine, Command as CommandLine, End};
+ghost use Rattle.smx_text.specs.ProgramsText.{body, programs_grammar};
+
+use crate::fault::Cause;
+use crate::reading::Draft;
+use smx_types::{
+    Command, Commands, DriverSpec, Drivers, MAX_COMMANDS, MAX_DRIVERS, MAX_PROCESSES, ProgramList,
+    Programs,
+};
+use smx_words::{command_of, driver_of, process_of};
+use std::alloc::Global;
+use std::marker::Model;
+
+// The drivers and programs of the lines so far.
+#[derive(Debug, Drop)]
+pub struct ProgramsDraft {
+    drivers: Vec<DriverSpec>,
+    programs: Vec<Commands>,
+    count: usize,
+}
+
+impl Model for ProgramsDraft {
+    ghost use Rattle.smx_types.specs.ProgramLists.{ProgramLists, program_lists};
+    ghost use Rattle.smx_text.specs.Drafts.{IsCounted};
+
+    ghost Value = { ProgramLists };
+
+    ghost view = { λ d. program_lists d.drivers.items d.programs.items };
+
+    ghost invariant = { IsCounted };
+}
+
+impl Draft for ProgramsDraft {
+    type Whole = Programs;
+
+    ghost use Rattle.std.specs.Prelude.{refl};
+    ghost use Rattle.smx_text.specs.ProgramLines.{Line};
+    ghost use Rattle.smx_text.specs.ProgramsText.{body, programs_grammar};
+
+    ghost Line = { Line };
+
+    ghost grammar = { programs_grammar };
+
+    ghost lines = { body };
+
+    fn header() -> &'static [u8] {
+        b"programs 1"
+    }
+
+    fn add(&mut self, alloc: Global, text: &[u8]) -> Result<(), Cause> {
+        match command_of(alloc, text)? {
+            Some(command) => self.add_command(command),
+            None => self.add_other(alloc, text),
+        }
+    }
+
+    fn finish(self) -> Option<Programs> {
+        Programs::new(
+            Drivers::from_vec(self.drivers),
+            ProgramList::from_vec(self.programs),
+        )
+        .ok()
+    }
+
+    ghost end_is = { refl };
+}
+
+impl ProgramsDraft {
+    // None yet.
+    pub fn new(alloc: Global) -> ProgramsDraft
+        ensures { result ≡ program_lists [] [] }
+    {
+        ProgramsDraft {
+            drivers: Vec::new(alloc),
+            programs: Vec::new(alloc),
+            count: 0,
+        }
+    }
+
+    // A line that is no command.
+    fn add_other(&mut self, alloc: Global, text: &[u8]) -> Result<(), Cause>
+        requires begun { IsBegun programs_grammar (body self.old) }
+        requires no_command { (c : AnyCommand) → FitsCommand c → text.now ≢ line_of (command_words c) }
+        requires no_end { text.now ≢ line_text programs_grammar End }
+        ensures added { OnOk result (Continues programs_grammar (body self.old) text.now (body self.new)) }
+        ensures refused { IfErr result (Refuses programs_grammar (body self.old) text.now) }
+    {
+        if let Some(driver) = driver_of(text) {
+            return self.add_driver(driver);
+        }
+        match process_of(text) {
+            Some(number) => self.add_process(alloc, number),
+            None => Err(Cause::Form),
+        }
+    }
+
+    // Drivers come before all processes.
+    fn add_driver(&mut self, driver: DriverSpec) -> Result<(), Cause>
+        requires begun { IsBegun programs_grammar (body self.old) }
+        requires fits { FitsDriver driver }
+        ensures added { OnOk result (AddsLine programs_grammar (body self.old) (DriverLine driver) (body self.new)) }
+        ensures refused { IfErr result (RefusesLine programs_grammar (body self.old) (DriverLine driver)) }
+    {
+        if !self.programs.is_empty() {
+            return Err(Cause::Form);
+        }
+        if self.drivers.len() >= MAX_DRIVERS {
+            return Err(Cause::Many);
+        }
+        self.drivers.push(driver)?;
+        Ok(())
+    }
+
+    // Processes are numbered from 0 on, in order.
+    fn add_process(&mut self, alloc: Global, number: u32) -> Result<(), Cause>
+        requires begun { IsBegun programs_grammar (body self.old) }
+        ensures added { OnOk result (AddsLine programs_grammar (body self.old) (ProcessLine number) (body self.new)) }
+        ensures refused { IfErr result (RefusesLine programs_grammar (body self.old) (ProcessLine number)) }
+    {
+        if number as usize != self.programs.len() {
+            return Err(Cause::Form);
+        }
+        if number >= MAX_PROCESSES {
+            return Err(Cause::Many);
+        }
+        self.programs.push(Commands::new(alloc))?;
+        Ok(())
+    }
+
+    // A command is of the process whose line came last.
+    fn add_command(&mut self, command: Command) -> Result<(), Cause>
+        requires begun { IsBegun programs_grammar (body self.old) }
+        requires fits { FitsCommand command }
+        ensures added { OnOk result (AddsLine programs_grammar (body self.old) (CommandLine command) (body self.new)) }
+        ensures refused { IfErr result (RefusesLine programs_grammar (body self.old) (CommandLine command)) }
+    {
+        self.room_for_command()?;
+        let last = self.programs.len() - 1;
+        self.programs[last].push(command)?;
+        self.count += 1;
+        Ok(())
+    }
+
+    // Whether a command may come and is not one too many.
+    fn room_for_command(&self) -> Result<(), Cause>
+        ensures some { OnOk result (0 < length self.now.programs) }
+        ensures few { OnOk result (sum_by length self.now.programs < MAX_COMMANDS) }
+        ensures refused { IfErr result (λ why. (c : AnyCommand) → RefusesLine programs_grammar (body self.now) (CommandLine c) why) }
+    {
+        if self.programs.is_empty() {
+            return Err(Cause::Form);
+        }
+        if self.count >= MAX_COMMANDS {
+            return Err(Cause::Many);
+        }
+        Ok(())
+    }
+}

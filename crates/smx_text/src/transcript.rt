@@ -1,0 +1,20 @@
+//! The transcript text, read.
+
+ghost use Rattle.smx_text.specs.Grammar.{Reads};
+ghost use Rattle.smx_text.specs.TranscriptText.{transcript_grammar};
+
+mod draft;
+
+use crate::fault::TextFault;
+use crate::reading::read;
+use draft::TranscriptDraft;
+use smx_types::Transcript;
+use std::alloc::Global;
+
+/// The transcript that a text spells, or the first line at which it goes wrong. `Cause` says when
+/// each refusal comes.
+pub fn read_transcript(alloc: Global, bytes: &[u8]) -> Result<Transcript, TextFault>
+    ensures { Reads transcript_grammar bytes.now result }
+{
+    read(alloc, TranscriptDraft::new(alloc), bytes)
+}

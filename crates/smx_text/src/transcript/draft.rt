@@ -1,0 +1,373 @@
+//! The transcript that is being read.
+
+ghost use Rattle.std.specs.Prelude.{◌≡◌, ◌≢◌, ◌<◌, ℕ, [], length, OnOk, IfErr};
+ghost use Rattle.smx_types.specs.declared.command.Entry.{Entry as AnyEntry};
+ghost use Rattle.smx_types.specs.declared.view.MessageLine.{MessageLine as AnyMessage};
+ghost use Rattle.smx_words.specs.Words.{line_of};
+ghost use Rattle.smx_words.specs.Spelling.{entry_words, message_words, driver_words, next_words};
+ghost use Rattle.smx_words.specs.Spellable.{FitsDriver, FitsEntry, FitsDescriptor, FitsLink, FitsBinding};
+ghost use Rattle.smx_words.specs.Spellable.{FitsRoute, FitsMessage, FitsFull, FitsNext};
+ghost use Rattle.smx_text.specs.Grammar.{IsBegun, Continues, line_text};
+ghost use Rattle.smx_text.specs.Reading.{Refuses, AddsLine, RefusesLine};
+ghost use Rattle.smx_text.specs.Drafts.{lines, takes_fds, takes_links, takes_binds, takes_routes, takes_msgs, takes_fulls};
+ghost use Rattle.smx_text.specs.declared.transcript.draft.Stage.TheVariants.{History};
+ghost use Rattle.smx_types.specs.declared.limits.TheConstants.{MAX_COMMANDS};
+ghost use Rattle.smx_types.specs.declared.driver.DriverSpec.{DriverSpec as AnyDriver};
+ghost use Rattle.smx_text.specs.TranscriptLines.{Driver as DriverLine, Entry as EntryLine, Config as ConfigLine};
+ghost use Rattle.smx_text.specs.TranscriptLines.{Next as NextLine, Fd as FdLine, Link as AnyLink, Bind as BindLine};
+ghost use Rattle.smx_text.specs.TranscriptLines.{Route as AnyRoute, Msg as MsgLine, Full as AnyFull, End};
+ghost use Rattle.smx_text.specs.TranscriptText.{transcript_grammar};
+
+use crate::fault::Cause;
+use crate::reading::Draft;
+use smx_words::{
+    bind_of, descriptor_of, driver_of, entry_of, full_of, link_of, message_of, next_of, route_of,
+};
+use smx_types::{
+    BindingLine, ConfigView, DescriptorLine, DriverSpec, Entry, FullLine, Items, LinkLine,
+    MAX_COMMANDS, MAX_DRIVERS, MessageLine, RouteLine, Transcript,
+};
+use std::alloc::Global;
+
+// How far a transcript is read.
+#[derive(Clone, Copy, Debug, PartialEq, Eq)]
+pub enum Stage {
+    // Drivers and entries come.
+    History,
+    // The line `config` came last.
+    Config,
+    // The line `next` was read.
+    View,
+}
+
+// What the lines so far say.
+#[derive(Debug, Drop)]
+pub struct TranscriptDraft {
+    pub stage: Stage,
+    pub transcript: Transcript,
+}
+
+impl Draft for TranscriptDraft {
+    type Whole = Transcript;
+
+    ghost use Rattle.std.specs.Prelude.{refl};
+    ghost use Rattle.smx_text.specs.Drafts.{lines};
+    ghost use Rattle.smx_text.specs.TranscriptLines.{TranscriptLine};
+    ghost use Rattle.smx_text.specs.TranscriptText.{transcript_grammar};
+
+    ghost Line = { TranscriptLine };
+
+    ghost grammar = { transcript_grammar };
+
+    ghost lines = { lines };
+
+    fn header() -> &'static [u8] {
+        b"transcript 1"
+    }
+
+    fn add(&mut self, alloc: Global, text: &[u8]) -> Result<(), Cause> {
+        match entry_of(alloc, text)? {
+            Some(entry) => self.add_entry(entry),
+            None => self.add_other(alloc, text),
+        }
+    }
+
+    fn finish(self) -> Option<Transcript> {
+        if self.stage != Stage::View {
+            return None;
+        }
+        Some(self.transcript)
+    }
+
+    ghost end_is = { refl };
+}
+
+fn new_view(alloc: Global, next_id: u32, next_serial: u32) -> ConfigView
+    ensures { result ≡ record {
+        next_id = next_id;
+        next_serial = next_serial;
+        fds = []; links = []; binds = []; routes = []; msgs = []; fulls = []
+    } }
+{
+    ConfigView {
+        next_id,
+        next_serial,
+        fds: Items::new(alloc),
+        links: Items::new(alloc),
+        binds: Items::new(alloc),
+        routes: Items::new(alloc),
+        msgs: Items::new(alloc),
+        fulls: Items::new(alloc),
+    }
+}
+
+impl TranscriptDraft {
+    // Nothing yet.
+    pub fn new(alloc: Global) -> TranscriptDraft
+        ensures { lines result ≡ [] }
+    {
+        TranscriptDraft {
+            stage: Stage::History,
+            transcript: Transcript {
+                drivers: Items::new(alloc),
+                entries: Items::new(alloc),
+                view: new_view(alloc, 0, 0),
+            },
+        }
+    }
+
+    // A line that is no entry.
+    fn add_other(&mut self, alloc: Global, text: &[u8]) -> Result<(), Cause>
+        requires begun { IsBegun transcript_grammar (lines self.old) }
+        requires no_entry { (e : AnyEntry) → FitsEntry e → text.now ≢ line_of (entry_words e) }
+        requires no_end { text.now ≢ line_text transcript_grammar End }
+        ensures added { OnOk result (Continues transcript_grammar (lines self.old) text.now (lines self.new)) }
+        ensures refused { IfErr result (Refuses transcript_grammar (lines self.old) text.now) }
+    {
+        match message_of(alloc, text)? {
+            Some(message) => self.add_message(message),
+            None => self.add_plain(alloc, text),
+        }
+    }
+
+    // A line of one of the kinds that are short.
+    fn add_plain(&mut self, alloc: Global, text: &[u8]) -> Result<(), Cause>
+        requires begun { IsBegun transcript_grammar (lines self.old) }
+        requires no_entry { (e : AnyEntry) → FitsEntry e → text.now ≢ line_of (entry_words e) }
+        requires no_message { (m : AnyMessage) → FitsMessage m → text.now ≢ line_of (message_words m) }
+        requires no_end { text.now ≢ line_text transcript_grammar End }
+        ensures added { OnOk result (Continues transcript_grammar (lines self.old) text.now (lines self.new)) }
+        ensures refused { IfErr result (Refuses transcript_grammar (lines self.old) text.now) }
+    {
+        if let Some(driver) = driver_of(text) {
+            return self.add_driver(driver);
+        }
+        if text == b"config".as_slice() {
+            return self.add_config();
+        }
+        match next_of(text) {
+            Some((next_id, next_serial)) => self.add_next(alloc, next_id, next_serial),
+            None => self.add_to_group(text),
+        }
+    }
+
+    // A line of a group of the view.
+    fn add_to_group(&mut self, text: &[u8]) -> Result<(), Cause>
+        requires begun { IsBegun transcript_grammar (lines self.old) }
+        requires no_entry { (e : AnyEntry) → FitsEntry e → text.now ≢ line_of (entry_words e) }
+        requires no_message { (m : AnyMessage) → FitsMessage m → text.now ≢ line_of (message_words m) }
+        requires no_driver { (d : AnyDriver) → FitsDriver d → text.now ≢ line_of (driver_words d) }
+        requires no_config { text.now ≢ line_text transcript_grammar ConfigLine }
+        requires no_next { (n : ℕ × ℕ) → FitsNext n → text.now ≢ line_of (next_words n) }
+        requires no_end { text.now ≢ line_text transcript_grammar End }
+        ensures added { OnOk result (Continues transcript_grammar (lines self.old) text.now (lines self.new)) }
+        ensures refused { IfErr result (Refuses transcript_grammar (lines self.old) text.now) }
+    {
+        if let Some(fd) = descriptor_of(text) {
+            return self.add_fd(fd);
+        }
+        if let Some(link) = link_of(text) {
+            return self.add_link(link);
+        }
+        if let Some(bind) = bind_of(text) {
+            return self.add_bind(bind);
+        }
+        if let Some(route) = route_of(text) {
+            return self.add_route(route);
+        }
+        match full_of(text) {
+            Some(full) => self.add_full(full),
+            None => Err(Cause::Form),
+        }
+    }
+
+    // Drivers come before all entries.
+    fn add_driver(&mut self, driver: DriverSpec) -> Result<(), Cause>
+        requires begun { IsBegun transcript_grammar (lines self.old) }
+        requires fits { FitsDriver driver }
+        ensures added { OnOk result (AddsLine transcript_grammar (lines self.old) (DriverLine driver) (lines self.new)) }
+        ensures refused { IfErr result (RefusesLine transcript_grammar (lines self.old) (DriverLine driver)) }
+    {
+        if self.stage != Stage::History || !self.transcript.entries.as_slice().is_empty() {
+            return Err(Cause::Form);
+        }
+        if self.transcript.drivers.as_slice().len() >= MAX_DRIVERS {
+            return Err(Cause::Many);
+        }
+        self.transcript.drivers.push(driver)?;
+        Ok(())
+    }
+
+    fn add_entry(&mut self, entry: Entry) -> Result<(), Cause>
+        requires begun { IsBegun transcript_grammar (lines self.old) }
+        requires fits { FitsEntry entry }
+        ensures added { OnOk result (AddsLine transcript_grammar (lines self.old) (EntryLine entry) (lines self.new)) }
+        ensures refused { IfErr result (RefusesLine transcript_grammar (lines self.old) (EntryLine entry)) }
+    {
+        self.room_for_entry()?;
+        self.transcript.entries.push(entry)?;
+        Ok(())
+    }
+
+    // Whether an entry may come and is not one too many.
+    fn room_for_entry(&self) -> Result<(), Cause>
+        ensures history { OnOk result (self.now.stage ≡ History) }
+        ensures few { OnOk result (length self.now.transcript.entries < MAX_COMMANDS) }
+        ensures refused { IfErr result (λ why. (e : AnyEntry) → RefusesLine transcript_grammar (lines self.now) (EntryLine e) why) }
+    {
+        if self.stage != Stage::History {
+            return Err(Cause::Form);
+        }
+        if self.transcript.entries.as_slice().len() >= MAX_COMMANDS {
+            return Err(Cause::Many);
+        }
+        Ok(())
+    }
+
+    // The configuration comes behind the entries.
+    fn add_config(&mut self) -> Result<(), Cause>
+        requires begun { IsBegun transcript_grammar (lines self.old) }
+        ensures added { OnOk result (AddsLine transcript_grammar (lines self.old) ConfigLine (lines self.new)) }
+        ensures refused { IfErr result (RefusesLine transcript_grammar (lines self.old) ConfigLine) }
+    {
+        if self.stage != Stage::History {
+            return Err(Cause::Form);
+        }
+        self.stage = Stage::Config;
+        Ok(())
+    }
+
+    // The view begins with what comes next.
+    fn add_next(&mut self, alloc: Global, next_id: u32, next_serial: u32) -> Result<(), Cause>
+        requires begun { IsBegun transcript_grammar (lines self.old) }
+        ensures added { OnOk result (AddsLine transcript_grammar (lines self.old) (NextLine next_id next_serial) (lines self.new)) }
+        ensures refused { IfErr result (RefusesLine transcript_grammar (lines self.old) (NextLine next_id next_serial)) }
+    {
+        if self.stage != Stage::Config {
+            return Err(Cause::Form);
+        }
+        self.stage = Stage::View;
+        self.transcript.view = new_view(alloc, next_id, next_serial);
+        Ok(())
+    }
+
+    fn add_fd(&mut self, fd: DescriptorLine) -> Result<(), Cause>
+        requires begun { IsBegun transcript_grammar (lines self.old) }
+        requires fits { FitsDescriptor fd }
+        ensures added { OnOk result (AddsLine transcript_grammar (lines self.old) (FdLine fd) (lines self.new)) }
+        ensures refused { IfErr result (RefusesLine transcript_grammar (lines self.old) (FdLine fd)) }
+    {
+        if !self.takes_fds() {
+            return Err(Cause::Form);
+        }
+        self.transcript.view.fds.push(fd)?;
+        Ok(())
+    }
+
+    fn add_link(&mut self, link: LinkLine) -> Result<(), Cause>
+        requires begun { IsBegun transcript_grammar (lines self.old) }
+        requires fits { FitsLink link }
+        ensures added { OnOk result (AddsLine transcript_grammar (lines self.old) (AnyLink link) (lines self.new)) }
+        ensures refused { IfErr result (RefusesLine transcript_grammar (lines self.old) (AnyLink link)) }
+    {
+        if !self.takes_links() {
+            return Err(Cause::Form);
+        }
+        self.transcript.view.links.push(link)?;
+        Ok(())
+    }
+
+    fn add_bind(&mut self, bind: BindingLine) -> Result<(), Cause>
+        requires begun { IsBegun transcript_grammar (lines self.old) }
+        requires fits { FitsBinding bind }
+        ensures added { OnOk result (AddsLine transcript_grammar (lines self.old) (BindLine bind) (lines self.new)) }
+        ensures refused { IfErr result (RefusesLine transcript_grammar (lines self.old) (BindLine bind)) }
+    {
+        if !self.takes_binds() {
+            return Err(Cause::Form);
+        }
+        self.transcript.view.binds.push(bind)?;
+        Ok(())
+    }
+
+    fn add_route(&mut self, route: RouteLine) -> Result<(), Cause>
+        requires begun { IsBegun transcript_grammar (lines self.old) }
+        requires fits { FitsRoute route }
+        ensures added { OnOk result (AddsLine transcript_grammar (lines self.old) (AnyRoute route) (lines self.new)) }
+        ensures refused { IfErr result (RefusesLine transcript_grammar (lines self.old) (AnyRoute route)) }
+    {
+        if !self.takes_routes() {
+            return Err(Cause::Form);
+        }
+        self.transcript.view.routes.push(route)?;
+        Ok(())
+    }
+
+    fn add_message(&mut self, message: MessageLine) -> Result<(), Cause>
+        requires begun { IsBegun transcript_grammar (lines self.old) }
+        requires fits { FitsMessage message }
+        ensures added { OnOk result (AddsLine transcript_grammar (lines self.old) (MsgLine message) (lines self.new)) }
+        ensures refused { IfErr result (RefusesLine transcript_grammar (lines self.old) (MsgLine message)) }
+    {
+        if !self.takes_msgs() {
+            return Err(Cause::Form);
+        }
+        self.transcript.view.msgs.push(message)?;
+        Ok(())
+    }
+
+    fn add_full(&mut self, full: FullLine) -> Result<(), Cause>
+        requires begun { IsBegun transcript_grammar (lines self.old) }
+        requires fits { FitsFull full }
+        ensures added { OnOk result (AddsLine transcript_grammar (lines self.old) (AnyFull full) (lines self.new)) }
+        ensures refused { IfErr result (RefusesLine transcript_grammar (lines self.old) (AnyFull full)) }
+    {
+        if !self.takes_fulls() {
+            return Err(Cause::Form);
+        }
+        self.transcript.view.fulls.push(full)?;
+        Ok(())
+    }
+
+    // Whether a full place may come: the last group.
+    fn takes_fulls(&self) -> bool
+        ensures { result ≡ takes_fulls self.now }
+    {
+        self.stage == Stage::View
+    }
+
+    // Whether one of the messages may come: nothing of a later group has.
+    fn takes_msgs(&self) -> bool
+        ensures { result ≡ takes_msgs self.now }
+    {
+        self.takes_fulls() && self.transcript.view.fulls.as_slice().is_empty()
+    }
+
+    // Whether one of the routes may come: nothing of a later group has.
+    fn takes_routes(&self) -> bool
+        ensures { result ≡ takes_routes self.now }
+    {
+        self.takes_msgs() && self.transcript.view.msgs.as_slice().is_empty()
+    }
+
+    // Whether one of the bindings may come: nothing of a later group has.
+    fn takes_binds(&self) -> bool
+        ensures { result ≡ takes_binds self.now }
+    {
+        self.takes_routes() && self.transcript.view.routes.as_slice().is_empty()
+    }
+
+    // Whether one of the links may come: nothing of a later group has.
+    fn takes_links(&self) -> bool
+        ensures { result ≡ takes_links self.now }
+    {
+        self.takes_binds() && self.transcript.view.binds.as_slice().is_empty()
+    }
+
+    // Whether one of the descriptors may come: nothing of a later group has.
+    fn takes_fds(&self) -> bool
+        ensures { result ≡ takes_fds self.now }
+    {
+        self.takes_links() && self.transcript.view.links.as_slice().is_empty()
+    }
+}
