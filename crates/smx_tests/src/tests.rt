@@ -1,6 +1,5 @@
 //! Values and texts that were typed in, and what comes of them.
 
-mod a_transcript;
 mod command_lines;
 mod configurations_at_limits;
 mod copies;

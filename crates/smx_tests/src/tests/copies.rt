@@ -1,75 +1,78 @@
 //! Each copy, with ample memory, is equal to what it was made of.
 
-use super::plain_values::many_drivers;
+use super::history_lines::{Answer, Call, command_of, reply_of};
+use super::values::{items, named, numbered};
 use smx_types::{
-    BindingLine, BindingLines, Bytes, Command, Commands, ConfigView, DescriptorLine,
-    DescriptorLines, Entries, Entry, FullLine, FullLines, Items, LinkKind, LinkLine, LinkLines,
-    Message, MessageLine, MessageLines, Messages, Name, Process, ProgramList, Programs, Reply,
-    RouteLine, RouteLines, Same, Side, Transcript,
+    BindingLine, BindingLines, ConfigView, DescriptorLine, DescriptorLines, Entry, FullLine,
+    FullLines, Items, LinkKind, LinkLine, LinkLines, Message, MessageLine, MessageLines, Messages,
+    RouteLine, RouteLines, Same, Side,
 };
 use std::alloc::Global;
 use std::test::Fail;
-
-fn bytes_of(alloc: Global, last: u8) -> Result<Bytes, Fail> {
-    Ok(Bytes::from_vec(vec![in alloc; 0u8, 0, 0, last]?))
-}
 
 #[test]
 fn messages_are_copied(rt: HostRuntime) -> Result<(), Fail> {
     let message = Message {
         serial: 1,
         addr: 5,
-        bytes: bytes_of(rt.alloc(), 1)?,
+        bytes: items(rt.alloc(), &[0, 0, 0, 1])?,
     };
-    assert!(rt; message.copy(rt.alloc()).ok().ok_or("memory")? == message);
+    assert!(rt; message.copy(rt.alloc())? == message);
     let messages = Messages::from_vec(vec![in rt.alloc(); message]?);
-    assert!(rt; messages.copy(rt.alloc()).ok().ok_or("memory")? == messages);
-    let write = Command::Write {
-        fd: 0,
-        addr: 5,
-        bytes: bytes_of(rt.alloc(), 1)?,
-    };
-    assert!(rt; write.copy(rt.alloc()).ok().ok_or("memory")? == write);
-    let entry = Entry {
-        process: Process::new(0).ok_or("a process")?,
-        command: Command::Transmit {
-            driver: Name::new("eth").ok_or("a name")?,
-            minor: 0,
-        },
-        reply: Reply::Got {
-            serial: 1,
-            addr: 5,
-            bytes: bytes_of(rt.alloc(), 1)?,
-        },
-    };
-    assert!(rt; entry.copy(rt.alloc()).ok().ok_or("memory")? == entry);
-    let again = entry.reply.copy(rt.alloc()).ok().ok_or("memory")?;
-    assert!(rt; again.is_same(&entry.reply));
-    let replies = Items::from_vec(vec![in rt.alloc(); again]?);
-    assert!(rt; replies.copy(rt.alloc()).ok().ok_or("memory")? == replies);
+    assert!(rt; messages.copy(rt.alloc())? == messages);
+    Ok(())
+}
+
+fn taken_by_the_device(alloc: Global) -> Result<Entry, Fail> {
+    let command = command_of(alloc, Call::Transmit("eth", 0))?;
+    let reply = reply_of(alloc, Answer::Got(1, 5, &[0, 0, 0, 1]))?;
+    Ok(Entry {
+        process: numbered(0)?,
+        command,
+        reply,
+    })
+}
+
+#[test]
+fn entries_are_copied(rt: HostRuntime) -> Result<(), Fail> {
+    let entry = taken_by_the_device(rt.alloc())?;
+    assert!(rt; entry.copy(rt.alloc())? == entry);
+    let reply = entry.reply.copy(rt.alloc())?;
+    assert!(rt; reply.is_same(&entry.reply));
+    let replies = Items::from_vec(vec![in rt.alloc(); reply]?);
+    assert!(rt; replies.copy(rt.alloc())? == replies);
+    Ok(())
+}
+
+#[test]
+fn commands_are_copied(rt: HostRuntime) -> Result<(), Fail> {
+    let write = command_of(rt.alloc(), Call::Write(0, 5, &[0, 0, 0, 1]))?;
+    assert!(rt; write.copy(rt.alloc())? == write);
+    let mut again = write.copy(rt.alloc())?;
+    assert!(rt; again.is_same(&write));
+    again = command_of(rt.alloc(), Call::Write(0, 5, &[0, 0, 0, 2]))?;
+    assert!(rt; !again.is_same(&write));
     Ok(())
 }
 
 // The configuration that is shown after the marks were met across a join.
 fn shown(alloc: Global) -> Result<ConfigView, Fail> {
-    let ip = Name::new("ip").ok_or("a name")?;
-    let eth = Name::new("eth").ok_or("a name")?;
-    let process = Process::new(0).ok_or("a process")?;
+    let ip = named("ip")?;
+    let eth = named("eth")?;
+    let process = numbered(0)?;
     let mut msgs = MessageLines::new(alloc);
     for (driver, serial) in [(ip, 5u32), (eth, 3), (eth, 4)] {
         let message = Message {
             serial,
             addr: 5,
-            bytes: bytes_of(alloc, serial as u8)?,
+            bytes: items(alloc, &[0, 0, 0, serial as u8])?,
         };
         msgs.push(MessageLine {
             driver,
             minor: 0,
             side: Side::Write,
             message,
-        })
-        .ok()
-        .ok_or("memory")?;
+        })?;
     }
     Ok(ConfigView {
         next_id: 2,
@@ -126,63 +129,9 @@ fn shown(alloc: Global) -> Result<ConfigView, Fail> {
 #[test]
 fn views_are_copied(rt: HostRuntime) -> Result<(), Fail> {
     let view = shown(rt.alloc())?;
-    let mut again = view.copy(rt.alloc()).ok().ok_or("memory")?;
+    let mut again = view.copy(rt.alloc())?;
     assert!(rt; again.is_same(&view));
     again.next_serial = 7;
     assert!(rt; !again.is_same(&view));
-    Ok(())
-}
-
-#[test]
-fn message_lines_are_copied(rt: HostRuntime) -> Result<(), Fail> {
-    let line = MessageLine {
-        driver: Name::new("eth").ok_or("a name")?,
-        minor: 0,
-        side: Side::Read,
-        message: Message {
-            serial: 1,
-            addr: 5,
-            bytes: bytes_of(rt.alloc(), 1)?,
-        },
-    };
-    assert!(rt; line.copy(rt.alloc()).ok().ok_or("memory")? == line);
-    Ok(())
-}
-
-#[test]
-fn programs_are_copied(rt: HostRuntime) -> Result<(), Fail> {
-    let program = Commands::from_vec(vec![in rt.alloc(); Command::CloseAll]?);
-    let list = ProgramList::from_vec(vec![in rt.alloc(); program]?);
-    let programs = Programs::new(many_drivers(rt.alloc(), 2)?, list)
-        .ok()
-        .ok_or("few enough")?;
-    let again = programs.copy(rt.alloc()).ok().ok_or("memory")?;
-    assert!(rt; again.drivers() == programs.drivers());
-    assert!(rt; again.programs() == programs.programs());
-    Ok(())
-}
-
-#[test]
-fn transcripts_are_copied(rt: HostRuntime) -> Result<(), Fail> {
-    let entry = Entry {
-        process: Process::new(0).ok_or("a process")?,
-        command: Command::Dup { fd: 3 },
-        reply: Reply::Id(1),
-    };
-    let transcript = Transcript {
-        drivers: many_drivers(rt.alloc(), 2)?,
-        entries: Entries::from_vec(vec![in rt.alloc(); entry]?),
-        view: shown(rt.alloc())?,
-    };
-    assert!(rt; transcript.copy(rt.alloc()).ok().ok_or("memory")? == transcript);
-    Ok(())
-}
-
-#[test]
-fn what_is_handed_back_is_copied(rt: HostRuntime) -> Result<(), Fail> {
-    let many = Programs::new(many_drivers(rt.alloc(), 65)?, ProgramList::new(rt.alloc()))
-        .err()
-        .ok_or("too many")?;
-    assert!(rt; many.copy(rt.alloc()).ok().ok_or("memory")? == many);
     Ok(())
 }

@@ -23,7 +23,7 @@ fn one_more_of_each(rt: HostRuntime) -> Result<(), Fail> {
     for (drivers, first) in [(65, 1), (64, 99_938)] {
         let drivers = leaves(rt.alloc(), drivers)?;
         let programs = sixty_four_programs(rt.alloc(), first)?;
-        let many = Programs::new(drivers, programs).err().ok_or("too many")?;
+        let many = Programs::new(drivers, programs).err().ok_or("few")?;
         let again = many.copy(rt.alloc())?;
         assert!(rt; again == many);
     }

@@ -10,10 +10,14 @@ use std::test::Fail;
 #[derive(Clone, Copy, Debug)]
 pub enum Call<'a> {
     Clone(&'a str),
+    Open(&'a str, u32),
+    Dup(u32),
     Close(u32),
+    Exit,
     Link(u32, u32),
     Plink(u32, u32),
-    Unlink(u32, u32),
+    Unlink(u32, Which),
+    Punlink(u32, Which),
     Bind(u32, u32),
     Unbind(u32),
     Route(u32, u32, u32),
@@ -39,18 +43,23 @@ pub enum Answer<'a> {
 /// One line of a history.
 pub type Line<'a> = (Call<'a>, Answer<'a>);
 
-fn command_of(alloc: Global, call: Call) -> Result<Command, Fail> {
+/// The command of a call.
+pub fn command_of(alloc: Global, call: Call) -> Result<Command, Fail> {
     Ok(match call {
         Call::Clone(driver) => Command::OpenClone {
             driver: named(driver)?,
         },
+        Call::Open(driver, minor) => Command::OpenMinor {
+            driver: named(driver)?,
+            minor,
+        },
+        Call::Dup(fd) => Command::Dup { fd },
         Call::Close(fd) => Command::Close { fd },
+        Call::Exit => Command::CloseAll,
         Call::Link(fd, arg) => Command::Link { fd, arg },
         Call::Plink(fd, arg) => Command::Plink { fd, arg },
-        Call::Unlink(fd, id) => Command::Unlink {
-            fd,
-            which: Which::Id(id),
-        },
+        Call::Unlink(fd, which) => Command::Unlink { fd, which },
+        Call::Punlink(fd, which) => Command::Punlink { fd, which },
         Call::Bind(fd, addr) => Command::Bind { fd, addr },
         Call::Unbind(fd) => Command::Unbind { fd },
         Call::Route(fd, addr, id) => Command::Route { fd, addr, id },
@@ -75,7 +84,8 @@ fn command_of(alloc: Global, call: Call) -> Result<Command, Fail> {
     })
 }
 
-fn reply_of(alloc: Global, answer: Answer) -> Result<Reply, Fail> {
+/// The reply of an answer.
+pub fn reply_of(alloc: Global, answer: Answer) -> Result<Reply, Fail> {
     Ok(match answer {
         Answer::Fd(fd, minor) => Reply::Fd { fd, minor },
         Answer::Id(id) => Reply::Id(id),

@@ -145,6 +145,10 @@ fn refuses_drivers(rt: HostRuntime) -> Result<(), Fail> {
         (b"driver ip mux 4 8 3 0\n".as_slice(), "driver 0 max"),
         (b"driver ip mux 4 8 3 1025\n".as_slice(), "driver 0 max"),
         (
+            b"driver ip mux 4 8 3 16\ndriver eth leaf 0 8 3 16\n".as_slice(),
+            "driver 1 minors",
+        ),
+        (
             b"driver ip mux 4 8 3 16\ndriver ip leaf 1 1 0 1\n".as_slice(),
             "driver 1 same name",
         ),

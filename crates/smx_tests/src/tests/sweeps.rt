@@ -21,14 +21,6 @@ fn makes_and_copies(rt: &impl Abort, alloc: Global, count: usize) -> Result<(), 
     Ok(())
 }
 
-#[test]
-fn configurations_of_every_number_of_drivers(rt: HostRuntime) -> Result<(), Fail> {
-    for count in 0..65 {
-        makes_and_copies(&rt, rt.alloc(), count)?;
-    }
-    Ok(())
-}
-
 fn programs_again(alloc: Global, text: &[u8]) -> Result<Vec<u8>, Fail> {
     let programs = read_programs(alloc, text)?;
     Ok(write_programs(alloc, &programs)?)
@@ -47,32 +39,22 @@ fn of_drivers(alloc: Global, begin: &[u8], count: usize, end: &[u8]) -> Result<V
     Ok(text)
 }
 
-#[test]
-fn programs_of_every_number_of_drivers(rt: HostRuntime) -> Result<(), Fail> {
-    for count in 0..65 {
-        let text = of_drivers(
-            rt.alloc(),
-            b"programs 1\n",
-            count,
-            b"process 0\nexit\nend\n",
-        )?;
-        let again = programs_again(rt.alloc(), text.as_slice())?;
-        assert!(rt; again == text);
-    }
+fn texts_of_drivers(rt: &impl Abort, alloc: Global, count: usize) -> Result<(), Fail> {
+    let text = of_drivers(alloc, b"programs 1\n", count, b"process 0\nexit\nend\n")?;
+    let again = programs_again(alloc, text.as_slice())?;
+    assert!(rt; again == text);
+    let end = b"config\nnext 1 1\nend\n";
+    let text = of_drivers(alloc, b"transcript 1\n", count, end.as_slice())?;
+    let again = transcript_again(alloc, text.as_slice())?;
+    assert!(rt; again == text);
     Ok(())
 }
 
 #[test]
-fn transcripts_of_every_number_of_drivers(rt: HostRuntime) -> Result<(), Fail> {
+fn every_number_of_drivers(rt: HostRuntime) -> Result<(), Fail> {
     for count in 0..65 {
-        let text = of_drivers(
-            rt.alloc(),
-            b"transcript 1\n",
-            count,
-            b"config\nnext 1 1\nend\n",
-        )?;
-        let again = transcript_again(rt.alloc(), text.as_slice())?;
-        assert!(rt; again == text);
+        makes_and_copies(&rt, rt.alloc(), count)?;
+        texts_of_drivers(&rt, rt.alloc(), count)?;
     }
     Ok(())
 }

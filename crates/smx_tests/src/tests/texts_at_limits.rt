@@ -1,10 +1,12 @@
 //! Each reader and writer at its real limit.
 
+use super::entry_lines::of_one;
 use super::most::{an_entry, leaf, longest_bytes, longest_transcript, most_programs, most_serials};
-use super::values::{named, nothing_open};
+use super::values::named;
 use smx_text::{read_programs, read_transcript, write_programs, write_transcript};
-use smx_types::{Command, Entry, Items, Programs, Reply, Transcript};
+use smx_types::{Command, Items, Programs, Reply, Transcript};
 use std::alloc::Global;
+use std::process::Abort;
 use std::test::Fail;
 
 /// Adds a line for each of this many drivers `a0`, `a1` and so on.
@@ -43,20 +45,25 @@ fn text_of_most(alloc: Global) -> Result<Vec<u8>, Fail> {
     Ok(text)
 }
 
-#[test]
-fn writes_the_most_programs(rt: HostRuntime) -> Result<(), Fail> {
-    let programs = most_programs(rt.alloc())?;
-    let written = write_programs(rt.alloc(), &programs)?;
-    assert!(rt; written == text_of_most(rt.alloc())?);
+// The programs are written as this text, and read from it.
+fn are_spelled(
+    rt: &impl Abort,
+    alloc: Global,
+    programs: &Programs,
+    text: &[u8],
+) -> Result<(), Fail> {
+    let written = write_programs(alloc, programs)?;
+    assert!(rt; written.as_slice() == text);
+    let read = read_programs(alloc, text)?;
+    assert!(rt; read == *programs);
     Ok(())
 }
 
 #[test]
-fn reads_the_most_programs(rt: HostRuntime) -> Result<(), Fail> {
+fn the_most_programs(rt: HostRuntime) -> Result<(), Fail> {
+    let programs = most_programs(rt.alloc())?;
     let text = text_of_most(rt.alloc())?;
-    let programs = read_programs(rt.alloc(), text.as_slice())?;
-    assert!(rt; programs == most_programs(rt.alloc())?);
-    Ok(())
+    are_spelled(&rt, rt.alloc(), &programs, text.as_slice())
 }
 
 fn add_links(alloc: Global, text: &mut Vec<u8>) -> Result<(), Fail> {
@@ -87,31 +94,25 @@ fn text_of_longest(alloc: Global) -> Result<Vec<u8>, Fail> {
     Ok(text)
 }
 
+// The transcript is written as this text, and read from it.
+fn is_spelled(
+    rt: &impl Abort,
+    alloc: Global,
+    transcript: &Transcript,
+    text: &[u8],
+) -> Result<(), Fail> {
+    let written = write_transcript(alloc, transcript)?;
+    assert!(rt; written.as_slice() == text);
+    let read = read_transcript(alloc, text)?;
+    assert!(rt; read == *transcript);
+    Ok(())
+}
+
 #[test]
-fn writes_the_longest_transcript(rt: HostRuntime) -> Result<(), Fail> {
+fn the_longest_transcript(rt: HostRuntime) -> Result<(), Fail> {
     let transcript = longest_transcript(rt.alloc())?;
-    let written = write_transcript(rt.alloc(), &transcript)?;
-    assert!(rt; written == text_of_longest(rt.alloc())?);
-    Ok(())
-}
-
-#[test]
-fn reads_the_longest_transcript(rt: HostRuntime) -> Result<(), Fail> {
     let text = text_of_longest(rt.alloc())?;
-    let transcript = read_transcript(rt.alloc(), text.as_slice())?;
-    assert!(rt; transcript == longest_transcript(rt.alloc())?);
-    Ok(())
-}
-
-/// A transcript of this entry alone.
-pub fn of_one(alloc: Global, entry: Entry) -> Result<Transcript, Fail> {
-    let mut entries = Items::new(alloc);
-    entries.push(entry)?;
-    Ok(Transcript {
-        drivers: Items::new(alloc),
-        entries,
-        view: nothing_open(alloc, 1, 1),
-    })
+    is_spelled(&rt, rt.alloc(), &transcript, text.as_slice())
 }
 
 // The transcript of an entry that dropped the most.
@@ -133,19 +134,10 @@ fn text_of_all_dropped(alloc: Global) -> Result<Vec<u8>, Fail> {
 }
 
 #[test]
-fn writes_the_most_dropped(rt: HostRuntime) -> Result<(), Fail> {
+fn the_most_dropped(rt: HostRuntime) -> Result<(), Fail> {
     let transcript = all_dropped(rt.alloc())?;
-    let written = write_transcript(rt.alloc(), &transcript)?;
-    assert!(rt; written == text_of_all_dropped(rt.alloc())?);
-    Ok(())
-}
-
-#[test]
-fn reads_the_most_dropped(rt: HostRuntime) -> Result<(), Fail> {
     let text = text_of_all_dropped(rt.alloc())?;
-    let transcript = read_transcript(rt.alloc(), text.as_slice())?;
-    assert!(rt; transcript == all_dropped(rt.alloc())?);
-    Ok(())
+    is_spelled(&rt, rt.alloc(), &transcript, text.as_slice())
 }
 
 // A program that writes the longest message.
@@ -173,17 +165,8 @@ fn text_of_longest_write(alloc: Global) -> Result<Vec<u8>, Fail> {
 }
 
 #[test]
-fn writes_the_longest_message(rt: HostRuntime) -> Result<(), Fail> {
+fn the_longest_message(rt: HostRuntime) -> Result<(), Fail> {
     let programs = longest_write(rt.alloc())?;
-    let written = write_programs(rt.alloc(), &programs)?;
-    assert!(rt; written == text_of_longest_write(rt.alloc())?);
-    Ok(())
-}
-
-#[test]
-fn reads_the_longest_message(rt: HostRuntime) -> Result<(), Fail> {
     let text = text_of_longest_write(rt.alloc())?;
-    let programs = read_programs(rt.alloc(), text.as_slice())?;
-    assert!(rt; programs == longest_write(rt.alloc())?);
-    Ok(())
+    are_spelled(&rt, rt.alloc(), &programs, text.as_slice())
 }

@@ -4,6 +4,20 @@ use smx_text::{read_transcript, write_transcript};
 use std::alloc::Global;
 use std::test::Fail;
 
+const OPENS_AND_CLOSES: &[u8] = b"transcript 1
+driver ip mux 4 8 3 16
+driver eth0 leaf 64 4096 0 1024
+0 clone ip = fd 0 0
+0 clone ip = fd 1 1
+0 close 0 = done
+0 clone ip = fd 0 0
+config
+next 13 101
+fd 0 0 ip 0
+fd 0 1 ip 1
+end
+";
+
 const MARKS_ACROSS_THE_JOIN: &[u8] = b"transcript 1
 driver ip mux 4 8 3 16
 driver eth leaf 2 8 3 16
@@ -128,6 +142,7 @@ fn written_again(alloc: Global, text: &[u8]) -> Result<Vec<u8>, Fail> {
 #[test]
 fn reads_and_writes_again(rt: HostRuntime) -> Result<(), Fail> {
     let texts = [
+        OPENS_AND_CLOSES,
         MARKS_ACROSS_THE_JOIN,
         WAYS_BY_ROUTE_AND_BINDING,
         SIZES_AND_ENDS,

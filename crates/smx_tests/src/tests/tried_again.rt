@@ -3,7 +3,7 @@
 use super::history_lines::{Answer, Call, JOIN, Line, play, shows};
 use super::values::{ip_and_eth, nothing_open};
 use super::views::held_above;
-use smx_types::Fault;
+use smx_types::{Fault, Which};
 use std::test::Fail;
 
 const MARKS: [Line; 9] = [
@@ -35,7 +35,7 @@ fn marks_across_the_join(rt: HostRuntime) -> Result<(), Fail> {
 const CAUSES: [Line; 6] = [
     (Call::Write(0, 5, &[0xaa]), Answer::Took(1)),
     (Call::Inject("eth", 0, 9, &[0xbb]), Answer::Took(2)),
-    (Call::Unlink(0, 1), Answer::Done(&[2])),
+    (Call::Unlink(0, Which::Id(1)), Answer::Done(&[2])),
     (Call::Write(0, 5, &[0xcc]), Answer::Took(3)),
     (Call::Close(1), Answer::Done(&[1])),
     (Call::Close(0), Answer::Done(&[3])),
