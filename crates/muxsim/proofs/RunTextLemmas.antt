@@ -3,8 +3,8 @@ use Rattle.std.proofs.Common.{◌≡◌, ◌≢◌, ℕ, List, Option, Some, Non
 use Rattle.std.specs.Prelude.{IsErrAnd, IsErrOf}
 use Rattle.std.specs.Global.{Global}
 use Rattle.std.specs.Io.KnownBytes.{Keeps}
-use Rattle.smx_text.specs.ProgramsReading.{IsFault}
-use Rattle.smx_words.specs.Words.{split}
+use Rattle.smx_text.specs.Grammar.{IsFault}
+use Rattle.smx_text.specs.ProgramsText.{programs_grammar}
 use Rattle.smx_text.specs.declared.fault.TextFault.{TextFault}
 use Rattle.smx_run.specs.declared.fault.RunFault.{RunFault}
 use Rattle.muxsim.specs.declared.fault.MainFault.{MainFault}
@@ -23,7 +23,7 @@ fault_of is = cc
 
 module _ (had left : Option (List ℕ)) (ended : Bool) (failures : ℕ) (held : Option (List ℕ)) (flushed : Bool) (written : ℕ) (v : Vec ℕ Global) (read : List ℕ) (h : IsInput had left ended failures (Ok v) read) (fine : written ≡ 0) where
   -- the part that every such fault has
-  said : (e : MainFault) → e ≢ TooLong → e ≢ ReadFailed → e ≢ WriteFailed → ((f : TextFault) → e ≡ Text f → IsFault (split 10 read) f.line f.cause) → ((f : RunFault) → e ≡ Refused f → IsRefusedFor read f)
+  said : (e : MainFault) → e ≢ TooLong → e ≢ ReadFailed → e ≢ WriteFailed → ((f : TextFault) → e ≡ Text f → IsFault programs_grammar read f.line f.cause) → ((f : RunFault) → e ≡ Refused f → IsRefusedFor read f)
       → RunsText had left ended failures held held flushed written (Err e)
   said e not_long not_read not_written text refused = record {
     read = read;
@@ -44,7 +44,7 @@ module _ (had left : Option (List ℕ)) (ended : Bool) (failures : ℕ) (held : 
     ok = Ok v
 
   at_answer : (e : MainFault) → Answers v.items (Err e) → RunsText had left ended failures held held flushed written (Err e)
-  at_answer (Text f) a = said (Text f) (λ is. cc) (λ is. cc) (λ is. cc) (λ g is. let same : f ≡ g = cc in subst (λ (x : TextFault). IsFault (split 10 read) x.line x.cause) same (subst (λ (bytes : List ℕ). IsFault (split 10 bytes) f.line f.cause) h.answered a)) (λ g is. absurd cc)
+  at_answer (Text f) a = said (Text f) (λ is. cc) (λ is. cc) (λ is. cc) (λ g is. let same : f ≡ g = cc in subst (λ (x : TextFault). IsFault programs_grammar read x.line x.cause) same (subst (λ (bytes : List ℕ). IsFault programs_grammar bytes f.line f.cause) h.answered a)) (λ g is. absurd cc)
   at_answer (Refused f) a = said (Refused f) (λ is. cc) (λ is. cc) (λ is. cc) (λ g is. absurd cc) (λ g is. let same : f ≡ g = cc in subst (λ (x : RunFault). IsRefusedFor read x) same (subst (λ (bytes : List ℕ). IsRefusedFor bytes f) h.answered a))
   at_answer TooLong a = absurd a
   at_answer ReadFailed a = absurd a

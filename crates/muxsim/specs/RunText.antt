@@ -5,11 +5,10 @@ use Rattle.std.specs.Io.KnownBytes.{Consumes, Appends, Keeps}
 use Rattle.smx_types.specs.ProgramLists.{ProgramLists}
 use Rattle.smx_types.specs.declared.transcript.Transcript.{Transcript}
 use Rattle.smx_model.specs.Headline.{IsReportOf}
-use Rattle.smx_text.specs.ProgramsReading.{IsFault}
+use Rattle.smx_text.specs.Grammar.{IsFault}
 use Rattle.smx_text.specs.declared.fault.TextFault.{TextFault}
-use Rattle.smx_text.specs.ProgramsText.{SpellsPrograms}
-use Rattle.smx_text.specs.TranscriptReading.{SpellsTranscript}
-use Rattle.smx_words.specs.Words.{split}
+use Rattle.smx_text.specs.ProgramsText.{SpellsPrograms, programs_grammar}
+use Rattle.smx_text.specs.TranscriptText.{SpellsTranscript}
 use Rattle.smx_run.specs.declared.fault.RunFault.{RunFault}
 use Rattle.smx_run.specs.declared.fault.RunFault.TheVariants as run
 use Rattle.smx_run.specs.RunFaults.{RefusesRun}
@@ -41,7 +40,7 @@ items_of (Err e) = Err e
 -- what is said of an input that was read whole
 abbrev pub Answers : List ℕ → Result (List ℕ) MainFault → Type 0
 Answers input (Ok output) = IsTranscriptFor input output
-Answers input (Err (Text fault)) = IsFault (split 10 input) fault.line fault.cause
+Answers input (Err (Text fault)) = IsFault programs_grammar input fault.line fault.cause
 Answers input (Err (Refused fault)) = IsRefusedFor input fault
 Answers input (Err TooLong) = ⊥
 Answers input (Err ReadFailed) = ⊥
@@ -55,7 +54,7 @@ pub record RunsText (had left : Option (List ℕ)) (ended : Bool) (read_failures
   -- Where the answer is Ok, they are the whole input and spell some programs, and what was written is the transcript of a report that is promised for them, and nothing else. All of it is flushed.
   pub done : OnOk answer (IsWhole had ended read × (flushed ≡ true) × (output : List ℕ) × IsTranscriptFor read output × Appends before after output)
   -- Where the text is refused, they are the whole input, and the fault is the first one, with its line and cause.
-  pub text : IfErr answer (λ e. (fault : TextFault) → e ≡ Text fault → IsWhole had ended read × IsFault (split 10 read) fault.line fault.cause)
+  pub text : IfErr answer (λ e. (fault : TextFault) → e ≡ Text fault → IsWhole had ended read × IsFault programs_grammar read fault.line fault.cause)
   -- Where a run is refused, they are the whole input and spell some programs, for which it is refused so; or memory was wanting before the end was seen.
   pub refused : IfErr answer (λ e. (fault : RunFault) → e ≡ Refused fault → (IsWhole had ended read × IsRefusedFor read fault) ⊎ ((fault ≡ run.NoMemory) × (ended ≡ false)))
   -- The input is too long exactly where more than 16,777,216 bytes were read.

@@ -238,8 +238,13 @@ module _ {V K : Type 0} (g : Grammar V K) (made : IsWellMade g) where
   value_place : (bytes : List ℕ) (v : V) → Spells g bytes v → Place bytes (Ok v)
   value_place bytes v spells =
       let all = spells.text ∙ sym (append-nil (full_text g v)) ∙ full_and g v [] in
-      inr (inr (g.body v, line_text g g.end ++ LINE_FEED ∷ [], value_begun v spells.allowed, all ∙ beginning_and (g.body v) (line_text g g.end ++ LINE_FEED ∷ []),
-      inr (line_text g g.end, [], made.one_line g.end made.fits_end, refl, (spells.allowed, refl, refl, refl))))
+      inr (inr (
+        g.body v,
+        line_text g g.end ++ LINE_FEED ∷ [],
+        value_begun v spells.allowed,
+        all ∙ beginning_and (g.body v) (line_text g g.end ++ LINE_FEED ∷ []),
+        inr (line_text g g.end, [], made.one_line g.end made.fits_end, refl, (spells.allowed, refl, refl, refl)),
+      ))
 
   abbrev Refused : ℕ → Cause → Result V TextFault
   Refused n c = Err (record { line = n; cause = c })
@@ -258,8 +263,13 @@ module _ {V K : Type 0} (g : Grammar V K) (made : IsWellMade g) where
   fault_place bytes n cause.Cut (before, last, inr (lines, begun, is, at), one, e) ample =
       inr (inr (lines, last, begun, e ∙ ap (λ (xs : List ℕ). xs ++ last) is ∙ beginning_and lines last, inl (one, ap (λ (m : ℕ). Refused m cause.Cut) at)))
   fault_place bytes n cause.Trailing (v, b, more, allowed, e, at) ample =
-      inr (inr (g.body v, line_text g g.end ++ LINE_FEED ∷ b ∷ more, value_begun v allowed, e ∙ full_and g v (b ∷ more) ∙ beginning_and (g.body v) (line_text g g.end ++ LINE_FEED ∷ b ∷ more),
-      inr (line_text g g.end, b ∷ more, made.one_line g.end made.fits_end, refl, (v, b, more, allowed, refl, refl, refl, at))))
+      inr (inr (
+        g.body v,
+        line_text g g.end ++ LINE_FEED ∷ b ∷ more,
+        value_begun v allowed,
+        e ∙ full_and g v (b ∷ more) ∙ beginning_and (g.body v) (line_text g g.end ++ LINE_FEED ∷ b ∷ more),
+        inr (line_text g g.end, b ∷ more, made.one_line g.end made.fits_end, refl, (v, b, more, allowed, refl, refl, refl, at)),
+      ))
   fault_place bytes n cause.NoMemory h ample = absurd (ample refl)
 
   place : (bytes : List ℕ) (r : Result V TextFault) → Reads g bytes r → IfErr r (λ f. f.cause ≢ cause.NoMemory) → Place bytes r

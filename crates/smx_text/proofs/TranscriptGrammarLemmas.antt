@@ -80,9 +80,18 @@ no_digits w c cs digits letter = is_false (bytes_eq w (c ∷ cs)) (λ is. differ
 number_kind : (n : ℕ) → n < 2 ^ 64 → kind_at (decimal n) ≡ 0
 number_kind n small =
     let digits = digits_decimal own n small in
-    rw (no_digits (decimal n) 100 _ digits (omega arith), no_digits (decimal n) 99 _ digits (omega arith), no_digits (decimal n) 110 _ digits (omega arith), no_digits (decimal n) 102 _ digits (omega arith),
-    no_digits (decimal n) 108 _ digits (omega arith), no_digits (decimal n) 98 _ digits (omega arith), no_digits (decimal n) 114 _ digits (omega arith), no_digits (decimal n) 109 _ digits (omega arith),
-    no_digits (decimal n) 102 _ digits (omega arith), no_digits (decimal n) 101 _ digits (omega arith)) refl
+    rw (
+      no_digits (decimal n) 100 _ digits (omega arith),
+      no_digits (decimal n) 99 _ digits (omega arith),
+      no_digits (decimal n) 110 _ digits (omega arith),
+      no_digits (decimal n) 102 _ digits (omega arith),
+      no_digits (decimal n) 108 _ digits (omega arith),
+      no_digits (decimal n) 98 _ digits (omega arith),
+      no_digits (decimal n) 114 _ digits (omega arith),
+      no_digits (decimal n) 109 _ digits (omega arith),
+      no_digits (decimal n) 102 _ digits (omega arith),
+      no_digits (decimal n) 101 _ digits (omega arith),
+    ) refl
 
 kind_first : (k : TranscriptLine) → FitsLine k → kind_at (first_word (line_words k)) ≡ kind_of k
 kind_first (line.Driver d) fits = refl

@@ -24,6 +24,10 @@ use Rattle.smx_words.specs.Words.{line_of, text_of}
 lines_append : (ls ks : List (List (List ℕ))) → text_of (ls ++ ks) ≡ text_of ls ++ text_of ks
 lines_append ls ks = flat_map-append (λ words. line_of words ++ 10 ∷ []) ls ks
 
+-- one line more
+pub one_line_more : (before : List ℕ) (ws : List (List ℕ)) → before ++ line_of ws ++ LINE_FEED ∷ [] ≡ before ++ text_of (ws ∷ [])
+one_line_more before ws = append_assoc before (line_of ws) (LINE_FEED ∷ []) ∙ ap (λ (more : List ℕ). before ++ more) (sym (append-nil (line_of ws ++ LINE_FEED ∷ [])))
+
 lines_add : (n : ℕ) (ps : List (List Command)) (cs : List Command) → program_lines n (ps ++ cs ∷ []) ≡ program_lines n ps ++ line.Process (n + length ps) ∷ map line.Command cs
 lines_add n [] cs = rw (append-nil, add-zero) refl
 lines_add n (p ∷ ps) cs =

@@ -67,7 +67,6 @@ fn write_each(out: &mut Vec<u8>, programs: &[Commands]) -> Result<(), NoMemory>
 }
 
 // The lines of a view, its groups in their order.
-#[tactic(auto, using(crate::proofs::WritingLemmas::view_written))]
 fn write_view(out: &mut Vec<u8>, view: &ConfigView) -> Result<(), NoMemory>
     ensures written { OnOk result (out.new.items ≡ out.old.items ++ text_of (map view_words (view_body view.now))) }
     ensures spellable { OnOk result (IsSpellableView view.now) }

@@ -20,12 +20,12 @@ ghost use Rattle.smx_text.specs.TranscriptText.{transcript_grammar};
 
 use crate::fault::Cause;
 use crate::reading::Draft;
-use smx_words::{
-    bind_of, descriptor_of, driver_of, entry_of, full_of, link_of, message_of, next_of, route_of,
-};
 use smx_types::{
     BindingLine, ConfigView, DescriptorLine, DriverSpec, Entry, FullLine, Items, LinkLine,
     MAX_COMMANDS, MAX_DRIVERS, MessageLine, RouteLine, Transcript,
+};
+use smx_words::{
+    bind_of, descriptor_of, driver_of, entry_of, full_of, link_of, message_of, next_of, route_of,
 };
 use std::alloc::Global;
 
@@ -84,9 +84,14 @@ impl Draft for TranscriptDraft {
 
 fn new_view(alloc: Global, next_id: u32, next_serial: u32) -> ConfigView
     ensures { result ≡ record {
-        next_id = next_id;
-        next_serial = next_serial;
-        fds = []; links = []; binds = []; routes = []; msgs = []; fulls = []
+      next_id = next_id;
+      next_serial = next_serial;
+      fds = [];
+      links = [];
+      binds = [];
+      routes = [];
+      msgs = [];
+      fulls = [];
     } }
 {
     ConfigView {

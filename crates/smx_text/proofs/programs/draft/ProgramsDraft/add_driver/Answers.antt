@@ -9,7 +9,6 @@ returns-then-not-is_empty-clause-refused c = misplaced c.args.self.now (line.Dri
 pub returns-then-len-ge-MAX_DRIVERS-clause-refused : goal.returns-then-len-ge-MAX_DRIVERS-clause-refused
 returns-then-len-ge-MAX_DRIVERS-clause-refused c = too_many c.args.self.now (line.Driver c.args.driver) (search rules) (search rules)
 
-
 pub returns-clause-added : goal.returns-clause-added
 returns-clause-added c =
     adds c.args.self.now _ (line.Driver c.args.driver) (search rules) c.requires.begun (search rules) c.requires.fits (search (rules, with_driver))

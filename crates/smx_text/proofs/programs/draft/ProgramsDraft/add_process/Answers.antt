@@ -10,7 +10,6 @@ returns-then-number-len-clause-refused c = misplaced c.args.self.now (line.Proce
 pub returns-then-number-ge-MAX_PROCESSES-clause-refused : goal.returns-then-number-ge-MAX_PROCESSES-clause-refused
 returns-then-number-ge-MAX_PROCESSES-clause-refused c = too_many c.args.self.now (line.Process c.args.number) (search rules) (search rules)
 
-
 pub returns-clause-added : goal.returns-clause-added
 returns-clause-added c =
     let more = added_process c.self.inside.drivers.items c.self.inside.programs.items c.args.number (search rules) in

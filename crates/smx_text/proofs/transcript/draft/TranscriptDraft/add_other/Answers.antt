@@ -9,10 +9,10 @@ use Rattle.smx_text.proofs.transcript.draft.TranscriptDraft.add_other.Goals as g
 
 pub returns-in-Some-clause-added : goal.returns-in-Some-clause-added
 returns-in-Some-clause-added c =
-    let is = subst (IsReadAs FitsMessage message_words c.args.text.now) c.in-Some.is c.in_ok-message.ensures in
+    let is = subst (IsReadAs FitsMessage message_words c.args.text.now) c.in-Some.is c.in_ok-message.ensures.reading in
     on_added_line (lines c.args.self.now) (lines c.add_message.new.self) (line.Msg c.in-Some.message) c.args.text.now is.1 c.add_message.result c.add_message.ensures.added
 
 pub returns-in-Some-clause-refused : goal.returns-in-Some-clause-refused
 returns-in-Some-clause-refused c =
-    let is = subst (IsReadAs FitsMessage message_words c.args.text.now) c.in-Some.is c.in_ok-message.ensures in
+    let is = subst (IsReadAs FitsMessage message_words c.args.text.now) c.in-Some.is c.in_ok-message.ensures.reading in
     on_refused_line (lines c.args.self.now) (line.Msg c.in-Some.message) c.args.text.now is.0 is.1 c.add_message.result c.add_message.ensures.refused
