@@ -15,7 +15,6 @@ use Rattle.smx_types.specs.contracts.driver.DriverSpecPartialEq.TheImpl as of_dr
 use Rattle.smx_types.specs.contracts.programs.ManyPartialEq.TheImpl as of_many
 use Rattle.smx_types.specs.contracts.programs.ProgramsPartialEq.TheImpl as of_programs
 use Rattle.smx_types.specs.contracts.reply.ReplyPartialEq.TheImpl as of_reply
-use Rattle.smx_types.specs.contracts.transcript.TranscriptPartialEq.TheImpl as of_transcript
 use Rattle.smx_types.specs.contracts.view.BindingLinePartialEq.TheImpl as of_binding_line
 use Rattle.smx_types.specs.contracts.view.ConfigViewPartialEq.TheImpl as of_view
 use Rattle.smx_types.specs.contracts.view.DescriptorLinePartialEq.TheImpl as of_descriptor_line
@@ -55,13 +54,13 @@ reply_tells a b = search rules
 pub entry_tells : Tells of_entry.ghosts.eq
 entry_tells a b = search (rules, command_tells, reply_tells)
 
-drivers_tell : Tells (pointwise of_driver.ghosts.eq)
+pub drivers_tell : Tells (pointwise of_driver.ghosts.eq)
 drivers_tell = pointwise_decides (λ a b. search rules)
 
 program_lists_tell : Tells (pointwise (pointwise of_command.ghosts.eq))
 program_lists_tell = pointwise_decides (pointwise_decides command_tells)
 
-entries_tell : Tells (pointwise of_entry.ghosts.eq)
+pub entries_tell : Tells (pointwise of_entry.ghosts.eq)
 entries_tell = pointwise_decides entry_tells
 
 abbrev many_of : List DriverSpec → List (List Command) → Many
@@ -101,6 +100,3 @@ fulls_tell = pointwise_decides (λ a b. search rules)
 
 pub view_tells : Tells of_view.ghosts.eq
 view_tells a b = search (rules, descriptors_tell, links_tell, bindings_tell, routes_tell, messages_tell, fulls_tell)
-
-pub transcript_tells : Tells of_transcript.ghosts.eq
-transcript_tells a b = search (rules, drivers_tell, entries_tell, view_tells)

@@ -223,9 +223,10 @@ impl Same for ConfigView {
 }
 
 impl Same for Transcript {
-    ghost use Rattle.smx_types.specs.SameLemmas.{transcript_tells};
+    ghost use Rattle.smx_types.specs.SameLemmas.{drivers_tell, entries_tell, view_tells};
+    ghost use Rattle.std.proofs.Common.{rules};
 
-    ghost tells = { transcript_tells };
+    ghost tells = { Prim.search (rules, drivers_tell, entries_tell, view_tells) };
 }
 
 impl Same for Programs {
