@@ -10,7 +10,7 @@ use Rattle.smx_run.specs.declared.fault.RunFault.{RunFault}
 use Rattle.muxsim.specs.declared.fault.MainFault.{MainFault}
 use Rattle.muxsim.specs.declared.fault.MainFault.TheVariants.{Refused, Text, TooLong, ReadFailed, WriteFailed}
 use Rattle.muxsim.specs.Input.{IsInput, IsWhole}
-use Rattle.muxsim.specs.RunText.{Answers, IsRefusedFor, RunsText}
+use Rattle.muxsim.specs.RunText.{Answers, IsRefusedFor, RunsText, items_of}
 
 -- known bytes that stay are kept
 kept : (known : Option (List ℕ)) → Keeps known known
@@ -54,3 +54,9 @@ module _ (had left : Option (List ℕ)) (ended : Bool) (failures : ℕ) (held : 
   pub passed_on : (e : MainFault) (answer : Result (Unit {0}) MainFault) → IsErrAnd answer (λ f. f ≡ e) → Answers v.items (Err e) → RunsText had left ended failures held held flushed written answer
   passed_on e (Ok x) is a = absurd is
   passed_on e (Err f) is a = subst (λ (x : MainFault). RunsText had left ended failures held held flushed written (Err x)) (sym is) (at_answer e a)
+
+-- where the text is refused, its fault is the answer
+pub text_refused : (bytes input : List ℕ) → bytes ≡ input → (f : TextFault) (answer : Result (Vec ℕ Global) MainFault) → IsErrAnd answer (λ e. e ≡ Text f) → IsFault programs_grammar bytes f.line f.cause → Answers input (items_of answer)
+text_refused bytes input same f (Ok v) is a = absurd is
+text_refused bytes input same f (Err e) is a =
+    subst (λ (x : MainFault). Answers input (Err x)) (sym is) (subst (λ (given : List ℕ). IsFault programs_grammar given f.line f.cause) same a)
