@@ -52,7 +52,7 @@ fn is_line_of(rt: &impl Abort, alloc: Global, call: Call, line: &[u8]) -> Result
     let programs = read_programs(alloc, text.as_slice())?;
     let command = command_of(alloc, call)?;
     assert_eq!(rt; programs.programs().len(), 1);
-    assert!(rt; programs.programs()[0].as_slice() == [command]);
+    assert!(rt; programs.programs()[0].as_slice() == [command].as_slice());
     let written = write_programs(alloc, &programs)?;
     assert_eq!(rt; written.as_slice(), text.as_slice());
     Ok(())
