@@ -1,3 +1,5 @@
+//! Tests of what a fault prints, and of its status.
+
 use crate::fault::MainFault;
 use smx_config::ConfigFault;
 use smx_run::RunFault;

@@ -1,3 +1,5 @@
+//! Tests of reading from devices.
+
 use super::devices::one_byte_feed;
 use crate::device::Source;
 use crate::fault::MainFault;

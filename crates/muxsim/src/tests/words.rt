@@ -1,3 +1,5 @@
+//! Tests of the words of the command line.
+
 use crate::command_line::job;
 use crate::jobs::Job;
 use clap::error::ErrorKind;

@@ -1,3 +1,5 @@
+//! Tests of writing to devices.
+
 use super::devices::{STOPS, Stop, one_byte_sink};
 use crate::device::Target;
 use crate::fault::MainFault;
