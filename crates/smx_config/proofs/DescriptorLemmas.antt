@@ -36,7 +36,8 @@ rise_placed n (e ∷ es) d le fd process free h = let p = or_parts (is_fd d.proc
   | inr f ↦ let more = not_before_more d e fd h.1 f p.0 in rw f (h.0, h.1, rise_placed (code_of e + 1) es d (omega arith) fd process p.1 h.2)
 ]
 
-rise_room : (n : ℕ) (fds : List Descriptor) → RiseFrom n fds → n + length fds ≤ 1024
+-- descriptors that rise are no more than their numbers allow
+pub rise_room : (n : ℕ) (fds : List Descriptor) → RiseFrom n fds → n + length fds ≤ 1024
 rise_room n [] h = omega arith
 rise_room n (e ∷ es) h = let r = rise_room (code_of e + 1) es h.2 in let a = h.0 in omega arith
 

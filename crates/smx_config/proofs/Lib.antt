@@ -10,6 +10,7 @@ pub mod DroppedLemmas
 pub mod KnownLemmas
 pub mod LookupLemmas
 pub mod DescriptorLemmas
+pub mod LeastDescriptorLemmas
 pub mod DoneLemmas
 pub mod DriverListLemmas
 pub mod PerformLemmas

@@ -4,6 +4,7 @@ ghost use Rattle.std.specs.Prelude.{◌≡◌, not, find};
 ghost use Rattle.std.specs.List.{list_any, range_with_len};
 ghost use Rattle.smx_types.specs.declared.limits.TheConstants.{MAX_DESCRIPTORS};
 ghost use Rattle.smx_model.specs.Configuration.{is_fd};
+ghost use Rattle.smx_config.specs.ReservedRoom.{RiseFrom};
 
 use smx_types::{Descriptor, MAX_DESCRIPTORS, Process};
 
@@ -20,15 +21,20 @@ pub fn descriptor_of(fds: &[Descriptor], process: Process, fd: u32) -> Option<De
     fds.iter().copied().find(|d| is_fd(process, fd, d))
 }
 
-fn is_open(fds: &[Descriptor], process: Process, fd: u32) -> bool
-    ensures { result ≡ list_any (is_fd process fd) fds.now }
-{
-    fds.iter().any(|d| is_fd(process, fd, d))
-}
-
-// The least number that is no descriptor of the process.
+// The least number that is no descriptor of the process. They rise, so one pass finds it.
 pub fn least_fd(fds: &[Descriptor], process: Process) -> Option<u32>
+    requires { RiseFrom 0 fds.now }
     ensures { result ≡ find (λ n. not (list_any (is_fd process n) fds.now)) (range_with_len 0 MAX_DESCRIPTORS) }
 {
-    (0..MAX_DESCRIPTORS).find(|n| !is_open(fds, process, *n))
+    let mut least = 0;
+    for d in fds {
+        if is_fd(process, least, d) {
+            least += 1;
+        }
+    }
+    if least < MAX_DESCRIPTORS {
+        Some(least)
+    } else {
+        None
+    }
 }

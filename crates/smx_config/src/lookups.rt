@@ -6,7 +6,7 @@ ghost use Rattle.smx_model.specs.KnownStreams.{AreStreamsKnown};
 ghost use Rattle.smx_model.specs.Lookups.{stream_of, free_fd, free_minor, free_stream, mux_stream, leaf_stream};
 ghost use Rattle.smx_model.specs.Standing.{exists};
 ghost use Rattle.smx_config.specs.FewMinors.{HaveFewMinors};
-ghost use Rattle.smx_config.specs.ReservedRoom.{IsFree};
+ghost use Rattle.smx_config.specs.ReservedRoom.{RiseFrom, IsFree};
 ghost use Rattle.smx_config.specs.ModelOfLists.{configuration_of};
 
 use crate::descriptors::{descriptor_of, least_fd};
@@ -32,6 +32,7 @@ pub fn stream_of(lists: &Lists, process: Process, fd: u32) -> Result<StreamId, F
 }
 
 pub fn free_fd(lists: &Lists, process: Process) -> Result<u32, Fault>
+    requires { RiseFrom 0 lists.now.fds.items }
     ensures least { result ≡ free_fd (configuration_of lists.now) process }
     ensures free { IfOk result (λ n. IsFree process n lists.now.fds.items) }
 {
