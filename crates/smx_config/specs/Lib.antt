@@ -13,3 +13,4 @@ pub mod ReservedRoom
 pub mod SweepReserves
 pub mod Refinement
 pub mod ModelOfConfig
+pub mod Verdicts
