@@ -17,3 +17,4 @@ pub mod PerformLemmas
 pub mod CountLemmas
 pub mod OpenLemmas
 pub mod DeliveryLemmas
+pub mod VerdictLemmas

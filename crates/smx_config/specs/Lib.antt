@@ -14,3 +14,4 @@ pub mod SweepReserves
 pub mod Refinement
 pub mod SecondReplies
 pub mod ModelOfConfig
+pub mod Verdicts

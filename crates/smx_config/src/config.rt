@@ -1,6 +1,6 @@
 //! The sequential configuration.
 
-ghost use Rattle.std.specs.Prelude.{◌≡◌, ◌≤◌, [], length, IfOk, IfErr, IsOk, IsErr, IsTrue};
+ghost use Rattle.std.specs.Prelude.{◌≡◌, ◌≤◌, ◌↔◌, [], length, IfOk, IfErr, IsOk, IsErr, IsTrue};
 ghost use Rattle.smx_types.specs.declared.reply.Fault.{Fault};
 ghost use Rattle.smx_types.specs.declared.reply.Reply.TheVariants as reply;
 ghost use Rattle.smx_model.specs.Commands.{outcome, step};
@@ -22,6 +22,7 @@ use crate::settling::settle_after;
 use crate::show::{
     binding_lines, descriptor_lines, full_lines, link_lines, message_lines, route_lines,
 };
+use crate::shown_lines::are_shown;
 use crate::step_error::StepError;
 use smx_model::laws_of_steps::{
     commands_keep, empty_is_kept, outcomes_are_sound, refusals_change_nothing,
@@ -164,6 +165,21 @@ impl Config {
             msgs: MessageLines::from_vec(msgs),
             fulls: FullLines::from_vec(fulls),
         })
+    }
+
+    /// Whether `show` would answer just this view. It is compared line by line where it stands, so this takes no memory.
+    pub fn shows(&self, shown: &ConfigView) -> bool
+        ensures { IsTrue result ↔ (shown.now ≡ view self.now.drivers self.now.configuration) }
+    {
+        let drivers: &[DriverSpec] = &self.drivers;
+        shown.next_id == self.lists.next_id
+            && shown.next_serial == self.lists.next_serial
+            && are_shown(drivers, &self.lists.fds, shown.fds.as_slice())
+            && are_shown(drivers, &self.lists.links, shown.links.as_slice())
+            && are_shown(drivers, &self.lists.binds, shown.binds.as_slice())
+            && are_shown(drivers, &self.lists.routes, shown.routes.as_slice())
+            && are_shown(drivers, &self.lists.flow, shown.msgs.as_slice())
+            && are_shown(drivers, &self.lists.fulls, shown.fulls.as_slice())
     }
 
     /// How many links stand. Takes no memory.

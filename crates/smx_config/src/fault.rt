@@ -1,6 +1,6 @@
 //! Why there is no configuration for some drivers.
 
-use smx_types::SpecFault;
+use smx_types::{NoMemory, SpecFault};
 use std::fmt;
 
 /// Why there is no configuration for some drivers, whose numbers start from 0. It prints itself: `driver 3 marks`,
@@ -15,6 +15,17 @@ pub enum ConfigFault {
     TooMany,
     /// A growth was refused.
     NoMemory,
+}
+
+impl From<NoMemory> for ConfigFault {
+    ghost use Rattle.std.specs.Prelude.{◌≡◌};
+    ghost use Rattle.smx_config.specs.declared.fault.ConfigFault.TheVariants as config;
+
+    ghost from_gives = { λ _ e. e ≡ config.NoMemory };
+
+    fn from(_error: NoMemory) -> ConfigFault {
+        ConfigFault::NoMemory
+    }
 }
 
 impl fmt::Display for ConfigFault {

@@ -13,14 +13,14 @@ use smx_types::{
 };
 use std::alloc::Global;
 
-fn name_of(drivers: &[DriverSpec], driver: u8) -> Name
+pub fn name_of(drivers: &[DriverSpec], driver: u8) -> Name
     requires { driver < length drivers.now }
     ensures { result ≡ name_of drivers.now driver }
 {
     drivers[driver as usize].name
 }
 
-fn descriptor_line(drivers: &[DriverSpec], d: &Descriptor) -> DescriptorLine
+pub fn descriptor_line(drivers: &[DriverSpec], d: &Descriptor) -> DescriptorLine
     requires { d.now.stream.driver < length drivers.now }
     ensures { result ≡ view_of_fd drivers.now d.now }
 {
@@ -32,7 +32,7 @@ fn descriptor_line(drivers: &[DriverSpec], d: &Descriptor) -> DescriptorLine
     }
 }
 
-fn link_line(drivers: &[DriverSpec], l: &Link) -> LinkLine
+pub fn link_line(drivers: &[DriverSpec], l: &Link) -> LinkLine
     requires ctl { l.now.ctl.driver < length drivers.now }
     requires lower { l.now.lower.driver < length drivers.now }
     ensures { result ≡ view_of_link drivers.now l.now }
@@ -47,7 +47,7 @@ fn link_line(drivers: &[DriverSpec], l: &Link) -> LinkLine
     }
 }
 
-fn binding_line(drivers: &[DriverSpec], b: &Binding) -> BindingLine
+pub fn binding_line(drivers: &[DriverSpec], b: &Binding) -> BindingLine
     requires { b.now.driver < length drivers.now }
     ensures { result ≡ view_of_bind drivers.now b.now }
 {
@@ -58,7 +58,7 @@ fn binding_line(drivers: &[DriverSpec], b: &Binding) -> BindingLine
     }
 }
 
-fn route_line(drivers: &[DriverSpec], r: &Route) -> RouteLine
+pub fn route_line(drivers: &[DriverSpec], r: &Route) -> RouteLine
     requires { r.now.driver < length drivers.now }
     ensures { result ≡ view_of_route drivers.now r.now }
 {
@@ -87,7 +87,7 @@ fn message_line(
     })
 }
 
-fn full_line(drivers: &[DriverSpec], p: &Place) -> FullLine
+pub fn full_line(drivers: &[DriverSpec], p: &Place) -> FullLine
     requires { p.now.stream.driver < length drivers.now }
     ensures { result ≡ view_of_full drivers.now p.now }
 {

@@ -31,3 +31,4 @@ pub mod DescriptorLemmas
 pub mod BindingLemmas
 pub mod RoutingLemmas
 pub mod ReportLemmas
+pub mod IllegalEntryLemmas

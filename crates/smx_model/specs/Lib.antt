@@ -17,6 +17,7 @@ pub mod Outcomes
 pub mod Lookups
 pub mod Commands
 pub mod Histories
+pub mod IllegalEntries
 pub mod LawfulHistories
 pub mod KeptConfigurations
 pub mod Views

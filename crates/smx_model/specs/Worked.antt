@@ -36,3 +36,4 @@ pub mod PlacesInOrder
 pub mod EachNumberIsItsOwn
 pub mod CommandsThatDrop
 pub mod Reports
+pub mod SecondIsIllegal

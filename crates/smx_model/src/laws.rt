@@ -1,8 +1,9 @@
 //! Laws of histories, each the contract of a function that does nothing.
 
-ghost use Rattle.std.specs.Prelude.{◌≡◌, ◌++◌, List, map};
+ghost use Rattle.std.specs.Prelude.{◌≡◌, ◌++◌, List, [], ◌∷◌, map};
 ghost use Rattle.smx_types.specs.declared.command.Entry.{Entry};
 ghost use Rattle.smx_types.specs.declared.driver.DriverSpec.{DriverSpec};
+ghost use Rattle.smx_model.specs.Commands.{step};
 ghost use Rattle.smx_model.specs.Configuration.{fd_before};
 ghost use Rattle.smx_model.specs.Histories.{after, call_of, IsLegal};
 ghost use Rattle.smx_model.specs.LawfulHistories.{IsLawful, IsLawfulThroughout};
@@ -12,6 +13,15 @@ ghost use Rattle.smx_model.specs.Ordered.{IsRising};
 pub fn prefixes_are_legal()
     ensures { (drivers : List DriverSpec) (early late : List Entry) → IsLegal drivers (early ++ late)
         → IsLegal drivers early }
+{}
+
+/// With one entry more, the configuration after a history is one step further, and the history stays legal where that
+/// entry has the reply of its command.
+pub fn one_entry_more()
+    ensures after { (drivers : List DriverSpec) (history : List Entry) (e : Entry)
+        → after drivers (history ++ e ∷ []) ≡ (step drivers (after drivers history) e.process e.command).0 }
+    ensures legal { (drivers : List DriverSpec) (history : List Entry) (e : Entry) → IsLegal drivers history
+        → (step drivers (after drivers history) e.process e.command).1 ≡ e.reply → IsLegal drivers (history ++ e ∷ []) }
 {}
 
 /// Commands in a given order have one legal history: their replies are determined.

@@ -1,0 +1,40 @@
+-- There is one verdict on each history and view.
+use Rattle.std.proofs.Common.{◌≡◌, ◌≢◌, ℕ, ◌⊎◌, inl, inr, List, refl, ap}
+use Rattle.std.proofs.lemmas.Bool.{cases_Bool}
+use Rattle.std.proofs.lemmas.Bool.Decides.{not_from_Decides}
+use Rattle.smx_types.specs.SameLemmas.{view_tells}
+use Rattle.smx_types.specs.declared.command.Entry.{Entry}
+use Rattle.smx_types.specs.declared.driver.DriverSpec.{DriverSpec}
+use Rattle.smx_types.specs.declared.view.ConfigView.{ConfigView}
+use Rattle.smx_model.specs.Histories.{IsLegal, after}
+use Rattle.smx_model.specs.IllegalEntries.{IsFirstIllegal}
+use Rattle.smx_model.specs.Views.{view}
+use Rattle.smx_config.specs.Verdicts.{IsVerdict}
+use Rattle.smx_config.specs.declared.verdict.Verdict.{Verdict}
+use Rattle.smx_config.specs.declared.verdict.Verdict.TheVariants.{Legal, Illegal, ConfigDiffers}
+
+-- two views are the same, or they are not
+same_or_not : (v w : ConfigView) → (v ≡ w) ⊎ (v ≢ w)
+same_or_not v w = elim (cases_Bool _) [
+  | inl t ↦ inl ((view_tells v w).0 t)
+  | inr f ↦ inr (not_from_Decides _ (view_tells v w) f)
+]
+
+pub there_is_one : (drivers : List DriverSpec) (entries : List Entry) (shown : ConfigView) → IsLegal drivers entries ⊎ ((n : ℕ) × IsFirstIllegal drivers entries n) → (v : Verdict) × IsVerdict drivers entries shown v
+there_is_one drivers entries shown (inl legal) = elim (same_or_not shown (view drivers (after drivers entries))) [
+  | inl same ↦ (Legal, (legal, same))
+  | inr other ↦ (ConfigDiffers, (legal, other))
+]
+there_is_one drivers entries shown (inr first) = (Illegal first.0, first.1)
+
+pub there_is_no_other : (drivers : List DriverSpec) (entries : List Entry) (shown : ConfigView) → ((n : ℕ) → IsLegal drivers entries → IsFirstIllegal drivers entries n → ⊥)
+    → ((m n : ℕ) → IsFirstIllegal drivers entries m → IsFirstIllegal drivers entries n → m ≡ n) → (v w : Verdict) → IsVerdict drivers entries shown v → IsVerdict drivers entries shown w → v ≡ w
+there_is_no_other drivers entries shown not_both one Legal Legal h k = refl
+there_is_no_other drivers entries shown not_both one Legal (Illegal n) h k = absurd (not_both n h.0 k)
+there_is_no_other drivers entries shown not_both one Legal ConfigDiffers h k = absurd (k.1 h.1)
+there_is_no_other drivers entries shown not_both one (Illegal m) Legal h k = absurd (not_both m k.0 h)
+there_is_no_other drivers entries shown not_both one (Illegal m) (Illegal n) h k = ap Illegal (one m n h k)
+there_is_no_other drivers entries shown not_both one (Illegal m) ConfigDiffers h k = absurd (not_both m k.0 h)
+there_is_no_other drivers entries shown not_both one ConfigDiffers Legal h k = absurd (h.1 k.1)
+there_is_no_other drivers entries shown not_both one ConfigDiffers (Illegal n) h k = absurd (not_both n h.0 k)
+there_is_no_other drivers entries shown not_both one ConfigDiffers ConfigDiffers h k = refl

@@ -1,0 +1,53 @@
+//! Whether a history is legal, and its end as claimed.
+
+ghost use Rattle.std.specs.Prelude.{◌≡◌, ◌↔◌, IfOk, IfErr, IsTrue};
+ghost use Rattle.smx_model.specs.Commands.{step};
+ghost use Rattle.smx_model.specs.DriverList.{IsDriverList};
+ghost use Rattle.smx_config.specs.DriverFaults.{RefusesDrivers};
+ghost use Rattle.smx_config.specs.Verdicts.{IsVerdict};
+
+use crate::config::Config;
+use crate::fault::ConfigFault;
+use crate::verdict::Verdict;
+use smx_model::laws::one_entry_more;
+use smx_types::{ConfigView, DriverSpec, Entry, NoMemory, Same};
+use std::alloc::Global;
+
+// Gives the command of an entry again; whether it gets the reply of the entry.
+fn gets_its_reply(config: &mut Config, entry: &Entry) -> Result<bool, NoMemory>
+    ensures drivers { config.new.drivers ≡ config.old.drivers }
+    ensures next { IfOk result (λ _. config.new.configuration
+        ≡ (step config.old.drivers config.old.configuration entry.now.process entry.now.command).0) }
+    ensures same { IfOk result (λ same. IsTrue same
+        ↔ ((step config.old.drivers config.old.configuration entry.now.process entry.now.command).1 ≡ entry.now.reply)) }
+{
+    let reply = config.step(entry.process, &entry.command)?;
+    Ok(reply.is_same(&entry.reply))
+}
+
+/// Judges a history from the empty configuration on, whoever made it, and the view that is claimed of its end. Each
+/// command is given again, up to the first that gets another reply. Refused for drivers that a configuration can't
+/// have, before any entry is looked at, or for want of memory. It takes time by the entries alone.
+pub fn check_history(
+    alloc: Global,
+    drivers: &[DriverSpec],
+    entries: &[Entry],
+    shown: &ConfigView,
+) -> Result<Verdict, ConfigFault>
+    ensures drivers { IfOk result (λ _. IsDriverList drivers.now) }
+    ensures verdict { IfOk result (IsVerdict drivers.now entries.now shown.now) }
+    ensures refused { IfErr result (RefusesDrivers drivers.now) }
+{
+    one_entry_more();
+    let mut config = Config::new(alloc, drivers)?;
+    for (i, entry) in entries.iter().enumerate() {
+        if !gets_its_reply(&mut config, entry)? {
+            return Ok(Verdict::Illegal { entry: i + 1 });
+        }
+    }
+    if config.shows(shown) {
+        Ok(Verdict::Legal)
+    } else {
+        Ok(Verdict::ConfigDiffers)
+    }
+}

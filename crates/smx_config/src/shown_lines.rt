@@ -1,0 +1,138 @@
+//! Whether lines show the lists of a configuration. They are compared where they stand.
+
+ghost use Rattle.std.specs.Prelude.{◌≡◌, ◌↔◌, ◌<◌, length, map, IsTrue};
+ghost use Rattle.std.specs.List.{All};
+
+use crate::queued_message::QueuedMessage;
+use crate::show::{binding_line, descriptor_line, full_line, link_line, name_of, route_line};
+use smx_types::{
+    Binding, BindingLine, Descriptor, DescriptorLine, DriverSpec, FullLine, Link, LinkLine,
+    MessageLine, Place, Route, RouteLine,
+};
+
+/// A part of a configuration, which one line shows.
+pub trait Shown {
+    ghost use Rattle.std.specs.Prelude.{◌≡◌, ◌↔◌, IsTrue, List};
+    ghost use Rattle.smx_types.specs.declared.driver.DriverSpec.{DriverSpec};
+
+    type Line;
+
+    ghost is_within: { List DriverSpec → Self → Type 0 };
+
+    ghost line_of: { List DriverSpec → Self → Self.Line };
+
+    fn is_shown(&self, drivers: &[DriverSpec], line: &Self::Line) -> bool
+        requires { is_within drivers.now self.now }
+        ensures { IsTrue result ↔ (line.now ≡ line_of drivers.now self.now) };
+}
+
+impl Shown for Descriptor {
+    type Line = DescriptorLine;
+
+    ghost use Rattle.std.specs.Prelude.{◌<◌, length};
+    ghost use Rattle.smx_model.specs.Views.{view_of_fd};
+
+    ghost is_within = { λ drivers d. d.stream.driver < length drivers };
+
+    ghost line_of = { view_of_fd };
+
+    fn is_shown(&self, drivers: &[DriverSpec], line: &DescriptorLine) -> bool {
+        descriptor_line(drivers, self) == *line
+    }
+}
+
+impl Shown for Link {
+    type Line = LinkLine;
+
+    ghost use Rattle.std.specs.Prelude.{◌<◌, length};
+    ghost use Rattle.smx_model.specs.Views.{view_of_link};
+
+    ghost is_within = { λ drivers l.
+        (l.ctl.driver < length drivers) × (l.lower.driver < length drivers) };
+
+    ghost line_of = { view_of_link };
+
+    fn is_shown(&self, drivers: &[DriverSpec], line: &LinkLine) -> bool {
+        link_line(drivers, self) == *line
+    }
+}
+
+impl Shown for Binding {
+    type Line = BindingLine;
+
+    ghost use Rattle.std.specs.Prelude.{◌<◌, length};
+    ghost use Rattle.smx_model.specs.Views.{view_of_bind};
+
+    ghost is_within = { λ drivers b. b.driver < length drivers };
+
+    ghost line_of = { view_of_bind };
+
+    fn is_shown(&self, drivers: &[DriverSpec], line: &BindingLine) -> bool {
+        binding_line(drivers, self) == *line
+    }
+}
+
+impl Shown for Route {
+    type Line = RouteLine;
+
+    ghost use Rattle.std.specs.Prelude.{◌<◌, length};
+    ghost use Rattle.smx_model.specs.Views.{view_of_route};
+
+    ghost is_within = { λ drivers r. r.driver < length drivers };
+
+    ghost line_of = { view_of_route };
+
+    fn is_shown(&self, drivers: &[DriverSpec], line: &RouteLine) -> bool {
+        route_line(drivers, self) == *line
+    }
+}
+
+impl Shown for QueuedMessage {
+    type Line = MessageLine;
+
+    ghost use Rattle.std.specs.Prelude.{◌<◌, length};
+    ghost use Rattle.smx_model.specs.Views.{view_of_message};
+
+    ghost is_within = { λ drivers h. h.place.stream.driver < length drivers };
+
+    ghost line_of = { view_of_message };
+
+    fn is_shown(&self, drivers: &[DriverSpec], line: &MessageLine) -> bool {
+        let place = self.place();
+        line.driver == name_of(drivers, place.stream.driver)
+            && line.minor == u32::from(place.stream.minor)
+            && line.side == place.side
+            && line.message == *self.message()
+    }
+}
+
+impl Shown for Place {
+    type Line = FullLine;
+
+    ghost use Rattle.std.specs.Prelude.{◌<◌, length};
+    ghost use Rattle.smx_model.specs.Views.{view_of_full};
+
+    ghost is_within = { λ drivers p. p.stream.driver < length drivers };
+
+    ghost line_of = { view_of_full };
+
+    fn is_shown(&self, drivers: &[DriverSpec], line: &FullLine) -> bool {
+        full_line(drivers, self) == *line
+    }
+}
+
+/// Whether there is a line for each item, in order, and no other.
+pub fn are_shown<T: Shown>(drivers: &[DriverSpec], items: &[T], lines: &[T::Line]) -> bool
+    requires { All (T.is_within drivers.now) items.now }
+    ensures { IsTrue result ↔ (lines.now ≡ map (T.line_of drivers.now) items.now) }
+{
+    if items.len() != lines.len() {
+        return false;
+    }
+    for (item, line) in items.iter().zip(lines) {
+        if !item.is_shown(drivers, line) {
+            return false;
+        }
+    }
+    true
+}
