@@ -1,5 +1,6 @@
 pub mod Machine
 pub mod DriverFaults
+pub mod FaultWords
 pub mod ModelOfLists
 pub mod InsertionIndexes
 pub mod Visited

@@ -29,6 +29,11 @@ impl From<NoMemory> for ConfigFault {
 }
 
 impl fmt::Display for ConfigFault {
+    ghost use Rattle.std.specs.Prelude.{Some};
+    ghost use Rattle.smx_config.specs.FaultWords.{config_fault_words};
+
+    ghost output = { λ fault. Some (config_fault_words fault) };
+
     fn fmt<W: fmt::Write>(&self, f: &mut fmt::Formatter<W>) -> fmt::Result {
         match self {
             ConfigFault::BadSpec(i, fault) => write!(f, "driver {i} {fault}"),
