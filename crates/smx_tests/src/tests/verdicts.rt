@@ -1,6 +1,6 @@
 //! Verdicts on histories, with the transcripts and what is said of them typed in from the rules.
 
-use super::values::{driver, ip, named, nothing_open, numbered};
+use super::values::{driver, eth, ip, named, nothing_open, numbered};
 use super::views::first_stream;
 use smx_config::{ConfigFault, Verdict, check_history};
 use smx_text::read_transcript;
@@ -20,7 +20,7 @@ fn cloned(reply: Reply) -> Result<Entry, Fail> {
 }
 
 fn ip_over_eth() -> Result<[DriverSpec; 2], Fail> {
-    Ok([ip()?, driver("eth", DriverKind::Leaf, 2)?])
+    Ok([ip()?, eth()?])
 }
 
 #[test]
