@@ -1,6 +1,7 @@
 //! Worked histories whole. They pass with any one growth refused too, and tests/refused_growths runs them so.
 
 use super::history_lines::{Answer, Call, JOIN, Line, entry_of, play, shows};
+use super::system_lines::{play as play_by, system_of_twenty};
 use super::values::{eth, ip, ip_and_eth, nothing_open};
 use super::views::held_above;
 use smx_config::{ConfigFault, Verdict, check_history};
@@ -89,4 +90,22 @@ fn a_history_is_judged(rt: HostRuntime) -> Result<(), Fail> {
     let view = held_above(rt.alloc())?;
     assert_eq!(rt; judged(&rt, entries.as_slice(), &view)?, Verdict::Legal);
     Ok(())
+}
+
+#[test]
+fn marks_by_a_system(rt: HostRuntime) -> Result<(), Fail> {
+    let mut system = system_of_twenty(rt.alloc())?;
+    play_by(&rt, &mut system, &JOIN)?;
+    play_by(&rt, &mut system, &MARKS)?;
+    assert_eq!(rt; system.entries().len(), 13);
+    shows(system.config(), held_above(rt.alloc())?)
+}
+
+#[test]
+fn causes_by_a_system(rt: HostRuntime) -> Result<(), Fail> {
+    let mut system = system_of_twenty(rt.alloc())?;
+    play_by(&rt, &mut system, &JOIN)?;
+    play_by(&rt, &mut system, &CAUSES)?;
+    assert_eq!(rt; system.entries().len(), 10);
+    shows(system.config(), nothing_open(rt.alloc(), 2, 4))
 }
