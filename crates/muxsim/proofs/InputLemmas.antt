@@ -33,12 +33,14 @@ pub failed_with : (old mid new : Option (List ℕ)) (ended : Bool) (failures : �
     → length before ≤ MAX_INPUT → (read : List ℕ) × IsInput old new ended failures (Err ReadFailed) read
 failed_with old mid new ended failures before p q failed short =
     let consumed = kept_on old mid new before p q in
-    (before, search (rules, consumed, short))
+    let few : length before ≤ MAX_INPUT + 1 = omega (arith, short) in
+    (before, search (rules, consumed, few, short))
 
 -- with the piece there are more bytes than may be
 pub too_long_with : (old mid new : Option (List ℕ)) (ended : Bool) (failures : ℕ) (before piece : List ℕ) → Consumes old mid before → Consumes mid new piece → failures ≡ 0
-    → MAX_INPUT < length before + length piece → (read : List ℕ) × IsInput old new ended failures (Err TooLong) read
-too_long_with old mid new ended failures before piece p q fine long =
+    → MAX_INPUT < length before + length piece → length before + length piece ≤ MAX_INPUT + 1 → (read : List ℕ) × IsInput old new ended failures (Err TooLong) read
+too_long_with old mid new ended failures before piece p q fine long fits =
     let consumed = Consumes-trans old mid new before piece p q in
     let more : MAX_INPUT < length (before ++ piece) = omega (arith, length-append before piece) in
-    (before ++ piece, search (rules, consumed, more))
+    let few : length (before ++ piece) ≤ MAX_INPUT + 1 = omega (arith, fits, length-append before piece) in
+    (before ++ piece, search (rules, consumed, few, more))

@@ -1,3 +1,3 @@
 pub mod InputLemmas
 pub mod OutputLemmas
-pub mod RunTextLemmas
+pub mod FilterLemmas

@@ -1,5 +1,5 @@
 -- What reading to the end answers, by the bytes that were read.
-use Rattle.std.specs.Prelude.{◌≡◌, ℕ, ◌<◌, ◌↔◌, ◌⊎◌, Bool, true, false, List, length, Option, Result, Vec, IfOk, IfErr, IfSome, OnOk, IsErrOf}
+use Rattle.std.specs.Prelude.{◌≡◌, ℕ, ◌+◌, ◌<◌, ◌≤◌, ◌↔◌, ◌⊎◌, Bool, true, false, List, length, Option, Result, Vec, IfOk, IfErr, IfSome, OnOk, IsErrOf}
 use Rattle.std.specs.Global.{Global}
 use Rattle.std.specs.Io.KnownBytes.{Consumes}
 use Rattle.smx_run.specs.declared.fault.RunFault.TheVariants.{NoMemory}
@@ -15,6 +15,8 @@ IsWhole had ended read = (ended ≡ true) × IfSome had (λ all. all ≡ read)
 pub record IsInput (old new : Option (List ℕ)) (ended : Bool) (failures : ℕ) (answer : Result (Vec ℕ Global) MainFault) (read : List ℕ) : Type 0 where
   -- these bytes were read, and no others
   pub consumed : Consumes old new read
+  -- and of those that are too many, one at most
+  pub few : length read ≤ MAX_INPUT + 1
   -- they are answered
   pub answered : IfOk answer (λ v. v.items ≡ read)
   -- they are then the whole input

@@ -1,9 +1,13 @@
--- The exit status of each fault.
+-- The exit status of each end of the program.
 use Rattle.std.specs.Prelude.{ℕ, Result, Ok, Err}
+use Rattle.smx_config.specs.declared.verdict.Verdict.{Verdict}
+use Rattle.smx_config.specs.declared.verdict.Verdict.TheVariants.{Legal, Illegal, ConfigDiffers}
 use Rattle.smx_text.specs.declared.fault.Cause.{Cause}
 use Rattle.smx_text.specs.declared.fault.Cause.TheVariants.{Header, Form, Many, Cut, Trailing, NoMemory}
 use Rattle.muxsim.specs.declared.fault.MainFault.{MainFault}
 use Rattle.muxsim.specs.declared.fault.MainFault.TheVariants.{Refused, Text, TooLong, ReadFailed, WriteFailed}
+use Rattle.muxsim.specs.declared.jobs.Done.{Done}
+use Rattle.muxsim.specs.declared.jobs.Done.TheVariants.{Finished, Judged}
 
 -- 1 for want of memory, 3 for what is wrong with the text
 abbrev pub status_of_cause : Cause → ℕ
@@ -22,7 +26,18 @@ status_of TooLong = 3
 status_of ReadFailed = 5
 status_of WriteFailed = 5
 
--- 0 where all is well
-abbrev pub status_of_outcome : Result (Unit {0}) MainFault → ℕ
-status_of_outcome (Ok done) = 0
+-- 0 for a legal history with its configuration, 4 for every other verdict
+abbrev pub status_of_verdict : Verdict → ℕ
+status_of_verdict Legal = 0
+status_of_verdict (Illegal entry) = 4
+status_of_verdict ConfigDiffers = 4
+
+-- 0 where that was all that was asked
+abbrev pub status_of_done : Done → ℕ
+status_of_done Finished = 0
+status_of_done (Judged verdict) = status_of_verdict verdict
+
+-- that of what was done, or of the fault for which it was not
+abbrev pub status_of_outcome : Result Done MainFault → ℕ
+status_of_outcome (Ok done) = status_of_done done
 status_of_outcome (Err fault) = status_of fault

@@ -5,6 +5,7 @@ ghost use Rattle.muxsim.specs.Statuses.{status_of};
 ghost use Rattle.muxsim.specs.declared.fault.MainFault.TheVariants.{Refused};
 ghost use Rattle.smx_run.specs.declared.fault.RunFault.TheVariants.{NoMemory};
 
+use smx_config::ConfigFault;
 use smx_run::RunFault;
 use smx_text::{Cause, TextFault};
 use smx_types::NoMemory;
@@ -15,7 +16,7 @@ use thiserror::Error;
 /// Why nothing came of the program. Its text is what stands behind `muxsim: ` on standard error.
 #[derive(Debug, Drop, Error)]
 pub enum MainFault {
-    /// A run was refused.
+    /// A run was refused, or what was to be judged.
     #[error("refused: {0}")]
     Refused(RunFault),
     /// The input is no text of its kind, or memory was wanting while it was read as one.
@@ -66,6 +67,16 @@ impl From<TextFault> for MainFault {
 
     fn from(fault: TextFault) -> MainFault {
         MainFault::Text(fault)
+    }
+}
+
+impl From<ConfigFault> for MainFault {
+    ghost use Rattle.smx_run.specs.RunFaults.{run_fault_of};
+
+    ghost from_gives = { λ f fault. fault ≡ Refused (run_fault_of f) };
+
+    fn from(fault: ConfigFault) -> MainFault {
+        MainFault::Refused(RunFault::from(fault))
     }
 }
 

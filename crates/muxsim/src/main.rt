@@ -1,6 +1,7 @@
-//! Runs the programs on standard input against a STREAMS multiplexer, and writes the transcript.
+//! Runs the programs on standard input against a STREAMS multiplexer and writes the transcript, or judges a transcript.
 #![tactic(auto)]
 
+mod check;
 mod command_line;
 mod device;
 mod fault;
@@ -17,11 +18,12 @@ ghost use Rattle.std.specs.Process.{exit_status};
 ghost use Rattle.clap.specs.Values.{kind_of};
 ghost use Rattle.muxsim.specs.Statuses.{status_of_outcome};
 
+use check::check_text;
 use clap::error::ErrorKind;
 use command_line::job;
 use device::{Source, Target};
 use fault::MainFault;
-use jobs::Job;
+use jobs::{Done, Job};
 use smx_run::RunFault;
 use std::io::ErrorKind as IoKind;
 use std::process::ExitCode;
@@ -30,7 +32,8 @@ use text::run_text;
 
 /// Does what the words ask for. The exit status is 0 where that was done, also for help and the
 /// version; 1 where a run is refused, also for want of memory; 2 where the words are wrong; 3 where
-/// the text is; and 5 where input or output failed.
+/// the text is; 4 for the verdict that a history is illegal or that its configuration differs; and 5 where input or output
+/// failed.
 fn main(rt: HostRuntime) -> ExitCode {
     let words = match words(&rt) {
         Ok(words) => words,
@@ -38,6 +41,7 @@ fn main(rt: HostRuntime) -> ExitCode {
     };
     match job(rt.alloc(), words.as_slice()) {
         Ok(Job::Run { workers, fronts }) => ended(&rt, run_stdin(&rt, workers, fronts)),
+        Ok(Job::Check) => ended(&rt, check_stdin(&rt)),
         Err(error) => no_job(&rt, &error),
     }
 }
@@ -48,21 +52,30 @@ fn words(rt: &HostRuntime) -> io::Result<Vec<String>> {
 }
 
 // Runs the programs on standard input.
-fn run_stdin(rt: &HostRuntime, workers: u64, fronts: bool) -> Result<(), MainFault>
+fn run_stdin(rt: &HostRuntime, workers: u64, fronts: bool) -> Result<Done, MainFault>
     requires workers { (1 ≤ workers) × (workers ≤ 64) }
     requires transcript { fronts ≡ false }
 {
     let mut feed = Source::new(rt.stdin());
     let mut sink = Target::new(rt.stdout());
-    run_text(rt.alloc(), &mut feed, &mut sink, workers, fronts)
+    run_text(rt.alloc(), &mut feed, &mut sink, workers, fronts)?;
+    Ok(Done::Finished)
 }
 
-// The status of what was run, with the line on standard error that says why nothing came of it.
-fn ended<R: Eprint>(rt: &R, outcome: Result<(), MainFault>) -> ExitCode
+// Judges the transcript on standard input.
+fn check_stdin(rt: &HostRuntime) -> Result<Done, MainFault> {
+    let mut feed = Source::new(rt.stdin());
+    let mut sink = Target::new(rt.stdout());
+    let verdict = check_text(rt.alloc(), &mut feed, &mut sink)?;
+    Ok(Done::Judged(verdict))
+}
+
+// The status of what was done, with the line on standard error that says why nothing came of it.
+fn ended<R: Eprint>(rt: &R, outcome: Result<Done, MainFault>) -> ExitCode
     ensures { exit_status result ≡ status_of_outcome outcome }
 {
     match outcome {
-        Ok(()) => ExitCode::SUCCESS,
+        Ok(done) => ExitCode::from(done.status()),
         Err(fault) => {
             let status = fault.status();
             let _ = eprintln!(rt; "muxsim: {fault}");
@@ -90,8 +103,10 @@ fn no_job<R: Print + Eprint>(rt: &R, error: &clap::Error) -> ExitCode
         let _ = eprint!(rt; "muxsim: {error}");
         return ExitCode::from(2);
     }
-    let printed = error.print(rt);
-    ended(rt, printed.map_err(|_| MainFault::WriteFailed))
+    match error.print(rt) {
+        Ok(()) => ended(rt, Ok(Done::Finished)),
+        Err(_) => ended(rt, Err(MainFault::WriteFailed)),
+    }
 }
 
 // The words of the command line could not be had: they are no text, or there is no memory.

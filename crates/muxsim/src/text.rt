@@ -1,7 +1,8 @@
 //! A run from bytes to bytes.
 
 ghost use Rattle.std.specs.Prelude.{◌≡◌, ◌≤◌, false, Result};
-ghost use Rattle.muxsim.specs.RunText.{Answers, RunsText, items_of};
+ghost use Rattle.muxsim.specs.Filters.{Answers};
+ghost use Rattle.muxsim.specs.RunText.{RunsText, items_of, running};
 
 use crate::device::{Feed, Sink};
 use crate::fault::MainFault;
@@ -39,7 +40,7 @@ pub fn run_text<F: Feed, S: Sink>(
 
 // The transcript of a run of the programs that the input spells, in the room that the input had.
 fn transcript_for(alloc: Global, input: Vec<u8>) -> Result<Vec<u8>, MainFault>
-    ensures { Answers input.items (items_of result) }
+    ensures { Answers running input.items (items_of result) }
 {
     let programs = read_programs(alloc, input.as_slice())?;
     let report = run_programs(alloc, programs)?;

@@ -1,7 +1,8 @@
-//! Tests of what a fault prints, and of its status.
+//! Tests of what a fault prints, and of each status.
 
 use crate::fault::MainFault;
-use smx_config::ConfigFault;
+use crate::jobs::Done;
+use smx_config::{ConfigFault, Verdict};
 use smx_run::RunFault;
 use smx_text::{Cause, TextFault};
 use smx_types::SpecFault;
@@ -79,5 +80,18 @@ fn says_what_failed(rt: HostRuntime) {
         let shown = shown(fault);
         assert_eq!(rt; shown.0.as_str(), words);
         assert_eq!(rt; shown.1, status, "for {words}");
+    }
+}
+
+#[test]
+fn tells_what_was_done(rt: HostRuntime) {
+    let ends = [
+        (Done::Finished, 0),
+        (Done::Judged(Verdict::Legal), 0),
+        (Done::Judged(Verdict::Illegal { entry: 1 }), 4),
+        (Done::Judged(Verdict::ConfigDiffers), 4),
+    ];
+    for (done, status) in ends {
+        assert_eq!(rt; done.status(), status, "for {done:?}");
     }
 }

@@ -1,5 +1,6 @@
-//! The limits of a run: the most of each, and one more.
+//! The limits of a run and of a check: the most of each, and one more.
 
+use super::checks::check_bytes;
 use super::runs::{Ran, run_bytes};
 use std::alloc::Global;
 use std::io;
@@ -66,6 +67,20 @@ fn runs_the_most_of_each(rt: HostRuntime) -> Result<(), Fail> {
     }
     output.extend_from_slice(b"config\nnext 1 1\nend\n")?;
     assert!(rt; ran.output == output);
+    let checked = check_bytes(rt.alloc(), &output);
+    assert_eq!(rt; checked.output.as_slice(), b"legal 100000\n".as_slice());
+    assert_eq!(rt; checked.status, 0);
+    Ok(())
+}
+
+#[test]
+fn refuses_one_entry_more(rt: HostRuntime) -> Result<(), Fail> {
+    let mut input = Vec::from_slice(rt.alloc(), b"transcript 1\n")?;
+    for _ in 0..100_001 {
+        input.extend_from_slice(b"0 close 0 = EBADF fd\n")?;
+    }
+    input.extend_from_slice(b"config\nnext 1 1\nend\n")?;
+    refused(&rt, &check_bytes(rt.alloc(), &input), "line 100002: many");
     Ok(())
 }
 
@@ -74,8 +89,10 @@ fn refuses_an_input_that_is_too_long(rt: HostRuntime) -> Result<(), Fail> {
     let mut input = Vec::new(rt.alloc());
     io::repeat(b'a').take(16_777_216).read_to_end(&mut input)?;
     refused(&rt, &run_bytes(rt.alloc(), &input), "line 1: cut");
+    refused(&rt, &check_bytes(rt.alloc(), &input), "line 1: cut");
     input.push(b'a')?;
     refused(&rt, &run_bytes(rt.alloc(), &input), "input too long");
+    refused(&rt, &check_bytes(rt.alloc(), &input), "input too long");
     Ok(())
 }
 

@@ -2,12 +2,13 @@
 
 use crate::device::{Source, Target};
 use crate::fault::MainFault;
+use crate::jobs::Done;
 use crate::text::run_text;
 use std::alloc::Global;
 use std::fmt::InlineText;
 use std::test::Fail;
 
-/// What a run wrote, the line that it leaves on standard error, and its status.
+/// What a run or a check wrote, the line that it leaves on standard error, and its status.
 #[derive(Drop)]
 pub struct Ran {
     pub output: Vec<u8>,
@@ -19,8 +20,7 @@ pub struct Ran {
 pub fn run_bytes(alloc: Global, input: &[u8]) -> Ran {
     let mut feed = Source::new(input);
     let mut sink = Target::new(Vec::new(alloc));
-    let outcome = run_text(alloc, &mut feed, &mut sink, 1, false);
-    let (line, status) = ending(outcome);
+    let (line, status) = run_ending(run_text(alloc, &mut feed, &mut sink, 1, false));
     Ran {
         output: sink.writer,
         line,
@@ -28,10 +28,15 @@ pub fn run_bytes(alloc: Global, input: &[u8]) -> Ran {
     }
 }
 
+/// How a run ends.
+pub fn run_ending(outcome: Result<(), MainFault>) -> (InlineText<64>, u8) {
+    ending(outcome.map(|()| Done::Finished))
+}
+
 /// The line on standard error, behind the program's name, and the status.
-pub fn ending(outcome: Result<(), MainFault>) -> (InlineText<64>, u8) {
+pub fn ending(outcome: Result<Done, MainFault>) -> (InlineText<64>, u8) {
     match outcome {
-        Ok(()) => (InlineText::of(""), 0),
+        Ok(done) => (InlineText::of(""), done.status()),
         Err(fault) => {
             let status = fault.status();
             (InlineText::of(fault), status)

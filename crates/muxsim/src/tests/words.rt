@@ -17,8 +17,15 @@ fn tells_a_run(rt: HostRuntime) -> Result<(), Fail> {
 }
 
 #[test]
+fn tells_a_check(rt: HostRuntime) -> Result<(), Fail> {
+    let job = job(rt.alloc(), ["muxsim", "check"].as_slice())?;
+    assert_eq!(rt; job, Job::Check);
+    Ok(())
+}
+
+#[test]
 fn refuses_other_words(rt: HostRuntime) -> Result<(), Fail> {
-    let wrong: [(&[&str], ErrorKind); 6] = [
+    let wrong: [(&[&str], ErrorKind); 9] = [
         (&[], ErrorKind::MissingSubcommand),
         (&["muxsim"], ErrorKind::MissingSubcommand),
         (&["muxsim", "walk"], ErrorKind::InvalidSubcommand),
@@ -28,6 +35,12 @@ fn refuses_other_words(rt: HostRuntime) -> Result<(), Fail> {
             ErrorKind::UnknownArgument,
         ),
         (&["muxsim", "run", "--version"], ErrorKind::UnknownArgument),
+        (&["muxsim", "run", "check"], ErrorKind::UnknownArgument),
+        (&["muxsim", "check", "run"], ErrorKind::UnknownArgument),
+        (
+            &["muxsim", "check", "--workers", "2"],
+            ErrorKind::UnknownArgument,
+        ),
     ];
     for (words, kind) in wrong {
         let error = job(rt.alloc(), words).err().ok_or("an error")?;
@@ -39,9 +52,10 @@ fn refuses_other_words(rt: HostRuntime) -> Result<(), Fail> {
 
 #[test]
 fn shows_help_and_version(rt: HostRuntime) -> Result<(), Fail> {
-    let asking: [(&[&str], ErrorKind); 5] = [
+    let asking: [(&[&str], ErrorKind); 6] = [
         (&["muxsim", "--help"], ErrorKind::DisplayHelp),
         (&["muxsim", "run", "--help"], ErrorKind::DisplayHelp),
+        (&["muxsim", "check", "--help"], ErrorKind::DisplayHelp),
         (&["muxsim", "help"], ErrorKind::DisplayHelp),
         (&["muxsim", "--version"], ErrorKind::DisplayVersion),
         (&["muxsim", "-V"], ErrorKind::DisplayVersion),

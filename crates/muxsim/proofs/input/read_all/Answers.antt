@@ -15,7 +15,7 @@ returns-then-count-gt-MAX_INPUT g c =
     let size = length-take-le c.reads.count c.reads.all.items (omega (arith, c.reads.invariant.within, c.reads.all.ok.0)) in
     let more = length-take-le c.in-Ok.n c.read.new.buffer c.in-Ok.ensures.bound in
     too_long_with _ _ _ _ _ (take c.reads.count c.reads.all.items) (take c.in-Ok.n c.read.new.buffer) c.reads.invariant.so_far c.in-Ok.ensures.bytes.0 c.in-Ok.ensures.fine
-    (omega (arith, size, more, c.if-count-gt-MAX_INPUT.true))
+    (omega (arith, size, more, c.if-count-gt-MAX_INPUT.true)) (omega (arith, size, more, c.in-Ok.ensures.bound, c.read.auto.buffer, c.in_ok-make_room.ensures.room, c.deref_mut.ensures.len, c.make_room.ensures.most))
 
 pub reads-preserved : goal.reads-preserved
 reads-preserved g c =

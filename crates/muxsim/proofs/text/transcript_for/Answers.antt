@@ -1,4 +1,4 @@
-use Rattle.muxsim.proofs.RunTextLemmas.{text_refused}
+use Rattle.muxsim.proofs.FilterLemmas.{text_refused}
 use Rattle.muxsim.proofs.text.transcript_for.Goals as goal
 
 pub returns-in_err-programs : goal.returns-in_err-programs
