@@ -65,7 +65,9 @@ holds es programs e p =
 
 -- ---- the report of a system that was asked all of it
 
-pub report_of : (programs : ProgramLists) (s : Recorded) (t : Transcript) → Reports s t → AreDropsAllowed s.history → s.drivers ≡ programs.drivers → map call_of s.history ≡ calls_from 0 programs.programs → IsReportOf programs t
+pub report_of : (programs : ProgramLists) (s : Recorded) (t : Transcript) → Reports s t →
+    AreDropsAllowed s.history → s.drivers ≡ programs.drivers →
+    map call_of s.history ≡ calls_from 0 programs.programs → IsReportOf programs t
 report_of programs s t h drops same asked = record {
   drivers = h.drivers ∙ same;
   can_be_had = rw (← same) h.sound.can_be_had;

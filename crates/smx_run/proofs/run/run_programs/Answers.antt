@@ -8,8 +8,13 @@ pub returns-clause-report : goal.returns-clause-report
 returns-clause-report c =
     let made = c.in_ok-system.ensures in
     let report = c.in_ok-report.ensures in
-    let calls : map call_of c.in_ok-system.system.history ≡ calls_from 0 c.args.programs.programs = rw (← c.into_parts-drivers.ensures.programs) made.calls in
-    report_of c.args.programs c.in_ok-system.system c.in_ok-report.field-0 report (c.few_commands_drop.ensures _ _ report.sound.legal) (made.drivers.0 ∙ c.as_slice.ensures ∙ c.into_parts-drivers.ensures.drivers) calls
+    let parts = c.into_parts-drivers.ensures in
+    let system = c.in_ok-system.system in
+    let calls : map call_of system.history ≡ calls_from 0 c.args.programs.programs =
+    rw (← parts.programs) made.calls in
+    let drops = c.few_commands_drop.ensures _ _ report.sound.legal in
+    let drivers = made.drivers.0 ∙ c.as_slice.ensures ∙ parts.drivers in
+    report_of c.args.programs system c.in_ok-report.field-0 report drops drivers calls
 
 pub returns-clause-few : goal.returns-clause-few
 returns-clause-few c =
