@@ -1,46 +1,16 @@
--- One text has one reading, and each has one. For any kind of text whose lines can be told apart.
-use Rattle.std.proofs.Common.{◌≡◌, ◌≢◌, ℕ, zero, suc, ◌+◌, ◌<◌, Bool, true, false, eqb, List, [], ◌∷◌, ◌++◌, length, map, Result, Ok, Err, refl, sym, ap, subst, ◌∙◌, append_assoc, arith, inl, inr}
+-- One text has one reading. For any kind of text whose lines can be told apart.
+use Rattle.std.proofs.Common.{◌≡◌, ◌≢◌, ℕ, ◌+◌, List, [], ◌∷◌, ◌++◌, length, map, Result, Ok, Err, refl, sym, ap, subst, ◌∙◌, append_assoc, inl, inr}
 use Rattle.std.specs.List.{AllByRecursion}
 use Rattle.std.specs.Prelude.{◌⊎◌, MatchResult, IfErr}
-use Rattle.std.proofs.lemmas.Bool.Decides.{nat_tests}
-use Rattle.std.proofs.lemmas.List.{append-nil, length-append}
-use Rattle.std.proofs.lemmas.Slice.Eq.{bytes_eq-Decides}
-use Rattle.std.specs.Str.{bytes_eq}
-use Rattle.smx_words.specs.Words.{LINE_FEED, line_of, text_of}
+use Rattle.std.proofs.lemmas.List.{append-nil}
+use Rattle.smx_words.specs.Words.{LINE_FEED, text_of}
 use Rattle.smx_text.specs.declared.fault.Cause.{Cause}
 use Rattle.smx_text.specs.declared.fault.Cause.TheVariants as cause
 use Rattle.smx_text.specs.declared.fault.TextFault.{TextFault}
-use Rattle.smx_text.specs.Grammar.{Grammar, IsOneLine, HasNext, header, line_text, beginning, full_text, Spells, IsBegun, GoesOn, MayFollow, IsFull, IsNoLine, IsOneTooMany, Continues, Reaches, Begins, IsFault, Reads}
+use Rattle.smx_text.specs.Grammar.{Grammar, IsOneLine, header, line_text, beginning, full_text, Spells, IsBegun, GoesOn, IsNoLine, IsOneTooMany, Reaches, IsFault, Reads}
 use Rattle.smx_text.proofs.EachLemmas.{all_left, all_right}
-use Rattle.smx_text.proofs.ReadingLemmas.{full_and, IsBetween, started, cut_at, refused, one_more, read_to_end}
-
--- ---- lines of bytes
-
--- bytes with a line feed in them are not one line
-pub not_one : (xs after : List ℕ) → IsOneLine (xs ++ LINE_FEED ∷ after) → ⊥
-not_one [] after h = h.0 refl
-not_one (x ∷ xs) after h = not_one xs after h.1
-
--- the first line of some bytes, and what follows it, are what they are
-pub one_cut : (xs ys cs ds : List ℕ) → IsOneLine xs → IsOneLine ys → xs ++ LINE_FEED ∷ cs ≡ ys ++ LINE_FEED ∷ ds → (xs ≡ ys) × (cs ≡ ds)
-one_cut [] [] cs ds h k e = (refl, cc)
-one_cut [] (y ∷ ys) cs ds h k e = let first : LINE_FEED ≡ y = cc in absurd (k.0 (sym first))
-one_cut (x ∷ xs) [] cs ds h k e = let first : x ≡ LINE_FEED = cc in absurd (h.0 first)
-one_cut (x ∷ xs) (y ∷ ys) cs ds h k e =
-    let first : x ≡ y = cc in
-    let rest : xs ++ LINE_FEED ∷ cs ≡ ys ++ LINE_FEED ∷ ds = cc in
-    let t = one_cut xs ys cs ds h.1 k.1 rest in
-    (ap (λ (z : ℕ). z ∷ xs) first ∙ ap (λ (zs : List ℕ). y ∷ zs) t.0, t.1)
-
--- bytes are one line, or have a first one
-pub first_line : (xs : List ℕ) → IsOneLine xs ⊎ ((text after : List ℕ) × IsOneLine text × (xs ≡ text ++ LINE_FEED ∷ after))
-first_line [] = inl tt
-first_line (x ∷ xs) = by_first (eqb x LINE_FEED) refl (first_line xs) where
-  by_first : (b : Bool) → eqb x LINE_FEED ≡ b → IsOneLine xs ⊎ ((text after : List ℕ) × IsOneLine text × (xs ≡ text ++ LINE_FEED ∷ after))
-      → IsOneLine (x ∷ xs) ⊎ ((text after : List ℕ) × IsOneLine text × (x ∷ xs ≡ text ++ LINE_FEED ∷ after))
-  by_first true is more = let same : x ≡ LINE_FEED = grind (arith, nat_tests) in inr ([], xs, tt, ap (λ (y : ℕ). y ∷ xs) same)
-  by_first false is (inl one) = inl (grind (arith, nat_tests), one)
-  by_first false is (inr (text, after, one, e)) = inr (x ∷ text, after, (grind (arith, nat_tests), one), ap (λ (ys : List ℕ). x ∷ ys) e)
+use Rattle.smx_text.proofs.ReadingLemmas.{full_and}
+use Rattle.smx_text.proofs.LineLemmas.{not_one, one_cut}
 
 -- A kind of text whose lines can be told apart, and whose last line is never one before it.
 pub record IsWellMade {V K : Type 0} (g : Grammar V K) : Type 0 where
@@ -56,7 +26,7 @@ same_fault : (f h : TextFault) → f.line ≡ h.line → f.cause ≡ h.cause →
 same_fault f h e k = ap (λ (n : ℕ). record { line = n; cause = f.cause }) e ∙ ap (λ (c : Cause). record { line = h.line; cause = c }) k
 
 module _ {V K : Type 0} (g : Grammar V K) (made : IsWellMade g) where
-  abbrev texts : List K → List ℕ
+  abbrev pub texts : List K → List ℕ
   texts lines = text_of (map g.line_words lines)
 
   texts_cons : (k : K) (lines : List K) (rest : List ℕ) → texts (k ∷ lines) ++ rest ≡ line_text g k ++ LINE_FEED ∷ (texts lines ++ rest)
@@ -66,10 +36,10 @@ module _ {V K : Type 0} (g : Grammar V K) (made : IsWellMade g) where
   AreFit lines = AllByRecursion g.FitsLine lines
 
   -- two ways to begin the same bytes with lines: one has more lines, or they are the same
-  abbrev HasMore : List K → List ℕ → List K → Type 0
+  abbrev pub HasMore : List K → List ℕ → List K → Type 0
   HasMore lines rest longer = (k : K) × (more : List K) × (after : List ℕ) × (longer ≡ lines ++ k ∷ more) × (rest ≡ line_text g k ++ LINE_FEED ∷ after)
 
-  compare : (ls ms : List K) (r s : List ℕ) → AreFit ls → AreFit ms → texts ls ++ r ≡ texts ms ++ s → ((ls ≡ ms) × (r ≡ s)) ⊎ (HasMore ls r ms ⊎ HasMore ms s ls)
+  pub compare : (ls ms : List K) (r s : List ℕ) → AreFit ls → AreFit ms → texts ls ++ r ≡ texts ms ++ s → ((ls ≡ ms) × (r ≡ s)) ⊎ (HasMore ls r ms ⊎ HasMore ms s ls)
   compare [] [] r s h k e = inl (refl, e)
   compare [] (m ∷ ms) r s h k e = inr (inl (m, ms, texts ms ++ s, refl, e ∙ texts_cons m ms s))
   compare (l ∷ ls) [] r s h k e = inr (inr (l, ls, texts ls ++ r, refl, sym e ∙ texts_cons l ls r))
@@ -84,7 +54,7 @@ module _ {V K : Type 0} (g : Grammar V K) (made : IsWellMade g) where
 
   -- ---- what can be answered at a whole line behind these lines
 
-  abbrev Judges : List K → List ℕ → List ℕ → ℕ → Cause → Type 0
+  abbrev pub Judges : List K → List ℕ → List ℕ → ℕ → Cause → Type 0
   Judges lines text after n cause.Form = IsNoLine g lines text × (n ≡ length lines + 2)
   Judges lines text after n cause.Many = IsOneTooMany g lines text × (n ≡ length lines + 2)
   Judges lines text after n cause.Trailing = (v : V) × (b : ℕ) × (more : List ℕ) × g.IsAllowed v × (g.body v ≡ lines) × (text ≡ line_text g g.end) × (after ≡ b ∷ more) × (n ≡ length lines + 3)
@@ -92,7 +62,7 @@ module _ {V K : Type 0} (g : Grammar V K) (made : IsWellMade g) where
   Judges lines text after n cause.Cut = ⊥
   Judges lines text after n cause.NoMemory = ⊥
 
-  abbrev Answers : List K → List ℕ → List ℕ → Result V TextFault → Type 0
+  abbrev pub Answers : List K → List ℕ → List ℕ → Result V TextFault → Type 0
   Answers lines text after (Ok v) = g.IsAllowed v × (g.body v ≡ lines) × (text ≡ line_text g g.end) × (after ≡ [])
   Answers lines text after (Err f) = Judges lines text after f.line f.cause
 
@@ -169,7 +139,7 @@ module _ {V K : Type 0} (g : Grammar V K) (made : IsWellMade g) where
 
   -- ---- where an answer stands
 
-  abbrev Stops : List K → List ℕ → Result V TextFault → Type 0
+  abbrev pub Stops : List K → List ℕ → Result V TextFault → Type 0
   Stops lines rest r =
       (IsOneLine rest × (r ≡ Err (record { line = length lines + 2; cause = cause.Cut })))
       ⊎ ((text after : List ℕ) × IsOneLine text × (rest ≡ text ++ LINE_FEED ∷ after) × Answers lines text after r)
@@ -183,11 +153,11 @@ module _ {V K : Type 0} (g : Grammar V K) (made : IsWellMade g) where
       let b' : Answers lines text after s = subst (λ (x : List ℕ). Answers lines x after s) t.0 (subst (λ (x : List ℕ). Answers lines text' x s) t.1 b) in
       one_answer lines text after r s a b'
 
-  begun_fits : (lines : List K) → IsBegun g lines → AreFit lines
+  pub begun_fits : (lines : List K) → IsBegun g lines → AreFit lines
   begun_fits lines (v, more, allowed, e) = all_left g.FitsLine lines more (subst AreFit e (made.fits v allowed))
 
   -- an answer isn't given where longer lines are begun
-  too_early : (lines longer : List K) (rest : List ℕ) (r : Result V TextFault) → IsBegun g longer → HasMore lines rest longer → Stops lines rest r → ⊥
+  pub too_early : (lines longer : List K) (rest : List ℕ) (r : Result V TextFault) → IsBegun g longer → HasMore lines rest longer → Stops lines rest r → ⊥
   too_early lines longer rest r begun (k, more, after, is, e) (inl (one, _)) = not_one (line_text g k) after (subst IsOneLine e one)
   too_early lines longer rest r (v, others, allowed, all) (k, more, after, is, e) (inr (text, after', one, e', a)) =
       let whole : g.body v ≡ lines ++ k ∷ (more ++ others) = all ∙ ap (λ (ls : List K). ls ++ others) is ∙ append_assoc lines (k ∷ more) others in
@@ -195,13 +165,13 @@ module _ {V K : Type 0} (g : Grammar V K) (made : IsWellMade g) where
       let t = one_cut text (line_text g k) after' after one (made.one_line k fits) (sym e' ∙ e) in
       no_stop lines (more ++ others) k v text after' r allowed whole fits t.0 a
 
-  abbrev Header : List ℕ → Result V TextFault → Type 0
+  abbrev pub Header : List ℕ → Result V TextFault → Type 0
   Header bytes r = (text after : List ℕ) × IsOneLine text × (bytes ≡ text ++ LINE_FEED ∷ after) × (text ≢ header g) × (r ≡ Err (record { line = 1; cause = cause.Header }))
 
-  abbrev Behind : List ℕ → Result V TextFault → Type 0
+  abbrev pub Behind : List ℕ → Result V TextFault → Type 0
   Behind bytes r = (lines : List K) × (rest : List ℕ) × IsBegun g lines × (bytes ≡ header g ++ LINE_FEED ∷ (texts lines ++ rest)) × Stops lines rest r
 
-  abbrev Place : List ℕ → Result V TextFault → Type 0
+  abbrev pub Place : List ℕ → Result V TextFault → Type 0
   Place bytes r = (IsOneLine bytes × (r ≡ Err (record { line = 1; cause = cause.Cut }))) ⊎ (Header bytes r ⊎ Behind bytes r)
 
   both_behind : (bytes : List ℕ) (r s : Result V TextFault) → Behind bytes r → Behind bytes s → r ≡ s
@@ -213,7 +183,7 @@ module _ {V K : Type 0} (g : Grammar V K) (made : IsWellMade g) where
         | inr (inr more) ↦ absurd (too_early ms ls rest' s begun more stops')
       ]
 
-  wrong_header : (bytes : List ℕ) (r s : Result V TextFault) → Header bytes r → Behind bytes s → ⊥
+  pub wrong_header : (bytes : List ℕ) (r s : Result V TextFault) → Header bytes r → Behind bytes s → ⊥
   wrong_header bytes r s (text, after, one, e, differ, _) (ls, rest, begun, e', _) = differ (one_cut text (header g) after (texts ls ++ rest) one made.header_line (sym e ∙ e')).0
 
   one_place : (bytes : List ℕ) (r s : Result V TextFault) → Place bytes r → Place bytes s → r ≡ s
@@ -229,7 +199,7 @@ module _ {V K : Type 0} (g : Grammar V K) (made : IsWellMade g) where
 
   -- ---- each answer that may be given, but for want of memory, stands in a place
 
-  beginning_and : (lines : List K) (rest : List ℕ) → beginning g lines ++ rest ≡ header g ++ LINE_FEED ∷ (texts lines ++ rest)
+  pub beginning_and : (lines : List K) (rest : List ℕ) → beginning g lines ++ rest ≡ header g ++ LINE_FEED ∷ (texts lines ++ rest)
   beginning_and lines rest = simp append_assoc
 
   value_begun : (v : V) → g.IsAllowed v → IsBegun g (g.body v)
@@ -272,7 +242,7 @@ module _ {V K : Type 0} (g : Grammar V K) (made : IsWellMade g) where
       ))
   fault_place bytes n cause.NoMemory h ample = absurd (ample refl)
 
-  place : (bytes : List ℕ) (r : Result V TextFault) → Reads g bytes r → IfErr r (λ f. f.cause ≢ cause.NoMemory) → Place bytes r
+  pub place : (bytes : List ℕ) (r : Result V TextFault) → Reads g bytes r → IfErr r (λ f. f.cause ≢ cause.NoMemory) → Place bytes r
   place bytes (Ok v) reads ample = value_place bytes v reads
   place bytes (Err f) reads ample = fault_place bytes f.line f.cause reads ample
 
@@ -301,53 +271,3 @@ module _ {V K : Type 0} (g : Grammar V K) (made : IsWellMade g) where
     by_cause cause.Many is = other cause.Many is (λ e. cc)
     by_cause cause.Cut is = other cause.Cut is (λ e. cc)
     by_cause cause.Trailing is = other cause.Trailing is (λ e. cc)
-
--- ---- each text has a reading
-
--- what stands at a line behind lines that some allowed value begins with
-abbrev pub Decision : {V K : Type 0} → Grammar V K → List K → List ℕ → Type 0
-Decision {V} {K} g lines text =
-    ((longer : List K) × Continues g lines text longer)
-    ⊎ (IsNoLine g lines text ⊎ (IsOneTooMany g lines text ⊎ ((text ≡ line_text g g.end) × (v : V) × g.IsAllowed v × (g.body v ≡ lines))))
-
--- an answer that is not want of memory
-abbrev pub HasReading : {V K : Type 0} → Grammar V K → List ℕ → Type 0
-HasReading {V} g bytes = (r : Result V TextFault) × Reads g bytes r × IfErr r (λ f. f.cause ≢ cause.NoMemory)
-
-module _ {V K : Type 0} (g : Grammar V K) (made : IsWellMade g) (decides : (lines : List K) → IsBegun g lines → (text : List ℕ) → Decision g lines text) where
-  stops : (bytes : List ℕ) (n : ℕ) (c : Cause) → IsFault g bytes n c → c ≢ cause.NoMemory → HasReading g bytes
-  stops bytes n c fault other = (Err (record { line = n; cause = c }), fault, other)
-
-  ends : (bytes rest : List ℕ) (lines : List K) (number : ℕ) (text after : List ℕ) → IsBetween g bytes rest lines number → IsOneLine text × (rest ≡ text ++ LINE_FEED ∷ after)
-      → (text ≡ line_text g g.end) → (v : V) → g.IsAllowed v → g.body v ≡ lines → HasReading g bytes
-  ends bytes rest lines number text [] at next end v allowed e =
-      (Ok v, read_to_end g bytes rest lines number text [] at next end (Ok v) (allowed, e, refl), tt)
-  ends bytes rest lines number text (b ∷ after) at next end v allowed e =
-      let fault : TextFault = record { line = number + 1; cause = cause.Trailing } in
-      (Err fault, read_to_end g bytes rest lines number text (b ∷ after) at next end (Err fault) (inr (v, allowed, e, omega arith, refl)), λ c. cc)
-
-  goes : (n : ℕ) (bytes rest : List ℕ) (lines : List K) (number : ℕ) → length rest < n → IsBetween g bytes rest lines number → HasReading g bytes
-  goes zero bytes rest lines number short at = absurd (omega arith)
-  goes (suc n) bytes rest lines number short at = elim (first_line rest) [
-    | inl one ↦ stops bytes number cause.Cut (cut_at g bytes rest lines number at one) (λ c. cc)
-    | inr (text, after, one, e) ↦ elim (decides lines at.begun text) [
-      | inl (longer, goes_on) ↦
-          goes n bytes after longer (number + 1) (omega (arith, ap (length {A = ℕ}) e, length-append text (LINE_FEED ∷ after))) (one_more g bytes rest lines number text after at (one, e) longer goes_on)
-      | inr (inl form) ↦ stops bytes number cause.Form (refused g bytes rest lines number text after at (one, e) cause.Form form) (λ c. cc)
-      | inr (inr (inl many)) ↦ stops bytes number cause.Many (refused g bytes rest lines number text after at (one, e) cause.Many many) (λ c. cc)
-      | inr (inr (inr (end, v, allowed, is))) ↦ ends bytes rest lines number text after at (one, e) end v allowed is
-    ]
-  ]
-
-  pub has_reading : IsBegun g [] → (bytes : List ℕ) → HasReading g bytes
-  has_reading begun bytes = elim (first_line bytes) [
-    | inl one ↦ stops bytes 1 cause.Cut ([], bytes, inl (refl, refl), one, refl) (λ c. cc)
-    | inr (text, after, one, e) ↦ by_header (bytes_eq text (header g)) text after refl one e
-  ] where
-    by_header : (b : Bool) (text after : List ℕ) → bytes_eq text (header g) ≡ b → IsOneLine text → bytes ≡ text ++ LINE_FEED ∷ after → HasReading g bytes
-    by_header true text after is one e =
-        let same = (bytes_eq-Decides text (header g)).0 is in
-        goes (suc (length after)) bytes after [] 2 (omega arith) (started g bytes after [] begun refl (e ∙ ap (λ (xs : List ℕ). xs ++ LINE_FEED ∷ after) same))
-    by_header false text after is one e =
-        let differ : text ≢ header g = λ same. let yes = (bytes_eq-Decides text (header g)).1 same in cc in
-        stops bytes 1 cause.Header (text, (after, one, e), differ, refl) (λ c. cc)

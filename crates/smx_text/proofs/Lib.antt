@@ -2,7 +2,13 @@ pub mod EachLemmas
 pub mod BodyLemmas
 pub mod WordLemmas
 pub mod ReadingLemmas
+pub mod LineLemmas
 pub mod GrammarLemmas
+pub mod HasReadingLemmas
+pub mod MemoryLemmas
+pub mod ProgramsOrderLemmas
+pub mod ProgramsFollowLemmas
+pub mod ProgramsValueLemmas
 pub mod ProgramsLemmas
 pub mod ProgramsGrammarLemmas
 pub mod DecisionLemmas

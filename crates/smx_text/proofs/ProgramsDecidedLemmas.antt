@@ -1,8 +1,8 @@
 -- Each line behind those of some programs is decided.
-use Rattle.std.proofs.Common.{◌≡◌, ◌≢◌, ℕ, ◌<◌, List, [], ◌∷◌, ◌++◌, Option, Some, None, refl, sym, subst, arith, inl, inr}
+use Rattle.std.proofs.Common.{◌≡◌, ◌≢◌, ℕ, List, [], ◌∷◌, ◌++◌, Option, Some, None, refl, sym, subst, arith, inl, inr}
 use Rattle.std.specs.List.{sum_by}
 use Rattle.std.proofs.lemmas.List.{append-nil}
-use Rattle.std.specs.Prelude.{◌⊎◌, length, codes}
+use Rattle.std.specs.Prelude.{◌⊎◌, length}
 use Rattle.smx_types.specs.ProgramLists.{ProgramLists, program_lists}
 use Rattle.smx_types.specs.declared.command.Command.{Command}
 use Rattle.smx_types.specs.declared.driver.DriverSpec.{DriverSpec}
@@ -17,9 +17,11 @@ use Rattle.smx_text.specs.ProgramLines.{Line}
 use Rattle.smx_text.specs.ProgramLines as line
 use Rattle.smx_text.specs.ProgramsText.{FitsLine, body, IsAllowed, programs_grammar}
 use Rattle.smx_text.proofs.DecisionLemmas.{same_or_not, below_or_not, same_bytes_or_not}
-use Rattle.smx_text.proofs.GrammarLemmas.{Decision, HasReading, has_reading}
+use Rattle.smx_text.proofs.HasReadingLemmas.{Decision, HasReading, has_reading}
 use Rattle.smx_text.proofs.ProgramsGrammarLemmas.{refused_line, well_made, no_line}
-use Rattle.smx_text.proofs.ProgramsLemmas.{MayStand, AreMany, HasRoom, misplaced, too_many, longer_begun, begun_is_body}
+use Rattle.smx_text.proofs.ProgramsFollowLemmas.{MayStand, AreMany}
+use Rattle.smx_text.proofs.ProgramsLemmas.{HasRoom, misplaced, too_many, longer_begun}
+use Rattle.smx_text.proofs.ProgramsValueLemmas.{begun_is_body}
 use Rattle.smx_words.proofs.DecidedCommandLemmas.{command_reading}
 use Rattle.smx_words.proofs.DecidedLineLemmas.{driver_reading, process_reading}
 
@@ -44,7 +46,7 @@ judged v allowed k text other fits is = elim (stands_or_not v k) [
   | inr misplaced_there ↦ inr (inl (refused_line (body v) k text fits is cause.Form (misplaced v k misplaced_there)))
   | inl may ↦ elim (room_or_many v k other) [
     | inr many ↦ inr (inr (inl (refused_line (body v) k text fits is cause.Many (too_many v k may many))))
-    | inl room ↦ inl (body v ++ k ∷ [], (k, is, refl, longer_begun v k allowed.within (begun_by v allowed) may room fits))
+    | inl room ↦ inl (body v ++ k ∷ [], (k, is, refl, longer_begun v k (begun_by v allowed) may room fits))
   ]
 ]
 

@@ -1,6 +1,5 @@
 -- The lines of a programs text can be told apart.
-use Rattle.std.proofs.Common.{◌≡◌, ◌≢◌, ℕ, Result, ◌<◌, Bool, true, false, ◌||◌, List, [], ◌∷◌, length, refl, sym, ap, ◌∙◌, arith, rules}
-use Rattle.std.specs.List.{AllByRecursion}
+use Rattle.std.proofs.Common.{◌≡◌, ◌≢◌, ℕ, Result, Bool, true, false, ◌||◌, List, refl, sym, ap, rules}
 use Rattle.std.specs.Prelude.{codes, OnOk, IfErr}
 use Rattle.std.specs.Str.{bytes_eq}
 use Rattle.smx_types.specs.declared.command.Command.{Command}
@@ -10,16 +9,15 @@ use Rattle.smx_words.specs.Words.{line_of}
 use Rattle.smx_words.specs.Spelling.{command_words, driver_words, process_words}
 use Rattle.smx_words.specs.Spellable.{FitsNumber, FitsDriver, FitsCommand}
 use Rattle.smx_text.specs.declared.fault.Cause.{Cause}
-use Rattle.smx_text.specs.declared.fault.Cause.TheVariants as cause
-use Rattle.smx_types.specs.ProgramLists.{ProgramLists, AreWithinLimits}
 use Rattle.smx_text.specs.Reading.{Refuses, AddsLine, RefusesLine}
 use Rattle.smx_text.proofs.ReadingLemmas.{refuses, on_added, on_refused}
-use Rattle.smx_text.specs.Grammar.{Grammar, IsOneLine, IsBegun, Continues, IsNoLine, line_text}
+use Rattle.smx_text.specs.Grammar.{Continues, IsNoLine, line_text}
 use Rattle.smx_text.specs.ProgramLines.{Line}
 use Rattle.smx_text.specs.ProgramLines as line
-use Rattle.smx_text.specs.ProgramsText.{line_words, FitsLine, body, IsAllowed, programs_grammar}
+use Rattle.smx_text.specs.ProgramsText.{line_words, FitsLine, programs_grammar}
 use Rattle.smx_text.proofs.GrammarLemmas.{IsWellMade}
-use Rattle.smx_text.proofs.ProgramsLemmas.{end_is_last, one_value}
+use Rattle.smx_text.proofs.ProgramsOrderLemmas.{end_is_last}
+use Rattle.smx_text.proofs.ProgramsValueLemmas.{one_value}
 use Rattle.smx_words.specs.Words.{AreWords}
 use Rattle.smx_words.proofs.LawLemmas.{command_spelled, driver_spelled, process_spelled, one_command, one_driver, one_process}
 use Rattle.smx_text.proofs.WordLemmas.{one_spelling, first_word, end_spelled, one_line_of}
@@ -92,10 +90,10 @@ on_added_line lines longer k text is r h = on_added programs_grammar lines longe
 
 pub on_refused_line : {A : Type 0} (lines : List Line) (k : Line) (text : List ℕ) → FitsLine k → text ≡ line_text programs_grammar k → (r : Result A Cause)
     → IfErr r (RefusesLine programs_grammar lines k) → IfErr r (Refuses programs_grammar lines text)
-on_refused_line lines k text fits is r h = on_refused programs_grammar tells_apart tt lines k text fits is r h
+on_refused_line lines k text fits is r h = on_refused programs_grammar tells_apart lines k text fits is r h
 
 pub refused_line : (lines : List Line) (k : Line) (text : List ℕ) → FitsLine k → text ≡ line_text programs_grammar k → (why : Cause) → RefusesLine programs_grammar lines k why → Refuses programs_grammar lines text why
-refused_line lines k text fits is why h = refuses programs_grammar tells_apart tt lines k text fits is why h
+refused_line lines k text fits is why h = refuses programs_grammar tells_apart lines k text fits is why h
 
 -- what is none of these is no line
 pub no_line : (lines : List Line) (text : List ℕ) → ((c : Command) → FitsCommand c → text ≢ line_of (command_words c)) → ((d : DriverSpec) → FitsDriver d → text ≢ line_of (driver_words d))

@@ -1,13 +1,13 @@
 -- Where a reader stands between two lines, and what it may answer there. For any kind of text.
-use Rattle.std.proofs.Common.{◌≡◌, ◌≢◌, ℕ, suc, ◌+◌, ◌-◌, ◌<◌, List, [], ◌∷◌, ◌++◌, length, map, Result, Ok, Err, refl, sym, ap, subst, ◌∙◌, append_assoc, arith, inl, inr}
-use Rattle.std.specs.Prelude.{codes, ◌⊎◌, OnOk, IfErr}
+use Rattle.std.proofs.Common.{◌≡◌, ℕ, ◌+◌, ◌<◌, List, [], ◌∷◌, ◌++◌, length, map, Result, Ok, Err, refl, sym, ap, subst, ◌∙◌, append_assoc, arith, inl, inr}
+use Rattle.std.specs.Prelude.{OnOk, IfErr}
 use Rattle.std.proofs.lemmas.List.{append-nil, map-append, length-append, nil_from_length}
 use Rattle.std.proofs.lemmas.List.Concat.{flat_map-append}
 use Rattle.smx_words.specs.Words.{LINE_FEED, line_of, text_of}
 use Rattle.smx_text.specs.declared.fault.Cause.{Cause}
 use Rattle.smx_text.specs.declared.fault.Cause.TheVariants as cause
 use Rattle.smx_text.specs.declared.fault.TextFault.{TextFault}
-use Rattle.smx_text.specs.Grammar.{Grammar, IsOneLine, HasNext, header, line_text, beginning, full_text, Spells, IsBegun, Continues, IsNoLine, MayFollow, Reaches, Begins, IsFault, Reads}
+use Rattle.smx_text.specs.Grammar.{Grammar, IsOneLine, header, line_text, beginning, full_text, IsBegun, Continues, IsNoLine, MayFollow, Reaches, IsFault, Reads}
 use Rattle.smx_text.specs.Reading.{Refuses, AddsLine, RefusesLine, EndsText}
 
 texts_append : (ls ks : List (List (List ℕ))) → text_of (ls ++ ks) ≡ text_of ls ++ text_of ks
@@ -99,20 +99,20 @@ module _ {V K : Type 0} (g : Grammar V K) where
   pub continues : (lines longer : List K) (k : K) (text : List ℕ) → text ≡ line_text g k → AddsLine g lines k longer → Continues g lines text longer
   continues lines longer k text is adds = (k, is, adds.0, adds.1)
 
-  pub refuses : ((k l : K) → g.FitsLine k → g.FitsLine l → line_text g k ≡ line_text g l → k ≡ l) → g.FitsLine g.end → (lines : List K) (k : K) (text : List ℕ)
+  pub refuses : ((k l : K) → g.FitsLine k → g.FitsLine l → line_text g k ≡ line_text g l → k ≡ l) → (lines : List K) (k : K) (text : List ℕ)
       → g.FitsLine k → text ≡ line_text g k → (why : Cause) → RefusesLine g lines k why → Refuses g lines text why
-  refuses tells_apart fits_end lines k text fits is cause.Form h = λ l also may same. h (subst (λ (x : K). MayFollow g lines x) (tells_apart l k also fits (sym same ∙ is)) may)
-  refuses tells_apart fits_end lines k text fits is cause.Many h = (k, is, fits, h.0, h.1)
-  refuses tells_apart fits_end lines k text fits is cause.NoMemory h = λ end. h (tells_apart k g.end fits fits_end (sym is ∙ end))
-  refuses tells_apart fits_end lines k text fits is cause.Header h = absurd h
-  refuses tells_apart fits_end lines k text fits is cause.Cut h = absurd h
-  refuses tells_apart fits_end lines k text fits is cause.Trailing h = absurd h
+  refuses tells_apart lines k text fits is cause.Form h = λ l also may same. h (subst (λ (x : K). MayFollow g lines x) (tells_apart l k also fits (sym same ∙ is)) may)
+  refuses tells_apart lines k text fits is cause.Many h = (k, is, fits, h.0, h.1)
+  refuses tells_apart lines k text fits is cause.NoMemory h = (lines ++ k ∷ [], (k, is, refl, h))
+  refuses tells_apart lines k text fits is cause.Header h = absurd h
+  refuses tells_apart lines k text fits is cause.Cut h = absurd h
+  refuses tells_apart lines k text fits is cause.Trailing h = absurd h
 
   pub on_added : {A : Type 0} (lines longer : List K) (k : K) (text : List ℕ) → text ≡ line_text g k → (r : Result A Cause) → OnOk r (AddsLine g lines k longer) → OnOk r (Continues g lines text longer)
   on_added lines longer k text is (Ok x) adds = continues lines longer k text is adds
   on_added lines longer k text is (Err e) adds = tt
 
-  pub on_refused : {A : Type 0} → ((k l : K) → g.FitsLine k → g.FitsLine l → line_text g k ≡ line_text g l → k ≡ l) → g.FitsLine g.end → (lines : List K) (k : K) (text : List ℕ)
+  pub on_refused : {A : Type 0} → ((k l : K) → g.FitsLine k → g.FitsLine l → line_text g k ≡ line_text g l → k ≡ l) → (lines : List K) (k : K) (text : List ℕ)
       → g.FitsLine k → text ≡ line_text g k → (r : Result A Cause) → IfErr r (RefusesLine g lines k) → IfErr r (Refuses g lines text)
-  on_refused tells_apart fits_end lines k text fits is (Ok x) h = tt
-  on_refused tells_apart fits_end lines k text fits is (Err e) h = refuses tells_apart fits_end lines k text fits is e h
+  on_refused tells_apart lines k text fits is (Ok x) h = tt
+  on_refused tells_apart lines k text fits is (Err e) h = refuses tells_apart lines k text fits is e h

@@ -1,6 +1,5 @@
 -- Each line behind those of a transcript that is being read is decided.
 use Rattle.std.proofs.Common.{◌≡◌, ◌≢◌, ℕ, Bool, true, false, List, [], ◌∷◌, ◌++◌, Option, Some, None, refl, sym, subst, inl, inr}
-use Rattle.std.specs.Prelude.{◌⊎◌}
 use Rattle.smx_types.specs.declared.command.Entry.{Entry}
 use Rattle.smx_types.specs.declared.driver.DriverSpec.{DriverSpec}
 use Rattle.smx_types.specs.declared.view.BindingLine.{BindingLine}
@@ -25,7 +24,7 @@ use Rattle.smx_text.specs.TranscriptLines.{TranscriptLine}
 use Rattle.smx_text.specs.TranscriptLines as line
 use Rattle.smx_text.specs.TranscriptText.{FitsLine, transcript_grammar}
 use Rattle.smx_text.proofs.DecisionLemmas.{same_bytes_or_not}
-use Rattle.smx_text.proofs.GrammarLemmas.{Decision, HasReading, has_reading}
+use Rattle.smx_text.proofs.HasReadingLemmas.{Decision, HasReading, has_reading}
 use Rattle.smx_text.proofs.TranscriptDrafts.{takes, is_full}
 use Rattle.smx_text.proofs.TranscriptGrammarLemmas.{refused_line, not_at_end, well_made, no_line}
 use Rattle.smx_text.proofs.TranscriptLemmas.{misplaced, too_many, longer_begun, whole, begun_is_draft, nothing_begun}

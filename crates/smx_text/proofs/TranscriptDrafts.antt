@@ -1,7 +1,6 @@
 -- A transcript that is being read, as a machine that takes line after line.
-use Rattle.std.specs.Prelude.{ℕ, Bool, true, false, ◌&&◌, ◌==◌, nat_le, List, [], ◌∷◌, ◌++◌, length, Option, Some, None}
+use Rattle.std.specs.Prelude.{ℕ, Bool, true, false, ◌&&◌, ◌==◌, nat_le, [], ◌∷◌, ◌++◌, length, Option, Some, None}
 use Rattle.smx_types.specs.declared.limits.TheConstants.{MAX_DRIVERS, MAX_COMMANDS}
-use Rattle.smx_types.specs.declared.transcript.Transcript.{Transcript}
 use Rattle.smx_types.specs.declared.view.ConfigView.{ConfigView}
 use Rattle.smx_text.specs.declared.transcript.draft.Stage.{Stage}
 use Rattle.smx_text.specs.declared.transcript.draft.Stage.TheVariants as stage

@@ -1,7 +1,6 @@
 -- The lines of a transcript text can be told apart.
-use Rattle.std.proofs.Common.{◌≡◌, ◌≢◌, ℕ, ◌<◌, ◌≤◌, Bool, true, false, Result, Ok, Err, Some, None, ◌++◌, ◌^◌, List, [], ◌∷◌, length, refl, sym, ap, subst, ◌∙◌, arith, rules}
+use Rattle.std.proofs.Common.{◌≡◌, ◌≢◌, ℕ, ◌<◌, ◌≤◌, Bool, true, false, Result, Some, None, ◌++◌, ◌^◌, List, ◌∷◌, refl, sym, ap, subst, ◌∙◌, arith, rules}
 use Rattle.std.specs.Fmt.{decimal}
-use Rattle.std.specs.List.{AllByRecursion}
 use Rattle.std.specs.Prelude.{codes, OnOk, IfErr, if◌then◌else◌}
 use Rattle.std.specs.Str.{bytes_eq, all_ascii_digits}
 use Rattle.std.proofs.lemmas.Bool.Decides.{nat_tests}
@@ -20,20 +19,20 @@ use Rattle.smx_types.specs.declared.view.MessageLine.{MessageLine}
 use Rattle.smx_types.specs.declared.view.RouteLine.{RouteLine}
 use Rattle.smx_words.specs.Words.{line_of}
 use Rattle.smx_words.specs.Spelling.{driver_words, entry_words, descriptor_words, link_words, bind_words, route_words, message_words, full_words, next_words}
-use Rattle.smx_words.specs.Spellable.{FitsNumber, FitsDriver, FitsEntry, FitsDescriptor, FitsLink, FitsBinding, FitsRoute, FitsMessage, FitsFull, FitsNext}
+use Rattle.smx_words.specs.Spellable.{FitsDriver, FitsEntry, FitsDescriptor, FitsLink, FitsBinding, FitsRoute, FitsMessage, FitsFull, FitsNext}
 use Rattle.smx_text.specs.declared.fault.Cause.{Cause}
 use Rattle.smx_text.specs.declared.fault.Cause.TheVariants as cause
 use Rattle.smx_text.specs.declared.transcript.draft.Stage.TheVariants as stage
 use Rattle.smx_text.specs.declared.transcript.draft.TranscriptDraft.{TranscriptDraft}
 use Rattle.smx_text.specs.Drafts.{lines}
-use Rattle.smx_text.specs.Grammar.{IsBegun, Continues, IsNoLine, line_text}
+use Rattle.smx_text.specs.Grammar.{Continues, IsNoLine, line_text}
 use Rattle.smx_text.specs.Reading.{Refuses, EndsAs, AddsLine, RefusesLine}
 use Rattle.smx_text.specs.TranscriptLines.{TranscriptLine}
 use Rattle.smx_text.specs.TranscriptLines as line
 use Rattle.smx_text.specs.TranscriptText.{line_words, FitsLine, body, transcript_grammar}
 use Rattle.smx_text.proofs.GrammarLemmas.{IsWellMade}
 use Rattle.smx_text.proofs.ReadingLemmas.{refuses, on_added, on_refused}
-use Rattle.smx_text.proofs.TranscriptDrafts.{new_draft, takes, is_full}
+use Rattle.smx_text.proofs.TranscriptDrafts.{new_draft, takes}
 use Rattle.smx_text.proofs.TranscriptDraftLemmas.{draft, run, run_append, run_body, taken}
 use Rattle.smx_text.proofs.TranscriptLemmas.{misplaced, some_of}
 use Rattle.smx_text.proofs.TranscriptWholeLemmas.{fits_body}
@@ -174,11 +173,11 @@ on_added_line ls longer k text is r h = on_added transcript_grammar ls longer k 
 
 pub on_refused_line : {A : Type 0} (ls : List TranscriptLine) (k : TranscriptLine) (text : List ℕ) → FitsLine k → text ≡ line_text transcript_grammar k → (r : Result A Cause)
     → IfErr r (RefusesLine transcript_grammar ls k) → IfErr r (Refuses transcript_grammar ls text)
-on_refused_line ls k text fits is r h = on_refused transcript_grammar tells_apart tt ls k text fits is r h
+on_refused_line ls k text fits is r h = on_refused transcript_grammar tells_apart ls k text fits is r h
 
 pub refused_line : (ls : List TranscriptLine) (k : TranscriptLine) (text : List ℕ) → FitsLine k → text ≡ line_text transcript_grammar k → (why : Cause)
     → RefusesLine transcript_grammar ls k why → Refuses transcript_grammar ls text why
-refused_line ls k text fits is why h = refuses transcript_grammar tells_apart tt ls k text fits is why h
+refused_line ls k text fits is why h = refuses transcript_grammar tells_apart ls k text fits is why h
 
 pub not_at_end : (d : TranscriptDraft) → takes d line.End ≡ false → EndsAs transcript_grammar (lines d) None
 not_at_end d h = refused_line (lines d) line.End (line_text transcript_grammar line.End) tt refl cause.Form (misplaced d line.End h)

@@ -1,24 +1,21 @@
 -- What a reader does with a line behind those of a transcript that is being read.
-use Rattle.std.proofs.Common.{◌≡◌, ◌≢◌, ◌≤◌, Bool, true, false, List, [], ◌∷◌, ◌++◌, length, map, Option, Some, None, refl, sym, ap, subst, ◌∙◌, arith, inl, inr}
+use Rattle.std.proofs.Common.{◌≡◌, ◌≢◌, Bool, true, false, List, [], ◌∷◌, ◌++◌, map, Option, Some, None, refl, sym, ap, subst, ◌∙◌, arith}
 use Rattle.std.specs.List.{AllByRecursion}
-use Rattle.std.specs.Prelude.{◌⊎◌}
-use Rattle.std.proofs.lemmas.List.{append-nil}
 use Rattle.smx_types.specs.declared.transcript.Transcript.{Transcript}
-use Rattle.smx_types.specs.declared.view.ConfigView.{ConfigView}
 use Rattle.smx_text.specs.declared.fault.Cause.TheVariants as cause
 use Rattle.smx_text.specs.declared.transcript.draft.Stage.{Stage}
 use Rattle.smx_text.specs.declared.transcript.draft.Stage.TheVariants as stage
 use Rattle.smx_text.specs.declared.transcript.draft.TranscriptDraft.{TranscriptDraft}
 use Rattle.smx_text.specs.Drafts.{lines}
-use Rattle.smx_text.specs.Grammar.{IsBegun, GoesOn, MayFollow, IsFull}
-use Rattle.smx_text.specs.Reading.{EndsAs, AddsLine, RefusesLine}
+use Rattle.smx_text.specs.Grammar.{IsBegun}
+use Rattle.smx_text.specs.Reading.{AddsLine, RefusesLine}
 use Rattle.smx_text.specs.TranscriptLines.{TranscriptLine}
 use Rattle.smx_text.specs.TranscriptLines as line
 use Rattle.smx_text.specs.TranscriptText.{FitsLine, body, IsAllowed, transcript_grammar}
 use Rattle.smx_text.proofs.EachLemmas.{all_left}
 use Rattle.smx_text.proofs.TranscriptDrafts.{◌>>=◌, new_view, new_draft, takes, is_full, with_line}
-use Rattle.smx_text.proofs.TranscriptDraftLemmas.{draft, is_line, not_end, lines_more, run, run_append, run_lines, run_drivers, run_entries, run_body, taken}
-use Rattle.smx_text.proofs.TranscriptWholeLemmas.{completed, completes, still, IsWithin, fits_body, allowed}
+use Rattle.smx_text.proofs.TranscriptDraftLemmas.{draft, not_end, lines_more, run, run_append, run_lines, run_drivers, run_entries, run_body}
+use Rattle.smx_text.proofs.TranscriptWholeLemmas.{completes, still, IsWithin, fits_body, allowed}
 use Rattle.smx_text.proofs.TranscriptFollowLemmas.{run_grows, within_before, rest_leads, may_takes, full_stops, next_of, takes_may, next_allowed}
 
 -- ---- a draft, and what its lines lead to

@@ -4,7 +4,7 @@ use Rattle.std.proofs.lemmas.List.{append-nil, length-take-le, map-append, take_
 use Rattle.std.proofs.lemmas.List.Concat.{flat_map-append}
 use Rattle.std.proofs.lemmas.Simd.{map-map}
 use Rattle.std.specs.Fmt.{decimal}
-use Rattle.std.specs.List.{flat_map, AllByRecursion}
+use Rattle.std.specs.List.{AllByRecursion}
 use Rattle.std.specs.Prelude.{codes}
 use Rattle.smx_types.specs.ProgramLists.{ProgramLists}
 use Rattle.smx_types.specs.declared.command.Command.{Command}
@@ -12,7 +12,7 @@ use Rattle.smx_types.specs.declared.transcript.Transcript.{Transcript}
 use Rattle.smx_types.specs.declared.view.ConfigView.{ConfigView}
 use Rattle.smx_text.specs.ProgramLines as line
 use Rattle.smx_text.specs.ProgramsText.{line_words, program_lines, body, programs_text, FitsLine}
-use Rattle.smx_words.specs.Spelling.{bind_words, command_words, descriptor_words, driver_words, entry_words, fault_words, full_words, link_words, message_words, next_words, reply_words, route_words}
+use Rattle.smx_words.specs.Spelling.{bind_words, command_words, descriptor_words, driver_words, entry_words, full_words, link_words, message_words, next_words, route_words}
 use Rattle.smx_words.specs.Spellable.{FitsCommand, FitsDriver}
 use Rattle.smx_text.specs.TranscriptText.{view_body, transcript_text}
 use Rattle.smx_text.specs.TranscriptText.{line_words as transcript_words}

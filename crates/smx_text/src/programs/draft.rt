@@ -16,8 +16,8 @@ ghost use Rattle.smx_text.specs.ProgramsText.{body, programs_grammar};
 use crate::fault::Cause;
 use crate::reading::Draft;
 use smx_types::{
-    Command, Commands, DriverSpec, Drivers, MAX_COMMANDS, MAX_DRIVERS, MAX_PROCESSES, ProgramList,
-    Programs,
+    Command, Commands, DriverSpec, Drivers, MAX_COMMANDS, MAX_DRIVERS, MAX_PROCESSES, NoMemory,
+    ProgramList, Programs,
 };
 use smx_words::{command_of, driver_of, process_of};
 use std::alloc::Global;
@@ -60,9 +60,10 @@ impl Draft for ProgramsDraft {
     }
 
     fn add(&mut self, alloc: Global, text: &[u8]) -> Result<(), Cause> {
-        match command_of(alloc, text)? {
-            Some(command) => self.add_command(command),
-            None => self.add_other(alloc, text),
+        match command_of(alloc, text) {
+            Ok(Some(command)) => self.add_command(command),
+            Ok(None) => self.add_other(alloc, text),
+            Err(NoMemory) => Err(self.command_unread()),
         }
     }
 
@@ -151,6 +152,17 @@ impl ProgramsDraft {
         self.programs[last].push(command)?;
         self.count += 1;
         Ok(())
+    }
+
+    // Why a command is refused for which there is no memory.
+    fn command_unread(&self) -> Cause
+        requires begun { IsBegun programs_grammar (body self.now) }
+        ensures { (c : AnyCommand) → FitsCommand c → RefusesLine programs_grammar (body self.now) (CommandLine c) result }
+    {
+        match self.room_for_command() {
+            Ok(()) => Cause::NoMemory,
+            Err(cause) => cause,
+        }
     }
 
     // Whether a command may come and is not one too many.

@@ -22,7 +22,7 @@ use crate::fault::Cause;
 use crate::reading::Draft;
 use smx_types::{
     BindingLine, ConfigView, DescriptorLine, DriverSpec, Entry, FullLine, Items, LinkLine,
-    MAX_COMMANDS, MAX_DRIVERS, MessageLine, RouteLine, Transcript,
+    MAX_COMMANDS, MAX_DRIVERS, MessageLine, NoMemory, RouteLine, Transcript,
 };
 use smx_words::{
     bind_of, descriptor_of, driver_of, entry_of, full_of, link_of, message_of, next_of, route_of,
@@ -66,9 +66,10 @@ impl Draft for TranscriptDraft {
     }
 
     fn add(&mut self, alloc: Global, text: &[u8]) -> Result<(), Cause> {
-        match entry_of(alloc, text)? {
-            Some(entry) => self.add_entry(entry),
-            None => self.add_other(alloc, text),
+        match entry_of(alloc, text) {
+            Ok(Some(entry)) => self.add_entry(entry),
+            Ok(None) => self.add_other(alloc, text),
+            Err(NoMemory) => Err(self.entry_unread()),
         }
     }
 
@@ -129,9 +130,10 @@ impl TranscriptDraft {
         ensures added { OnOk result (Continues transcript_grammar (lines self.old) text.now (lines self.new)) }
         ensures refused { IfErr result (Refuses transcript_grammar (lines self.old) text.now) }
     {
-        match message_of(alloc, text)? {
-            Some(message) => self.add_message(message),
-            None => self.add_plain(alloc, text),
+        match message_of(alloc, text) {
+            Ok(Some(message)) => self.add_message(message),
+            Ok(None) => self.add_plain(alloc, text),
+            Err(NoMemory) => Err(self.message_unread()),
         }
     }
 
@@ -212,6 +214,17 @@ impl TranscriptDraft {
         self.room_for_entry()?;
         self.transcript.entries.push(entry)?;
         Ok(())
+    }
+
+    // Why an entry is refused for which there is no memory.
+    fn entry_unread(&self) -> Cause
+        requires begun { IsBegun transcript_grammar (lines self.now) }
+        ensures { (e : AnyEntry) → FitsEntry e → RefusesLine transcript_grammar (lines self.now) (EntryLine e) result }
+    {
+        match self.room_for_entry() {
+            Ok(()) => Cause::NoMemory,
+            Err(cause) => cause,
+        }
     }
 
     // Whether an entry may come and is not one too many.
@@ -319,6 +332,18 @@ impl TranscriptDraft {
         }
         self.transcript.view.msgs.push(message)?;
         Ok(())
+    }
+
+    // Why a message is refused for which there is no memory.
+    fn message_unread(&self) -> Cause
+        requires begun { IsBegun transcript_grammar (lines self.now) }
+        ensures { (m : AnyMessage) → FitsMessage m → RefusesLine transcript_grammar (lines self.now) (MsgLine m) result }
+    {
+        if self.takes_msgs() {
+            Cause::NoMemory
+        } else {
+            Cause::Form
+        }
     }
 
     fn add_full(&mut self, full: FullLine) -> Result<(), Cause>

@@ -1,4 +1,3 @@
-use Rattle.std.proofs.Common.{rules}
 use Rattle.smx_text.specs.ProgramLines as line
 use Rattle.smx_text.specs.ProgramsText.{body}
 use Rattle.smx_text.proofs.ProgramsGrammarLemmas.{on_added_line, on_refused_line}

@@ -1,4 +1,4 @@
-use Rattle.std.proofs.Common.{arith, rules}
+use Rattle.std.proofs.Common.{rules}
 use Rattle.smx_text.proofs.ProgramsLemmas.{misplaced, too_many}
 use Rattle.smx_text.specs.ProgramLines as line
 use Rattle.smx_text.proofs.programs.draft.ProgramsDraft.room_for_command.Goals as goal

@@ -1,4 +1,4 @@
-use Rattle.std.proofs.Common.{rules, refl, subst, ◌≡◌, codes}
+use Rattle.std.proofs.Common.{rules, ◌≡◌, codes}
 use Rattle.smx_text.specs.TranscriptLines as line
 use Rattle.smx_text.specs.Drafts.{lines}
 use Rattle.smx_text.proofs.TranscriptGrammarLemmas.{on_added_line, on_refused_line}

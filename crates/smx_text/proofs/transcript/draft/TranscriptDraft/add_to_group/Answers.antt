@@ -1,4 +1,3 @@
-use Rattle.std.proofs.Common.{rules, refl}
 use Rattle.smx_text.specs.TranscriptLines as line
 use Rattle.smx_text.specs.Drafts.{lines}
 use Rattle.smx_text.proofs.TranscriptGrammarLemmas.{on_added_line, on_refused_line, no_line}

@@ -1,4 +1,4 @@
-use Rattle.std.proofs.Common.{rules, refl}
+use Rattle.std.proofs.Common.{rules}
 use Rattle.smx_text.specs.TranscriptLines as line
 use Rattle.smx_text.proofs.TranscriptLemmas.{misplaced, too_many}
 use Rattle.smx_text.proofs.transcript.draft.TranscriptDraft.room_for_entry.Goals as goal
