@@ -1,23 +1,24 @@
--- One line more after those of some programs.
-use Rattle.std.proofs.Common.{◌≡◌, ℕ, suc, ◌+◌, ◌-◌, ◌<◌, List, [], ◌∷◌, ◌++◌, length, get_or, map, sym, ap, ◌∙◌, append_assoc, arith, refl}
+-- One line, or the lines of one program, more after those of some programs.
+use Rattle.std.proofs.Common.{◌≡◌, ℕ, suc, ◌+◌, ◌-◌, ◌<◌, List, [], ◌∷◌, ◌++◌, length, get_or, map, sym, ap, ◌∙◌, append_assoc, arith, refl, add-zero}
 use Rattle.std.proofs.Math.ListN.{set}
-use Rattle.std.proofs.lemmas.List.{map_push}
+use Rattle.std.proofs.lemmas.List.{append-nil, map_push}
 use Rattle.smx_types.specs.declared.command.Command.{Command}
 use Rattle.smx_types.specs.declared.driver.DriverSpec.{DriverSpec}
 use Rattle.smx_text.specs.ProgramLines.{Line}
 use Rattle.smx_text.specs.ProgramLines as line
 use Rattle.smx_text.specs.ProgramsText.{program_lines}
 
-lines_push : (n : ℕ) (ps : List (List Command)) → program_lines n (ps ++ [] ∷ []) ≡ program_lines n ps ++ line.Process (n + length ps) ∷ []
-lines_push n [] = ap (λ (k : ℕ). line.Process k ∷ []) (omega arith)
-lines_push n (p ∷ ps) =
-    let more = lines_push (n + 1) ps in
+-- one program more
+pub lines_add : (n : ℕ) (ps : List (List Command)) (cs : List Command) → program_lines n (ps ++ cs ∷ []) ≡ program_lines n ps ++ line.Process (n + length ps) ∷ map line.Command cs
+lines_add n [] cs = rw (append-nil, add-zero) refl
+lines_add n (p ∷ ps) cs =
     let k : (n + 1) + length ps ≡ n + suc (length ps) = omega arith in
-    rw (more, k, append_assoc) refl
+    rw (lines_add (n + 1) ps cs, k, append_assoc) refl
 
+-- a process whose program has no command yet
 pub added_process : (ds : List DriverSpec) (ps : List (List Command)) (k : ℕ) → k ≡ length ps
     → map line.Driver ds ++ program_lines 0 (ps ++ [] ∷ []) ≡ (map line.Driver ds ++ program_lines 0 ps) ++ line.Process k ∷ []
-added_process ds ps k e = rw (e, lines_push 0 ps, append_assoc (map line.Driver ds)) (ap (λ (m : ℕ). map line.Driver ds ++ (program_lines 0 ps ++ line.Process m ∷ [])) (omega arith))
+added_process ds ps k e = rw (e, lines_add 0 ps [], append_assoc (map line.Driver ds)) (ap (λ (m : ℕ). map line.Driver ds ++ (program_lines 0 ps ++ line.Process m ∷ [])) (omega arith))
 
 pub lines_more : (n : ℕ) (ps : List (List Command)) (d : List Command) (c : Command) → 0 < length ps
     → program_lines n (set ps (length ps - 1) (get_or ps (length ps - 1) d ++ c ∷ [])) ≡ program_lines n ps ++ line.Command c ∷ []

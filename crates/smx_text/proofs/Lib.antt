@@ -11,7 +11,6 @@ pub mod ProgramsFollowLemmas
 pub mod ProgramsValueLemmas
 pub mod ProgramsLemmas
 pub mod ProgramsGrammarLemmas
-pub mod DecisionLemmas
 pub mod ProgramsDecidedLemmas
 pub mod TranscriptDrafts
 pub mod TranscriptDraftLemmas

@@ -16,7 +16,8 @@ use Rattle.smx_text.specs.Grammar.{IsBegun, line_text}
 use Rattle.smx_text.specs.ProgramLines.{Line}
 use Rattle.smx_text.specs.ProgramLines as line
 use Rattle.smx_text.specs.ProgramsText.{FitsLine, body, IsAllowed, programs_grammar}
-use Rattle.smx_text.proofs.DecisionLemmas.{same_or_not, below_or_not, same_bytes_or_not}
+use Rattle.std.proofs.lemmas.Bool.{cases_eq, cases_lt}
+use Rattle.smx_words.proofs.DecidedLemmas.{same_or_not}
 use Rattle.smx_text.proofs.HasReadingLemmas.{Decision, HasReading, has_reading}
 use Rattle.smx_text.proofs.ProgramsGrammarLemmas.{refused_line, well_made, no_line}
 use Rattle.smx_text.proofs.ProgramsFollowLemmas.{MayStand, AreMany}
@@ -26,15 +27,15 @@ use Rattle.smx_words.proofs.DecidedCommandLemmas.{command_reading}
 use Rattle.smx_words.proofs.DecidedLineLemmas.{driver_reading, process_reading}
 
 stands_or_not : (v : ProgramLists) (k : Line) → MayStand v k ⊎ (MayStand v k → ⊥)
-stands_or_not v (line.Driver d) = same_or_not (length v.programs) 0
-stands_or_not v (line.Process n) = same_or_not n (length v.programs)
-stands_or_not v (line.Command c) = elim (below_or_not 0 (length v.programs)) [ inl some ↦ inl some | inr none ↦ inr (λ some. omega (arith, some, none)) ]
+stands_or_not v (line.Driver d) = cases_eq (length v.programs) 0
+stands_or_not v (line.Process n) = cases_eq n (length v.programs)
+stands_or_not v (line.Command c) = elim (cases_lt 0 (length v.programs)) [ inl some ↦ inl some | inr none ↦ inr (λ some. omega (arith, some, none)) ]
 stands_or_not v line.End = inl tt
 
 room_or_many : (v : ProgramLists) (k : Line) → k ≢ line.End → HasRoom v k ⊎ AreMany v k
-room_or_many v (line.Driver d) other = below_or_not (length v.drivers) MAX_DRIVERS
-room_or_many v (line.Process n) other = below_or_not (length v.programs) MAX_PROCESSES
-room_or_many v (line.Command c) other = below_or_not (sum_by length v.programs) MAX_COMMANDS
+room_or_many v (line.Driver d) other = cases_lt (length v.drivers) MAX_DRIVERS
+room_or_many v (line.Process n) other = cases_lt (length v.programs) MAX_PROCESSES
+room_or_many v (line.Command c) other = cases_lt (sum_by length v.programs) MAX_COMMANDS
 room_or_many v line.End other = absurd (other refl)
 
 begun_by : (v : ProgramLists) → IsAllowed v → IsBegun programs_grammar (body v)
@@ -65,7 +66,7 @@ module _ (v : ProgramLists) (allowed : IsAllowed v) (text : List ℕ) (other : t
   by_command (Some c) (fits, is) = judged v allowed (line.Command c) text (λ e. cc) fits is
 
 behind : (v : ProgramLists) → IsAllowed v → (text : List ℕ) → Decision programs_grammar (body v) text
-behind v allowed text = elim (same_bytes_or_not text (line_text programs_grammar line.End)) [
+behind v allowed text = elim (same_or_not text (line_text programs_grammar line.End)) [
   | inl end ↦ inr (inr (inr (end, v, allowed, refl)))
   | inr other ↦ let c = command_reading text in by_command v allowed text other c.0 c.1
 ]

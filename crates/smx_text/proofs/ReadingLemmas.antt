@@ -10,7 +10,8 @@ use Rattle.smx_text.specs.declared.fault.TextFault.{TextFault}
 use Rattle.smx_text.specs.Grammar.{Grammar, IsOneLine, header, line_text, beginning, full_text, IsBegun, Continues, IsNoLine, MayFollow, Reaches, IsFault, Reads}
 use Rattle.smx_text.specs.Reading.{Refuses, AddsLine, RefusesLine, EndsText}
 
-texts_append : (ls ks : List (List (List ℕ))) → text_of (ls ++ ks) ≡ text_of ls ++ text_of ks
+-- a text of some lines and of others
+pub texts_append : (ls ks : List (List (List ℕ))) → text_of (ls ++ ks) ≡ text_of ls ++ text_of ks
 texts_append ls ks = flat_map-append (λ words. line_of words ++ LINE_FEED ∷ []) ls ks
 
 -- with bytes behind it, a line is its words, its line feed and those bytes

@@ -23,7 +23,7 @@ use Rattle.smx_text.specs.Grammar.{IsBegun, IsNoLine, line_text}
 use Rattle.smx_text.specs.TranscriptLines.{TranscriptLine}
 use Rattle.smx_text.specs.TranscriptLines as line
 use Rattle.smx_text.specs.TranscriptText.{FitsLine, transcript_grammar}
-use Rattle.smx_text.proofs.DecisionLemmas.{same_bytes_or_not}
+use Rattle.smx_words.proofs.DecidedLemmas.{same_or_not}
 use Rattle.smx_text.proofs.HasReadingLemmas.{Decision, HasReading, has_reading}
 use Rattle.smx_text.proofs.TranscriptDrafts.{takes, is_full}
 use Rattle.smx_text.proofs.TranscriptGrammarLemmas.{refused_line, not_at_end, well_made, no_line}
@@ -86,7 +86,7 @@ module _ (d : TranscriptDraft) (begun : IsBegun transcript_grammar (lines d)) (t
   by_next entries messages drivers config (Some x) (fits, is) = judged d begun (line.Next x.0 x.1) text (λ e. cc) fits is
 
   by_config : IsNone FitsEntry entry_words → IsNone FitsMessage message_words → IsNone FitsDriver driver_words → Decided
-  by_config entries messages drivers = elim (same_bytes_or_not text (line_text transcript_grammar line.Config)) [
+  by_config entries messages drivers = elim (same_or_not text (line_text transcript_grammar line.Config)) [
     | inl is ↦ judged d begun line.Config text (λ e. cc) tt is
     | inr config ↦ let o = next_reading text in by_next entries messages drivers config o.0 o.1
   ]
@@ -104,7 +104,7 @@ module _ (d : TranscriptDraft) (begun : IsBegun transcript_grammar (lines d)) (t
   by_entry (Some x) (fits, is) = judged d begun (line.Entry x) text (λ e. cc) fits is
 
 behind : (d : TranscriptDraft) → IsBegun transcript_grammar (lines d) → (text : List ℕ) → Decision transcript_grammar (lines d) text
-behind d begun text = elim (same_bytes_or_not text (line_text transcript_grammar line.End)) [
+behind d begun text = elim (same_or_not text (line_text transcript_grammar line.End)) [
   | inl end ↦ at_end d begun text end
   | inr other ↦ let o = entry_reading text in by_entry d begun text other o.0 o.1
 ]

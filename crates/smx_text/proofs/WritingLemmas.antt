@@ -1,7 +1,6 @@
 -- What is written group by group, as the lines of a whole.
-use Rattle.std.proofs.Common.{◌≡◌, ℕ, suc, ◌+◌, ◌<◌, List, [], ◌∷◌, ◌++◌, length, get_or, take, map, refl, sym, ap, ◌∙◌, append_assoc, arith, add-zero}
+use Rattle.std.proofs.Common.{◌≡◌, ℕ, ◌+◌, ◌<◌, List, [], ◌∷◌, ◌++◌, length, get_or, take, map, refl, sym, ap, ◌∙◌, append_assoc, arith}
 use Rattle.std.proofs.lemmas.List.{append-nil, length-take-le, map-append, take_more}
-use Rattle.std.proofs.lemmas.List.Concat.{flat_map-append}
 use Rattle.std.proofs.lemmas.Simd.{map-map}
 use Rattle.std.specs.Fmt.{decimal}
 use Rattle.std.specs.List.{AllByRecursion}
@@ -19,20 +18,13 @@ use Rattle.smx_text.specs.TranscriptText.{line_words as transcript_words}
 use Rattle.smx_text.specs.TranscriptLines as row
 use Rattle.smx_words.specs.Words.{LINE_FEED}
 use Rattle.smx_text.proofs.EachLemmas.{all_append, all_map}
+use Rattle.smx_text.proofs.BodyLemmas.{lines_add}
+use Rattle.smx_text.proofs.ReadingLemmas.{texts_append}
 use Rattle.smx_words.specs.Words.{line_of, text_of}
-
-lines_append : (ls ks : List (List (List ℕ))) → text_of (ls ++ ks) ≡ text_of ls ++ text_of ks
-lines_append ls ks = flat_map-append (λ words. line_of words ++ 10 ∷ []) ls ks
 
 -- one line more
 pub one_line_more : (before : List ℕ) (ws : List (List ℕ)) → before ++ line_of ws ++ LINE_FEED ∷ [] ≡ before ++ text_of (ws ∷ [])
 one_line_more before ws = append_assoc before (line_of ws) (LINE_FEED ∷ []) ∙ ap (λ (more : List ℕ). before ++ more) (sym (append-nil (line_of ws ++ LINE_FEED ∷ [])))
-
-lines_add : (n : ℕ) (ps : List (List Command)) (cs : List Command) → program_lines n (ps ++ cs ∷ []) ≡ program_lines n ps ++ line.Process (n + length ps) ∷ map line.Command cs
-lines_add n [] cs = rw (append-nil, add-zero) refl
-lines_add n (p ∷ ps) cs =
-    let k : (n + 1) + length ps ≡ n + suc (length ps) = omega arith in
-    rw (lines_add (n + 1) ps cs, k, append_assoc) refl
 
 -- the lines of one program more
 one_more : (ps : List (List Command)) (i : ℕ) (cs : List Command) → i < length ps → cs ≡ get_or ps i cs
@@ -45,7 +37,7 @@ one_more ps i cs lt e =
 pub program_text : (ps : List (List Command)) (i : ℕ) (cs : List Command) → i < length ps → cs ≡ get_or ps i cs
     → text_of (map line_words (program_lines 0 (take (i + 1) ps)))
     ≡ text_of (map line_words (program_lines 0 (take i ps))) ++ (codes "process " ++ decimal i ++ 10 ∷ [] ++ text_of (map command_words cs))
-program_text ps i cs lt e = rw (one_more ps i cs lt e, map-append, lines_append, map-map line_words line.Command cs) refl
+program_text ps i cs lt e = rw (one_more ps i cs lt e, map-append, texts_append, map-map line_words line.Command cs) refl
 
 pub program_fits : (ps : List (List Command)) (i : ℕ) (cs : List Command) → i < length ps → cs ≡ get_or ps i cs → FitsLine (line.Process i)
     → AllByRecursion FitsLine (program_lines 0 (take i ps)) → AllByRecursion FitsCommand cs → AllByRecursion FitsLine (program_lines 0 (take (i + 1) ps))
@@ -54,7 +46,7 @@ program_fits ps i cs lt e number before commands =
 
 pub body_text : (v : ProgramLists) → programs_text v
     ≡ codes "programs 1\n" ++ text_of (map driver_words v.drivers) ++ text_of (map line_words (program_lines 0 v.programs)) ++ codes "end\n"
-body_text v = simp (map-append, map-map, lines_append, append_assoc)
+body_text v = simp (map-append, map-map, texts_append, append_assoc)
 
 pub body_fits : (v : ProgramLists) → AllByRecursion FitsDriver v.drivers → AllByRecursion FitsLine (program_lines 0 v.programs) → AllByRecursion FitsLine (body v)
 body_fits v drivers programs = all_append FitsLine (map line.Driver v.drivers) (program_lines 0 v.programs) (all_map FitsLine line.Driver v.drivers drivers) programs
@@ -62,8 +54,8 @@ body_fits v drivers programs = all_append FitsLine (map line.Driver v.drivers) (
 seven_groups : (x : List (List ℕ)) (a b c d e f : List (List (List ℕ))) → text_of (x ∷ (a ++ (b ++ (c ++ (d ++ (e ++ f))))))
     ≡ text_of (x ∷ []) ++ text_of a ++ text_of b ++ text_of c ++ text_of d ++ text_of e ++ text_of f
 seven_groups x a b c d e f =
-    lines_append (x ∷ []) (a ++ (b ++ (c ++ (d ++ (e ++ f)))))
-    ∙ rw (lines_append a (b ++ (c ++ (d ++ (e ++ f)))), lines_append b (c ++ (d ++ (e ++ f))), lines_append c (d ++ (e ++ f)), lines_append d (e ++ f), lines_append e f) (simp append_assoc)
+    texts_append (x ∷ []) (a ++ (b ++ (c ++ (d ++ (e ++ f)))))
+    ∙ rw (texts_append a (b ++ (c ++ (d ++ (e ++ f)))), texts_append b (c ++ (d ++ (e ++ f))), texts_append c (d ++ (e ++ f)), texts_append d (e ++ f), texts_append e f) (simp append_assoc)
 
 -- the lines of a view, by the groups of its values
 abbrev view_lines : ConfigView → List (List (List ℕ))
@@ -93,7 +85,7 @@ whole_text : (t : Transcript) → transcript_text t
 whole_text t = by_body (view_body t.view) where
   by_body : (ls : List row.TranscriptLine) → text_of ((codes "transcript" ∷ codes "1" ∷ []) ∷ map transcript_words (map row.Driver t.drivers ++ (map row.Entry t.entries ++ row.Config ∷ ls)) ++ (codes "end" ∷ []) ∷ [])
       ≡ codes "transcript 1\n" ++ text_of (map driver_words t.drivers) ++ text_of (map entry_words t.entries) ++ codes "config\n" ++ text_of (map transcript_words ls) ++ codes "end\n"
-  by_body ls = simp (map-append, map-map, lines_append, append_assoc)
+  by_body ls = simp (map-append, map-map, texts_append, append_assoc)
 
 -- the parts of a transcript, one after the other
 pub transcript_written : (t : Transcript) (start header drivers entries config view end : List ℕ) → header ≡ start ++ codes "transcript 1\n"

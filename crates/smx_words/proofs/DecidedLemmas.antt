@@ -1,13 +1,12 @@
 -- Whether some value is spelled so is told for words, for words in order, and for the line of words.
-use Rattle.std.proofs.Common.{◌≡◌, ◌≢◌, ℕ, ◌<◌, ◌≤◌, Bool, true, false, eqb, List, [], ◌∷◌, ◌++◌, length, map, Option, Some, None, refl, sym, ap, subst, ◌∙◌, arith, inl, inr}
+use Rattle.std.proofs.Common.{◌≡◌, ◌≢◌, ℕ, Bool, true, false, List, [], ◌∷◌, ◌++◌, map, Option, Some, None, refl, sym, ap, subst, ◌∙◌, arith, inl, inr}
 use Rattle.std.specs.Prelude.{◌⊎◌}
 use Rattle.std.specs.List.{AllByRecursion}
 use Rattle.std.specs.Str.{bytes_eq}
-use Rattle.std.proofs.lemmas.Bool.Decides.{nat_tests}
 use Rattle.std.proofs.lemmas.Slice.Eq.{bytes_eq-Decides}
 use Rattle.smx_words.specs.LineReading.{IsReadAs}
-use Rattle.smx_words.specs.Words.{AreWords, IsFree, IsWord, SPACE, line_of}
-use Rattle.smx_words.proofs.CutLemmas.{apart, no_space_in}
+use Rattle.smx_words.specs.Words.{AreWords, SPACE, line_of}
+use Rattle.smx_words.proofs.LineLemmas.{same_free_words, words_free, words_in}
 
 -- a value that fits and is spelled so
 abbrev Has : {X S : Type 0} → (X → Type 0) → (X → S) → S → Type 0
@@ -172,41 +171,6 @@ one_of spelling same (x ∷ xs) s =
 
 -- ---- lines
 
--- a line is some words
-words_in : (line : List ℕ) → (ws : List (List ℕ)) × AllByRecursion (IsFree SPACE) ws × (0 < length ws) × (line ≡ line_of ws)
-words_in [] = ([] ∷ [], (tt, tt), omega arith, refl)
-words_in (b ∷ line) = let more = words_in line in by_byte (eqb b SPACE) refl more.0 more.1 more.2 more.3 where
-  by_byte : (t : Bool) → eqb b SPACE ≡ t → (ws : List (List ℕ)) → AllByRecursion (IsFree SPACE) ws → 0 < length ws → line ≡ line_of ws
-      → (ws : List (List ℕ)) × AllByRecursion (IsFree SPACE) ws × (0 < length ws) × (b ∷ line ≡ line_of ws)
-  by_byte t e [] free some is = absurd (omega (arith, some))
-  by_byte true e (w ∷ ws) free some is = let space : b ≡ SPACE = grind (arith, nat_tests) in ([] ∷ w ∷ ws, (tt, free), omega arith, cc (space, is))
-  by_byte false e (w ∷ []) free some is = ((b ∷ w) ∷ [], ((λ s. no_space s, free.0), tt), omega arith, cc is) where
-    no_space : b ≡ SPACE → ⊥
-    no_space s = grind (arith, nat_tests)
-  by_byte false e (w ∷ v ∷ ws) free some is = ((b ∷ w) ∷ v ∷ ws, ((λ s. no_space s, free.0), free.1), omega arith, cc is) where
-    no_space : b ≡ SPACE → ⊥
-    no_space s = grind (arith, nat_tests)
-
--- and no others
-same_words : (ws vs : List (List ℕ)) → AllByRecursion (IsFree SPACE) ws → AllByRecursion (IsFree SPACE) vs → 0 < length ws → 0 < length vs → line_of ws ≡ line_of vs → ws ≡ vs
-same_words [] vs h k some more e = absurd (omega (arith, some))
-same_words (w ∷ ws) [] h k some more e = absurd (omega (arith, more))
-same_words (w ∷ []) (v ∷ []) h k some more e = ap (λ (x : List ℕ). x ∷ []) e
-same_words (w ∷ []) (v ∷ u ∷ vs) h k some more e = absurd (no_space_in v (line_of (u ∷ vs)) w h.0 (sym e))
-same_words (w ∷ u ∷ ws) (v ∷ []) h k some more e = absurd (no_space_in w (line_of (u ∷ ws)) v k.0 e)
-same_words (w ∷ u ∷ ws) (v ∷ t ∷ vs) h k some more e =
-    let one = apart SPACE w v (line_of (u ∷ ws)) (line_of (t ∷ vs)) h.0 k.0 e in
-    let rest = same_words (u ∷ ws) (t ∷ vs) h.1 k.1 (omega arith) (omega arith) one.1 in
-    cc (one.0, rest)
-
-seen_free : (w : List ℕ) → AllByRecursion (λ b. (0x21 ≤ b) × (b ≤ 0x7E)) w → IsFree SPACE w
-seen_free [] h = tt
-seen_free (b ∷ w) h = (λ e. omega (arith, h.0.0, e), seen_free w h.1)
-
-words_free : (ws : List (List ℕ)) → AllByRecursion IsWord ws → AllByRecursion (IsFree SPACE) ws
-words_free [] h = tt
-words_free (w ∷ ws) h = (seen_free w h.0.1, words_free ws h.1)
-
 -- so where words have an answer, each line has a reading
 pub reading : {X : Type 0} {Fits : X → Type 0} {words_of : X → List (List ℕ)} → IsDecided Fits words_of → ((x : X) → Fits x → AreWords (words_of x))
     → (line : List ℕ) → (o : Option X) × IsReadAs Fits words_of line o
@@ -214,5 +178,5 @@ reading {X} {Fits} {words_of} d spelled line =
     let all = words_in line in
     elim (d.answer all.0) [
       | inl p ↦ (Some p.0, (p.1, all.3 ∙ ap line_of p.2))
-      | inr none ↦ (None, λ x fits e. none x fits (same_words all.0 (words_of x) all.1 (words_free (words_of x) (spelled x fits).0) all.2 (spelled x fits).1 (sym all.3 ∙ e)))
+      | inr none ↦ (None, λ x fits e. none x fits (same_free_words all.0 (words_of x) all.1 (words_free SPACE (omega arith) (words_of x) (spelled x fits).0) all.2 (spelled x fits).1 (sym all.3 ∙ e)))
     ]

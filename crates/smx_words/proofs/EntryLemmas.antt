@@ -12,11 +12,16 @@ use Rattle.smx_words.specs.Spelling.{command_words, entry_words, reply_words}
 use Rattle.smx_words.specs.Words.{EQUALS, SPACE, IsFree, line_of}
 use Rattle.smx_words.proofs.CutLemmas.{apart}
 use Rattle.smx_words.proofs.NumberLemmas.{number_free, same_number}
-use Rattle.smx_words.proofs.PlainLemmas.{command_plain, some_command, some_reply, free_append, line_free, space_free}
+use Rattle.smx_words.proofs.PlainLemmas.{command_plain, plain_words_free, some_command, some_reply}
+use Rattle.smx_words.proofs.LineLemmas.{free_append, line_free}
 
 -- the sign and its spaces, cut at the sign
 pub regrouped : (command reply : List ℕ) → command ++ codes " = " ++ reply ≡ (command ++ 32 ∷ []) ++ EQUALS ∷ 32 ∷ reply
 regrouped command reply = append_assoc command (codes " = ") reply ∙ sym (append_assoc command (32 ∷ []) (EQUALS ∷ 32 ∷ reply))
+
+-- no equals sign is a space
+space_free : IsFree EQUALS (SPACE ∷ [])
+space_free = ((λ e. cc), tt)
 
 free_left : (byte : ℕ) (xs ys : List ℕ) → IsFree byte (xs ++ ys) → IsFree byte xs
 free_left byte [] ys h = tt
@@ -63,7 +68,7 @@ entry_line e =
     ∙ ap (λ (x : List ℕ). decimal e.process ++ SPACE ∷ x) (all ∙ sym (append_assoc (line_of command) (codes " = ") (line_of reply)))
 
 pub free_command : (c : Command) → FitsCommand c → IsFree EQUALS (line_of (command_words c))
-free_command c fits = line_free (command_words c) (command_plain c fits)
+free_command c fits = line_free EQUALS (λ e. cc) (command_words c) (plain_words_free (command_words c) (command_plain c fits))
 
 -- the number before the first space is the entry's process, and what stands behind it the entry's two sides
 pub sides_of : (line rest : List ℕ) (n : ℕ) (e : Entry) → FitsEntry e → FitsNumber n → line ≡ decimal n ++ SPACE ∷ rest → line ≡ line_of (entry_words e) → (n ≡ e.process) × (rest ≡ sides_text e)

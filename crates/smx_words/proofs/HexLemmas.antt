@@ -60,7 +60,8 @@ are_bytes (b ∷ bs) h (suc i) = are_bytes bs h.1 i
 pub ok_same : {A : Type 0} (x y : A) → ◌≡◌ {A = Result A FromHexError} (Ok x) (Ok y) → x ≡ y
 ok_same x y e = cc e
 
-long : (b : ℕ) (bs : List ℕ) → 1 < length (encode_lower (b ∷ bs))
+-- a byte has two digits
+pub long : (b : ℕ) (bs : List ℕ) → 1 < length (encode_lower (b ∷ bs))
 unfolding encode_with
 long b bs = omega arith
 
@@ -79,7 +80,8 @@ encoded_digits (b ∷ bs) h =
     let z = digit_range (b % 16) low in
     rw (digit_is (b / 16) high, digit_is (b % 16) low, a.3, z.3, encoded_digits bs h.1) refl
 
-encode_push : (bs : List ℕ) (b : ℕ) → encode_lower (bs ++ b ∷ []) ≡ encode_lower bs ++ slice_index lower_digits (b / 16) ∷ slice_index lower_digits (b % 16) ∷ []
+-- one byte more behind others
+pub encode_push : (bs : List ℕ) (b : ℕ) → encode_lower (bs ++ b ∷ []) ≡ encode_lower bs ++ slice_index lower_digits (b / 16) ∷ slice_index lower_digits (b % 16) ∷ []
 unfolding encode_with
 encode_push [] b = refl
 encode_push (a ∷ bs) b = rw (encode_push bs b) refl

@@ -1,9 +1,8 @@
--- What all spellings have: they are words, they are told apart by their lines, and so are the values.
-use Rattle.std.proofs.Common.{◌≡◌, ℕ, ◌≤◌, List, [], ◌∷◌, ◌++◌, length, refl, sym, ap, arith, rules}
+-- What all spellings have: they are words, and the values are told apart by their lines.
+use Rattle.std.proofs.Common.{◌≡◌, ℕ, List, [], ◌∷◌, ◌++◌, refl, arith, rules}
 use Rattle.std.specs.List.{AllByRecursion}
 use Rattle.std.specs.Prelude.{codes}
 use Rattle.std.specs.Fmt.{decimal}
-use Rattle.std.proofs.lemmas.List.{length-append}
 use Rattle.smx_types.specs.declared.command.Command.{Command}
 use Rattle.smx_types.specs.declared.command.Entry.{Entry}
 use Rattle.smx_types.specs.declared.driver.DriverKind.{DriverKind}
@@ -23,25 +22,16 @@ use Rattle.smx_types.specs.declared.view.RouteLine.{RouteLine}
 use Rattle.smx_words.specs.HexWords.{hex_word}
 use Rattle.smx_words.specs.Spellable.{FitsBinding, FitsBytes, FitsCommand, FitsDescriptor, FitsDriver, FitsEntry, FitsFull, FitsLink, FitsMessage, FitsName, FitsNext, FitsNumber, FitsProcess, FitsReply, FitsRoute}
 use Rattle.smx_words.specs.Spelling.{bind_words, command_words, descriptor_words, driver_words, entry_words, full_words, kind_word, link_kind_word, link_words, message_words, next_words, process_words, reply_words, route_words, side_word}
-use Rattle.smx_words.specs.Words.{AreWords, IsFree, IsWord, SPACE, line_of}
-use Rattle.smx_words.proofs.CutLemmas.{apart, no_space_in}
+use Rattle.smx_words.specs.Words.{AreWords, IsWord, line_of}
 use Rattle.smx_words.proofs.EntryLemmas.{each_side, entry_line, free_command, sides_of, sides_text}
-use Rattle.smx_words.proofs.PlainLemmas.{IsPlain, IsPlainByte, command_plain, hex_plain, name_plain, number_plain, reply_plain, some_command, some_reply}
-use Rattle.smx_words.proofs.SameLemmas.{same_bytes, same_command, same_kind, same_link_kind, same_reply, same_side}
+use Rattle.smx_words.proofs.PlainLemmas.{command_plain, hex_plain, name_plain, number_plain, plain_word, plain_words, reply_plain, some_command, some_reply}
+use Rattle.smx_words.proofs.LineLemmas.{same_words}
+use Rattle.smx_words.proofs.SameWordLemmas.{same_bytes, same_kind, same_link_kind, same_side}
+use Rattle.smx_words.proofs.SameCommandLemmas.{same_command}
+use Rattle.smx_words.proofs.SameReplyLemmas.{same_reply}
 use Rattle.smx_words.proofs.NumberLemmas.{same_number}
 
 -- ---- spellings are words
-
-seen : (w : List ℕ) → AllByRecursion IsPlainByte w → AllByRecursion (λ b. (0x21 ≤ b) × (b ≤ 0x7E)) w
-seen [] h = tt
-seen (b ∷ w) h = ((h.0.0, h.0.1), seen w h.1)
-
-plain_word : (w : List ℕ) → IsPlain w → IsWord w
-plain_word w h = (h.0, seen w h.1)
-
-plain_words : (ws : List (List ℕ)) → AllByRecursion IsPlain ws → AllByRecursion IsWord ws
-plain_words [] h = tt
-plain_words (w ∷ ws) h = (plain_word w h.0, plain_words ws h.1)
 
 number_word : (n : ℕ) → FitsNumber n → IsWord (decimal n)
 number_word n h = plain_word (decimal n) (number_plain n h)
@@ -113,29 +103,7 @@ message_spelled m fits =
 pub full_spelled : (f : FullLine) → FitsFull f → AreWords (full_words f)
 full_spelled f fits = ((search rules, (name_word f.driver fits.driver, (number_word f.minor fits.minor, (side_is_word f.side, tt)))), omega arith)
 
--- ---- lines tell words apart
-
-seen_free : (w : List ℕ) → AllByRecursion (λ b. (0x21 ≤ b) × (b ≤ 0x7E)) w → IsFree SPACE w
-seen_free [] h = tt
-seen_free (b ∷ w) h = (λ e. omega (arith, h.0.0, e), seen_free w h.1)
-
-some_line : (w : List ℕ) (ws : List (List ℕ)) → IsWord w → line_of (w ∷ ws) ≡ [] → ⊥
-some_line w [] h e = omega (arith, h.0, ap (length {A = ℕ}) e)
-some_line w (v ∷ ws) h e = omega (arith, h.0, ap (length {A = ℕ}) e, length-append w (SPACE ∷ line_of (v ∷ ws)))
-
-pub same_words : (ws vs : List (List ℕ)) → AllByRecursion IsWord ws → AllByRecursion IsWord vs → line_of ws ≡ line_of vs → ws ≡ vs
-same_words [] [] h k e = refl
-same_words [] (v ∷ vs) h k e = absurd (some_line v vs k.0 (sym e))
-same_words (w ∷ ws) [] h k e = absurd (some_line w ws h.0 e)
-same_words (w ∷ []) (v ∷ []) h k e = ap (λ (x : List ℕ). x ∷ []) e
-same_words (w ∷ []) (v ∷ u ∷ vs) h k e = absurd (no_space_in v (line_of (u ∷ vs)) w (seen_free w h.0.1) (sym e))
-same_words (w ∷ u ∷ ws) (v ∷ []) h k e = absurd (no_space_in w (line_of (u ∷ ws)) v (seen_free v k.0.1) e)
-same_words (w ∷ u ∷ ws) (v ∷ t ∷ vs) h k e =
-    let first = apart SPACE w v (line_of (u ∷ ws)) (line_of (t ∷ vs)) (seen_free w h.0.1) (seen_free v k.0.1) e in
-    let more = same_words (u ∷ ws) (t ∷ vs) h.1 k.1 first.1 in
-    cc (first.0, more)
-
--- ---- and so values
+-- ---- lines tell values apart
 
 pub one_command : (c d : Command) → FitsCommand c → FitsCommand d → line_of (command_words c) ≡ line_of (command_words d) → c ≡ d
 one_command c d h k e = same_command c d h k (same_words (command_words c) (command_words d) (command_spelled c h).0 (command_spelled d k).0 e)

@@ -1,5 +1,5 @@
 -- The words of values are of bytes that can be seen, and none but an entry's has an equals sign.
-use Rattle.std.proofs.Common.{◌≡◌, ◌≢◌, ℕ, ◌/◌, ◌%◌, ◌<◌, ◌≤◌, Bool, true, false, ◌&&◌, List, [], ◌∷◌, ◌++◌, length, map, arith, rules}
+use Rattle.std.proofs.Common.{◌≡◌, ◌≢◌, ℕ, ◌/◌, ◌%◌, ◌<◌, ◌≤◌, Bool, true, false, ◌&&◌, List, [], ◌∷◌, length, map, arith, rules}
 use Rattle.std.specs.List.{list_all, AllByRecursion}
 use Rattle.std.specs.Fmt.{decimal}
 use Rattle.std.specs.Str.{all_ascii_digits}
@@ -20,8 +20,8 @@ use Rattle.smx_types.specs.declared.reply.Reply.TheVariants as reply
 use Rattle.smx_words.specs.HexWords.{hex_word}
 use Rattle.smx_words.specs.Spellable.{FitsBytes, FitsCommand, FitsName, FitsNumber, FitsReply, FitsWhich}
 use Rattle.smx_words.specs.Spelling.{command_words, fault_words, reply_words, which_word, sides_word}
-use Rattle.smx_words.specs.Words.{EQUALS, IsFree, line_of}
-use Rattle.smx_words.proofs.HexLemmas.{digit, digit_is, digit_range}
+use Rattle.smx_words.specs.Words.{EQUALS, IsFree, IsWord}
+use Rattle.smx_words.proofs.HexLemmas.{digit, digit_is, digit_range, long}
 use Rattle.smx_words.proofs.NumberLemmas.{decimal_digits}
 
 -- a byte that can be seen, and no equals sign
@@ -77,13 +77,9 @@ encoded_plain (b ∷ bs) h =
     let low : b % 16 < 16 = omega arith in
     rw (digit_is (b / 16) high, digit_is (b % 16) low) (digit_plain (b / 16) high, (digit_plain (b % 16) low, encoded_plain bs h.1))
 
-some_digits : (b : ℕ) (bs : List ℕ) → 0 < length (encode_lower (b ∷ bs))
-unfolding encode_with
-some_digits b bs = omega arith
-
 pub hex_plain : (bs : List ℕ) → FitsBytes bs → IsPlain (hex_word bs)
 hex_plain [] fits = search rules
-hex_plain (b ∷ bs) fits = (some_digits b bs, encoded_plain (b ∷ bs) fits)
+hex_plain (b ∷ bs) fits = (omega (arith, long b bs), encoded_plain (b ∷ bs) fits)
 
 -- ---- commands and replies
 
@@ -165,20 +161,23 @@ some_reply (reply.Got n m bs) = omega arith
 some_reply (reply.Done ns) = omega arith
 some_reply (reply.Fault f) = (fault_plain f).0
 
--- ---- so no equals sign stands in their lines
+-- ---- so they are words, and no equals sign stands in their lines
+
+seen : (w : List ℕ) → AllByRecursion IsPlainByte w → AllByRecursion (λ b. (0x21 ≤ b) × (b ≤ 0x7E)) w
+seen [] h = tt
+seen (b ∷ w) h = ((h.0.0, h.0.1), seen w h.1)
+
+pub plain_word : (w : List ℕ) → IsPlain w → IsWord w
+plain_word w h = (h.0, seen w h.1)
+
+pub plain_words : (ws : List (List ℕ)) → AllByRecursion IsPlain ws → AllByRecursion IsWord ws
+plain_words [] h = tt
+plain_words (w ∷ ws) h = (plain_word w h.0, plain_words ws h.1)
 
 plain_free : (w : List ℕ) → AllByRecursion IsPlainByte w → IsFree EQUALS w
 plain_free [] h = tt
 plain_free (b ∷ w) h = (h.0.2, plain_free w h.1)
 
-pub free_append : (byte : ℕ) (xs ys : List ℕ) → IsFree byte xs → IsFree byte ys → IsFree byte (xs ++ ys)
-free_append byte [] ys h k = k
-free_append byte (x ∷ xs) ys h k = (h.0, free_append byte xs ys h.1 k)
-
-pub space_free : IsFree EQUALS (32 ∷ [])
-space_free = search rules
-
-pub line_free : (ws : List (List ℕ)) → AllByRecursion IsPlain ws → IsFree EQUALS (line_of ws)
-line_free [] h = tt
-line_free (w ∷ []) h = plain_free w h.0.1
-line_free (w ∷ v ∷ ws) h = free_append EQUALS w (32 ∷ line_of (v ∷ ws)) (plain_free w h.0.1) (space_free.0, line_free (v ∷ ws) h.1)
+pub plain_words_free : (ws : List (List ℕ)) → AllByRecursion IsPlain ws → AllByRecursion (IsFree EQUALS) ws
+plain_words_free [] h = tt
+plain_words_free (w ∷ ws) h = (plain_free w h.0.1, plain_words_free ws h.1)

@@ -1,5 +1,5 @@
 use Rattle.std.proofs.Common.{append_assoc}
-use Rattle.smx_words.proofs.WritingLemmas.{entry_line}
+use Rattle.smx_words.proofs.EntryLemmas.{entry_line}
 use Rattle.smx_words.proofs.writing.entry.EntrySpell.write_line.Goals as goal
 
 pub returns-clause-written : goal.returns-clause-written
