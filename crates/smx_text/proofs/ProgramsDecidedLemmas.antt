@@ -29,7 +29,11 @@ use Rattle.smx_words.proofs.DecidedLineLemmas.{driver_reading, process_reading}
 stands_or_not : (v : ProgramLists) (k : Line) → MayStand v k ⊎ (MayStand v k → ⊥)
 stands_or_not v (line.Driver d) = cases_eq (length v.programs) 0
 stands_or_not v (line.Process n) = cases_eq n (length v.programs)
-stands_or_not v (line.Command c) = elim (cases_lt 0 (length v.programs)) [ inl some ↦ inl some | inr none ↦ inr (λ some. omega (arith, some, none)) ]
+stands_or_not v (line.Command c) =
+    elim (cases_lt 0 (length v.programs)) [
+      | inl some ↦ inl some
+      | inr none ↦ inr (λ some. omega (arith, some, none))
+    ]
 stands_or_not v line.End = inl tt
 
 room_or_many : (v : ProgramLists) (k : Line) → k ≢ line.End → HasRoom v k ⊎ AreMany v k
@@ -42,7 +46,8 @@ begun_by : (v : ProgramLists) → IsAllowed v → IsBegun programs_grammar (body
 begun_by v allowed = (v, [], allowed, sym (append-nil (body v)))
 
 -- a line that was read
-judged : (v : ProgramLists) → IsAllowed v → (k : Line) (text : List ℕ) → k ≢ line.End → FitsLine k → text ≡ line_text programs_grammar k → Decision programs_grammar (body v) text
+judged : (v : ProgramLists) → IsAllowed v → (k : Line) (text : List ℕ) → k ≢ line.End → FitsLine k
+    → text ≡ line_text programs_grammar k → Decision programs_grammar (body v) text
 judged v allowed k text other fits is = elim (stands_or_not v k) [
   | inr misplaced_there ↦ inr (inl (refused_line (body v) k text fits is cause.Form (misplaced v k misplaced_there)))
   | inl may ↦ elim (room_or_many v k other) [
@@ -51,17 +56,21 @@ judged v allowed k text other fits is = elim (stands_or_not v k) [
   ]
 ]
 
-module _ (v : ProgramLists) (allowed : IsAllowed v) (text : List ℕ) (other : text ≢ line_text programs_grammar line.End) where
-  by_process : ((c : Command) → FitsCommand c → text ≢ line_of (command_words c)) → ((d : DriverSpec) → FitsDriver d → text ≢ line_of (driver_words d))
+module _ (v : ProgramLists) (allowed : IsAllowed v) (text : List ℕ)
+    (other : text ≢ line_text programs_grammar line.End) where
+  by_process : ((c : Command) → FitsCommand c → text ≢ line_of (command_words c))
+      → ((d : DriverSpec) → FitsDriver d → text ≢ line_of (driver_words d))
       → (o : Option ℕ) → IsReadAs FitsNumber process_words text o → Decision programs_grammar (body v) text
   by_process commands drivers None none = inr (inl (no_line (body v) text commands drivers none other))
   by_process commands drivers (Some n) (fits, is) = judged v allowed (line.Process n) text (λ e. cc) fits is
 
-  by_driver : ((c : Command) → FitsCommand c → text ≢ line_of (command_words c)) → (o : Option DriverSpec) → IsReadAs FitsDriver driver_words text o → Decision programs_grammar (body v) text
+  by_driver : ((c : Command) → FitsCommand c → text ≢ line_of (command_words c)) → (o : Option DriverSpec)
+      → IsReadAs FitsDriver driver_words text o → Decision programs_grammar (body v) text
   by_driver commands None none = let p = process_reading text in by_process commands none p.0 p.1
   by_driver commands (Some d) (fits, is) = judged v allowed (line.Driver d) text (λ e. cc) fits is
 
-  by_command : (o : Option Command) → IsReadAs FitsCommand command_words text o → Decision programs_grammar (body v) text
+  by_command : (o : Option Command) → IsReadAs FitsCommand command_words text o
+      → Decision programs_grammar (body v) text
   by_command None none = let d = driver_reading text in by_driver none d.0 d.1
   by_command (Some c) (fits, is) = judged v allowed (line.Command c) text (λ e. cc) fits is
 
@@ -77,7 +86,15 @@ decides lines begun text =
     subst (λ (ls : List Line). Decision programs_grammar ls text) own.2 (behind own.0 own.1 text)
 
 pub nothing_begun : IsBegun programs_grammar []
-nothing_begun = (program_lists [] [], [], record { within = record { drivers = omega arith; programs = omega arith; commands = omega arith }; fits = tt }, refl)
+nothing_begun = (
+  program_lists [] [],
+  [],
+  record {
+    within = record { drivers = omega arith; programs = omega arith; commands = omega arith };
+    fits = tt;
+  },
+  refl,
+)
 
 pub programs_have_reading : (bytes : List ℕ) → HasReading programs_grammar bytes
 programs_have_reading bytes = has_reading programs_grammar well_made decides nothing_begun bytes

@@ -96,7 +96,8 @@ module _ {V K : Type 0} (g : Grammar V K) where
 
   -- nothing, or what some allowed value begins with; then this line comes
   abbrev pub Begins : List ℕ → ℕ → Type 0
-  Begins before number = ((before ≡ []) × (number ≡ 1)) ⊎ ((lines : List K) × IsBegun lines × (before ≡ beginning lines) × (number ≡ length lines + 2))
+  Begins before number = ((before ≡ []) × (number ≡ 1))
+      ⊎ ((lines : List K) × IsBegun lines × (before ≡ beginning lines) × (number ≡ length lines + 2))
 
   -- What stands at line `number` of a text that goes wrong there. Lines are numbered from 1.
   --   Header: the first line is whole, and is not the header
@@ -107,12 +108,16 @@ module _ {V K : Type 0} (g : Grammar V K) where
   --   NoMemory: a line with which some allowed value goes on, so that no other cause stands there or before
   abbrev pub IsFault : List ℕ → ℕ → Cause → Type 0
   IsFault bytes number cause.Header = (text : List ℕ) × HasNext bytes [] text × (text ≢ header) × (number ≡ 1)
-  IsFault bytes number cause.Form = (lines : List K) × (text : List ℕ) × Reaches bytes lines text number × IsNoLine lines text
-  IsFault bytes number cause.Many = (lines : List K) × (text : List ℕ) × Reaches bytes lines text number × IsOneTooMany lines text
-  IsFault bytes number cause.Cut = (before last : List ℕ) × Begins before number × IsOneLine last × (bytes ≡ before ++ last)
+  IsFault bytes number cause.Form = (lines : List K) × (text : List ℕ) × Reaches bytes lines text number
+      × IsNoLine lines text
+  IsFault bytes number cause.Many = (lines : List K) × (text : List ℕ) × Reaches bytes lines text number
+      × IsOneTooMany lines text
+  IsFault bytes number cause.Cut = (before last : List ℕ) × Begins before number × IsOneLine last
+      × (bytes ≡ before ++ last)
   IsFault bytes number cause.Trailing = (v : V) × (byte : ℕ) × (more : List ℕ) × g.IsAllowed v
       × (bytes ≡ full_text v ++ byte ∷ more) × (number ≡ length (g.body v) + 3)
-  IsFault bytes number cause.NoMemory = (lines : List K) × (text : List ℕ) × Reaches bytes lines text number × IsOneMore lines text
+  IsFault bytes number cause.NoMemory = (lines : List K) × (text : List ℕ) × Reaches bytes lines text number
+      × IsOneMore lines text
 
   -- what a reader may answer: the value that the bytes spell, or the first line at fault
   abbrev pub Reads : List ℕ → Result V TextFault → Type 0

@@ -27,7 +27,8 @@ module _ {V K : Type 0} (g : Grammar V K) where
   EndsText lines after number (Ok v) = g.IsAllowed v × (g.body v ≡ lines) × (length after ≡ 0)
   EndsText lines after number (Err f) =
       (IsNoLine g lines (line_text g g.end) × (f ≡ record { line = number; cause = cause.Form }))
-      ⊎ ((v : V) × g.IsAllowed v × (g.body v ≡ lines) × (0 < length after) × (f ≡ record { line = number + 1; cause = cause.Trailing }))
+      ⊎ ((v : V) × g.IsAllowed v × (g.body v ≡ lines) × (0 < length after)
+      × (f ≡ record { line = number + 1; cause = cause.Trailing }))
 
   -- ---- a line that was read
 

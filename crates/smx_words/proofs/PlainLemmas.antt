@@ -1,5 +1,6 @@
 -- The words of values are of bytes that can be seen, and none but an entry's has an equals sign.
-use Rattle.std.proofs.Common.{◌≡◌, ◌≢◌, ℕ, ◌/◌, ◌%◌, ◌<◌, ◌≤◌, Bool, true, false, ◌&&◌, List, [], ◌∷◌, length, map, arith, rules}
+use Rattle.std.proofs.Common.{◌≡◌, ◌≢◌, ℕ, ◌/◌, ◌%◌, ◌<◌, ◌≤◌, Bool, true, false, ◌&&◌, List, [], ◌∷◌}
+use Rattle.std.proofs.Common.{length, map, arith, rules}
 use Rattle.std.specs.List.{list_all, AllByRecursion}
 use Rattle.std.specs.Fmt.{decimal}
 use Rattle.std.specs.Str.{all_ascii_digits}
@@ -34,7 +35,10 @@ IsPlain w = (0 < length w) × AllByRecursion IsPlainByte w
 
 digits_plain : (w : List ℕ) → all_ascii_digits w ≡ true → AllByRecursion IsPlainByte w
 digits_plain [] h = tt
-digits_plain (b ∷ w) h = ((grind (arith, nat_tests), grind (arith, nat_tests), λ e. no_sign b w e h), digits_plain w (grind (arith, nat_tests))) where
+digits_plain (b ∷ w) h = (
+  (grind (arith, nat_tests), grind (arith, nat_tests), λ e. no_sign b w e h),
+  digits_plain w (grind (arith, nat_tests)),
+) where
   no_sign : (b : ℕ) (w : List ℕ) → b ≡ 61 → all_ascii_digits (b ∷ w) ≡ true → ⊥
   no_sign b w e h = grind (arith, nat_tests)
 
@@ -43,7 +47,10 @@ number_plain n fits = (decimal_nonempty n (omega arith), digits_plain (decimal n
 
 name_bytes_plain : (w : List ℕ) → list_all is_name_byte w ≡ true → AllByRecursion IsPlainByte w
 name_bytes_plain [] h = tt
-name_bytes_plain (b ∷ w) h = ((grind (arith, nat_tests), grind (arith, nat_tests), λ e. no_sign b w e h), name_bytes_plain w (grind (arith, nat_tests))) where
+name_bytes_plain (b ∷ w) h = (
+  (grind (arith, nat_tests), grind (arith, nat_tests), λ e. no_sign b w e h),
+  name_bytes_plain w (grind (arith, nat_tests)),
+) where
   no_sign : (b : ℕ) (w : List ℕ) → b ≡ 61 → list_all is_name_byte (b ∷ w) ≡ true → ⊥
   no_sign b w e h = grind (arith, nat_tests)
 
@@ -75,7 +82,10 @@ encoded_plain (b ∷ bs) h =
     let small = h.0 in
     let high : b / 16 < 16 = omega arith in
     let low : b % 16 < 16 = omega arith in
-    rw (digit_is (b / 16) high, digit_is (b % 16) low) (digit_plain (b / 16) high, (digit_plain (b % 16) low, encoded_plain bs h.1))
+    rw (digit_is (b / 16) high, digit_is (b % 16) low) (
+      digit_plain (b / 16) high,
+      (digit_plain (b % 16) low, encoded_plain bs h.1),
+    )
 
 pub hex_plain : (bs : List ℕ) → FitsBytes bs → IsPlain (hex_word bs)
 hex_plain [] fits = search rules
@@ -95,12 +105,17 @@ command_plain (command.Unlink n x) fits = (search rules, (number_plain n fits.0,
 command_plain (command.Punlink n x) fits = (search rules, (number_plain n fits.0, (which_plain x fits.1, tt)))
 command_plain (command.Bind n m) fits = (search rules, (number_plain n fits.0, (number_plain m fits.1, tt)))
 command_plain (command.Unbind n) fits = (search rules, (number_plain n fits, tt))
-command_plain (command.Route n m k) fits = (search rules, (number_plain n fits.0, (number_plain m fits.1, (number_plain k fits.2, tt))))
+command_plain (command.Route n m k) fits =
+    (search rules, (number_plain n fits.0, (number_plain m fits.1, (number_plain k fits.2, tt))))
 command_plain (command.Unroute n m) fits = (search rules, (number_plain n fits.0, (number_plain m fits.1, tt)))
-command_plain (command.Write n m bs) fits = (search rules, (number_plain n fits.0, (number_plain m fits.1, (hex_plain bs fits.2, tt))))
+command_plain (command.Write n m bs) fits =
+    (search rules, (number_plain n fits.0, (number_plain m fits.1, (hex_plain bs fits.2, tt))))
 command_plain (command.Read n) fits = (search rules, (number_plain n fits, tt))
 command_plain (command.Flush n s) fits = (search rules, (number_plain n fits, (sides_plain s, tt)))
-command_plain (command.Inject d n m bs) fits = (search rules, (name_plain d fits.0, (number_plain n fits.1, (number_plain m fits.2, (hex_plain bs fits.3, tt)))))
+command_plain (command.Inject d n m bs) fits = (
+  search rules,
+  (name_plain d fits.0, (number_plain n fits.1, (number_plain m fits.2, (hex_plain bs fits.3, tt)))),
+)
 command_plain (command.Transmit d n) fits = (search rules, (name_plain d fits.0, (number_plain n fits.1, tt)))
 
 pub some_command : (c : Command) → 0 < length (command_words c)
@@ -149,7 +164,8 @@ pub reply_plain : (r : Reply) → FitsReply r → AllByRecursion IsPlain (reply_
 reply_plain (reply.Fd n m) fits = (search rules, (number_plain n fits.0, (number_plain m fits.1, tt)))
 reply_plain (reply.Id n) fits = (search rules, (number_plain n fits, tt))
 reply_plain (reply.Took n) fits = (search rules, (number_plain n fits, tt))
-reply_plain (reply.Got n m bs) fits = (search rules, (number_plain n fits.0, (number_plain m fits.1, (hex_plain bs fits.2, tt))))
+reply_plain (reply.Got n m bs) fits =
+    (search rules, (number_plain n fits.0, (number_plain m fits.1, (hex_plain bs fits.2, tt))))
 reply_plain (reply.Done ns) fits = (search rules, numbers_plain ns fits)
 reply_plain (reply.Fault f) fits = (fault_plain f).1
 

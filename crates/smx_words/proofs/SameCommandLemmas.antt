@@ -59,7 +59,8 @@ one_verb c d e =
     let both : verb_word (verb_of c) ∷ f.0 ≡ verb_word (verb_of d) ∷ g.0 = sym f.1 ∙ e ∙ g.1 in
     same_verb (verb_of c) (verb_of d) (cc both)
 
-by_verb : (c d : Command) → FitsCommand c → FitsCommand d → verb_of c ≡ verb_of d → command_words c ≡ command_words d → c ≡ d
+by_verb : (c d : Command) → FitsCommand c → FitsCommand d → verb_of c ≡ verb_of d
+    → command_words c ≡ command_words d → c ≡ d
 by_verb (command.OpenClone d) (command.OpenClone d') h k v e =
     let e_d : d ≡ d' = cc e in
     ap command.OpenClone e_d

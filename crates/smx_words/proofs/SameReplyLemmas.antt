@@ -27,7 +27,9 @@ reply_verb_of (reply.Fault f) = None
 -- the verb of a reply's first word
 abbrev verb_at : List (List ℕ) → Option ReplyVerb
 verb_at [] = None
-verb_at (w ∷ ws) = first_of_these reply_verb_word (reply_verb.Fd ∷ reply_verb.Id ∷ reply_verb.Took ∷ reply_verb.Got ∷ reply_verb.Done ∷ []) w
+verb_at (w ∷ ws) =
+    first_of_these reply_verb_word
+    (reply_verb.Fd ∷ reply_verb.Id ∷ reply_verb.Took ∷ reply_verb.Got ∷ reply_verb.Done ∷ []) w
 
 fault_verb : (f : Fault) → verb_at (fault_words f) ≡ None
 fault_verb fault.BadDescriptor = refl
@@ -55,7 +57,8 @@ verb_again (reply.Got n m bs) = refl
 verb_again (reply.Done ns) = refl
 verb_again (reply.Fault f) = fault_verb f
 
-same_numbers : (ns ms : List ℕ) → AllByRecursion FitsNumber ns → AllByRecursion FitsNumber ms → map decimal ns ≡ map decimal ms → ns ≡ ms
+same_numbers : (ns ms : List ℕ) → AllByRecursion FitsNumber ns → AllByRecursion FitsNumber ms
+    → map decimal ns ≡ map decimal ms → ns ≡ ms
 same_numbers [] [] h k e = refl
 same_numbers [] (m ∷ ms) h k e = absurd (cc e)
 same_numbers (n ∷ ns) [] h k e = absurd (cc e)
@@ -65,7 +68,8 @@ same_numbers (n ∷ ns) (m ∷ ms) h k e =
     let more = same_numbers ns ms h.1 k.1 (cc e) in
     cc (one, more)
 
-by_reply_verb : (r s : Reply) → FitsReply r → FitsReply s → reply_verb_of r ≡ reply_verb_of s → reply_words r ≡ reply_words s → r ≡ s
+by_reply_verb : (r s : Reply) → FitsReply r → FitsReply s → reply_verb_of r ≡ reply_verb_of s
+    → reply_words r ≡ reply_words s → r ≡ s
 by_reply_verb (reply.Fd n m) (reply.Fd n' m') h k v e =
     let w_n : decimal n ≡ decimal n' = cc e in
     let w_m : decimal m ≡ decimal m' = cc e in
@@ -73,9 +77,11 @@ by_reply_verb (reply.Fd n m) (reply.Fd n' m') h k v e =
     let e_m = same_number m m' h.1 k.1 w_m in
     cc (e_n, e_m)
 by_reply_verb (reply.Fd n m) s h k v e = absurd (cc v)
-by_reply_verb (reply.Id n) (reply.Id n') h k v e = let w : decimal n ≡ decimal n' = cc e in ap reply.Id (same_number n n' h k w)
+by_reply_verb (reply.Id n) (reply.Id n') h k v e = let w : decimal n ≡ decimal n' = cc e in
+    ap reply.Id (same_number n n' h k w)
 by_reply_verb (reply.Id n) s h k v e = absurd (cc v)
-by_reply_verb (reply.Took n) (reply.Took n') h k v e = let w : decimal n ≡ decimal n' = cc e in ap reply.Took (same_number n n' h k w)
+by_reply_verb (reply.Took n) (reply.Took n') h k v e = let w : decimal n ≡ decimal n' = cc e in
+    ap reply.Took (same_number n n' h k w)
 by_reply_verb (reply.Took n) s h k v e = absurd (cc v)
 by_reply_verb (reply.Got n m bs) (reply.Got n' m' bs') h k v e =
     let w_n : decimal n ≡ decimal n' = cc e in

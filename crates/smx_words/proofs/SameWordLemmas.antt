@@ -36,7 +36,9 @@ abbrev pub first_of_these : {X : Type 0} → (X → List ℕ) → List X → Lis
 first_of_these spelling [] bytes = None
 first_of_these spelling (x ∷ xs) bytes = cond (bytes_eq bytes (spelling x)) (Some x) (first_of_these spelling xs bytes)
 
-told : {X : Type 0} (spelling : X → List ℕ) (all : List X) → ((x : X) → first_of_these spelling all (spelling x) ≡ Some x) → (x y : X) → spelling x ≡ spelling y → x ≡ y
+told : {X : Type 0} (spelling : X → List ℕ) (all : List X)
+    → ((x : X) → first_of_these spelling all (spelling x) ≡ Some x) → (x y : X)
+    → spelling x ≡ spelling y → x ≡ y
 told spelling all found x y e = some_same x y (sym (found x) ∙ ap (first_of_these spelling all) e ∙ found y)
 
 abbrev all_kind : List DriverKind
@@ -81,7 +83,10 @@ pub same_sides : (x y : Sides) → sides_word x ≡ sides_word y → x ≡ y
 same_sides = told sides_word all_sides found_sides
 
 abbrev all_verb : List Verb
-all_verb = verb.Clone ∷ verb.Open ∷ verb.Dup ∷ verb.Close ∷ verb.Exit ∷ verb.Link ∷ verb.Plink ∷ verb.Unlink ∷ verb.Punlink ∷ verb.Bind ∷ verb.Unbind ∷ verb.Route ∷ verb.Unroute ∷ verb.Write ∷ verb.Read ∷ verb.Flush ∷ verb.Inject ∷ verb.Transmit ∷ []
+all_verb =
+    verb.Clone ∷ verb.Open ∷ verb.Dup ∷ verb.Close ∷ verb.Exit ∷ verb.Link ∷ verb.Plink ∷ verb.Unlink
+    ∷ verb.Punlink ∷ verb.Bind ∷ verb.Unbind ∷ verb.Route ∷ verb.Unroute ∷ verb.Write ∷ verb.Read
+    ∷ verb.Flush ∷ verb.Inject ∷ verb.Transmit ∷ []
 
 found_verb : (v : Verb) → first_of_these verb_word all_verb (verb_word v) ≡ Some v
 found_verb verb.Clone = refl
@@ -110,7 +115,11 @@ abbrev fault_line : Fault → List ℕ
 fault_line f = line_of (fault_words f)
 
 abbrev all_fault : List Fault
-all_fault = fault.BadDescriptor ∷ fault.Below ∷ fault.NotMux ∷ fault.AlreadyBelow ∷ fault.Cycle ∷ fault.TooManyLinks ∷ fault.NoLink ∷ fault.NoDriver ∷ fault.NoMinor ∷ fault.TooManyDescriptors ∷ fault.AddressInUse ∷ fault.Unbound ∷ fault.Unrouted ∷ fault.Full ∷ fault.Empty ∷ fault.BadSize ∷ []
+all_fault =
+    fault.BadDescriptor ∷ fault.Below ∷ fault.NotMux ∷ fault.AlreadyBelow ∷ fault.Cycle
+    ∷ fault.TooManyLinks ∷ fault.NoLink ∷ fault.NoDriver ∷ fault.NoMinor ∷ fault.TooManyDescriptors
+    ∷ fault.AddressInUse ∷ fault.Unbound ∷ fault.Unrouted ∷ fault.Full ∷ fault.Empty
+    ∷ fault.BadSize ∷ []
 
 found_fault : (f : Fault) → first_of_these fault_line all_fault (fault_line f) ≡ Some f
 found_fault fault.BadDescriptor = refl
@@ -137,12 +146,15 @@ same_fault = told fault_line all_fault found_fault
 
 pub same_which : (x y : Which) → FitsWhich x → FitsWhich y → which_word x ≡ which_word y → x ≡ y
 same_which (which.Id n) (which.Id m) h k e = ap which.Id (same_number n m h k e)
-same_which (which.Id n) which.All h k e = let bad : all_ascii_digits (codes "all") ≡ true = ap all_ascii_digits (sym e) ∙ decimal_digits n h in absurd (cc bad)
-same_which which.All (which.Id n) h k e = let bad : all_ascii_digits (codes "all") ≡ true = ap all_ascii_digits e ∙ decimal_digits n k in absurd (cc bad)
+same_which (which.Id n) which.All h k e = let bad : all_ascii_digits (codes "all") ≡ true =
+    ap all_ascii_digits (sym e) ∙ decimal_digits n h in absurd (cc bad)
+same_which which.All (which.Id n) h k e = let bad : all_ascii_digits (codes "all") ≡ true =
+    ap all_ascii_digits e ∙ decimal_digits n k in absurd (cc bad)
 same_which which.All which.All h k e = refl
 
 pub same_bytes : (bs cs : List ℕ) → FitsBytes bs → FitsBytes cs → hex_word bs ≡ hex_word cs → bs ≡ cs
 same_bytes [] cs h k e = sym (dash cs (sym e))
 same_bytes (b ∷ bs) [] h k e = dash (b ∷ bs) e
 same_bytes (b ∷ bs) (c ∷ cs) h k e =
-    ok_same (b ∷ bs) (c ∷ cs) (sym (decode_of-encode_lower (b ∷ bs) (are_bytes (b ∷ bs) h)) ∙ ap decode_of e ∙ decode_of-encode_lower (c ∷ cs) (are_bytes (c ∷ cs) k))
+    ok_same (b ∷ bs) (c ∷ cs) (sym (decode_of-encode_lower (b ∷ bs) (are_bytes (b ∷ bs) h)) ∙ ap decode_of e
+    ∙ decode_of-encode_lower (c ∷ cs) (are_bytes (c ∷ cs) k))

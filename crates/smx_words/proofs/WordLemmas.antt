@@ -55,7 +55,13 @@ verb_free verb.Inject fits = search rules
 verb_free verb.Transmit fits = search rules
 
 -- the name before the first space, and no other
-pub first_name_is : (text word rest name : List ℕ) → IsFree SPACE word → text ≡ word ++ SPACE ∷ rest → FitsName name → word ≡ name
-    → FitsName name × (text ≡ name ++ SPACE ∷ rest) × ((x : List ℕ) (after : List ℕ) → FitsName x → text ≡ x ++ SPACE ∷ after → after ≡ rest)
-first_name_is text word rest name free is fits same =
-    (fits, is ∙ ap (λ (w : List ℕ). w ++ SPACE ∷ rest) same, λ x after h e. (apart SPACE x word after rest (name_free x h) free (sym e ∙ is)).1)
+pub first_name_is : (text word rest name : List ℕ) → IsFree SPACE word → text ≡ word ++ SPACE ∷ rest
+    → FitsName name → word ≡ name
+    → FitsName name × (text ≡ name ++ SPACE ∷ rest)
+    × ((x : List ℕ) (after : List ℕ) → FitsName x → text ≡ x ++ SPACE ∷ after → after ≡ rest)
+first_name_is text word rest name free is fits same = (
+  fits,
+  is ∙ ap (λ (w : List ℕ). w ++ SPACE ∷ rest) same,
+  λ x after h e.
+      (apart SPACE x word after rest (name_free x h) free (sym e ∙ is)).1,
+)

@@ -1,5 +1,6 @@
 -- What is written piece by piece, as one line.
-use Rattle.std.proofs.Common.{◌≡◌, ℕ, ◌+◌, ◌/◌, ◌%◌, ◌^◌, ◌<◌, ◌≤◌, List, [], ◌∷◌, ◌++◌, length, get_or, slice_index, take, map, sym, ap, ◌∙◌, arith}
+use Rattle.std.proofs.Common.{◌≡◌, ℕ, ◌+◌, ◌/◌, ◌%◌, ◌^◌, ◌<◌, ◌≤◌, List, [], ◌∷◌, ◌++◌, length, get_or}
+use Rattle.std.proofs.Common.{slice_index, take, map, sym, ap, ◌∙◌, arith}
 use Rattle.std.proofs.lemmas.Fmt.{decimal_digit, decimal_step}
 use Rattle.std.proofs.lemmas.List.{append-nil, take_more}
 use Rattle.std.specs.Fmt.{decimal}
@@ -20,12 +21,14 @@ decimal_one n most = decimal_digit n most ∙ ap (λ (d : ℕ). (48 + d) ∷ [])
 
 -- the last digit behind the others
 one_more : (n : ℕ) (ds : List ℕ) → 10 ≤ n → n < 2 ^ 32 → decimal (n / 10) ≡ ds → decimal n ≡ ds ++ (48 + n % 10) ∷ []
-one_more n ds least most before = decimal_step n least (omega arith) ∙ ap (λ (l : List ℕ). l ++ (48 + n % 10) ∷ []) before
+one_more n ds least most before = decimal_step n least (omega arith)
+    ∙ ap (λ (l : List ℕ). l ++ (48 + n % 10) ∷ []) before
 
 pub decimal_two : (n : ℕ) → 10 ≤ n → n < 100 → decimal n ≡ (48 + n / 10 % 10) ∷ (48 + n % 10) ∷ []
 decimal_two n least most = one_more n _ least (omega arith) (decimal_one (n / 10) (omega arith))
 
-pub decimal_three : (n : ℕ) → 100 ≤ n → n < 1000 → decimal n ≡ (48 + n / 100 % 10) ∷ (48 + n / 10 % 10) ∷ (48 + n % 10) ∷ []
+pub decimal_three : (n : ℕ) → 100 ≤ n → n < 1000
+    → decimal n ≡ (48 + n / 100 % 10) ∷ (48 + n / 10 % 10) ∷ (48 + n % 10) ∷ []
 decimal_three n least most =
     let hundreds : n / 10 / 10 ≡ n / 100 = omega arith in
     rw (← hundreds) (one_more n _ (omega arith) (omega arith) (decimal_two (n / 10) (omega arith) (omega arith)))
@@ -35,18 +38,22 @@ pub decimal_four : (n : ℕ) → 1000 ≤ n → n < 10000
 decimal_four n least most =
     let hundreds : n / 10 / 10 ≡ n / 100 = omega arith in
     let thousands : n / 10 / 100 ≡ n / 1000 = omega arith in
-    rw (← hundreds, ← thousands) (one_more n _ (omega arith) (omega arith) (decimal_three (n / 10) (omega arith) (omega arith)))
+    rw (← hundreds, ← thousands) (one_more n _ (omega arith) (omega arith)
+    (decimal_three (n / 10) (omega arith) (omega arith)))
 
 pub decimal_five : (n : ℕ) → 10000 ≤ n → n < 100000
-    → decimal n ≡ (48 + n / 10000 % 10) ∷ (48 + n / 1000 % 10) ∷ (48 + n / 100 % 10) ∷ (48 + n / 10 % 10) ∷ (48 + n % 10) ∷ []
+    → decimal n
+    ≡ (48 + n / 10000 % 10) ∷ (48 + n / 1000 % 10) ∷ (48 + n / 100 % 10) ∷ (48 + n / 10 % 10) ∷ (48 + n % 10) ∷ []
 decimal_five n least most =
     let hundreds : n / 10 / 10 ≡ n / 100 = omega arith in
     let thousands : n / 10 / 100 ≡ n / 1000 = omega arith in
     let many : n / 10 / 1000 ≡ n / 10000 = omega arith in
-    rw (← hundreds, ← thousands, ← many) (one_more n _ (omega arith) (omega arith) (decimal_four (n / 10) (omega arith) (omega arith)))
+    rw (← hundreds, ← thousands, ← many) (one_more n _ (omega arith) (omega arith)
+    (decimal_four (n / 10) (omega arith) (omega arith)))
 
 -- ---- bytes as hex digits
 
 pub encode_more : (bs : List ℕ) (i : ℕ) → i < length bs
-    → encode_lower (take (i + 1) bs) ≡ encode_lower (take i bs) ++ slice_index lower_digits (get_or bs i 0 / 16) ∷ slice_index lower_digits (get_or bs i 0 % 16) ∷ []
+    → encode_lower (take (i + 1) bs) ≡ encode_lower (take i bs)
+    ++ slice_index lower_digits (get_or bs i 0 / 16) ∷ slice_index lower_digits (get_or bs i 0 % 16) ∷ []
 encode_more bs i lt = ap encode_lower (take_more bs i 0 lt) ∙ encode_push (take i bs) (get_or bs i 0)

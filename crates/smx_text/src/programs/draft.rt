@@ -10,7 +10,8 @@ ghost use Rattle.smx_words.specs.Spelling.{command_words};
 ghost use Rattle.smx_words.specs.Spellable.{FitsNumber, FitsDriver, FitsCommand};
 ghost use Rattle.smx_text.specs.Grammar.{IsBegun, Continues, line_text};
 ghost use Rattle.smx_text.specs.Reading.{Refuses, AddsLine, RefusesLine, EndsAs};
-ghost use Rattle.smx_text.specs.ProgramLines.{Driver as DriverLine, Process as ProcessLine, Command as CommandLine, End};
+ghost use Rattle.smx_text.specs.ProgramLines.{Driver as DriverLine, Process as ProcessLine};
+ghost use Rattle.smx_text.specs.ProgramLines.{Command as CommandLine, End};
 ghost use Rattle.smx_text.specs.ProgramsText.{body, programs_grammar};
 
 use crate::fault::Cause;
@@ -157,7 +158,8 @@ impl ProgramsDraft {
     // Why a command is refused for which there is no memory.
     fn command_unread(&self) -> Cause
         requires begun { IsBegun programs_grammar (body self.now) }
-        ensures { (c : AnyCommand) → FitsCommand c → RefusesLine programs_grammar (body self.now) (CommandLine c) result }
+        ensures { (c : AnyCommand) → FitsCommand c
+            → RefusesLine programs_grammar (body self.now) (CommandLine c) result }
     {
         match self.room_for_command() {
             Ok(()) => Cause::NoMemory,
@@ -169,7 +171,8 @@ impl ProgramsDraft {
     fn room_for_command(&self) -> Result<(), Cause>
         ensures some { OnOk result (0 < length self.now.programs) }
         ensures few { OnOk result (sum_by length self.now.programs < MAX_COMMANDS) }
-        ensures refused { IfErr result (λ why. (c : AnyCommand) → RefusesLine programs_grammar (body self.now) (CommandLine c) why) }
+        ensures refused { IfErr result (λ why. (c : AnyCommand)
+            → RefusesLine programs_grammar (body self.now) (CommandLine c) why) }
     {
         if self.programs.is_empty() {
             return Err(Cause::Form);

@@ -9,7 +9,8 @@ ghost use Rattle.smx_words.specs.Spellable.{FitsDriver, FitsEntry, FitsDescripto
 ghost use Rattle.smx_words.specs.Spellable.{FitsRoute, FitsMessage, FitsFull, FitsNext};
 ghost use Rattle.smx_text.specs.Grammar.{IsBegun, Continues, line_text};
 ghost use Rattle.smx_text.specs.Reading.{Refuses, AddsLine, RefusesLine};
-ghost use Rattle.smx_text.specs.Drafts.{lines, takes_fds, takes_links, takes_binds, takes_routes, takes_msgs, takes_fulls};
+ghost use Rattle.smx_text.specs.Drafts.{lines, takes_fds, takes_links, takes_binds, takes_routes, takes_msgs};
+ghost use Rattle.smx_text.specs.Drafts.{takes_fulls};
 ghost use Rattle.smx_text.specs.declared.transcript.draft.Stage.TheVariants.{History};
 ghost use Rattle.smx_types.specs.declared.limits.TheConstants.{MAX_COMMANDS};
 ghost use Rattle.smx_types.specs.declared.driver.DriverSpec.{DriverSpec as AnyDriver};
@@ -192,7 +193,8 @@ impl TranscriptDraft {
     fn add_driver(&mut self, driver: DriverSpec) -> Result<(), Cause>
         requires begun { IsBegun transcript_grammar (lines self.old) }
         requires fits { FitsDriver driver }
-        ensures added { OnOk result (AddsLine transcript_grammar (lines self.old) (DriverLine driver) (lines self.new)) }
+        ensures added { OnOk result
+            (AddsLine transcript_grammar (lines self.old) (DriverLine driver) (lines self.new)) }
         ensures refused { IfErr result (RefusesLine transcript_grammar (lines self.old) (DriverLine driver)) }
     {
         if self.stage != Stage::History || !self.transcript.entries.as_slice().is_empty() {
@@ -231,7 +233,8 @@ impl TranscriptDraft {
     fn room_for_entry(&self) -> Result<(), Cause>
         ensures history { OnOk result (self.now.stage ≡ History) }
         ensures few { OnOk result (length self.now.transcript.entries < MAX_COMMANDS) }
-        ensures refused { IfErr result (λ why. (e : AnyEntry) → RefusesLine transcript_grammar (lines self.now) (EntryLine e) why) }
+        ensures refused { IfErr result (λ why. (e : AnyEntry)
+            → RefusesLine transcript_grammar (lines self.now) (EntryLine e) why) }
     {
         if self.stage != Stage::History {
             return Err(Cause::Form);
@@ -258,8 +261,10 @@ impl TranscriptDraft {
     // The view begins with what comes next.
     fn add_next(&mut self, alloc: Global, next_id: u32, next_serial: u32) -> Result<(), Cause>
         requires begun { IsBegun transcript_grammar (lines self.old) }
-        ensures added { OnOk result (AddsLine transcript_grammar (lines self.old) (NextLine next_id next_serial) (lines self.new)) }
-        ensures refused { IfErr result (RefusesLine transcript_grammar (lines self.old) (NextLine next_id next_serial)) }
+        ensures added { OnOk result
+            (AddsLine transcript_grammar (lines self.old) (NextLine next_id next_serial) (lines self.new)) }
+        ensures refused { IfErr result
+            (RefusesLine transcript_grammar (lines self.old) (NextLine next_id next_serial)) }
     {
         if self.stage != Stage::Config {
             return Err(Cause::Form);
@@ -337,7 +342,8 @@ impl TranscriptDraft {
     // Why a message is refused for which there is no memory.
     fn message_unread(&self) -> Cause
         requires begun { IsBegun transcript_grammar (lines self.now) }
-        ensures { (m : AnyMessage) → FitsMessage m → RefusesLine transcript_grammar (lines self.now) (MsgLine m) result }
+        ensures { (m : AnyMessage) → FitsMessage m
+            → RefusesLine transcript_grammar (lines self.now) (MsgLine m) result }
     {
         if self.takes_msgs() {
             Cause::NoMemory

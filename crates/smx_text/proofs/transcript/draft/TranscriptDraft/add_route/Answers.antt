@@ -9,9 +9,13 @@ returns-then-not-takes_routes-clause-refused c = misplaced c.args.self.now (line
 
 pub returns-clause-added : goal.returns-clause-added
 returns-clause-added c =
-    rw c.in_ok-push.ensures.ok (group_added c.args.self.now (with_line c.args.self.now (line.Route c.args.route)).transcript (line.Route c.args.route) c.requires.begun (search rules) refl refl c.requires.fits (λ e. cc) refl)
+    rw c.in_ok-push.ensures.ok
+    (group_added c.args.self.now (with_line c.args.self.now (line.Route c.args.route)).transcript
+    (line.Route c.args.route) c.requires.begun (search rules) refl refl c.requires.fits (λ e. cc) refl)
 
 pub returns-in_err-push-clause-refused : goal.returns-in_err-push-clause-refused
 returns-in_err-push-clause-refused c =
-    let room = longer_begun c.args.self.now (line.Route c.args.route) c.requires.begun (search rules) refl c.requires.fits (λ e. cc) in
+    let room =
+    longer_begun c.args.self.now (line.Route c.args.route) c.requires.begun (search rules) refl
+    c.requires.fits (λ e. cc) in
     search rules

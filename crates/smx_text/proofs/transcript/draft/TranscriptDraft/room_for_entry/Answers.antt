@@ -7,4 +7,5 @@ pub returns-then-ne-clause-refused : goal.returns-then-ne-clause-refused
 returns-then-ne-clause-refused c = λ e. misplaced c.args.self.now (line.Entry e) (search rules)
 
 pub returns-then-as_slice-ge-MAX_COMMANDS-clause-refused : goal.returns-then-as_slice-ge-MAX_COMMANDS-clause-refused
-returns-then-as_slice-ge-MAX_COMMANDS-clause-refused c = λ e. too_many c.args.self.now (line.Entry e) (search rules) (search rules)
+returns-then-as_slice-ge-MAX_COMMANDS-clause-refused c =
+    λ e. too_many c.args.self.now (line.Entry e) (search rules) (search rules)

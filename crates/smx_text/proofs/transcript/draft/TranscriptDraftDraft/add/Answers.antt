@@ -9,10 +9,13 @@ use Rattle.smx_text.proofs.transcript.draft.TranscriptDraftDraft.add.Goals as go
 
 pub returns-in-Ok-Some-clause-refused : goal.returns-in-Ok-Some-clause-refused
 returns-in-Ok-Some-clause-refused c =
-    let is = subst (IsReadAs FitsEntry entry_words c.args.text.now) c.in-Ok-Some.field-0-is c.in-Ok-Some.ensures.reading in
-    on_refused_line (lines c.args.self.now) (line.Entry c.in-Ok-Some.entry) c.args.text.now is.0 is.1 c.add_entry.result c.add_entry.ensures.refused
+    let is = subst (IsReadAs FitsEntry entry_words c.args.text.now) c.in-Ok-Some.field-0-is
+    c.in-Ok-Some.ensures.reading in
+    on_refused_line (lines c.args.self.now) (line.Entry c.in-Ok-Some.entry) c.args.text.now is.0 is.1
+    c.add_entry.result c.add_entry.ensures.refused
 
 pub returns-in-Err-clause-refused : goal.returns-in-Err-clause-refused
 returns-in-Err-clause-refused c =
     let some = c.in-Err.ensures.wanted in
-    refused_line (lines c.args.self.now) (line.Entry some.0) c.args.text.now some.1 some.2 c.entry_unread.result (c.entry_unread.ensures some.0 some.1)
+    refused_line (lines c.args.self.now) (line.Entry some.0) c.args.text.now some.1 some.2
+    c.entry_unread.result (c.entry_unread.ensures some.0 some.1)
