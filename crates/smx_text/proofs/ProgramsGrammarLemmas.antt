@@ -55,7 +55,8 @@ verb_first (command.Flush fd sides) = refl
 verb_first (command.Inject driver minor addr bytes) = refl
 verb_first (command.Transmit driver minor) = refl
 
-not_verb : (c : Command) (ws : List (List ℕ)) → command_words c ≡ ws → is_verb (first_word ws) ≡ false → ⊥
+-- words that begin with no verb are no command's
+pub not_verb : (c : Command) (ws : List (List ℕ)) → command_words c ≡ ws → is_verb (first_word ws) ≡ false → ⊥
 not_verb c ws e h = let t = verb_first c in
     let same = ap (λ (vs : List (List ℕ)). is_verb (first_word vs)) e in absurd cc
 

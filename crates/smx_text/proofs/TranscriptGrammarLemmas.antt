@@ -49,7 +49,7 @@ use Rattle.smx_words.proofs.LawLemmas.{one_route, one_message, one_full}
 
 -- ---- kinds of lines, by their first words
 
-abbrev kind_at : List ℕ → ℕ
+abbrev pub kind_at : List ℕ → ℕ
 kind_at w =
     if bytes_eq w (codes "driver") then 1 else if bytes_eq w (codes "config") then 2 else if bytes_eq w
     (codes "next") then 3
@@ -59,7 +59,7 @@ kind_at w =
     (codes "full") then 9
     else if bytes_eq w (codes "end") then 10 else 0
 
-abbrev kind_of : TranscriptLine → ℕ
+abbrev pub kind_of : TranscriptLine → ℕ
 kind_of (line.Driver d) = 1
 kind_of (line.Entry e) = 0
 kind_of line.Config = 2
@@ -104,7 +104,7 @@ number_kind n small =
       no_digits (decimal n) 101 _ digits (omega arith),
     ) refl
 
-kind_first : (k : TranscriptLine) → FitsLine k → kind_at (first_word (line_words k)) ≡ kind_of k
+pub kind_first : (k : TranscriptLine) → FitsLine k → kind_at (first_word (line_words k)) ≡ kind_of k
 kind_first (line.Driver d) fits = refl
 kind_first (line.Entry e) fits = number_kind e.process (omega (arith, fits.process))
 kind_first line.Config fits = refl
@@ -119,7 +119,7 @@ kind_first line.End fits = refl
 
 -- ---- lines
 
-spelling : (k : TranscriptLine) → FitsLine k → AreWords (line_words k)
+pub spelling : (k : TranscriptLine) → FitsLine k → AreWords (line_words k)
 spelling (line.Driver d) fits = driver_spelled d fits
 spelling (line.Entry e) fits = entry_spelled e fits
 spelling line.Config fits = config_spelled

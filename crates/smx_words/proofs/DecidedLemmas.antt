@@ -187,7 +187,8 @@ via {X} {Y} {S} {Fits} {spelling} d make back to from is was = record { answer =
 
 -- the values of one form, or else others
 pub or_else : {X Y S : Type 0} {Fits : X → Type 0} {spelling : X → S} {FitsOther : Y → Type 0}
-    {other : Y → S} {s : S} → IsDecided FitsOther other → (make : Y → X) → ((y : Y) → FitsOther y → Fits (make y)) → ((y : Y) → other y ≡ spelling (make y))
+    {other : Y → S} {s : S} → IsDecided FitsOther other → (make : Y → X)
+    → ((y : Y) → FitsOther y → Fits (make y)) → ((y : Y) → other y ≡ spelling (make y))
     → (((y : Y) → FitsOther y → s ≢ other y) → Answer Fits spelling s) → Answer Fits spelling s
 or_else {s = s} d make to is rest =
     elim (d.answer s) [ inl p ↦ inl (make p.0, to p.0 p.1, p.2 ∙ is p.0) | inr none ↦ rest none ]

@@ -1,6 +1,7 @@
 -- Commands are told apart by their words.
-use Rattle.std.proofs.Common.{◌≡◌, ℕ, List, ◌∷◌, refl, sym, ap, ◌∙◌}
+use Rattle.std.proofs.Common.{[], ◌≡◌, ℕ, List, ◌∷◌, refl, sym, ap, ◌∙◌, ◌++◌}
 use Rattle.std.specs.Fmt.{decimal}
+use Rattle.std.proofs.lemmas.List.{append-nil}
 use Rattle.smx_types.specs.declared.command.Command.{Command}
 use Rattle.smx_types.specs.declared.command.Command.TheVariants as command
 use Rattle.smx_words.specs.declared.reading.verb.Verb.{Verb}
@@ -12,7 +13,8 @@ use Rattle.smx_words.specs.Verbs.{verb_word}
 use Rattle.smx_words.proofs.NumberLemmas.{same_number}
 use Rattle.smx_words.proofs.SameWordLemmas.{same_bytes, same_sides, same_verb, same_which}
 
-abbrev verb_of : Command → Verb
+-- what a command does
+abbrev pub verb_of : Command → Verb
 verb_of (command.OpenClone d) = verb.Clone
 verb_of (command.OpenMinor d n) = verb.Open
 verb_of (command.Dup n) = verb.Dup
@@ -58,6 +60,18 @@ one_verb c d e =
     let g = first_word d in
     let both : verb_word (verb_of c) ∷ f.0 ≡ verb_word (verb_of d) ∷ g.0 = sym f.1 ∙ e ∙ g.1 in
     same_verb (verb_of c) (verb_of d) (cc both)
+
+-- words that begin with a verb, and with a command's words, are those of a command of that verb
+pub verb_first : (c : Command) (v : Verb) (ws more : List (List ℕ))
+    → verb_word v ∷ ws ≡ command_words c ++ more → verb_of c ≡ v
+verb_first c v ws more e =
+    let f = first_word c in
+    let both : verb_word (verb_of c) ∷ (f.0 ++ more) ≡ verb_word v ∷ ws =
+    sym (e ∙ ap (λ (us : List (List ℕ)). us ++ more) f.1) in
+    same_verb (verb_of c) v (cc both)
+
+pub verb_is : (c : Command) (v : Verb) (ws : List (List ℕ)) → verb_word v ∷ ws ≡ command_words c → verb_of c ≡ v
+verb_is c v ws e = verb_first c v ws [] (e ∙ sym (append-nil (command_words c)))
 
 by_verb : (c d : Command) → FitsCommand c → FitsCommand d → verb_of c ≡ verb_of d
     → command_words c ≡ command_words d → c ≡ d

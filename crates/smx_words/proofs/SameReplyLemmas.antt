@@ -16,7 +16,8 @@ use Rattle.smx_words.specs.Words.{line_of}
 use Rattle.smx_words.proofs.NumberLemmas.{same_number}
 use Rattle.smx_words.proofs.SameWordLemmas.{first_of_these, same_bytes, same_fault}
 
-abbrev reply_verb_of : Reply → Option ReplyVerb
+-- what a reply tells, if it is no fault
+abbrev pub reply_verb_of : Reply → Option ReplyVerb
 reply_verb_of (reply.Fd n m) = Some reply_verb.Fd
 reply_verb_of (reply.Id n) = Some reply_verb.Id
 reply_verb_of (reply.Took n) = Some reply_verb.Took
@@ -25,7 +26,7 @@ reply_verb_of (reply.Done ns) = Some reply_verb.Done
 reply_verb_of (reply.Fault f) = None
 
 -- the verb of a reply's first word
-abbrev verb_at : List (List ℕ) → Option ReplyVerb
+abbrev pub verb_at : List (List ℕ) → Option ReplyVerb
 verb_at [] = None
 verb_at (w ∷ ws) =
     first_of_these reply_verb_word
@@ -49,7 +50,7 @@ fault_verb fault.Full = refl
 fault_verb fault.Empty = refl
 fault_verb fault.BadSize = refl
 
-verb_again : (r : Reply) → verb_at (reply_words r) ≡ reply_verb_of r
+pub verb_again : (r : Reply) → verb_at (reply_words r) ≡ reply_verb_of r
 verb_again (reply.Fd n m) = refl
 verb_again (reply.Id n) = refl
 verb_again (reply.Took n) = refl

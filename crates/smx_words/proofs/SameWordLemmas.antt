@@ -111,17 +111,17 @@ found_verb verb.Transmit = refl
 pub same_verb : (x y : Verb) → verb_word x ≡ verb_word y → x ≡ y
 same_verb = told verb_word all_verb found_verb
 
-abbrev fault_line : Fault → List ℕ
+abbrev pub fault_line : Fault → List ℕ
 fault_line f = line_of (fault_words f)
 
-abbrev all_fault : List Fault
+abbrev pub all_fault : List Fault
 all_fault =
     fault.BadDescriptor ∷ fault.Below ∷ fault.NotMux ∷ fault.AlreadyBelow ∷ fault.Cycle
     ∷ fault.TooManyLinks ∷ fault.NoLink ∷ fault.NoDriver ∷ fault.NoMinor ∷ fault.TooManyDescriptors
     ∷ fault.AddressInUse ∷ fault.Unbound ∷ fault.Unrouted ∷ fault.Full ∷ fault.Empty
     ∷ fault.BadSize ∷ []
 
-found_fault : (f : Fault) → first_of_these fault_line all_fault (fault_line f) ≡ Some f
+pub found_fault : (f : Fault) → first_of_these fault_line all_fault (fault_line f) ≡ Some f
 found_fault fault.BadDescriptor = refl
 found_fault fault.Below = refl
 found_fault fault.NotMux = refl
