@@ -1,36 +1,50 @@
--- One line more after those of some programs.
-use Rattle.std.proofs.Common.{◌≡◌, ℕ, suc, ◌+◌, ◌-◌, ◌<◌, List, [], ◌∷◌, ◌++◌, length, get_or, map, sym, ap, ◌∙◌, append_assoc, arith, refl}
+-- One line, or the lines of one program, more after those of some programs.
+use Rattle.std.proofs.Common.{◌≡◌, ℕ, suc, ◌+◌, ◌-◌, ◌<◌, List, [], ◌∷◌, ◌++◌, length, get_or, map, sym, ap}
+use Rattle.std.proofs.Common.{◌∙◌, append_assoc, arith, refl, add-zero}
 use Rattle.std.proofs.Math.ListN.{set}
-use Rattle.std.proofs.lemmas.List.{map_push}
+use Rattle.std.proofs.lemmas.List.{append-nil, map_push}
 use Rattle.smx_types.specs.declared.command.Command.{Command}
 use Rattle.smx_types.specs.declared.driver.DriverSpec.{DriverSpec}
 use Rattle.smx_text.specs.ProgramLines.{Line}
 use Rattle.smx_text.specs.ProgramLines as line
 use Rattle.smx_text.specs.ProgramsText.{program_lines}
 
-lines_push : (n : ℕ) (ps : List (List Command)) → program_lines n (ps ++ [] ∷ []) ≡ program_lines n ps ++ line.Process (n + length ps) ∷ []
-lines_push n [] = ap (λ (k : ℕ). line.Process k ∷ []) (omega arith)
-lines_push n (p ∷ ps) =
-    let more = lines_push (n + 1) ps in
+-- one program more
+pub lines_add : (n : ℕ) (ps : List (List Command)) (cs : List Command)
+    → program_lines n (ps ++ cs ∷ []) ≡ program_lines n ps
+    ++ line.Process (n + length ps) ∷ map line.Command cs
+lines_add n [] cs = rw (append-nil, add-zero) refl
+lines_add n (p ∷ ps) cs =
     let k : (n + 1) + length ps ≡ n + suc (length ps) = omega arith in
-    rw (more, k, append_assoc) refl
+    rw (lines_add (n + 1) ps cs, k, append_assoc) refl
 
+-- a process whose program has no command yet
 pub added_process : (ds : List DriverSpec) (ps : List (List Command)) (k : ℕ) → k ≡ length ps
-    → map line.Driver ds ++ program_lines 0 (ps ++ [] ∷ []) ≡ (map line.Driver ds ++ program_lines 0 ps) ++ line.Process k ∷ []
-added_process ds ps k e = rw (e, lines_push 0 ps, append_assoc (map line.Driver ds)) (ap (λ (m : ℕ). map line.Driver ds ++ (program_lines 0 ps ++ line.Process m ∷ [])) (omega arith))
+    → map line.Driver ds ++ program_lines 0 (ps ++ [] ∷ []) ≡ (map line.Driver ds ++ program_lines 0 ps)
+    ++ line.Process k ∷ []
+added_process ds ps k e =
+    rw (e, lines_add 0 ps [], append_assoc (map line.Driver ds))
+    (ap (λ (m : ℕ). map line.Driver ds ++ (program_lines 0 ps ++ line.Process m ∷ [])) (omega arith))
 
 pub lines_more : (n : ℕ) (ps : List (List Command)) (d : List Command) (c : Command) → 0 < length ps
-    → program_lines n (set ps (length ps - 1) (get_or ps (length ps - 1) d ++ c ∷ [])) ≡ program_lines n ps ++ line.Command c ∷ []
+    → program_lines n (set ps (length ps - 1) (get_or ps (length ps - 1) d ++ c ∷ []))
+    ≡ program_lines n ps ++ line.Command c ∷ []
 lines_more n [] d c h = absurd (omega arith)
 lines_more n (p ∷ []) d c h = rw (map_push line.Command p c, append_assoc, append_assoc) refl
 lines_more n (p ∷ q ∷ ps) d c h =
     let k : suc (suc (length ps)) - 1 ≡ suc (length ps) = omega arith in
     let j : suc (length ps) - 1 ≡ length ps = omega arith in
     let more = rw j at (lines_more (n + 1) (q ∷ ps) d c (omega arith)) in
-    rw k (ap (λ (ls : List Line). line.Process n ∷ (map line.Command p ++ ls)) more ∙ ap (λ (ls : List Line). line.Process n ∷ ls) (sym (append_assoc (map line.Command p) (program_lines (n + 1) (q ∷ ps)) (line.Command c ∷ []))))
+    rw k (ap (λ (ls : List Line). line.Process n ∷ (map line.Command p ++ ls)) more
+    ∙ ap (λ (ls : List Line). line.Process n ∷ ls)
+    (sym (append_assoc (map line.Command p) (program_lines (n + 1) (q ∷ ps)) (line.Command c ∷ []))))
 
-pub added_command : (ds : List DriverSpec) (ps : List (List Command)) (last : ℕ) (old new : List Command) (c : Command) → 0 < length ps → last ≡ length ps → old ≡ get_or ps (last - 1) old → new ≡ old ++ c ∷ []
-    → map line.Driver ds ++ program_lines 0 (set ps (last - 1) new) ≡ (map line.Driver ds ++ program_lines 0 ps) ++ line.Command c ∷ []
+pub added_command : (ds : List DriverSpec) (ps : List (List Command)) (last : ℕ) (old new : List Command)
+    (c : Command) → 0 < length ps → last ≡ length ps → old ≡ get_or ps (last - 1) old → new ≡ old ++ c ∷ []
+    → map line.Driver ds ++ program_lines 0 (set ps (last - 1) new)
+    ≡ (map line.Driver ds ++ program_lines 0 ps) ++ line.Command c ∷ []
 added_command ds ps last old new c some len e n =
-    let new_is : new ≡ get_or ps (length ps - 1) old ++ c ∷ [] = n ∙ ap (λ (o : List Command). o ++ c ∷ []) (e ∙ ap (λ (k : ℕ). get_or ps (k - 1) old) len) in
-    rw (len, new_is, lines_more 0 ps old c some) (sym (append_assoc (map line.Driver ds) (program_lines 0 ps) (line.Command c ∷ [])))
+    let new_is : new ≡ get_or ps (length ps - 1) old ++ c ∷ [] = n
+    ∙ ap (λ (o : List Command). o ++ c ∷ []) (e ∙ ap (λ (k : ℕ). get_or ps (k - 1) old) len) in
+    rw (len, new_is, lines_more 0 ps old c some)
+    (sym (append_assoc (map line.Driver ds) (program_lines 0 ps) (line.Command c ∷ [])))

@@ -1,46 +1,18 @@
--- One text has one reading, and each has one. For any kind of text whose lines can be told apart.
-use Rattle.std.proofs.Common.{◌≡◌, ◌≢◌, ℕ, zero, suc, ◌+◌, ◌<◌, Bool, true, false, eqb, List, [], ◌∷◌, ◌++◌, length, map, Result, Ok, Err, refl, sym, ap, subst, ◌∙◌, append_assoc, arith, inl, inr}
+-- One text has one reading. For any kind of text whose lines can be told apart.
+use Rattle.std.proofs.Common.{◌≡◌, ◌≢◌, ℕ, ◌+◌, List, [], ◌∷◌, ◌++◌, length, map, Result, Ok, Err, refl, sym}
+use Rattle.std.proofs.Common.{ap, subst, ◌∙◌, append_assoc, inl, inr}
 use Rattle.std.specs.List.{AllByRecursion}
 use Rattle.std.specs.Prelude.{◌⊎◌, MatchResult, IfErr}
-use Rattle.std.proofs.lemmas.Bool.Decides.{nat_tests}
-use Rattle.std.proofs.lemmas.List.{append-nil, length-append}
-use Rattle.std.proofs.lemmas.Slice.Eq.{bytes_eq-Decides}
-use Rattle.std.specs.Str.{bytes_eq}
-use Rattle.smx_words.specs.Words.{LINE_FEED, line_of, text_of}
+use Rattle.std.proofs.lemmas.List.{append-nil}
+use Rattle.smx_words.specs.Words.{LINE_FEED, text_of}
 use Rattle.smx_text.specs.declared.fault.Cause.{Cause}
 use Rattle.smx_text.specs.declared.fault.Cause.TheVariants as cause
 use Rattle.smx_text.specs.declared.fault.TextFault.{TextFault}
-use Rattle.smx_text.specs.Grammar.{Grammar, IsOneLine, HasNext, header, line_text, beginning, full_text, Spells, IsBegun, GoesOn, MayFollow, IsFull, IsNoLine, IsOneTooMany, Continues, Reaches, Begins, IsFault, Reads}
+use Rattle.smx_text.specs.Grammar.{Grammar, IsOneLine, header, line_text, beginning, full_text, Spells}
+use Rattle.smx_text.specs.Grammar.{IsBegun, GoesOn, IsNoLine, IsOneTooMany, Reaches, IsFault, Reads}
 use Rattle.smx_text.proofs.EachLemmas.{all_left, all_right}
-use Rattle.smx_text.proofs.ReadingLemmas.{full_and, IsBetween, started, cut_at, refused, one_more, read_to_end}
-
--- ---- lines of bytes
-
--- bytes with a line feed in them are not one line
-pub not_one : (xs after : List ℕ) → IsOneLine (xs ++ LINE_FEED ∷ after) → ⊥
-not_one [] after h = h.0 refl
-not_one (x ∷ xs) after h = not_one xs after h.1
-
--- the first line of some bytes, and what follows it, are what they are
-pub one_cut : (xs ys cs ds : List ℕ) → IsOneLine xs → IsOneLine ys → xs ++ LINE_FEED ∷ cs ≡ ys ++ LINE_FEED ∷ ds → (xs ≡ ys) × (cs ≡ ds)
-one_cut [] [] cs ds h k e = (refl, cc)
-one_cut [] (y ∷ ys) cs ds h k e = let first : LINE_FEED ≡ y = cc in absurd (k.0 (sym first))
-one_cut (x ∷ xs) [] cs ds h k e = let first : x ≡ LINE_FEED = cc in absurd (h.0 first)
-one_cut (x ∷ xs) (y ∷ ys) cs ds h k e =
-    let first : x ≡ y = cc in
-    let rest : xs ++ LINE_FEED ∷ cs ≡ ys ++ LINE_FEED ∷ ds = cc in
-    let t = one_cut xs ys cs ds h.1 k.1 rest in
-    (ap (λ (z : ℕ). z ∷ xs) first ∙ ap (λ (zs : List ℕ). y ∷ zs) t.0, t.1)
-
--- bytes are one line, or have a first one
-pub first_line : (xs : List ℕ) → IsOneLine xs ⊎ ((text after : List ℕ) × IsOneLine text × (xs ≡ text ++ LINE_FEED ∷ after))
-first_line [] = inl tt
-first_line (x ∷ xs) = by_first (eqb x LINE_FEED) refl (first_line xs) where
-  by_first : (b : Bool) → eqb x LINE_FEED ≡ b → IsOneLine xs ⊎ ((text after : List ℕ) × IsOneLine text × (xs ≡ text ++ LINE_FEED ∷ after))
-      → IsOneLine (x ∷ xs) ⊎ ((text after : List ℕ) × IsOneLine text × (x ∷ xs ≡ text ++ LINE_FEED ∷ after))
-  by_first true is more = let same : x ≡ LINE_FEED = grind (arith, nat_tests) in inr ([], xs, tt, ap (λ (y : ℕ). y ∷ xs) same)
-  by_first false is (inl one) = inl (grind (arith, nat_tests), one)
-  by_first false is (inr (text, after, one, e)) = inr (x ∷ text, after, (grind (arith, nat_tests), one), ap (λ (ys : List ℕ). x ∷ ys) e)
+use Rattle.smx_text.proofs.ReadingLemmas.{full_and}
+use Rattle.smx_text.proofs.LineLemmas.{not_one, one_cut}
 
 -- A kind of text whose lines can be told apart, and whose last line is never one before it.
 pub record IsWellMade {V K : Type 0} (g : Grammar V K) : Type 0 where
@@ -53,46 +25,67 @@ pub record IsWellMade {V K : Type 0} (g : Grammar V K) : Type 0 where
   pub one_value : (v w : V) → g.body v ≡ g.body w → v ≡ w
 
 same_fault : (f h : TextFault) → f.line ≡ h.line → f.cause ≡ h.cause → f ≡ h
-same_fault f h e k = ap (λ (n : ℕ). record { line = n; cause = f.cause }) e ∙ ap (λ (c : Cause). record { line = h.line; cause = c }) k
+same_fault f h e k = ap (λ (n : ℕ). record { line = n; cause = f.cause }) e
+    ∙ ap (λ (c : Cause). record { line = h.line; cause = c }) k
 
 module _ {V K : Type 0} (g : Grammar V K) (made : IsWellMade g) where
-  abbrev texts : List K → List ℕ
+  abbrev pub texts : List K → List ℕ
   texts lines = text_of (map g.line_words lines)
 
-  texts_cons : (k : K) (lines : List K) (rest : List ℕ) → texts (k ∷ lines) ++ rest ≡ line_text g k ++ LINE_FEED ∷ (texts lines ++ rest)
+  texts_cons : (k : K) (lines : List K) (rest : List ℕ)
+      → texts (k ∷ lines) ++ rest ≡ line_text g k ++ LINE_FEED ∷ (texts lines ++ rest)
   texts_cons k lines rest = simp append_assoc
 
   abbrev AreFit : List K → Type 0
   AreFit lines = AllByRecursion g.FitsLine lines
 
   -- two ways to begin the same bytes with lines: one has more lines, or they are the same
-  abbrev HasMore : List K → List ℕ → List K → Type 0
-  HasMore lines rest longer = (k : K) × (more : List K) × (after : List ℕ) × (longer ≡ lines ++ k ∷ more) × (rest ≡ line_text g k ++ LINE_FEED ∷ after)
+  abbrev pub HasMore : List K → List ℕ → List K → Type 0
+  HasMore lines rest longer = (k : K) × (more : List K) × (after : List ℕ) × (longer ≡ lines ++ k ∷ more)
+      × (rest ≡ line_text g k ++ LINE_FEED ∷ after)
 
-  compare : (ls ms : List K) (r s : List ℕ) → AreFit ls → AreFit ms → texts ls ++ r ≡ texts ms ++ s → ((ls ≡ ms) × (r ≡ s)) ⊎ (HasMore ls r ms ⊎ HasMore ms s ls)
+  pub compare : (ls ms : List K) (r s : List ℕ) → AreFit ls → AreFit ms → texts ls ++ r ≡ texts ms ++ s
+      → ((ls ≡ ms) × (r ≡ s)) ⊎ (HasMore ls r ms ⊎ HasMore ms s ls)
   compare [] [] r s h k e = inl (refl, e)
   compare [] (m ∷ ms) r s h k e = inr (inl (m, ms, texts ms ++ s, refl, e ∙ texts_cons m ms s))
   compare (l ∷ ls) [] r s h k e = inr (inr (l, ls, texts ls ++ r, refl, sym e ∙ texts_cons l ls r))
   compare (l ∷ ls) (m ∷ ms) r s h k e =
-      let t = one_cut (line_text g l) (line_text g m) (texts ls ++ r) (texts ms ++ s) (made.one_line l h.0) (made.one_line m k.0) (sym (texts_cons l ls r) ∙ e ∙ texts_cons m ms s) in
+      let t = one_cut (line_text g l) (line_text g m) (texts ls ++ r) (texts ms ++ s) (made.one_line l h.0)
+      (made.one_line m k.0) (sym (texts_cons l ls r) ∙ e ∙ texts_cons m ms s) in
       let same : l ≡ m = made.tells_apart l m h.0 k.0 t.0 in
       elim (compare ls ms r s h.1 k.1 t.1) [
         | inl (all, rest) ↦ inl (ap (λ (x : K). x ∷ ls) same ∙ ap (λ (xs : List K). m ∷ xs) all, rest)
-        | inr (inl (x, more, after, is, rest)) ↦ inr (inl (x, more, after, ap (λ (xs : List K). m ∷ xs) is ∙ ap (λ (y : K). y ∷ (ls ++ x ∷ more)) (sym same), rest))
-        | inr (inr (x, more, after, is, rest)) ↦ inr (inr (x, more, after, ap (λ (xs : List K). l ∷ xs) is ∙ ap (λ (y : K). y ∷ (ms ++ x ∷ more)) same, rest))
+        | inr (inl (x, more, after, is, rest)) ↦
+            inr (inl (
+              x,
+              more,
+              after,
+              ap (λ (xs : List K). m ∷ xs) is ∙ ap (λ (y : K). y ∷ (ls ++ x ∷ more)) (sym same),
+              rest,
+            ))
+        | inr (inr (x, more, after, is, rest)) ↦
+            inr (inr (
+              x,
+              more,
+              after,
+              ap (λ (xs : List K). l ∷ xs) is ∙ ap (λ (y : K). y ∷ (ms ++ x ∷ more)) same,
+              rest,
+            ))
       ]
 
   -- ---- what can be answered at a whole line behind these lines
 
-  abbrev Judges : List K → List ℕ → List ℕ → ℕ → Cause → Type 0
+  abbrev pub Judges : List K → List ℕ → List ℕ → ℕ → Cause → Type 0
   Judges lines text after n cause.Form = IsNoLine g lines text × (n ≡ length lines + 2)
   Judges lines text after n cause.Many = IsOneTooMany g lines text × (n ≡ length lines + 2)
-  Judges lines text after n cause.Trailing = (v : V) × (b : ℕ) × (more : List ℕ) × g.IsAllowed v × (g.body v ≡ lines) × (text ≡ line_text g g.end) × (after ≡ b ∷ more) × (n ≡ length lines + 3)
+  Judges lines text after n cause.Trailing =
+      (v : V) × (b : ℕ) × (more : List ℕ) × g.IsAllowed v × (g.body v ≡ lines) × (text ≡ line_text g g.end)
+      × (after ≡ b ∷ more) × (n ≡ length lines + 3)
   Judges lines text after n cause.Header = ⊥
   Judges lines text after n cause.Cut = ⊥
   Judges lines text after n cause.NoMemory = ⊥
 
-  abbrev Answers : List K → List ℕ → List ℕ → Result V TextFault → Type 0
+  abbrev pub Answers : List K → List ℕ → List ℕ → Result V TextFault → Type 0
   Answers lines text after (Ok v) = g.IsAllowed v × (g.body v ≡ lines) × (text ≡ line_text g g.end) × (after ≡ [])
   Answers lines text after (Err f) = Judges lines text after f.line f.cause
 
@@ -100,10 +93,12 @@ module _ {V K : Type 0} (g : Grammar V K) (made : IsWellMade g) where
   end_may : (v : V) (lines : List K) → g.body v ≡ lines → GoesOn g v lines g.end
   end_may v lines e = ([], ap (λ (ls : List K). ls ++ g.end ∷ []) e)
 
-  no_form : (v : V) (lines : List K) (text : List ℕ) → g.body v ≡ lines → text ≡ line_text g g.end → IsNoLine g lines text → ⊥
+  no_form : (v : V) (lines : List K) (text : List ℕ) → g.body v ≡ lines → text ≡ line_text g g.end
+      → IsNoLine g lines text → ⊥
   no_form v lines text e end h = h g.end made.fits_end (v, end_may v lines e) end
 
-  no_many : (v : V) (lines : List K) (text : List ℕ) → g.IsAllowed v → g.body v ≡ lines → text ≡ line_text g g.end → IsOneTooMany g lines text → ⊥
+  no_many : (v : V) (lines : List K) (text : List ℕ) → g.IsAllowed v → g.body v ≡ lines
+      → text ≡ line_text g g.end → IsOneTooMany g lines text → ⊥
   no_many v lines text allowed e end (k, is, fits, may, full) =
       let same : k ≡ g.end = made.tells_apart k g.end fits made.fits_end (sym is ∙ end) in
       full v allowed (subst (λ (x : K). GoesOn g v lines x) (sym same) (end_may v lines e))
@@ -111,16 +106,22 @@ module _ {V K : Type 0} (g : Grammar V K) (made : IsWellMade g) where
   no_both : (lines : List K) (text : List ℕ) → IsNoLine g lines text → IsOneTooMany g lines text → ⊥
   no_both lines text h (k, is, fits, may, full) = h k fits may is
 
-  one_judgement : (lines : List K) (text after : List ℕ) (n m : ℕ) (c d : Cause) → Judges lines text after n c → Judges lines text after m d → (n ≡ m) × (c ≡ d)
+  one_judgement : (lines : List K) (text after : List ℕ) (n m : ℕ) (c d : Cause) → Judges lines text after n c
+      → Judges lines text after m d → (n ≡ m) × (c ≡ d)
   one_judgement lines text after n m cause.Form cause.Form h k = (h.1 ∙ sym k.1, refl)
   one_judgement lines text after n m cause.Form cause.Many h k = absurd (no_both lines text h.0 k.0)
-  one_judgement lines text after n m cause.Form cause.Trailing h (v, b, more, allowed, e, end, _, at) = absurd (no_form v lines text e end h.0)
+  one_judgement lines text after n m cause.Form cause.Trailing h (v, b, more, allowed, e, end, _, at) =
+      absurd (no_form v lines text e end h.0)
   one_judgement lines text after n m cause.Many cause.Form h k = absurd (no_both lines text k.0 h.0)
   one_judgement lines text after n m cause.Many cause.Many h k = (h.1 ∙ sym k.1, refl)
-  one_judgement lines text after n m cause.Many cause.Trailing h (v, b, more, allowed, e, end, _, at) = absurd (no_many v lines text allowed e end h.0)
-  one_judgement lines text after n m cause.Trailing cause.Form (v, b, more, allowed, e, end, _, at) k = absurd (no_form v lines text e end k.0)
-  one_judgement lines text after n m cause.Trailing cause.Many (v, b, more, allowed, e, end, _, at) k = absurd (no_many v lines text allowed e end k.0)
-  one_judgement lines text after n m cause.Trailing cause.Trailing (v, b, more, allowed, e, end, _, at) (w, c, others, also, e', end', _, at') = (at ∙ sym at', refl)
+  one_judgement lines text after n m cause.Many cause.Trailing h (v, b, more, allowed, e, end, _, at) =
+      absurd (no_many v lines text allowed e end h.0)
+  one_judgement lines text after n m cause.Trailing cause.Form (v, b, more, allowed, e, end, _, at) k =
+      absurd (no_form v lines text e end k.0)
+  one_judgement lines text after n m cause.Trailing cause.Many (v, b, more, allowed, e, end, _, at) k =
+      absurd (no_many v lines text allowed e end k.0)
+  one_judgement lines text after n m cause.Trailing cause.Trailing (v, b, more, allowed, e, end, _, at)
+      (w, c, others, also, e', end', _, at') = (at ∙ sym at', refl)
   one_judgement lines text after n m cause.Header d h k = absurd h
   one_judgement lines text after n m cause.Cut d h k = absurd h
   one_judgement lines text after n m cause.NoMemory d h k = absurd h
@@ -128,16 +129,20 @@ module _ {V K : Type 0} (g : Grammar V K) (made : IsWellMade g) where
   one_judgement lines text after n m c cause.Cut h k = absurd k
   one_judgement lines text after n m c cause.NoMemory h k = absurd k
 
-  no_value : (v : V) (lines : List K) (text after : List ℕ) (n : ℕ) (c : Cause) → Answers lines text after (Ok v) → Judges lines text after n c → ⊥
+  no_value : (v : V) (lines : List K) (text after : List ℕ) (n : ℕ) (c : Cause)
+      → Answers lines text after (Ok v) → Judges lines text after n c → ⊥
   no_value v lines text after n cause.Form (allowed, e, end, none) h = no_form v lines text e end h.0
   no_value v lines text after n cause.Many (allowed, e, end, none) h = no_many v lines text allowed e end h.0
-  no_value v lines text after n cause.Trailing (allowed, e, end, none) (w, b, more, also, _, _, some, _) = let both : [] ≡ b ∷ more = sym none ∙ some in absurd (cc both)
+  no_value v lines text after n cause.Trailing (allowed, e, end, none) (w, b, more, also, _, _, some, _) =
+      let both : [] ≡ b ∷ more = sym none ∙ some in absurd (cc both)
   no_value v lines text after n cause.Header a h = absurd h
   no_value v lines text after n cause.Cut a h = absurd h
   no_value v lines text after n cause.NoMemory a h = absurd h
 
-  one_answer : (lines : List K) (text after : List ℕ) (r s : Result V TextFault) → Answers lines text after r → Answers lines text after s → r ≡ s
-  one_answer lines text after (Ok v) (Ok w) (allowed, e, _, _) (also, k, _, _) = ap (λ (x : V). Ok x) (made.one_value v w (e ∙ sym k))
+  one_answer : (lines : List K) (text after : List ℕ) (r s : Result V TextFault) → Answers lines text after r
+      → Answers lines text after s → r ≡ s
+  one_answer lines text after (Ok v) (Ok w) (allowed, e, _, _) (also, k, _, _) =
+      ap (λ (x : V). Ok x) (made.one_value v w (e ∙ sym k))
   one_answer lines text after (Ok v) (Err f) a b = absurd (no_value v lines text after f.line f.cause a b)
   one_answer lines text after (Err f) (Ok w) a b = absurd (no_value w lines text after f.line f.cause b a)
   one_answer lines text after (Err f) (Err h) a b =
@@ -146,7 +151,10 @@ module _ {V K : Type 0} (g : Grammar V K) (made : IsWellMade g) where
 
   -- a line that some allowed value has there is answered nothing
   goes_on : (lines more : List K) (k : K) (v : V) → g.body v ≡ lines ++ k ∷ more → GoesOn g v lines k
-  goes_on lines more k v e = (more ++ g.end ∷ [], ap (λ (ls : List K). ls ++ g.end ∷ []) e ∙ append_assoc lines (k ∷ more) (g.end ∷ []))
+  goes_on lines more k v e = (
+    more ++ g.end ∷ [],
+    ap (λ (ls : List K). ls ++ g.end ∷ []) e ∙ append_assoc lines (k ∷ more) (g.end ∷ []),
+  )
 
   is_end : (k : K) (text : List ℕ) → g.FitsLine k → text ≡ line_text g k → text ≡ line_text g g.end → k ≡ g.end
   is_end k text fits is end = made.tells_apart k g.end fits made.fits_end (sym is ∙ end)
@@ -154,8 +162,11 @@ module _ {V K : Type 0} (g : Grammar V K) (made : IsWellMade g) where
   not_end : (k : K) (lines more : List K) (v : V) → g.body v ≡ lines ++ k ∷ more → k ≡ g.end → ⊥
   not_end k lines more v e same = made.end_is_last v lines more (e ∙ ap (λ (x : K). lines ++ x ∷ more) same)
 
-  no_stop : (lines more : List K) (k : K) (v : V) (text after : List ℕ) (r : Result V TextFault) → g.IsAllowed v → g.body v ≡ lines ++ k ∷ more → g.FitsLine k → text ≡ line_text g k → Answers lines text after r → ⊥
-  no_stop lines more k v text after (Ok w) allowed e fits is (_, _, end, _) = not_end k lines more v e (is_end k text fits is end)
+  no_stop : (lines more : List K) (k : K) (v : V) (text after : List ℕ) (r : Result V TextFault)
+      → g.IsAllowed v → g.body v ≡ lines ++ k ∷ more → g.FitsLine k → text ≡ line_text g k
+      → Answers lines text after r → ⊥
+  no_stop lines more k v text after (Ok w) allowed e fits is (_, _, end, _) =
+      not_end k lines more v e (is_end k text fits is end)
   no_stop lines more k v text after (Err f) allowed e fits is a = by_cause f.line f.cause a where
     by_cause : (n : ℕ) (c : Cause) → Judges lines text after n c → ⊥
     by_cause n cause.Form h = h.0 k fits (v, goes_on lines more k v e) is
@@ -169,59 +180,79 @@ module _ {V K : Type 0} (g : Grammar V K) (made : IsWellMade g) where
 
   -- ---- where an answer stands
 
-  abbrev Stops : List K → List ℕ → Result V TextFault → Type 0
+  abbrev pub Stops : List K → List ℕ → Result V TextFault → Type 0
   Stops lines rest r =
       (IsOneLine rest × (r ≡ Err (record { line = length lines + 2; cause = cause.Cut })))
       ⊎ ((text after : List ℕ) × IsOneLine text × (rest ≡ text ++ LINE_FEED ∷ after) × Answers lines text after r)
 
-  one_stop : (lines : List K) (rest : List ℕ) (r s : Result V TextFault) → Stops lines rest r → Stops lines rest s → r ≡ s
+  one_stop : (lines : List K) (rest : List ℕ) (r s : Result V TextFault) → Stops lines rest r
+      → Stops lines rest s → r ≡ s
   one_stop lines rest r s (inl (_, e)) (inl (_, k)) = e ∙ sym k
-  one_stop lines rest r s (inl (one, _)) (inr (text, after, _, e, _)) = absurd (not_one text after (subst IsOneLine e one))
-  one_stop lines rest r s (inr (text, after, _, e, _)) (inl (one, _)) = absurd (not_one text after (subst IsOneLine e one))
+  one_stop lines rest r s (inl (one, _)) (inr (text, after, _, e, _)) =
+      absurd (not_one text after (subst IsOneLine e one))
+  one_stop lines rest r s (inr (text, after, _, e, _)) (inl (one, _)) =
+      absurd (not_one text after (subst IsOneLine e one))
   one_stop lines rest r s (inr (text, after, one, e, a)) (inr (text', after', one', e', b)) =
       let t = one_cut text' text after' after one' one (sym e' ∙ e) in
-      let b' : Answers lines text after s = subst (λ (x : List ℕ). Answers lines x after s) t.0 (subst (λ (x : List ℕ). Answers lines text' x s) t.1 b) in
+      let b' : Answers lines text after s =
+      subst (λ (x : List ℕ). Answers lines x after s) t.0
+      (subst (λ (x : List ℕ). Answers lines text' x s) t.1 b) in
       one_answer lines text after r s a b'
 
-  begun_fits : (lines : List K) → IsBegun g lines → AreFit lines
+  pub begun_fits : (lines : List K) → IsBegun g lines → AreFit lines
   begun_fits lines (v, more, allowed, e) = all_left g.FitsLine lines more (subst AreFit e (made.fits v allowed))
 
   -- an answer isn't given where longer lines are begun
-  too_early : (lines longer : List K) (rest : List ℕ) (r : Result V TextFault) → IsBegun g longer → HasMore lines rest longer → Stops lines rest r → ⊥
-  too_early lines longer rest r begun (k, more, after, is, e) (inl (one, _)) = not_one (line_text g k) after (subst IsOneLine e one)
+  pub too_early : (lines longer : List K) (rest : List ℕ) (r : Result V TextFault) → IsBegun g longer
+      → HasMore lines rest longer → Stops lines rest r → ⊥
+  too_early lines longer rest r begun (k, more, after, is, e) (inl (one, _)) =
+      not_one (line_text g k) after (subst IsOneLine e one)
   too_early lines longer rest r (v, others, allowed, all) (k, more, after, is, e) (inr (text, after', one, e', a)) =
-      let whole : g.body v ≡ lines ++ k ∷ (more ++ others) = all ∙ ap (λ (ls : List K). ls ++ others) is ∙ append_assoc lines (k ∷ more) others in
+      let whole : g.body v ≡ lines ++ k ∷ (more ++ others) = all ∙ ap (λ (ls : List K). ls ++ others) is
+      ∙ append_assoc lines (k ∷ more) others in
       let fits = (all_right g.FitsLine lines (k ∷ (more ++ others)) (subst AreFit whole (made.fits v allowed))).0 in
       let t = one_cut text (line_text g k) after' after one (made.one_line k fits) (sym e' ∙ e) in
       no_stop lines (more ++ others) k v text after' r allowed whole fits t.0 a
 
-  abbrev Header : List ℕ → Result V TextFault → Type 0
-  Header bytes r = (text after : List ℕ) × IsOneLine text × (bytes ≡ text ++ LINE_FEED ∷ after) × (text ≢ header g) × (r ≡ Err (record { line = 1; cause = cause.Header }))
+  abbrev pub Header : List ℕ → Result V TextFault → Type 0
+  Header bytes r = (text after : List ℕ) × IsOneLine text × (bytes ≡ text ++ LINE_FEED ∷ after)
+      × (text ≢ header g) × (r ≡ Err (record { line = 1; cause = cause.Header }))
 
-  abbrev Behind : List ℕ → Result V TextFault → Type 0
-  Behind bytes r = (lines : List K) × (rest : List ℕ) × IsBegun g lines × (bytes ≡ header g ++ LINE_FEED ∷ (texts lines ++ rest)) × Stops lines rest r
+  abbrev pub Behind : List ℕ → Result V TextFault → Type 0
+  Behind bytes r =
+      (lines : List K) × (rest : List ℕ) × IsBegun g lines
+      × (bytes ≡ header g ++ LINE_FEED ∷ (texts lines ++ rest)) × Stops lines rest r
 
-  abbrev Place : List ℕ → Result V TextFault → Type 0
-  Place bytes r = (IsOneLine bytes × (r ≡ Err (record { line = 1; cause = cause.Cut }))) ⊎ (Header bytes r ⊎ Behind bytes r)
+  abbrev pub Place : List ℕ → Result V TextFault → Type 0
+  Place bytes r = (IsOneLine bytes × (r ≡ Err (record { line = 1; cause = cause.Cut })))
+      ⊎ (Header bytes r ⊎ Behind bytes r)
 
   both_behind : (bytes : List ℕ) (r s : Result V TextFault) → Behind bytes r → Behind bytes s → r ≡ s
   both_behind bytes r s (ls, rest, begun, e, stops) (ms, rest', begun', e', stops') =
-      let t = one_cut (header g) (header g) (texts ls ++ rest) (texts ms ++ rest') made.header_line made.header_line (sym e ∙ e') in
+      let t = one_cut (header g) (header g) (texts ls ++ rest) (texts ms ++ rest') made.header_line
+      made.header_line (sym e ∙ e') in
       elim (compare ls ms rest rest' (begun_fits ls begun) (begun_fits ms begun') t.1) [
-        | inl (same, also) ↦ one_stop ls rest r s stops (subst (λ (x : List K). Stops x rest s) (sym same) (subst (λ (x : List ℕ). Stops ms x s) (sym also) stops'))
+        | inl (same, also) ↦ one_stop ls rest r s stops
+            (subst (λ (x : List K). Stops x rest s) (sym same)
+            (subst (λ (x : List ℕ). Stops ms x s) (sym also) stops'))
         | inr (inl more) ↦ absurd (too_early ls ms rest r begun' more stops)
         | inr (inr more) ↦ absurd (too_early ms ls rest' s begun more stops')
       ]
 
-  wrong_header : (bytes : List ℕ) (r s : Result V TextFault) → Header bytes r → Behind bytes s → ⊥
-  wrong_header bytes r s (text, after, one, e, differ, _) (ls, rest, begun, e', _) = differ (one_cut text (header g) after (texts ls ++ rest) one made.header_line (sym e ∙ e')).0
+  pub wrong_header : (bytes : List ℕ) (r s : Result V TextFault) → Header bytes r → Behind bytes s → ⊥
+  wrong_header bytes r s (text, after, one, e, differ, _) (ls, rest, begun, e', _) =
+      differ (one_cut text (header g) after (texts ls ++ rest) one made.header_line (sym e ∙ e')).0
 
   one_place : (bytes : List ℕ) (r s : Result V TextFault) → Place bytes r → Place bytes s → r ≡ s
   one_place bytes r s (inl (_, e)) (inl (_, k)) = e ∙ sym k
-  one_place bytes r s (inl (one, _)) (inr (inl (text, after, _, e, _, _))) = absurd (not_one text after (subst IsOneLine e one))
-  one_place bytes r s (inl (one, _)) (inr (inr (ls, rest, _, e, _))) = absurd (not_one (header g) (texts ls ++ rest) (subst IsOneLine e one))
-  one_place bytes r s (inr (inl (text, after, _, e, _, _))) (inl (one, _)) = absurd (not_one text after (subst IsOneLine e one))
-  one_place bytes r s (inr (inr (ls, rest, _, e, _))) (inl (one, _)) = absurd (not_one (header g) (texts ls ++ rest) (subst IsOneLine e one))
+  one_place bytes r s (inl (one, _)) (inr (inl (text, after, _, e, _, _))) =
+      absurd (not_one text after (subst IsOneLine e one))
+  one_place bytes r s (inl (one, _)) (inr (inr (ls, rest, _, e, _))) =
+      absurd (not_one (header g) (texts ls ++ rest) (subst IsOneLine e one))
+  one_place bytes r s (inr (inl (text, after, _, e, _, _))) (inl (one, _)) =
+      absurd (not_one text after (subst IsOneLine e one))
+  one_place bytes r s (inr (inr (ls, rest, _, e, _))) (inl (one, _)) =
+      absurd (not_one (header g) (texts ls ++ rest) (subst IsOneLine e one))
   one_place bytes r s (inr (inl (_, _, _, _, _, e))) (inr (inl (_, _, _, _, _, k))) = e ∙ sym k
   one_place bytes r s (inr (inl h)) (inr (inr k)) = absurd (wrong_header bytes r s h k)
   one_place bytes r s (inr (inr h)) (inr (inl k)) = absurd (wrong_header bytes s r k h)
@@ -229,7 +260,8 @@ module _ {V K : Type 0} (g : Grammar V K) (made : IsWellMade g) where
 
   -- ---- each answer that may be given, but for want of memory, stands in a place
 
-  beginning_and : (lines : List K) (rest : List ℕ) → beginning g lines ++ rest ≡ header g ++ LINE_FEED ∷ (texts lines ++ rest)
+  pub beginning_and : (lines : List K) (rest : List ℕ)
+      → beginning g lines ++ rest ≡ header g ++ LINE_FEED ∷ (texts lines ++ rest)
   beginning_and lines rest = simp append_assoc
 
   value_begun : (v : V) → g.IsAllowed v → IsBegun g (g.body v)
@@ -249,30 +281,58 @@ module _ {V K : Type 0} (g : Grammar V K) (made : IsWellMade g) where
   abbrev Refused : ℕ → Cause → Result V TextFault
   Refused n c = Err (record { line = n; cause = c })
 
-  judged : (bytes : List ℕ) (lines : List K) (text : List ℕ) (n : ℕ) (c : Cause) → Reaches g bytes lines text n → ((after : List ℕ) → Judges lines text after n c) → Place bytes (Refused n c)
+  judged : (bytes : List ℕ) (lines : List K) (text : List ℕ) (n : ℕ) (c : Cause)
+      → Reaches g bytes lines text n → ((after : List ℕ) → Judges lines text after n c)
+      → Place bytes (Refused n c)
   judged bytes lines text n c at judges =
       let after = at.next.0 in
-      inr (inr (lines, text ++ LINE_FEED ∷ after, at.begun, at.next.2 ∙ beginning_and lines (text ++ LINE_FEED ∷ after), inr (text, after, at.next.1, refl, judges after)))
+      inr (inr (
+        lines,
+        text ++ LINE_FEED ∷ after,
+        at.begun,
+        at.next.2 ∙ beginning_and lines (text ++ LINE_FEED ∷ after),
+        inr (text, after, at.next.1, refl, judges after),
+      ))
 
-  fault_place : (bytes : List ℕ) (n : ℕ) (c : Cause) → IsFault g bytes n c → c ≢ cause.NoMemory → Place bytes (Refused n c)
-  fault_place bytes n cause.Header (text, (after, one, e), differ, at) ample = inr (inl (text, after, one, e, differ, ap (λ (m : ℕ). Refused m cause.Header) at))
-  fault_place bytes n cause.Form (lines, text, at, h) ample = judged bytes lines text n cause.Form at (λ after. (h, at.numbered))
-  fault_place bytes n cause.Many (lines, text, at, h) ample = judged bytes lines text n cause.Many at (λ after. (h, at.numbered))
+  fault_place : (bytes : List ℕ) (n : ℕ) (c : Cause) → IsFault g bytes n c → c ≢ cause.NoMemory
+      → Place bytes (Refused n c)
+  fault_place bytes n cause.Header (text, (after, one, e), differ, at) ample =
+      inr (inl (text, after, one, e, differ, ap (λ (m : ℕ). Refused m cause.Header) at))
+  fault_place bytes n cause.Form (lines, text, at, h) ample =
+      judged bytes lines text n cause.Form at (λ after. (h, at.numbered))
+  fault_place bytes n cause.Many (lines, text, at, h) ample =
+      judged bytes lines text n cause.Many at (λ after. (h, at.numbered))
   fault_place bytes n cause.Cut (before, last, inl (none, at), one, e) ample =
-      inl (subst IsOneLine (sym (e ∙ ap (λ (xs : List ℕ). xs ++ last) none)) one, ap (λ (m : ℕ). Refused m cause.Cut) at)
+      inl (
+        subst IsOneLine (sym (e ∙ ap (λ (xs : List ℕ). xs ++ last) none)) one,
+        ap (λ (m : ℕ). Refused m cause.Cut) at,
+      )
   fault_place bytes n cause.Cut (before, last, inr (lines, begun, is, at), one, e) ample =
-      inr (inr (lines, last, begun, e ∙ ap (λ (xs : List ℕ). xs ++ last) is ∙ beginning_and lines last, inl (one, ap (λ (m : ℕ). Refused m cause.Cut) at)))
+      inr (inr (
+        lines,
+        last,
+        begun,
+        e ∙ ap (λ (xs : List ℕ). xs ++ last) is ∙ beginning_and lines last,
+        inl (one, ap (λ (m : ℕ). Refused m cause.Cut) at),
+      ))
   fault_place bytes n cause.Trailing (v, b, more, allowed, e, at) ample =
       inr (inr (
         g.body v,
         line_text g g.end ++ LINE_FEED ∷ b ∷ more,
         value_begun v allowed,
         e ∙ full_and g v (b ∷ more) ∙ beginning_and (g.body v) (line_text g g.end ++ LINE_FEED ∷ b ∷ more),
-        inr (line_text g g.end, b ∷ more, made.one_line g.end made.fits_end, refl, (v, b, more, allowed, refl, refl, refl, at)),
+        inr (
+          line_text g g.end,
+          b ∷ more,
+          made.one_line g.end made.fits_end,
+          refl,
+          (v, b, more, allowed, refl, refl, refl, at),
+        ),
       ))
   fault_place bytes n cause.NoMemory h ample = absurd (ample refl)
 
-  place : (bytes : List ℕ) (r : Result V TextFault) → Reads g bytes r → IfErr r (λ f. f.cause ≢ cause.NoMemory) → Place bytes r
+  pub place : (bytes : List ℕ) (r : Result V TextFault) → Reads g bytes r
+      → IfErr r (λ f. f.cause ≢ cause.NoMemory) → Place bytes r
   place bytes (Ok v) reads ample = value_place bytes v reads
   place bytes (Err f) reads ample = fault_place bytes f.line f.cause reads ample
 
@@ -280,19 +340,24 @@ module _ {V K : Type 0} (g : Grammar V K) (made : IsWellMade g) where
 
   pub one_reading : (bytes : List ℕ) (r s : Result V TextFault) → Reads g bytes r → Reads g bytes s
       → IfErr r (λ f. f.cause ≢ cause.NoMemory) → IfErr s (λ f. f.cause ≢ cause.NoMemory) → r ≡ s
-  one_reading bytes r s reads again ample plenty = one_place bytes r s (place bytes r reads ample) (place bytes s again plenty)
+  one_reading bytes r s reads again ample plenty =
+      one_place bytes r s (place bytes r reads ample) (place bytes s again plenty)
 
-  pub written_is_read : (v : V) (r : Result V TextFault) → g.IsAllowed v → Reads g (full_text g v) r → MatchResult r (λ w. w ≡ v) (λ f. f.cause ≡ cause.NoMemory)
-  written_is_read v (Ok w) allowed reads = ok_is w v (one_reading (full_text g v) (Ok w) (Ok v) reads (record { allowed = allowed; text = refl }) tt tt) where
-    ok_is : (u t : V) → ◌≡◌ {A = Result V TextFault} (Ok u) (Ok t) → u ≡ t
-    ok_is u t e = cc
+  pub written_is_read : (v : V) (r : Result V TextFault) → g.IsAllowed v → Reads g (full_text g v) r
+      → MatchResult r (λ w. w ≡ v) (λ f. f.cause ≡ cause.NoMemory)
+  written_is_read v (Ok w) allowed reads =
+      ok_is w v (one_reading (full_text g v) (Ok w) (Ok v) reads
+      (record { allowed = allowed; text = refl }) tt tt) where
+        ok_is : (u t : V) → ◌≡◌ {A = Result V TextFault} (Ok u) (Ok t) → u ≡ t
+        ok_is u t e = cc
   written_is_read v (Err f) allowed reads = by_cause f.cause refl where
     differ : Err f ≡ Ok v → ⊥
     differ e = cc
 
     other : (c : Cause) → f.cause ≡ c → c ≢ cause.NoMemory → f.cause ≡ cause.NoMemory
     other c is not_memory =
-        absurd (differ (one_reading (full_text g v) (Err f) (Ok v) reads (record { allowed = allowed; text = refl }) (λ memory. not_memory (sym is ∙ memory)) tt))
+        absurd (differ (one_reading (full_text g v) (Err f) (Ok v) reads
+        (record { allowed = allowed; text = refl }) (λ memory. not_memory (sym is ∙ memory)) tt))
 
     by_cause : (c : Cause) → f.cause ≡ c → f.cause ≡ cause.NoMemory
     by_cause cause.NoMemory is = is
@@ -301,53 +366,3 @@ module _ {V K : Type 0} (g : Grammar V K) (made : IsWellMade g) where
     by_cause cause.Many is = other cause.Many is (λ e. cc)
     by_cause cause.Cut is = other cause.Cut is (λ e. cc)
     by_cause cause.Trailing is = other cause.Trailing is (λ e. cc)
-
--- ---- each text has a reading
-
--- what stands at a line behind lines that some allowed value begins with
-abbrev pub Decision : {V K : Type 0} → Grammar V K → List K → List ℕ → Type 0
-Decision {V} {K} g lines text =
-    ((longer : List K) × Continues g lines text longer)
-    ⊎ (IsNoLine g lines text ⊎ (IsOneTooMany g lines text ⊎ ((text ≡ line_text g g.end) × (v : V) × g.IsAllowed v × (g.body v ≡ lines))))
-
--- an answer that is not want of memory
-abbrev pub HasReading : {V K : Type 0} → Grammar V K → List ℕ → Type 0
-HasReading {V} g bytes = (r : Result V TextFault) × Reads g bytes r × IfErr r (λ f. f.cause ≢ cause.NoMemory)
-
-module _ {V K : Type 0} (g : Grammar V K) (made : IsWellMade g) (decides : (lines : List K) → IsBegun g lines → (text : List ℕ) → Decision g lines text) where
-  stops : (bytes : List ℕ) (n : ℕ) (c : Cause) → IsFault g bytes n c → c ≢ cause.NoMemory → HasReading g bytes
-  stops bytes n c fault other = (Err (record { line = n; cause = c }), fault, other)
-
-  ends : (bytes rest : List ℕ) (lines : List K) (number : ℕ) (text after : List ℕ) → IsBetween g bytes rest lines number → IsOneLine text × (rest ≡ text ++ LINE_FEED ∷ after)
-      → (text ≡ line_text g g.end) → (v : V) → g.IsAllowed v → g.body v ≡ lines → HasReading g bytes
-  ends bytes rest lines number text [] at next end v allowed e =
-      (Ok v, read_to_end g bytes rest lines number text [] at next end (Ok v) (allowed, e, refl), tt)
-  ends bytes rest lines number text (b ∷ after) at next end v allowed e =
-      let fault : TextFault = record { line = number + 1; cause = cause.Trailing } in
-      (Err fault, read_to_end g bytes rest lines number text (b ∷ after) at next end (Err fault) (inr (v, allowed, e, omega arith, refl)), λ c. cc)
-
-  goes : (n : ℕ) (bytes rest : List ℕ) (lines : List K) (number : ℕ) → length rest < n → IsBetween g bytes rest lines number → HasReading g bytes
-  goes zero bytes rest lines number short at = absurd (omega arith)
-  goes (suc n) bytes rest lines number short at = elim (first_line rest) [
-    | inl one ↦ stops bytes number cause.Cut (cut_at g bytes rest lines number at one) (λ c. cc)
-    | inr (text, after, one, e) ↦ elim (decides lines at.begun text) [
-      | inl (longer, goes_on) ↦
-          goes n bytes after longer (number + 1) (omega (arith, ap (length {A = ℕ}) e, length-append text (LINE_FEED ∷ after))) (one_more g bytes rest lines number text after at (one, e) longer goes_on)
-      | inr (inl form) ↦ stops bytes number cause.Form (refused g bytes rest lines number text after at (one, e) cause.Form form) (λ c. cc)
-      | inr (inr (inl many)) ↦ stops bytes number cause.Many (refused g bytes rest lines number text after at (one, e) cause.Many many) (λ c. cc)
-      | inr (inr (inr (end, v, allowed, is))) ↦ ends bytes rest lines number text after at (one, e) end v allowed is
-    ]
-  ]
-
-  pub has_reading : IsBegun g [] → (bytes : List ℕ) → HasReading g bytes
-  has_reading begun bytes = elim (first_line bytes) [
-    | inl one ↦ stops bytes 1 cause.Cut ([], bytes, inl (refl, refl), one, refl) (λ c. cc)
-    | inr (text, after, one, e) ↦ by_header (bytes_eq text (header g)) text after refl one e
-  ] where
-    by_header : (b : Bool) (text after : List ℕ) → bytes_eq text (header g) ≡ b → IsOneLine text → bytes ≡ text ++ LINE_FEED ∷ after → HasReading g bytes
-    by_header true text after is one e =
-        let same = (bytes_eq-Decides text (header g)).0 is in
-        goes (suc (length after)) bytes after [] 2 (omega arith) (started g bytes after [] begun refl (e ∙ ap (λ (xs : List ℕ). xs ++ LINE_FEED ∷ after) same))
-    by_header false text after is one e =
-        let differ : text ≢ header g = λ same. let yes = (bytes_eq-Decides text (header g)).1 same in cc in
-        stops bytes 1 cause.Header (text, (after, one, e), differ, refl) (λ c. cc)

@@ -2,10 +2,15 @@ pub mod EachLemmas
 pub mod BodyLemmas
 pub mod WordLemmas
 pub mod ReadingLemmas
+pub mod LineLemmas
 pub mod GrammarLemmas
+pub mod HasReadingLemmas
+pub mod MemoryLemmas
+pub mod ProgramsOrderLemmas
+pub mod ProgramsFollowLemmas
+pub mod ProgramsValueLemmas
 pub mod ProgramsLemmas
 pub mod ProgramsGrammarLemmas
-pub mod DecisionLemmas
 pub mod ProgramsDecidedLemmas
 pub mod TranscriptDrafts
 pub mod TranscriptDraftLemmas
@@ -15,3 +20,7 @@ pub mod TranscriptLemmas
 pub mod TranscriptGrammarLemmas
 pub mod TranscriptDecidedLemmas
 pub mod WritingLemmas
+pub mod WorkedFaultLemmas
+pub mod WrongCommandLemmas
+pub mod WrongProgramLemmas
+pub mod WrongTranscriptLemmas

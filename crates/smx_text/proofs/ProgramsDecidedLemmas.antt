@@ -1,8 +1,8 @@
 -- Each line behind those of some programs is decided.
-use Rattle.std.proofs.Common.{◌≡◌, ◌≢◌, ℕ, ◌<◌, List, [], ◌∷◌, ◌++◌, Option, Some, None, refl, sym, subst, arith, inl, inr}
+use Rattle.std.proofs.Common.{◌≡◌, ◌≢◌, ℕ, List, [], ◌∷◌, ◌++◌, Option, Some, None, refl, sym, subst, arith, inl, inr}
 use Rattle.std.specs.List.{sum_by}
 use Rattle.std.proofs.lemmas.List.{append-nil}
-use Rattle.std.specs.Prelude.{◌⊎◌, length, codes}
+use Rattle.std.specs.Prelude.{◌⊎◌, length}
 use Rattle.smx_types.specs.ProgramLists.{ProgramLists, program_lists}
 use Rattle.smx_types.specs.declared.command.Command.{Command}
 use Rattle.smx_types.specs.declared.driver.DriverSpec.{DriverSpec}
@@ -16,54 +16,66 @@ use Rattle.smx_text.specs.Grammar.{IsBegun, line_text}
 use Rattle.smx_text.specs.ProgramLines.{Line}
 use Rattle.smx_text.specs.ProgramLines as line
 use Rattle.smx_text.specs.ProgramsText.{FitsLine, body, IsAllowed, programs_grammar}
-use Rattle.smx_text.proofs.DecisionLemmas.{same_or_not, below_or_not, same_bytes_or_not}
-use Rattle.smx_text.proofs.GrammarLemmas.{Decision, HasReading, has_reading}
+use Rattle.std.proofs.lemmas.Bool.{cases_eq, cases_lt}
+use Rattle.smx_words.proofs.DecidedLemmas.{same_or_not}
+use Rattle.smx_text.proofs.HasReadingLemmas.{Decision, HasReading, has_reading}
 use Rattle.smx_text.proofs.ProgramsGrammarLemmas.{refused_line, well_made, no_line}
-use Rattle.smx_text.proofs.ProgramsLemmas.{MayStand, AreMany, HasRoom, misplaced, too_many, longer_begun, begun_is_body}
+use Rattle.smx_text.proofs.ProgramsFollowLemmas.{MayStand, AreMany}
+use Rattle.smx_text.proofs.ProgramsLemmas.{HasRoom, misplaced, too_many, longer_begun}
+use Rattle.smx_text.proofs.ProgramsValueLemmas.{begun_is_body}
 use Rattle.smx_words.proofs.DecidedCommandLemmas.{command_reading}
 use Rattle.smx_words.proofs.DecidedLineLemmas.{driver_reading, process_reading}
 
 stands_or_not : (v : ProgramLists) (k : Line) → MayStand v k ⊎ (MayStand v k → ⊥)
-stands_or_not v (line.Driver d) = same_or_not (length v.programs) 0
-stands_or_not v (line.Process n) = same_or_not n (length v.programs)
-stands_or_not v (line.Command c) = elim (below_or_not 0 (length v.programs)) [ inl some ↦ inl some | inr none ↦ inr (λ some. omega (arith, some, none)) ]
+stands_or_not v (line.Driver d) = cases_eq (length v.programs) 0
+stands_or_not v (line.Process n) = cases_eq n (length v.programs)
+stands_or_not v (line.Command c) =
+    elim (cases_lt 0 (length v.programs)) [
+      | inl some ↦ inl some
+      | inr none ↦ inr (λ some. omega (arith, some, none))
+    ]
 stands_or_not v line.End = inl tt
 
 room_or_many : (v : ProgramLists) (k : Line) → k ≢ line.End → HasRoom v k ⊎ AreMany v k
-room_or_many v (line.Driver d) other = below_or_not (length v.drivers) MAX_DRIVERS
-room_or_many v (line.Process n) other = below_or_not (length v.programs) MAX_PROCESSES
-room_or_many v (line.Command c) other = below_or_not (sum_by length v.programs) MAX_COMMANDS
+room_or_many v (line.Driver d) other = cases_lt (length v.drivers) MAX_DRIVERS
+room_or_many v (line.Process n) other = cases_lt (length v.programs) MAX_PROCESSES
+room_or_many v (line.Command c) other = cases_lt (sum_by length v.programs) MAX_COMMANDS
 room_or_many v line.End other = absurd (other refl)
 
 begun_by : (v : ProgramLists) → IsAllowed v → IsBegun programs_grammar (body v)
 begun_by v allowed = (v, [], allowed, sym (append-nil (body v)))
 
 -- a line that was read
-judged : (v : ProgramLists) → IsAllowed v → (k : Line) (text : List ℕ) → k ≢ line.End → FitsLine k → text ≡ line_text programs_grammar k → Decision programs_grammar (body v) text
+judged : (v : ProgramLists) → IsAllowed v → (k : Line) (text : List ℕ) → k ≢ line.End → FitsLine k
+    → text ≡ line_text programs_grammar k → Decision programs_grammar (body v) text
 judged v allowed k text other fits is = elim (stands_or_not v k) [
   | inr misplaced_there ↦ inr (inl (refused_line (body v) k text fits is cause.Form (misplaced v k misplaced_there)))
   | inl may ↦ elim (room_or_many v k other) [
     | inr many ↦ inr (inr (inl (refused_line (body v) k text fits is cause.Many (too_many v k may many))))
-    | inl room ↦ inl (body v ++ k ∷ [], (k, is, refl, longer_begun v k allowed.within (begun_by v allowed) may room fits))
+    | inl room ↦ inl (body v ++ k ∷ [], (k, is, refl, longer_begun v k (begun_by v allowed) may room fits))
   ]
 ]
 
-module _ (v : ProgramLists) (allowed : IsAllowed v) (text : List ℕ) (other : text ≢ line_text programs_grammar line.End) where
-  by_process : ((c : Command) → FitsCommand c → text ≢ line_of (command_words c)) → ((d : DriverSpec) → FitsDriver d → text ≢ line_of (driver_words d))
+module _ (v : ProgramLists) (allowed : IsAllowed v) (text : List ℕ)
+    (other : text ≢ line_text programs_grammar line.End) where
+  by_process : ((c : Command) → FitsCommand c → text ≢ line_of (command_words c))
+      → ((d : DriverSpec) → FitsDriver d → text ≢ line_of (driver_words d))
       → (o : Option ℕ) → IsReadAs FitsNumber process_words text o → Decision programs_grammar (body v) text
   by_process commands drivers None none = inr (inl (no_line (body v) text commands drivers none other))
   by_process commands drivers (Some n) (fits, is) = judged v allowed (line.Process n) text (λ e. cc) fits is
 
-  by_driver : ((c : Command) → FitsCommand c → text ≢ line_of (command_words c)) → (o : Option DriverSpec) → IsReadAs FitsDriver driver_words text o → Decision programs_grammar (body v) text
+  by_driver : ((c : Command) → FitsCommand c → text ≢ line_of (command_words c)) → (o : Option DriverSpec)
+      → IsReadAs FitsDriver driver_words text o → Decision programs_grammar (body v) text
   by_driver commands None none = let p = process_reading text in by_process commands none p.0 p.1
   by_driver commands (Some d) (fits, is) = judged v allowed (line.Driver d) text (λ e. cc) fits is
 
-  by_command : (o : Option Command) → IsReadAs FitsCommand command_words text o → Decision programs_grammar (body v) text
+  by_command : (o : Option Command) → IsReadAs FitsCommand command_words text o
+      → Decision programs_grammar (body v) text
   by_command None none = let d = driver_reading text in by_driver none d.0 d.1
   by_command (Some c) (fits, is) = judged v allowed (line.Command c) text (λ e. cc) fits is
 
 behind : (v : ProgramLists) → IsAllowed v → (text : List ℕ) → Decision programs_grammar (body v) text
-behind v allowed text = elim (same_bytes_or_not text (line_text programs_grammar line.End)) [
+behind v allowed text = elim (same_or_not text (line_text programs_grammar line.End)) [
   | inl end ↦ inr (inr (inr (end, v, allowed, refl)))
   | inr other ↦ let c = command_reading text in by_command v allowed text other c.0 c.1
 ]
@@ -74,7 +86,15 @@ decides lines begun text =
     subst (λ (ls : List Line). Decision programs_grammar ls text) own.2 (behind own.0 own.1 text)
 
 pub nothing_begun : IsBegun programs_grammar []
-nothing_begun = (program_lists [] [], [], record { within = record { drivers = omega arith; programs = omega arith; commands = omega arith }; fits = tt }, refl)
+nothing_begun = (
+  program_lists [] [],
+  [],
+  record {
+    within = record { drivers = omega arith; programs = omega arith; commands = omega arith };
+    fits = tt;
+  },
+  refl,
+)
 
 pub programs_have_reading : (bytes : List ℕ) → HasReading programs_grammar bytes
 programs_have_reading bytes = has_reading programs_grammar well_made decides nothing_begun bytes

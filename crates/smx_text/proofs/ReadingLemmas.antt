@@ -1,25 +1,31 @@
 -- Where a reader stands between two lines, and what it may answer there. For any kind of text.
-use Rattle.std.proofs.Common.{◌≡◌, ◌≢◌, ℕ, suc, ◌+◌, ◌-◌, ◌<◌, List, [], ◌∷◌, ◌++◌, length, map, Result, Ok, Err, refl, sym, ap, subst, ◌∙◌, append_assoc, arith, inl, inr}
-use Rattle.std.specs.Prelude.{codes, ◌⊎◌, OnOk, IfErr}
+use Rattle.std.proofs.Common.{◌≡◌, ℕ, ◌+◌, ◌<◌, List, [], ◌∷◌, ◌++◌, length, map, Result, Ok, Err, refl, sym}
+use Rattle.std.proofs.Common.{ap, subst, ◌∙◌, append_assoc, arith, inl, inr}
+use Rattle.std.specs.Prelude.{OnOk, IfErr}
 use Rattle.std.proofs.lemmas.List.{append-nil, map-append, length-append, nil_from_length}
 use Rattle.std.proofs.lemmas.List.Concat.{flat_map-append}
 use Rattle.smx_words.specs.Words.{LINE_FEED, line_of, text_of}
 use Rattle.smx_text.specs.declared.fault.Cause.{Cause}
 use Rattle.smx_text.specs.declared.fault.Cause.TheVariants as cause
 use Rattle.smx_text.specs.declared.fault.TextFault.{TextFault}
-use Rattle.smx_text.specs.Grammar.{Grammar, IsOneLine, HasNext, header, line_text, beginning, full_text, Spells, IsBegun, Continues, IsNoLine, MayFollow, Reaches, Begins, IsFault, Reads}
+use Rattle.smx_text.specs.Grammar.{Grammar, IsOneLine, header, line_text, beginning, full_text, IsBegun}
+use Rattle.smx_text.specs.Grammar.{Continues, IsNoLine, MayFollow, Reaches, IsFault, Reads}
 use Rattle.smx_text.specs.Reading.{Refuses, AddsLine, RefusesLine, EndsText}
 
-texts_append : (ls ks : List (List (List ℕ))) → text_of (ls ++ ks) ≡ text_of ls ++ text_of ks
+-- a text of some lines and of others
+pub texts_append : (ls ks : List (List (List ℕ))) → text_of (ls ++ ks) ≡ text_of ls ++ text_of ks
 texts_append ls ks = flat_map-append (λ words. line_of words ++ LINE_FEED ∷ []) ls ks
 
 -- with bytes behind it, a line is its words, its line feed and those bytes
-behind : (before text after : List ℕ) → (before ++ (text ++ LINE_FEED ∷ [])) ++ after ≡ before ++ (text ++ LINE_FEED ∷ after)
-behind before text after = append_assoc before (text ++ LINE_FEED ∷ []) after ∙ ap (λ (xs : List ℕ). before ++ xs) (append_assoc text (LINE_FEED ∷ []) after)
+behind : (before text after : List ℕ) → (before ++ (text ++ LINE_FEED ∷ [])) ++ after
+    ≡ before ++ (text ++ LINE_FEED ∷ after)
+behind before text after = append_assoc before (text ++ LINE_FEED ∷ []) after
+    ∙ ap (λ (xs : List ℕ). before ++ xs) (append_assoc text (LINE_FEED ∷ []) after)
 
 module _ {V K : Type 0} (g : Grammar V K) where
   -- with one line more
-  pub beginning_more : (lines : List K) (k : K) → beginning g (lines ++ k ∷ []) ≡ beginning g lines ++ (line_text g k ++ LINE_FEED ∷ [])
+  pub beginning_more : (lines : List K) (k : K)
+      → beginning g (lines ++ k ∷ []) ≡ beginning g lines ++ (line_text g k ++ LINE_FEED ∷ [])
   beginning_more lines k =
       ap (λ (ws : List (List (List ℕ))). text_of (g.header_words ∷ ws)) (map-append g.line_words lines (k ∷ []))
       ∙ texts_append (g.header_words ∷ map g.line_words lines) (g.line_words k ∷ [])
@@ -31,11 +37,15 @@ module _ {V K : Type 0} (g : Grammar V K) where
       texts_append (g.header_words ∷ map g.line_words (g.body v)) (g.line_words g.end ∷ [])
       ∙ ap (λ (xs : List ℕ). beginning g (g.body v) ++ xs) (append-nil (line_text g g.end ++ LINE_FEED ∷ []))
 
-  pub full_and : (v : V) (more : List ℕ) → full_text g v ++ more ≡ beginning g (g.body v) ++ (line_text g g.end ++ LINE_FEED ∷ more)
-  full_and v more = ap (λ (xs : List ℕ). xs ++ more) (full_is v) ∙ behind (beginning g (g.body v)) (line_text g g.end) more
+  pub full_and : (v : V) (more : List ℕ) → full_text g v ++ more
+      ≡ beginning g (g.body v) ++ (line_text g g.end ++ LINE_FEED ∷ more)
+  full_and v more = ap (λ (xs : List ℕ). xs ++ more) (full_is v)
+      ∙ behind (beginning g (g.body v)) (line_text g g.end) more
 
-  pub more_and : (lines : List K) (k : K) (after : List ℕ) → beginning g (lines ++ k ∷ []) ++ after ≡ beginning g lines ++ (line_text g k ++ LINE_FEED ∷ after)
-  more_and lines k after = ap (λ (xs : List ℕ). xs ++ after) (beginning_more lines k) ∙ behind (beginning g lines) (line_text g k) after
+  pub more_and : (lines : List K) (k : K) (after : List ℕ)
+      → beginning g (lines ++ k ∷ []) ++ after ≡ beginning g lines ++ (line_text g k ++ LINE_FEED ∷ after)
+  more_and lines k after = ap (λ (xs : List ℕ). xs ++ after) (beginning_more lines k)
+      ∙ behind (beginning g lines) (line_text g k) after
 
   -- Between two lines: these were taken in, and the rest is still to read.
   pub record IsBetween (bytes rest : List ℕ) (lines : List K) (number : ℕ) : Type 0 where
@@ -43,17 +53,23 @@ module _ {V K : Type 0} (g : Grammar V K) where
     pub parts : bytes ≡ beginning g lines ++ rest
     pub numbered : number ≡ length lines + 2
 
-  pub started : (bytes rest : List ℕ) (lines : List K) → IsBegun g [] → lines ≡ [] → bytes ≡ header g ++ LINE_FEED ∷ rest → IsBetween bytes rest lines 2
+  pub started : (bytes rest : List ℕ) (lines : List K) → IsBegun g [] → lines ≡ []
+      → bytes ≡ header g ++ LINE_FEED ∷ rest → IsBetween bytes rest lines 2
   started bytes rest lines begun none e = rw none (record {
     begun = begun;
-    parts = e ∙ sym (append_assoc (header g) (LINE_FEED ∷ []) rest) ∙ ap (λ (xs : List ℕ). xs ++ rest) (sym (append-nil (header g ++ LINE_FEED ∷ [])));
+    parts = e ∙ sym (append_assoc (header g) (LINE_FEED ∷ []) rest)
+        ∙ ap (λ (xs : List ℕ). xs ++ rest) (sym (append-nil (header g ++ LINE_FEED ∷ [])));
     numbered = refl;
   })
 
-  pub cut_at : (bytes rest : List ℕ) (lines : List K) (number : ℕ) → IsBetween bytes rest lines number → IsOneLine rest → IsFault g bytes number cause.Cut
-  cut_at bytes rest lines number at one = (beginning g lines, rest, inr (lines, at.begun, refl, at.numbered), one, at.parts)
+  pub cut_at : (bytes rest : List ℕ) (lines : List K) (number : ℕ) → IsBetween bytes rest lines number
+      → IsOneLine rest → IsFault g bytes number cause.Cut
+  cut_at bytes rest lines number at one =
+      (beginning g lines, rest, inr (lines, at.begun, refl, at.numbered), one, at.parts)
 
-  module _ (bytes rest : List ℕ) (lines : List K) (number : ℕ) (text after : List ℕ) (at : IsBetween bytes rest lines number) (next : IsOneLine text × (rest ≡ text ++ LINE_FEED ∷ after)) where
+  module _ (bytes rest : List ℕ) (lines : List K) (number : ℕ) (text after : List ℕ)
+      (at : IsBetween bytes rest lines number)
+      (next : IsOneLine text × (rest ≡ text ++ LINE_FEED ∷ after)) where
     all : bytes ≡ beginning g lines ++ (text ++ LINE_FEED ∷ after)
     all = at.parts ∙ ap (λ (xs : List ℕ). beginning g lines ++ xs) next.1
 
@@ -71,7 +87,8 @@ module _ {V K : Type 0} (g : Grammar V K) where
     pub one_more : (longer : List K) → Continues g lines text longer → IsBetween bytes after longer (number + 1)
     one_more longer (k, is, longer_is, begun) = record {
       begun = begun;
-      parts = all ∙ ap (λ (t : List ℕ). beginning g lines ++ (t ++ LINE_FEED ∷ after)) is ∙ sym (more_and lines k after) ∙ ap (λ (ls : List K). beginning g ls ++ after) (sym longer_is);
+      parts = all ∙ ap (λ (t : List ℕ). beginning g lines ++ (t ++ LINE_FEED ∷ after)) is
+          ∙ sym (more_and lines k after) ∙ ap (λ (ls : List K). beginning g ls ++ after) (sym longer_is);
       numbered = omega (arith, at.numbered, ap (length {A = K}) longer_is, length-append lines (k ∷ []));
     }
 
@@ -79,40 +96,64 @@ module _ {V K : Type 0} (g : Grammar V K) where
     module _ (end : text ≡ line_text g g.end) where
       whole : (v : V) → g.body v ≡ lines → bytes ≡ full_text g v ++ after
       whole v e =
-          all ∙ ap (λ (t : List ℕ). beginning g lines ++ (t ++ LINE_FEED ∷ after)) end ∙ ap (λ (ls : List K). beginning g ls ++ (line_text g g.end ++ LINE_FEED ∷ after)) (sym e) ∙ sym (full_and v after)
+          all ∙ ap (λ (t : List ℕ). beginning g lines ++ (t ++ LINE_FEED ∷ after)) end
+          ∙ ap (λ (ls : List K). beginning g ls ++ (line_text g g.end ++ LINE_FEED ∷ after)) (sym e)
+          ∙ sym (full_and v after)
 
       may_not : IsNoLine g lines (line_text g g.end) → IsFault g bytes number cause.Form
       may_not never = (lines, text, reaches, subst (IsNoLine g lines) (sym end) never)
 
-      trails : (v : V) → g.IsAllowed v → g.body v ≡ lines → (xs : List ℕ) → after ≡ xs → 0 < length xs → IsFault g bytes (number + 1) cause.Trailing
+      trails : (v : V) → g.IsAllowed v → g.body v ≡ lines → (xs : List ℕ) → after ≡ xs → 0 < length xs
+          → IsFault g bytes (number + 1) cause.Trailing
       trails v allowed e [] is some = absurd (omega arith)
-      trails v allowed e (b ∷ more) is some =
-          (v, b, more, allowed, whole v e ∙ ap (λ (xs : List ℕ). full_text g v ++ xs) is, omega (arith, at.numbered, ap (length {A = K}) e))
+      trails v allowed e (b ∷ more) is some = (
+        v,
+        b,
+        more,
+        allowed,
+        whole v e ∙ ap (λ (xs : List ℕ). full_text g v ++ xs) is,
+        omega (arith, at.numbered, ap (length {A = K}) e),
+      )
 
       pub read_to_end : (r : Result V TextFault) → EndsText g lines after number r → Reads g bytes r
-      read_to_end (Ok v) (allowed, e, none) = record { allowed = allowed; text = whole v e ∙ ap (λ (xs : List ℕ). full_text g v ++ xs) (nil_from_length after none) ∙ append-nil (full_text g v) }
-      read_to_end (Err f) (inl (never, is)) = subst (λ (x : TextFault). IsFault g bytes x.line x.cause) (sym is) (may_not never)
-      read_to_end (Err f) (inr (v, allowed, e, some, is)) = subst (λ (x : TextFault). IsFault g bytes x.line x.cause) (sym is) (trails v allowed e after refl some)
+      read_to_end (Ok v) (allowed, e, none) =
+          record {
+            allowed = allowed;
+            text = whole v e
+                ∙ ap (λ (xs : List ℕ). full_text g v ++ xs) (nil_from_length after none)
+                ∙ append-nil (full_text g v);
+          }
+      read_to_end (Err f) (inl (never, is)) =
+          subst (λ (x : TextFault). IsFault g bytes x.line x.cause) (sym is) (may_not never)
+      read_to_end (Err f) (inr (v, allowed, e, some, is)) =
+          subst (λ (x : TextFault). IsFault g bytes x.line x.cause) (sym is)
+          (trails v allowed e after refl some)
 
   -- ---- what is done with a line that was read is done with its text
 
-  pub continues : (lines longer : List K) (k : K) (text : List ℕ) → text ≡ line_text g k → AddsLine g lines k longer → Continues g lines text longer
+  pub continues : (lines longer : List K) (k : K) (text : List ℕ) → text ≡ line_text g k
+      → AddsLine g lines k longer → Continues g lines text longer
   continues lines longer k text is adds = (k, is, adds.0, adds.1)
 
-  pub refuses : ((k l : K) → g.FitsLine k → g.FitsLine l → line_text g k ≡ line_text g l → k ≡ l) → g.FitsLine g.end → (lines : List K) (k : K) (text : List ℕ)
+  pub refuses : ((k l : K) → g.FitsLine k → g.FitsLine l → line_text g k ≡ line_text g l → k ≡ l)
+      → (lines : List K) (k : K) (text : List ℕ)
       → g.FitsLine k → text ≡ line_text g k → (why : Cause) → RefusesLine g lines k why → Refuses g lines text why
-  refuses tells_apart fits_end lines k text fits is cause.Form h = λ l also may same. h (subst (λ (x : K). MayFollow g lines x) (tells_apart l k also fits (sym same ∙ is)) may)
-  refuses tells_apart fits_end lines k text fits is cause.Many h = (k, is, fits, h.0, h.1)
-  refuses tells_apart fits_end lines k text fits is cause.NoMemory h = λ end. h (tells_apart k g.end fits fits_end (sym is ∙ end))
-  refuses tells_apart fits_end lines k text fits is cause.Header h = absurd h
-  refuses tells_apart fits_end lines k text fits is cause.Cut h = absurd h
-  refuses tells_apart fits_end lines k text fits is cause.Trailing h = absurd h
+  refuses tells_apart lines k text fits is cause.Form h = λ l also may same.
+      h (subst (λ (x : K). MayFollow g lines x) (tells_apart l k also fits (sym same ∙ is)) may)
+  refuses tells_apart lines k text fits is cause.Many h = (k, is, fits, h.0, h.1)
+  refuses tells_apart lines k text fits is cause.NoMemory h = (lines ++ k ∷ [], (k, is, refl, h))
+  refuses tells_apart lines k text fits is cause.Header h = absurd h
+  refuses tells_apart lines k text fits is cause.Cut h = absurd h
+  refuses tells_apart lines k text fits is cause.Trailing h = absurd h
 
-  pub on_added : {A : Type 0} (lines longer : List K) (k : K) (text : List ℕ) → text ≡ line_text g k → (r : Result A Cause) → OnOk r (AddsLine g lines k longer) → OnOk r (Continues g lines text longer)
+  pub on_added : {A : Type 0} (lines longer : List K) (k : K) (text : List ℕ) → text ≡ line_text g k
+      → (r : Result A Cause) → OnOk r (AddsLine g lines k longer) → OnOk r (Continues g lines text longer)
   on_added lines longer k text is (Ok x) adds = continues lines longer k text is adds
   on_added lines longer k text is (Err e) adds = tt
 
-  pub on_refused : {A : Type 0} → ((k l : K) → g.FitsLine k → g.FitsLine l → line_text g k ≡ line_text g l → k ≡ l) → g.FitsLine g.end → (lines : List K) (k : K) (text : List ℕ)
-      → g.FitsLine k → text ≡ line_text g k → (r : Result A Cause) → IfErr r (RefusesLine g lines k) → IfErr r (Refuses g lines text)
-  on_refused tells_apart fits_end lines k text fits is (Ok x) h = tt
-  on_refused tells_apart fits_end lines k text fits is (Err e) h = refuses tells_apart fits_end lines k text fits is e h
+  pub on_refused : {A : Type 0} → ((k l : K) → g.FitsLine k → g.FitsLine l → line_text g k ≡ line_text g l
+      → k ≡ l) → (lines : List K) (k : K) (text : List ℕ)
+      → g.FitsLine k → text ≡ line_text g k → (r : Result A Cause) → IfErr r (RefusesLine g lines k)
+      → IfErr r (Refuses g lines text)
+  on_refused tells_apart lines k text fits is (Ok x) h = tt
+  on_refused tells_apart lines k text fits is (Err e) h = refuses tells_apart lines k text fits is e h

@@ -1,6 +1,6 @@
 -- Each line behind those of a transcript that is being read is decided.
-use Rattle.std.proofs.Common.{◌≡◌, ◌≢◌, ℕ, Bool, true, false, List, [], ◌∷◌, ◌++◌, Option, Some, None, refl, sym, subst, inl, inr}
-use Rattle.std.specs.Prelude.{◌⊎◌}
+use Rattle.std.proofs.Common.{◌≡◌, ◌≢◌, ℕ, Bool, true, false, List, [], ◌∷◌, ◌++◌, Option, Some, None, refl}
+use Rattle.std.proofs.Common.{sym, subst, inl, inr}
 use Rattle.smx_types.specs.declared.command.Entry.{Entry}
 use Rattle.smx_types.specs.declared.driver.DriverSpec.{DriverSpec}
 use Rattle.smx_types.specs.declared.view.BindingLine.{BindingLine}
@@ -11,10 +11,14 @@ use Rattle.smx_types.specs.declared.view.MessageLine.{MessageLine}
 use Rattle.smx_types.specs.declared.view.RouteLine.{RouteLine}
 use Rattle.smx_words.specs.LineReading.{IsReadAs}
 use Rattle.smx_words.specs.Words.{line_of}
-use Rattle.smx_words.specs.Spelling.{driver_words, entry_words, descriptor_words, link_words, bind_words, route_words, message_words, full_words, next_words}
-use Rattle.smx_words.specs.Spellable.{FitsDriver, FitsEntry, FitsDescriptor, FitsLink, FitsBinding, FitsRoute, FitsMessage, FitsFull, FitsNext}
+use Rattle.smx_words.specs.Spelling.{driver_words, entry_words, descriptor_words, link_words, bind_words}
+use Rattle.smx_words.specs.Spelling.{route_words, message_words, full_words, next_words}
+use Rattle.smx_words.specs.Spellable.{FitsDriver, FitsEntry, FitsDescriptor, FitsLink, FitsBinding}
+use Rattle.smx_words.specs.Spellable.{FitsRoute, FitsMessage, FitsFull, FitsNext}
 use Rattle.smx_words.proofs.DecidedCommandLemmas.{entry_reading}
-use Rattle.smx_words.proofs.DecidedLineLemmas.{driver_reading, next_reading, descriptor_reading, link_reading, bind_reading, route_reading, message_reading, full_reading}
+use Rattle.smx_words.proofs.DecidedLineLemmas.{driver_reading, next_reading, descriptor_reading}
+use Rattle.smx_words.proofs.DecidedLineLemmas.{link_reading, bind_reading, route_reading, message_reading}
+use Rattle.smx_words.proofs.DecidedLineLemmas.{full_reading}
 use Rattle.smx_text.specs.declared.fault.Cause.TheVariants as cause
 use Rattle.smx_text.specs.declared.transcript.draft.Stage.{Stage}
 use Rattle.smx_text.specs.declared.transcript.draft.Stage.TheVariants as stage
@@ -24,14 +28,16 @@ use Rattle.smx_text.specs.Grammar.{IsBegun, IsNoLine, line_text}
 use Rattle.smx_text.specs.TranscriptLines.{TranscriptLine}
 use Rattle.smx_text.specs.TranscriptLines as line
 use Rattle.smx_text.specs.TranscriptText.{FitsLine, transcript_grammar}
-use Rattle.smx_text.proofs.DecisionLemmas.{same_bytes_or_not}
-use Rattle.smx_text.proofs.GrammarLemmas.{Decision, HasReading, has_reading}
+use Rattle.smx_words.proofs.DecidedLemmas.{same_or_not}
+use Rattle.smx_text.proofs.HasReadingLemmas.{Decision, HasReading, has_reading}
 use Rattle.smx_text.proofs.TranscriptDrafts.{takes, is_full}
 use Rattle.smx_text.proofs.TranscriptGrammarLemmas.{refused_line, not_at_end, well_made, no_line}
 use Rattle.smx_text.proofs.TranscriptLemmas.{misplaced, too_many, longer_begun, whole, begun_is_draft, nothing_begun}
 
 -- a line that was read
-judged : (d : TranscriptDraft) → IsBegun transcript_grammar (lines d) → (k : TranscriptLine) (text : List ℕ) → k ≢ line.End → FitsLine k → text ≡ line_text transcript_grammar k → Decision transcript_grammar (lines d) text
+judged : (d : TranscriptDraft) → IsBegun transcript_grammar (lines d) → (k : TranscriptLine) (text : List ℕ)
+    → k ≢ line.End → FitsLine k → text ≡ line_text transcript_grammar k
+    → Decision transcript_grammar (lines d) text
 judged d begun k text other fits is = by_place (takes d k) refl where
   by_room : takes d k ≡ true → (b : Bool) → is_full d k ≡ b → Decision transcript_grammar (lines d) text
   by_room may true full = inr (inr (inl (refused_line (lines d) k text fits is cause.Many (too_many d k may full))))
@@ -47,13 +53,16 @@ view_of stage.Config h = absurd cc
 view_of stage.View h = refl
 
 -- the last line
-at_end : (d : TranscriptDraft) → IsBegun transcript_grammar (lines d) → (text : List ℕ) → text ≡ line_text transcript_grammar line.End → Decision transcript_grammar (lines d) text
+at_end : (d : TranscriptDraft) → IsBegun transcript_grammar (lines d) → (text : List ℕ)
+    → text ≡ line_text transcript_grammar line.End → Decision transcript_grammar (lines d) text
 at_end d begun text end = by_stage (is_view d.stage) refl where
   by_stage : (b : Bool) → is_view d.stage ≡ b → Decision transcript_grammar (lines d) text
-  by_stage true view = let all = whole d begun (view_of d.stage view) in inr (inr (inr (end, d.transcript, all.0, all.1)))
+  by_stage true view = let all = whole d begun (view_of d.stage view) in
+      inr (inr (inr (end, d.transcript, all.0, all.1)))
   by_stage false early = inr (inl (subst (IsNoLine transcript_grammar (lines d)) (sym end) (not_at_end d early)))
 
-module _ (d : TranscriptDraft) (begun : IsBegun transcript_grammar (lines d)) (text : List ℕ) (other : text ≢ line_text transcript_grammar line.End) where
+module _ (d : TranscriptDraft) (begun : IsBegun transcript_grammar (lines d)) (text : List ℕ)
+    (other : text ≢ line_text transcript_grammar line.End) where
   -- it is the words of none of these
   abbrev IsNone : {X : Type 0} → (X → Type 0) → (X → List (List ℕ)) → Type 0
   IsNone {X} Fits words = (x : X) → Fits x → text ≢ line_of (words x)
@@ -61,20 +70,30 @@ module _ (d : TranscriptDraft) (begun : IsBegun transcript_grammar (lines d)) (t
   abbrev Decided : Type 0
   Decided = Decision transcript_grammar (lines d) text
 
-  module _ (entries : IsNone FitsEntry entry_words) (messages : IsNone FitsMessage message_words) (drivers : IsNone FitsDriver driver_words) (config : text ≢ line_text transcript_grammar line.Config) (nexts : IsNone FitsNext next_words) where
-    by_full : IsNone FitsDescriptor descriptor_words → IsNone FitsLink link_words → IsNone FitsBinding bind_words → IsNone FitsRoute route_words → (o : Option FullLine) → IsReadAs FitsFull full_words text o → Decided
-    by_full fds links binds routes None none = inr (inl (no_line (lines d) text entries messages drivers config nexts fds links binds routes none other))
+  module _ (entries : IsNone FitsEntry entry_words) (messages : IsNone FitsMessage message_words)
+      (drivers : IsNone FitsDriver driver_words) (config : text ≢ line_text transcript_grammar line.Config)
+      (nexts : IsNone FitsNext next_words) where
+    by_full : IsNone FitsDescriptor descriptor_words → IsNone FitsLink link_words
+        → IsNone FitsBinding bind_words → IsNone FitsRoute route_words → (o : Option FullLine)
+        → IsReadAs FitsFull full_words text o → Decided
+    by_full fds links binds routes None none =
+        inr (inl (no_line (lines d) text entries messages drivers config nexts fds links binds
+        routes none other))
     by_full fds links binds routes (Some x) (fits, is) = judged d begun (line.Full x) text (λ e. cc) fits is
 
-    by_route : IsNone FitsDescriptor descriptor_words → IsNone FitsLink link_words → IsNone FitsBinding bind_words → (o : Option RouteLine) → IsReadAs FitsRoute route_words text o → Decided
+    by_route : IsNone FitsDescriptor descriptor_words → IsNone FitsLink link_words
+        → IsNone FitsBinding bind_words → (o : Option RouteLine)
+        → IsReadAs FitsRoute route_words text o → Decided
     by_route fds links binds None none = let o = full_reading text in by_full fds links binds none o.0 o.1
     by_route fds links binds (Some x) (fits, is) = judged d begun (line.Route x) text (λ e. cc) fits is
 
-    by_bind : IsNone FitsDescriptor descriptor_words → IsNone FitsLink link_words → (o : Option BindingLine) → IsReadAs FitsBinding bind_words text o → Decided
+    by_bind : IsNone FitsDescriptor descriptor_words → IsNone FitsLink link_words → (o : Option BindingLine)
+        → IsReadAs FitsBinding bind_words text o → Decided
     by_bind fds links None none = let o = route_reading text in by_route fds links none o.0 o.1
     by_bind fds links (Some x) (fits, is) = judged d begun (line.Bind x) text (λ e. cc) fits is
 
-    by_link : IsNone FitsDescriptor descriptor_words → (o : Option LinkLine) → IsReadAs FitsLink link_words text o → Decided
+    by_link : IsNone FitsDescriptor descriptor_words → (o : Option LinkLine)
+        → IsReadAs FitsLink link_words text o → Decided
     by_link fds None none = let o = bind_reading text in by_bind fds none o.0 o.1
     by_link fds (Some x) (fits, is) = judged d begun (line.Link x) text (λ e. cc) fits is
 
@@ -82,21 +101,27 @@ module _ (d : TranscriptDraft) (begun : IsBegun transcript_grammar (lines d)) (t
     by_descriptor None none = let o = link_reading text in by_link none o.0 o.1
     by_descriptor (Some x) (fits, is) = judged d begun (line.Fd x) text (λ e. cc) fits is
 
-  by_next : IsNone FitsEntry entry_words → IsNone FitsMessage message_words → IsNone FitsDriver driver_words → text ≢ line_text transcript_grammar line.Config → (o : Option (ℕ × ℕ)) → IsReadAs FitsNext next_words text o → Decided
-  by_next entries messages drivers config None none = let o = descriptor_reading text in by_descriptor entries messages drivers config none o.0 o.1
-  by_next entries messages drivers config (Some x) (fits, is) = judged d begun (line.Next x.0 x.1) text (λ e. cc) fits is
+  by_next : IsNone FitsEntry entry_words → IsNone FitsMessage message_words → IsNone FitsDriver driver_words
+      → text ≢ line_text transcript_grammar line.Config → (o : Option (ℕ × ℕ))
+      → IsReadAs FitsNext next_words text o → Decided
+  by_next entries messages drivers config None none = let o = descriptor_reading text in
+      by_descriptor entries messages drivers config none o.0 o.1
+  by_next entries messages drivers config (Some x) (fits, is) =
+      judged d begun (line.Next x.0 x.1) text (λ e. cc) fits is
 
   by_config : IsNone FitsEntry entry_words → IsNone FitsMessage message_words → IsNone FitsDriver driver_words → Decided
-  by_config entries messages drivers = elim (same_bytes_or_not text (line_text transcript_grammar line.Config)) [
+  by_config entries messages drivers = elim (same_or_not text (line_text transcript_grammar line.Config)) [
     | inl is ↦ judged d begun line.Config text (λ e. cc) tt is
     | inr config ↦ let o = next_reading text in by_next entries messages drivers config o.0 o.1
   ]
 
-  by_driver : IsNone FitsEntry entry_words → IsNone FitsMessage message_words → (o : Option DriverSpec) → IsReadAs FitsDriver driver_words text o → Decided
+  by_driver : IsNone FitsEntry entry_words → IsNone FitsMessage message_words → (o : Option DriverSpec)
+      → IsReadAs FitsDriver driver_words text o → Decided
   by_driver entries messages None none = by_config entries messages none
   by_driver entries messages (Some x) (fits, is) = judged d begun (line.Driver x) text (λ e. cc) fits is
 
-  by_message : IsNone FitsEntry entry_words → (o : Option MessageLine) → IsReadAs FitsMessage message_words text o → Decided
+  by_message : IsNone FitsEntry entry_words → (o : Option MessageLine)
+      → IsReadAs FitsMessage message_words text o → Decided
   by_message entries None none = let o = driver_reading text in by_driver entries none o.0 o.1
   by_message entries (Some x) (fits, is) = judged d begun (line.Msg x) text (λ e. cc) fits is
 
@@ -104,16 +129,19 @@ module _ (d : TranscriptDraft) (begun : IsBegun transcript_grammar (lines d)) (t
   by_entry None none = let o = message_reading text in by_message none o.0 o.1
   by_entry (Some x) (fits, is) = judged d begun (line.Entry x) text (λ e. cc) fits is
 
-behind : (d : TranscriptDraft) → IsBegun transcript_grammar (lines d) → (text : List ℕ) → Decision transcript_grammar (lines d) text
-behind d begun text = elim (same_bytes_or_not text (line_text transcript_grammar line.End)) [
+behind : (d : TranscriptDraft) → IsBegun transcript_grammar (lines d) → (text : List ℕ)
+    → Decision transcript_grammar (lines d) text
+behind d begun text = elim (same_or_not text (line_text transcript_grammar line.End)) [
   | inl end ↦ at_end d begun text end
   | inr other ↦ let o = entry_reading text in by_entry d begun text other o.0 o.1
 ]
 
-decides : (ls : List TranscriptLine) → IsBegun transcript_grammar ls → (text : List ℕ) → Decision transcript_grammar ls text
+decides : (ls : List TranscriptLine) → IsBegun transcript_grammar ls → (text : List ℕ)
+    → Decision transcript_grammar ls text
 decides ls begun text =
     let own = begun_is_draft ls begun in
-    subst (λ (xs : List TranscriptLine). Decision transcript_grammar xs text) own.1 (behind own.0 (subst (IsBegun transcript_grammar) (sym own.1) begun) text)
+    subst (λ (xs : List TranscriptLine). Decision transcript_grammar xs text) own.1
+    (behind own.0 (subst (IsBegun transcript_grammar) (sym own.1) begun) text)
 
 pub transcripts_have_reading : (bytes : List ℕ) → HasReading transcript_grammar bytes
 transcripts_have_reading bytes = has_reading transcript_grammar well_made decides nothing_begun bytes

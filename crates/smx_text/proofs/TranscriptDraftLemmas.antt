@@ -1,5 +1,6 @@
 -- The lines of a transcript that is being read.
-use Rattle.std.proofs.Common.{◌≡◌, ◌≢◌, ℕ, Bool, true, false, cond, eqb, ◌&&◌, List, [], ◌∷◌, ◌++◌, length, map, Option, Some, None, refl, sym, ap, ◌∙◌, append_assoc, arith}
+use Rattle.std.proofs.Common.{◌≡◌, ◌≢◌, ℕ, Bool, true, false, cond, eqb, ◌&&◌, List, [], ◌∷◌, ◌++◌, length}
+use Rattle.std.proofs.Common.{map, Option, Some, None, refl, sym, ap, ◌∙◌, append_assoc, arith}
 use Rattle.std.proofs.lemmas.Bool.{and_parts}
 use Rattle.std.proofs.lemmas.Bool.Decides.{nat_tests}
 use Rattle.std.proofs.lemmas.List.{append-nil, map_push, nil_from_length}
@@ -7,7 +8,6 @@ use Rattle.smx_types.specs.declared.command.Entry.{Entry}
 use Rattle.smx_types.specs.declared.driver.DriverSpec.{DriverSpec}
 use Rattle.smx_types.specs.declared.transcript.Transcript.{Transcript}
 use Rattle.smx_types.specs.declared.view.BindingLine.{BindingLine}
-use Rattle.smx_types.specs.declared.view.ConfigView.{ConfigView}
 use Rattle.smx_types.specs.declared.view.DescriptorLine.{DescriptorLine}
 use Rattle.smx_types.specs.declared.view.FullLine.{FullLine}
 use Rattle.smx_types.specs.declared.view.LinkLine.{LinkLine}
@@ -56,14 +56,17 @@ not_end (line.Full x) h = refl
 not_end line.End h = absurd (h refl)
 
 -- one more behind the history
-behind : (xs bs vs ws : List TranscriptLine) (k : TranscriptLine) → ws ≡ vs ++ k ∷ [] → xs ++ (bs ++ ws) ≡ (xs ++ (bs ++ vs)) ++ k ∷ []
+behind : (xs bs vs ws : List TranscriptLine) (k : TranscriptLine) → ws ≡ vs ++ k ∷ []
+    → xs ++ (bs ++ ws) ≡ (xs ++ (bs ++ vs)) ++ k ∷ []
 behind xs bs vs ws k e = rw e (simp append_assoc)
 
 none : {A : Type 0} (xs : List A) → eqb (length xs) 0 ≡ true → xs ≡ []
 none xs e = nil_from_length xs (grind (arith, nat_tests))
 
-last_more : {A : Type 0} (f : A → TranscriptLine) (xs : List A) (x : A) → map f (xs ++ x ∷ []) ++ [] ≡ (map f xs ++ []) ++ f x ∷ []
-last_more f xs x = append-nil (map f (xs ++ x ∷ [])) ∙ map_push f xs x ∙ ap (λ (ls : List TranscriptLine). ls ++ f x ∷ []) (sym (append-nil (map f xs)))
+last_more : {A : Type 0} (f : A → TranscriptLine) (xs : List A) (x : A)
+    → map f (xs ++ x ∷ []) ++ [] ≡ (map f xs ++ []) ++ f x ∷ []
+last_more f xs x = append-nil (map f (xs ++ x ∷ [])) ∙ map_push f xs x
+    ∙ ap (λ (ls : List TranscriptLine). ls ++ f x ∷ []) (sym (append-nil (map f xs)))
 
 through : (xs ys zs : List TranscriptLine) (k : TranscriptLine) → zs ≡ ys ++ k ∷ [] → xs ++ zs ≡ (xs ++ ys) ++ k ∷ []
 through xs ys zs k e = ap (λ (ls : List TranscriptLine). xs ++ ls) e ∙ sym (append_assoc xs ys (k ∷ []))
@@ -81,36 +84,65 @@ view_more t (line.Fd x) h l =
     let r = and_parts (takes_routes (draft stage.View t)) (eqb (length t.view.routes) 0) q.0 in
     let m = and_parts (takes_msgs (draft stage.View t)) (eqb (length t.view.msgs) 0) r.0 in
     let f = and_parts (takes_fulls (draft stage.View t)) (eqb (length t.view.fulls) 0) m.0 in
-    rw (none t.view.links p.1, none t.view.binds q.1, none t.view.routes r.1, none t.view.msgs m.1, none t.view.fulls f.1) (ap (λ (ls : List TranscriptLine). line.Config ∷ line.Next t.view.next_id t.view.next_serial ∷ ls) (last_more line.Fd t.view.fds x))
+    rw (
+      none t.view.links p.1,
+      none t.view.binds q.1,
+      none t.view.routes r.1,
+      none t.view.msgs m.1,
+      none t.view.fulls f.1,
+    )
+    (ap (λ (ls : List TranscriptLine). line.Config ∷ line.Next t.view.next_id t.view.next_serial ∷ ls)
+    (last_more line.Fd t.view.fds x))
 view_more t (line.Link x) h l =
     let q = and_parts (takes_binds (draft stage.View t)) (eqb (length t.view.binds) 0) h in
     let r = and_parts (takes_routes (draft stage.View t)) (eqb (length t.view.routes) 0) q.0 in
     let m = and_parts (takes_msgs (draft stage.View t)) (eqb (length t.view.msgs) 0) r.0 in
     let f = and_parts (takes_fulls (draft stage.View t)) (eqb (length t.view.fulls) 0) m.0 in
-    rw (none t.view.binds q.1, none t.view.routes r.1, none t.view.msgs m.1, none t.view.fulls f.1) (ap (λ (ls : List TranscriptLine). line.Config ∷ line.Next t.view.next_id t.view.next_serial ∷ ls) (through (map line.Fd t.view.fds) _ _ (line.Link x) (last_more line.Link t.view.links x)))
+    rw (none t.view.binds q.1, none t.view.routes r.1, none t.view.msgs m.1, none t.view.fulls f.1)
+    (ap (λ (ls : List TranscriptLine). line.Config ∷ line.Next t.view.next_id t.view.next_serial ∷ ls)
+    (through (map line.Fd t.view.fds) _ _ (line.Link x) (last_more line.Link t.view.links x)))
 view_more t (line.Bind x) h l =
     let r = and_parts (takes_routes (draft stage.View t)) (eqb (length t.view.routes) 0) h in
     let m = and_parts (takes_msgs (draft stage.View t)) (eqb (length t.view.msgs) 0) r.0 in
     let f = and_parts (takes_fulls (draft stage.View t)) (eqb (length t.view.fulls) 0) m.0 in
-    rw (none t.view.routes r.1, none t.view.msgs m.1, none t.view.fulls f.1) (ap (λ (ls : List TranscriptLine). line.Config ∷ line.Next t.view.next_id t.view.next_serial ∷ ls) (through (map line.Fd t.view.fds) _ _ (line.Bind x) (through (map line.Link t.view.links) _ _ (line.Bind x) (last_more line.Bind t.view.binds x))))
+    rw (none t.view.routes r.1, none t.view.msgs m.1, none t.view.fulls f.1)
+    (ap (λ (ls : List TranscriptLine). line.Config ∷ line.Next t.view.next_id t.view.next_serial ∷ ls)
+    (through (map line.Fd t.view.fds) _ _ (line.Bind x)
+    (through (map line.Link t.view.links) _ _ (line.Bind x) (last_more line.Bind t.view.binds x))))
 view_more t (line.Route x) h l =
     let m = and_parts (takes_msgs (draft stage.View t)) (eqb (length t.view.msgs) 0) h in
     let f = and_parts (takes_fulls (draft stage.View t)) (eqb (length t.view.fulls) 0) m.0 in
-    rw (none t.view.msgs m.1, none t.view.fulls f.1) (ap (λ (ls : List TranscriptLine). line.Config ∷ line.Next t.view.next_id t.view.next_serial ∷ ls) (through (map line.Fd t.view.fds) _ _ (line.Route x) (through (map line.Link t.view.links) _ _ (line.Route x) (through (map line.Bind t.view.binds) _ _ (line.Route x) (last_more line.Route t.view.routes x)))))
+    rw (none t.view.msgs m.1, none t.view.fulls f.1)
+    (ap (λ (ls : List TranscriptLine). line.Config ∷ line.Next t.view.next_id t.view.next_serial ∷ ls)
+    (through (map line.Fd t.view.fds) _ _ (line.Route x)
+    (through (map line.Link t.view.links) _ _ (line.Route x)
+    (through (map line.Bind t.view.binds) _ _ (line.Route x) (last_more line.Route t.view.routes x)))))
 view_more t (line.Msg x) h l =
     let f = and_parts (takes_fulls (draft stage.View t)) (eqb (length t.view.fulls) 0) h in
-    rw (none t.view.fulls f.1) (ap (λ (ls : List TranscriptLine). line.Config ∷ line.Next t.view.next_id t.view.next_serial ∷ ls) (through (map line.Fd t.view.fds) _ _ (line.Msg x) (through (map line.Link t.view.links) _ _ (line.Msg x) (through (map line.Bind t.view.binds) _ _ (line.Msg x) (through (map line.Route t.view.routes) _ _ (line.Msg x) (last_more line.Msg t.view.msgs x))))))
+    rw (none t.view.fulls f.1)
+    (ap (λ (ls : List TranscriptLine). line.Config ∷ line.Next t.view.next_id t.view.next_serial ∷ ls)
+    (through (map line.Fd t.view.fds) _ _ (line.Msg x)
+    (through (map line.Link t.view.links) _ _ (line.Msg x)
+    (through (map line.Bind t.view.binds) _ _ (line.Msg x)
+    (through (map line.Route t.view.routes) _ _ (line.Msg x) (last_more line.Msg t.view.msgs x))))))
 view_more t (line.Full x) h l =
-    ap (λ (ls : List TranscriptLine). line.Config ∷ line.Next t.view.next_id t.view.next_serial ∷ ls) (through (map line.Fd t.view.fds) _ _ (line.Full x) (through (map line.Link t.view.links) _ _ (line.Full x) (through (map line.Bind t.view.binds) _ _ (line.Full x) (through (map line.Route t.view.routes) _ _ (line.Full x) (through (map line.Msg t.view.msgs) _ _ (line.Full x) (map_push line.Full t.view.fulls x))))))
+    ap (λ (ls : List TranscriptLine). line.Config ∷ line.Next t.view.next_id t.view.next_serial ∷ ls)
+    (through (map line.Fd t.view.fds) _ _ (line.Full x)
+    (through (map line.Link t.view.links) _ _ (line.Full x)
+    (through (map line.Bind t.view.binds) _ _ (line.Full x)
+    (through (map line.Route t.view.routes) _ _ (line.Full x)
+    (through (map line.Msg t.view.msgs) _ _ (line.Full x) (map_push line.Full t.view.fulls x))))))
 view_more t line.End h l = absurd cc
 
 -- a line that is taken is the last
-pub more_by : (s : Stage) (t : Transcript) (k : TranscriptLine) → takes (draft s t) k ≡ true → is_line k ≡ true → lines (with_line (draft s t) k) ≡ lines (draft s t) ++ k ∷ []
+pub more_by : (s : Stage) (t : Transcript) (k : TranscriptLine) → takes (draft s t) k ≡ true
+    → is_line k ≡ true → lines (with_line (draft s t) k) ≡ lines (draft s t) ++ k ∷ []
 more_by stage.History t (line.Driver x) h l =
     let e = none t.entries h in
     rw (e, map_push) (simp append_assoc)
 more_by stage.History t (line.Entry x) h l = rw map_push (simp (append-nil, append_assoc))
-more_by stage.History t line.Config h l = behind (map line.Driver t.drivers) (map line.Entry t.entries) [] (line.Config ∷ []) line.Config refl
+more_by stage.History t line.Config h l =
+    behind (map line.Driver t.drivers) (map line.Entry t.entries) [] (line.Config ∷ []) line.Config refl
 more_by stage.History t (line.Next id serial) h l = absurd cc
 more_by stage.History t (line.Fd x) h l = absurd cc
 more_by stage.History t (line.Link x) h l = absurd cc
@@ -122,7 +154,9 @@ more_by stage.History t line.End h l = absurd cc
 more_by stage.Config t (line.Driver x) h l = absurd cc
 more_by stage.Config t (line.Entry x) h l = absurd cc
 more_by stage.Config t line.Config h l = absurd cc
-more_by stage.Config t (line.Next id serial) h l = behind (map line.Driver t.drivers) (map line.Entry t.entries) (line.Config ∷ []) (line.Config ∷ line.Next id serial ∷ []) (line.Next id serial) refl
+more_by stage.Config t (line.Next id serial) h l =
+    behind (map line.Driver t.drivers) (map line.Entry t.entries) (line.Config ∷ [])
+    (line.Config ∷ line.Next id serial ∷ []) (line.Next id serial) refl
 more_by stage.Config t (line.Fd x) h l = absurd cc
 more_by stage.Config t (line.Link x) h l = absurd cc
 more_by stage.Config t (line.Bind x) h l = absurd cc
@@ -134,15 +168,28 @@ more_by stage.View t (line.Driver x) h l = absurd cc
 more_by stage.View t (line.Entry x) h l = absurd cc
 more_by stage.View t line.Config h l = absurd cc
 more_by stage.View t (line.Next id serial) h l = absurd cc
-more_by stage.View t (line.Fd x) h l = behind (map line.Driver t.drivers) (map line.Entry t.entries) (shown stage.View t.view) _ (line.Fd x) (view_more t (line.Fd x) h l)
-more_by stage.View t (line.Link x) h l = behind (map line.Driver t.drivers) (map line.Entry t.entries) (shown stage.View t.view) _ (line.Link x) (view_more t (line.Link x) h l)
-more_by stage.View t (line.Bind x) h l = behind (map line.Driver t.drivers) (map line.Entry t.entries) (shown stage.View t.view) _ (line.Bind x) (view_more t (line.Bind x) h l)
-more_by stage.View t (line.Route x) h l = behind (map line.Driver t.drivers) (map line.Entry t.entries) (shown stage.View t.view) _ (line.Route x) (view_more t (line.Route x) h l)
-more_by stage.View t (line.Msg x) h l = behind (map line.Driver t.drivers) (map line.Entry t.entries) (shown stage.View t.view) _ (line.Msg x) (view_more t (line.Msg x) h l)
-more_by stage.View t (line.Full x) h l = behind (map line.Driver t.drivers) (map line.Entry t.entries) (shown stage.View t.view) _ (line.Full x) (view_more t (line.Full x) h l)
+more_by stage.View t (line.Fd x) h l =
+    behind (map line.Driver t.drivers) (map line.Entry t.entries) (shown stage.View t.view) _ (line.Fd x)
+    (view_more t (line.Fd x) h l)
+more_by stage.View t (line.Link x) h l =
+    behind (map line.Driver t.drivers) (map line.Entry t.entries) (shown stage.View t.view) _ (line.Link x)
+    (view_more t (line.Link x) h l)
+more_by stage.View t (line.Bind x) h l =
+    behind (map line.Driver t.drivers) (map line.Entry t.entries) (shown stage.View t.view) _ (line.Bind x)
+    (view_more t (line.Bind x) h l)
+more_by stage.View t (line.Route x) h l =
+    behind (map line.Driver t.drivers) (map line.Entry t.entries) (shown stage.View t.view) _ (line.Route x)
+    (view_more t (line.Route x) h l)
+more_by stage.View t (line.Msg x) h l =
+    behind (map line.Driver t.drivers) (map line.Entry t.entries) (shown stage.View t.view) _ (line.Msg x)
+    (view_more t (line.Msg x) h l)
+more_by stage.View t (line.Full x) h l =
+    behind (map line.Driver t.drivers) (map line.Entry t.entries) (shown stage.View t.view) _ (line.Full x)
+    (view_more t (line.Full x) h l)
 more_by stage.View t line.End h l = absurd cc
 
-pub lines_more : (d : TranscriptDraft) (k : TranscriptLine) → takes d k ≡ true → is_line k ≡ true → lines (with_line d k) ≡ lines d ++ k ∷ []
+pub lines_more : (d : TranscriptDraft) (k : TranscriptLine) → takes d k ≡ true → is_line k ≡ true
+    → lines (with_line d k) ≡ lines d ++ k ∷ []
 lines_more d k h l = more_by d.stage d.transcript k h l
 
 -- ---- lines one by one
@@ -157,14 +204,17 @@ cond_then false o f = refl
 
 pub run_append : (d : TranscriptDraft) (ks ls : List TranscriptLine) → run d (ks ++ ls) ≡ run d ks >>= (λ e. run e ls)
 run_append d [] ls = refl
-run_append d (k ∷ ks) ls = rw (run_append (with_line d k) ks ls) (sym (cond_then (takes d k && is_line k) (run (with_line d k) ks) (λ (e : TranscriptDraft). run e ls)))
+run_append d (k ∷ ks) ls =
+    rw (run_append (with_line d k) ks ls)
+    (sym (cond_then (takes d k && is_line k) (run (with_line d k) ks) (λ (e : TranscriptDraft). run e ls)))
 
 -- what a test lets through
 pub let_through : {A : Type 0} (b : Bool) (o : Option A) (x : A) → cond b o None ≡ Some x → (b ≡ true) × (o ≡ Some x)
 let_through true o x e = (refl, e)
 let_through false o x e = absurd cc
 
-pub taken : (d e : TranscriptDraft) (k : TranscriptLine) (ks : List TranscriptLine) → run d (k ∷ ks) ≡ Some e → (takes d k ≡ true) × (is_line k ≡ true) × (run (with_line d k) ks ≡ Some e)
+pub taken : (d e : TranscriptDraft) (k : TranscriptLine) (ks : List TranscriptLine) → run d (k ∷ ks) ≡ Some e
+    → (takes d k ≡ true) × (is_line k ≡ true) × (run (with_line d k) ks ≡ Some e)
 taken d e k ks h =
     let t = let_through (takes d k && is_line k) (run (with_line d k) ks) e h in
     let p = and_parts (takes d k) (is_line k) t.0 in
@@ -174,7 +224,8 @@ pub run_lines : (ks : List TranscriptLine) (d e : TranscriptDraft) → run d ks 
 run_lines [] d e h = let same : d ≡ e = cc h in rw (← same) (sym (append-nil (lines d)))
 run_lines (k ∷ ks) d e h =
     let t = taken d e k ks h in
-    run_lines ks (with_line d k) e t.2 ∙ ap (λ (ls : List TranscriptLine). ls ++ ks) (lines_more d k t.0 t.1) ∙ append_assoc (lines d) (k ∷ []) ks
+    run_lines ks (with_line d k) e t.2 ∙ ap (λ (ls : List TranscriptLine). ls ++ ks) (lines_more d k t.0 t.1)
+    ∙ append_assoc (lines d) (k ∷ []) ks
 
 -- ---- the lines of a transcript give that transcript
 
@@ -184,51 +235,103 @@ in_history ds es = draft stage.History (record { drivers = ds; entries = es; vie
 push_assoc : {A : Type 0} (xs : List A) (y : A) (ys : List A) → (xs ++ y ∷ []) ++ ys ≡ xs ++ y ∷ ys
 push_assoc xs y ys = append_assoc xs (y ∷ []) ys
 
-pub run_drivers : (ds0 ds : List DriverSpec) (rest : List TranscriptLine) → run (in_history ds0 []) (map line.Driver ds ++ rest) ≡ run (in_history (ds0 ++ ds) []) rest
+pub run_drivers : (ds0 ds : List DriverSpec) (rest : List TranscriptLine)
+    → run (in_history ds0 []) (map line.Driver ds ++ rest) ≡ run (in_history (ds0 ++ ds) []) rest
 run_drivers ds0 [] rest = ap (λ (ds : List DriverSpec). run (in_history ds []) rest) (sym (append-nil ds0))
-run_drivers ds0 (d ∷ ds) rest = run_drivers (ds0 ++ d ∷ []) ds rest ∙ ap (λ (es : List DriverSpec). run (in_history es []) rest) (push_assoc ds0 d ds)
+run_drivers ds0 (d ∷ ds) rest = run_drivers (ds0 ++ d ∷ []) ds rest
+    ∙ ap (λ (es : List DriverSpec). run (in_history es []) rest) (push_assoc ds0 d ds)
 
-pub run_entries : (ds : List DriverSpec) (es0 es : List Entry) (rest : List TranscriptLine) → run (in_history ds es0) (map line.Entry es ++ rest) ≡ run (in_history ds (es0 ++ es)) rest
+pub run_entries : (ds : List DriverSpec) (es0 es : List Entry) (rest : List TranscriptLine)
+    → run (in_history ds es0) (map line.Entry es ++ rest) ≡ run (in_history ds (es0 ++ es)) rest
 run_entries ds es0 [] rest = ap (λ (es : List Entry). run (in_history ds es) rest) (sym (append-nil es0))
-run_entries ds es0 (e ∷ es) rest = run_entries ds (es0 ++ e ∷ []) es rest ∙ ap (λ (xs : List Entry). run (in_history ds xs) rest) (push_assoc es0 e es)
+run_entries ds es0 (e ∷ es) rest = run_entries ds (es0 ++ e ∷ []) es rest
+    ∙ ap (λ (xs : List Entry). run (in_history ds xs) rest) (push_assoc es0 e es)
 
 module _ (ds : List DriverSpec) (es : List Entry) (id serial : ℕ) where
-  abbrev in_view : List DescriptorLine → List LinkLine → List BindingLine → List RouteLine → List MessageLine → List FullLine → TranscriptDraft
+  abbrev in_view : List DescriptorLine → List LinkLine → List BindingLine → List RouteLine → List MessageLine
+      → List FullLine → TranscriptDraft
   in_view fds links binds routes msgs fulls =
-      draft stage.View (record { drivers = ds; entries = es; view = record { next_id = id; next_serial = serial; fds = fds; links = links; binds = binds; routes = routes; msgs = msgs; fulls = fulls } })
+      draft stage.View
+      (record {
+        drivers = ds;
+        entries = es;
+        view = record {
+          next_id = id;
+          next_serial = serial;
+          fds = fds;
+          links = links;
+          binds = binds;
+          routes = routes;
+          msgs = msgs;
+          fulls = fulls;
+        };
+      })
 
-  run_fds : (xs ys : List DescriptorLine) (rest : List TranscriptLine) → run (in_view xs [] [] [] [] []) (map line.Fd ys ++ rest) ≡ run (in_view (xs ++ ys) [] [] [] [] []) rest
+  run_fds : (xs ys : List DescriptorLine) (rest : List TranscriptLine)
+      → run (in_view xs [] [] [] [] []) (map line.Fd ys ++ rest)
+      ≡ run (in_view (xs ++ ys) [] [] [] [] []) rest
   run_fds xs [] rest = ap (λ (zs : List DescriptorLine). run (in_view zs [] [] [] [] []) rest) (sym (append-nil xs))
-  run_fds xs (y ∷ ys) rest = run_fds (xs ++ y ∷ []) ys rest ∙ ap (λ (zs : List DescriptorLine). run (in_view zs [] [] [] [] []) rest) (push_assoc xs y ys)
+  run_fds xs (y ∷ ys) rest = run_fds (xs ++ y ∷ []) ys rest
+      ∙ ap (λ (zs : List DescriptorLine). run (in_view zs [] [] [] [] []) rest) (push_assoc xs y ys)
 
-  run_links : (fds : List DescriptorLine) (xs ys : List LinkLine) (rest : List TranscriptLine) → run (in_view fds xs [] [] [] []) (map line.Link ys ++ rest) ≡ run (in_view fds (xs ++ ys) [] [] [] []) rest
+  run_links : (fds : List DescriptorLine) (xs ys : List LinkLine) (rest : List TranscriptLine)
+      → run (in_view fds xs [] [] [] []) (map line.Link ys ++ rest)
+      ≡ run (in_view fds (xs ++ ys) [] [] [] []) rest
   run_links fds xs [] rest = ap (λ (zs : List LinkLine). run (in_view fds zs [] [] [] []) rest) (sym (append-nil xs))
-  run_links fds xs (y ∷ ys) rest = run_links fds (xs ++ y ∷ []) ys rest ∙ ap (λ (zs : List LinkLine). run (in_view fds zs [] [] [] []) rest) (push_assoc xs y ys)
+  run_links fds xs (y ∷ ys) rest = run_links fds (xs ++ y ∷ []) ys rest
+      ∙ ap (λ (zs : List LinkLine). run (in_view fds zs [] [] [] []) rest) (push_assoc xs y ys)
 
-  run_binds : (fds : List DescriptorLine) (links : List LinkLine) (xs ys : List BindingLine) (rest : List TranscriptLine) → run (in_view fds links xs [] [] []) (map line.Bind ys ++ rest) ≡ run (in_view fds links (xs ++ ys) [] [] []) rest
-  run_binds fds links xs [] rest = ap (λ (zs : List BindingLine). run (in_view fds links zs [] [] []) rest) (sym (append-nil xs))
-  run_binds fds links xs (y ∷ ys) rest = run_binds fds links (xs ++ y ∷ []) ys rest ∙ ap (λ (zs : List BindingLine). run (in_view fds links zs [] [] []) rest) (push_assoc xs y ys)
+  run_binds : (fds : List DescriptorLine) (links : List LinkLine) (xs ys : List BindingLine)
+      (rest : List TranscriptLine) → run (in_view fds links xs [] [] []) (map line.Bind ys ++ rest)
+      ≡ run (in_view fds links (xs ++ ys) [] [] []) rest
+  run_binds fds links xs [] rest =
+      ap (λ (zs : List BindingLine). run (in_view fds links zs [] [] []) rest) (sym (append-nil xs))
+  run_binds fds links xs (y ∷ ys) rest = run_binds fds links (xs ++ y ∷ []) ys rest
+      ∙ ap (λ (zs : List BindingLine). run (in_view fds links zs [] [] []) rest) (push_assoc xs y ys)
 
-  run_routes : (fds : List DescriptorLine) (links : List LinkLine) (binds : List BindingLine) (xs ys : List RouteLine) (rest : List TranscriptLine) → run (in_view fds links binds xs [] []) (map line.Route ys ++ rest) ≡ run (in_view fds links binds (xs ++ ys) [] []) rest
-  run_routes fds links binds xs [] rest = ap (λ (zs : List RouteLine). run (in_view fds links binds zs [] []) rest) (sym (append-nil xs))
-  run_routes fds links binds xs (y ∷ ys) rest = run_routes fds links binds (xs ++ y ∷ []) ys rest ∙ ap (λ (zs : List RouteLine). run (in_view fds links binds zs [] []) rest) (push_assoc xs y ys)
+  run_routes : (fds : List DescriptorLine) (links : List LinkLine) (binds : List BindingLine)
+      (xs ys : List RouteLine) (rest : List TranscriptLine)
+      → run (in_view fds links binds xs [] []) (map line.Route ys ++ rest)
+      ≡ run (in_view fds links binds (xs ++ ys) [] []) rest
+  run_routes fds links binds xs [] rest =
+      ap (λ (zs : List RouteLine). run (in_view fds links binds zs [] []) rest) (sym (append-nil xs))
+  run_routes fds links binds xs (y ∷ ys) rest = run_routes fds links binds (xs ++ y ∷ []) ys rest
+      ∙ ap (λ (zs : List RouteLine). run (in_view fds links binds zs [] []) rest) (push_assoc xs y ys)
 
-  run_msgs : (fds : List DescriptorLine) (links : List LinkLine) (binds : List BindingLine) (routes : List RouteLine) (xs ys : List MessageLine) (rest : List TranscriptLine) → run (in_view fds links binds routes xs []) (map line.Msg ys ++ rest) ≡ run (in_view fds links binds routes (xs ++ ys) []) rest
-  run_msgs fds links binds routes xs [] rest = ap (λ (zs : List MessageLine). run (in_view fds links binds routes zs []) rest) (sym (append-nil xs))
-  run_msgs fds links binds routes xs (y ∷ ys) rest = run_msgs fds links binds routes (xs ++ y ∷ []) ys rest ∙ ap (λ (zs : List MessageLine). run (in_view fds links binds routes zs []) rest) (push_assoc xs y ys)
+  run_msgs : (fds : List DescriptorLine) (links : List LinkLine) (binds : List BindingLine)
+      (routes : List RouteLine) (xs ys : List MessageLine) (rest : List TranscriptLine)
+      → run (in_view fds links binds routes xs []) (map line.Msg ys ++ rest)
+      ≡ run (in_view fds links binds routes (xs ++ ys) []) rest
+  run_msgs fds links binds routes xs [] rest =
+      ap (λ (zs : List MessageLine). run (in_view fds links binds routes zs []) rest) (sym (append-nil xs))
+  run_msgs fds links binds routes xs (y ∷ ys) rest = run_msgs fds links binds routes (xs ++ y ∷ []) ys rest
+      ∙ ap (λ (zs : List MessageLine). run (in_view fds links binds routes zs []) rest) (push_assoc xs y ys)
 
-  run_fulls : (fds : List DescriptorLine) (links : List LinkLine) (binds : List BindingLine) (routes : List RouteLine) (msgs : List MessageLine) (xs ys : List FullLine) (rest : List TranscriptLine) → run (in_view fds links binds routes msgs xs) (map line.Full ys ++ rest) ≡ run (in_view fds links binds routes msgs (xs ++ ys)) rest
-  run_fulls fds links binds routes msgs xs [] rest = ap (λ (zs : List FullLine). run (in_view fds links binds routes msgs zs) rest) (sym (append-nil xs))
-  run_fulls fds links binds routes msgs xs (y ∷ ys) rest = run_fulls fds links binds routes msgs (xs ++ y ∷ []) ys rest ∙ ap (λ (zs : List FullLine). run (in_view fds links binds routes msgs zs) rest) (push_assoc xs y ys)
+  run_fulls : (fds : List DescriptorLine) (links : List LinkLine) (binds : List BindingLine)
+      (routes : List RouteLine) (msgs : List MessageLine) (xs ys : List FullLine) (rest : List TranscriptLine)
+      → run (in_view fds links binds routes msgs xs) (map line.Full ys ++ rest)
+      ≡ run (in_view fds links binds routes msgs (xs ++ ys)) rest
+  run_fulls fds links binds routes msgs xs [] rest =
+      ap (λ (zs : List FullLine). run (in_view fds links binds routes msgs zs) rest) (sym (append-nil xs))
+  run_fulls fds links binds routes msgs xs (y ∷ ys) rest =
+      run_fulls fds links binds routes msgs (xs ++ y ∷ []) ys rest
+      ∙ ap (λ (zs : List FullLine). run (in_view fds links binds routes msgs zs) rest) (push_assoc xs y ys)
 
-  run_view : (fds : List DescriptorLine) (links : List LinkLine) (binds : List BindingLine) (routes : List RouteLine) (msgs : List MessageLine) (fulls : List FullLine)
-      → run (in_view [] [] [] [] [] []) (map line.Fd fds ++ (map line.Link links ++ (map line.Bind binds ++ (map line.Route routes ++ (map line.Msg msgs ++ map line.Full fulls))))) ≡ Some (in_view fds links binds routes msgs fulls)
+  run_view : (fds : List DescriptorLine) (links : List LinkLine) (binds : List BindingLine)
+      (routes : List RouteLine) (msgs : List MessageLine) (fulls : List FullLine)
+      → run (in_view [] [] [] [] [] []) (map line.Fd fds
+      ++ (map line.Link links
+      ++ (map line.Bind binds ++ (map line.Route routes ++ (map line.Msg msgs ++ map line.Full fulls)))))
+      ≡ Some (in_view fds links binds routes msgs fulls)
   run_view fds links binds routes msgs fulls =
-      run_fds [] fds _ ∙ run_links fds [] links _ ∙ run_binds fds links [] binds _ ∙ run_routes fds links binds [] routes _ ∙ run_msgs fds links binds routes [] msgs _
-      ∙ ap (run (in_view fds links binds routes msgs [])) (sym (append-nil (map line.Full fulls))) ∙ run_fulls fds links binds routes msgs [] fulls []
+      run_fds [] fds _ ∙ run_links fds [] links _ ∙ run_binds fds links [] binds _
+      ∙ run_routes fds links binds [] routes _ ∙ run_msgs fds links binds routes [] msgs _
+      ∙ ap (run (in_view fds links binds routes msgs [])) (sym (append-nil (map line.Full fulls)))
+      ∙ run_fulls fds links binds routes msgs [] fulls []
 
 pub run_body : (t : Transcript) → run new_draft (body t) ≡ Some (draft stage.View t)
 run_body t =
     run_drivers [] t.drivers (map line.Entry t.entries ++ line.Config ∷ view_body t.view)
     ∙ run_entries t.drivers [] t.entries (line.Config ∷ view_body t.view)
-    ∙ run_view t.drivers t.entries t.view.next_id t.view.next_serial t.view.fds t.view.links t.view.binds t.view.routes t.view.msgs t.view.fulls
+    ∙ run_view t.drivers t.entries t.view.next_id t.view.next_serial t.view.fds t.view.links t.view.binds
+    t.view.routes t.view.msgs t.view.fulls

@@ -1,7 +1,6 @@
 -- A transcript that is being read, as a machine that takes line after line.
-use Rattle.std.specs.Prelude.{ℕ, Bool, true, false, ◌&&◌, ◌==◌, nat_le, List, [], ◌∷◌, ◌++◌, length, Option, Some, None}
+use Rattle.std.specs.Prelude.{ℕ, Bool, true, false, ◌&&◌, ◌==◌, nat_le, [], ◌∷◌, ◌++◌, length, Option, Some, None}
 use Rattle.smx_types.specs.declared.limits.TheConstants.{MAX_DRIVERS, MAX_COMMANDS}
-use Rattle.smx_types.specs.declared.transcript.Transcript.{Transcript}
 use Rattle.smx_types.specs.declared.view.ConfigView.{ConfigView}
 use Rattle.smx_text.specs.declared.transcript.draft.Stage.{Stage}
 use Rattle.smx_text.specs.declared.transcript.draft.Stage.TheVariants as stage
@@ -12,7 +11,17 @@ use Rattle.smx_text.specs.TranscriptLines as line
 
 -- a view with nothing in it yet
 abbrev pub new_view : ℕ → ℕ → ConfigView
-new_view id serial = record { next_id = id; next_serial = serial; fds = []; links = []; binds = []; routes = []; msgs = []; fulls = [] }
+new_view id serial =
+    record {
+      next_id = id;
+      next_serial = serial;
+      fds = [];
+      links = [];
+      binds = [];
+      routes = [];
+      msgs = [];
+      fulls = [];
+    }
 
 -- nothing read yet
 abbrev pub new_draft : TranscriptDraft
@@ -70,7 +79,15 @@ None >>= f = None
 
 -- with another view
 abbrev pub with_view : TranscriptDraft → ConfigView → TranscriptDraft
-with_view d v = record { stage = stage.View; transcript = record { drivers = d.transcript.drivers; entries = d.transcript.entries; view = v } }
+with_view d v =
+    record {
+      stage = stage.View;
+      transcript = record {
+        drivers = d.transcript.drivers;
+        entries = d.transcript.entries;
+        view = v;
+      };
+    }
 
 -- with one line more
 abbrev pub with_line : TranscriptDraft → TranscriptLine → TranscriptDraft

@@ -1,5 +1,6 @@
 -- Which lines may follow those of a transcript that is being read.
-use Rattle.std.proofs.Common.{◌≡◌, ◌≤◌, Bool, true, false, List, [], ◌∷◌, ◌++◌, length, Option, Some, refl, sym, ap, subst, ◌∙◌, append_assoc, arith, inl, inr}
+use Rattle.std.proofs.Common.{◌≡◌, ◌≤◌, Bool, true, false, List, [], ◌∷◌, ◌++◌, length, Option, Some, refl}
+use Rattle.std.proofs.Common.{sym, ap, subst, ◌∙◌, append_assoc, arith, inl, inr}
 use Rattle.std.specs.List.{AllByRecursion}
 use Rattle.std.specs.Prelude.{◌⊎◌}
 use Rattle.std.proofs.lemmas.Bool.Decides.{nat_tests}
@@ -26,8 +27,10 @@ pub record Grows (d e : TranscriptDraft) : Type 0 where
   pub entries : length d.transcript.entries ≤ length e.transcript.entries
 
 one_grows : (d : TranscriptDraft) (k : TranscriptLine) → Grows d (with_line d k)
-one_grows d (line.Driver x) = record { drivers = omega (arith, length-append d.transcript.drivers (x ∷ [])); entries = omega arith }
-one_grows d (line.Entry x) = record { drivers = omega arith; entries = omega (arith, length-append d.transcript.entries (x ∷ [])) }
+one_grows d (line.Driver x) =
+    record { drivers = omega (arith, length-append d.transcript.drivers (x ∷ [])); entries = omega arith }
+one_grows d (line.Entry x) =
+    record { drivers = omega arith; entries = omega (arith, length-append d.transcript.entries (x ∷ [])) }
 one_grows d line.Config = record { drivers = omega arith; entries = omega arith }
 one_grows d (line.Next id serial) = record { drivers = omega arith; entries = omega arith }
 one_grows d (line.Fd x) = record { drivers = omega arith; entries = omega arith }
@@ -47,12 +50,18 @@ run_grows (k ∷ ks) d e h =
     record { drivers = omega (arith, one.drivers, more.drivers); entries = omega (arith, one.entries, more.entries) }
 
 pub within_before : (d e : TranscriptDraft) → Grows d e → IsWithin e → IsWithin d
-within_before d e grows within = record { drivers = omega (arith, grows.drivers, within.drivers); entries = omega (arith, grows.entries, within.entries) }
+within_before d e grows within =
+    record {
+      drivers = omega (arith, grows.drivers, within.drivers);
+      entries = omega (arith, grows.entries, within.entries);
+    }
 
 -- one that is taken is not one too many, where what it leads to is within the limits
 pub not_full : (d : TranscriptDraft) (k : TranscriptLine) → IsWithin (with_line d k) → is_full d k ≡ false
-not_full d (line.Driver x) within = let len = length-append d.transcript.drivers (x ∷ []) in let most = within.drivers in grind (arith, nat_tests)
-not_full d (line.Entry x) within = let len = length-append d.transcript.entries (x ∷ []) in let most = within.entries in grind (arith, nat_tests)
+not_full d (line.Driver x) within = let len = length-append d.transcript.drivers (x ∷ []) in
+    let most = within.drivers in grind (arith, nat_tests)
+not_full d (line.Entry x) within = let len = length-append d.transcript.entries (x ∷ []) in
+    let most = within.entries in grind (arith, nat_tests)
 not_full d line.Config within = refl
 not_full d (line.Next id serial) within = refl
 not_full d (line.Fd x) within = refl
@@ -64,9 +73,12 @@ not_full d (line.Full x) within = refl
 not_full d line.End within = refl
 
 -- and what is not one too many is within the limits
-pub still_within : (d : TranscriptDraft) (k : TranscriptLine) → IsWithin d → is_full d k ≡ false → IsWithin (with_line d k)
-still_within d (line.Driver x) within h = let len = length-append d.transcript.drivers (x ∷ []) in record { drivers = grind (arith, nat_tests); entries = within.entries }
-still_within d (line.Entry x) within h = let len = length-append d.transcript.entries (x ∷ []) in record { drivers = within.drivers; entries = grind (arith, nat_tests) }
+pub still_within : (d : TranscriptDraft) (k : TranscriptLine) → IsWithin d → is_full d k ≡ false
+    → IsWithin (with_line d k)
+still_within d (line.Driver x) within h = let len = length-append d.transcript.drivers (x ∷ []) in
+    record { drivers = grind (arith, nat_tests); entries = within.entries }
+still_within d (line.Entry x) within h = let len = length-append d.transcript.entries (x ∷ []) in
+    record { drivers = within.drivers; entries = grind (arith, nat_tests) }
 still_within d line.Config within h = record { drivers = within.drivers; entries = within.entries }
 still_within d (line.Next id serial) within h = record { drivers = within.drivers; entries = within.entries }
 still_within d (line.Fd x) within h = record { drivers = within.drivers; entries = within.entries }
@@ -78,7 +90,8 @@ still_within d (line.Full x) within h = record { drivers = within.drivers; entri
 still_within d line.End within h = record { drivers = within.drivers; entries = within.entries }
 
 -- the line behind some lines of a whole is the end, or one of the whole
-split_end : (xs ls more : List TranscriptLine) (k : TranscriptLine) → xs ++ line.End ∷ [] ≡ ls ++ k ∷ more → ((k ≡ line.End) × (ls ≡ xs)) ⊎ ((rest : List TranscriptLine) × (xs ≡ ls ++ k ∷ rest))
+split_end : (xs ls more : List TranscriptLine) (k : TranscriptLine) → xs ++ line.End ∷ [] ≡ ls ++ k ∷ more
+    → ((k ≡ line.End) × (ls ≡ xs)) ⊎ ((rest : List TranscriptLine) × (xs ≡ ls ++ k ∷ rest))
 split_end [] [] more k e = inl (cc, refl)
 split_end [] (l ∷ []) more k e = absurd cc
 split_end [] (l ∷ m ∷ ls) more k e = absurd cc
@@ -87,38 +100,53 @@ split_end (x ∷ xs) (l ∷ ls) more k e =
     let same : x ≡ l = cc in
     let rest : xs ++ line.End ∷ [] ≡ ls ++ k ∷ more = cc in
     elim (split_end xs ls more k rest) [
-      | inl (is, all) ↦ inl (is, ap (λ (y : TranscriptLine). y ∷ ls) (sym same) ∙ ap (λ (ys : List TranscriptLine). x ∷ ys) all)
-      | inr (rest, all) ↦ inr (rest, ap (λ (y : TranscriptLine). y ∷ xs) same ∙ ap (λ (ys : List TranscriptLine). l ∷ ys) all)
+      | inl (is, all) ↦ inl (
+        is,
+        ap (λ (y : TranscriptLine). y ∷ ls) (sym same) ∙ ap (λ (ys : List TranscriptLine). x ∷ ys) all,
+      )
+      | inr (rest, all) ↦ inr (
+        rest,
+        ap (λ (y : TranscriptLine). y ∷ xs) same ∙ ap (λ (ys : List TranscriptLine). l ∷ ys) all,
+      )
     ]
 
-bind_some : {A B : Type 0} (f : A → Option B) (o : Option A) (x : A) (y : B) → o ≡ Some x → o >>= f ≡ Some y → f x ≡ Some y
+bind_some : {A B : Type 0} (f : A → Option B) (o : Option A) (x : A) (y : B) → o ≡ Some x → o >>= f ≡ Some y
+    → f x ≡ Some y
 bind_some f o x y e h = rw e at h
 
 some_is : {A : Type 0} (x y : A) → Some x ≡ Some y → x ≡ y
 some_is x y e = cc e
 
 -- from where some lines lead, the rest of a transcript leads to it
-pub rest_leads : (t : Transcript) (ls rest : List TranscriptLine) (d : TranscriptDraft) → run new_draft ls ≡ Some d → body t ≡ ls ++ rest → run d rest ≡ Some (draft stage.View t)
+pub rest_leads : (t : Transcript) (ls rest : List TranscriptLine) (d : TranscriptDraft)
+    → run new_draft ls ≡ Some d → body t ≡ ls ++ rest → run d rest ≡ Some (draft stage.View t)
 rest_leads t ls rest d led e =
-    bind_some (λ (c : TranscriptDraft). run c rest) (run new_draft ls) d (draft stage.View t) led (sym (run_append new_draft ls rest) ∙ sym (ap (run new_draft) e) ∙ run_body t)
+    bind_some (λ (c : TranscriptDraft). run c rest) (run new_draft ls) d (draft stage.View t) led
+    (sym (run_append new_draft ls rest) ∙ sym (ap (run new_draft) e) ∙ run_body t)
 
 -- what may follow is taken
-pub may_takes : (ls : List TranscriptLine) (d : TranscriptDraft) (k : TranscriptLine) (t : Transcript) → run new_draft ls ≡ Some d → GoesOn transcript_grammar t ls k → takes d k ≡ true
+pub may_takes : (ls : List TranscriptLine) (d : TranscriptDraft) (k : TranscriptLine) (t : Transcript)
+    → run new_draft ls ≡ Some d → GoesOn transcript_grammar t ls k → takes d k ≡ true
 may_takes ls d k t led (more, e) =
     elim (split_end (body t) ls more k e) [
-      | inl (is, all) ↦ let same = some_is d (draft stage.View t) (sym led ∙ ap (run new_draft) all ∙ run_body t) in rw (is, same) refl
+      | inl (is, all) ↦ let same =
+          some_is d (draft stage.View t) (sym led ∙ ap (run new_draft) all ∙ run_body t) in rw (is, same) refl
       | inr (rest, all) ↦ (taken d (draft stage.View t) k rest (rest_leads t ls (k ∷ rest) d led all)).0
     ]
 
 -- where there are as many as may be, no transcript within the limits goes on so
-pub full_stops : (ls : List TranscriptLine) (d : TranscriptDraft) (k : TranscriptLine) (t : Transcript) → run new_draft ls ≡ Some d → is_full d k ≡ true → IsAllowed t → GoesOn transcript_grammar t ls k → ⊥
+pub full_stops : (ls : List TranscriptLine) (d : TranscriptDraft) (k : TranscriptLine) (t : Transcript)
+    → run new_draft ls ≡ Some d → is_full d k ≡ true → IsAllowed t → GoesOn transcript_grammar t ls k → ⊥
 full_stops ls d k t led full allowed (more, e) =
     elim (split_end (body t) ls more k e) [
-      | inl (is, all) ↦ let never : is_full d line.End ≡ true = subst (λ (x : TranscriptLine). is_full d x ≡ true) is full in absurd cc
+      | inl (is, all) ↦ let never : is_full d line.End ≡ true =
+          subst (λ (x : TranscriptLine). is_full d x ≡ true) is full in absurd cc
       | inr (rest, all) ↦
           let goes = taken d (draft stage.View t) k rest (rest_leads t ls (k ∷ rest) d led all) in
           let grows = run_grows rest (with_line d k) (draft stage.View t) goes.2 in
-          let room = not_full d k (within_before (with_line d k) (draft stage.View t) grows (record { drivers = allowed.drivers; entries = allowed.entries })) in
+          let room =
+          not_full d k (within_before (with_line d k) (draft stage.View t) grows
+          (record { drivers = allowed.drivers; entries = allowed.entries })) in
           absurd (cc (full, room))
     ]
 
@@ -126,14 +154,17 @@ full_stops ls d k t led full allowed (more, e) =
 abbrev pub next_of : TranscriptDraft → TranscriptLine → Transcript
 next_of d k = completed (with_line d k)
 
-pub takes_may : (d : TranscriptDraft) (k : TranscriptLine) → takes d k ≡ true → GoesOn transcript_grammar (next_of d k) (lines d) k
+pub takes_may : (d : TranscriptDraft) (k : TranscriptLine) → takes d k ≡ true
+    → GoesOn transcript_grammar (next_of d k) (lines d) k
 takes_may d k h = by_kind (is_line k) refl where
-  at_end : (s : Stage) (t : Transcript) → is_view s ≡ true → GoesOn transcript_grammar (ended s t) (lines (draft s t)) line.End
+  at_end : (s : Stage) (t : Transcript) → is_view s ≡ true
+      → GoesOn transcript_grammar (ended s t) (lines (draft s t)) line.End
   at_end stage.History t h = absurd cc
   at_end stage.Config t h = absurd cc
   at_end stage.View t h = ([], refl)
 
-  is_end : (d : TranscriptDraft) (k : TranscriptLine) → is_line k ≡ false → takes d k ≡ true → GoesOn transcript_grammar (next_of d k) (lines d) k
+  is_end : (d : TranscriptDraft) (k : TranscriptLine) → is_line k ≡ false → takes d k ≡ true
+      → GoesOn transcript_grammar (next_of d k) (lines d) k
   is_end d (line.Driver x) off h = absurd cc
   is_end d (line.Entry x) off h = absurd cc
   is_end d line.Config off h = absurd cc
@@ -146,7 +177,8 @@ takes_may d k h = by_kind (is_line k) refl where
   is_end d (line.Full x) off h = absurd cc
   is_end d line.End off h = at_end d.stage d.transcript h
 
-  regroup : (ls : List TranscriptLine) (k : TranscriptLine) (rest : List TranscriptLine) → ((ls ++ k ∷ []) ++ rest) ++ line.End ∷ [] ≡ ls ++ k ∷ (rest ++ line.End ∷ [])
+  regroup : (ls : List TranscriptLine) (k : TranscriptLine) (rest : List TranscriptLine)
+      → ((ls ++ k ∷ []) ++ rest) ++ line.End ∷ [] ≡ ls ++ k ∷ (rest ++ line.End ∷ [])
   regroup ls k rest = simp append_assoc
 
   by_kind : (b : Bool) → is_line k ≡ b → GoesOn transcript_grammar (next_of d k) (lines d) k
@@ -155,23 +187,29 @@ takes_may d k h = by_kind (is_line k) refl where
       let more = lines_more d k h l in
       let rest = still (with_line d k).stage in (
         rest ++ line.End ∷ [],
-        ap (λ (ls : List TranscriptLine). ls ++ line.End ∷ []) (e ∙ ap (λ (ls : List TranscriptLine). ls ++ rest) more) ∙ regroup (lines d) k rest,
+        ap (λ (ls : List TranscriptLine). ls ++ line.End ∷ [])
+            (e ∙ ap (λ (ls : List TranscriptLine). ls ++ rest) more) ∙ regroup (lines d) k rest,
       )
   by_kind false l = is_end d k l h
 
 -- and it is allowed where these lines and this one are
-pub next_allowed : (d : TranscriptDraft) (k : TranscriptLine) → takes d k ≡ true → is_full d k ≡ false → IsWithin d → AllByRecursion FitsLine (lines d) → FitsLine k → IsAllowed (next_of d k)
-next_allowed d k h room within fits one = allowed (with_line d k) (still_within d k within room) (fits_next k (is_line k) refl h one) where
-  fits_next : (k : TranscriptLine) (b : Bool) → is_line k ≡ b → takes d k ≡ true → FitsLine k → AllByRecursion FitsLine (lines (with_line d k))
-  fits_next k true l h one = subst (λ (ls : List TranscriptLine). AllByRecursion FitsLine ls) (sym (lines_more d k h l)) (all_push FitsLine (lines d) k fits one)
-  fits_next (line.Driver x) false l h one = absurd cc
-  fits_next (line.Entry x) false l h one = absurd cc
-  fits_next line.Config false l h one = absurd cc
-  fits_next (line.Next id serial) false l h one = absurd cc
-  fits_next (line.Fd x) false l h one = absurd cc
-  fits_next (line.Link x) false l h one = absurd cc
-  fits_next (line.Bind x) false l h one = absurd cc
-  fits_next (line.Route x) false l h one = absurd cc
-  fits_next (line.Msg x) false l h one = absurd cc
-  fits_next (line.Full x) false l h one = absurd cc
-  fits_next line.End false l h one = fits
+pub next_allowed : (d : TranscriptDraft) (k : TranscriptLine) → takes d k ≡ true → is_full d k ≡ false
+    → IsWithin d → AllByRecursion FitsLine (lines d) → FitsLine k → IsAllowed (next_of d k)
+next_allowed d k h room within fits one =
+    allowed (with_line d k) (still_within d k within room) (fits_next k (is_line k) refl h one) where
+      fits_next : (k : TranscriptLine) (b : Bool) → is_line k ≡ b → takes d k ≡ true → FitsLine k
+          → AllByRecursion FitsLine (lines (with_line d k))
+      fits_next k true l h one =
+          subst (λ (ls : List TranscriptLine). AllByRecursion FitsLine ls) (sym (lines_more d k h l))
+          (all_push FitsLine (lines d) k fits one)
+      fits_next (line.Driver x) false l h one = absurd cc
+      fits_next (line.Entry x) false l h one = absurd cc
+      fits_next line.Config false l h one = absurd cc
+      fits_next (line.Next id serial) false l h one = absurd cc
+      fits_next (line.Fd x) false l h one = absurd cc
+      fits_next (line.Link x) false l h one = absurd cc
+      fits_next (line.Bind x) false l h one = absurd cc
+      fits_next (line.Route x) false l h one = absurd cc
+      fits_next (line.Msg x) false l h one = absurd cc
+      fits_next (line.Full x) false l h one = absurd cc
+      fits_next line.End false l h one = fits

@@ -1,7 +1,7 @@
 -- The lines of a transcript text can be told apart.
-use Rattle.std.proofs.Common.{◌≡◌, ◌≢◌, ℕ, ◌<◌, ◌≤◌, Bool, true, false, Result, Ok, Err, Some, None, ◌++◌, ◌^◌, List, [], ◌∷◌, length, refl, sym, ap, subst, ◌∙◌, arith, rules}
+use Rattle.std.proofs.Common.{◌≡◌, ◌≢◌, ℕ, ◌<◌, ◌≤◌, Bool, true, false, Result, Some, None, ◌++◌, ◌^◌, List}
+use Rattle.std.proofs.Common.{◌∷◌, refl, sym, ap, subst, ◌∙◌, arith, rules}
 use Rattle.std.specs.Fmt.{decimal}
-use Rattle.std.specs.List.{AllByRecursion}
 use Rattle.std.specs.Prelude.{codes, OnOk, IfErr, if◌then◌else◌}
 use Rattle.std.specs.Str.{bytes_eq, all_ascii_digits}
 use Rattle.std.proofs.lemmas.Bool.Decides.{nat_tests}
@@ -19,39 +19,47 @@ use Rattle.smx_types.specs.declared.view.LinkLine.{LinkLine}
 use Rattle.smx_types.specs.declared.view.MessageLine.{MessageLine}
 use Rattle.smx_types.specs.declared.view.RouteLine.{RouteLine}
 use Rattle.smx_words.specs.Words.{line_of}
-use Rattle.smx_words.specs.Spelling.{driver_words, entry_words, descriptor_words, link_words, bind_words, route_words, message_words, full_words, next_words}
-use Rattle.smx_words.specs.Spellable.{FitsNumber, FitsDriver, FitsEntry, FitsDescriptor, FitsLink, FitsBinding, FitsRoute, FitsMessage, FitsFull, FitsNext}
+use Rattle.smx_words.specs.Spelling.{driver_words, entry_words, descriptor_words, link_words, bind_words}
+use Rattle.smx_words.specs.Spelling.{route_words, message_words, full_words, next_words}
+use Rattle.smx_words.specs.Spellable.{FitsDriver, FitsEntry, FitsDescriptor, FitsLink, FitsBinding}
+use Rattle.smx_words.specs.Spellable.{FitsRoute, FitsMessage, FitsFull, FitsNext}
 use Rattle.smx_text.specs.declared.fault.Cause.{Cause}
 use Rattle.smx_text.specs.declared.fault.Cause.TheVariants as cause
 use Rattle.smx_text.specs.declared.transcript.draft.Stage.TheVariants as stage
 use Rattle.smx_text.specs.declared.transcript.draft.TranscriptDraft.{TranscriptDraft}
 use Rattle.smx_text.specs.Drafts.{lines}
-use Rattle.smx_text.specs.Grammar.{IsBegun, Continues, IsNoLine, line_text}
+use Rattle.smx_text.specs.Grammar.{Continues, IsNoLine, line_text}
 use Rattle.smx_text.specs.Reading.{Refuses, EndsAs, AddsLine, RefusesLine}
 use Rattle.smx_text.specs.TranscriptLines.{TranscriptLine}
 use Rattle.smx_text.specs.TranscriptLines as line
 use Rattle.smx_text.specs.TranscriptText.{line_words, FitsLine, body, transcript_grammar}
 use Rattle.smx_text.proofs.GrammarLemmas.{IsWellMade}
 use Rattle.smx_text.proofs.ReadingLemmas.{refuses, on_added, on_refused}
-use Rattle.smx_text.proofs.TranscriptDrafts.{new_draft, takes, is_full}
+use Rattle.smx_text.proofs.TranscriptDrafts.{new_draft, takes}
 use Rattle.smx_text.proofs.TranscriptDraftLemmas.{draft, run, run_append, run_body, taken}
 use Rattle.smx_text.proofs.TranscriptLemmas.{misplaced, some_of}
 use Rattle.smx_text.proofs.TranscriptWholeLemmas.{fits_body}
 use Rattle.smx_text.proofs.WordLemmas.{one_spelling, first_word, end_spelled, config_spelled, one_line_of}
 use Rattle.smx_words.specs.Words.{AreWords}
-use Rattle.smx_words.proofs.LawLemmas.{driver_spelled, entry_spelled, next_spelled, descriptor_spelled, link_spelled, bind_spelled, route_spelled, message_spelled, full_spelled}
-use Rattle.smx_words.proofs.LawLemmas.{one_driver, one_entry, one_next, one_descriptor, one_link, one_bind, one_route, one_message, one_full}
+use Rattle.smx_words.proofs.LawLemmas.{driver_spelled, entry_spelled, next_spelled, descriptor_spelled}
+use Rattle.smx_words.proofs.LawLemmas.{link_spelled, bind_spelled, route_spelled, message_spelled}
+use Rattle.smx_words.proofs.LawLemmas.{full_spelled}
+use Rattle.smx_words.proofs.LawLemmas.{one_driver, one_entry, one_next, one_descriptor, one_link, one_bind}
+use Rattle.smx_words.proofs.LawLemmas.{one_route, one_message, one_full}
 
 -- ---- kinds of lines, by their first words
 
-abbrev kind_at : List ℕ → ℕ
+abbrev pub kind_at : List ℕ → ℕ
 kind_at w =
-    if bytes_eq w (codes "driver") then 1 else if bytes_eq w (codes "config") then 2 else if bytes_eq w (codes "next") then 3
-    else if bytes_eq w (codes "fd") then 4 else if bytes_eq w (codes "link") then 5 else if bytes_eq w (codes "bind") then 6
-    else if bytes_eq w (codes "route") then 7 else if bytes_eq w (codes "msg") then 8 else if bytes_eq w (codes "full") then 9
+    if bytes_eq w (codes "driver") then 1 else if bytes_eq w (codes "config") then 2 else if bytes_eq w
+    (codes "next") then 3
+    else if bytes_eq w (codes "fd") then 4 else if bytes_eq w (codes "link") then 5 else if bytes_eq w
+    (codes "bind") then 6
+    else if bytes_eq w (codes "route") then 7 else if bytes_eq w (codes "msg") then 8 else if bytes_eq w
+    (codes "full") then 9
     else if bytes_eq w (codes "end") then 10 else 0
 
-abbrev kind_of : TranscriptLine → ℕ
+abbrev pub kind_of : TranscriptLine → ℕ
 kind_of (line.Driver d) = 1
 kind_of (line.Entry e) = 0
 kind_of line.Config = 2
@@ -73,9 +81,12 @@ is_false false h = refl
 
 -- digits are no word that begins with a letter
 no_digits : (w : List ℕ) (c : ℕ) (cs : List ℕ) → all_ascii_digits w ≡ true → 57 < c → bytes_eq w (c ∷ cs) ≡ false
-no_digits w c cs digits letter = is_false (bytes_eq w (c ∷ cs)) (λ is. differ ((bytes_eq-Decides w (c ∷ cs)).0 is)) where
-  differ : w ≡ c ∷ cs → ⊥
-  differ e = let all : all_ascii_digits (c ∷ cs) ≡ true = subst (λ (xs : List ℕ). all_ascii_digits xs ≡ true) e digits in let low : c ≤ 57 = grind (arith, nat_tests) in omega (arith, low, letter)
+no_digits w c cs digits letter =
+    is_false (bytes_eq w (c ∷ cs)) (λ is. differ ((bytes_eq-Decides w (c ∷ cs)).0 is)) where
+      differ : w ≡ c ∷ cs → ⊥
+      differ e = let all : all_ascii_digits (c ∷ cs) ≡ true =
+          subst (λ (xs : List ℕ). all_ascii_digits xs ≡ true) e digits in let low : c ≤ 57 =
+          grind (arith, nat_tests) in omega (arith, low, letter)
 
 number_kind : (n : ℕ) → n < 2 ^ 64 → kind_at (decimal n) ≡ 0
 number_kind n small =
@@ -93,7 +104,7 @@ number_kind n small =
       no_digits (decimal n) 101 _ digits (omega arith),
     ) refl
 
-kind_first : (k : TranscriptLine) → FitsLine k → kind_at (first_word (line_words k)) ≡ kind_of k
+pub kind_first : (k : TranscriptLine) → FitsLine k → kind_at (first_word (line_words k)) ≡ kind_of k
 kind_first (line.Driver d) fits = refl
 kind_first (line.Entry e) fits = number_kind e.process (omega (arith, fits.process))
 kind_first line.Config fits = refl
@@ -108,7 +119,7 @@ kind_first line.End fits = refl
 
 -- ---- lines
 
-spelling : (k : TranscriptLine) → FitsLine k → AreWords (line_words k)
+pub spelling : (k : TranscriptLine) → FitsLine k → AreWords (line_words k)
 spelling (line.Driver d) fits = driver_spelled d fits
 spelling (line.Entry e) fits = entry_spelled e fits
 spelling line.Config fits = config_spelled
@@ -121,8 +132,10 @@ spelling (line.Msg m) fits = message_spelled m fits
 spelling (line.Full f) fits = full_spelled f fits
 spelling line.End fits = end_spelled
 
-kinds_apart : (k l : TranscriptLine) → FitsLine k → FitsLine l → kind_of k ≡ kind_of l → line_text transcript_grammar k ≡ line_text transcript_grammar l → k ≡ l
-kinds_apart (line.Driver d) (line.Driver e) fits also kinds same = ap (λ x. line.Driver x) (one_driver d e fits also same)
+kinds_apart : (k l : TranscriptLine) → FitsLine k → FitsLine l → kind_of k ≡ kind_of l
+    → line_text transcript_grammar k ≡ line_text transcript_grammar l → k ≡ l
+kinds_apart (line.Driver d) (line.Driver e) fits also kinds same =
+    ap (λ x. line.Driver x) (one_driver d e fits also same)
 kinds_apart (line.Entry d) (line.Entry e) fits also kinds same = ap (λ x. line.Entry x) (one_entry d e fits also same)
 kinds_apart line.Config line.Config fits also kinds same = refl
 kinds_apart (line.Next id serial) (line.Next jd terial) fits also kinds same =
@@ -136,24 +149,28 @@ kinds_apart (line.Full d) (line.Full e) fits also kinds same = ap (λ x. line.Fu
 kinds_apart line.End line.End fits also kinds same = refl
 kinds_apart k l fits also kinds same = absurd cc
 
-pub tells_apart : (k l : TranscriptLine) → FitsLine k → FitsLine l → line_text transcript_grammar k ≡ line_text transcript_grammar l → k ≡ l
+pub tells_apart : (k l : TranscriptLine) → FitsLine k → FitsLine l
+    → line_text transcript_grammar k ≡ line_text transcript_grammar l → k ≡ l
 tells_apart k l fits also same =
     let ws = one_spelling (line_words k) (line_words l) (spelling k fits) (spelling l also) same in
-    kinds_apart k l fits also (sym (kind_first k fits) ∙ ap (λ (vs : List (List ℕ)). kind_at (first_word vs)) ws ∙ kind_first l also) same
+    kinds_apart k l fits also (sym (kind_first k fits)
+    ∙ ap (λ (vs : List (List ℕ)). kind_at (first_word vs)) ws ∙ kind_first l also) same
 
 -- ---- the whole
 
 end_is_last : (t : Transcript) (ls more : List TranscriptLine) → body t ≡ ls ++ line.End ∷ more → ⊥
 end_is_last t ls more e =
     let all = sym (ap (run new_draft) e) ∙ run_body t in
-    let d = some_of (run new_draft ls) (line.End ∷ more) (draft stage.View t) (sym (run_append new_draft ls (line.End ∷ more)) ∙ all) in
+    let d = some_of (run new_draft ls) (line.End ∷ more) (draft stage.View t)
+    (sym (run_append new_draft ls (line.End ∷ more)) ∙ all) in
     let last = taken d.0 (draft stage.View t) line.End more d.2 in
     absurd (cc last.1)
 
 one_value : (t u : Transcript) → body t ≡ body u → t ≡ u
 one_value t u e = same_value (sym (run_body t) ∙ ap (run new_draft) e ∙ run_body u) where
   same_value : Some (draft stage.View t) ≡ Some (draft stage.View u) → t ≡ u
-  same_value e = let same : draft stage.View t ≡ draft stage.View u = cc e in ap (λ (d : TranscriptDraft). d.transcript) same
+  same_value e = let same : draft stage.View t ≡ draft stage.View u = cc e in
+      ap (λ (d : TranscriptDraft). d.transcript) same
 
 pub well_made : IsWellMade transcript_grammar
 well_made = record {
@@ -168,35 +185,57 @@ well_made = record {
 
 -- ---- what is done with a line that was read is done with its text
 
-pub on_added_line : {A : Type 0} (ls longer : List TranscriptLine) (k : TranscriptLine) (text : List ℕ) → text ≡ line_text transcript_grammar k → (r : Result A Cause)
+pub on_added_line : {A : Type 0} (ls longer : List TranscriptLine) (k : TranscriptLine) (text : List ℕ)
+    → text ≡ line_text transcript_grammar k → (r : Result A Cause)
     → OnOk r (AddsLine transcript_grammar ls k longer) → OnOk r (Continues transcript_grammar ls text longer)
 on_added_line ls longer k text is r h = on_added transcript_grammar ls longer k text is r h
 
-pub on_refused_line : {A : Type 0} (ls : List TranscriptLine) (k : TranscriptLine) (text : List ℕ) → FitsLine k → text ≡ line_text transcript_grammar k → (r : Result A Cause)
+pub on_refused_line : {A : Type 0} (ls : List TranscriptLine) (k : TranscriptLine) (text : List ℕ)
+    → FitsLine k → text ≡ line_text transcript_grammar k → (r : Result A Cause)
     → IfErr r (RefusesLine transcript_grammar ls k) → IfErr r (Refuses transcript_grammar ls text)
-on_refused_line ls k text fits is r h = on_refused transcript_grammar tells_apart tt ls k text fits is r h
+on_refused_line ls k text fits is r h = on_refused transcript_grammar tells_apart ls k text fits is r h
 
-pub refused_line : (ls : List TranscriptLine) (k : TranscriptLine) (text : List ℕ) → FitsLine k → text ≡ line_text transcript_grammar k → (why : Cause)
+pub refused_line : (ls : List TranscriptLine) (k : TranscriptLine) (text : List ℕ) → FitsLine k
+    → text ≡ line_text transcript_grammar k → (why : Cause)
     → RefusesLine transcript_grammar ls k why → Refuses transcript_grammar ls text why
-refused_line ls k text fits is why h = refuses transcript_grammar tells_apart tt ls k text fits is why h
+refused_line ls k text fits is why h = refuses transcript_grammar tells_apart ls k text fits is why h
 
 pub not_at_end : (d : TranscriptDraft) → takes d line.End ≡ false → EndsAs transcript_grammar (lines d) None
-not_at_end d h = refused_line (lines d) line.End (line_text transcript_grammar line.End) tt refl cause.Form (misplaced d line.End h)
+not_at_end d h =
+    refused_line (lines d) line.End (line_text transcript_grammar line.End) tt refl cause.Form
+    (misplaced d line.End h)
 
 -- what is none of these is no line
-pub no_line : (ls : List TranscriptLine) (text : List ℕ) → ((x : Entry) → FitsEntry x → text ≢ line_of (entry_words x)) → ((x : MessageLine) → FitsMessage x → text ≢ line_of (message_words x))
-    → ((x : DriverSpec) → FitsDriver x → text ≢ line_of (driver_words x)) → text ≢ line_text transcript_grammar line.Config → ((x : ℕ × ℕ) → FitsNext x → text ≢ line_of (next_words x))
-    → ((x : DescriptorLine) → FitsDescriptor x → text ≢ line_of (descriptor_words x)) → ((x : LinkLine) → FitsLink x → text ≢ line_of (link_words x))
-    → ((x : BindingLine) → FitsBinding x → text ≢ line_of (bind_words x)) → ((x : RouteLine) → FitsRoute x → text ≢ line_of (route_words x))
-    → ((x : FullLine) → FitsFull x → text ≢ line_of (full_words x)) → text ≢ line_text transcript_grammar line.End → IsNoLine transcript_grammar ls text
-no_line ls text entries messages drivers config nexts fds links binds routes fulls end (line.Driver x) fits may is = drivers x fits is
-no_line ls text entries messages drivers config nexts fds links binds routes fulls end (line.Entry x) fits may is = entries x fits is
-no_line ls text entries messages drivers config nexts fds links binds routes fulls end line.Config fits may is = config is
-no_line ls text entries messages drivers config nexts fds links binds routes fulls end (line.Next id serial) fits may is = nexts (id, serial) fits is
-no_line ls text entries messages drivers config nexts fds links binds routes fulls end (line.Fd x) fits may is = fds x fits is
-no_line ls text entries messages drivers config nexts fds links binds routes fulls end (line.Link x) fits may is = links x fits is
-no_line ls text entries messages drivers config nexts fds links binds routes fulls end (line.Bind x) fits may is = binds x fits is
-no_line ls text entries messages drivers config nexts fds links binds routes fulls end (line.Route x) fits may is = routes x fits is
-no_line ls text entries messages drivers config nexts fds links binds routes fulls end (line.Msg x) fits may is = messages x fits is
-no_line ls text entries messages drivers config nexts fds links binds routes fulls end (line.Full x) fits may is = fulls x fits is
+pub no_line : (ls : List TranscriptLine) (text : List ℕ)
+    → ((x : Entry) → FitsEntry x → text ≢ line_of (entry_words x))
+    → ((x : MessageLine) → FitsMessage x → text ≢ line_of (message_words x))
+    → ((x : DriverSpec) → FitsDriver x → text ≢ line_of (driver_words x))
+    → text ≢ line_text transcript_grammar line.Config
+    → ((x : ℕ × ℕ) → FitsNext x → text ≢ line_of (next_words x))
+    → ((x : DescriptorLine) → FitsDescriptor x → text ≢ line_of (descriptor_words x))
+    → ((x : LinkLine) → FitsLink x → text ≢ line_of (link_words x))
+    → ((x : BindingLine) → FitsBinding x → text ≢ line_of (bind_words x))
+    → ((x : RouteLine) → FitsRoute x → text ≢ line_of (route_words x))
+    → ((x : FullLine) → FitsFull x → text ≢ line_of (full_words x))
+    → text ≢ line_text transcript_grammar line.End → IsNoLine transcript_grammar ls text
+no_line ls text entries messages drivers config nexts fds links binds routes fulls end (line.Driver x) fits
+    may is = drivers x fits is
+no_line ls text entries messages drivers config nexts fds links binds routes fulls end (line.Entry x) fits may
+    is = entries x fits is
+no_line ls text entries messages drivers config nexts fds links binds routes fulls end line.Config fits may
+    is = config is
+no_line ls text entries messages drivers config nexts fds links binds routes fulls end (line.Next id serial)
+    fits may is = nexts (id, serial) fits is
+no_line ls text entries messages drivers config nexts fds links binds routes fulls end (line.Fd x) fits may
+    is = fds x fits is
+no_line ls text entries messages drivers config nexts fds links binds routes fulls end (line.Link x) fits may
+    is = links x fits is
+no_line ls text entries messages drivers config nexts fds links binds routes fulls end (line.Bind x) fits may
+    is = binds x fits is
+no_line ls text entries messages drivers config nexts fds links binds routes fulls end (line.Route x) fits may
+    is = routes x fits is
+no_line ls text entries messages drivers config nexts fds links binds routes fulls end (line.Msg x) fits may
+    is = messages x fits is
+no_line ls text entries messages drivers config nexts fds links binds routes fulls end (line.Full x) fits may
+    is = fulls x fits is
 no_line ls text entries messages drivers config nexts fds links binds routes fulls end line.End fits may is = end is

@@ -1,25 +1,25 @@
 -- What a reader does with a line behind those of a transcript that is being read.
-use Rattle.std.proofs.Common.{◌≡◌, ◌≢◌, ◌≤◌, Bool, true, false, List, [], ◌∷◌, ◌++◌, length, map, Option, Some, None, refl, sym, ap, subst, ◌∙◌, arith, inl, inr}
+use Rattle.std.proofs.Common.{◌≡◌, ◌≢◌, Bool, true, false, List, [], ◌∷◌, ◌++◌, map, Option, Some, None}
+use Rattle.std.proofs.Common.{refl, sym, ap, subst, ◌∙◌, arith}
 use Rattle.std.specs.List.{AllByRecursion}
-use Rattle.std.specs.Prelude.{◌⊎◌}
-use Rattle.std.proofs.lemmas.List.{append-nil}
 use Rattle.smx_types.specs.declared.transcript.Transcript.{Transcript}
-use Rattle.smx_types.specs.declared.view.ConfigView.{ConfigView}
 use Rattle.smx_text.specs.declared.fault.Cause.TheVariants as cause
 use Rattle.smx_text.specs.declared.transcript.draft.Stage.{Stage}
 use Rattle.smx_text.specs.declared.transcript.draft.Stage.TheVariants as stage
 use Rattle.smx_text.specs.declared.transcript.draft.TranscriptDraft.{TranscriptDraft}
 use Rattle.smx_text.specs.Drafts.{lines}
-use Rattle.smx_text.specs.Grammar.{IsBegun, GoesOn, MayFollow, IsFull}
-use Rattle.smx_text.specs.Reading.{EndsAs, AddsLine, RefusesLine}
+use Rattle.smx_text.specs.Grammar.{IsBegun}
+use Rattle.smx_text.specs.Reading.{AddsLine, RefusesLine}
 use Rattle.smx_text.specs.TranscriptLines.{TranscriptLine}
 use Rattle.smx_text.specs.TranscriptLines as line
 use Rattle.smx_text.specs.TranscriptText.{FitsLine, body, IsAllowed, transcript_grammar}
 use Rattle.smx_text.proofs.EachLemmas.{all_left}
 use Rattle.smx_text.proofs.TranscriptDrafts.{◌>>=◌, new_view, new_draft, takes, is_full, with_line}
-use Rattle.smx_text.proofs.TranscriptDraftLemmas.{draft, is_line, not_end, lines_more, run, run_append, run_lines, run_drivers, run_entries, run_body, taken}
-use Rattle.smx_text.proofs.TranscriptWholeLemmas.{completed, completes, still, IsWithin, fits_body, allowed}
-use Rattle.smx_text.proofs.TranscriptFollowLemmas.{run_grows, within_before, rest_leads, may_takes, full_stops, next_of, takes_may, next_allowed}
+use Rattle.smx_text.proofs.TranscriptDraftLemmas.{draft, not_end, lines_more, run, run_append, run_lines}
+use Rattle.smx_text.proofs.TranscriptDraftLemmas.{run_drivers, run_entries, run_body}
+use Rattle.smx_text.proofs.TranscriptWholeLemmas.{completes, still, IsWithin, fits_body, allowed}
+use Rattle.smx_text.proofs.TranscriptFollowLemmas.{run_grows, within_before, rest_leads, may_takes}
+use Rattle.smx_text.proofs.TranscriptFollowLemmas.{full_stops, next_of, takes_may, next_allowed}
 
 -- ---- a draft, and what its lines lead to
 
@@ -33,8 +33,10 @@ abbrev clean : TranscriptDraft → TranscriptDraft
 clean d = clean_by d.stage d.transcript
 
 led_by : (s : Stage) (t : Transcript) → run new_draft (lines (draft s t)) ≡ Some (clean_by s t)
-led_by stage.History t = run_drivers [] t.drivers (map line.Entry t.entries ++ []) ∙ run_entries t.drivers [] t.entries []
-led_by stage.Config t = run_drivers [] t.drivers (map line.Entry t.entries ++ line.Config ∷ []) ∙ run_entries t.drivers [] t.entries (line.Config ∷ [])
+led_by stage.History t = run_drivers [] t.drivers (map line.Entry t.entries ++ [])
+    ∙ run_entries t.drivers [] t.entries []
+led_by stage.Config t = run_drivers [] t.drivers (map line.Entry t.entries ++ line.Config ∷ [])
+    ∙ run_entries t.drivers [] t.entries (line.Config ∷ [])
 led_by stage.View t = run_body t
 
 led : (d : TranscriptDraft) → run new_draft (lines d) ≡ Some (clean d)
@@ -65,7 +67,8 @@ takes_clean_by stage.Config t (line.Full x) = refl
 takes_clean_by stage.Config t line.End = refl
 takes_clean_by stage.View t k = refl
 
-full_clean_by : (s : Stage) (t : Transcript) (k : TranscriptLine) → is_full (draft s t) k ≡ true → is_full (clean_by s t) k ≡ true
+full_clean_by : (s : Stage) (t : Transcript) (k : TranscriptLine) → is_full (draft s t) k ≡ true
+    → is_full (clean_by s t) k ≡ true
 full_clean_by stage.History t (line.Driver x) h = h
 full_clean_by stage.History t (line.Entry x) h = h
 full_clean_by stage.Config t (line.Driver x) h = h
@@ -81,16 +84,20 @@ within_clean_by stage.View t h = h
 -- ---- what holds of lines that some allowed transcript begins with
 
 pub fits_of : (lines : List TranscriptLine) → IsBegun transcript_grammar lines → AllByRecursion FitsLine lines
-fits_of lines (t, more, allowed, e) = all_left FitsLine lines more (subst (AllByRecursion FitsLine) e (fits_body t allowed.spellable))
+fits_of lines (t, more, allowed, e) =
+    all_left FitsLine lines more (subst (AllByRecursion FitsLine) e (fits_body t allowed.spellable))
 
-within_of : (ls : List TranscriptLine) (d : TranscriptDraft) → run new_draft ls ≡ Some d → IsBegun transcript_grammar ls → IsWithin d
+within_of : (ls : List TranscriptLine) (d : TranscriptDraft) → run new_draft ls ≡ Some d
+    → IsBegun transcript_grammar ls → IsWithin d
 within_of ls d to (t, more, allowed, e) =
-    within_before d (draft stage.View t) (run_grows more d (draft stage.View t) (rest_leads t ls more d to e)) (record { drivers = allowed.drivers; entries = allowed.entries })
+    within_before d (draft stage.View t) (run_grows more d (draft stage.View t) (rest_leads t ls more d to e))
+    (record { drivers = allowed.drivers; entries = allowed.entries })
 
 pub draft_within : (d : TranscriptDraft) → IsBegun transcript_grammar (lines d) → IsWithin d
 draft_within d begun = within_clean_by d.stage d.transcript (within_of (lines d) (clean d) (led d) begun)
 
-pub some_of : (o : Option TranscriptDraft) (ks : List TranscriptLine) (e : TranscriptDraft) → o >>= (λ d. run d ks) ≡ Some e → (d : TranscriptDraft) × (o ≡ Some d) × (run d ks ≡ Some e)
+pub some_of : (o : Option TranscriptDraft) (ks : List TranscriptLine) (e : TranscriptDraft)
+    → o >>= (λ d. run d ks) ≡ Some e → (d : TranscriptDraft) × (o ≡ Some d) × (run d ks ≡ Some e)
 some_of (Some d) ks e h = (d, refl, h)
 some_of None ks e h = absurd cc
 
@@ -103,35 +110,56 @@ begun_is_draft ls (t, more, allowed, e) =
 
 -- ---- lines that are taken, and those that are not
 
-pub misplaced : (d : TranscriptDraft) (k : TranscriptLine) → takes d k ≡ false → RefusesLine transcript_grammar (lines d) k cause.Form
+pub misplaced : (d : TranscriptDraft) (k : TranscriptLine) → takes d k ≡ false
+    → RefusesLine transcript_grammar (lines d) k cause.Form
 misplaced d k h (t, goes) =
     let may = may_takes (lines d) (clean d) k t (led d) goes in
     let same = takes_clean_by d.stage d.transcript k in
     absurd (cc (h, may, same))
 
-pub too_many : (d : TranscriptDraft) (k : TranscriptLine) → takes d k ≡ true → is_full d k ≡ true → RefusesLine transcript_grammar (lines d) k cause.Many
-too_many d k may full =
-    ((next_of d k, takes_may d k may), λ t allowed goes. full_stops (lines d) (clean d) k t (led d) (full_clean_by d.stage d.transcript k full) allowed goes)
+pub too_many : (d : TranscriptDraft) (k : TranscriptLine) → takes d k ≡ true → is_full d k ≡ true
+    → RefusesLine transcript_grammar (lines d) k cause.Many
+too_many d k may full = (
+  (next_of d k, takes_may d k may),
+  λ t allowed goes.
+      full_stops (lines d) (clean d) k t (led d) (full_clean_by d.stage d.transcript k full) allowed goes,
+)
 
 -- a line that is taken is the last
-pub adds : (d e : TranscriptDraft) (k : TranscriptLine) → IsBegun transcript_grammar (lines d) → takes d k ≡ true → is_full d k ≡ false → FitsLine k → k ≢ line.End → lines e ≡ lines (with_line d k)
+pub adds : (d e : TranscriptDraft) (k : TranscriptLine) → IsBegun transcript_grammar (lines d)
+    → takes d k ≡ true → is_full d k ≡ false → FitsLine k → k ≢ line.End → lines e ≡ lines (with_line d k)
     → AddsLine transcript_grammar (lines d) k (lines e)
 adds d e k begun may room fits other same =
     let more = lines_more d k may (not_end k other) in
-    let next = next_allowed d k may room (draft_within d begun) (fits_of (lines d) begun) fits in
-    (same ∙ more, (next_of d k, still (with_line d k).stage, next, completes (with_line d k) ∙ ap (λ (ls : List TranscriptLine). ls ++ still (with_line d k).stage) (sym same)))
+    let next = next_allowed d k may room (draft_within d begun) (fits_of (lines d) begun) fits in (
+      same ∙ more,
+      (
+        next_of d k,
+        still (with_line d k).stage,
+        next,
+        completes (with_line d k)
+            ∙ ap (λ (ls : List TranscriptLine). ls ++ still (with_line d k).stage) (sym same),
+      ),
+    )
 
 -- its lines and this one begin some transcript
-pub longer_begun : (d : TranscriptDraft) (k : TranscriptLine) → IsBegun transcript_grammar (lines d) → takes d k ≡ true → is_full d k ≡ false → FitsLine k → k ≢ line.End → IsBegun transcript_grammar (lines d ++ k ∷ [])
+pub longer_begun : (d : TranscriptDraft) (k : TranscriptLine) → IsBegun transcript_grammar (lines d)
+    → takes d k ≡ true → is_full d k ≡ false → FitsLine k → k ≢ line.End
+    → IsBegun transcript_grammar (lines d ++ k ∷ [])
 longer_begun d k begun may room fits other =
-    subst (IsBegun transcript_grammar) (lines_more d k may (not_end k other)) (adds d (with_line d k) k begun may room fits other refl).1
+    subst (IsBegun transcript_grammar) (lines_more d k may (not_end k other))
+    (adds d (with_line d k) k begun may room fits other refl).1
 
 -- the end
-pub whole : (d : TranscriptDraft) → IsBegun transcript_grammar (lines d) → d.stage ≡ stage.View → IsAllowed d.transcript × (body d.transcript ≡ lines d)
+pub whole : (d : TranscriptDraft) → IsBegun transcript_grammar (lines d) → d.stage ≡ stage.View
+    → IsAllowed d.transcript × (body d.transcript ≡ lines d)
 whole d begun view =
     let same : d ≡ draft stage.View d.transcript = ap (λ (s : Stage). draft s d.transcript) view in
-    let is : body d.transcript ≡ lines d = sym (ap lines same) in
-    (allowed (draft stage.View d.transcript) (subst IsWithin same (draft_within d begun)) (subst (λ (e : TranscriptDraft). AllByRecursion FitsLine (lines e)) same (fits_of (lines d) begun)), is)
+    let is : body d.transcript ≡ lines d = sym (ap lines same) in (
+      allowed (draft stage.View d.transcript) (subst IsWithin same (draft_within d begun))
+          (subst (λ (e : TranscriptDraft). AllByRecursion FitsLine (lines e)) same (fits_of (lines d) begun)),
+      is,
+    )
 
 -- ---- lines of the groups of a view
 
@@ -148,7 +176,8 @@ is_group (line.Msg x) = true
 is_group (line.Full x) = true
 is_group line.End = false
 
-in_view_by : (s : Stage) (t : Transcript) (k : TranscriptLine) → is_group k ≡ true → takes (draft s t) k ≡ true → s ≡ stage.View
+in_view_by : (s : Stage) (t : Transcript) (k : TranscriptLine) → is_group k ≡ true
+    → takes (draft s t) k ≡ true → s ≡ stage.View
 in_view_by stage.View t k group may = refl
 in_view_by stage.History t (line.Driver x) group may = absurd cc
 in_view_by stage.History t (line.Entry x) group may = absurd cc
@@ -173,16 +202,37 @@ in_view_by stage.Config t (line.Msg x) group may = absurd cc
 in_view_by stage.Config t (line.Full x) group may = absurd cc
 in_view_by stage.Config t line.End group may = absurd cc
 
-pub group_added : (d : TranscriptDraft) (t : Transcript) (k : TranscriptLine) → IsBegun transcript_grammar (lines d) → takes d k ≡ true → is_group k ≡ true → is_full d k ≡ false → FitsLine k → k ≢ line.End
+pub group_added : (d : TranscriptDraft) (t : Transcript) (k : TranscriptLine)
+    → IsBegun transcript_grammar (lines d) → takes d k ≡ true → is_group k ≡ true → is_full d k ≡ false
+    → FitsLine k → k ≢ line.End
     → with_line d k ≡ draft stage.View t → AddsLine transcript_grammar (lines d) k (lines (draft d.stage t))
 group_added d t k begun may group room fits other is =
     let view = in_view_by d.stage d.transcript k group may in
-    adds d (draft d.stage t) k begun may room fits other (ap (λ (s : Stage). lines (draft s t)) view ∙ sym (ap lines is))
+    adds d (draft d.stage t) k begun may room fits other (ap (λ (s : Stage). lines (draft s t)) view
+    ∙ sym (ap lines is))
 
 pub nothing_begun : IsBegun transcript_grammar []
 nothing_begun = (
   record { drivers = []; entries = []; view = new_view 0 0 },
   line.Config ∷ line.Next 0 0 ∷ [],
-  record { drivers = omega arith; entries = omega arith; spellable = record { drivers = tt; entries = tt; view = record { next_id = omega arith; next_serial = omega arith; fds = tt; links = tt; binds = tt; routes = tt; msgs = tt; fulls = tt } } },
+  record {
+    drivers = omega arith;
+    entries = omega arith;
+    spellable =
+        record {
+          drivers = tt;
+          entries = tt;
+          view = record {
+            next_id = omega arith;
+            next_serial = omega arith;
+            fds = tt;
+            links = tt;
+            binds = tt;
+            routes = tt;
+            msgs = tt;
+            fulls = tt;
+          };
+        };
+  },
   refl,
 )

@@ -34,8 +34,10 @@ behind_both : (xs ys zs ws : List TranscriptLine) → xs ++ (ys ++ (zs ++ ws)) �
 behind_both xs ys zs ws = simp append_assoc
 
 completes_by : (s : Stage) (t : Transcript) → body (ended s t) ≡ lines (draft s t) ++ still s
-completes_by stage.History t = behind_both (map line.Driver t.drivers) (map line.Entry t.entries) [] (line.Config ∷ line.Next 0 0 ∷ [])
-completes_by stage.Config t = behind_both (map line.Driver t.drivers) (map line.Entry t.entries) (line.Config ∷ []) (line.Next 0 0 ∷ [])
+completes_by stage.History t =
+    behind_both (map line.Driver t.drivers) (map line.Entry t.entries) [] (line.Config ∷ line.Next 0 0 ∷ [])
+completes_by stage.Config t =
+    behind_both (map line.Driver t.drivers) (map line.Entry t.entries) (line.Config ∷ []) (line.Next 0 0 ∷ [])
 completes_by stage.View t = sym (append-nil (body t))
 
 pub completes : (d : TranscriptDraft) → body (completed d) ≡ lines d ++ still d.stage
@@ -50,16 +52,36 @@ pub record IsWithin (d : TranscriptDraft) : Type 0 where
 pub fits_body : (t : Transcript) → IsSpellable t → AllByRecursion FitsLine (body t)
 fits_body t h =
     let fulls = all_map FitsLine line.Full t.view.fulls h.view.fulls in
-    let msgs = all_append FitsLine (map line.Msg t.view.msgs) _ (all_map FitsLine line.Msg t.view.msgs h.view.msgs) fulls in
-    let routes = all_append FitsLine (map line.Route t.view.routes) _ (all_map FitsLine line.Route t.view.routes h.view.routes) msgs in
-    let binds = all_append FitsLine (map line.Bind t.view.binds) _ (all_map FitsLine line.Bind t.view.binds h.view.binds) routes in
-    let links = all_append FitsLine (map line.Link t.view.links) _ (all_map FitsLine line.Link t.view.links h.view.links) binds in
+    let msgs =
+    all_append FitsLine (map line.Msg t.view.msgs) _
+    (all_map FitsLine line.Msg t.view.msgs h.view.msgs) fulls in
+    let routes =
+    all_append FitsLine (map line.Route t.view.routes) _
+    (all_map FitsLine line.Route t.view.routes h.view.routes) msgs in
+    let binds =
+    all_append FitsLine (map line.Bind t.view.binds) _
+    (all_map FitsLine line.Bind t.view.binds h.view.binds) routes in
+    let links =
+    all_append FitsLine (map line.Link t.view.links) _
+    (all_map FitsLine line.Link t.view.links h.view.links) binds in
     let fds = all_append FitsLine (map line.Fd t.view.fds) _ (all_map FitsLine line.Fd t.view.fds h.view.fds) links in
-    let entries = all_append FitsLine (map line.Entry t.entries) (line.Config ∷ view_body t.view) (all_map FitsLine line.Entry t.entries h.entries) (tt, ((h.view.next_id, h.view.next_serial), fds)) in
+    let entries =
+    all_append FitsLine (map line.Entry t.entries) (line.Config ∷ view_body t.view)
+    (all_map FitsLine line.Entry t.entries h.entries) (tt, ((h.view.next_id, h.view.next_serial), fds)) in
     all_append FitsLine (map line.Driver t.drivers) _ (all_map FitsLine line.Driver t.drivers h.drivers) entries
 
 nothing_fits : IsSpellableView (new_view 0 0)
-nothing_fits = record { next_id = omega arith; next_serial = omega arith; fds = tt; links = tt; binds = tt; routes = tt; msgs = tt; fulls = tt }
+nothing_fits =
+    record {
+      next_id = omega arith;
+      next_serial = omega arith;
+      fds = tt;
+      links = tt;
+      binds = tt;
+      routes = tt;
+      msgs = tt;
+      fulls = tt;
+    }
 
 view_fits : (v : ConfigView) → AllByRecursion FitsLine (view_body v) → IsSpellableView v
 view_fits v h =
@@ -84,11 +106,15 @@ ended_view stage.History t h = nothing_fits
 ended_view stage.Config t h = nothing_fits
 ended_view stage.View t h = view_fits t.view h.1
 
-allowed_by : (s : Stage) (t : Transcript) (u : Transcript) → u.drivers ≡ t.drivers → u.entries ≡ t.entries → IsSpellableView u.view → IsWithin (draft s t) → AllByRecursion FitsLine (lines (draft s t)) → IsAllowed u
+allowed_by : (s : Stage) (t : Transcript) (u : Transcript) → u.drivers ≡ t.drivers → u.entries ≡ t.entries
+    → IsSpellableView u.view → IsWithin (draft s t) → AllByRecursion FitsLine (lines (draft s t))
+    → IsAllowed u
 allowed_by s t u d e v within h =
     let history = all_right FitsLine (map line.Driver t.drivers) _ h in
     let drivers = of_map FitsLine line.Driver t.drivers (all_left FitsLine (map line.Driver t.drivers) _ h) in
-    let entries = of_map FitsLine line.Entry t.entries (all_left FitsLine (map line.Entry t.entries) (shown s t.view) history) in
+    let entries =
+    of_map FitsLine line.Entry t.entries
+    (all_left FitsLine (map line.Entry t.entries) (shown s t.view) history) in
     record {
       drivers = rw d within.drivers;
       entries = rw e within.entries;
@@ -104,5 +130,7 @@ same_history stage.View t = (refl, refl)
 pub allowed : (d : TranscriptDraft) → IsWithin d → AllByRecursion FitsLine (lines d) → IsAllowed (completed d)
 allowed d within h =
     let same = same_history d.stage d.transcript in
-    let view = all_right FitsLine (map line.Entry d.transcript.entries) (shown d.stage d.transcript.view) (all_right FitsLine (map line.Driver d.transcript.drivers) _ h) in
+    let view =
+    all_right FitsLine (map line.Entry d.transcript.entries) (shown d.stage d.transcript.view)
+    (all_right FitsLine (map line.Driver d.transcript.drivers) _ h) in
     allowed_by d.stage d.transcript (completed d) same.0 same.1 (ended_view d.stage d.transcript view) within h

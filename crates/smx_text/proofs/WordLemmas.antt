@@ -1,9 +1,8 @@
 -- What the texts take from the words of lines.
-use Rattle.std.proofs.Common.{◌≡◌, ℕ, ◌<◌, ◌≤◌, List, [], ◌∷◌, ◌++◌, length, arith, rules}
-use Rattle.std.specs.List.{AllByRecursion}
+use Rattle.std.proofs.Common.{◌≡◌, ℕ, List, [], ◌∷◌, arith, rules}
 use Rattle.std.specs.Prelude.{codes}
-use Rattle.smx_words.specs.Words.{AreWords, IsWord, line_of}
-use Rattle.smx_words.proofs.LawLemmas.{same_words}
+use Rattle.smx_words.specs.Words.{AreWords, LINE_FEED, line_of}
+use Rattle.smx_words.proofs.LineLemmas.{line_free, same_words, words_free}
 use Rattle.smx_text.specs.Grammar.{IsOneLine}
 
 abbrev pub first_word : List (List ℕ) → List ℕ
@@ -19,20 +18,6 @@ config_spelled = (search rules, omega arith)
 pub end_spelled : AreWords (codes "end" ∷ [])
 end_spelled = (search rules, omega arith)
 
--- ---- lines of words have no line feed in them
-
-word_is_free : (w : List ℕ) → AllByRecursion (λ b. (0x21 ≤ b) × (b ≤ 0x7E)) w → IsOneLine w
-word_is_free [] h = tt
-word_is_free (b ∷ w) h = ((λ e. omega (arith, e, h.0.0)), word_is_free w h.1)
-
-free_append : (xs ys : List ℕ) → IsOneLine xs → IsOneLine ys → IsOneLine (xs ++ ys)
-free_append [] ys h k = k
-free_append (x ∷ xs) ys h k = (h.0, free_append xs ys h.1 k)
-
-words_free : (ws : List (List ℕ)) → AllByRecursion IsWord ws → IsOneLine (line_of ws)
-words_free [] h = tt
-words_free (w ∷ []) h = word_is_free w h.0.1
-words_free (w ∷ v ∷ ws) h = free_append w (32 ∷ line_of (v ∷ ws)) (word_is_free w h.0.1) ((λ e. omega (arith, e)), words_free (v ∷ ws) h.1)
-
+-- a line of words has no line feed in it
 pub one_line_of : (ws : List (List ℕ)) → AreWords ws → IsOneLine (line_of ws)
-one_line_of ws h = words_free ws h.0
+one_line_of ws h = line_free LINE_FEED (λ e. cc) ws (words_free LINE_FEED (omega arith) ws h.0)

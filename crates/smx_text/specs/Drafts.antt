@@ -24,7 +24,9 @@ shown stage.View v = line.Config ∷ view_body v
 
 -- the lines of a transcript, as far as they were read
 abbrev pub lines : TranscriptDraft → List TranscriptLine
-lines d = map line.Driver d.transcript.drivers ++ (map line.Entry d.transcript.entries ++ shown d.stage d.transcript.view)
+lines d =
+    map line.Driver d.transcript.drivers ++ (map line.Entry d.transcript.entries
+    ++ shown d.stage d.transcript.view)
 
 -- groups are read
 abbrev pub is_view : Stage → Bool

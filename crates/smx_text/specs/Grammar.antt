@@ -82,6 +82,10 @@ module _ {V K : Type 0} (g : Grammar V K) where
   abbrev pub Continues : List K → List ℕ → List K → Type 0
   Continues lines text longer = (k : K) × (text ≡ line_text k) × (longer ≡ lines ++ k ∷ []) × IsBegun longer
 
+  -- it spells a line with which some allowed value goes on behind these
+  abbrev pub IsOneMore : List K → List ℕ → Type 0
+  IsOneMore lines text = (longer : List K) × Continues lines text longer
+
   -- ---- where a text goes wrong
 
   -- line `number` is this one, which is whole, and some allowed value begins with those before it
@@ -92,7 +96,8 @@ module _ {V K : Type 0} (g : Grammar V K) where
 
   -- nothing, or what some allowed value begins with; then this line comes
   abbrev pub Begins : List ℕ → ℕ → Type 0
-  Begins before number = ((before ≡ []) × (number ≡ 1)) ⊎ ((lines : List K) × IsBegun lines × (before ≡ beginning lines) × (number ≡ length lines + 2))
+  Begins before number = ((before ≡ []) × (number ≡ 1))
+      ⊎ ((lines : List K) × IsBegun lines × (before ≡ beginning lines) × (number ≡ length lines + 2))
 
   -- What stands at line `number` of a text that goes wrong there. Lines are numbered from 1.
   --   Header: the first line is whole, and is not the header
@@ -100,17 +105,26 @@ module _ {V K : Type 0} (g : Grammar V K) where
   --   Many: a line that may follow, but of which there are as many as may be
   --   Cut: a line that is not whole
   --   Trailing: the first byte behind the text of some value
-  --   NoMemory: a whole line that is neither the header nor the end
+  --   NoMemory: a line with which some allowed value goes on, so that no other cause stands there or before
   abbrev pub IsFault : List ℕ → ℕ → Cause → Type 0
   IsFault bytes number cause.Header = (text : List ℕ) × HasNext bytes [] text × (text ≢ header) × (number ≡ 1)
-  IsFault bytes number cause.Form = (lines : List K) × (text : List ℕ) × Reaches bytes lines text number × IsNoLine lines text
-  IsFault bytes number cause.Many = (lines : List K) × (text : List ℕ) × Reaches bytes lines text number × IsOneTooMany lines text
-  IsFault bytes number cause.Cut = (before last : List ℕ) × Begins before number × IsOneLine last × (bytes ≡ before ++ last)
+  IsFault bytes number cause.Form = (lines : List K) × (text : List ℕ) × Reaches bytes lines text number
+      × IsNoLine lines text
+  IsFault bytes number cause.Many = (lines : List K) × (text : List ℕ) × Reaches bytes lines text number
+      × IsOneTooMany lines text
+  IsFault bytes number cause.Cut = (before last : List ℕ) × Begins before number × IsOneLine last
+      × (bytes ≡ before ++ last)
   IsFault bytes number cause.Trailing = (v : V) × (byte : ℕ) × (more : List ℕ) × g.IsAllowed v
       × (bytes ≡ full_text v ++ byte ∷ more) × (number ≡ length (g.body v) + 3)
-  IsFault bytes number cause.NoMemory = (lines : List K) × (text : List ℕ) × Reaches bytes lines text number × (text ≢ line_text g.end)
+  IsFault bytes number cause.NoMemory = (lines : List K) × (text : List ℕ) × Reaches bytes lines text number
+      × IsOneMore lines text
 
   -- what a reader may answer: the value that the bytes spell, or the first line at fault
   abbrev pub Reads : List ℕ → Result V TextFault → Type 0
   Reads bytes (Ok v) = Spells bytes v
   Reads bytes (Err f) = IsFault bytes f.line f.cause
+
+  -- the line at which it ends: the last one, or the one at fault
+  abbrev pub last_line : Result V TextFault → ℕ
+  last_line (Ok v) = length (g.body v) + 2
+  last_line (Err f) = f.line

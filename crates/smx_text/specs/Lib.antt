@@ -6,3 +6,4 @@ pub mod TranscriptLines
 pub mod TranscriptText
 pub mod Drafts
 pub mod WorkedTexts
+pub mod WorkedFaults

@@ -1,9 +1,9 @@
 -- What a draft does with the next line. No public clause needs this.
-use Rattle.std.specs.Prelude.{◌≡◌, ◌≢◌, ℕ, ◌+◌, ◌<◌, List, [], ◌∷◌, ◌++◌, length, ◌⊎◌, Option, Some, None, Result, Ok, Err}
+use Rattle.std.specs.Prelude.{◌≡◌, ℕ, ◌+◌, ◌<◌, List, [], ◌∷◌, ◌++◌, length, ◌⊎◌, Option, Some, None, Result, Ok, Err}
 use Rattle.smx_text.specs.declared.fault.Cause.{Cause}
 use Rattle.smx_text.specs.declared.fault.Cause.TheVariants as cause
 use Rattle.smx_text.specs.declared.fault.TextFault.{TextFault}
-use Rattle.smx_text.specs.Grammar.{Grammar, line_text, IsBegun, MayFollow, IsFull, IsNoLine, IsOneTooMany}
+use Rattle.smx_text.specs.Grammar.{Grammar, line_text, IsBegun, MayFollow, IsFull, IsNoLine, IsOneTooMany, IsOneMore}
 
 module _ {V K : Type 0} (g : Grammar V K) where
   -- ---- a line as bytes
@@ -12,7 +12,7 @@ module _ {V K : Type 0} (g : Grammar V K) where
   abbrev pub Refuses : List K → List ℕ → Cause → Type 0
   Refuses lines text cause.Form = IsNoLine g lines text
   Refuses lines text cause.Many = IsOneTooMany g lines text
-  Refuses lines text cause.NoMemory = text ≢ line_text g g.end
+  Refuses lines text cause.NoMemory = IsOneMore g lines text
   Refuses lines text cause.Header = ⊥
   Refuses lines text cause.Cut = ⊥
   Refuses lines text cause.Trailing = ⊥
@@ -27,7 +27,8 @@ module _ {V K : Type 0} (g : Grammar V K) where
   EndsText lines after number (Ok v) = g.IsAllowed v × (g.body v ≡ lines) × (length after ≡ 0)
   EndsText lines after number (Err f) =
       (IsNoLine g lines (line_text g g.end) × (f ≡ record { line = number; cause = cause.Form }))
-      ⊎ ((v : V) × g.IsAllowed v × (g.body v ≡ lines) × (0 < length after) × (f ≡ record { line = number + 1; cause = cause.Trailing }))
+      ⊎ ((v : V) × g.IsAllowed v × (g.body v ≡ lines) × (0 < length after)
+      × (f ≡ record { line = number + 1; cause = cause.Trailing }))
 
   -- ---- a line that was read
 
@@ -39,7 +40,7 @@ module _ {V K : Type 0} (g : Grammar V K) where
   abbrev pub RefusesLine : List K → K → Cause → Type 0
   RefusesLine lines k cause.Form = MayFollow g lines k → ⊥
   RefusesLine lines k cause.Many = MayFollow g lines k × IsFull g lines k
-  RefusesLine lines k cause.NoMemory = k ≢ g.end
+  RefusesLine lines k cause.NoMemory = IsBegun g (lines ++ k ∷ [])
   RefusesLine lines k cause.Header = ⊥
   RefusesLine lines k cause.Cut = ⊥
   RefusesLine lines k cause.Trailing = ⊥

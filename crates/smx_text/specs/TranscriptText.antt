@@ -5,8 +5,10 @@ use Rattle.std.specs.Fmt.{decimal}
 use Rattle.smx_types.specs.declared.limits.TheConstants.{MAX_DRIVERS, MAX_COMMANDS}
 use Rattle.smx_types.specs.declared.transcript.Transcript.{Transcript}
 use Rattle.smx_types.specs.declared.view.ConfigView.{ConfigView}
-use Rattle.smx_words.specs.Spelling.{driver_words, entry_words, descriptor_words, link_words, bind_words, route_words, message_words, full_words}
-use Rattle.smx_words.specs.Spellable.{FitsNumber, FitsDriver, FitsEntry, FitsDescriptor, FitsLink, FitsBinding, FitsRoute, FitsMessage, FitsFull}
+use Rattle.smx_words.specs.Spelling.{driver_words, entry_words, descriptor_words, link_words, bind_words}
+use Rattle.smx_words.specs.Spelling.{route_words, message_words, full_words}
+use Rattle.smx_words.specs.Spellable.{FitsNumber, FitsDriver, FitsEntry, FitsDescriptor, FitsLink}
+use Rattle.smx_words.specs.Spellable.{FitsBinding, FitsRoute, FitsMessage, FitsFull}
 use Rattle.smx_text.specs.Grammar.{Grammar, full_text, Spells}
 use Rattle.smx_text.specs.TranscriptLines.{TranscriptLine}
 use Rattle.smx_text.specs.TranscriptLines as line
@@ -42,7 +44,8 @@ FitsLine line.End = Unit {0}
 -- what comes next, and then open descriptors, links, bindings, routes, messages and full places
 abbrev pub view_body : ConfigView → List TranscriptLine
 view_body v =
-    line.Next v.next_id v.next_serial ∷ (map line.Fd v.fds ++ (map line.Link v.links ++ (map line.Bind v.binds ++ (map line.Route v.routes
+    line.Next v.next_id v.next_serial ∷ (map line.Fd v.fds
+    ++ (map line.Link v.links ++ (map line.Bind v.binds ++ (map line.Route v.routes
     ++ (map line.Msg v.msgs ++ map line.Full v.fulls)))))
 
 -- the lines between the header and the end: drivers, entries, `config`, the view

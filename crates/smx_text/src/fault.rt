@@ -20,7 +20,8 @@ pub enum Cause {
     Cut,
     /// A byte follows the line `end`.
     Trailing,
-    /// A growth was refused while the line was read; it is never the first line or the line `end`.
+    /// A growth was refused while the line was read. It is well-formed, may stand there and is not one too
+    /// many, so that no other cause hides behind it.
     NoMemory,
 }
 

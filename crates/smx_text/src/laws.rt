@@ -1,13 +1,13 @@
 //! Laws of the texts.
 
-ghost use Rattle.std.specs.Prelude.{◌≡◌, ◌≢◌, List, ℕ, Result, Ok, MatchResult, IfErr};
+ghost use Rattle.std.specs.Prelude.{◌≡◌, ◌≢◌, ◌<◌, List, ℕ, Result, Ok, MatchResult, IfErr};
 ghost use Rattle.smx_types.specs.ProgramLists.{ProgramLists};
 ghost use Rattle.smx_text.specs.declared.fault.TextFault.{TextFault};
 ghost use Rattle.smx_text.specs.declared.fault.Cause.TheVariants.{NoMemory};
 ghost use Rattle.smx_types.specs.declared.transcript.Transcript.{Transcript};
 ghost use Rattle.smx_text.specs.TranscriptText.{transcript_grammar, transcript_text};
 ghost use Rattle.smx_text.specs.TranscriptText.{IsAllowed as TranscriptIsAllowed};
-ghost use Rattle.smx_text.specs.Grammar.{Reads};
+ghost use Rattle.smx_text.specs.Grammar.{IsFault, Reads, last_line};
 ghost use Rattle.smx_text.specs.ProgramsText.{IsAllowed, programs_grammar, programs_text};
 
 /// What is written of programs is read as those programs, unless memory runs out.
@@ -36,6 +36,14 @@ pub fn each_text_has_a_reading()
         × Reads programs_grammar bytes r × IfErr r (λ f. f.cause ≢ NoMemory) }
 {}
 
+/// Want of memory is told only at a line before that at which any other reading ends: before the fault,
+/// or before the line `end` of a text that spells some programs. So no fault hides behind it.
+pub fn want_of_memory_comes_before()
+    ensures { (bytes : List ℕ) (line : ℕ) (r : Result ProgramLists TextFault)
+        → IsFault programs_grammar bytes line NoMemory → Reads programs_grammar bytes r
+        → IfErr r (λ f. f.cause ≢ NoMemory) → line < last_line programs_grammar r }
+{}
+
 /// What is written of a transcript within the limits is read as that transcript, unless memory runs out.
 pub fn transcript_written_is_read()
     ensures { (t : Transcript) (r : Result Transcript TextFault)
@@ -60,4 +68,12 @@ pub fn one_transcript_has_one_reading()
 pub fn each_transcript_has_a_reading()
     ensures { (bytes : List ℕ) → (r : Result Transcript TextFault)
         × Reads transcript_grammar bytes r × IfErr r (λ f. f.cause ≢ NoMemory) }
+{}
+
+/// Want of memory is told only at a line before that at which any other reading ends: before the fault,
+/// or before the line `end` of a text that spells a transcript. So no fault hides behind it.
+pub fn transcript_want_of_memory_comes_before()
+    ensures { (bytes : List ℕ) (line : ℕ) (r : Result Transcript TextFault)
+        → IsFault transcript_grammar bytes line NoMemory → Reads transcript_grammar bytes r
+        → IfErr r (λ f. f.cause ≢ NoMemory) → line < last_line transcript_grammar r }
 {}

@@ -6,6 +6,7 @@ pub mod laws;
 mod programs;
 mod reading;
 mod transcript;
+pub mod worked_faults;
 mod write;
 
 pub use fault::{Cause, TextFault};

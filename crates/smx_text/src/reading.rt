@@ -1,6 +1,7 @@
 //! Reading a text line by line.
 
-ghost use Rattle.std.specs.Prelude.{◌≡◌, ◌≢◌, ◌<◌, ◌-◌, ◌^◌, ◌∷◌, ◌++◌, [], List, length, codes, MatchOption, IfOk, IfErr, OnOk};
+ghost use Rattle.std.specs.Prelude.{◌≡◌, ◌≢◌, ◌<◌, ◌-◌, ◌^◌, ◌∷◌, ◌++◌, [], List, length, codes, MatchOption};
+ghost use Rattle.std.specs.Prelude.{IfOk, IfErr, OnOk};
 ghost use Rattle.smx_text.specs.Grammar.{Grammar, IsBegun, IsOneLine, IsFault, Reads, Continues, header, line_text};
 ghost use Rattle.smx_words.specs.Words.{LINE_FEED};
 ghost use Rattle.smx_text.specs.Reading.{Refuses, EndsAs, EndsText};

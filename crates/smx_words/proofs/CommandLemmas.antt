@@ -11,7 +11,9 @@ use Rattle.smx_words.specs.Verbs.{verb_word}
 use Rattle.smx_words.specs.Words.{SPACE, line_of}
 
 -- a line that begins with none, and is not `exit`, is no command's
-pub no_verb : (line : List ℕ) → ((v : Verb) (after : List ℕ) → FitsAlways v → line ≢ verb_word v ++ SPACE ∷ after) → line ≢ codes "exit" → (c : Command) → FitsCommand c → line ≢ line_of (command_words c)
+pub no_verb : (line : List ℕ) → ((v : Verb) (after : List ℕ) → FitsAlways v
+    → line ≢ verb_word v ++ SPACE ∷ after) → line ≢ codes "exit" → (c : Command) → FitsCommand c
+    → line ≢ line_of (command_words c)
 no_verb line none alone (command.OpenClone d) fits e = none verb.Clone _ tt e
 no_verb line none alone (command.OpenMinor d n) fits e = none verb.Open _ tt e
 no_verb line none alone (command.Dup n) fits e = none verb.Dup _ tt e

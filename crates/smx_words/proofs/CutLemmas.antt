@@ -1,5 +1,7 @@
 -- Bytes cut at a separator, and two ways to cut the same bytes.
-use Rattle.std.proofs.Common.{◌≡◌, ◌≢◌, ℕ, zero, suc, ◌+◌, ◌-◌, ◌<◌, ◌≤◌, Bool, true, false, eqb, List, [], ◌∷◌, ◌++◌, length, slice_index, take, drop, refl, sym, ap, ◌∙◌, arith, drop-cons, add-one}
+use Rattle.std.proofs.Common.{◌≡◌, ◌≢◌, ℕ, zero, suc, ◌+◌, ◌-◌, ◌<◌, ◌≤◌, Bool, true, false, eqb, List, []}
+use Rattle.std.proofs.Common.{◌∷◌, ◌++◌, length, slice_index, take, drop, refl, sym, ap, ◌∙◌, arith}
+use Rattle.std.proofs.Common.{drop-cons, add-one}
 use Rattle.std.proofs.lemmas.Bool.Decides.{nat_tests}
 use Rattle.std.proofs.lemmas.List.{append_cancel_left, length-append, take-append-drop, take_rest}
 use Rattle.std.proofs.lemmas.Slice.Eq.{bytes_eq-Decides}
@@ -13,28 +15,37 @@ at_seam [] after s = refl
 at_seam (b ∷ before) after s = at_seam before after s
 
 -- where no byte is the separator, there is nothing before one
-pub not_cut : (s : ℕ) (bytes : List ℕ) → Nowhere (Passes (is_byte s) bytes) 0 (length bytes) → (before after : List ℕ) → bytes ≡ before ++ s ∷ after → ⊥
+pub not_cut : (s : ℕ) (bytes : List ℕ) → Nowhere (Passes (is_byte s) bytes) 0 (length bytes)
+    → (before after : List ℕ) → bytes ≡ before ++ s ∷ after → ⊥
 not_cut s bytes none before after e =
-    let here : slice_index bytes (length before) ≡ s = ap (λ (xs : List ℕ). slice_index xs (length before)) e ∙ at_seam before after s in
-    let long : length bytes ≡ length before + suc (length after) = ap (length {A = ℕ}) e ∙ length-append before (s ∷ after) in
+    let here : slice_index bytes (length before) ≡ s = ap (λ (xs : List ℕ). slice_index xs (length before)) e
+    ∙ at_seam before after s in
+    let long : length bytes ≡ length before + suc (length after) = ap (length {A = ℕ}) e
+    ∙ length-append before (s ∷ after) in
     none (length before) (omega arith) (omega (arith, long)) (grind (arith, nat_tests))
 
 -- what stands before the first is free of it
-pub free_front : (s : ℕ) (bytes : List ℕ) (i : ℕ) → ((k : ℕ) → k < i → eqb (slice_index bytes k) s ≡ true → ⊥) → i ≤ length bytes → IsFree s (take i bytes)
+pub free_front : (s : ℕ) (bytes : List ℕ) (i : ℕ) → ((k : ℕ) → k < i → eqb (slice_index bytes k) s ≡ true → ⊥)
+    → i ≤ length bytes → IsFree s (take i bytes)
 free_front s bytes zero none in_it = tt
 free_front s [] (suc i) none in_it = absurd (omega arith)
-free_front s (b ∷ bytes) (suc i) none in_it =
-    (λ e. none 0 (omega arith) (grind (arith, nat_tests)), free_front s bytes i (λ k lt is. none (suc k) (omega arith) is) (omega arith))
+free_front s (b ∷ bytes) (suc i) none in_it = (
+  λ e. none 0 (omega arith) (grind (arith, nat_tests)),
+  free_front s bytes i (λ k lt is. none (suc k) (omega arith) is) (omega arith),
+)
 
 -- and the bytes are what stands before it, the separator, and what stands behind
-pub is_cut : (s : ℕ) (bytes : List ℕ) (i : ℕ) → i < length bytes → slice_index bytes i ≡ s → bytes ≡ take i bytes ++ s ∷ take (length bytes - (i + 1)) (drop (i + 1) bytes)
+pub is_cut : (s : ℕ) (bytes : List ℕ) (i : ℕ) → i < length bytes → slice_index bytes i ≡ s
+    → bytes ≡ take i bytes ++ s ∷ take (length bytes - (i + 1)) (drop (i + 1) bytes)
 is_cut s bytes i lt here =
     let rest = take_rest bytes (i + 1) in
     let at = drop-cons bytes i 0 lt in
-    sym (take-append-drop i bytes) ∙ ap (λ (xs : List ℕ). take i bytes ++ xs) (rw (at, rest, add-one) (ap (λ (b : ℕ). b ∷ drop (suc i) bytes) here))
+    sym (take-append-drop i bytes) ∙ ap (λ (xs : List ℕ). take i bytes ++ xs)
+    (rw (at, rest, add-one) (ap (λ (b : ℕ). b ∷ drop (suc i) bytes) here))
 
 -- two ways to cut at the first separator are one
-pub apart : (s : ℕ) (v w after rest : List ℕ) → IsFree s v → IsFree s w → v ++ s ∷ after ≡ w ++ s ∷ rest → (v ≡ w) × (after ≡ rest)
+pub apart : (s : ℕ) (v w after rest : List ℕ) → IsFree s v → IsFree s w → v ++ s ∷ after ≡ w ++ s ∷ rest
+    → (v ≡ w) × (after ≡ rest)
 apart s [] [] after rest h k e = (refl, cc e)
 apart s [] (c ∷ w) after rest h k e = absurd (k.0 (cc e))
 apart s (b ∷ v) [] after rest h k e = absurd (h.0 (cc e))
@@ -44,21 +55,29 @@ apart s (b ∷ v) (c ∷ w) after rest h k e =
     (cc (first, more.0), more.1)
 
 -- what no field is, none that the bytes begin with is
-pub no_field : {X : Type 0} (Fits : X → Type 0) (word_of : X → List ℕ) → ((x : X) → Fits x → IsFree SPACE (word_of x)) → (bytes word rest : List ℕ) → IsFree SPACE word → bytes ≡ word ++ SPACE ∷ rest
+pub no_field : {X : Type 0} (Fits : X → Type 0) (word_of : X → List ℕ)
+    → ((x : X) → Fits x → IsFree SPACE (word_of x)) → (bytes word rest : List ℕ) → IsFree SPACE word
+    → bytes ≡ word ++ SPACE ∷ rest
     → ((x : X) → Fits x → word ≢ word_of x) → (x : X) (after : List ℕ) → Fits x → bytes ≢ word_of x ++ SPACE ∷ after
-no_field Fits word_of free bytes word rest clear is none x after fits e = none x fits (apart SPACE word (word_of x) rest after clear (free x fits) (sym is ∙ e)).0
+no_field Fits word_of free bytes word rest clear is none x after fits e =
+    none x fits (apart SPACE word (word_of x) rest after clear (free x fits) (sym is ∙ e)).0
 
 -- what bytes don't begin with, they are not with more behind it
-pub not_behind : (bytes given front : List ℕ) → given ≡ front → ((rest : List ℕ) → bytes ≢ given ++ rest) → (rest : List ℕ) → bytes ≢ front ++ rest
+pub not_behind : (bytes given front : List ℕ) → given ≡ front → ((rest : List ℕ) → bytes ≢ given ++ rest)
+    → (rest : List ℕ) → bytes ≢ front ++ rest
 not_behind bytes given front same none rest e = none rest (e ∙ ap (λ (x : List ℕ). x ++ rest) (sym same))
 
 -- and what they begin with stands before the rest
-pub behind : (bytes given front rest more : List ℕ) → given ≡ front → bytes ≡ given ++ rest → bytes ≡ front ++ more → rest ≡ more
-behind bytes given front rest more same is e = append_cancel_left front rest more (ap (λ (x : List ℕ). x ++ rest) (sym same) ∙ sym is ∙ e)
+pub behind : (bytes given front rest more : List ℕ) → given ≡ front → bytes ≡ given ++ rest
+    → bytes ≡ front ++ more → rest ≡ more
+behind bytes given front rest more same is e =
+    append_cancel_left front rest more (ap (λ (x : List ℕ). x ++ rest) (sym same) ∙ sym is ∙ e)
 
 -- what the code's test says of other bytes
-pub differs : (bytes given word : List ℕ) (r : Bool) → given ≡ word → r ≡ bytes_eq bytes given → r ≡ false → bytes ≢ word
-differs bytes given word r is test other e = let same = (bytes_eq-Decides bytes given).1 (e ∙ sym is) in let bad : true ≡ false = sym same ∙ sym test ∙ other in absurd (cc bad)
+pub differs : (bytes given word : List ℕ) (r : Bool) → given ≡ word → r ≡ bytes_eq bytes given → r ≡ false
+    → bytes ≢ word
+differs bytes given word r is test other e = let same = (bytes_eq-Decides bytes given).1 (e ∙ sym is) in
+    let bad : true ≡ false = sym same ∙ sym test ∙ other in absurd (cc bad)
 
 -- a word has no space in it
 pub no_space_in : (v after w : List ℕ) → IsFree SPACE w → v ++ SPACE ∷ after ≡ w → ⊥

@@ -10,30 +10,44 @@ use Rattle.smx_types.specs.declared.reply.Reply.TheVariants as reply
 use Rattle.smx_words.specs.LineReading.{IsReadAs}
 use Rattle.smx_words.specs.Spellable.{FitsAlways, FitsCommand, FitsEntry, FitsReply}
 use Rattle.smx_words.specs.Spelling.{command_words, entry_words, fault_words, reply_words}
-use Rattle.smx_words.proofs.DecidedLemmas.{Answer, IsDecided, after, each, exactly, first, joined, last, one_of, or_else, reading, same_words_or_not, via}
+use Rattle.smx_words.proofs.DecidedLemmas.{Answer, IsDecided, after, each, exactly, first, joined, last}
+use Rattle.smx_words.proofs.DecidedLemmas.{one_of, or_else, reading, same_words_or_not, via}
 use Rattle.smx_words.proofs.DecidedWordLemmas.{bytes, flush_sides, id_or_all, name, number, process}
 use Rattle.smx_words.proofs.LawLemmas.{command_spelled, entry_spelled}
 
 command_answer : (ws : List (List ℕ)) → Answer FitsCommand command_words ws
 command_answer ws =
     or_else (after (codes "clone") (last name)) command.OpenClone (λ p h. h) (λ p. refl) (λ no_clone.
-    or_else (after (codes "open") (first name (last number))) (λ p. command.OpenMinor p.0 p.1) (λ p h. h) (λ p. refl) (λ no_open.
+    or_else (after (codes "open") (first name (last number))) (λ p. command.OpenMinor p.0 p.1) (λ p h. h)
+    (λ p. refl) (λ no_open.
     or_else (after (codes "dup") (last number)) command.Dup (λ p h. h) (λ p. refl) (λ no_dup.
     or_else (after (codes "close") (last number)) command.Close (λ p h. h) (λ p. refl) (λ no_close.
     or_else (exactly (codes "exit" ∷ [])) (λ p. command.CloseAll) (λ p h. h) (λ p. refl) (λ no_exit.
-    or_else (after (codes "link") (first number (last number))) (λ p. command.Link p.0 p.1) (λ p h. h) (λ p. refl) (λ no_link.
-    or_else (after (codes "plink") (first number (last number))) (λ p. command.Plink p.0 p.1) (λ p h. h) (λ p. refl) (λ no_plink.
-    or_else (after (codes "unlink") (first number (last id_or_all))) (λ p. command.Unlink p.0 p.1) (λ p h. h) (λ p. refl) (λ no_unlink.
-    or_else (after (codes "punlink") (first number (last id_or_all))) (λ p. command.Punlink p.0 p.1) (λ p h. h) (λ p. refl) (λ no_punlink.
-    or_else (after (codes "bind") (first number (last number))) (λ p. command.Bind p.0 p.1) (λ p h. h) (λ p. refl) (λ no_bind.
+    or_else (after (codes "link") (first number (last number))) (λ p. command.Link p.0 p.1) (λ p h. h)
+    (λ p. refl) (λ no_link.
+    or_else (after (codes "plink") (first number (last number))) (λ p. command.Plink p.0 p.1) (λ p h. h)
+    (λ p. refl) (λ no_plink.
+    or_else (after (codes "unlink") (first number (last id_or_all))) (λ p. command.Unlink p.0 p.1) (λ p h. h)
+    (λ p. refl) (λ no_unlink.
+    or_else (after (codes "punlink") (first number (last id_or_all))) (λ p. command.Punlink p.0 p.1)
+    (λ p h. h) (λ p. refl) (λ no_punlink.
+    or_else (after (codes "bind") (first number (last number))) (λ p. command.Bind p.0 p.1) (λ p h. h)
+    (λ p. refl) (λ no_bind.
     or_else (after (codes "unbind") (last number)) command.Unbind (λ p h. h) (λ p. refl) (λ no_unbind.
-    or_else (after (codes "route") (first number (first number (last number)))) (λ p. command.Route p.0 p.1.0 p.1.1) (λ p h. (h.0, h.1.0, h.1.1)) (λ p. refl) (λ no_route.
-    or_else (after (codes "unroute") (first number (last number))) (λ p. command.Unroute p.0 p.1) (λ p h. h) (λ p. refl) (λ no_unroute.
-    or_else (after (codes "write") (first number (first number (last bytes)))) (λ p. command.Write p.0 p.1.0 p.1.1) (λ p h. (h.0, h.1.0, h.1.1)) (λ p. refl) (λ no_write.
+    or_else (after (codes "route") (first number (first number (last number))))
+    (λ p. command.Route p.0 p.1.0 p.1.1) (λ p h. (h.0, h.1.0, h.1.1)) (λ p. refl) (λ no_route.
+    or_else (after (codes "unroute") (first number (last number))) (λ p. command.Unroute p.0 p.1) (λ p h. h)
+    (λ p. refl) (λ no_unroute.
+    or_else (after (codes "write") (first number (first number (last bytes))))
+    (λ p. command.Write p.0 p.1.0 p.1.1) (λ p h. (h.0, h.1.0, h.1.1)) (λ p. refl) (λ no_write.
     or_else (after (codes "read") (last number)) command.Read (λ p h. h) (λ p. refl) (λ no_read.
-    or_else (after (codes "flush") (first number (last flush_sides))) (λ p. command.Flush p.0 p.1) (λ p h. h.0) (λ p. refl) (λ no_flush.
-    or_else (after (codes "inject") (first name (first number (first number (last bytes))))) (λ p. command.Inject p.0 p.1.0 p.1.1.0 p.1.1.1) (λ p h. (h.0, h.1.0, h.1.1.0, h.1.1.1)) (λ p. refl) (λ no_inject.
-    or_else (after (codes "transmit") (first name (last number))) (λ p. command.Transmit p.0 p.1) (λ p h. h) (λ p. refl) (λ no_transmit.
+    or_else (after (codes "flush") (first number (last flush_sides))) (λ p. command.Flush p.0 p.1)
+    (λ p h. h.0) (λ p. refl) (λ no_flush.
+    or_else (after (codes "inject") (first name (first number (first number (last bytes)))))
+    (λ p. command.Inject p.0 p.1.0 p.1.1.0 p.1.1.1) (λ p h. (h.0, h.1.0, h.1.1.0, h.1.1.1)) (λ p. refl)
+    (λ no_inject.
+    or_else (after (codes "transmit") (first name (last number))) (λ p. command.Transmit p.0 p.1) (λ p h. h)
+    (λ p. refl) (λ no_transmit.
     inr (λ x. (elim x as (λ x. FitsCommand x → ws ≢ command_words x) [
       | command.OpenClone d ↦ no_clone d
       | command.OpenMinor d n ↦ no_open (d, n)
@@ -62,8 +76,10 @@ fault_decided : IsDecided FitsAlways fault_words
 fault_decided = record { answer = answer } where
   every : List Fault
   every =
-      fault.BadDescriptor ∷ fault.Below ∷ fault.NotMux ∷ fault.AlreadyBelow ∷ fault.Cycle ∷ fault.TooManyLinks ∷ fault.NoLink ∷ fault.NoDriver ∷
-      fault.NoMinor ∷ fault.TooManyDescriptors ∷ fault.AddressInUse ∷ fault.Unbound ∷ fault.Unrouted ∷ fault.Full ∷ fault.Empty ∷ fault.BadSize ∷ []
+      fault.BadDescriptor ∷ fault.Below ∷ fault.NotMux ∷ fault.AlreadyBelow ∷ fault.Cycle
+      ∷ fault.TooManyLinks ∷ fault.NoLink ∷ fault.NoDriver ∷
+      fault.NoMinor ∷ fault.TooManyDescriptors ∷ fault.AddressInUse ∷ fault.Unbound ∷ fault.Unrouted
+      ∷ fault.Full ∷ fault.Empty ∷ fault.BadSize ∷ []
 
   answer : (ws : List (List ℕ)) → Answer FitsAlways fault_words ws
   answer ws =
@@ -94,7 +110,8 @@ reply_answer ws =
     or_else (after (codes "fd") (first number (last number))) (λ p. reply.Fd p.0 p.1) (λ p h. h) (λ p. refl) (λ no_fd.
     or_else (after (codes "id") (last number)) reply.Id (λ p h. h) (λ p. refl) (λ no_id.
     or_else (after (codes "took") (last number)) reply.Took (λ p h. h) (λ p. refl) (λ no_took.
-    or_else (after (codes "got") (first number (first number (last bytes)))) (λ p. reply.Got p.0 p.1.0 p.1.1) (λ p h. (h.0, h.1.0, h.1.1)) (λ p. refl) (λ no_got.
+    or_else (after (codes "got") (first number (first number (last bytes)))) (λ p. reply.Got p.0 p.1.0 p.1.1)
+    (λ p h. (h.0, h.1.0, h.1.1)) (λ p. refl) (λ no_got.
     or_else (after (codes "done") (each number)) reply.Done (λ p h. h) (λ p. refl) (λ no_done.
     or_else fault_decided reply.Fault (λ f h. tt) (λ f. refl) (λ no_fault.
     inr (λ x. (elim x as (λ x. FitsReply x → ws ≢ reply_words x) [

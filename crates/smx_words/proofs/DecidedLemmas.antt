@@ -1,13 +1,13 @@
 -- Whether some value is spelled so is told for words, for words in order, and for the line of words.
-use Rattle.std.proofs.Common.{◌≡◌, ◌≢◌, ℕ, ◌<◌, ◌≤◌, Bool, true, false, eqb, List, [], ◌∷◌, ◌++◌, length, map, Option, Some, None, refl, sym, ap, subst, ◌∙◌, arith, inl, inr}
+use Rattle.std.proofs.Common.{◌≡◌, ◌≢◌, ℕ, Bool, true, false, List, [], ◌∷◌, ◌++◌, map, Option, Some, None}
+use Rattle.std.proofs.Common.{refl, sym, ap, subst, ◌∙◌, arith, inl, inr}
 use Rattle.std.specs.Prelude.{◌⊎◌}
 use Rattle.std.specs.List.{AllByRecursion}
 use Rattle.std.specs.Str.{bytes_eq}
-use Rattle.std.proofs.lemmas.Bool.Decides.{nat_tests}
 use Rattle.std.proofs.lemmas.Slice.Eq.{bytes_eq-Decides}
 use Rattle.smx_words.specs.LineReading.{IsReadAs}
-use Rattle.smx_words.specs.Words.{AreWords, IsFree, IsWord, SPACE, line_of}
-use Rattle.smx_words.proofs.CutLemmas.{apart, no_space_in}
+use Rattle.smx_words.specs.Words.{AreWords, SPACE, line_of}
+use Rattle.smx_words.proofs.LineLemmas.{same_free_words, words_free, words_in}
 
 -- a value that fits and is spelled so
 abbrev Has : {X S : Type 0} → (X → Type 0) → (X → S) → S → Type 0
@@ -35,25 +35,35 @@ same_words_or_not [] (v ∷ vs) = inr (λ e. absurd (cc e))
 same_words_or_not (w ∷ ws) [] = inr (λ e. absurd (cc e))
 same_words_or_not (w ∷ ws) (v ∷ vs) =
     elim (same_or_not w v) [
-      | inl first ↦ elim (same_words_or_not ws vs) [ inl more ↦ inl (cc (first, more)) | inr other ↦ inr (λ e. other (cc e)) ]
+      | inl first ↦ elim (same_words_or_not ws vs) [
+        | inl more ↦ inl (cc (first, more))
+        | inr other ↦ inr (λ e. other (cc e))
+      ]
       | inr other ↦ inr (λ e. other (cc e))
     ]
 
 -- ---- words in order
 
 -- one word, then no more
-pub last : {X : Type 0} {Fits : X → Type 0} {word : X → List ℕ} → IsDecided Fits word → IsDecided Fits (λ x. word x ∷ [])
+pub last : {X : Type 0} {Fits : X → Type 0} {word : X → List ℕ} → IsDecided Fits word
+    → IsDecided Fits (λ x. word x ∷ [])
 last {X} {Fits} {word} d = record { answer = answer } where
   answer : (ws : List (List ℕ)) → Answer Fits (λ x. word x ∷ []) ws
   answer [] = inr (λ x fits e. absurd (cc e))
-  answer (w ∷ []) = elim (d.answer w) [ inl p ↦ inl (p.0, p.1, ap (λ (v : List ℕ). v ∷ []) p.2) | inr none ↦ inr (λ x fits e. none x fits (cc e)) ]
+  answer (w ∷ []) =
+      elim (d.answer w) [
+        | inl p ↦ inl (p.0, p.1, ap (λ (v : List ℕ). v ∷ []) p.2)
+        | inr none ↦ inr (λ x fits e. none x fits (cc e))
+      ]
   answer (w ∷ v ∷ ws) = inr (λ x fits e. absurd (cc e))
 
 -- one word, then others
-pub first : {X Y : Type 0} {Fits : X → Type 0} {word : X → List ℕ} {FitsMore : Y → Type 0} {words : Y → List (List ℕ)} → IsDecided Fits word → IsDecided FitsMore words
+pub first : {X Y : Type 0} {Fits : X → Type 0} {word : X → List ℕ} {FitsMore : Y → Type 0}
+    {words : Y → List (List ℕ)} → IsDecided Fits word → IsDecided FitsMore words
     → IsDecided (λ (p : X × Y). Fits p.0 × FitsMore p.1) (λ (p : X × Y). word p.0 ∷ words p.1)
 first {X} {Y} {Fits} {word} {FitsMore} {words} d more = record { answer = answer } where
-  answer : (ws : List (List ℕ)) → Answer (λ (p : X × Y). Fits p.0 × FitsMore p.1) (λ (p : X × Y). word p.0 ∷ words p.1) ws
+  answer : (ws : List (List ℕ))
+      → Answer (λ (p : X × Y). Fits p.0 × FitsMore p.1) (λ (p : X × Y). word p.0 ∷ words p.1) ws
   answer [] = inr (λ x fits e. absurd (cc e))
   answer (w ∷ ws) =
       elim (d.answer w) [
@@ -65,7 +75,8 @@ first {X} {Y} {Fits} {word} {FitsMore} {words} d more = record { answer = answer
       ]
 
 -- a word that stands for nothing, then others
-pub after : {X : Type 0} {Fits : X → Type 0} {words : X → List (List ℕ)} (word : List ℕ) → IsDecided Fits words → IsDecided Fits (λ x. word ∷ words x)
+pub after : {X : Type 0} {Fits : X → Type 0} {words : X → List (List ℕ)} (word : List ℕ)
+    → IsDecided Fits words → IsDecided Fits (λ x. word ∷ words x)
 after {X} {Fits} {words} word d = record { answer = answer } where
   answer : (ws : List (List ℕ)) → Answer Fits (λ x. word ∷ words x) ws
   answer [] = inr (λ x fits e. absurd (cc e))
@@ -85,7 +96,8 @@ exactly words = record { answer = answer } where
   answer ws = elim (same_words_or_not ws words) [ inl is ↦ inl (tt, tt, is) | inr other ↦ inr (λ x fits e. other e) ]
 
 -- a word for each of some values
-pub each : {X : Type 0} {Fits : X → Type 0} {word : X → List ℕ} → IsDecided Fits word → IsDecided (AllByRecursion Fits) (map word)
+pub each : {X : Type 0} {Fits : X → Type 0} {word : X → List ℕ} → IsDecided Fits word
+    → IsDecided (AllByRecursion Fits) (map word)
 each {X} {Fits} {word} d = record { answer = answer } where
   answer : (ws : List (List ℕ)) → Answer (AllByRecursion Fits) (map word) ws
   answer [] = inl ([], tt, refl)
@@ -97,7 +109,8 @@ each {X} {Fits} {word} d = record { answer = answer } where
         ]
         | inr none ↦ inr (λ xs fits e. no_first none xs fits e)
       ] where
-        no_rest : ((xs : List X) → AllByRecursion Fits xs → ws ≢ map word xs) → (xs : List X) → AllByRecursion Fits xs → w ∷ ws ≢ map word xs
+        no_rest : ((xs : List X) → AllByRecursion Fits xs → ws ≢ map word xs) → (xs : List X)
+            → AllByRecursion Fits xs → w ∷ ws ≢ map word xs
         no_rest none [] fits e = absurd (cc e)
         no_rest none (x ∷ xs) fits e = none xs fits.1 (cc e)
 
@@ -105,7 +118,8 @@ each {X} {Fits} {word} d = record { answer = answer } where
         no_first none [] fits e = absurd (cc e)
         no_first none (x ∷ xs) fits e = none x fits.0 (cc e)
 
-at_front : {P Q : List (List ℕ) → Type 0} → ((a : List (List ℕ)) → P a ⊎ (P a → ⊥)) → ((b : List (List ℕ)) → Q b ⊎ (Q b → ⊥)) → (ws : List (List ℕ)) → (P [] × Q ws) ⊎ (P [] → Q ws → ⊥)
+at_front : {P Q : List (List ℕ) → Type 0} → ((a : List (List ℕ)) → P a ⊎ (P a → ⊥))
+    → ((b : List (List ℕ)) → Q b ⊎ (Q b → ⊥)) → (ws : List (List ℕ)) → (P [] × Q ws) ⊎ (P [] → Q ws → ⊥)
 at_front p q ws =
     elim (p []) [
       | inl h ↦ elim (q ws) [ inl k ↦ inl (h, k) | inr none ↦ inr (λ g k. none k) ]
@@ -113,12 +127,15 @@ at_front p q ws =
     ]
 
 -- words of two properties, one after the other
-cut : {P Q : List (List ℕ) → Type 0} → ((a : List (List ℕ)) → P a ⊎ (P a → ⊥)) → ((b : List (List ℕ)) → Q b ⊎ (Q b → ⊥)) → (ws : List (List ℕ))
-    → ((a : List (List ℕ)) × (b : List (List ℕ)) × P a × Q b × (ws ≡ a ++ b)) ⊎ ((a b : List (List ℕ)) → P a → Q b → ws ≢ a ++ b)
-cut {P} {Q} p q [] = elim (at_front p q []) [ inl y ↦ inl ([], [], y.0, y.1, refl) | inr none ↦ inr (nowhere none) ] where
-  nowhere : (P [] → Q [] → ⊥) → (a b : List (List ℕ)) → P a → Q b → [] ≢ a ++ b
-  nowhere none [] b h k e = none h (subst Q (sym e) k)
-  nowhere none (c ∷ a) b h k e = absurd (cc e)
+cut : {P Q : List (List ℕ) → Type 0} → ((a : List (List ℕ)) → P a ⊎ (P a → ⊥))
+    → ((b : List (List ℕ)) → Q b ⊎ (Q b → ⊥)) → (ws : List (List ℕ))
+    → ((a : List (List ℕ)) × (b : List (List ℕ)) × P a × Q b × (ws ≡ a ++ b))
+    ⊎ ((a b : List (List ℕ)) → P a → Q b → ws ≢ a ++ b)
+cut {P} {Q} p q [] =
+    elim (at_front p q []) [ inl y ↦ inl ([], [], y.0, y.1, refl) | inr none ↦ inr (nowhere none) ] where
+      nowhere : (P [] → Q [] → ⊥) → (a b : List (List ℕ)) → P a → Q b → [] ≢ a ++ b
+      nowhere none [] b h k e = none h (subst Q (sym e) k)
+      nowhere none (c ∷ a) b h k e = absurd (cc e)
 cut {P} {Q} p q (w ∷ ws) =
     elim (at_front p q (w ∷ ws)) [
       | inl y ↦ inl ([], w ∷ ws, y.0, y.1, refl)
@@ -127,42 +144,58 @@ cut {P} {Q} p q (w ∷ ws) =
         | inr later ↦ inr (nowhere none later)
       ]
     ] where
-      nowhere : (P [] → Q (w ∷ ws) → ⊥) → ((a b : List (List ℕ)) → P (w ∷ a) → Q b → ws ≢ a ++ b) → (a b : List (List ℕ)) → P a → Q b → w ∷ ws ≢ a ++ b
+      nowhere : (P [] → Q (w ∷ ws) → ⊥) → ((a b : List (List ℕ)) → P (w ∷ a) → Q b → ws ≢ a ++ b)
+          → (a b : List (List ℕ)) → P a → Q b → w ∷ ws ≢ a ++ b
       nowhere none later [] b h k e = none h (subst Q (sym e) k)
-      nowhere none later (c ∷ a) b h k e = let same : c ≡ w = cc e in later a b (subst (λ (x : List ℕ). P (x ∷ a)) same h) k (cc e)
+      nowhere none later (c ∷ a) b h k e = let same : c ≡ w = cc e in
+          later a b (subst (λ (x : List ℕ). P (x ∷ a)) same h) k (cc e)
 
-has_or_not : {X : Type 0} {Fits : X → Type 0} {words : X → List (List ℕ)} → IsDecided Fits words → (ws : List (List ℕ)) → Has Fits words ws ⊎ (Has Fits words ws → ⊥)
+has_or_not : {X : Type 0} {Fits : X → Type 0} {words : X → List (List ℕ)} → IsDecided Fits words
+    → (ws : List (List ℕ)) → Has Fits words ws ⊎ (Has Fits words ws → ⊥)
 has_or_not d ws = elim (d.answer ws) [ inl p ↦ inl p | inr none ↦ inr (λ p. none p.0 p.1 p.2) ]
 
 -- words of one value, then of another
-pub joined : {X Y : Type 0} {Fits : X → Type 0} {words : X → List (List ℕ)} {FitsMore : Y → Type 0} {more : Y → List (List ℕ)} → IsDecided Fits words → IsDecided FitsMore more
+pub joined : {X Y : Type 0} {Fits : X → Type 0} {words : X → List (List ℕ)} {FitsMore : Y → Type 0}
+    {more : Y → List (List ℕ)} → IsDecided Fits words → IsDecided FitsMore more
     → IsDecided (λ (p : X × Y). Fits p.0 × FitsMore p.1) (λ (p : X × Y). words p.0 ++ more p.1)
 joined {X} {Y} {Fits} {words} {FitsMore} {more} d e = record { answer = answer } where
-  answer : (ws : List (List ℕ)) → Answer (λ (p : X × Y). Fits p.0 × FitsMore p.1) (λ (p : X × Y). words p.0 ++ more p.1) ws
+  answer : (ws : List (List ℕ))
+      → Answer (λ (p : X × Y). Fits p.0 × FitsMore p.1) (λ (p : X × Y). words p.0 ++ more p.1) ws
   answer ws =
       elim (cut {P = Has Fits words} {Q = Has FitsMore more} (has_or_not d) (has_or_not e) ws) [
-        | inl c ↦ let x = c.2 in let y = c.3 in let whole = c.4 in let one = x.2 in let two = y.2 in inl ((x.0, y.0), (x.1, y.1), cc (whole, one, two))
+        | inl c ↦ let x = c.2 in let y = c.3 in let whole = c.4 in let one = x.2 in let two = y.2 in
+            inl ((x.0, y.0), (x.1, y.1), cc (whole, one, two))
         | inr none ↦ inr (λ p fits is. none (words p.0) (more p.1) (p.0, fits.0, refl) (p.1, fits.1, refl) is)
       ]
 
 -- ---- other values for the same spelling
 
 -- the values that others stand for
-pub via : {X Y S : Type 0} {Fits : X → Type 0} {spelling : X → S} {FitsOther : Y → Type 0} {other : Y → S} → IsDecided FitsOther other
-    → (make : Y → X) → (back : X → Y) → ((y : Y) → FitsOther y → Fits (make y)) → ((x : X) → Fits x → FitsOther (back x)) → ((y : Y) → other y ≡ spelling (make y)) → ((x : X) → spelling x ≡ other (back x))
+pub via : {X Y S : Type 0} {Fits : X → Type 0} {spelling : X → S} {FitsOther : Y → Type 0} {other : Y → S}
+    → IsDecided FitsOther other
+    → (make : Y → X) → (back : X → Y) → ((y : Y) → FitsOther y → Fits (make y))
+    → ((x : X) → Fits x → FitsOther (back x)) → ((y : Y) → other y ≡ spelling (make y))
+    → ((x : X) → spelling x ≡ other (back x))
     → IsDecided Fits spelling
 via {X} {Y} {S} {Fits} {spelling} d make back to from is was = record { answer = answer } where
   answer : (s : S) → Answer Fits spelling s
-  answer s = elim (d.answer s) [ inl p ↦ inl (make p.0, to p.0 p.1, p.2 ∙ is p.0) | inr none ↦ inr (λ x fits e. none (back x) (from x fits) (e ∙ was x)) ]
+  answer s =
+      elim (d.answer s) [
+        | inl p ↦ inl (make p.0, to p.0 p.1, p.2 ∙ is p.0)
+        | inr none ↦ inr (λ x fits e. none (back x) (from x fits) (e ∙ was x))
+      ]
 
 -- the values of one form, or else others
-pub or_else : {X Y S : Type 0} {Fits : X → Type 0} {spelling : X → S} {FitsOther : Y → Type 0} {other : Y → S} {s : S} → IsDecided FitsOther other
-    → (make : Y → X) → ((y : Y) → FitsOther y → Fits (make y)) → ((y : Y) → other y ≡ spelling (make y))
+pub or_else : {X Y S : Type 0} {Fits : X → Type 0} {spelling : X → S} {FitsOther : Y → Type 0}
+    {other : Y → S} {s : S} → IsDecided FitsOther other → (make : Y → X)
+    → ((y : Y) → FitsOther y → Fits (make y)) → ((y : Y) → other y ≡ spelling (make y))
     → (((y : Y) → FitsOther y → s ≢ other y) → Answer Fits spelling s) → Answer Fits spelling s
-or_else {s = s} d make to is rest = elim (d.answer s) [ inl p ↦ inl (make p.0, to p.0 p.1, p.2 ∙ is p.0) | inr none ↦ rest none ]
+or_else {s = s} d make to is rest =
+    elim (d.answer s) [ inl p ↦ inl (make p.0, to p.0 p.1, p.2 ∙ is p.0) | inr none ↦ rest none ]
 
 -- one of these values, or none of them
-pub one_of : {X S : Type 0} (spelling : X → S) (same : (s t : S) → (s ≡ t) ⊎ (s ≢ t)) (xs : List X) (s : S) → ((x : X) × (s ≡ spelling x)) ⊎ AllByRecursion (λ x. s ≢ spelling x) xs
+pub one_of : {X S : Type 0} (spelling : X → S) (same : (s t : S) → (s ≡ t) ⊎ (s ≢ t)) (xs : List X) (s : S)
+    → ((x : X) × (s ≡ spelling x)) ⊎ AllByRecursion (λ x. s ≢ spelling x) xs
 one_of spelling same [] s = inr tt
 one_of spelling same (x ∷ xs) s =
     elim (same s (spelling x)) [
@@ -172,47 +205,19 @@ one_of spelling same (x ∷ xs) s =
 
 -- ---- lines
 
--- a line is some words
-words_in : (line : List ℕ) → (ws : List (List ℕ)) × AllByRecursion (IsFree SPACE) ws × (0 < length ws) × (line ≡ line_of ws)
-words_in [] = ([] ∷ [], (tt, tt), omega arith, refl)
-words_in (b ∷ line) = let more = words_in line in by_byte (eqb b SPACE) refl more.0 more.1 more.2 more.3 where
-  by_byte : (t : Bool) → eqb b SPACE ≡ t → (ws : List (List ℕ)) → AllByRecursion (IsFree SPACE) ws → 0 < length ws → line ≡ line_of ws
-      → (ws : List (List ℕ)) × AllByRecursion (IsFree SPACE) ws × (0 < length ws) × (b ∷ line ≡ line_of ws)
-  by_byte t e [] free some is = absurd (omega (arith, some))
-  by_byte true e (w ∷ ws) free some is = let space : b ≡ SPACE = grind (arith, nat_tests) in ([] ∷ w ∷ ws, (tt, free), omega arith, cc (space, is))
-  by_byte false e (w ∷ []) free some is = ((b ∷ w) ∷ [], ((λ s. no_space s, free.0), tt), omega arith, cc is) where
-    no_space : b ≡ SPACE → ⊥
-    no_space s = grind (arith, nat_tests)
-  by_byte false e (w ∷ v ∷ ws) free some is = ((b ∷ w) ∷ v ∷ ws, ((λ s. no_space s, free.0), free.1), omega arith, cc is) where
-    no_space : b ≡ SPACE → ⊥
-    no_space s = grind (arith, nat_tests)
-
--- and no others
-same_words : (ws vs : List (List ℕ)) → AllByRecursion (IsFree SPACE) ws → AllByRecursion (IsFree SPACE) vs → 0 < length ws → 0 < length vs → line_of ws ≡ line_of vs → ws ≡ vs
-same_words [] vs h k some more e = absurd (omega (arith, some))
-same_words (w ∷ ws) [] h k some more e = absurd (omega (arith, more))
-same_words (w ∷ []) (v ∷ []) h k some more e = ap (λ (x : List ℕ). x ∷ []) e
-same_words (w ∷ []) (v ∷ u ∷ vs) h k some more e = absurd (no_space_in v (line_of (u ∷ vs)) w h.0 (sym e))
-same_words (w ∷ u ∷ ws) (v ∷ []) h k some more e = absurd (no_space_in w (line_of (u ∷ ws)) v k.0 e)
-same_words (w ∷ u ∷ ws) (v ∷ t ∷ vs) h k some more e =
-    let one = apart SPACE w v (line_of (u ∷ ws)) (line_of (t ∷ vs)) h.0 k.0 e in
-    let rest = same_words (u ∷ ws) (t ∷ vs) h.1 k.1 (omega arith) (omega arith) one.1 in
-    cc (one.0, rest)
-
-seen_free : (w : List ℕ) → AllByRecursion (λ b. (0x21 ≤ b) × (b ≤ 0x7E)) w → IsFree SPACE w
-seen_free [] h = tt
-seen_free (b ∷ w) h = (λ e. omega (arith, h.0.0, e), seen_free w h.1)
-
-words_free : (ws : List (List ℕ)) → AllByRecursion IsWord ws → AllByRecursion (IsFree SPACE) ws
-words_free [] h = tt
-words_free (w ∷ ws) h = (seen_free w h.0.1, words_free ws h.1)
-
 -- so where words have an answer, each line has a reading
-pub reading : {X : Type 0} {Fits : X → Type 0} {words_of : X → List (List ℕ)} → IsDecided Fits words_of → ((x : X) → Fits x → AreWords (words_of x))
+pub reading : {X : Type 0} {Fits : X → Type 0} {words_of : X → List (List ℕ)} → IsDecided Fits words_of
+    → ((x : X) → Fits x → AreWords (words_of x))
     → (line : List ℕ) → (o : Option X) × IsReadAs Fits words_of line o
 reading {X} {Fits} {words_of} d spelled line =
     let all = words_in line in
     elim (d.answer all.0) [
       | inl p ↦ (Some p.0, (p.1, all.3 ∙ ap line_of p.2))
-      | inr none ↦ (None, λ x fits e. none x fits (same_words all.0 (words_of x) all.1 (words_free (words_of x) (spelled x fits).0) all.2 (spelled x fits).1 (sym all.3 ∙ e)))
+      | inr none ↦ (
+        None,
+        λ x fits e.
+            none x fits (same_free_words all.0 (words_of x) all.1
+            (words_free SPACE (omega arith) (words_of x) (spelled x fits).0) all.2 (spelled x fits).1
+            (sym all.3 ∙ e)),
+      )
     ]

@@ -9,11 +9,15 @@ use Rattle.smx_types.specs.declared.view.LinkLine.{LinkLine}
 use Rattle.smx_types.specs.declared.view.MessageLine.{MessageLine}
 use Rattle.smx_types.specs.declared.view.RouteLine.{RouteLine}
 use Rattle.smx_words.specs.LineReading.{IsReadAs}
-use Rattle.smx_words.specs.Spellable.{FitsBinding, FitsDescriptor, FitsDriver, FitsFull, FitsLink, FitsMessage, FitsNext, FitsNumber, FitsRoute}
-use Rattle.smx_words.specs.Spelling.{bind_words, descriptor_words, driver_words, full_words, link_words, message_words, next_words, process_words, route_words}
+use Rattle.smx_words.specs.Spellable.{FitsBinding, FitsDescriptor, FitsDriver, FitsFull, FitsLink}
+use Rattle.smx_words.specs.Spellable.{FitsMessage, FitsNext, FitsNumber, FitsRoute}
+use Rattle.smx_words.specs.Spelling.{bind_words, descriptor_words, driver_words, full_words, link_words}
+use Rattle.smx_words.specs.Spelling.{message_words, next_words, process_words, route_words}
 use Rattle.smx_words.proofs.DecidedLemmas.{IsDecided, after, first, last, reading, via}
 use Rattle.smx_words.proofs.DecidedWordLemmas.{bytes, driver_kind, link_kind, name, number, process, stream_side}
-use Rattle.smx_words.proofs.LawLemmas.{bind_spelled, descriptor_spelled, driver_spelled, full_spelled, link_spelled, message_spelled, next_spelled, process_spelled, route_spelled}
+use Rattle.smx_words.proofs.LawLemmas.{bind_spelled, descriptor_spelled, driver_spelled, full_spelled}
+use Rattle.smx_words.proofs.LawLemmas.{link_spelled, message_spelled, next_spelled, process_spelled}
+use Rattle.smx_words.proofs.LawLemmas.{route_spelled}
 
 process_decided : IsDecided FitsNumber process_words
 process_decided = after (codes "process") (last number)
@@ -22,7 +26,9 @@ next_decided : IsDecided FitsNext next_words
 next_decided = after (codes "next") (first number (last number))
 
 driver_decided : IsDecided FitsDriver driver_words
-driver_decided = via (after (codes "driver") (first name (first driver_kind (first number (first number (first number (last number)))))))
+driver_decided =
+    via (after (codes "driver")
+    (first name (first driver_kind (first number (first number (first number (last number)))))))
     (λ p. record { name = p.0; kind = p.1.0; minors = p.1.1.0; high = p.1.1.1.0; low = p.1.1.1.1.0; max = p.1.1.1.1.1 })
     (λ d. (d.name, (d.kind, (d.minors, (d.high, (d.low, d.max))))))
     (λ p h. record { name = h.0; minors = h.1.1.0; high = h.1.1.1.0; low = h.1.1.1.1.0; max = h.1.1.1.1.1 })
@@ -38,10 +44,25 @@ descriptor_decided = via (after (codes "fd") (first process (first number (first
     (λ p. refl) (λ d. refl)
 
 link_decided : IsDecided FitsLink link_words
-link_decided = via (after (codes "link") (first number (first name (first number (first name (first number (last link_kind)))))))
-    (λ p. record { id = p.0; ctl_driver = p.1.0; ctl_minor = p.1.1.0; lower_driver = p.1.1.1.0; lower_minor = p.1.1.1.1.0; kind = p.1.1.1.1.1 })
+link_decided =
+    via (after (codes "link")
+    (first number (first name (first number (first name (first number (last link_kind)))))))
+    (λ p. record {
+      id = p.0;
+      ctl_driver = p.1.0;
+      ctl_minor = p.1.1.0;
+      lower_driver = p.1.1.1.0;
+      lower_minor = p.1.1.1.1.0;
+      kind = p.1.1.1.1.1;
+    })
     (λ l. (l.id, (l.ctl_driver, (l.ctl_minor, (l.lower_driver, (l.lower_minor, l.kind))))))
-    (λ p h. record { id = h.0; ctl_driver = h.1.0; ctl_minor = h.1.1.0; lower_driver = h.1.1.1.0; lower_minor = h.1.1.1.1.0 })
+    (λ p h. record {
+      id = h.0;
+      ctl_driver = h.1.0;
+      ctl_minor = h.1.1.0;
+      lower_driver = h.1.1.1.0;
+      lower_minor = h.1.1.1.1.0;
+    })
     (λ l h. (h.id, (h.ctl_driver, (h.ctl_minor, (h.lower_driver, (h.lower_minor, tt))))))
     (λ p. refl) (λ l. refl)
 
@@ -62,8 +83,15 @@ route_decided = via (after (codes "route") (first name (first number (last numbe
     (λ p. refl) (λ r. refl)
 
 message_decided : IsDecided FitsMessage message_words
-message_decided = via (after (codes "msg") (first name (first number (first stream_side (first number (first number (last bytes)))))))
-    (λ p. record { driver = p.0; minor = p.1.0; side = p.1.1.0; message = record { serial = p.1.1.1.0; addr = p.1.1.1.1.0; bytes = p.1.1.1.1.1 } })
+message_decided =
+    via (after (codes "msg")
+    (first name (first number (first stream_side (first number (first number (last bytes)))))))
+    (λ p. record {
+      driver = p.0;
+      minor = p.1.0;
+      side = p.1.1.0;
+      message = record { serial = p.1.1.1.0; addr = p.1.1.1.1.0; bytes = p.1.1.1.1.1 };
+    })
     (λ m. (m.driver, (m.minor, (m.side, (m.message.serial, (m.message.addr, m.message.bytes))))))
     (λ p h. record { driver = h.0; minor = h.1.0; serial = h.1.1.1.0; addr = h.1.1.1.1.0; bytes = h.1.1.1.1.1 })
     (λ m h. (h.driver, (h.minor, (tt, (h.serial, (h.addr, h.bytes))))))

@@ -1,5 +1,6 @@
 -- Whether some value is spelled so is told for each kind of word.
-use Rattle.std.proofs.Common.{◌≡◌, ◌≢◌, ℕ, ◌<◌, ◌≤◌, ◌^◌, ◌%◌, Bool, true, false, List, [], ◌∷◌, length, refl, sym, ap, ◌∙◌, arith, inl, inr}
+use Rattle.std.proofs.Common.{◌≡◌, ◌≢◌, ℕ, ◌<◌, ◌≤◌, ◌^◌, ◌%◌, Bool, true, false, List, [], ◌∷◌, length}
+use Rattle.std.proofs.Common.{refl, sym, ap, ◌∙◌, arith, inl, inr}
 use Rattle.std.specs.Prelude.{codes}
 use Rattle.std.specs.List.{list_all}
 use Rattle.std.specs.Fmt.{decimal}
@@ -53,7 +54,8 @@ name = record { answer = λ w. by_test w (is_name w) refl } where
 -- bytes are a dash, or an even number of digits
 pub bytes : IsDecided FitsBytes hex_word
 bytes = record { answer = answer } where
-  by_test : (w : List ℕ) → 0 < length w → length w % 2 ≢ 1 → (t : Bool) → list_all is_digit w ≡ t → Answer FitsBytes hex_word w
+  by_test : (w : List ℕ) → 0 < length w → length w % 2 ≢ 1 → (t : Bool) → list_all is_digit w ≡ t
+      → Answer FitsBytes hex_word w
   by_test w some even true e = inl (spell_some w some even e)
   by_test w some even false e = inr (no_digits w even e)
 
@@ -66,7 +68,10 @@ bytes = record { answer = answer } where
   answer : (w : List ℕ) → Answer FitsBytes hex_word w
   answer w = elim (same_or_not w (codes "-")) [
     | inl is ↦ inl ([], tt, is)
-    | inr other ↦ elim (cases_lt 0 (length w)) [ inl some ↦ by_length w some other | inr none ↦ inr (odd_is_none w (λ h. absurd (omega (arith, h, none))) other) ]
+    | inr other ↦ elim (cases_lt 0 (length w)) [
+      | inl some ↦ by_length w some other
+      | inr none ↦ inr (odd_is_none w (λ h. absurd (omega (arith, h, none))) other)
+    ]
   ]
 
 -- ---- words of few values
@@ -84,7 +89,9 @@ link_kind = record { answer = answer } where
   answer : (w : List ℕ) → Answer FitsAlways link_kind_word w
   answer w = elim (one_of link_kind_word same_or_not (link.Ordinary ∷ link.Persistent ∷ []) w) [
     | inl p ↦ inl (p.0, tt, p.1)
-    | inr none ↦ inr (λ x fits. (elim x as (λ x. w ≢ link_kind_word x) [ link.Ordinary ↦ none.0 | link.Persistent ↦ none.1.0 ]))
+    | inr none ↦
+        inr (λ x fits.
+        (elim x as (λ x. w ≢ link_kind_word x) [ link.Ordinary ↦ none.0 | link.Persistent ↦ none.1.0 ]))
   ]
 
 pub stream_side : IsDecided FitsAlways side_word
@@ -100,17 +107,23 @@ flush_sides = record { answer = answer } where
   answer : (w : List ℕ) → Answer FitsAlways sides_word w
   answer w = elim (one_of sides_word same_or_not (sides.R ∷ sides.W ∷ sides.RW ∷ []) w) [
     | inl p ↦ inl (p.0, tt, p.1)
-    | inr none ↦ inr (λ x fits. (elim x as (λ x. w ≢ sides_word x) [ sides.R ↦ none.0 | sides.W ↦ none.1.0 | sides.RW ↦ none.1.1.0 ]))
+    | inr none ↦
+        inr (λ x fits.
+        (elim x as (λ x. w ≢ sides_word x) [ sides.R ↦ none.0 | sides.W ↦ none.1.0 | sides.RW ↦ none.1.1.0 ]))
   ]
 
 pub id_or_all : IsDecided FitsWhich which_word
 id_or_all = record { answer = answer } where
-  neither : (w : List ℕ) → w ≢ codes "all" → ((n : ℕ) → FitsNumber n → w ≢ decimal n) → (x : Which) → FitsWhich x → w ≢ which_word x
+  neither : (w : List ℕ) → w ≢ codes "all" → ((n : ℕ) → FitsNumber n → w ≢ decimal n) → (x : Which)
+      → FitsWhich x → w ≢ which_word x
   neither w no_word none which.All fits e = no_word e
   neither w no_word none (which.Id n) fits e = none n fits e
 
   answer : (w : List ℕ) → Answer FitsWhich which_word w
   answer w = elim (same_or_not w (codes "all")) [
     | inl is ↦ inl (which.All, tt, is)
-    | inr other ↦ elim (number.answer w) [ inl p ↦ inl (which.Id p.0, p.1, p.2) | inr none ↦ inr (neither w other none) ]
+    | inr other ↦ elim (number.answer w) [
+      | inl p ↦ inl (which.Id p.0, p.1, p.2)
+      | inr none ↦ inr (neither w other none)
+    ]
   ]

@@ -12,30 +12,41 @@ use Rattle.smx_words.specs.Spelling.{command_words, entry_words, reply_words}
 use Rattle.smx_words.specs.Words.{EQUALS, SPACE, IsFree, line_of}
 use Rattle.smx_words.proofs.CutLemmas.{apart}
 use Rattle.smx_words.proofs.NumberLemmas.{number_free, same_number}
-use Rattle.smx_words.proofs.PlainLemmas.{command_plain, some_command, some_reply, free_append, line_free, space_free}
+use Rattle.smx_words.proofs.PlainLemmas.{command_plain, plain_words_free, some_command, some_reply}
+use Rattle.smx_words.proofs.LineLemmas.{free_append, line_free}
 
 -- the sign and its spaces, cut at the sign
 pub regrouped : (command reply : List ℕ) → command ++ codes " = " ++ reply ≡ (command ++ 32 ∷ []) ++ EQUALS ∷ 32 ∷ reply
-regrouped command reply = append_assoc command (codes " = ") reply ∙ sym (append_assoc command (32 ∷ []) (EQUALS ∷ 32 ∷ reply))
+regrouped command reply = append_assoc command (codes " = ") reply
+    ∙ sym (append_assoc command (32 ∷ []) (EQUALS ∷ 32 ∷ reply))
+
+-- no equals sign is a space
+space_free : IsFree EQUALS (SPACE ∷ [])
+space_free = ((λ e. cc), tt)
 
 free_left : (byte : ℕ) (xs ys : List ℕ) → IsFree byte (xs ++ ys) → IsFree byte xs
 free_left byte [] ys h = tt
 free_left byte (x ∷ xs) ys h = (h.0, free_left byte xs ys h.1)
 
 -- what stands before the first sign and behind it are the sides with their spaces
-pub same_sides : (text front back command reply : List ℕ) → IsFree EQUALS front → text ≡ front ++ EQUALS ∷ back → IsFree EQUALS command → text ≡ command ++ codes " = " ++ reply
+pub same_sides : (text front back command reply : List ℕ) → IsFree EQUALS front
+    → text ≡ front ++ EQUALS ∷ back → IsFree EQUALS command → text ≡ command ++ codes " = " ++ reply
     → (front ≡ command ++ 32 ∷ []) × (back ≡ 32 ∷ reply)
 same_sides text front back command reply free is h e =
-    apart EQUALS front (command ++ 32 ∷ []) back (32 ∷ reply) free (free_append EQUALS command (32 ∷ []) h space_free) (sym is ∙ e ∙ regrouped command reply)
+    apart EQUALS front (command ++ 32 ∷ []) back (32 ∷ reply) free
+    (free_append EQUALS command (32 ∷ []) h space_free) (sym is ∙ e ∙ regrouped command reply)
 
 -- and the sides with their spaces are the sides
-pub sides_are : (text front back command reply space : List ℕ) → space ≡ codes " " → IsFree EQUALS front → text ≡ front ++ EQUALS ∷ back → front ≡ command ++ space → back ≡ space ++ reply
+pub sides_are : (text front back command reply space : List ℕ) → space ≡ codes " " → IsFree EQUALS front
+    → text ≡ front ++ EQUALS ∷ back → front ≡ command ++ space → back ≡ space ++ reply
     → IsFree EQUALS command × (text ≡ command ++ codes " = " ++ reply)
 sides_are text front back command reply space one free is before after =
     let front_is : front ≡ command ++ 32 ∷ [] = before ∙ ap (λ (x : List ℕ). command ++ x) one in
     let back_is : back ≡ 32 ∷ reply = after ∙ ap (λ (x : List ℕ). x ++ reply) one in
     let clear : IsFree EQUALS (command ++ 32 ∷ []) = rw (← front_is) free in
-    let whole : text ≡ (command ++ 32 ∷ []) ++ EQUALS ∷ 32 ∷ reply = is ∙ ap (λ (x : List ℕ). x ++ EQUALS ∷ back) front_is ∙ ap (λ (x : List ℕ). (command ++ 32 ∷ []) ++ EQUALS ∷ x) back_is in
+    let whole : text ≡ (command ++ 32 ∷ []) ++ EQUALS ∷ 32 ∷ reply = is
+    ∙ ap (λ (x : List ℕ). x ++ EQUALS ∷ back) front_is
+    ∙ ap (λ (x : List ℕ). (command ++ 32 ∷ []) ++ EQUALS ∷ x) back_is in
     (free_left EQUALS command (32 ∷ []) clear, whole ∙ sym (regrouped command reply))
 
 -- ---- an entry's line
@@ -48,52 +59,72 @@ front : (w : List ℕ) (ws : List (List ℕ)) → 0 < length ws → line_of (w �
 front w [] some = absurd (omega arith)
 front w (v ∷ ws) some = refl
 
-line_append : (ws vs : List (List ℕ)) → 0 < length ws → 0 < length vs → line_of (ws ++ vs) ≡ line_of ws ++ SPACE ∷ line_of vs
+line_append : (ws vs : List (List ℕ)) → 0 < length ws → 0 < length vs
+    → line_of (ws ++ vs) ≡ line_of ws ++ SPACE ∷ line_of vs
 line_append [] vs some more = absurd (omega arith)
 line_append (w ∷ []) vs some more = front w vs more
-line_append (w ∷ v ∷ ws) vs some more = ap (λ (x : List ℕ). w ++ SPACE ∷ x) (line_append (v ∷ ws) vs (omega arith) more) ∙ sym (append_assoc w (SPACE ∷ line_of (v ∷ ws)) (SPACE ∷ line_of vs))
+line_append (w ∷ v ∷ ws) vs some more =
+    ap (λ (x : List ℕ). w ++ SPACE ∷ x) (line_append (v ∷ ws) vs (omega arith) more)
+    ∙ sym (append_assoc w (SPACE ∷ line_of (v ∷ ws)) (SPACE ∷ line_of vs))
 
 pub entry_line : (e : Entry) → line_of (entry_words e) ≡ decimal e.process ++ SPACE ∷ sides_text e
 entry_line e =
     let command = command_words e.command in
     let reply = reply_words e.reply in
     let all : line_of (command ++ codes "=" ∷ reply) ≡ line_of command ++ SPACE ∷ EQUALS ∷ SPACE ∷ line_of reply =
-    line_append command (codes "=" ∷ reply) (some_command e.command) (omega arith) ∙ ap (λ (x : List ℕ). line_of command ++ SPACE ∷ x) (front (codes "=") reply (some_reply e.reply)) in
+    line_append command (codes "=" ∷ reply) (some_command e.command) (omega arith)
+    ∙ ap (λ (x : List ℕ). line_of command ++ SPACE ∷ x) (front (codes "=") reply (some_reply e.reply)) in
     front (decimal e.process) (command ++ codes "=" ∷ reply) (omega (arith, length-append command (codes "=" ∷ reply)))
-    ∙ ap (λ (x : List ℕ). decimal e.process ++ SPACE ∷ x) (all ∙ sym (append_assoc (line_of command) (codes " = ") (line_of reply)))
+    ∙ ap (λ (x : List ℕ). decimal e.process ++ SPACE ∷ x)
+    (all ∙ sym (append_assoc (line_of command) (codes " = ") (line_of reply)))
 
 pub free_command : (c : Command) → FitsCommand c → IsFree EQUALS (line_of (command_words c))
-free_command c fits = line_free (command_words c) (command_plain c fits)
+free_command c fits =
+    line_free EQUALS (λ e. cc) (command_words c) (plain_words_free (command_words c) (command_plain c fits))
 
 -- the number before the first space is the entry's process, and what stands behind it the entry's two sides
-pub sides_of : (line rest : List ℕ) (n : ℕ) (e : Entry) → FitsEntry e → FitsNumber n → line ≡ decimal n ++ SPACE ∷ rest → line ≡ line_of (entry_words e) → (n ≡ e.process) × (rest ≡ sides_text e)
+pub sides_of : (line rest : List ℕ) (n : ℕ) (e : Entry) → FitsEntry e → FitsNumber n
+    → line ≡ decimal n ++ SPACE ∷ rest → line ≡ line_of (entry_words e)
+    → (n ≡ e.process) × (rest ≡ sides_text e)
 sides_of line rest n e fits small is all =
     let process : FitsNumber e.process = omega (arith, fits.process) in
-    let words = apart SPACE (decimal n) (decimal e.process) rest (sides_text e) (number_free n small) (number_free e.process process) (sym is ∙ all ∙ entry_line e) in
+    let words =
+    apart SPACE (decimal n) (decimal e.process) rest (sides_text e) (number_free n small)
+    (number_free e.process process) (sym is ∙ all ∙ entry_line e) in
     (same_number n e.process small process words.0, words.1)
 
 -- and each side is its own
-pub each_side : (rest command reply : List ℕ) (e : Entry) → FitsEntry e → IsFree EQUALS command → rest ≡ command ++ codes " = " ++ reply → rest ≡ sides_text e
+pub each_side : (rest command reply : List ℕ) (e : Entry) → FitsEntry e → IsFree EQUALS command
+    → rest ≡ command ++ codes " = " ++ reply → rest ≡ sides_text e
     → (command ≡ line_of (command_words e.command)) × (reply ≡ line_of (reply_words e.reply))
 each_side rest command reply e fits free is all =
     let c = line_of (command_words e.command) in
     let r = line_of (reply_words e.reply) in
     let spaced : IsFree EQUALS (command ++ 32 ∷ []) = free_append EQUALS command (32 ∷ []) free space_free in
-    let same = same_sides rest (command ++ 32 ∷ []) (32 ∷ reply) c r spaced (is ∙ regrouped command reply) (free_command e.command fits.command) all in
+    let same =
+    same_sides rest (command ++ 32 ∷ []) (32 ∷ reply) c r spaced (is ∙ regrouped command reply)
+    (free_command e.command fits.command) all in
     (append_cancel_right command c (32 ∷ []) same.0, cc same.1)
 
 -- the entry of a process, a command and a reply
-pub entry_is : (line rest command reply : List ℕ) (p : ℕ) (c : Command) (r : Reply) → FitsProcess p → line ≡ decimal p ++ SPACE ∷ rest → rest ≡ command ++ codes " = " ++ reply
+pub entry_is : (line rest command reply : List ℕ) (p : ℕ) (c : Command) (r : Reply) → FitsProcess p
+    → line ≡ decimal p ++ SPACE ∷ rest → rest ≡ command ++ codes " = " ++ reply
     → FitsCommand c × (command ≡ line_of (command_words c)) → FitsReply r × (reply ≡ line_of (reply_words r))
     → (e : Entry) → e ≡ record { process = p; command = c; reply = r } → FitsEntry e × (line ≡ line_of (entry_words e))
 entry_is line rest command reply p c r process is sides asked answered e made =
     let entry : Entry = record { process = p; command = c; reply = r } in
-    let whole : rest ≡ sides_text entry = sides ∙ ap (λ (x : List ℕ). x ++ codes " = " ++ reply) asked.1 ∙ ap (λ (x : List ℕ). line_of (command_words c) ++ codes " = " ++ x) answered.1 in
-    rw made (record { process = process; command = asked.0; reply = answered.0 }, is ∙ ap (λ (x : List ℕ). decimal p ++ SPACE ∷ x) whole ∙ sym (entry_line entry))
+    let whole : rest ≡ sides_text entry = sides ∙ ap (λ (x : List ℕ). x ++ codes " = " ++ reply) asked.1
+    ∙ ap (λ (x : List ℕ). line_of (command_words c) ++ codes " = " ++ x) answered.1 in
+    rw made (
+      record { process = process; command = asked.0; reply = answered.0 },
+      is ∙ ap (λ (x : List ℕ). decimal p ++ SPACE ∷ x) whole ∙ sym (entry_line entry),
+    )
 
 -- a process, a command's line and a reply's line are an entry's
-pub entry_spelled : (line rest command reply : List ℕ) (p : ℕ) → FitsProcess p → line ≡ decimal p ++ SPACE ∷ rest → rest ≡ command ++ codes " = " ++ reply
-    → IsLineOf FitsCommand command_words command → IsLineOf FitsReply reply_words reply → IsLineOf FitsEntry entry_words line
+pub entry_spelled : (line rest command reply : List ℕ) (p : ℕ) → FitsProcess p
+    → line ≡ decimal p ++ SPACE ∷ rest → rest ≡ command ++ codes " = " ++ reply
+    → IsLineOf FitsCommand command_words command → IsLineOf FitsReply reply_words reply
+    → IsLineOf FitsEntry entry_words line
 entry_spelled line rest command reply p process is sides c r =
     let entry : Entry = record { process = p; command = c.0; reply = r.0 } in
     let all = entry_is line rest command reply p c.0 r.0 process is sides (c.1, c.2) (r.1, r.2) entry refl in

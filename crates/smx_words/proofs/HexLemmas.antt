@@ -1,6 +1,8 @@
 -- Bytes as words: digits spell the bytes of their values.
 use lib.Seq.{take-append_seam}
-use Rattle.std.proofs.Common.{◌≡◌, ◌≢◌, ℕ, zero, suc, ◌+◌, ◌-◌, ◌*◌, ◌/◌, ◌%◌, ◌<◌, ◌≤◌, Bool, true, false, cond, eqb, ltb, ◌&&◌, List, [], ◌∷◌, ◌++◌, length, slice_index, get_or, take, set, Result, Ok, refl, sym, ap, ◌∙◌, append_assoc, arith, inl, inr}
+use Rattle.std.proofs.Common.{◌≡◌, ◌≢◌, ℕ, zero, suc, ◌+◌, ◌-◌, ◌*◌, ◌/◌, ◌%◌, ◌<◌, ◌≤◌, Bool, true, false}
+use Rattle.std.proofs.Common.{cond, eqb, ltb, ◌&&◌, List, [], ◌∷◌, ◌++◌, length, slice_index, get_or, take}
+use Rattle.std.proofs.Common.{set, Result, Ok, refl, sym, ap, ◌∙◌, append_assoc, arith, inl, inr}
 use Rattle.std.specs.List.{list_all}
 use Rattle.std.specs.Prelude.{codes, max}
 use Rattle.std.proofs.lemmas.Bool.{and_parts, cases_lt}
@@ -39,16 +41,20 @@ digit_is k lt = digit_below 16 k refl lt
 
 pub digit_range : (k : ℕ) → k < 16 → (47 < digit k) × (digit k < 103) × (digit k ≢ 61) × (is_digit (digit k) ≡ true)
 digit_range k lt = elim (cases_lt k 10) [
-  | inl small ↦ let is : digit k ≡ 48 + k = grind (arith, nat_tests) in (omega (arith, is), omega (arith, is), λ e. omega (arith, is, e), grind (arith, nat_tests))
-  | inr large ↦ let is : digit k ≡ 87 + k = grind (arith, nat_tests) in (omega (arith, is), omega (arith, is), λ e. omega (arith, is, e), grind (arith, nat_tests))
+  | inl small ↦ let is : digit k ≡ 48 + k = grind (arith, nat_tests) in
+      (omega (arith, is), omega (arith, is), λ e. omega (arith, is, e), grind (arith, nat_tests))
+  | inr large ↦ let is : digit k ≡ 87 + k = grind (arith, nat_tests) in
+      (omega (arith, is), omega (arith, is), λ e. omega (arith, is, e), grind (arith, nat_tests))
 ]
 
 -- the value of each
 pub of_number : (d : ℕ) → 48 ≤ d → d ≤ 57 → slice_index lower_digits (d - 48) ≡ d
-of_number d low high = let small : ltb (d - 48) 10 ≡ true = grind (arith, nat_tests) in digit_is (d - 48) (omega arith) ∙ (rw small (omega arith))
+of_number d low high = let small : ltb (d - 48) 10 ≡ true = grind (arith, nat_tests) in
+    digit_is (d - 48) (omega arith) ∙ (rw small (omega arith))
 
 pub of_letter : (d : ℕ) → 97 ≤ d → d ≤ 102 → slice_index lower_digits (d - 97 + 10) ≡ d
-of_letter d low high = let large : ltb (d - 97 + 10) 10 ≡ false = grind (arith, nat_tests) in digit_is (d - 97 + 10) (omega arith) ∙ (rw large (omega arith))
+of_letter d low high = let large : ltb (d - 97 + 10) 10 ≡ false = grind (arith, nat_tests) in
+    digit_is (d - 97 + 10) (omega arith) ∙ (rw large (omega arith))
 
 -- ---- bytes and their digits
 
@@ -60,7 +66,8 @@ are_bytes (b ∷ bs) h (suc i) = are_bytes bs h.1 i
 pub ok_same : {A : Type 0} (x y : A) → ◌≡◌ {A = Result A FromHexError} (Ok x) (Ok y) → x ≡ y
 ok_same x y e = cc e
 
-long : (b : ℕ) (bs : List ℕ) → 1 < length (encode_lower (b ∷ bs))
+-- a byte has two digits
+pub long : (b : ℕ) (bs : List ℕ) → 1 < length (encode_lower (b ∷ bs))
 unfolding encode_with
 long b bs = omega arith
 
@@ -79,7 +86,9 @@ encoded_digits (b ∷ bs) h =
     let z = digit_range (b % 16) low in
     rw (digit_is (b / 16) high, digit_is (b % 16) low, a.3, z.3, encoded_digits bs h.1) refl
 
-encode_push : (bs : List ℕ) (b : ℕ) → encode_lower (bs ++ b ∷ []) ≡ encode_lower bs ++ slice_index lower_digits (b / 16) ∷ slice_index lower_digits (b % 16) ∷ []
+-- one byte more behind others
+pub encode_push : (bs : List ℕ) (b : ℕ) → encode_lower (bs ++ b ∷ [])
+    ≡ encode_lower bs ++ slice_index lower_digits (b / 16) ∷ slice_index lower_digits (b % 16) ∷ []
 unfolding encode_with
 encode_push [] b = refl
 encode_push (a ∷ bs) b = rw (encode_push bs b) refl
@@ -96,10 +105,14 @@ some_digits w [] some e = absurd (omega (arith, ap (length {A = ℕ}) e))
 some_digits w (b ∷ bs) some e = e
 
 -- bytes are spelled by digits of even length, one or more, or by a dash
-pub by_digits : (w bs : List ℕ) → w ≢ codes "-" → FitsBytes bs → w ≡ hex_word bs → (0 < length w) × (list_all is_digit w ≡ true) × (length w ≡ 2 * length bs)
+pub by_digits : (w bs : List ℕ) → w ≢ codes "-" → FitsBytes bs → w ≡ hex_word bs
+    → (0 < length w) × (list_all is_digit w ≡ true) × (length w ≡ 2 * length bs)
 by_digits w [] other fits e = absurd (other e)
-by_digits w (b ∷ bs) other fits e =
-    (omega (arith, long b bs, ap (length {A = ℕ}) e), ap (list_all is_digit) e ∙ encoded_digits (b ∷ bs) fits, ap (length {A = ℕ}) e ∙ encoded_long (b ∷ bs))
+by_digits w (b ∷ bs) other fits e = (
+  omega (arith, long b bs, ap (length {A = ℕ}) e),
+  ap (list_all is_digit) e ∙ encoded_digits (b ∷ bs) fits,
+  ap (length {A = ℕ}) e ∙ encoded_long (b ∷ bs),
+)
 
 -- ---- one byte more
 
@@ -108,20 +121,31 @@ all_at [] i lt h = absurd (omega arith)
 all_at (b ∷ w) zero lt h = (and_parts (is_digit b) (list_all is_digit w) h).0
 all_at (b ∷ w) (suc i) lt h = all_at w i (omega arith) (and_parts (is_digit b) (list_all is_digit w) h).1
 
-two_more : (w : List ℕ) (i : ℕ) → 2 * i + 1 < length w → take (2 * (i + 1)) w ≡ take (2 * i) w ++ get_or w (2 * i) 0 ∷ get_or w (2 * i + 1) 0 ∷ []
+two_more : (w : List ℕ) (i : ℕ) → 2 * i + 1 < length w
+    → take (2 * (i + 1)) w ≡ take (2 * i) w ++ get_or w (2 * i) 0 ∷ get_or w (2 * i + 1) 0 ∷ []
 two_more w i lt =
     let at : 2 * (i + 1) ≡ 2 * i + 1 + 1 = omega arith in
-    ap (λ (k : ℕ). take k w) at ∙ take_more w (2 * i + 1) 0 lt ∙ ap (λ (x : List ℕ). x ++ get_or w (2 * i + 1) 0 ∷ []) (take_more w (2 * i) 0 (omega arith))
+    ap (λ (k : ℕ). take k w) at ∙ take_more w (2 * i + 1) 0 lt
+    ∙ ap (λ (x : List ℕ). x ++ get_or w (2 * i + 1) 0 ∷ []) (take_more w (2 * i) 0 (omega arith))
     ∙ append_assoc (take (2 * i) w) (get_or w (2 * i) 0 ∷ []) (get_or w (2 * i + 1) 0 ∷ [])
 
 pub one_byte_more : (w bs : List ℕ) (i high low : ℕ) → length w ≡ 2 * length bs → i < length bs → high < 16 → low < 16
     → slice_index lower_digits high ≡ slice_index w (2 * i) → slice_index lower_digits low ≡ slice_index w (2 * i + 1)
-    → take (2 * i) w ≡ encode_lower (take i bs) → take (2 * (i + 1)) w ≡ encode_lower (take (i + 1) (set bs i (high % 16 * 16 + low % 16)))
+    → take (2 * i) w ≡ encode_lower (take i bs)
+    → take (2 * (i + 1)) w ≡ encode_lower (take (i + 1) (set bs i (high % 16 * 16 + low % 16)))
 one_byte_more w bs i high low even lt h l first second so_far =
     let v = high % 16 * 16 + low % 16 in
     let top : v / 16 ≡ high = omega arith in
     let bottom : v % 16 ≡ low = omega arith in
-    two_more w i (omega arith) ∙ rw (so_far, take_more_set bs i v lt, encode_push (take i bs) v, top, bottom, first, second) refl
+    two_more w i (omega arith) ∙ rw (
+      so_far,
+      take_more_set bs i v lt,
+      encode_push (take i bs) v,
+      top,
+      bottom,
+      first,
+      second,
+    ) refl
 
 -- ---- the bytes that digits spell
 
@@ -130,8 +154,12 @@ digit_value d = cond (ltb d 58) (d - 48) (d - 97 + 10)
 
 value_back : (d : ℕ) → is_digit d ≡ true → (digit_value d < 16) × (slice_index lower_digits (digit_value d) ≡ d)
 value_back d h = elim (cases_lt d 58) [
-  | inl small ↦ let low : 48 ≤ d = grind (arith, nat_tests) in let is : ltb d 58 ≡ true = grind (arith, nat_tests) in rw is (omega arith, of_number d low (omega arith))
-  | inr large ↦ let low : 97 ≤ d = grind (arith, nat_tests) in let high : d ≤ 102 = grind (arith, nat_tests) in let is : ltb d 58 ≡ false = grind (arith, nat_tests) in rw is (omega arith, of_letter d low high)
+  | inl small ↦ let low : 48 ≤ d = grind (arith, nat_tests) in
+      let is : ltb d 58 ≡ true = grind (arith, nat_tests) in
+      rw is (omega arith, of_number d low (omega arith))
+  | inr large ↦ let low : 97 ≤ d = grind (arith, nat_tests) in
+      let high : d ≤ 102 = grind (arith, nat_tests) in let is : ltb d 58 ≡ false = grind (arith, nat_tests) in
+      rw is (omega arith, of_letter d low high)
 ]
 
 abbrev bytes_at : List ℕ → List ℕ
@@ -139,7 +167,8 @@ bytes_at [] = []
 bytes_at (a ∷ []) = []
 bytes_at (a ∷ b ∷ w) = (digit_value a * 16 + digit_value b) ∷ bytes_at w
 
-spelled_by : (w : List ℕ) (n : ℕ) → length w ≡ 2 * n → list_all is_digit w ≡ true → FitsBytes (bytes_at w) × (w ≡ encode_lower (bytes_at w))
+spelled_by : (w : List ℕ) (n : ℕ) → length w ≡ 2 * n → list_all is_digit w ≡ true
+    → FitsBytes (bytes_at w) × (w ≡ encode_lower (bytes_at w))
 unfolding encode_with
 spelled_by [] n even h = (tt, refl)
 spelled_by (a ∷ []) n even h = absurd (omega (arith, even))
@@ -156,7 +185,8 @@ spelled_by (a ∷ b ∷ w) (suc n) even h =
     ((omega (arith, x.0, y.0), more.0), rw (top, bottom, x.1, y.1, ← more.1) refl)
 
 -- digits of even length, one or more, are the word of some bytes
-pub spell_some : (w : List ℕ) → 0 < length w → length w % 2 ≢ 1 → list_all is_digit w ≡ true → IsSpelled FitsBytes hex_word w
+pub spell_some : (w : List ℕ) → 0 < length w → length w % 2 ≢ 1 → list_all is_digit w ≡ true
+    → IsSpelled FitsBytes hex_word w
 spell_some w some even h =
     let s = spelled_by w (length w / 2) (omega (arith, even)) h in
     (bytes_at w, s.0, some_digits w (bytes_at w) some s.1)
@@ -169,7 +199,8 @@ worst_is worst high low first last a b =
     (λ h. (omega (arith, a, b), omega (arith, a, b), omega (arith, a, b)), λ h k l. omega (arith, a, b))
 
 -- an empty word, or one of odd length, spells no bytes unless it is a dash
-pub odd_is_none : (w : List ℕ) → ((0 < length w → length w % 2 ≡ 1)) → w ≢ codes "-" → (bs : List ℕ) → FitsBytes bs → w ≢ hex_word bs
+pub odd_is_none : (w : List ℕ) → ((0 < length w → length w % 2 ≡ 1)) → w ≢ codes "-" → (bs : List ℕ)
+    → FitsBytes bs → w ≢ hex_word bs
 odd_is_none w odd other bs fits e =
     let by = by_digits w bs other fits e in
     let is_odd = odd by.0 in
@@ -180,14 +211,18 @@ pub no_dash : (w : List ℕ) → length w % 2 ≢ 1 → w ≢ codes "-"
 no_dash w even e = even (ap (λ (x : List ℕ). length x % 2) e)
 
 -- a word with another byte spells none
-pub no_digits : (w : List ℕ) → length w % 2 ≢ 1 → list_all is_digit w ≡ false → (bs : List ℕ) → FitsBytes bs → w ≢ hex_word bs
-no_digits w even bad bs fits e = let by = by_digits w bs (no_dash w even) fits e in let both : true ≡ false = sym by.1 ∙ bad in absurd (cc both)
+pub no_digits : (w : List ℕ) → length w % 2 ≢ 1 → list_all is_digit w ≡ false → (bs : List ℕ) → FitsBytes bs
+    → w ≢ hex_word bs
+no_digits w even bad bs fits e = let by = by_digits w bs (no_dash w even) fits e in
+    let both : true ≡ false = sym by.1 ∙ bad in absurd (cc both)
 
-pub too_bad : (w : List ℕ) (r : ℕ) → length w % 2 ≢ 1 → (list_all is_digit w ≡ true → r < 16) → 16 ≤ r → (bs : List ℕ) → FitsBytes bs → w ≢ hex_word bs
+pub too_bad : (w : List ℕ) (r : ℕ) → length w % 2 ≢ 1 → (list_all is_digit w ≡ true → r < 16) → 16 ≤ r
+    → (bs : List ℕ) → FitsBytes bs → w ≢ hex_word bs
 too_bad w r even good bad bs fits e = let by = by_digits w bs (no_dash w even) fits e in omega (arith, good by.1, bad)
 
 -- and the bytes that were set are a word's
-pub set_are : (w new old got : List ℕ) (n : ℕ) → 0 < length w → got ≡ take n (new ++ old) → length new ≡ n → FitsBytes new → w ≡ encode_lower new → FitsBytes got × (w ≡ hex_word got)
+pub set_are : (w new old got : List ℕ) (n : ℕ) → 0 < length w → got ≡ take n (new ++ old) → length new ≡ n
+    → FitsBytes new → w ≡ encode_lower new → FitsBytes got × (w ≡ hex_word got)
 set_are w new old got n some kept long fits e =
     let same : got ≡ new = kept ∙ ap (λ (k : ℕ). take k (new ++ old)) (sym long) ∙ take-append_seam new old in
     rw same (fits, some_digits w new some e)

@@ -1,9 +1,8 @@
--- What all spellings have: they are words, they are told apart by their lines, and so are the values.
-use Rattle.std.proofs.Common.{◌≡◌, ℕ, ◌≤◌, List, [], ◌∷◌, ◌++◌, length, refl, sym, ap, arith, rules}
+-- What all spellings have: they are words, and the values are told apart by their lines.
+use Rattle.std.proofs.Common.{◌≡◌, ℕ, List, [], ◌∷◌, ◌++◌, refl, arith, rules}
 use Rattle.std.specs.List.{AllByRecursion}
 use Rattle.std.specs.Prelude.{codes}
 use Rattle.std.specs.Fmt.{decimal}
-use Rattle.std.proofs.lemmas.List.{length-append}
 use Rattle.smx_types.specs.declared.command.Command.{Command}
 use Rattle.smx_types.specs.declared.command.Entry.{Entry}
 use Rattle.smx_types.specs.declared.driver.DriverKind.{DriverKind}
@@ -21,27 +20,23 @@ use Rattle.smx_types.specs.declared.view.LinkLine.{LinkLine}
 use Rattle.smx_types.specs.declared.view.MessageLine.{MessageLine}
 use Rattle.smx_types.specs.declared.view.RouteLine.{RouteLine}
 use Rattle.smx_words.specs.HexWords.{hex_word}
-use Rattle.smx_words.specs.Spellable.{FitsBinding, FitsBytes, FitsCommand, FitsDescriptor, FitsDriver, FitsEntry, FitsFull, FitsLink, FitsMessage, FitsName, FitsNext, FitsNumber, FitsProcess, FitsReply, FitsRoute}
-use Rattle.smx_words.specs.Spelling.{bind_words, command_words, descriptor_words, driver_words, entry_words, full_words, kind_word, link_kind_word, link_words, message_words, next_words, process_words, reply_words, route_words, side_word}
-use Rattle.smx_words.specs.Words.{AreWords, IsFree, IsWord, SPACE, line_of}
-use Rattle.smx_words.proofs.CutLemmas.{apart, no_space_in}
+use Rattle.smx_words.specs.Spellable.{FitsBinding, FitsBytes, FitsCommand, FitsDescriptor, FitsDriver}
+use Rattle.smx_words.specs.Spellable.{FitsEntry, FitsFull, FitsLink, FitsMessage, FitsName, FitsNext}
+use Rattle.smx_words.specs.Spellable.{FitsNumber, FitsProcess, FitsReply, FitsRoute}
+use Rattle.smx_words.specs.Spelling.{bind_words, command_words, descriptor_words, driver_words, entry_words}
+use Rattle.smx_words.specs.Spelling.{full_words, kind_word, link_kind_word, link_words, message_words}
+use Rattle.smx_words.specs.Spelling.{next_words, process_words, reply_words, route_words, side_word}
+use Rattle.smx_words.specs.Words.{AreWords, IsWord, line_of}
 use Rattle.smx_words.proofs.EntryLemmas.{each_side, entry_line, free_command, sides_of, sides_text}
-use Rattle.smx_words.proofs.PlainLemmas.{IsPlain, IsPlainByte, command_plain, hex_plain, name_plain, number_plain, reply_plain, some_command, some_reply}
-use Rattle.smx_words.proofs.SameLemmas.{same_bytes, same_command, same_kind, same_link_kind, same_reply, same_side}
+use Rattle.smx_words.proofs.PlainLemmas.{command_plain, hex_plain, name_plain, number_plain, plain_word}
+use Rattle.smx_words.proofs.PlainLemmas.{plain_words, reply_plain, some_command, some_reply}
+use Rattle.smx_words.proofs.LineLemmas.{same_words}
+use Rattle.smx_words.proofs.SameWordLemmas.{same_bytes, same_kind, same_link_kind, same_side}
+use Rattle.smx_words.proofs.SameCommandLemmas.{same_command}
+use Rattle.smx_words.proofs.SameReplyLemmas.{same_reply}
 use Rattle.smx_words.proofs.NumberLemmas.{same_number}
 
 -- ---- spellings are words
-
-seen : (w : List ℕ) → AllByRecursion IsPlainByte w → AllByRecursion (λ b. (0x21 ≤ b) × (b ≤ 0x7E)) w
-seen [] h = tt
-seen (b ∷ w) h = ((h.0.0, h.0.1), seen w h.1)
-
-plain_word : (w : List ℕ) → IsPlain w → IsWord w
-plain_word w h = (h.0, seen w h.1)
-
-plain_words : (ws : List (List ℕ)) → AllByRecursion IsPlain ws → AllByRecursion IsWord ws
-plain_words [] h = tt
-plain_words (w ∷ ws) h = (plain_word w h.0, plain_words ws h.1)
 
 number_word : (n : ℕ) → FitsNumber n → IsWord (decimal n)
 number_word n h = plain_word (decimal n) (number_plain n h)
@@ -74,8 +69,22 @@ reply_spelled : (r : Reply) → FitsReply r → AreWords (reply_words r)
 reply_spelled r fits = (plain_words (reply_words r) (reply_plain r fits), some_reply r)
 
 pub driver_spelled : (d : DriverSpec) → FitsDriver d → AreWords (driver_words d)
-driver_spelled d fits =
-    ((search rules, (name_word d.name fits.name, (kind_is_word d.kind, (number_word d.minors fits.minors, (number_word d.high fits.high, (number_word d.low fits.low, (number_word d.max fits.max, tt))))))), omega arith)
+driver_spelled d fits = (
+  (
+    search rules,
+    (
+      name_word d.name fits.name,
+      (
+        kind_is_word d.kind,
+        (
+          number_word d.minors fits.minors,
+          (number_word d.high fits.high, (number_word d.low fits.low, (number_word d.max fits.max, tt))),
+        ),
+      ),
+    ),
+  ),
+  omega arith,
+)
 
 pub process_spelled : (n : ℕ) → FitsNumber n → AreWords (process_words n)
 process_spelled n fits = ((search rules, (number_word n fits, tt)), omega arith)
@@ -83,77 +92,136 @@ process_spelled n fits = ((search rules, (number_word n fits, tt)), omega arith)
 pub next_spelled : (p : ℕ × ℕ) → FitsNext p → AreWords (next_words p)
 next_spelled p fits = ((search rules, (number_word p.0 fits.0, (number_word p.1 fits.1, tt))), omega arith)
 
-words_append : (ws vs : List (List ℕ)) → AllByRecursion IsWord ws → AllByRecursion IsWord vs → AllByRecursion IsWord (ws ++ vs)
+words_append : (ws vs : List (List ℕ)) → AllByRecursion IsWord ws → AllByRecursion IsWord vs
+    → AllByRecursion IsWord (ws ++ vs)
 words_append [] vs h k = k
 words_append (w ∷ ws) vs h k = (h.0, words_append ws vs h.1 k)
 
 pub entry_spelled : (e : Entry) → FitsEntry e → AreWords (entry_words e)
 entry_spelled e fits =
     let c = command_spelled e.command fits.command in
-    let r = reply_spelled e.reply fits.reply in
-    ((process_word e.process fits.process, words_append (command_words e.command) (codes "=" ∷ reply_words e.reply) c.0 (search rules, r.0)), omega arith)
+    let r = reply_spelled e.reply fits.reply in (
+      (
+        process_word e.process fits.process,
+        words_append (command_words e.command)
+            (codes "=" ∷ reply_words e.reply) c.0 (search rules, r.0),
+      ),
+      omega arith,
+    )
 
 pub descriptor_spelled : (d : DescriptorLine) → FitsDescriptor d → AreWords (descriptor_words d)
-descriptor_spelled d fits = ((search rules, (process_word d.process fits.process, (number_word d.fd fits.fd, (name_word d.driver fits.driver, (number_word d.minor fits.minor, tt))))), omega arith)
+descriptor_spelled d fits = (
+  (
+    search rules,
+    (
+      process_word d.process fits.process,
+      (number_word d.fd fits.fd, (name_word d.driver fits.driver, (number_word d.minor fits.minor, tt))),
+    ),
+  ),
+  omega arith,
+)
 
 pub link_spelled : (l : LinkLine) → FitsLink l → AreWords (link_words l)
-link_spelled l fits =
-    ((search rules, (number_word l.id fits.id, (name_word l.ctl_driver fits.ctl_driver, (number_word l.ctl_minor fits.ctl_minor, (name_word l.lower_driver fits.lower_driver, (number_word l.lower_minor fits.lower_minor, (link_kind_is_word l.kind, tt))))))), omega arith)
+link_spelled l fits = (
+  (
+    search rules,
+    (
+      number_word l.id fits.id,
+      (
+        name_word l.ctl_driver fits.ctl_driver,
+        (
+          number_word l.ctl_minor fits.ctl_minor,
+          (
+            name_word l.lower_driver fits.lower_driver,
+            (number_word l.lower_minor fits.lower_minor, (link_kind_is_word l.kind, tt)),
+          ),
+        ),
+      ),
+    ),
+  ),
+  omega arith,
+)
 
 pub bind_spelled : (b : BindingLine) → FitsBinding b → AreWords (bind_words b)
-bind_spelled b fits = ((search rules, (name_word b.driver fits.driver, (number_word b.addr fits.addr, (number_word b.minor fits.minor, tt)))), omega arith)
+bind_spelled b fits = (
+  (
+    search rules,
+    (name_word b.driver fits.driver, (number_word b.addr fits.addr, (number_word b.minor fits.minor, tt))),
+  ),
+  omega arith,
+)
 
 pub route_spelled : (r : RouteLine) → FitsRoute r → AreWords (route_words r)
-route_spelled r fits = ((search rules, (name_word r.driver fits.driver, (number_word r.addr fits.addr, (number_word r.id fits.id, tt)))), omega arith)
+route_spelled r fits = (
+  (
+    search rules,
+    (name_word r.driver fits.driver, (number_word r.addr fits.addr, (number_word r.id fits.id, tt))),
+  ),
+  omega arith,
+)
 
 pub message_spelled : (m : MessageLine) → FitsMessage m → AreWords (message_words m)
-message_spelled m fits =
-    ((search rules, (name_word m.driver fits.driver, (number_word m.minor fits.minor, (side_is_word m.side, (number_word m.message.serial fits.serial, (number_word m.message.addr fits.addr, (bytes_word m.message.bytes fits.bytes, tt))))))), omega arith)
+message_spelled m fits = (
+  (
+    search rules,
+    (
+      name_word m.driver fits.driver,
+      (
+        number_word m.minor fits.minor,
+        (
+          side_is_word m.side,
+          (
+            number_word m.message.serial fits.serial,
+            (number_word m.message.addr fits.addr, (bytes_word m.message.bytes fits.bytes, tt)),
+          ),
+        ),
+      ),
+    ),
+  ),
+  omega arith,
+)
 
 pub full_spelled : (f : FullLine) → FitsFull f → AreWords (full_words f)
-full_spelled f fits = ((search rules, (name_word f.driver fits.driver, (number_word f.minor fits.minor, (side_is_word f.side, tt)))), omega arith)
+full_spelled f fits = (
+  (
+    search rules,
+    (name_word f.driver fits.driver, (number_word f.minor fits.minor, (side_is_word f.side, tt))),
+  ),
+  omega arith,
+)
 
--- ---- lines tell words apart
+-- ---- lines tell values apart
 
-seen_free : (w : List ℕ) → AllByRecursion (λ b. (0x21 ≤ b) × (b ≤ 0x7E)) w → IsFree SPACE w
-seen_free [] h = tt
-seen_free (b ∷ w) h = (λ e. omega (arith, h.0.0, e), seen_free w h.1)
-
-some_line : (w : List ℕ) (ws : List (List ℕ)) → IsWord w → line_of (w ∷ ws) ≡ [] → ⊥
-some_line w [] h e = omega (arith, h.0, ap (length {A = ℕ}) e)
-some_line w (v ∷ ws) h e = omega (arith, h.0, ap (length {A = ℕ}) e, length-append w (SPACE ∷ line_of (v ∷ ws)))
-
-pub same_words : (ws vs : List (List ℕ)) → AllByRecursion IsWord ws → AllByRecursion IsWord vs → line_of ws ≡ line_of vs → ws ≡ vs
-same_words [] [] h k e = refl
-same_words [] (v ∷ vs) h k e = absurd (some_line v vs k.0 (sym e))
-same_words (w ∷ ws) [] h k e = absurd (some_line w ws h.0 e)
-same_words (w ∷ []) (v ∷ []) h k e = ap (λ (x : List ℕ). x ∷ []) e
-same_words (w ∷ []) (v ∷ u ∷ vs) h k e = absurd (no_space_in v (line_of (u ∷ vs)) w (seen_free w h.0.1) (sym e))
-same_words (w ∷ u ∷ ws) (v ∷ []) h k e = absurd (no_space_in w (line_of (u ∷ ws)) v (seen_free v k.0.1) e)
-same_words (w ∷ u ∷ ws) (v ∷ t ∷ vs) h k e =
-    let first = apart SPACE w v (line_of (u ∷ ws)) (line_of (t ∷ vs)) (seen_free w h.0.1) (seen_free v k.0.1) e in
-    let more = same_words (u ∷ ws) (t ∷ vs) h.1 k.1 first.1 in
-    cc (first.0, more)
-
--- ---- and so values
-
-pub one_command : (c d : Command) → FitsCommand c → FitsCommand d → line_of (command_words c) ≡ line_of (command_words d) → c ≡ d
-one_command c d h k e = same_command c d h k (same_words (command_words c) (command_words d) (command_spelled c h).0 (command_spelled d k).0 e)
+pub one_command : (c d : Command) → FitsCommand c → FitsCommand d
+    → line_of (command_words c) ≡ line_of (command_words d) → c ≡ d
+one_command c d h k e =
+    same_command c d h k (same_words (command_words c) (command_words d) (command_spelled c h).0
+    (command_spelled d k).0 e)
 
 one_reply : (r s : Reply) → FitsReply r → FitsReply s → line_of (reply_words r) ≡ line_of (reply_words s) → r ≡ s
-one_reply r s h k e = same_reply r s h k (same_words (reply_words r) (reply_words s) (reply_spelled r h).0 (reply_spelled s k).0 e)
+one_reply r s h k e =
+    same_reply r s h k (same_words (reply_words r) (reply_words s) (reply_spelled r h).0
+    (reply_spelled s k).0 e)
 
-pub one_process : (n m : ℕ) → FitsNumber n → FitsNumber m → line_of (process_words n) ≡ line_of (process_words m) → n ≡ m
-one_process n m h k e = let words = same_words (process_words n) (process_words m) (process_spelled n h).0 (process_spelled m k).0 e in same_number n m h k (cc words)
+pub one_process : (n m : ℕ) → FitsNumber n → FitsNumber m
+    → line_of (process_words n) ≡ line_of (process_words m) → n ≡ m
+one_process n m h k e = let words =
+    same_words (process_words n) (process_words m) (process_spelled n h).0 (process_spelled m k).0 e in
+    same_number n m h k (cc words)
 
 pub one_entry : (e f : Entry) → FitsEntry e → FitsEntry f → line_of (entry_words e) ≡ line_of (entry_words f) → e ≡ f
 one_entry e f h k is =
-    let both = sides_of (line_of (entry_words e)) (sides_text e) e.process f k (omega (arith, h.process)) (entry_line e) is in
-    let each = each_side (sides_text e) (line_of (command_words e.command)) (line_of (reply_words e.reply)) f k (free_command e.command h.command) refl both.1 in
+    let both =
+    sides_of (line_of (entry_words e)) (sides_text e) e.process f k (omega (arith, h.process))
+    (entry_line e) is in
+    let each =
+    each_side (sides_text e) (line_of (command_words e.command)) (line_of (reply_words e.reply)) f k
+    (free_command e.command h.command) refl both.1 in
     let c = one_command e.command f.command h.command k.command each.0 in
     let r = one_reply e.reply f.reply h.reply k.reply each.1 in
     let process = both.0 in
-    let whole : ◌≡◌ {A = Entry} (record { process = e.process; command = e.command; reply = e.reply }) (record { process = f.process; command = f.command; reply = f.reply }) = cc (process, c, r) in
+    let whole : ◌≡◌ {A = Entry} (record { process = e.process; command = e.command; reply = e.reply })
+    (record { process = f.process; command = f.command; reply = f.reply }) = cc (process, c, r) in
     whole
 
 pub one_next : (p p' : ℕ × ℕ) → FitsNext p → FitsNext p' → line_of (next_words p) ≡ line_of (next_words p') → p ≡ p'
@@ -166,7 +234,8 @@ one_next p p' h k e =
     let whole : ◌≡◌ {A = ℕ × ℕ} (p.0, p.1) (p'.0, p'.1) = cc (e_0, e_1) in
     whole
 
-pub one_driver : (d d' : DriverSpec) → FitsDriver d → FitsDriver d' → line_of (driver_words d) ≡ line_of (driver_words d') → d ≡ d'
+pub one_driver : (d d' : DriverSpec) → FitsDriver d → FitsDriver d'
+    → line_of (driver_words d) ≡ line_of (driver_words d') → d ≡ d'
 one_driver d d' h k e =
     let all = same_words (driver_words d) (driver_words d') (driver_spelled d h).0 (driver_spelled d' k).0 e in
     let e_name : d.name ≡ d'.name = cc all in
@@ -180,12 +249,30 @@ one_driver d d' h k e =
     let e_low = same_number d.low d'.low h.low k.low w_low in
     let w_max : decimal d.max ≡ decimal d'.max = cc all in
     let e_max = same_number d.max d'.max h.max k.max w_max in
-    let whole : ◌≡◌ {A = DriverSpec} (record { name = d.name; kind = d.kind; minors = d.minors; high = d.high; low = d.low; max = d.max }) (record { name = d'.name; kind = d'.kind; minors = d'.minors; high = d'.high; low = d'.low; max = d'.max }) = cc (e_name, e_kind, e_minors, e_high, e_low, e_max) in
+    let whole : ◌≡◌ {A = DriverSpec} (record {
+      name = d.name;
+      kind = d.kind;
+      minors = d.minors;
+      high = d.high;
+      low = d.low;
+      max = d.max;
+    }) (record {
+      name = d'.name;
+      kind = d'.kind;
+      minors = d'.minors;
+      high =
+          d'.high;
+      low = d'.low;
+      max = d'.max;
+    }) = cc (e_name, e_kind, e_minors, e_high, e_low, e_max) in
     whole
 
-pub one_descriptor : (d d' : DescriptorLine) → FitsDescriptor d → FitsDescriptor d' → line_of (descriptor_words d) ≡ line_of (descriptor_words d') → d ≡ d'
+pub one_descriptor : (d d' : DescriptorLine) → FitsDescriptor d → FitsDescriptor d'
+    → line_of (descriptor_words d) ≡ line_of (descriptor_words d') → d ≡ d'
 one_descriptor d d' h k e =
-    let all = same_words (descriptor_words d) (descriptor_words d') (descriptor_spelled d h).0 (descriptor_spelled d' k).0 e in
+    let all =
+    same_words (descriptor_words d) (descriptor_words d') (descriptor_spelled d h).0
+    (descriptor_spelled d' k).0 e in
     let w_process : decimal d.process ≡ decimal d'.process = cc all in
     let e_process = same_number d.process d'.process (omega (arith, h.process)) (omega (arith, k.process)) w_process in
     let w_fd : decimal d.fd ≡ decimal d'.fd = cc all in
@@ -193,7 +280,18 @@ one_descriptor d d' h k e =
     let e_driver : d.driver ≡ d'.driver = cc all in
     let w_minor : decimal d.minor ≡ decimal d'.minor = cc all in
     let e_minor = same_number d.minor d'.minor h.minor k.minor w_minor in
-    let whole : ◌≡◌ {A = DescriptorLine} (record { process = d.process; fd = d.fd; driver = d.driver; minor = d.minor }) (record { process = d'.process; fd = d'.fd; driver = d'.driver; minor = d'.minor }) = cc (e_process, e_fd, e_driver, e_minor) in
+    let whole : ◌≡◌ {A = DescriptorLine} (record {
+      process = d.process;
+      fd = d.fd;
+      driver = d.driver;
+      minor = d.minor;
+    }) (record {
+      process = d'.process;
+      fd = d'.fd;
+      driver = d'.driver;
+      minor =
+          d'.minor;
+    }) = cc (e_process, e_fd, e_driver, e_minor) in
     whole
 
 pub one_link : (l l' : LinkLine) → FitsLink l → FitsLink l' → line_of (link_words l) ≡ line_of (link_words l') → l ≡ l'
@@ -209,10 +307,27 @@ one_link l l' h k e =
     let e_lower_minor = same_number l.lower_minor l'.lower_minor h.lower_minor k.lower_minor w_lower_minor in
     let w_kind : link_kind_word l.kind ≡ link_kind_word l'.kind = cc all in
     let e_kind = same_link_kind l.kind l'.kind w_kind in
-    let whole : ◌≡◌ {A = LinkLine} (record { id = l.id; ctl_driver = l.ctl_driver; ctl_minor = l.ctl_minor; lower_driver = l.lower_driver; lower_minor = l.lower_minor; kind = l.kind }) (record { id = l'.id; ctl_driver = l'.ctl_driver; ctl_minor = l'.ctl_minor; lower_driver = l'.lower_driver; lower_minor = l'.lower_minor; kind = l'.kind }) = cc (e_id, e_ctl_driver, e_ctl_minor, e_lower_driver, e_lower_minor, e_kind) in
+    let whole : ◌≡◌ {A = LinkLine} (record {
+      id = l.id;
+      ctl_driver = l.ctl_driver;
+      ctl_minor = l.ctl_minor;
+      lower_driver = l.lower_driver;
+      lower_minor = l.lower_minor;
+      kind = l.kind;
+    })
+    (record {
+      id = l'.id;
+      ctl_driver = l'.ctl_driver;
+      ctl_minor = l'.ctl_minor;
+      lower_driver = l'.lower_driver;
+      lower_minor = l'.lower_minor;
+      kind = l'.kind;
+    }) = cc
+    (e_id, e_ctl_driver, e_ctl_minor, e_lower_driver, e_lower_minor, e_kind) in
     whole
 
-pub one_bind : (b b' : BindingLine) → FitsBinding b → FitsBinding b' → line_of (bind_words b) ≡ line_of (bind_words b') → b ≡ b'
+pub one_bind : (b b' : BindingLine) → FitsBinding b → FitsBinding b'
+    → line_of (bind_words b) ≡ line_of (bind_words b') → b ≡ b'
 one_bind b b' h k e =
     let all = same_words (bind_words b) (bind_words b') (bind_spelled b h).0 (bind_spelled b' k).0 e in
     let e_driver : b.driver ≡ b'.driver = cc all in
@@ -220,10 +335,12 @@ one_bind b b' h k e =
     let e_addr = same_number b.addr b'.addr h.addr k.addr w_addr in
     let w_minor : decimal b.minor ≡ decimal b'.minor = cc all in
     let e_minor = same_number b.minor b'.minor h.minor k.minor w_minor in
-    let whole : ◌≡◌ {A = BindingLine} (record { driver = b.driver; addr = b.addr; minor = b.minor }) (record { driver = b'.driver; addr = b'.addr; minor = b'.minor }) = cc (e_driver, e_addr, e_minor) in
+    let whole : ◌≡◌ {A = BindingLine} (record { driver = b.driver; addr = b.addr; minor = b.minor })
+    (record { driver = b'.driver; addr = b'.addr; minor = b'.minor }) = cc (e_driver, e_addr, e_minor) in
     whole
 
-pub one_route : (r r' : RouteLine) → FitsRoute r → FitsRoute r' → line_of (route_words r) ≡ line_of (route_words r') → r ≡ r'
+pub one_route : (r r' : RouteLine) → FitsRoute r → FitsRoute r'
+    → line_of (route_words r) ≡ line_of (route_words r') → r ≡ r'
 one_route r r' h k e =
     let all = same_words (route_words r) (route_words r') (route_spelled r h).0 (route_spelled r' k).0 e in
     let e_driver : r.driver ≡ r'.driver = cc all in
@@ -231,7 +348,8 @@ one_route r r' h k e =
     let e_addr = same_number r.addr r'.addr h.addr k.addr w_addr in
     let w_id : decimal r.id ≡ decimal r'.id = cc all in
     let e_id = same_number r.id r'.id h.id k.id w_id in
-    let whole : ◌≡◌ {A = RouteLine} (record { driver = r.driver; addr = r.addr; id = r.id }) (record { driver = r'.driver; addr = r'.addr; id = r'.id }) = cc (e_driver, e_addr, e_id) in
+    let whole : ◌≡◌ {A = RouteLine} (record { driver = r.driver; addr = r.addr; id = r.id })
+    (record { driver = r'.driver; addr = r'.addr; id = r'.id }) = cc (e_driver, e_addr, e_id) in
     whole
 
 pub one_full : (f f' : FullLine) → FitsFull f → FitsFull f' → line_of (full_words f) ≡ line_of (full_words f') → f ≡ f'
@@ -242,10 +360,12 @@ one_full f f' h k e =
     let e_minor = same_number f.minor f'.minor h.minor k.minor w_minor in
     let w_side : side_word f.side ≡ side_word f'.side = cc all in
     let e_side = same_side f.side f'.side w_side in
-    let whole : ◌≡◌ {A = FullLine} (record { driver = f.driver; minor = f.minor; side = f.side }) (record { driver = f'.driver; minor = f'.minor; side = f'.side }) = cc (e_driver, e_minor, e_side) in
+    let whole : ◌≡◌ {A = FullLine} (record { driver = f.driver; minor = f.minor; side = f.side })
+    (record { driver = f'.driver; minor = f'.minor; side = f'.side }) = cc (e_driver, e_minor, e_side) in
     whole
 
-pub one_message : (m m' : MessageLine) → FitsMessage m → FitsMessage m' → line_of (message_words m) ≡ line_of (message_words m') → m ≡ m'
+pub one_message : (m m' : MessageLine) → FitsMessage m → FitsMessage m'
+    → line_of (message_words m) ≡ line_of (message_words m') → m ≡ m'
 one_message m m' h k e =
     let all = same_words (message_words m) (message_words m') (message_spelled m h).0 (message_spelled m' k).0 e in
     let e_driver : m.driver ≡ m'.driver = cc all in
@@ -259,5 +379,18 @@ one_message m m' h k e =
     let e_message_addr = same_number m.message.addr m'.message.addr h.addr k.addr w_message_addr in
     let w_message_bytes : hex_word m.message.bytes ≡ hex_word m'.message.bytes = cc all in
     let e_message_bytes = same_bytes m.message.bytes m'.message.bytes h.bytes k.bytes w_message_bytes in
-    let whole : ◌≡◌ {A = MessageLine} (record { driver = m.driver; minor = m.minor; side = m.side; message = record { serial = m.message.serial; addr = m.message.addr; bytes = m.message.bytes } }) (record { driver = m'.driver; minor = m'.minor; side = m'.side; message = record { serial = m'.message.serial; addr = m'.message.addr; bytes = m'.message.bytes } }) = cc (e_driver, e_minor, e_side, e_message_serial, e_message_addr, e_message_bytes) in
+    let whole : ◌≡◌ {A = MessageLine} (record {
+      driver = m.driver;
+      minor = m.minor;
+      side = m.side;
+      message = record { serial = m.message.serial; addr = m.message.addr; bytes = m.message.bytes };
+    })
+    (record {
+      driver = m'.driver;
+      minor = m'.minor;
+      side = m'.side;
+      message =
+          record { serial = m'.message.serial; addr = m'.message.addr; bytes = m'.message.bytes };
+    }) = cc
+    (e_driver, e_minor, e_side, e_message_serial, e_message_addr, e_message_bytes) in
     whole

@@ -1,5 +1,6 @@
 pub mod WritingLemmas
 pub mod CutLemmas
+pub mod LineLemmas
 pub mod NumberLemmas
 pub mod WordLemmas
 pub mod HexLemmas
@@ -7,7 +8,9 @@ pub mod EntryLemmas
 pub mod ReplyLemmas
 pub mod CommandLemmas
 pub mod PlainLemmas
-pub mod SameLemmas
+pub mod SameWordLemmas
+pub mod SameCommandLemmas
+pub mod SameReplyLemmas
 pub mod LawLemmas
 pub mod DecidedLemmas
 pub mod DecidedWordLemmas

@@ -1,5 +1,6 @@
 -- The words of values are of bytes that can be seen, and none but an entry's has an equals sign.
-use Rattle.std.proofs.Common.{◌≡◌, ◌≢◌, ℕ, ◌/◌, ◌%◌, ◌<◌, ◌≤◌, Bool, true, false, ◌&&◌, List, [], ◌∷◌, ◌++◌, length, map, arith, rules}
+use Rattle.std.proofs.Common.{◌≡◌, ◌≢◌, ℕ, ◌/◌, ◌%◌, ◌<◌, ◌≤◌, Bool, true, false, ◌&&◌, List, [], ◌∷◌}
+use Rattle.std.proofs.Common.{length, map, arith, rules}
 use Rattle.std.specs.List.{list_all, AllByRecursion}
 use Rattle.std.specs.Fmt.{decimal}
 use Rattle.std.specs.Str.{all_ascii_digits}
@@ -20,8 +21,8 @@ use Rattle.smx_types.specs.declared.reply.Reply.TheVariants as reply
 use Rattle.smx_words.specs.HexWords.{hex_word}
 use Rattle.smx_words.specs.Spellable.{FitsBytes, FitsCommand, FitsName, FitsNumber, FitsReply, FitsWhich}
 use Rattle.smx_words.specs.Spelling.{command_words, fault_words, reply_words, which_word, sides_word}
-use Rattle.smx_words.specs.Words.{EQUALS, IsFree, line_of}
-use Rattle.smx_words.proofs.HexLemmas.{digit, digit_is, digit_range}
+use Rattle.smx_words.specs.Words.{EQUALS, IsFree, IsWord}
+use Rattle.smx_words.proofs.HexLemmas.{digit, digit_is, digit_range, long}
 use Rattle.smx_words.proofs.NumberLemmas.{decimal_digits}
 
 -- a byte that can be seen, and no equals sign
@@ -34,7 +35,10 @@ IsPlain w = (0 < length w) × AllByRecursion IsPlainByte w
 
 digits_plain : (w : List ℕ) → all_ascii_digits w ≡ true → AllByRecursion IsPlainByte w
 digits_plain [] h = tt
-digits_plain (b ∷ w) h = ((grind (arith, nat_tests), grind (arith, nat_tests), λ e. no_sign b w e h), digits_plain w (grind (arith, nat_tests))) where
+digits_plain (b ∷ w) h = (
+  (grind (arith, nat_tests), grind (arith, nat_tests), λ e. no_sign b w e h),
+  digits_plain w (grind (arith, nat_tests)),
+) where
   no_sign : (b : ℕ) (w : List ℕ) → b ≡ 61 → all_ascii_digits (b ∷ w) ≡ true → ⊥
   no_sign b w e h = grind (arith, nat_tests)
 
@@ -43,7 +47,10 @@ number_plain n fits = (decimal_nonempty n (omega arith), digits_plain (decimal n
 
 name_bytes_plain : (w : List ℕ) → list_all is_name_byte w ≡ true → AllByRecursion IsPlainByte w
 name_bytes_plain [] h = tt
-name_bytes_plain (b ∷ w) h = ((grind (arith, nat_tests), grind (arith, nat_tests), λ e. no_sign b w e h), name_bytes_plain w (grind (arith, nat_tests))) where
+name_bytes_plain (b ∷ w) h = (
+  (grind (arith, nat_tests), grind (arith, nat_tests), λ e. no_sign b w e h),
+  name_bytes_plain w (grind (arith, nat_tests)),
+) where
   no_sign : (b : ℕ) (w : List ℕ) → b ≡ 61 → list_all is_name_byte (b ∷ w) ≡ true → ⊥
   no_sign b w e h = grind (arith, nat_tests)
 
@@ -75,15 +82,14 @@ encoded_plain (b ∷ bs) h =
     let small = h.0 in
     let high : b / 16 < 16 = omega arith in
     let low : b % 16 < 16 = omega arith in
-    rw (digit_is (b / 16) high, digit_is (b % 16) low) (digit_plain (b / 16) high, (digit_plain (b % 16) low, encoded_plain bs h.1))
-
-some_digits : (b : ℕ) (bs : List ℕ) → 0 < length (encode_lower (b ∷ bs))
-unfolding encode_with
-some_digits b bs = omega arith
+    rw (digit_is (b / 16) high, digit_is (b % 16) low) (
+      digit_plain (b / 16) high,
+      (digit_plain (b % 16) low, encoded_plain bs h.1),
+    )
 
 pub hex_plain : (bs : List ℕ) → FitsBytes bs → IsPlain (hex_word bs)
 hex_plain [] fits = search rules
-hex_plain (b ∷ bs) fits = (some_digits b bs, encoded_plain (b ∷ bs) fits)
+hex_plain (b ∷ bs) fits = (omega (arith, long b bs), encoded_plain (b ∷ bs) fits)
 
 -- ---- commands and replies
 
@@ -99,12 +105,17 @@ command_plain (command.Unlink n x) fits = (search rules, (number_plain n fits.0,
 command_plain (command.Punlink n x) fits = (search rules, (number_plain n fits.0, (which_plain x fits.1, tt)))
 command_plain (command.Bind n m) fits = (search rules, (number_plain n fits.0, (number_plain m fits.1, tt)))
 command_plain (command.Unbind n) fits = (search rules, (number_plain n fits, tt))
-command_plain (command.Route n m k) fits = (search rules, (number_plain n fits.0, (number_plain m fits.1, (number_plain k fits.2, tt))))
+command_plain (command.Route n m k) fits =
+    (search rules, (number_plain n fits.0, (number_plain m fits.1, (number_plain k fits.2, tt))))
 command_plain (command.Unroute n m) fits = (search rules, (number_plain n fits.0, (number_plain m fits.1, tt)))
-command_plain (command.Write n m bs) fits = (search rules, (number_plain n fits.0, (number_plain m fits.1, (hex_plain bs fits.2, tt))))
+command_plain (command.Write n m bs) fits =
+    (search rules, (number_plain n fits.0, (number_plain m fits.1, (hex_plain bs fits.2, tt))))
 command_plain (command.Read n) fits = (search rules, (number_plain n fits, tt))
 command_plain (command.Flush n s) fits = (search rules, (number_plain n fits, (sides_plain s, tt)))
-command_plain (command.Inject d n m bs) fits = (search rules, (name_plain d fits.0, (number_plain n fits.1, (number_plain m fits.2, (hex_plain bs fits.3, tt)))))
+command_plain (command.Inject d n m bs) fits = (
+  search rules,
+  (name_plain d fits.0, (number_plain n fits.1, (number_plain m fits.2, (hex_plain bs fits.3, tt)))),
+)
 command_plain (command.Transmit d n) fits = (search rules, (name_plain d fits.0, (number_plain n fits.1, tt)))
 
 pub some_command : (c : Command) → 0 < length (command_words c)
@@ -153,7 +164,8 @@ pub reply_plain : (r : Reply) → FitsReply r → AllByRecursion IsPlain (reply_
 reply_plain (reply.Fd n m) fits = (search rules, (number_plain n fits.0, (number_plain m fits.1, tt)))
 reply_plain (reply.Id n) fits = (search rules, (number_plain n fits, tt))
 reply_plain (reply.Took n) fits = (search rules, (number_plain n fits, tt))
-reply_plain (reply.Got n m bs) fits = (search rules, (number_plain n fits.0, (number_plain m fits.1, (hex_plain bs fits.2, tt))))
+reply_plain (reply.Got n m bs) fits =
+    (search rules, (number_plain n fits.0, (number_plain m fits.1, (hex_plain bs fits.2, tt))))
 reply_plain (reply.Done ns) fits = (search rules, numbers_plain ns fits)
 reply_plain (reply.Fault f) fits = (fault_plain f).1
 
@@ -165,20 +177,23 @@ some_reply (reply.Got n m bs) = omega arith
 some_reply (reply.Done ns) = omega arith
 some_reply (reply.Fault f) = (fault_plain f).0
 
--- ---- so no equals sign stands in their lines
+-- ---- so they are words, and no equals sign stands in their lines
+
+seen : (w : List ℕ) → AllByRecursion IsPlainByte w → AllByRecursion (λ b. (0x21 ≤ b) × (b ≤ 0x7E)) w
+seen [] h = tt
+seen (b ∷ w) h = ((h.0.0, h.0.1), seen w h.1)
+
+pub plain_word : (w : List ℕ) → IsPlain w → IsWord w
+plain_word w h = (h.0, seen w h.1)
+
+pub plain_words : (ws : List (List ℕ)) → AllByRecursion IsPlain ws → AllByRecursion IsWord ws
+plain_words [] h = tt
+plain_words (w ∷ ws) h = (plain_word w h.0, plain_words ws h.1)
 
 plain_free : (w : List ℕ) → AllByRecursion IsPlainByte w → IsFree EQUALS w
 plain_free [] h = tt
 plain_free (b ∷ w) h = (h.0.2, plain_free w h.1)
 
-pub free_append : (byte : ℕ) (xs ys : List ℕ) → IsFree byte xs → IsFree byte ys → IsFree byte (xs ++ ys)
-free_append byte [] ys h k = k
-free_append byte (x ∷ xs) ys h k = (h.0, free_append byte xs ys h.1 k)
-
-pub space_free : IsFree EQUALS (32 ∷ [])
-space_free = search rules
-
-pub line_free : (ws : List (List ℕ)) → AllByRecursion IsPlain ws → IsFree EQUALS (line_of ws)
-line_free [] h = tt
-line_free (w ∷ []) h = plain_free w h.0.1
-line_free (w ∷ v ∷ ws) h = free_append EQUALS w (32 ∷ line_of (v ∷ ws)) (plain_free w h.0.1) (space_free.0, line_free (v ∷ ws) h.1)
+pub plain_words_free : (ws : List (List ℕ)) → AllByRecursion IsPlain ws → AllByRecursion (IsFree EQUALS) ws
+plain_words_free [] h = tt
+plain_words_free (w ∷ ws) h = (plain_free w h.0.1, plain_words_free ws h.1)

@@ -1,5 +1,6 @@
 -- The serials of a reply, and replies of one word or of a fault's.
-use Rattle.std.proofs.Common.{◌≡◌, ◌≢◌, Bool, ℕ, List, [], ◌∷◌, ◌++◌, map, Option, Some, None, Result, Ok, Err, refl, sym, ap, ◌∙◌, append_assoc, arith}
+use Rattle.std.proofs.Common.{◌≡◌, ◌≢◌, Bool, ℕ, List, [], ◌∷◌, ◌++◌, map, Option, Some, None, Result, Ok}
+use Rattle.std.proofs.Common.{Err, refl, sym, ap, ◌∙◌, append_assoc, arith}
 use Rattle.std.specs.List.{AllByRecursion}
 use Rattle.std.specs.Fmt.{decimal}
 use Rattle.std.specs.Prelude.{codes, is_some, IfErr, IfOk, MatchBool, MatchOption, MatchResult}
@@ -33,32 +34,46 @@ no_space : (m n : ℕ) (after : List ℕ) → FitsNumber m → decimal n ++ SPAC
 no_space m n after fits_m bad = no_space_in (decimal n) after (decimal m) (number_free m fits_m) bad
 
 -- one more serial before a space
-pub one_more : (line before rest after : List ℕ) (n : ℕ) → AreThen line before rest → FitsNumber n → rest ≡ decimal n ++ SPACE ∷ after → AreThen line (before ++ n ∷ []) after
-one_more line before rest after n h fits is = record { fit = fit_append before (n ∷ []) h.fit (fits, tt); then = then; only = only } where
-  fit_append : (xs ys : List ℕ) → AllByRecursion FitsNumber xs → AllByRecursion FitsNumber ys → AllByRecursion FitsNumber (xs ++ ys)
-  fit_append [] ys a b = b
-  fit_append (x ∷ xs) ys a b = (a.0, fit_append xs ys a.1 b)
+pub one_more : (line before rest after : List ℕ) (n : ℕ) → AreThen line before rest → FitsNumber n
+    → rest ≡ decimal n ++ SPACE ∷ after → AreThen line (before ++ n ∷ []) after
+one_more line before rest after n h fits is =
+    record { fit = fit_append before (n ∷ []) h.fit (fits, tt); then = then; only = only } where
+      fit_append : (xs ys : List ℕ) → AllByRecursion FitsNumber xs → AllByRecursion FitsNumber ys
+          → AllByRecursion FitsNumber (xs ++ ys)
+      fit_append [] ys a b = b
+      fit_append (x ∷ xs) ys a b = (a.0, fit_append xs ys a.1 b)
 
-  then : (more : List ℕ) → Spell after more → Spell line ((before ++ n ∷ []) ++ more)
-  then [] s = absurd (omega (arith, s.0.0))
-  then (m ∷ more) s =
-      let all = h.then (n ∷ m ∷ more) ((omega arith, (fits, s.0.1)), is ∙ ap (λ (x : List ℕ). decimal n ++ SPACE ∷ x) s.1) in
-      rw (append_assoc before (n ∷ []) (m ∷ more)) all
+      then : (more : List ℕ) → Spell after more → Spell line ((before ++ n ∷ []) ++ more)
+      then [] s = absurd (omega (arith, s.0.0))
+      then (m ∷ more) s =
+          let all =
+          h.then (n ∷ m ∷ more) (
+            (omega arith, (fits, s.0.1)),
+            is ∙ ap (λ (x : List ℕ). decimal n ++ SPACE ∷ x) s.1,
+          ) in
+          rw (append_assoc before (n ∷ []) (m ∷ more)) all
 
-  only : (all : List ℕ) → Spell line all → (more : List ℕ) × (all ≡ (before ++ n ∷ []) ++ more) × Spell after more
-  only all s = let o = h.only all s in by_rest o.0 o.1 o.2 where
-    by_rest : (more : List ℕ) → all ≡ before ++ more → Spell rest more → (more : List ℕ) × (all ≡ (before ++ n ∷ []) ++ more) × Spell after more
-    by_rest [] e t = absurd (omega (arith, t.0.0))
-    by_rest (m ∷ []) e t = absurd (no_space m n after t.0.1.0 (sym is ∙ t.1))
-    by_rest (m ∷ k ∷ more) e t =
-        let words = apart SPACE (decimal m) (decimal n) (line_of (map decimal (k ∷ more))) after (number_free m t.0.1.0) (number_free n fits) (sym t.1 ∙ is) in
-        let same = same_number m n t.0.1.0 fits words.0 in
-        (k ∷ more, e ∙ ap (λ (x : ℕ). before ++ x ∷ k ∷ more) same ∙ sym (append_assoc before (n ∷ []) (k ∷ more)), ((omega arith, t.0.1.1), sym words.1))
+      only : (all : List ℕ) → Spell line all → (more : List ℕ) × (all ≡ (before ++ n ∷ []) ++ more) × Spell after more
+      only all s = let o = h.only all s in by_rest o.0 o.1 o.2 where
+        by_rest : (more : List ℕ) → all ≡ before ++ more → Spell rest more
+            → (more : List ℕ) × (all ≡ (before ++ n ∷ []) ++ more) × Spell after more
+        by_rest [] e t = absurd (omega (arith, t.0.0))
+        by_rest (m ∷ []) e t = absurd (no_space m n after t.0.1.0 (sym is ∙ t.1))
+        by_rest (m ∷ k ∷ more) e t =
+            let words =
+            apart SPACE (decimal m) (decimal n) (line_of (map decimal (k ∷ more))) after
+            (number_free m t.0.1.0) (number_free n fits) (sym t.1 ∙ is) in
+            let same = same_number m n t.0.1.0 fits words.0 in (
+              k ∷ more,
+              e ∙ ap (λ (x : ℕ). before ++ x ∷ k ∷ more) same ∙ sym (append_assoc before (n ∷ []) (k ∷ more)),
+              ((omega arith, t.0.1.1), sym words.1),
+            )
 
 -- the last serial, behind which no space stands
 pub last : {E : Type 0} (line before rest : List ℕ) (r : Result (Option (List ℕ)) E) → AreThen line before rest
     → ((n : ℕ) (after : List ℕ) → FitsNumber n → rest ≢ decimal n ++ SPACE ∷ after)
-    → IfOk r (λ o. MatchOption o ((n : ℕ) → FitsNumber n → rest ≢ decimal n) (λ all. (n : ℕ) × FitsNumber n × (rest ≡ decimal n) × (all ≡ before ++ n ∷ [])))
+    → IfOk r (λ o. MatchOption o ((n : ℕ) → FitsNumber n
+    → rest ≢ decimal n) (λ all. (n : ℕ) × FitsNumber n × (rest ≡ decimal n) × (all ≡ before ++ n ∷ [])))
     → IfOk r (IsReadAs FitsSerials (map decimal) line)
 last line before rest (Err e) h alone one = tt
 last line before rest (Ok None) h alone one = λ all fits e. let o = h.only all (fits, e) in by_rest o.0 o.2 where
@@ -69,10 +84,12 @@ last line before rest (Ok None) h alone one = λ all fits e. let o = h.only all 
 last line before rest (Ok (Some all)) h alone one = rw one.3 (h.then (one.0 ∷ []) ((omega arith, (one.1, tt)), one.2))
 
 -- the serials of the rest are the last of the line's, and where the rest has none the line has none
-pub went_on : (line before rest : List ℕ) → AreThen line before rest → IsLineOf FitsSerials (map decimal) rest → IsLineOf FitsSerials (map decimal) line
+pub went_on : (line before rest : List ℕ) → AreThen line before rest → IsLineOf FitsSerials (map decimal) rest
+    → IsLineOf FitsSerials (map decimal) line
 went_on line before rest h more = let all = h.then more.0 (more.1, more.2) in (before ++ more.0, all.0, all.1)
 
-pub none_left : (line before rest : List ℕ) → AreThen line before rest → ((all : List ℕ) → FitsSerials all → rest ≢ line_of (map decimal all))
+pub none_left : (line before rest : List ℕ) → AreThen line before rest
+    → ((all : List ℕ) → FitsSerials all → rest ≢ line_of (map decimal all))
     → (all : List ℕ) → FitsSerials all → line ≢ line_of (map decimal all)
 none_left line before rest h none all fits e = let o = h.only all (fits, e) in none o.0 o.2.0 o.2.1
 
@@ -80,29 +97,39 @@ none_left line before rest h none all fits e = let o = h.only all (fits, e) in n
 pub last_is : (rest : List ℕ) (n : ℕ) → FitsNumber n → rest ≡ decimal n → IsLineOf FitsSerials (map decimal) rest
 last_is rest n fits is = (n ∷ [], (omega arith, (fits, tt)), is)
 
-last_is_none : (rest : List ℕ) → ((n : ℕ) (after : List ℕ) → FitsNumber n → rest ≢ decimal n ++ SPACE ∷ after) → ((n : ℕ) → FitsNumber n → rest ≢ decimal n)
+last_is_none : (rest : List ℕ) → ((n : ℕ) (after : List ℕ) → FitsNumber n → rest ≢ decimal n ++ SPACE ∷ after)
+    → ((n : ℕ) → FitsNumber n → rest ≢ decimal n)
     → (all : List ℕ) → FitsSerials all → rest ≢ line_of (map decimal all)
 last_is_none rest alone one [] fits e = omega (arith, fits.0)
 last_is_none rest alone one (m ∷ []) fits e = one m fits.1.0 e
 last_is_none rest alone one (m ∷ k ∷ more) fits e = alone m (line_of (map decimal (k ∷ more))) fits.1.0 e
 
-pub tells_last : (line : List ℕ) (before : List ℕ) (rest : List ℕ) (o : Option ℕ) (r : Bool) → r ≡ is_some o → AreThen line before rest
-    → ((n : ℕ) (after : List ℕ) → FitsNumber n → rest ≢ decimal n ++ SPACE ∷ after) → IsFoundIn FitsNumber decimal rest o
-    → MatchBool r (IsLineOf FitsSerials (map decimal) line) ((all : List ℕ) → FitsSerials all → line ≢ line_of (map decimal all))
-tells_last line before rest (Some n) r test h alone found = rw test (went_on line before rest h (last_is rest n found.0 found.1))
-tells_last line before rest None r test h alone found = rw test (none_left line before rest h (last_is_none rest alone found))
+pub tells_last : (line : List ℕ) (before : List ℕ) (rest : List ℕ) (o : Option ℕ) (r : Bool) → r ≡ is_some o
+    → AreThen line before rest
+    → ((n : ℕ) (after : List ℕ) → FitsNumber n → rest ≢ decimal n ++ SPACE ∷ after)
+    → IsFoundIn FitsNumber decimal rest o
+    → MatchBool r (IsLineOf FitsSerials (map decimal) line) ((all : List ℕ) → FitsSerials all
+    → line ≢ line_of (map decimal all))
+tells_last line before rest (Some n) r test h alone found =
+    rw test (went_on line before rest h (last_is rest n found.0 found.1))
+tells_last line before rest None r test h alone found =
+    rw test (none_left line before rest h (last_is_none rest alone found))
 
 -- a reply of dropped serials
-pub done_line : (rest : List ℕ) → IsLineOf FitsSerials (map decimal) rest → IsLineOf FitsReply reply_words (line_of (codes "done" ∷ rest ∷ []))
+pub done_line : (rest : List ℕ) → IsLineOf FitsSerials (map decimal) rest
+    → IsLineOf FitsReply reply_words (line_of (codes "done" ∷ rest ∷ []))
 done_line rest h = by_serials h.0 h.1 h.2 where
-  by_serials : (ns : List ℕ) → FitsSerials ns → rest ≡ line_of (map decimal ns) → IsLineOf FitsReply reply_words (line_of (codes "done" ∷ rest ∷ []))
+  by_serials : (ns : List ℕ) → FitsSerials ns → rest ≡ line_of (map decimal ns)
+      → IsLineOf FitsReply reply_words (line_of (codes "done" ∷ rest ∷ []))
   by_serials [] fits e = absurd (omega (arith, fits.0))
   by_serials (n ∷ ns) fits e = (reply.Done (n ∷ ns), fits.1, ap (λ (x : List ℕ). codes "done" ++ SPACE ∷ x) e)
 
 -- ---- a reply that stands alone
 
-pub standing_alone : (line : List ℕ) (r : Option Reply) → ((v : ReplyVerb) (after : List ℕ) → FitsAlways v → line ≢ reply_verb_word v ++ SPACE ∷ after)
-    → MatchOption r ((line ≢ codes "done") × ((f : Fault) → line ≢ line_of (fault_words f))) (λ x. FitsReply x × (line ≡ line_of (reply_words x)))
+pub standing_alone : (line : List ℕ) (r : Option Reply)
+    → ((v : ReplyVerb) (after : List ℕ) → FitsAlways v → line ≢ reply_verb_word v ++ SPACE ∷ after)
+    → MatchOption r ((line ≢ codes "done") × ((f : Fault) → line ≢ line_of (fault_words f)))
+    (λ x. FitsReply x × (line ≡ line_of (reply_words x)))
     → IsReadAs FitsReply reply_words line r
 standing_alone line (Some x) none found = found
 standing_alone line None none found = nothing where
@@ -115,13 +142,16 @@ standing_alone line None none found = nothing where
   nothing (reply.Done (n ∷ ns)) fits e = none reply_verb.Done _ tt e
   nothing (reply.Fault f) fits e = found.1 f e
 
-pub last_wanted : {A E : Type 0} (line before rest : List ℕ) (r : Result A E) → AreThen line before rest → IfErr r (λ _. (n : ℕ) × FitsNumber n × (rest ≡ decimal n)) → IfErr r (λ _. IsLineOf FitsSerials (map decimal) line)
+pub last_wanted : {A E : Type 0} (line before rest : List ℕ) (r : Result A E) → AreThen line before rest
+    → IfErr r (λ _. (n : ℕ) × FitsNumber n × (rest ≡ decimal n))
+    → IfErr r (λ _. IsLineOf FitsSerials (map decimal) line)
 last_wanted line before rest (Ok o) h wanted = tt
 last_wanted line before rest (Err e) h wanted = went_on line before rest h (last_is rest wanted.0 wanted.1 wanted.2)
 
 -- no memory for a serial: the rest decides
 pub went_bad : {E : Type 0} (line before rest : List ℕ) (r : Result (Option (List ℕ)) E) → AreThen line before rest
-    → MatchResult r (λ o. (o ≡ None) × ((all : List ℕ) → FitsSerials all → rest ≢ line_of (map decimal all))) (λ _. IsLineOf FitsSerials (map decimal) rest)
+    → MatchResult r (λ o. (o ≡ None) × ((all : List ℕ) → FitsSerials all → rest ≢ line_of (map decimal all)))
+    (λ _. IsLineOf FitsSerials (map decimal) rest)
     → IfOk r (IsReadAs FitsSerials (map decimal) line) × IfErr r (λ _. IsLineOf FitsSerials (map decimal) line)
 went_bad line before rest (Err e) h m = (tt, went_on line before rest h m)
 went_bad line before rest (Ok None) h m = (none_left line before rest h m.1, tt)

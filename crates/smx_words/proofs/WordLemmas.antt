@@ -1,8 +1,5 @@
 -- Words have no space in them.
-use Rattle.std.proofs.Common.{◌≡◌, ℕ, Bool, true, false, ◌&&◌, List, [], ◌∷◌, ◌++◌, sym, ap, ◌∙◌, arith, rules}
-use Rattle.std.specs.List.{list_all}
-use Rattle.std.proofs.lemmas.Bool.Decides.{nat_tests}
-use Rattle.smx_types.specs.Names.{is_name_byte}
+use Rattle.std.proofs.Common.{◌≡◌, ℕ, List, ◌∷◌, ◌++◌, sym, ap, ◌∙◌, arith, rules}
 use Rattle.smx_types.specs.declared.driver.DriverKind.{DriverKind}
 use Rattle.smx_types.specs.declared.driver.DriverKind.TheVariants as kind
 use Rattle.smx_types.specs.declared.stream.Side.{Side}
@@ -16,20 +13,11 @@ use Rattle.smx_words.specs.Spelling.{kind_word, side_word}
 use Rattle.smx_words.specs.Verbs.{verb_word, reply_verb_word}
 use Rattle.smx_words.specs.Words.{SPACE, IsFree}
 use Rattle.smx_words.proofs.CutLemmas.{apart}
-
-name_bytes_free : (w : List ℕ) → list_all is_name_byte w ≡ true → IsFree SPACE w
-name_bytes_free [] h = tt
-name_bytes_free (b ∷ w) h = (λ e. space_is_none b w e h, name_bytes_free w (grind (arith, nat_tests))) where
-  space_is_none : (b : ℕ) (w : List ℕ) → b ≡ 32 → list_all is_name_byte (b ∷ w) ≡ true → ⊥
-  space_is_none b w e h = grind (arith, nat_tests)
-
-and_right : (a b c : Bool) → (a && (b && c)) ≡ true → c ≡ true
-and_right true true c h = h
-and_right true false c h = absurd cc
-and_right false b c h = absurd cc
+use Rattle.smx_words.proofs.LineLemmas.{seen_free}
+use Rattle.smx_words.proofs.PlainLemmas.{name_plain, plain_word}
 
 pub name_free : (n : List ℕ) → FitsName n → IsFree SPACE n
-name_free n fits = name_bytes_free n (and_right _ _ _ fits)
+name_free n fits = seen_free SPACE (omega arith) n (plain_word n (name_plain n fits)).1
 
 pub kind_free : (k : DriverKind) → FitsAlways k → IsFree SPACE (kind_word k)
 kind_free kind.Leaf fits = search rules
@@ -67,7 +55,13 @@ verb_free verb.Inject fits = search rules
 verb_free verb.Transmit fits = search rules
 
 -- the name before the first space, and no other
-pub first_name_is : (text word rest name : List ℕ) → IsFree SPACE word → text ≡ word ++ SPACE ∷ rest → FitsName name → word ≡ name
-    → FitsName name × (text ≡ name ++ SPACE ∷ rest) × ((x : List ℕ) (after : List ℕ) → FitsName x → text ≡ x ++ SPACE ∷ after → after ≡ rest)
-first_name_is text word rest name free is fits same =
-    (fits, is ∙ ap (λ (w : List ℕ). w ++ SPACE ∷ rest) same, λ x after h e. (apart SPACE x word after rest (name_free x h) free (sym e ∙ is)).1)
+pub first_name_is : (text word rest name : List ℕ) → IsFree SPACE word → text ≡ word ++ SPACE ∷ rest
+    → FitsName name → word ≡ name
+    → FitsName name × (text ≡ name ++ SPACE ∷ rest)
+    × ((x : List ℕ) (after : List ℕ) → FitsName x → text ≡ x ++ SPACE ∷ after → after ≡ rest)
+first_name_is text word rest name free is fits same = (
+  fits,
+  is ∙ ap (λ (w : List ℕ). w ++ SPACE ∷ rest) same,
+  λ x after h e.
+      (apart SPACE x word after rest (name_free x h) free (sym e ∙ is)).1,
+)

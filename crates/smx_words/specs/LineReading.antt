@@ -12,7 +12,8 @@ IsFoundIn {X} Fits spelling bytes None = (x : X) → Fits x → bytes ≢ spelli
 abbrev pub IsReadAs : {X : Type 0} → (X → Type 0) → (X → List (List ℕ)) → List ℕ → Option X → Type 0
 IsReadAs {X} Fits words_of line answer = IsFoundIn Fits (λ x. line_of (words_of x)) line answer
 
--- the value whose word begins the bytes, and all that stands behind the space after it, or nothing where no value's word begins them
+-- the value whose word begins the bytes, and all that stands behind the space after it, or nothing where no
+-- value's word begins them
 abbrev pub BeginsWith : {X : Type 0} → (X → Type 0) → (X → List ℕ) → List ℕ → Option (X × Bor (List ℕ)) → Type 0
 BeginsWith {X} Fits word_of bytes answer =
     MatchOption answer ((x : X) (after : List ℕ) → Fits x → bytes ≢ word_of x ++ SPACE ∷ after)

@@ -73,7 +73,8 @@ FitsCommand (command.Unroute fd addr) = FitsNumber fd × FitsNumber addr
 FitsCommand (command.Write fd addr bytes) = FitsNumber fd × FitsNumber addr × FitsBytes bytes
 FitsCommand (command.Read fd) = FitsNumber fd
 FitsCommand (command.Flush fd sides) = FitsNumber fd
-FitsCommand (command.Inject driver minor addr bytes) = FitsName driver × FitsNumber minor × FitsNumber addr × FitsBytes bytes
+FitsCommand (command.Inject driver minor addr bytes) =
+    FitsName driver × FitsNumber minor × FitsNumber addr × FitsBytes bytes
 FitsCommand (command.Transmit driver minor) = FitsName driver × FitsNumber minor
 
 -- serials of which there is one or more

@@ -55,7 +55,9 @@ link_kind_word link.Persistent = codes "plink"
 
 -- its name and kind, its minors, its high and its low water mark, and its longest message
 abbrev pub driver_words : DriverSpec → List (List ℕ)
-driver_words d = codes "driver" ∷ d.name ∷ kind_word d.kind ∷ decimal d.minors ∷ decimal d.high ∷ decimal d.low ∷ decimal d.max ∷ []
+driver_words d =
+    codes "driver" ∷ d.name ∷ kind_word d.kind ∷ decimal d.minors ∷ decimal d.high ∷ decimal
+    d.low ∷ decimal d.max ∷ []
 
 -- the words of a command, its own name first
 abbrev pub command_words : Command → List (List ℕ)
@@ -75,7 +77,8 @@ command_words (command.Unroute fd addr) = codes "unroute" ∷ decimal fd ∷ dec
 command_words (command.Write fd addr bytes) = codes "write" ∷ decimal fd ∷ decimal addr ∷ hex_word bytes ∷ []
 command_words (command.Read fd) = codes "read" ∷ decimal fd ∷ []
 command_words (command.Flush fd sides) = codes "flush" ∷ decimal fd ∷ sides_word sides ∷ []
-command_words (command.Inject driver minor addr bytes) = codes "inject" ∷ driver ∷ decimal minor ∷ decimal addr ∷ hex_word bytes ∷ []
+command_words (command.Inject driver minor addr bytes) =
+    codes "inject" ∷ driver ∷ decimal minor ∷ decimal addr ∷ hex_word bytes ∷ []
 command_words (command.Transmit driver minor) = codes "transmit" ∷ driver ∷ decimal minor ∷ []
 
 -- an error of errno(3), and a word that tells its causes apart
@@ -124,7 +127,9 @@ descriptor_words d = codes "fd" ∷ decimal d.process ∷ decimal d.fd ∷ d.dri
 
 -- a link: its id, its controlling stream, its lower stream, and its kind
 abbrev pub link_words : LinkLine → List (List ℕ)
-link_words l = codes "link" ∷ decimal l.id ∷ l.ctl_driver ∷ decimal l.ctl_minor ∷ l.lower_driver ∷ decimal l.lower_minor ∷ link_kind_word l.kind ∷ []
+link_words l =
+    codes "link" ∷ decimal l.id ∷ l.ctl_driver ∷ decimal l.ctl_minor ∷ l.lower_driver ∷ decimal
+    l.lower_minor ∷ link_kind_word l.kind ∷ []
 
 -- a binding: its driver and address, and the minor that it is bound to
 abbrev pub bind_words : BindingLine → List (List ℕ)
@@ -136,7 +141,9 @@ route_words r = codes "route" ∷ r.driver ∷ decimal r.addr ∷ decimal r.id �
 
 -- a queued message: its place, its serial and address, and its bytes
 abbrev pub message_words : MessageLine → List (List ℕ)
-message_words m = codes "msg" ∷ m.driver ∷ decimal m.minor ∷ side_word m.side ∷ decimal m.message.serial ∷ decimal m.message.addr ∷ hex_word m.message.bytes ∷ []
+message_words m =
+    codes "msg" ∷ m.driver ∷ decimal m.minor ∷ side_word m.side ∷ decimal m.message.serial ∷ decimal
+    m.message.addr ∷ hex_word m.message.bytes ∷ []
 
 -- a full place
 abbrev pub full_words : FullLine → List (List ℕ)

@@ -1,6 +1,6 @@
 -- Words, the lines that they make, and the parts of a text.
-use Rattle.std.specs.Prelude.{ℕ, ◌==◌, ◌<◌, ◌≤◌, ◌≢◌, List, [], ◌∷◌, ◌++◌, length}
-use Rattle.std.specs.List.{AllByRecursion, flat_map, join_with_byte, slice_split}
+use Rattle.std.specs.Prelude.{ℕ, ◌<◌, ◌≤◌, ◌≢◌, List, [], ◌∷◌, ◌++◌, length}
+use Rattle.std.specs.List.{AllByRecursion, flat_map, join_with_byte}
 
 -- what stands between two words
 abbrev pub SPACE : ℕ
@@ -33,7 +33,3 @@ line_of words = join_with_byte SPACE words
 -- a text: its lines, each with a line feed at its end
 abbrev pub text_of : List (List (List ℕ)) → List ℕ
 text_of lines = flat_map (λ words. line_of words ++ LINE_FEED ∷ []) lines
-
--- what stands between the separators; a line is whole where a part follows it
-abbrev pub split : ℕ → List ℕ → List (List ℕ)
-split separator bytes = slice_split (λ b. b == separator) bytes

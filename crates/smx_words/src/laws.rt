@@ -14,7 +14,8 @@ ghost use Rattle.smx_types.specs.declared.view.RouteLine.{RouteLine};
 ghost use Rattle.smx_words.specs.Spellable.{FitsDriver, FitsNumber, FitsCommand, FitsEntry, FitsNext};
 ghost use Rattle.smx_words.specs.Spellable.{FitsDescriptor, FitsLink, FitsBinding, FitsRoute, FitsMessage, FitsFull};
 ghost use Rattle.smx_words.specs.Spelling.{driver_words, process_words, command_words, entry_words, next_words};
-ghost use Rattle.smx_words.specs.Spelling.{descriptor_words, link_words, bind_words, route_words, message_words, full_words};
+ghost use Rattle.smx_words.specs.Spelling.{descriptor_words, link_words, bind_words, route_words};
+ghost use Rattle.smx_words.specs.Spelling.{message_words, full_words};
 ghost use Rattle.smx_words.specs.Words.{AreWords, IsWord, line_of};
 
 /// Each value that can be spelled is spelled by words, one or more.
@@ -40,15 +41,26 @@ pub fn lines_tell_words_apart()
 
 /// Values that can be spelled and make the same line are the same value.
 pub fn one_value_each()
-    ensures driver { (x y : DriverSpec) → FitsDriver x → FitsDriver y → line_of (driver_words x) ≡ line_of (driver_words y) → x ≡ y }
-    ensures process { (x y : ℕ) → FitsNumber x → FitsNumber y → line_of (process_words x) ≡ line_of (process_words y) → x ≡ y }
-    ensures command { (x y : Command) → FitsCommand x → FitsCommand y → line_of (command_words x) ≡ line_of (command_words y) → x ≡ y }
-    ensures entry { (x y : Entry) → FitsEntry x → FitsEntry y → line_of (entry_words x) ≡ line_of (entry_words y) → x ≡ y }
-    ensures next { (x y : ℕ × ℕ) → FitsNext x → FitsNext y → line_of (next_words x) ≡ line_of (next_words y) → x ≡ y }
-    ensures descriptor { (x y : DescriptorLine) → FitsDescriptor x → FitsDescriptor y → line_of (descriptor_words x) ≡ line_of (descriptor_words y) → x ≡ y }
-    ensures link { (x y : LinkLine) → FitsLink x → FitsLink y → line_of (link_words x) ≡ line_of (link_words y) → x ≡ y }
-    ensures bind { (x y : BindingLine) → FitsBinding x → FitsBinding y → line_of (bind_words x) ≡ line_of (bind_words y) → x ≡ y }
-    ensures route { (x y : RouteLine) → FitsRoute x → FitsRoute y → line_of (route_words x) ≡ line_of (route_words y) → x ≡ y }
-    ensures message { (x y : MessageLine) → FitsMessage x → FitsMessage y → line_of (message_words x) ≡ line_of (message_words y) → x ≡ y }
-    ensures full { (x y : FullLine) → FitsFull x → FitsFull y → line_of (full_words x) ≡ line_of (full_words y) → x ≡ y }
+    ensures driver { (x y : DriverSpec) → FitsDriver x → FitsDriver y
+        → line_of (driver_words x) ≡ line_of (driver_words y) → x ≡ y }
+    ensures process { (x y : ℕ) → FitsNumber x → FitsNumber y
+        → line_of (process_words x) ≡ line_of (process_words y) → x ≡ y }
+    ensures command { (x y : Command) → FitsCommand x → FitsCommand y
+        → line_of (command_words x) ≡ line_of (command_words y) → x ≡ y }
+    ensures entry { (x y : Entry) → FitsEntry x → FitsEntry y
+        → line_of (entry_words x) ≡ line_of (entry_words y) → x ≡ y }
+    ensures next { (x y : ℕ × ℕ) → FitsNext x → FitsNext y
+        → line_of (next_words x) ≡ line_of (next_words y) → x ≡ y }
+    ensures descriptor { (x y : DescriptorLine) → FitsDescriptor x → FitsDescriptor y
+        → line_of (descriptor_words x) ≡ line_of (descriptor_words y) → x ≡ y }
+    ensures link { (x y : LinkLine) → FitsLink x → FitsLink y
+        → line_of (link_words x) ≡ line_of (link_words y) → x ≡ y }
+    ensures bind { (x y : BindingLine) → FitsBinding x → FitsBinding y
+        → line_of (bind_words x) ≡ line_of (bind_words y) → x ≡ y }
+    ensures route { (x y : RouteLine) → FitsRoute x → FitsRoute y
+        → line_of (route_words x) ≡ line_of (route_words y) → x ≡ y }
+    ensures message { (x y : MessageLine) → FitsMessage x → FitsMessage y
+        → line_of (message_words x) ≡ line_of (message_words y) → x ≡ y }
+    ensures full { (x y : FullLine) → FitsFull x → FitsFull y
+        → line_of (full_words x) ≡ line_of (full_words y) → x ≡ y }
 {}

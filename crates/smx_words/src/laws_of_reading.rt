@@ -14,7 +14,8 @@ ghost use Rattle.smx_words.specs.LineReading.{IsReadAs};
 ghost use Rattle.smx_words.specs.Spellable.{FitsDriver, FitsNumber, FitsCommand, FitsEntry, FitsNext};
 ghost use Rattle.smx_words.specs.Spellable.{FitsDescriptor, FitsLink, FitsBinding, FitsRoute, FitsMessage, FitsFull};
 ghost use Rattle.smx_words.specs.Spelling.{driver_words, process_words, command_words, entry_words, next_words};
-ghost use Rattle.smx_words.specs.Spelling.{descriptor_words, link_words, bind_words, route_words, message_words, full_words};
+ghost use Rattle.smx_words.specs.Spelling.{descriptor_words, link_words, bind_words, route_words};
+ghost use Rattle.smx_words.specs.Spelling.{message_words, full_words};
 
 /// Whatever bytes a line is, there is a right answer to whose words they are: a value that can be
 /// spelled, or none. The answer that `driver_of` and the other readers give is such a one.
@@ -24,7 +25,8 @@ pub fn each_line_has_a_reading()
     ensures command { (line : List ℕ) → (o : Option Command) × IsReadAs FitsCommand command_words line o }
     ensures entry { (line : List ℕ) → (o : Option Entry) × IsReadAs FitsEntry entry_words line o }
     ensures next { (line : List ℕ) → (o : Option (ℕ × ℕ)) × IsReadAs FitsNext next_words line o }
-    ensures descriptor { (line : List ℕ) → (o : Option DescriptorLine) × IsReadAs FitsDescriptor descriptor_words line o }
+    ensures descriptor { (line : List ℕ) → (o : Option DescriptorLine)
+        × IsReadAs FitsDescriptor descriptor_words line o }
     ensures link { (line : List ℕ) → (o : Option LinkLine) × IsReadAs FitsLink link_words line o }
     ensures bind { (line : List ℕ) → (o : Option BindingLine) × IsReadAs FitsBinding bind_words line o }
     ensures route { (line : List ℕ) → (o : Option RouteLine) × IsReadAs FitsRoute route_words line o }

@@ -10,14 +10,15 @@ ghost use Rattle.smx_words.specs.Spelling.{command_words};
 ghost use Rattle.smx_words.specs.Spellable.{FitsNumber, FitsDriver, FitsCommand};
 ghost use Rattle.smx_text.specs.Grammar.{IsBegun, Continues, line_text};
 ghost use Rattle.smx_text.specs.Reading.{Refuses, AddsLine, RefusesLine, EndsAs};
-ghost use Rattle.smx_text.specs.ProgramLines.{Driver as DriverLine, Process as ProcessLine, Command as CommandLine, End};
+ghost use Rattle.smx_text.specs.ProgramLines.{Driver as DriverLine, Process as ProcessLine};
+ghost use Rattle.smx_text.specs.ProgramLines.{Command as CommandLine, End};
 ghost use Rattle.smx_text.specs.ProgramsText.{body, programs_grammar};
 
 use crate::fault::Cause;
 use crate::reading::Draft;
 use smx_types::{
-    Command, Commands, DriverSpec, Drivers, MAX_COMMANDS, MAX_DRIVERS, MAX_PROCESSES, ProgramList,
-    Programs,
+    Command, Commands, DriverSpec, Drivers, MAX_COMMANDS, MAX_DRIVERS, MAX_PROCESSES, NoMemory,
+    ProgramList, Programs,
 };
 use smx_words::{command_of, driver_of, process_of};
 use std::alloc::Global;
@@ -60,9 +61,10 @@ impl Draft for ProgramsDraft {
     }
 
     fn add(&mut self, alloc: Global, text: &[u8]) -> Result<(), Cause> {
-        match command_of(alloc, text)? {
-            Some(command) => self.add_command(command),
-            None => self.add_other(alloc, text),
+        match command_of(alloc, text) {
+            Ok(Some(command)) => self.add_command(command),
+            Ok(None) => self.add_other(alloc, text),
+            Err(NoMemory) => Err(self.command_unread()),
         }
     }
 
@@ -153,11 +155,24 @@ impl ProgramsDraft {
         Ok(())
     }
 
+    // Why a command is refused for which there is no memory.
+    fn command_unread(&self) -> Cause
+        requires begun { IsBegun programs_grammar (body self.now) }
+        ensures { (c : AnyCommand) → FitsCommand c
+            → RefusesLine programs_grammar (body self.now) (CommandLine c) result }
+    {
+        match self.room_for_command() {
+            Ok(()) => Cause::NoMemory,
+            Err(cause) => cause,
+        }
+    }
+
     // Whether a command may come and is not one too many.
     fn room_for_command(&self) -> Result<(), Cause>
         ensures some { OnOk result (0 < length self.now.programs) }
         ensures few { OnOk result (sum_by length self.now.programs < MAX_COMMANDS) }
-        ensures refused { IfErr result (λ why. (c : AnyCommand) → RefusesLine programs_grammar (body self.now) (CommandLine c) why) }
+        ensures refused { IfErr result (λ why. (c : AnyCommand)
+            → RefusesLine programs_grammar (body self.now) (CommandLine c) why) }
     {
         if self.programs.is_empty() {
             return Err(Cause::Form);

@@ -9,7 +9,8 @@ ghost use Rattle.smx_words.specs.Spellable.{FitsDriver, FitsEntry, FitsDescripto
 ghost use Rattle.smx_words.specs.Spellable.{FitsRoute, FitsMessage, FitsFull, FitsNext};
 ghost use Rattle.smx_text.specs.Grammar.{IsBegun, Continues, line_text};
 ghost use Rattle.smx_text.specs.Reading.{Refuses, AddsLine, RefusesLine};
-ghost use Rattle.smx_text.specs.Drafts.{lines, takes_fds, takes_links, takes_binds, takes_routes, takes_msgs, takes_fulls};
+ghost use Rattle.smx_text.specs.Drafts.{lines, takes_fds, takes_links, takes_binds, takes_routes, takes_msgs};
+ghost use Rattle.smx_text.specs.Drafts.{takes_fulls};
 ghost use Rattle.smx_text.specs.declared.transcript.draft.Stage.TheVariants.{History};
 ghost use Rattle.smx_types.specs.declared.limits.TheConstants.{MAX_COMMANDS};
 ghost use Rattle.smx_types.specs.declared.driver.DriverSpec.{DriverSpec as AnyDriver};
@@ -22,7 +23,7 @@ use crate::fault::Cause;
 use crate::reading::Draft;
 use smx_types::{
     BindingLine, ConfigView, DescriptorLine, DriverSpec, Entry, FullLine, Items, LinkLine,
-    MAX_COMMANDS, MAX_DRIVERS, MessageLine, RouteLine, Transcript,
+    MAX_COMMANDS, MAX_DRIVERS, MessageLine, NoMemory, RouteLine, Transcript,
 };
 use smx_words::{
     bind_of, descriptor_of, driver_of, entry_of, full_of, link_of, message_of, next_of, route_of,
@@ -66,9 +67,10 @@ impl Draft for TranscriptDraft {
     }
 
     fn add(&mut self, alloc: Global, text: &[u8]) -> Result<(), Cause> {
-        match entry_of(alloc, text)? {
-            Some(entry) => self.add_entry(entry),
-            None => self.add_other(alloc, text),
+        match entry_of(alloc, text) {
+            Ok(Some(entry)) => self.add_entry(entry),
+            Ok(None) => self.add_other(alloc, text),
+            Err(NoMemory) => Err(self.entry_unread()),
         }
     }
 
@@ -129,9 +131,10 @@ impl TranscriptDraft {
         ensures added { OnOk result (Continues transcript_grammar (lines self.old) text.now (lines self.new)) }
         ensures refused { IfErr result (Refuses transcript_grammar (lines self.old) text.now) }
     {
-        match message_of(alloc, text)? {
-            Some(message) => self.add_message(message),
-            None => self.add_plain(alloc, text),
+        match message_of(alloc, text) {
+            Ok(Some(message)) => self.add_message(message),
+            Ok(None) => self.add_plain(alloc, text),
+            Err(NoMemory) => Err(self.message_unread()),
         }
     }
 
@@ -190,7 +193,8 @@ impl TranscriptDraft {
     fn add_driver(&mut self, driver: DriverSpec) -> Result<(), Cause>
         requires begun { IsBegun transcript_grammar (lines self.old) }
         requires fits { FitsDriver driver }
-        ensures added { OnOk result (AddsLine transcript_grammar (lines self.old) (DriverLine driver) (lines self.new)) }
+        ensures added { OnOk result
+            (AddsLine transcript_grammar (lines self.old) (DriverLine driver) (lines self.new)) }
         ensures refused { IfErr result (RefusesLine transcript_grammar (lines self.old) (DriverLine driver)) }
     {
         if self.stage != Stage::History || !self.transcript.entries.as_slice().is_empty() {
@@ -214,11 +218,23 @@ impl TranscriptDraft {
         Ok(())
     }
 
+    // Why an entry is refused for which there is no memory.
+    fn entry_unread(&self) -> Cause
+        requires begun { IsBegun transcript_grammar (lines self.now) }
+        ensures { (e : AnyEntry) → FitsEntry e → RefusesLine transcript_grammar (lines self.now) (EntryLine e) result }
+    {
+        match self.room_for_entry() {
+            Ok(()) => Cause::NoMemory,
+            Err(cause) => cause,
+        }
+    }
+
     // Whether an entry may come and is not one too many.
     fn room_for_entry(&self) -> Result<(), Cause>
         ensures history { OnOk result (self.now.stage ≡ History) }
         ensures few { OnOk result (length self.now.transcript.entries < MAX_COMMANDS) }
-        ensures refused { IfErr result (λ why. (e : AnyEntry) → RefusesLine transcript_grammar (lines self.now) (EntryLine e) why) }
+        ensures refused { IfErr result (λ why. (e : AnyEntry)
+            → RefusesLine transcript_grammar (lines self.now) (EntryLine e) why) }
     {
         if self.stage != Stage::History {
             return Err(Cause::Form);
@@ -245,8 +261,10 @@ impl TranscriptDraft {
     // The view begins with what comes next.
     fn add_next(&mut self, alloc: Global, next_id: u32, next_serial: u32) -> Result<(), Cause>
         requires begun { IsBegun transcript_grammar (lines self.old) }
-        ensures added { OnOk result (AddsLine transcript_grammar (lines self.old) (NextLine next_id next_serial) (lines self.new)) }
-        ensures refused { IfErr result (RefusesLine transcript_grammar (lines self.old) (NextLine next_id next_serial)) }
+        ensures added { OnOk result
+            (AddsLine transcript_grammar (lines self.old) (NextLine next_id next_serial) (lines self.new)) }
+        ensures refused { IfErr result
+            (RefusesLine transcript_grammar (lines self.old) (NextLine next_id next_serial)) }
     {
         if self.stage != Stage::Config {
             return Err(Cause::Form);
@@ -319,6 +337,19 @@ impl TranscriptDraft {
         }
         self.transcript.view.msgs.push(message)?;
         Ok(())
+    }
+
+    // Why a message is refused for which there is no memory.
+    fn message_unread(&self) -> Cause
+        requires begun { IsBegun transcript_grammar (lines self.now) }
+        ensures { (m : AnyMessage) → FitsMessage m
+            → RefusesLine transcript_grammar (lines self.now) (MsgLine m) result }
+    {
+        if self.takes_msgs() {
+            Cause::NoMemory
+        } else {
+            Cause::Form
+        }
     }
 
     fn add_full(&mut self, full: FullLine) -> Result<(), Cause>

@@ -14,7 +14,8 @@ use crate::reading::word::{first_name, name, sides, which};
 use smx_types::{Command, NoMemory};
 use std::alloc::Global;
 
-/// The command whose words a line is, if it is one's. Fails only for want of memory, and then the line is some command's.
+/// The command whose words a line is, if it is one's. Fails only for want of memory, and then the line
+/// is some command's.
 pub fn command_of(alloc: Global, line: &[u8]) -> Result<Option<Command>, NoMemory>
     ensures reading { IfOk result (IsReadAs FitsCommand command_words line.now) }
     ensures wanted { IfErr result (λ _. IsLineOf FitsCommand command_words line.now) }

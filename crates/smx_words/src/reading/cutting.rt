@@ -18,14 +18,16 @@ pub fn cut(bytes: &[u8], separator: u8) -> Option<(&[u8], &[u8])>
 
 // The bytes behind others that they begin with.
 pub fn after<'a>(bytes: &'a [u8], front: &[u8]) -> Option<&'a [u8]>
-    ensures { MatchOption result ((rest : List ℕ) → bytes.now ≢ front.now ++ rest) (λ rest. bytes.now ≡ front.now ++ rest.now) }
+    ensures { MatchOption result ((rest : List ℕ) → bytes.now ≢ front.now ++ rest)
+        (λ rest. bytes.now ≡ front.now ++ rest.now) }
 {
     bytes.strip_prefix(front)
 }
 
 // The bytes before others that they end with.
 pub fn before<'a>(bytes: &'a [u8], back: &[u8]) -> Option<&'a [u8]>
-    ensures { MatchOption result ((rest : List ℕ) → bytes.now ≢ rest ++ back.now) (λ rest. bytes.now ≡ rest.now ++ back.now) }
+    ensures { MatchOption result ((rest : List ℕ) → bytes.now ≢ rest ++ back.now)
+        (λ rest. bytes.now ≡ rest.now ++ back.now) }
 {
     bytes.strip_suffix(back)
 }

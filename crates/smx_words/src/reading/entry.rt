@@ -41,9 +41,12 @@ pub fn entry_of(alloc: Global, line: &[u8]) -> Result<Option<Entry>, NoMemory>
 // A command and a reply. Where memory is wanting for the command, the reply is still read, and has to be one.
 fn both(alloc: Global, command: &[u8], reply: &[u8]) -> Result<Option<(Command, Reply)>, NoMemory>
     ensures reading { IfOk result (λ o. MatchOption o
-        ((c : _) (r : _) → FitsCommand c → FitsReply r → command.now ≡ line_of (command_words c) → reply.now ≢ line_of (reply_words r))
-        (λ p. FitsCommand p.0 × FitsReply p.1 × (command.now ≡ line_of (command_words p.0)) × (reply.now ≡ line_of (reply_words p.1)))) }
-    ensures wanted { IfErr result (λ _. IsLineOf FitsCommand command_words command.now × IsLineOf FitsReply reply_words reply.now) }
+        ((c : _) (r : _) → FitsCommand c → FitsReply r → command.now ≡ line_of (command_words c)
+        → reply.now ≢ line_of (reply_words r))
+        (λ p. FitsCommand p.0 × FitsReply p.1 × (command.now ≡ line_of (command_words p.0))
+        × (reply.now ≡ line_of (reply_words p.1)))) }
+    ensures wanted { IfErr result (λ _. IsLineOf FitsCommand command_words command.now
+        × IsLineOf FitsReply reply_words reply.now) }
 {
     match command_of(alloc, command) {
         Ok(Some(command)) => match reply_of(alloc, reply) {

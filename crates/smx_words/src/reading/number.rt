@@ -1,6 +1,7 @@
 //! Numbers in words: decimal, below 2^32, without a sign or a leading zero.
 
-ghost use Rattle.std.specs.Prelude.{◌≡◌, ◌≢◌, ◌++◌, List, ℕ, take, drop, ◌≤◌, ◌==◌, ◌&&◌, ◌||◌, nat_lt, length, slice_index, MatchOption};
+ghost use Rattle.std.specs.Prelude.{◌≡◌, ◌≢◌, ◌++◌, List, ℕ, take, drop, ◌≤◌, ◌==◌, ◌&&◌, ◌||◌, nat_lt};
+ghost use Rattle.std.specs.Prelude.{length, slice_index, MatchOption};
 ghost use Rattle.std.specs.Fmt.{decimal};
 ghost use Rattle.smx_words.specs.LineReading.{IsFoundIn, BeginsWith};
 ghost use Rattle.smx_words.specs.Numbers.{NoDigitFirst};
@@ -52,7 +53,8 @@ pub fn first_process(text: &[u8]) -> Option<(Process, &[u8])>
 fn leading_number(text: &[u8]) -> Option<(u32, usize)>
     ensures { MatchOption result
         ((n : ℕ) (after : List ℕ) → FitsNumber n → NoDigitFirst after → text.now ≢ decimal n ++ after)
-        (λ p. FitsNumber p.0 × (p.1 ≤ length text.now) × (take p.1 text.now ≡ decimal p.0) × NoDigitFirst (drop p.1 text.now)) }
+        (λ p. FitsNumber p.0 × (p.1 ≤ length text.now) × (take p.1 text.now ≡ decimal p.0)
+        × NoDigitFirst (drop p.1 text.now)) }
 {
     let mut value = 0u64;
     let mut end = 0;

@@ -1,6 +1,7 @@
 //! The words of a reply.
 
-ghost use Rattle.std.specs.Prelude.{◌≡◌, ◌≢◌, ◌∷◌, ◌++◌, [], ℕ, codes, None, map, MatchBool, MatchOption, MatchResult, IfOk, IfErr};
+ghost use Rattle.std.specs.Prelude.{◌≡◌, ◌≢◌, ◌∷◌, ◌++◌, [], ℕ, codes, None, map, MatchBool, MatchOption};
+ghost use Rattle.std.specs.Prelude.{MatchResult, IfOk, IfErr};
 ghost use Rattle.std.specs.Fmt.{decimal};
 ghost use Rattle.smx_words.specs.LineReading.{IsReadAs, IsLineOf};
 ghost use Rattle.smx_words.specs.Spellable.{FitsAlways, FitsNumber, FitsReply, FitsSerials};
@@ -28,7 +29,8 @@ pub fn reply_of(alloc: Global, line: &[u8]) -> Result<Option<Reply>, NoMemory>
 // The reply of a verb and what stands behind it.
 fn reply_after(alloc: Global, verb: ReplyVerb, rest: &[u8]) -> Result<Option<Reply>, NoMemory>
     ensures reading { IfOk result (IsReadAs FitsReply reply_words (line_of (reply_verb_word verb ∷ rest.now ∷ []))) }
-    ensures wanted { IfErr result (λ _. IsLineOf FitsReply reply_words (line_of (reply_verb_word verb ∷ rest.now ∷ []))) }
+    ensures wanted { IfErr result (λ _.
+        IsLineOf FitsReply reply_words (line_of (reply_verb_word verb ∷ rest.now ∷ []))) }
 {
     match verb {
         ReplyVerb::Fd => Ok(fd(rest)),
@@ -114,7 +116,8 @@ fn serials(alloc: Global, line: &[u8]) -> Result<Option<Serials>, NoMemory>
 
 // Want of memory where a line is the words of serials.
 fn unless_bad(error: NoMemory, line: &[u8]) -> Result<Option<Serials>, NoMemory>
-    ensures { MatchResult result (λ o. (o ≡ None) × ((all : _) → FitsSerials all → line.now ≢ line_of (map decimal all)))
+    ensures { MatchResult result (λ o. (o ≡ None)
+        × ((all : _) → FitsSerials all → line.now ≢ line_of (map decimal all)))
         (λ _. IsLineOf FitsSerials (map decimal) line.now) }
 {
     if are_serials(line) {
@@ -125,7 +128,8 @@ fn unless_bad(error: NoMemory, line: &[u8]) -> Result<Option<Serials>, NoMemory>
 
 // Whether a line is the words of serials.
 fn are_serials(line: &[u8]) -> bool
-    ensures { MatchBool result (IsLineOf FitsSerials (map decimal) line.now) ((all : _) → FitsSerials all → line.now ≢ line_of (map decimal all)) }
+    ensures { MatchBool result (IsLineOf FitsSerials (map decimal) line.now)
+        ((all : _) → FitsSerials all → line.now ≢ line_of (map decimal all)) }
 {
     let mut rest = line;
     'words: loop {

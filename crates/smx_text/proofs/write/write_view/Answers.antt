@@ -6,7 +6,10 @@ use Rattle.smx_text.proofs.write.write_view.Goals as goal
 
 pub returns-clause-written : goal.returns-clause-written
 returns-clause-written c =
-    let next : c.write_next.new.out.items ≡ c.args.out.now.items ++ text_of (next_words (c.args.view.now.next_id, c.args.view.now.next_serial) ∷ []) = c.in_ok-write_next.ensures.written ∙ one_line_more c.args.out.now.items (next_words (c.args.view.now.next_id, c.args.view.now.next_serial)) in
+    let next : c.write_next.new.out.items ≡ c.args.out.now.items
+    ++ text_of (next_words (c.args.view.now.next_id, c.args.view.now.next_serial) ∷ []) =
+    c.in_ok-write_next.ensures.written ∙ one_line_more c.args.out.now.items
+    (next_words (c.args.view.now.next_id, c.args.view.now.next_serial)) in
     let fds = rw c.as_slice.ensures at c.in_ok-write_lines.ensures.written in
     let links = rw c.as_slice-2.ensures at c.in_ok-write_lines-2.ensures.written in
     let binds = rw c.as_slice-3.ensures at c.in_ok-write_lines-3.ensures.written in

@@ -1,4 +1,5 @@
-use Rattle.smx_words.proofs.LawLemmas.{one_bind, one_command, one_descriptor, one_driver, one_entry, one_full, one_link, one_message, one_next, one_process, one_route}
+use Rattle.smx_words.proofs.LawLemmas.{one_bind, one_command, one_descriptor, one_driver, one_entry}
+use Rattle.smx_words.proofs.LawLemmas.{one_full, one_link, one_message, one_next, one_process, one_route}
 use Rattle.smx_words.proofs.laws.one_value_each.Goals as goal
 
 pub returns-clause-driver : goal.returns-clause-driver

@@ -1,4 +1,6 @@
-use Rattle.smx_words.proofs.LawLemmas.{bind_spelled, command_spelled, descriptor_spelled, driver_spelled, entry_spelled, full_spelled, link_spelled, message_spelled, next_spelled, process_spelled, route_spelled}
+use Rattle.smx_words.proofs.LawLemmas.{bind_spelled, command_spelled, descriptor_spelled, driver_spelled}
+use Rattle.smx_words.proofs.LawLemmas.{entry_spelled, full_spelled, link_spelled, message_spelled}
+use Rattle.smx_words.proofs.LawLemmas.{next_spelled, process_spelled, route_spelled}
 use Rattle.smx_words.proofs.laws.spellings_are_words.Goals as goal
 
 pub returns-clause-driver : goal.returns-clause-driver

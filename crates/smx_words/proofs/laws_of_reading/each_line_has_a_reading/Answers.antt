@@ -1,5 +1,7 @@
 use Rattle.smx_words.proofs.DecidedCommandLemmas.{command_reading, entry_reading}
-use Rattle.smx_words.proofs.DecidedLineLemmas.{bind_reading, descriptor_reading, driver_reading, full_reading, link_reading, message_reading, next_reading, process_reading, route_reading}
+use Rattle.smx_words.proofs.DecidedLineLemmas.{bind_reading, descriptor_reading, driver_reading}
+use Rattle.smx_words.proofs.DecidedLineLemmas.{full_reading, link_reading, message_reading, next_reading}
+use Rattle.smx_words.proofs.DecidedLineLemmas.{process_reading, route_reading}
 use Rattle.smx_words.proofs.laws_of_reading.each_line_has_a_reading.Goals as goal
 
 pub returns-clause-driver : goal.returns-clause-driver

@@ -9,7 +9,8 @@ returns-then-value c =
     let digit = sym c.if-is_ascii_digit.ensures.value in
     let loop = c.digits.invariant in
     let value = value_more c.args.text.now c.digits.end c.digits.value c.digits-test.true digit loop.value in
-    too_large c.args.text.now _ (all_more c.args.text.now c.digits.end c.digits-test.true loop.digits digit) (omega (arith, c.if-value.true, value))
+    too_large c.args.text.now _ (all_more c.args.text.now c.digits.end c.digits-test.true loop.digits digit)
+    (omega (arith, c.if-value.true, value))
 
 pub digits-preserved : goal.digits-preserved
 digits-preserved c =
@@ -26,7 +27,8 @@ pub returns-then-starts_wrong : goal.returns-then-starts_wrong
 returns-then-starts_wrong c =
     let loop = c.digits.invariant in
     let clear : NoDigitFirst (drop c.digits.end c.args.text.now) = elim c.digits-test.branch [
-      | then-digits-test+else-is_ascii_digit w ↦ ends c.args.text.now c.digits.end (λ lt. sym w.if-is_ascii_digit.ensures.value)
+      | then-digits-test+else-is_ascii_digit w ↦
+          ends c.args.text.now c.digits.end (λ lt. sym w.if-is_ascii_digit.ensures.value)
       | else-digits-test w ↦ ends c.args.text.now c.digits.end (λ lt. absurd (omega (arith, w.digits-test.false)))
     ] in
     wrong_start c.args.text.now c.digits.end loop.in_it loop.digits clear (sym c.if-starts_wrong.ensures)
@@ -35,7 +37,13 @@ pub returns : goal.returns
 returns c =
     let loop = c.digits.invariant in
     let clear : NoDigitFirst (drop c.digits.end c.args.text.now) = elim c.digits-test.branch [
-      | then-digits-test+else-is_ascii_digit w ↦ ends c.args.text.now c.digits.end (λ lt. sym w.if-is_ascii_digit.ensures.value)
+      | then-digits-test+else-is_ascii_digit w ↦
+          ends c.args.text.now c.digits.end (λ lt. sym w.if-is_ascii_digit.ensures.value)
       | else-digits-test w ↦ ends c.args.text.now c.digits.end (λ lt. absurd (omega (arith, w.digits-test.false)))
-    ] in
-    (loop.small, loop.in_it, right_start c.args.text.now c.digits.end c.digits.value loop.in_it loop.digits loop.value loop.small (sym c.if-starts_wrong.ensures), clear)
+    ] in (
+      loop.small,
+      loop.in_it,
+      right_start c.args.text.now c.digits.end c.digits.value loop.in_it loop.digits
+          loop.value loop.small (sym c.if-starts_wrong.ensures),
+      clear,
+    )

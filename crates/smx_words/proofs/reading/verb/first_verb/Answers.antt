@@ -5,4 +5,6 @@ use Rattle.smx_words.proofs.WordLemmas.{verb_free}
 use Rattle.smx_words.proofs.reading.verb.first_verb.Goals as goal
 
 pub returns-in-None : goal.returns-in-None
-returns-in-None c = no_field FitsAlways verb_word verb_free c.args.text.now c.in-Some.word.now c.in-Some.rest.now c.in-Some.ensures.0 c.in-Some.ensures.1 c.in-None.ensures
+returns-in-None c =
+    no_field FitsAlways verb_word verb_free c.args.text.now c.in-Some.word.now c.in-Some.rest.now
+    c.in-Some.ensures.0 c.in-Some.ensures.1 c.in-None.ensures

@@ -5,4 +5,6 @@ use Rattle.smx_words.proofs.WordLemmas.{kind_free}
 use Rattle.smx_words.proofs.reading.word.first_kind.Goals as goal
 
 pub returns-in-None : goal.returns-in-None
-returns-in-None c = no_field FitsAlways kind_word kind_free c.args.text.now c.in-Some.word.now c.in-Some.rest.now c.in-Some.ensures.0 c.in-Some.ensures.1 c.in-None.ensures
+returns-in-None c =
+    no_field FitsAlways kind_word kind_free c.args.text.now c.in-Some.word.now c.in-Some.rest.now
+    c.in-Some.ensures.0 c.in-Some.ensures.1 c.in-None.ensures

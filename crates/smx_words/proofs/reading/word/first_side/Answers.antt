@@ -5,4 +5,6 @@ use Rattle.smx_words.proofs.WordLemmas.{side_free}
 use Rattle.smx_words.proofs.reading.word.first_side.Goals as goal
 
 pub returns-in-None : goal.returns-in-None
-returns-in-None c = no_field FitsAlways side_word side_free c.args.text.now c.in-Some.word.now c.in-Some.rest.now c.in-Some.ensures.0 c.in-Some.ensures.1 c.in-None.ensures
+returns-in-None c =
+    no_field FitsAlways side_word side_free c.args.text.now c.in-Some.word.now c.in-Some.rest.now
+    c.in-Some.ensures.0 c.in-Some.ensures.1 c.in-None.ensures

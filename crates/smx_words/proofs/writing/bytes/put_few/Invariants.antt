@@ -1,4 +1,4 @@
-use Rattle.std.proofs.Common.{◌≡◌, ◌+◌, ◌-◌, ◌*◌, ◌≤◌, ◌∷◌, ◌++◌, length, take}
+use Rattle.std.proofs.Common.{◌≡◌, ◌+◌, ◌-◌, ◌*◌, ◌≤◌, ◌++◌, length, take}
 use Rattle.std.specs.Vec.{vec_len, vec_capacity}
 use Rattle.hex.specs.Hex.{encode_lower}
 use Rattle.smx_words.proofs.writing.bytes.put_few.Given as goal

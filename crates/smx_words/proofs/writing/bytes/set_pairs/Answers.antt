@@ -5,7 +5,8 @@ use Rattle.smx_words.proofs.writing.bytes.set_pairs.Goals as goal
 
 pub loop-i-preserved : goal.loop-i-preserved
 loop-i-preserved c =
-    encode_step lower_digits c.args.bytes.now c.loop-i.pairs c.loop-i.i _ _ (omega arith) (omega arith) c.digit_of.ensures c.digit_of-in-loop-i.ensures c.loop-i.invariant
+    encode_step lower_digits c.args.bytes.now c.loop-i.pairs c.loop-i.i _ _ (omega arith) (omega arith)
+    c.digit_of.ensures c.digit_of-in-loop-i.ensures c.loop-i.invariant
 
 pub returns : goal.returns
 returns c = encode_done _ _ _ c.loop-i.i (omega arith) (omega arith) c.loop-i.invariant

@@ -10,4 +10,5 @@ pub returns-else-n-lt10 : goal.returns-else-n-lt10
 returns-else-n-lt10 c =
     let first = c.digit-else-n-lt10.ensures in
     let last = c.digit-else-n-lt10-2.ensures in
-    rw (decimal_two c.args.n c.if-n-lt10.false c.requires, append_assoc) (rw (first, last) at c.put_text-else-n-lt10.ensures)
+    rw (decimal_two c.args.n c.if-n-lt10.false c.requires, append_assoc)
+    (rw (first, last) at c.put_text-else-n-lt10.ensures)

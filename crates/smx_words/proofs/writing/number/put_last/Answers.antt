@@ -4,4 +4,5 @@ use Rattle.smx_words.proofs.writing.number.put_last.Goals as goal
 
 pub returns-then-n-lt10-clause-written : goal.returns-then-n-lt10-clause-written
 returns-then-n-lt10-clause-written c =
-    rw (c.in_ok-extend_from_slice.ensures.items, c.digit.ensures, decimal_one c.args.n c.if-n-lt10.true) (simp append_assoc)
+    rw (c.in_ok-extend_from_slice.ensures.items, c.digit.ensures, decimal_one c.args.n c.if-n-lt10.true)
+    (simp append_assoc)

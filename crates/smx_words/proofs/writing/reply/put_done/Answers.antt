@@ -5,4 +5,9 @@ use Rattle.smx_words.proofs.writing.reply.put_done.Goals as goal
 
 pub returns-clause-written : goal.returns-clause-written
 returns-clause-written c =
-    rw (numbers_line (codes "done") c.args.dropped.now, c.in_ok-push.ensures.items, c.in_ok-put_serials.ensures.written, c.in_ok-extend_from_slice-2.ensures.items) (simp append_assoc)
+    rw (
+      numbers_line (codes "done") c.args.dropped.now,
+      c.in_ok-push.ensures.items,
+      c.in_ok-put_serials.ensures.written,
+      c.in_ok-extend_from_slice-2.ensures.items,
+    ) (simp append_assoc)

@@ -1,4 +1,4 @@
-use Rattle.std.proofs.Common.{arith, rules}
+use Rattle.std.proofs.Common.{rules}
 use Rattle.smx_text.proofs.ProgramsLemmas.{misplaced, too_many}
 use Rattle.smx_text.specs.ProgramLines as line
 use Rattle.smx_text.proofs.programs.draft.ProgramsDraft.room_for_command.Goals as goal
@@ -7,4 +7,5 @@ pub returns-then-is_empty-clause-refused : goal.returns-then-is_empty-clause-ref
 returns-then-is_empty-clause-refused c = λ x. misplaced c.args.self.now (line.Command x) (search rules)
 
 pub returns-then-self-ge-MAX_COMMANDS-clause-refused : goal.returns-then-self-ge-MAX_COMMANDS-clause-refused
-returns-then-self-ge-MAX_COMMANDS-clause-refused c = λ x. too_many c.args.self.now (line.Command x) (search rules) (search rules)
+returns-then-self-ge-MAX_COMMANDS-clause-refused c =
+    λ x. too_many c.args.self.now (line.Command x) (search rules) (search rules)

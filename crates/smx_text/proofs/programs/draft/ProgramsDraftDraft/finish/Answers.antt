@@ -3,4 +3,4 @@ use Rattle.smx_text.proofs.ProgramsLemmas.{finished}
 use Rattle.smx_text.proofs.programs.draft.ProgramsDraftDraft.finish.Goals as goal
 
 pub returns : goal.returns
-returns c = rw c.ok.ensures.value (finished c.args.self (search rules) c.requires.begun c.new.result (search rules) (search rules))
+returns c = rw c.ok.ensures.value (finished c.args.self c.requires.begun c.new.result (search rules) (search rules))

@@ -8,4 +8,6 @@ pub returns-then-ne-clause-refused : goal.returns-then-ne-clause-refused
 returns-then-ne-clause-refused c = misplaced c.args.self.now line.Config (search rules)
 
 pub returns-clause-added : goal.returns-clause-added
-returns-clause-added c = adds c.args.self.now (with_line c.args.self.now line.Config) line.Config c.requires.begun (search rules) refl tt (λ e. cc) refl
+returns-clause-added c =
+    adds c.args.self.now (with_line c.args.self.now line.Config) line.Config c.requires.begun (search rules)
+    refl tt (λ e. cc) refl

@@ -5,8 +5,12 @@ use Rattle.smx_text.proofs.TranscriptLemmas.{misplaced, adds}
 use Rattle.smx_text.proofs.transcript.draft.TranscriptDraft.add_next.Goals as goal
 
 pub returns-then-ne-clause-refused : goal.returns-then-ne-clause-refused
-returns-then-ne-clause-refused c = misplaced c.args.self.now (line.Next c.args.next_id c.args.next_serial) (search rules)
+returns-then-ne-clause-refused c =
+    misplaced c.args.self.now (line.Next c.args.next_id c.args.next_serial) (search rules)
 
 pub returns-clause-added : goal.returns-clause-added
 returns-clause-added c =
-    rw c.new_view.ensures (adds c.args.self.now (with_line c.args.self.now (line.Next c.args.next_id c.args.next_serial)) (line.Next c.args.next_id c.args.next_serial) c.requires.begun (search rules) refl (c.ranges.next_id.fits, c.ranges.next_serial.fits) (λ e. cc) refl)
+    rw c.new_view.ensures
+    (adds c.args.self.now (with_line c.args.self.now (line.Next c.args.next_id c.args.next_serial))
+    (line.Next c.args.next_id c.args.next_serial) c.requires.begun (search rules) refl
+    (c.ranges.next_id.fits, c.ranges.next_serial.fits) (λ e. cc) refl)

@@ -1,4 +1,4 @@
-use Rattle.std.proofs.Common.{rules, refl}
+use Rattle.std.proofs.Common.{rules}
 use Rattle.smx_text.specs.TranscriptLines as line
 use Rattle.smx_text.proofs.TranscriptLemmas.{misplaced, too_many}
 use Rattle.smx_text.proofs.transcript.draft.TranscriptDraft.room_for_entry.Goals as goal
@@ -7,4 +7,5 @@ pub returns-then-ne-clause-refused : goal.returns-then-ne-clause-refused
 returns-then-ne-clause-refused c = λ e. misplaced c.args.self.now (line.Entry e) (search rules)
 
 pub returns-then-as_slice-ge-MAX_COMMANDS-clause-refused : goal.returns-then-as_slice-ge-MAX_COMMANDS-clause-refused
-returns-then-as_slice-ge-MAX_COMMANDS-clause-refused c = λ e. too_many c.args.self.now (line.Entry e) (search rules) (search rules)
+returns-then-as_slice-ge-MAX_COMMANDS-clause-refused c =
+    λ e. too_many c.args.self.now (line.Entry e) (search rules) (search rules)

@@ -1,18 +1,21 @@
-use Rattle.std.proofs.Common.{rules, refl, subst, ◌≡◌, codes}
-use Rattle.smx_text.specs.TranscriptLines as line
-use Rattle.smx_text.specs.Drafts.{lines}
+use Rattle.std.proofs.Common.{subst}
 use Rattle.smx_words.specs.LineReading.{IsReadAs}
 use Rattle.smx_words.specs.Spellable.{FitsEntry}
 use Rattle.smx_words.specs.Spelling.{entry_words}
-use Rattle.smx_text.proofs.TranscriptGrammarLemmas.{on_added_line, on_refused_line}
+use Rattle.smx_text.specs.Drafts.{lines}
+use Rattle.smx_text.specs.TranscriptLines as line
+use Rattle.smx_text.proofs.TranscriptGrammarLemmas.{on_refused_line, refused_line}
 use Rattle.smx_text.proofs.transcript.draft.TranscriptDraftDraft.add.Goals as goal
 
-pub returns-in-Some-clause-added : goal.returns-in-Some-clause-added
-returns-in-Some-clause-added c =
-    let is = subst (IsReadAs FitsEntry entry_words c.args.text.now) c.in-Some.is c.in_ok-entry.ensures.reading in
-    on_added_line (lines c.args.self.now) (lines c.add_entry.new.self) (line.Entry c.in-Some.entry) c.args.text.now is.1 c.add_entry.result c.add_entry.ensures.added
+pub returns-in-Ok-Some-clause-refused : goal.returns-in-Ok-Some-clause-refused
+returns-in-Ok-Some-clause-refused c =
+    let is = subst (IsReadAs FitsEntry entry_words c.args.text.now) c.in-Ok-Some.field-0-is
+    c.in-Ok-Some.ensures.reading in
+    on_refused_line (lines c.args.self.now) (line.Entry c.in-Ok-Some.entry) c.args.text.now is.0 is.1
+    c.add_entry.result c.add_entry.ensures.refused
 
-pub returns-in-Some-clause-refused : goal.returns-in-Some-clause-refused
-returns-in-Some-clause-refused c =
-    let is = subst (IsReadAs FitsEntry entry_words c.args.text.now) c.in-Some.is c.in_ok-entry.ensures.reading in
-    on_refused_line (lines c.args.self.now) (line.Entry c.in-Some.entry) c.args.text.now is.0 is.1 c.add_entry.result c.add_entry.ensures.refused
+pub returns-in-Err-clause-refused : goal.returns-in-Err-clause-refused
+returns-in-Err-clause-refused c =
+    let some = c.in-Err.ensures.wanted in
+    refused_line (lines c.args.self.now) (line.Entry some.0) c.args.text.now some.1 some.2
+    c.entry_unread.result (c.entry_unread.ensures some.0 some.1)

@@ -1,0 +1,37 @@
+-- Lines of bytes, and the first of some.
+use Rattle.std.proofs.Common.{◌≡◌, ℕ, Bool, true, false, eqb, List, [], ◌∷◌, ◌++◌, refl, sym, ap, ◌∙◌, arith, inl, inr}
+use Rattle.std.specs.Prelude.{◌⊎◌}
+use Rattle.std.proofs.lemmas.Bool.Decides.{nat_tests}
+use Rattle.smx_words.specs.Words.{LINE_FEED}
+use Rattle.smx_text.specs.Grammar.{IsOneLine}
+
+-- bytes with a line feed in them are not one line
+pub not_one : (xs after : List ℕ) → IsOneLine (xs ++ LINE_FEED ∷ after) → ⊥
+not_one [] after h = h.0 refl
+not_one (x ∷ xs) after h = not_one xs after h.1
+
+-- the first line of some bytes, and what follows it, are what they are
+pub one_cut : (xs ys cs ds : List ℕ) → IsOneLine xs → IsOneLine ys
+    → xs ++ LINE_FEED ∷ cs ≡ ys ++ LINE_FEED ∷ ds → (xs ≡ ys) × (cs ≡ ds)
+one_cut [] [] cs ds h k e = (refl, cc)
+one_cut [] (y ∷ ys) cs ds h k e = let first : LINE_FEED ≡ y = cc in absurd (k.0 (sym first))
+one_cut (x ∷ xs) [] cs ds h k e = let first : x ≡ LINE_FEED = cc in absurd (h.0 first)
+one_cut (x ∷ xs) (y ∷ ys) cs ds h k e =
+    let first : x ≡ y = cc in
+    let rest : xs ++ LINE_FEED ∷ cs ≡ ys ++ LINE_FEED ∷ ds = cc in
+    let t = one_cut xs ys cs ds h.1 k.1 rest in
+    (ap (λ (z : ℕ). z ∷ xs) first ∙ ap (λ (zs : List ℕ). y ∷ zs) t.0, t.1)
+
+-- bytes are one line, or have a first one
+pub first_line : (xs : List ℕ) → IsOneLine xs
+    ⊎ ((text after : List ℕ) × IsOneLine text × (xs ≡ text ++ LINE_FEED ∷ after))
+first_line [] = inl tt
+first_line (x ∷ xs) = by_first (eqb x LINE_FEED) refl (first_line xs) where
+  by_first : (b : Bool) → eqb x LINE_FEED ≡ b
+      → IsOneLine xs ⊎ ((text after : List ℕ) × IsOneLine text × (xs ≡ text ++ LINE_FEED ∷ after))
+      → IsOneLine (x ∷ xs) ⊎ ((text after : List ℕ) × IsOneLine text × (x ∷ xs ≡ text ++ LINE_FEED ∷ after))
+  by_first true is more = let same : x ≡ LINE_FEED = grind (arith, nat_tests) in
+      inr ([], xs, tt, ap (λ (y : ℕ). y ∷ xs) same)
+  by_first false is (inl one) = inl (grind (arith, nat_tests), one)
+  by_first false is (inr (text, after, one, e)) =
+      inr (x ∷ text, after, (grind (arith, nat_tests), one), ap (λ (ys : List ℕ). x ∷ ys) e)

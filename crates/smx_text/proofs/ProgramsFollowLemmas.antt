@@ -1,0 +1,130 @@
+-- Which lines may follow those of some programs, and of which there are as many as may be.
+use Rattle.std.proofs.Common.{◌≡◌, ◌≢◌, ℕ, ◌+◌, ◌-◌, ◌<◌, ◌≤◌, List, [], ◌∷◌, ◌++◌, length, map, get_or}
+use Rattle.std.proofs.Common.{refl, sym, ap, subst, ◌∙◌, append_assoc, arith}
+use Rattle.std.specs.List.{sum_by}
+use Rattle.std.proofs.Math.ListN.{set}
+use Rattle.std.proofs.lemmas.List.{map_push, nil_from_length}
+use Rattle.std.proofs.lemmas.List.Sums.{sum_by-append, sum_by-cons}
+use Rattle.smx_types.specs.ProgramLists.{ProgramLists, program_lists}
+use Rattle.smx_types.specs.declared.command.Command.{Command}
+use Rattle.smx_types.specs.declared.driver.DriverSpec.{DriverSpec}
+use Rattle.smx_types.specs.declared.limits.TheConstants.{MAX_DRIVERS, MAX_PROCESSES, MAX_COMMANDS}
+use Rattle.smx_text.specs.Grammar.{GoesOn, MayFollow, IsFull}
+use Rattle.smx_text.specs.ProgramLines.{Line}
+use Rattle.smx_text.specs.ProgramLines as line
+use Rattle.smx_text.specs.ProgramsText.{program_lines, body, programs_grammar}
+use Rattle.smx_text.proofs.BodyLemmas.{added_process, lines_more}
+use Rattle.smx_text.proofs.ProgramsOrderLemmas.{a_driver, a_process, a_command, counts, InOrder}
+use Rattle.smx_text.proofs.ProgramsOrderLemmas.{body_in_order, order_behind}
+
+-- ---- what may stand behind the lines of these programs, and of what there are as many as may be
+
+abbrev pub MayStand : ProgramLists → Line → Type 0
+MayStand v (line.Driver d) = length v.programs ≡ 0
+MayStand v (line.Process number) = number ≡ length v.programs
+MayStand v (line.Command c) = 0 < length v.programs
+MayStand v line.End = Unit {0}
+
+abbrev pub AreMany : ProgramLists → Line → Type 0
+AreMany v (line.Driver d) = MAX_DRIVERS ≤ length v.drivers
+AreMany v (line.Process number) = MAX_PROCESSES ≤ length v.programs
+AreMany v (line.Command c) = MAX_COMMANDS ≤ sum_by length v.programs
+AreMany v line.End = ⊥
+
+pub stands : (v : ProgramLists) (n : ℕ) (k : Line) (more : List Line) → n ≡ length v.programs
+    → InOrder n (k ∷ more) → MayStand v k
+stands v n (line.Driver d) more e h = sym e ∙ h.0
+stands v n (line.Process m) more e h = h.0 ∙ e
+stands v n (line.Command c) more e h = omega (arith, e, h.0)
+stands v n line.End more e h = tt
+
+pub may_stand : (v : ProgramLists) (k : Line) → MayFollow programs_grammar (body v) k → MayStand v k
+may_stand v k (w, (more, e)) =
+    let c = counts v in
+    stands v (0 + sum_by a_process (body v)) k more (omega (arith, c.processes))
+    (order_behind 0 (body v) (k ∷ more) (subst (InOrder 0) e (body_in_order w)))
+
+-- the counts of a longer list of lines
+longer : (w : Line → ℕ) (v u : ProgramLists) (k : Line) (more : List Line)
+    → body v ++ line.End ∷ [] ≡ body u ++ k ∷ more → sum_by w (body u) + w k ≤ sum_by w (body v) + w line.End
+longer w v u k more e =
+    omega (
+      arith,
+      ap (sum_by w) e,
+      sum_by-append w (body v) (line.End ∷ []),
+      sum_by-append w (body u) (k ∷ more),
+      sum_by-cons w line.End [],
+      sum_by-cons w k more,
+    )
+
+pub are_full : (v : ProgramLists) (k : Line) → AreMany v k → IsFull programs_grammar (body v) k
+are_full v (line.Driver d) h w allowed (more, e) = let a = counts v in let b = counts w in
+    omega (arith, longer a_driver w v (line.Driver d) more e, a.drivers, b.drivers, allowed.within.drivers, h)
+are_full v (line.Process n) h w allowed (more, e) = let a = counts v in let b = counts w in
+    omega (
+      arith,
+      longer a_process w v (line.Process n) more e,
+      a.processes,
+      b.processes,
+      allowed.within.programs,
+      h,
+    )
+are_full v (line.Command c) h w allowed (more, e) = let a = counts v in let b = counts w in
+    omega (
+      arith,
+      longer a_command w v (line.Command c) more e,
+      a.commands,
+      b.commands,
+      allowed.within.commands,
+      h,
+    )
+are_full v line.End h w allowed goes = absurd h
+
+-- ---- one line more
+
+abbrev pub with_line : ProgramLists → Line → ProgramLists
+with_line v (line.Driver d) = program_lists (v.drivers ++ d ∷ []) v.programs
+with_line v (line.Process number) = program_lists v.drivers (v.programs ++ [] ∷ [])
+with_line v (line.Command c) =
+    program_lists v.drivers (set v.programs (length v.programs - 1)
+    (get_or v.programs (length v.programs - 1) [] ++ c ∷ []))
+with_line v line.End = v
+
+pub with_driver : (ds : List DriverSpec) (ps : List (List Command)) (d : DriverSpec) → length ps ≡ 0
+    → body (program_lists (ds ++ d ∷ []) ps) ≡ body (program_lists ds ps) ++ line.Driver d ∷ []
+with_driver ds ps d none =
+    let empty : ps ≡ [] = nil_from_length ps none in
+    rw (empty, map_push line.Driver ds d) (simp append_assoc)
+
+pub body_more : (v : ProgramLists) (k : Line) → MayStand v k → k ≢ line.End → body (with_line v k) ≡ body v ++ k ∷ []
+body_more v (line.Driver d) h other = with_driver v.drivers v.programs d h
+body_more v (line.Process n) h other = added_process v.drivers v.programs n h
+body_more v (line.Command c) h other =
+    ap (λ (ls : List Line). map line.Driver v.drivers ++ ls) (lines_more 0 v.programs [] c h)
+    ∙ sym (append_assoc (map line.Driver v.drivers) (program_lines 0 v.programs) (line.Command c ∷ []))
+body_more v line.End h other = absurd (other refl)
+
+goes_on : (w : ProgramLists) (lines : List Line) (k : Line) → body w ≡ lines ++ k ∷ []
+    → GoesOn programs_grammar w lines k
+goes_on w lines k e = (
+  line.End ∷ [],
+  ap (λ (ls : List Line). ls ++ line.End ∷ []) e ∙ append_assoc lines (k ∷ []) (line.End ∷ []),
+)
+
+pub stand_may : (v : ProgramLists) (k : Line) → MayStand v k → MayFollow programs_grammar (body v) k
+stand_may v (line.Driver d) h = (
+  with_line v (line.Driver d),
+  goes_on (with_line v (line.Driver d)) (body v) (line.Driver d)
+      (body_more v (line.Driver d) h (λ e. cc)),
+)
+stand_may v (line.Process n) h = (
+  with_line v (line.Process n),
+  goes_on (with_line v (line.Process n)) (body v) (line.Process n)
+      (body_more v (line.Process n) h (λ e. cc)),
+)
+stand_may v (line.Command c) h = (
+  with_line v (line.Command c),
+  goes_on (with_line v (line.Command c)) (body v) (line.Command c)
+      (body_more v (line.Command c) h (λ e. cc)),
+)
+stand_may v line.End h = (v, ([], refl))

@@ -1,0 +1,176 @@
+-- The lines of some programs tell them, and lines that some programs begin with are those of some programs.
+use Rattle.std.proofs.Common.{◌≡◌, ◌≢◌, ℕ, ◌+◌, ◌-◌, List, [], ◌∷◌, ◌++◌, length, map, get_or, refl, sym, ap}
+use Rattle.std.proofs.Common.{subst, ◌∙◌, append_assoc, arith}
+use Rattle.std.specs.List.{sum_by, AllByRecursion}
+use Rattle.std.proofs.lemmas.List.{append-nil, length-append, length-set}
+use Rattle.std.proofs.lemmas.List.Sums.{sum_by-append, sum_by-cons}
+use Rattle.smx_types.specs.ProgramLists.{ProgramLists, AreWithinLimits, program_lists}
+use Rattle.smx_types.specs.declared.command.Command.{Command}
+use Rattle.smx_types.specs.declared.driver.DriverSpec.{DriverSpec}
+use Rattle.smx_text.specs.Grammar.{IsBegun}
+use Rattle.smx_text.specs.ProgramLines.{Line}
+use Rattle.smx_text.specs.ProgramLines as line
+use Rattle.smx_text.specs.ProgramsText.{FitsLine, program_lines, body, IsAllowed, programs_grammar}
+use Rattle.smx_text.proofs.EachLemmas.{all_left}
+use Rattle.smx_text.proofs.ProgramsOrderLemmas.{a_driver, a_process, a_command, an_end, counts, InOrder}
+use Rattle.smx_text.proofs.ProgramsOrderLemmas.{body_in_order, order_before}
+use Rattle.smx_text.proofs.ProgramsFollowLemmas.{stands, with_line, body_more}
+
+-- ---- the lines tell the programs
+
+abbrev drivers_of : List Line → List DriverSpec
+drivers_of [] = []
+drivers_of (line.Driver d ∷ ls) = d ∷ drivers_of ls
+drivers_of (line.Process n ∷ ls) = drivers_of ls
+drivers_of (line.Command c ∷ ls) = drivers_of ls
+drivers_of (line.End ∷ ls) = drivers_of ls
+
+-- the commands before the first process, and the programs
+abbrev commands_of : List Line → List Command
+commands_of [] = []
+commands_of (line.Driver d ∷ ls) = commands_of ls
+commands_of (line.Process n ∷ ls) = []
+commands_of (line.Command c ∷ ls) = c ∷ commands_of ls
+commands_of (line.End ∷ ls) = commands_of ls
+
+abbrev programs_of : List Line → List (List Command)
+programs_of [] = []
+programs_of (line.Driver d ∷ ls) = programs_of ls
+programs_of (line.Process n ∷ ls) = commands_of ls ∷ programs_of ls
+programs_of (line.Command c ∷ ls) = programs_of ls
+programs_of (line.End ∷ ls) = programs_of ls
+
+drivers_again : (ds : List DriverSpec) (rest : List Line)
+    → drivers_of (map line.Driver ds ++ rest) ≡ ds ++ drivers_of rest
+drivers_again [] rest = refl
+drivers_again (d ∷ ds) rest = ap (λ (es : List DriverSpec). d ∷ es) (drivers_again ds rest)
+
+programs_behind : (ds : List DriverSpec) (rest : List Line)
+    → programs_of (map line.Driver ds ++ rest) ≡ programs_of rest
+programs_behind [] rest = refl
+programs_behind (d ∷ ds) rest = programs_behind ds rest
+
+no_drivers_of : (cs : List Command) (rest : List Line) → drivers_of (map line.Command cs ++ rest) ≡ drivers_of rest
+no_drivers_of [] rest = refl
+no_drivers_of (c ∷ cs) rest = no_drivers_of cs rest
+
+no_drivers : (n : ℕ) (ps : List (List Command)) → drivers_of (program_lines n ps) ≡ []
+no_drivers n [] = refl
+no_drivers n (p ∷ ps) = no_drivers_of p (program_lines (n + 1) ps) ∙ no_drivers (n + 1) ps
+
+commands_again : (cs : List Command) (rest : List Line)
+    → commands_of (map line.Command cs ++ rest) ≡ cs ++ commands_of rest
+commands_again [] rest = refl
+commands_again (c ∷ cs) rest = ap (λ (es : List Command). c ∷ es) (commands_again cs rest)
+
+programs_after : (cs : List Command) (rest : List Line) → programs_of (map line.Command cs ++ rest) ≡ programs_of rest
+programs_after [] rest = refl
+programs_after (c ∷ cs) rest = programs_after cs rest
+
+none_first : (n : ℕ) (ps : List (List Command)) → commands_of (program_lines n ps) ≡ []
+none_first n [] = refl
+none_first n (p ∷ ps) = refl
+
+programs_again : (n : ℕ) (ps : List (List Command)) → programs_of (program_lines n ps) ≡ ps
+programs_again n [] = refl
+programs_again n (p ∷ ps) =
+    rw (
+      commands_again p (program_lines (n + 1) ps),
+      none_first (n + 1) ps,
+      programs_after p (program_lines (n + 1) ps),
+      programs_again (n + 1) ps,
+      append-nil,
+    ) refl
+
+pub told : (v : ProgramLists) → program_lists (drivers_of (body v)) (programs_of (body v)) ≡ v
+told v = rw (
+  drivers_again v.drivers (program_lines 0 v.programs),
+  no_drivers 0 v.programs,
+  append-nil,
+  programs_behind v.drivers (program_lines 0 v.programs),
+  programs_again 0 v.programs,
+) refl
+
+pub one_value : (v w : ProgramLists) → body v ≡ body w → v ≡ w
+one_value v w e = sym (told v) ∙ ap (λ (ls : List Line). program_lists (drivers_of ls) (programs_of ls)) e ∙ told w
+
+-- ---- lines that some programs begin with are those of some programs
+
+same_end : (k : Line) → an_end k ≡ 0 → k ≢ line.End
+same_end k none e = let one : an_end k ≡ 1 = ap an_end e in omega (arith, none, one)
+
+order_next : (v : ProgramLists) (n : ℕ) (k : Line) (more : List Line) → n ≡ length v.programs → k ≢ line.End
+    → InOrder n (k ∷ more) → InOrder (length (with_line v k).programs) more
+order_next v n (line.Driver d) more e other h = subst (λ (m : ℕ). InOrder m more) e h.1
+order_next v n (line.Process m) more e other h =
+    subst (λ (m : ℕ). InOrder m more) (omega (arith, e, length-append v.programs ([] ∷ []))) h.1
+order_next v n (line.Command c) more e other h =
+    subst (λ (m : ℕ). InOrder m more)
+    (e ∙ sym (length-set v.programs (length v.programs - 1)
+    (get_or v.programs (length v.programs - 1) [] ++ c ∷ []))) h.1
+order_next v n line.End more e other h = absurd (other refl)
+
+lead : (v : ProgramLists) (ks : List Line) → InOrder (length v.programs) ks → sum_by an_end ks ≡ 0
+    → (w : ProgramLists) × (body w ≡ body v ++ ks)
+lead v [] order none = (v, sym (append-nil (body v)))
+lead v (k ∷ ks) order none =
+    let sum = sum_by-cons an_end k ks in
+    let other = same_end k (omega (arith, sum, none)) in
+    let more =
+    lead (with_line v k) ks (order_next v (length v.programs) k ks refl other order)
+    (omega (arith, sum, none)) in (
+      more.0,
+      more.1 ∙ ap (λ (ls : List Line). ls ++ ks)
+          (body_more v k (stands v (length v.programs) k ks refl order) other)
+          ∙ append_assoc (body v) (k ∷ []) ks,
+    )
+
+pub begun_is_body : (lines : List Line) → IsBegun programs_grammar lines
+    → (v : ProgramLists) × IsAllowed v × (body v ≡ lines)
+begun_is_body lines (w, more, allowed, e) =
+    let c = counts w in
+    let order =
+    order_before 0 lines more
+    (subst (InOrder 0) e (order_before 0 (body w) (line.End ∷ []) (body_in_order w))) in
+    let ends = ap (sum_by an_end) e ∙ sum_by-append an_end lines more in
+    let own = lead (program_lists [] []) lines order (omega (arith, ends, c.ends)) in
+    let v = own.0 in
+    let d = counts v in
+    let within : AreWithinLimits v = record {
+      drivers =
+          omega (
+            arith,
+            ap (sum_by a_driver) e,
+            sum_by-append a_driver lines more,
+            ap (sum_by a_driver) own.1,
+            c.drivers,
+            d.drivers,
+            allowed.within.drivers,
+          );
+      programs =
+          omega (
+            arith,
+            ap (sum_by a_process) e,
+            sum_by-append a_process lines more,
+            ap (sum_by a_process) own.1,
+            c.processes,
+            d.processes,
+            allowed.within.programs,
+          );
+      commands =
+          omega (
+            arith,
+            ap (sum_by a_command) e,
+            sum_by-append a_command lines more,
+            ap (sum_by a_command) own.1,
+            c.commands,
+            d.commands,
+            allowed.within.commands,
+          );
+    } in
+    let fits = all_left FitsLine lines more (subst (AllByRecursion FitsLine) e allowed.fits) in
+    (v, record { within = within; fits = subst (AllByRecursion FitsLine) (sym own.1) fits }, own.1)
+
+-- so where their lines begin an allowed value, they are allowed
+pub allowed_of : (v : ProgramLists) → IsBegun programs_grammar (body v) → IsAllowed v
+allowed_of v begun = let own = begun_is_body (body v) begun in subst IsAllowed (one_value own.0 v own.2) own.1

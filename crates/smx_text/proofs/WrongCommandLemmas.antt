@@ -1,0 +1,243 @@
+-- Lines that are misspelled commands, behind the line of a process.
+use Rattle.std.proofs.Common.{◌≡◌, ◌≢◌, ℕ, ◌<◌, Bool, true, false, List, [], ◌∷◌, length, refl, sym}
+use Rattle.std.proofs.Common.{ap, ◌∙◌, arith, rules}
+use Rattle.std.specs.List.{AllByRecursion}
+use Rattle.std.specs.Fmt.{decimal, digits}
+use Rattle.std.specs.Prelude.{codes}
+use Rattle.std.specs.Str.{all_ascii_digits, bytes_eq}
+use Rattle.std.specs.Str.Parse.{digits_value}
+use Rattle.std.proofs.lemmas.Fmt.{decimal_digit, digits_value-decimal}
+use Rattle.smx_types.specs.Names.{is_name}
+use Rattle.smx_types.specs.ProgramLists.{ProgramLists, program_lists}
+use Rattle.smx_types.specs.declared.command.Command.{Command}
+use Rattle.smx_types.specs.declared.command.Command.TheVariants as command
+use Rattle.smx_types.specs.declared.command.Sides.{Sides}
+use Rattle.smx_types.specs.declared.command.Sides.TheVariants as sides
+use Rattle.smx_types.specs.declared.command.Which.{Which}
+use Rattle.smx_types.specs.declared.command.Which.TheVariants as which
+use Rattle.smx_types.specs.declared.driver.DriverKind.TheVariants as kind
+use Rattle.smx_words.specs.HexWords.{hex_word}
+use Rattle.smx_words.specs.declared.reading.verb.Verb.TheVariants as verb
+use Rattle.smx_words.specs.Spellable.{FitsBytes, FitsCommand, FitsName, FitsNumber, FitsWhich}
+use Rattle.smx_words.specs.Spelling.{command_words, driver_words, process_words, sides_word, which_word}
+use Rattle.smx_words.specs.Words.{IsFree, SPACE, line_of}
+use Rattle.smx_words.proofs.HexLemmas.{by_digits}
+use Rattle.smx_words.proofs.LawLemmas.{command_spelled, driver_spelled, process_spelled}
+use Rattle.smx_words.proofs.NumberLemmas.{decimal_digits, own}
+use Rattle.smx_words.proofs.SameCommandLemmas.{verb_is, verb_of}
+use Rattle.smx_text.specs.declared.fault.Cause.TheVariants as cause
+use Rattle.smx_text.specs.Grammar.{IsNoLine, IsOneLine, Reaches}
+use Rattle.smx_text.specs.ProgramsText.{IsAllowed, body, programs_grammar}
+use Rattle.smx_text.specs.WorkedFaults.{IsWrongAt, with_line_4}
+use Rattle.smx_text.proofs.ProgramsGrammarLemmas.{no_line, not_verb, well_made}
+use Rattle.smx_text.proofs.WordLemmas.{first_word}
+use Rattle.smx_text.proofs.WorkedFaultLemmas.{differ, told, wrong}
+
+-- ---- line 4 of a text
+
+-- the lines before it
+abbrev pub before : ProgramLists
+before = program_lists (record { name = codes "ip"; kind = kind.Mux; minors = 4; high = 8; low = 3; max = 16 }
+    ∷ []) ([] ∷ [])
+
+pub before_allowed : IsAllowed before
+before_allowed = search (rules, arith)
+
+reaches : (text : List ℕ) → IsOneLine text → Reaches programs_grammar (with_line_4 text) (body before) text 4
+unfolding digits
+reaches text one =
+    record { begun = (before, [], before_allowed, refl); next = (codes "end\n", one, refl); numbered = refl }
+
+pub wrong_at_4 : (text : List ℕ) → IsOneLine text → IsNoLine programs_grammar (body before) text
+    → IsWrongAt programs_grammar (with_line_4 text) 4 cause.Form
+wrong_at_4 text one none =
+    wrong programs_grammar well_made (with_line_4 text) 4 cause.Form (λ e. cc) (
+      body before,
+      text,
+      reaches text one,
+      none,
+    )
+
+-- words that are no command's, no driver's and no process'
+no_words : (ws : List (List ℕ)) → AllByRecursion (IsFree SPACE) ws × (0 < length ws)
+    → ((c : Command) → FitsCommand c → ws ≢ command_words c)
+    → bytes_eq (first_word ws) (codes "driver") ≡ false → bytes_eq (first_word ws) (codes "process") ≡ false
+    → line_of ws ≢ codes "end" → IsNoLine programs_grammar (body before) (line_of ws)
+no_words ws free none driver process end =
+    no_line (body before) (line_of ws) (λ c fits e.
+    none c fits (told ws (command_words c) free (command_spelled c fits) e))
+    (λ d fits e.
+    wrong_first (ap (λ (vs : List (List ℕ)). bytes_eq (first_word vs) (codes "driver"))
+    (told ws (driver_words d) free (driver_spelled d fits) e)) driver)
+    (λ n fits e.
+    wrong_first (ap (λ (vs : List (List ℕ)). bytes_eq (first_word vs) (codes "process"))
+    (told ws (process_words n) free (process_spelled n fits) e)) process) end where
+      wrong_first : {b : Bool} → b ≡ true → b ≡ false → ⊥
+      wrong_first e h = let bad : true ≡ false = sym e ∙ h in absurd (cc bad)
+
+-- ---- words that are none
+
+-- what a number's word is worth is the number
+worth : (w : List ℕ) (n : ℕ) → FitsNumber n → w ≡ decimal n → digits_value 10 w ≡ n
+worth w n fits e = ap (digits_value 10) e ∙ digits_value-decimal own n (omega (arith, fits))
+
+zeros : (n : ℕ) → FitsNumber n → codes "00" ≢ decimal n
+zeros n fits e =
+    let none : 0 ≡ n = worth (codes "00") n fits e in
+    let one = e ∙ ap decimal (sym none) ∙ decimal_digit 0 (omega arith) in
+    absurd (cc one)
+
+signed : (n : ℕ) → FitsNumber n → codes "+1" ≢ decimal n
+signed n fits e = let all : false ≡ true = ap all_ascii_digits e ∙ decimal_digits n fits in absurd (cc all)
+
+too_large : (n : ℕ) → FitsNumber n → codes "4294967296" ≢ decimal n
+too_large n fits e = let is : 4294967296 ≡ n = worth (codes "4294967296") n fits e in omega (arith, is, fits)
+
+no_digit_first : (d : List ℕ) → FitsName d → codes "9a" ≢ d
+no_digit_first d fits e = let is : false ≡ true = ap is_name e ∙ fits in absurd (cc is)
+
+no_nine_letters : (d : List ℕ) → FitsName d → codes "ninelette" ≢ d
+no_nine_letters d fits e = let is : false ≡ true = ap is_name e ∙ fits in absurd (cc is)
+
+no_capitals : (x : Which) → FitsWhich x → codes "ALL" ≢ which_word x
+no_capitals (which.Id n) fits e =
+    let all : all_ascii_digits (codes "ALL") ≡ true = ap all_ascii_digits e ∙ decimal_digits n fits in
+    absurd (cc all)
+no_capitals which.All fits e = differ (codes "ALL") (codes "all") refl e
+
+turned : (s : Sides) → codes "wr" ≢ sides_word s
+turned sides.R e = differ (codes "wr") (codes "r") refl e
+turned sides.W e = differ (codes "wr") (codes "w") refl e
+turned sides.RW e = differ (codes "wr") (codes "rw") refl e
+
+no_capital_digits : (bs : List ℕ) → FitsBytes bs → codes "AA" ≢ hex_word bs
+no_capital_digits bs fits e = let by = by_digits (codes "AA") bs (λ h. cc) fits e in absurd (cc by.1)
+
+no_odd_digits : (bs : List ℕ) → FitsBytes bs → codes "aab" ≢ hex_word bs
+no_odd_digits bs fits e = let by = by_digits (codes "aab") bs (λ h. cc) fits e in omega (arith, by.2)
+
+-- ---- and so commands that are none, each as line 4
+
+wrong_words : (ws : List (List ℕ)) → AllByRecursion (IsFree SPACE) ws × (0 < length ws)
+    → IsOneLine (line_of ws) → ((c : Command) → FitsCommand c → ws ≢ command_words c)
+    → bytes_eq (first_word ws) (codes "driver") ≡ false → bytes_eq (first_word ws) (codes "process") ≡ false
+    → bytes_eq (line_of ws) (codes "end") ≡ false
+    → IsWrongAt programs_grammar (with_line_4 (line_of ws)) 4 cause.Form
+wrong_words ws free one none driver process end =
+    wrong_at_4 (line_of ws) one (no_words ws free none driver process (differ (line_of ws) (codes "end") end))
+
+pub two_zeros : IsWrongAt programs_grammar (with_line_4 (codes "dup 00")) 4 cause.Form
+two_zeros =
+    wrong_words (codes "dup" ∷ codes "00" ∷ []) (search rules, omega arith) (search rules)
+    (λ c fits e. none c fits (verb_is c verb.Dup _ e) e) refl refl refl where
+      none : (c : Command) → FitsCommand c → verb_of c ≡ verb.Dup → codes "dup" ∷ codes "00" ∷ [] ≢ command_words c
+      none (command.Dup n) fits v e = zeros n fits (cc e)
+      none c fits v e = absurd (cc v)
+
+pub a_sign : IsWrongAt programs_grammar (with_line_4 (codes "dup +1")) 4 cause.Form
+a_sign = wrong_words (codes "dup" ∷ codes "+1" ∷ []) (search rules, omega arith) (search rules)
+    (λ c fits e. none c fits (verb_is c verb.Dup _ e) e) refl refl refl where
+      none : (c : Command) → FitsCommand c → verb_of c ≡ verb.Dup → codes "dup" ∷ codes "+1" ∷ [] ≢ command_words c
+      none (command.Dup n) fits v e = signed n fits (cc e)
+      none c fits v e = absurd (cc v)
+
+pub two_spaces : IsWrongAt programs_grammar (with_line_4 (codes "close  0")) 4 cause.Form
+two_spaces =
+    wrong_words (codes "close" ∷ [] ∷ codes "0" ∷ []) (search rules, omega arith) (search rules)
+    (λ c fits e. none c fits (verb_is c verb.Close _ e) e) refl refl refl where
+      none : (c : Command) → FitsCommand c → verb_of c ≡ verb.Close → codes "close" ∷ [] ∷ codes "0" ∷ [] ≢ command_words c
+      none (command.Close n) fits v e = omega (arith, ap (length {A = List ℕ}) e)
+      none c fits v e = absurd (cc v)
+
+pub a_last_space : IsWrongAt programs_grammar (with_line_4 (codes "close 0 ")) 4 cause.Form
+a_last_space =
+    wrong_words (codes "close" ∷ codes "0" ∷ [] ∷ []) (search rules, omega arith) (search rules)
+    (λ c fits e. none c fits (verb_is c verb.Close _ e) e) refl refl refl where
+      none : (c : Command) → FitsCommand c → verb_of c ≡ verb.Close → codes "close" ∷ codes "0" ∷ [] ∷ [] ≢ command_words c
+      none (command.Close n) fits v e = omega (arith, ap (length {A = List ℕ}) e)
+      none c fits v e = absurd (cc v)
+
+pub large_number : IsWrongAt programs_grammar (with_line_4 (codes "open ip 4294967296")) 4 cause.Form
+large_number =
+    wrong_words (codes "open" ∷ codes "ip" ∷ codes "4294967296" ∷ []) (search rules, omega arith)
+    (search rules) (λ c fits e. none c fits (verb_is c verb.Open _ e) e) refl refl refl where
+      none : (c : Command) → FitsCommand c → verb_of c ≡ verb.Open
+          → codes "open" ∷ codes "ip" ∷ codes "4294967296" ∷ [] ≢ command_words c
+      none (command.OpenMinor d n) fits v e = too_large n fits.1 (cc e)
+      none c fits v e = absurd (cc v)
+
+pub digit_first : IsWrongAt programs_grammar (with_line_4 (codes "open 9a 0")) 4 cause.Form
+digit_first =
+    wrong_words (codes "open" ∷ codes "9a" ∷ codes "0" ∷ []) (search rules, omega arith) (search rules)
+    (λ c fits e. none c fits (verb_is c verb.Open _ e) e) refl refl refl where
+      none : (c : Command) → FitsCommand c → verb_of c ≡ verb.Open
+          → codes "open" ∷ codes "9a" ∷ codes "0" ∷ [] ≢ command_words c
+      none (command.OpenMinor d n) fits v e = no_digit_first d fits.0 (cc e)
+      none c fits v e = absurd (cc v)
+
+pub nine_letters : IsWrongAt programs_grammar (with_line_4 (codes "clone ninelette")) 4 cause.Form
+nine_letters =
+    wrong_words (codes "clone" ∷ codes "ninelette" ∷ []) (search rules, omega arith) (search rules)
+    (λ c fits e. none c fits (verb_is c verb.Clone _ e) e) refl refl refl where
+      none : (c : Command) → FitsCommand c → verb_of c ≡ verb.Clone
+          → codes "clone" ∷ codes "ninelette" ∷ [] ≢ command_words c
+      none (command.OpenClone d) fits v e = no_nine_letters d fits (cc e)
+      none c fits v e = absurd (cc v)
+
+pub word_wanting : IsWrongAt programs_grammar (with_line_4 (codes "link 0")) 4 cause.Form
+word_wanting =
+    wrong_words (codes "link" ∷ codes "0" ∷ []) (search rules, omega arith) (search rules)
+    (λ c fits e. none c fits (verb_is c verb.Link _ e) e) refl refl refl where
+      none : (c : Command) → FitsCommand c → verb_of c ≡ verb.Link → codes "link" ∷ codes "0" ∷ [] ≢ command_words c
+      none (command.Link n m) fits v e = omega (arith, ap (length {A = List ℕ}) e)
+      none c fits v e = absurd (cc v)
+
+pub capitals : IsWrongAt programs_grammar (with_line_4 (codes "unlink 0 ALL")) 4 cause.Form
+capitals =
+    wrong_words (codes "unlink" ∷ codes "0" ∷ codes "ALL" ∷ []) (search rules, omega arith) (search rules)
+    (λ c fits e. none c fits (verb_is c verb.Unlink _ e) e) refl refl refl where
+      none : (c : Command) → FitsCommand c → verb_of c ≡ verb.Unlink
+          → codes "unlink" ∷ codes "0" ∷ codes "ALL" ∷ [] ≢ command_words c
+      none (command.Unlink n x) fits v e = no_capitals x fits.1 (cc e)
+      none c fits v e = absurd (cc v)
+
+pub sides_turned : IsWrongAt programs_grammar (with_line_4 (codes "flush 0 wr")) 4 cause.Form
+sides_turned =
+    wrong_words (codes "flush" ∷ codes "0" ∷ codes "wr" ∷ []) (search rules, omega arith) (search rules)
+    (λ c fits e. none c fits (verb_is c verb.Flush _ e) e) refl refl refl where
+      none : (c : Command) → FitsCommand c → verb_of c ≡ verb.Flush
+          → codes "flush" ∷ codes "0" ∷ codes "wr" ∷ [] ≢ command_words c
+      none (command.Flush n s) fits v e = turned s (cc e)
+      none c fits v e = absurd (cc v)
+
+pub capital_digits : IsWrongAt programs_grammar (with_line_4 (codes "write 0 5 AA")) 4 cause.Form
+capital_digits =
+    wrong_words (codes "write" ∷ codes "0" ∷ codes "5" ∷ codes "AA" ∷ []) (search rules, omega arith)
+    (search rules) (λ c fits e. none c fits (verb_is c verb.Write _ e) e) refl refl refl where
+      none : (c : Command) → FitsCommand c → verb_of c ≡ verb.Write
+          → codes "write" ∷ codes "0" ∷ codes "5" ∷ codes "AA" ∷ [] ≢ command_words c
+      none (command.Write n m bs) fits v e = no_capital_digits bs fits.2 (cc e)
+      none c fits v e = absurd (cc v)
+
+pub odd_digits : IsWrongAt programs_grammar (with_line_4 (codes "write 0 5 aab")) 4 cause.Form
+odd_digits =
+    wrong_words (codes "write" ∷ codes "0" ∷ codes "5" ∷ codes "aab" ∷ []) (search rules, omega arith)
+    (search rules) (λ c fits e. none c fits (verb_is c verb.Write _ e) e) refl refl refl where
+      none : (c : Command) → FitsCommand c → verb_of c ≡ verb.Write
+          → codes "write" ∷ codes "0" ∷ codes "5" ∷ codes "aab" ∷ [] ≢ command_words c
+      none (command.Write n m bs) fits v e = no_odd_digits bs fits.2 (cc e)
+      none c fits v e = absurd (cc v)
+
+pub bytes_wanting : IsWrongAt programs_grammar (with_line_4 (codes "write 0 5")) 4 cause.Form
+bytes_wanting =
+    wrong_words (codes "write" ∷ codes "0" ∷ codes "5" ∷ []) (search rules, omega arith) (search rules)
+    (λ c fits e. none c fits (verb_is c verb.Write _ e) e) refl refl refl where
+      none : (c : Command) → FitsCommand c → verb_of c ≡ verb.Write
+          → codes "write" ∷ codes "0" ∷ codes "5" ∷ [] ≢ command_words c
+      none (command.Write n m bs) fits v e = omega (arith, ap (length {A = List ℕ}) e)
+      none c fits v e = absurd (cc v)
+
+pub no_word : IsWrongAt programs_grammar (with_line_4 []) 4 cause.Form
+no_word =
+    wrong_words ([] ∷ []) (search rules, omega arith) (search rules)
+    (λ c fits e. not_verb c ([] ∷ []) (sym e) refl) refl refl refl

@@ -1,0 +1,203 @@
+-- Programs texts with a line out of its place, or without a line that they need.
+use Rattle.std.proofs.Common.{◌≡◌, ℕ, zero, suc, ◌+◌, ◌≤◌, List, [], ◌∷◌, ◌++◌, length, refl, sym, ap, subst}
+use Rattle.std.proofs.Common.{◌∙◌, append_assoc, arith, rules, inl, inr}
+use Rattle.std.specs.Fmt.{decimal}
+use Rattle.std.proofs.lemmas.List.{length-append}
+use Rattle.smx_types.specs.declared.command.Command.{Command}
+use Rattle.smx_words.specs.Words.{LINE_FEED}
+use Rattle.std.specs.Fmt.{digits}
+use Rattle.std.specs.Prelude.{codes}
+use Rattle.smx_types.specs.ProgramLists.{ProgramLists, program_lists}
+use Rattle.smx_types.specs.declared.command.Command.TheVariants as command
+use Rattle.smx_types.specs.declared.driver.DriverKind.TheVariants as kind
+use Rattle.smx_types.specs.declared.driver.DriverSpec.{DriverSpec}
+use Rattle.smx_text.specs.declared.fault.Cause.TheVariants as cause
+use Rattle.smx_text.specs.Grammar.{IsBegun, beginning}
+use Rattle.smx_text.specs.ProgramLines.{Line}
+use Rattle.smx_text.specs.ProgramLines as line
+use Rattle.smx_text.specs.ProgramsText.{IsAllowed, body, programs_grammar}
+use Rattle.smx_text.specs.WorkedFaults.{IsWrongAt, process_lines, with_line_4, with_processes}
+use Rattle.smx_text.proofs.ProgramsDecidedLemmas.{nothing_begun}
+use Rattle.smx_text.proofs.ProgramsGrammarLemmas.{refused_line, well_made}
+use Rattle.smx_text.proofs.ProgramsLemmas.{longer_begun, misplaced, too_many}
+use Rattle.smx_text.proofs.BodyLemmas.{added_process}
+use Rattle.smx_text.proofs.ReadingLemmas.{beginning_more}
+use Rattle.smx_text.proofs.WorkedFaultLemmas.{differ, wrong}
+use Rattle.smx_text.proofs.WrongCommandLemmas.{before, before_allowed, wrong_at_4}
+
+-- ---- the header, and nothing behind it
+
+pub nothing : IsWrongAt programs_grammar [] 1 cause.Cut
+nothing = wrong programs_grammar well_made [] 1 cause.Cut (λ e. cc) ([], [], inl (refl, refl), tt, refl)
+
+pub cut_header : IsWrongAt programs_grammar (codes "programs 1") 1 cause.Cut
+cut_header =
+    wrong programs_grammar well_made (codes "programs 1") 1 cause.Cut (λ e. cc) (
+      [],
+      codes "programs 1",
+      inl (refl, refl),
+      search rules,
+      refl,
+    )
+
+pub version_2 : IsWrongAt programs_grammar (codes "programs 2\n") 1 cause.Header
+version_2 =
+    wrong programs_grammar well_made (codes "programs 2\n") 1 cause.Header (λ e. cc)
+    (codes "programs 2", ([], search rules, refl), differ (codes "programs 2") (codes "programs 1") refl, refl)
+
+pub header_alone : IsWrongAt programs_grammar (codes "programs 1\n") 2 cause.Cut
+header_alone =
+    wrong programs_grammar well_made (codes "programs 1\n") 2 cause.Cut (λ e. cc) (
+      codes "programs 1\n",
+      [],
+      inr ([], nothing_begun, refl, refl),
+      tt,
+      refl,
+    )
+
+-- ---- lines out of their places
+
+abbrev eth : DriverSpec
+eth = record { name = codes "eth"; kind = kind.Leaf; minors = 2; high = 8; low = 3; max = 16 }
+
+pub out_of_turn : IsWrongAt programs_grammar (with_line_4 (codes "process 2")) 4 cause.Form
+unfolding digits
+out_of_turn =
+    wrong_at_4 (codes "process 2") (search rules)
+    (refused_line (body before) (line.Process 2) (codes "process 2") (omega arith) refl cause.Form
+    (misplaced before (line.Process 2) (λ e. omega (arith, e))))
+
+pub late_driver : IsWrongAt programs_grammar (with_line_4 (codes "driver eth leaf 2 8 3 16")) 4 cause.Form
+unfolding digits
+late_driver =
+    wrong_at_4 (codes "driver eth leaf 2 8 3 16") (search rules)
+    (refused_line (body before) (line.Driver eth) (codes "driver eth leaf 2 8 3 16") (search rules) refl
+    cause.Form (misplaced before (line.Driver eth) (λ e. omega (arith, e))))
+
+abbrev clone : Line
+clone = line.Command (command.OpenClone (codes "ip"))
+
+pub no_process : IsWrongAt programs_grammar (codes "programs 1\nclone ip\nend\n") 2 cause.Form
+no_process =
+    wrong programs_grammar well_made (codes "programs 1\nclone ip\nend\n") 2 cause.Form (λ e. cc) (
+      [],
+      codes "clone ip",
+      record { begun = nothing_begun; next = (codes "end\n", search rules, refl); numbered = refl },
+      refused_line [] clone (codes "clone ip") (search rules) refl cause.Form
+          (misplaced (program_lists [] []) clone (λ e. omega (arith, e))),
+    )
+
+-- ---- the end
+
+-- a process with one command
+abbrev one_command : ProgramLists
+one_command = program_lists before.drivers ((command.OpenClone (codes "ip") ∷ []) ∷ [])
+
+-- a process with none
+abbrev no_command : ProgramLists
+no_command = program_lists [] ([] ∷ [])
+
+allowed_none : IsAllowed no_command
+allowed_none = search (rules, arith)
+
+allowed_one : IsAllowed one_command
+allowed_one = search (rules, arith)
+
+pub no_end : IsWrongAt programs_grammar (codes "programs 1\ndriver ip mux 4 8 3 16\nprocess 0\nclone ip\n") 5 cause.Cut
+unfolding digits
+no_end =
+    wrong programs_grammar well_made (codes "programs 1\ndriver ip mux 4 8 3 16\nprocess 0\nclone ip\n") 5
+    cause.Cut (λ e. cc) (
+      codes "programs 1\ndriver ip mux 4 8 3 16\nprocess 0\nclone ip\n",
+      [],
+      inr (body one_command, (one_command, [], allowed_one, refl), refl, refl),
+      tt,
+      refl,
+    )
+
+pub cut_line : IsWrongAt programs_grammar (codes "programs 1\ndriver ip mux 4 8 3 16\nprocess 0\nclone ip") 4 cause.Cut
+unfolding digits
+cut_line =
+    wrong programs_grammar well_made (codes "programs 1\ndriver ip mux 4 8 3 16\nprocess 0\nclone ip") 4
+    cause.Cut (λ e. cc) (
+      codes "programs 1\ndriver ip mux 4 8 3 16\nprocess 0\n",
+      codes "clone ip",
+      inr (body before, (before, [], before_allowed, refl), refl, refl),
+      search rules,
+      refl,
+    )
+
+pub a_space_behind : IsWrongAt programs_grammar (codes "programs 1\nprocess 0\nend\n ") 4 cause.Trailing
+unfolding digits
+a_space_behind =
+    wrong programs_grammar well_made (codes "programs 1\nprocess 0\nend\n ") 4 cause.Trailing (λ e. cc)
+    (no_command, 32, [], allowed_none, refl, refl)
+
+-- ---- one process too many
+
+abbrev none_each : ℕ → List (List Command)
+none_each zero = []
+none_each (suc n) = none_each n ++ [] ∷ []
+
+many : (n : ℕ) → length (none_each n) ≡ n
+many zero = refl
+many (suc n) = omega (arith, length-append (none_each n) ([] ∷ []), many n)
+
+abbrev processes : ℕ → ProgramLists
+processes n = program_lists before.drivers (none_each n)
+
+-- their lines, one more at a time
+body_of : (n : ℕ) → body (processes (suc n)) ≡ body (processes n) ++ line.Process n ∷ []
+body_of n = added_process before.drivers (none_each n) n (sym (many n))
+
+text_of_processes : (n : ℕ) → beginning programs_grammar (body (processes n))
+    ≡ codes "programs 1\ndriver ip mux 4 8 3 16\n" ++ process_lines n
+unfolding digits
+text_of_processes zero = refl
+text_of_processes (suc n) =
+    ap (beginning programs_grammar) (body_of n) ∙ beginning_more programs_grammar (body (processes n)) (line.Process n)
+    ∙ ap (λ (xs : List ℕ). xs ++ (codes "process " ++ (decimal n ++ codes "\n"))) (text_of_processes n)
+    ∙ append_assoc (codes "programs 1\ndriver ip mux 4 8 3 16\n") (process_lines n) _
+
+begun_by : (n : ℕ) → n ≤ 64 → IsBegun programs_grammar (body (processes n))
+begun_by zero most = (before, line.Process 0 ∷ [], before_allowed, refl)
+begun_by (suc n) most =
+    let long = many n in
+    subst (IsBegun programs_grammar) (sym (body_of n))
+    (longer_begun (processes n) (line.Process n) (begun_by n (omega (arith, most))) (sym long)
+    (omega (arith, long, most)) (omega (arith, most)))
+
+body_long : (n : ℕ) → length (body (processes n)) ≡ n + 1
+body_long zero = refl
+body_long (suc n) =
+    omega (
+      arith,
+      ap (length {A = Line}) (body_of n),
+      length-append (body (processes n)) (line.Process n ∷ []),
+      body_long n,
+    )
+
+process_65_is : with_processes 65 ≡ beginning programs_grammar (body (processes 64))
+    ++ (codes "process 64" ++ LINE_FEED ∷ codes "end\n")
+unfolding digits
+process_65_is =
+    ap (λ (xs : List ℕ). codes "programs 1\ndriver ip mux 4 8 3 16\n" ++ xs)
+    (append_assoc (process_lines 64) (codes "process 64\n") (codes "end\n"))
+    ∙ sym (append_assoc (codes "programs 1\ndriver ip mux 4 8 3 16\n") (process_lines 64) (codes "process 64\nend\n"))
+    ∙ ap (λ (xs : List ℕ). xs ++ codes "process 64\nend\n") (sym (text_of_processes 64))
+
+pub process_65 : IsWrongAt programs_grammar (with_processes 65) 67 cause.Many
+unfolding digits
+process_65 =
+    let long = many 64 in
+    wrong programs_grammar well_made (with_processes 65) 67 cause.Many (λ e. cc) (
+      body (processes 64),
+      codes "process 64",
+      record {
+        begun = begun_by 64 (omega arith);
+        next = (codes "end\n", search rules, process_65_is);
+        numbered = omega (arith, body_long 64);
+      },
+      refused_line (body (processes 64)) (line.Process 64) (codes "process 64") (omega arith) refl cause.Many
+          (too_many (processes 64) (line.Process 64) (sym long) (omega (arith, long))),
+    )

@@ -1,0 +1,240 @@
+-- Transcripts with a line out of its place, one that is no line, or without one that they need.
+use Rattle.std.proofs.Common.{◌≡◌, ◌≢◌, ℕ, ◌<◌, false, List, [], ◌∷◌, ◌++◌, length, refl, sym}
+use Rattle.std.proofs.Common.{ap, ◌∙◌, arith, rules, inr, None, Some}
+use Rattle.std.specs.List.{AllByRecursion}
+use Rattle.std.specs.Fmt.{decimal, digits}
+use Rattle.std.specs.Prelude.{codes}
+use Rattle.std.specs.Str.Parse.{digits_value}
+use Rattle.std.proofs.lemmas.Fmt.{digits_value-decimal}
+use Rattle.smx_types.specs.declared.command.Command.{Command}
+use Rattle.smx_types.specs.declared.command.Command.TheVariants as command
+use Rattle.smx_types.specs.declared.command.Entry.{Entry as AnyEntry}
+use Rattle.smx_types.specs.declared.driver.DriverKind.TheVariants as kind
+use Rattle.smx_types.specs.declared.link.LinkKind.TheVariants as link
+use Rattle.smx_types.specs.declared.reply.Fault.{Fault}
+use Rattle.smx_types.specs.declared.reply.Reply.{Reply}
+use Rattle.smx_types.specs.declared.reply.Reply.TheVariants as reply
+use Rattle.smx_types.specs.declared.transcript.Transcript.{Transcript}
+use Rattle.smx_words.specs.declared.reading.verb.Verb.TheVariants as verb
+use Rattle.smx_words.specs.Spellable.{FitsEntry}
+use Rattle.smx_words.specs.Spelling.{command_words, entry_words, fault_words, reply_words}
+use Rattle.smx_words.specs.Words.{IsFree, SPACE, line_of}
+use Rattle.smx_words.proofs.NumberLemmas.{own}
+use Rattle.smx_words.proofs.SameCommandLemmas.{verb_first, verb_of}
+use Rattle.smx_words.proofs.SameReplyLemmas.{reply_verb_of, verb_again, verb_at}
+use Rattle.smx_words.proofs.SameWordLemmas.{all_fault, fault_line, first_of_these, found_fault}
+use Rattle.smx_text.specs.declared.fault.Cause.TheVariants as cause
+use Rattle.smx_text.specs.declared.transcript.draft.Stage.TheVariants as stage
+use Rattle.smx_text.specs.declared.transcript.draft.TranscriptDraft.{TranscriptDraft}
+use Rattle.smx_text.specs.Drafts.{lines}
+use Rattle.smx_text.specs.Grammar.{IsNoLine, IsOneLine, line_text}
+use Rattle.smx_text.specs.TranscriptLines.{TranscriptLine}
+use Rattle.smx_text.specs.TranscriptLines as line
+use Rattle.smx_text.specs.TranscriptText.{FitsLine, IsAllowed, line_words, transcript_grammar}
+use Rattle.smx_text.specs.WorkedFaults.{IsWrongAt, with_line_3, with_line_5}
+use Rattle.smx_text.proofs.TranscriptDraftLemmas.{draft}
+use Rattle.smx_text.proofs.TranscriptDrafts.{new_view, takes}
+use Rattle.smx_text.proofs.TranscriptGrammarLemmas.{kind_at, kind_first, kind_of, not_at_end, refused_line}
+use Rattle.smx_text.proofs.TranscriptGrammarLemmas.{spelling, well_made}
+use Rattle.smx_text.proofs.TranscriptLemmas.{misplaced}
+use Rattle.smx_text.proofs.WordLemmas.{first_word}
+use Rattle.smx_text.proofs.WorkedFaultLemmas.{differ, told, wrong}
+
+-- ---- what stands before
+
+-- no driver, no entry and an empty view
+abbrev nothing : Transcript
+nothing = record { drivers = []; entries = []; view = new_view 1 1 }
+
+-- the same with a driver
+abbrev one_driver : Transcript
+one_driver =
+    record nothing {
+      drivers = record {
+        name = codes "ip";
+        kind = kind.Mux;
+        minors = 4;
+        high = 8;
+        low = 3;
+        max = 16;
+      } ∷ [];
+    }
+
+-- the same with a link
+abbrev one_link : Transcript
+one_link = record nothing {
+  view = record (new_view 2 1) {
+    links = record {
+      id = 1;
+      ctl_driver = codes "ip";
+      ctl_minor = 0;
+      lower_driver = codes "eth";
+      lower_minor = 0;
+      kind = link.Persistent;
+    } ∷ [];
+  };
+}
+
+nothing_allowed : IsAllowed nothing
+nothing_allowed = search (rules, arith)
+
+one_driver_allowed : IsAllowed one_driver
+one_driver_allowed = search (rules, arith)
+
+one_link_allowed : IsAllowed one_link
+one_link_allowed = search (rules, arith)
+
+-- below `config`
+abbrev below_config : TranscriptDraft
+below_config = draft stage.Config nothing
+
+wrong_below_config : (text rest : List ℕ) → IsOneLine text → IsNoLine transcript_grammar (lines below_config) text
+    → IsWrongAt transcript_grammar (codes "transcript 1\nconfig\n" ++ (text ++ 10 ∷ rest)) 3 cause.Form
+wrong_below_config text rest one none =
+    wrong transcript_grammar well_made (codes "transcript 1\nconfig\n" ++ (text ++ 10 ∷ rest)) 3 cause.Form (λ e. cc) (
+      lines below_config,
+      text,
+      record {
+        begun = (nothing, line.Next 1 1 ∷ [], nothing_allowed, refl);
+        next = (rest, one, refl);
+        numbered = refl;
+      },
+      none,
+    )
+
+-- behind the driver
+abbrev behind_driver : TranscriptDraft
+behind_driver = draft stage.History one_driver
+
+wrong_at_3 : (text : List ℕ) → IsOneLine text → IsNoLine transcript_grammar (lines behind_driver) text
+    → IsWrongAt transcript_grammar (with_line_3 text) 3 cause.Form
+unfolding digits
+wrong_at_3 text one none =
+    wrong transcript_grammar well_made (with_line_3 text) 3 cause.Form (λ e. cc) (
+      lines behind_driver,
+      text,
+      record {
+        begun = (one_driver, line.Config ∷ line.Next 1 1 ∷ [], one_driver_allowed, refl);
+        next = (codes "config\nnext 1 1\nend\n", one, refl);
+        numbered = refl;
+      },
+      none,
+    )
+
+-- behind the link
+abbrev behind_link : TranscriptDraft
+behind_link = draft stage.View one_link
+
+wrong_at_5 : (text : List ℕ) → IsOneLine text → (k : TranscriptLine) → FitsLine k
+    → text ≡ line_text transcript_grammar k → takes behind_link k ≡ false
+    → IsWrongAt transcript_grammar (with_line_5 text) 5 cause.Form
+unfolding digits
+wrong_at_5 text one k fits is never =
+    wrong transcript_grammar well_made (with_line_5 text) 5 cause.Form (λ e. cc) (
+      lines behind_link,
+      text,
+      record { begun = (one_link, [], one_link_allowed, refl); next = (codes "end\n", one, refl); numbered = refl },
+      refused_line (lines behind_link) k text fits is cause.Form (misplaced behind_link k never),
+    )
+
+-- ---- lines out of their places
+
+pub other_header : IsWrongAt transcript_grammar (codes "programs 1\nend\n") 1 cause.Header
+other_header =
+    wrong transcript_grammar well_made (codes "programs 1\nend\n") 1 cause.Header (λ e. cc) (
+      codes "programs 1",
+      (codes "end\n", search rules, refl),
+      differ (codes "programs 1") (codes "transcript 1") refl,
+      refl,
+    )
+
+abbrev descriptor : TranscriptLine
+descriptor = line.Fd (record { process = 0; fd = 0; driver = codes "ip"; minor = 0 })
+
+pub next_wanting : IsWrongAt transcript_grammar (codes "transcript 1\nconfig\nfd 0 0 ip 0\nend\n") 3 cause.Form
+unfolding digits
+next_wanting =
+    wrong_below_config (codes "fd 0 0 ip 0") (codes "end\n") (search rules)
+    (refused_line (lines below_config) descriptor (codes "fd 0 0 ip 0") (search (rules, arith)) refl
+    cause.Form (misplaced below_config descriptor refl))
+
+pub end_too_early : IsWrongAt transcript_grammar (codes "transcript 1\nconfig\nend\n") 3 cause.Form
+end_too_early = wrong_below_config (codes "end") [] (search rules) (not_at_end below_config refl)
+
+pub two_nexts : IsWrongAt transcript_grammar (with_line_5 (codes "next 2 1")) 5 cause.Form
+unfolding digits
+two_nexts = wrong_at_5 (codes "next 2 1") (search rules) (line.Next 2 1) (search (rules, arith)) refl refl
+
+pub late_entry : IsWrongAt transcript_grammar (with_line_5 (codes "0 exit = done")) 5 cause.Form
+unfolding digits
+late_entry =
+    wrong_at_5 (codes "0 exit = done") (search rules)
+    (line.Entry (record { process = 0; command = command.CloseAll; reply = reply.Done [] }))
+    (search (rules, arith)) refl refl
+
+pub late_descriptor : IsWrongAt transcript_grammar (with_line_5 (codes "fd 0 0 ip 0")) 5 cause.Form
+unfolding digits
+late_descriptor = wrong_at_5 (codes "fd 0 0 ip 0") (search rules) descriptor (search (rules, arith)) refl refl
+
+pub no_end : IsWrongAt transcript_grammar (codes "transcript 1\nconfig\nnext 1 1\n") 4 cause.Cut
+unfolding digits
+no_end =
+    wrong transcript_grammar well_made (codes "transcript 1\nconfig\nnext 1 1\n") 4 cause.Cut (λ e. cc) (
+      codes "transcript 1\nconfig\nnext 1 1\n",
+      [],
+      inr (line.Config ∷ line.Next 1 1 ∷ [], (nothing, [], nothing_allowed, refl), refl, refl),
+      tt,
+      refl,
+    )
+
+-- ---- lines that begin with a number, and are no entry
+
+no_entry : (ws : List (List ℕ)) → AllByRecursion (IsFree SPACE) ws × (0 < length ws)
+    → kind_at (first_word ws) ≡ 0 → ((e : AnyEntry) → FitsEntry e → ws ≢ entry_words e)
+    → IsNoLine transcript_grammar (lines behind_driver) (line_of ws)
+no_entry ws free digit none k fits may e =
+    let same = told ws (line_words k) free (spelling k fits) e in
+    by_kind k fits same (sym (kind_first k fits)
+    ∙ ap (λ (vs : List (List ℕ)). kind_at (first_word vs)) (sym same) ∙ digit) where
+      by_kind : (k : TranscriptLine) → FitsLine k → ws ≡ line_words k → kind_of k ≡ 0 → ⊥
+      by_kind (line.Entry x) fits same entry = none x fits same
+      by_kind k fits same entry = absurd (cc entry)
+
+process_wrong : (e : AnyEntry) → FitsEntry e → codes "64" ≢ decimal e.process
+process_wrong e fits is =
+    let value : 64 ≡ e.process = ap (digits_value 10) is
+    ∙ digits_value-decimal own e.process (omega (arith, fits.process)) in
+    omega (arith, value, fits.process)
+
+pub process_64 : IsWrongAt transcript_grammar (with_line_3 (codes "64 clone ip = fd 0 0")) 3 cause.Form
+process_64 =
+    wrong_at_3 (codes "64 clone ip = fd 0 0") (search rules)
+    (no_entry (codes "64" ∷ codes "clone" ∷ codes "ip" ∷ codes "=" ∷ codes "fd" ∷ codes "0" ∷ codes "0" ∷ [])
+    (search rules, omega arith) refl (λ e fits is. process_wrong e fits (cc is)))
+
+-- a fault of one word is none of two
+no_fault : (f : Fault) → codes "EINVAL" ∷ [] ≢ fault_words f
+no_fault f e =
+    let none : None ≡ Some f = ap (first_of_these fault_line all_fault) (ap line_of e) ∙ found_fault f in
+    absurd (cc none)
+
+no_reply : (r : Reply) → codes "EINVAL" ∷ [] ≢ reply_words r
+no_reply r e = by_kind r (sym (verb_again r) ∙ ap verb_at (sym e)) e where
+  by_kind : (r : Reply) → reply_verb_of r ≡ None → codes "EINVAL" ∷ [] ≢ reply_words r
+  by_kind (reply.Fault f) v e = no_fault f e
+  by_kind r v e = absurd (cc v)
+
+half_reply : (c : Command) (r : Reply) → codes "clone" ∷ codes "ip" ∷ codes "=" ∷ codes "EINVAL"
+    ∷ [] ≢ command_words c ++ codes "=" ∷ reply_words r
+half_reply c r e = by_kind c (verb_first c verb.Clone _ _ e) e where
+  by_kind : (c : Command) → verb_of c ≡ verb.Clone
+      → codes "clone" ∷ codes "ip" ∷ codes "=" ∷ codes "EINVAL" ∷ [] ≢ command_words c
+      ++ codes "=" ∷ reply_words r
+  by_kind (command.OpenClone d) v e = no_reply r (cc e)
+  by_kind c v e = absurd (cc v)
+
+pub half_a_fault : IsWrongAt transcript_grammar (with_line_3 (codes "0 clone ip = EINVAL")) 3 cause.Form
+half_a_fault =
+    wrong_at_3 (codes "0 clone ip = EINVAL") (search rules)
+    (no_entry (codes "0" ∷ codes "clone" ∷ codes "ip" ∷ codes "=" ∷ codes "EINVAL" ∷ [])
+    (search rules, omega arith) refl (λ e fits is. half_reply e.command e.reply (cc is)))

@@ -1,0 +1,30 @@
+-- Worked faults: texts that no value has, and where they go wrong.
+use Rattle.std.specs.Prelude.{ℕ, zero, suc, List, [], ◌++◌, codes}
+use Rattle.std.specs.Fmt.{decimal}
+use Rattle.smx_text.specs.declared.fault.Cause.{Cause}
+use Rattle.smx_text.specs.Grammar.{Grammar, Spells, IsFault}
+
+-- they go wrong at this line for this cause, and are the text of no value
+abbrev pub IsWrongAt : {V K : Type 0} → Grammar V K → List ℕ → ℕ → Cause → Type 0
+IsWrongAt {V} g bytes line why = IsFault g bytes line why × ((v : V) → Spells g bytes v → ⊥)
+
+-- one driver and one process, and this as line 4
+abbrev pub with_line_4 : List ℕ → List ℕ
+with_line_4 text = codes "programs 1\ndriver ip mux 4 8 3 16\nprocess 0\n" ++ (text ++ codes "\nend\n")
+
+-- one driver, this as line 3, and an empty view
+abbrev pub with_line_3 : List ℕ → List ℕ
+with_line_3 text = codes "transcript 1\ndriver ip mux 4 8 3 16\n" ++ (text ++ codes "\nconfig\nnext 1 1\nend\n")
+
+-- one link, and this as line 5
+abbrev pub with_line_5 : List ℕ → List ℕ
+with_line_5 text = codes "transcript 1\nconfig\nnext 2 1\nlink 1 ip 0 eth 0 plink\n" ++ (text ++ codes "\nend\n")
+
+-- the lines of this many processes
+abbrev pub process_lines : ℕ → List ℕ
+process_lines zero = []
+process_lines (suc n) = process_lines n ++ (codes "process " ++ (decimal n ++ codes "\n"))
+
+-- one driver, and this many processes
+abbrev pub with_processes : ℕ → List ℕ
+with_processes n = codes "programs 1\ndriver ip mux 4 8 3 16\n" ++ (process_lines n ++ codes "end\n")

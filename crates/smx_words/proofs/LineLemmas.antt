@@ -1,0 +1,81 @@
+-- The words of a line: none has a space in it, and the line tells them.
+use Rattle.std.proofs.Common.{◌≡◌, ◌≢◌, ℕ, ◌<◌, ◌≤◌, Bool, true, false, eqb, List, [], ◌∷◌, ◌++◌, length}
+use Rattle.std.proofs.Common.{refl, sym, ap, arith}
+use Rattle.std.specs.List.{AllByRecursion}
+use Rattle.std.proofs.lemmas.Bool.Decides.{nat_tests}
+use Rattle.std.proofs.lemmas.List.{length-append}
+use Rattle.smx_words.specs.Words.{IsFree, IsWord, SPACE, line_of}
+use Rattle.smx_words.proofs.CutLemmas.{apart, no_space_in}
+
+-- ---- bytes that stand in no word, and in no line
+
+-- a byte below those that can be seen stands in no word
+pub seen_free : (byte : ℕ) → byte < 0x21 → (w : List ℕ) → AllByRecursion (λ b. (0x21 ≤ b) × (b ≤ 0x7E)) w
+    → IsFree byte w
+seen_free byte low [] h = tt
+seen_free byte low (b ∷ w) h = (λ e. omega (arith, low, h.0.0, e), seen_free byte low w h.1)
+
+pub words_free : (byte : ℕ) → byte < 0x21 → (ws : List (List ℕ)) → AllByRecursion IsWord ws
+    → AllByRecursion (IsFree byte) ws
+words_free byte low [] h = tt
+words_free byte low (w ∷ ws) h = (seen_free byte low w h.0.1, words_free byte low ws h.1)
+
+pub free_append : (byte : ℕ) (xs ys : List ℕ) → IsFree byte xs → IsFree byte ys → IsFree byte (xs ++ ys)
+free_append byte [] ys h k = k
+free_append byte (x ∷ xs) ys h k = (h.0, free_append byte xs ys h.1 k)
+
+-- a byte that stands in none of the words, and is no space, stands nowhere in their line
+pub line_free : (byte : ℕ) → SPACE ≢ byte → (ws : List (List ℕ)) → AllByRecursion (IsFree byte) ws
+    → IsFree byte (line_of ws)
+line_free byte other [] h = tt
+line_free byte other (w ∷ []) h = h.0
+line_free byte other (w ∷ v ∷ ws) h =
+    free_append byte w (SPACE ∷ line_of (v ∷ ws)) h.0 (other, line_free byte other (v ∷ ws) h.1)
+
+-- ---- a line tells its words
+
+-- a line is some words
+pub words_in : (line : List ℕ) → (ws : List (List ℕ)) × AllByRecursion (IsFree SPACE) ws × (0 < length ws)
+    × (line ≡ line_of ws)
+words_in [] = ([] ∷ [], (tt, tt), omega arith, refl)
+words_in (b ∷ line) = let more = words_in line in by_byte (eqb b SPACE) refl more.0 more.1 more.2 more.3 where
+  by_byte : (t : Bool) → eqb b SPACE ≡ t → (ws : List (List ℕ)) → AllByRecursion (IsFree SPACE) ws
+      → 0 < length ws → line ≡ line_of ws
+      → (ws : List (List ℕ)) × AllByRecursion (IsFree SPACE) ws × (0 < length ws) × (b ∷ line ≡ line_of ws)
+  by_byte t e [] free some is = absurd (omega (arith, some))
+  by_byte true e (w ∷ ws) free some is = let space : b ≡ SPACE = grind (arith, nat_tests) in
+      ([] ∷ w ∷ ws, (tt, free), omega arith, cc (space, is))
+  by_byte false e (w ∷ []) free some is = ((b ∷ w) ∷ [], ((λ s. no_space s, free.0), tt), omega arith, cc is) where
+    no_space : b ≡ SPACE → ⊥
+    no_space s = grind (arith, nat_tests)
+  by_byte false e (w ∷ v ∷ ws) free some is =
+      ((b ∷ w) ∷ v ∷ ws, ((λ s. no_space s, free.0), free.1), omega arith, cc is) where
+        no_space : b ≡ SPACE → ⊥
+        no_space s = grind (arith, nat_tests)
+
+-- and no others
+pub same_free_words : (ws vs : List (List ℕ)) → AllByRecursion (IsFree SPACE) ws
+    → AllByRecursion (IsFree SPACE) vs → 0 < length ws → 0 < length vs → line_of ws ≡ line_of vs → ws ≡ vs
+same_free_words [] vs h k some more e = absurd (omega (arith, some))
+same_free_words (w ∷ ws) [] h k some more e = absurd (omega (arith, more))
+same_free_words (w ∷ []) (v ∷ []) h k some more e = ap (λ (x : List ℕ). x ∷ []) e
+same_free_words (w ∷ []) (v ∷ u ∷ vs) h k some more e = absurd (no_space_in v (line_of (u ∷ vs)) w h.0 (sym e))
+same_free_words (w ∷ u ∷ ws) (v ∷ []) h k some more e = absurd (no_space_in w (line_of (u ∷ ws)) v k.0 e)
+same_free_words (w ∷ u ∷ ws) (v ∷ t ∷ vs) h k some more e =
+    let one = apart SPACE w v (line_of (u ∷ ws)) (line_of (t ∷ vs)) h.0 k.0 e in
+    let rest = same_free_words (u ∷ ws) (t ∷ vs) h.1 k.1 (omega arith) (omega arith) one.1 in
+    cc (one.0, rest)
+
+some_line : (w : List ℕ) (ws : List (List ℕ)) → IsWord w → line_of (w ∷ ws) ≡ [] → ⊥
+some_line w [] h e = omega (arith, h.0, ap (length {A = ℕ}) e)
+some_line w (v ∷ ws) h e = omega (arith, h.0, ap (length {A = ℕ}) e, length-append w (SPACE ∷ line_of (v ∷ ws)))
+
+-- so the same line is made of the same words
+pub same_words : (ws vs : List (List ℕ)) → AllByRecursion IsWord ws → AllByRecursion IsWord vs
+    → line_of ws ≡ line_of vs → ws ≡ vs
+same_words [] [] h k e = refl
+same_words [] (v ∷ vs) h k e = absurd (some_line v vs k.0 (sym e))
+same_words (w ∷ ws) [] h k e = absurd (some_line w ws h.0 e)
+same_words (w ∷ ws) (v ∷ vs) h k e =
+    same_free_words (w ∷ ws) (v ∷ vs) (words_free SPACE (omega arith) (w ∷ ws) h)
+    (words_free SPACE (omega arith) (v ∷ vs) k) (omega arith) (omega arith) e
