@@ -9,7 +9,7 @@ use crate::fault::MainFault;
 use crate::input::read_all;
 use crate::output::write_all;
 use smx_run::run_programs;
-use smx_text::{read_programs, write_transcript_to};
+use smx_text::{read_programs, write_transcript_into};
 use std::alloc::Global;
 
 /// Reads the programs that `feed` has, runs them, and writes the transcript of the run to `sink`. The
@@ -44,8 +44,6 @@ fn transcript_for(alloc: Global, input: Vec<u8>) -> Result<Vec<u8>, MainFault>
 {
     let programs = read_programs(alloc, input.as_slice())?;
     let report = run_programs(alloc, programs)?;
-    let mut output = input;
-    output.clear();
-    write_transcript_to(&mut output, &report)?;
+    let output = write_transcript_into(input, &report)?;
     Ok(output)
 }

@@ -21,4 +21,4 @@ pub use smx_types::{
     Transcript, Which,
 };
 pub use transcript::read_transcript;
-pub use write::{write_programs, write_transcript, write_transcript_to};
+pub use write::{write_programs, write_transcript, write_transcript_into};

@@ -31,16 +31,25 @@ pub fn write_transcript(alloc: Global, transcript: &Transcript) -> Result<Vec<u8
     // So what is written is read again, where the transcript is within the limits.
     ensures spellable { OnOk result (IsSpellable transcript.now) }
 {
-    let mut out = Vec::new(alloc);
-    write_transcript_to(&mut out, transcript)?;
+    write_transcript_into(Vec::new(alloc), transcript)
+}
+
+/// The one text of this transcript, in the room of a vector whose bytes are no longer wanted. Fails only
+/// for want of memory.
+pub fn write_transcript_into(room: Vec<u8>, transcript: &Transcript) -> Result<Vec<u8>, NoMemory>
+    ensures written { IfOk result (λ v. v.items ≡ transcript_text transcript.now) }
+    // So what is written is read again, where the transcript is within the limits.
+    ensures spellable { OnOk result (IsSpellable transcript.now) }
+{
+    let mut out = room;
+    out.clear();
+    write_all_lines(&mut out, transcript)?;
     Ok(out)
 }
 
-/// The one text of this transcript, behind what `out` has. Fails only for want of memory, and what
-/// `out` then has is left open.
-pub fn write_transcript_to(out: &mut Vec<u8>, transcript: &Transcript) -> Result<(), NoMemory>
+// All lines of a transcript.
+fn write_all_lines(out: &mut Vec<u8>, transcript: &Transcript) -> Result<(), NoMemory>
     ensures written { OnOk result (out.new.items ≡ out.old.items ++ transcript_text transcript.now) }
-    // So what is written is read again, where the transcript is within the limits.
     ensures spellable { OnOk result (IsSpellable transcript.now) }
 {
     out.extend_from_slice(b"transcript 1\n")?;

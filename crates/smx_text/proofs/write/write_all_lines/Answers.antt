@@ -1,5 +1,5 @@
 use Rattle.smx_text.proofs.WritingLemmas.{transcript_written}
-use Rattle.smx_text.proofs.write.write_transcript_to.Goals as goal
+use Rattle.smx_text.proofs.write.write_all_lines.Goals as goal
 
 pub returns-clause-written : goal.returns-clause-written
 returns-clause-written c =
