@@ -15,4 +15,3 @@ pub mod DriverListLemmas
 pub mod PerformLemmas
 pub mod CountLemmas
 pub mod OpenLemmas
-pub mod DeliveryLemmas

@@ -19,6 +19,7 @@ mod texts_at_limits;
 mod transcript_faults;
 mod transcript_texts;
 mod tried_again;
+mod twins;
 mod values;
 mod view_lines;
 mod views;
