@@ -16,5 +16,4 @@ pub mod DriverListLemmas
 pub mod PerformLemmas
 pub mod CountLemmas
 pub mod OpenLemmas
-pub mod DeliveryLemmas
 pub mod VerdictLemmas

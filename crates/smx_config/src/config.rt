@@ -123,13 +123,15 @@ impl Config {
     ) -> Result<(Reply, Reply), NoMemory>
         // What it does.
         ensures drivers { self.new.drivers ≡ self.old.drivers }
-        ensures ok { IfOk result (λ r. step self.old.drivers self.old.configuration process command.now ≡ (self.new.configuration, r.0)) }
+        ensures ok { IfOk result (λ r.
+            step self.old.drivers self.old.configuration process command.now ≡ (self.new.configuration, r.0)) }
         ensures twice { IfOk result (λ r. r.1 ≡ r.0) }
         // What changes nothing.
         ensures fault { IfOk result (λ r. (f : Fault) → r.0 ≡ reply.Fault f → self.new ≡ self.old) }
         ensures err { IfErr result (λ _. self.new ≡ self.old) }
         // What is always answered.
-        ensures in_place { IsTrue (takes_no_memory command.now) → delivered_by (step self.old.drivers self.old.configuration process command.now).1 ≡ [] → IsOk result }
+        ensures in_place { IsTrue (takes_no_memory command.now)
+            → delivered_by (step self.old.drivers self.old.configuration process command.now).1 ≡ [] → IsOk result }
         ensures refused { IsErr (outcome self.old.drivers self.old.configuration process command.now) → IsOk result }
     {
         match room_for_reply(self.alloc, &self.drivers, &self.lists, process, command) {

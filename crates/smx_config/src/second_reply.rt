@@ -1,8 +1,9 @@
 //! A reply a second time, in room that is made before the step.
 
-ghost use Rattle.std.specs.Prelude.{◌≡◌, ◌≢◌, ◌≤◌, List, [], length, vec_capacity, IfOk, IfErr, IsOk, IsTrue, Ok, Err};
+ghost use Rattle.std.specs.Prelude.{◌≡◌, ◌≢◌, ◌≤◌, List, [], length, vec_capacity};
+ghost use Rattle.std.specs.Prelude.{IfOk, IfErr, IsOk, IsTrue, Err};
 ghost use Rattle.smx_types.specs.declared.driver.DriverSpec.{DriverSpec};
-ghost use Rattle.smx_model.specs.Commands.{outcome, receive_outcome, step};
+ghost use Rattle.smx_model.specs.Commands.{after_outcome, outcome, receive_outcome, step};
 ghost use Rattle.smx_model.specs.LawfulHistories.{delivered_by};
 ghost use Rattle.smx_config.specs.declared.step_error.StepError.TheVariants as step_error;
 ghost use Rattle.smx_config.specs.Machine.{takes_no_memory};
@@ -18,7 +19,8 @@ use crate::queues::first_len;
 use crate::step_error::StepError;
 use smx_model::laws_of_steps::other_commands_drop_none;
 use smx_types::{
-    Bytes, Command, DriverSpec, Fault, LinkKind, Place, Process, Reply, Serials, Side, Which,
+    Bytes, Command, DriverSpec, Fault, LinkKind, Place, Process, Reply, Serials, Side, StreamId,
+    Which,
 };
 use std::alloc::{AllocError, Global};
 
@@ -48,11 +50,21 @@ fn no_room(alloc: Global) -> ReplyRoom
     }
 }
 
-// Room for the bytes of the first message of a place.
-fn room_for_first(alloc: Global, lists: &Lists, place: Place) -> Result<ReplyRoom, StepError>
-    ensures { (drivers : List DriverSpec) → MakesRoom drivers (configuration_of lists.now) (receive_outcome drivers (configuration_of lists.now) place) result }
+// Room for the bytes of the first message on a side of a stream.
+fn room_for_first(
+    alloc: Global,
+    lists: &Lists,
+    stream: StreamId,
+    side: Side,
+) -> Result<ReplyRoom, StepError>
+    ensures makes { (drivers : List DriverSpec) → MakesRoom drivers (configuration_of lists.now)
+        (receive_outcome drivers (configuration_of lists.now) (record { stream = stream; side = side })) result }
+    ensures in_place { (drivers : List DriverSpec)
+        → delivered_by (after_outcome drivers (configuration_of lists.now)
+        (receive_outcome drivers (configuration_of lists.now) (record { stream = stream; side = side }))).1 ≡ []
+        → result ≢ Err step_error.NoMemory }
 {
-    let Some(len) = first_len(&lists.flow, place) else {
+    let Some(len) = first_len(&lists.flow, Place { stream, side }) else {
         return Err(StepError::Refused(Fault::Empty));
     };
     Ok(room_for(alloc, len, 0)?)
@@ -76,7 +88,8 @@ fn check_unlink(
     kind: LinkKind,
 ) -> Result<(), Fault>
     ensures ok { IsOk result → IsOk (unlinks drivers.now (configuration_of lists.now) process fd which kind) }
-    ensures refused { IfErr result (λ f. unlinks drivers.now (configuration_of lists.now) process fd which kind ≡ Err f) }
+    ensures refused { IfErr result (λ f.
+        unlinks drivers.now (configuration_of lists.now) process fd which kind ≡ Err f) }
 {
     let stream = mux_stream(drivers, lists, process, fd)?;
     check_targets(lists, which, kind, stream)
@@ -92,23 +105,24 @@ pub fn room_for_reply(
     command: &Command,
 ) -> Result<ReplyRoom, StepError>
     requires { StepInvariant drivers.now lists.now }
-    ensures makes { MakesRoom drivers.now (configuration_of lists.now) (outcome drivers.now (configuration_of lists.now) process command.now) result }
-    ensures in_place { IsTrue (takes_no_memory command.now) → delivered_by (step drivers.now (configuration_of lists.now) process command.now).1 ≡ [] → result ≢ Err step_error.NoMemory }
+    ensures makes { MakesRoom drivers.now (configuration_of lists.now)
+        (outcome drivers.now (configuration_of lists.now) process command.now) result }
+    ensures in_place { IsTrue (takes_no_memory command.now)
+        → delivered_by (step drivers.now (configuration_of lists.now) process command.now).1 ≡ []
+        → result ≢ Err step_error.NoMemory }
 {
     other_commands_drop_none();
     match command {
         Command::Read { fd } => {
             let stream = free_stream(lists, process, *fd)?;
-            let side = Side::Read;
-            room_for_first(alloc, lists, Place { stream, side })
+            room_for_first(alloc, lists, stream, Side::Read)
         }
         Command::Transmit { driver, minor } => {
             let stream = leaf_stream(drivers, lists, driver, *minor)?;
-            let side = Side::Write;
-            room_for_first(alloc, lists, Place { stream, side })
+            room_for_first(alloc, lists, stream, Side::Write)
         }
         Command::Close { fd } => {
-            stream_of(lists, process, *fd)?;
+            let _stream = stream_of(lists, process, *fd)?;
             room_for_all(alloc, lists)
         }
         Command::CloseAll => room_for_all(alloc, lists),
@@ -121,7 +135,7 @@ pub fn room_for_reply(
             room_for_all(alloc, lists)
         }
         Command::Flush { fd, .. } => {
-            free_stream(lists, process, *fd)?;
+            let _stream = free_stream(lists, process, *fd)?;
             room_for_all(alloc, lists)
         }
         Command::OpenClone { .. }

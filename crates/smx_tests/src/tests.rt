@@ -21,6 +21,7 @@ mod texts_at_limits;
 mod transcript_faults;
 mod transcript_texts;
 mod tried_again;
+mod twins;
 mod values;
 mod verdicts;
 mod view_lines;

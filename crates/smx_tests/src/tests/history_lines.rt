@@ -2,7 +2,7 @@
 
 use super::values::{items, named, numbered, shown};
 use smx_config::Config;
-use smx_types::{Command, ConfigView, Entry, Fault, NoMemory, Reply, Sides, Which};
+use smx_types::{Command, ConfigView, Entry, Fault, Reply, Sides, Which};
 use std::alloc::Global;
 use std::test::Fail;
 
@@ -112,21 +112,39 @@ pub fn entry_of(alloc: Global, line: Line) -> Result<Entry, Fail> {
     })
 }
 
-// Where memory was wanting nothing may have changed, and the same command is tried again. The line that is printed
-// tells that a growth inside a step was refused.
+// Where memory was wanting nothing may have changed. The line that is printed tells that a growth inside a step was
+// refused.
+fn is_unchanged(rt: &impl Print, config: &Config, before: &ConfigView) -> Result<(), Fail> {
+    println!(rt; "a step wanted memory")?;
+    if shown(config)? == *before {
+        return Ok(());
+    }
+    Err(Fail::new("a step that wanted memory has changed what is shown"))
+}
+
+// What memory was wanting for is tried again.
 fn reply_to(rt: &impl Print, config: &mut Config, command: &Command) -> Result<Reply, Fail> {
     let process = numbered(0)?;
     let before = shown(config)?;
-    match config.step(process, command) {
-        Ok(reply) => Ok(reply),
-        Err(NoMemory) => {
-            println!(rt; "a step wanted memory")?;
-            if shown(config)? != before {
-                return Err(Fail::new("a step that wanted memory has changed what is shown"));
-            }
-            Ok(config.step(process, command)?)
-        }
+    if let Ok(reply) = config.step(process, command) {
+        return Ok(reply);
     }
+    is_unchanged(rt, config, &before)?;
+    Ok(config.step(process, command)?)
+}
+
+fn replies_to(
+    rt: &impl Print,
+    config: &mut Config,
+    command: &Command,
+) -> Result<(Reply, Reply), Fail> {
+    let process = numbered(0)?;
+    let before = shown(config)?;
+    if let Ok(replies) = config.step_twin(process, command) {
+        return Ok(replies);
+    }
+    is_unchanged(rt, config, &before)?;
+    Ok(config.step_twin(process, command)?)
 }
 
 /// Process 0 asks this, and gets this answer.
@@ -145,6 +163,22 @@ pub fn answers(
     Err(Fail::new(format_args!("{call:?} is answered {reply:?}")))
 }
 
+/// Process 0 asks this, and gets this answer twice.
+pub fn answers_twice(
+    rt: &(impl AllocGlobal + Print),
+    config: &mut Config,
+    line: Line,
+) -> Result<(), Fail> {
+    let (call, answer) = line;
+    let command = command_of(rt.alloc(), call)?;
+    let want = reply_of(rt.alloc(), answer)?;
+    let (first, second) = replies_to(rt, config, &command)?;
+    if first == want && second == want {
+        return Ok(());
+    }
+    Err(Fail::new(format_args!("{call:?} is answered {first:?} and {second:?}")))
+}
+
 /// Process 0 asks all of these in turn, and gets their answers.
 pub fn play(
     rt: &(impl AllocGlobal + Print),
@@ -153,6 +187,18 @@ pub fn play(
 ) -> Result<(), Fail> {
     for line in lines {
         answers(rt, config, *line)?;
+    }
+    Ok(())
+}
+
+/// Process 0 asks all of these in turn, and gets their answers twice.
+pub fn play_twice(
+    rt: &(impl AllocGlobal + Print),
+    config: &mut Config,
+    lines: &[Line],
+) -> Result<(), Fail> {
+    for line in lines {
+        answers_twice(rt, config, *line)?;
     }
     Ok(())
 }

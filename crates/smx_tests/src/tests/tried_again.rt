@@ -1,6 +1,6 @@
 //! Worked histories whole. They pass with any one growth refused too, and tests/refused_growths runs them so.
 
-use super::history_lines::{Answer, Call, JOIN, Line, entry_of, play, shows};
+use super::history_lines::{Answer, Call, JOIN, Line, entry_of, play, play_twice, shows};
 use super::system_lines::{play as play_by, system_of_twenty};
 use super::values::{eth, ip, ip_and_eth, nothing_open};
 use super::views::held_above;
@@ -108,4 +108,29 @@ fn causes_by_a_system(rt: HostRuntime) -> Result<(), Fail> {
     play_by(&rt, &mut system, &CAUSES)?;
     assert_eq!(rt; system.entries().len(), 10);
     shows(system.config(), nothing_open(rt.alloc(), 2, 4))
+}
+
+#[test]
+fn three_causes_of_dropping_twice(rt: HostRuntime) -> Result<(), Fail> {
+    let mut config = ip_and_eth(rt.alloc())?;
+    play_twice(&rt, &mut config, &JOIN)?;
+    play_twice(&rt, &mut config, &CAUSES)?;
+    shows(&config, nothing_open(rt.alloc(), 2, 4))
+}
+
+const DELIVERIES: [Line; 6] = [
+    (Call::Clone("eth"), Answer::Fd(0, 0)),
+    (Call::Inject("eth", 0, 9, &[0xaa, 0xbb]), Answer::Took(1)),
+    (Call::Read(0), Answer::Got(1, 9, &[0xaa, 0xbb])),
+    (Call::Read(0), Answer::Refused(Fault::Empty)),
+    (Call::Write(0, 5, &[0xcc]), Answer::Took(2)),
+    (Call::Transmit("eth", 0), Answer::Got(2, 5, &[0xcc])),
+];
+
+#[test]
+fn deliveries_twice(rt: HostRuntime) -> Result<(), Fail> {
+    let mut config = ip_and_eth(rt.alloc())?;
+    play_twice(&rt, &mut config, &DELIVERIES)?;
+    play_twice(&rt, &mut config, &[(Call::Exit, Answer::Done(&[]))])?;
+    shows(&config, nothing_open(rt.alloc(), 1, 3))
 }
