@@ -104,28 +104,17 @@ impl<T: Drop> From<AllocFailed<T>> for MainFault {
     }
 }
 
-// The words of a fault of a text.
+// The words of a fault of a text. Want of memory is none of the text's, and has those of a refusal.
 #[derive(Drop)]
 struct TextWords(TextFault);
 
 impl fmt::Display for TextWords {
     fn fmt<W: fmt::Write>(&self, f: &mut fmt::Formatter<W>) -> fmt::Result {
-        let line = self.0.line;
-        match cause_word(self.0.cause) {
-            Some(word) => write!(f, "line {line}: {word}"),
-            None => write!(f, "refused: no memory"),
+        match self.0.cause {
+            Cause::NoMemory => write!(f, "refused: {}", RunFault::NoMemory),
+            Cause::Header | Cause::Form | Cause::Many | Cause::Cut | Cause::Trailing => {
+                write!(f, "{}", self.0)
+            }
         }
-    }
-}
-
-// The word of a cause; want of memory is no fault of the text, and has none.
-fn cause_word(cause: Cause) -> Option<&'static str> {
-    match cause {
-        Cause::Header => Some("header"),
-        Cause::Form => Some("form"),
-        Cause::Many => Some("many"),
-        Cause::Cut => Some("cut"),
-        Cause::Trailing => Some("trailing"),
-        Cause::NoMemory => None,
     }
 }

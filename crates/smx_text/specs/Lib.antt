@@ -1,3 +1,4 @@
+pub mod FaultWords
 pub mod Grammar
 pub mod Reading
 pub mod ProgramLines
