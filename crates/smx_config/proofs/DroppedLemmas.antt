@@ -1,10 +1,12 @@
 -- Numbers put in order, the last first, and which of them are gone.
-use Rattle.std.proofs.Common.{◌≡◌, ℕ, zero, suc, ◌<◌, Bool, true, eqb, ltb, List, [], ◌∷◌, ◌++◌, length, get_or, filter, refl, sym, ap, ◌∙◌, arith, inl, inr}
+use Rattle.std.proofs.Common.{◌≡◌, ℕ, zero, suc, ◌<◌, ◌≤◌, Bool, true, not, eqb, ltb, List, [], ◌∷◌, ◌++◌, length, get_or, filter, refl, sym, ap, ◌∙◌, arith, inl, inr}
 use Rattle.std.specs.List.{list_any}
 use Rattle.std.proofs.lemmas.Bool.{cases_Bool, eq-eqb, or_left, or_right}
+use Rattle.std.proofs.lemmas.List.{length-map}
 use Rattle.smx_model.specs.Configuration.{QueuedMessage}
-use Rattle.smx_model.specs.Ordered.{with_inserted}
-use Rattle.smx_model.specs.Removal.{serials}
+use Rattle.smx_model.specs.Ordered.{with_inserted, in_rising_order}
+use Rattle.smx_model.specs.Removal.{serials, serials_that_left}
+use Rattle.smx_config.proofs.MarkLemmas.{longer_by_one, not_more}
 use Rattle.smx_config.specs.ListedLinks.{rising_onto}
 
 onto_last : (placed_already ns : List ℕ) (n : ℕ) → rising_onto (with_inserted ltb placed_already n) ns ≡ rising_onto placed_already (ns ++ n ∷ [])
@@ -24,3 +26,13 @@ pub is_there : (flow : List QueuedMessage) (k serial : ℕ) (h : QueuedMessage) 
 is_there [] k serial h lt is same = absurd (omega arith)
 is_there (x ∷ xs) zero serial h lt is same = or_left _ _ (eq-eqb serial x.message.serial (sym same ∙ ap (λ (y : QueuedMessage). y.message.serial) is))
 is_there (x ∷ xs) (suc k) serial h lt is same = or_right _ _ (is_there xs k serial h (omega arith) is same)
+
+as_many : (ns : List ℕ) → length (in_rising_order ns) ≡ length ns
+as_many [] = refl
+as_many (n ∷ ns) = omega (arith, longer_by_one ltb (in_rising_order ns) _ n refl, as_many ns)
+
+-- no more serials leave a flow than are in it
+pub few_left : (old new : List QueuedMessage) → length (serials_that_left old new) ≤ length old
+few_left old new = omega (arith, as_many (filter is_gone (serials old)), not_more is_gone (serials old) _ refl, length-map old (λ (h : QueuedMessage). h.message.serial)) where
+  is_gone : ℕ → Bool
+  is_gone n = not (list_any (λ m. eqb n m) (serials new))

@@ -15,3 +15,4 @@ pub mod DriverListLemmas
 pub mod PerformLemmas
 pub mod CountLemmas
 pub mod OpenLemmas
+pub mod DeliveryLemmas

@@ -12,4 +12,5 @@ pub mod FewMinors
 pub mod ReservedRoom
 pub mod SweepReserves
 pub mod Refinement
+pub mod SecondReplies
 pub mod ModelOfConfig

@@ -155,7 +155,12 @@ fn targets(
 }
 
 // Whether links are there that are named; links of no id need not be.
-fn check_targets(lists: &Lists, which: Which, kind: LinkKind, stream: StreamId) -> Result<(), Fault>
+pub fn check_targets(
+    lists: &Lists,
+    which: Which,
+    kind: LinkKind,
+    stream: StreamId,
+) -> Result<(), Fault>
     ensures { result ≡ are_there which kind stream lists.now.links.items }
 {
     match which {

@@ -1,12 +1,13 @@
 //! The sequential configuration.
 
-ghost use Rattle.std.specs.Prelude.{◌≡◌, ◌≤◌, length, IfOk, IfErr, IsOk, IsErr, IsTrue};
+ghost use Rattle.std.specs.Prelude.{◌≡◌, ◌≤◌, [], length, IfOk, IfErr, IsOk, IsErr, IsTrue};
 ghost use Rattle.smx_types.specs.declared.reply.Fault.{Fault};
 ghost use Rattle.smx_types.specs.declared.reply.Reply.TheVariants as reply;
 ghost use Rattle.smx_model.specs.Commands.{outcome, step};
 ghost use Rattle.smx_model.specs.Configuration.{empty};
 ghost use Rattle.smx_model.specs.DriverList.{IsDriverList};
 ghost use Rattle.smx_model.specs.KeptConfigurations.{IsKept};
+ghost use Rattle.smx_model.specs.LawfulHistories.{delivered_by};
 ghost use Rattle.smx_model.specs.Views.{view};
 ghost use Rattle.smx_config.specs.DriverFaults.{RefusesDrivers};
 ghost use Rattle.smx_config.specs.Machine.{takes_no_memory};
@@ -16,6 +17,7 @@ use crate::driver_list::check_drivers;
 use crate::fault::ConfigFault;
 use crate::lists::Lists;
 use crate::perform::perform;
+use crate::second_reply::room_for_reply;
 use crate::settling::settle_after;
 use crate::show::{
     binding_lines, descriptor_lines, full_lines, link_lines, message_lines, route_lines,
@@ -106,6 +108,36 @@ impl Config {
                 Ok(reply)
             }
             Err(StepError::Refused(fault)) => Ok(Reply::Fault(fault)),
+            Err(StepError::NoMemory) => Err(NoMemory),
+        }
+    }
+
+    /// `step` with its reply twice. The memory of the second one is taken before the first change too, so that `read`
+    /// and `transmit` take some, for a message that they deliver. `dup`, `unbind`, `unroute` and every refusal take no
+    /// memory, so they are always answered.
+    pub fn step_twin(
+        &mut self,
+        process: Process,
+        command: &Command,
+    ) -> Result<(Reply, Reply), NoMemory>
+        // What it does.
+        ensures drivers { self.new.drivers ≡ self.old.drivers }
+        ensures ok { IfOk result (λ r. step self.old.drivers self.old.configuration process command.now ≡ (self.new.configuration, r.0)) }
+        ensures twice { IfOk result (λ r. r.1 ≡ r.0) }
+        // What changes nothing.
+        ensures fault { IfOk result (λ r. (f : Fault) → r.0 ≡ reply.Fault f → self.new ≡ self.old) }
+        ensures err { IfErr result (λ _. self.new ≡ self.old) }
+        // What is always answered.
+        ensures in_place { IsTrue (takes_no_memory command.now) → delivered_by (step self.old.drivers self.old.configuration process command.now).1 ≡ [] → IsOk result }
+        ensures refused { IsErr (outcome self.old.drivers self.old.configuration process command.now) → IsOk result }
+    {
+        match room_for_reply(self.alloc, &self.drivers, &self.lists, process, command) {
+            Ok(room) => {
+                let reply = self.step(process, command)?;
+                let again = room.copy_of(&reply);
+                Ok((reply, again))
+            }
+            Err(StepError::Refused(fault)) => Ok((Reply::Fault(fault), Reply::Fault(fault))),
             Err(StepError::NoMemory) => Err(NoMemory),
         }
     }

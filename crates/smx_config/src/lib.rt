@@ -21,6 +21,7 @@ mod queued_message;
 mod queues;
 mod refuse;
 mod removal;
+mod second_reply;
 mod settling;
 mod show;
 mod standing;

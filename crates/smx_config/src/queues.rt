@@ -64,6 +64,16 @@ pub fn first_addr(flow: &[QueuedMessage], place: Place) -> Option<u32>
     }
 }
 
+// How many bytes the first message at the place has.
+pub fn first_len(flow: &[QueuedMessage], place: Place) -> Option<usize>
+    ensures { result ≡ option_map (λ m. length m.bytes) (first_message flow.now place) }
+{
+    match first_at(flow, place) {
+        Some(i) => Some(flow[i].message().bytes.as_slice().len()),
+        None => None,
+    }
+}
+
 // Takes the first message of the place.
 pub fn take_first(flow: &mut Vec<QueuedMessage>, place: Place) -> Option<Message>
     ensures first { result ≡ first_message flow.old.items place }

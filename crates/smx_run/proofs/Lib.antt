@@ -1,2 +1,1 @@
 pub mod ProgramOrderLemmas
-pub mod RecordLemmas

@@ -1,20 +1,18 @@
 -- What the programs ask, process by process, is what a history holds that was asked so.
-use Rattle.std.proofs.Common.{◌≡◌, ℕ, zero, suc, ◌+◌, ◌<◌, true, false, List, [], ◌∷◌, ◌++◌, length, map, filter, get_or, refl, sym, ap, ◌∙◌, arith, inl, inr}
+use Rattle.std.proofs.Common.{◌≡◌, ℕ, zero, suc, ◌+◌, ◌<◌, true, false, List, [], ◌∷◌, ◌++◌, map, filter, get_or, refl, sym, ap, ◌∙◌, arith, inl, inr}
 use Rattle.std.specs.Prelude.{◌==◌}
 use Rattle.std.proofs.lemmas.Bool.{cases_Bool}
 use Rattle.std.proofs.lemmas.Bool.Decides.{nat_tests}
-use Rattle.std.specs.List.{sum_by}
-use Rattle.std.proofs.lemmas.List.{append-nil, length-append, length-map}
-use Rattle.std.proofs.lemmas.List.Sums.{sum_by-cons}
+use Rattle.std.proofs.lemmas.List.{append-nil}
 use Rattle.smx_types.specs.declared.command.Command.{Command}
 use Rattle.smx_types.specs.declared.command.Entry.{Entry}
 use Rattle.smx_model.specs.Histories.{call_of, commands_of, HoldsPrograms}
 use Rattle.smx_model.specs.LawfulHistories.{AreDropsAllowed}
 use Rattle.smx_types.specs.ProgramLists.{ProgramLists}
 use Rattle.smx_types.specs.declared.transcript.Transcript.{Transcript}
-use Rattle.smx_model.specs.DriverList.{IsDriverList}
 use Rattle.smx_model.specs.Headline.{IsReportOf}
-use Rattle.smx_run.specs.Recorded.{Recorded, Reports}
+use Rattle.smx_shared.specs.Recorded.{Recorded}
+use Rattle.smx_run.specs.Reports.{Reports}
 use Rattle.smx_run.specs.ProgramOrder.{calls_of, calls_from}
 
 -- one process' commands among what was asked
@@ -65,29 +63,15 @@ holds es programs e p =
     let here : p + 0 ≡ p = omega arith in
     picked_is p es ∙ ap (picked p) e ∙ ap (λ (q : ℕ). picked q (calls_from 0 programs)) (sym here) ∙ picked_at p 0 programs
 
--- ---- as many as there are commands
-
-one_each : (n : ℕ) (cs : List Command) → length (calls_of n cs) ≡ length cs
-one_each n [] = refl
-one_each n (c ∷ cs) = ap suc (one_each n cs)
-
-count_from : (n : ℕ) (programs : List (List Command)) → length (calls_from n programs) ≡ sum_by length programs
-count_from n [] = refl
-count_from n (cs ∷ programs) =
-    omega (arith, length-append (calls_of n cs) (calls_from (n + 1) programs), one_each n cs, count_from (n + 1) programs, sum_by-cons (length {A = Command}) cs programs)
-
-pub as_many : (es : List Entry) (programs : List (List Command)) → map call_of es ≡ calls_from 0 programs → length es ≡ sum_by length programs
-as_many es programs e = omega (arith, length-map es call_of, ap (length {A = ℕ × Command}) e, count_from 0 programs)
-
 -- ---- the report of a system that was asked all of it
 
-pub report_of : (programs : ProgramLists) (s : Recorded) (t : Transcript) → Reports s t → AreDropsAllowed s.history → s.drivers ≡ programs.drivers → IsDriverList programs.drivers → map call_of s.history ≡ calls_from 0 programs.programs → IsReportOf programs t
-report_of programs s t h drops same can asked = record {
+pub report_of : (programs : ProgramLists) (s : Recorded) (t : Transcript) → Reports s t → AreDropsAllowed s.history → s.drivers ≡ programs.drivers → map call_of s.history ≡ calls_from 0 programs.programs → IsReportOf programs t
+report_of programs s t h drops same asked = record {
   drivers = h.drivers ∙ same;
-  can_be_had = can;
-  legal = rw (← same, h.entries) h.legal;
+  can_be_had = rw (← same) h.sound.can_be_had;
+  legal = rw (← same, h.entries) h.sound.legal;
   holds = holds t.entries programs.programs (ap (map call_of) h.entries ∙ asked);
   shown = rw (← same, h.entries) h.shown;
-  lawful = rw (← same, h.entries) h.lawful;
+  lawful = rw (← same, h.entries) h.sound.lawful;
   drops = rw h.entries drops;
 }

@@ -1,3 +1,3 @@
 pub mod ProgramOrder
-pub mod Recorded
+pub mod Reports
 pub mod RunFaults

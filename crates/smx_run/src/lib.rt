@@ -1,10 +1,8 @@
-//! A run of programs: the configuration with the history that led to it, and what comes of all programs.
+//! A run of programs: what comes of all of them, asked of one system.
 #![tactic(auto)]
 
 mod fault;
 mod run;
-mod system;
 
 pub use fault::RunFault;
 pub use run::run_programs;
-pub use system::System;

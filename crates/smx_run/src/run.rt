@@ -1,19 +1,21 @@
 //! A run: the programs of all processes, by rising number.
 
-ghost use Rattle.std.specs.Prelude.{◌≡◌, ◌≤◌, ◌++◌, length, map, IfOk, IfErr, OnOk};
+ghost use Rattle.std.specs.Prelude.{◌≡◌, ◌≤◌, ◌+◌, ◌++◌, length, map, IfOk, IfErr, OnOk};
+ghost use Rattle.std.specs.List.{sum_by};
 ghost use Rattle.smx_model.specs.DriverList.{IsDriverList};
 ghost use Rattle.smx_model.specs.Headline.{IsReportOf};
 ghost use Rattle.smx_model.specs.Histories.{call_of};
 ghost use Rattle.smx_types.specs.declared.limits.TheConstants.{MAX_COMMANDS, MAX_PROCESSES};
 ghost use Rattle.smx_run.specs.ProgramOrder.{calls_of, calls_from};
-ghost use Rattle.smx_run.specs.Recorded.{Reports};
+ghost use Rattle.smx_run.specs.Reports.{Reports};
 ghost use Rattle.smx_run.specs.RunFaults.{RefusesRun};
 
 use crate::fault::RunFault;
-use crate::system::System;
 use smx_model::laws_of_messages::few_commands_drop;
+use smx_shared::{ApplyFault, System};
 use smx_types::{
-    Commands, DriverSpec, Drivers, NoMemory, Process, ProgramList, Programs, Transcript,
+    Commands, DriverSpec, Drivers, MAX_COMMANDS, NoMemory, Process, ProgramList, Programs,
+    Transcript,
 };
 use std::alloc::Global;
 
@@ -37,12 +39,13 @@ fn system_after(
     drivers: &[DriverSpec],
     programs: ProgramList,
 ) -> Result<System, RunFault>
-    requires { length programs ≤ MAX_PROCESSES }
+    requires processes { length programs ≤ MAX_PROCESSES }
+    requires commands { sum_by length programs ≤ MAX_COMMANDS }
     ensures drivers { IfOk result (λ s. (s.drivers ≡ drivers.now) × IsDriverList drivers.now) }
     ensures calls { IfOk result (λ s. map call_of s.history ≡ calls_from 0 programs) }
     ensures refused { IfErr result (RefusesRun drivers.now) }
 {
-    let mut system = System::new(alloc, drivers)?;
+    let mut system = System::new(alloc, drivers, MAX_COMMANDS)?;
     system.reserve(count_commands(programs.as_slice()))?;
     run_all(&mut system, programs)?;
     Ok(system)
@@ -59,7 +62,8 @@ fn count_commands(programs: &[Commands]) -> usize {
 
 // Each program in turn.
 fn run_all(system: &mut System, programs: ProgramList) -> Result<(), NoMemory>
-    requires { length programs ≤ MAX_PROCESSES }
+    requires processes { length programs ≤ MAX_PROCESSES }
+    requires room { length system.old.history + sum_by length programs ≤ system.old.limit }
     ensures drivers { system.new.drivers ≡ system.old.drivers }
     ensures calls { OnOk result
         (map call_of system.new.history ≡ map call_of system.old.history ++ calls_from 0 programs) }
@@ -72,14 +76,21 @@ fn run_all(system: &mut System, programs: ProgramList) -> Result<(), NoMemory>
     Ok(())
 }
 
-// The program of one process, to its end.
+// The program of one process, to its end. There is room for all its commands, so the history is never full.
 fn run_one(system: &mut System, process: Process, commands: Commands) -> Result<(), NoMemory>
+    requires room { length system.old.history + length commands ≤ system.old.limit }
     ensures drivers { system.new.drivers ≡ system.old.drivers }
+    ensures limit { system.new.limit ≡ system.old.limit }
+    ensures grown { OnOk result (length system.new.history ≡ length system.old.history + length commands) }
     ensures calls { OnOk result
         (map call_of system.new.history ≡ map call_of system.old.history ++ calls_of process commands) }
 {
     for command in commands.into_vec() {
-        system.apply(process, command)?;
+        match system.append(process, command) {
+            Ok(()) => {}
+            Err(ApplyFault::NoMemory) => return Err(NoMemory),
+            Err(ApplyFault::HistoryFull) => unreachable!(),
+        }
     }
     Ok(())
 }

@@ -1,6 +1,6 @@
 //! A configuration together with the history that led to it.
 
-ghost use Rattle.std.specs.Prelude.{◌≡◌, ◌≤◌, ◌↔◌, [], length, IfOk, IfErr, OnOk, OnErr, IsErrOf};
+ghost use Rattle.std.specs.Prelude.{◌≡◌, ◌<◌, ◌≤◌, ◌↔◌, [], length, vec_capacity, IfOk, IfErr, OnOk, OnErr, IsErrOf};
 ghost use Rattle.smx_types.specs.declared.limits.TheConstants.{MAX_COMMANDS};
 ghost use Rattle.smx_model.specs.DriverList.{IsDriverList};
 ghost use Rattle.smx_model.specs.Histories.{after};
@@ -33,6 +33,20 @@ impl Model for System {
     ghost view = { λ s. recorded_of s.config s.limit s.entries.items };
 
     ghost invariant = { λ s. IsRecord s.config s.limit s.entries.items };
+}
+
+// Room for one entry more, where the limit allows it.
+fn make_room(entries: &mut Vec<Entry>, limit: usize) -> Result<(), ApplyFault>
+    ensures same { entries.new.items ≡ entries.old.items }
+    ensures below { OnOk result (length entries.old.items < limit) }
+    ensures room { OnOk result (length entries.new.items < vec_capacity entries.new) }
+    ensures full { IsErrOf result HistoryFull ↔ (limit ≤ length entries.old.items) }
+{
+    if entries.len() >= limit {
+        return Err(ApplyFault::HistoryFull);
+    }
+    entries.reserve(1)?;
+    Ok(())
 }
 
 impl System {
@@ -78,10 +92,7 @@ impl System {
         ensures sound { IsSound self.new }
     {
         lawful_after_each_entry();
-        if self.entries.len() >= self.limit {
-            return Err(ApplyFault::HistoryFull);
-        }
-        self.entries.reserve(1)?;
+        make_room(&mut self.entries, self.limit)?;
         let kept = command.copy(self.alloc)?;
         let command_again = command.copy(self.alloc)?;
         let (reply, reply_again) = self.config.step_twin(process, command)?;
@@ -109,10 +120,7 @@ impl System {
         ensures sound { IsSound self.new }
     {
         lawful_after_each_entry();
-        if self.entries.len() >= self.limit {
-            return Err(ApplyFault::HistoryFull);
-        }
-        self.entries.reserve(1)?;
+        make_room(&mut self.entries, self.limit)?;
         let reply = self.config.step(process, &command)?;
         self.entries.push_reserved(Entry {
             process,
@@ -151,7 +159,7 @@ impl System {
         ensures { IfOk result (λ s. s ≡ self.now) }
     {
         let config = self.config.copy()?;
-        let entries = Entry::copies(self.alloc, self.entries.as_slice())?;
+        let entries = Entry::copies(self.alloc, &self.entries)?;
         Ok(System {
             alloc: self.alloc,
             config,

@@ -1,20 +1,17 @@
-use Rattle.std.proofs.Common.{◌≡◌, ◌∙◌, arith, map, subst}
-use Rattle.smx_model.specs.DriverList.{IsDriverList}
+use Rattle.std.proofs.Common.{◌≡◌, ◌∙◌, arith, map}
 use Rattle.smx_model.specs.Histories.{call_of}
 use Rattle.smx_run.specs.ProgramOrder.{calls_from}
-use Rattle.smx_run.proofs.ProgramOrderLemmas.{as_many, report_of}
+use Rattle.smx_run.proofs.ProgramOrderLemmas.{report_of}
 use Rattle.smx_run.proofs.run.run_programs.Goals as goal
 
 pub returns-clause-report : goal.returns-clause-report
 returns-clause-report c =
     let made = c.in_ok-system.ensures in
     let report = c.in_ok-report.ensures in
-    let given = c.as_slice.ensures ∙ c.into_parts-drivers.ensures.drivers in
     let calls : map call_of c.in_ok-system.system.history ≡ calls_from 0 c.args.programs.programs = rw (← c.into_parts-drivers.ensures.programs) made.calls in
-    report_of c.args.programs c.in_ok-system.system c.in_ok-report.field-0 report (c.few_commands_drop.ensures _ _ report.legal) (made.drivers.0 ∙ given) (subst IsDriverList given made.drivers.1) calls
+    report_of c.args.programs c.in_ok-system.system c.in_ok-report.field-0 report (c.few_commands_drop.ensures _ _ report.sound.legal) (made.drivers.0 ∙ c.as_slice.ensures ∙ c.into_parts-drivers.ensures.drivers) calls
 
 pub returns-clause-few : goal.returns-clause-few
 returns-clause-few c =
-    let calls : map call_of c.in_ok-system.system.history ≡ calls_from 0 c.args.programs.programs = rw (← c.into_parts-drivers.ensures.programs) c.in_ok-system.ensures.calls in
-    let many = as_many c.in_ok-system.system.history c.args.programs.programs calls in
-    rw c.in_ok-report.ensures.entries (omega (arith, many, c.into_parts-drivers.ensures.within.commands))
+    let sound = c.in_ok-report.ensures.sound in
+    rw c.in_ok-report.ensures.entries (omega (arith, sound.within, sound.limited))
