@@ -1,1 +1,2 @@
+pub mod HandLemmas
 pub mod ProgramOrderLemmas

@@ -1,0 +1,92 @@
+//! A report of a system, once its history bears out what its callers were answered.
+
+ghost use Rattle.std.specs.Prelude.{◌≡◌, ◌≤◌, ◌<◌, ◌↔◌, ℕ, length, IfOk, MatchOption, Err, slice_index, slice_index_or, []};
+ghost use Rattle.smx_types.specs.declared.limits.TheConstants.{MAX_PROCESSES};
+ghost use Rattle.smx_run.specs.Gathering.{entries_of, IsBorneOut, IsLeastStrange};
+ghost use Rattle.smx_run.specs.Reports.{Reports};
+
+use crate::fault::GatherFault;
+use crate::report::Report;
+use smx_shared::{Fronts, System};
+use smx_types::{Copied, DriverSpec, Drivers, Entries, Entry, MAX_PROCESSES, NoMemory, Process};
+use std::alloc::Global;
+
+/// The report of a system, where each process has just the entries in its history that its transcript has, in the same
+/// order; a process past the list has none. Refused at the least process of which that is not so, or else for want of
+/// memory.
+pub fn gather(
+    alloc: Global,
+    system: System,
+    transcripts: &[Entries],
+) -> Result<Report, GatherFault>
+    requires { length transcripts.now ≤ MAX_PROCESSES }
+    ensures report { IfOk result (Reports system) }
+    ensures borne_out { IfOk result (λ _. (p : ℕ) → IsBorneOut system.history transcripts.now p) }
+    ensures strange { (p : ℕ) → (result ≡ Err (GatherFault.Strange p)) ↔ IsLeastStrange system.history transcripts.now p }
+{
+    if let Some(process) = find_strange(system.entries(), transcripts) {
+        return Err(GatherFault::Strange(process));
+    }
+    let drivers = DriverSpec::copies(alloc, system.config().drivers())?;
+    Ok(report(alloc, system, Drivers::from_vec(drivers))?)
+}
+
+/// The report of a system, whose drivers these are. Nothing is copied.
+pub fn report(alloc: Global, system: System, drivers: Drivers) -> Result<Report, NoMemory>
+    requires { drivers ≡ system.drivers }
+    ensures { IfOk result (Reports system) }
+{
+    let view = system.config().show()?;
+    Ok(Report {
+        drivers,
+        entries: system.into_entries(),
+        view,
+        fronts: Fronts::new(alloc),
+    })
+}
+
+/// The least process whose entries in the history are not its transcript.
+pub fn find_strange(history: &[Entry], transcripts: &[Entries]) -> Option<Process>
+    requires { length transcripts.now ≤ MAX_PROCESSES }
+    ensures { MatchOption result (IsLeastStrange history.now transcripts.now) ((p : ℕ) → IsBorneOut history.now transcripts.now p) }
+{
+    let met = meet_all(history, transcripts);
+    for number in 0..MAX_PROCESSES {
+        let transcript = transcript_at(transcripts, number as usize);
+        if met[number as usize] != Some(transcript.len()) {
+            return Process::new(number);
+        }
+    }
+    None
+}
+
+// Of each transcript, how many of its entries the history has, or None where it has others.
+fn meet_all(history: &[Entry], transcripts: &[Entries]) -> [Option<usize>; MAX_PROCESSES as usize] {
+    let mut met = [Some(0); MAX_PROCESSES as usize];
+    for entry in history {
+        let number = entry.process.get() as usize;
+        let transcript = transcript_at(transcripts, number);
+        met[number] = meet(met[number], transcript, entry);
+    }
+    met
+}
+
+// One entry more of the history.
+fn meet(met: Option<usize>, transcript: &[Entry], entry: &Entry) -> Option<usize> {
+    let count = met?;
+    if transcript.get(count)? == entry {
+        Some(count + 1)
+    } else {
+        None
+    }
+}
+
+// The transcript of a process, the empty one past the list.
+fn transcript_at(transcripts: &[Entries], number: usize) -> &[Entry]
+    ensures { result.now ≡ slice_index_or transcripts.now number [] }
+{
+    match transcripts.get(number) {
+        Some(entries) => entries.as_slice(),
+        None => &[],
+    }
+}
