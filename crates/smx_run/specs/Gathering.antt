@@ -1,5 +1,5 @@
 -- Which transcripts a history bears out.
-use Rattle.std.specs.Prelude.{◌≡◌, ◌≢◌, ℕ, ◌<◌, List, [], filter, ◌==◌, slice_index_or}
+use Rattle.std.specs.Prelude.{◌≡◌, ◌≢◌, ℕ, ◌<◌, ◌≤◌, List, [], ◌++◌, length, take, filter, ◌==◌, Option, Some, None, slice_index_or}
 use Rattle.smx_types.specs.declared.command.Entry.{Entry}
 
 -- the entries of one process, in their order
@@ -14,3 +14,8 @@ IsBorneOut history transcripts process = entries_of process history ≡ slice_in
 pub record IsLeastStrange (history : List Entry) (transcripts : List (List Entry)) (process : ℕ) : Type 0 where
   pub strange : entries_of process history ≢ slice_index_or transcripts process []
   pub least : (p : ℕ) → p < process → IsBorneOut history transcripts p
+
+-- a process has so many entries of its transcript, from the first on; or it has others
+abbrev pub IsMet : List Entry → List Entry → Option ℕ → Type 0
+IsMet transcript own (Some count) = (count ≤ length transcript) × (own ≡ take count transcript)
+IsMet transcript own None = (more : List Entry) → own ++ more ≢ transcript

@@ -1,15 +1,19 @@
 //! A report of a system, once its history bears out what its callers were answered.
 
-ghost use Rattle.std.specs.Prelude.{◌≡◌, ◌≤◌, ◌<◌, ◌↔◌, ℕ, length, IfOk, MatchOption, Err, slice_index, slice_index_or, []};
+ghost use Rattle.std.specs.Prelude.{◌≡◌, ◌≤◌, ◌<◌, ◌↔◌, ℕ, List, [], ◌∷◌, ◌++◌, All, length, IsTrue, IfOk, IfSome, IfNone, Err, None, Some, replicate, slice_index_or};
 ghost use Rattle.smx_types.specs.declared.limits.TheConstants.{MAX_PROCESSES};
-ghost use Rattle.smx_run.specs.Gathering.{entries_of, IsBorneOut, IsLeastStrange};
+ghost use Rattle.smx_types.specs.declared.command.Entry.{Entry as Made};
+ghost use Rattle.smx_run.specs.Gathering.{entries_of, IsBorneOut, IsLeastStrange, IsMet};
+ghost use Rattle.smx_run.specs.declared.fault.GatherFault.TheVariants as gathered;
 ghost use Rattle.smx_run.specs.Reports.{Reports};
 
 use crate::fault::GatherFault;
 use crate::report::Report;
 use smx_shared::{Fronts, System};
-use smx_types::{Copied, DriverSpec, Drivers, Entries, Entry, MAX_PROCESSES, NoMemory, Process};
+use smx_types::{Copied, DriverSpec, Drivers, Entries, Entry, MAX_PROCESSES, NoMemory, Process, Same};
 use std::alloc::Global;
+
+const PROCESSES: usize = MAX_PROCESSES as usize;
 
 /// The report of a system, where each process has just the entries in its history that its transcript has, in the same
 /// order; a process past the list has none. Refused at the least process of which that is not so, or else for want of
@@ -22,7 +26,7 @@ pub fn gather(
     requires { length transcripts.now ≤ MAX_PROCESSES }
     ensures report { IfOk result (Reports system) }
     ensures borne_out { IfOk result (λ _. (p : ℕ) → IsBorneOut system.history transcripts.now p) }
-    ensures strange { (p : ℕ) → (result ≡ Err (GatherFault.Strange p)) ↔ IsLeastStrange system.history transcripts.now p }
+    ensures strange { (p : ℕ) → (result ≡ Err (gathered.Strange p)) ↔ IsLeastStrange system.history transcripts.now p }
 {
     if let Some(process) = find_strange(system.entries(), transcripts) {
         return Err(GatherFault::Strange(process));
@@ -48,21 +52,26 @@ pub fn report(alloc: Global, system: System, drivers: Drivers) -> Result<Report,
 /// The least process whose entries in the history are not its transcript.
 pub fn find_strange(history: &[Entry], transcripts: &[Entries]) -> Option<Process>
     requires { length transcripts.now ≤ MAX_PROCESSES }
-    ensures { MatchOption result (IsLeastStrange history.now transcripts.now) ((p : ℕ) → IsBorneOut history.now transcripts.now p) }
+    ensures strange { IfSome result (IsLeastStrange history.now transcripts.now) }
+    ensures none { IfNone result ((p : ℕ) → IsBorneOut history.now transcripts.now p) }
 {
     let met = meet_all(history, transcripts);
-    for number in 0..MAX_PROCESSES {
-        let transcript = transcript_at(transcripts, number as usize);
-        if met[number as usize] != Some(transcript.len()) {
-            return Process::new(number);
+    for number in 0..PROCESSES {
+        let transcript = transcript_at(transcripts, number);
+        if !is_whole(met[number], transcript) {
+            return Process::new(number as u32);
         }
     }
     None
 }
 
-// Of each transcript, how many of its entries the history has, or None where it has others.
-fn meet_all(history: &[Entry], transcripts: &[Entries]) -> [Option<usize>; MAX_PROCESSES as usize] {
-    let mut met = [Some(0); MAX_PROCESSES as usize];
+// Of the transcript of each process, how many entries the history has, or None where it has others.
+fn meet_all(history: &[Entry], transcripts: &[Entries]) -> [Option<usize>; PROCESSES]
+    ensures met { (p : ℕ) → p < MAX_PROCESSES → IsMet (slice_index_or transcripts.now p []) (entries_of p history.now) (slice_index_or result p None) }
+    ensures counted { length result ≡ MAX_PROCESSES }
+    ensures processes { All (λ e. e.process < MAX_PROCESSES) history.now }
+{
+    let mut met = none_met();
     for entry in history {
         let number = entry.process.get() as usize;
         let transcript = transcript_at(transcripts, number);
@@ -71,13 +80,33 @@ fn meet_all(history: &[Entry], transcripts: &[Entries]) -> [Option<usize>; MAX_P
     met
 }
 
-// One entry more of the history.
-fn meet(met: Option<usize>, transcript: &[Entry], entry: &Entry) -> Option<usize> {
+// Nothing yet.
+fn none_met() -> [Option<usize>; PROCESSES]
+    ensures { result ≡ replicate MAX_PROCESSES (Some 0) }
+{
+    [Some(0); PROCESSES]
+}
+
+// The same with one entry more.
+fn meet(met: Option<usize>, transcript: &[Entry], entry: &Entry) -> Option<usize>
+    ensures { (own : List Made) → IsMet transcript.now own met → IsMet transcript.now (own ++ entry.now ∷ []) result }
+{
     let count = met?;
-    if transcript.get(count)? == entry {
+    let next = transcript.get(count)?;
+    if next.is_same(entry) {
         Some(count + 1)
     } else {
         None
+    }
+}
+
+// Whether those are all entries of the transcript, and no others.
+fn is_whole(met: Option<usize>, transcript: &[Entry]) -> bool
+    ensures { (own : List Made) → IsMet transcript.now own met → (IsTrue result ↔ (own ≡ transcript.now)) }
+{
+    match met {
+        Some(count) => count == transcript.len(),
+        None => false,
     }
 }
 

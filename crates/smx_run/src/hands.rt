@@ -5,6 +5,7 @@ ghost use Rattle.std.specs.List.{range_with_len};
 ghost use Rattle.smx_run.specs.Hands.{given_hand, called_hand, hands_of};
 ghost use Rattle.smx_run.specs.ProgramOrder.{Calls, calls_of, numbered};
 ghost use Rattle.smx_model.specs.Histories.{call_of};
+ghost use Rattle.smx_types.specs.declared.command.Command.{Command as Asked};
 
 use crate::worker::{Done, Job};
 use smx_shared::{Door, Seat, Shared};
@@ -63,13 +64,18 @@ fn give(hands: &mut Vec<Vec<Job<Seat>>>, seat: Seat, commands: Commands) -> Resu
     Ok(())
 }
 
-/// What came of the processes, put back into their order.
+/// What came of the processes of these programs, put back into their order.
 pub fn collect(
     alloc: Global,
     mut hands: Vec<Vec<Done<Seat>>>,
     processes: usize,
 ) -> Result<Ended, NoMemory>
-    requires { 1 ≤ vec_len hands }
+    ghost programs: { List (List Asked) }
+    requires workers { 1 ≤ vec_len hands }
+    requires dealt { map called_hand hands.items ≡ hands_of (vec_len hands) (numbered 0 programs) }
+    requires processes { length programs ≡ processes }
+    ensures seats { IfOk result (λ ended. vec_len ended.seats ≡ processes) }
+    ensures called { IfOk result (λ ended. map (λ entries. map call_of entries) ended.transcripts.items ≡ map (λ one. one.1) (numbered 0 programs)) }
 {
     let mut seats = Vec::with_capacity(alloc, processes)?;
     let mut transcripts = Vec::with_capacity(alloc, processes)?;
