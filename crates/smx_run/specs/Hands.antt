@@ -2,6 +2,7 @@
 use Rattle.std.specs.Prelude.{ℕ, ◌%◌, ◌==◌, List, map, filter, Vec}
 use Rattle.std.specs.List.{range_with_len}
 use Rattle.smx_types.specs.declared.command.Command.{Command}
+use Rattle.smx_types.specs.declared.command.Entry.{Entry}
 use Rattle.smx_model.specs.Histories.{call_of}
 use Rattle.smx_run.specs.ProgramOrder.{Calls, calls_of}
 use Rattle.smx_run.specs.declared.worker.Job.{Job}
@@ -11,16 +12,20 @@ use Rattle.smx_run.specs.declared.worker.Done.{Done}
 abbrev pub given : {S : Type 0} → Job S → Calls
 given job = (job.process, calls_of job.process job.commands)
 
+-- the calls that these entries are of
+abbrev pub calls_in : List Entry → List (ℕ × Command)
+calls_in entries = map call_of entries
+
 -- a process, and what it has called
 abbrev pub called : {S : Type 0} → Done S → Calls
-called done = (done.process, map call_of done.entries)
+called done = (done.process, calls_in done.entries)
 
 -- those of a hand, in order
-abbrev pub given_hand : {S : Type 0} → Vec (Job S) → List Calls
+abbrev pub given_hand : {S A : Type 0} → Vec (Job S) A → List Calls
 given_hand hand = map given hand.items
 
 -- those of a hand, in order
-abbrev pub called_hand : {S : Type 0} → Vec (Done S) → List Calls
+abbrev pub called_hand : {S A : Type 0} → Vec (Done S) A → List Calls
 called_hand hand = map called hand.items
 
 -- the processes of one worker of so many: those whose number modulo that many is its own, in their order
