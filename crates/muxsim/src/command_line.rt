@@ -1,12 +1,15 @@
 //! What the command line asks for.
 
-ghost use Rattle.std.specs.Prelude.{IfOk};
+ghost use Rattle.std.specs.Prelude.{◌≤◌, IfOk};
 ghost use Rattle.muxsim.specs.Jobs.{CanRun};
 
 use crate::jobs::Job;
-use clap::{Command, Error};
+use clap::{Arg, ArgMatches, Command, Error, value_parser};
 use std::alloc::{AllocError, Global};
 use std::convert::AsStr;
+
+// How many threads may run the programs.
+const MOST_WORKERS: usize = 64;
 
 // What `--version` shows behind the program's name.
 const VERSION: &str = "0.1.0";
@@ -17,42 +20,65 @@ const SEE: &str =
 5 input or output failed.
 Both texts are in docs/FORMATS.md, commands and replies in docs/COMMANDS.md, and more in docs/MUXSIM.md.";
 
-/// What the words ask for, of which the first is the program's name. Any other words than `run`
-/// and `check` are clap's error, and so is a request for help or the version; want of memory is its
-/// kind `OutOfMemory`.
+/// What the words ask for, of which the first is the program's name. Any other words than `run`, with
+/// `--workers` or without, and `check` are clap's error, and so is a request for help or the version; want
+/// of memory is its kind `OutOfMemory`.
 pub fn job<'a, S: AsStr>(alloc: Global, words: &'a [S]) -> Result<Job, Error>
     ensures { IfOk result CanRun }
 {
     let matches = program(alloc)?.try_get_matches_from(words)?;
-    if matches.subcommand_name() == Some("check") {
-        return Ok(Job::Check);
+    match matches.subcommand_matches("run") {
+        Some(run) => Ok(Job::Run {
+            workers: workers_of(run),
+            fronts: false,
+        }),
+        None => Ok(Job::Check),
     }
-    Ok(Job::Run {
-        workers: 1,
-        fronts: false,
-    })
+}
+
+// How many workers are asked for. clap has refused what is not 1 to 64 already, so what stands here for others is
+// never answered.
+fn workers_of(run: &ArgMatches) -> usize
+    ensures { (1 ≤ result) × (result ≤ 64) }
+{
+    match run.get_one::<usize>("workers") {
+        Some(workers) if 1 <= workers && workers <= MOST_WORKERS => workers,
+        Some(_) | None => 1,
+    }
 }
 
 // The program with its subcommands.
 fn program<'a>(alloc: Global) -> Result<Command<'a>, AllocError> {
+    let run = subcommand(
+        alloc,
+        "run",
+        "Run the programs on standard input and write the transcript to standard output",
+    );
+    let check = subcommand(
+        alloc,
+        "check",
+        "Judge the transcript on standard input and write the verdict to standard output",
+    );
     Command::new(alloc, "muxsim")
         .version(VERSION)
         .about("Simulate a STREAMS multiplexer configuration with persistent links")
         .after_help(SEE)
         .subcommand_required(true)
-        .subcommand(subcommand(
-            alloc,
-            "run",
-            "Run the programs on standard input and write the transcript to standard output",
-        ))?
-        .subcommand(subcommand(
-            alloc,
-            "check",
-            "Judge the transcript on standard input and write the verdict to standard output",
-        ))
+        .subcommand(run.arg(workers(alloc))?)?
+        .subcommand(check)
 }
 
 // A subcommand without options.
 fn subcommand<'a>(alloc: Global, name: &'a str, about: &'a str) -> Command<'a> {
     Command::new(alloc, name).about(about).after_help(SEE)
+}
+
+// The option that says how many workers run the programs.
+fn workers<'a>(alloc: Global) -> Arg<'a> {
+    Arg::new(alloc, "workers")
+        .long("workers")
+        .value_name("N")
+        .help("How many threads run the programs, 1 to 64")
+        .value_parser(value_parser!(usize).range(1..=64))
+        .default_value("1")
 }

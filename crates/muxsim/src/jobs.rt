@@ -10,8 +10,8 @@ use smx_config::Verdict;
 pub enum Job {
     /// To run the programs of the input and to write their transcript.
     Run {
-        /// How many workers are asked for, 1 to 64. The run doesn't look at it.
-        workers: u64,
+        /// How many workers run them, 1 to 64.
+        workers: usize,
         /// Always false: a run writes the transcript.
         fronts: bool,
     },

@@ -24,9 +24,12 @@ use command_line::job;
 use device::{Source, Target};
 use fault::MainFault;
 use jobs::{Done, Job};
-use smx_run::RunFault;
-use std::io::ErrorKind as IoKind;
+use smx_run::{NoGate, RunFault};
+use std::alloc::Global;
+use std::io::{ErrorKind as IoKind, Stdin, Stdout};
 use std::process::ExitCode;
+use std::sync::Wait;
+use std::thread::Threads;
 use std::{env, io};
 use text::run_text;
 
@@ -40,7 +43,10 @@ fn main(rt: HostRuntime) -> ExitCode {
         Err(error) => return no_words(&rt, &error),
     };
     match job(rt.alloc(), words.as_slice()) {
-        Ok(Job::Run { workers, fronts }) => ended(&rt, run_stdin(&rt, workers, fronts)),
+        Ok(Job::Run { workers, fronts }) => {
+            let (stdin, stdout) = (rt.stdin(), rt.stdout());
+            ended(&rt, run_stdin(&rt, rt.alloc(), stdin, stdout, workers, fronts))
+        }
         Ok(Job::Check) => ended(&rt, check_stdin(&rt)),
         Err(error) => no_job(&rt, &error),
     }
@@ -52,13 +58,20 @@ fn words(rt: &HostRuntime) -> io::Result<Vec<String>> {
 }
 
 // Runs the programs on standard input.
-fn run_stdin(rt: &HostRuntime, workers: u64, fronts: bool) -> Result<Done, MainFault>
+fn run_stdin<R: Threads + Wait + Sync>(
+    rt: &R,
+    alloc: Global,
+    stdin: Stdin,
+    stdout: Stdout,
+    workers: usize,
+    fronts: bool,
+) -> Result<Done, MainFault>
     requires workers { (1 ≤ workers) × (workers ≤ 64) }
     requires transcript { fronts ≡ false }
 {
-    let mut feed = Source::new(rt.stdin());
-    let mut sink = Target::new(rt.stdout());
-    run_text(rt.alloc(), &mut feed, &mut sink, workers, fronts)?;
+    let mut feed = Source::new(stdin);
+    let mut sink = Target::new(stdout);
+    run_text(rt, alloc, &mut feed, &mut sink, workers, fronts, &NoGate)?;
     Ok(Done::Finished)
 }
 

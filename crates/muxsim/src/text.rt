@@ -8,42 +8,53 @@ use crate::device::{Feed, Sink};
 use crate::fault::MainFault;
 use crate::input::read_all;
 use crate::output::write_all;
-use smx_run::run_programs;
+use smx_run::{Gate, run_programs};
 use smx_text::{read_programs, write_transcript_into};
 use std::alloc::Global;
+use std::sync::Wait;
+use std::thread::Threads;
 
-/// Reads the programs that `feed` has, runs them, and writes the transcript of the run to `sink`. The
-/// processes are run by rising number on the calling thread. Neither device has failed before, and no read
-/// has shown the end; `_workers`
-/// is 1 to 64 and isn't looked at; `_fronts` is false. Faults are found in this order: reading, text,
-/// drivers, run, writing.
-pub fn run_text<F: Feed, S: Sink>(
+/// Reads the programs that `feed` has, has them run by so many workers, and writes the transcript of the run
+/// to `sink`. Process p is run by worker p modulo `workers`, which is 1 to 64; each worker has a thread of its own
+/// where there are several, and tells the gate of each command. Neither device has failed before, and no read
+/// has shown the end; `_fronts` is false. Faults are found in this order: reading, text, drivers, run,
+/// writing.
+pub fn run_text<R: Threads + Wait + Sync, F: Feed, S: Sink, G: Gate + Sync>(
+    rt: &R,
     alloc: Global,
     feed: &mut F,
     sink: &mut S,
-    _workers: u64,
+    workers: usize,
     _fronts: bool,
+    gate: &G,
 ) -> Result<(), MainFault>
     requires before_the_end { F.ended feed.old ≡ false }
     requires fed { F.failures feed.old ≡ 0 }
     requires sunk { S.failures sink.old ≡ 0 }
-    requires workers { (1 ≤ _workers) × (_workers ≤ 64) }
+    requires workers { (1 ≤ workers) × (workers ≤ 64) }
     requires transcript { _fronts ≡ false }
     ensures { RunsText (F.remaining feed.old) (F.remaining feed.new) (F.ended feed.new)
         (F.failures feed.new) (S.contents sink.old) (S.contents sink.new) (S.flushed sink.new)
         (S.failures sink.new) result }
 {
     let input = read_all(alloc, feed)?;
-    let output = transcript_for(alloc, input)?;
+    let output = transcript_for(rt, alloc, input, workers, gate)?;
     write_all(sink, output.as_slice())
 }
 
 // The transcript of a run of the programs that the input spells, in the room that the input had.
-fn transcript_for(alloc: Global, input: Vec<u8>) -> Result<Vec<u8>, MainFault>
+fn transcript_for<R: Threads + Wait + Sync, G: Gate + Sync>(
+    rt: &R,
+    alloc: Global,
+    input: Vec<u8>,
+    workers: usize,
+    gate: &G,
+) -> Result<Vec<u8>, MainFault>
+    requires { (1 ≤ workers) × (workers ≤ 64) }
     ensures { Answers running input.items (items_of result) }
 {
     let programs = read_programs(alloc, input.as_slice())?;
-    let report = run_programs(alloc, programs)?;
-    let output = write_transcript_into(input, &report)?;
+    let report = run_programs(rt, alloc, programs, workers, gate)?;
+    let output = write_transcript_into(input, &report.into_transcript())?;
     Ok(output)
 }

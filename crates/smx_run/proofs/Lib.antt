@@ -1,1 +1,3 @@
+pub mod GatheringLemmas
+pub mod HandLemmas
 pub mod ProgramOrderLemmas

@@ -9,10 +9,10 @@ use Rattle.smx_types.specs.declared.command.Entry.{Entry}
 use Rattle.smx_model.specs.Histories.{call_of, commands_of, HoldsPrograms}
 use Rattle.smx_model.specs.LawfulHistories.{AreDropsAllowed}
 use Rattle.smx_types.specs.ProgramLists.{ProgramLists}
-use Rattle.smx_types.specs.declared.transcript.Transcript.{Transcript}
+use Rattle.smx_run.specs.declared.report.Report.{Report}
 use Rattle.smx_model.specs.Headline.{IsReportOf}
 use Rattle.smx_shared.specs.Recorded.{Recorded}
-use Rattle.smx_run.specs.Reports.{Reports}
+use Rattle.smx_run.specs.Reports.{Reports, transcript_of}
 use Rattle.smx_run.specs.ProgramOrder.{calls_of, calls_from}
 
 -- one process' commands among what was asked
@@ -65,9 +65,9 @@ holds es programs e p =
 
 -- ---- the report of a system that was asked all of it
 
-pub report_of : (programs : ProgramLists) (s : Recorded) (t : Transcript) → Reports s t →
+pub report_of : (programs : ProgramLists) (s : Recorded) (t : Report) → Reports s t →
     AreDropsAllowed s.history → s.drivers ≡ programs.drivers →
-    map call_of s.history ≡ calls_from 0 programs.programs → IsReportOf programs t
+    map call_of s.history ≡ calls_from 0 programs.programs → IsReportOf programs (transcript_of t)
 report_of programs s t h drops same asked = record {
   drivers = h.drivers ∙ same;
   can_be_had = rw (← same) h.sound.can_be_had;

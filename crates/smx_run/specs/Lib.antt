@@ -1,3 +1,7 @@
+pub mod DeskLemmas
+pub mod Desks
+pub mod Gathering
+pub mod Hands
 pub mod ProgramOrder
 pub mod Reports
 pub mod RunFaults

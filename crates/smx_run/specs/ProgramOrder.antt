@@ -1,6 +1,10 @@
--- The order in which the programs of all processes are run: process by process.
+-- What the programs of all processes ask, process by process.
 use Rattle.std.specs.Prelude.{ℕ, ◌+◌, List, [], ◌∷◌, ◌++◌, map}
 use Rattle.smx_types.specs.declared.command.Command.{Command}
+
+-- a process, and commands of its own
+abbrev pub Calls : Type 0
+Calls = ℕ × List (ℕ × Command)
 
 -- each command of one process, with the process
 abbrev pub calls_of : ℕ → List Command → List (ℕ × Command)
@@ -10,3 +14,8 @@ calls_of process commands = map (λ command. (process, command)) commands
 abbrev pub calls_from : ℕ → List (List Command) → List (ℕ × Command)
 calls_from n [] = []
 calls_from n (commands ∷ programs) = calls_of n commands ++ calls_from (n + 1) programs
+
+-- process n with its calls, then the next with its own, and so on
+abbrev pub numbered : ℕ → List (List Command) → List Calls
+numbered n [] = []
+numbered n (commands ∷ programs) = (n, calls_of n commands) ∷ numbered (n + 1) programs

@@ -1,16 +1,33 @@
 //! Why a run is refused, in the words that a program prints.
 
 use smx_config::ConfigFault;
-use smx_types::{NoMemory, SpecFault};
+use smx_shared::{ApplyFault, CloseFault};
+use smx_types::{NoMemory, Process, SpecFault};
 use std::fmt;
 
 /// Why a run was refused.
 #[derive(Clone, Copy, Debug, PartialEq, Eq)]
 pub enum RunFault {
-    /// A growth was refused.
+    /// A growth was refused, or a worker could not be started.
     NoMemory,
+    /// The entries of this process in the history are not those that it was answered, or what came back of the system
+    /// has other drivers.
+    Strange(Process),
     /// There is no configuration of these drivers.
     ConfigFault(ConfigFault),
+    /// The history has as many entries as it may.
+    HistoryFull,
+    /// A worker never gave the turn back.
+    Held,
+}
+
+/// Why no report was made of a system and the transcripts of its callers.
+#[derive(Clone, Copy, Debug, PartialEq, Eq)]
+pub enum GatherFault {
+    /// The entries of this process in the history are not its transcript.
+    Strange(Process),
+    /// A growth was refused.
+    NoMemory,
 }
 
 impl From<ConfigFault> for RunFault {
@@ -40,17 +57,67 @@ impl From<NoMemory> for RunFault {
     }
 }
 
+impl From<ApplyFault> for RunFault {
+    ghost use Rattle.std.specs.Prelude.{◌≡◌};
+    ghost use Rattle.smx_run.specs.RunFaults.{fault_of_worker};
+
+    ghost from_gives = { λ f e. e ≡ fault_of_worker f };
+
+    fn from(fault: ApplyFault) -> RunFault {
+        match fault {
+            ApplyFault::HistoryFull => RunFault::HistoryFull,
+            ApplyFault::NoMemory => RunFault::NoMemory,
+        }
+    }
+}
+
+impl From<CloseFault> for RunFault {
+    ghost use Rattle.std.specs.Prelude.{◌≡◌};
+    ghost use Rattle.smx_run.specs.declared.fault.RunFault.TheVariants as run;
+
+    ghost from_gives = { λ _ e. e ≡ run.Held };
+
+    fn from(fault: CloseFault) -> RunFault {
+        match fault {
+            CloseFault::Held(_) => RunFault::Held,
+        }
+    }
+}
+
+impl From<NoMemory> for GatherFault {
+    ghost use Rattle.std.specs.Prelude.{◌≡◌};
+    ghost use Rattle.smx_run.specs.declared.fault.GatherFault.TheVariants as gathered;
+
+    ghost from_gives = { λ _ e. e ≡ gathered.NoMemory };
+
+    fn from(_error: NoMemory) -> GatherFault {
+        GatherFault::NoMemory
+    }
+}
+
 impl fmt::Display for RunFault {
     fn fmt<W: fmt::Write>(&self, f: &mut fmt::Formatter<W>) -> fmt::Result {
         match *self {
             RunFault::NoMemory | RunFault::ConfigFault(ConfigFault::NoMemory) => {
                 write!(f, "no memory")
             }
+            RunFault::Strange(process) => write!(f, "strange {}", process.get()),
             RunFault::ConfigFault(ConfigFault::BadSpec(i, fault)) => {
                 write!(f, "driver {i} {}", spec_word(fault))
             }
             RunFault::ConfigFault(ConfigFault::SameName(i)) => write!(f, "driver {i} same name"),
             RunFault::ConfigFault(ConfigFault::TooMany) => write!(f, "too many drivers"),
+            RunFault::HistoryFull => write!(f, "history full"),
+            RunFault::Held => write!(f, "turn held"),
+        }
+    }
+}
+
+impl fmt::Display for GatherFault {
+    fn fmt<W: fmt::Write>(&self, f: &mut fmt::Formatter<W>) -> fmt::Result {
+        match *self {
+            GatherFault::Strange(process) => write!(f, "strange {}", process.get()),
+            GatherFault::NoMemory => write!(f, "no memory"),
         }
     }
 }
@@ -62,3 +129,5 @@ fn spec_word(fault: SpecFault) -> &'static str {
         SpecFault::BadMax => "max",
     }
 }
+
+impl std::error::Error for GatherFault {}

@@ -1,8 +1,18 @@
-//! A run of programs: what comes of all of them, asked of one system.
+//! A run of programs by many threads, and what comes of all of them: the report of one history.
 #![tactic(auto)]
 
+mod desk;
 mod fault;
+mod gate;
+mod gathering;
+mod hands;
+mod report;
 mod run;
+mod threads;
+mod worker;
 
-pub use fault::RunFault;
+pub use fault::{GatherFault, RunFault};
+pub use gate::{Gate, NoGate};
+pub use gathering::gather;
+pub use report::Report;
 pub use run::run_programs;

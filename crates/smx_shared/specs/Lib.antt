@@ -1,2 +1,4 @@
+pub mod CloseFaults
 pub mod FaultWords
 pub mod Recorded
+pub mod Seats

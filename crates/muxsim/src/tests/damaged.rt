@@ -2,10 +2,12 @@
 
 use super::runs::{OPENS_AND_CLOSES, run_bytes};
 use std::process::Abort;
+use std::sync::Wait;
 use std::test::Fail;
+use std::thread::Threads;
 
-fn wants(rt: &(impl AllocGlobal + Abort), input: &[u8], line: &str) {
-    let ran = run_bytes(rt.alloc(), input);
+fn wants<R: AllocGlobal + Abort + Threads + Wait + Sync>(rt: &R, input: &[u8], line: &str) {
+    let ran = run_bytes(rt, rt.alloc(), input);
     assert_eq!(rt; ran.line.as_str(), line);
     assert_eq!(rt; ran.status, 3, "for {line}");
     assert!(rt; ran.output.is_empty(), "for {line}");

@@ -45,22 +45,22 @@ fn refused(rt: &impl Abort, ran: &Ran, line: &str) {
 #[test]
 fn refuses_one_more_of_each(rt: HostRuntime) -> Result<(), Fail> {
     let drivers = with_drivers(rt.alloc(), 65)?;
-    refused(&rt, &run_bytes(rt.alloc(), &drivers), "line 66: many");
+    refused(&rt, &run_bytes(&rt, rt.alloc(), &drivers), "line 66: many");
     let processes = with_processes(rt.alloc(), 65)?;
-    refused(&rt, &run_bytes(rt.alloc(), &processes), "line 67: many");
+    refused(&rt, &run_bytes(&rt, rt.alloc(), &processes), "line 67: many");
     let commands = with_commands(rt.alloc(), 100_001)?;
-    refused(&rt, &run_bytes(rt.alloc(), &commands), "line 100003: many");
+    refused(&rt, &run_bytes(&rt, rt.alloc(), &commands), "line 100003: many");
     Ok(())
 }
 
 #[test]
 fn runs_the_most_of_each(rt: HostRuntime) -> Result<(), Fail> {
     let drivers = with_drivers(rt.alloc(), 64)?;
-    assert_eq!(rt; run_bytes(rt.alloc(), &drivers).status, 0);
+    assert_eq!(rt; run_bytes(&rt, rt.alloc(), &drivers).status, 0);
     let processes = with_processes(rt.alloc(), 64)?;
-    assert_eq!(rt; run_bytes(rt.alloc(), &processes).status, 0);
+    assert_eq!(rt; run_bytes(&rt, rt.alloc(), &processes).status, 0);
     let commands = with_commands(rt.alloc(), 100_000)?;
-    let ran = run_bytes(rt.alloc(), &commands);
+    let ran = run_bytes(&rt, rt.alloc(), &commands);
     let mut output = Vec::from_slice(rt.alloc(), b"transcript 1\n")?;
     for _ in 0..100_000 {
         output.extend_from_slice(b"0 close 0 = EBADF fd\n")?;
@@ -88,10 +88,10 @@ fn refuses_one_entry_more(rt: HostRuntime) -> Result<(), Fail> {
 fn refuses_an_input_that_is_too_long(rt: HostRuntime) -> Result<(), Fail> {
     let mut input = Vec::new(rt.alloc());
     io::repeat(b'a').take(16_777_216).read_to_end(&mut input)?;
-    refused(&rt, &run_bytes(rt.alloc(), &input), "line 1: cut");
+    refused(&rt, &run_bytes(&rt, rt.alloc(), &input), "line 1: cut");
     refused(&rt, &check_bytes(rt.alloc(), &input), "line 1: cut");
     input.push(b'a')?;
-    refused(&rt, &run_bytes(rt.alloc(), &input), "input too long");
+    refused(&rt, &run_bytes(&rt, rt.alloc(), &input), "input too long");
     refused(&rt, &check_bytes(rt.alloc(), &input), "input too long");
     Ok(())
 }
@@ -101,7 +101,7 @@ fn runs_with_every_number_of_drivers(rt: HostRuntime) -> Result<(), Fail> {
     for count in 0..65 {
         let drivers = with_drivers(rt.alloc(), count)?;
         assert_eq!(rt;
-            run_bytes(rt.alloc(), &drivers).status,
+            run_bytes(&rt, rt.alloc(), &drivers).status,
             0,
             "for {count} drivers"
         );
@@ -121,7 +121,7 @@ fn passes_every_size_of_a_message(rt: HostRuntime) -> Result<(), Fail> {
         let output = format!(in rt.alloc();
             "transcript 1\ndriver eth leaf 1 1024 0 1024\n0 clone eth = fd 0 0\n0 inject eth 0 9 {payload} = took 1\n0 read 0 = got 1 9 {payload}\nconfig\nnext 1 2\nfd 0 0 eth 0\nend\n"
         )?;
-        let ran = run_bytes(rt.alloc(), input.as_bytes());
+        let ran = run_bytes(&rt, rt.alloc(), input.as_bytes());
         assert!(rt;
             ran.output.as_slice() == output.as_bytes(),
             "for {size} bytes"
@@ -148,7 +148,7 @@ fn runs_the_longest_texts(rt: HostRuntime) -> Result<(), Fail> {
     input.extend_from_slice(b"end\n")?;
     output.extend_from_slice(b"config\nnext 1 1\nend\n")?;
     assert_eq!(rt; input.len(), 16_776_757);
-    let ran = run_bytes(rt.alloc(), &input);
+    let ran = run_bytes(&rt, rt.alloc(), &input);
     assert_eq!(rt; ran.status, 0);
     assert!(rt; ran.output == output);
     Ok(())

@@ -4,9 +4,12 @@ use crate::device::{Source, Target};
 use crate::fault::MainFault;
 use crate::jobs::Done;
 use crate::text::run_text;
+use smx_run::NoGate;
 use std::alloc::Global;
 use std::fmt::InlineText;
+use std::sync::Wait;
 use std::test::Fail;
+use std::thread::Threads;
 
 /// What a run or a check wrote, the line that it leaves on standard error, and its status.
 #[derive(Drop)]
@@ -17,10 +20,11 @@ pub struct Ran {
 }
 
 /// Runs the programs that these bytes are.
-pub fn run_bytes(alloc: Global, input: &[u8]) -> Ran {
+pub fn run_bytes<R: Threads + Wait + Sync>(rt: &R, alloc: Global, input: &[u8]) -> Ran {
     let mut feed = Source::new(input);
     let mut sink = Target::new(Vec::new(alloc));
-    let (line, status) = run_ending(run_text(alloc, &mut feed, &mut sink, 1, false));
+    let outcome = run_text(rt, alloc, &mut feed, &mut sink, 1, false, &NoGate);
+    let (line, status) = run_ending(outcome);
     Ran {
         output: sink.writer,
         line,
@@ -70,7 +74,7 @@ fn writes_the_transcript(rt: HostRuntime) {
         ),
     ];
     for (input, output) in wants {
-        let ran = run_bytes(rt.alloc(), input);
+        let ran = run_bytes(&rt, rt.alloc(), input);
         assert_eq!(rt; ran.output.as_slice(), output);
         assert_eq!(rt; ran.status, 0);
     }
@@ -91,7 +95,7 @@ fn fills_the_descriptor_table(rt: HostRuntime) -> Result<(), Fail> {
     output.extend_from_slice(
         b"0 open ip 0 = EMFILE\n0 clone ip = EMFILE\n0 dup 15 = EMFILE\n0 dup 16 = EBADF fd\n0 exit = done\nconfig\nnext 1 1\nend\n",
     )?;
-    let ran = run_bytes(rt.alloc(), input.as_slice());
+    let ran = run_bytes(&rt, rt.alloc(), input.as_slice());
     assert_eq!(rt; ran.output.as_slice(), output.as_slice());
     Ok(())
 }
@@ -112,7 +116,7 @@ fn refuses_drivers(rt: HostRuntime) -> Result<(), Fail> {
     ];
     for (drivers, line) in wants {
         let input = format!(in rt.alloc(); "programs 1\n{drivers}process 0\nclone ip\nend\n")?;
-        let ran = run_bytes(rt.alloc(), input.as_bytes());
+        let ran = run_bytes(&rt, rt.alloc(), input.as_bytes());
         assert_eq!(rt; ran.line.as_str(), line);
         assert_eq!(rt; ran.status, 1);
         assert!(rt; ran.output.is_empty());

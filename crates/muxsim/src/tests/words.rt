@@ -17,6 +17,30 @@ fn tells_a_run(rt: HostRuntime) -> Result<(), Fail> {
 }
 
 #[test]
+fn tells_how_many_workers(rt: HostRuntime) -> Result<(), Fail> {
+    for (word, workers) in [("1", 1), ("2", 2), ("64", 64)] {
+        let words = ["muxsim", "run", "--workers", word];
+        let run = Job::Run {
+            workers,
+            fronts: false,
+        };
+        assert_eq!(rt; job(rt.alloc(), words.as_slice())?, run);
+    }
+    Ok(())
+}
+
+#[test]
+fn refuses_other_numbers_of_workers(rt: HostRuntime) -> Result<(), Fail> {
+    for word in ["0", "65", "256", "18446744073709551617", "-1", "x", ""] {
+        let words = ["muxsim", "run", "--workers", word];
+        let error = job(rt.alloc(), words.as_slice()).err().ok_or(word)?;
+        assert_eq!(rt; error.exit_code(), 2);
+        assert!(rt; error.use_stderr());
+    }
+    Ok(())
+}
+
+#[test]
 fn tells_a_check(rt: HostRuntime) -> Result<(), Fail> {
     let job = job(rt.alloc(), ["muxsim", "check"].as_slice())?;
     assert_eq!(rt; job, Job::Check);
@@ -25,14 +49,15 @@ fn tells_a_check(rt: HostRuntime) -> Result<(), Fail> {
 
 #[test]
 fn refuses_other_words(rt: HostRuntime) -> Result<(), Fail> {
-    let wrong: [(&[&str], ErrorKind); 9] = [
+    let wrong: [(&[&str], ErrorKind); 10] = [
         (&[], ErrorKind::MissingSubcommand),
         (&["muxsim"], ErrorKind::MissingSubcommand),
         (&["muxsim", "walk"], ErrorKind::InvalidSubcommand),
         (&["muxsim", "run", "extra"], ErrorKind::UnknownArgument),
+        (&["muxsim", "run", "--workers"], ErrorKind::InvalidValue),
         (
-            &["muxsim", "run", "--workers", "2"],
-            ErrorKind::UnknownArgument,
+            &["muxsim", "run", "--workers", "2", "--workers", "2"],
+            ErrorKind::ArgumentConflict,
         ),
         (&["muxsim", "run", "--version"], ErrorKind::UnknownArgument),
         (&["muxsim", "run", "check"], ErrorKind::UnknownArgument),

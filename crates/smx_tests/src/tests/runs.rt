@@ -2,17 +2,19 @@
 
 use super::most::most_programs;
 use super::texts_at_limits::{add_leaves, add_lines};
-use smx_run::{RunFault, run_programs};
+use smx_run::{NoGate, RunFault, run_programs};
 use smx_text::{read_programs, write_transcript};
 use smx_types::{Fault, Reply};
 use std::alloc::Global;
+use std::sync::Wait;
 use std::test::Fail;
+use std::thread::Threads;
 
 // The transcript of a run of the programs that this text spells.
-pub fn ran(alloc: Global, text: &[u8]) -> Result<Vec<u8>, Fail> {
+pub fn ran<R: Threads + Wait + Sync>(rt: &R, alloc: Global, text: &[u8]) -> Result<Vec<u8>, Fail> {
     let programs = read_programs(alloc, text)?;
-    let transcript = run_programs(alloc, programs)?;
-    Ok(write_transcript(alloc, &transcript)?)
+    let report = run_programs(rt, alloc, programs, 1, &NoGate)?;
+    Ok(write_transcript(alloc, &report.into_transcript())?)
 }
 
 #[test]
@@ -49,14 +51,14 @@ fd 0 1 eth 0
 fd 1 0 ip 0
 end
 ";
-    let written = ran(rt.alloc(), input.as_slice())?;
+    let written = ran(&rt, rt.alloc(), input.as_slice())?;
     assert_eq!(rt; written.as_slice(), output.as_slice());
     Ok(())
 }
 
 #[test]
 fn runs_the_most_programs(rt: HostRuntime) -> Result<(), Fail> {
-    let transcript = run_programs(rt.alloc(), most_programs(rt.alloc())?)?;
+    let transcript = run_programs(&rt, rt.alloc(), most_programs(rt.alloc())?, 1, &NoGate)?;
     assert_eq!(rt; transcript.drivers.as_slice().len(), 64);
     let entries = transcript.entries.as_slice();
     assert_eq!(rt; entries.len(), 100_000);
@@ -83,7 +85,7 @@ fn runs_with_every_number_of_drivers(rt: HostRuntime) -> Result<(), Fail> {
         )?;
         let end = b"0 exit = done\nconfig\nnext 1 1\nend\n";
         let output = of_drivers(rt.alloc(), b"transcript 1\n", count, end)?;
-        assert!(rt; ran(rt.alloc(), input.as_slice())? == output);
+        assert!(rt; ran(&rt, rt.alloc(), input.as_slice())? == output);
     }
     Ok(())
 }
@@ -122,17 +124,17 @@ fn runs_with_every_size_of_a_message(rt: HostRuntime) -> Result<(), Fail> {
     for size in 1..1_025 {
         let input = input_of(rt.alloc(), size)?;
         let output = output_of(rt.alloc(), size)?;
-        assert!(rt; ran(rt.alloc(), input.as_slice())? == output);
+        assert!(rt; ran(&rt, rt.alloc(), input.as_slice())? == output);
     }
     Ok(())
 }
 
-fn refused(alloc: Global, drivers: &[u8]) -> Result<RunFault, Fail> {
+fn refused<R: Threads + Wait + Sync>(rt: &R, alloc: Global, drivers: &[u8]) -> Result<RunFault, Fail> {
     let mut text = Vec::from_slice(alloc, b"programs 1\n".as_slice())?;
     text.extend_from_slice(drivers)?;
     text.extend_from_slice(b"process 0\nclone ip\nend\n")?;
     let programs = read_programs(alloc, text.as_slice())?;
-    Ok(run_programs(alloc, programs).err().ok_or("refused")?)
+    Ok(run_programs(rt, alloc, programs, 1, &NoGate).err().ok_or("refused")?)
 }
 
 #[test]
@@ -154,7 +156,7 @@ fn refuses_drivers(rt: HostRuntime) -> Result<(), Fail> {
         ),
     ];
     for (drivers, words) in wants {
-        let fault = refused(rt.alloc(), drivers)?;
+        let fault = refused(&rt, rt.alloc(), drivers)?;
         assert_eq!(rt; fault.to_string(rt.alloc())?.as_str(), words);
     }
     Ok(())

@@ -1,0 +1,44 @@
+use Rattle.std.proofs.Common.{rules, ◌≡◌, ◌+◌, ◌++◌, ◌∷◌, [], ℕ, List, arith, length, map, get_or, ap, sym, ◌∙◌}
+use Rattle.std.specs.List.{range_with_len}
+use Rattle.std.specs.Vec.Iter.{into_iter_items, into_iter_len}
+use Rattle.std.proofs.lemmas.List.{length-append, length-map}
+use Rattle.smx_shared.specs.Seats.{Seated}
+use Rattle.smx_run.specs.Hands.{given_hand, hand_of}
+use Rattle.smx_run.specs.ProgramOrder.{numbered}
+use Rattle.smx_run.proofs.HandLemmas.{hands_are, none_dealt, none_left, all_dealt, next_seat, deal_next}
+use Rattle.smx_run.proofs.hands.deal.Goals as goal
+
+pub loop-seat-init : goal.loop-seat-init
+loop-seat-init c =
+    let programs : into_iter_items c.into_iter-programs.result ≡ c.args.programs = c.into_iter-programs.ensures.rest ∙ c.into_vec.ensures in
+    let seats = c.into_iter-seat-iterator.ensures.into_iter_gives.0 in
+    record {
+      workers = search rules;
+      counted = search rules;
+      left = search rules;
+      seats = rw (seats, programs) c.requires.seats;
+      dealt = λ k below. rw programs (none_dealt c.args.workers _ c.in_ok-hands.ensures.none k below (hand_of c.args.workers (numbered 0 c.args.programs) k));
+    }
+
+pub loop-seat-preserved : goal.loop-seat-preserved
+loop-seat-preserved c =
+    let before = c.loop-seat.invariant in
+    let n : ℕ = length c.loop-seat.yielded in
+    let items = c.in-Some-next.ensures.items in
+    let next = next_seat n _ _ c.in-Some.seat _ _ c.in-Some-next.commands c.in-Some.ensures.steps.0 items before.seats in
+    let more : length (c.loop-seat.yielded ++ c.in-Some.seat ∷ []) ≡ n + 1 = omega (arith, length-append c.loop-seat.yielded (c.in-Some.seat ∷ [])) in
+    record {
+      workers = search rules;
+      counted = search rules;
+      left = search rules;
+      seats = rw more next.1;
+      dealt = λ k below. deal_next c.args.workers n _ c.in-Some.seat.process k _ _ _ c.in-Some-next.commands _ _ (before.dealt k below) (rw before.workers at (c.in_ok-give.ensures.given k (omega (arith, below, before.workers)))) next.0 more items;
+    }
+
+pub returns : goal.returns
+returns c =
+    let end = c.loop-seat.invariant in
+    let none = none_left _ _ _ end.seats (omega (arith, end.counted, c.in-None.ensures.steps.0)) in
+    record {
+      dealt = hands_are c.args.workers (numbered 0 c.args.programs) (map given_hand c.loop-seat.hands.items) (omega (arith, end.workers, length-map c.loop-seat.hands.items given_hand)) (λ k below. all_dealt _ _ _ _ k _ (end.dealt k below) none);
+    }

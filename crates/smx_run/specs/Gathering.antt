@@ -1,0 +1,21 @@
+-- Which transcripts a history bears out.
+use Rattle.std.specs.Prelude.{◌≡◌, ◌≢◌, ℕ, ◌<◌, ◌≤◌, List, [], ◌++◌, length, take, filter, ◌==◌, Option, Some, None, slice_index_or}
+use Rattle.smx_types.specs.declared.command.Entry.{Entry}
+
+-- the entries of one process, in their order
+abbrev pub entries_of : ℕ → List Entry → List Entry
+entries_of process history = filter (λ e. e.process == process) history
+
+-- the entries of the process are its transcript; a process past the list has the empty one
+abbrev pub IsBorneOut : List Entry → List (List Entry) → ℕ → Type 0
+IsBorneOut history transcripts process = entries_of process history ≡ slice_index_or transcripts process []
+
+-- the process is the least whose entries are not its transcript
+pub record IsLeastStrange (history : List Entry) (transcripts : List (List Entry)) (process : ℕ) : Type 0 where
+  pub strange : entries_of process history ≢ slice_index_or transcripts process []
+  pub least : (p : ℕ) → p < process → IsBorneOut history transcripts p
+
+-- a process has so many entries of its transcript, from the first on; or it has others
+abbrev pub IsMet : List Entry → List Entry → Option ℕ → Type 0
+IsMet transcript own (Some count) = (count ≤ length transcript) × (own ≡ take count transcript)
+IsMet transcript own None = (more : List Entry) → own ++ more ≢ transcript

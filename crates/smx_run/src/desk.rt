@@ -1,0 +1,102 @@
+//! Where the commands of one process are performed.
+
+use smx_shared::{ApplyFault, Door, System};
+use smx_types::{Command, Entry, Process};
+use std::alloc::Global;
+use std::sync::Wait;
+
+/// Performs the commands of one process.
+pub trait Desk {
+    ghost use Rattle.std.specs.Prelude.{List, [], ◌∷◌, ◌++◌, OnOk};
+    ghost use Rattle.smx_types.specs.declared.command.Command.{Command as Asked};
+
+    // Whether it may be asked.
+    ghost ready: { Self → Type 0 };
+
+    // From one state to another by these commands of the process, in order, and no others.
+    ghost performed: { Self → List Asked → Self → Type 0 };
+
+    /// The process.
+    fn process(&self) -> Process;
+
+    /// Performs its next command, which is given up.
+    fn perform<R: Wait>(&mut self, rt: &R, command: Command) -> Result<(), ApplyFault>
+        requires { ready self.old }
+        ensures ready { OnOk result (ready self.new) }
+        ensures performed { OnOk result (performed self.old (command ∷ []) self.new) };
+
+    ghost performed_none: { (a : Self) → performed a [] a };
+
+    ghost performed_more: { (a b c : Self) (xs ys : List Asked) → performed a xs b → performed b ys c → performed a (xs ++ ys) c };
+}
+
+/// At a system that nobody shares. Its history keeps the commands.
+#[derive(Drop)]
+pub struct Alone {
+    pub process: Process,
+    pub system: System,
+}
+
+impl Desk for Alone {
+    ghost use Rattle.smx_run.specs.Desks.{PerformedAlone};
+    ghost use Rattle.smx_run.specs.DeskLemmas.{alone_none, alone_more};
+
+    ghost ready = { λ _. Unit {0} };
+
+    ghost performed = { PerformedAlone };
+
+    fn process(&self) -> Process {
+        self.process
+    }
+
+    fn perform<R: Wait>(&mut self, _rt: &R, command: Command) -> Result<(), ApplyFault> {
+        self.system.append(self.process, command)
+    }
+
+    ghost performed_none = { alone_none };
+
+    ghost performed_more = { alone_more };
+}
+
+/// At a seat of a door. The entries that are answered are kept.
+#[derive(Drop)]
+pub struct Seated<'a, D: Door>
+where
+    D::Seat: Drop,
+{
+    pub alloc: Global,
+    pub door: &'a D,
+    pub process: Process,
+    pub seat: D::Seat,
+    pub entries: Vec<Entry>,
+}
+
+impl<'a, D: Door> Desk for Seated<'a, D>
+where
+    D::Seat: Drop,
+{
+    ghost use Rattle.std.specs.Prelude.{◌≡◌};
+    ghost use Rattle.smx_run.specs.Desks.{PerformedSeated};
+    ghost use Rattle.smx_run.specs.DeskLemmas.{seated_none, seated_more};
+
+    ghost ready = { λ a. D.is_seat a.door.now a.seat × (D.process_of a.seat ≡ a.process) };
+
+    ghost performed = { PerformedSeated };
+
+    fn process(&self) -> Process {
+        self.process
+    }
+
+    fn perform<R: Wait>(&mut self, rt: &R, command: Command) -> Result<(), ApplyFault> {
+        self.entries.reserve(1)?;
+        let entry = self
+            .door
+            .call(rt, self.alloc, &mut self.seat, &command)?;
+        self.entries.push_reserved(entry);
+        Ok(())
+    }
+
+    ghost performed_none = { seated_none };
+
+    ghost performed_more = { seated_more };
+}

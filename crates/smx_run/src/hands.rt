@@ -1,0 +1,109 @@
+//! Which worker runs which process: process p is run by worker p modulo the number of workers.
+
+ghost use Rattle.std.specs.Prelude.{◌≡◌, ◌≢◌, ◌≤◌, ◌<◌, ℕ, [], ◌∷◌, ◌++◌, List, length, map, slice_index_or, vec_len, IfOk, OnOk};
+ghost use Rattle.std.specs.List.{range_with_len};
+ghost use Rattle.smx_run.specs.Hands.{called, calls_in, given_hand, called_hand, hand_of, hands_of};
+ghost use Rattle.smx_run.specs.ProgramOrder.{calls_of, numbered};
+ghost use Rattle.smx_types.specs.declared.command.Command.{Command as Asked};
+
+use crate::worker::{Done, Job};
+use smx_shared::{Door, Seat, Shared};
+use smx_types::{Commands, Entries, NoMemory, ProgramList};
+use std::alloc::Global;
+
+/// What came of all processes, in their order.
+#[derive(Drop)]
+pub struct Ended {
+    pub seats: Vec<Seat>,
+    pub transcripts: Vec<Entries>,
+}
+
+/// A hand of processes for each of so many workers.
+pub fn deal(
+    alloc: Global,
+    seats: Vec<Seat>,
+    programs: ProgramList,
+    workers: usize,
+) -> Result<Vec<Vec<Job<Seat>>>, NoMemory>
+    requires workers { 1 ≤ workers }
+    requires seats { map (λ s. s.process) seats.items ≡ range_with_len 0 (length programs) }
+    ensures dealt { IfOk result (λ v. map given_hand v.items ≡ hands_of workers (numbered 0 programs)) }
+{
+    let mut hands = empty_hands(alloc, workers)?;
+    let mut programs = programs.into_vec().into_iter();
+    for seat in seats {
+        let Some(commands) = programs.next() else {
+            unreachable!()
+        };
+        give(&mut hands, seat, commands)?;
+    }
+    Ok(hands)
+}
+
+// Hands with nothing in them.
+fn empty_hands(alloc: Global, workers: usize) -> Result<Vec<Vec<Job<Seat>>>, NoMemory>
+    ensures workers { IfOk result (λ v. vec_len v ≡ workers) }
+    ensures none { IfOk result (λ v. map given_hand v.items ≡ hands_of workers []) }
+{
+    let mut hands = Vec::with_capacity(alloc, workers)?;
+    for _ in 0..workers {
+        hands.push_reserved(Vec::new(alloc));
+    }
+    Ok(hands)
+}
+
+// One process more for its worker.
+fn give(hands: &mut Vec<Vec<Job<Seat>>>, seat: Seat, commands: Commands) -> Result<(), NoMemory>
+    requires workers { 1 ≤ vec_len hands.old }
+    ensures workers { vec_len hands.new ≡ vec_len hands.old }
+    ensures given { OnOk result ((k : ℕ) → k < vec_len hands.old → slice_index_or (map given_hand hands.new.items) k []
+        ≡ slice_index_or (map given_hand hands.old.items) k [] ++ hand_of (vec_len hands.old) ((seat.process, calls_of seat.process commands) ∷ []) k) }
+{
+    let process = Shared::process(&seat);
+    let worker = process.get() as usize % hands.len();
+    hands[worker].push(Job {
+        process,
+        seat,
+        commands,
+    })?;
+    Ok(())
+}
+
+/// What came of the processes, put back into their order.
+pub fn collect(
+    alloc: Global,
+    mut hands: Vec<Vec<Done<Seat>>>,
+    processes: usize,
+) -> Result<Ended, NoMemory>
+    ghost programs: { List (List Asked) }
+    requires workers { 1 ≤ vec_len hands }
+    requires dealt { map called_hand hands.items ≡ hands_of (vec_len hands) (numbered 0 programs) }
+    requires processes { length programs ≡ processes }
+    ensures seats { IfOk result (λ ended. vec_len ended.seats ≡ processes) }
+    ensures called { IfOk result (λ ended. map calls_in ended.transcripts.items ≡ map (λ one. one.1) (numbered 0 programs)) }
+{
+    let mut seats = Vec::with_capacity(alloc, processes)?;
+    let mut transcripts = Vec::with_capacity(alloc, processes)?;
+    for process in 0..processes {
+        let worker = process % hands.len();
+        let Done {
+            process: _,
+            seat,
+            entries,
+        } = take_first(&mut hands, worker);
+        seats.push_reserved(seat);
+        transcripts.push_reserved(entries);
+    }
+    Ok(Ended { seats, transcripts })
+}
+
+// The first that is left of what a worker did.
+fn take_first(hands: &mut Vec<Vec<Done<Seat>>>, worker: usize) -> Done<Seat>
+    requires worker { worker < vec_len hands.old }
+    requires some { slice_index_or (map called_hand hands.old.items) worker [] ≢ [] }
+    ensures workers { vec_len hands.new ≡ vec_len hands.old }
+    ensures first { slice_index_or (map called_hand hands.old.items) worker [] ≡ called result ∷ slice_index_or (map called_hand hands.new.items) worker [] }
+    ensures others { (k : ℕ) → k ≢ worker → slice_index_or (map called_hand hands.new.items) k [] ≡ slice_index_or (map called_hand hands.old.items) k [] }
+{
+    hands[worker].remove(0)
+}

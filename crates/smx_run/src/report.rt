@@ -1,0 +1,47 @@
+//! What a run leaves.
+
+ghost use Rattle.std.specs.Prelude.{◌≡◌, IfOk};
+ghost use Rattle.smx_run.specs.Reports.{transcript_of};
+
+use smx_shared::Fronts;
+use smx_types::{ConfigView, Drivers, Entries, NoMemory, Transcript};
+use std::alloc::Global;
+
+/// The drivers of a run, its history, and the configuration at its end.
+#[derive(Debug, Drop, PartialEq)]
+pub struct Report {
+    pub drivers: Drivers,
+    pub entries: Entries,
+    pub view: ConfigView,
+    /// What each process saw last. Nothing fills it.
+    pub fronts: Fronts,
+}
+
+impl Report {
+    /// The same report again. Fails only for want of memory.
+    pub fn copy(&self, alloc: Global) -> Result<Report, NoMemory>
+        ensures { IfOk result (λ c. c ≡ self.now) }
+    {
+        let drivers = self.drivers.copy(alloc)?;
+        let entries = self.entries.copy(alloc)?;
+        let view = self.view.copy(alloc)?;
+        let fronts = self.fronts.copy(alloc)?;
+        Ok(Report {
+            drivers,
+            entries,
+            view,
+            fronts,
+        })
+    }
+
+    /// Its transcript: all but the fronts. Takes no memory.
+    pub fn into_transcript(self) -> Transcript
+        ensures { result ≡ transcript_of self }
+    {
+        Transcript {
+            drivers: self.drivers,
+            entries: self.entries,
+            view: self.view,
+        }
+    }
+}

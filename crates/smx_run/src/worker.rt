@@ -1,0 +1,102 @@
+//! A worker: the processes that one thread runs.
+
+ghost use Rattle.std.specs.Prelude.{◌≡◌, All, map, IfOk, OnOk};
+ghost use Rattle.smx_run.specs.Hands.{given, called};
+
+use crate::desk::{Desk, Seated};
+use crate::gate::Gate;
+use smx_shared::{ApplyFault, Door};
+use smx_types::{Commands, Entries, Process};
+use std::alloc::Global;
+use std::sync::Wait;
+
+/// A process that is to be run: its seat and its program.
+#[derive(Drop)]
+pub struct Job<S: Drop> {
+    pub process: Process,
+    pub seat: S,
+    pub commands: Commands,
+}
+
+/// A process whose program was run to its end: its seat, and the entries that it was answered.
+#[derive(Drop)]
+pub struct Done<S: Drop> {
+    pub process: Process,
+    pub seat: S,
+    pub entries: Entries,
+}
+
+/// Runs each process to its end, in turn, or to the first fault.
+pub fn work<D: Door, G: Gate, R: Wait>(
+    rt: &R,
+    alloc: Global,
+    door: &D,
+    hand: Vec<Job<D::Seat>>,
+    gate: &G,
+) -> Result<Vec<Done<D::Seat>>, ApplyFault>
+where
+    D::Seat: Drop,
+    requires { All (λ j. D.is_seat door.now j.seat × (D.process_of j.seat ≡ j.process)) hand.items }
+    ensures called { IfOk result (λ v. map called v.items ≡ map given hand.items) }
+    ensures seats { IfOk result (λ v. All (λ d. D.is_seat door.now d.seat) v.items) }
+{
+    let mut done = Vec::with_capacity(alloc, hand.len())?;
+    for job in hand {
+        done.push_reserved(run_job(rt, alloc, door, job, gate)?);
+    }
+    Ok(done)
+}
+
+// Runs a process to its end.
+fn run_job<D: Door, G: Gate, R: Wait>(
+    rt: &R,
+    alloc: Global,
+    door: &D,
+    job: Job<D::Seat>,
+    gate: &G,
+) -> Result<Done<D::Seat>, ApplyFault>
+where
+    D::Seat: Drop,
+    requires { D.is_seat door.now job.seat × (D.process_of job.seat ≡ job.process) }
+    ensures called { IfOk result (λ d. called d ≡ given job) }
+    ensures seat { IfOk result (λ d. D.is_seat door.now d.seat) }
+{
+    let Job { process, seat, commands } = job;
+    let entries = Vec::with_capacity(alloc, commands.as_slice().len())?;
+    let mut desk = Seated {
+        alloc,
+        door,
+        process,
+        seat,
+        entries,
+    };
+    run_program(rt, &mut desk, commands, gate)?;
+    Ok(Done {
+        process,
+        seat: desk.seat,
+        entries: Entries::from_vec(desk.entries),
+    })
+}
+
+/// Has the commands of a program performed, in order, to the end of it or to the first fault.
+pub fn run_program<K: Desk, G: Gate, R: Wait>(
+    rt: &R,
+    desk: &mut K,
+    commands: Commands,
+    gate: &G,
+) -> Result<(), ApplyFault>
+    requires { K.ready desk.old }
+    ensures ready { OnOk result (K.ready desk.new) }
+    ensures performed { OnOk result (K.performed desk.old commands desk.new) }
+{
+    let process = desk.process();
+    let mut number = 0;
+    for command in commands.into_vec() {
+        gate.before(process, number);
+        let outcome = desk.perform(rt, command);
+        gate.after(process, number);
+        outcome?;
+        number += 1;
+    }
+    Ok(())
+}

@@ -1,0 +1,24 @@
+//! Why a shared system is not given back, in the words that a program prints.
+
+use crate::front::Front;
+use std::fmt;
+
+/// Why a shared system was not given back. It prints itself: `turn held`.
+#[derive(Clone, Copy, Debug, PartialEq, Eq)]
+pub enum CloseFault {
+    /// Somebody never gave the turn back, as this front shows. The system is given up.
+    Held(Front),
+}
+
+impl fmt::Display for CloseFault {
+    ghost use Rattle.std.specs.Prelude.{Some};
+    ghost use Rattle.smx_shared.specs.CloseFaults.{close_fault_words};
+
+    ghost output = { λ _. Some close_fault_words };
+
+    fn fmt<W: fmt::Write>(&self, f: &mut fmt::Formatter<W>) -> fmt::Result {
+        f.write_str("turn held")
+    }
+}
+
+impl std::error::Error for CloseFault {}
