@@ -7,3 +7,4 @@ pub mod TranscriptText
 pub mod Drafts
 pub mod WorkedTexts
 pub mod WorkedFaults
+pub mod FaultWords

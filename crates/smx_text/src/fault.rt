@@ -58,20 +58,29 @@ impl From<NoMemory> for Cause {
 }
 
 impl fmt::Display for Cause {
+    ghost use Rattle.std.specs.Prelude.{Some};
+    ghost use Rattle.smx_text.specs.FaultWords.{cause_words};
+
+    ghost output = { λ cause. Some (cause_words cause) };
+
     fn fmt<W: fmt::Write>(&self, f: &mut fmt::Formatter<W>) -> fmt::Result {
-        let word = match self {
-            Cause::Header => "header",
-            Cause::Form => "form",
-            Cause::Many => "many",
-            Cause::Cut => "cut",
-            Cause::Trailing => "trailing",
-            Cause::NoMemory => "no memory",
-        };
-        write!(f, "{word}")
+        match self {
+            Cause::Header => f.write_str("header"),
+            Cause::Form => f.write_str("form"),
+            Cause::Many => f.write_str("many"),
+            Cause::Cut => f.write_str("cut"),
+            Cause::Trailing => f.write_str("trailing"),
+            Cause::NoMemory => f.write_str("no memory"),
+        }
     }
 }
 
 impl fmt::Display for TextFault {
+    ghost use Rattle.std.specs.Prelude.{Some};
+    ghost use Rattle.smx_text.specs.FaultWords.{text_fault_words};
+
+    ghost output = { λ fault. Some (text_fault_words fault) };
+
     fn fmt<W: fmt::Write>(&self, f: &mut fmt::Formatter<W>) -> fmt::Result {
         let line = self.line;
         let cause = self.cause;
