@@ -1,6 +1,8 @@
 //! A check from bytes to bytes.
 
-ghost use Rattle.std.specs.Prelude.{◌≡◌, false, string_bytes, IfOk};
+ghost use Rattle.std.specs.Fmt.{decimal};
+ghost use Rattle.std.specs.Prelude.{◌≡◌, ◌∷◌, ◌++◌, [], false, string_bytes, IfOk};
+ghost use Rattle.smx_words.specs.Words.{LINE_FEED, SPACE};
 ghost use Rattle.muxsim.specs.CheckText.{ChecksText, checking, judged_of, verdict_line};
 ghost use Rattle.muxsim.specs.Filters.{Answers};
 
@@ -51,8 +53,16 @@ fn verdict_line(alloc: Global, entries: usize, verdict: Verdict) -> Result<Strin
     ensures { IfOk result (λ line. string_bytes line ≡ verdict_line entries verdict) }
 {
     match verdict {
-        Verdict::Legal => format!(in alloc; "legal {entries}\n"),
-        Verdict::Illegal { entry } => format!(in alloc; "illegal {entry}\n"),
+        Verdict::Legal => numbered(alloc, "legal", entries),
+        Verdict::Illegal { entry } => numbered(alloc, "illegal", entry),
         Verdict::ConfigDiffers => format!(in alloc; "config differs\n"),
     }
+}
+
+// The line of a word and a number.
+fn numbered(alloc: Global, word: &str, n: usize) -> Result<String, AllocError>
+    ensures { IfOk result (λ line. string_bytes line
+        ≡ word.now ++ SPACE ∷ decimal n ++ LINE_FEED ∷ []) }
+{
+    format!(in alloc; "{word} {n}\n")
 }
