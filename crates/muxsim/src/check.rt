@@ -14,10 +14,11 @@ use smx_config::{Verdict, check_history};
 use smx_text::read_transcript;
 use std::alloc::{AllocError, Global};
 
-/// Reads the transcript that `feed` has, judges it, and writes the line of the verdict to `sink`: `legal N`, of N
-/// entries; `illegal K`, where entry K, from 1, is the first whose reply is wrong; or `config differs`, where only the
-/// configuration shown is. Neither device has failed before, and no read has shown the end. Faults are found in this
-/// order: reading, text, drivers, judging, writing.
+/// Reads the transcript that `feed` has, judges it, and writes the line of the verdict to `sink`:
+/// `legal N`, of N entries; `illegal K`, where entry K, counted from 1, is the first whose reply is
+/// wrong; or `config differs`, where only the configuration shown is. Neither device has failed
+/// before, and no read has shown the end. At most 16,777,217 bytes are read. Faults are found in
+/// this order: reading, text, drivers, judging, writing.
 pub fn check_text<F: Feed, S: Sink>(
     alloc: Global,
     feed: &mut F,

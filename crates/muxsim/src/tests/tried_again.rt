@@ -1,5 +1,5 @@
-//! Checks that pass with any one growth refused too: tests/refused_growths runs them so. What is written goes to the
-//! stack, so that no growth is a device's.
+//! Checks that pass with any one growth refused too: tests/refused_growths runs them so. What is
+//! written goes to the stack, so that no growth is a device's.
 
 use super::checks::{MARKS_ACROSS_THE_JOIN, TWO_PROCESSES};
 use crate::check::check_text;
