@@ -20,15 +20,21 @@ same_or_not v w = elim (cases_Bool _) [
   | inr f ↦ inr (not_from_Decides _ (view_tells v w) f)
 ]
 
-pub there_is_one : (drivers : List DriverSpec) (entries : List Entry) (shown : ConfigView) → IsLegal drivers entries ⊎ ((n : ℕ) × IsFirstIllegal drivers entries n) → (v : Verdict) × IsVerdict drivers entries shown v
+-- one verdict holds
+pub there_is_one : (drivers : List DriverSpec) (entries : List Entry) (shown : ConfigView)
+    → IsLegal drivers entries ⊎ ((n : ℕ) × IsFirstIllegal drivers entries n)
+    → (v : Verdict) × IsVerdict drivers entries shown v
 there_is_one drivers entries shown (inl legal) = elim (same_or_not shown (view drivers (after drivers entries))) [
   | inl same ↦ (Legal, (legal, same))
   | inr other ↦ (ConfigDiffers, (legal, other))
 ]
 there_is_one drivers entries shown (inr first) = (Illegal first.0, first.1)
 
-pub there_is_no_other : (drivers : List DriverSpec) (entries : List Entry) (shown : ConfigView) → ((n : ℕ) → IsLegal drivers entries → IsFirstIllegal drivers entries n → ⊥)
-    → ((m n : ℕ) → IsFirstIllegal drivers entries m → IsFirstIllegal drivers entries n → m ≡ n) → (v w : Verdict) → IsVerdict drivers entries shown v → IsVerdict drivers entries shown w → v ≡ w
+-- two that hold are the same
+pub there_is_no_other : (drivers : List DriverSpec) (entries : List Entry) (shown : ConfigView)
+    → ((n : ℕ) → IsLegal drivers entries → IsFirstIllegal drivers entries n → ⊥)
+    → ((m n : ℕ) → IsFirstIllegal drivers entries m → IsFirstIllegal drivers entries n → m ≡ n)
+    → (v w : Verdict) → IsVerdict drivers entries shown v → IsVerdict drivers entries shown w → v ≡ w
 there_is_no_other drivers entries shown not_both one Legal Legal h k = refl
 there_is_no_other drivers entries shown not_both one Legal (Illegal n) h k = absurd (not_both n h.0 k)
 there_is_no_other drivers entries shown not_both one Legal ConfigDiffers h k = absurd (k.1 h.1)

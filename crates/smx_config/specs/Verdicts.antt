@@ -9,7 +9,8 @@ use Rattle.smx_model.specs.Views.{view}
 use Rattle.smx_config.specs.declared.verdict.Verdict.{Verdict}
 use Rattle.smx_config.specs.declared.verdict.Verdict.TheVariants.{Legal, Illegal, ConfigDiffers}
 
--- The entries are a legal history whose view is the one shown; or the first illegal one has this number; or they are legal, and their view is another.
+-- the entries are a legal history, and its view is the one shown; or their first illegal entry has this number; or they
+-- are legal, and the view is another
 abbrev pub IsVerdict : List DriverSpec → List Entry → ConfigView → Verdict → Type 0
 IsVerdict drivers entries shown Legal = IsLegal drivers entries × (shown ≡ view drivers (after drivers entries))
 IsVerdict drivers entries shown (Illegal number) = IsFirstIllegal drivers entries number

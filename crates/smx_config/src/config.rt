@@ -135,7 +135,7 @@ impl Config {
         })
     }
 
-    /// Whether `show` would answer just this view. It is compared line by line where it stands, so this takes no memory.
+    /// Whether `show` would answer just this view. It is compared line by line where it stands: that takes no memory.
     pub fn shows(&self, shown: &ConfigView) -> bool
         ensures { IsTrue result ↔ (shown.now ≡ view self.now.drivers self.now.configuration) }
     {

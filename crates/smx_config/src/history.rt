@@ -19,15 +19,16 @@ fn gets_its_reply(config: &mut Config, entry: &Entry) -> Result<bool, NoMemory>
     ensures next { IfOk result (λ _. config.new.configuration
         ≡ (step config.old.drivers config.old.configuration entry.now.process entry.now.command).0) }
     ensures same { IfOk result (λ same. IsTrue same
-        ↔ ((step config.old.drivers config.old.configuration entry.now.process entry.now.command).1 ≡ entry.now.reply)) }
+        ↔ ((step config.old.drivers config.old.configuration entry.now.process entry.now.command).1
+        ≡ entry.now.reply)) }
 {
     let reply = config.step(entry.process, &entry.command)?;
     Ok(reply.is_same(&entry.reply))
 }
 
-/// Judges a history from the empty configuration on, whoever made it, and the view that is claimed of its end. Each
-/// command is given again, up to the first that gets another reply. Refused for drivers that a configuration can't
-/// have, before any entry is looked at, or for want of memory. It takes time by the entries alone.
+/// Judges a history, whoever made it, and the view that is claimed of its end: each command is given again, from the
+/// empty configuration on, up to the first whose reply is another. Refused for drivers that a configuration can't have,
+/// whatever the entries are, or for want of memory. Replies and view are compared where they stand, with no copy.
 pub fn check_history(
     alloc: Global,
     drivers: &[DriverSpec],

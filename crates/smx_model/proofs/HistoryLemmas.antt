@@ -20,20 +20,29 @@ prefix_from drivers c (e ∷ xs) ys h = (h.0, prefix_from drivers (step drivers 
 pub prefix_legal : (drivers : List DriverSpec) (xs ys : List Entry) → IsLegal drivers (xs ++ ys) → IsLegal drivers xs
 prefix_legal drivers xs ys h = prefix_from drivers empty xs ys h
 
-after_push_from : (drivers : List DriverSpec) (c : Configuration) (es : List Entry) (e : Entry) → after_from drivers c (es ++ e ∷ []) ≡ (step drivers (after_from drivers c es) e.process e.command).0
+-- one entry more is one step further, starting from any configuration
+after_push_from : (drivers : List DriverSpec) (c : Configuration) (es : List Entry) (e : Entry)
+    → after_from drivers c (es ++ e ∷ []) ≡ (step drivers (after_from drivers c es) e.process e.command).0
 after_push_from drivers c [] e = refl
 after_push_from drivers c (d ∷ es) e = after_push_from drivers (step drivers c d.process d.command).0 es e
 
--- the configuration after one entry more is one step further
-pub after_push : (drivers : List DriverSpec) (es : List Entry) (e : Entry) → after drivers (es ++ e ∷ []) ≡ (step drivers (after drivers es) e.process e.command).0
+-- and so from the empty one
+pub after_push : (drivers : List DriverSpec) (es : List Entry) (e : Entry)
+    → after drivers (es ++ e ∷ []) ≡ (step drivers (after drivers es) e.process e.command).0
 after_push drivers es e = after_push_from drivers empty es e
 
-legal_push_from : (drivers : List DriverSpec) (c : Configuration) (es : List Entry) (e : Entry) → IsLegalFrom drivers c es → (step drivers (after_from drivers c es) e.process e.command).1 ≡ e.reply → IsLegalFrom drivers c (es ++ e ∷ [])
+-- an entry with the reply of its command may follow, starting from any configuration
+legal_push_from : (drivers : List DriverSpec) (c : Configuration) (es : List Entry) (e : Entry)
+    → IsLegalFrom drivers c es → (step drivers (after_from drivers c es) e.process e.command).1 ≡ e.reply
+    → IsLegalFrom drivers c (es ++ e ∷ [])
 legal_push_from drivers c [] e h r = (r, tt)
-legal_push_from drivers c (d ∷ es) e h r = (h.0, legal_push_from drivers (step drivers c d.process d.command).0 es e h.1 r)
+legal_push_from drivers c (d ∷ es) e h r =
+    (h.0, legal_push_from drivers (step drivers c d.process d.command).0 es e h.1 r)
 
--- an entry with the reply of its command may follow
-pub legal_push : (drivers : List DriverSpec) (es : List Entry) (e : Entry) → IsLegal drivers es → (step drivers (after drivers es) e.process e.command).1 ≡ e.reply → IsLegal drivers (es ++ e ∷ [])
+-- and so from the empty one
+pub legal_push : (drivers : List DriverSpec) (es : List Entry) (e : Entry)
+    → IsLegal drivers es → (step drivers (after drivers es) e.process e.command).1 ≡ e.reply
+    → IsLegal drivers (es ++ e ∷ [])
 legal_push drivers es e h r = legal_push_from drivers empty es e h r
 
 -- an entry is what was asked, with a reply

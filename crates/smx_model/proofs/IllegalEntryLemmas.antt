@@ -28,13 +28,17 @@ same_or_not r s = elim (cases_Bool _) [
 ]
 
 -- below a number of entries that are legal, each entry has the reply of its command
-reply_before : (drivers : List DriverSpec) (c : Configuration) (es : List Entry) (m n : ℕ) (e : Entry) → m < n → IsLegalFrom drivers c (take n es) → slice_get es m ≡ Some e
+reply_before : (drivers : List DriverSpec) (c : Configuration) (es : List Entry) (m n : ℕ) (e : Entry)
+    → m < n → IsLegalFrom drivers c (take n es) → slice_get es m ≡ Some e
     → reply_to drivers (after_from drivers c (take m es)) e ≡ e.reply
-reply_before drivers c [] m n e lt legal here = let within = slice_get_within [] m e here in absurd (omega (arith, within))
+reply_before drivers c [] m n e lt legal here =
+    let within = slice_get_within [] m e here in absurd (omega (arith, within))
 reply_before drivers c (x ∷ es) zero zero e lt legal here = absurd (omega (arith, lt))
 reply_before drivers c (x ∷ es) (suc m) zero e lt legal here = absurd (omega (arith, lt))
-reply_before drivers c (x ∷ es) zero (suc n) e lt legal here = let same : x ≡ e = cc in subst (λ (y : Entry). reply_to drivers c y ≡ y.reply) same legal.0
-reply_before drivers c (x ∷ es) (suc m) (suc n) e lt legal here = reply_before drivers (step drivers c x.process x.command).0 es m n e (omega (arith, lt)) legal.1 here
+reply_before drivers c (x ∷ es) zero (suc n) e lt legal here =
+    let same : x ≡ e = cc in subst (λ (y : Entry). reply_to drivers c y ≡ y.reply) same legal.0
+reply_before drivers c (x ∷ es) (suc m) (suc n) e lt legal here =
+    reply_before drivers (step drivers c x.process x.command).0 es m n e (omega (arith, lt)) legal.1 here
 
 -- a first entry that is illegal, starting from this configuration
 abbrev FirstFrom : List DriverSpec → Configuration → List Entry → Type 0
@@ -42,7 +46,9 @@ FirstFrom drivers c es =
     (before : ℕ) × (e : Entry) × (slice_get es before ≡ Some e) × IsLegalFrom drivers c (take before es)
     × (reply_to drivers (after_from drivers c (take before es)) e ≢ e.reply)
 
-either_from : (drivers : List DriverSpec) (c : Configuration) (es : List Entry) → IsLegalFrom drivers c es ⊎ FirstFrom drivers c es
+-- one of the two holds, starting from this configuration
+either_from : (drivers : List DriverSpec) (c : Configuration) (es : List Entry)
+    → IsLegalFrom drivers c es ⊎ FirstFrom drivers c es
 either_from drivers c [] = inl tt
 either_from drivers c (e ∷ es) = elim (same_or_not (reply_to drivers c e) e.reply) [
   | inr other ↦ inr (0, e, refl, tt, other)
@@ -52,31 +58,42 @@ either_from drivers c (e ∷ es) = elim (same_or_not (reply_to drivers c e) e.re
   ]
 ]
 
-pub legal_or_first : (drivers : List DriverSpec) (es : List Entry) → IsLegal drivers es ⊎ ((n : ℕ) × IsFirstIllegal drivers es n)
+-- and so from the empty one
+pub legal_or_first : (drivers : List DriverSpec) (es : List Entry)
+    → IsLegal drivers es ⊎ ((n : ℕ) × IsFirstIllegal drivers es n)
 legal_or_first drivers es = elim (either_from drivers empty es) [
   | inl legal ↦ inl legal
-  | inr (before, e, here, legal, other) ↦ inr (before + 1, record { before = before; counted = refl; entry = e; here = here; legal_before = legal; other_reply = other })
+  | inr (before, e, here, legal, other) ↦ inr (
+    before + 1,
+    record { before = before; counted = refl; entry = e; here = here; legal_before = legal; other_reply = other },
+  )
 ]
 
 -- a legal history has no illegal entry
-pub not_both : (drivers : List DriverSpec) (es : List Entry) (n : ℕ) → IsLegal drivers es → IsFirstIllegal drivers es n → ⊥
+pub not_both : (drivers : List DriverSpec) (es : List Entry) (n : ℕ)
+    → IsLegal drivers es → IsFirstIllegal drivers es n → ⊥
 not_both drivers es n legal h =
-    let whole : IsLegal drivers (take (length es) es) = subst (IsLegal drivers) (sym (take_all (length es) es (omega arith))) legal in
-    h.other_reply (reply_before drivers empty es h.before (length es) h.entry (slice_get_within es h.before h.entry h.here) whole h.here)
+    let all = take_all (length es) es (omega arith) in
+    let whole : IsLegal drivers (take (length es) es) = subst (IsLegal drivers) (sym all) legal in
+    let within = slice_get_within es h.before h.entry h.here in
+    h.other_reply (reply_before drivers empty es h.before (length es) h.entry within whole h.here)
 
 -- an entry before the first illegal one is not illegal
-not_before : (drivers : List DriverSpec) (es : List Entry) (m n : ℕ) → (h : IsFirstIllegal drivers es m) → (k : IsFirstIllegal drivers es n) → h.before < k.before → ⊥
-not_before drivers es m n h k lt = h.other_reply (reply_before drivers empty es h.before k.before h.entry lt k.legal_before h.here)
+not_before : (drivers : List DriverSpec) (es : List Entry) (m n : ℕ) → (h : IsFirstIllegal drivers es m)
+    → (k : IsFirstIllegal drivers es n) → h.before < k.before → ⊥
+not_before drivers es m n h k lt =
+    h.other_reply (reply_before drivers empty es h.before k.before h.entry lt k.legal_before h.here)
 
-pub one_number : (drivers : List DriverSpec) (es : List Entry) (m n : ℕ) → IsFirstIllegal drivers es m → IsFirstIllegal drivers es n → m ≡ n
+-- so there is one number
+pub one_number : (drivers : List DriverSpec) (es : List Entry) (m n : ℕ)
+    → IsFirstIllegal drivers es m → IsFirstIllegal drivers es n → m ≡ n
 one_number drivers es m n h k = elim (cases_order h.before k.before) [
   | inl same ↦ omega (arith, same, h.counted, k.counted)
   | inr (inl lt) ↦ absurd (not_before drivers es m n h k lt)
   | inr (inr lt) ↦ absurd (not_before drivers es n m k h lt)
 ]
 
--- the example
-
+-- the second entry of the example is the first that is illegal
 pub second_is : IsFirstIllegal second.drivers second.history 2
 second_is = record {
   before = 1;

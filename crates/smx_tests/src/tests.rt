@@ -20,5 +20,6 @@ mod transcript_faults;
 mod transcript_texts;
 mod tried_again;
 mod values;
+mod verdicts;
 mod view_lines;
 mod views;

@@ -43,7 +43,7 @@ fn is_answered(rt: &(impl AllocGlobal + Abort), input: &[u8], wanted: &[u8]) -> 
 // A check that wanted memory, tried again, is answered.
 fn judges(rt: &(impl AllocGlobal + Abort + Print), input: &[u8], wanted: &[u8]) {
     if !is_answered(rt, input, wanted) {
-        let _ = println!(rt; "a step wanted memory");
+        let _ = println!(rt; "a check wanted memory");
         assert!(rt; is_answered(rt, input, wanted));
     }
 }

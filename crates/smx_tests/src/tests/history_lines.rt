@@ -2,7 +2,7 @@
 
 use super::values::{items, named, numbered, shown};
 use smx_config::Config;
-use smx_types::{Command, ConfigView, Fault, NoMemory, Reply, Sides, Which};
+use smx_types::{Command, ConfigView, Entry, Fault, NoMemory, Reply, Sides, Which};
 use std::alloc::Global;
 use std::test::Fail;
 
@@ -102,6 +102,16 @@ pub fn reply_of(alloc: Global, answer: Answer) -> Result<Reply, Fail> {
     })
 }
 
+/// What process 0 asks, and what it is answered.
+pub fn entry_of(alloc: Global, line: Line) -> Result<Entry, Fail> {
+    let (call, answer) = line;
+    Ok(Entry {
+        process: numbered(0)?,
+        command: command_of(alloc, call)?,
+        reply: reply_of(alloc, answer)?,
+    })
+}
+
 // Where memory was wanting nothing may have changed, and the same command is tried again. The line that is printed
 // tells that a growth inside a step was refused.
 fn reply_to(rt: &impl Print, config: &mut Config, command: &Command) -> Result<Reply, Fail> {
@@ -149,7 +159,7 @@ pub fn play(
 
 /// Just this is shown.
 pub fn shows(config: &Config, want: ConfigView) -> Result<(), Fail> {
-    if shown(config)? == want {
+    if shown(config)? == want && config.shows(&want) {
         return Ok(());
     }
     Err(Fail::new("something else is shown"))

@@ -5,7 +5,7 @@ use super::history_lines::{Answer, Call, JOIN, play};
 use super::most::leaves;
 use super::texts_at_limits::add_leaves;
 use super::values::{eth0, ip_and_eth, made_over};
-use smx_config::Config;
+use smx_config::{Config, Verdict, check_history};
 use smx_text::{read_programs, read_transcript, write_programs, write_transcript};
 use std::alloc::Global;
 use std::process::Abort;
@@ -18,6 +18,8 @@ fn makes_and_copies(rt: &impl Abort, alloc: Global, count: usize) -> Result<(), 
     assert!(rt; again.drivers() == drivers.as_slice());
     let view = again.show()?;
     assert_eq!(rt; view.next_id, 1);
+    let verdict = check_history(alloc, drivers.as_slice(), &[], &view)?;
+    assert_eq!(rt; verdict, Verdict::Legal);
     Ok(())
 }
 

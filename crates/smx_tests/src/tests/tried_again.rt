@@ -1,9 +1,11 @@
 //! Worked histories whole. They pass with any one growth refused too, and tests/refused_growths runs them so.
 
-use super::history_lines::{Answer, Call, JOIN, Line, play, shows};
-use super::values::{ip_and_eth, nothing_open};
+use super::history_lines::{Answer, Call, JOIN, Line, entry_of, play, shows};
+use super::values::{eth, ip, ip_and_eth, nothing_open};
 use super::views::held_above;
-use smx_types::{Fault, Which};
+use smx_config::{ConfigFault, Verdict, check_history};
+use smx_types::{ConfigView, Entry, Fault, Which};
+use std::alloc::Global;
 use std::test::Fail;
 
 const MARKS: [Line; 9] = [
@@ -47,4 +49,44 @@ fn three_causes_of_dropping(rt: HostRuntime) -> Result<(), Fail> {
     play(&rt, &mut config, &JOIN)?;
     play(&rt, &mut config, &CAUSES)?;
     shows(&config, nothing_open(rt.alloc(), 2, 4))
+}
+
+fn room_for_entries(alloc: Global) -> Result<Vec<Entry>, Fail> {
+    if let Ok(made) = Vec::with_capacity(alloc, 13) {
+        return Ok(made);
+    }
+    Ok(Vec::with_capacity(alloc, 13)?)
+}
+
+fn entries_of_marks(alloc: Global) -> Result<Vec<Entry>, Fail> {
+    let mut entries = room_for_entries(alloc)?;
+    for line in JOIN.iter().chain(&MARKS) {
+        entries.push(entry_of(alloc, *line)?)?;
+    }
+    Ok(entries)
+}
+
+// Where memory was wanting, the same is judged again. The line that is printed tells that a growth inside the judging
+// was refused.
+fn judged(
+    rt: &(impl AllocGlobal + Print),
+    entries: &[Entry],
+    view: &ConfigView,
+) -> Result<Verdict, Fail> {
+    let drivers = [ip()?, eth()?];
+    match check_history(rt.alloc(), &drivers, entries, view) {
+        Err(ConfigFault::NoMemory) => {
+            println!(rt; "a verdict wanted memory")?;
+            Ok(check_history(rt.alloc(), &drivers, entries, view)?)
+        }
+        judged => Ok(judged?),
+    }
+}
+
+#[test]
+fn a_history_is_judged(rt: HostRuntime) -> Result<(), Fail> {
+    let entries = entries_of_marks(rt.alloc())?;
+    let view = held_above(rt.alloc())?;
+    assert_eq!(rt; judged(&rt, entries.as_slice(), &view)?, Verdict::Legal);
+    Ok(())
 }

@@ -32,6 +32,11 @@ pub fn ip() -> Result<DriverSpec, Fail> {
     driver("ip", DriverKind::Mux, 4)
 }
 
+/// `driver eth leaf 2 8 3 16`.
+pub fn eth() -> Result<DriverSpec, Fail> {
+    driver("eth", DriverKind::Leaf, 2)
+}
+
 /// `driver eth0 leaf 64 4096 0 1024`.
 pub fn eth0() -> Result<DriverSpec, Fail> {
     Ok(DriverSpec {
@@ -86,8 +91,7 @@ pub fn made_over(alloc: Global, drivers: &[DriverSpec]) -> Result<Config, Fail> 
 
 /// The configuration over the drivers `ip`, a multiplexer of 4 minors, and `eth`, a leaf of 2.
 pub fn ip_and_eth(alloc: Global) -> Result<Config, Fail> {
-    let eth = driver("eth", DriverKind::Leaf, 2)?;
-    made_over(alloc, &[ip()?, eth])
+    made_over(alloc, &[ip()?, eth()?])
 }
 
 /// The configuration, as it is shown.
