@@ -15,7 +15,7 @@ IsWhole had ended read = (ended ≡ true) × IfSome had (λ all. all ≡ read)
 pub record IsInput (old new : Option (List ℕ)) (ended : Bool) (failures : ℕ) (answer : Result (Vec ℕ Global) MainFault) (read : List ℕ) : Type 0 where
   -- these bytes were read, and no others
   pub consumed : Consumes old new read
-  -- and of those that are too many, one at most
+  -- no more than one byte too many
   pub few : length read ≤ MAX_INPUT + 1
   -- they are answered
   pub answered : IfOk answer (λ v. v.items ≡ read)

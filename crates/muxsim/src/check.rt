@@ -1,6 +1,8 @@
 //! A check from bytes to bytes.
 
-ghost use Rattle.std.specs.Prelude.{◌≡◌, false, string_bytes, IfOk};
+ghost use Rattle.std.specs.Fmt.{decimal};
+ghost use Rattle.std.specs.Prelude.{◌≡◌, ◌∷◌, ◌++◌, [], false, string_bytes, IfOk};
+ghost use Rattle.smx_words.specs.Words.{LINE_FEED, SPACE};
 ghost use Rattle.muxsim.specs.CheckText.{ChecksText, checking, judged_of, verdict_line};
 ghost use Rattle.muxsim.specs.Filters.{Answers};
 
@@ -12,10 +14,11 @@ use smx_config::{Verdict, check_history};
 use smx_text::read_transcript;
 use std::alloc::{AllocError, Global};
 
-/// Reads the transcript that `feed` has, judges it, and writes the line of the verdict to `sink`: `legal N`, of N
-/// entries; `illegal K`, where entry K, from 1, is the first whose reply is wrong; or `config differs`, where only the
-/// configuration shown is. Neither device has failed before, and no read has shown the end. Faults are found in this
-/// order: reading, text, drivers, judging, writing.
+/// Reads the transcript that `feed` has, judges it, and writes the line of the verdict to `sink`:
+/// `legal N`, of N entries; `illegal K`, where entry K, counted from 1, is the first whose reply is
+/// wrong; or `config differs`, where only the configuration shown is. Neither device has failed
+/// before, and no read has shown the end. At most 16,777,217 bytes are read. Faults are found in
+/// this order: reading, text, drivers, judging, writing.
 pub fn check_text<F: Feed, S: Sink>(
     alloc: Global,
     feed: &mut F,
@@ -51,8 +54,16 @@ fn verdict_line(alloc: Global, entries: usize, verdict: Verdict) -> Result<Strin
     ensures { IfOk result (λ line. string_bytes line ≡ verdict_line entries verdict) }
 {
     match verdict {
-        Verdict::Legal => format!(in alloc; "legal {entries}\n"),
-        Verdict::Illegal { entry } => format!(in alloc; "illegal {entry}\n"),
+        Verdict::Legal => numbered(alloc, "legal", entries),
+        Verdict::Illegal { entry } => numbered(alloc, "illegal", entry),
         Verdict::ConfigDiffers => format!(in alloc; "config differs\n"),
     }
+}
+
+// The line of a word and a number.
+fn numbered(alloc: Global, word: &str, n: usize) -> Result<String, AllocError>
+    ensures { IfOk result (λ line. string_bytes line
+        ≡ word.now ++ SPACE ∷ decimal n ++ LINE_FEED ∷ []) }
+{
+    format!(in alloc; "{word} {n}\n")
 }

@@ -29,8 +29,8 @@ pub enum Done {
 }
 
 impl Done {
-    /// The program's exit status: 4 for the verdict that a history is illegal or that its configuration differs, else
-    /// 0. Takes no memory.
+    /// The program's exit status: 4 for the verdict that a history is illegal or that its
+    /// configuration differs, else 0. Takes no memory.
     pub fn status(&self) -> u8
         ensures { result ≡ status_of_done self.now }
     {

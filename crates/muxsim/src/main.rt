@@ -1,4 +1,4 @@
-//! Runs the programs on standard input against a STREAMS multiplexer and writes the transcript, or judges a transcript.
+//! Runs programs against a STREAMS multiplexer and writes the transcript, or judges a transcript.
 #![tactic(auto)]
 
 mod check;
@@ -34,9 +34,9 @@ use std::{env, io};
 use text::run_text;
 
 /// Does what the words ask for. The exit status is 0 where that was done, also for help and the
-/// version; 1 where a run is refused, also for want of memory; 2 where the words are wrong; 3 where
-/// the text is; 4 for the verdict that a history is illegal or that its configuration differs; and 5 where input or output
-/// failed.
+/// version; 1 where a run or a check is refused, also for want of memory; 2 where the words are
+/// wrong; 3 where the text is; 4 where a transcript is illegal or its configuration differs; and 5
+/// where input or output failed.
 fn main(rt: HostRuntime) -> ExitCode {
     let words = match words(&rt) {
         Ok(words) => words,

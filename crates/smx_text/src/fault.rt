@@ -64,14 +64,14 @@ impl fmt::Display for Cause {
     ghost output = { λ cause. Some (cause_words cause) };
 
     fn fmt<W: fmt::Write>(&self, f: &mut fmt::Formatter<W>) -> fmt::Result {
-        f.write_str(match self {
-            Cause::Header => "header",
-            Cause::Form => "form",
-            Cause::Many => "many",
-            Cause::Cut => "cut",
-            Cause::Trailing => "trailing",
-            Cause::NoMemory => "no memory",
-        })
+        match self {
+            Cause::Header => f.write_str("header"),
+            Cause::Form => f.write_str("form"),
+            Cause::Many => f.write_str("many"),
+            Cause::Cut => f.write_str("cut"),
+            Cause::Trailing => f.write_str("trailing"),
+            Cause::NoMemory => f.write_str("no memory"),
+        }
     }
 }
 

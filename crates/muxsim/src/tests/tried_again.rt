@@ -1,5 +1,5 @@
-//! Checks that pass with any one growth refused too: tests/refused_growths runs them so. What is written goes to the
-//! stack, so that no growth is a device's.
+//! Checks that pass with any one growth refused too: tests/refused_growths runs them so. What is
+//! written goes to the stack, so that no growth is a device's.
 
 use super::checks::{MARKS_ACROSS_THE_JOIN, TWO_PROCESSES};
 use crate::check::check_text;
@@ -43,7 +43,7 @@ fn is_answered(rt: &(impl AllocGlobal + Abort), input: &[u8], wanted: &[u8]) -> 
 // A check that wanted memory, tried again, is answered.
 fn judges(rt: &(impl AllocGlobal + Abort + Print), input: &[u8], wanted: &[u8]) {
     if !is_answered(rt, input, wanted) {
-        let _ = println!(rt; "a step wanted memory");
+        let _ = println!(rt; "a check wanted memory");
         assert!(rt; is_answered(rt, input, wanted));
     }
 }
