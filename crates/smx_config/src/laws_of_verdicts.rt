@@ -4,7 +4,11 @@ ghost use Rattle.std.specs.Prelude.{◌≡◌, List};
 ghost use Rattle.smx_types.specs.declared.command.Entry.{Entry};
 ghost use Rattle.smx_types.specs.declared.driver.DriverSpec.{DriverSpec};
 ghost use Rattle.smx_types.specs.declared.view.ConfigView.{ConfigView};
+ghost use Rattle.smx_types.specs.ProgramLists.{ProgramLists};
+ghost use Rattle.smx_types.specs.declared.transcript.Transcript.{Transcript};
+ghost use Rattle.smx_model.specs.Headline.{IsReportOf};
 ghost use Rattle.smx_config.specs.Verdicts.{IsVerdict};
+ghost use Rattle.smx_config.specs.declared.verdict.Verdict.TheVariants.{Legal};
 ghost use Rattle.smx_config.specs.declared.verdict.Verdict.{Verdict};
 
 use smx_model::laws_of_illegal_entries::legal_or_first_illegal;
@@ -18,3 +22,9 @@ pub fn there_is_one_verdict()
 {
     legal_or_first_illegal();
 }
+
+/// What a run reports is judged legal.
+pub fn reports_are_judged_legal()
+    ensures { (programs : ProgramLists) (report : Transcript) → IsReportOf programs report
+        → IsVerdict report.drivers report.entries report.view Legal }
+{}

@@ -1,3 +1,4 @@
+pub mod FaultWords
 pub mod DeskLemmas
 pub mod Desks
 pub mod Gathering

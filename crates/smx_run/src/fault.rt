@@ -2,7 +2,7 @@
 
 use smx_config::ConfigFault;
 use smx_shared::{ApplyFault, CloseFault};
-use smx_types::{NoMemory, Process, SpecFault};
+use smx_types::{NoMemory, Process};
 use std::fmt;
 
 /// Why a run was refused.
@@ -96,37 +96,33 @@ impl From<NoMemory> for GatherFault {
 }
 
 impl fmt::Display for RunFault {
+    ghost use Rattle.std.specs.Prelude.{Some};
+    ghost use Rattle.smx_run.specs.FaultWords.{run_fault_words};
+
+    ghost output = { λ fault. Some (run_fault_words fault) };
+
     fn fmt<W: fmt::Write>(&self, f: &mut fmt::Formatter<W>) -> fmt::Result {
-        match *self {
-            RunFault::NoMemory | RunFault::ConfigFault(ConfigFault::NoMemory) => {
-                write!(f, "no memory")
-            }
+        match self {
+            RunFault::NoMemory => f.write_str("no memory"),
             RunFault::Strange(process) => write!(f, "strange {}", process.get()),
-            RunFault::ConfigFault(ConfigFault::BadSpec(i, fault)) => {
-                write!(f, "driver {i} {}", spec_word(fault))
-            }
-            RunFault::ConfigFault(ConfigFault::SameName(i)) => write!(f, "driver {i} same name"),
-            RunFault::ConfigFault(ConfigFault::TooMany) => write!(f, "too many drivers"),
-            RunFault::HistoryFull => write!(f, "history full"),
-            RunFault::Held => write!(f, "turn held"),
+            RunFault::ConfigFault(fault) => write!(f, "{fault}"),
+            RunFault::HistoryFull => f.write_str("history full"),
+            RunFault::Held => f.write_str("turn held"),
         }
     }
 }
 
 impl fmt::Display for GatherFault {
-    fn fmt<W: fmt::Write>(&self, f: &mut fmt::Formatter<W>) -> fmt::Result {
-        match *self {
-            GatherFault::Strange(process) => write!(f, "strange {}", process.get()),
-            GatherFault::NoMemory => write!(f, "no memory"),
-        }
-    }
-}
+    ghost use Rattle.std.specs.Prelude.{Some};
+    ghost use Rattle.smx_run.specs.FaultWords.{gather_fault_words};
 
-fn spec_word(fault: SpecFault) -> &'static str {
-    match fault {
-        SpecFault::BadMinors => "minors",
-        SpecFault::BadMarks => "marks",
-        SpecFault::BadMax => "max",
+    ghost output = { λ fault. Some (gather_fault_words fault) };
+
+    fn fmt<W: fmt::Write>(&self, f: &mut fmt::Formatter<W>) -> fmt::Result {
+        match self {
+            GatherFault::Strange(process) => write!(f, "strange {}", process.get()),
+            GatherFault::NoMemory => f.write_str("no memory"),
+        }
     }
 }
 
