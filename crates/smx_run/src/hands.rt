@@ -2,7 +2,7 @@
 
 ghost use Rattle.std.specs.Prelude.{◌≡◌, ◌≢◌, ◌≤◌, ◌<◌, ℕ, [], ◌∷◌, ◌++◌, List, length, map, slice_index_or, vec_len, IfOk, OnOk};
 ghost use Rattle.std.specs.List.{range_with_len};
-ghost use Rattle.smx_run.specs.Hands.{called, calls_in, given_hand, called_hand, hand_of, hands_of};
+ghost use Rattle.smx_run.specs.Hands.{called, calls_in, process_at, given_hand, called_hand, hand_of, hands_of};
 ghost use Rattle.smx_run.specs.ProgramOrder.{calls_of, numbered};
 ghost use Rattle.smx_types.specs.declared.command.Command.{Command as Asked};
 
@@ -59,13 +59,8 @@ fn give(hands: &mut Vec<Vec<Job<Seat>>>, seat: Seat, commands: Commands) -> Resu
     ensures given { OnOk result ((k : ℕ) → k < vec_len hands.old → slice_index_or (map given_hand hands.new.items) k []
         ≡ slice_index_or (map given_hand hands.old.items) k [] ++ hand_of (vec_len hands.old) ((seat.process, calls_of seat.process commands) ∷ []) k) }
 {
-    let process = Shared::process(&seat);
-    let worker = process.get() as usize % hands.len();
-    hands[worker].push(Job {
-        process,
-        seat,
-        commands,
-    })?;
+    let worker = Shared::process(&seat).get() as usize % hands.len();
+    hands[worker].push(Job { seat, commands })?;
     Ok(())
 }
 
@@ -86,11 +81,7 @@ pub fn collect(
     let mut transcripts = Vec::with_capacity(alloc, processes)?;
     for process in 0..processes {
         let worker = process % hands.len();
-        let Done {
-            process: _,
-            seat,
-            entries,
-        } = take_first(&mut hands, worker);
+        let Done { seat, entries } = take_first(&mut hands, worker);
         seats.push_reserved(seat);
         transcripts.push_reserved(entries);
     }
@@ -102,7 +93,7 @@ fn take_first(hands: &mut Vec<Vec<Done<Seat>>>, worker: usize) -> Done<Seat>
     requires worker { worker < vec_len hands.old }
     requires some { slice_index_or (map called_hand hands.old.items) worker [] ≢ [] }
     ensures workers { vec_len hands.new ≡ vec_len hands.old }
-    ensures first { slice_index_or (map called_hand hands.old.items) worker [] ≡ called result ∷ slice_index_or (map called_hand hands.new.items) worker [] }
+    ensures first { slice_index_or (map called_hand hands.old.items) worker [] ≡ called process_at result ∷ slice_index_or (map called_hand hands.new.items) worker [] }
     ensures others { (k : ℕ) → k ≢ worker → slice_index_or (map called_hand hands.new.items) k [] ≡ slice_index_or (map called_hand hands.old.items) k [] }
 {
     hands[worker].remove(0)

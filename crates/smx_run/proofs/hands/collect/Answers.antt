@@ -2,7 +2,7 @@ use Rattle.std.proofs.Common.{rules, ◌≡◌, ◌<◌, ◌+◌, ◌%◌, ◌�
 use Rattle.std.proofs.Math.Nat.{mod-lt}
 use Rattle.std.proofs.lemmas.List.{drop_more}
 use Rattle.smx_types.specs.declared.command.Command.{Command}
-use Rattle.smx_run.specs.Hands.{called, called_hand, calls_in, hand_of}
+use Rattle.smx_run.specs.Hands.{called, process_at, called_hand, calls_in, hand_of}
 use Rattle.smx_run.specs.ProgramOrder.{Calls, calls_of, numbered}
 use Rattle.smx_run.proofs.HandLemmas.{pushed, hand_at, next_in_hand, take_next, collect_next}
 use Rattle.smx_run.proofs.hands.collect.Goals as goal
@@ -33,11 +33,11 @@ loop-process-preserved g c =
     let workers : ℕ = vec_len c.args.hands in
     let len : c.len.result ≡ workers = c.len.ensures ∙ before.workers in
     let programs = drop_more g.programs p [] (omega (arith, c.loop-process-test.true, c.requires.1.1)) in
-    let taken = take_next workers p (p + 1) _ _ _ _ _ (called c.take_first-seat.result) programs refl before.dealt (mod-lt p c.requires.0) (rw len at c.take_first-seat.ensures.first) (rw len at c.take_first-seat.ensures.others) in
+    let taken = take_next workers p (p + 1) _ _ _ _ _ (called process_at c.take_first-seat.result) programs refl before.dealt (mod-lt p c.requires.0) (rw len at c.take_first-seat.ensures.first) (rw len at c.take_first-seat.ensures.others) in
     record {
       room = search rules;
       counted = search rules;
       workers = search rules;
       dealt = taken.1;
-      called = collect_next p (p + 1) _ _ _ (called c.take_first-seat.result) _ _ _ before.called (pushed calls_in _ _ _ _ _ c.push_reserved-in-loop-process.ensures.items refl refl) taken.0 refl programs;
+      called = collect_next p (p + 1) _ _ _ (called process_at c.take_first-seat.result) _ _ _ before.called (pushed calls_in _ _ _ _ _ c.push_reserved-in-loop-process.ensures.items refl refl) taken.0 refl programs;
     }
