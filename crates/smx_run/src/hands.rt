@@ -4,12 +4,12 @@ ghost use Rattle.std.specs.Prelude.{◌≡◌, ◌≢◌, ◌≤◌, ◌<◌, �
 ghost use Rattle.std.specs.List.{range_with_len};
 ghost use Rattle.smx_run.specs.Hands.{called, calls_in, process_at, given_hand, called_hand, hand_of, hands_of};
 ghost use Rattle.smx_run.specs.ProgramOrder.{calls_of, numbered};
-ghost use Rattle.smx_types.specs.declared.command.Command.{Command as Asked};
 
 use crate::worker::{Done, Job};
 use smx_shared::{Door, Seat, Shared};
 use smx_types::{Commands, Entries, NoMemory, ProgramList};
 use std::alloc::Global;
+use std::snapshot::Snapshot;
 
 /// What came of all processes, in their order.
 #[derive(Drop)]
@@ -64,18 +64,18 @@ fn give(hands: &mut Vec<Vec<Job<Seat>>>, seat: Seat, commands: Commands) -> Resu
     Ok(())
 }
 
-/// What came of the processes, put back into their order.
+/// What came of the processes of these programs, put back into their order.
 pub fn collect(
     alloc: Global,
     mut hands: Vec<Vec<Done<Seat>>>,
     processes: usize,
+    programs: Snapshot<ProgramList>,
 ) -> Result<Ended, NoMemory>
-    ghost programs: { List (List Asked) }
     requires workers { 1 ≤ vec_len hands }
-    requires dealt { map called_hand hands.items ≡ hands_of (vec_len hands) (numbered 0 programs) }
-    requires processes { length programs ≡ processes }
+    requires dealt { map called_hand hands.items ≡ hands_of (vec_len hands) (numbered 0 programs.value) }
+    requires processes { length programs.value ≡ processes }
     ensures seats { IfOk result (λ ended. vec_len ended.seats ≡ processes) }
-    ensures called { IfOk result (λ ended. map calls_in ended.transcripts.items ≡ map (λ one. one.1) (numbered 0 programs)) }
+    ensures called { IfOk result (λ ended. map calls_in ended.transcripts.items ≡ map (λ one. one.1) (numbered 0 programs.value)) }
 {
     let mut seats = Vec::with_capacity(alloc, processes)?;
     let mut transcripts = Vec::with_capacity(alloc, processes)?;
