@@ -3,7 +3,7 @@ use Rattle.std.specs.Prelude.{◌≡◌, []}
 use Rattle.smx_types.specs.declared.transcript.Transcript.{Transcript}
 use Rattle.smx_model.specs.Histories.{after}
 use Rattle.smx_model.specs.Views.{view}
-use Rattle.smx_shared.specs.Recorded.{Recorded, IsSound}
+use Rattle.smx_shared.specs.Recorded.{Recorded, IsSoundSystem}
 use Rattle.smx_run.specs.declared.report.Report.{Report}
 
 -- what is written of a report as its transcript: all but the fronts
@@ -16,7 +16,7 @@ transcript_of report = record {
 
 -- its drivers, its history, and the view of the configuration after that; no fronts
 pub record Reports (s : Recorded) (report : Report) : Type 0 where
-  pub sound : IsSound s
+  pub sound : IsSoundSystem s
   pub drivers : report.drivers ≡ s.drivers
   pub entries : report.entries ≡ s.history
   pub shown : report.view ≡ view s.drivers (after s.drivers s.history)

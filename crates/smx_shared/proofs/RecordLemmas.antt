@@ -14,21 +14,27 @@ use Rattle.smx_config.specs.Machine.{Machine}
 use Rattle.smx_shared.specs.Recorded.{IsRecord}
 
 -- after a history with one entry more, the configuration is one step further
-after_push : (drivers : List DriverSpec) (c : Configuration) (es : List Entry) (e : Entry) → after_from drivers c (es ++ e ∷ []) ≡ (step drivers (after_from drivers c es) e.process e.command).0
+after_push : (drivers : List DriverSpec) (c : Configuration) (es : List Entry) (e : Entry) →
+    after_from drivers c (es ++ e ∷ []) ≡ (step drivers (after_from drivers c es) e.process e.command).0
 after_push drivers c [] e = refl
 after_push drivers c (d ∷ es) e = after_push drivers (step drivers c d.process d.command).0 es e
 
 -- an entry with the reply of its command may follow
-legal_push : (drivers : List DriverSpec) (c : Configuration) (es : List Entry) (e : Entry) → IsLegalFrom drivers c es → (step drivers (after_from drivers c es) e.process e.command).1 ≡ e.reply → IsLegalFrom drivers c (es ++ e ∷ [])
+legal_push : (drivers : List DriverSpec) (c : Configuration) (es : List Entry) (e : Entry) →
+    IsLegalFrom drivers c es → (step drivers (after_from drivers c es) e.process e.command).1 ≡ e.reply →
+    IsLegalFrom drivers c (es ++ e ∷ [])
 legal_push drivers c [] e h r = (r, tt)
 legal_push drivers c (d ∷ es) e h r = (h.0, legal_push drivers (step drivers c d.process d.command).0 es e h.1 r)
 
 -- what the law of lawful histories says
 abbrev LegalIsLawful : Type 0
-LegalIsLawful = (drivers : List DriverSpec) (history : List Entry) → IsLegal drivers history → IsLawfulThroughout drivers history
+LegalIsLawful = (drivers : List DriverSpec) (history : List Entry) →
+    IsLegal drivers history → IsLawfulThroughout drivers history
 
 -- with no entry yet there is nothing to prove of the history
-pub none_yet : LegalIsLawful → (m : Machine) (drivers : List DriverSpec) (limit : ℕ) (es : List Entry) → es ≡ [] → limit ≤ MAX_COMMANDS → (m.drivers ≡ drivers) × IsDriverList drivers → m.configuration ≡ empty → IsRecord m limit es
+pub none_yet : LegalIsLawful → (m : Machine) (drivers : List DriverSpec) (limit : ℕ) (es : List Entry) →
+    es ≡ [] → limit ≤ MAX_COMMANDS → (m.drivers ≡ drivers) × IsDriverList drivers → m.configuration ≡ empty →
+    IsRecord m limit es
 none_yet lawful m drivers limit es none few can is_empty = rw none (record {
   sound = record {
     can_be_had = rw can.0 can.1;
@@ -41,10 +47,15 @@ none_yet lawful m drivers limit es none few can is_empty = rw none (record {
 })
 
 -- a step of the configuration, and the entry of it where there is room, keep the two together
-pub one_entry_more : LegalIsLawful → (m new : Machine) (limit : ℕ) (es more : List Entry) (e : Entry) → IsRecord m limit es → length es < limit → new.drivers ≡ m.drivers → step m.drivers m.configuration e.process e.command ≡ (new.configuration, e.reply) → more ≡ es ++ e ∷ [] → IsRecord new limit more
+pub one_entry_more : LegalIsLawful →
+    (m new : Machine) (limit : ℕ) (es more : List Entry) (e : Entry) → IsRecord m limit es → length es < limit →
+    new.drivers ≡ m.drivers → step m.drivers m.configuration e.process e.command ≡ (new.configuration, e.reply) →
+    more ≡ es ++ e ∷ [] → IsRecord new limit more
 one_entry_more lawful m new limit es more e h room same did added =
-    let now : step m.drivers (after m.drivers es) e.process e.command ≡ (new.configuration, e.reply) = ap (λ (c : Configuration). step m.drivers c e.process e.command) (sym h.now) ∙ did in
-    let legal : IsLegal m.drivers (es ++ e ∷ []) = legal_push m.drivers empty es e h.sound.legal (ap (λ (x : Configuration × Reply). x.1) now) in
+    let now : step m.drivers (after m.drivers es) e.process e.command ≡ (new.configuration, e.reply) =
+    ap (λ (c : Configuration). step m.drivers c e.process e.command) (sym h.now) ∙ did in
+    let reply = ap (λ (x : Configuration × Reply). x.1) now in
+    let legal : IsLegal m.drivers (es ++ e ∷ []) = legal_push m.drivers empty es e h.sound.legal reply in
     rw (added, same) (record {
       sound = record {
         can_be_had = h.sound.can_be_had;

@@ -17,7 +17,7 @@ pub record Recorded : Type 0 where
   pub history : List Entry
 
 -- what every system is, whichever commands came before
-pub record IsSound (s : Recorded) : Type 0 where
+pub record IsSoundSystem (s : Recorded) : Type 0 where
   -- A configuration can have its drivers.
   pub can_be_had : IsDriverList s.drivers
   -- It has at most as many entries as its limit allows, and that is at most 100,000.
@@ -34,7 +34,7 @@ recorded_of m limit history = record { drivers = m.drivers; limit = limit; histo
 
 -- such a system, and the configuration is the one after its history
 pub record IsRecord (m : Machine) (limit : ℕ) (history : List Entry) : Type 0 where
-  pub sound : IsSound (recorded_of m limit history)
+  pub sound : IsSoundSystem (recorded_of m limit history)
   pub now : m.configuration ≡ after m.drivers history
 
 -- what a command makes an entry of: its process, itself, and the reply that it gets after the history

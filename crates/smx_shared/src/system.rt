@@ -5,7 +5,7 @@ ghost use Rattle.smx_types.specs.declared.limits.TheConstants.{MAX_COMMANDS};
 ghost use Rattle.smx_model.specs.DriverList.{IsDriverList};
 ghost use Rattle.smx_model.specs.Histories.{after};
 ghost use Rattle.smx_config.specs.DriverFaults.{RefusesDrivers};
-ghost use Rattle.smx_shared.specs.Recorded.{IsSound, next_entry, with_entry};
+ghost use Rattle.smx_shared.specs.Recorded.{IsSoundSystem, next_entry, with_entry};
 ghost use Rattle.smx_shared.specs.declared.fault.ApplyFault.TheVariants.{HistoryFull};
 
 use crate::fault::ApplyFault;
@@ -89,7 +89,7 @@ impl System {
         ensures full { IsErrOf result HistoryFull ↔ (length self.old.history ≡ self.old.limit) }
         ensures err { OnErr result (self.new ≡ self.old) }
         // What it is afterwards, either way.
-        ensures sound { IsSound self.new }
+        ensures sound { IsSoundSystem self.new }
     {
         lawful_after_each_entry();
         make_room(&mut self.entries, self.limit)?;
@@ -117,7 +117,7 @@ impl System {
         ensures full { IsErrOf result HistoryFull ↔ (length self.old.history ≡ self.old.limit) }
         ensures err { OnErr result (self.new ≡ self.old) }
         // What it is afterwards, either way.
-        ensures sound { IsSound self.new }
+        ensures sound { IsSoundSystem self.new }
     {
         lawful_after_each_entry();
         make_room(&mut self.entries, self.limit)?;
@@ -141,7 +141,7 @@ impl System {
     /// The history. Takes no memory.
     pub fn entries(&self) -> &[Entry]
         ensures entries { result.now ≡ self.now.history }
-        ensures sound { IsSound self.now }
+        ensures sound { IsSoundSystem self.now }
     {
         self.entries.as_slice()
     }
@@ -149,7 +149,7 @@ impl System {
     /// The history, moved out. Takes no memory.
     pub fn into_entries(self) -> Entries
         ensures entries { result ≡ self.history }
-        ensures sound { IsSound self }
+        ensures sound { IsSoundSystem self }
     {
         Entries::from_vec(self.entries)
     }

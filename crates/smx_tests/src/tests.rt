@@ -16,6 +16,8 @@ mod program_texts;
 mod refused_drivers;
 mod runs;
 mod sweeps;
+mod system_lines;
+mod systems;
 mod texts_at_limits;
 mod transcript_faults;
 mod transcript_texts;

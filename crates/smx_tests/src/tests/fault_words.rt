@@ -1,6 +1,7 @@
 //! The words in which faults print themselves.
 
 use smx_config::ConfigFault;
+use smx_shared::ApplyFault;
 use smx_types::{Items, Many, NoMemory, SpecFault};
 use std::alloc::Global;
 use std::fmt::Display;
@@ -45,4 +46,10 @@ fn faults_of_drivers(rt: HostRuntime) -> Result<(), Fail> {
         prints(&rt, rt.alloc(), &fault, words)?;
     }
     Ok(())
+}
+
+#[test]
+fn faults_of_a_command(rt: HostRuntime) -> Result<(), Fail> {
+    prints(&rt, rt.alloc(), &ApplyFault::HistoryFull, "history full")?;
+    prints(&rt, rt.alloc(), &ApplyFault::NoMemory, "no memory")
 }

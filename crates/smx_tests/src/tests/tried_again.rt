@@ -1,6 +1,7 @@
 //! Worked histories whole. They pass with any one growth refused too, and tests/refused_growths runs them so.
 
 use super::history_lines::{Answer, Call, JOIN, Line, play, shows};
+use super::system_lines::{play as play_by, system_of_twenty};
 use super::values::{ip_and_eth, nothing_open};
 use super::views::held_above;
 use smx_types::{Fault, Which};
@@ -47,4 +48,22 @@ fn three_causes_of_dropping(rt: HostRuntime) -> Result<(), Fail> {
     play(&rt, &mut config, &JOIN)?;
     play(&rt, &mut config, &CAUSES)?;
     shows(&config, nothing_open(rt.alloc(), 2, 4))
+}
+
+#[test]
+fn marks_by_a_system(rt: HostRuntime) -> Result<(), Fail> {
+    let mut system = system_of_twenty(rt.alloc())?;
+    play_by(&rt, &mut system, &JOIN)?;
+    play_by(&rt, &mut system, &MARKS)?;
+    assert_eq!(rt; system.entries().len(), 13);
+    shows(system.config(), held_above(rt.alloc())?)
+}
+
+#[test]
+fn causes_by_a_system(rt: HostRuntime) -> Result<(), Fail> {
+    let mut system = system_of_twenty(rt.alloc())?;
+    play_by(&rt, &mut system, &JOIN)?;
+    play_by(&rt, &mut system, &CAUSES)?;
+    assert_eq!(rt; system.entries().len(), 10);
+    shows(system.config(), nothing_open(rt.alloc(), 2, 4))
 }

@@ -3,4 +3,7 @@ use Rattle.smx_shared.proofs.system.System.new.Goals as goal
 
 pub invariant_of-result : goal.invariant_of-result
 invariant_of-result c =
-    none_yet c.lawful_after_each_entry.ensures c.in_ok-config.config c.args.drivers.now c.args.limit c.new-2.result.items c.new-2.ensures.items c.requires c.in_ok-config.ensures.drivers c.in_ok-config.ensures.empty
+    let entries = c.new-2 in
+    let made = c.in_ok-config in
+    none_yet c.lawful_after_each_entry.ensures made.config c.args.drivers.now c.args.limit entries.result.items
+    entries.ensures.items c.requires made.ensures.drivers made.ensures.empty
