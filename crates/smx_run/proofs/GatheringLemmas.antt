@@ -1,5 +1,5 @@
 -- How many entries of each transcript a history has.
-use Rattle.std.proofs.Common.{◌≡◌, ◌≢◌, ℕ, zero, suc, All, ◌+◌, ◌<◌, ◌≤◌, true, false, List, [], ◌∷◌, ◌++◌, length, take, set, replicate, get_or, Option, Some, None, refl, sym, ap, subst, ◌∙◌, arith, inl, inr}
+use Rattle.std.proofs.Common.{◌≡◌, ◌≢◌, ℕ, suc, All, ◌<◌, ◌≤◌, true, false, List, [], ◌∷◌, ◌++◌, length, set, replicate, get_or, Option, Some, None, refl, sym, ap, subst, ◌∙◌, arith, inl, inr}
 use Rattle.std.specs.Prelude.{◌==◌, ◌↔◌, IfSome}
 use Rattle.std.proofs.lemmas.Bool.{cases_Bool, cases_lt}
 use Rattle.std.proofs.lemmas.Bool.Decides.{nat_tests}
@@ -33,7 +33,7 @@ one_more_met transcripts es more e n met m r transcript counted number within ad
       let at : get_or (set met n r) n None ≡ r = get_or-set_same met n r None (omega arith) in
       let its_own : (e.process == n) ≡ true = ap (λ (q : ℕ). e.process == q) same ∙ t in
       let now : IsMet (get_or transcripts n []) (entries_of n (es ++ e ∷ [])) (get_or (set met n r) n None) =
-        rw (at, own_entry n es e its_own, ← its) (here (entries_of n es) (rw (its, was) (before n within))) in
+      rw (at, own_entry n es e its_own, ← its) (here (entries_of n es) (rw (its, was) (before n within))) in
       subst (λ (q : ℕ). IsMet (get_or transcripts q []) (entries_of q (es ++ e ∷ [])) (get_or (set met n r) q None)) same now
   | inr f ↦
       let other : p ≢ n = grind (arith, nat_tests) in
@@ -43,9 +43,9 @@ one_more_met transcripts es more e n met m r transcript counted number within ad
 -- as many entries were met as the transcript has just where they are the transcript
 pub whole_count : (transcript own : List Entry) (n : ℕ) → IsMet transcript own (Some n) → (n ≡ length transcript) ↔ (own ≡ transcript)
 whole_count transcript own n h = (
-    (λ is. h.1 ∙ take_all n transcript (omega arith)),
-    (λ same. omega (arith, h.0, ap (length {A = Entry}) (sym h.1 ∙ same), length-take-le n transcript h.0)),
-  )
+  (λ is. h.1 ∙ take_all n transcript (omega arith)),
+  (λ same. omega (arith, h.0, ap (length {A = Entry}) (sym h.1 ∙ same), length-take-le n transcript h.0)),
+)
 
 -- where others were met, they are not the transcript
 pub not_whole : (transcript own : List Entry) → IsMet transcript own None → own ≢ transcript

@@ -1,8 +1,8 @@
 -- What was given to workers, and what came of it.
-use Rattle.std.proofs.Common.{◌≡◌, ◌≢◌, ℕ, zero, suc, ◌+◌, ◌%◌, ◌<◌, true, false, List, [], ◌∷◌, ◌++◌, All, length, map, filter, get_or, set, drop, arith, refl, ap, sym, subst, ◌∙◌, inl, inr, append_assoc}
+use Rattle.std.proofs.Common.{◌≡◌, ◌≢◌, ℕ, ◌+◌, ◌%◌, ◌<◌, true, false, List, [], ◌∷◌, ◌++◌, All, length, map, get_or, set, drop, arith, refl, ap, sym, subst, ◌∙◌, inl, inr, append_assoc}
 use Rattle.std.specs.Prelude.{◌==◌}
 use Rattle.std.specs.List.{range_with_len}
-use Rattle.std.proofs.lemmas.List.FromFn.{length-range_with_len, map-range_with_len_more, get_or-map-range_with_len, fill_by_all}
+use Rattle.std.proofs.lemmas.List.FromFn.{length-range_with_len, length-map-range_with_len, map-range_with_len_more, get_or-map-range_with_len, fill_by_all}
 use Rattle.std.proofs.lemmas.Bool.{cases_Bool}
 use Rattle.std.proofs.lemmas.Bool.Decides.{nat_tests}
 use Rattle.std.proofs.lemmas.List.{append-nil, length-map, map-append, map-set, get_or-map, get_or-set_same, get_or-set_other}
@@ -135,13 +135,13 @@ pub take_next : (workers p m : ℕ) (programs later : List (List Command)) (comm
     → (one ≡ (p, calls_of p commands)) × ((k : ℕ) → k < workers → get_or new k [] ≡ hand_of workers (numbered m later) k)
 take_next workers p m programs later commands old new one next more before within first others =
     let was : one ∷ get_or new (p % workers) [] ≡ (p, calls_of p commands) ∷ hand_of workers (numbered (p + 1) later) (p % workers) =
-      sym first ∙ before (p % workers) within ∙ next_in_hand workers p programs later commands next in (
-    cc,
-    (λ k below. rw more (elim (cases_Bool (p % workers == k)) [
-      | inl t ↦ let here : p % workers ≡ k = grind (arith, nat_tests) in let now : get_or new (p % workers) [] ≡ hand_of workers (numbered (p + 1) later) (p % workers) = cc in rw here at now
-      | inr f ↦ let other : k ≢ p % workers = grind (arith, nat_tests) in others k other ∙ before k below ∙ next_not_in workers p k programs later commands next other
-    ])),
-  )
+    sym first ∙ before (p % workers) within ∙ next_in_hand workers p programs later commands next in (
+      cc,
+      (λ k below. rw more (elim (cases_Bool (p % workers == k)) [
+        | inl t ↦ let here : p % workers ≡ k = grind (arith, nat_tests) in let now : get_or new (p % workers) [] ≡ hand_of workers (numbered (p + 1) later) (p % workers) = cc in rw here at now
+        | inr f ↦ let other : k ≢ p % workers = grind (arith, nat_tests) in others k other ∙ before k below ∙ next_not_in workers p k programs later commands next other
+      ])),
+    )
 
 -- what was called and what is left to collect, before a process and after it
 pub collect_next : (p m : ℕ) (old new goal : List (List (ℕ × Command))) (one : Calls) (programs later : List (List Command)) (commands : List Command)
@@ -150,3 +150,7 @@ pub collect_next : (p m : ℕ) (old new goal : List (List (ℕ × Command))) (on
 collect_next p m old new goal one programs later commands before now is more next =
     let was : old ++ (calls_of p commands ∷ map (λ (c : Calls). c.1) (numbered (p + 1) later)) ≡ goal = rw next at before in
     rw (now, is, more) (append_assoc old (calls_of p commands ∷ []) (map (λ (c : Calls). c.1) (numbered (p + 1) later)) ∙ was)
+
+-- there are as many hands as workers
+pub hand_count : (workers : ℕ) (all : List Calls) (hands : List (List Calls)) → hands ≡ hands_of workers all → length hands ≡ workers
+hand_count workers all hands is = ap (length {A = List Calls}) is ∙ length-map-range_with_len (hand_of workers all) 0 workers

@@ -1,3 +1,4 @@
 pub mod GatheringLemmas
 pub mod HandLemmas
 pub mod ProgramOrderLemmas
+pub mod TranscriptLemmas

@@ -65,14 +65,12 @@ holds es programs e p =
 
 -- ---- the report of a system that was asked all of it
 
-pub report_of : (programs : ProgramLists) (s : Recorded) (t : Report) → Reports s t →
-    AreDropsAllowed s.history → s.drivers ≡ programs.drivers →
-    map call_of s.history ≡ calls_from 0 programs.programs → IsReportOf programs (transcript_of t)
-report_of programs s t h drops same asked = record {
+pub report_of : (programs : ProgramLists) (s : Recorded) (t : Report) → Reports s t → AreDropsAllowed s.history → s.drivers ≡ programs.drivers → HoldsPrograms s.history programs.programs → IsReportOf programs (transcript_of t)
+report_of programs s t h drops same holds = record {
   drivers = h.drivers ∙ same;
   can_be_had = rw (← same) h.sound.can_be_had;
   legal = rw (← same, h.entries) h.sound.legal;
-  holds = holds t.entries programs.programs (ap (map call_of) h.entries ∙ asked);
+  holds = rw h.entries holds;
   shown = rw (← same, h.entries) h.shown;
   lawful = rw (← same, h.entries) h.sound.lawful;
   drops = rw h.entries drops;

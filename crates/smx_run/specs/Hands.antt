@@ -4,29 +4,34 @@ use Rattle.std.specs.List.{range_with_len}
 use Rattle.smx_types.specs.declared.command.Command.{Command}
 use Rattle.smx_types.specs.declared.command.Entry.{Entry}
 use Rattle.smx_model.specs.Histories.{call_of}
+use Rattle.smx_shared.specs.Seats.{Seated}
 use Rattle.smx_run.specs.ProgramOrder.{Calls, calls_of}
 use Rattle.smx_run.specs.declared.worker.Job.{Job}
 use Rattle.smx_run.specs.declared.worker.Done.{Done}
 
--- a process, and what it is to call
-abbrev pub given : {S : Type 0} → Job S → Calls
-given job = (job.process, calls_of job.process job.commands)
+-- the process of a seat, and what it is to call
+abbrev pub given : {S : Type 0} → (S → ℕ) → Job S → Calls
+given process_of job = (process_of job.seat, calls_of (process_of job.seat) job.commands)
 
 -- the calls that these entries are of
 abbrev pub calls_in : List Entry → List (ℕ × Command)
 calls_in entries = map call_of entries
 
--- a process, and what it has called
-abbrev pub called : {S : Type 0} → Done S → Calls
-called done = (done.process, calls_in done.entries)
+-- the process of a seat, and what it has called
+abbrev pub called : {S : Type 0} → (S → ℕ) → Done S → Calls
+called process_of done = (process_of done.seat, calls_in done.entries)
 
--- those of a hand, in order
-abbrev pub given_hand : {S A : Type 0} → Vec (Job S) A → List Calls
-given_hand hand = map given hand.items
+-- the process of a seat of a shared system
+abbrev pub process_at : Seated → ℕ
+process_at seat = seat.process
 
--- those of a hand, in order
-abbrev pub called_hand : {S A : Type 0} → Vec (Done S) A → List Calls
-called_hand hand = map called hand.items
+-- what a hand of processes is to call, in order
+abbrev pub given_hand : {A : Type 0} → Vec (Job Seated) A → List Calls
+given_hand hand = map (given process_at) hand.items
+
+-- what a hand of processes has called, in order
+abbrev pub called_hand : {A : Type 0} → Vec (Done Seated) A → List Calls
+called_hand hand = map (called process_at) hand.items
 
 -- the processes of one worker of so many: those whose number modulo that many is its own, in their order
 abbrev pub hand_of : ℕ → List Calls → ℕ → List Calls

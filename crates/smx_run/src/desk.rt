@@ -89,9 +89,7 @@ where
 
     fn perform<R: Wait>(&mut self, rt: &R, command: Command) -> Result<(), ApplyFault> {
         self.entries.reserve(1)?;
-        let entry = self
-            .door
-            .call(rt, self.alloc, &mut self.seat, &command)?;
+        let entry = self.door.call(rt, self.alloc, &mut self.seat, &command)?;
         self.entries.push_reserved(entry);
         Ok(())
     }

@@ -10,7 +10,9 @@ ghost use Rattle.smx_run.specs.Reports.{Reports};
 use crate::fault::GatherFault;
 use crate::report::Report;
 use smx_shared::{Fronts, System};
-use smx_types::{Copied, DriverSpec, Drivers, Entries, Entry, MAX_PROCESSES, NoMemory, Process, Same};
+use smx_types::{
+    Copied, DriverSpec, Drivers, Entries, Entry, MAX_PROCESSES, NoMemory, Process, Same,
+};
 use std::alloc::Global;
 
 const PROCESSES: usize = MAX_PROCESSES as usize;
@@ -18,11 +20,7 @@ const PROCESSES: usize = MAX_PROCESSES as usize;
 /// The report of a system, where each process has just the entries in its history that its transcript has, in the same
 /// order; a process past the list has none. Refused at the least process of which that is not so, or else for want of
 /// memory.
-pub fn gather(
-    alloc: Global,
-    system: System,
-    transcripts: &[Entries],
-) -> Result<Report, GatherFault>
+pub fn gather(alloc: Global, system: System, transcripts: &[Entries]) -> Result<Report, GatherFault>
     requires { length transcripts.now ≤ MAX_PROCESSES }
     ensures report { IfOk result (Reports system) }
     ensures borne_out { IfOk result (λ _. (p : ℕ) → IsBorneOut system.history transcripts.now p) }

@@ -2,14 +2,14 @@
 
 ghost use Rattle.std.specs.Prelude.{◌≡◌, ◌≢◌, ◌≤◌, ◌<◌, ℕ, [], ◌∷◌, ◌++◌, List, length, map, slice_index_or, vec_len, IfOk, OnOk};
 ghost use Rattle.std.specs.List.{range_with_len};
-ghost use Rattle.smx_run.specs.Hands.{called, calls_in, given_hand, called_hand, hand_of, hands_of};
+ghost use Rattle.smx_run.specs.Hands.{called, calls_in, process_at, given_hand, called_hand, hand_of, hands_of};
 ghost use Rattle.smx_run.specs.ProgramOrder.{calls_of, numbered};
-ghost use Rattle.smx_types.specs.declared.command.Command.{Command as Asked};
 
 use crate::worker::{Done, Job};
 use smx_shared::{Door, Seat, Shared};
 use smx_types::{Commands, Entries, NoMemory, ProgramList};
 use std::alloc::Global;
+use std::snapshot::Snapshot;
 
 /// What came of all processes, in their order.
 #[derive(Drop)]
@@ -59,38 +59,29 @@ fn give(hands: &mut Vec<Vec<Job<Seat>>>, seat: Seat, commands: Commands) -> Resu
     ensures given { OnOk result ((k : ℕ) → k < vec_len hands.old → slice_index_or (map given_hand hands.new.items) k []
         ≡ slice_index_or (map given_hand hands.old.items) k [] ++ hand_of (vec_len hands.old) ((seat.process, calls_of seat.process commands) ∷ []) k) }
 {
-    let process = Shared::process(&seat);
-    let worker = process.get() as usize % hands.len();
-    hands[worker].push(Job {
-        process,
-        seat,
-        commands,
-    })?;
+    let worker = Shared::process(&seat).get() as usize % hands.len();
+    hands[worker].push(Job { seat, commands })?;
     Ok(())
 }
 
-/// What came of the processes, put back into their order.
+/// What came of the processes of these programs, put back into their order.
 pub fn collect(
     alloc: Global,
     mut hands: Vec<Vec<Done<Seat>>>,
     processes: usize,
+    programs: Snapshot<ProgramList>,
 ) -> Result<Ended, NoMemory>
-    ghost programs: { List (List Asked) }
     requires workers { 1 ≤ vec_len hands }
-    requires dealt { map called_hand hands.items ≡ hands_of (vec_len hands) (numbered 0 programs) }
-    requires processes { length programs ≡ processes }
+    requires dealt { map called_hand hands.items ≡ hands_of (vec_len hands) (numbered 0 programs.value) }
+    requires processes { length programs.value ≡ processes }
     ensures seats { IfOk result (λ ended. vec_len ended.seats ≡ processes) }
-    ensures called { IfOk result (λ ended. map calls_in ended.transcripts.items ≡ map (λ one. one.1) (numbered 0 programs)) }
+    ensures called { IfOk result (λ ended. map calls_in ended.transcripts.items ≡ map (λ one. one.1) (numbered 0 programs.value)) }
 {
     let mut seats = Vec::with_capacity(alloc, processes)?;
     let mut transcripts = Vec::with_capacity(alloc, processes)?;
     for process in 0..processes {
         let worker = process % hands.len();
-        let Done {
-            process: _,
-            seat,
-            entries,
-        } = take_first(&mut hands, worker);
+        let Done { seat, entries } = take_first(&mut hands, worker);
         seats.push_reserved(seat);
         transcripts.push_reserved(entries);
     }
@@ -102,7 +93,7 @@ fn take_first(hands: &mut Vec<Vec<Done<Seat>>>, worker: usize) -> Done<Seat>
     requires worker { worker < vec_len hands.old }
     requires some { slice_index_or (map called_hand hands.old.items) worker [] ≢ [] }
     ensures workers { vec_len hands.new ≡ vec_len hands.old }
-    ensures first { slice_index_or (map called_hand hands.old.items) worker [] ≡ called result ∷ slice_index_or (map called_hand hands.new.items) worker [] }
+    ensures first { slice_index_or (map called_hand hands.old.items) worker [] ≡ called process_at result ∷ slice_index_or (map called_hand hands.new.items) worker [] }
     ensures others { (k : ℕ) → k ≢ worker → slice_index_or (map called_hand hands.new.items) k [] ≡ slice_index_or (map called_hand hands.old.items) k [] }
 {
     hands[worker].remove(0)

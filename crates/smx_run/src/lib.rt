@@ -15,4 +15,4 @@ pub use fault::{GatherFault, RunFault};
 pub use gate::{Gate, NoGate};
 pub use gathering::gather;
 pub use report::Report;
-pub use run::run_programs;
+pub use run::{MAX_WORKERS, run_programs};

@@ -2,11 +2,13 @@
 
 ghost use Rattle.std.specs.Prelude.{◌≡◌, ◌≤◌, ◌++◌, [], length, map, IfOk, IfErr};
 ghost use Rattle.smx_model.specs.Headline.{IsReportOf};
-ghost use Rattle.smx_model.specs.Histories.{call_of};
+ghost use Rattle.smx_model.specs.DriverList.{IsDriverList};
+ghost use Rattle.smx_model.specs.Histories.{call_of, HoldsPrograms};
 ghost use Rattle.smx_types.specs.declared.limits.TheConstants.{MAX_COMMANDS, MAX_PROCESSES};
 ghost use Rattle.smx_run.specs.ProgramOrder.{calls_from};
 ghost use Rattle.smx_run.specs.Reports.{transcript_of};
 ghost use Rattle.smx_run.specs.RunFaults.{RefusesRun};
+ghost use Rattle.smx_run.specs.declared.run.TheConstants.{MAX_WORKERS};
 
 use crate::desk::Alone;
 use crate::fault::RunFault;
@@ -17,10 +19,13 @@ use crate::threads::run_together;
 use crate::worker::run_program;
 use smx_model::laws_of_messages::few_commands_drop;
 use smx_shared::{ApplyFault, System};
-use smx_types::{Commands, MAX_COMMANDS, Process, ProgramList, Programs};
+use smx_types::{Commands, DriverSpec, MAX_COMMANDS, Process, ProgramList, Programs};
 use std::alloc::Global;
 use std::sync::Wait;
 use std::thread::Threads;
+
+/// The most workers of a run.
+pub const MAX_WORKERS: usize = 64;
 
 /// Has the programs run by so many workers, 1 to 64, and reports the one history that they make. Process p is run by
 /// worker p modulo `workers`; a worker runs its processes by rising number, each to its end, and tells the gate. With one
@@ -34,7 +39,7 @@ pub fn run_programs<R: Threads + Wait + Sync, G: Gate + Sync>(
     workers: usize,
     gate: &G,
 ) -> Result<Report, RunFault>
-    requires { (1 ≤ workers) × (workers ≤ 64) }
+    requires { (1 ≤ workers) × (workers ≤ MAX_WORKERS) }
     ensures report { IfOk result (λ r. IsReportOf programs (transcript_of r)) }
     ensures few { IfOk result (λ r. length r.entries ≤ MAX_COMMANDS) }
     ensures fronts { IfOk result (λ r. r.fronts ≡ []) }
@@ -44,13 +49,40 @@ pub fn run_programs<R: Threads + Wait + Sync, G: Gate + Sync>(
     let (drivers, programs) = programs.into_parts();
     let mut system = System::new(alloc, drivers.as_slice(), MAX_COMMANDS)?;
     system.reserve(count_commands(programs.as_slice()))?;
-    let hands = workers.min(programs.as_slice().len());
-    let system = if hands < 2 {
-        run_alone(rt, system, programs, gate)?
-    } else {
-        run_together(rt, alloc, system, drivers.as_slice(), programs, hands, gate)?
-    };
+    let system = run_all(
+        rt,
+        alloc,
+        system,
+        drivers.as_slice(),
+        programs,
+        workers,
+        gate,
+    )?;
     Ok(report(alloc, system, drivers)?)
+}
+
+// The system once it was asked all programs, on this thread alone where a second worker would have no process.
+fn run_all<R: Threads + Wait + Sync, G: Gate + Sync>(
+    rt: &R,
+    alloc: Global,
+    system: System,
+    drivers: &[DriverSpec],
+    programs: ProgramList,
+    workers: usize,
+    gate: &G,
+) -> Result<System, RunFault>
+    requires drivers { (system.drivers ≡ drivers.now) × IsDriverList drivers.now }
+    requires empty { system.history ≡ [] }
+    requires processes { length programs ≤ MAX_PROCESSES }
+    ensures drivers { IfOk result (λ s. s.drivers ≡ drivers.now) }
+    ensures holds { IfOk result (λ s. HoldsPrograms s.history programs) }
+    ensures refused { IfErr result (RefusesRun drivers.now) }
+{
+    let hands = workers.min(programs.as_slice().len());
+    if hands < 2 {
+        return Ok(run_alone(rt, system, programs, gate)?);
+    }
+    run_together(rt, alloc, system, drivers, programs, hands, gate)
 }
 
 // How many commands there are in all.

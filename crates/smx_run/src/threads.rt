@@ -1,10 +1,13 @@
 //! Many workers, each on a thread of its own.
 
-ghost use Rattle.std.specs.Prelude.{◌≡◌, ◌≤◌, All, length, map, vec_len, IfOk, IfErr};
+ghost use Rattle.std.specs.Prelude.{◌≡◌, ◌≤◌, ℕ, List, [], ◌∷◌, ◌++◌, length, map, vec_len, IfOk, IfErr, IfNone};
+ghost use Rattle.std.specs.List.{range_with_len};
 ghost use Rattle.smx_types.specs.declared.limits.TheConstants.{MAX_PROCESSES};
 ghost use Rattle.smx_model.specs.DriverList.{IsDriverList};
 ghost use Rattle.smx_model.specs.Histories.{HoldsPrograms};
-ghost use Rattle.smx_run.specs.Hands.{called_hand, given_hand, given, called};
+ghost use Rattle.smx_run.specs.Gathering.{IsBorneOut};
+ghost use Rattle.smx_run.specs.Hands.{called_hand, calls_in, given_hand, process_at};
+ghost use Rattle.smx_run.specs.ProgramOrder.{Calls, numbered};
 ghost use Rattle.smx_run.specs.RunFaults.{RefusesRun};
 
 use crate::fault::RunFault;
@@ -13,7 +16,7 @@ use crate::gathering::find_strange;
 use crate::hands::{Ended, collect, deal};
 use crate::worker::{Done, Job, work};
 use smx_shared::{ApplyFault, Seat, Shared, System};
-use smx_types::{DriverSpec, Process, ProgramList};
+use smx_types::{DriverSpec, Entries, Process, ProgramList};
 use std::alloc::Global;
 use std::snapshot::Snapshot;
 use std::sync::Wait;
@@ -37,23 +40,54 @@ pub fn run_together<R: Threads + Wait + Sync, G: Gate + Sync>(
     ensures holds { IfOk result (λ s. HoldsPrograms s.history programs) }
     ensures refused { IfErr result (RefusesRun drivers.now) }
 {
-    let processes = programs.as_slice().len();
-    let (shared, seats) = Shared::start(alloc, system, processes)?;
-    let hands = deal(alloc, seats, programs, workers)?;
-    let hands = run_hands(rt, alloc, &shared, hands, gate)?;
+    let (shared, seats) = Shared::start(alloc, system, programs.as_slice().len())?;
     let Ended {
         mut seats,
         transcripts,
-    } = collect(alloc, hands, processes)?;
-    let Some(seat) = seats.pop() else { unreachable!() };
+    } = run_seats(rt, alloc, &shared, seats, programs, workers, gate)?;
+    let Some(seat) = seats.pop() else {
+        unreachable!()
+    };
     let system = shared.close(seat)?;
+    if let Some(process) = find_other(&system, drivers, transcripts.as_slice()) {
+        return Err(RunFault::Strange(process));
+    }
+    Ok(system)
+}
+
+// A process that the system is strange to: process 0 where it has other drivers, else the least whose entries in its
+// history are not its transcript.
+fn find_other(system: &System, drivers: &[DriverSpec], transcripts: &[Entries]) -> Option<Process>
+    requires { length transcripts.now ≤ MAX_PROCESSES }
+    ensures drivers { IfNone result (system.now.drivers ≡ drivers.now) }
+    ensures borne_out { IfNone result ((p : ℕ) → IsBorneOut system.now.history transcripts.now p) }
+{
     if system.config().drivers() != drivers {
-        return Err(RunFault::Strange(Process::new(0).unwrap()));
+        return Process::new(0);
     }
-    match find_strange(system.entries(), transcripts.as_slice()) {
-        Some(process) => Err(RunFault::Strange(process)),
-        None => Ok(system),
-    }
+    find_strange(system.entries(), transcripts)
+}
+
+// Has each seat run its program, by so many workers.
+fn run_seats<R: Threads + Wait + Sync, G: Gate + Sync>(
+    rt: &R,
+    alloc: Global,
+    shared: &Shared,
+    seats: Vec<Seat>,
+    programs: ProgramList,
+    workers: usize,
+    gate: &G,
+) -> Result<Ended, ApplyFault>
+    requires seats { map process_at seats.items ≡ range_with_len 0 (length programs) }
+    requires workers { 1 ≤ workers }
+    ensures seats { IfOk result (λ ended. vec_len ended.seats ≡ length programs) }
+    ensures called { IfOk result (λ ended. map calls_in ended.transcripts.items ≡ map (λ one. one.1) (numbered 0 programs)) }
+{
+    let processes = programs.as_slice().len();
+    let asked = Snapshot::of(&programs);
+    let hands = deal(alloc, seats, programs, workers)?;
+    let hands = run_hands(rt, alloc, shared, hands, gate)?;
+    Ok(collect(alloc, hands, processes, asked)?)
 }
 
 // What a worker makes of its hand.
@@ -75,10 +109,15 @@ fn run_hands<R: Threads + Wait + Sync, G: Gate + Sync>(
     hands: Vec<Vec<Job<Seat>>>,
     gate: &G,
 ) -> Result<Vec<Vec<Done<Seat>>>, ApplyFault>
+    ensures { IfOk result (λ v. map called_hand v.items ≡ map given_hand hands.items) }
 {
-    thread::scope(thread::scope_env(), rt, |scope| {
-        run_from(scope, rt, alloc, shared, hands, gate)
-    })
+    thread::scope(
+        thread::scope_env(),
+        rt,
+        |scope| -> Result<Vec<Vec<Done<Seat>>>, ApplyFault>
+            ensures { IfOk result (λ v. map called_hand v.items ≡ map given_hand hands.items) }
+        { run_from(scope, rt, alloc, shared, hands, gate) },
+    )
 }
 
 // The last hand on a thread of its own, and those before it likewise.
@@ -90,6 +129,7 @@ fn run_from<'s, E, R: Threads + Wait + Sync, G: Gate + Sync>(
     mut hands: Vec<Vec<Job<Seat>>>,
     gate: &'s G,
 ) -> Result<Vec<Vec<Done<Seat>>>, ApplyFault>
+    ensures { IfOk result (λ v. map called_hand v.items ≡ map given_hand hands.items) }
 {
     let Some(hand) = hands.pop() else {
         return Ok(Vec::new(alloc));
@@ -116,6 +156,8 @@ fn and_then(
     before: Result<Vec<Vec<Done<Seat>>>, ApplyFault>,
     last: Result<Vec<Done<Seat>>, ApplyFault>,
 ) -> Result<Vec<Vec<Done<Seat>>>, ApplyFault>
+    ensures { IfOk result (λ v. (all : List (List Calls)) (one : List Calls)
+        → IfOk before (λ b. map called_hand b.items ≡ all) → IfOk last (λ d. called_hand d ≡ one) → map called_hand v.items ≡ all ++ one ∷ []) }
 {
     match (before, last) {
         (Ok(mut all), Ok(done)) => {
@@ -123,7 +165,11 @@ fn and_then(
             all.push_reserved(done);
             Ok(all)
         }
-        (Err(ApplyFault::NoMemory), _) | (_, Err(ApplyFault::NoMemory)) => Err(ApplyFault::NoMemory),
-        (Err(ApplyFault::HistoryFull), _) | (_, Err(ApplyFault::HistoryFull)) => Err(ApplyFault::HistoryFull),
+        (Err(ApplyFault::NoMemory), _) | (_, Err(ApplyFault::NoMemory)) => Err(
+            ApplyFault::NoMemory,
+        ),
+        (Err(ApplyFault::HistoryFull), _) | (_, Err(ApplyFault::HistoryFull)) => Err(
+            ApplyFault::HistoryFull,
+        ),
     }
 }

@@ -6,14 +6,13 @@ ghost use Rattle.smx_run.specs.Hands.{given, called};
 use crate::desk::{Desk, Seated};
 use crate::gate::Gate;
 use smx_shared::{ApplyFault, Door};
-use smx_types::{Commands, Entries, Process};
+use smx_types::{Commands, Entries};
 use std::alloc::Global;
 use std::sync::Wait;
 
 /// A process that is to be run: its seat and its program.
 #[derive(Drop)]
 pub struct Job<S: Drop> {
-    pub process: Process,
     pub seat: S,
     pub commands: Commands,
 }
@@ -21,7 +20,6 @@ pub struct Job<S: Drop> {
 /// A process whose program was run to its end: its seat, and the entries that it was answered.
 #[derive(Drop)]
 pub struct Done<S: Drop> {
-    pub process: Process,
     pub seat: S,
     pub entries: Entries,
 }
@@ -36,8 +34,8 @@ pub fn work<D: Door, G: Gate, R: Wait>(
 ) -> Result<Vec<Done<D::Seat>>, ApplyFault>
 where
     D::Seat: Drop,
-    requires { All (λ j. D.is_seat door.now j.seat × (D.process_of j.seat ≡ j.process)) hand.items }
-    ensures called { IfOk result (λ v. map called v.items ≡ map given hand.items) }
+    requires { All (λ j. D.is_seat door.now j.seat) hand.items }
+    ensures called { IfOk result (λ v. map (called D.process_of) v.items ≡ map (given D.process_of) hand.items) }
     ensures seats { IfOk result (λ v. All (λ d. D.is_seat door.now d.seat) v.items) }
 {
     let mut done = Vec::with_capacity(alloc, hand.len())?;
@@ -57,11 +55,12 @@ fn run_job<D: Door, G: Gate, R: Wait>(
 ) -> Result<Done<D::Seat>, ApplyFault>
 where
     D::Seat: Drop,
-    requires { D.is_seat door.now job.seat × (D.process_of job.seat ≡ job.process) }
-    ensures called { IfOk result (λ d. called d ≡ given job) }
+    requires { D.is_seat door.now job.seat }
+    ensures called { IfOk result (λ d. called D.process_of d ≡ given D.process_of job) }
     ensures seat { IfOk result (λ d. D.is_seat door.now d.seat) }
 {
-    let Job { process, seat, commands } = job;
+    let Job { seat, commands } = job;
+    let process = D::process(&seat);
     let entries = Vec::with_capacity(alloc, commands.as_slice().len())?;
     let mut desk = Seated {
         alloc,
@@ -72,7 +71,6 @@ where
     };
     run_program(rt, &mut desk, commands, gate)?;
     Ok(Done {
-        process,
         seat: desk.seat,
         entries: Entries::from_vec(desk.entries),
     })

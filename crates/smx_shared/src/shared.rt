@@ -5,8 +5,8 @@ ghost use Rattle.std.specs.List.{range_with_len};
 ghost use Rattle.smx_types.specs.declared.limits.TheConstants.{MAX_PROCESSES};
 ghost use Rattle.smx_shared.specs.CloseFaults.{IsHeld};
 
-use crate::door::Door;
 use crate::close_fault::CloseFault;
+use crate::door::Door;
 use crate::fault::ApplyFault;
 use crate::system::System;
 use smx_types::{Command, Entry, NoMemory, Process};

@@ -1,4 +1,4 @@
-use Rattle.std.proofs.Common.{◌≡◌, ◌≢◌, ◌<◌, ℕ, List, [], None, arith, get_or, subst, sym, ◌∙◌, below_more}
+use Rattle.std.proofs.Common.{◌≢◌, ℕ, List, [], None, arith, get_or, sym, ◌∙◌, below_more}
 use Rattle.smx_types.specs.declared.command.Entry.{Entry}
 use Rattle.smx_run.specs.Gathering.{entries_of, IsBorneOut, IsMet}
 use Rattle.smx_run.proofs.GatheringLemmas.{all_borne_out, named}

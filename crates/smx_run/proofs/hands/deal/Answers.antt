@@ -1,8 +1,6 @@
-use Rattle.std.proofs.Common.{rules, ◌≡◌, ◌+◌, ◌++◌, ◌∷◌, [], ℕ, List, arith, length, map, get_or, ap, sym, ◌∙◌}
-use Rattle.std.specs.List.{range_with_len}
-use Rattle.std.specs.Vec.Iter.{into_iter_items, into_iter_len}
+use Rattle.std.proofs.Common.{rules, ◌≡◌, ◌+◌, ◌++◌, ◌∷◌, [], ℕ, arith, length, map, ◌∙◌}
+use Rattle.std.specs.Vec.Iter.{into_iter_items}
 use Rattle.std.proofs.lemmas.List.{length-append, length-map}
-use Rattle.smx_shared.specs.Seats.{Seated}
 use Rattle.smx_run.specs.Hands.{given_hand, hand_of}
 use Rattle.smx_run.specs.ProgramOrder.{numbered}
 use Rattle.smx_run.proofs.HandLemmas.{hands_are, none_dealt, none_left, all_dealt, next_seat, deal_next}

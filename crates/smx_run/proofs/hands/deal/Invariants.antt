@@ -13,5 +13,5 @@ invariant-loop-seat l = record {
   left : into_iter_len l.programs ≡ length (into_iter_items l.programs);
   seats : map (λ (s : Seated). s.process) (into_iter_items l.seat-iterator) ≡ range_with_len (length l.yielded) (length (into_iter_items l.programs));
   dealt : (k : ℕ) → k < l.workers
-    → get_or (map given_hand l.hands.items) k [] ++ hand_of l.workers (numbered (length l.yielded) (into_iter_items l.programs)) k ≡ hand_of l.workers (numbered 0 l.fn.programs) k;
+      → get_or (map given_hand l.hands.items) k [] ++ hand_of l.workers (numbered (length l.yielded) (into_iter_items l.programs)) k ≡ hand_of l.workers (numbered 0 l.fn.programs) k;
 }

@@ -1,5 +1,5 @@
-use Rattle.std.proofs.Common.{rules, ◌≡◌, ◌<◌, ◌∷◌, arith, length}
-use Rattle.smx_run.specs.Hands.{called, called_hand}
+use Rattle.std.proofs.Common.{rules, ◌<◌, length}
+use Rattle.smx_run.specs.Hands.{called, process_at, called_hand}
 use Rattle.smx_run.proofs.HandLemmas.{first_and_rest, take_from, keep_others}
 use Rattle.smx_run.proofs.hands.take_first.Goals as goal
 
@@ -7,8 +7,8 @@ pub returns-clause-first : goal.returns-clause-first
 returns-clause-first c =
     let done = c.remove.ensures in
     let within : c.args.worker < length c.args.hands.now.items = search rules in
-    take_from called_hand c.args.hands.now.items c.args.worker c.index_mut.result.now c.remove.new.self (called c.remove.result) within c.index_mut.ensures.value
-      (first_and_rest called _ _ c.remove.result done.value done.items (search rules))
+    take_from called_hand c.args.hands.now.items c.args.worker c.index_mut.result.now c.remove.new.self (called process_at c.remove.result) within c.index_mut.ensures.value
+    (first_and_rest (called process_at) _ _ c.remove.result done.value done.items (search rules))
 
 pub returns-clause-others : goal.returns-clause-others
 returns-clause-others c = keep_others called_hand c.args.hands.now.items c.args.worker c.remove.new.self

@@ -1,4 +1,4 @@
-use Rattle.std.proofs.Common.{◌≡◌, ◌+◌, length}
+use Rattle.std.proofs.Common.{◌≡◌, length}
 use Rattle.smx_run.proofs.worker.run_program.Given as goal
 
 abbrev pub invariant-loop-command : goal.invariant-loop-command

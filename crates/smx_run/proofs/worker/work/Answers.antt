@@ -13,6 +13,6 @@ loop-job-preserved g c =
     record {
       room = search rules;
       counted = omega (arith, before.counted, c.push_reserved.ensures.len, length-append c.loop-job.yielded (c.in-Some.job ∷ []));
-      called = one_more called given _ _ _ _ _ before.called here.called c.push_reserved.ensures.items;
+      called = one_more (called g.D.Door.process_of) (given g.D.Door.process_of) _ _ _ _ _ before.called here.called c.push_reserved.ensures.items;
       seats = all_more is_seat _ _ _ before.seats here.seat c.push_reserved.ensures.items;
     }

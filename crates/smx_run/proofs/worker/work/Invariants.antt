@@ -7,6 +7,6 @@ abbrev pub invariant-loop-job : goal.invariant-loop-job
 invariant-loop-job g l = record {
   room : vec_len l.fn.hand ≤ vec_capacity l.done;
   counted : vec_len l.done ≡ length l.yielded;
-  called : map called l.done.items ≡ map given l.yielded;
+  called : map (called g.D.Door.process_of) l.done.items ≡ map (given g.D.Door.process_of) l.yielded;
   seats : All (λ d. g.D.Door.is_seat l.door d.seat) l.done.items;
 }
