@@ -42,12 +42,12 @@ fn main(rt: HostRuntime) -> ExitCode {
         Ok(words) => words,
         Err(error) => return no_words(&rt, &error),
     };
-    match job(rt.alloc(), words.as_slice()) {
+    let (alloc, stdin, stdout) = (rt.alloc(), rt.stdin(), rt.stdout());
+    match job(alloc, words.as_slice()) {
         Ok(Job::Run { workers, fronts }) => {
-            let (stdin, stdout) = (rt.stdin(), rt.stdout());
-            ended(&rt, run_stdin(&rt, rt.alloc(), stdin, stdout, workers, fronts))
+            ended(&rt, run_stdin(&rt, alloc, stdin, stdout, workers, fronts))
         }
-        Ok(Job::Check) => ended(&rt, check_stdin(&rt)),
+        Ok(Job::Check) => check_stdin(&rt, alloc, stdin, stdout),
         Err(error) => no_job(&rt, &error),
     }
 }
@@ -75,12 +75,14 @@ fn run_stdin<R: Threads + Wait + Sync>(
     Ok(Done::Finished)
 }
 
-// Judges the transcript on standard input.
-fn check_stdin(rt: &HostRuntime) -> Result<Done, MainFault> {
-    let mut feed = Source::new(rt.stdin());
-    let mut sink = Target::new(rt.stdout());
-    let verdict = check_text(rt.alloc(), &mut feed, &mut sink)?;
-    Ok(Done::Judged(verdict))
+// Judges the transcript on standard input; the status of what was done.
+fn check_stdin<R: Eprint>(rt: &R, alloc: Global, stdin: Stdin, stdout: Stdout) -> ExitCode {
+    let mut feed = Source::new(stdin);
+    let mut sink = Target::new(stdout);
+    match check_text(alloc, &mut feed, &mut sink) {
+        Ok(verdict) => ended(rt, Ok(Done::Judged(verdict))),
+        Err(fault) => ended(rt, Err(fault)),
+    }
 }
 
 // The status of what was done, with the line on standard error that says why nothing came of it.

@@ -13,7 +13,15 @@ fn writes_nothing_after_a_failed_read(rt: HostRuntime) {
         for reads in 0..84 {
             let mut feed = one_byte_feed(OPENS_AND_CLOSES, reads, kind);
             let mut sink = Target::new(Vec::new(rt.alloc()));
-            let (line, status) = run_ending(run_text(&rt, rt.alloc(), &mut feed, &mut sink, 1, false, &NoGate));
+            let (line, status) = run_ending(run_text(
+                &rt,
+                rt.alloc(),
+                &mut feed,
+                &mut sink,
+                1,
+                false,
+                &NoGate,
+            ));
             assert_eq!(rt; line.as_str(), "read failed", "after {reads} reads");
             assert_eq!(rt; status, 5);
             assert!(rt; sink.writer.is_empty());
@@ -25,7 +33,15 @@ fn writes_nothing_after_a_failed_read(rt: HostRuntime) {
 fn runs_byte_by_byte(rt: HostRuntime) {
     let mut feed = one_byte_feed(OPENS_AND_CLOSES, 84, ErrorKind::Other);
     let mut sink = one_byte_sink(rt.alloc(), 158, Stop::Fails);
-    let (_line, status) = run_ending(run_text(&rt, rt.alloc(), &mut feed, &mut sink, 1, false, &NoGate));
+    let (_line, status) = run_ending(run_text(
+        &rt,
+        rt.alloc(),
+        &mut feed,
+        &mut sink,
+        1,
+        false,
+        &NoGate,
+    ));
     assert_eq!(rt; status, 0);
     assert_eq!(rt; sink.writer.taken.as_slice(), OPENED_AND_CLOSED);
 }
@@ -37,7 +53,15 @@ fn leaves_the_beginning_after_a_failed_write(rt: HostRuntime) {
         for writes in 0..157 {
             let mut feed = Source::new(OPENS_AND_CLOSES);
             let mut sink = one_byte_sink(rt.alloc(), writes, stop);
-            let (line, status) = run_ending(run_text(&rt, rt.alloc(), &mut feed, &mut sink, 1, false, &NoGate));
+            let (line, status) = run_ending(run_text(
+                &rt,
+                rt.alloc(),
+                &mut feed,
+                &mut sink,
+                1,
+                false,
+                &NoGate,
+            ));
             assert_eq!(rt; line.as_str(), "write failed", "after {writes} writes");
             assert_eq!(rt; status, 5);
             assert_eq!(rt; sink.writer.taken.as_slice(), &OPENED_AND_CLOSED[..writes]);
@@ -50,7 +74,15 @@ fn has_written_all_before_a_failed_flush(rt: HostRuntime) {
     for stop in [Stop::Fails, Stop::IsInterrupted] {
         let mut feed = Source::new(OPENS_AND_CLOSES);
         let mut sink = one_byte_sink(rt.alloc(), 157, stop);
-        let (line, status) = run_ending(run_text(&rt, rt.alloc(), &mut feed, &mut sink, 1, false, &NoGate));
+        let (line, status) = run_ending(run_text(
+            &rt,
+            rt.alloc(),
+            &mut feed,
+            &mut sink,
+            1,
+            false,
+            &NoGate,
+        ));
         assert_eq!(rt; line.as_str(), "write failed");
         assert_eq!(rt; status, 5);
         assert_eq!(rt; sink.writer.taken.as_slice(), OPENED_AND_CLOSED);

@@ -47,9 +47,17 @@ fn refuses_one_more_of_each(rt: HostRuntime) -> Result<(), Fail> {
     let drivers = with_drivers(rt.alloc(), 65)?;
     refused(&rt, &run_bytes(&rt, rt.alloc(), &drivers), "line 66: many");
     let processes = with_processes(rt.alloc(), 65)?;
-    refused(&rt, &run_bytes(&rt, rt.alloc(), &processes), "line 67: many");
+    refused(
+        &rt,
+        &run_bytes(&rt, rt.alloc(), &processes),
+        "line 67: many",
+    );
     let commands = with_commands(rt.alloc(), 100_001)?;
-    refused(&rt, &run_bytes(&rt, rt.alloc(), &commands), "line 100003: many");
+    refused(
+        &rt,
+        &run_bytes(&rt, rt.alloc(), &commands),
+        "line 100003: many",
+    );
     Ok(())
 }
 

@@ -11,7 +11,9 @@ use std::test::Fail;
 fn cloned(process: u32, minor: u32) -> Result<Entry, Fail> {
     Ok(Entry {
         process: numbered(process)?,
-        command: Command::OpenClone { driver: named("ip")? },
+        command: Command::OpenClone {
+            driver: named("ip")?,
+        },
         reply: Reply::Fd { fd: 0, minor },
     })
 }
@@ -20,7 +22,9 @@ fn cloned(process: u32, minor: u32) -> Result<Entry, Fail> {
 fn three_opens(alloc: Global) -> Result<System, Fail> {
     let mut system = System::new(alloc, &[ip()?], 10)?;
     for (number, minor) in [(0, 0), (2, 1), (1, 2)] {
-        let command = Command::OpenClone { driver: named("ip")? };
+        let command = Command::OpenClone {
+            driver: named("ip")?,
+        };
         let entry = system.apply(numbered(number)?, &command)?;
         if entry != cloned(number, minor)? {
             return Err(Fail::from("another entry"));
@@ -75,7 +79,12 @@ fn names_the_least_strange_process(rt: HostRuntime) -> Result<(), Fail> {
     more.push(cloned(2, 1)?)?;
     let more = [one(alloc, 0, 0)?, one(alloc, 1, 2)?, more];
     assert!(rt; strange(&more)? == Some(GatherFault::Strange(numbered(2)?)));
-    let past = [one(alloc, 0, 0)?, one(alloc, 1, 2)?, one(alloc, 2, 1)?, one(alloc, 3, 1)?];
+    let past = [
+        one(alloc, 0, 0)?,
+        one(alloc, 1, 2)?,
+        one(alloc, 2, 1)?,
+        one(alloc, 3, 1)?,
+    ];
     assert!(rt; strange(&past)? == Some(GatherFault::Strange(numbered(3)?)));
     Ok(())
 }

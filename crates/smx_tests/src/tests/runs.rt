@@ -129,12 +129,20 @@ fn runs_with_every_size_of_a_message(rt: HostRuntime) -> Result<(), Fail> {
     Ok(())
 }
 
-fn refused<R: Threads + Wait + Sync>(rt: &R, alloc: Global, drivers: &[u8]) -> Result<RunFault, Fail> {
+fn refused<R: Threads + Wait + Sync>(
+    rt: &R,
+    alloc: Global,
+    drivers: &[u8],
+) -> Result<RunFault, Fail> {
     let mut text = Vec::from_slice(alloc, b"programs 1\n".as_slice())?;
     text.extend_from_slice(drivers)?;
     text.extend_from_slice(b"process 0\nclone ip\nend\n")?;
     let programs = read_programs(alloc, text.as_slice())?;
-    Ok(run_programs(rt, alloc, programs, 1, &NoGate).err().ok_or("refused")?)
+    Ok(
+        run_programs(rt, alloc, programs, 1, &NoGate)
+            .err()
+            .ok_or("refused")?,
+    )
 }
 
 #[test]

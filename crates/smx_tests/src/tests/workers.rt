@@ -174,8 +174,7 @@ fn few_processes_and_many_workers(rt: HostRuntime) -> Result<(), Fail> {
     let texts = [
         b"programs 1\nend\n".as_slice(),
         b"programs 1\ndriver ip mux 4 8 3 16\nprocess 0\nclone ip\nclone ip\nend\n".as_slice(),
-        b"programs 1\ndriver ip mux 4 8 3 16\nprocess 0\nprocess 1\nclone ip\nprocess 2\nend\n"
-            .as_slice(),
+        b"programs 1\ndriver ip mux 4 8 3 16\nprocess 0\nprocess 1\nclone ip\nprocess 2\nend\n".as_slice(),
     ];
     for text in texts {
         for workers in [1, 2, 3, 64] {
