@@ -9,11 +9,14 @@ use Rattle.std.specs.Str.{bytes_eq}
 use Rattle.std.proofs.lemmas.Slice.Eq.{bytes_eq-Decides}
 use Rattle.smx_words.specs.Words.{AreWords, IsFree, SPACE, line_of}
 use Rattle.smx_words.proofs.LineLemmas.{same_free_words, words_free}
-use Rattle.smx_text.specs.Grammar.{Grammar, IsFault}
-use Rattle.smx_text.specs.WorkedFaults.{IsWrongAt}
+use Rattle.smx_text.specs.Grammar.{Grammar, IsFault, Spells}
 use Rattle.smx_text.proofs.GrammarLemmas.{IsWellMade, one_reading}
 
--- a text that goes wrong is the text of no value
+-- bytes that go wrong there, and are the text of no value
+abbrev pub IsWrongAt : {V K : Type 0} → Grammar V K → List ℕ → ℕ → Cause → Type 0
+IsWrongAt {V} g bytes line why = IsFault g bytes line why × ((v : V) → Spells g bytes v → ⊥)
+
+-- what goes wrong is the text of no value
 pub wrong : {V K : Type 0} (g : Grammar V K) → IsWellMade g → (bytes : List ℕ) (line : ℕ) (why : Cause)
     → why ≢ cause.NoMemory → IsFault g bytes line why → IsWrongAt g bytes line why
 wrong {V} g made bytes line why other fault = (

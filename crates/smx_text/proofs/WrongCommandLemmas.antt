@@ -28,10 +28,10 @@ use Rattle.smx_words.proofs.SameCommandLemmas.{verb_is, verb_of}
 use Rattle.smx_text.specs.declared.fault.Cause.TheVariants as cause
 use Rattle.smx_text.specs.Grammar.{IsNoLine, IsOneLine, Reaches}
 use Rattle.smx_text.specs.ProgramsText.{IsAllowed, body, programs_grammar}
-use Rattle.smx_text.specs.WorkedFaults.{IsWrongAt, with_line_4}
+use Rattle.smx_text.specs.WorkedFaults.{with_line_4}
 use Rattle.smx_text.proofs.ProgramsGrammarLemmas.{no_line, not_verb, well_made}
 use Rattle.smx_text.proofs.WordLemmas.{first_word}
-use Rattle.smx_text.proofs.WorkedFaultLemmas.{differ, told, wrong}
+use Rattle.smx_text.proofs.WorkedFaultLemmas.{IsWrongAt, differ, told, wrong}
 
 -- ---- line 4 of a text
 
@@ -145,7 +145,8 @@ pub two_spaces : IsWrongAt programs_grammar (with_line_4 (codes "close  0")) 4 c
 two_spaces =
     wrong_words (codes "close" ∷ [] ∷ codes "0" ∷ []) (search rules, omega arith) (search rules)
     (λ c fits e. none c fits (verb_is c verb.Close _ e) e) refl refl refl where
-      none : (c : Command) → FitsCommand c → verb_of c ≡ verb.Close → codes "close" ∷ [] ∷ codes "0" ∷ [] ≢ command_words c
+      none : (c : Command) → FitsCommand c → verb_of c ≡ verb.Close
+          → codes "close" ∷ [] ∷ codes "0" ∷ [] ≢ command_words c
       none (command.Close n) fits v e = omega (arith, ap (length {A = List ℕ}) e)
       none c fits v e = absurd (cc v)
 
@@ -153,7 +154,8 @@ pub a_last_space : IsWrongAt programs_grammar (with_line_4 (codes "close 0 ")) 4
 a_last_space =
     wrong_words (codes "close" ∷ codes "0" ∷ [] ∷ []) (search rules, omega arith) (search rules)
     (λ c fits e. none c fits (verb_is c verb.Close _ e) e) refl refl refl where
-      none : (c : Command) → FitsCommand c → verb_of c ≡ verb.Close → codes "close" ∷ codes "0" ∷ [] ∷ [] ≢ command_words c
+      none : (c : Command) → FitsCommand c → verb_of c ≡ verb.Close
+          → codes "close" ∷ codes "0" ∷ [] ∷ [] ≢ command_words c
       none (command.Close n) fits v e = omega (arith, ap (length {A = List ℕ}) e)
       none c fits v e = absurd (cc v)
 

@@ -16,13 +16,13 @@ use Rattle.smx_text.specs.Grammar.{IsBegun, beginning}
 use Rattle.smx_text.specs.ProgramLines.{Line}
 use Rattle.smx_text.specs.ProgramLines as line
 use Rattle.smx_text.specs.ProgramsText.{IsAllowed, body, programs_grammar}
-use Rattle.smx_text.specs.WorkedFaults.{IsWrongAt, process_lines, with_line_4, with_processes}
+use Rattle.smx_text.specs.WorkedFaults.{process_lines, with_line_4, with_processes}
 use Rattle.smx_text.proofs.ProgramsDecidedLemmas.{nothing_begun}
 use Rattle.smx_text.proofs.ProgramsGrammarLemmas.{refused_line, well_made}
 use Rattle.smx_text.proofs.ProgramsLemmas.{longer_begun, misplaced, too_many}
 use Rattle.smx_text.proofs.BodyLemmas.{added_process}
 use Rattle.smx_text.proofs.ReadingLemmas.{beginning_more}
-use Rattle.smx_text.proofs.WorkedFaultLemmas.{differ, wrong}
+use Rattle.smx_text.proofs.WorkedFaultLemmas.{IsWrongAt, differ, wrong}
 use Rattle.smx_text.proofs.WrongCommandLemmas.{before, before_allowed, wrong_at_4}
 
 -- ---- the header, and nothing behind it

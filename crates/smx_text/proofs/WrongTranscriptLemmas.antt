@@ -31,14 +31,14 @@ use Rattle.smx_text.specs.Grammar.{IsNoLine, IsOneLine, line_text}
 use Rattle.smx_text.specs.TranscriptLines.{TranscriptLine}
 use Rattle.smx_text.specs.TranscriptLines as line
 use Rattle.smx_text.specs.TranscriptText.{FitsLine, IsAllowed, line_words, transcript_grammar}
-use Rattle.smx_text.specs.WorkedFaults.{IsWrongAt, with_line_3, with_line_5}
+use Rattle.smx_text.specs.WorkedFaults.{with_line_3, with_line_5}
 use Rattle.smx_text.proofs.TranscriptDraftLemmas.{draft}
 use Rattle.smx_text.proofs.TranscriptDrafts.{new_view, takes}
 use Rattle.smx_text.proofs.TranscriptGrammarLemmas.{kind_at, kind_first, kind_of, not_at_end, refused_line}
 use Rattle.smx_text.proofs.TranscriptGrammarLemmas.{spelling, well_made}
 use Rattle.smx_text.proofs.TranscriptLemmas.{misplaced}
 use Rattle.smx_text.proofs.WordLemmas.{first_word}
-use Rattle.smx_text.proofs.WorkedFaultLemmas.{differ, told, wrong}
+use Rattle.smx_text.proofs.WorkedFaultLemmas.{IsWrongAt, differ, told, wrong}
 
 -- ---- what stands before
 

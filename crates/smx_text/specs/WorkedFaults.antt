@@ -1,12 +1,22 @@
 -- Worked faults: texts that no value has, and where they go wrong.
 use Rattle.std.specs.Prelude.{ℕ, zero, suc, List, [], ◌++◌, codes}
 use Rattle.std.specs.Fmt.{decimal}
+use Rattle.smx_types.specs.ProgramLists.{ProgramLists}
+use Rattle.smx_types.specs.declared.transcript.Transcript.{Transcript}
 use Rattle.smx_text.specs.declared.fault.Cause.{Cause}
-use Rattle.smx_text.specs.Grammar.{Grammar, Spells, IsFault}
+use Rattle.smx_text.specs.Grammar.{IsFault}
+use Rattle.smx_text.specs.ProgramsText.{SpellsPrograms, programs_grammar}
+use Rattle.smx_text.specs.TranscriptText.{SpellsTranscript, transcript_grammar}
 
--- they go wrong at this line for this cause, and are the text of no value
-abbrev pub IsWrongAt : {V K : Type 0} → Grammar V K → List ℕ → ℕ → Cause → Type 0
-IsWrongAt {V} g bytes line why = IsFault g bytes line why × ((v : V) → Spells g bytes v → ⊥)
+-- they go wrong at this line for this cause, and spell no programs
+abbrev pub AreWrongPrograms : List ℕ → ℕ → Cause → Type 0
+AreWrongPrograms bytes line why =
+    IsFault programs_grammar bytes line why × ((v : ProgramLists) → SpellsPrograms bytes v → ⊥)
+
+-- they go wrong at this line for this cause, and spell no transcript
+abbrev pub IsWrongTranscript : List ℕ → ℕ → Cause → Type 0
+IsWrongTranscript bytes line why =
+    IsFault transcript_grammar bytes line why × ((t : Transcript) → SpellsTranscript bytes t → ⊥)
 
 -- one driver and one process, and this as line 4
 abbrev pub with_line_4 : List ℕ → List ℕ

@@ -1,5 +1,5 @@
 -- Worked texts: values with each kind of line, command and reply, and their texts, both typed in.
-use Rattle.std.specs.Prelude.{◌≡◌, [], ◌∷◌, ◌++◌, List, refl, codes}
+use Rattle.std.specs.Prelude.{◌≡◌, ℕ, [], ◌∷◌, ◌++◌, List, Ok, Err, refl, codes}
 use Rattle.std.specs.Fmt.{digits}
 use Rattle.hex.specs.Hex.{encode_with}
 use Rattle.smx_types.specs.ProgramLists.{ProgramLists, program_lists}
@@ -15,8 +15,10 @@ use Rattle.smx_types.specs.declared.reply.Reply.TheVariants as reply
 use Rattle.smx_types.specs.declared.stream.Side.TheVariants as side
 use Rattle.smx_types.specs.declared.transcript.Transcript.{Transcript}
 use Rattle.smx_types.specs.declared.view.ConfigView.{ConfigView}
-use Rattle.smx_text.specs.ProgramsText.{programs_text}
-use Rattle.smx_text.specs.TranscriptText.{transcript_text}
+use Rattle.smx_text.specs.declared.fault.Cause.TheVariants as cause
+use Rattle.smx_text.specs.Grammar.{last_line}
+use Rattle.smx_text.specs.ProgramsText.{programs_grammar, programs_text}
+use Rattle.smx_text.specs.TranscriptText.{transcript_grammar, transcript_text}
 
 -- a multiplexer and a leaf
 abbrev pub drivers : List DriverSpec
@@ -54,8 +56,10 @@ programs = program_lists drivers ((
     ∷ command.Transmit (codes "eth") 0
     ∷ []) ∷ [] ∷ (command.Punlink 1 which.All ∷ []) ∷ [])
 
-pub is_text : programs_text programs
-    ≡ codes "programs 1\ndriver ip mux 4 8 3 16\ndriver eth leaf 0 4294967295 10 100\n"
+-- their text
+abbrev pub programs_bytes : List ℕ
+programs_bytes =
+    codes "programs 1\ndriver ip mux 4 8 3 16\ndriver eth leaf 0 4294967295 10 100\n"
     ++ codes "process 0\n"
     ++ codes "clone ip\nopen eth 2\ndup 0\nclose 15\n"
     ++ codes "exit\nlink 0 1\nplink 0 1\nunlink 0 7\n"
@@ -64,8 +68,18 @@ pub is_text : programs_text programs
     ++ codes "read 0\nflush 0 r\nflush 0 w\nflush 0 rw\n"
     ++ codes "inject eth 0 9 ab\ntransmit eth 0\n"
     ++ codes "process 1\nprocess 2\npunlink 1 all\nend\n"
+
+pub is_text : programs_text programs ≡ programs_bytes
 unfolding digits encode_with
 is_text = refl
+
+-- the line `end` of it
+pub ends_at : last_line programs_grammar (Ok programs) ≡ 30
+ends_at = refl
+
+-- and of a fault, its line
+pub stops_at : last_line programs_grammar (Err (record { line = 4; cause = cause.Form })) ≡ 4
+stops_at = refl
 
 -- no driver and no process
 pub is_shortest_text : programs_text (program_lists [] []) ≡ codes "programs 1\nend\n"
@@ -142,8 +156,10 @@ view = record {
 abbrev pub transcript : Transcript
 transcript = record { drivers = drivers; entries = entries; view = view }
 
-pub is_transcript : transcript_text transcript
-    ≡ codes "transcript 1\ndriver ip mux 4 8 3 16\ndriver eth leaf 0 4294967295 10 100\n"
+-- its text
+abbrev pub transcript_bytes : List ℕ
+transcript_bytes =
+    codes "transcript 1\ndriver ip mux 4 8 3 16\ndriver eth leaf 0 4294967295 10 100\n"
     ++ codes "0 clone ip = fd 0 3\n63 open eth 2 = ENXIO minor\n0 dup 0 = EMFILE\n"
     ++ codes "0 close 15 = EBADF fd\n0 exit = done\n0 link 0 1 = id 7\n"
     ++ codes "0 plink 0 1 = EINVAL cycle\n0 unlink 0 7 = EINVAL id\n0 unlink 0 all = done 1 2\n"
@@ -154,5 +170,11 @@ pub is_transcript : transcript_text transcript
     ++ codes "0 transmit eth 0 = EAGAIN links\n"
     ++ codes "config\nnext 2 6\nfd 0 1 eth 2\nfd 63 15 ip 3\nlink 1 ip 0 eth 3 plink\nlink 4 ip 2 eth 1 link\n"
     ++ codes "bind ip 9 0\nroute ip 5 1\nmsg ip 0 w 5 7 0005\nfull eth 1 r\nend\n"
+
+pub is_transcript : transcript_text transcript ≡ transcript_bytes
 unfolding digits encode_with
 is_transcript = refl
+
+-- the line `end` of it
+pub transcript_ends_at : last_line transcript_grammar (Ok transcript) ≡ 36
+transcript_ends_at = refl

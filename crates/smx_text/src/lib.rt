@@ -6,7 +6,7 @@ pub mod laws;
 mod programs;
 mod reading;
 mod transcript;
-pub mod worked_faults;
+pub mod worked_texts;
 mod write;
 
 pub use fault::{Cause, TextFault};

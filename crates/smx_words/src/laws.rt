@@ -1,6 +1,6 @@
 //! Laws of spellings: they are words, and lines tell them and their values apart.
 
-ghost use Rattle.std.specs.Prelude.{◌≡◌, ℕ, List};
+ghost use Rattle.std.specs.Prelude.{◌≡◌, ◌∷◌, [], ℕ, List, codes};
 ghost use Rattle.std.specs.List.{AllByRecursion};
 ghost use Rattle.smx_types.specs.declared.command.Command.{Command};
 ghost use Rattle.smx_types.specs.declared.command.Entry.{Entry};
@@ -63,4 +63,13 @@ pub fn one_value_each()
         → line_of (message_words x) ≡ line_of (message_words y) → x ≡ y }
     ensures full { (x y : FullLine) → FitsFull x → FitsFull y
         → line_of (full_words x) ≡ line_of (full_words y) → x ≡ y }
+{}
+
+/// A word is one byte or more, each from `!` to `~`, and a line is one word or more.
+pub fn words_are_seen()
+    ensures seen { AreWords (codes "!~" ∷ []) }
+    ensures no_space { IsWord (codes " ") → ⊥ }
+    ensures no_delete { IsWord (127 ∷ []) → ⊥ }
+    ensures some { IsWord [] → ⊥ }
+    ensures one { AreWords [] → ⊥ }
 {}

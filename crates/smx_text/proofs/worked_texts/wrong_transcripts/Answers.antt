@@ -1,5 +1,5 @@
 use Rattle.smx_text.proofs.WrongTranscriptLemmas.{other_header, process_64, half_a_fault, next_wanting, end_too_early, two_nexts, late_entry, late_descriptor, no_end}
-use Rattle.smx_text.proofs.worked_faults.wrong_transcripts.Goals as goal
+use Rattle.smx_text.proofs.worked_texts.wrong_transcripts.Goals as goal
 
 pub returns-clause-other_header : goal.returns-clause-other_header
 returns-clause-other_header c = other_header

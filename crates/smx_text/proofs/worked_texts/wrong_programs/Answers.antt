@@ -1,5 +1,5 @@
 use Rattle.smx_text.proofs.WrongProgramLemmas.{nothing, cut_header, version_2, header_alone, out_of_turn, late_driver, no_process, no_end, cut_line, process_65, a_space_behind}
-use Rattle.smx_text.proofs.worked_faults.wrong_programs.Goals as goal
+use Rattle.smx_text.proofs.worked_texts.wrong_programs.Goals as goal
 
 pub returns-clause-nothing : goal.returns-clause-nothing
 returns-clause-nothing c = nothing

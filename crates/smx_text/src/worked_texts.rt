@@ -1,0 +1,66 @@
+//! Worked texts: what some bytes spell, and where others go wrong, as the examples of `docs/FORMATS.md` do.
+
+ghost use Rattle.std.specs.Prelude.{◌++◌, [], codes};
+ghost use Rattle.smx_text.specs.declared.fault.Cause.TheVariants.{Header, Form, Many, Cut, Trailing};
+ghost use Rattle.smx_text.specs.ProgramsText.{SpellsPrograms};
+ghost use Rattle.smx_text.specs.TranscriptText.{SpellsTranscript};
+ghost use Rattle.smx_types.specs.ProgramLists.{program_lists};
+ghost use Rattle.smx_text.specs.WorkedTexts.{programs, programs_bytes, transcript, transcript_bytes};
+ghost use Rattle.smx_text.specs.WorkedFaults.{AreWrongPrograms, IsWrongTranscript, with_line_3, with_line_4};
+ghost use Rattle.smx_text.specs.WorkedFaults.{with_line_5, with_processes};
+
+/// Texts with each kind of line, command and reply, and the shortest of programs.
+pub fn right_texts()
+    ensures each_command { SpellsPrograms programs_bytes programs }
+    ensures shortest { SpellsPrograms (codes "programs 1\nend\n") (program_lists [] []) }
+    ensures each_reply { SpellsTranscript transcript_bytes transcript }
+{}
+
+/// A number has no leading zero, no sign and 32 bits; a name begins with a letter and is not too long; bytes
+/// are pairs of lower-case digits; each word stands where it has to, with one space between two.
+pub fn wrong_commands()
+    ensures two_zeros { AreWrongPrograms (with_line_4 (codes "dup 00")) 4 Form }
+    ensures a_sign { AreWrongPrograms (with_line_4 (codes "dup +1")) 4 Form }
+    ensures two_spaces { AreWrongPrograms (with_line_4 (codes "close  0")) 4 Form }
+    ensures a_last_space { AreWrongPrograms (with_line_4 (codes "close 0 ")) 4 Form }
+    ensures large_number { AreWrongPrograms (with_line_4 (codes "open ip 4294967296")) 4 Form }
+    ensures digit_first { AreWrongPrograms (with_line_4 (codes "open 9a 0")) 4 Form }
+    ensures nine_letters { AreWrongPrograms (with_line_4 (codes "clone ninelette")) 4 Form }
+    ensures word_wanting { AreWrongPrograms (with_line_4 (codes "link 0")) 4 Form }
+    ensures capitals { AreWrongPrograms (with_line_4 (codes "unlink 0 ALL")) 4 Form }
+    ensures sides_turned { AreWrongPrograms (with_line_4 (codes "flush 0 wr")) 4 Form }
+    ensures capital_digits { AreWrongPrograms (with_line_4 (codes "write 0 5 AA")) 4 Form }
+    ensures odd_digits { AreWrongPrograms (with_line_4 (codes "write 0 5 aab")) 4 Form }
+    ensures bytes_wanting { AreWrongPrograms (with_line_4 (codes "write 0 5")) 4 Form }
+    ensures no_word { AreWrongPrograms (with_line_4 []) 4 Form }
+{}
+
+/// A line stands in its place, a text has its header and its end, and nothing behind it.
+pub fn wrong_programs()
+    ensures nothing { AreWrongPrograms [] 1 Cut }
+    ensures cut_header { AreWrongPrograms (codes "programs 1") 1 Cut }
+    ensures version_2 { AreWrongPrograms (codes "programs 2\n") 1 Header }
+    ensures header_alone { AreWrongPrograms (codes "programs 1\n") 2 Cut }
+    ensures out_of_turn { AreWrongPrograms (with_line_4 (codes "process 2")) 4 Form }
+    ensures late_driver { AreWrongPrograms (with_line_4 (codes "driver eth leaf 2 8 3 16")) 4 Form }
+    ensures no_process { AreWrongPrograms (codes "programs 1\nclone ip\nend\n") 2 Form }
+    ensures no_end { AreWrongPrograms
+        (codes "programs 1\ndriver ip mux 4 8 3 16\nprocess 0\nclone ip\n") 5 Cut }
+    ensures cut_line { AreWrongPrograms
+        (codes "programs 1\ndriver ip mux 4 8 3 16\nprocess 0\nclone ip") 4 Cut }
+    ensures process_65 { AreWrongPrograms (with_processes 65) 67 Many }
+    ensures a_space_behind { AreWrongPrograms (codes "programs 1\nprocess 0\nend\n ") 4 Trailing }
+{}
+
+/// A process is below 64, a reply is one; entries stand above the configuration, and groups in their order.
+pub fn wrong_transcripts()
+    ensures other_header { IsWrongTranscript (codes "programs 1\nend\n") 1 Header }
+    ensures process_64 { IsWrongTranscript (with_line_3 (codes "64 clone ip = fd 0 0")) 3 Form }
+    ensures half_a_fault { IsWrongTranscript (with_line_3 (codes "0 clone ip = EINVAL")) 3 Form }
+    ensures next_wanting { IsWrongTranscript (codes "transcript 1\nconfig\nfd 0 0 ip 0\nend\n") 3 Form }
+    ensures end_too_early { IsWrongTranscript (codes "transcript 1\nconfig\nend\n") 3 Form }
+    ensures two_nexts { IsWrongTranscript (with_line_5 (codes "next 2 1")) 5 Form }
+    ensures late_entry { IsWrongTranscript (with_line_5 (codes "0 exit = done")) 5 Form }
+    ensures late_descriptor { IsWrongTranscript (with_line_5 (codes "fd 0 0 ip 0")) 5 Form }
+    ensures no_end { IsWrongTranscript (codes "transcript 1\nconfig\nnext 1 1\n") 4 Cut }
+{}
