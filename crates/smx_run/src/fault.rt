@@ -10,9 +10,9 @@ use std::fmt;
 pub enum RunFault {
     /// A growth was refused, or a worker could not be started.
     NoMemory,
-    /// The entries of this process in the history are not those that it was answered, or what came back of the system
-    /// has other drivers.
-    Strange(Process),
+    /// The entries of the process of this number in the history are not those that it was answered, or what came back
+    /// of the system has other drivers.
+    Strange(u32),
     /// There is no configuration of these drivers.
     ConfigFault(ConfigFault),
     /// The history has as many entries as it may.
@@ -104,7 +104,7 @@ impl fmt::Display for RunFault {
     fn fmt<W: fmt::Write>(&self, f: &mut fmt::Formatter<W>) -> fmt::Result {
         match self {
             RunFault::NoMemory => f.write_str("no memory"),
-            RunFault::Strange(process) => write!(f, "strange {}", process.get()),
+            RunFault::Strange(process) => write!(f, "strange {process}"),
             RunFault::ConfigFault(fault) => write!(f, "{fault}"),
             RunFault::HistoryFull => f.write_str("history full"),
             RunFault::Held => f.write_str("turn held"),

@@ -50,7 +50,7 @@ pub fn run_together<R: Threads + Wait + Sync, G: Gate + Sync>(
     };
     let system = shared.close(seat)?;
     if let Some(process) = find_other(&system, drivers, transcripts.as_slice()) {
-        return Err(RunFault::Strange(process));
+        return Err(RunFault::Strange(process.get()));
     }
     Ok(system)
 }
