@@ -6,3 +6,4 @@ pub mod Filters
 pub mod RunText
 pub mod CheckText
 pub mod WorkedVerdicts
+pub mod InMemory

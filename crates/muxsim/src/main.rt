@@ -7,6 +7,7 @@ mod device;
 mod fault;
 mod input;
 mod jobs;
+mod laws_of_filters;
 mod output;
 #[cfg(test)]
 mod tests;

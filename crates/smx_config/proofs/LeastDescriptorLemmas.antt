@@ -1,5 +1,5 @@
 -- The least descriptor number that a process has not: one pass over descriptors that rise finds it.
-use Rattle.std.proofs.Common.{◌≡◌, ℕ, ◌+◌, ◌*◌, ◌<◌, ◌≤◌, zero, suc, Bool, true, false, ◌&&◌, eqb, not, List, [], ◌∷◌, length, drop, find, Option, Some, None, if◌then◌else◌, refl, sym, subst, ◌∙◌, arith, inl, inr}
+use Rattle.std.proofs.Common.{◌≡◌, ℕ, ◌+◌, ◌*◌, ◌<◌, ◌≤◌, zero, suc, Bool, true, false, eqb, not, List, [], ◌∷◌, length, drop, find, Some, None, if◌then◌else◌, refl, sym, subst, ◌∙◌, arith, inl, inr}
 use Rattle.std.specs.List.{list_any, range_with_len}
 use Rattle.std.proofs.lemmas.Bool.{cases_Bool, and_parts, eqb-true, cases_order, false≢true}
 use Rattle.std.proofs.lemmas.List.{drop_all}

@@ -12,6 +12,7 @@ pub mod LookupLemmas
 pub mod DescriptorLemmas
 pub mod LeastDescriptorLemmas
 pub mod DoneLemmas
+pub mod DriverFaultLemmas
 pub mod DriverListLemmas
 pub mod PerformLemmas
 pub mod CountLemmas

@@ -1,5 +1,5 @@
 -- Nothing can move after an open stream more that could not before.
-use Rattle.std.proofs.Common.{◌≡◌, ℕ, ◌*◌, Bool, true, false, List, [], ◌∷◌, length, find, Option, None, Result, Ok, Err, refl, sym, ap, subst, ◌∙◌}
+use Rattle.std.proofs.Common.{◌≡◌, ℕ, ◌*◌, Bool, true, false, List, [], ◌∷◌, length, find, None, Result, Ok, Err, refl, sym, ap, subst}
 use Rattle.std.specs.Option.{option_map}
 use Rattle.smx_types.specs.declared.command.Command.{Command}
 use Rattle.smx_types.specs.declared.command.Command.TheVariants as command
@@ -14,7 +14,7 @@ use Rattle.smx_model.specs.Configuration.{Configuration, QueuedMessage}
 use Rattle.smx_model.specs.DriverList.{minors_of}
 use Rattle.smx_model.specs.Lookups.{driver_of, stream_of, free_fd, free_minor}
 use Rattle.smx_model.specs.Outcomes.{Outcome, ◌>>=◌, refuse}
-use Rattle.smx_model.specs.Settling.{is_movable, least_movable, after_settling, IsSettled}
+use Rattle.smx_model.specs.Settling.{is_movable, after_settling, IsSettled}
 use Rattle.smx_model.specs.Standing.{is_below}
 use Rattle.smx_config.specs.declared.lists.Lists.{Lists}
 use Rattle.smx_config.specs.declared.step_error.StepError.{StepError}

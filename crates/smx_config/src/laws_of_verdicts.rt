@@ -7,11 +7,12 @@ ghost use Rattle.smx_types.specs.declared.view.ConfigView.{ConfigView};
 ghost use Rattle.smx_types.specs.ProgramLists.{ProgramLists};
 ghost use Rattle.smx_types.specs.declared.transcript.Transcript.{Transcript};
 ghost use Rattle.smx_model.specs.Headline.{IsReportOf};
+ghost use Rattle.smx_model.specs.Worked.SecondIsIllegal.{drivers, history};
 ghost use Rattle.smx_config.specs.Verdicts.{IsVerdict};
-ghost use Rattle.smx_config.specs.declared.verdict.Verdict.TheVariants.{Legal};
+ghost use Rattle.smx_config.specs.declared.verdict.Verdict.TheVariants.{Legal, Illegal, ConfigDiffers};
 ghost use Rattle.smx_config.specs.declared.verdict.Verdict.{Verdict};
 
-use smx_model::laws_of_illegal_entries::legal_or_first_illegal;
+use smx_model::laws_of_illegal_entries::{legal_or_first_illegal, the_second_is_the_first_illegal};
 
 /// There is a verdict on each history and view, and just one: the three exclude one another.
 pub fn there_is_one_verdict()
@@ -28,3 +29,13 @@ pub fn reports_are_judged_legal()
     ensures { (programs : ProgramLists) (report : Transcript) → IsReportOf programs report
         → IsVerdict report.drivers report.entries report.view Legal }
 {}
+
+/// Of the worked history whose second entry is the first illegal one just that is said, whatever view is claimed.
+pub fn the_second_is_judged_illegal()
+    ensures second { (shown : ConfigView) → IsVerdict drivers history shown (Illegal 2) }
+    ensures not_legal { (shown : ConfigView) → IsVerdict drivers history shown Legal → ⊥ }
+    ensures not_differing { (shown : ConfigView) → IsVerdict drivers history shown ConfigDiffers → ⊥ }
+{
+    legal_or_first_illegal();
+    the_second_is_the_first_illegal();
+}

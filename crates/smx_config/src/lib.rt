@@ -14,6 +14,7 @@ mod dropped_serials;
 mod fault;
 mod history;
 mod insertion_index;
+pub mod laws_of_drivers;
 pub mod laws_of_verdicts;
 mod lists;
 mod lookups;

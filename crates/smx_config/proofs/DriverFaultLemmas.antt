@@ -1,0 +1,108 @@
+-- A list of drivers has one fault at most.
+use Rattle.std.proofs.Common.{◌≡◌, ℕ, ◌<◌, ltb, List, length, get_or, take, Ok, Err, Some, refl, sym, ap, subst, ◌∙◌, arith, inl, inr}
+use Rattle.std.specs.Prelude.{Any, slice_get}
+use Rattle.std.proofs.lemmas.Bool.{cases_Bool}
+use Rattle.std.proofs.lemmas.Bool.Decides.{nat_tests}
+use Rattle.std.proofs.lemmas.List.{length-take-le, get_or-take, take-take}
+use Rattle.std.proofs.lemmas.Option.{same_Some, slice_get_within, slice_get-get_or}
+use Rattle.smx_types.specs.Drivers.{spec_check}
+use Rattle.smx_types.specs.declared.driver.DriverSpec.{DriverSpec}
+use Rattle.smx_types.specs.declared.driver.SpecFault.{SpecFault}
+use Rattle.smx_model.specs.DriverList.{IsDriverList}
+use Rattle.smx_config.specs.DriverFaults.{IsFirstBad, RefusesDrivers}
+use Rattle.smx_config.specs.declared.fault.ConfigFault.{ConfigFault}
+use Rattle.smx_config.specs.declared.fault.ConfigFault.TheVariants.{BadSpec, SameName, TooMany, NoMemory}
+use Rattle.smx_config.proofs.DriverListLemmas.{taken_name}
+
+-- an earlier driver has the name of this one
+abbrev HasSameName : List DriverSpec → ℕ → DriverSpec → Type 0
+HasSameName ds i d = Any (λ e. e.name ≡ d.name) (take i ds)
+
+-- a driver of a list that can be had is good, and has a name of its own
+good : (ds : List DriverSpec) (i : ℕ) (d : DriverSpec) → slice_get ds i ≡ Some d → IsDriverList ds
+    → (spec_check d ≡ Ok tt) × (HasSameName ds i d → ⊥)
+good ds i d here h =
+    let within = slice_get_within ds i d here in
+    let at : get_or ds i d ≡ d = same_Some _ _ (sym (slice_get-get_or ds i d within) ∙ here) in
+    (subst (λ e. spec_check e ≡ Ok tt) at (h.each i d within), λ same. taken_name ds i d within (sym at) same h)
+
+-- so is one before driver j, where the drivers before that can be had
+good_before : (ds : List DriverSpec) (i j : ℕ) (d e : DriverSpec) → slice_get ds i ≡ Some d → slice_get ds j ≡ Some e
+    → i < j → IsDriverList (take j ds) → (spec_check d ≡ Ok tt) × (HasSameName ds i d → ⊥)
+good_before ds i j d e here later before h =
+    let few : j < length ds = slice_get_within ds j e later in
+    let len = length-take-le j ds (omega (arith, few)) in
+    let within = slice_get_within ds i d here in
+    let at : get_or (take j ds) i d ≡ d =
+    get_or-take j ds i d before ∙ same_Some _ _ (sym (slice_get-get_or ds i d within) ∙ here) in
+    let found = slice_get-get_or (take j ds) i d (omega (arith, len, before)) ∙ ap Some at in
+    let fine = good (take j ds) i d found h in
+    (fine.0, λ same. fine.1 (subst (Any (λ e. e.name ≡ d.name)) (sym (take-take i j ds (omega (arith, before)))) same))
+
+-- the driver spoils the list
+abbrev Spoils : List DriverSpec → ℕ → DriverSpec → Type 0
+Spoils ds i d = (spec_check d ≡ Ok tt) × (HasSameName ds i d → ⊥) → ⊥
+
+-- by what is said of it
+bad_spec : (ds : List DriverSpec) (i : ℕ) (d : DriverSpec) (f : SpecFault) → spec_check d ≡ Err f → Spoils ds i d
+bad_spec ds i d f bad fine = let same = sym bad ∙ fine.0 in absurd cc
+
+-- or by its name
+same_name : (ds : List DriverSpec) (i : ℕ) (d : DriverSpec) → HasSameName ds i d → Spoils ds i d
+same_name ds i d same fine = fine.1 same
+
+-- the first that does has one number
+one_number : (ds : List DriverSpec) (i j : ℕ) (d e : DriverSpec) → IsFirstBad ds i d → Spoils ds i d
+    → IsFirstBad ds j e → Spoils ds j e → i ≡ j
+one_number ds i j d e first bad other worse = elim (cases_Bool (ltb i j)) [
+  | inl t ↦ absurd (bad (good_before ds i j d e first.here other.here (grind (arith, nat_tests)) other.before))
+  | inr f ↦ elim (cases_Bool (ltb j i)) [
+    | inl t ↦ absurd (worse (good_before ds j i e d other.here first.here (grind (arith, nat_tests)) first.before))
+    | inr g ↦ grind (arith, nat_tests)
+  ]
+]
+
+-- and is one driver
+one_driver : (ds : List DriverSpec) (i j : ℕ) (d e : DriverSpec) → IsFirstBad ds i d → IsFirstBad ds j e → i ≡ j → d ≡ e
+one_driver ds i j d e first other same =
+    same_Some _ _ (sym first.here ∙ ap (slice_get ds) same ∙ other.here)
+
+-- a list that can be had has none
+none_spoils : (ds : List DriverSpec) (i : ℕ) (d : DriverSpec) → IsFirstBad ds i d → Spoils ds i d → IsDriverList ds → ⊥
+none_spoils ds i d first bad h = bad (good ds i d first.here h)
+
+-- what is said of the two, where both are the first
+one_check : (ds : List DriverSpec) (i j : ℕ) (d e : DriverSpec) → IsFirstBad ds i d → Spoils ds i d
+    → IsFirstBad ds j e → Spoils ds j e → (i ≡ j) × (spec_check d ≡ spec_check e)
+one_check ds i j d e first bad other worse =
+    let number = one_number ds i j d e first bad other worse in
+    (number, ap spec_check (one_driver ds i j d e first other number))
+
+-- two faults that a list is refused for are the same
+pub one_fault : (ds : List DriverSpec) (f g : ConfigFault) → RefusesDrivers ds f → RefusesDrivers ds g → f ≡ g
+one_fault ds TooMany TooMany h k = refl
+one_fault ds TooMany (BadSpec j g) h k = absurd (omega (arith, h, k.1.few))
+one_fault ds TooMany (SameName j) h k = absurd (omega (arith, h, k.1.few))
+one_fault ds TooMany NoMemory h k = absurd (omega (arith, h, k.few))
+one_fault ds (BadSpec i f) TooMany h k = absurd (omega (arith, k, h.1.few))
+one_fault ds (BadSpec i f) (BadSpec j g) h k =
+    let one = one_check ds i j h.0 k.0 h.1 (bad_spec ds i h.0 f h.2) k.1 (bad_spec ds j k.0 g k.2) in
+    let fault = sym h.2 ∙ one.1 ∙ k.2 in
+    cc
+one_fault ds (BadSpec i f) (SameName j) h k =
+    let one = one_check ds i j h.0 k.0 h.1 (bad_spec ds i h.0 f h.2) k.1 (same_name ds j k.0 k.3) in
+    let fault = sym h.2 ∙ one.1 ∙ k.2 in
+    absurd cc
+one_fault ds (BadSpec i f) NoMemory h k = absurd (none_spoils ds i h.0 h.1 (bad_spec ds i h.0 f h.2) k)
+one_fault ds (SameName i) TooMany h k = absurd (omega (arith, k, h.1.few))
+one_fault ds (SameName i) (BadSpec j g) h k =
+    let one = one_check ds i j h.0 k.0 h.1 (same_name ds i h.0 h.3) k.1 (bad_spec ds j k.0 g k.2) in
+    let fault = sym h.2 ∙ one.1 ∙ k.2 in
+    absurd cc
+one_fault ds (SameName i) (SameName j) h k =
+    ap SameName (one_check ds i j h.0 k.0 h.1 (same_name ds i h.0 h.3) k.1 (same_name ds j k.0 k.3)).0
+one_fault ds (SameName i) NoMemory h k = absurd (none_spoils ds i h.0 h.1 (same_name ds i h.0 h.3) k)
+one_fault ds NoMemory TooMany h k = absurd (omega (arith, k, h.few))
+one_fault ds NoMemory (BadSpec j g) h k = absurd (none_spoils ds j k.0 k.1 (bad_spec ds j k.0 g k.2) h)
+one_fault ds NoMemory (SameName j) h k = absurd (none_spoils ds j k.0 k.1 (same_name ds j k.0 k.3) h)
+one_fault ds NoMemory NoMemory h k = refl

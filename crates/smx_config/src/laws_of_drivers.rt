@@ -1,0 +1,24 @@
+//! Laws of what is refused and of what takes no memory, each the contract of a function that does nothing.
+
+ghost use Rattle.std.specs.Prelude.{◌≡◌, ℕ, true, List};
+ghost use Rattle.smx_types.specs.declared.driver.DriverSpec.{DriverSpec};
+ghost use Rattle.smx_types.specs.declared.command.Command.TheVariants as command;
+ghost use Rattle.smx_config.specs.DriverFaults.{RefusesDrivers};
+ghost use Rattle.smx_config.specs.Machine.{takes_no_memory};
+ghost use Rattle.smx_config.specs.declared.fault.ConfigFault.{ConfigFault};
+
+/// A list of drivers has one fault at most, and none where a configuration can have it: want of memory alone is told
+/// of such a list.
+pub fn drivers_have_one_fault()
+    ensures { (drivers : List DriverSpec) (f g : ConfigFault)
+        → RefusesDrivers drivers f → RefusesDrivers drivers g → f ≡ g }
+{}
+
+/// These five commands take no memory.
+pub fn five_commands_take_no_memory()
+    ensures dup { (fd : ℕ) → takes_no_memory (command.Dup fd) ≡ true }
+    ensures unbind { (fd : ℕ) → takes_no_memory (command.Unbind fd) ≡ true }
+    ensures unroute { (fd addr : ℕ) → takes_no_memory (command.Unroute fd addr) ≡ true }
+    ensures read { (fd : ℕ) → takes_no_memory (command.Read fd) ≡ true }
+    ensures transmit { (name : List ℕ) (minor : ℕ) → takes_no_memory (command.Transmit name minor) ≡ true }
+{}
