@@ -2,3 +2,4 @@ pub mod CloseFaults
 pub mod FaultWords
 pub mod Recorded
 pub mod Seats
+pub mod WorkedSystems

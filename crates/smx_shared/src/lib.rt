@@ -5,6 +5,7 @@ mod close_fault;
 mod door;
 mod fault;
 mod front;
+pub mod laws_of_systems;
 mod shared;
 mod system;
 
