@@ -32,3 +32,4 @@ pub mod BindingLemmas
 pub mod RoutingLemmas
 pub mod ReportLemmas
 pub mod IllegalEntryLemmas
+pub mod IdLemmas

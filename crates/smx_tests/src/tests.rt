@@ -8,6 +8,8 @@ mod entry_lines;
 mod fault_words;
 mod histories;
 mod history_lines;
+mod link_tables;
+mod link_tables_at_limits;
 mod most;
 mod plain_values;
 mod program_faults;
