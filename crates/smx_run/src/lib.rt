@@ -8,6 +8,8 @@ mod gathering;
 mod hands;
 mod report;
 mod run;
+#[cfg(test)]
+mod tests;
 mod threads;
 mod worker;
 

@@ -1,7 +1,11 @@
 //! Runs over whole texts, with what is wanted typed in from the rules.
 
+ghost use Rattle.std.specs.Prelude.{◌≤◌};
+ghost use Rattle.smx_run.specs.declared.run.TheConstants.{MAX_WORKERS};
+
 use super::most::most_programs;
 use super::texts_at_limits::{add_leaves, add_lines};
+use smx_config::{Config, ConfigFault};
 use smx_run::{NoGate, RunFault, run_programs};
 use smx_text::{read_programs, write_transcript};
 use smx_types::{Fault, Reply};
@@ -133,13 +137,29 @@ fn refused<R: Threads + Wait + Sync>(
     rt: &R,
     alloc: Global,
     drivers: &[u8],
-) -> Result<RunFault, Fail> {
+    workers: usize,
+) -> Result<RunFault, Fail>
+    requires { (1 ≤ workers) × (workers ≤ MAX_WORKERS) }
+{
     let mut text = Vec::from_slice(alloc, b"programs 1\n".as_slice())?;
     text.extend_from_slice(drivers)?;
-    text.extend_from_slice(b"process 0\nclone ip\nend\n")?;
+    text.extend_from_slice(b"process 0\nclone ip\nprocess 1\nclone ip\nend\n")?;
     let programs = read_programs(alloc, text.as_slice())?;
     Ok(
-        run_programs(rt, alloc, programs, 1, &NoGate)
+        run_programs(rt, alloc, programs, workers, &NoGate)
+            .err()
+            .ok_or("refused")?,
+    )
+}
+
+// Why there is no configuration of these drivers.
+fn fault_of(alloc: Global, drivers: &[u8]) -> Result<ConfigFault, Fail> {
+    let mut text = Vec::from_slice(alloc, b"programs 1\n".as_slice())?;
+    text.extend_from_slice(drivers)?;
+    text.extend_from_slice(b"end\n")?;
+    let programs = read_programs(alloc, text.as_slice())?;
+    Ok(
+        Config::new(alloc, programs.drivers())
             .err()
             .ok_or("refused")?,
     )
@@ -164,8 +184,13 @@ fn refuses_drivers(rt: HostRuntime) -> Result<(), Fail> {
         ),
     ];
     for (drivers, words) in wants {
-        let fault = refused(&rt, rt.alloc(), drivers)?;
+        let fault = refused(&rt, rt.alloc(), drivers, 1)?;
         assert_eq!(rt; fault.to_string(rt.alloc())?.as_str(), words);
+        assert_eq!(rt;
+            fault,
+            RunFault::ConfigFault(fault_of(rt.alloc(), drivers)?)
+        );
+        assert_eq!(rt; refused(&rt, rt.alloc(), drivers, 2)?, fault);
     }
     Ok(())
 }

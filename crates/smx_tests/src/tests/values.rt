@@ -1,7 +1,9 @@
 //! What the tests make. Where a growth is refused, it is tried once more, so that one refusal fails no test.
 
 use smx_config::Config;
-use smx_types::{ConfigView, DescriptorLine, DriverKind, DriverSpec, Items, Name, Process};
+use smx_types::{
+    Command, ConfigView, DescriptorLine, DriverKind, DriverSpec, Entry, Items, Name, Process, Reply,
+};
 use std::alloc::Global;
 use std::test::Fail;
 
@@ -64,6 +66,17 @@ pub fn open_on_ip(fd: u32, minor: u32) -> Result<DescriptorLine, Fail> {
         fd,
         driver: named("ip")?,
         minor,
+    })
+}
+
+/// A process gets the stream of `ip` that has this minor, as its first.
+pub fn opening(process: u32, minor: u32) -> Result<Entry, Fail> {
+    Ok(Entry {
+        process: numbered(process)?,
+        command: Command::OpenClone {
+            driver: named("ip")?,
+        },
+        reply: Reply::Fd { fd: 0, minor },
     })
 }
 
