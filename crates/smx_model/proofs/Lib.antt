@@ -32,3 +32,7 @@ pub mod BindingLemmas
 pub mod RoutingLemmas
 pub mod ReportLemmas
 pub mod IllegalEntryLemmas
+pub mod WaitingLemmas
+pub mod TurningLemmas
+pub mod TurningCommandLemmas
+pub mod KnownPlaceLemmas
