@@ -33,3 +33,7 @@ pub mod RoutingLemmas
 pub mod ReportLemmas
 pub mod IllegalEntryLemmas
 pub mod IdLemmas
+pub mod WaitingLemmas
+pub mod TurningLemmas
+pub mod TurningCommandLemmas
+pub mod KnownPlaceLemmas

@@ -73,50 +73,10 @@ clearing_goes_on old mid new p m below c taken gone room =
       spare = omega (arith, room, c.spare, some, length-drop 1 c.messages);
     }
 
--- there are fewer left then
-pub clearing_falls : (mid new : QueueTable) (p : ℕ) (m : Message) → p < length mid.queues → Some m ≡ slice_get (queue_at mid.queues p).messages 0 → new.queues ≡ set mid.queues p (Some (without_front (queue_at mid.queues p))) → length (queue_at new.queues p).messages < length (queue_at mid.queues p).messages
-clearing_falls mid new p m below taken gone =
-    let some = first_some (queue_at mid.queues p).messages m taken in
-    let e = ap (λ qs. length (queue_at qs p).messages) gone ∙ ap (λ (q : Queue). length q.messages) (set_at mid.queues p (without_front (queue_at mid.queues p)) below) in
-    omega (arith, e, some, length-drop 1 (queue_at mid.queues p).messages)
-
--- the place is still there
-pub clearing_there : (old mid : QueueTable) (p : ℕ) → p < length old.queues → IsClearing old mid p → IsPlace mid.queues p
-clearing_there old mid p below c = rw c.queues (set_there old.queues p _ below)
-
 -- none is left
-pub record IsCleared (old mid : QueueTable) (p : ℕ) : Type 0 where
-  pub there : IsPlace mid.queues p
-  pub none : (queue_at mid.queues p).messages ≡ []
-  pub queues : set mid.queues p (Some (emptied (queue_at mid.queues p))) ≡ set old.queues p (Some (emptied (queue_at old.queues p)))
-  pub spare : mid.spare ≡ old.spare + length (queue_at old.queues p).messages
-
-pub clearing_ends : (old mid : QueueTable) (p : ℕ) → p < length old.queues → IsClearing old mid p → None ≡ slice_get (queue_at mid.queues p).messages 0 → IsCleared old mid p
+pub clearing_ends : (old mid : QueueTable) (p : ℕ) → p < length old.queues → IsClearing old mid p → None ≡ slice_get (queue_at mid.queues p).messages 0 → set mid.queues p (Some (emptied (queue_at mid.queues p))) ≡ set old.queues p (Some (emptied (queue_at old.queues p)))
 clearing_ends old mid p below c none =
-    let e = now_at old mid p c below in
-    let empty = first_none _ none in
-    let left : c.messages ≡ [] = ap (λ (q : Queue). q.messages) (sym e) ∙ empty in
-    record {
-      there = clearing_there old mid p below c;
-      none = empty;
-      queues = same_set _ _ p _ _ c.queues (ap emptied e) ∙ set-set old.queues p _ _;
-      spare = omega (arith, c.spare, ap (λ (ms : List Message). length ms) left);
-    }
-
--- after a place was emptied, it is there and has no message
-pub record IsEmptied (queues : List (Option Queue)) (p : ℕ) (after : List (Option Queue)) : Type 0 where
-  pub there : IsPlace after p
-  pub none : (queue_at after p).messages ≡ []
-  pub gone : set after p None ≡ set queues p None
-
-pub emptied_is : (queues : List (Option Queue)) (p : ℕ) (after : List (Option Queue)) → IsPlace queues p → after ≡ set queues p (Some (emptied (queue_at queues p))) → IsEmptied queues p after
-emptied_is queues p after there is =
-    let below = place_below queues p there in
-    record {
-      there = rw is (set_there queues p _ below);
-      none = ap (λ qs. (queue_at qs p).messages) is ∙ ap (λ (q : Queue). q.messages) (set_at queues p (emptied (queue_at queues p)) below);
-      gone = rw is (set-set queues p _ _);
-    }
+    same_set _ _ p _ _ c.queues (ap emptied (now_at old mid p c below)) ∙ set-set old.queues p _ _
 
 -- the number of the first chain whose place is gone is the least that no place has
 pub record IsVacant (chains : List Chain) (queues : List Queue) (p : ℕ) : Type 0 where
@@ -184,3 +144,10 @@ vacant_not_found chains queues many none =
     far : (b : Bool) → nat_lt (position_or_len goes chains) (length chains) ≡ b → None ≡ cond b (Some (position_or_len goes chains)) None → length chains ≤ position_or_len goes chains
     far true is none = absurd (cc)
     far false is none = grind (arith, nat_tests)
+
+pub cleared_queues : (old mid : QueueTable) (p : ℕ) → IsPlace old.queues p → IsClearing old mid p → None ≡ slice_get (queue_at mid.queues p).messages 0 → set mid.queues p (Some (emptied (queue_at mid.queues p))) ≡ set old.queues p (Some (emptied (queue_at old.queues p)))
+cleared_queues old mid p there c none = clearing_ends old mid p (place_below old.queues p there) c none
+
+-- what was set and set again
+pub set_again : (queues : List (Option Queue)) (p : ℕ) (a b : Option Queue) → set (set queues p a) p b ≡ set queues p b
+set_again queues p a b = set-set queues p a b

@@ -1,4 +1,4 @@
--- How the nodes of the store and the chains of the places make the queues.
+-- How the nodes of the store and the chains of the places make the queues. No public clause needs this.
 use Rattle.std.specs.Prelude.{◌≡◌, ℕ, zero, suc, ◌+◌, ◌-◌, ◌<◌, ◌≤◌, ◌^◌, ◌==◌, true, false, if◌then◌else◌, List, [], ◌∷◌, length, Option, Some, None, slice_index_or}
 use Rattle.std.specs.List.{sum_by}
 use Rattle.slab.specs.Slab.{Slab, get, slab_len, with_value}

@@ -100,14 +100,25 @@ impl Queues {
     }
 
     /// The place goes with its messages, where there is one of this number. Takes no memory.
+    #[tactic(auto, using(crate::proofs::TableLemmas::set_again))]
     pub fn drop_place(&mut self, p: PlaceId)
         ensures gone { self.new.queues ≡ slice_set self.old.queues p None }
         ensures spare { self.new.spare ≡ self.old.spare + length (queue_at self.old.queues p).messages }
     {
         if self.has_place(p) {
             self.clear(p);
-            self.chains[p].there = false;
+            self.drop_empty(p);
         }
+    }
+
+    // A place without messages goes.
+    fn drop_empty(&mut self, p: PlaceId)
+        requires place { IsPlace self.old.queues p }
+        requires none { (queue_at self.old.queues p).messages ≡ [] }
+        ensures gone { self.new.queues ≡ slice_set self.old.queues p None }
+        ensures spare { self.new.spare ≡ self.old.spare }
+    {
+        self.chains[p].there = false;
     }
 
     /// Room for one message more. Fails only for want of memory.
@@ -209,6 +220,16 @@ impl Queues {
         ensures spare { self.new.spare ≡ self.old.spare + length (queue_at self.old.queues p).messages }
     {
         while let Some(_message) = self.take(p) {}
+        self.unmark(p);
+    }
+
+    // A place without messages is not full.
+    fn unmark(&mut self, p: PlaceId)
+        requires place { IsPlace self.old.queues p }
+        requires none { (queue_at self.old.queues p).messages ≡ [] }
+        ensures unmarked { self.new.queues ≡ with_queue self.old.queues p (emptied (queue_at self.old.queues p)) }
+        ensures spare { self.new.spare ≡ self.old.spare }
+    {
         self.chains[p].full = false;
     }
 }

@@ -16,6 +16,8 @@ mod most;
 mod plain_values;
 mod program_faults;
 mod program_texts;
+mod queue_calls;
+mod queues;
 mod refused_drivers;
 mod runs;
 mod seats;
