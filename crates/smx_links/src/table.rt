@@ -133,8 +133,8 @@ impl LinkTable {
         Some(link)
     }
 
-    /// Takes out each link with one of these ids, and no other. The next id stays. It goes over all links once, however
-    /// many go, and takes no memory.
+    /// Takes out each link with one of these ids, and no other. The next id stays. What drivers
+    /// reach is found anew once, however many go. Takes no memory.
     pub fn remove_each(&mut self, ids: &[u32])
         ensures rest { self.new ≡ without_ids self.old ids.now }
         ensures drivers { self.new.drivers ≡ self.old.drivers }
