@@ -1,8 +1,10 @@
 -- Records by driver and minor, changed, made and gone.
-use Rattle.std.proofs.Common.{◌≡◌, ◌≢◌, ℕ, zero, ◌+◌, ◌<◌, Bool, true, false, List, length, map, get_or, replicate, Option, Some, None, if◌then◌else◌, refl, sym, ap, ◌∙◌, subst, arith, inl, inr}
-use Rattle.std.proofs.lemmas.Bool.{cases_Bool, cases_eq, false≢true, both_ways}
-use Rattle.std.specs.Prelude.{IfSome}
-use Rattle.slab.specs.Slab.{Slab, get, Updates}
+use Rattle.std.proofs.Common.{◌≡◌, ◌≢◌, ℕ, zero, ◌+◌, ◌<◌, Bool, true, false, List, [], ◌∷◌, length, map, get_or, replicate, Option, Some, None, if◌then◌else◌, refl, sym, ap, ◌∙◌, subst, arith, inl, inr}
+use Rattle.std.proofs.lemmas.Bool.{cases_Bool, cases_eq, both_ways, ltb-true}
+use Rattle.std.specs.Prelude.{IfSome, nat_lt}
+use Rattle.std.specs.List.{AllZip}
+use Rattle.std.proofs.lemmas.Bool.Decides.{nat_tests}
+use Rattle.slab.specs.Slab.{Slab, get, IsSlotClone, Updates}
 use Rattle.smx_types.specs.declared.stream.StreamId.{StreamId}
 use Rattle.smx_model.specs.Configuration.{same_stream}
 use Rattle.smx_streams.specs.declared.records.Record.{Record}
@@ -184,3 +186,24 @@ record_read grid records s r whole is = record { opens = ap opens_of is ∙ sym 
   by : (o : Option ℕ) → key_at grid s ≡ o → IfSome (record_of_key records o) (λ x. 0 < x.opens + x.holds)
   by None e = tt
   by (Some key) e = let there = whole.listed s key e in rw there.1 there.2.used
+
+-- the same slots
+
+pub slots_same : (xs ys : List (Option Record)) → AllZip (IsSlotClone (λ (x y : Record). y ≡ x)) xs ys → ys ≡ xs
+slots_same [] [] h = refl
+slots_same [] (y ∷ ys) h = absurd h
+slots_same (x ∷ xs) [] h = absurd h
+slots_same (None ∷ xs) (y ∷ ys) h = ap (λ z. z ∷ ys) h.0 ∙ ap (λ zs. None ∷ zs) (slots_same xs ys h.1)
+slots_same (Some r ∷ xs) (None ∷ ys) h = absurd h.0
+slots_same (Some r ∷ xs) (Some q ∷ ys) h = ap (λ z. Some z ∷ ys) h.0 ∙ ap (λ zs. Some r ∷ zs) (slots_same xs ys h.1)
+
+pub uses_same : (grid : Grid) (a b : Slab Record) → b.slots ≡ a.slots → uses_of grid b ≡ uses_of grid a
+uses_same grid a b e = rw e refl
+
+-- a record that counts nothing
+
+pub counts_none : (x y : ℕ) → nat_lt 0 (x + y) ≡ false → (x ≡ 0) × (y ≡ 0)
+counts_none x y h = (grind (arith, nat_tests), grind (arith, nat_tests))
+
+pub counts_some : (n : ℕ) → nat_lt 0 n ≡ true → 0 < n
+counts_some n h = ltb-true 0 n h

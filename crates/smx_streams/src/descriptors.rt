@@ -1,7 +1,7 @@
 //! The descriptors of all processes.
 
 ghost use Rattle.std.specs.Prelude.{◌≡◌, ◌<◌, ◌≤◌, false, true, not, [], length, filter, replicate, slice_index, slice_index_or};
-ghost use Rattle.std.specs.Prelude.{ℕ, None, IfOk, IsOk, OnOk, OnErr};
+ghost use Rattle.std.specs.Prelude.{ℕ, None, IfNone, IfOk, IsOk, OnOk, OnErr};
 ghost use Rattle.std.specs.List.{list_any};
 ghost use Rattle.smx_types.specs.declared.limits.TheConstants.{MAX_DESCRIPTORS, MAX_PROCESSES};
 ghost use Rattle.smx_model.specs.Configuration.{is_fd, fd_before};
@@ -138,6 +138,7 @@ impl Descriptors {
     pub fn take(&mut self, process: Process, fd: u32) -> Option<StreamId>
         ensures stream { result ≡ stream_at self.old.fds process fd }
         ensures rest { self.new.fds ≡ filter (λ d. not (is_fd process fd d)) self.old.fds }
+        ensures unchanged { IfNone result (self.new ≡ self.old) }
     {
         let stream = cell_at(&self.processes, process, fd)?;
         let _number = process.get();

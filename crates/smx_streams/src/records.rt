@@ -1,7 +1,7 @@
 //! The records of streams, found by driver and minor.
 
-ghost use Rattle.std.specs.Prelude.{◌≡◌, ◌≢◌, ℕ, ◌+◌, ◌<◌, ◌==◌, nat_lt, true, [], None, Some, map, length, replicate};
-ghost use Rattle.std.specs.Prelude.{slice_get, slice_index_or, IfOk, OnOk, OnErr};
+ghost use Rattle.std.specs.Prelude.{◌≡◌, ◌≢◌, ℕ, ◌+◌, ◌<◌, ◌≤◌, nat_lt, true, [], None, Some, map, length, replicate};
+ghost use Rattle.std.specs.Prelude.{slice_get, slice_index_or, IfOk, IsOk, OnOk, OnErr};
 ghost use Rattle.slab.specs.Slab.{get, Updates};
 ghost use Rattle.smx_types.specs.declared.stream.StreamId.{StreamId};
 ghost use Rattle.smx_streams.specs.RecordGrids.{key_at, with_key, AreRecords, AreSet, IsRecordOf, IsSet};
@@ -92,17 +92,24 @@ fn copy_keys(alloc: Global, drivers: &[Keys]) -> Result<Vec<Keys>, NoMemory>
     Ok(made)
 }
 
+// Whether it counts some descriptor or hold.
+fn is_used(counted: Record) -> bool
+    ensures { result ≡ nat_lt 0 (counted.opens + counted.holds) }
+{
+    counted.opens > 0 || counted.holds > 0
+}
+
 // The record back at its key; or, where it counts nothing more, neither record nor key.
 fn put_back(drivers: &mut Vec<Keys>, records: &mut Slab<Record>, key: usize, changed: Record)
     requires whole { AreRecords drivers.old.items records.old }
     requires there { key_at drivers.old.items changed.stream ≡ Some key }
     ensures { IsSet drivers.old.items records.old changed drivers.new.items records.new }
 {
-    if changed.opens == 0 && changed.holds == 0 {
+    if is_used(changed) {
+        set_record(records, key, changed);
+    } else {
         let _gone = records.try_remove(key);
         set_key(drivers, changed.stream, None);
-    } else {
-        set_record(records, key, changed);
     }
 }
 
@@ -180,8 +187,28 @@ impl Records {
         self.record_of(stream).is_some()
     }
 
-    /// A record of a stream that has none, with one descriptor.
-    pub fn add(&mut self, stream: StreamId) -> Result<(), NoMemory>
+    /// One more descriptor of a stream.
+    pub fn open(&mut self, stream: StreamId) -> Result<(), NoMemory>
+        requires range { is_in_range self.old.minors stream.driver stream.minor ≡ true }
+        requires few { number_at self.old.opens stream ≤ 1024 }
+        ensures ok { OnOk result (AreSet self.old stream (number_at self.old.opens stream + 1) (number_at self.old.holds stream) self.new) }
+        ensures err { OnErr result (self.new ≡ self.old) }
+        ensures in_place { 0 < number_at self.old.opens stream → IsOk result }
+    {
+        match self.record_of(stream) {
+            Some(record) => {
+                self.set(stream, record.opens + 1, record.holds);
+                Ok(())
+            }
+            None => {
+                self.add(stream)?;
+                Ok(())
+            }
+        }
+    }
+
+    // A record of a stream that has none, with one descriptor.
+    fn add(&mut self, stream: StreamId) -> Result<(), NoMemory>
         requires range { is_in_range self.old.minors stream.driver stream.minor ≡ true }
         requires none { number_at self.old.opens stream + number_at self.old.holds stream ≡ 0 }
         ensures ok { OnOk result (AreSet self.old stream 1 0 self.new) }

@@ -78,6 +78,13 @@ impl Streams {
         self.records.has(stream)
     }
 
+    /// How many holds the stream has.
+    pub fn holds_of(&self, stream: StreamId) -> u32
+        ensures { result ≡ number_at self.now.holds stream }
+    {
+        self.records.holds_of(stream)
+    }
+
     /// The stream of the process's descriptor.
     pub fn stream_of(&self, process: Process, fd: u32) -> Option<StreamId>
         ensures { result ≡ stream_at self.now.fds process fd }
@@ -109,13 +116,7 @@ impl Streams {
     {
         self.descriptors.is_sound();
         self.descriptors.make_room(self.alloc, process)?;
-        let opens = self.records.opens_of(stream);
-        let holds = self.records.holds_of(stream);
-        if opens == 0 && holds == 0 {
-            self.records.add(stream)?;
-        } else {
-            self.records.set(stream, opens + 1, holds);
-        }
+        self.records.open(stream)?;
         self.descriptors.put(process, fd, stream);
         Ok(())
     }
@@ -205,8 +206,10 @@ impl Streams {
         let opens = self.records.opens_of(stream);
         let holds = self.records.holds_of(stream);
         self.records.set(stream, opens - 1, holds);
-        let last = opens == 1 && holds == 0;
-        Some(Closed { stream, last })
+        Some(Closed {
+            stream,
+            last: !self.exists(stream),
+        })
     }
 
     /// One more hold of a stream that exists. Takes no memory.
@@ -230,7 +233,7 @@ impl Streams {
         let opens = self.records.opens_of(stream);
         let holds = self.records.holds_of(stream);
         self.records.set(stream, opens, holds - 1);
-        opens == 0 && holds == 1
+        !self.exists(stream)
     }
 
     /// The same table again, by the allocator that this one has. Fails only for want of memory.
