@@ -21,6 +21,8 @@ mod queues;
 mod refused_drivers;
 mod runs;
 mod seats;
+mod stream_tables;
+mod stream_tables_at_limits;
 mod sweeps;
 mod system_lines;
 mod systems;
