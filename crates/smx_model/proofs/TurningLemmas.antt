@@ -30,7 +30,7 @@ use Rattle.smx_model.proofs.EachLemmas.{Each, each_filter, each_of_all, each_fin
 use Rattle.smx_model.proofs.TestLemmas.{found_any, find_passes, any_more}
 use Rattle.smx_model.proofs.QueueLemmas.{emptied_queue, front_is, marked_full}
 use Rattle.smx_model.proofs.SettlingLemmas.{open_next, same_place_is}
-use Rattle.smx_model.specs.RunMarks.{AreMarked, next_of_first, next_of, is_one_of, asks_down, asks_up, has_addr, is_first_at, both, feeds, is_freed, can_feed, nowhere, wanted_after, woken_by, Stays, TurnsOnly}
+use Rattle.smx_model.specs.RunMarks.{AreMarked, next_of_first, next_of, is_one_of, asks_down, asks_up, has_addr, is_first_at, both, feeds, is_freed, can_feed, leads_to, nowhere, wanted_after, woken_by, Stays, TurnsOnly}
 use Rattle.smx_model.proofs.WaitingLemmas.{next_by, next_is, keeps_by, next_of_same, first_left, first_arrived}
 
 -- the one law of changes
@@ -394,7 +394,7 @@ feeders drivers c q r sound keyed h = by (first_message c.flow r) h where
   muxed a t = elim (cases_Bool (is_mux drivers r.stream.driver)) [ inl k ↦ rw k at t | inr k ↦ let u : false ≡ true = rw k at t in absurd cc ]
 
   at : (a : ℕ) (x : Side) → is_one_of (same_place q) (next_by drivers c r.stream a x) ≡ true
-      → (same_side x q.side && cond (same_side q.side side.Write) (list_any (λ l. same_stream l.lower q.stream && eqb l.ctl.driver r.stream.driver) c.links) (list_any (λ l. same_stream l.lower r.stream && eqb l.ctl.driver q.stream.driver) c.links)) ≡ true
+      → (same_side x q.side && leads_to c r.stream q.stream q.side) ≡ true
   at a side.Write t = let p = down a (find (λ x. eqb x.driver r.stream.driver && eqb x.addr a) c.routes) refl (muxed a t) in rw (write q.side p.0) p.1
   at a side.Read t = let p = up a (find (λ l. same_stream l.lower r.stream) c.links) refl t in rw (read q.side p.0) p.1
 
