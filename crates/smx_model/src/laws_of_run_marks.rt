@@ -67,14 +67,14 @@ pub fn a_change_wakes_few()
     ensures { (drivers : List DriverSpec) (old new : Configuration) (run wanted turned : Place → Bool)
         → AreMarked drivers old run wanted → TurnsOnly drivers old new turned
         → AreMarked drivers new (both run (woken_by drivers old new wanted turned))
-            (wanted_after old new wanted) }
+        (wanted_after old new wanted) }
 {}
 
 /// Which places an accepted command turns.
 pub fn commands_turn_few()
     ensures { (drivers : List DriverSpec) (c : Configuration) (process : ℕ) (command : Command)
         → IsSound drivers c → IfOk (outcome drivers c process command) (λ x.
-            TurnsOnly drivers c x.0 (turned_by drivers c process command)) }
+        TurnsOnly drivers c x.0 (turned_by drivers c process command)) }
 {}
 
 /// A move turns the place that it takes from, and the place that it goes to, if that was empty.
@@ -82,7 +82,7 @@ pub fn moves_turn_two()
     ensures { (drivers : List DriverSpec) (c : Configuration) (p q : Place) → IsInOrder c.flow
         → next_open_place drivers c p ≡ Some q
         → TurnsOnly drivers c (after_move drivers c p)
-            (both (same_place p) (is_first_at (after_leaving drivers c p) q)) }
+        (both (same_place p) (is_first_at (after_leaving drivers c p) q)) }
 {}
 
 /// A move frees no other place than the one that it takes from.
