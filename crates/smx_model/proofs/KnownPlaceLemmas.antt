@@ -1,8 +1,7 @@
 -- Places with messages, and next places, are of streams that the drivers have.
-use Rattle.std.proofs.Common.{◌≡◌, ℕ, ◌<◌, ◌≤◌, Bool, true, false, ◌&&◌, eqb, List, [], ◌∷◌, length, find, Option, Some, None, Result, Ok, Err, refl, sym, ap, ◌∙◌, subst, inl, inr, arith}
-use Rattle.std.specs.Prelude.{◌≢◌, IfOk}
-use Rattle.std.proofs.lemmas.Bool.{cases_Bool, or_parts}
-use Rattle.smx_types.specs.declared.command.Command.{Command}
+use Rattle.std.proofs.Common.{◌≡◌, ℕ, Bool, ◌&&◌, eqb, List, [], ◌∷◌, find, Option, Some, None, refl, sym, ◌∙◌, subst, inl, inr}
+use Rattle.std.specs.Prelude.{◌≢◌}
+use Rattle.std.proofs.lemmas.Bool.{cases_Bool}
 use Rattle.smx_types.specs.declared.driver.DriverSpec.{DriverSpec}
 use Rattle.smx_types.specs.declared.link.Binding.{Binding}
 use Rattle.smx_types.specs.declared.link.Link.{Link}
@@ -11,13 +10,10 @@ use Rattle.smx_types.specs.declared.message.Message.{Message}
 use Rattle.smx_types.specs.declared.stream.Place.{Place}
 use Rattle.smx_types.specs.declared.stream.Side.{Side}
 use Rattle.smx_types.specs.declared.stream.Side.TheVariants as side
-use Rattle.smx_types.specs.declared.stream.StreamId.{StreamId}
 use Rattle.smx_model.specs.Configuration.{Configuration, QueuedMessage, is_at, same_stream}
-use Rattle.smx_model.specs.DriverList.{is_mux, minors_of}
-use Rattle.smx_model.specs.KeptConfigurations.{IsSound}
+use Rattle.smx_model.specs.DriverList.{is_mux}
 use Rattle.smx_model.specs.KnownStreams.{AreStreamsKnown, IsKnown}
 use Rattle.smx_model.specs.Queues.{first_message}
-use Rattle.smx_model.specs.Settling.{next_place}
 use Rattle.smx_model.proofs.WaitingLemmas.{next_by, next_is}
 use Rattle.smx_model.proofs.EachLemmas.{Each, each_of_all, each_find}
 use Rattle.smx_model.proofs.SettlingLemmas.{same_place_is}

@@ -1,9 +1,8 @@
 -- Which places the commands turn.
-use Rattle.std.proofs.Common.{◌≡◌, ℕ, suc, zero, ◌<◌, ◌+◌, Bool, true, false, ◌&&◌, ◌||◌, not, eqb, List, [], ◌∷◌, ◌++◌, length, get_or, filter, find, Option, Some, None, Result, Ok, Err, refl, rules, sym, ap, ◌∙◌, subst, inl, inr, arith}
-use mathlib.Core.Logic.{◌⊎◌}
-use Rattle.std.specs.Prelude.{nat_lt, nat_le, IfOk}
+use Rattle.std.proofs.Common.{◌≡◌, ℕ, suc, ◌<◌, ◌+◌, Bool, true, false, ◌&&◌, ◌||◌, not, eqb, List, [], ◌∷◌, ◌++◌, length, get_or, filter, Result, Ok, Err, refl, rules, sym, inl, inr, arith}
+use Rattle.std.specs.Prelude.{nat_lt, IfOk}
 use Rattle.std.specs.List.{list_any, AllPairs}
-use Rattle.std.proofs.lemmas.Bool.{both_ways, cases_Bool, and_parts, and_from, or_cases, or_parts, or_left, or_right, false_from_ne_true, false≢true, eqb-true, eq-eqb, ltb-true}
+use Rattle.std.proofs.lemmas.Bool.{both_ways, cases_Bool, and_parts, and_from, or_cases, false_from_ne_true, eqb-true, eq-eqb, ltb-true}
 use Rattle.smx_types.specs.declared.command.Command.{Command}
 use Rattle.smx_types.specs.declared.command.Command.TheVariants as command
 use Rattle.smx_types.specs.declared.command.Which.{Which}
@@ -16,25 +15,22 @@ use Rattle.smx_types.specs.declared.link.LinkKind.TheVariants as kind
 use Rattle.smx_types.specs.declared.link.Route.{Route}
 use Rattle.smx_types.specs.declared.message.Message.{Message}
 use Rattle.smx_types.specs.declared.reply.Fault.{Fault}
-use Rattle.smx_types.specs.declared.reply.Reply.{Reply}
 use Rattle.smx_types.specs.declared.stream.Descriptor.{Descriptor}
 use Rattle.smx_types.specs.declared.stream.Place.{Place}
 use Rattle.smx_types.specs.declared.stream.StreamId.{StreamId}
-use Rattle.smx_model.specs.Commands.{outcome, done_outcome, link_outcome, unlink_outcome, send_outcome, receive_outcome, with_fd, is_side}
-use Rattle.smx_model.specs.Configuration.{Configuration, QueuedMessage, same_place, same_stream, pair_before, bind_before, route_before, is_fd}
+use Rattle.smx_model.specs.Commands.{outcome, done_outcome, link_outcome, unlink_outcome, send_outcome, receive_outcome, with_fd}
+use Rattle.smx_model.specs.Configuration.{Configuration, same_place, pair_before, bind_before, route_before}
 use Rattle.smx_model.specs.KeptConfigurations.{IsSound}
 use Rattle.smx_model.specs.Lookups.{stream_of, free_stream, mux_stream, leaf_stream}
 use Rattle.smx_model.specs.Ordered.{with_inserted, IsRising, ComesBefore}
 use Rattle.smx_model.specs.Outcomes.{Outcome, ◌>>=◌}
-use Rattle.smx_model.specs.Queues.{first_message, after_arrival, after_leaving}
+use Rattle.smx_model.specs.Queues.{after_arrival}
 use Rattle.smx_model.specs.Removal.{without_queues_at, without_links, after_sweep}
-use Rattle.smx_model.specs.SoundLinks.{AreRoutesSound}
-use Rattle.smx_model.specs.Standing.{is_persistent}
-use Rattle.smx_model.proofs.EachLemmas.{Each, each_filter, none_passes, kept_passes}
+use Rattle.smx_model.proofs.EachLemmas.{Each, none_passes, kept_passes}
 use Rattle.smx_model.proofs.OutcomeLemmas.{IfAccepted, at_ok, after_ok, after_test, after_some}
-use Rattle.smx_model.specs.RunMarks.{next_of_first, asks_down, asks_up, nowhere, is_first_at, Stays, TurnsOnly}
+use Rattle.smx_model.specs.RunMarks.{asks_down, asks_up, nowhere, is_first_at, TurnsOnly}
 use Rattle.smx_model.specs.TurnedPlaces.{of_stream, read_side, write_side, turned_by}
-use Rattle.smx_model.proofs.TurningLemmas.{Apart, apart_filter, next_of_others, bound, first_emptied, routed, binds_find, fewer_turns, keyed_removed, routes_find, turns_arrived, turns_bound, turns_emptied, turns_left, turns_linked, turns_removed, turns_routed, turns_swept, turns_then, IsKeyed}
+use Rattle.smx_model.proofs.TurningLemmas.{Apart, apart_filter, next_of_others, bound, routed, binds_find, fewer_turns, keyed_removed, routes_find, turns_arrived, turns_bound, turns_emptied, turns_left, turns_linked, turns_removed, turns_routed, turns_swept, turns_then, IsKeyed}
 
 -- ---- each key is there once
 
@@ -89,7 +85,9 @@ keyed_routed c driver addr id h = record {
   routes = apart_placed (λ r s. (eqb r.driver s.driver && eqb r.addr s.addr) ≡ false) route_before (λ r s. turned_key r.driver r.addr s.driver s.addr) (record { driver = driver; addr = addr; id = id }) (filter (λ r. not (eqb r.driver driver && eqb r.addr addr)) c.routes)
       (kept_passes (λ r. not (eqb r.driver driver && eqb r.addr addr)) _ c.routes (λ r t. turned_key r.driver r.addr driver addr (by (eqb r.driver driver && eqb r.addr addr) t)))
       (apart_filter _ _ c.routes h.routes);
-  ids = h.ids; lowers = h.lowers; binds = h.binds;
+  ids = h.ids;
+  lowers = h.lowers;
+  binds = h.binds;
 } where
   by : (b : Bool) → not b ≡ true → b ≡ false
   by true e = sym e
@@ -100,7 +98,9 @@ keyed_bound c driver addr minor free h = record {
   binds = apart_placed (λ b e. (eqb b.driver e.driver && eqb b.addr e.addr) ≡ false) bind_before (λ b e. turned_key b.driver b.addr e.driver e.addr) (record { driver = driver; addr = addr; minor = minor }) c.binds
       (none_passes (λ b. eqb b.driver driver && (eqb b.addr addr || eqb b.minor minor)) _ c.binds (λ b f. turned_key b.driver b.addr driver addr (by (eqb b.driver driver) (eqb b.addr addr) (eqb b.minor minor) f)) free)
       h.binds;
-  ids = h.ids; lowers = h.lowers; routes = h.routes;
+  ids = h.ids;
+  lowers = h.lowers;
+  routes = h.routes;
 } where
   by : (x y z : Bool) → (x && (y || z)) ≡ false → (x && y) ≡ false
   by true true z h = h

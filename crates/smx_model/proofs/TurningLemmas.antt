@@ -1,10 +1,9 @@
 -- Which changes turn which places.
-use Rattle.std.proofs.Common.{◌≡◌, ℕ, suc, zero, ◌<◌, Bool, true, false, ◌&&◌, ◌||◌, not, cond, eqb, List, [], ◌∷◌, ◌++◌, length, get_or, filter, find, Option, Some, None, refl, sym, ap, ◌∙◌, subst, inl, inr, arith}
+use Rattle.std.proofs.Common.{◌≡◌, ℕ, Bool, true, false, ◌&&◌, not, eqb, List, [], ◌∷◌, ◌++◌, filter, find, Option, Some, None, refl, sym, ap, ◌∙◌, subst, inl, inr}
 use mathlib.Core.Logic.{◌⊎◌}
-use Rattle.std.specs.Option.{is_some}
-use Rattle.std.specs.Prelude.{slice_get, nat_lt}
-use Rattle.std.specs.List.{list_any, AllPairs}
-use Rattle.std.proofs.lemmas.Bool.{both_ways, cases_Bool, and_parts, and_from, and_cases, or_cases, or_parts, or_left, false_from_ne_true, false≢true, eqb-true, eq-eqb, ltb-true}
+use Rattle.std.specs.Prelude.{slice_get}
+use Rattle.std.specs.List.{list_any}
+use Rattle.std.proofs.lemmas.Bool.{both_ways, cases_Bool, and_parts, and_from, or_cases, or_parts, or_left, false_from_ne_true, false≢true, eqb-true, eq-eqb}
 use Rattle.smx_types.specs.declared.driver.DriverSpec.{DriverSpec}
 use Rattle.smx_types.specs.declared.link.Binding.{Binding}
 use Rattle.smx_types.specs.declared.link.Link.{Link}
@@ -14,23 +13,21 @@ use Rattle.smx_types.specs.declared.stream.Place.{Place}
 use Rattle.smx_types.specs.declared.stream.Side.{Side}
 use Rattle.smx_types.specs.declared.stream.Side.TheVariants as side
 use Rattle.smx_types.specs.declared.stream.StreamId.{StreamId}
-use Rattle.smx_model.specs.Configuration.{Configuration, QueuedMessage, queued_before, is_at, place_before, same_place, same_side, same_stream, pair_before, bind_before, route_before}
+use Rattle.smx_model.specs.Configuration.{Configuration, QueuedMessage, is_at, same_place, same_side, same_stream, bind_before, route_before}
 use Rattle.smx_model.specs.DriverList.{is_mux}
 use Rattle.smx_model.specs.FlowOrder.{IsInOrder}
-use Rattle.smx_model.specs.Ordered.{with_inserted, without_first, IsRising, ComesBefore}
-use Rattle.smx_model.specs.OrderedParts.{AreListsOrdered}
-use Rattle.smx_model.specs.Paths.{AreLowersApart}
+use Rattle.smx_model.specs.Ordered.{with_inserted}
 use Rattle.smx_model.specs.Queues.{first_message, is_full, after_arrival, after_leaving, queue}
 use Rattle.smx_model.specs.Removal.{without_queues_at, without_links, without_dead_streams, after_sweep}
 use Rattle.smx_model.proofs.OrderLemmas.{order_without}
 use Rattle.smx_model.specs.Settling.{◌>>=◌, after_move, after_move_to, next_open_place, next_place}
 use Rattle.smx_model.specs.Standing.{is_persistent, exists}
-use Rattle.smx_model.specs.SoundLinks.{AreRoutesSound, AreIdsRising, AreLinksSound}
+use Rattle.smx_model.specs.SoundLinks.{AreRoutesSound}
 use Rattle.smx_model.proofs.EachLemmas.{Each, each_filter, each_of_all, each_find}
 use Rattle.smx_model.proofs.TestLemmas.{found_any, find_passes, any_more}
 use Rattle.smx_model.proofs.QueueLemmas.{emptied_queue, front_is, marked_full}
 use Rattle.smx_model.proofs.SettlingLemmas.{open_next, same_place_is}
-use Rattle.smx_model.specs.RunMarks.{AreMarked, next_of_first, next_of, is_one_of, asks_down, asks_up, has_addr, is_first_at, both, feeds, is_freed, can_feed, nowhere, wanted_after, woken_by, Stays, TurnsOnly}
+use Rattle.smx_model.specs.RunMarks.{AreMarked, next_of_first, next_of, is_one_of, asks_down, asks_up, has_addr, is_first_at, both, feeds, is_freed, can_feed, leads_to, nowhere, wanted_after, woken_by, Stays, TurnsOnly}
 use Rattle.smx_model.proofs.WaitingLemmas.{next_by, next_is, keeps_by, next_of_same, first_left, first_arrived}
 
 -- the one law of changes
@@ -248,8 +245,8 @@ other driver addr d a h = false_from_ne_true _ (λ t. let p = and_parts (eqb dri
 find_routed : (c : Configuration) (driver addr id d a : ℕ) → (eqb d driver && eqb a addr) ≡ false → find (λ r. eqb r.driver d && eqb r.addr a) (routed c driver addr id).routes ≡ find (λ r. eqb r.driver d && eqb r.addr a) c.routes
 find_routed c driver addr id d a h = find_placed (λ r. eqb r.driver d && eqb r.addr a) route_before (filter (λ r. not (eqb r.driver driver && eqb r.addr addr)) c.routes) (record { driver = driver; addr = addr; id = id }) (other driver addr d a h)
     ∙ find_filter (λ r. eqb r.driver d && eqb r.addr a) (λ r. not (eqb r.driver driver && eqb r.addr addr)) c.routes (λ r t. ap not (apart r t)) where
-  apart : (r : Route) → (eqb r.driver d && eqb r.addr a) ≡ true → (eqb r.driver driver && eqb r.addr addr) ≡ false
-  apart r t = let p = and_parts (eqb r.driver d) (eqb r.addr a) t in rw (eqb-true r.driver d p.0, eqb-true r.addr a p.1) h
+      apart : (r : Route) → (eqb r.driver d && eqb r.addr a) ≡ true → (eqb r.driver driver && eqb r.addr addr) ≡ false
+      apart r t = let p = and_parts (eqb r.driver d) (eqb r.addr a) t in rw (eqb-true r.driver d p.0, eqb-true r.addr a p.1) h
 
 pub turns_routed : (drivers : List DriverSpec) (c : Configuration) (driver addr id : ℕ) → TurnsOnly drivers c (routed c driver addr id) (asks_down c driver addr)
 turns_routed drivers c driver addr id r f = by (first_message c.flow r) f where
@@ -274,7 +271,7 @@ turns_bound drivers c driver addr minor r f = by (first_message c.flow r) f wher
   over a (Some l) e f = ap bound_side (find_placed (λ b. eqb b.driver l.ctl.driver && eqb b.addr a) bind_before c.binds (record { driver = driver; addr = addr; minor = minor }) (false_from_ne_true _ (λ t.
       let p = and_parts (eqb driver l.ctl.driver) (eqb addr a) t in
       both_ways (list_any (λ l. same_stream l.lower r.stream && eqb l.ctl.driver driver) c.links && eqb a addr) f
-        (and_from _ _ (found_any (λ l. same_stream l.lower r.stream) (λ l. same_stream l.lower r.stream && eqb l.ctl.driver driver) c.links l e (and_from _ _ (find_passes (λ l. same_stream l.lower r.stream) c.links l e) (eq-eqb l.ctl.driver driver (sym (eqb-true driver l.ctl.driver p.0))))) (eq-eqb a addr (sym (eqb-true addr a p.1)))))))
+      (and_from _ _ (found_any (λ l. same_stream l.lower r.stream) (λ l. same_stream l.lower r.stream && eqb l.ctl.driver driver) c.links l e (and_from _ _ (find_passes (λ l. same_stream l.lower r.stream) c.links l e) (eq-eqb l.ctl.driver driver (sym (eqb-true driver l.ctl.driver p.0))))) (eq-eqb a addr (sym (eqb-true addr a p.1)))))))
 
   at : (a : ℕ) (x : Side) → ((same_side x side.Read && list_any (λ l. same_stream l.lower r.stream && eqb l.ctl.driver driver) c.links) && eqb a addr) ≡ false → Stays (next_by drivers c r.stream a x) (next_by drivers (bound c driver addr minor) r.stream a x)
   at a side.Write f = inl refl
@@ -369,9 +366,11 @@ feeders drivers c q r sound keyed h = by (first_message c.flow r) h where
   below : (x : Route) (o : Option Link) → eqb x.driver r.stream.driver ≡ true → list_any (λ l. eqb l.id x.id && eqb l.ctl.driver x.driver) c.links ≡ true → find (λ l. eqb l.id x.id) c.links ≡ o → is_one_of (same_place q) (lower_side o) ≡ true
       → (same_side q.side side.Write ≡ true) × (list_any (λ l. same_stream l.lower q.stream && eqb l.ctl.driver r.stream.driver) c.links ≡ true)
   below x None d a e t = absurd (false≢true t)
-  below x (Some l) d a e t = let p = and_parts (same_stream q.stream l.lower) (same_side q.side side.Write) t in
-      (p.1, found_any (λ l. eqb l.id x.id) (λ l. same_stream l.lower q.stream && eqb l.ctl.driver r.stream.driver) c.links l e (and_from _ _ (turned q.stream l.lower p.0)
-        (eq-eqb l.ctl.driver r.stream.driver (eqb-true l.ctl.driver x.driver (one_driver c.links x.id x.driver l keyed.ids e a) ∙ eqb-true x.driver r.stream.driver d))))
+  below x (Some l) d a e t = let p = and_parts (same_stream q.stream l.lower) (same_side q.side side.Write) t in (
+    p.1,
+    found_any (λ l. eqb l.id x.id) (λ l. same_stream l.lower q.stream && eqb l.ctl.driver r.stream.driver) c.links l e (and_from _ _ (turned q.stream l.lower p.0)
+        (eq-eqb l.ctl.driver r.stream.driver (eqb-true l.ctl.driver x.driver (one_driver c.links x.id x.driver l keyed.ids e a) ∙ eqb-true x.driver r.stream.driver d))),
+  )
 
   down : (a : ℕ) (o : Option Route) → find (λ x. eqb x.driver r.stream.driver && eqb x.addr a) c.routes ≡ o → is_one_of (same_place q) (down_by c.links o) ≡ true
       → (same_side q.side side.Write ≡ true) × (list_any (λ l. same_stream l.lower q.stream && eqb l.ctl.driver r.stream.driver) c.links ≡ true)
@@ -380,9 +379,11 @@ feeders drivers c q r sound keyed h = by (first_message c.flow r) h where
 
   bound_at : (a : ℕ) (l : Link) (o : Option Binding) → find (λ b. eqb b.driver l.ctl.driver && eqb b.addr a) c.binds ≡ o → is_one_of (same_place q) (bound_side o) ≡ true → (same_side q.side side.Read ≡ true) × (eqb l.ctl.driver q.stream.driver ≡ true)
   bound_at a l None e t = absurd (false≢true t)
-  bound_at a l (Some b) e t = let p = and_parts (same_stream q.stream (record { driver = b.driver; minor = b.minor })) (same_side q.side side.Read) t in
-      (p.1, eq-eqb l.ctl.driver q.stream.driver (sym (eqb-true b.driver l.ctl.driver (and_parts (eqb b.driver l.ctl.driver) (eqb b.addr a) (find_passes (λ b. eqb b.driver l.ctl.driver && eqb b.addr a) c.binds b e)).0)
-        ∙ sym (eqb-true q.stream.driver b.driver (and_parts (eqb q.stream.driver b.driver) (eqb q.stream.minor b.minor) p.0).0)))
+  bound_at a l (Some b) e t = let p = and_parts (same_stream q.stream (record { driver = b.driver; minor = b.minor })) (same_side q.side side.Read) t in (
+    p.1,
+    eq-eqb l.ctl.driver q.stream.driver (sym (eqb-true b.driver l.ctl.driver (and_parts (eqb b.driver l.ctl.driver) (eqb b.addr a) (find_passes (λ b. eqb b.driver l.ctl.driver && eqb b.addr a) c.binds b e)).0)
+        ∙ sym (eqb-true q.stream.driver b.driver (and_parts (eqb q.stream.driver b.driver) (eqb q.stream.minor b.minor) p.0).0)),
+  )
 
   up : (a : ℕ) (o : Option Link) → find (λ l. same_stream l.lower r.stream) c.links ≡ o → is_one_of (same_place q) (up_by c.binds a o) ≡ true
       → (same_side q.side side.Read ≡ true) × (list_any (λ l. same_stream l.lower r.stream && eqb l.ctl.driver q.stream.driver) c.links ≡ true)
@@ -394,7 +395,7 @@ feeders drivers c q r sound keyed h = by (first_message c.flow r) h where
   muxed a t = elim (cases_Bool (is_mux drivers r.stream.driver)) [ inl k ↦ rw k at t | inr k ↦ let u : false ≡ true = rw k at t in absurd cc ]
 
   at : (a : ℕ) (x : Side) → is_one_of (same_place q) (next_by drivers c r.stream a x) ≡ true
-      → (same_side x q.side && cond (same_side q.side side.Write) (list_any (λ l. same_stream l.lower q.stream && eqb l.ctl.driver r.stream.driver) c.links) (list_any (λ l. same_stream l.lower r.stream && eqb l.ctl.driver q.stream.driver) c.links)) ≡ true
+      → (same_side x q.side && leads_to c r.stream q.stream q.side) ≡ true
   at a side.Write t = let p = down a (find (λ x. eqb x.driver r.stream.driver && eqb x.addr a) c.routes) refl (muxed a t) in rw (write q.side p.0) p.1
   at a side.Read t = let p = up a (find (λ l. same_stream l.lower r.stream) c.links) refl t in rw (read q.side p.0) p.1
 

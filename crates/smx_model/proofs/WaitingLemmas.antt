@@ -5,9 +5,6 @@ use Rattle.std.specs.Option.{is_some}
 use Rattle.std.specs.Prelude.{slice_get, if◌then◌else◌}
 use Rattle.std.proofs.lemmas.Bool.{cases_Bool, and_parts, and_from, or_left, false≢true}
 use Rattle.smx_types.specs.declared.driver.DriverSpec.{DriverSpec}
-use Rattle.smx_types.specs.declared.link.Binding.{Binding}
-use Rattle.smx_types.specs.declared.link.Link.{Link}
-use Rattle.smx_types.specs.declared.link.Route.{Route}
 use Rattle.smx_types.specs.declared.message.Message.{Message}
 use Rattle.smx_types.specs.declared.stream.Place.{Place}
 use Rattle.smx_types.specs.declared.stream.Side.{Side}

@@ -1,11 +1,13 @@
--- Places whose first messages wait, and marks at those that may not. The laws of run marks alone need this.
-use Rattle.std.specs.Prelude.{◌≡◌, ◌⊎◌, ℕ, Bool, true, false, ◌&&◌, ◌||◌, not, ◌==◌, if◌then◌else◌, List, Option, Some, None}
+-- Places whose first messages wait, and marks at those that may not. Only the laws of run marks need this.
+use Rattle.std.specs.Prelude.{◌≡◌, ◌⊎◌, ℕ, Bool, true, false, ◌&&◌, ◌||◌, not, ◌==◌, List, Option, Some, None}
 use Rattle.std.specs.List.{list_any}
 use Rattle.std.specs.Option.{is_some}
 use Rattle.smx_types.specs.declared.driver.DriverSpec.{DriverSpec}
 use Rattle.smx_types.specs.declared.message.Message.{Message}
 use Rattle.smx_types.specs.declared.stream.Place.{Place}
+use Rattle.smx_types.specs.declared.stream.Side.{Side}
 use Rattle.smx_types.specs.declared.stream.Side.TheVariants as side
+use Rattle.smx_types.specs.declared.stream.StreamId.{StreamId}
 use Rattle.smx_model.specs.Configuration.{Configuration, same_place, same_side, same_stream}
 use Rattle.smx_model.specs.Queues.{is_full, first_message}
 use Rattle.smx_model.specs.Settling.{next_place}
@@ -37,8 +39,8 @@ is_held_up c wanted (Some q) = is_full c q && wanted q
 abbrev pub is_waiting : List DriverSpec → Configuration → (Place → Bool) → Place → Bool
 is_waiting drivers c wanted p = is_held_up c wanted (next_of_first drivers c p)
 
--- each place without a run mark waits: so movable places have one, and so has a full place that holds up another's
--- first message, unless that other place has a run mark, a wanted mark (STREAMS guide: back-enabling, in kind)
+-- each place without a run mark waits: so movable places have one, and a full place that holds up the first message
+-- of a place without one has a wanted mark (STREAMS guide, back-enabling, in kind)
 abbrev pub AreMarked : List DriverSpec → Configuration → (Place → Bool) → (Place → Bool) → Type 0
 AreMarked drivers c run wanted = (p : Place) → run p ≡ false → is_waiting drivers c wanted p ≡ true
 
@@ -72,7 +74,8 @@ Stays was now = (now ≡ was) ⊎ (now ≡ None)
 
 -- but for the turned places, the first message of each goes next where the first one went before, or nowhere
 abbrev pub TurnsOnly : List DriverSpec → Configuration → Configuration → (Place → Bool) → Type 0
-TurnsOnly drivers old new turned = (p : Place) → turned p ≡ false → Stays (next_of_first drivers old p) (next_of_first drivers new p)
+TurnsOnly drivers old new turned =
+    (p : Place) → turned p ≡ false → Stays (next_of_first drivers old p) (next_of_first drivers new p)
 
 -- what a change wakes: the places that it turned, and those that feed a wanted place that it freed
 abbrev pub woken_by : List DriverSpec → Configuration → Configuration → (Place → Bool) → (Place → Bool) → Place → Bool
@@ -89,13 +92,23 @@ has_addr addr (Some m) = m.addr == addr
 
 -- the first message at a write side of the driver has this address
 abbrev pub asks_down : Configuration → ℕ → ℕ → Place → Bool
-asks_down c driver addr p = (same_side p.side side.Write && (p.stream.driver == driver)) && has_addr addr (first_message c.flow p)
+asks_down c driver addr p =
+    (same_side p.side side.Write && (p.stream.driver == driver)) && has_addr addr (first_message c.flow p)
+
+-- the stream is below a link of the driver
+abbrev pub is_below_driver : Configuration → ℕ → StreamId → Bool
+is_below_driver c driver s = list_any (λ l. same_stream l.lower s && (l.ctl.driver == driver)) c.links
 
 -- the first message at the read side of a stream below a link of the driver has this address
 abbrev pub asks_up : Configuration → ℕ → ℕ → Place → Bool
-asks_up c driver addr p = (same_side p.side side.Read && list_any (λ l. same_stream l.lower p.stream && (l.ctl.driver == driver)) c.links) && has_addr addr (first_message c.flow p)
+asks_up c driver addr p =
+    (same_side p.side side.Read && is_below_driver c driver p.stream) && has_addr addr (first_message c.flow p)
 
--- the places that can feed one: the write side of a stream below, the write sides of the driver above it; the read side
--- of a stream, the read sides of the streams below its driver
+-- a write side leads to those of the streams below its driver, a read side to those of the driver above it
+abbrev pub leads_to : Configuration → StreamId → StreamId → Side → Bool
+leads_to c from to side.Write = is_below_driver c from.driver to
+leads_to c from to side.Read = is_below_driver c to.driver from
+
+-- the places that can feed one
 abbrev pub can_feed : Configuration → Place → Place → Bool
-can_feed c q p = same_side p.side q.side && (if same_side q.side side.Write then list_any (λ l. same_stream l.lower q.stream && (l.ctl.driver == p.stream.driver)) c.links else list_any (λ l. same_stream l.lower p.stream && (l.ctl.driver == q.stream.driver)) c.links)
+can_feed c q p = same_side p.side q.side && leads_to c p.stream q.stream q.side

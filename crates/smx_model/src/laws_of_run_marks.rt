@@ -10,8 +10,9 @@ ghost use Rattle.smx_model.specs.FlowOrder.{IsInOrder};
 ghost use Rattle.smx_model.specs.KeptConfigurations.{IsSound};
 ghost use Rattle.smx_model.specs.KnownStreams.{IsKnown};
 ghost use Rattle.smx_model.specs.Queues.{after_leaving, first_message, is_full};
-ghost use Rattle.smx_model.specs.RunMarks.{AreMarked, TurnsOnly, all_but, both, can_feed, feeds, is_first_at};
-ghost use Rattle.smx_model.specs.RunMarks.{is_freed, is_next_of_first, is_waiting, next_of_first, wanted_after, woken_by};
+ghost use Rattle.smx_model.specs.RunMarks.{AreMarked, TurnsOnly, all_but, both, can_feed, feeds};
+ghost use Rattle.smx_model.specs.RunMarks.{is_first_at, is_freed, is_next_of_first, next_of_first};
+ghost use Rattle.smx_model.specs.RunMarks.{wanted_after, woken_by};
 ghost use Rattle.smx_model.specs.Settling.{after_move, is_movable, least_movable, next_open_place, IsSettled};
 ghost use Rattle.smx_model.specs.TurnedPlaces.{turned_by};
 
@@ -38,8 +39,8 @@ pub fn without_marks_it_is_settled()
 
 /// The least place with a run mark is the least movable one, if it is movable.
 pub fn the_least_marked_is_the_least()
-    ensures { (drivers : List DriverSpec) (c : Configuration) (run wanted : Place → Bool) (p : Place) → IsInOrder c.flow
-        → AreMarked drivers c run wanted → ((q : Place) → place_before q p ≡ true → run q ≡ false)
+    ensures { (drivers : List DriverSpec) (c : Configuration) (run wanted : Place → Bool) (p : Place)
+        → IsInOrder c.flow → AreMarked drivers c run wanted → ((q : Place) → place_before q p ≡ true → run q ≡ false)
         → is_movable drivers c p ≡ true → least_movable drivers c ≡ Some p }
 {
     the_first_is_the_least();
@@ -65,20 +66,23 @@ pub fn more_marks_do()
 pub fn a_change_wakes_few()
     ensures { (drivers : List DriverSpec) (old new : Configuration) (run wanted turned : Place → Bool)
         → AreMarked drivers old run wanted → TurnsOnly drivers old new turned
-        → AreMarked drivers new (both run (woken_by drivers old new wanted turned)) (wanted_after old new wanted) }
+        → AreMarked drivers new (both run (woken_by drivers old new wanted turned))
+        (wanted_after old new wanted) }
 {}
 
 /// Which places an accepted command turns.
 pub fn commands_turn_few()
-    ensures { (drivers : List DriverSpec) (c : Configuration) (process : ℕ) (command : Command) → IsSound drivers c
-        → IfOk (outcome drivers c process command) (λ x. TurnsOnly drivers c x.0 (turned_by drivers c process command)) }
+    ensures { (drivers : List DriverSpec) (c : Configuration) (process : ℕ) (command : Command)
+        → IsSound drivers c → IfOk (outcome drivers c process command) (λ x.
+        TurnsOnly drivers c x.0 (turned_by drivers c process command)) }
 {}
 
 /// A move turns the place that it takes from, and the place that it goes to, if that was empty.
 pub fn moves_turn_two()
     ensures { (drivers : List DriverSpec) (c : Configuration) (p q : Place) → IsInOrder c.flow
         → next_open_place drivers c p ≡ Some q
-        → TurnsOnly drivers c (after_move drivers c p) (both (same_place p) (is_first_at (after_leaving drivers c p) q)) }
+        → TurnsOnly drivers c (after_move drivers c p)
+        (both (same_place p) (is_first_at (after_leaving drivers c p) q)) }
 {}
 
 /// A move frees no other place than the one that it takes from.

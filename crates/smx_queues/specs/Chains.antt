@@ -20,7 +20,12 @@ walk s (suc n) key = walk_on (walk s n) (get s key)
 
 -- the queue that a chain is
 abbrev pub queue_of : Slab Node → Chain → Queue
-queue_of s chain = record { messages = walk s chain.count chain.first; full = chain.full; high = chain.high; low = chain.low }
+queue_of s chain = record {
+  messages = walk s chain.count chain.first;
+  full = chain.full;
+  high = chain.high;
+  low = chain.low;
+}
 
 -- the queue of a place that is there
 abbrev pub slot_of : Slab Node → Chain → Option Queue
@@ -132,10 +137,14 @@ no_chain = new_chain 0 0
 abbrev pub no_queue : Queue
 no_queue = empty_queue 0 0
 
+-- the chain of this number
+abbrev pub chain_at : List Chain → ℕ → Chain
+chain_at chains p = slice_index_or chains p no_chain
+
 -- the chains are these queues, and the store has their nodes and so many others
 pub record IsStore (own : ℕ → ℕ × ℕ) (s : Slab Node) (chains : List Chain) (queues : List Queue) (loose : ℕ) : Type 0 where
   pub as_many : length queues ≡ length chains
-  pub each : (p : ℕ) → p < length chains → IsQueue own s p (slice_index_or chains p no_chain) (slice_index_or queues p no_queue)
+  pub each : (p : ℕ) → p < length chains → IsQueue own s p (chain_at chains p) (slice_index_or queues p no_queue)
   pub counted : slab_len s ≡ sum_by (λ (chain : Chain). chain.count) chains + loose
 
 -- every node is in one chain

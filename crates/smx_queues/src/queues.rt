@@ -84,7 +84,8 @@ impl Queues {
     pub fn add_places(&mut self, count: usize, high: usize, low: usize) -> Result<(), NoMemory>
         requires low { low < high }
         requires high { high ≤ 4096 }
-        ensures added { OnOk result (self.new.queues ≡ self.old.queues ++ repeat count (Some (empty_queue high low) ∷ [])) }
+        ensures added { OnOk result (self.new.queues
+            ≡ self.old.queues ++ repeat count (Some (empty_queue high low) ∷ [])) }
         ensures err { OnErr result (self.new.queues ≡ self.old.queues) }
         ensures spare { self.new.spare ≡ self.old.spare }
     {
@@ -144,7 +145,8 @@ impl Queues {
         requires open { (queue_at self.old.queues p).full ≡ false }
         requires some { 0 < length message.bytes }
         requires spare { 0 < self.old.spare }
-        ensures put { self.new.queues ≡ with_queue self.old.queues p (with_arrival (queue_at self.old.queues p) message) }
+        ensures put { self.new.queues
+            ≡ with_queue self.old.queues p (with_arrival (queue_at self.old.queues p) message) }
         ensures spare { self.old.spare ≡ self.new.spare + 1 }
     {
         let _chains = &self.chains;
@@ -160,7 +162,8 @@ impl Queues {
         requires few { size < 2 ^ 63 }
         requires fits { bytes_of (queue_at self.old.queues p).messages + size < 2 ^ 64 }
         requires spare { 0 < self.old.spare }
-        ensures put { self.new.queues ≡ with_queue self.old.queues p (with_arrival (queue_at self.old.queues p) message) }
+        ensures put { self.new.queues
+            ≡ with_queue self.old.queues p (with_arrival (queue_at self.old.queues p) message) }
         ensures spare { self.old.spare ≡ self.new.spare + 1 }
     {
         let chain = self.chains[p];
@@ -174,7 +177,8 @@ impl Queues {
     pub fn take(&mut self, p: PlaceId) -> Option<Message>
         requires { IsPlace self.old.queues p }
         ensures taken { result ≡ slice_get (queue_at self.old.queues p).messages 0 }
-        ensures left { OnSome result (self.new.queues ≡ with_queue self.old.queues p (without_front (queue_at self.old.queues p))) }
+        ensures left { OnSome result (self.new.queues
+            ≡ with_queue self.old.queues p (without_front (queue_at self.old.queues p))) }
         ensures spare { OnSome result (self.new.spare ≡ self.old.spare + 1) }
         ensures none { IfNone result (self.new ≡ self.old) }
     {
@@ -216,7 +220,8 @@ impl Queues {
     /// All messages of the place are dropped, and it is not full. Takes no memory.
     pub fn clear(&mut self, p: PlaceId)
         requires { IsPlace self.old.queues p }
-        ensures cleared { self.new.queues ≡ with_queue self.old.queues p (emptied (queue_at self.old.queues p)) }
+        ensures cleared { self.new.queues
+            ≡ with_queue self.old.queues p (emptied (queue_at self.old.queues p)) }
         ensures spare { self.new.spare ≡ self.old.spare + length (queue_at self.old.queues p).messages }
     {
         while let Some(_message) = self.take(p) {}
@@ -227,7 +232,8 @@ impl Queues {
     fn unmark(&mut self, p: PlaceId)
         requires place { IsPlace self.old.queues p }
         requires none { (queue_at self.old.queues p).messages ≡ [] }
-        ensures unmarked { self.new.queues ≡ with_queue self.old.queues p (emptied (queue_at self.old.queues p)) }
+        ensures unmarked { self.new.queues
+            ≡ with_queue self.old.queues p (emptied (queue_at self.old.queues p)) }
         ensures spare { self.new.spare ≡ self.old.spare }
     {
         self.chains[p].full = false;

@@ -40,7 +40,8 @@ impl Queues {
     // is none of that number.
     fn add_copy(&mut self, others: &Queues, p: PlaceId, alloc: Global) -> Result<(), NoMemory>
         requires { p < length others.now.queues }
-        ensures { OnOk result (self.new.queues ≡ self.old.queues ++ slice_index_or others.now.queues p None ∷ []) }
+        ensures { OnOk result (self.new.queues
+            ≡ self.old.queues ++ slice_index_or others.now.queues p None ∷ []) }
     {
         let chain = others.chains[p];
         let to = self.chains.len();

@@ -90,8 +90,10 @@ impl Queues {
     /// memory.
     pub fn add_serials(&self, p: PlaceId, serials: &mut Vec<u32>)
         requires place { IsPlace self.now.queues p }
-        requires room { length serials.old.items + length (queue_at self.now.queues p).messages ≤ vec_capacity serials.old }
-        ensures added { serials.new.items ≡ serials.old.items ++ map (λ m. m.serial) (queue_at self.now.queues p).messages }
+        requires room { length serials.old.items + length (queue_at self.now.queues p).messages
+            ≤ vec_capacity serials.old }
+        ensures added { serials.new.items
+            ≡ serials.old.items ++ map (λ m. m.serial) (queue_at self.now.queues p).messages }
         ensures capacity { vec_capacity serials.new ≡ vec_capacity serials.old }
     {
         let mut rest = self.messages(p);

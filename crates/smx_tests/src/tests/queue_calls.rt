@@ -19,12 +19,7 @@ fn bytes(alloc: Global, size: usize) -> Result<Bytes, Fail> {
 }
 
 /// A place with these marks.
-pub fn add(
-    rt: &impl Print,
-    queues: &mut Queues,
-    high: usize,
-    low: usize,
-) -> Result<usize, Fail> {
+pub fn add(rt: &impl Print, queues: &mut Queues, high: usize, low: usize) -> Result<usize, Fail> {
     if low >= high || high > 4096 {
         return Err(Fail::new("no marks"));
     }

@@ -1,6 +1,8 @@
 //! Queues of places: what arrives, leaves and moves, and the marks.
 
-use super::queue_calls::{add, add_all, clear, copied, has, listed, move_front, put, put_by_spare, take};
+use super::queue_calls::{
+    add, add_all, clear, copied, has, listed, move_front, put, put_by_spare, take,
+};
 use smx_queues::Queues;
 use smx_types::{Bytes, Message};
 use std::alloc::Global;
@@ -76,7 +78,12 @@ fn marks_across_one_move(rt: HostRuntime) -> Result<(), Fail> {
 }
 
 // A message of one byte for each serial from 1 on.
-fn fill(rt: &(impl AllocGlobal + Print), queues: &mut Queues, p: usize, count: u32) -> Result<(), Fail> {
+fn fill(
+    rt: &(impl AllocGlobal + Print),
+    queues: &mut Queues,
+    p: usize,
+    count: u32,
+) -> Result<(), Fail> {
     for serial in 1..count + 1 {
         put(rt, queues, p, serial, 1)?;
     }
