@@ -84,8 +84,8 @@ fn fill(
     p: usize,
     count: u32,
 ) -> Result<(), Fail> {
-    for serial in 1..count + 1 {
-        put(rt, queues, p, serial, 1)?;
+    for before in 0..count {
+        put(rt, queues, p, before + 1, 1)?;
     }
     Ok(())
 }
