@@ -1,4 +1,9 @@
+pub mod Calls
 pub mod CloseFaults
 pub mod FaultWords
+pub mod Fronts
 pub mod Recorded
 pub mod Seats
+pub mod SeatViews
+pub mod TryFaults
+pub mod TurnRule
