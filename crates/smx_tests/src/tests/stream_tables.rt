@@ -39,9 +39,7 @@ fn pair(stream: StreamId) -> (u8, u8) {
     (stream.driver, stream.minor)
 }
 
-fn given(
-    answer: Result<(u32, StreamId), StreamFault>,
-) -> Result<(u32, (u8, u8)), StreamFault> {
+fn given(answer: Result<(u32, StreamId), StreamFault>) -> Result<(u32, (u8, u8)), StreamFault> {
     match answer {
         Ok((fd, stream)) => Ok((fd, pair(stream))),
         Err(fault) => Err(fault),
@@ -62,13 +60,16 @@ fn of(answer: Option<StreamId>) -> Option<(u8, u8)> {
     }
 }
 
-fn act(rt: &impl Abort, table: &mut Streams, act: Act) {
+fn do_act(rt: &impl Abort, table: &mut Streams, act: Act) {
     match act {
         Act::Clone(p, driver, wanted) => {
             assert_eq!(rt; given(table.open_clone(process(rt, p), driver)), wanted);
         }
         Act::Minor(p, driver, minor, wanted) => {
-            assert_eq!(rt; given(table.open_minor(process(rt, p), driver, minor)), wanted);
+            assert_eq!(rt;
+                given(table.open_minor(process(rt, p), driver, minor)),
+                wanted
+            );
         }
         Act::Dup(p, fd, wanted) => {
             assert_eq!(rt; given(table.dup(process(rt, p), fd)), wanted);
@@ -87,9 +88,9 @@ fn act(rt: &impl Abort, table: &mut Streams, act: Act) {
 }
 
 /// Does each in turn.
-pub fn act_all(rt: &impl Abort, table: &mut Streams, acts: &[Act]) {
+pub fn do_acts(rt: &impl Abort, table: &mut Streams, acts: &[Act]) {
     for each in acts {
-        act(rt, table, *each);
+        do_act(rt, table, *each);
     }
 }
 
@@ -122,17 +123,17 @@ const AFTERWARDS: [Act; 3] = [
 #[test]
 fn a_held_stream_stays(rt: HostRuntime) -> Result<(), Fail> {
     let mut table = Streams::new(rt.alloc(), &[2, 1]).ok().ok_or("memory")?;
-    act_all(&rt, &mut table, &OPENED);
+    do_acts(&rt, &mut table, &OPENED);
     let held = stream((0, 0));
     assert!(rt; table.exists(held) && table.holds_of(held) == 0);
     table.hold(held);
-    act_all(&rt, &mut table, &CLOSED);
+    do_acts(&rt, &mut table, &CLOSED);
     assert_eq!(rt; table.holds_of(held), 1);
     let mut again = table.copy().ok().ok_or("memory")?;
     assert!(rt; table.release(held));
-    act_all(&rt, &mut table, &AFTERWARDS);
+    do_acts(&rt, &mut table, &AFTERWARDS);
     assert!(rt; again.holds_of(held) == 1 && again.release(held));
-    act_all(&rt, &mut again, &AFTERWARDS);
+    do_acts(&rt, &mut again, &AFTERWARDS);
     Ok(())
 }
 
@@ -150,7 +151,7 @@ const REFUSED: [Act; 8] = [
 #[test]
 fn refused_opens_leave_nothing(rt: HostRuntime) -> Result<(), Fail> {
     let mut table = Streams::new(rt.alloc(), &[2, 1]).ok().ok_or("memory")?;
-    act_all(&rt, &mut table, &REFUSED);
+    do_acts(&rt, &mut table, &REFUSED);
     Ok(())
 }
 
@@ -168,6 +169,12 @@ fn the_table_in_use(rt: HostRuntime) -> Result<(), Fail> {
     assert!(rt; streams.exists(stream) && streams.holds_of(stream) == 0);
     streams.hold(stream);
     let closed = streams.close_fd(process, 0);
-    assert_eq!(rt; closed, Some(Closed { stream, last: false }));
+    assert_eq!(rt;
+        closed,
+        Some(Closed {
+            stream,
+            last: false
+        })
+    );
     Ok(())
 }

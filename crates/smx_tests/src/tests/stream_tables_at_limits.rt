@@ -1,6 +1,6 @@
 //! Tables of streams at their limits: 64 processes with 16 descriptors each, and 128 drivers.
 
-use super::stream_tables::{Act, act_all};
+use super::stream_tables::{Act, do_acts};
 use smx_streams::{StreamFault, Streams};
 use std::test::Fail;
 
@@ -9,9 +9,13 @@ use std::test::Fail;
 fn the_most_descriptors(rt: HostRuntime) -> Result<(), Fail> {
     let mut table = Streams::new(rt.alloc(), &[64, 1]).ok().ok_or("memory")?;
     for p in 0..64u32 {
-        act_all(&rt, &mut table, &[Act::Clone(p, 0, Ok((0, (0, p as u8))))]);
+        do_acts(&rt, &mut table, &[Act::Clone(p, 0, Ok((0, (0, p as u8))))]);
         for fd in 1..16u32 {
-            act_all(&rt, &mut table, &[Act::Dup(p, fd - 1, Ok((fd, (0, p as u8))))]);
+            do_acts(
+                &rt,
+                &mut table,
+                &[Act::Dup(p, fd - 1, Ok((fd, (0, p as u8))))],
+            );
         }
         let full = [
             Act::Dup(p, 15, Err(StreamFault::TooManyDescriptors)),
@@ -20,7 +24,7 @@ fn the_most_descriptors(rt: HostRuntime) -> Result<(), Fail> {
             Act::Minor(p, 0, 0, Err(StreamFault::TooManyDescriptors)),
             Act::Exists((1, 0), false),
         ];
-        act_all(&rt, &mut table, &full);
+        do_acts(&rt, &mut table, &full);
     }
     let mut again = table.copy().ok().ok_or("memory")?;
     let reused = [
@@ -30,8 +34,8 @@ fn the_most_descriptors(rt: HostRuntime) -> Result<(), Fail> {
         Act::Close(63, 15, Some(((0, 63), false))),
         Act::Clone(63, 1, Ok((15, (1, 0)))),
     ];
-    act_all(&rt, &mut table, &reused);
-    act_all(&rt, &mut again, &reused);
+    do_acts(&rt, &mut table, &reused);
+    do_acts(&rt, &mut again, &reused);
     Ok(())
 }
 
@@ -47,6 +51,6 @@ fn the_most_drivers(rt: HostRuntime) -> Result<(), Fail> {
         Act::Clone(0, 127, Ok((1, (127, 0)))),
         Act::Clone(0, 128, Err(StreamFault::NoDriver)),
     ];
-    act_all(&rt, &mut table, &acts);
+    do_acts(&rt, &mut table, &acts);
     Ok(())
 }
