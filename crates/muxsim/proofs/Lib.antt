@@ -1,3 +1,4 @@
 pub mod InputLemmas
 pub mod OutputLemmas
 pub mod FilterLemmas
+pub mod FrontsTextLemmas
