@@ -16,6 +16,8 @@ mod program_faults;
 mod program_texts;
 mod refused_drivers;
 mod runs;
+mod stream_tables;
+mod stream_tables_at_limits;
 mod sweeps;
 mod system_lines;
 mod systems;

@@ -56,7 +56,7 @@ fn try_link(
     table.try_link(ctl, lower, kind)
 }
 
-fn act(rt: &impl Abort, table: &mut LinkTable, drivers: u8, act: Act)
+fn do_act(rt: &impl Abort, table: &mut LinkTable, drivers: u8, act: Act)
     requires { table.old.drivers ≡ drivers }
     ensures { table.new.drivers ≡ drivers }
 {
@@ -85,12 +85,12 @@ fn act(rt: &impl Abort, table: &mut LinkTable, drivers: u8, act: Act)
 }
 
 /// Does each in turn.
-pub fn act_all(rt: &impl Abort, table: &mut LinkTable, drivers: u8, acts: &[Act])
+pub fn do_acts(rt: &impl Abort, table: &mut LinkTable, drivers: u8, acts: &[Act])
     requires { table.old.drivers ≡ drivers }
     ensures { table.new.drivers ≡ drivers }
 {
     for each in acts {
-        act(rt, table, drivers, *each);
+        do_act(rt, table, drivers, *each);
     }
 }
 
@@ -117,7 +117,7 @@ const OF_THREE_DRIVERS: [Act; 17] = [
 #[test]
 fn links_of_three_drivers(rt: HostRuntime) -> Result<(), Fail> {
     let mut table = LinkTable::new(rt.alloc(), 3).ok().ok_or("memory")?;
-    act_all(&rt, &mut table, 3, &OF_THREE_DRIVERS);
+    do_acts(&rt, &mut table, 3, &OF_THREE_DRIVERS);
     assert_eq!(rt; table.next_id(), 4);
     Ok(())
 }
@@ -142,7 +142,7 @@ const OVER_TWO_LINKS: [Act; 13] = [
 #[test]
 fn links_that_share_a_path(rt: HostRuntime) -> Result<(), Fail> {
     let mut table = LinkTable::new(rt.alloc(), 4).ok().ok_or("memory")?;
-    act_all(&rt, &mut table, 4, &OVER_TWO_LINKS);
+    do_acts(&rt, &mut table, 4, &OVER_TWO_LINKS);
     Ok(())
 }
 
@@ -159,10 +159,10 @@ const THE_SAME: [Act; 6] = [
 #[test]
 fn a_copy_goes_on_by_itself(rt: HostRuntime) -> Result<(), Fail> {
     let mut table = LinkTable::new(rt.alloc(), 3).ok().ok_or("memory")?;
-    act_all(&rt, &mut table, 3, &OF_THREE_DRIVERS);
+    do_acts(&rt, &mut table, 3, &OF_THREE_DRIVERS);
     let mut again = table.copy().ok().ok_or("memory")?;
-    act_all(&rt, &mut table, 3, &THE_SAME);
-    act_all(&rt, &mut again, 3, &THE_SAME);
+    do_acts(&rt, &mut table, 3, &THE_SAME);
+    do_acts(&rt, &mut again, 3, &THE_SAME);
     Ok(())
 }
 
@@ -184,7 +184,7 @@ fn several_go_at_once(rt: HostRuntime) -> Result<(), Fail> {
         Act::Link((1, 1), (2, 0), Ok(2)),
         Act::Link((0, 0), (3, 0), Ok(3)),
     ];
-    act_all(&rt, &mut table, 4, &made);
+    do_acts(&rt, &mut table, 4, &made);
     table.remove_each(&[3, 9, 1]);
     let left = [
         Act::Count(1),
@@ -194,7 +194,7 @@ fn several_go_at_once(rt: HostRuntime) -> Result<(), Fail> {
         Act::Reaches(1, 2, true),
         Act::Link((0, 0), (1, 0), Ok(4)),
     ];
-    act_all(&rt, &mut table, 4, &left);
+    do_acts(&rt, &mut table, 4, &left);
     Ok(())
 }
 

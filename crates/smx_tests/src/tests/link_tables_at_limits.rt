@@ -2,7 +2,7 @@
 
 ghost use Rattle.std.specs.Prelude.{◌≡◌};
 
-use super::link_tables::{Act, act_all};
+use super::link_tables::{Act, do_acts};
 use smx_links::{LinkFault, LinkTable};
 use std::alloc::Global;
 use std::process::Abort;
@@ -20,7 +20,7 @@ fn add(rt: &impl Abort, table: &mut LinkTable, k: u32, upper: u8, lower: (u8, u8
     ensures { table.new.drivers ≡ 64 }
 {
     assert!(rt; k < 1_024);
-    act_all(rt, table, 64, &[Act::Plink((upper, 255), lower, Ok(k + 1))]);
+    do_acts(rt, table, 64, &[Act::Plink((upper, 255), lower, Ok(k + 1))]);
 }
 
 // No link more, but Already and Cycle are told first; and where one has gone there is one more.
@@ -38,7 +38,7 @@ fn is_full(rt: &impl Abort, table: &mut LinkTable, upper: u8, lower: (u8, u8))
         Act::Link((upper, 255), (63, 200), Ok(1_025)),
         Act::Count(1_024),
     ];
-    act_all(rt, table, 64, &acts);
+    do_acts(rt, table, 64, &acts);
 }
 
 // Each driver over the next one, by as many streams as it takes.
@@ -55,7 +55,7 @@ fn a_chain(rt: HostRuntime) -> Result<(), Fail> {
         Act::Reaches(63, 0, false),
         Act::Reaches(31, 30, false),
     ];
-    act_all(&rt, &mut table, 64, &reached);
+    do_acts(&rt, &mut table, 64, &reached);
     is_full(&rt, &mut table, 0, (1, 1));
     Ok(())
 }
@@ -72,7 +72,7 @@ fn a_fan(rt: HostRuntime) -> Result<(), Fail> {
         Act::Reaches(1, 2, false),
         Act::Reaches(63, 0, false),
     ];
-    act_all(&rt, &mut table, 64, &reached);
+    do_acts(&rt, &mut table, 64, &reached);
     is_full(&rt, &mut table, 0, (1, 1));
     Ok(())
 }
@@ -98,7 +98,7 @@ fn a_ladder(rt: HostRuntime) -> Result<(), Fail> {
         Act::Reaches(62, 63, false),
         Act::Reaches(63, 62, false),
     ];
-    act_all(&rt, &mut table, 64, &reached);
+    do_acts(&rt, &mut table, 64, &reached);
     is_full(&rt, &mut table, 0, (1, 0));
     Ok(())
 }
