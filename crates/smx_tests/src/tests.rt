@@ -14,6 +14,7 @@ mod program_faults;
 mod program_texts;
 mod refused_drivers;
 mod runs;
+mod shared;
 mod sweeps;
 mod system_lines;
 mod systems;
