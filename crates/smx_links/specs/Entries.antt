@@ -23,4 +23,5 @@ IsWithin n l = (l.ctl.driver < n) × (l.lower.driver < n)
 
 -- the link with the id is there, or there is none
 abbrev pub IsPlace : List Link → ℕ → Option ℕ → Type 0
-IsPlace ls id r = MatchOption r (find (λ l. l.id == id) ls ≡ None) (λ i. (i < length ls) × HoldsAt (λ l. l.id ≡ id) ls i)
+IsPlace ls id r =
+    MatchOption r (find (λ l. l.id == id) ls ≡ None) (λ i. (i < length ls) × HoldsAt (λ l. l.id ≡ id) ls i)

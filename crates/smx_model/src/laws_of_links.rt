@@ -53,7 +53,8 @@ pub fn linking_takes_the_next_id()
 pub fn fewer_links_stay_sound()
     ensures order { (links : List Link) (stays : Link → Bool) → IsRising (λ l k. nat_lt l.id k.id) links
         → IsRising (λ l k. nat_lt l.id k.id) (filter stays links) }
-    ensures sound { (links : List Link) (stays : Link → Bool) → AreLinksSound links → AreLinksSound (filter stays links) }
+    ensures sound { (links : List Link) (stays : Link → Bool) → AreLinksSound links
+        → AreLinksSound (filter stays links) }
     ensures ids { (links : List Link) (stays : Link → Bool) (next_id : ℕ) → AreIdsRising links next_id
         → AreIdsRising (filter stays links) next_id }
 {}

@@ -69,7 +69,8 @@ pub record IsRecord (s : StreamId) (r : Record) : Type 0 where
 
 -- each key leads to the record of its stream, and each record has its key there
 pub record AreRecords (grid : Grid) (records : Slab Record) : Type 0 where
-  pub listed : (s : StreamId) (key : ℕ) → key_at grid s ≡ Some key → (r : Record) × (get records key ≡ Some r) × IsRecord s r
+  pub listed : (s : StreamId) (key : ℕ) → key_at grid s ≡ Some key
+      → (r : Record) × (get records key ≡ Some r) × IsRecord s r
   pub recorded : (key : ℕ) (r : Record) → get records key ≡ Some r → key_at grid r.stream ≡ Some key
 
 -- a record's numbers are those of its stream, and no others changed

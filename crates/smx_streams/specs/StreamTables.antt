@@ -40,7 +40,8 @@ least_fd fds process = find (λ n. not (list_any (is_fd process n) fds)) (range_
 
 -- the least minor of the driver whose stream has neither a descriptor nor a hold
 abbrev pub least_minor : StreamTable → ℕ → Option ℕ
-least_minor t driver = find (λ m. not (exists t (record { driver = driver; minor = m }))) (range_with_len 0 (slice_index t.minors driver))
+least_minor t driver =
+    find (λ m. not (exists t (record { driver = driver; minor = m }))) (range_with_len 0 (slice_index t.minors driver))
 
 -- a number and a stream, or the first refusal that applies
 abbrev pub Answer : Type 0
@@ -55,7 +56,8 @@ numbered t process s = given (least_fd t.fds process) where
 
 -- what a clone open is answered
 abbrev pub clone_answer : StreamTable → ℕ → ℕ → Answer
-clone_answer t process driver = if nat_le (length t.minors) driver then Err fault.NoDriver else given (least_minor t driver) where
+clone_answer t process driver =
+    if nat_le (length t.minors) driver then Err fault.NoDriver else given (least_minor t driver) where
   given : Option ℕ → Answer
   given (Some m) = numbered t process (record { driver = driver; minor = m })
   given None = Err fault.NoMinor

@@ -128,7 +128,8 @@ impl Descriptors {
     pub fn put(&mut self, process: Process, fd: u32, stream: StreamId)
         requires room { fd < slice_index self.old.rooms process }
         requires free { list_any (is_fd process fd) self.old.fds ≡ false }
-        ensures { self.new.fds ≡ with_inserted fd_before self.old.fds (record { process = process; fd = fd; stream = stream }) }
+        ensures { self.new.fds
+            ≡ with_inserted fd_before self.old.fds (record { process = process; fd = fd; stream = stream }) }
     {
         let _number = process.get();
         set_cell(&mut self.processes, process, fd, Some(stream));

@@ -191,7 +191,8 @@ impl Records {
     pub fn open(&mut self, stream: StreamId) -> Result<(), NoMemory>
         requires range { is_in_range self.old.minors stream.driver stream.minor ≡ true }
         requires few { number_at self.old.opens stream ≤ 1024 }
-        ensures ok { OnOk result (AreSet self.old stream (number_at self.old.opens stream + 1) (number_at self.old.holds stream) self.new) }
+        ensures ok { OnOk result (AreSet self.old stream (number_at self.old.opens stream + 1)
+            (number_at self.old.holds stream) self.new) }
         ensures err { OnErr result (self.new ≡ self.old) }
         ensures in_place { 0 < number_at self.old.opens stream → IsOk result }
     {
@@ -240,7 +241,8 @@ impl Records {
 
     /// What every table of records is: a stream that has some is in range.
     pub fn is_sound(&self)
-        ensures { (s : StreamId) → 0 < number_at self.now.opens s → is_in_range self.now.minors s.driver s.minor ≡ true }
+        ensures { (s : StreamId) → 0 < number_at self.now.opens s
+            → is_in_range self.now.minors s.driver s.minor ≡ true }
     {
         let _records = &self.records;
     }

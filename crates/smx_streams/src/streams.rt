@@ -124,10 +124,12 @@ impl Streams {
     // The least number that is free for a stream, given to it.
     fn give(&mut self, process: Process, stream: StreamId) -> Result<(u32, StreamId), StreamFault>
         requires range { is_in_range self.old.minors stream.driver stream.minor ≡ true }
-        ensures ok { IfOk result (λ x. (numbered self.old process stream ≡ Ok x) × HasOneMore self.old process x.0 x.1 self.new) }
+        ensures ok { IfOk result (λ x.
+            (numbered self.old process stream ≡ Ok x) × HasOneMore self.old process x.0 x.1 self.new) }
         ensures err { IfErr result (IsRefused (numbered self.old process stream)) }
         ensures unchanged { OnErr result (self.new ≡ self.old) }
-        ensures in_place { (n : ℕ) → stream_at self.old.fds process n ≡ Some stream → IfErr result (λ f. numbered self.old process stream ≡ Err f) }
+        ensures in_place { (n : ℕ) → stream_at self.old.fds process n ≡ Some stream
+            → IfErr result (λ f. numbered self.old process stream ≡ Err f) }
     {
         let Some(fd) = self.descriptors.least_free(process) else {
             return Err(StreamFault::TooManyDescriptors);
@@ -144,7 +146,8 @@ impl Streams {
         process: Process,
         driver: u8,
     ) -> Result<(u32, StreamId), StreamFault>
-        ensures ok { IfOk result (λ x. (clone_answer self.old process driver ≡ Ok x) × HasOneMore self.old process x.0 x.1 self.new) }
+        ensures ok { IfOk result (λ x.
+            (clone_answer self.old process driver ≡ Ok x) × HasOneMore self.old process x.0 x.1 self.new) }
         ensures err { IfErr result (IsRefused (clone_answer self.old process driver)) }
         ensures unchanged { OnErr result (self.new ≡ self.old) }
     {
@@ -166,7 +169,8 @@ impl Streams {
         driver: u8,
         minor: u32,
     ) -> Result<(u32, StreamId), StreamFault>
-        ensures ok { IfOk result (λ x. (minor_answer self.old process driver minor ≡ Ok x) × HasOneMore self.old process x.0 x.1 self.new) }
+        ensures ok { IfOk result (λ x.
+            (minor_answer self.old process driver minor ≡ Ok x) × HasOneMore self.old process x.0 x.1 self.new) }
         ensures err { IfErr result (IsRefused (minor_answer self.old process driver minor)) }
         ensures unchanged { OnErr result (self.new ≡ self.old) }
     {

@@ -21,6 +21,7 @@ mod queues;
 mod refused_drivers;
 mod runs;
 mod seats;
+mod shared;
 mod stream_tables;
 mod stream_tables_at_limits;
 mod sweeps;
