@@ -58,9 +58,9 @@ numbered t process s = given (least_fd t.fds process) where
 abbrev pub clone_answer : StreamTable → ℕ → ℕ → Answer
 clone_answer t process driver =
     if nat_le (length t.minors) driver then Err fault.NoDriver else given (least_minor t driver) where
-  given : Option ℕ → Answer
-  given (Some m) = numbered t process (record { driver = driver; minor = m })
-  given None = Err fault.NoMinor
+      given : Option ℕ → Answer
+      given (Some m) = numbered t process (record { driver = driver; minor = m })
+      given None = Err fault.NoMinor
 
 -- what an open of a minor is answered
 abbrev pub minor_answer : StreamTable → ℕ → ℕ → ℕ → Answer
