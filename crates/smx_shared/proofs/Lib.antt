@@ -1,3 +1,9 @@
+pub mod CallLemmas
+pub mod MetSeatLemmas
+pub mod OwnEntryLemmas
 pub mod RecordLemmas
-pub mod SeatLemmas
+pub mod SeatListLemmas
+pub mod StepLemmas
+pub mod TellLemmas
+pub mod WordLemmas
 pub mod WorkedSystemLemmas
