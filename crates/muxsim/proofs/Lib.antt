@@ -2,4 +2,3 @@ pub mod InputLemmas
 pub mod OutputLemmas
 pub mod FilterLemmas
 pub mod InMemoryLemmas
-pub mod FrontsTextLemmas

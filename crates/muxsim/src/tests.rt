@@ -11,5 +11,4 @@ mod reading;
 mod runs;
 mod tried_again;
 mod words;
-mod workers;
 mod writing;

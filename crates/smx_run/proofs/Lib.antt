@@ -1,4 +1,4 @@
 pub mod GatheringLemmas
 pub mod HandLemmas
 pub mod ProgramOrderLemmas
-pub mod RunLemmas
+pub mod TranscriptLemmas

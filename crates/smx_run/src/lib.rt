@@ -6,7 +6,6 @@ mod fault;
 mod gate;
 mod gathering;
 mod hands;
-mod meeting;
 mod report;
 mod run;
 #[cfg(test)]

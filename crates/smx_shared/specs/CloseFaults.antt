@@ -7,10 +7,6 @@ use Rattle.smx_shared.specs.declared.close_fault.CloseFault.TheVariants.{Held}
 abbrev pub IsHeld : CloseFault → Type 0
 IsHeld (Held front) = front.held ≡ true
 
--- that somebody has the turn
-abbrev pub turn_held_words : List ℕ
-turn_held_words = codes "turn held"
-
 -- the words in which it prints itself
-abbrev pub close_fault_words : CloseFault → List ℕ
-close_fault_words (Held front) = turn_held_words
+abbrev pub close_fault_words : List ℕ
+close_fault_words = codes "turn held"

@@ -1,7 +1,6 @@
 //! Worked histories whole. They pass with any one growth refused too, and tests/refused_growths runs them so.
 
 use super::history_lines::{Answer, Call, JOIN, Line, entry_of, play, play_twice, shows};
-use super::queues::marks_across_a_move;
 use super::system_lines::{play as play_by, system_of_twenty};
 use super::values::{eth, ip, ip_and_eth, nothing_open};
 use super::views::held_above;
@@ -134,9 +133,4 @@ fn deliveries_twice(rt: HostRuntime) -> Result<(), Fail> {
     play_twice(&rt, &mut config, &DELIVERIES)?;
     play_twice(&rt, &mut config, &[(Call::Exit, Answer::Done(&[]))])?;
     shows(&config, nothing_open(rt.alloc(), 1, 3))
-}
-
-#[test]
-fn marks_across_a_move_of_queues(rt: HostRuntime) -> Result<(), Fail> {
-    marks_across_a_move(&rt)
 }

@@ -1,4 +1,0 @@
-pub mod Masks
-pub mod Entries
-pub mod LinkLists
-pub mod TableFields

@@ -1,2 +1,0 @@
-pub mod QueueTable
-pub mod Chains

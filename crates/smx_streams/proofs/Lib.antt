@@ -1,6 +1,0 @@
-pub mod ListLemmas
-pub mod RowLemmas
-pub mod RowOrderLemmas
-pub mod GridLemmas
-pub mod RecordLemmas
-pub mod NameLemmas

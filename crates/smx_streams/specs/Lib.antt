@@ -1,5 +1,0 @@
-pub mod Numbers
-pub mod DescriptorRows
-pub mod StreamTables
-pub mod RecordGrids
-pub mod TableFields
