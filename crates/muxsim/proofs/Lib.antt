@@ -2,3 +2,4 @@ pub mod InputLemmas
 pub mod OutputLemmas
 pub mod FilterLemmas
 pub mod InMemoryLemmas
+pub mod FrontsTextLemmas

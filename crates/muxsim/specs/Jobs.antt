@@ -1,9 +1,9 @@
 -- Which jobs can be done.
-use Rattle.std.specs.Prelude.{◌≡◌, ◌≤◌, false}
+use Rattle.std.specs.Prelude.{◌≤◌}
 use Rattle.muxsim.specs.declared.jobs.Job.{Job}
 use Rattle.muxsim.specs.declared.jobs.Job.TheVariants.{Run, Check}
 
--- a run has 1 to 64 workers and writes the transcript; a check asks for nothing
+-- a run has 1 to 64 workers; a check asks for nothing
 abbrev pub CanRun : Job → Type 0
-CanRun (Run workers fronts) = (1 ≤ workers) × (workers ≤ 64) × (fronts ≡ false)
+CanRun (Run workers fronts) = (1 ≤ workers) × (workers ≤ 64)
 CanRun Check = Unit {0}

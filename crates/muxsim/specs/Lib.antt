@@ -3,6 +3,7 @@ pub mod Input
 pub mod Output
 pub mod Jobs
 pub mod Filters
+pub mod FrontsText
 pub mod RunText
 pub mod CheckText
 pub mod WorkedVerdicts

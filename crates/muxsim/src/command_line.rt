@@ -4,7 +4,7 @@ ghost use Rattle.std.specs.Prelude.{◌≤◌, IfOk};
 ghost use Rattle.muxsim.specs.Jobs.{CanRun};
 
 use crate::jobs::Job;
-use clap::{Arg, ArgMatches, Command, Error, value_parser};
+use clap::{Arg, ArgAction, ArgMatches, Command, Error, value_parser};
 use std::alloc::{AllocError, Global};
 use std::convert::AsStr;
 
@@ -18,10 +18,10 @@ const VERSION: &str = "0.1.0";
 const SEE: &str =
     "Exit status: 0 done or legal, 1 refused, 2 wrong words, 3 wrong text, 4 illegal or differing,
 5 input or output failed.
-Both texts are in docs/FORMATS.md, commands and replies in docs/COMMANDS.md, and more in docs/MUXSIM.md.";
+The texts are in docs/FORMATS.md, commands and replies in docs/COMMANDS.md, and more in docs/MUXSIM.md.";
 
 /// What the words ask for, of which the first is the program's name. Any other words than `run`, with
-/// `--workers` or without, and `check` are clap's error, and so is a request for help or the version; want
+/// `--workers` and `--fronts` or without, and `check` are clap's error, and so is a request for help or the version; want
 /// of memory is its kind `OutOfMemory`.
 pub fn job<'a, S: AsStr>(alloc: Global, words: &'a [S]) -> Result<Job, Error>
     ensures { IfOk result CanRun }
@@ -30,7 +30,7 @@ pub fn job<'a, S: AsStr>(alloc: Global, words: &'a [S]) -> Result<Job, Error>
     match matches.subcommand_matches("run") {
         Some(run) => Ok(Job::Run {
             workers: workers_of(run),
-            fronts: false,
+            fronts: run.get_flag("fronts"),
         }),
         None => Ok(Job::Check),
     }
@@ -64,7 +64,7 @@ fn program<'a>(alloc: Global) -> Result<Command<'a>, AllocError> {
         .about("Simulate a STREAMS multiplexer configuration with persistent links")
         .after_help(SEE)
         .subcommand_required(true)
-        .subcommand(run.arg(workers(alloc))?)?
+        .subcommand(run.arg(workers(alloc))?.arg(fronts(alloc))?)?
         .subcommand(check)
 }
 
@@ -81,4 +81,12 @@ fn workers<'a>(alloc: Global) -> Arg<'a> {
         .help("How many threads run the programs, 1 to 64")
         .value_parser(value_parser!(usize).range(1..=64))
         .default_value("1")
+}
+
+// The option that has the fronts written.
+fn fronts<'a>(alloc: Global) -> Arg<'a> {
+    Arg::new(alloc, "fronts")
+        .long("fronts")
+        .help("Write the fronts text in place of the transcript")
+        .action(ArgAction::SetTrue)
 }

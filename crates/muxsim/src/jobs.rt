@@ -8,11 +8,11 @@ use smx_config::Verdict;
 /// What the program is asked to do.
 #[derive(Clone, Copy, Debug, PartialEq, Eq)]
 pub enum Job {
-    /// To run the programs of the input and to write their transcript.
+    /// To run the programs of the input and to write their transcript, or their fronts.
     Run {
         /// How many workers run them, 1 to 64.
         workers: usize,
-        /// Always false: a run writes the transcript.
+        /// Whether the fronts are written in place of the transcript.
         fronts: bool,
     },
     /// To judge the transcript of the input and to write the verdict.
@@ -22,7 +22,7 @@ pub enum Job {
 /// What the program has done.
 #[derive(Clone, Copy, Debug, PartialEq, Eq)]
 pub enum Done {
-    /// All that it was asked: a transcript, help or the version was written.
+    /// All that it was asked: a transcript, fronts, help or the version was written.
     Finished,
     /// It has judged a transcript, and written the verdict.
     Judged(Verdict),

@@ -9,17 +9,17 @@ ghost use Rattle.muxsim.specs.declared.fault.MainFault.{MainFault};
 ghost use Rattle.muxsim.specs.declared.fault.MainFault.TheVariants.{ReadFailed};
 
 /// What a run says of an input in memory, by devices that don't fail; where the reader fails it says so and writes
-/// nothing, and where the writer fails a beginning of the transcript is out.
+/// nothing, and where the writer fails a beginning of what it writes is out.
 pub fn runs_end_in_memory()
-    ensures ends { (input left output : List ℕ) (ended flushed : Bool) (answer : Result (Unit {0}) MainFault)
-        → RunsText (Some input) (Some left) ended 0 (Some []) (Some output) flushed 0 answer
-        → EndsInMemory running input left output flushed answer }
-    ensures unread { (input left output : List ℕ) (ended flushed : Bool) (answer : Result (Unit {0}) MainFault)
-        → RunsText (Some input) (Some left) ended 1 (Some []) (Some output) flushed 0 answer
+    ensures ends { (input left output : List ℕ) (fronts ended flushed : Bool) (answer : Result (Unit {0}) MainFault)
+        → RunsText fronts (Some input) (Some left) ended 0 (Some []) (Some output) flushed 0 answer
+        → EndsInMemory (running fronts) input left output flushed answer }
+    ensures unread { (input left output : List ℕ) (fronts ended flushed : Bool) (answer : Result (Unit {0}) MainFault)
+        → RunsText fronts (Some input) (Some left) ended 1 (Some []) (Some output) flushed 0 answer
         → (answer ≡ Err ReadFailed) × (output ≡ []) }
-    ensures cut_short { (input left output : List ℕ) (ended flushed : Bool) (answer : Result (Unit {0}) MainFault)
-        → RunsText (Some input) (Some left) ended 0 (Some []) (Some output) flushed 1 answer
-        → IsCutShort running input output answer }
+    ensures cut_short { (input left output : List ℕ) (fronts ended flushed : Bool) (answer : Result (Unit {0}) MainFault)
+        → RunsText fronts (Some input) (Some left) ended 0 (Some []) (Some output) flushed 1 answer
+        → IsCutShort (running fronts) input output answer }
 {}
 
 /// The same of a check, which answers its verdict.

@@ -5,6 +5,7 @@ mod check;
 mod command_line;
 mod device;
 mod fault;
+mod fronts_text;
 mod input;
 mod jobs;
 mod laws_of_filters;
@@ -67,8 +68,7 @@ fn run_stdin<R: Threads + Wait + Sync>(
     workers: usize,
     fronts: bool,
 ) -> Result<Done, MainFault>
-    requires workers { (1 ≤ workers) × (workers ≤ 64) }
-    requires transcript { fronts ≡ false }
+    requires { (1 ≤ workers) × (workers ≤ 64) }
 {
     let mut feed = Source::new(stdin);
     let mut sink = Target::new(stdout);

@@ -11,4 +11,5 @@ mod reading;
 mod runs;
 mod tried_again;
 mod words;
+mod workers;
 mod writing;

@@ -1,63 +1,95 @@
--- Climbing from a stream that no descriptor and no persistent link holds.
-use Rattle.std.proofs.Common.{◌≡◌, ℕ, zero, suc, ◌-◌, ◌<◌, ◌≤◌, Bool, true, false, ◌&&◌, not, List, [], ◌∷◌, length, get_or, take, refl, sym, arith, inl, inr}
-use Rattle.std.specs.Prelude.{◌⊎◌}
-use Rattle.std.proofs.lemmas.Bool.{cases_Bool, or_left, or_right, or_cases}
-use Rattle.std.proofs.lemmas.List.{take_all}
-use Rattle.std.proofs.lemmas.List.Folds.{list_any_at}
+-- A stream stands by a descriptor, or by the one link above it.
+use Rattle.std.proofs.Common.{◌≡◌, ℕ, zero, suc, ◌-◌, Bool, true, false, ◌&&◌, ◌||◌, not, List, find, Option, Some, None, refl, sym, ◌∙◌, arith}
+use Rattle.std.specs.Option.{option_map_or}
+use Rattle.std.proofs.lemmas.Bool.{or_left}
 use Rattle.smx_types.specs.declared.link.Link.{Link}
 use Rattle.smx_types.specs.declared.stream.Descriptor.{Descriptor}
 use Rattle.smx_types.specs.declared.stream.StreamId.{StreamId}
 use Rattle.smx_model.specs.Configuration.{same_stream}
-use Rattle.smx_model.specs.Standing.{is_persistent, stands_within}
-use Rattle.smx_config.specs.Climbs.{is_held, is_up}
+use Rattle.smx_model.specs.Paths.{AreLowersApart}
+use Rattle.smx_model.specs.Standing.{is_named, is_persistent, stands_within}
+use Rattle.smx_config.specs.Climbs.{stands_by}
+use Rattle.smx_config.proofs.AboveLemmas.{any_once, once_below}
 
-and_more : (a b x y : Bool) → (x ≡ true → y ≡ true) → (a && (b && x)) ≡ true → (a && (b && y)) ≡ true
-and_more true true x y f h = f h
-and_more true false x y f h = h
-and_more false b x y f h = h
+swapped : (a b : Bool) → (a && b) ≡ (b && a)
+swapped true true = refl
+swapped true false = refl
+swapped false true = refl
+swapped false false = refl
+
+between : (a b c : Bool) → (a && (b && c)) ≡ (b && (a && c))
+between true true c = refl
+between true false c = refl
+between false true c = refl
+between false false c = refl
 
 -- one climb more finds what fewer find
 more : (fds : List Descriptor) (links : List Link) (n : ℕ) (s : StreamId) → stands_within fds links n s ≡ true → stands_within fds links (suc n) s ≡ true
 more fds links n s h = or_left _ _ h
 
-up_more : (fds : List Descriptor) (links over : List Link) (n : ℕ) (s : StreamId) → is_up fds links over n s ≡ true → is_up fds links over (suc n) s ≡ true
-up_more fds links [] n s h = h
-up_more fds links (l ∷ ls) n s h = elim (or_cases _ _ h) [
-  | inl a ↦ or_left _ _ (and_more (not (is_persistent l)) (same_stream l.lower s) (stands_within fds links n l.ctl) (stands_within fds links (suc n) l.ctl) (more fds links n l.ctl) a)
-  | inr b ↦ or_right _ _ (up_more fds links ls n s b)
-]
+climbed : (named persistent less above : Bool) → (less ≡ true → above ≡ true) → ((named || (persistent || less)) || (not persistent && above)) ≡ (named || (persistent || above))
+climbed true persistent less above h = refl
+climbed false true less above h = refl
+climbed false false true above h = sym (h refl)
+climbed false false false above h = refl
 
--- what stands is held, or is below an ordinary link
-stands_cases : (fds : List Descriptor) (links : List Link) (n : ℕ) (s : StreamId) → stands_within fds links n s ≡ true → (is_held fds links s ≡ true) ⊎ (is_up fds links links n s ≡ true)
-stands_cases fds links zero s h = inl h
-stands_cases fds links (suc n) s h = elim (or_cases _ _ h) [
-  | inl a ↦ elim (stands_cases fds links n s a) [ inl k ↦ inl k | inr k ↦ inr (up_more fds links links n s k) ]
-  | inr b ↦ inr (up_more fds links links n s b)
-]
+first_climb : (named persistent above : Bool) → ((named || persistent) || (not persistent && above)) ≡ (named || (persistent || above))
+first_climb true persistent above = refl
+first_climb false true above = refl
+first_climb false false above = refl
 
-pub held_stands : (fds : List Descriptor) (links : List Link) (n : ℕ) (s : StreamId) → is_held fds links s ≡ true → true ≡ stands_within fds links n s
-held_stands fds links zero s h = sym h
-held_stands fds links (suc n) s h = sym (or_left _ _ (sym (held_stands fds links n s h)))
+none_above : (named : Bool) → ((named || false) || false) ≡ (named || false)
+none_above true = refl
+none_above false = refl
 
-pub climbs : (fds : List Descriptor) (links : List Link) (n : ℕ) (s : StreamId) (i : ℕ) (d : Link) → (n ≡ 0 → ⊥) → i < length links
-    → is_persistent (get_or links i d) ≡ false → same_stream (get_or links i d).lower s ≡ true → stands_within fds links (n - 1) (get_or links i d).ctl ≡ true
-    → true ≡ stands_within fds links n s
-climbs fds links zero s i d some lt ordinary lower above = absurd (some refl)
-climbs fds links (suc n) s i d some lt ordinary lower above =
+by_more : (fds : List Descriptor) (links : List Link) (n : ℕ) (named : Bool) (o : Option Link)
+    → ((named || stands_by fds links n o) || option_map_or (λ l. not (is_persistent l) && stands_within fds links n l.ctl) o false) ≡ (named || stands_by fds links (suc n) o)
+by_more fds links n named None = none_above named
+by_more fds links zero named (Some l) = first_climb named (is_persistent l) (stands_within fds links 0 l.ctl)
+by_more fds links (suc n) named (Some l) = climbed named (is_persistent l) (stands_within fds links n l.ctl) (stands_within fds links (suc n) l.ctl) (more fds links n l.ctl)
+
+by_held : (fds : List Descriptor) (links : List Link) (o : Option Link) → option_map_or is_persistent o false ≡ stands_by fds links 0 o
+by_held fds links None = refl
+by_held fds links (Some l) = refl
+
+pub stands_is : (fds : List Descriptor) (links : List Link) (n : ℕ) (s : StreamId) → AreLowersApart links → stands_within fds links n s ≡ (is_named fds s || stands_by fds links n (find (λ l. same_stream l.lower s) links))
+stands_is fds links zero s h =
+    rw (
+      any_once (λ l. same_stream l.lower s) is_persistent (λ l. is_persistent l && same_stream l.lower s) links (once_below s links h) (λ l. swapped (is_persistent l) (same_stream l.lower s)),
+      by_held fds links (find (λ l. same_stream l.lower s) links),
+    ) refl
+stands_is fds links (suc n) s h =
+    rw (
+      stands_is fds links n s h,
+      any_once (λ l. same_stream l.lower s) (λ l. not (is_persistent l) && stands_within fds links n l.ctl) (λ l. not (is_persistent l) && (same_stream l.lower s && stands_within fds links n l.ctl)) links (once_below s links h) (λ l. between (not (is_persistent l)) (same_stream l.lower s) (stands_within fds links n l.ctl)),
+    )
+    (by_more fds links n (is_named fds s) (find (λ l. same_stream l.lower s) links))
+
+-- what a descriptor names stands within any number of climbs
+pub named_stands : (fds : List Descriptor) (links : List Link) (n : ℕ) (s : StreamId) → is_named fds s ≡ true → stands_within fds links n s ≡ true
+named_stands fds links zero s h = or_left _ _ h
+named_stands fds links (suc n) s h = or_left _ _ (named_stands fds links n s h)
+
+-- the same, case by case
+
+pub unlinked : (fds : List Descriptor) (links : List Link) (n : ℕ) (s : StreamId) → AreLowersApart links → is_named fds s ≡ false → None ≡ find (λ l. same_stream l.lower s) links → false ≡ stands_within fds links n s
+unlinked fds links n s apart named found = sym (stands_is fds links n s apart ∙ rw (named, sym found) refl)
+
+held_by : (fds : List Descriptor) (links : List Link) (n : ℕ) (l : Link) → is_persistent l ≡ true → stands_by fds links n (Some l) ≡ true
+held_by fds links zero l h = h
+held_by fds links (suc n) l h = or_left _ _ h
+
+pub held : (fds : List Descriptor) (links : List Link) (n : ℕ) (s : StreamId) (l : Link) → AreLowersApart links → is_named fds s ≡ false → Some l ≡ find (λ l. same_stream l.lower s) links → is_persistent l ≡ true → true ≡ stands_within fds links n s
+held fds links n s l apart named found h = sym (stands_is fds links n s apart ∙ rw (named, sym found) (held_by fds links n l h))
+
+pub not_within_none : (fds : List Descriptor) (links : List Link) (n : ℕ) (s : StreamId) (l : Link) → AreLowersApart links → is_named fds s ≡ false → Some l ≡ find (λ l. same_stream l.lower s) links → is_persistent l ≡ false → n ≡ 0 → false ≡ stands_within fds links n s
+not_within_none fds links zero s l apart named found h none = sym (stands_is fds links 0 s apart ∙ rw (named, sym found) h)
+not_within_none fds links (suc n) s l apart named found h none = absurd cc
+
+pub climbs : (fds : List Descriptor) (links : List Link) (n : ℕ) (s : StreamId) (l : Link) (above : Bool) → AreLowersApart links → is_named fds s ≡ false → Some l ≡ find (λ l. same_stream l.lower s) links → is_persistent l ≡ false → (n ≡ 0 → ⊥)
+    → above ≡ stands_within fds links (n - 1) l.ctl → above ≡ stands_within fds links n s
+climbs fds links zero s l above apart named found h some e = absurd (some refl)
+climbs fds links (suc n) s l above apart named found h some e =
     let k : suc n - 1 ≡ n = omega arith in
-    let h = rw k at above in
-    let found = list_any_at (λ l. not (is_persistent l) && (same_stream l.lower s && stands_within fds links n l.ctl)) links i d lt (rw (ordinary, lower, h) refl) in
-    sym (or_right _ _ found)
-
-falls_one : (fds : List Descriptor) (links : List Link) (n : ℕ) (s : StreamId) → is_held fds links s ≡ false → is_up fds links links n s ≡ false → stands_within fds links (suc n) s ≡ false
-falls_one fds links n s held up = elim (cases_Bool (stands_within fds links n s)) [
-  | inl t ↦ absurd (elim (stands_cases fds links n s t) [ inl k ↦ cc | inr k ↦ cc ])
-  | inr f ↦ rw (f, up) refl
-]
-
-pub falls : (fds : List Descriptor) (links : List Link) (n i : ℕ) (s : StreamId) → (n ≡ 0 → ⊥) → length links ≤ i → is_held fds links s ≡ false → is_up fds links (take i links) (n - 1) s ≡ false → false ≡ stands_within fds links n s
-falls fds links zero i s some all held up = absurd (some refl)
-falls fds links (suc n) i s some all held up =
-    let k : suc n - 1 ≡ n = omega arith in
-    let h = rw (k, take_all i links all) at up in
-    sym (falls_one fds links n s held h)
+    let up : above ≡ stands_within fds links n l.ctl = rw k at e in
+    up ∙ sym (stands_is fds links (suc n) s apart ∙ rw (named, sym found, h) refl)

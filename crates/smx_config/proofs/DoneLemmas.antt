@@ -1,5 +1,5 @@
 -- What a swept change comes to.
-use Rattle.std.proofs.Common.{◌≡◌, ℕ, Bool, true, ◌&&◌, ◌||◌, not, eqb, List, [], ◌∷◌, length, filter, find, Option, Some, None, Ok, refl, sym, ap, ◌∙◌, inl, inr}
+use Rattle.std.proofs.Common.{◌≡◌, ℕ, Bool, true, ◌&&◌, ◌||◌, not, eqb, List, [], ◌∷◌, length, filter, find, Option, Some, None, Ok, refl, ap, ◌∙◌, inl, inr}
 use Rattle.std.specs.Option.{option_map}
 use Rattle.std.proofs.lemmas.Bool.{cases_Bool, and_parts, and_from, or_left, or_right}
 use Rattle.std.specs.List.{list_any, list_all}
@@ -25,8 +25,8 @@ use Rattle.smx_model.specs.Outcomes.{◌>>=◌, or_fault, refuse}
 use Rattle.smx_model.specs.Removal.{serials, after_sweep, without_links}
 use Rattle.smx_model.specs.Standing.{is_named, is_below, exists}
 use Rattle.smx_model.specs.Swept.{IsSwept}
-use Rattle.smx_config.proofs.ClimbLemmas.{held_stands}
-use Rattle.smx_config.proofs.RemovalLemmas.{stream_self}
+use Rattle.smx_config.proofs.ClimbLemmas.{named_stands}
+use Rattle.smx_config.proofs.AboveLemmas.{stream_self}
 use Rattle.smx_config.specs.UnlinkTargets.{is_target, are_there, unlinks}
 
 pub done_is : (drivers : List DriverSpec) (c new d : Configuration) (old : List ℕ) (r : Reply) → d ≡ after_sweep drivers new → old ≡ serials c.flow
@@ -82,7 +82,7 @@ mux_stream_of (Some x) below leaf s h = elim (cases_Bool (below x)) [
 mux_stream_exists : (drivers : List DriverSpec) (c : Configuration) (process fd : ℕ) (s : StreamId) → mux_stream drivers c process fd ≡ Ok s → exists drivers c s ≡ true
 mux_stream_exists drivers c process fd s e =
     let there = mux_stream_of (option_map (λ (d : Descriptor). d.stream) (find (is_fd process fd) c.fds)) (λ x. is_below c.links x) (λ x. not (is_mux drivers x.driver)) s e in
-    sym (held_stands c.fds c.links (length drivers) s (or_left _ _ (named_stream process fd c.fds s there)))
+    named_stands c.fds c.links (length drivers) s (named_stream process fd c.fds s there)
 
 all_inserted : {X : Type 0} (before : X → X → Bool) (t : X → Bool) (xs : List X) (x : X) → t x ≡ true → list_all t xs ≡ true → list_all t (with_inserted before xs x) ≡ true
 all_inserted before t [] x h all = and_from _ _ h refl

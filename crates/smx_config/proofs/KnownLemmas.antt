@@ -1,17 +1,21 @@
 -- What exists has a driver, and a minor that this driver has.
-use Rattle.std.proofs.Common.{◌≡◌, ℕ, zero, suc, ◌≤◌, Bool, true, false, ◌&&◌, not, List, [], ◌∷◌, length, subst, arith, inl, inr}
+use Rattle.std.proofs.Common.{◌≡◌, ℕ, zero, suc, ◌<◌, ◌≤◌, Bool, true, false, ◌&&◌, not, List, [], ◌∷◌, length, find, Ok, subst, arith, inl, inr}
+use Rattle.std.specs.Option.{option_map}
 use Rattle.std.specs.List.{list_any, AllByRecursion}
-use Rattle.std.proofs.lemmas.Bool.{and_parts, or_cases, false_from_ne_true}
+use Rattle.std.proofs.lemmas.Bool.{cases_Bool, and_parts, or_cases, false_from_ne_true}
 use Rattle.std.proofs.lemmas.List.Elements.{recursion_from_All}
 use Rattle.smx_types.specs.declared.driver.DriverSpec.{DriverSpec}
 use Rattle.smx_types.specs.declared.link.Link.{Link}
+use Rattle.smx_types.specs.declared.reply.Fault.TheVariants.{BadDescriptor}
 use Rattle.smx_types.specs.declared.stream.Descriptor.{Descriptor}
 use Rattle.smx_types.specs.declared.stream.StreamId.{StreamId}
-use Rattle.smx_model.specs.Configuration.{Configuration, same_stream}
+use Rattle.smx_model.specs.Configuration.{Configuration, is_fd, same_stream}
 use Rattle.smx_model.specs.DriverList.{minors_of}
 use Rattle.smx_model.specs.KnownStreams.{IsKnown, AreStreamsKnown}
+use Rattle.smx_model.specs.Lookups.{stream_of}
+use Rattle.smx_model.specs.Outcomes.{or_fault}
 use Rattle.smx_model.specs.Standing.{is_persistent, is_named, stands_within, exists}
-use Rattle.smx_config.proofs.RemovalLemmas.{stream_is}
+use Rattle.smx_config.proofs.AboveLemmas.{stream_is}
 
 -- the stream that a passing element has is known
 any_known : {X : Type 0} (drivers : List DriverSpec) (stream : X → StreamId) (t : X → Bool) (s : StreamId) (xs : List X) → ((x : X) → t x ≡ true → stream x ≡ s)
@@ -36,3 +40,14 @@ exists_known drivers c s k h = stands_known drivers c.fds c.links (length driver
 
 pub unknown_is_not : (drivers : List DriverSpec) (c : Configuration) (s : StreamId) → AreStreamsKnown drivers c → minors_of drivers s.driver ≤ s.minor → exists drivers c s ≡ false
 unknown_is_not drivers c s k past = false_from_ne_true _ (λ t. let known = exists_known drivers c s k t in omega (arith, known.1))
+
+-- the stream of a descriptor is known
+found_known : (drivers : List DriverSpec) (process fd : ℕ) (fds : List Descriptor) (s : StreamId) → AllByRecursion (λ d. IsKnown drivers d.stream) fds → or_fault BadDescriptor (option_map (λ d. d.stream) (find (is_fd process fd) fds)) ≡ Ok s → IsKnown drivers s
+found_known drivers process fd [] s k h = absurd cc
+found_known drivers process fd (d ∷ ds) s k h = elim (cases_Bool (is_fd process fd d)) [
+  | inl t ↦ let e : Ok d.stream ≡ Ok s = rw t at h in let same : d.stream ≡ s = cc in subst (IsKnown drivers) same k.0
+  | inr f ↦ found_known drivers process fd ds s k.1 (rw f at h)
+]
+
+pub driver_known : (drivers : List DriverSpec) (c : Configuration) (process fd : ℕ) (s : StreamId) → AreStreamsKnown drivers c → stream_of c process fd ≡ Ok s → s.driver < length drivers
+driver_known drivers c process fd s k h = (found_known drivers process fd c.fds s (recursion_from_All (λ d. IsKnown drivers d.stream) c.fds k.fds) h).0

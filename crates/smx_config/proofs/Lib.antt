@@ -1,12 +1,14 @@
 pub mod InsertionLemmas
+pub mod AboveLemmas
+pub mod TableLemmas
 pub mod ClimbLemmas
-pub mod ReachLemmas
 pub mod FirstMessageLemmas
 pub mod FlowLemmas
 pub mod MarkLemmas
 pub mod SettleLemmas
 pub mod RemovalLemmas
 pub mod DroppedLemmas
+pub mod ReplyLemmas
 pub mod KnownLemmas
 pub mod LookupLemmas
 pub mod DescriptorLemmas
@@ -15,6 +17,5 @@ pub mod DoneLemmas
 pub mod DriverFaultLemmas
 pub mod DriverListLemmas
 pub mod PerformLemmas
-pub mod CountLemmas
 pub mod OpenLemmas
 pub mod VerdictLemmas

@@ -1,89 +1,153 @@
--- Removing the links that pass a test removes the list of them.
-use Rattle.std.proofs.Common.{◌≡◌, ℕ, Bool, true, ◌&&◌, not, List, [], ◌∷◌, filter, refl, sym, ap, ◌∙◌, inl, inr}
-use Rattle.std.specs.List.{list_all}
-use Rattle.std.proofs.lemmas.Bool.{cases_Bool, and_parts, and_from, or_left, or_right, or_cases, eqb-true, eq-eqb, false≢true, false_from_ne_true}
+-- Removing links by their ids removes those that pass the test by which the ids were listed.
+use Rattle.std.proofs.Common.{◌≡◌, ℕ, ◌<◌, Bool, true, false, ◌&&◌, not, eqb, List, [], ◌∷◌, length, map, filter, find, refl, sym, ap, subst, ◌∙◌, arith, inl, inr}
+use Rattle.std.specs.Prelude.{nat_lt}
+use Rattle.std.specs.List.{list_any, AllByRecursion}
+use Rattle.std.specs.Option.{option_map_or}
+use Rattle.std.proofs.lemmas.Bool.{cases_Bool, eqb-true, eq-eqb, ltb-true, false_from_ne_true}
 use Rattle.smx_types.specs.declared.link.Link.{Link}
-use Rattle.smx_types.specs.declared.link.LinkKind.{LinkKind}
-use Rattle.smx_types.specs.declared.link.LinkKind.TheVariants as kind
+use Rattle.smx_types.specs.declared.link.Route.{Route}
+use Rattle.smx_types.specs.declared.stream.Place.{Place}
 use Rattle.smx_types.specs.declared.stream.StreamId.{StreamId}
-use Rattle.smx_model.specs.Configuration.{Configuration, same_stream}
-use Rattle.smx_model.specs.Removal.{without_links, without_queues_at, is_read_below}
-use Rattle.smx_config.specs.ListedLinks.{same_kind, same_link, is_one, has_id, without_listed_links}
+use Rattle.smx_types.specs.declared.stream.Side.TheVariants as side
+use Rattle.smx_model.specs.Configuration.{Configuration, QueuedMessage, same_side, same_stream}
+use Rattle.smx_model.specs.Ordered.{ComesBefore, IsRising}
+use Rattle.smx_model.specs.Paths.{AreLowersApart}
+use Rattle.smx_model.specs.Removal.{without_links, is_read_below}
+use Rattle.smx_model.specs.Standing.{is_below}
+use Rattle.smx_links.specs.LinkLists.{is_one_of}
+use Rattle.smx_config.specs.ListedLinks.{is_listed, is_read_below_listed}
+use Rattle.smx_config.proofs.AboveLemmas.{any_once, eqb_swap, once_below}
 
-kind_is : (a b : LinkKind) → same_kind a b ≡ true → a ≡ b
-kind_is kind.Ordinary kind.Ordinary h = refl
-kind_is kind.Ordinary kind.Persistent h = absurd cc
-kind_is kind.Persistent kind.Ordinary h = absurd cc
-kind_is kind.Persistent kind.Persistent h = refl
+abbrev pub ids_of : (Link → Bool) → List Link → List ℕ
+ids_of goes ls = map (λ l. l.id) (filter goes ls)
 
-kind_self : (a : LinkKind) → same_kind a a ≡ true
-kind_self kind.Ordinary = refl
-kind_self kind.Persistent = refl
+abbrev IsIdsRising : List Link → Type 0
+IsIdsRising ls = IsRising (λ l k. nat_lt l.id k.id) ls
 
-pub stream_is : (s t : StreamId) → same_stream s t ≡ true → s ≡ t
-stream_is s t h =
-    let b = and_parts _ _ h in
-    ap (λ (x : ℕ). record { driver = x; minor = s.minor }) (eqb-true s.driver t.driver b.0) ∙ ap (λ (x : ℕ). record { driver = t.driver; minor = x }) (eqb-true s.minor t.minor b.1)
+-- an id that comes before all others is none of them
+not_later : (goes : Link → Bool) (l : Link) (ls : List Link) → ComesBefore (λ l k. nat_lt l.id k.id) l ls → is_listed (ids_of goes ls) l.id ≡ false
+not_later goes l [] h = refl
+not_later goes l (k ∷ ls) h =
+    let up : l.id < k.id = ltb-true l.id k.id h.0 in
+    let f : eqb l.id k.id ≡ false = false_from_ne_true (eqb l.id k.id) (λ t. let same = eqb-true l.id k.id t in absurd (omega arith)) in
+    elim (cases_Bool (goes k)) [ inl t ↦ rw (t, f) (not_later goes l ls h.1) | inr n ↦ rw n (not_later goes l ls h.1) ]
 
-pub stream_self : (s : StreamId) → same_stream s s ≡ true
-stream_self s = and_from _ _ (eq-eqb s.driver s.driver refl) (eq-eqb s.minor s.minor refl)
+-- the ids list those links that go, and no others
+abbrev IsListOf : (Link → Bool) → List ℕ → List Link → Type 0
+IsListOf goes ids ls = AllByRecursion (λ l. is_listed ids l.id ≡ goes l) ls
 
-abbrev link_of : ℕ → StreamId → StreamId → LinkKind → Link
-link_of id ctl lower kind = record { id = id; ctl = ctl; lower = lower; kind = kind }
+list_more : (goes : Link → Bool) (l : Link) (ids : List ℕ) (ls : List Link) → ComesBefore (λ l k. nat_lt l.id k.id) l ls → IsListOf goes ids ls → IsListOf goes (l.id ∷ ids) ls
+list_more goes l ids [] h a = tt
+list_more goes l ids (k ∷ ls) h a =
+    let up : l.id < k.id = ltb-true l.id k.id h.0 in
+    let f : eqb k.id l.id ≡ false = false_from_ne_true (eqb k.id l.id) (λ t. let same = eqb-true k.id l.id t in absurd (omega arith)) in
+    (rw f a.0, list_more goes l ids ls h.1 a.1)
 
-link_is : (l k : Link) → same_link l k ≡ true → l ≡ k
-link_is l k h =
-    let a = and_parts _ _ h in
-    let b = and_parts (same_stream l.ctl k.ctl) (same_stream l.lower k.lower && same_kind l.kind k.kind) a.1 in
-    let d = and_parts (same_stream l.lower k.lower) (same_kind l.kind k.kind) b.1 in
-    ap (λ (x : ℕ). link_of x l.ctl l.lower l.kind) (eqb-true l.id k.id a.0)
-    ∙ ap (λ (x : StreamId). link_of k.id x l.lower l.kind) (stream_is l.ctl k.ctl b.0)
-    ∙ ap (λ (x : StreamId). link_of k.id k.ctl x l.kind) (stream_is l.lower k.lower d.0)
-    ∙ ap (link_of k.id k.ctl k.lower) (kind_is l.kind k.kind d.1)
+goes_first : (goes : Link → Bool) (l : Link) (ls : List Link) → goes l ≡ true → ids_of goes (l ∷ ls) ≡ l.id ∷ ids_of goes ls
+goes_first goes l ls h = rw h refl
 
-link_self : (l : Link) → same_link l l ≡ true
-link_self l = and_from _ _ (eq-eqb l.id l.id refl) (and_from _ _ (stream_self l.ctl) (and_from _ _ (stream_self l.lower) (kind_self l.kind)))
+stays_first : (goes : Link → Bool) (l : Link) (ls : List Link) → goes l ≡ false → ids_of goes (l ∷ ls) ≡ ids_of goes ls
+stays_first goes l ls h = rw h refl
 
--- what is one of those that go, goes
-one_goes : (goes : Link → Bool) (xs : List Link) (y : Link) → is_one (filter goes xs) y ≡ true → goes y ≡ true
-one_goes goes [] y h = absurd cc
-one_goes goes (x ∷ xs) y h = elim (cases_Bool (goes x)) [
-  | inl g ↦ elim (or_cases (same_link y x) (is_one (filter goes xs) y) (rw g at h)) [ inl s ↦ rw (link_is y x s) g | inr m ↦ one_goes goes xs y m ]
-  | inr n ↦ one_goes goes xs y (rw n at h)
+listed : (goes : Link → Bool) (ls : List Link) → IsIdsRising ls → IsListOf goes (ids_of goes ls) ls
+listed goes [] h = tt
+listed goes (l ∷ ls) h = elim (cases_Bool (goes l)) [
+  | inl t ↦ (rw (t, eq-eqb l.id l.id refl) refl, subst (λ (ids : List ℕ). IsListOf goes ids ls) (sym (goes_first goes l ls t)) (list_more goes l (ids_of goes ls) ls h.0 (listed goes ls h.1)))
+  | inr f ↦ (rw f (not_later goes l ls h.0), subst (λ (ids : List ℕ). IsListOf goes ids ls) (sym (stays_first goes l ls f)) (listed goes ls h.1))
 ]
 
-goes_one : (goes : Link → Bool) (xs : List Link) (y : Link) → is_one xs y ≡ true → goes y ≡ true → is_one (filter goes xs) y ≡ true
-goes_one goes [] y h g = absurd cc
-goes_one goes (x ∷ xs) y h g = elim (or_cases (same_link y x) (is_one xs y) h) [
-  | inl s ↦ let there : goes x ≡ true = rw (← link_is y x s) g in rw there (or_left _ _ s)
-  | inr m ↦ let rest = goes_one goes xs y m g in elim (cases_Bool (goes x)) [ inl t ↦ rw t (or_right _ _ rest) | inr f ↦ rw f rest ]
+links_stay : (f g : Link → Bool) (ls : List Link) → AllByRecursion (λ l. f l ≡ g l) ls → filter (λ l. not (f l)) ls ≡ filter (λ l. not (g l)) ls
+links_stay f g [] h = refl
+links_stay f g (l ∷ ls) h = elim (cases_Bool (g l)) [
+  | inl t ↦ rw (h.0, t) (links_stay f g ls h.1)
+  | inr n ↦ rw (h.0, n) (ap (λ (zs : List Link). l ∷ zs) (links_stay f g ls h.1))
 ]
 
-one_is : (goes : Link → Bool) (xs : List Link) (y : Link) → is_one xs y ≡ true → is_one (filter goes xs) y ≡ goes y
-one_is goes xs y h = elim (cases_Bool (goes y)) [
-  | inl g ↦ goes_one goes xs y h g ∙ sym g
-  | inr n ↦ false_from_ne_true _ (λ t. false≢true (sym n ∙ one_goes goes xs y t)) ∙ sym n
+-- routes
+route_listed : (ls : List Link) (id : ℕ) → is_listed (map (λ l. l.id) ls) id ≡ list_any (λ l. eqb l.id id) ls
+route_listed [] id = refl
+route_listed (l ∷ ls) id = rw (eqb_swap id l.id, route_listed ls id) refl
+
+-- places
+found_same : (f g key : Link → Bool) (ls : List Link) → AllByRecursion (λ l. f l ≡ g l) ls → option_map_or f (find key ls) false ≡ option_map_or g (find key ls) false
+found_same f g key [] h = refl
+found_same f g key (l ∷ ls) h = elim (cases_Bool (key l)) [ inl t ↦ rw t (h.0) | inr n ↦ rw n (found_same f g key ls h.1) ]
+
+any_kept : (key goes : Link → Bool) (ls : List Link) → list_any key (filter goes ls) ≡ list_any (λ l. key l && goes l) ls
+any_kept key goes [] = refl
+any_kept key goes (l ∷ ls) = elim (cases_Bool (goes l)) [
+  | inl t ↦ elim (cases_Bool (key l)) [ inl k ↦ rw (t, k) refl | inr k ↦ rw (t, k) (any_kept key goes ls) ]
+  | inr n ↦ elim (cases_Bool (key l)) [ inl k ↦ rw (n, k) (any_kept key goes ls) | inr k ↦ rw (n, k) (any_kept key goes ls) ]
 ]
 
-kept_same : (goes : Link → Bool) (xs ys : List Link) → list_all (is_one xs) ys ≡ true → filter (λ l. not (is_one (filter goes xs) l)) ys ≡ filter (λ l. not (goes l)) ys
-kept_same goes xs [] h = refl
-kept_same goes xs (y ∷ ys) h =
-    let b = and_parts (is_one xs y) (list_all (is_one xs) ys) h in
-    let same = one_is goes xs y b.0 in
-    elim (cases_Bool (goes y)) [
-      | inl g ↦ rw (same, g) (kept_same goes xs ys b.1)
-      | inr n ↦ rw (same, n) (ap (λ (zs : List Link). y ∷ zs) (kept_same goes xs ys b.1))
-    ]
+below_listed : (goes : Link → Bool) (ids : List ℕ) (ls : List Link) (s : StreamId) → AreLowersApart ls → IsListOf goes ids ls
+    → option_map_or (λ l. is_listed ids l.id) (find (λ l. same_stream l.lower s) ls) false ≡ is_below (filter goes ls) s
+below_listed goes ids ls s apart h =
+    found_same (λ l. is_listed ids l.id) goes (λ l. same_stream l.lower s) ls h
+    ∙ sym (any_once (λ l. same_stream l.lower s) goes (λ l. same_stream l.lower s && goes l) ls (once_below s ls apart) (λ l. refl))
+    ∙ sym (any_kept (λ l. same_stream l.lower s) goes ls)
 
-all_more : (xs ys : List Link) (x : Link) → list_all (is_one xs) ys ≡ true → list_all (is_one (x ∷ xs)) ys ≡ true
-all_more xs [] x h = refl
-all_more xs (y ∷ ys) x h = let b = and_parts (is_one xs y) (list_all (is_one xs) ys) h in and_from _ _ (or_right _ _ b.0) (all_more xs ys x b.1)
+read_listed : (goes : Link → Bool) (ids : List ℕ) (ls : List Link) (p : Place) → AreLowersApart ls → IsListOf goes ids ls → is_read_below_listed ls ids p ≡ is_read_below (filter goes ls) p
+read_listed goes ids ls p apart h = ap (λ (x : Bool). same_side p.side side.Read && x) (below_listed goes ids ls p.stream apart h)
 
-all_in : (xs : List Link) → list_all (is_one xs) xs ≡ true
-all_in [] = refl
-all_in (x ∷ xs) = and_from _ _ (or_left _ _ (link_self x)) (all_more xs xs x (all_in xs))
+same_kept : {X : Type 0} (f g : X → Bool) (xs : List X) → ((x : X) → f x ≡ g x) → filter (λ x. not (f x)) xs ≡ filter (λ x. not (g x)) xs
+same_kept {X = X} f g [] h = refl
+same_kept {X = X} f g (x ∷ xs) h = elim (cases_Bool (g x)) [
+  | inl t ↦ rw (h x, t) (same_kept f g xs h)
+  | inr n ↦ rw (h x, n) (ap (λ (zs : List X). x ∷ zs) (same_kept f g xs h))
+]
 
-pub without_is_removed : (c : Configuration) (goes : Link → Bool) (gone : List Link) → gone ≡ filter goes c.links → without_listed_links c gone ≡ without_links c goes
-without_is_removed c goes gone e =
-    ap (without_listed_links c) e
-    ∙ ap (λ (ls : List Link). without_queues_at (record c { links = ls; routes = filter (λ r. not (has_id (filter goes c.links) r.id)) c.routes }) (is_read_below (filter goes c.links))) (kept_same goes c.links c.links (all_in c.links))
+-- without the links with these ids, the routes to them, and what their lower streams' read sides hold
+abbrev pub without_listed : Configuration → List ℕ → Configuration
+without_listed c ids = record c { links = filter (λ l. not (is_one_of ids l)) c.links; routes = filter (λ r. not (is_listed ids r.id)) c.routes; flow = filter (λ h. not (is_read_below_listed c.links ids h.place)) c.flow; fulls = filter (λ p. not (is_read_below_listed c.links ids p)) c.fulls }
+
+abbrev parts : Configuration → List Link → List Route → List QueuedMessage → List Place → Configuration
+parts c links routes flow fulls = record c { links = links; routes = routes; flow = flow; fulls = fulls }
+
+same_parts : (c : Configuration) (ls ks : List Link) (rs ss : List Route) (hs gs : List QueuedMessage) (ps qs : List Place) → ls ≡ ks → rs ≡ ss → hs ≡ gs → ps ≡ qs → parts c ls rs hs ps ≡ parts c ks ss gs qs
+same_parts c ls ks rs ss hs gs ps qs a b d e = cc
+
+removed : (c : Configuration) (goes : Link → Bool) → AreLowersApart c.links → IsIdsRising c.links → without_listed c (ids_of goes c.links) ≡ without_links c goes
+removed c goes apart rise =
+    let ids = ids_of goes c.links in
+    let gone = filter goes c.links in
+    let here = listed goes c.links rise in
+    same_parts c _ (filter (λ l. not (goes l)) c.links) _ (filter (λ r. not (list_any (λ l. eqb l.id r.id) gone)) c.routes) _ (filter (λ h. not (is_read_below gone h.place)) c.flow) _ (filter (λ p. not (is_read_below gone p)) c.fulls)
+    (links_stay (is_one_of ids) goes c.links here)
+    (same_kept (λ (r : Route). is_listed ids r.id) (λ r. list_any (λ l. eqb l.id r.id) gone) c.routes (λ r. route_listed gone r.id))
+    (same_kept (λ (h : QueuedMessage). is_read_below_listed c.links ids h.place) (λ h. is_read_below gone h.place) c.flow (λ h. read_listed goes ids c.links h.place apart here))
+    (same_kept (is_read_below_listed c.links ids) (is_read_below gone) c.fulls (λ p. read_listed goes ids c.links p apart here))
+
+pub removed_is : (c : Configuration) (ids : List ℕ) → AreLowersApart c.links → IsRising (λ l k. nat_lt l.id k.id) c.links → (goes : Link → Bool) → ids ≡ map (λ l. l.id) (filter goes c.links) → without_listed c ids ≡ without_links c goes
+removed_is c ids apart rise goes e = ap (without_listed c) e ∙ removed c goes apart rise
+
+-- where no link goes, all stays
+pub is_nothing : (ids : List ℕ) → eqb (length ids) 0 ≡ true → ids ≡ []
+is_nothing [] h = refl
+is_nothing (n ∷ ns) h = let k = eqb-true (length (n ∷ ns)) 0 h in absurd (omega arith)
+
+none_goes : (goes : Link → Bool) (ls : List Link) → map (λ l. l.id) (filter goes ls) ≡ [] → filter goes ls ≡ []
+none_goes goes [] h = refl
+none_goes goes (l ∷ ls) h = elim (cases_Bool (goes l)) [ inl t ↦ let k = rw t at h in absurd cc | inr f ↦ rw f (none_goes goes ls (rw f at h)) ]
+
+all_stay : (goes : Link → Bool) (ls : List Link) → map (λ l. l.id) (filter goes ls) ≡ [] → filter (λ l. not (goes l)) ls ≡ ls
+all_stay goes [] h = refl
+all_stay goes (l ∷ ls) h = elim (cases_Bool (goes l)) [ inl t ↦ let k = rw t at h in absurd cc | inr f ↦ rw f (ap (λ (zs : List Link). l ∷ zs) (all_stay goes ls (rw f at h))) ]
+
+none_passes : {X : Type 0} (t : X → Bool) (xs : List X) → ((x : X) → t x ≡ false) → filter (λ x. not (t x)) xs ≡ xs
+none_passes {X = X} t [] h = refl
+none_passes {X = X} t (x ∷ xs) h = rw (h x) (ap (λ (zs : List X). x ∷ zs) (none_passes t xs h))
+
+no_read : (p : Place) → is_read_below [] p ≡ false
+no_read p = elim (cases_Bool (same_side p.side side.Read)) [ inl t ↦ rw t refl | inr f ↦ rw f refl ]
+
+pub nothing_removed : (c : Configuration) (ids : List ℕ) → ids ≡ [] → (goes : Link → Bool) → ids ≡ map (λ l. l.id) (filter goes c.links) → c ≡ without_links c goes
+nothing_removed c ids none goes e =
+    let gone = filter goes c.links in
+    let empty : map (λ (l : Link). l.id) gone ≡ [] = sym e ∙ none in
+    let no_link : gone ≡ [] = none_goes goes c.links empty in
+    sym (same_parts c (filter (λ l. not (goes l)) c.links) c.links (filter (λ r. not (list_any (λ l. eqb l.id r.id) gone)) c.routes) c.routes (filter (λ h. not (is_read_below gone h.place)) c.flow) c.flow (filter (λ p. not (is_read_below gone p)) c.fulls) c.fulls
+    (all_stay goes c.links empty)
+    (none_passes (λ (r : Route). list_any (λ l. eqb l.id r.id) gone) c.routes (λ r. ap (list_any (λ l. eqb l.id r.id)) no_link))
+    (none_passes (λ (h : QueuedMessage). is_read_below gone h.place) c.flow (λ h. ap (λ (ls : List Link). is_read_below ls h.place) no_link ∙ no_read h.place))
+    (none_passes (is_read_below gone) c.fulls (λ p. ap (λ (ls : List Link). is_read_below ls p) no_link ∙ no_read p)))

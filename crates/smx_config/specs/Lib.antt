@@ -3,10 +3,10 @@ pub mod DriverFaults
 pub mod FaultWords
 pub mod ModelOfLists
 pub mod InsertionIndexes
-pub mod Visited
 pub mod Moves
 pub mod Climbs
 pub mod ListedLinks
+pub mod LinkFaults
 pub mod UnlinkTargets
 pub mod Sending
 pub mod FewMinors

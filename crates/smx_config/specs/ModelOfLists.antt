@@ -9,4 +9,4 @@ queued_message_of q = record { place = q.place; message = q.message }
 
 -- the configuration that the lists make
 abbrev pub configuration_of : Lists → Configuration
-configuration_of l = record { fds = l.fds.items; links = l.links.items; next_id = l.next_id; binds = l.binds.items; routes = l.routes.items; flow = l.flow.items; fulls = l.fulls.items; next_serial = l.next_serial }
+configuration_of l = record { fds = l.fds.items; links = l.links.links; next_id = l.links.next_id; binds = l.binds.items; routes = l.routes.items; flow = l.flow.items; fulls = l.fulls.items; next_serial = l.next_serial }

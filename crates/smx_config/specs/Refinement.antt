@@ -19,6 +19,7 @@ use Rattle.smx_config.specs.ModelOfLists.{configuration_of}
 pub record StepInvariant (drivers : List DriverSpec) (l : Lists) : Type 0 where
   pub few : length drivers ≤ 64
   pub minors : HaveFewMinors drivers
+  pub table : l.links.drivers ≡ length drivers
   pub kept : HasRoom l
   pub known : AreStreamsKnown drivers (configuration_of l)
   pub swept_already : IsSwept drivers (configuration_of l)

@@ -3,7 +3,7 @@ use Rattle.std.specs.Prelude.{◌≡◌, ℕ, ◌≤◌, List, [], length, vec_c
 use Rattle.smx_types.specs.declared.link.Link.{Link}
 use Rattle.smx_config.specs.declared.sweep.SweepReserve.{SweepReserve}
 
--- these serials, and room for the links and for all of them
+-- these serials, and room for the ids of the links and for all of them
 pub record IsReserveFor (links : List Link) (old : List ℕ) (r : SweepReserve) : Type 0 where
   pub orphaned_empty : r.orphaned.items ≡ []
   pub orphaned_room : length links ≤ vec_capacity r.orphaned

@@ -1,15 +1,14 @@
 -- Which links a command may name, for both kinds of links at once. No public clause needs this.
-use Rattle.std.specs.Prelude.{ℕ, Bool, ◌&&◌, ◌||◌, not, ◌==◌, nat_le, List, length, Result, Ok}
+use Rattle.std.specs.Prelude.{ℕ, Bool, ◌&&◌, not, ◌==◌, List, Result, Ok}
 use Rattle.std.specs.List.{list_any}
 use Rattle.smx_types.specs.declared.command.Which.{Which}
 use Rattle.smx_types.specs.declared.command.Which.TheVariants as which
 use Rattle.smx_types.specs.declared.driver.DriverSpec.{DriverSpec}
-use Rattle.smx_types.specs.declared.limits.TheConstants.{MAX_LINKS, NUMBER_END}
 use Rattle.smx_types.specs.declared.link.Link.{Link}
 use Rattle.smx_types.specs.declared.link.LinkKind.{LinkKind}
 use Rattle.smx_types.specs.declared.link.LinkKind.TheVariants as kind
 use Rattle.smx_types.specs.declared.reply.Fault.{Fault}
-use Rattle.smx_types.specs.declared.reply.Fault.TheVariants.{Below, NotMux, AlreadyBelow, Cycle, TooManyLinks, NoLink}
+use Rattle.smx_types.specs.declared.reply.Fault.TheVariants.{Below, NotMux, NoLink}
 use Rattle.smx_types.specs.declared.stream.StreamId.{StreamId}
 use Rattle.smx_model.specs.Commands.{done_outcome}
 use Rattle.smx_model.specs.Configuration.{Configuration, same_stream}
@@ -17,17 +16,13 @@ use Rattle.smx_model.specs.DriverList.{is_mux}
 use Rattle.smx_model.specs.Lookups.{mux_stream}
 use Rattle.smx_model.specs.Removal.{without_links}
 use Rattle.smx_model.specs.Outcomes.{Outcome, ◌>>=◌, refuse}
-use Rattle.smx_model.specs.Paths.{reaches}
 use Rattle.smx_model.specs.Standing.{is_persistent, is_below}
 
--- the refusals of linking once both streams are known
-abbrev pub may_link : List DriverSpec → Configuration → StreamId → StreamId → Result (Unit {0}) Fault
-may_link drivers c upper lower = do
+-- the refusals of linking that the upper stream decides
+abbrev pub may_have_links : List DriverSpec → Configuration → StreamId → Result (Unit {0}) Fault
+may_have_links drivers c upper = do
   above ← refuse Below (is_below c.links upper)
-  mux ← refuse NotMux (not (is_mux drivers upper.driver))
-  free ← refuse AlreadyBelow (is_below c.links lower)
-  no_cycle ← refuse Cycle ((lower.driver == upper.driver) || reaches c.links lower.driver upper.driver)
-  refuse TooManyLinks (nat_le MAX_LINKS (length c.links) || nat_le NUMBER_END c.next_id)
+  refuse NotMux (not (is_mux drivers upper.driver))
 
 -- ordinary links made on this very stream, persistent links of its driver
 abbrev pub may_unlink : LinkKind → StreamId → Link → Bool

@@ -15,8 +15,9 @@ use crate::lists::Lists;
 use crate::lookups::mux_stream;
 use crate::refuse::refuse;
 use crate::step_error::StepError;
+use smx_links::LinkTable;
 use smx_model::laws_of_steps::idle_changes_drop_none;
-use smx_types::{Binding, DriverSpec, Fault, Link, Process, Reply, Route, Serials, StreamId};
+use smx_types::{Binding, DriverSpec, Fault, Process, Reply, Route, Serials, StreamId};
 use std::alloc::Global;
 
 fn is_taken(binds: &[Binding], stream: StreamId, addr: u32) -> bool
@@ -52,6 +53,7 @@ pub fn bind(
     requires { StepInvariant drivers.now lists.old }
     ensures refines { RefinesOrNoMemory drivers.now lists.old lists.new process (command.Bind fd addr) result }
     ensures kept { HasRoom lists.new }
+    ensures drivers { lists.new.links.drivers ≡ lists.old.links.drivers }
 {
     idle_changes_drop_none();
     let stream = mux_stream(drivers, lists, process, fd)?;
@@ -98,6 +100,7 @@ pub fn unbind(
     requires { StepInvariant drivers.now lists.old }
     ensures refines { Refines drivers.now lists.old lists.new process (command.Unbind fd) result }
     ensures kept { HasRoom lists.new }
+    ensures drivers { lists.new.links.drivers ≡ lists.old.links.drivers }
 {
     idle_changes_drop_none();
     let stream = mux_stream(drivers, lists, process, fd)?;
@@ -108,14 +111,18 @@ pub fn unbind(
     })
 }
 
-fn has_link(links: &[Link], driver: u8, id: u32) -> bool
-    ensures { result ≡ list_any (λ l. (l.id == id) && (l.ctl.driver == driver)) links.now }
+fn has_link(links: &LinkTable, driver: u8, id: u32) -> bool
+    ensures { result ≡ list_any (λ l. (l.id == id) && (l.ctl.driver == driver)) links.now.links }
 {
-    links.iter().any(|l| l.id == id && l.ctl.driver == driver)
+    links.is_sound();
+    match links.get(id) {
+        Some(link) => link.ctl.driver == driver,
+        None => false,
+    }
 }
 
 fn refuse_no_link(lists: &Lists, driver: u8, id: u32) -> Result<(), Fault>
-    ensures { result ≡ refuse NoLink (not (list_any (λ l. (l.id == id) && (l.ctl.driver == driver)) lists.now.links.items)) }
+    ensures { result ≡ refuse NoLink (not (list_any (λ l. (l.id == id) && (l.ctl.driver == driver)) lists.now.links.links)) }
 {
     refuse(Fault::NoLink, !has_link(&lists.links, driver, id))
 }
@@ -149,6 +156,7 @@ pub fn route(
     requires { StepInvariant drivers.now lists.old }
     ensures refines { RefinesOrNoMemory drivers.now lists.old lists.new process (command.Route fd addr id) result }
     ensures kept { HasRoom lists.new }
+    ensures drivers { lists.new.links.drivers ≡ lists.old.links.drivers }
 {
     idle_changes_drop_none();
     let stream = mux_stream(drivers, lists, process, fd)?;
@@ -185,6 +193,7 @@ pub fn unroute(
     requires { StepInvariant drivers.now lists.old }
     ensures refines { Refines drivers.now lists.old lists.new process (command.Unroute fd addr) result }
     ensures kept { HasRoom lists.new }
+    ensures drivers { lists.new.links.drivers ≡ lists.old.links.drivers }
 {
     idle_changes_drop_none();
     let stream = mux_stream(drivers, lists, process, fd)?;

@@ -15,7 +15,6 @@ use crate::insertion_index::fd_insertion_index;
 use crate::lists::Lists;
 use crate::lookups::{free_fd, free_minor, stream_of};
 use crate::refuse::refuse;
-use crate::standing::is_below;
 use crate::step_error::StepError;
 use crate::sweep::{reserve_for_sweep, sweep_and_reply};
 use smx_types::{Descriptor, DriverSpec, Fault, Name, Process, Reply, StreamId};
@@ -37,6 +36,7 @@ fn add_fd(lists: &mut Lists, process: Process, fd: u32, stream: StreamId)
     requires free { IsFree process fd lists.old.fds.items }
     ensures value { configuration_of lists.new ≡ with_fd (configuration_of lists.old) process fd stream }
     ensures kept { HasRoom lists.new }
+    ensures drivers { lists.new.links.drivers ≡ lists.old.links.drivers }
 {
     let _number = process.get();
     let d = Descriptor {
@@ -56,6 +56,7 @@ pub fn open_clone(
     requires { StepInvariant drivers.now lists.old }
     ensures refines { Refines drivers.now lists.old lists.new process (OpenClone name.now) result }
     ensures kept { HasRoom lists.new }
+    ensures drivers { lists.new.links.drivers ≡ lists.old.links.drivers }
 {
     let driver = driver_of(drivers, name)?;
     let minor = free_minor(drivers, lists, driver)?;
@@ -81,6 +82,7 @@ pub fn open_minor(
     requires { StepInvariant drivers.now lists.old }
     ensures refines { Refines drivers.now lists.old lists.new process (OpenMinor name.now minor) result }
     ensures kept { HasRoom lists.new }
+    ensures drivers { lists.new.links.drivers ≡ lists.old.links.drivers }
 {
     let driver = driver_of(drivers, name)?;
     refuse(Fault::NoMinor, minors_of(drivers, driver) <= minor)?;
@@ -88,7 +90,7 @@ pub fn open_minor(
         driver: driver as u8,
         minor: minor as u8,
     };
-    refuse(Fault::Below, is_below(&lists.links, stream))?;
+    refuse(Fault::Below, lists.links.is_below(stream))?;
     let fd = free_fd(lists, process)?;
     add_fd(lists, process, fd, stream);
     Ok(Reply::Fd { fd, minor })
@@ -103,6 +105,7 @@ pub fn dup(
     requires { StepInvariant drivers.now lists.old }
     ensures refines { Refines drivers.now lists.old lists.new process (Dup fd) result }
     ensures kept { HasRoom lists.new }
+    ensures drivers { lists.new.links.drivers ≡ lists.old.links.drivers }
 {
     let stream = stream_of(lists, process, fd)?;
     let fd = free_fd(lists, process)?;
@@ -144,6 +147,7 @@ pub fn close(
     requires { StepInvariant drivers.now lists.old }
     ensures refines { RefinesOrNoMemory drivers.now lists.old lists.new process (Close fd) result }
     ensures kept { HasRoom lists.new }
+    ensures drivers { lists.new.links.drivers ≡ lists.old.links.drivers }
 {
     let _stream = stream_of(lists, process, fd)?;
     let room = reserve_for_sweep(alloc, lists)?;
@@ -160,6 +164,7 @@ pub fn close_all(
     requires { StepInvariant drivers.now lists.old }
     ensures refines { RefinesOrNoMemory drivers.now lists.old lists.new process CloseAll result }
     ensures kept { HasRoom lists.new }
+    ensures drivers { lists.new.links.drivers ≡ lists.old.links.drivers }
 {
     let room = reserve_for_sweep(alloc, lists)?;
     drop_process(&mut lists.fds, process);

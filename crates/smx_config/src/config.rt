@@ -22,7 +22,7 @@ use crate::settling::settle_after;
 use crate::show::{
     binding_lines, descriptor_lines, full_lines, link_lines, message_lines, route_lines,
 };
-use crate::shown_lines::are_shown;
+use crate::shown_lines::{are_links_shown, are_shown};
 use crate::step_error::StepError;
 use smx_model::laws_of_steps::{
     commands_keep, empty_is_kept, outcomes_are_sound, refusals_change_nothing,
@@ -54,12 +54,11 @@ impl Model for Config {
     ghost invariant = { ConfigInvariant };
 }
 
-// Links are no more than the ids that were given, and those fit.
+// Links are no more than 1,024.
 fn count_links(lists: &Lists) -> u32
-    requires { length lists.now.links.items ≤ lists.now.next_id }
-    ensures { result ≡ length lists.now.links.items }
+    ensures { result ≡ length lists.now.links.links }
 {
-    let _next_id = lists.next_id;
+    lists.links.is_sound();
     lists.links.len() as u32
 }
 
@@ -76,7 +75,7 @@ impl Config {
         let Ok(drivers) = Vec::from_slice(alloc, drivers) else {
             return Err(ConfigFault::NoMemory);
         };
-        let Ok(lists) = empty_lists(alloc) else {
+        let Ok(lists) = empty_lists(alloc, drivers.len()) else {
             return Err(ConfigFault::NoMemory);
         };
         Ok(Config {
@@ -158,7 +157,7 @@ impl Config {
         let msgs = message_lines(alloc, drivers, &self.lists.flow)?;
         let fulls = full_lines(alloc, drivers, &self.lists.fulls)?;
         Ok(ConfigView {
-            next_id: self.lists.next_id,
+            next_id: self.lists.links.next_id(),
             next_serial: self.lists.next_serial,
             fds: DescriptorLines::from_vec(fds),
             links: LinkLines::from_vec(links),
@@ -174,10 +173,10 @@ impl Config {
         ensures { IsTrue result ↔ (shown.now ≡ view self.now.drivers self.now.configuration) }
     {
         let drivers: &[DriverSpec] = &self.drivers;
-        shown.next_id == self.lists.next_id
+        shown.next_id == self.lists.links.next_id()
             && shown.next_serial == self.lists.next_serial
             && are_shown(drivers, &self.lists.fds, shown.fds.as_slice())
-            && are_shown(drivers, &self.lists.links, shown.links.as_slice())
+            && are_links_shown(drivers, &self.lists.links, shown.links.as_slice())
             && are_shown(drivers, &self.lists.binds, shown.binds.as_slice())
             && are_shown(drivers, &self.lists.routes, shown.routes.as_slice())
             && are_shown(drivers, &self.lists.flow, shown.msgs.as_slice())

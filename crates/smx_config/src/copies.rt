@@ -1,12 +1,14 @@
 //! The same lists again.
 
 ghost use Rattle.std.specs.Prelude.{◌≡◌, ◌≤◌, length, vec_capacity, IfOk};
+ghost use Rattle.smx_types.specs.declared.limits.TheConstants.{MAX_DRIVERS};
 ghost use Rattle.smx_model.specs.Configuration.{empty};
 ghost use Rattle.smx_config.specs.ModelOfLists.{configuration_of};
 ghost use Rattle.smx_config.specs.ReservedRoom.{HasRoom};
 
 use crate::lists::Lists;
 use crate::queued_message::QueuedMessage;
+use smx_links::LinkTable;
 use smx_types::{Descriptor, NoMemory, Place};
 use std::alloc::Global;
 
@@ -50,13 +52,13 @@ fn copy_fulls(alloc: Global, fulls: &[Place], room: usize) -> Result<Vec<Place>,
 pub fn copy_lists(alloc: Global, lists: &Lists) -> Result<Lists, NoMemory>
     requires { HasRoom lists.now }
     ensures value { IfOk result (λ l. configuration_of l ≡ configuration_of lists.now) }
+    ensures drivers { IfOk result (λ l. l.links.drivers ≡ lists.now.links.drivers) }
     ensures room { IfOk result HasRoom }
 {
     let flow = copy_flow(alloc, &lists.flow)?;
     Ok(Lists {
         fds: copy_fds(alloc, &lists.fds)?,
-        links: Vec::from_slice(alloc, &lists.links)?,
-        next_id: lists.next_id,
+        links: lists.links.copy()?,
         binds: Vec::from_slice(alloc, &lists.binds)?,
         routes: Vec::from_slice(alloc, &lists.routes)?,
         flow,
@@ -65,14 +67,16 @@ pub fn copy_lists(alloc: Global, lists: &Lists) -> Result<Lists, NoMemory>
     })
 }
 
-pub fn empty_lists(alloc: Global) -> Result<Lists, NoMemory>
+// Empty lists, for so many drivers.
+pub fn empty_lists(alloc: Global, drivers: usize) -> Result<Lists, NoMemory>
+    requires { drivers ≤ MAX_DRIVERS }
     ensures value { IfOk result (λ l. configuration_of l ≡ empty) }
+    ensures drivers { IfOk result (λ l. l.links.drivers ≡ drivers) }
     ensures room { IfOk result HasRoom }
 {
     Ok(Lists {
         fds: Vec::with_capacity(alloc, 1024)?,
-        links: Vec::new(alloc),
-        next_id: 1,
+        links: LinkTable::new(alloc, drivers)?,
         binds: Vec::new(alloc),
         routes: Vec::new(alloc),
         flow: Vec::new(alloc),

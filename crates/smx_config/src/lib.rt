@@ -1,4 +1,4 @@
-//! The sequential configuration over plain lists: each command does what the model's command table says.
+//! The sequential configuration: each command does what the model's command table says.
 #![tactic(auto)]
 
 mod commands_of_addresses;
@@ -18,7 +18,6 @@ pub mod laws_of_drivers;
 pub mod laws_of_verdicts;
 mod lists;
 mod lookups;
-mod paths;
 mod perform;
 mod queued_message;
 mod queues;

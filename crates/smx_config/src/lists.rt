@@ -1,14 +1,14 @@
 //! The lists of a configuration.
 
 use crate::queued_message::QueuedMessage;
-use smx_types::{Binding, Descriptor, Link, Place, Route};
+use smx_links::LinkTable;
+use smx_types::{Binding, Descriptor, Place, Route};
 
 /// All of a configuration, each list in the order in which it is shown.
 #[derive(Debug, Drop)]
 pub struct Lists {
     pub fds: Vec<Descriptor>,
-    pub links: Vec<Link>,
-    pub next_id: u32,
+    pub links: LinkTable,
     pub binds: Vec<Binding>,
     pub routes: Vec<Route>,
     pub flow: Vec<QueuedMessage>,

@@ -13,7 +13,7 @@ use crate::descriptors::{descriptor_of, least_fd};
 use crate::driver_specs::{driver_of, is_mux, minors_of};
 use crate::lists::Lists;
 use crate::refuse::refuse;
-use crate::standing::{is_below, least_minor, stands_within};
+use crate::standing::{least_minor, stands_within};
 use smx_types::{DriverSpec, Fault, Name, Process, StreamId};
 
 pub fn exists(drivers: &[DriverSpec], lists: &Lists, stream: StreamId) -> bool
@@ -64,7 +64,7 @@ pub fn free_stream(lists: &Lists, process: Process, fd: u32) -> Result<StreamId,
     ensures { result ≡ free_stream (configuration_of lists.now) process fd }
 {
     let stream = stream_of(lists, process, fd)?;
-    refuse(Fault::Below, is_below(&lists.links, stream))?;
+    refuse(Fault::Below, lists.links.is_below(stream))?;
     Ok(stream)
 }
 

@@ -36,6 +36,7 @@ pub fn perform(
     ensures refines { RefinesOrNoMemory drivers.now lists.old lists.new process command.now result }
     ensures in_place { IsTrue (takes_no_memory command.now) → result ≢ Err step_error.NoMemory }
     ensures room { HasRoom lists.new }
+    ensures drivers { lists.new.links.drivers ≡ lists.old.links.drivers }
 {
     match command {
         Command::OpenClone { driver } => as_step_error(open_clone(drivers, lists, process, driver)),

@@ -152,6 +152,7 @@ pub fn leave(drivers: &[DriverSpec], lists: &mut Lists, place: Place) -> Option<
     ensures first { result ≡ first_message lists.old.flow.items place }
     ensures value { configuration_of lists.new ≡ after_leaving drivers.now (configuration_of lists.old) place }
     ensures kept { HasRoom lists.new }
+    ensures drivers { lists.new.links.drivers ≡ lists.old.links.drivers }
     ensures one_less { IfSome result (λ _. length lists.new.flow.items + 1 ≡ length lists.old.flow.items) }
     ensures capacity { vec_capacity lists.new.flow ≡ vec_capacity lists.old.flow }
     ensures marks_capacity { vec_capacity lists.new.fulls ≡ vec_capacity lists.old.fulls }
@@ -169,6 +170,7 @@ pub fn arrive(drivers: &[DriverSpec], lists: &mut Lists, place: Place, message: 
     requires marks_room { length lists.old.flow.items < vec_capacity lists.old.fulls }
     ensures value { configuration_of lists.new ≡ after_arrival drivers.now (configuration_of lists.old) place message }
     ensures kept { HasRoom lists.new }
+    ensures drivers { lists.new.links.drivers ≡ lists.old.links.drivers }
 {
     put_message(&mut lists.flow, QueuedMessage::new(place, message));
     let full = becomes_full(drivers, &lists.flow, &lists.fulls, place);

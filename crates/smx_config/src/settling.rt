@@ -1,7 +1,6 @@
 //! Messages that move on.
 
 ghost use Rattle.std.specs.Prelude.{IsTrue, ◌≡◌, ◌≤◌, ◌==◌, ◌&&◌, false, find, length, IfSome, Some};
-ghost use Rattle.smx_model.specs.Configuration.{same_stream};
 ghost use Rattle.smx_model.specs.FlowOrder.{IsInOrder};
 ghost use Rattle.smx_model.specs.KeptConfigurations.{IsSound};
 ghost use Rattle.smx_model.specs.Queues.{first_message};
@@ -15,9 +14,10 @@ use crate::driver_specs::is_mux;
 use crate::lists::Lists;
 use crate::queued_message::QueuedMessage;
 use crate::queues::{arrive, is_full, leave};
-use crate::streams::{same_place, same_stream};
+use crate::streams::same_place;
+use smx_links::LinkTable;
 use smx_model::laws_of_steps::moves_keep_soundness;
-use smx_types::{Binding, Command, DriverSpec, Link, Place, Route, Side, StreamId};
+use smx_types::{Binding, Command, DriverSpec, Place, Route, Side, StreamId};
 
 // A message goes from one place to another.
 #[derive(Clone, Copy, Debug)]
@@ -35,18 +35,6 @@ fn route_of(routes: &[Route], driver: u8, addr: u32) -> Option<Route>
         .find(|r| r.driver == driver && r.addr == addr)
 }
 
-fn link_of(links: &[Link], id: u32) -> Option<Link>
-    ensures { result ≡ find (λ l. l.id == id) links.now }
-{
-    links.iter().copied().find(|l| l.id == id)
-}
-
-fn link_above(links: &[Link], stream: StreamId) -> Option<Link>
-    ensures { result ≡ find (λ l. same_stream l.lower stream) links.now }
-{
-    links.iter().copied().find(|l| same_stream(l.lower, stream))
-}
-
 fn binding_of(binds: &[Binding], driver: u8, addr: u32) -> Option<Binding>
     ensures { result ≡ find (λ b. (b.driver == driver) && (b.addr == addr)) binds.now }
 {
@@ -57,11 +45,11 @@ fn binding_of(binds: &[Binding], driver: u8, addr: u32) -> Option<Binding>
 }
 
 // The write side of the stream below the link of the driver's route.
-fn down(links: &[Link], routes: &[Route], driver: u8, addr: u32) -> Option<Place>
-    ensures { result ≡ place_below links.now routes.now driver addr }
+fn down(links: &LinkTable, routes: &[Route], driver: u8, addr: u32) -> Option<Place>
+    ensures { result ≡ place_below links.now.links routes.now driver addr }
 {
     let route = route_of(routes, driver, addr)?;
-    let link = link_of(links, route.id)?;
+    let link = links.get(route.id)?;
     Some(Place {
         stream: link.lower,
         side: Side::Write,
@@ -69,10 +57,10 @@ fn down(links: &[Link], routes: &[Route], driver: u8, addr: u32) -> Option<Place
 }
 
 // The read side of the stream that is bound to the address on the upper driver.
-fn up(links: &[Link], binds: &[Binding], stream: StreamId, addr: u32) -> Option<Place>
-    ensures { result ≡ place_above links.now binds.now stream addr }
+fn up(links: &LinkTable, binds: &[Binding], stream: StreamId, addr: u32) -> Option<Place>
+    ensures { result ≡ place_above links.now.links binds.now stream addr }
 {
-    let link = link_above(links, stream)?;
+    let link = links.above(stream)?;
     let binding = binding_of(binds, link.ctl.driver, addr)?;
     Some(Place {
         stream: StreamId {
@@ -166,6 +154,7 @@ fn move_on(drivers: &[DriverSpec], lists: &mut Lists, next: Move)
     requires open { next_open_place drivers.now (configuration_of lists.old) next.from ≡ Some next.to }
     ensures value { configuration_of lists.new ≡ after_move drivers.now (configuration_of lists.old) next.from }
     ensures kept { HasRoom lists.new }
+    ensures drivers { lists.new.links.drivers ≡ lists.old.links.drivers }
 {
     if let Some(message) = leave(drivers, lists, next.from) {
         arrive(drivers, lists, next.to, message);
@@ -178,6 +167,7 @@ fn settle(drivers: &[DriverSpec], lists: &mut Lists)
     requires sound { IsSound drivers.now (configuration_of lists.old) }
     ensures value { configuration_of lists.new ≡ after_settling drivers.now (configuration_of lists.old) }
     ensures kept { HasRoom lists.new }
+    ensures drivers { lists.new.links.drivers ≡ lists.old.links.drivers }
 {
     moves_keep_soundness();
     let mut left = lists.flow.len() as u128 * drivers.len() as u128;
@@ -221,6 +211,7 @@ pub fn settle_after(drivers: &[DriverSpec], lists: &mut Lists, command: &Command
     requires open { IsTrue (is_open command.now) → IsSettled drivers.now (configuration_of lists.old) }
     ensures value { configuration_of lists.new ≡ after_settling drivers.now (configuration_of lists.old) }
     ensures kept { HasRoom lists.new }
+    ensures drivers { lists.new.links.drivers ≡ lists.old.links.drivers }
 {
     if !is_open(command) {
         settle(drivers, lists);

@@ -7,6 +7,7 @@ ghost use Rattle.smx_model.specs.Views.{view_of_fd, view_of_link, view_of_bind, 
 ghost use Rattle.smx_model.specs.Views.{view_of_message, view_of_full};
 
 use crate::queued_message::QueuedMessage;
+use smx_links::LinkTable;
 use smx_types::{
     Binding, BindingLine, Descriptor, DescriptorLine, DriverSpec, FullLine, Link, LinkLine,
     MessageLine, Name, NoMemory, Place, Route, RouteLine,
@@ -116,15 +117,17 @@ pub fn descriptor_lines(
 pub fn link_lines(
     alloc: Global,
     drivers: &[DriverSpec],
-    links: &[Link],
+    links: &LinkTable,
 ) -> Result<Vec<LinkLine>, NoMemory>
-    requires ctl { All (λ l. l.ctl.driver < length drivers.now) links.now }
-    requires lower { All (λ l. l.lower.driver < length drivers.now) links.now }
-    ensures { IfOk result (λ v. v.items ≡ map (view_of_link drivers.now) links.now) }
+    requires ctl { All (λ l. l.ctl.driver < length drivers.now) links.now.links }
+    requires lower { All (λ l. l.lower.driver < length drivers.now) links.now.links }
+    ensures { IfOk result (λ v. v.items ≡ map (view_of_link drivers.now) links.now.links) }
 {
     let mut lines = Vec::with_capacity(alloc, links.len())?;
-    for l in links {
-        lines.push(link_line(drivers, l))?;
+    for i in 0..links.len() {
+        if let Some(l) = links.at(i) {
+            lines.push(link_line(drivers, l))?;
+        }
     }
     Ok(lines)
 }

@@ -2,9 +2,11 @@
 
 ghost use Rattle.std.specs.Prelude.{◌≡◌, ◌↔◌, ◌<◌, length, map, IsTrue};
 ghost use Rattle.std.specs.List.{All};
+ghost use Rattle.smx_model.specs.Views.{view_of_link};
 
 use crate::queued_message::QueuedMessage;
 use crate::show::{binding_line, descriptor_line, full_line, link_line, name_of, route_line};
+use smx_links::LinkTable;
 use smx_types::{
     Binding, BindingLine, Descriptor, DescriptorLine, DriverSpec, FullLine, Link, LinkLine,
     MessageLine, Place, Route, RouteLine,
@@ -132,6 +134,25 @@ pub fn are_shown<T: Shown>(drivers: &[DriverSpec], items: &[T], lines: &[T::Line
     for (item, line) in items.iter().zip(lines) {
         if !item.is_shown(drivers, line) {
             return false;
+        }
+    }
+    true
+}
+
+/// The same of the links of a table.
+pub fn are_links_shown(drivers: &[DriverSpec], links: &LinkTable, lines: &[LinkLine]) -> bool
+    requires ctl { All (λ l. l.ctl.driver < length drivers.now) links.now.links }
+    requires lower { All (λ l. l.lower.driver < length drivers.now) links.now.links }
+    ensures { IsTrue result ↔ (lines.now ≡ map (view_of_link drivers.now) links.now.links) }
+{
+    if links.len() != lines.len() {
+        return false;
+    }
+    for i in 0..links.len() {
+        if let Some(link) = links.at(i) {
+            if !link.is_shown(drivers, &lines[i]) {
+                return false;
+            }
         }
     }
     true

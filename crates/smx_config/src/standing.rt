@@ -1,12 +1,11 @@
 //! Which streams exist.
 
-ghost use Rattle.std.specs.Prelude.{◌≡◌, ◌≤◌, ◌&&◌, not, find, List};
-ghost use Rattle.std.specs.List.{list_any, range_with_len};
-ghost use Rattle.smx_model.specs.Configuration.{same_stream};
-ghost use Rattle.smx_model.specs.Standing.{is_persistent, is_named, is_below, stands_within};
-ghost use Rattle.smx_config.specs.Climbs.{is_held};
+ghost use Rattle.std.specs.Prelude.{◌≡◌, not, find};
+ghost use Rattle.std.specs.List.{range_with_len};
+ghost use Rattle.smx_model.specs.Standing.{is_persistent, is_named, stands_within};
 
 use crate::streams::same_stream;
+use smx_links::LinkTable;
 use smx_types::{Descriptor, Link, LinkKind, StreamId};
 
 pub fn is_persistent(link: &Link) -> bool
@@ -25,59 +24,35 @@ pub fn is_named(fds: &[Descriptor], stream: StreamId) -> bool
     fds.iter().any(|d| same_stream(d.stream, stream))
 }
 
-// Whether the stream is the lower of a link.
-pub fn is_below(links: &[Link], stream: StreamId) -> bool
-    ensures { result ≡ is_below links.now stream }
+// Whether the stream stands within so many climbs. A climb goes over the one link above a stream, which is a look-up.
+pub fn stands_within(fds: &[Descriptor], links: &LinkTable, climbs: usize, stream: StreamId) -> bool
+    ensures { result ≡ stands_within fds.now links.now.links climbs stream }
 {
-    links.iter().any(|l| same_stream(l.lower, stream))
-}
-
-// Whether a persistent link holds the stream.
-fn is_kept(links: &[Link], stream: StreamId) -> bool
-    ensures { result ≡ list_any (λ l. is_persistent l && same_stream l.lower stream) links.now }
-{
-    links
-        .iter()
-        .any(|l| is_persistent(l) && same_stream(l.lower, stream))
-}
-
-fn is_held(fds: &[Descriptor], links: &[Link], stream: StreamId) -> bool
-    ensures { result ≡ is_held fds.now links.now stream }
-{
-    is_named(fds, stream) || is_kept(links, stream)
-}
-
-// Whether the stream stands within so many climbs. A climb goes over the one link above a stream, so this takes a
-// pass over both lists a climb.
-pub fn stands_within(fds: &[Descriptor], links: &[Link], climbs: usize, stream: StreamId) -> bool
-    ensures { result ≡ stands_within fds.now links.now climbs stream }
-{
-    if is_held(fds, links, stream) {
+    links.is_sound();
+    if is_named(fds, stream) {
+        return true;
+    }
+    let Some(link) = links.above(stream) else {
+        return false;
+    };
+    if is_persistent(link) {
         return true;
     }
     if climbs == 0 {
         return false;
     }
-    for link in links {
-        if !is_persistent(link)
-            && same_stream(link.lower, stream)
-            && stands_within(fds, links, climbs - 1, link.ctl)
-        {
-            return true;
-        }
-    }
-    false
+    stands_within(fds, links, climbs - 1, link.ctl)
 }
 
 // The least minor below `minors` whose stream doesn't stand.
 pub fn least_minor(
     fds: &[Descriptor],
-    links: &[Link],
+    links: &LinkTable,
     climbs: usize,
     driver: u8,
     minors: u8,
 ) -> Option<u8>
-    ensures { result ≡ find (λ m. not (stands_within fds.now links.now climbs (record { driver = driver; minor = m }))) (range_with_len 0 minors) }
+    ensures { result ≡ find (λ m. not (stands_within fds.now links.now.links climbs (record { driver = driver; minor = m }))) (range_with_len 0 minors) }
 {
     (0..minors).find(|minor| {
         let stream = StreamId {

@@ -1,5 +1,6 @@
 //! Why a command made no step.
 
+use smx_links::LinkFault;
 use smx_types::{Fault, NoMemory};
 use std::alloc::{AllocError, AllocFailed};
 
@@ -29,6 +30,22 @@ impl From<NoMemory> for StepError {
 
     fn from(_e: NoMemory) -> StepError {
         StepError::NoMemory
+    }
+}
+
+impl From<LinkFault> for StepError {
+    ghost use Rattle.std.specs.Prelude.{◌≡◌};
+    ghost use Rattle.smx_config.specs.LinkFaults.{as_step_error};
+
+    ghost from_gives = { λ f e. e ≡ as_step_error f };
+
+    fn from(fault: LinkFault) -> StepError {
+        match fault {
+            LinkFault::Already => StepError::Refused(Fault::AlreadyBelow),
+            LinkFault::Cycle => StepError::Refused(Fault::Cycle),
+            LinkFault::Full => StepError::Refused(Fault::TooManyLinks),
+            LinkFault::NoMemory => StepError::NoMemory,
+        }
     }
 }
 

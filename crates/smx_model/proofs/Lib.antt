@@ -32,3 +32,8 @@ pub mod BindingLemmas
 pub mod RoutingLemmas
 pub mod ReportLemmas
 pub mod IllegalEntryLemmas
+pub mod IdLemmas
+pub mod WaitingLemmas
+pub mod TurningLemmas
+pub mod TurningCommandLemmas
+pub mod KnownPlaceLemmas

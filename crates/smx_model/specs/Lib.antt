@@ -11,10 +11,12 @@ pub mod FlowOrder
 pub mod OrderedParts
 pub mod Settling
 pub mod LeastMovable
+pub mod RunMarks
 pub mod Removal
 pub mod MeantLinks
 pub mod Outcomes
 pub mod Lookups
+pub mod TurnedPlaces
 pub mod Commands
 pub mod Histories
 pub mod IllegalEntries

@@ -13,9 +13,13 @@ use Rattle.smx_model.specs.Ordered.{with_inserted, without_first}
 abbrev pub queue : List QueuedMessage → Place → List Message
 queue flow p = map (λ h. h.message) (filter (is_at p) flow)
 
--- how many bytes they have together
+-- how many bytes some messages have together
+abbrev pub bytes_of : List Message → ℕ
+bytes_of messages = sum_by (λ m. length m.bytes) messages
+
+-- how many bytes the messages at a place have together
 abbrev pub bytes_at : List QueuedMessage → Place → ℕ
-bytes_at flow p = sum_by (λ m. length m.bytes) (queue flow p)
+bytes_at flow p = bytes_of (queue flow p)
 
 -- the first message at a place
 abbrev pub first_message : List QueuedMessage → Place → Option Message
@@ -25,22 +29,29 @@ first_message flow p = option_map (λ h. h.message) (find (is_at p) flow)
 abbrev pub is_full : Configuration → Place → Bool
 is_full c p = list_any (same_place p) c.fulls
 
+-- after an arrival a place is full if it was, or if it now has as many bytes as its high water mark (STREAMS guide, flow
+-- control; the exact reading is this project's own)
+abbrev pub full_after_arrival : Bool → ℕ → ℕ → Bool
+full_after_arrival was high bytes = was || nat_le high bytes
+
+-- after a leaving it is full if it was and still has more bytes than its low water mark (the same)
+abbrev pub full_after_leaving : Bool → ℕ → ℕ → Bool
+full_after_leaving was low bytes = was && nat_lt low bytes
+
 -- with the place marked as full, or not
 abbrev pub with_mark : Place → Bool → List Place → List Place
 with_mark p full fulls = if full then with_inserted place_before (without_mark p fulls) p else without_mark p fulls where
   without_mark : Place → List Place → List Place
   without_mark p fulls = filter (λ q. not (same_place p q)) fulls
 
--- a message arrives at a place, which is full if it was or if it now has as many bytes as its high water mark
--- (STREAMS guide, flow control; the exact reading is this project's own)
+-- a message arrives at a place
 abbrev pub after_arrival : List DriverSpec → Configuration → Place → Message → Configuration
 after_arrival drivers c p m = now (with_inserted queued_before c.flow (record { place = p; message = m })) where
   now : List QueuedMessage → Configuration
-  now flow = record c { flow = flow; fulls = with_mark p (is_full c p || nat_le (high_of drivers p.stream.driver) (bytes_at flow p)) c.fulls }
+  now flow = record c { flow = flow; fulls = with_mark p (full_after_arrival (is_full c p) (high_of drivers p.stream.driver) (bytes_at flow p)) c.fulls }
 
--- the first message leaves a place, which is full if it was and still has more bytes than its low water mark
--- (STREAMS guide, flow control; the exact reading is this project's own)
+-- the first message leaves a place
 abbrev pub after_leaving : List DriverSpec → Configuration → Place → Configuration
 after_leaving drivers c p = now (without_first (is_at p) c.flow) where
   now : List QueuedMessage → Configuration
-  now flow = record c { flow = flow; fulls = with_mark p (is_full c p && nat_lt (low_of drivers p.stream.driver) (bytes_at flow p)) c.fulls }
+  now flow = record c { flow = flow; fulls = with_mark p (full_after_leaving (is_full c p) (low_of drivers p.stream.driver) (bytes_at flow p)) c.fulls }

@@ -1,12 +1,15 @@
 //! Laws of links and routes, each the contract of a function that does nothing.
 
-ghost use Rattle.std.specs.Prelude.{◌≡◌, ◌↔◌, ℕ, ◌==◌, ◌&&◌, ◌||◌, List, [], ◌∷◌, ◌++◌, IsTrue};
+ghost use Rattle.std.specs.Prelude.{◌≡◌, ◌↔◌, ℕ, ◌+◌, ◌==◌, ◌&&◌, ◌||◌, Bool, false, List, [], ◌∷◌, ◌++◌, filter};
+ghost use Rattle.std.specs.Prelude.{nat_lt, IsTrue};
 ghost use Rattle.smx_types.specs.declared.command.Entry.{Entry};
 ghost use Rattle.smx_types.specs.declared.driver.DriverSpec.{DriverSpec};
 ghost use Rattle.smx_types.specs.declared.link.Link.{Link};
 ghost use Rattle.smx_model.specs.Histories.{after};
+ghost use Rattle.smx_model.specs.Ordered.{IsRising};
 ghost use Rattle.smx_model.specs.Paths.{Path, reaches};
 ghost use Rattle.smx_model.specs.SoundLinks.{AreIdsRising, AreLinksSound, AreRoutesSound};
+ghost use Rattle.smx_model.specs.Standing.{is_below};
 
 /// The cycle test finds exactly the paths.
 #[tactic(auto, using(crate::proofs::PathLemmas::reaches_path, crate::proofs::PathLemmas::path_reaches))]
@@ -19,6 +22,41 @@ pub fn one_link_more_joins()
     ensures { (links : List Link) (l : Link) (a b : ℕ) → reaches (links ++ l ∷ []) a b
         ≡ (reaches links a b || (((a == l.ctl.driver) || reaches links a l.ctl.driver)
         && ((l.lower.driver == b) || reaches links l.lower.driver b))) }
+{}
+
+/// Two paths of which one ends where the other starts make one path.
+pub fn paths_join()
+    ensures { (links : List Link) (a b c : ℕ) → IsTrue (reaches links a b) → IsTrue (reaches links b c)
+        → IsTrue (reaches links a c) }
+{}
+
+/// No links are sound, before the first id.
+pub fn no_links_are_sound()
+    ensures sound { AreLinksSound [] }
+    ensures ids { AreIdsRising [] 1 }
+{}
+
+/// A new link keeps links sound, whose lower stream is below none, and from whose lower driver no path leads to its
+/// upper one, which is another.
+pub fn linking_keeps_soundness()
+    ensures { (links : List Link) (l : Link) → AreLinksSound links → is_below links l.lower ≡ false
+        → ((l.lower.driver == l.ctl.driver) || reaches links l.lower.driver l.ctl.driver) ≡ false
+        → AreLinksSound (links ++ l ∷ []) }
+{}
+
+/// The next id is a new link's, and the one after it is then the next.
+pub fn linking_takes_the_next_id()
+    ensures { (links : List Link) (l : Link) → AreIdsRising links l.id → AreIdsRising (links ++ l ∷ []) (l.id + 1) }
+{}
+
+/// Some of sound links are sound, and their ids rise.
+pub fn fewer_links_stay_sound()
+    ensures order { (links : List Link) (stays : Link → Bool) → IsRising (λ l k. nat_lt l.id k.id) links
+        → IsRising (λ l k. nat_lt l.id k.id) (filter stays links) }
+    ensures sound { (links : List Link) (stays : Link → Bool) → AreLinksSound links
+        → AreLinksSound (filter stays links) }
+    ensures ids { (links : List Link) (stays : Link → Bool) (next_id : ℕ) → AreIdsRising links next_id
+        → AreIdsRising (filter stays links) next_id }
 {}
 
 /// After any commands the links form no cycle, and no stream is below two of them.

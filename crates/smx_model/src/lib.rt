@@ -11,6 +11,7 @@ pub mod laws_of_messages;
 pub mod laws_of_queues;
 pub mod laws_of_removals;
 pub mod laws_of_reports;
+pub mod laws_of_run_marks;
 pub mod laws_of_steps;
 pub mod laws_of_streams;
 pub mod laws_of_views;

@@ -1,12 +1,12 @@
 -- What was given to workers, and what came of it.
-use Rattle.std.proofs.Common.{◌≡◌, ◌≢◌, ℕ, ◌+◌, ◌%◌, ◌<◌, true, false, List, [], ◌∷◌, ◌++◌, All, length, map, get_or, set, drop, arith, refl, ap, sym, subst, ◌∙◌, inl, inr, append_assoc}
+use Rattle.std.proofs.Common.{◌≡◌, ◌≢◌, ℕ, suc, ◌+◌, ◌%◌, ◌<◌, true, false, List, [], ◌∷◌, ◌++◌, All, length, map, get_or, set, drop, arith, refl, ap, sym, subst, ◌∙◌, inl, inr, append_assoc}
 use Rattle.std.specs.Prelude.{◌==◌}
 use Rattle.std.specs.List.{range_with_len}
 use Rattle.std.proofs.lemmas.List.FromFn.{length-range_with_len, length-map-range_with_len, map-range_with_len_more, get_or-map-range_with_len, fill_by_all}
 use Rattle.std.proofs.lemmas.Bool.{cases_Bool}
 use Rattle.std.proofs.lemmas.Bool.Decides.{nat_tests}
 use Rattle.std.proofs.lemmas.List.{append-nil, length-map, map-append, map-set, get_or-map, get_or-set_same, get_or-set_other}
-use Rattle.std.proofs.lemmas.List.Elements.{All-push, filter-append}
+use Rattle.std.proofs.lemmas.List.Elements.{All-push, All-set, filter-append}
 use Rattle.smx_types.specs.declared.command.Command.{Command}
 use Rattle.smx_shared.specs.Seats.{Seated}
 use Rattle.smx_run.specs.Hands.{hand_of, hands_of}
@@ -24,6 +24,11 @@ pushed f xs more x ys y added before here = rw added (map-append f xs (x ∷ [])
 -- what holds of all, and of one more at the end
 pub all_more : {A : Type 0} (P : A → Type 0) (xs more : List A) (x : A) → All P xs → P x → more ≡ xs ++ x ∷ [] → All P more
 all_more P xs more x before here added = subst (All P) (sym added) (All-push P xs x before here)
+
+-- nothing is in an empty list that it could not be so of
+pub all_of_none : {A : Type 0} (P : A → Type 0) (xs : List A) → xs ≡ [] → All P xs
+all_of_none P [] none k d below = absurd (omega arith)
+all_of_none P (x ∷ xs) none k d below = absurd cc
 
 -- ---- dealt by number
 
@@ -64,10 +69,10 @@ hand_first workers one all k = filter-append (λ (c : Calls). c.0 % workers == k
 
 -- the seat of the next process, and those after it
 pub next_seat : (n : ℕ) (all seats : List Seated) (s : Seated) (programs later : List (List Command)) (commands : List Command)
-    → all ≡ s ∷ seats → programs ≡ commands ∷ later → map (λ (s : Seated). s.process) all ≡ range_with_len n (length programs)
-    → (s.process ≡ n) × (map (λ (s : Seated). s.process) seats ≡ range_with_len (n + 1) (length later))
+    → all ≡ s ∷ seats → programs ≡ commands ∷ later → map (λ (s : Seated). s.known.process) all ≡ range_with_len n (length programs)
+    → (s.known.process ≡ n) × (map (λ (s : Seated). s.known.process) seats ≡ range_with_len (n + 1) (length later))
 next_seat n all seats s programs later commands first next h =
-    let now : map (λ (s : Seated). s.process) (s ∷ seats) ≡ range_with_len n (length (commands ∷ later)) = rw (first, next) at h in
+    let now : map (λ (s : Seated). s.known.process) (s ∷ seats) ≡ range_with_len n (length (commands ∷ later)) = rw (first, next) at h in
     (cc, cc)
 
 -- what was dealt and what is left to deal, before a process and after it
@@ -90,8 +95,8 @@ all_dealt workers n hands all k [] h none = sym (append-nil hands) ∙ h
 all_dealt workers n hands all k (commands ∷ programs) h none = absurd (omega arith)
 
 -- as many programs are left as there are seats
-pub none_left : (n : ℕ) (seats : List Seated) (programs : List (List Command)) → map (λ (s : Seated). s.process) seats ≡ range_with_len n (length programs) → length seats ≡ 0 → length programs ≡ 0
-none_left n seats programs h none = omega (arith, ap (length {A = ℕ}) h, length-map seats (λ (s : Seated). s.process), length-range_with_len n (length programs))
+pub none_left : (n : ℕ) (seats : List Seated) (programs : List (List Command)) → map (λ (s : Seated). s.known.process) seats ≡ range_with_len n (length programs) → length seats ≡ 0 → length programs ≡ 0
+none_left n seats programs h none = omega (arith, ap (length {A = ℕ}) h, length-map seats (λ (s : Seated). s.known.process), length-range_with_len n (length programs))
 
 -- ---- collected by number
 
@@ -109,6 +114,34 @@ pub take_from : {H : Type 0} (f : H → List Calls) (hands : List H) (at : ℕ) 
 take_from f hands at d new one within is first =
     let now : get_or (map f (set hands at new)) at [] ≡ f new = rw (map-set f hands at new) (get_or-set_same (map f hands) at (f new) [] (omega (arith, length-map hands f))) in
     get_or-map f hands at d [] within ∙ ap f (sym is) ∙ rw now first
+
+-- what is so of all of a list is so of its first, and of the others
+pub take_off : {A : Type 0} (P : A → Type 0) (all rest : List A) (x : A) → all ≡ x ∷ rest → All P all → P x × All P rest
+take_off P all rest x is holds = let each : All P (x ∷ rest) = subst (All P) is holds in
+    (each 0 x (omega arith), λ k d below. each (suc k) d (omega arith))
+
+-- the first of a list, and the others, are that list
+pub first_then_rest : {A : Type 0} (xs rest : List A) (x : A) → x ≡ get_or xs 0 x → rest ≡ drop 1 xs → length rest + 1 ≡ length xs → xs ≡ x ∷ rest
+first_then_rest [] rest x first after many = absurd (omega arith)
+first_then_rest (y ∷ xs) rest x first after many =
+    let same : x ≡ y = first in
+    let others : rest ≡ xs = after in
+    rw (same, others) refl
+
+-- what is so of all in all hands, where one hand gets one more
+pub all_put : {H A : Type 0} (f : H → List A) (P : A → Type 0) (hands : List H) (at : ℕ) (d new : H) (x : A) → at < length hands → d ≡ get_or hands at d → f new ≡ f d ++ x ∷ []
+    → All (λ h. All P (f h)) hands → P x → All (λ h. All P (f h)) (set hands at new)
+all_put f P hands at d new x within is added all here =
+    let old : All P (f d) = subst (λ h. All P (f h)) (sym is) (all at d within) in
+    All-set (λ h. All P (f h)) hands at new (subst (All P) (sym added) (All-push P (f d) x old here)) all
+
+-- and where the first of one hand is taken
+pub all_taken : {H A : Type 0} (f : H → List A) (P : A → Type 0) (hands : List H) (at : ℕ) (d new : H) (x : A) → at < length hands → d ≡ get_or hands at d → f d ≡ x ∷ f new
+    → All (λ h. All P (f h)) hands → P x × All (λ h. All P (f h)) (set hands at new)
+all_taken f P hands at d new x within is first all =
+    let old : All P (f d) = subst (λ h. All P (f h)) (sym is) (all at d within) in
+    let both = take_off P (f d) (f new) x first old in
+    (both.0, All-set (λ h. All P (f h)) hands at new both.1 all)
 
 -- and the other hands are as they were
 pub keep_others : {H : Type 0} (f : H → List Calls) (hands : List H) (at : ℕ) (new : H) (k : ℕ) → k ≢ at → get_or (map f (set hands at new)) k [] ≡ get_or (map f hands) k []
@@ -144,12 +177,12 @@ take_next workers p m programs later commands old new one next more before withi
     )
 
 -- what was called and what is left to collect, before a process and after it
-pub collect_next : (p m : ℕ) (old new goal : List (List (ℕ × Command))) (one : Calls) (programs later : List (List Command)) (commands : List Command)
-    → old ++ map (λ (c : Calls). c.1) (numbered p programs) ≡ goal → new ≡ old ++ one.1 ∷ [] → one ≡ (p, calls_of p commands) → m ≡ p + 1 → programs ≡ commands ∷ later
-    → new ++ map (λ (c : Calls). c.1) (numbered m later) ≡ goal
+pub collect_next : (p m : ℕ) (old new goal : List Calls) (one : Calls) (programs later : List (List Command)) (commands : List Command)
+    → old ++ numbered p programs ≡ goal → new ≡ old ++ one ∷ [] → one ≡ (p, calls_of p commands) → m ≡ p + 1 → programs ≡ commands ∷ later
+    → new ++ numbered m later ≡ goal
 collect_next p m old new goal one programs later commands before now is more next =
-    let was : old ++ (calls_of p commands ∷ map (λ (c : Calls). c.1) (numbered (p + 1) later)) ≡ goal = rw next at before in
-    rw (now, is, more) (append_assoc old (calls_of p commands ∷ []) (map (λ (c : Calls). c.1) (numbered (p + 1) later)) ∙ was)
+    let was : old ++ ((p, calls_of p commands) ∷ numbered (p + 1) later) ≡ goal = rw next at before in
+    rw (now, is, more) (append_assoc old ((p, calls_of p commands) ∷ []) (numbered (p + 1) later) ∙ was)
 
 -- there are as many hands as workers
 pub hand_count : (workers : ℕ) (all : List Calls) (hands : List (List Calls)) → hands ≡ hands_of workers all → length hands ≡ workers

@@ -1,4 +1,5 @@
+pub mod FrontLemmas
 pub mod GatheringLemmas
 pub mod HandLemmas
 pub mod ProgramOrderLemmas
-pub mod TranscriptLemmas
+pub mod RunLemmas

@@ -1,8 +1,10 @@
 -- Commands that are performed after one another.
-use Rattle.std.proofs.Common.{◌≡◌, ℕ, List, [], ◌++◌, map, sym, ◌∙◌, refl, append_assoc}
+use Rattle.std.proofs.Common.{◌≡◌, ℕ, List, [], ◌++◌, map, sym, ap, ◌∙◌, refl, append_assoc}
 use Rattle.std.proofs.lemmas.List.{append-nil, map-append}
 use Rattle.smx_types.specs.declared.command.Command.{Command}
+use Rattle.smx_types.specs.declared.command.Entry.{Entry}
 use Rattle.smx_model.specs.Histories.{call_of}
+use Rattle.smx_shared.specs.Seats.{Known}
 use Rattle.smx_run.specs.ProgramOrder.{calls_of}
 use Rattle.smx_run.specs.Desks.{PerformedAlone, PerformedSeated}
 use Rattle.smx_run.specs.declared.desk.Alone.{Alone}
@@ -19,24 +21,25 @@ calls_then before between after p q xs ys same first second =
 
 -- no command changes nothing
 pub alone_none : (a : Alone) → PerformedAlone a [] a
-alone_none a = record { process = refl; drivers = refl; calls = sym (append-nil (map call_of a.system.history)) }
+alone_none a = record { process = refl; drivers = refl; begins = ([], append-nil a.system.history); calls = sym (append-nil (map call_of a.system.history)) }
 
 -- these commands, and then those
 pub alone_more : (a b c : Alone) (xs ys : List Command) → PerformedAlone a xs b → PerformedAlone b ys c → PerformedAlone a (xs ++ ys) c
 alone_more a b c xs ys p q = record {
   process = q.process ∙ p.process;
   drivers = q.drivers ∙ p.drivers;
+  begins = (p.begins.0 ++ q.begins.0, sym (append_assoc a.system.history p.begins.0 q.begins.0) ∙ ap (λ (es : List Entry). es ++ q.begins.0) p.begins.1 ∙ q.begins.1);
   calls = calls_then (map call_of a.system.history) (map call_of b.system.history) (map call_of c.system.history) a.process b.process xs ys p.process p.calls q.calls;
 }
 
 -- the same at a seat
-pub seated_none : {D S : Type 0} → (a : Seated D S) → PerformedSeated a [] a
-seated_none a = record { door = refl; process = refl; calls = sym (append-nil (map call_of a.entries.items)) }
+pub seated_none : {D S : Type 0} (known : S → Known) → (a : Seated D S) → PerformedSeated known a [] a
+seated_none known a = record { door = refl; process = refl; calls = sym (append-nil (map call_of (known a.seat).own)) }
 
 -- the same at a seat
-pub seated_more : {D S : Type 0} → (a b c : Seated D S) (xs ys : List Command) → PerformedSeated a xs b → PerformedSeated b ys c → PerformedSeated a (xs ++ ys) c
-seated_more a b c xs ys p q = record {
+pub seated_more : {D S : Type 0} (known : S → Known) → (a b c : Seated D S) (xs ys : List Command) → PerformedSeated known a xs b → PerformedSeated known b ys c → PerformedSeated known a (xs ++ ys) c
+seated_more known a b c xs ys p q = record {
   door = q.door ∙ p.door;
   process = q.process ∙ p.process;
-  calls = calls_then (map call_of a.entries.items) (map call_of b.entries.items) (map call_of c.entries.items) a.process b.process xs ys p.process p.calls q.calls;
+  calls = calls_then (map call_of (known a.seat).own) (map call_of (known b.seat).own) (map call_of (known c.seat).own) (known a.seat).process (known b.seat).process xs ys p.process p.calls q.calls;
 }

@@ -1,10 +1,7 @@
 -- Which transcripts a history bears out.
-use Rattle.std.specs.Prelude.{◌≡◌, ◌≢◌, ℕ, ◌<◌, ◌≤◌, List, [], ◌++◌, length, take, filter, ◌==◌, Option, Some, None, slice_index_or}
+use Rattle.std.specs.Prelude.{◌≡◌, ◌≢◌, ℕ, ◌<◌, ◌≤◌, List, [], ◌++◌, length, take, Option, Some, None, slice_index_or}
 use Rattle.smx_types.specs.declared.command.Entry.{Entry}
-
--- the entries of one process, in their order
-abbrev pub entries_of : ℕ → List Entry → List Entry
-entries_of process history = filter (λ e. e.process == process) history
+pub use Rattle.smx_shared.specs.Seats.{entries_of}
 
 -- the entries of the process are its transcript; a process past the list has the empty one
 abbrev pub IsBorneOut : List Entry → List (List Entry) → ℕ → Type 0

@@ -1,37 +1,61 @@
 -- What workers are given, and what they give back.
-use Rattle.std.specs.Prelude.{ℕ, ◌%◌, ◌==◌, List, map, filter, Vec}
+use Rattle.std.specs.Prelude.{◌≡◌, ℕ, ◌%◌, ◌==◌, List, [], All, map, filter, Vec}
 use Rattle.std.specs.List.{range_with_len}
 use Rattle.smx_types.specs.declared.command.Command.{Command}
 use Rattle.smx_types.specs.declared.command.Entry.{Entry}
 use Rattle.smx_model.specs.Histories.{call_of}
-use Rattle.smx_shared.specs.Seats.{Seated}
+use Rattle.smx_shared.specs.Fronts.{IsFrontOf}
+use Rattle.smx_shared.specs.Seats.{Known, Seated, SharedId, entries_of}
+use Rattle.smx_shared.specs.declared.front.Front.{Front}
 use Rattle.smx_run.specs.ProgramOrder.{Calls, calls_of}
 use Rattle.smx_run.specs.declared.worker.Job.{Job}
 use Rattle.smx_run.specs.declared.worker.Done.{Done}
 
 -- the process of a seat, and what it is to call
-abbrev pub given : {S : Type 0} → (S → ℕ) → Job S → Calls
-given process_of job = (process_of job.seat, calls_of (process_of job.seat) job.commands)
+abbrev pub given : {S : Type 0} → (S → Known) → Job S → Calls
+given known job = ((known job.seat).process, calls_of (known job.seat).process job.commands)
 
 -- the calls that these entries are of
 abbrev pub calls_in : List Entry → List (ℕ × Command)
 calls_in entries = map call_of entries
 
--- the process of a seat, and what it has called
-abbrev pub called : {S : Type 0} → (S → ℕ) → Done S → Calls
-called process_of done = (process_of done.seat, calls_in done.entries)
+-- the process of a seat, and what was called with it
+abbrev pub called : {S : Type 0} → (S → Known) → Done S → Calls
+called known done = ((known done.seat).process, calls_in (known done.seat).own)
 
--- the process of a seat of a shared system
-abbrev pub process_at : Seated → ℕ
-process_at seat = seat.process
+-- what is known once a program has ended: what was made here is just what the history has of the process, as far as it
+-- was seen, and the front is that of it
+pub record HasEnded (k : Known) (front : Front) : Type 0 where
+  pub exact : k.own ≡ entries_of k.process k.seen
+  pub numbers : IsFrontOf front k.drivers k.seen
+
+-- what a seat of a shared system knows
+abbrev pub known_at : Seated → Known
+known_at seat = seat.known
 
 -- what a hand of processes is to call, in order
 abbrev pub given_hand : {A : Type 0} → Vec (Job Seated) A → List Calls
-given_hand hand = map (given process_at) hand.items
+given_hand hand = map (given known_at) hand.items
 
 -- what a hand of processes has called, in order
 abbrev pub called_hand : {A : Type 0} → Vec (Done Seated) A → List Calls
-called_hand hand = map (called process_at) hand.items
+called_hand hand = map (called known_at) hand.items
+
+-- a seat of this shared system, with which nothing was called yet
+abbrev pub IsFresh : SharedId → Seated → Type 0
+IsFresh name seat = (seat.shared ≡ name) × (seat.known.own ≡ [])
+
+-- all seats of a hand are such
+abbrev pub AreFresh : {A : Type 0} → SharedId → Vec (Job Seated) A → Type 0
+AreFresh name hand = All (λ job. IsFresh name job.seat) hand.items
+
+-- a process has ended, at this shared system
+abbrev pub EndsAt : SharedId → Done Seated → Type 0
+EndsAt name done = (done.seat.shared ≡ name) × HasEnded done.seat.known done.front
+
+-- all processes of a hand have
+abbrev pub HaveEnded : {A : Type 0} → SharedId → Vec (Done Seated) A → Type 0
+HaveEnded name hand = All (EndsAt name) hand.items
 
 -- the processes of one worker of so many: those whose number modulo that many is its own, in their order
 abbrev pub hand_of : ℕ → List Calls → ℕ → List Calls

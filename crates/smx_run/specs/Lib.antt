@@ -1,8 +1,10 @@
 pub mod FaultWords
 pub mod DeskLemmas
 pub mod Desks
+pub mod Fronts
 pub mod Gathering
 pub mod Hands
+pub mod Meeting
 pub mod ProgramOrder
 pub mod Reports
 pub mod RunFaults

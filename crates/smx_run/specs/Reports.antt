@@ -1,5 +1,5 @@
 -- What is reported of a system.
-use Rattle.std.specs.Prelude.{◌≡◌, []}
+use Rattle.std.specs.Prelude.{◌≡◌}
 use Rattle.smx_types.specs.declared.transcript.Transcript.{Transcript}
 use Rattle.smx_model.specs.Histories.{after}
 use Rattle.smx_model.specs.Views.{view}
@@ -14,10 +14,9 @@ transcript_of report = record {
   view = report.view;
 }
 
--- its drivers, its history, and the view of the configuration after that; no fronts
+-- its drivers, its history, and the view of the configuration after that
 pub record Reports (s : Recorded) (report : Report) : Type 0 where
   pub sound : IsSoundSystem s
   pub drivers : report.drivers ≡ s.drivers
   pub entries : report.entries ≡ s.history
   pub shown : report.view ≡ view s.drivers (after s.drivers s.history)
-  pub fronts : report.fronts ≡ []

@@ -1,7 +1,7 @@
 //! Where the commands of one process are performed.
 
 use smx_shared::{ApplyFault, Door, System};
-use smx_types::{Command, Entry, Process};
+use smx_types::{Command, Process};
 use std::alloc::Global;
 use std::sync::Wait;
 
@@ -58,7 +58,7 @@ impl Desk for Alone {
     ghost performed_more = { alone_more };
 }
 
-/// At a seat of a door. The entries that are answered are kept.
+/// At a seat of a door. The seat knows what it has made.
 #[derive(Drop)]
 pub struct Seated<'a, D: Door>
 where
@@ -66,35 +66,29 @@ where
 {
     pub alloc: Global,
     pub door: &'a D,
-    pub process: Process,
     pub seat: D::Seat,
-    pub entries: Vec<Entry>,
 }
 
 impl<'a, D: Door> Desk for Seated<'a, D>
 where
     D::Seat: Drop,
 {
-    ghost use Rattle.std.specs.Prelude.{◌≡◌};
     ghost use Rattle.smx_run.specs.Desks.{PerformedSeated};
     ghost use Rattle.smx_run.specs.DeskLemmas.{seated_none, seated_more};
 
-    ghost ready = { λ a. D.is_seat a.door.now a.seat × (D.process_of a.seat ≡ a.process) };
+    ghost ready = { λ a. D.is_seat a.door.now a.seat };
 
-    ghost performed = { PerformedSeated };
+    ghost performed = { PerformedSeated D.known };
 
     fn process(&self) -> Process {
-        self.process
+        D::process(&self.seat)
     }
 
     fn perform<R: Wait>(&mut self, rt: &R, command: Command) -> Result<(), ApplyFault> {
-        self.entries.reserve(1)?;
-        let entry = self.door.call(rt, self.alloc, &mut self.seat, &command)?;
-        self.entries.push_reserved(entry);
-        Ok(())
+        self.door.perform(rt, self.alloc, &mut self.seat, command)
     }
 
-    ghost performed_none = { seated_none };
+    ghost performed_none = { seated_none D.known };
 
-    ghost performed_more = { seated_more };
+    ghost performed_more = { seated_more D.known };
 }

@@ -3,7 +3,8 @@
 ghost use Rattle.std.specs.Prelude.{◌≡◌, ◌≤◌, ◌<◌, ◌↔◌, ℕ, List, [], ◌∷◌, ◌++◌, All, length, IsTrue, IfOk, IfSome, IfNone, Err, None, Some, replicate, slice_index_or};
 ghost use Rattle.smx_types.specs.declared.limits.TheConstants.{MAX_PROCESSES};
 ghost use Rattle.smx_types.specs.declared.command.Entry.{Entry as Made};
-ghost use Rattle.smx_run.specs.Gathering.{entries_of, IsBorneOut, IsLeastStrange, IsMet};
+ghost use Rattle.smx_shared.specs.Seats.{entries_of};
+ghost use Rattle.smx_run.specs.Gathering.{IsBorneOut, IsLeastStrange, IsMet};
 ghost use Rattle.smx_run.specs.declared.fault.GatherFault.TheVariants as gathered;
 ghost use Rattle.smx_run.specs.Reports.{Reports};
 
@@ -23,6 +24,7 @@ const PROCESSES: usize = MAX_PROCESSES as usize;
 pub fn gather(alloc: Global, system: System, transcripts: &[Entries]) -> Result<Report, GatherFault>
     requires { length transcripts.now ≤ MAX_PROCESSES }
     ensures report { IfOk result (Reports system) }
+    ensures fronts { IfOk result (λ r. r.fronts ≡ []) }
     ensures borne_out { IfOk result (λ _. (p : ℕ) → IsBorneOut system.history transcripts.now p) }
     ensures strange { (p : ℕ) → (result ≡ Err (gathered.Strange p)) ↔ IsLeastStrange system.history transcripts.now p }
 {
@@ -30,20 +32,21 @@ pub fn gather(alloc: Global, system: System, transcripts: &[Entries]) -> Result<
         return Err(GatherFault::Strange(process));
     }
     let drivers = DriverSpec::copies(alloc, system.config().drivers())?;
-    Ok(report(alloc, system, Drivers::from_vec(drivers))?)
+    Ok(report(system, Drivers::from_vec(drivers), Fronts::new(alloc))?)
 }
 
-/// The report of a system, whose drivers these are. Nothing is copied.
-pub fn report(alloc: Global, system: System, drivers: Drivers) -> Result<Report, NoMemory>
+/// The report of a system, whose drivers these are, with these fronts. Nothing is copied.
+pub fn report(system: System, drivers: Drivers, fronts: Fronts) -> Result<Report, NoMemory>
     requires { drivers ≡ system.drivers }
-    ensures { IfOk result (Reports system) }
+    ensures report { IfOk result (Reports system) }
+    ensures fronts { IfOk result (λ r. r.fronts ≡ fronts) }
 {
     let view = system.config().show()?;
     Ok(Report {
         drivers,
         entries: system.into_entries(),
         view,
-        fronts: Fronts::new(alloc),
+        fronts,
     })
 }
 

@@ -1,22 +1,16 @@
 //! Which worker runs which process: process p is run by worker p modulo the number of workers.
 
-ghost use Rattle.std.specs.Prelude.{◌≡◌, ◌≢◌, ◌≤◌, ◌<◌, ℕ, [], ◌∷◌, ◌++◌, List, length, map, slice_index_or, vec_len, IfOk, OnOk};
+ghost use Rattle.std.specs.Prelude.{◌≡◌, ◌≢◌, ◌≤◌, ◌<◌, ℕ, [], ◌∷◌, ◌++◌, List, All, length, map, slice_index_or, vec_len, IfOk, OnOk};
 ghost use Rattle.std.specs.List.{range_with_len};
-ghost use Rattle.smx_run.specs.Hands.{called, calls_in, process_at, given_hand, called_hand, hand_of, hands_of};
+ghost use Rattle.smx_run.specs.Hands.{called, known_at, given_hand, called_hand, hand_of, hands_of, AreFresh, EndsAt, HaveEnded, IsFresh};
+ghost use Rattle.smx_shared.specs.Seats.{SharedId};
 ghost use Rattle.smx_run.specs.ProgramOrder.{calls_of, numbered};
 
 use crate::worker::{Done, Job};
 use smx_shared::{Door, Seat, Shared};
-use smx_types::{Commands, Entries, NoMemory, ProgramList};
+use smx_types::{Commands, NoMemory, ProgramList};
 use std::alloc::Global;
 use std::snapshot::Snapshot;
-
-/// What came of all processes, in their order.
-#[derive(Drop)]
-pub struct Ended {
-    pub seats: Vec<Seat>,
-    pub transcripts: Vec<Entries>,
-}
 
 /// A hand of processes for each of so many workers.
 pub fn deal(
@@ -26,7 +20,8 @@ pub fn deal(
     workers: usize,
 ) -> Result<Vec<Vec<Job<Seat>>>, NoMemory>
     requires workers { 1 ≤ workers }
-    requires seats { map (λ s. s.process) seats.items ≡ range_with_len 0 (length programs) }
+    requires seats { map (λ s. s.known.process) seats.items ≡ range_with_len 0 (length programs) }
+    ensures fresh { IfOk result (λ v. (name : SharedId) → All (IsFresh name) seats.items → All (AreFresh name) v.items) }
     ensures dealt { IfOk result (λ v. map given_hand v.items ≡ hands_of workers (numbered 0 programs)) }
 {
     let mut hands = empty_hands(alloc, workers)?;
@@ -44,6 +39,7 @@ pub fn deal(
 fn empty_hands(alloc: Global, workers: usize) -> Result<Vec<Vec<Job<Seat>>>, NoMemory>
     ensures workers { IfOk result (λ v. vec_len v ≡ workers) }
     ensures none { IfOk result (λ v. map given_hand v.items ≡ hands_of workers []) }
+    ensures fresh { IfOk result (λ v. (name : SharedId) → All (AreFresh name) v.items) }
 {
     let mut hands = Vec::with_capacity(alloc, workers)?;
     for _ in 0..workers {
@@ -56,8 +52,9 @@ fn empty_hands(alloc: Global, workers: usize) -> Result<Vec<Vec<Job<Seat>>>, NoM
 fn give(hands: &mut Vec<Vec<Job<Seat>>>, seat: Seat, commands: Commands) -> Result<(), NoMemory>
     requires workers { 1 ≤ vec_len hands.old }
     ensures workers { vec_len hands.new ≡ vec_len hands.old }
+    ensures fresh { OnOk result ((name : SharedId) → All (AreFresh name) hands.old.items → IsFresh name seat → All (AreFresh name) hands.new.items) }
     ensures given { OnOk result ((k : ℕ) → k < vec_len hands.old → slice_index_or (map given_hand hands.new.items) k []
-        ≡ slice_index_or (map given_hand hands.old.items) k [] ++ hand_of (vec_len hands.old) ((seat.process, calls_of seat.process commands) ∷ []) k) }
+        ≡ slice_index_or (map given_hand hands.old.items) k [] ++ hand_of (vec_len hands.old) ((seat.known.process, calls_of seat.known.process commands) ∷ []) k) }
 {
     let worker = Shared::process(&seat).get() as usize % hands.len();
     hands[worker].push(Job { seat, commands })?;
@@ -70,22 +67,19 @@ pub fn collect(
     mut hands: Vec<Vec<Done<Seat>>>,
     processes: usize,
     programs: Snapshot<ProgramList>,
-) -> Result<Ended, NoMemory>
+) -> Result<Vec<Done<Seat>>, NoMemory>
     requires workers { 1 ≤ vec_len hands }
     requires dealt { map called_hand hands.items ≡ hands_of (vec_len hands) (numbered 0 programs.value) }
     requires processes { length programs.value ≡ processes }
-    ensures seats { IfOk result (λ ended. vec_len ended.seats ≡ processes) }
-    ensures called { IfOk result (λ ended. map calls_in ended.transcripts.items ≡ map (λ one. one.1) (numbered 0 programs.value)) }
+    ensures ended { IfOk result (λ v. (name : SharedId) → All (HaveEnded name) hands.items → HaveEnded name v) }
+    ensures called { IfOk result (λ v. called_hand v ≡ numbered 0 programs.value) }
 {
-    let mut seats = Vec::with_capacity(alloc, processes)?;
-    let mut transcripts = Vec::with_capacity(alloc, processes)?;
+    let mut ended = Vec::with_capacity(alloc, processes)?;
     for process in 0..processes {
         let worker = process % hands.len();
-        let Done { seat, entries } = take_first(&mut hands, worker);
-        seats.push_reserved(seat);
-        transcripts.push_reserved(entries);
+        ended.push_reserved(take_first(&mut hands, worker));
     }
-    Ok(Ended { seats, transcripts })
+    Ok(ended)
 }
 
 // The first that is left of what a worker did.
@@ -93,7 +87,8 @@ fn take_first(hands: &mut Vec<Vec<Done<Seat>>>, worker: usize) -> Done<Seat>
     requires worker { worker < vec_len hands.old }
     requires some { slice_index_or (map called_hand hands.old.items) worker [] ≢ [] }
     ensures workers { vec_len hands.new ≡ vec_len hands.old }
-    ensures first { slice_index_or (map called_hand hands.old.items) worker [] ≡ called process_at result ∷ slice_index_or (map called_hand hands.new.items) worker [] }
+    ensures first { slice_index_or (map called_hand hands.old.items) worker [] ≡ called known_at result ∷ slice_index_or (map called_hand hands.new.items) worker [] }
+    ensures ended { (name : SharedId) → All (HaveEnded name) hands.old.items → EndsAt name result × All (HaveEnded name) hands.new.items }
     ensures others { (k : ℕ) → k ≢ worker → slice_index_or (map called_hand hands.new.items) k [] ≡ slice_index_or (map called_hand hands.old.items) k [] }
 {
     hands[worker].remove(0)

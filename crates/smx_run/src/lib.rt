@@ -6,6 +6,8 @@ mod fault;
 mod gate;
 mod gathering;
 mod hands;
+pub mod laws_of_runs;
+mod meeting;
 mod report;
 mod run;
 #[cfg(test)]

@@ -13,7 +13,7 @@ pub struct Report {
     pub drivers: Drivers,
     pub entries: Entries,
     pub view: ConfigView,
-    /// What each process saw last. Nothing fills it.
+    /// How far the history had come when the program of each process had ended. A run fills it.
     pub fronts: Fronts,
 }
 

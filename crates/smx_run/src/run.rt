@@ -5,6 +5,8 @@ ghost use Rattle.smx_model.specs.Headline.{IsReportOf};
 ghost use Rattle.smx_model.specs.DriverList.{IsDriverList};
 ghost use Rattle.smx_model.specs.Histories.{call_of, HoldsPrograms};
 ghost use Rattle.smx_types.specs.declared.limits.TheConstants.{MAX_COMMANDS, MAX_PROCESSES};
+ghost use Rattle.smx_shared.specs.Fronts.{IsFrontOf};
+ghost use Rattle.smx_run.specs.Fronts.{AreFrontsFrom};
 ghost use Rattle.smx_run.specs.ProgramOrder.{calls_from};
 ghost use Rattle.smx_run.specs.Reports.{transcript_of};
 ghost use Rattle.smx_run.specs.RunFaults.{RefusesRun};
@@ -18,8 +20,8 @@ use crate::report::Report;
 use crate::threads::run_together;
 use crate::worker::run_program;
 use smx_model::laws_of_messages::few_commands_drop;
-use smx_shared::{ApplyFault, System};
-use smx_types::{Commands, DriverSpec, MAX_COMMANDS, Process, ProgramList, Programs};
+use smx_shared::{ApplyFault, Front, Fronts, System};
+use smx_types::{Commands, MAX_COMMANDS, Process, ProgramList, Programs};
 use std::alloc::Global;
 use std::sync::Wait;
 use std::thread::Threads;
@@ -30,8 +32,8 @@ pub const MAX_WORKERS: usize = 64;
 /// Has the programs run by so many workers, 1 to 64, and reports the one history that they make. Process p is run by
 /// worker p modulo `workers`; a worker runs its processes by rising number, each to its end, and tells the gate. With one
 /// worker, or one process, no thread is started. Refused for drivers that a configuration can't have, before any command
-/// is run; for want of memory, also where a worker can't be started; or where the system that comes back is not the one
-/// that the workers were answered by, which no run can show.
+/// is run; or for want of memory, also where a worker can't be started. The report has the front that was seen when each
+/// program had ended.
 pub fn run_programs<R: Threads + Wait + Sync, G: Gate + Sync>(
     rt: &R,
     alloc: Global,
@@ -42,23 +44,15 @@ pub fn run_programs<R: Threads + Wait + Sync, G: Gate + Sync>(
     requires { (1 ≤ workers) × (workers ≤ MAX_WORKERS) }
     ensures report { IfOk result (λ r. IsReportOf programs (transcript_of r)) }
     ensures few { IfOk result (λ r. length r.entries ≤ MAX_COMMANDS) }
-    ensures fronts { IfOk result (λ r. r.fronts ≡ []) }
+    ensures fronts { IfOk result (λ r. AreFrontsFrom r.drivers r.entries 0 programs.programs r.fronts) }
     ensures refused { IfErr result (RefusesRun programs.drivers) }
 {
     few_commands_drop();
     let (drivers, programs) = programs.into_parts();
     let mut system = System::new(alloc, drivers.as_slice(), MAX_COMMANDS)?;
     system.reserve(count_commands(programs.as_slice()))?;
-    let system = run_all(
-        rt,
-        alloc,
-        system,
-        drivers.as_slice(),
-        programs,
-        workers,
-        gate,
-    )?;
-    Ok(report(alloc, system, drivers)?)
+    let (system, fronts) = run_all(rt, alloc, system, programs, workers, gate)?;
+    Ok(report(system, drivers, fronts)?)
 }
 
 // The system once it was asked all programs, on this thread alone where a second worker would have no process.
@@ -66,23 +60,22 @@ fn run_all<R: Threads + Wait + Sync, G: Gate + Sync>(
     rt: &R,
     alloc: Global,
     system: System,
-    drivers: &[DriverSpec],
     programs: ProgramList,
     workers: usize,
     gate: &G,
-) -> Result<System, RunFault>
-    requires drivers { (system.drivers ≡ drivers.now) × IsDriverList drivers.now }
-    requires empty { system.history ≡ [] }
+) -> Result<(System, Fronts), RunFault>
+    requires system { (system.history ≡ []) × IsDriverList system.drivers }
     requires processes { length programs ≤ MAX_PROCESSES }
-    ensures drivers { IfOk result (λ s. s.drivers ≡ drivers.now) }
-    ensures holds { IfOk result (λ s. HoldsPrograms s.history programs) }
-    ensures refused { IfErr result (RefusesRun drivers.now) }
+    ensures drivers { IfOk result (λ r. r.0.drivers ≡ system.drivers) }
+    ensures holds { IfOk result (λ r. HoldsPrograms r.0.history programs) }
+    ensures fronts { IfOk result (λ r. AreFrontsFrom r.0.drivers r.0.history 0 programs r.1) }
+    ensures refused { IfErr result (RefusesRun system.drivers) }
 {
     let hands = workers.min(programs.as_slice().len());
     if hands < 2 {
-        return Ok(run_alone(rt, system, programs, gate)?);
+        return Ok(run_alone(rt, alloc, system, programs, gate)?);
     }
-    run_together(rt, alloc, system, drivers, programs, hands, gate)
+    run_together(rt, alloc, system, programs, hands, gate)
 }
 
 // How many commands there are in all.
@@ -94,24 +87,40 @@ fn count_commands(programs: &[Commands]) -> usize {
     count
 }
 
-// Each program in turn, on this thread.
+// How far a system is that nobody shares.
+fn front_of(system: &System) -> Front
+    ensures { IsFrontOf result system.now.drivers system.now.history }
+{
+    Front {
+        entries: system.entries().len() as u32,
+        links: system.config().link_count(),
+        held: false,
+    }
+}
+
+// Each program in turn, on this thread, and the front after each.
 fn run_alone<G: Gate, R: Wait>(
     rt: &R,
+    alloc: Global,
     mut system: System,
     programs: ProgramList,
     gate: &G,
-) -> Result<System, ApplyFault>
-    requires { length programs ≤ MAX_PROCESSES }
-    ensures drivers { IfOk result (λ s. s.drivers ≡ system.drivers) }
-    ensures calls { IfOk result (λ s. map call_of s.history ≡ map call_of system.history ++ calls_from 0 programs) }
+) -> Result<(System, Fronts), ApplyFault>
+    requires empty { system.history ≡ [] }
+    requires processes { length programs ≤ MAX_PROCESSES }
+    ensures drivers { IfOk result (λ r. r.0.drivers ≡ system.drivers) }
+    ensures calls { IfOk result (λ r. map call_of r.0.history ≡ calls_from 0 programs) }
+    ensures fronts { IfOk result (λ r. AreFrontsFrom r.0.drivers r.0.history 0 programs r.1) }
 {
+    let mut fronts = Vec::with_capacity(alloc, programs.as_slice().len())?;
     let mut number = 0;
     for commands in programs.into_vec() {
         let process = Process::new(number).unwrap();
         let mut desk = Alone { process, system };
         run_program(rt, &mut desk, commands, gate)?;
         system = desk.system;
+        fronts.push_reserved(front_of(&system));
         number += 1;
     }
-    Ok(system)
+    Ok((system, Fronts::from_vec(fronts)))
 }

@@ -2,7 +2,7 @@
 
 use crate::gate::NoGate;
 use crate::worker::{Job, work};
-use smx_shared::{ApplyFault, Door, System};
+use smx_shared::{ApplyFault, Door, Front, System};
 use smx_types::{Command, Commands, DriverKind, DriverSpec, Entry, Name, Process};
 use std::alloc::Global;
 use std::sync::Wait;
@@ -25,9 +25,17 @@ struct OwnSeat {
 impl Door for OwnDoor {
     type Seat = OwnSeat;
 
+    ghost use Rattle.smx_shared.specs.Seats.{entries_of};
+
     ghost is_seat = { λ _ _. Unit {0} };
 
-    ghost process_of = { λ s. s.process };
+    ghost known = { λ s. record {
+      drivers = s.system.drivers;
+      limit = s.system.limit;
+      process = s.process;
+      seen = s.system.history;
+      own = entries_of s.process s.system.history;
+    } };
 
     fn process(seat: &OwnSeat) -> Process {
         seat.process
@@ -43,6 +51,14 @@ impl Door for OwnDoor {
         let entry = seat.system.apply(seat.process, command)?;
         self.answered.fetch_add(1, Ordering::SeqCst);
         Ok(entry)
+    }
+
+    fn glance(&self, seat: &mut OwnSeat) -> Front {
+        Front {
+            entries: seat.system.entries().len() as u32,
+            links: seat.system.config().link_count(),
+            held: false,
+        }
     }
 }
 

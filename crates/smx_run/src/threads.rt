@@ -1,71 +1,52 @@
 //! Many workers, each on a thread of its own.
 
-ghost use Rattle.std.specs.Prelude.{◌≡◌, ◌≤◌, ℕ, List, [], ◌∷◌, ◌++◌, length, map, vec_len, IfOk, IfErr, IfNone};
+ghost use Rattle.std.specs.Prelude.{◌≡◌, ◌≤◌, ℕ, List, [], ◌∷◌, ◌++◌, All, length, map, IfOk, IfErr};
 ghost use Rattle.std.specs.List.{range_with_len};
 ghost use Rattle.smx_types.specs.declared.limits.TheConstants.{MAX_PROCESSES};
 ghost use Rattle.smx_model.specs.DriverList.{IsDriverList};
 ghost use Rattle.smx_model.specs.Histories.{HoldsPrograms};
-ghost use Rattle.smx_run.specs.Gathering.{IsBorneOut};
-ghost use Rattle.smx_run.specs.Hands.{called_hand, calls_in, given_hand, process_at};
+ghost use Rattle.smx_shared.specs.Seats.{SharedId};
+ghost use Rattle.smx_run.specs.Fronts.{AreFrontsFrom};
+ghost use Rattle.smx_run.specs.Hands.{called_hand, given_hand, AreFresh, HaveEnded, IsFresh};
 ghost use Rattle.smx_run.specs.ProgramOrder.{Calls, numbered};
 ghost use Rattle.smx_run.specs.RunFaults.{RefusesRun};
 
 use crate::fault::RunFault;
 use crate::gate::Gate;
-use crate::gathering::find_strange;
-use crate::hands::{Ended, collect, deal};
+use crate::hands::{collect, deal};
+use crate::meeting::meet_all;
 use crate::worker::{Done, Job, work};
-use smx_shared::{ApplyFault, Seat, Shared, System};
-use smx_types::{DriverSpec, Entries, Process, ProgramList};
+use smx_shared::{ApplyFault, Fronts, Seat, Shared, System};
+use smx_types::ProgramList;
 use std::alloc::Global;
 use std::snapshot::Snapshot;
 use std::sync::Wait;
 use std::thread;
 use std::thread::{Promise, Scope, Threads};
 
-/// Has the programs run by so many workers, and gives the system back that they shared.
+/// Has the programs run by so many workers, and gives the system back that they shared, with the fronts that were seen
+/// when each program had ended.
 pub fn run_together<R: Threads + Wait + Sync, G: Gate + Sync>(
     rt: &R,
     alloc: Global,
     system: System,
-    drivers: &[DriverSpec],
     programs: ProgramList,
     workers: usize,
     gate: &G,
-) -> Result<System, RunFault>
-    requires drivers { IsDriverList drivers.now }
+) -> Result<(System, Fronts), RunFault>
+    requires system { (system.history ≡ []) × IsDriverList system.drivers }
     requires processes { (1 ≤ length programs) × (length programs ≤ MAX_PROCESSES) }
     requires workers { 1 ≤ workers }
-    ensures drivers { IfOk result (λ s. s.drivers ≡ drivers.now) }
-    ensures holds { IfOk result (λ s. HoldsPrograms s.history programs) }
-    ensures refused { IfErr result (RefusesRun drivers.now) }
+    ensures drivers { IfOk result (λ r. r.0.drivers ≡ system.drivers) }
+    ensures holds { IfOk result (λ r. HoldsPrograms r.0.history programs) }
+    ensures fronts { IfOk result (λ r. AreFrontsFrom r.0.drivers r.0.history 0 programs r.1) }
+    ensures refused { IfErr result (RefusesRun system.drivers) }
 {
     let (shared, seats) = Shared::start(alloc, system, programs.as_slice().len())?;
-    let Ended {
-        mut seats,
-        transcripts,
-    } = run_seats(rt, alloc, &shared, seats, programs, workers, gate)?;
-    let Some(seat) = seats.pop() else {
-        unreachable!()
-    };
+    let ended = run_seats(rt, alloc, &shared, seats, programs, workers, gate)?;
+    let (seat, fronts) = meet_all(alloc, &shared, ended)?;
     let system = shared.close(seat)?;
-    if let Some(process) = find_other(&system, drivers, transcripts.as_slice()) {
-        return Err(RunFault::Strange(process.get()));
-    }
-    Ok(system)
-}
-
-// A process that the system is strange to: process 0 where it has other drivers, else the least whose entries in its
-// history are not its transcript.
-fn find_other(system: &System, drivers: &[DriverSpec], transcripts: &[Entries]) -> Option<Process>
-    requires { length transcripts.now ≤ MAX_PROCESSES }
-    ensures drivers { IfNone result (system.now.drivers ≡ drivers.now) }
-    ensures borne_out { IfNone result ((p : ℕ) → IsBorneOut system.now.history transcripts.now p) }
-{
-    if system.config().drivers() != drivers {
-        return Process::new(0);
-    }
-    find_strange(system.entries(), transcripts)
+    Ok((system, fronts))
 }
 
 // Has each seat run its program, by so many workers.
@@ -77,11 +58,12 @@ fn run_seats<R: Threads + Wait + Sync, G: Gate + Sync>(
     programs: ProgramList,
     workers: usize,
     gate: &G,
-) -> Result<Ended, ApplyFault>
-    requires seats { map process_at seats.items ≡ range_with_len 0 (length programs) }
+) -> Result<Vec<Done<Seat>>, ApplyFault>
+    requires seats { map (λ s. s.known.process) seats.items ≡ range_with_len 0 (length programs) }
+    requires fresh { All (IsFresh shared.now.name) seats.items }
     requires workers { 1 ≤ workers }
-    ensures seats { IfOk result (λ ended. vec_len ended.seats ≡ length programs) }
-    ensures called { IfOk result (λ ended. map calls_in ended.transcripts.items ≡ map (λ one. one.1) (numbered 0 programs)) }
+    ensures ended { IfOk result (HaveEnded shared.now.name) }
+    ensures called { IfOk result (λ v. called_hand v ≡ numbered 0 programs) }
 {
     let processes = programs.as_slice().len();
     let asked = Snapshot::of(&programs);
@@ -90,15 +72,15 @@ fn run_seats<R: Threads + Wait + Sync, G: Gate + Sync>(
     Ok(collect(alloc, hands, processes, asked)?)
 }
 
-// What a worker makes of its hand.
+// What a worker makes of its hand, at a shared system.
 #[derive(Drop)]
-struct Runs(Snapshot<Vec<Job<Seat>>>);
+struct Runs(Snapshot<Vec<Job<Seat>>>, Snapshot<Shared>);
 
 impl Promise<Result<Vec<Done<Seat>>, ApplyFault>> for Runs {
     ghost use Rattle.std.specs.Prelude.{◌≡◌, IfOk};
-    ghost use Rattle.smx_run.specs.Hands.{given_hand, called_hand};
+    ghost use Rattle.smx_run.specs.Hands.{given_hand, called_hand, HaveEnded};
 
-    ghost kept_by = { λ runs result. IfOk result (λ v. called_hand v ≡ given_hand runs.0.value) };
+    ghost kept_by = { λ runs result. IfOk result (λ v. (called_hand v ≡ given_hand runs.0.value) × HaveEnded runs.1.value.name v) };
 }
 
 // Each hand on a thread of its own, the first on this one.
@@ -109,13 +91,17 @@ fn run_hands<R: Threads + Wait + Sync, G: Gate + Sync>(
     hands: Vec<Vec<Job<Seat>>>,
     gate: &G,
 ) -> Result<Vec<Vec<Done<Seat>>>, ApplyFault>
-    ensures { IfOk result (λ v. map called_hand v.items ≡ map given_hand hands.items) }
+    requires { All (AreFresh shared.now.name) hands.items }
+    ensures called { IfOk result (λ v. map called_hand v.items ≡ map given_hand hands.items) }
+    ensures ended { IfOk result (λ v. All (HaveEnded shared.now.name) v.items) }
 {
     thread::scope(
         thread::scope_env(),
         rt,
         |scope| -> Result<Vec<Vec<Done<Seat>>>, ApplyFault>
-            ensures { IfOk result (λ v. map called_hand v.items ≡ map given_hand hands.items) }
+            requires { All (AreFresh shared.now.name) hands.items }
+            ensures called { IfOk result (λ v. map called_hand v.items ≡ map given_hand hands.items) }
+            ensures ended { IfOk result (λ v. All (HaveEnded shared.entry.now.name) v.items) }
         { run_from(scope, rt, alloc, shared, hands, gate) },
     )
 }
@@ -129,7 +115,9 @@ fn run_from<'s, E, R: Threads + Wait + Sync, G: Gate + Sync>(
     mut hands: Vec<Vec<Job<Seat>>>,
     gate: &'s G,
 ) -> Result<Vec<Vec<Done<Seat>>>, ApplyFault>
-    ensures { IfOk result (λ v. map called_hand v.items ≡ map given_hand hands.items) }
+    requires { All (AreFresh shared.now.name) hands.items }
+    ensures called { IfOk result (λ v. map called_hand v.items ≡ map given_hand hands.items) }
+    ensures ended { IfOk result (λ v. All (HaveEnded shared.now.name) v.items) }
 {
     let Some(hand) = hands.pop() else {
         return Ok(Vec::new(alloc));
@@ -138,8 +126,16 @@ fn run_from<'s, E, R: Threads + Wait + Sync, G: Gate + Sync>(
         let first = work(rt, alloc, shared, hand, gate);
         return and_then(Ok(Vec::new(alloc)), first);
     }
-    let runs = Runs(Snapshot::of(&hand));
-    match scope.spawn_with(runs, move || work(rt, alloc, shared, hand, gate)) {
+    let runs = Runs(Snapshot::of(&hand), Snapshot::of(shared));
+    let worker = scope.spawn_with(
+        runs,
+        move || -> Result<Vec<Done<Seat>>, ApplyFault>
+            requires { AreFresh shared.now.name hand }
+            ensures called { IfOk result (λ v. called_hand v ≡ given_hand hand) }
+            ensures ended { IfOk result (HaveEnded shared.entry.now.name) }
+        { work(rt, alloc, shared, hand, gate) },
+    );
+    match worker {
         Ok(worker) => {
             let before = run_from(scope, rt, alloc, shared, hands, gate);
             and_then(before, worker.join(rt))
@@ -156,8 +152,10 @@ fn and_then(
     before: Result<Vec<Vec<Done<Seat>>>, ApplyFault>,
     last: Result<Vec<Done<Seat>>, ApplyFault>,
 ) -> Result<Vec<Vec<Done<Seat>>>, ApplyFault>
-    ensures { IfOk result (λ v. (all : List (List Calls)) (one : List Calls)
+    ensures called { IfOk result (λ v. (all : List (List Calls)) (one : List Calls)
         → IfOk before (λ b. map called_hand b.items ≡ all) → IfOk last (λ d. called_hand d ≡ one) → map called_hand v.items ≡ all ++ one ∷ []) }
+    ensures ended { IfOk result (λ v. (name : SharedId)
+        → IfOk before (λ b. All (HaveEnded name) b.items) → IfOk last (HaveEnded name) → All (HaveEnded name) v.items) }
 {
     match (before, last) {
         (Ok(mut all), Ok(done)) => {

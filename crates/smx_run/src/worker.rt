@@ -1,12 +1,12 @@
 //! A worker: the processes that one thread runs.
 
-ghost use Rattle.std.specs.Prelude.{◌≡◌, All, map, IfOk, OnOk};
-ghost use Rattle.smx_run.specs.Hands.{given, called};
+ghost use Rattle.std.specs.Prelude.{◌≡◌, [], All, map, IfOk, OnOk};
+ghost use Rattle.smx_run.specs.Hands.{given, called, HasEnded};
 
 use crate::desk::{Desk, Seated};
 use crate::gate::Gate;
-use smx_shared::{ApplyFault, Door};
-use smx_types::{Commands, Entries};
+use smx_shared::{ApplyFault, Door, Front};
+use smx_types::Commands;
 use std::alloc::Global;
 use std::sync::Wait;
 
@@ -17,11 +17,11 @@ pub struct Job<S: Drop> {
     pub commands: Commands,
 }
 
-/// A process whose program was run to its end: its seat, and the entries that it was answered.
+/// A process whose program was run to its end: its seat, and the front that it saw then.
 #[derive(Drop)]
 pub struct Done<S: Drop> {
     pub seat: S,
-    pub entries: Entries,
+    pub front: Front,
 }
 
 /// Runs each process to its end, in turn, or to the first fault.
@@ -34,9 +34,9 @@ pub fn work<D: Door, G: Gate, R: Wait>(
 ) -> Result<Vec<Done<D::Seat>>, ApplyFault>
 where
     D::Seat: Drop,
-    requires { All (λ j. D.is_seat door.now j.seat) hand.items }
-    ensures called { IfOk result (λ v. map (called D.process_of) v.items ≡ map (given D.process_of) hand.items) }
-    ensures seats { IfOk result (λ v. All (λ d. D.is_seat door.now d.seat) v.items) }
+    requires { All (λ j. D.is_seat door.now j.seat × ((D.known j.seat).own ≡ [])) hand.items }
+    ensures called { IfOk result (λ v. map (called D.known) v.items ≡ map (given D.known) hand.items) }
+    ensures ended { IfOk result (λ v. All (λ d. D.is_seat door.now d.seat × HasEnded (D.known d.seat) d.front) v.items) }
 {
     let mut done = Vec::with_capacity(alloc, hand.len())?;
     for job in hand {
@@ -45,7 +45,7 @@ where
     Ok(done)
 }
 
-// Runs a process to its end.
+// Runs a process to its end, and then looks how far the history is.
 fn run_job<D: Door, G: Gate, R: Wait>(
     rt: &R,
     alloc: Global,
@@ -55,24 +55,17 @@ fn run_job<D: Door, G: Gate, R: Wait>(
 ) -> Result<Done<D::Seat>, ApplyFault>
 where
     D::Seat: Drop,
-    requires { D.is_seat door.now job.seat }
-    ensures called { IfOk result (λ d. called D.process_of d ≡ given D.process_of job) }
-    ensures seat { IfOk result (λ d. D.is_seat door.now d.seat) }
+    requires { D.is_seat door.now job.seat × ((D.known job.seat).own ≡ []) }
+    ensures called { IfOk result (λ d. called D.known d ≡ given D.known job) }
+    ensures ended { IfOk result (λ d. D.is_seat door.now d.seat × HasEnded (D.known d.seat) d.front) }
 {
     let Job { seat, commands } = job;
-    let process = D::process(&seat);
-    let entries = Vec::with_capacity(alloc, commands.as_slice().len())?;
-    let mut desk = Seated {
-        alloc,
-        door,
-        process,
-        seat,
-        entries,
-    };
+    let mut desk = Seated { alloc, door, seat };
     run_program(rt, &mut desk, commands, gate)?;
+    let front = door.glance(&mut desk.seat);
     Ok(Done {
         seat: desk.seat,
-        entries: Entries::from_vec(desk.entries),
+        front,
     })
 }
 

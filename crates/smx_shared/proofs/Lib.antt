@@ -1,3 +1,10 @@
+pub mod CallLemmas
+pub mod MetSeatLemmas
+pub mod OwnEntryLemmas
 pub mod RecordLemmas
-pub mod SeatLemmas
+pub mod SeatListLemmas
+pub mod StepLemmas
+pub mod TellLemmas
+pub mod TurnLemmas
+pub mod WordLemmas
 pub mod WorkedSystemLemmas

@@ -1,12 +1,28 @@
 -- Why a shared system is not given back.
 use Rattle.std.specs.Prelude.{◌≡◌, ℕ, true, List, codes}
+use Rattle.smx_types.specs.declared.command.Entry.{Entry}
+use Rattle.smx_shared.specs.Fronts.{IsFrontOf}
+use Rattle.smx_shared.specs.Seats.{Known, IsBeginningOf}
 use Rattle.smx_shared.specs.declared.close_fault.CloseFault.{CloseFault}
 use Rattle.smx_shared.specs.declared.close_fault.CloseFault.TheVariants.{Held}
+use Rattle.smx_shared.specs.declared.front.Front.{Front}
 
 -- the front shows a turn that was never given back
-abbrev pub IsHeld : CloseFault → Type 0
-IsHeld (Held front) = front.held ≡ true
+pub record ShowsHeld (old : Known) (front : Front) : Type 0 where
+  pub held : front.held ≡ true
+  -- It is that of a history that begins with what had been seen.
+  pub history : List Entry
+  pub seen : IsBeginningOf old.seen history
+  pub numbers : IsFrontOf front old.drivers history
+
+-- a shared system is not given back to somebody who knew this much only where its front shows that
+abbrev pub IsHeld : Known → CloseFault → Type 0
+IsHeld old (Held front) = ShowsHeld old front
+
+-- that somebody has the turn
+abbrev pub turn_held_words : List ℕ
+turn_held_words = codes "turn held"
 
 -- the words in which it prints itself
-abbrev pub close_fault_words : List ℕ
-close_fault_words = codes "turn held"
+abbrev pub close_fault_words : CloseFault → List ℕ
+close_fault_words (Held front) = turn_held_words

@@ -1,5 +1,11 @@
+pub mod Calls
 pub mod CloseFaults
 pub mod FaultWords
+pub mod Fronts
 pub mod Recorded
 pub mod Seats
+pub mod SeatViews
+pub mod TryFaults
+pub mod TurnRule
+pub mod WorkedCalls
 pub mod WorkedSystems

@@ -1,6 +1,100 @@
--- The seats of a shared system.
-use Rattle.std.specs.Prelude.{ℕ}
+-- What contracts see of a seat.
+use Rattle.std.specs.Prelude.{◌≡◌, ℕ, ◌<◌, ◌==◌, Bool, false, List, [], ◌∷◌, ◌++◌, filter}
+use Rattle.atomic_table.specs.Seated.{TableId}
+use Rattle.smx_types.specs.declared.command.Entry.{Entry}
+use Rattle.smx_types.specs.declared.driver.DriverSpec.{DriverSpec}
+use Rattle.smx_shared.specs.Recorded.{Recorded}
+use Rattle.smx_shared.specs.declared.seat_view.MetSeat.{MetSeat}
 
--- what a contract sees of a seat: the process whose commands it is for
-pub record Seated : Type 0 where
+-- which shared system it is: a name that no other has
+abbrev pub SharedId : Type 0
+SharedId = TableId
+
+-- a shared system: its name, the system as it was when it was shared, and among how many processes
+pub record SharedAs : Type 0 where
+  pub name : SharedId
+  pub start : Recorded
+  pub processes : ℕ
+
+abbrev pub shared_as : SharedId → Recorded → ℕ → SharedAs
+shared_as name start processes = record { name = name; start = start; processes = processes }
+
+-- the entries of one process, in their order
+abbrev pub entries_of : ℕ → List Entry → List Entry
+entries_of process history = filter (λ e. e.process == process) history
+
+-- a history that goes on as the other, or is the same
+abbrev pub IsBeginningOf : List Entry → List Entry → Type 0
+IsBeginningOf first whole = (more : List Entry) × (first ++ more ≡ whole)
+
+-- the processes of all these entries have names below this one
+abbrev pub AreNamedBelow : ℕ → List Entry → Type 0
+AreNamedBelow names [] = Unit {0}
+AreNamedBelow names (e ∷ es) = (e.process < names) × AreNamedBelow names es
+
+-- the history begins so, and each entry after that is of a named process
+abbrev pub GoesOnNamed : ℕ → List Entry → List Entry → Type 0
+GoesOnNamed names first whole = (more : List Entry) × (first ++ more ≡ whole) × AreNamedBelow names more
+
+-- what somebody knows who calls for a process
+pub record Known : Type 0 where
+  -- The drivers, and the limit of the history.
+  pub drivers : List DriverSpec
+  pub limit : ℕ
+  -- The process.
   pub process : ℕ
+  -- The history, as far as it was seen.
+  pub seen : List Entry
+  -- The entries that were made here, under the process.
+  pub own : List Entry
+
+-- a seat: whose it is, what it knows, and what it has done
+pub record Seated : Type 0 where
+  -- The shared system that it belongs to.
+  pub shared : SharedId
+  pub known : Known
+  -- The word that it read last, and how many steps it has made on that word.
+  pub last : ℕ
+  pub looks : ℕ
+  -- Whether it has the turn.
+  pub turn : Bool
+  -- The seats that it met, and those that they had met.
+  pub met : List MetSeat
+
+-- what is left of a seat that was met, by what it knew
+abbrev pub met_seat : Known → MetSeat
+met_seat k = record { drivers = k.drivers; limit = k.limit; process = k.process; seen = k.seen; own = k.own }
+
+-- what a seat knew that was met is so of a system
+pub record IsMetBy (s : Recorded) (m : MetSeat) : Type 0 where
+  pub drivers : m.drivers ≡ s.drivers
+  pub limit : m.limit ≡ s.limit
+  -- The history begins with what the seat had seen, and has just those entries of its process that were made there.
+  pub seen : IsBeginningOf m.seen s.history
+  pub exact : entries_of m.process s.history ≡ m.own
+
+-- and so of all that were met
+abbrev pub AreMetBy : Recorded → List MetSeat → Type 0
+AreMetBy s [] = Unit {0}
+AreMetBy s (m ∷ met) = IsMetBy s m × AreMetBy s met
+
+-- the system, as far as it was seen
+abbrev pub seen_by : Known → Recorded
+seen_by k = record { drivers = k.drivers; limit = k.limit; history = k.seen }
+
+-- the seat of a process, before it has done anything: it has seen the history so far
+abbrev pub first_seat : SharedId → Recorded → ℕ → Seated
+first_seat shared s process = record {
+  shared = shared;
+  known = record {
+    drivers = s.drivers;
+    limit = s.limit;
+    process = process;
+    seen = s.history;
+    own = entries_of process s.history;
+  };
+  last = 0;
+  looks = 0;
+  turn = false;
+  met = [];
+}

@@ -14,7 +14,7 @@ impl fmt::Display for CloseFault {
     ghost use Rattle.std.specs.Prelude.{Some};
     ghost use Rattle.smx_shared.specs.CloseFaults.{close_fault_words};
 
-    ghost output = { λ _. Some close_fault_words };
+    ghost output = { λ fault. Some (close_fault_words fault) };
 
     fn fmt<W: fmt::Write>(&self, f: &mut fmt::Formatter<W>) -> fmt::Result {
         f.write_str("turn held")

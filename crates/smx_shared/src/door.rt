@@ -1,16 +1,19 @@
 //! What callers ask of a system that they share, so that another body can stand in.
 
-ghost use Rattle.std.specs.Prelude.{◌≡◌, IfOk};
+ghost use Rattle.std.specs.Prelude.{◌≡◌, IfErr, IfOk, OnOk};
+ghost use Rattle.smx_shared.specs.Calls.{AddsEntry, AnswersEntry, HasSeenMore, Refuses, SeesFront};
 
 use crate::fault::ApplyFault;
+use crate::front::Front;
 use smx_types::{Command, Entry, Process};
 use std::alloc::Global;
 use std::sync::Wait;
 
 /// A system that callers share, each with a seat of its own.
 pub trait Door {
-    ghost use Rattle.std.specs.Prelude.{◌≡◌, ℕ, IfOk};
-    ghost use Rattle.smx_model.specs.Histories.{call_of};
+    ghost use Rattle.std.specs.Prelude.{◌≡◌, IfErr, IfOk, OnOk};
+    ghost use Rattle.smx_shared.specs.Calls.{AddsEntry, AnswersEntry, HasSeenMore, Refuses, SeesFront};
+    ghost use Rattle.smx_shared.specs.Seats.{Known};
 
     /// What a caller calls with.
     type Seat;
@@ -18,15 +21,15 @@ pub trait Door {
     // Whether the seat is one of this door's.
     ghost is_seat: { Self → Self.Seat → Type 0 };
 
-    // The process whose commands the seat is for.
-    ghost process_of: { Self.Seat → ℕ };
+    // What the seat knows.
+    ghost known: { Self.Seat → Known };
 
     /// The process of a seat. Takes no memory.
     fn process(seat: &Self::Seat) -> Process
-        ensures { result ≡ process_of seat.now };
+        ensures { result ≡ (known seat.now).process };
 
     /// Performs a command of the seat's process, and answers the one entry that this added to the history. Refused, with
-    /// no entry added, where the history has as many entries as it may, or for want of memory.
+    /// no entry added, where the history has as many entries as it may, or else for want of memory.
     fn call<R: Wait>(
         &self,
         rt: &R,
@@ -35,6 +38,33 @@ pub trait Door {
         command: &Command,
     ) -> Result<Entry, ApplyFault>
         requires { is_seat self.now seat.old }
-        ensures answer { IfOk result (λ e. call_of e ≡ (process_of seat.old, command.now)) }
-        ensures seat { is_seat self.now seat.new × (process_of seat.new ≡ process_of seat.old) };
+        ensures seat { is_seat self.now seat.new }
+        ensures seen { HasSeenMore (known seat.old) (known seat.new) }
+        ensures answer { IfOk result (AnswersEntry (known seat.old) (known seat.new) command.now) }
+        ensures refused { IfErr result (Refuses (known seat.old) (known seat.new)) };
+
+    /// The same for a command that is given up, whose entry nobody asks for.
+    fn perform<R: Wait>(
+        &self,
+        rt: &R,
+        alloc: Global,
+        seat: &mut Self::Seat,
+        command: Command,
+    ) -> Result<(), ApplyFault>
+        requires { is_seat self.now seat.old }
+        ensures seat { is_seat self.now seat.new }
+        ensures seen { HasSeenMore (known seat.old) (known seat.new) }
+        ensures added { OnOk result (AddsEntry (known seat.old) (known seat.new) command) }
+        ensures refused { IfErr result (Refuses (known seat.old) (known seat.new)) }
+    {
+        self.call(rt, alloc, seat, &command)?;
+        Ok(())
+    }
+
+    /// How far the history is, at once. Waits for nobody, and takes no memory.
+    fn glance(&self, seat: &mut Self::Seat) -> Front
+        requires { is_seat self.now seat.old }
+        ensures seat { is_seat self.now seat.new }
+        ensures seen { HasSeenMore (known seat.old) (known seat.new) }
+        ensures front { SeesFront (known seat.old) (known seat.new) result };
 }

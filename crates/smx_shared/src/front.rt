@@ -1,6 +1,7 @@
 //! What is seen of a shared system from outside.
 
-ghost use Rattle.std.specs.Prelude.{◌≡◌, IfOk};
+ghost use Rattle.std.specs.Prelude.{◌≡◌, ◌*◌, ◌<◌, ◌^◌, IfOk};
+ghost use Rattle.smx_shared.specs.Fronts.{word_of};
 
 use smx_types::{Copied, Items, NoMemory};
 use std::alloc::Global;
@@ -18,6 +19,21 @@ pub struct Front {
 
 /// Fronts in the order of the processes that saw them.
 pub type Fronts = Items<Front>;
+
+impl Front {
+    // What a word says.
+    pub(crate) fn read(word: u64) -> Front
+        requires { word < 4096 * 2 ^ 32 }
+        ensures word { word_of result ≡ word }
+        ensures links { result.links < 2048 }
+    {
+        Front {
+            entries: (word / 4096) as u32,
+            links: (word % 4096 / 2) as u32,
+            held: word % 2 == 1,
+        }
+    }
+}
 
 impl Copied for Front {
     fn copied(&self, _alloc: Global) -> Result<Front, NoMemory> {

@@ -1,37 +1,41 @@
-//! A system that many threads share, behind a lock.
+//! A system that many threads share: they take turns, and look on without waiting.
 
-ghost use Rattle.std.specs.Prelude.{◌≡◌, ◌≤◌, map, IfOk, IfErr};
+ghost use Rattle.std.specs.Prelude.{◌≡◌, ◌≤◌, map, IfOk, IfErr, OnOk};
 ghost use Rattle.std.specs.List.{range_with_len};
 ghost use Rattle.smx_types.specs.declared.limits.TheConstants.{MAX_PROCESSES};
+ghost use Rattle.smx_shared.specs.Calls.{AddsEntry, AnswersEntry, EndsAs, GoesOnFrom, HasSeenMore, LooksOnce, Meets, Refuses, RefusesTry, Rests};
 ghost use Rattle.smx_shared.specs.CloseFaults.{IsHeld};
+ghost use Rattle.smx_shared.specs.Recorded.{IsSoundSystem};
+ghost use Rattle.smx_shared.specs.Seats.{first_seat};
 
 use crate::close_fault::CloseFault;
 use crate::door::Door;
 use crate::fault::ApplyFault;
+use crate::front::Front;
+use crate::hold::Hold;
+use crate::seat::Seat;
 use crate::system::System;
+use crate::try_fault::TryFault;
+use crate::turn_table::TurnTable;
+use smx_model::laws_of_limits::limits_hold;
 use smx_types::{Command, Entry, NoMemory, Process};
 use std::alloc::Global;
 use std::marker::Model;
-use std::sync::{Mutex, Wait};
+use std::sync::Wait;
 
-/// A system that many threads share: they take turns, and each turn adds at most one entry.
+/// A system that many threads share: they take turns, and each turn adds at most one entry. Contracts see which one it
+/// is; what of it is known, each seat knows.
 #[derive(Drop)]
 pub struct Shared {
-    system: Mutex<System>,
+    turns: TurnTable,
 }
 
-/// A place at a shared system, for the commands of one process.
-#[derive(Drop)]
-pub struct Seat {
-    process: Process,
-}
+impl Model for Shared {
+    ghost use Rattle.smx_shared.specs.Seats.{SharedAs, shared_as};
 
-impl Model for Seat {
-    ghost use Rattle.smx_shared.specs.Seats.{Seated};
+    ghost Value = { SharedAs };
 
-    ghost Value = { Seated };
-
-    ghost view = { λ s. record { process = s.process } };
+    ghost view = { λ s. shared_as s.turns.table.shared.table_id s.turns.table.shared.key.system.value s.turns.table.shared.key.processes };
 }
 
 impl Shared {
@@ -43,32 +47,97 @@ impl Shared {
         processes: usize,
     ) -> Result<(Shared, Vec<Seat>), NoMemory>
         requires { (1 ≤ processes) × (processes ≤ MAX_PROCESSES) }
-        ensures seats { IfOk result (λ r. map (λ s. s.process) r.1.items ≡ range_with_len 0 processes) }
+        ensures shared { IfOk result (λ r. (r.0.start ≡ system) × (r.0.processes ≡ processes)) }
+        ensures seats { IfOk result (λ r. r.1.items ≡ map (first_seat r.0.name system) (range_with_len 0 processes)) }
+        ensures sound { IfOk result (λ _. IsSoundSystem system) }
     {
         let mut seats = Vec::with_capacity(alloc, processes)?;
+        let (turns, mut token) = TurnTable::open(alloc, system, processes)?;
         for number in 0..processes {
             let process = Process::new(number as u32).unwrap();
-            seats.push_reserved(Seat { process });
+            turns.name(&mut token);
+            let next = turns.deal(&mut token);
+            seats.push_reserved(Seat { process, token });
+            token = next;
         }
-        let system = Mutex::new(system);
-        Ok((Shared { system }, seats))
+        Ok((Shared { turns }, seats))
     }
 
-    /// The system back, once its callers have ended. Refused where a turn was never given back. Takes no memory.
-    pub fn close(self, _seat: Seat) -> Result<System, CloseFault>
-        ensures held { IfErr result IsHeld }
+    /// Performs a command as `call` does, where nobody has the turn; it waits for nobody. Refused, with no entry added,
+    /// where somebody has it, as the front shows that was seen; or as `call` is.
+    pub fn try_call(
+        &self,
+        _alloc: Global,
+        seat: &mut Seat,
+        command: &Command,
+    ) -> Result<Entry, TryFault>
+        requires { seat.old.shared ≡ self.now.name }
+        ensures rests { Rests seat.old seat.new }
+        ensures met { seat.new.met ≡ seat.old.met }
+        ensures seen { HasSeenMore seat.old.known seat.new.known }
+        ensures answer { IfOk result (AnswersEntry seat.old.known seat.new.known command.now) }
+        ensures refused { IfErr result (RefusesTry seat.old seat.new) }
     {
-        Ok(self.system.into_inner())
+        limits_hold();
+        if let Err(word) = self.turns.try_take(&mut seat.token) {
+            return Err(TryFault::Busy(Front::read(word)));
+        }
+        Ok(self.turns.serve(&mut seat.token, seat.process, command)?)
+    }
+
+    /// Performs a command as `call` does, and calls `hold` once while it has the turn.
+    pub fn call_holding<R: Wait, H: Hold>(
+        &self,
+        rt: &R,
+        _alloc: Global,
+        seat: &mut Seat,
+        command: &Command,
+        hold: &H,
+    ) -> Result<Entry, ApplyFault>
+        requires { seat.old.shared ≡ self.now.name }
+        ensures rests { Rests seat.old seat.new }
+        ensures met { seat.new.met ≡ seat.old.met }
+        ensures seen { HasSeenMore seat.old.known seat.new.known }
+        ensures answer { IfOk result (AnswersEntry seat.old.known seat.new.known command.now) }
+        ensures refused { IfErr result (Refuses seat.old.known seat.new.known) }
+    {
+        self.turns.take(rt, &mut seat.token);
+        hold.inside();
+        self.turns.serve(&mut seat.token, seat.process, command)
+    }
+
+    /// The first seat has then seen what either had, and the other is given up. Waits for nobody, and takes no memory.
+    pub fn meet(&self, seat: &mut Seat, other: Seat)
+        requires { (seat.old.shared ≡ self.now.name) × (other.shared ≡ self.now.name) }
+        ensures rests { Rests seat.old seat.new }
+        ensures seen { HasSeenMore seat.old.known seat.new.known }
+        ensures meets { Meets seat.old other seat.new }
+    {
+        self.turns.meet(&mut seat.token, other.token);
+    }
+
+    /// The system back, with the whole history, once its callers have ended. Refused where a turn was never given back,
+    /// as the front shows; the system is then given up. Takes no memory.
+    pub fn close(self, seat: Seat) -> Result<System, CloseFault>
+        requires { seat.shared ≡ self.name }
+        ensures ends { IfOk result (EndsAs seat.known seat.met) }
+        ensures begun { IfOk result (GoesOnFrom self) }
+        ensures held { IfErr result (IsHeld seat.known) }
+    {
+        limits_hold();
+        match self.turns.close(seat.token) {
+            Ok(system) => Ok(system),
+            Err(word) => Err(CloseFault::Held(Front::read(word))),
+        }
     }
 }
 
 impl Door for Shared {
     type Seat = Seat;
 
-    // A lock serves any seat.
-    ghost is_seat = { λ _ _. Unit {0} };
+    ghost is_seat = { λ d s. s.shared ≡ d.name };
 
-    ghost process_of = { λ s. s.process };
+    ghost known = { λ s. s.known };
 
     fn process(seat: &Seat) -> Process {
         seat.process
@@ -80,7 +149,45 @@ impl Door for Shared {
         _alloc: Global,
         seat: &mut Seat,
         command: &Command,
-    ) -> Result<Entry, ApplyFault> {
-        self.system.lock(rt).apply(seat.process, command)
+    ) -> Result<Entry, ApplyFault>
+        requires { seat.old.shared ≡ self.now.name }
+        ensures rests { Rests seat.old seat.new }
+        ensures met { seat.new.met ≡ seat.old.met }
+        ensures seen { HasSeenMore seat.old.known seat.new.known }
+        ensures answer { IfOk result (AnswersEntry seat.old.known seat.new.known command.now) }
+        ensures refused { IfErr result (Refuses seat.old.known seat.new.known) }
+    {
+        self.turns.take(rt, &mut seat.token);
+        self.turns.serve(&mut seat.token, seat.process, command)
+    }
+
+    fn perform<R: Wait>(
+        &self,
+        rt: &R,
+        _alloc: Global,
+        seat: &mut Seat,
+        command: Command,
+    ) -> Result<(), ApplyFault>
+        requires { seat.old.shared ≡ self.now.name }
+        ensures rests { Rests seat.old seat.new }
+        ensures met { seat.new.met ≡ seat.old.met }
+        ensures seen { HasSeenMore seat.old.known seat.new.known }
+        ensures added { OnOk result (AddsEntry seat.old.known seat.new.known command) }
+        ensures refused { IfErr result (Refuses seat.old.known seat.new.known) }
+    {
+        self.turns.take(rt, &mut seat.token);
+        self.turns
+            .serve_given(&mut seat.token, seat.process, command)
+    }
+
+    fn glance(&self, seat: &mut Seat) -> Front
+        requires { seat.old.shared ≡ self.now.name }
+        ensures rests { Rests seat.old seat.new }
+        ensures met { seat.new.met ≡ seat.old.met }
+        ensures seen { HasSeenMore seat.old.known seat.new.known }
+        ensures front { LooksOnce seat.old seat.new result }
+    {
+        limits_hold();
+        Front::read(self.turns.look(&mut seat.token))
     }
 }

@@ -30,6 +30,17 @@ fn tells_how_many_workers(rt: HostRuntime) -> Result<(), Fail> {
 }
 
 #[test]
+fn tells_that_fronts_are_asked_for(rt: HostRuntime) -> Result<(), Fail> {
+    let words = ["muxsim", "run", "--fronts"];
+    let run = Job::Run {
+        workers: 1,
+        fronts: true,
+    };
+    assert_eq!(rt; job(rt.alloc(), words.as_slice())?, run);
+    Ok(())
+}
+
+#[test]
 fn refuses_other_numbers_of_workers(rt: HostRuntime) -> Result<(), Fail> {
     for word in ["0", "65", "256", "18446744073709551617", "-1", "x", ""] {
         let words = ["muxsim", "run", "--workers", word];

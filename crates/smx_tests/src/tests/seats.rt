@@ -1,6 +1,6 @@
 //! A system that is shared, by the seats of its processes.
 
-ghost use Rattle.std.specs.Prelude.{◌≤◌};
+ghost use Rattle.std.specs.Prelude.{◌≡◌, ◌≤◌, All, IfOk};
 ghost use Rattle.smx_types.specs.declared.limits.TheConstants.{MAX_COMMANDS};
 
 use super::system_lines::system_over;
@@ -14,6 +14,7 @@ use std::test::Fail;
 // A system of at most so many entries, shared among three processes.
 fn shared_by_three(alloc: Global, limit: usize) -> Result<(Shared, Vec<Seat>), Fail>
     requires { limit ≤ MAX_COMMANDS }
+    ensures { IfOk result (λ r. All (λ s. s.shared ≡ r.0.name) r.1.items) }
 {
     let system = system_over(alloc, &[ip()?], limit)?;
     Ok(Shared::start(alloc, system, 3)?)
@@ -27,28 +28,12 @@ fn open<D: Door, R: Wait>(
     seat: &mut D::Seat,
 ) -> Result<Result<Entry, ApplyFault>, Fail>
     requires { D.is_seat door.now seat.old }
+    ensures { D.is_seat door.now seat.new }
 {
     let command = Command::OpenClone {
         driver: named("ip")?,
     };
     Ok(door.call(rt, alloc, seat, &command))
-}
-
-#[test]
-fn each_process_has_a_seat(rt: HostRuntime) -> Result<(), Fail> {
-    let (shared, seats) = shared_by_three(rt.alloc(), 10)?;
-    let mut minor = 0;
-    let mut last = None;
-    for mut seat in seats {
-        assert_eq!(rt; Shared::process(&seat).get(), minor);
-        let entry = open(&rt, rt.alloc(), &shared, &mut seat)??;
-        assert!(rt; entry == opening(minor, minor)?);
-        last = Some(seat);
-        minor += 1;
-    }
-    let system = shared.close(last.ok_or("a seat")?)?;
-    assert!(rt; system.entries() == [opening(0, 0)?, opening(1, 1)?, opening(2, 2)?].as_slice());
-    Ok(())
 }
 
 #[test]

@@ -1,12 +1,18 @@
 //! Worked histories whole. They pass with any one growth refused too, and tests/refused_growths runs them so.
 
+ghost use Rattle.std.specs.Prelude.{◌≡◌, All, IfOk};
+
 use super::history_lines::{Answer, Call, JOIN, Line, entry_of, play, play_twice, shows};
-use super::system_lines::{play as play_by, system_of_twenty};
+use super::shared::front;
+use super::system_lines::{play as play_by, system_of_twenty, system_over};
 use super::values::{eth, ip, ip_and_eth, nothing_open};
 use super::views::held_above;
 use smx_config::{ConfigFault, Verdict, check_history};
-use smx_types::{ConfigView, Entry, Fault, Which};
+use smx_shared::{ApplyFault, Door, Seat, Shared, TryFault};
+use smx_types::{Command, ConfigView, Entry, Fault, Reply, Which};
 use std::alloc::Global;
+use std::process::Abort;
+use std::sync::Wait;
 use std::test::Fail;
 
 const MARKS: [Line; 9] = [
@@ -133,4 +139,74 @@ fn deliveries_twice(rt: HostRuntime) -> Result<(), Fail> {
     play_twice(&rt, &mut config, &DELIVERIES)?;
     play_twice(&rt, &mut config, &[(Call::Exit, Answer::Done(&[]))])?;
     shows(&config, nothing_open(rt.alloc(), 1, 3))
+}
+
+// A system of at most ten entries over `ip`, shared by two processes.
+fn shared_by_two(alloc: Global) -> Result<(Shared, Vec<Seat>), Fail>
+    ensures { IfOk result (λ r. All (λ s. s.shared ≡ r.0.name) r.1.items) }
+{
+    let drivers = [ip()?];
+    if let Ok(both) = Shared::start(alloc, system_over(alloc, &drivers, 10)?, 2) {
+        return Ok(both);
+    }
+    Ok(Shared::start(alloc, system_over(alloc, &drivers, 10)?, 2)?)
+}
+
+// Where memory was wanting the other seat sees nothing new, and the call is made again.
+fn called(
+    rt: &(impl AllocGlobal + Abort + Print + Wait),
+    shared: &Shared,
+    seat: &mut Seat,
+    other: &mut Seat,
+    command: &Command,
+) -> Result<Reply, Fail>
+    requires { (seat.old.shared ≡ shared.now.name) × (other.old.shared ≡ shared.now.name) }
+    ensures { (seat.new.shared ≡ shared.now.name) × (other.new.shared ≡ shared.now.name) }
+{
+    match shared.call(rt, rt.alloc(), seat, command) {
+        Ok(entry) => Ok(entry.reply),
+        Err(ApplyFault::HistoryFull) => Err(Fail::new("the history is full")),
+        Err(ApplyFault::NoMemory) => {
+            println!(rt; "a call wanted memory")?;
+            assert_eq!(rt; shared.glance(other), front(0, 0, false));
+            Ok(shared.call(rt, rt.alloc(), seat, command)?.reply)
+        }
+    }
+}
+
+// The same for a try, once the history has one entry.
+fn tried(
+    rt: &(impl AllocGlobal + Abort + Print),
+    shared: &Shared,
+    seat: &mut Seat,
+    other: &mut Seat,
+    command: &Command,
+) -> Result<Reply, Fail>
+    requires { (seat.old.shared ≡ shared.now.name) × (other.old.shared ≡ shared.now.name) }
+    ensures { (seat.new.shared ≡ shared.now.name) × (other.new.shared ≡ shared.now.name) }
+{
+    match shared.try_call(rt.alloc(), seat, command) {
+        Ok(entry) => Ok(entry.reply),
+        Err(TryFault::NoMemory) => {
+            println!(rt; "a call wanted memory")?;
+            assert_eq!(rt; shared.glance(other), front(1, 0, false));
+            Ok(shared.try_call(rt.alloc(), seat, command)?.reply)
+        }
+        Err(_) => Err(Fail::new("a try is refused")),
+    }
+}
+
+#[test]
+fn calls_of_two_seats(rt: HostRuntime) -> Result<(), Fail> {
+    let clone_ip = Command::OpenClone { driver: ip()?.name };
+    let (shared, mut seats) = shared_by_two(rt.alloc())?;
+    let (Some(mut one), Some(mut zero)) = (seats.pop(), seats.pop()) else {
+        return Err(Fail::new("two seats"));
+    };
+    let first = called(&rt, &shared, &mut zero, &mut one, &clone_ip)?;
+    assert_eq!(rt; first, Reply::Fd { fd: 0, minor: 0 });
+    let second = tried(&rt, &shared, &mut one, &mut zero, &clone_ip)?;
+    assert_eq!(rt; second, Reply::Fd { fd: 0, minor: 1 });
+    assert_eq!(rt; shared.close(zero)?.entries().len(), 2);
+    Ok(())
 }

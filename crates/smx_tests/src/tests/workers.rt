@@ -26,6 +26,21 @@ fn four_workers_are_inside_at_once(rt: HostRuntime) -> Result<(), Fail> {
     Ok(())
 }
 
+const REFUSED: &[u8] =
+    b"programs 1\ndriver ip mux 0 8 3 16\nprocess 0\nclone ip\nprocess 1\nclone ip\nend\n";
+
+#[test]
+fn refused_drivers_start_no_worker(rt: HostRuntime) -> Result<(), Fail> {
+    let meeting = Meeting::of(1);
+    for workers in [1, 2] {
+        let programs = read_programs(rt.alloc(), REFUSED)?;
+        let run = run_programs(&rt, rt.alloc(), programs, workers, &meeting);
+        assert!(rt; run.is_err());
+    }
+    assert_eq!(rt; meeting.met(), 0);
+    Ok(())
+}
+
 // The report of a run of the programs that this text spells.
 fn reported<R: Threads + Wait + Sync>(
     rt: &R,

@@ -1,15 +1,13 @@
-use Rattle.std.proofs.Common.{refl, sym, ap, ◌∙◌}
+use Rattle.std.proofs.Common.{sym, ap, ◌∙◌}
 use Rattle.smx_model.specs.Removal.{after_sweep}
 use Rattle.smx_config.specs.ModelOfLists.{configuration_of}
 use Rattle.smx_config.specs.UnlinkTargets.{is_target}
 use Rattle.smx_config.proofs.DoneLemmas.{done_is, unlink_does}
-use Rattle.smx_config.proofs.RemovalLemmas.{without_is_removed}
 use Rattle.smx_config.proofs.commands_of_links.unlink_as.Goals as goal
 
 pub returns-clause-refines : goal.returns-clause-refines
 returns-clause-refines c =
-    let old = configuration_of c.args.lists.now in
     let goes = is_target c.args.which c.args.kind c.in_ok-stream.stream in
     unlink_does c.args.drivers.now (configuration_of c.args.lists.now) c.args.process c.args.fd c.args.which c.args.kind c.in_ok-stream.stream _ (sym c.mux_stream.ensures ∙ c.in_ok-stream.was) (sym c.check_targets.ensures ∙ c.in_ok-check_targets.was)
     (done_is c.args.drivers.now (configuration_of c.args.lists.now) _ (configuration_of c.sweep_and_reply.new.lists) c.in_ok-room.room.old.items c.sweep_and_reply.result
-    (c.sweep_and_reply.ensures.value ∙ ap (after_sweep c.args.drivers.now) (c.remove_links.ensures.value ∙ without_is_removed old goes _ (c.deref-2.ensures.value ∙ (c.in_ok-gone.ensures ∙ rw c.deref.ensures.value refl)))) c.in_ok-room.ensures.old_serials c.sweep_and_reply.ensures.reply)
+    (c.sweep_and_reply.ensures.value ∙ ap (after_sweep c.args.drivers.now) (c.remove_links.ensures.value goes (c.deref.ensures.value ∙ c.in_ok-gone.ensures))) c.in_ok-room.ensures.old_serials c.sweep_and_reply.ensures.reply)

@@ -1,4 +1,6 @@
-use Rattle.std.proofs.Common.{sym, ◌∙◌}
+use Rattle.std.proofs.Common.{◌≡◌, true, rules, sym, ◌∙◌}
+use Rattle.smx_config.specs.ModelOfLists.{configuration_of}
+use Rattle.smx_config.proofs.ReplyLemmas.{carries_nothing, nothing_fits}
 use Rattle.smx_config.proofs.second_reply.room_for_reply.Goals as goal
 
 pub returns-in_ok-stream-in-Read-clause-makes : goal.returns-in_ok-stream-in-Read-clause-makes
@@ -20,3 +22,8 @@ pub returns-in_ok-stream-in-Transmit-clause-in_place : goal.returns-in_ok-stream
 returns-in_ok-stream-in-Transmit-clause-in_place c =
     rw (c.in-Transmit.is, sym c.leaf_stream.ensures ∙ c.in_ok-stream-in-Transmit.was)
     (λ _. c.room_for_first-in-Transmit.ensures.in_place c.args.drivers.now)
+
+pub returns-in-OpenClone-clause-makes : goal.returns-in-OpenClone-clause-makes
+returns-in-OpenClone-clause-makes c =
+    let plain : carries_nothing c.args.command.now ≡ true = search rules in
+    nothing_fits c.args.drivers.now (configuration_of c.args.lists.now) c.args.process c.args.command.now c.no_room.result plain (c.other_commands_drop_none.ensures c.args.drivers.now (configuration_of c.args.lists.now) c.args.process c.args.command.now c.requires.swept_already) c.no_room.ensures

@@ -5,4 +5,4 @@ pub returns-then-is_mux : goal.returns-then-is_mux
 returns-then-is_mux c = rw c.in-Write.is (rw (sym c.is_mux.ensures ∙ c.if-is_mux.true) cc)
 
 pub returns-in-Read : goal.returns-in-Read
-returns-in-Read c = rw c.in-Read.is (c.up.ensures ∙ rw (c.deref-in-Read.ensures.value, c.deref-in-Read-2.ensures.value) refl)
+returns-in-Read c = rw c.in-Read.is (c.up.ensures ∙ rw c.deref-in-Read.ensures.value refl)

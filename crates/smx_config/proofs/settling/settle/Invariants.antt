@@ -13,4 +13,5 @@ invariant-loop-left l = record {
   comes_to : after_settling_within l.drivers l.left (configuration_of l.lists) ≡ after_settling l.drivers (configuration_of l.initial.lists);
   kept : HasRoom l.lists;
   sound : IsSound l.drivers (configuration_of l.lists);
+  drivers : l.lists.links.drivers ≡ l.initial.lists.links.drivers;
 }

@@ -1,8 +1,8 @@
 use Rattle.std.proofs.Common.{rules, ◌≡◌, ◌+◌, ◌%◌, [], ℕ, vec_len, arith, refl, ◌∙◌}
 use Rattle.std.proofs.Math.Nat.{mod-lt}
 use Rattle.std.proofs.lemmas.List.{drop_more}
-use Rattle.smx_run.specs.Hands.{called, process_at, calls_in}
-use Rattle.smx_run.proofs.HandLemmas.{pushed, hand_at, next_in_hand, take_next, collect_next}
+use Rattle.smx_run.specs.Hands.{called, known_at, EndsAt}
+use Rattle.smx_run.proofs.HandLemmas.{pushed, all_more, all_of_none, hand_at, next_in_hand, take_next, collect_next}
 use Rattle.smx_run.proofs.hands.collect.Goals as goal
 
 pub loop-process-init : goal.loop-process-init
@@ -10,12 +10,13 @@ loop-process-init c = record {
   room = search rules;
   counted = search rules;
   workers = search rules;
+  ended = λ name all. (all, all_of_none (EndsAt name) _ c.in_ok-ended.ensures.items);
   dealt = λ k below. rw c.requires.dealt (hand_at _ _ k below);
-  called = rw c.in_ok-transcripts.ensures.items refl;
+  called = rw c.in_ok-ended.ensures.items refl;
 }
 
-pub take_first-seat-requires-clause-some : goal.take_first-seat-requires-clause-some
-take_first-seat-requires-clause-some c none =
+pub take_first-requires-clause-some : goal.take_first-requires-clause-some
+take_first-requires-clause-some c none =
     let before = c.loop-process.invariant in
     let p : ℕ = c.loop-process.process in
     let workers : ℕ = vec_len c.args.hands in
@@ -31,11 +32,16 @@ loop-process-preserved c =
     let workers : ℕ = vec_len c.args.hands in
     let len : c.len.result ≡ workers = c.len.ensures ∙ before.workers in
     let programs = drop_more c.args.programs.value p [] (omega (arith, c.loop-process-test.true, c.requires.processes)) in
-    let taken = take_next workers p (p + 1) _ _ _ _ _ (called process_at c.take_first-seat.result) programs refl before.dealt (mod-lt p c.requires.workers) (rw len at c.take_first-seat.ensures.first) (rw len at c.take_first-seat.ensures.others) in
+    let one = called known_at c.take_first.result in
+    let taken = take_next workers p (p + 1) _ _ _ _ _ one programs refl before.dealt (mod-lt p c.requires.workers) (rw len at c.take_first.ensures.first) (rw len at c.take_first.ensures.others) in
     record {
       room = search rules;
       counted = search rules;
       workers = search rules;
+      ended = λ name all.
+          let was = before.ended name all in
+          let next = c.take_first.ensures.ended name was.0 in
+          (next.1, all_more (EndsAt name) _ _ _ was.1 next.0 c.push_reserved.ensures.items);
       dealt = taken.1;
-      called = collect_next p (p + 1) _ _ _ (called process_at c.take_first-seat.result) _ _ _ before.called (pushed calls_in _ _ _ _ _ c.push_reserved-in-loop-process.ensures.items refl refl) taken.0 refl programs;
+      called = collect_next p (p + 1) _ _ _ one _ _ _ before.called (pushed (called known_at) _ _ _ _ _ c.push_reserved.ensures.items refl refl) taken.0 refl programs;
     }

@@ -1,9 +1,9 @@
 use Rattle.std.proofs.Common.{rules, ◌≡◌, ◌+◌, ◌++◌, ◌∷◌, [], ℕ, arith, length, map, ◌∙◌}
 use Rattle.std.specs.Vec.Iter.{into_iter_items}
 use Rattle.std.proofs.lemmas.List.{length-append, length-map}
-use Rattle.smx_run.specs.Hands.{given_hand, hand_of}
+use Rattle.smx_run.specs.Hands.{given_hand, hand_of, IsFresh}
 use Rattle.smx_run.specs.ProgramOrder.{numbered}
-use Rattle.smx_run.proofs.HandLemmas.{hands_are, none_dealt, none_left, all_dealt, next_seat, deal_next}
+use Rattle.smx_run.proofs.HandLemmas.{hands_are, none_dealt, none_left, all_dealt, next_seat, deal_next, take_off}
 use Rattle.smx_run.proofs.hands.deal.Goals as goal
 
 pub loop-seat-init : goal.loop-seat-init
@@ -15,6 +15,7 @@ loop-seat-init c =
       counted = search rules;
       left = search rules;
       seats = rw (seats, programs) c.requires.seats;
+      fresh = λ name all. (rw seats all, c.in_ok-hands.ensures.fresh name);
       dealt = λ k below. rw programs (none_dealt c.args.workers _ c.in_ok-hands.ensures.none k below (hand_of c.args.workers (numbered 0 c.args.programs) k));
     }
 
@@ -30,7 +31,11 @@ loop-seat-preserved c =
       counted = search rules;
       left = search rules;
       seats = rw more next.1;
-      dealt = λ k below. deal_next c.args.workers n _ c.in-Some.seat.process k _ _ _ c.in-Some-next.commands _ _ (before.dealt k below) (rw before.workers at (c.in_ok-give.ensures.given k (omega (arith, below, before.workers)))) next.0 more items;
+      fresh = λ name all.
+          let was = before.fresh name all in
+          let first = take_off (IsFresh name) _ _ c.in-Some.seat c.in-Some.ensures.steps.0 was.0 in
+          (first.1, c.in_ok-give.ensures.fresh name was.1 first.0);
+      dealt = λ k below. deal_next c.args.workers n _ c.in-Some.seat.known.process k _ _ _ c.in-Some-next.commands _ _ (before.dealt k below) (rw before.workers at (c.in_ok-give.ensures.given k (omega (arith, below, before.workers)))) next.0 more items;
     }
 
 pub returns : goal.returns
@@ -38,5 +43,6 @@ returns c =
     let end = c.loop-seat.invariant in
     let none = none_left _ _ _ end.seats (omega (arith, end.counted, c.in-None.ensures.steps.0)) in
     record {
+      fresh = λ name all. (end.fresh name all).1;
       dealt = hands_are c.args.workers (numbered 0 c.args.programs) (map given_hand c.loop-seat.hands.items) (omega (arith, end.workers, length-map c.loop-seat.hands.items given_hand)) (λ k below. all_dealt _ _ _ _ k _ (end.dealt k below) none);
     }

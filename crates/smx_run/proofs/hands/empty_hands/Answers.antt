@@ -1,11 +1,12 @@
 use Rattle.std.proofs.Common.{rules, ap, map, sym, ◌∙◌}
-use Rattle.smx_run.specs.Hands.{given, process_at, given_hand}
-use Rattle.smx_run.proofs.HandLemmas.{pushed, one_empty_more}
+use Rattle.smx_run.specs.Hands.{given, known_at, given_hand, AreFresh, IsFresh}
+use Rattle.smx_run.proofs.HandLemmas.{pushed, one_empty_more, all_more, all_of_none}
 use Rattle.smx_run.proofs.hands.empty_hands.Goals as goal
 
 pub loop-preserved : goal.loop-preserved
 loop-preserved c = record {
   room = search rules;
   counted = search rules;
-  none = pushed given_hand _ _ _ _ _ c.push_reserved.ensures.items c.loop.invariant.none (ap (map (given process_at)) c.new.ensures.items) ∙ sym (one_empty_more c.loop.counter);
+  fresh = λ name. all_more (AreFresh name) _ _ _ (c.loop.invariant.fresh name) (all_of_none (λ job. IsFresh name job.seat) _ c.new.ensures.items) c.push_reserved.ensures.items;
+  none = pushed given_hand _ _ _ _ _ c.push_reserved.ensures.items c.loop.invariant.none (ap (map (given known_at)) c.new.ensures.items) ∙ sym (one_empty_more c.loop.counter);
 }

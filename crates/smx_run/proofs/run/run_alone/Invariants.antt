@@ -1,7 +1,9 @@
-use Rattle.std.proofs.Common.{◌≡◌, ◌≤◌, ◌+◌, ◌++◌, map, length}
+use Rattle.std.proofs.Common.{◌≡◌, ◌≤◌, ◌+◌, map, length, vec_len}
+use Rattle.std.specs.Prelude.{vec_capacity}
 use Rattle.std.specs.Vec.Iter.{into_iter_items, into_iter_len}
 use Rattle.smx_model.specs.Histories.{call_of}
 use Rattle.smx_types.specs.declared.limits.TheConstants.{MAX_PROCESSES}
+use Rattle.smx_run.specs.Fronts.{AreFrontsFrom}
 use Rattle.smx_run.specs.ProgramOrder.{calls_from}
 use Rattle.smx_run.proofs.run.run_alone.Given as goal
 
@@ -10,5 +12,9 @@ invariant-loop-commands g l = record {
   drivers : l.system.drivers ≡ l.fn.system.drivers;
   counted : into_iter_len l.commands-iterator ≡ length (into_iter_items l.commands-iterator);
   within : l.number + length (into_iter_items l.commands-iterator) ≤ MAX_PROCESSES;
-  calls : map call_of l.system.history ++ calls_from l.number (into_iter_items l.commands-iterator) ≡ map call_of l.fn.system.history ++ calls_from 0 l.fn.programs;
+  number : l.number ≡ length l.yielded;
+  room : length l.fn.programs ≤ vec_capacity l.fronts;
+  seen : vec_len l.fronts ≡ length l.yielded;
+  calls : map call_of l.system.history ≡ calls_from 0 l.yielded;
+  fronts : AreFrontsFrom l.system.drivers l.system.history 0 l.yielded l.fronts.items;
 }

@@ -1,12 +1,12 @@
 use Rattle.std.proofs.Common.{◌≡◌, ◌≤◌, All, map, length, vec_len}
 use Rattle.std.specs.Prelude.{vec_capacity}
-use Rattle.smx_run.specs.Hands.{given, called}
+use Rattle.smx_run.specs.Hands.{given, called, HasEnded}
 use Rattle.smx_run.proofs.worker.work.Given as goal
 
 abbrev pub invariant-loop-job : goal.invariant-loop-job
 invariant-loop-job g l = record {
   room : vec_len l.fn.hand ≤ vec_capacity l.done;
   counted : vec_len l.done ≡ length l.yielded;
-  called : map (called g.D.Door.process_of) l.done.items ≡ map (given g.D.Door.process_of) l.yielded;
-  seats : All (λ d. g.D.Door.is_seat l.door d.seat) l.done.items;
+  called : map (called g.D.Door.known) l.done.items ≡ map (given g.D.Door.known) l.yielded;
+  ended : All (λ d. g.D.Door.is_seat l.door d.seat × HasEnded (g.D.Door.known d.seat) d.front) l.done.items;
 }

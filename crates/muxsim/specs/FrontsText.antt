@@ -1,0 +1,23 @@
+-- The fronts text: how far the history had come when the program of each process had ended.
+use Rattle.std.specs.Prelude.{ℕ, ◌+◌, List, [], ◌∷◌, ◌++◌, codes}
+use Rattle.std.specs.Fmt.{decimal}
+use Rattle.smx_words.specs.Words.{LINE_FEED, SPACE}
+use Rattle.smx_shared.specs.declared.front.Front.{Front}
+
+-- the line of one front: the process, the entries and the links
+abbrev pub front_line : ℕ → Front → List ℕ
+front_line process front =
+    codes "front " ++ decimal process ++ SPACE ∷ decimal front.entries ++ SPACE ∷ decimal front.links ++ LINE_FEED ∷ []
+
+-- the lines of fronts, from process n on
+abbrev pub front_lines : ℕ → List Front → List ℕ
+front_lines n [] = []
+front_lines n (front ∷ fronts) = front_line n front ++ front_lines (n + 1) fronts
+
+-- the first line, with the version
+abbrev pub fronts_header : List ℕ
+fronts_header = codes "fronts 1" ++ LINE_FEED ∷ []
+
+-- the whole text: a line for each process by rising number, and the end line
+abbrev pub fronts_text : List Front → List ℕ
+fronts_text fronts = fronts_header ++ front_lines 0 fronts ++ codes "end" ++ LINE_FEED ∷ []

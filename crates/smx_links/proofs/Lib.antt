@@ -1,0 +1,6 @@
+pub mod BitLemmas
+pub mod EntryLemmas
+pub mod MaskLemmas
+pub mod IdLemmas
+pub mod TableLemmas
+pub mod PlaceLemmas

@@ -1,0 +1,4 @@
+pub mod Masks
+pub mod Entries
+pub mod LinkLists
+pub mod TableFields

@@ -1,0 +1,22 @@
+-- A word of bits for each driver, bit b of word a for a path from driver a to driver b.
+use Rattle.std.specs.Prelude.{◌≡◌, ℕ, Bool, ◌&&◌, ◌||◌, ◌==◌, List, slice_index}
+use Rattle.std.specs.Int.{bit_at}
+use Rattle.smx_types.specs.declared.link.Link.{Link}
+use Rattle.smx_model.specs.Paths.{reaches}
+
+-- bit b is set
+abbrev pub is_set : ℕ → ℕ → Bool
+is_set w b = bit_at w b == 1
+
+-- bit b of word a is set; there is none past the last word
+abbrev pub has_bit : List ℕ → ℕ → ℕ → Bool
+has_bit ws a b = is_set (slice_index ws a) b
+
+-- what driver l reaches, and l, has joined what u reaches and all that reach u
+abbrev pub AreJoined : List ℕ → ℕ → ℕ → List ℕ → Type 0
+AreJoined old u l new = (a b : ℕ)
+    → has_bit new a b ≡ (has_bit old a b || (((a == u) || has_bit old a u) && ((l == b) || has_bit old l b)))
+
+-- bit b of word a is set exactly where a path leads from driver a to driver b
+abbrev pub AreMasks : List Link → List ℕ → Type 0
+AreMasks links ws = (a b : ℕ) → has_bit ws a b ≡ reaches links a b

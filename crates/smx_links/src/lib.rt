@@ -1,0 +1,10 @@
+//! The table of links between drivers, and its cycle test: a bit for each two drivers.
+#![tactic(auto)]
+
+mod entries;
+mod fault;
+mod masks;
+mod table;
+
+pub use fault::LinkFault;
+pub use table::LinkTable;

@@ -1,0 +1,55 @@
+//! Which drivers a path leads to: a word of bits for each driver.
+
+ghost use Rattle.std.specs.Prelude.{◌≡◌, ◌<◌, ◌≤◌, ◌^◌, length, bit_or};
+ghost use Rattle.smx_links.specs.Masks.{is_set, has_bit, AreJoined};
+
+/// A bit for each driver.
+pub type Word = u64;
+
+/// The bits of a word, and so the most drivers that a table can have.
+pub const WORD_BITS: u8 = 64;
+
+// Whether the bit is set.
+fn is_set(word: Word, b: u8) -> bool
+    requires { b < 64 }
+    ensures { result ≡ is_set word b }
+{
+    word >> b & 1 == 1
+}
+
+// Whether bit b of word a is set. There is none past the last word, and none past the last bit of a word.
+pub fn has_bit(words: &[Word], a: u8, b: u8) -> bool
+    ensures { result ≡ has_bit words.now a b }
+{
+    if b >= WORD_BITS {
+        return false;
+    }
+    match words.get(a as usize) {
+        Some(word) => is_set(*word, b),
+        None => false,
+    }
+}
+
+// The word with the bit set.
+fn with_bit(word: Word, b: u8) -> Word
+    requires { b < 64 }
+    ensures { result ≡ bit_or word (2 ^ b) }
+{
+    word | 1 << b
+}
+
+// What the lower driver reaches, and itself, joins what the upper one reaches and what all reach that reach it.
+pub fn join(words: &mut [Word], upper: u8, lower: u8)
+    requires upper { upper < length words.old }
+    requires lower { lower < length words.old }
+    requires few { length words.old ≤ 64 }
+    ensures length { length words.new ≡ length words.old }
+    ensures joined { AreJoined words.old upper lower words.new }
+{
+    let reached = with_bit(words[lower as usize], lower);
+    for a in 0..words.len() {
+        if a == upper as usize || is_set(words[a], upper) {
+            words[a] |= reached;
+        }
+    }
+}

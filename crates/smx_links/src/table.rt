@@ -1,0 +1,221 @@
+//! The table of links.
+
+ghost use Rattle.std.specs.Prelude.{◌≡◌, ◌<◌, ◌≤◌, [], length, find, ◌==◌, ◌||◌, nat_le, slice_get};
+ghost use Rattle.std.specs.Prelude.{IfOk, OnOk, OnErr, option_copied};
+ghost use Rattle.smx_types.specs.declared.limits.TheConstants.{MAX_DRIVERS, MAX_LINKS, NUMBER_END};
+ghost use Rattle.smx_model.specs.Configuration.{same_stream};
+ghost use Rattle.smx_model.specs.Paths.{reaches};
+ghost use Rattle.smx_model.specs.Standing.{is_below};
+ghost use Rattle.smx_links.specs.LinkLists.{IsLinkList, IsLinked, refusal, with_link, without_id, without_ids};
+
+use crate::entries::{Entries, above, at, get, is_below, put, recompute, take, take_each};
+use crate::fault::LinkFault;
+use crate::masks::{Word, has_bit, join};
+use smx_model::laws_of_links::{
+    fewer_links_stay_sound, linking_keeps_soundness, linking_takes_the_next_id, no_links_are_sound,
+    one_link_more_joins,
+};
+use smx_types::{Link, LinkKind, MAX_LINKS, NUMBER_END, NoMemory, StreamId};
+use std::alloc::Global;
+use std::marker::Model;
+
+/// Links in the order of their ids, without a cycle, and no stream below two of them. A contract sees the list, the
+/// next id and the number of drivers.
+#[derive(Debug, Drop)]
+pub struct LinkTable {
+    masks: Vec<Word>,
+    entries: Entries,
+    next_id: u32,
+}
+
+impl Model for LinkTable {
+    ghost use Rattle.smx_links.specs.LinkLists.{LinkList};
+
+    ghost Value = { LinkList };
+
+    ghost use Rattle.smx_links.specs.TableFields.{list_of, IsWhole};
+
+    ghost view = { list_of };
+
+    ghost invariant = { IsWhole };
+}
+
+impl LinkTable {
+    /// A table without links, over drivers numbered from 0. It keeps the allocator. Fails only for want of memory.
+    pub fn new(alloc: Global, drivers: usize) -> Result<LinkTable, NoMemory>
+        requires { drivers ≤ MAX_DRIVERS }
+        ensures { IfOk result (λ t. t ≡ record { links = []; next_id = 1; drivers = drivers }) }
+    {
+        no_links_are_sound();
+        Ok(LinkTable {
+            masks: vec![in alloc; 0; drivers]?,
+            entries: Entries::new(alloc),
+            next_id: 1,
+        })
+    }
+
+    /// Links a stream below a driver, by a controlling stream of it. The link gets the next id. Refused where the
+    /// lower stream is below already; or else where both drivers are the same, or a path leads from the lower one to
+    /// the upper one; or else where 1,024 links stand or no id is left; or else for want of memory. Where it is
+    /// refused nothing has changed.
+    pub fn try_link(
+        &mut self,
+        ctl: StreamId,
+        lower: StreamId,
+        kind: LinkKind,
+    ) -> Result<u32, LinkFault>
+        requires ctl { ctl.driver < self.old.drivers }
+        requires lower { lower.driver < self.old.drivers }
+        ensures answer { IsLinked (refusal self.old ctl lower) self.old result }
+        ensures ok { OnOk result (self.new ≡ with_link self.old ctl lower kind) }
+        ensures err { OnErr result (self.new ≡ self.old) }
+        ensures drivers { self.new.drivers ≡ self.old.drivers }
+    {
+        linking_keeps_soundness();
+        linking_takes_the_next_id();
+        one_link_more_joins();
+        if let Some(fault) = self.refusal(ctl, lower) {
+            return Err(fault);
+        }
+        let id = self.next_id;
+        put(
+            &mut self.entries,
+            Link {
+                id,
+                ctl,
+                lower,
+                kind,
+            },
+        )?;
+        join(&mut self.masks, ctl.driver, lower.driver);
+        self.next_id = id + 1;
+        Ok(id)
+    }
+
+    // Why there may be no link between the streams.
+    fn refusal(&self, ctl: StreamId, lower: StreamId) -> Option<LinkFault>
+        ensures { result ≡ refusal self.now ctl lower }
+    {
+        if self.is_below(lower) {
+            Some(LinkFault::Already)
+        } else if self.leads_back(ctl, lower) {
+            Some(LinkFault::Cycle)
+        } else if self.is_full() {
+            Some(LinkFault::Full)
+        } else {
+            None
+        }
+    }
+
+    // Whether a link would close a cycle.
+    fn leads_back(&self, ctl: StreamId, lower: StreamId) -> bool
+        ensures { result ≡ ((lower.driver == ctl.driver) || reaches self.now.links lower.driver ctl.driver) }
+    {
+        lower.driver == ctl.driver || self.reaches(lower.driver, ctl.driver)
+    }
+
+    // Whether there are as many links as there may be, or no next id.
+    fn is_full(&self) -> bool
+        ensures { result ≡ (nat_le MAX_LINKS (length self.now.links) || nat_le NUMBER_END self.now.next_id) }
+    {
+        self.len() >= MAX_LINKS || self.next_id >= NUMBER_END
+    }
+
+    /// Takes out the link with the id, and no other; None where there is none. The next id stays. Takes no memory.
+    pub fn remove(&mut self, id: u32) -> Option<Link>
+        ensures link { result ≡ find (λ l. l.id == id) self.old.links }
+        ensures rest { self.new ≡ without_id self.old id }
+        ensures drivers { self.new.drivers ≡ self.old.drivers }
+    {
+        fewer_links_stay_sound();
+        let link = take(&mut self.entries, id)?;
+        recompute(&mut self.masks, &self.entries);
+        Some(link)
+    }
+
+    /// Takes out each link with one of these ids, and no other. The next id stays. What drivers
+    /// reach is found anew once, however many go. Takes no memory.
+    pub fn remove_each(&mut self, ids: &[u32])
+        ensures rest { self.new ≡ without_ids self.old ids.now }
+        ensures drivers { self.new.drivers ≡ self.old.drivers }
+    {
+        fewer_links_stay_sound();
+        take_each(&mut self.entries, ids);
+        recompute(&mut self.masks, &self.entries);
+    }
+
+    /// The link with the id. A binary search.
+    pub fn get(&self, id: u32) -> Option<&Link>
+        ensures { option_copied result ≡ find (λ l. l.id == id) self.now.links }
+    {
+        get(&self.entries, id)
+    }
+
+    /// The link that the stream is below. One look-up.
+    pub fn above(&self, lower: StreamId) -> Option<&Link>
+        ensures { option_copied result ≡ find (λ l. same_stream l.lower lower) self.now.links }
+    {
+        above(&self.entries, lower)
+    }
+
+    /// Whether the stream is the lower of a link. One look-up.
+    pub fn is_below(&self, lower: StreamId) -> bool
+        ensures { result ≡ is_below self.now.links lower }
+    {
+        is_below(&self.entries, lower)
+    }
+
+    /// The link at a place, from 0, by rising id.
+    pub fn at(&self, i: usize) -> Option<&Link>
+        ensures { option_copied result ≡ slice_get self.now.links i }
+    {
+        at(&self.entries, i)
+    }
+
+    /// The number of links.
+    pub fn len(&self) -> usize
+        ensures { result ≡ length self.now.links }
+    {
+        self.entries.len()
+    }
+
+    /// Whether there is no link.
+    pub fn is_empty(&self) -> bool
+        ensures { result ≡ (length self.now.links == 0) }
+    {
+        self.len() == 0
+    }
+
+    /// The id that the next link gets: 1 at first, and one more with each link.
+    pub fn next_id(&self) -> u32
+        ensures { result ≡ self.now.next_id }
+    {
+        self.next_id
+    }
+
+    /// Whether a path of at least one link leads from driver a to driver b. It reads one bit.
+    pub fn reaches(&self, a: u8, b: u8) -> bool
+        ensures { result ≡ reaches self.now.links a b }
+    {
+        has_bit(&self.masks, a, b)
+    }
+
+    /// What every table is: its links form no cycle, no stream is below two of them, their ids rise and are below the
+    /// next one, and there are no more than there may be. It does nothing: a caller who needs these facts calls it.
+    pub fn is_sound(&self)
+        ensures { IsLinkList self.now }
+    {
+        let _next_id = self.next_id;
+    }
+
+    /// The same table again, by the allocator that this one has. Fails only for want of memory.
+    pub fn copy(&self) -> Result<LinkTable, NoMemory>
+        ensures { IfOk result (λ t. t ≡ self.now) }
+    {
+        Ok(LinkTable {
+            masks: self.masks.clone()?,
+            entries: self.entries.clone()?,
+            next_id: self.next_id,
+        })
+    }
+}

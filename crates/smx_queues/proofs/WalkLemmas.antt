@@ -1,0 +1,69 @@
+-- A walk along a chain, step by step.
+use Rattle.std.proofs.Common.{◌≡◌, ℕ, suc, ◌+◌, ◌-◌, ◌<◌, List, [], ◌∷◌, length, drop, get_or, Option, Some, None, refl, sym, ap, ◌∙◌, arith}
+use Rattle.std.specs.List.{slice_get}
+use Rattle.std.proofs.lemmas.List.{drop_more}
+use Rattle.std.proofs.lemmas.Option.{slice_get-get_or}
+use Rattle.slab.specs.Slab.{Slab, get, ContainsKey}
+use Rattle.smx_types.specs.declared.message.Message.{Message}
+use Rattle.smx_queues.specs.declared.node.Node.{Node}
+use Rattle.smx_queues.specs.declared.chain.Chain.{Chain}
+use Rattle.smx_queues.specs.QueueTable.{Queue}
+use Rattle.smx_queues.specs.Chains.{walk, walk_on, IsQueue}
+use Rattle.smx_queues.proofs.ChainLemmas.{walk_chain}
+use Rattle.smx_queues.proofs.SoundLemmas.{some_is}
+
+-- a walk along the whole chain of a place meets all its messages
+pub walk_all : (own : ℕ → ℕ × ℕ) (s : Slab Node) (p : ℕ) (chain : Chain) (q : Queue) → IsQueue own s p chain q → walk s chain.count chain.first ≡ q.messages
+walk_all own s p chain q l =
+    ap (λ n. walk s n chain.first) l.count ∙ walk_chain own s p l.rank _ _ _ l.nodes
+
+pub walk_len : (own : ℕ → ℕ × ℕ) (s : Slab Node) (p : ℕ) (chain : Chain) (q : Queue) → IsQueue own s p chain q → length (walk s chain.count chain.first) ≡ chain.count
+walk_len own s p chain q l = ap (λ (ms : List Message). length ms) (walk_all own s p chain q l) ∙ sym l.count
+
+heads_same : (a b : Message) (xs ys : List Message) → a ∷ xs ≡ b ∷ ys → (a ≡ b) × (xs ≡ ys)
+heads_same a b xs ys e = (cc, cc)
+
+-- the node that a walk is at, where it has a message to come
+pub record Step (s : Slab Node) (key k : ℕ) (ms : List Message) : Type 0 where
+  pub node : Node
+  pub found : get s key ≡ Some node
+  pub there : ContainsKey s key
+  pub is : slice_get ms k ≡ Some node.message
+  pub later : walk s (length ms - (k + 1)) node.next ≡ drop (k + 1) ms
+
+pub walk_step : (s : Slab Node) (key k : ℕ) (ms : List Message) (count : ℕ) → count ≡ length ms → k < count → walk s (count - k) key ≡ drop k ms → Step s key k ms
+walk_step s key k ms count many more walked = by (get s key) refl
+  where
+    by : (o : Option Node) → get s key ≡ o → Step s key k ms
+    by o at =
+        let left : ℕ = length ms - (k + 1) in
+        let one_more : count - k ≡ suc left = omega (arith, many, more) in
+        let fallback : Message = record { serial = 0; addr = 0; bytes = [] } in
+        let parts : drop k ms ≡ get_or ms k fallback ∷ drop (k + 1) ms = drop_more ms k fallback (omega (arith, many)) in
+        let here : walk_on (walk s left) o ≡ get_or ms k fallback ∷ drop (k + 1) ms = ap (walk_on (walk s left)) (sym at) ∙ ap (λ c. walk s c key) (sym one_more) ∙ walked ∙ parts in
+        case o at here
+      where
+        case : (o : Option Node) → get s key ≡ o → walk_on (walk s (length ms - (k + 1))) o ≡ get_or ms k (record { serial = 0; addr = 0; bytes = [] }) ∷ drop (k + 1) ms → Step s key k ms
+        case None at here = absurd (cc)
+        case (Some node) at here =
+            let same = heads_same _ _ _ _ here in
+            record {
+              node = node;
+              found = at;
+              there = rw at refl;
+              is = slice_get-get_or ms k _ (omega (arith, many)) ∙ ap (λ (m : Message). Some m) (sym same.0);
+              later = same.1;
+            }
+
+pub walk_start : (own : ℕ → ℕ × ℕ) (s : Slab Node) (p : ℕ) (chain : Chain) (q : Queue) → IsQueue own s p chain q → walk s (length q.messages - 0) chain.first ≡ drop 0 q.messages
+walk_start own s p chain q l =
+    let same : length q.messages - 0 ≡ length q.messages = omega arith in
+    ap (λ n. walk s n chain.first) same ∙ walk_chain own s p l.rank _ _ _ l.nodes
+
+pub step_next : (s : Slab Node) (key k : ℕ) (ms : List Message) (node : Node) → Step s key k ms → get s key ≡ Some node → walk s (length ms - (k + 1)) node.next ≡ drop (k + 1) ms
+step_next s key k ms node step found =
+    ap (λ (x : Node). walk s (length ms - (k + 1)) x.next) (some_is _ _ (sym found ∙ step.found)) ∙ step.later
+
+pub step_is : (s : Slab Node) (key k i : ℕ) (ms : List Message) (node : Node) → Step s key k ms → get s key ≡ Some node → k ≡ i → Some node.message ≡ slice_get ms i
+step_is s key k i ms node step found same =
+    ap (λ (x : Node). Some x.message) (some_is _ _ (sym found ∙ step.found)) ∙ sym step.is ∙ ap (slice_get ms) same

@@ -1,0 +1,154 @@
+-- How the nodes of the store and the chains of the places make the queues. No public clause needs this.
+use Rattle.std.specs.Prelude.{◌≡◌, ℕ, zero, suc, ◌+◌, ◌-◌, ◌<◌, ◌≤◌, ◌^◌, ◌==◌, true, false, if◌then◌else◌, List, [], ◌∷◌, length, Option, Some, None, slice_index_or}
+use Rattle.std.specs.List.{sum_by}
+use Rattle.slab.specs.Slab.{Slab, get, slab_len, with_value}
+use Rattle.smx_types.specs.declared.message.Message.{Message}
+use Rattle.smx_queues.specs.declared.chain.Chain.{Chain}
+use Rattle.smx_queues.specs.declared.node.Node.{Node}
+use Rattle.smx_model.specs.Queues.{bytes_of, full_after_arrival, full_after_leaving}
+use Rattle.smx_queues.specs.QueueTable.{Queue, empty_queue}
+
+-- the message of a node, and what is found from the next key on
+abbrev pub walk_on : (ℕ → List Message) → Option Node → List Message
+walk_on later None = []
+walk_on later (Some node) = node.message ∷ later node.next
+
+-- so many messages, from the node of this key on
+abbrev pub walk : Slab Node → ℕ → ℕ → List Message
+walk s zero key = []
+walk s (suc n) key = walk_on (walk s n) (get s key)
+
+-- the queue that a chain is
+abbrev pub queue_of : Slab Node → Chain → Queue
+queue_of s chain = record {
+  messages = walk s chain.count chain.first;
+  full = chain.full;
+  high = chain.high;
+  low = chain.low;
+}
+
+-- the queue of a place that is there
+abbrev pub slot_of : Slab Node → Chain → Option Queue
+slot_of s chain = if chain.there then Some (queue_of s chain) else None
+
+-- a place without messages
+abbrev pub new_chain : ℕ → ℕ → Chain
+new_chain above below = record {
+  there = true;
+  full = false;
+  first = 0;
+  last = 0;
+  count = 0;
+  bytes = 0;
+  high = above;
+  low = below;
+}
+
+-- without nodes, and full
+abbrev pub emptied_chain : Chain → Chain
+emptied_chain chain = record {
+  there = chain.there;
+  full = true;
+  first = 0;
+  last = 0;
+  count = 0;
+  bytes = 0;
+  high = chain.high;
+  low = chain.low;
+}
+
+-- with one node more at the end, whose message has so many bytes
+abbrev pub chain_with_last : Chain → ℕ → ℕ → Chain
+chain_with_last chain key size = record {
+  there = chain.there;
+  full = full_after_arrival chain.full chain.high (chain.bytes + size);
+  first = if chain.count == 0 then key else chain.first;
+  last = key;
+  count = chain.count + 1;
+  bytes = chain.bytes + size;
+  high = chain.high;
+  low = chain.low;
+}
+
+-- without the first node, whose message had so many bytes, and behind which another stands
+abbrev pub chain_without_first : Chain → ℕ → ℕ → Chain
+chain_without_first chain next size = record {
+  there = chain.there;
+  full = full_after_leaving chain.full chain.low (chain.bytes - size);
+  first = next;
+  last = chain.last;
+  count = chain.count - 1;
+  bytes = chain.bytes - size;
+  high = chain.high;
+  low = chain.low;
+}
+
+-- the store where the node of this key names another one behind it
+abbrev pub with_next : Slab Node → ℕ → ℕ → Slab Node
+with_next s at key = named (get s at) where
+  named : Option Node → Slab Node
+  named None = s
+  named (Some node) = with_value s at (record node { next = key })
+
+-- the store where the last node of a chain, if there is one, names this one behind it
+abbrev pub with_follower : Slab Node → Chain → ℕ → Slab Node
+with_follower s chain key = if chain.count == 0 then s else with_next s chain.last key
+
+-- the nodes of place p from the key `first` to the key `last` hold these messages. `own` says of each of their keys its
+-- place and its rank, which rises by one from node to node: so no node is in two chains or twice in one
+abbrev pub IsChain : (ℕ → ℕ × ℕ) → Slab Node → ℕ → ℕ → ℕ → List Message → ℕ → Type 0
+IsChain own s p rank first [] last = Unit {0}
+IsChain own s p rank first (m ∷ []) last =
+    (next : ℕ)
+    × (get s first ≡ Some (record { message = m; next = next }))
+    × ((own first).0 ≡ p)
+    × ((own first).1 ≡ rank)
+    × (first ≡ last)
+IsChain own s p rank first (m ∷ m2 ∷ rest) last =
+    (next : ℕ)
+    × (get s first ≡ Some (record { message = m; next = next }))
+    × ((own first).0 ≡ p)
+    × ((own first).1 ≡ rank)
+    × IsChain own s p (suc rank) next (m2 ∷ rest) last
+
+-- each message has a byte, and no more than fit in memory
+abbrev pub HaveBytes : List Message → Type 0
+HaveBytes [] = Unit {0}
+HaveBytes (m ∷ rest) = (0 < length m.bytes) × (length m.bytes < 2 ^ 63) × HaveBytes rest
+
+-- the chain of place p is this queue
+pub record IsQueue (own : ℕ → ℕ × ℕ) (s : Slab Node) (p : ℕ) (chain : Chain) (q : Queue) : Type 0 where
+  pub rank : ℕ
+  pub nodes : IsChain own s p rank chain.first q.messages chain.last
+  pub count : chain.count ≡ length q.messages
+  pub bytes : chain.bytes ≡ bytes_of q.messages
+  pub full : chain.full ≡ q.full
+  pub high : chain.high ≡ q.high
+  pub low : chain.low ≡ q.low
+  pub have_bytes : HaveBytes q.messages
+  pub open_below_high : q.full ≡ false → bytes_of q.messages < q.high
+  pub high_bounded : q.high ≤ 4096
+  pub low_below : q.low < q.high
+  pub none_if_gone : chain.there ≡ false → q.messages ≡ []
+
+abbrev pub no_chain : Chain
+no_chain = new_chain 0 0
+
+abbrev pub no_queue : Queue
+no_queue = empty_queue 0 0
+
+-- the chain of this number
+abbrev pub chain_at : List Chain → ℕ → Chain
+chain_at chains p = slice_index_or chains p no_chain
+
+-- the chains are these queues, and the store has their nodes and so many others
+pub record IsStore (own : ℕ → ℕ × ℕ) (s : Slab Node) (chains : List Chain) (queues : List Queue) (loose : ℕ) : Type 0 where
+  pub as_many : length queues ≡ length chains
+  pub each : (p : ℕ) → p < length chains → IsQueue own s p (chain_at chains p) (slice_index_or queues p no_queue)
+  pub counted : slab_len s ≡ sum_by (λ (chain : Chain). chain.count) chains + loose
+
+-- every node is in one chain
+pub record IsSound (s : Slab Node) (chains : List Chain) : Type 0 where
+  pub own : ℕ → ℕ × ℕ
+  pub queues : List Queue
+  pub store : IsStore own s chains queues 0

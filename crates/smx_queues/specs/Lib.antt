@@ -1,0 +1,2 @@
+pub mod QueueTable
+pub mod Chains

@@ -1,0 +1,66 @@
+//! The queues of all places again.
+
+ghost use Rattle.std.specs.Prelude.{◌≡◌, ◌<◌, [], ◌∷◌, ◌++◌, length, Some, None, true, OnOk, IfOk};
+ghost use Rattle.std.specs.Prelude.{slice_index_or};
+ghost use Rattle.smx_queues.specs.QueueTable.{queue_at, IsPlace, with_queue};
+
+use crate::node::sized;
+use crate::queues::{PlaceId, Queues};
+use smx_types::NoMemory;
+use std::alloc::Global;
+
+impl Queues {
+    // The messages of a place of others come behind those of a place of these.
+    fn append_copies(
+        &mut self,
+        others: &Queues,
+        p: PlaceId,
+        to: PlaceId,
+        alloc: Global,
+    ) -> Result<(), NoMemory>
+        requires from { IsPlace others.now.queues p }
+        requires to { IsPlace self.old.queues to }
+        requires none { (queue_at self.old.queues to).messages ≡ [] }
+        requires full { (queue_at self.old.queues to).full ≡ true }
+        ensures { OnOk result (self.new.queues ≡ with_queue self.old.queues to
+            (record (queue_at self.old.queues to) { messages = (queue_at others.now.queues p).messages })) }
+    {
+        let _chains = &others.chains;
+        let _bytes = others.bytes(p);
+        let mut rest = others.messages(p);
+        while let Some(message) = rest.next() {
+            let (copied, size) = sized(message.copy(alloc)?);
+            self.reserve_one()?;
+            self.append(to, copied, size);
+        }
+        Ok(())
+    }
+
+    // A place more behind all others, with the marks and the messages that a place of others has; or a gap, where there
+    // is none of that number.
+    fn add_copy(&mut self, others: &Queues, p: PlaceId, alloc: Global) -> Result<(), NoMemory>
+        requires { p < length others.now.queues }
+        ensures { OnOk result (self.new.queues
+            ≡ self.old.queues ++ slice_index_or others.now.queues p None ∷ []) }
+    {
+        let chain = others.chains[p];
+        let to = self.chains.len();
+        self.chains.push(chain.emptied())?;
+        if chain.there {
+            self.append_copies(others, p, to, alloc)?;
+            self.chains[to].full = chain.full;
+        }
+        Ok(())
+    }
+
+    /// The same places with the same queues, by this allocator. Fails only for want of memory.
+    pub fn copy(&self, alloc: Global) -> Result<Queues, NoMemory>
+        ensures { IfOk result (λ c. c.queues ≡ self.now.queues) }
+    {
+        let mut made = Queues::new(alloc);
+        for p in 0..self.chains.len() {
+            made.add_copy(self, p, alloc)?;
+        }
+        Ok(made)
+    }
+}

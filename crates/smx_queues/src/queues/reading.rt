@@ -1,0 +1,104 @@
+//! What a place has: its messages, its mark, its bytes.
+
+ghost use Rattle.std.specs.Prelude.{◌≡◌, ◌+◌, ◌≤◌, ◌++◌, length, map, Some, None, IfOk, option_copied};
+ghost use Rattle.std.specs.Prelude.{slice_get, vec_capacity, Option};
+ghost use Rattle.smx_types.specs.declared.message.Message.{Message};
+ghost use Rattle.smx_model.specs.Queues.{bytes_of};
+ghost use Rattle.smx_queues.specs.QueueTable.{queue_at, IsPlace};
+
+use crate::messages::Messages;
+use crate::queues::{PlaceId, Queues};
+use smx_types::{Message, NoMemory};
+
+impl Queues {
+    /// The message at the front, if there is one. Takes no memory.
+    pub fn front(&self, p: PlaceId) -> Option<&Message>
+        requires { IsPlace self.now.queues p }
+        ensures { option_copied result ≡ slice_get (queue_at self.now.queues p).messages 0 }
+    {
+        let chain = self.chains[p];
+        if chain.count == 0 {
+            return None;
+        }
+        Some(&self.nodes[chain.first].message)
+    }
+
+    /// The message with so many before it, if there is one. Takes no memory.
+    pub fn nth(&self, p: PlaceId, i: usize) -> Option<&Message>
+        requires { IsPlace self.now.queues p }
+        ensures { option_copied result ≡ slice_get (queue_at self.now.queues p).messages i }
+    {
+        let chain = self.chains[p];
+        if chain.count <= i {
+            return None;
+        }
+        let mut key = chain.first;
+        for _k in 0..i {
+            key = self.nodes[key].next;
+        }
+        Some(&self.nodes[key].message)
+    }
+
+    /// Whether the place is marked as full. Takes no memory.
+    pub fn is_full(&self, p: PlaceId) -> bool
+        requires { IsPlace self.now.queues p }
+        ensures { result ≡ (queue_at self.now.queues p).full }
+    {
+        self.chains[p].full
+    }
+
+    /// How many bytes the messages at the place have together. Takes no memory.
+    pub fn bytes(&self, p: PlaceId) -> usize
+        requires { IsPlace self.now.queues p }
+        ensures { result ≡ bytes_of (queue_at self.now.queues p).messages }
+    {
+        self.chains[p].bytes
+    }
+
+    /// How many messages are at the place. Takes no memory.
+    pub fn message_count(&self, p: PlaceId) -> usize
+        requires { IsPlace self.now.queues p }
+        ensures { result ≡ length (queue_at self.now.queues p).messages }
+    {
+        self.chains[p].count
+    }
+
+    /// The messages at the place, from the front on. Takes no memory.
+    pub fn messages(&self, p: PlaceId) -> Messages<'_>
+        requires { IsPlace self.now.queues p }
+        ensures { result ≡ (queue_at self.now.queues p).messages }
+    {
+        let chain = self.chains[p];
+        Messages {
+            nodes: &self.nodes,
+            key: chain.first,
+            left: chain.count,
+        }
+    }
+
+    /// The serials of the messages at the place, from the front on. Fails only for want of memory.
+    pub fn serials(&self, p: PlaceId) -> Result<Vec<u32>, NoMemory>
+        requires { IsPlace self.now.queues p }
+        ensures { IfOk result (λ v. v.items ≡ map (λ m. m.serial) (queue_at self.now.queues p).messages) }
+    {
+        let mut serials = Vec::with_capacity(self.alloc, self.message_count(p))?;
+        self.add_serials(p, &mut serials);
+        Ok(serials)
+    }
+
+    /// The serials of the messages at the place, from the front on, added to a list that has room for them. Takes no
+    /// memory.
+    pub fn add_serials(&self, p: PlaceId, serials: &mut Vec<u32>)
+        requires place { IsPlace self.now.queues p }
+        requires room { length serials.old.items + length (queue_at self.now.queues p).messages
+            ≤ vec_capacity serials.old }
+        ensures added { serials.new.items
+            ≡ serials.old.items ++ map (λ m. m.serial) (queue_at self.now.queues p).messages }
+        ensures capacity { vec_capacity serials.new ≡ vec_capacity serials.old }
+    {
+        let mut rest = self.messages(p);
+        while let Some(message) = rest.next() {
+            serials.push_reserved(message.serial);
+        }
+    }
+}

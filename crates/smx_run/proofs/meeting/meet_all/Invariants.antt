@@ -1,0 +1,21 @@
+use Rattle.std.proofs.Common.{◌≡◌, ◌≤◌, ◌+◌, ◌++◌, All, drop, length, map, vec_len}
+use Rattle.std.specs.Prelude.{vec_capacity}
+use Rattle.std.specs.Vec.Iter.{into_iter_items, into_iter_len}
+use Rattle.smx_shared.specs.Recorded.{Recorded}
+use Rattle.smx_shared.specs.Seats.{Seated, AreMetBy}
+use Rattle.smx_run.specs.Meeting.{IsBorneOutBy}
+use Rattle.smx_run.specs.declared.worker.Done.{Done}
+use Rattle.smx_run.proofs.RunLemmas.{StillKnows}
+use Rattle.smx_run.proofs.meeting.meet_all.Given as goal
+
+abbrev pub invariant-loop-done : goal.invariant-loop-done
+invariant-loop-done l = record {
+  shared : l.first.shared ≡ l.shared.name;
+  known : StillKnows l.initial.first.known l.first.known;
+  others : (s : Recorded) → AreMetBy s l.first.met → All (IsBorneOutBy s) l.yielded;
+  left : into_iter_len l.done-iterator ≡ length (into_iter_items l.done-iterator);
+  rest : l.yielded ++ into_iter_items l.done-iterator ≡ drop 1 l.fn.ended.items;
+  room : vec_len l.fn.ended ≤ vec_capacity l.fronts;
+  counted : vec_len l.fronts ≡ length l.yielded + 1;
+  fronts : l.fronts.items ≡ l.initial.fronts.items ++ map (λ (d : Done Seated). d.front) l.yielded;
+}

@@ -1,0 +1,38 @@
+use Rattle.std.proofs.Common.{rules, ◌≡◌, ◌∷◌, ◌++◌, [], map, Some, ap, sym, ◌∙◌}
+use Rattle.std.specs.Prelude.{IfOk}
+use Rattle.std.proofs.lemmas.List.{map-append}
+use Rattle.std.proofs.lemmas.List.Elements.{All-pop}
+use Rattle.std.proofs.lemmas.Result.{IfOk-weaker}
+use Rattle.smx_run.specs.Hands.{called_hand, given_hand, AreFresh, HaveEnded}
+use Rattle.smx_run.proofs.HandLemmas.{all_of_none}
+use Rattle.smx_run.proofs.threads.+run_from.Goals as goal
+
+pub returns-then-is_empty-clause-ended : goal.returns-then-is_empty-clause-ended
+returns-then-is_empty-clause-ended g n c =
+    let name = c.args.shared.now.name in
+    IfOk-weaker c.and_then.result _ _ (λ v both. both name (all_of_none (HaveEnded name) _ c.new-then-is_empty.ensures.items) c.work-first.ensures.ended) c.and_then.ensures.ended
+
+pub spawn_with-worker-requires-clause-runs : goal.spawn_with-worker-requires-clause-runs
+spawn_with-worker-requires-clause-runs g n c κs within =
+    (All-pop (AreFresh c.args.shared.now.name) _ _ (Some c.in-Some.hand) c.in-Some.ensures.items c.requires).1
+
+pub run_from-before-requires-after_bounds : goal.run_from-before-requires-after_bounds
+run_from-before-requires-after_bounds g n c κs within =
+    (All-pop (AreFresh c.args.shared.now.name) _ _ (Some c.in-Some.hand) c.in-Some.ensures.items c.requires).0
+
+pub run_from-requires-after_bounds : goal.run_from-requires-after_bounds
+run_from-requires-after_bounds g n c κs within =
+    (All-pop (AreFresh c.args.shared.now.name) _ _ (Some c.in-Some.hand) c.in-Some.ensures.items c.requires).0
+
+pub returns-in-Ok-clause-called : goal.returns-in-Ok-clause-called
+returns-in-Ok-clause-called g n c =
+    let kept : IfOk c.join.result (λ v. (called_hand v ≡ given_hand c.in-Some.hand) × HaveEnded c.args.shared.now.name v) = search rules in
+    let whole : map given_hand c.args.hands.items ≡ map given_hand c.pop.new.self.items ++ given_hand c.in-Some.hand ∷ [] =
+    ap (map given_hand) c.in-Some.ensures.items ∙ map-append given_hand c.pop.new.self.items (c.in-Some.hand ∷ []) in
+    IfOk-weaker c.and_then-in-Ok.result _ _ (λ v both. both _ _ c.run_from-before.ensures.called (IfOk-weaker c.join.result _ _ (λ d k. k.0) kept) ∙ sym whole) c.and_then-in-Ok.ensures.called
+
+pub returns-in-Ok-clause-ended : goal.returns-in-Ok-clause-ended
+returns-in-Ok-clause-ended g n c =
+    let name = c.args.shared.now.name in
+    let kept : IfOk c.join.result (λ v. (called_hand v ≡ given_hand c.in-Some.hand) × HaveEnded name v) = search rules in
+    IfOk-weaker c.and_then-in-Ok.result _ _ (λ v both. both name c.run_from-before.ensures.ended (IfOk-weaker c.join.result _ _ (λ d k. k.1) kept)) c.and_then-in-Ok.ensures.ended

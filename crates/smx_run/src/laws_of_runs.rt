@@ -1,0 +1,40 @@
+//! Laws of what runs tell, each the contract of a function that does nothing: an example of each, and what is none.
+
+ghost use Rattle.std.specs.Prelude.{ℕ, [], ◌∷◌, true, false};
+ghost use Rattle.smx_model.specs.Worked.Common.{mux, ip};
+ghost use Rattle.smx_model.specs.Worked.Reports.{copied, drivers, exited, opened, programs};
+ghost use Rattle.smx_config.specs.declared.fault.ConfigFault.TheVariants as config;
+ghost use Rattle.smx_shared.specs.WorkedCalls.{front};
+ghost use Rattle.smx_run.specs.Fronts.{AreFrontsFrom};
+ghost use Rattle.smx_run.specs.Gathering.{IsLeastStrange};
+ghost use Rattle.smx_run.specs.RunFaults.{RefusesRun};
+ghost use Rattle.smx_run.specs.declared.fault.RunFault.TheVariants as run;
+
+/// Two programs have two fronts, each of a beginning of the history that holds all commands of the program: none is
+/// left out or added, and none is earlier, past the end, or of another number of links.
+pub fn fronts_of_an_example()
+    ensures fronts { AreFrontsFrom drivers (opened ∷ exited ∷ copied ∷ []) 0 programs.programs (front 3 0 false ∷ front 2 0 true ∷ []) }
+    ensures not_one_less { AreFrontsFrom drivers (opened ∷ exited ∷ copied ∷ []) 0 programs.programs (front 3 0 false ∷ []) → ⊥ }
+    ensures not_one_more { AreFrontsFrom drivers (opened ∷ exited ∷ copied ∷ []) 0 programs.programs (front 3 0 false ∷ front 2 0 true ∷ front 3 0 false ∷ []) → ⊥ }
+    ensures not_earlier { AreFrontsFrom drivers (opened ∷ exited ∷ copied ∷ []) 0 programs.programs (front 2 0 false ∷ front 2 0 true ∷ []) → ⊥ }
+    ensures not_past_the_end { AreFrontsFrom drivers (opened ∷ exited ∷ copied ∷ []) 0 programs.programs (front 3 0 false ∷ front 4 0 true ∷ []) → ⊥ }
+    ensures not_with_a_link { AreFrontsFrom drivers (opened ∷ exited ∷ copied ∷ []) 0 programs.programs (front 3 1 false ∷ front 2 0 true ∷ []) → ⊥ }
+{}
+
+/// Drivers of which the second has the name of the first are refused for nothing else.
+pub fn refusals_of_an_example()
+    ensures not_first { RefusesRun (mux ip 4 ∷ mux ip 4 ∷ []) (run.ConfigFault (config.SameName 0)) → ⊥ }
+    ensures not_too_many { RefusesRun (mux ip 4 ∷ mux ip 4 ∷ []) (run.ConfigFault config.TooMany) → ⊥ }
+    ensures not_no_memory { RefusesRun (mux ip 4 ∷ mux ip 4 ∷ []) run.NoMemory → ⊥ }
+    ensures not_by_config { RefusesRun (mux ip 4 ∷ []) (run.ConfigFault config.NoMemory) → ⊥ }
+    ensures not_full { RefusesRun (mux ip 4 ∷ mux ip 4 ∷ []) run.HistoryFull → ⊥ }
+    ensures not_held { RefusesRun (mux ip 4 ∷ mux ip 4 ∷ []) run.Held → ⊥ }
+    ensures not_strange { (p : ℕ) → RefusesRun (mux ip 4 ∷ mux ip 4 ∷ []) (run.Strange p) → ⊥ }
+{}
+
+/// A process is strange whose entries are not its transcript, also one past the list; and no later one is answered.
+pub fn strange_processes_of_an_example()
+    ensures strange { IsLeastStrange (opened ∷ exited ∷ copied ∷ []) ((opened ∷ copied ∷ []) ∷ []) 1 }
+    ensures not_borne_out { IsLeastStrange (opened ∷ exited ∷ copied ∷ []) ((opened ∷ copied ∷ []) ∷ (exited ∷ []) ∷ []) 1 → ⊥ }
+    ensures not_later { IsLeastStrange (opened ∷ exited ∷ copied ∷ []) ((opened ∷ []) ∷ []) 1 → ⊥ }
+{}

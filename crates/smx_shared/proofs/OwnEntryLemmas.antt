@@ -1,0 +1,100 @@
+-- Histories that begin alike, and the entries of one process in them.
+use Rattle.std.proofs.Common.{◌≡◌, ◌≢◌, ℕ, ◌+◌, ◌<◌, ◌≤◌, List, [], ◌∷◌, ◌++◌, Bool, refl, sym, ap, ◌∙◌, append_assoc, append-nil, arith, eq-eqb, cond}
+use Rattle.std.specs.Prelude.{◌==◌}
+use Rattle.std.proofs.lemmas.List.Elements.{filter-append}
+use Rattle.std.proofs.lemmas.Bool.{ne_eqb}
+use Rattle.smx_types.specs.declared.command.Entry.{Entry}
+use Rattle.smx_shared.specs.Seats.{entries_of, AreNamedBelow, GoesOnNamed, IsBeginningOf}
+use Rattle.smx_shared.specs.SeatViews.{AddsFor}
+
+-- ---- beginnings
+
+pub begins_trans : (xs ys zs : List Entry) → IsBeginningOf xs ys → IsBeginningOf ys zs → IsBeginningOf xs zs
+begins_trans xs ys zs p q = (p.0 ++ q.0, sym (append_assoc xs p.0 q.0) ∙ ap (λ (l : List Entry). l ++ q.0) p.1 ∙ q.1)
+
+pub begins_itself : (xs : List Entry) → IsBeginningOf xs xs
+begins_itself xs = ([], append-nil xs)
+
+-- ---- the entries of a process
+
+pub entries_append : (p : ℕ) (xs ys : List Entry) → entries_of p (xs ++ ys) ≡ entries_of p xs ++ entries_of p ys
+entries_append p xs ys = filter-append (λ (e : Entry). e.process == p) xs ys
+
+pub entries_mine : (p : ℕ) (e : Entry) → e.process ≡ p → entries_of p (e ∷ []) ≡ e ∷ []
+entries_mine p e is = ap (λ (b : Bool). cond b (e ∷ []) []) (eq-eqb e.process p is)
+
+pub entries_other : (p : ℕ) (e : Entry) → e.process ≢ p → entries_of p (e ∷ []) ≡ []
+entries_other p e is = ap (λ (b : Bool). cond b (e ∷ []) []) (ne_eqb e.process p is)
+
+-- a process that is not named yet has no entries where all are of named ones
+entries_none : (n p : ℕ) (more : List Entry) → AreNamedBelow n more → n ≤ p → entries_of p more ≡ []
+entries_none n p [] below le = refl
+entries_none n p (e ∷ es) below le =
+    let lt : e.process < n = below.0 in
+    let ne : e.process ≢ p = λ is. absurd (omega arith) in
+    ap (λ (b : Bool). cond b (e ∷ entries_of p es) (entries_of p es)) (ne_eqb e.process p ne) ∙ entries_none n p es below.1 le
+
+-- ---- histories that go on by named processes
+
+named_append : (n : ℕ) (xs ys : List Entry) → AreNamedBelow n xs → AreNamedBelow n ys → AreNamedBelow n (xs ++ ys)
+named_append n [] ys p q = q
+named_append n (x ∷ xs) ys p q = (p.0, named_append n xs ys p.1 q)
+
+-- one name more
+named_more : (n : ℕ) (xs : List Entry) → AreNamedBelow n xs → AreNamedBelow (n + 1) xs
+named_more n [] p = tt
+named_more n (x ∷ xs) p = let lt : x.process < n = p.0 in ((omega arith), named_more n xs p.1)
+
+pub goes_on_trans : (n : ℕ) (xs ys zs : List Entry) → GoesOnNamed n xs ys → GoesOnNamed n ys zs → GoesOnNamed n xs zs
+unfolding begins_trans
+goes_on_trans n xs ys zs p q =
+    let t = begins_trans xs ys zs (p.0, p.1) (q.0, q.1) in
+    (t.0, t.1, named_append n p.0 q.0 p.2 q.2)
+
+pub goes_on_itself : (n : ℕ) (xs : List Entry) → GoesOnNamed n xs xs
+goes_on_itself n xs = ([], append-nil xs, tt)
+
+pub goes_on_more : (n : ℕ) (xs ys : List Entry) → GoesOnNamed n xs ys → GoesOnNamed (n + 1) xs ys
+goes_on_more n xs ys p = (p.0, p.1, named_more n p.0 p.2)
+
+pub goes_on_begins : (n : ℕ) (xs ys : List Entry) → GoesOnNamed n xs ys → IsBeginningOf xs ys
+goes_on_begins n xs ys p = (p.0, p.1)
+
+-- the entries of a process that is not named yet have been seen
+pub entries_early : (n p : ℕ) (xs h : List Entry) → GoesOnNamed n xs h → n ≤ p → entries_of p xs ≡ entries_of p h
+entries_early n p xs h l le =
+    sym (append-nil (entries_of p xs))
+    ∙ ap (λ (ys : List Entry). entries_of p xs ++ ys) (sym (entries_none n p l.0 l.2 le))
+    ∙ sym (entries_append p xs l.0)
+    ∙ ap (entries_of p) l.1
+
+-- ---- entries added for one process
+
+-- one entry of the process
+pub adds_one : (p : ℕ) (old new : List Entry) (e : Entry) → e.process ≡ p → new ≡ old ++ e ∷ [] → AddsFor p old new
+adds_one p old new e is added = record {
+  more = e ∷ [];
+  joins = sym added;
+  named = λ n lt. (below n lt, tt);
+  others = λ q other. entries_other q e (λ same. other (sym same ∙ is));
+}
+  where
+    below : (n : ℕ) → p < n → e.process < n
+    below n lt = omega arith
+
+-- none at all
+pub adds_none : (p : ℕ) (old new : List Entry) → new ≡ old → AddsFor p old new
+adds_none p old new same = record {
+  more = [];
+  joins = append-nil old ∙ sym same;
+  named = λ n lt. tt;
+  others = λ q other. refl;
+}
+
+-- the entries of another process stay
+pub others_stay : (p q : ℕ) (old new : List Entry) → AddsFor p old new → q ≢ p → entries_of q old ≡ entries_of q new
+others_stay p q old new a apart =
+    sym (append-nil (entries_of q old))
+    ∙ ap (λ (ys : List Entry). entries_of q old ++ ys) (sym (a.others q apart))
+    ∙ sym (entries_append q old a.more)
+    ∙ ap (entries_of q) a.joins

@@ -1,0 +1,193 @@
+-- What a seat's view becomes by each kind of step, and what the step tells.
+use Rattle.std.specs.Prelude.{◌≡◌, ◌≢◌, ℕ, ◌+◌, ◌%◌, ◌<◌, ◌⊎◌, List, [], ◌∷◌, ◌++◌, Bool, true, false, Some, None}
+use Rattle.atomic_table.specs.Seated.{TableId}
+use Rattle.atomic_table.specs.Table.{Me, Step, rest}
+use Rattle.smx_types.specs.declared.command.Entry.{Entry}
+use Rattle.smx_shared.specs.Fronts.{front_of}
+use Rattle.smx_shared.specs.Recorded.{Recorded, IsSoundSystem}
+use Rattle.smx_shared.specs.Seats.{Known, Seated, entries_of, met_seat, AreMetBy, AreNamedBelow, IsBeginningOf}
+use Rattle.smx_shared.specs.TurnRule.{Slot, Turn, bit_of, system_with}
+use Rattle.smx_shared.specs.declared.seat_view.SeatView.{SeatView}
+
+-- a seat: its view, and the slots that are out with it
+abbrev pub Mine : Type 0
+Mine = Me Slot SeatView
+
+-- what it knows
+abbrev pub known_of : SeatView → Known
+known_of v = record { drivers = v.drivers; limit = v.limit; process = v.process; seen = v.seen; own = v.own }
+
+-- the system, as far as it has seen it
+abbrev pub system_of : SeatView → Recorded
+system_of v = system_with v.drivers v.limit v.seen
+
+-- ---- views
+
+-- a seat that has seen a system, and has no name yet
+abbrev pub unnamed : Recorded → Bool → ℕ → SeatView
+unnamed s may_name next = record {
+  drivers = s.drivers;
+  limit = s.limit;
+  process = 0;
+  seen = s.history;
+  own = [];
+  last = 0;
+  looks = 0;
+  turn = false;
+  met = [];
+  spent = false;
+  named = false;
+  may_name = may_name;
+  next = next;
+}
+
+-- the first seat, which may take the first name
+abbrev pub opened : Recorded → SeatView
+opened s = unnamed s true 0
+
+-- a seat that was given up in a meeting
+abbrev pub spent : SeatView
+spent = record (unnamed (system_with [] 0 []) false 0) { spent = true }
+
+-- a new seat beside another: it has seen as much, and has the right to the next name from it
+abbrev pub dealt : SeatView → SeatView
+dealt v = record (unnamed (system_with v.drivers v.limit v.seen) v.may_name v.next) { spent = v.spent }
+
+-- and the other afterwards
+abbrev pub left : SeatView → SeatView
+left v = record v { may_name = false; next = 0 }
+
+-- a seat that takes the next name
+abbrev pub called : SeatView → SeatView
+called v = record v { named = true; process = v.next; own = entries_of v.next v.seen; next = v.next + 1 }
+
+-- a seat that takes in what another has seen
+abbrev pub after_meeting : SeatView → SeatView → SeatView
+after_meeting v w = record v { met = met_seat (known_of w) ∷ w.met ++ v.met }
+
+-- a seat after a step on the first word: it has seen this history, found or left this word, and has the turn or not
+abbrev pub stepped : SeatView → List Entry → ℕ → Bool → List Entry → SeatView
+stepped v history word turn own = record v { seen = history; last = word; looks = v.looks + 1; turn = turn; own = own }
+
+-- ---- what the steps tell
+
+-- the history, as the rule shows it to a seat
+pub record Shows (v : SeatView) (history : List Entry) : Type 0 where
+  pub grown : IsBeginningOf v.seen history
+  pub sound : IsSoundSystem (system_with v.drivers v.limit history)
+  pub met : AreMetBy (system_with v.drivers v.limit history) v.met
+  pub own : v.named ≡ true → v.own ≡ entries_of v.process history
+
+-- a load: the word is the history's front, with the turn free or held
+abbrev pub Looked : Step Slot → Mine → ℕ → Mine → Type 0
+Looked st m n m' =
+    (h : List Entry) × (t : Turn) × Shows m.0 h
+    × (n ≡ front_of m.0.drivers h + bit_of t)
+    × (m' ≡ (stepped m.0 h n false m.0.own, m.1))
+
+-- the turn bit is set: the turn was held before; or it was free, and is this seat's now, and the slot with the system
+abbrev pub Taken : Step Slot → Mine → ℕ → Mine → Type 0
+Taken st m n m' =
+    (h : List Entry) × Shows m.0 h
+    × (((n ≡ front_of m.0.drivers h + 1) × (m' ≡ (stepped m.0 h n false m.0.own, m.1)))
+    ⊎ ((n ≡ front_of m.0.drivers h)
+    × (m' ≡ (stepped m.0 h n true m.0.own, (0, Some (system_with m.0.drivers m.0.limit h)) ∷ m.1))))
+
+-- the history in a slot
+abbrev pub history_at : Slot → List Entry
+history_at None = []
+history_at (Some s) = s.history
+
+-- the history in the slot that was taken last
+abbrev pub history_in : List (ℕ × Slot) → List Entry
+history_in [] = []
+history_in (x ∷ xs) = history_at x.1
+
+-- a store: the history is that of the slot, which goes home
+abbrev pub Published : Step Slot → Mine → ℕ → Mine → Type 0
+Published st m n m' =
+    m' ≡ (stepped m.0 (history_in m.1) n false (entries_of m.0.process (history_in m.1)), rest m.1)
+
+-- a name is taken, the next one
+abbrev pub Called : Step Slot → Mine → ℕ → Mine → Type 0
+Called st m n m' = (n ≡ m.0.next) × (m' ≡ (called m.0, m.1))
+
+-- ---- seats at rest and with the turn
+
+-- a seat that doesn't have the turn
+abbrev pub IsAtRest : Mine → Type 0
+IsAtRest m = (m.1 ≡ []) × (m.0.turn ≡ false) × (m.0.spent ≡ false)
+
+-- what a seat knows is so: its history is sound, and its own entries are just those of its process there
+pub record IsInformed (v : SeatView) : Type 0 where
+  pub sound : IsSoundSystem (system_with v.drivers v.limit v.seen)
+  pub own : v.named ≡ true → v.own ≡ entries_of v.process v.seen
+
+-- a seat that has the turn, and this in the slot
+pub record HasTurn (m : Mine) (slot : Slot) : Type 0 where
+  pub turn : m.0.turn ≡ true
+  pub whole : m.0.spent ≡ false
+  pub has : m.1 ≡ (0, slot) ∷ []
+  pub informed : IsInformed m.0
+
+-- a seat has seen more, and is otherwise the same
+pub record HasGrown (v w : SeatView) : Type 0 where
+  pub drivers : w.drivers ≡ v.drivers
+  pub limit : w.limit ≡ v.limit
+  pub met : w.met ≡ v.met
+  pub spent : w.spent ≡ v.spent
+  pub named : w.named ≡ v.named
+  pub process : w.process ≡ v.process
+  pub seen : IsBeginningOf v.seen w.seen
+
+-- it is at rest afterwards, has seen more, and what it knows is so
+abbrev pub RestsAfter : SeatView → Mine → Type 0
+RestsAfter v m = IsAtRest m × HasGrown v m.0 × IsInformed m.0
+
+-- it made one step more on the first word, added nothing, and found the front of what it has seen, with the turn bit
+pub record FoundWord (v w : SeatView) (word : ℕ) : Type 0 where
+  pub looks : w.looks ≡ v.looks + 1
+  pub last : w.last ≡ word
+  pub own : w.own ≡ v.own
+  pub front : word ≡ front_of w.drivers w.seen + word % 2
+
+-- the word is the front of a history that begins with what a seat has seen, with the turn bit
+pub record IsWordFrom (v : SeatView) (word : ℕ) : Type 0 where
+  pub history : List Entry
+  pub seen : IsBeginningOf v.seen history
+  pub sound : IsSoundSystem (system_with v.drivers v.limit history)
+  pub front : word ≡ front_of v.drivers history + word % 2
+
+-- it is the same seat, and has seen what either had
+pub record HasMet (v other w : SeatView) : Type 0 where
+  pub drivers : w.drivers ≡ v.drivers
+  pub limit : w.limit ≡ v.limit
+  pub named : w.named ≡ v.named
+  pub process : w.process ≡ v.process
+  pub own : w.own ≡ v.own
+  pub seen : IsBeginningOf v.seen w.seen
+  pub met : w.met ≡ met_seat (known_of other) ∷ other.met ++ v.met
+  pub told : AreMetBy (system_of w) w.met
+
+-- a history that goes on by entries of one process alone
+pub record AddsFor (process : ℕ) (old new : List Entry) : Type 0 where
+  pub more : List Entry
+  pub joins : old ++ more ≡ new
+  pub named : (names : ℕ) → process < names → AreNamedBelow names more
+  pub others : (p : ℕ) → p ≢ process → entries_of p more ≡ []
+
+-- ---- what contracts see
+
+abbrev pub seated_of : TableId → SeatView → Seated
+seated_of id v = record {
+  shared = id;
+  known = known_of v;
+  last = v.last;
+  looks = v.looks;
+  turn = v.turn;
+  met = v.met;
+}
+
+-- a seat in the hands of a caller: at rest, and named as its process
+abbrev pub IsSeatOf : ℕ → Mine → Type 0
+IsSeatOf process m = IsAtRest m × (m.0.named ≡ true) × (m.0.process ≡ process)

@@ -1,0 +1,44 @@
+-- What two seats knew of a history of one entry, before that entry and after it, and what is wrong with that in one thing.
+use Rattle.std.specs.Prelude.{ℕ, Bool, true, false, [], ◌∷◌}
+use Rattle.smx_types.specs.declared.command.Entry.{Entry}
+use Rattle.smx_model.specs.Worked.Common.{OpenClone, Fd, ◌does◌gets◌, ip}
+use Rattle.smx_shared.specs.Seats.{Known, Seated, SharedId, entries_of, met_seat}
+use Rattle.smx_shared.specs.WorkedSystems.{with_first}
+use Rattle.smx_shared.specs.declared.front.Front.{Front}
+
+-- the first entry of the history, of process 0; the second is illegal
+abbrev pub opened : Entry
+opened = 0 does OpenClone ip gets Fd 0 0
+
+-- a process has seen the first entries, and made those that are its own
+abbrev pub knows : ℕ → ℕ → ℕ → Known
+knows process entries limit = record {
+  drivers = (with_first entries limit).drivers;
+  limit = limit;
+  process = process;
+  seen = (with_first entries limit).history;
+  own = entries_of process (with_first entries limit).history;
+}
+
+-- after the entry, but that it was not seen, or that it was not made here
+abbrev pub blind : Known
+blind = record (knows 0 1 9) { seen = [] }
+
+abbrev pub idle : Known
+idle = record (knows 0 1 9) { own = [] }
+
+-- a seat that knows this, read this word last, and has made so many steps
+abbrev pub sits : SharedId → Known → ℕ → ℕ → Seated
+sits id known last looks = record { shared = id; known = known; last = last; looks = looks; turn = false; met = [] }
+
+-- the same seat with the turn
+abbrev pub keeps : Seated → Seated
+keeps seat = record seat { turn = true }
+
+-- the same seat, which has met one that knew this
+abbrev pub meets : Seated → Known → Seated
+meets seat other = record seat { met = met_seat other ∷ [] }
+
+-- so many entries and links, with the turn held or free
+abbrev pub front : ℕ → ℕ → Bool → Front
+front entries links held = record { entries = entries; links = links; held = held }

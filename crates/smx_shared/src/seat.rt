@@ -1,0 +1,24 @@
+//! A place at a shared system.
+
+use crate::turn_table::Token;
+use smx_types::Process;
+use std::marker::Model;
+
+/// A place at a shared system, for the commands of one process: a token of what was seen there. It has next to no bytes,
+/// may go to another thread, and be dropped.
+#[derive(Drop)]
+pub struct Seat {
+    pub(crate) process: Process,
+    pub(crate) token: Token,
+}
+
+impl Model for Seat {
+    ghost use Rattle.smx_shared.specs.Seats.{Seated};
+    ghost use Rattle.smx_shared.specs.SeatViews.{seated_of, IsSeatOf};
+
+    ghost Value = { Seated };
+
+    ghost view = { λ s. seated_of s.token.table_id s.token.me.0 };
+
+    ghost invariant = { λ s. IsSeatOf s.process s.token.me };
+}

@@ -1,0 +1,264 @@
+//! The words and the slot of a shared system, and the steps on them.
+
+ghost use Rattle.std.specs.Prelude.{◌≡◌, ◌<◌, ◌≤◌, ◌+◌, ◌*◌, ◌%◌, ◌^◌, [], ◌∷◌, true, false, Some, None, IfOk, IfErr, OnOk};
+ghost use Rattle.smx_shared.specs.Calls.{AnswersEntry, AddsEntry, Refuses, EndsAs, GoesOnFrom};
+ghost use Rattle.smx_shared.specs.Fronts.{front_of};
+ghost use Rattle.smx_shared.specs.Recorded.{IsSoundSystem};
+ghost use Rattle.smx_shared.specs.declared.turn_table.TheConstants.{MOST_TRIES};
+ghost use Rattle.smx_shared.specs.Seats.{shared_as};
+ghost use Rattle.smx_shared.specs.SeatViews.{opened, dealt, left, called, known_of, system_of, IsAtRest, IsInformed, RestsAfter, HasTurn, HasGrown, HasMet, FoundWord, IsWordFrom, AddsFor};
+
+use crate::fault::ApplyFault;
+use crate::seat_view::{Call, Deal, Look, Meet, OneTurn, Publish, SeatView, Start, Take};
+use crate::system::System;
+use atomic_table::Table;
+use smx_types::{Command, Entry, NoMemory, Process};
+use std::alloc::Global;
+use std::snapshot::Snapshot;
+use std::sync::Wait;
+use std::thread;
+use std::time::Duration;
+
+/// A seat as the table knows it.
+pub type Token = atomic_table::Seat<Option<System>, SeatView>;
+
+/// Two words and a slot: the front with the turn bit, the names given, and the system.
+#[derive(Drop)]
+pub struct TurnTable {
+    pub table: Table<Option<System>, SeatView, Start, OneTurn, Global>,
+    pub ghost sized: { (table.shared.table_id.words ≡ 2) × (table.shared.table_id.slots ≡ 1) },
+}
+
+// Where these lie.
+const FRONT: usize = 0;
+
+const NAMES: usize = 1;
+
+const SYSTEM: usize = 0;
+
+// How often a caller yields that waits for the turn, before it sleeps; and after how many tries it sleeps no longer.
+const YIELDS: u32 = 16;
+
+const MOST_TRIES: u32 = 22;
+
+// How long it first sleeps, in microseconds.
+const SHORTEST_SLEEP: u64 = 20;
+
+// The word of a system with the turn free.
+fn front_word(system: &System) -> u64
+    ensures word { result ≡ front_of system.now.drivers system.now.history }
+    ensures sound { IsSoundSystem system.now }
+{
+    let entries = system.entries().len() as u64;
+    let links = u64::from(system.config().link_count());
+    4096 * entries + 2 * links
+}
+
+impl TurnTable {
+    /// The system in its slot with the turn free, and the first seat, which may take the first name.
+    pub fn open(
+        alloc: Global,
+        system: System,
+        processes: usize,
+    ) -> Result<(TurnTable, Token), NoMemory>
+        ensures table { IfOk result (λ r. r.1.table_id ≡ r.0.table.shared.table_id) }
+        ensures first { IfOk result (λ r. r.1.me ≡ (opened system, [])) }
+        ensures start { IfOk result (λ r. (r.0.table.shared.key.system.value ≡ system) × (r.0.table.shared.key.processes ≡ processes)) }
+        ensures sound { IsSoundSystem system }
+    {
+        let about = Start {
+            system: Snapshot::of(&system),
+            processes,
+        };
+        let front = front_word(&system);
+        let mut slots = Vec::with_capacity(alloc, 1)?;
+        slots.push_reserved(Some(system));
+        match Table::new(alloc, &[front, 0], slots, &about) {
+            Ok((table, token)) => Ok((TurnTable { table }, token)),
+            Err(_) => Err(NoMemory),
+        }
+    }
+
+    /// Another seat, which has seen as much, and has the right to the next name from this one.
+    pub fn deal(&self, token: &mut Token) -> Token
+        requires { token.old.table_id ≡ self.now.table.shared.table_id }
+        ensures same { (token.new.table_id ≡ token.old.table_id) × (token.new.me ≡ (left token.old.me.0, token.old.me.1)) }
+        ensures other { (result.table_id ≡ token.old.table_id) × (result.me ≡ (dealt token.old.me.0, [])) }
+    {
+        self.table.shared.split_seat::<Deal>(token)
+    }
+
+    /// The seat takes the next name.
+    pub fn name(&self, token: &mut Token)
+        requires table { token.old.table_id ≡ self.now.table.shared.table_id }
+        requires right { (token.old.me.0.may_name ≡ true) × (token.old.me.0.next < 64) }
+        requires one_of { token.old.me.0.next < self.now.table.shared.key.processes }
+        requires idle { (token.old.me.0.spent ≡ false) × (token.old.me.0.turn ≡ false) }
+        ensures same { (token.new.table_id ≡ token.old.table_id) × (token.new.me ≡ (called token.old.me.0, token.old.me.1)) }
+    {
+        self.table.shared.fetch_add::<Call>(token, NAMES, 1);
+    }
+
+    /// One load of the first word.
+    pub fn look(&self, token: &mut Token) -> u64
+        requires table { token.old.table_id ≡ self.now.table.shared.table_id }
+        requires rest { IsAtRest token.old.me }
+        ensures table { token.new.table_id ≡ token.old.table_id }
+        ensures rest { RestsAfter token.old.me.0 token.new.me }
+        ensures found { FoundWord token.old.me.0 token.new.me.0 result }
+    {
+        self.table.shared.load::<Look>(token, FRONT)
+    }
+
+    /// Takes the turn where it is free, and answers the word that shows it held where it is not. One step, either way.
+    pub fn try_take(&self, token: &mut Token) -> Result<(), u64>
+        requires table { token.old.table_id ≡ self.now.table.shared.table_id }
+        requires rest { IsAtRest token.old.me }
+        ensures table { token.new.table_id ≡ token.old.table_id }
+        ensures grown { HasGrown token.old.me.0 token.new.me.0 × (token.new.me.0.own ≡ token.old.me.0.own) }
+        ensures taken { OnOk result (HasTurn token.new.me (Some (system_of token.new.me.0))) }
+        ensures held { IfErr result (λ word. RestsAfter token.old.me.0 token.new.me × FoundWord token.old.me.0 token.new.me.0 word × (word % 2 ≡ 1)) }
+    {
+        let word = self.table.shared.fetch_or::<Take>(token, FRONT, 1);
+        if word % 2 == 0 { Ok(()) } else { Err(word) }
+    }
+
+    /// Waits until the turn is free, and takes it.
+    pub fn take<R: Wait>(&self, rt: &R, token: &mut Token)
+        requires table { token.old.table_id ≡ self.now.table.shared.table_id }
+        requires rest { IsAtRest token.old.me }
+        ensures table { token.new.table_id ≡ token.old.table_id }
+        ensures grown { HasGrown token.old.me.0 token.new.me.0 × (token.new.me.0.own ≡ token.old.me.0.own) }
+        ensures taken { HasTurn token.new.me (Some (system_of token.new.me.0)) }
+    {
+        let mut tries = 0;
+        for _ in rt.forever() {
+            match self.try_take(token) {
+                Ok(()) => return,
+                Err(word) => self.wait(rt, tries, word),
+            }
+            tries = if tries < MOST_TRIES { tries + 1 } else { tries };
+        }
+        unreachable!()
+    }
+
+    // Lets others go on, after so many tries: at first it only yields, and later it sleeps, longer each time, or until
+    // somebody has changed the word.
+    fn wait<R: Wait>(&self, rt: &R, tries: u32, word: u64)
+        requires { tries ≤ MOST_TRIES }
+    {
+        if tries < YIELDS {
+            thread::yield_now();
+            return;
+        }
+        let dur = Duration::from_micros(SHORTEST_SLEEP << (tries - YIELDS));
+        self.table
+            .shared
+            .park_timeout(rt, FRONT, (word % (1 << 32)) as u32, dur);
+    }
+
+    // The system out of its slot, by the seat that has the turn.
+    fn take_out(&self, token: &mut Token) -> System
+        requires table { token.old.table_id ≡ self.now.table.shared.table_id }
+        requires turn { HasTurn token.old.me (Some (system_of token.old.me.0)) }
+        ensures table { token.new.table_id ≡ token.old.table_id }
+        ensures turn { (token.new.me.0 ≡ token.old.me.0) × HasTurn token.new.me None }
+        ensures system { result ≡ system_of token.old.me.0 }
+    {
+        match self.table.shared.exchange(token, SYSTEM, None) {
+            Some(system) => system,
+            None => unreachable!(),
+        }
+    }
+
+    // The system goes back into its slot, and then the turn, with the word of just that system.
+    fn give_back(&self, token: &mut Token, system: System)
+        requires table { token.old.table_id ≡ self.now.table.shared.table_id }
+        requires turn { HasTurn token.old.me None × (token.old.me.0.named ≡ true) }
+        requires same { (system.drivers ≡ token.old.me.0.drivers) × (system.limit ≡ token.old.me.0.limit) }
+        requires more { AddsFor token.old.me.0.process token.old.me.0.seen system.history }
+        ensures table { token.new.table_id ≡ token.old.table_id }
+        ensures rest { RestsAfter token.old.me.0 token.new.me }
+        ensures seen { token.new.me.0.seen ≡ system.history }
+    {
+        let front = front_word(&system);
+        self.table.shared.exchange(token, SYSTEM, Some(system));
+        self.table.shared.store::<Publish>(token, FRONT, front);
+    }
+
+    /// Performs a command by the seat that has the turn, and gives the turn back.
+    pub fn serve(
+        &self,
+        token: &mut Token,
+        process: Process,
+        command: &Command,
+    ) -> Result<Entry, ApplyFault>
+        requires table { token.old.table_id ≡ self.now.table.shared.table_id }
+        requires turn { HasTurn token.old.me (Some (system_of token.old.me.0)) }
+        requires named { (token.old.me.0.named ≡ true) × (token.old.me.0.process ≡ process) }
+        ensures table { token.new.table_id ≡ token.old.table_id }
+        ensures rest { RestsAfter token.old.me.0 token.new.me }
+        ensures answer { IfOk result (AnswersEntry (known_of token.old.me.0) (known_of token.new.me.0) command.now) }
+        ensures refused { IfErr result (Refuses (known_of token.old.me.0) (known_of token.new.me.0)) }
+    {
+        let mut system = self.take_out(token);
+        let outcome = system.apply(process, command);
+        self.give_back(token, system);
+        outcome
+    }
+
+    /// The same for a command that is given up: nothing is copied, and no entry is answered.
+    pub fn serve_given(
+        &self,
+        token: &mut Token,
+        process: Process,
+        command: Command,
+    ) -> Result<(), ApplyFault>
+        requires table { token.old.table_id ≡ self.now.table.shared.table_id }
+        requires turn { HasTurn token.old.me (Some (system_of token.old.me.0)) }
+        requires named { (token.old.me.0.named ≡ true) × (token.old.me.0.process ≡ process) }
+        ensures table { token.new.table_id ≡ token.old.table_id }
+        ensures rest { RestsAfter token.old.me.0 token.new.me }
+        ensures added { OnOk result (AddsEntry (known_of token.old.me.0) (known_of token.new.me.0) command) }
+        ensures refused { IfErr result (Refuses (known_of token.old.me.0) (known_of token.new.me.0)) }
+    {
+        let mut system = self.take_out(token);
+        let outcome = system.append(process, command);
+        self.give_back(token, system);
+        outcome
+    }
+
+    /// The seat has then seen what either had, and the other is spent.
+    pub fn meet(&self, token: &mut Token, other: Token)
+        requires table { (token.old.table_id ≡ self.now.table.shared.table_id) × (other.table_id ≡ self.now.table.shared.table_id) }
+        requires rest { IsAtRest token.old.me × IsAtRest other.me × (other.me.0.named ≡ true) }
+        ensures table { token.new.table_id ≡ token.old.table_id }
+        ensures rest { IsAtRest token.new.me × IsInformed token.new.me.0 }
+        ensures same { HasMet token.old.me.0 other.me.0 token.new.me.0 }
+    {
+        self.table.shared.join_seat::<Meet>(token, other);
+        self.table.shared.load::<Look>(token, FRONT);
+    }
+
+    /// The system, or the word that shows the turn held that was never given back.
+    pub fn close(self, token: Token) -> Result<System, u64>
+        requires table { token.table_id ≡ self.table.shared.table_id }
+        requires rest { IsAtRest token.me × (token.me.0.named ≡ true) }
+        ensures ends { IfOk result (EndsAs (known_of token.me.0) token.me.0.met) }
+        ensures begun { IfOk result (GoesOnFrom (shared_as self.table.shared.table_id self.table.shared.key.system.value self.table.shared.key.processes)) }
+        ensures held { IfErr result (λ word. (word % 2 ≡ 1) × IsWordFrom token.me.0 word) }
+    {
+        let TurnTable { table } = self;
+        let mut closed = table.close_with(token);
+        let word = closed.word(FRONT);
+        let slot = closed.take(SYSTEM);
+        closed.free();
+        if word % 2 != 0 {
+            return Err(word);
+        }
+        match slot {
+            Some(system) => Ok(system),
+            None => unreachable!(),
+        }
+    }
+}

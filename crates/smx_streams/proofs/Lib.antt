@@ -1,0 +1,6 @@
+pub mod ListLemmas
+pub mod RowLemmas
+pub mod RowOrderLemmas
+pub mod GridLemmas
+pub mod RecordLemmas
+pub mod NameLemmas

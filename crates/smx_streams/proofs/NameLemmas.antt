@@ -1,0 +1,148 @@
+-- How many descriptors name a stream.
+use Rattle.std.proofs.Common.{◌≡◌, ℕ, zero, suc, ◌+◌, ◌-◌, ◌<◌, ◌≤◌, Bool, true, false, ◌||◌, not, eqb, List, [], ◌∷◌, length, find, filter, get_or, slice_get, Option, Some, None, if◌then◌else◌, refl, sym, ap, ◌∙◌, arith, inl, inr}
+use Rattle.std.specs.Prelude.{nat_lt}
+use Rattle.std.specs.List.{list_any, range_with_len}
+use Rattle.std.specs.Option.{option_map}
+use Rattle.std.proofs.lemmas.Bool.{cases_Bool, and_parts, both_ways, eqb-true}
+use Rattle.std.proofs.lemmas.Bool.Decides.{nat_tests}
+use Rattle.smx_types.specs.declared.stream.Descriptor.{Descriptor}
+use Rattle.smx_types.specs.declared.stream.StreamId.{StreamId}
+use Rattle.smx_model.specs.Configuration.{same_stream, is_fd, fd_before}
+use Rattle.smx_model.specs.Ordered.{ComesBefore, IsRising, with_inserted}
+use Rattle.smx_model.specs.Standing.{is_named}
+use Rattle.smx_streams.specs.StreamTables.{StreamTable, exists, is_in_range, number_at, stream_at}
+use Rattle.smx_streams.proofs.GridLemmas.{same_is, same_self}
+use Rattle.smx_streams.specs.TableFields.{names_of}
+use Rattle.smx_streams.proofs.ListLemmas.{none_goes}
+
+-- 1 for the stream itself
+abbrev pub one_if : Bool → ℕ
+one_if b = if b then 1 else 0
+
+pub names_put : (s : StreamId) (d : Descriptor) (ds : List Descriptor) → names_of s (with_inserted fd_before ds d) ≡ one_if (same_stream d.stream s) + names_of s ds
+names_put s d [] = refl
+names_put s d (e ∷ ds) = elim (cases_Bool (fd_before d e)) [
+  | inl t ↦ rw t refl
+  | inr f ↦ rw f (let rest = names_put s d ds in omega (arith, rest))
+]
+
+-- what comes later is another descriptor
+later_is_other : (p n : ℕ) (d : Descriptor) (ds : List Descriptor) → is_fd p n d ≡ true → ComesBefore fd_before d ds → find (is_fd p n) ds ≡ None
+later_is_other p n d [] t h = refl
+later_is_other p n d (e ∷ ds) t h = elim (cases_Bool (is_fd p n e)) [
+  | inl u ↦
+      let here = and_parts (eqb d.process p) (eqb d.fd n) t in
+      let there = and_parts (eqb e.process p) (eqb e.fd n) u in
+      let a = eqb-true d.process p here.0 in
+      let b = eqb-true d.fd n here.1 in
+      let x = eqb-true e.process p there.0 in
+      let y = eqb-true e.fd n there.1 in
+      let before = h.0 in
+      absurd (grind (arith, nat_tests))
+  | inr f ↦ rw f (later_is_other p n d ds t h.1)
+]
+
+pub names_taken : (s t : StreamId) (p n : ℕ) (ds : List Descriptor) → IsRising fd_before ds → stream_at ds p n ≡ Some t → names_of s ds ≡ one_if (same_stream t s) + names_of s (filter (λ d. not (is_fd p n d)) ds)
+names_taken s t p n [] r h = absurd cc
+names_taken s t p n (d ∷ ds) r h = elim (cases_Bool (is_fd p n d)) [
+  | inl here ↦
+      let at : ◌≡◌ {A = Option StreamId} (Some d.stream) (Some t) = rw here at h in
+      let e : d.stream ≡ t = cc in
+      rw (here, none_goes (is_fd p n) ds (later_is_other p n d ds here r.0), e) refl
+  | inr other ↦ rw other (let rest = names_taken s t p n ds r.1 (rw other at h) in omega (arith, rest))
+]
+
+pub named_is_some : (s : StreamId) (ds : List Descriptor) → is_named ds s ≡ nat_lt 0 (names_of s ds)
+named_is_some s [] = refl
+named_is_some s (d ∷ ds) = elim (cases_Bool (same_stream d.stream s)) [
+  | inl t ↦ rw t (grind (arith, nat_tests))
+  | inr f ↦ let none : 0 + names_of s ds ≡ names_of s ds = omega arith in rw (f, none) (named_is_some s ds)
+]
+
+pub names_few : (s : StreamId) (ds : List Descriptor) → names_of s ds ≤ length ds
+names_few s [] = omega arith
+names_few s (d ∷ ds) = elim (cases_Bool (same_stream d.stream s)) [ inl t ↦ rw t (omega (arith, names_few s ds)) | inr f ↦ rw f (omega (arith, names_few s ds)) ]
+
+-- a descriptor that names the stream counts
+pub names_some : (s : StreamId) (p n : ℕ) (ds : List Descriptor) → stream_at ds p n ≡ Some s → 0 < names_of s ds
+names_some s p n [] h = absurd cc
+names_some s p n (d ∷ ds) h = elim (cases_Bool (is_fd p n d)) [
+  | inl here ↦
+      let at : ◌≡◌ {A = Option StreamId} (Some d.stream) (Some s) = rw here at h in
+      let e : d.stream ≡ s = cc in
+      rw (e, same_self s) (omega arith)
+  | inr other ↦ let rest = names_some s p n ds (rw other at h) in omega (arith, rest)
+]
+
+-- a stream with a record exists
+pub used_exists : (t : StreamTable) (s : StreamId) (opens : ℕ) → opens ≡ names_of s t.fds → nat_lt 0 (opens + number_at t.holds s) ≡ exists t s
+used_exists t s opens e = rw (e, named_is_some s t.fds) (either (names_of s t.fds) (number_at t.holds s)) where
+  either : (x y : ℕ) → nat_lt 0 (x + y) ≡ (nat_lt 0 x || nat_lt 0 y)
+  either x y = grind (arith, nat_tests)
+
+-- minors
+
+pub find_below : (test : ℕ → Bool) (k n m : ℕ) → find test (range_with_len k n) ≡ Some m → m < k + n
+find_below test k zero m h = absurd cc
+find_below test k (suc n) m h = elim (cases_Bool (test k)) [
+  | inl t ↦ let same : ◌≡◌ {A = Option ℕ} (Some k) (Some m) = rw t at h in let e : k ≡ m = cc in omega (arith, e)
+  | inr f ↦ let rest = find_below test (k + 1) n m (rw f at h) in omega (arith, rest)
+]
+
+pub no_driver : (minors : List ℕ) (d m : ℕ) → None ≡ slice_get minors d → false ≡ is_in_range minors d m
+no_driver [] d m h = grind (arith, nat_tests)
+no_driver (n ∷ ns) zero m h = absurd cc
+no_driver (n ∷ ns) (suc d) m h = no_driver ns d m h
+
+pub minors_at : (minors : List ℕ) (d n : ℕ) → Some n ≡ slice_get minors d → n ≡ get_or minors d 0
+minors_at [] d n h = absurd cc
+minors_at (x ∷ xs) zero n h = cc
+minors_at (x ∷ xs) (suc d) n h = minors_at xs d n h
+
+-- a descriptor more or less, and the number of the stream that it names
+
+same_sym : (s t : StreamId) → same_stream s t ≡ false → same_stream t s ≡ false
+same_sym s t f = elim (cases_Bool (same_stream t s)) [
+  | inl e ↦ let k : same_stream s t ≡ true = rw (same_is t s e) (same_self s) in absurd (both_ways (same_stream s t) f k)
+  | inr g ↦ g
+]
+
+pub names_after_put : (opens : List (List ℕ)) (s t : StreamId) (p n : ℕ) (fds : List Descriptor) → ((x : StreamId) → number_at opens x ≡ names_of x fds)
+    → (if same_stream s t then number_at opens t + 1 else number_at opens s) ≡ names_of s (with_inserted fd_before fds (record { process = p; fd = n; stream = t }))
+names_after_put opens s t p n fds h = elim (cases_Bool (same_stream s t)) [
+  | inl e ↦
+      let same = same_is s t e in
+      let put = names_put s (record { process = p; fd = n; stream = t }) fds in
+      let one : same_stream t s ≡ true = rw same (same_self t) in
+      let more = rw one at put in
+      let was = h s in
+      let at = ap (number_at opens) (sym same) in
+      rw e (omega (arith, more, was, at))
+  | inr f ↦
+      let put = names_put s (record { process = p; fd = n; stream = t }) fds in
+      let more = rw (same_sym s t f) at put in
+      let was = h s in
+      rw f (omega (arith, more, was))
+]
+
+pub names_after_take : (opens : List (List ℕ)) (s t : StreamId) (p n : ℕ) (fds : List Descriptor) → ((x : StreamId) → number_at opens x ≡ names_of x fds) → IsRising fd_before fds → stream_at fds p n ≡ Some t
+    → (if same_stream s t then number_at opens t - 1 else number_at opens s) ≡ names_of s (filter (λ d. not (is_fd p n d)) fds)
+names_after_take opens s t p n fds h rise there = elim (cases_Bool (same_stream s t)) [
+  | inl e ↦
+      let same = same_is s t e in
+      let taken = names_taken s t p n fds rise there in
+      let one : same_stream t s ≡ true = rw same (same_self t) in
+      let less = rw one at taken in
+      let was = h s in
+      rw (e, sym same) (omega (arith, less, was))
+  | inr f ↦
+      let taken = names_taken s t p n fds rise there in
+      let less = rw (same_sym s t f) at taken in
+      let was = h s in
+      rw f (omega (arith, less, was))
+]
+
+-- a descriptor of the stream is one of the process
+pub named_any : (s : StreamId) (p n : ℕ) (ds : List Descriptor) → stream_at ds p n ≡ Some s → list_any (is_fd p n) ds ≡ true
+named_any s p n [] h = absurd cc
+named_any s p n (d ∷ ds) h = elim (cases_Bool (is_fd p n d)) [ inl here ↦ rw here refl | inr other ↦ rw other (named_any s p n ds (rw other at h)) ]

@@ -1,0 +1,115 @@
+-- Descriptors as rows of streams by number: their order, how many there are, and the room for them.
+use Rattle.std.proofs.Common.{◌≡◌, ℕ, zero, suc, ◌+◌, ◌*◌, ◌<◌, ◌≤◌, true, List, [], ◌∷◌, ◌++◌, length, map, get_or, set, replicate, Option, Some, None, refl, sym, ap, ◌∙◌, arith, inl, inr, length-append}
+use Rattle.std.specs.List.{All, list_any}
+use Rattle.std.specs.Option.{is_some}
+use Rattle.std.proofs.lemmas.List.{get_or-set_same, length-set, get_or_past, length-replicate}
+use Rattle.std.proofs.lemmas.List.Elements.{All-nil, All-cons, All-append, All-set}
+use Rattle.std.proofs.Math.ListN.{get_or-map}
+use Rattle.std.proofs.lemmas.Bool.Decides.{nat_tests}
+use Rattle.smx_types.specs.declared.limits.TheConstants.{MAX_DESCRIPTORS, MAX_PROCESSES}
+use Rattle.smx_types.specs.declared.stream.Descriptor.{Descriptor}
+use Rattle.smx_types.specs.declared.stream.StreamId.{StreamId}
+use Rattle.smx_model.specs.Configuration.{is_fd, fd_before, pair_before}
+use Rattle.smx_model.specs.Ordered.{ComesBefore, IsRising}
+use Rattle.smx_streams.specs.DescriptorRows.{Rows, AreRows, IsListed, cell_at, with_cell, row_from, rows_from}
+use Rattle.smx_streams.specs.Numbers.{AreAllOrNone, with_room}
+use Rattle.smx_streams.proofs.ListLemmas.{comes_both}
+use Rattle.smx_streams.proofs.RowLemmas.{fd_of, later_row, later_rows, any_is_cell}
+
+-- in order
+
+rising_row : (q k : ℕ) (cells : List (Option StreamId)) (rest : List Descriptor) → IsRising fd_before rest → ((n : ℕ) (s : StreamId) → ComesBefore fd_before (record { process = q; fd = n; stream = s }) rest) → IsRising fd_before (row_from q k cells ++ rest)
+rising_row q k [] rest h after = h
+rising_row q k (None ∷ cells) rest h after = rising_row q (k + 1) cells rest h after
+rising_row q k (Some s ∷ cells) rest h after = (comes_both fd_before (fd_of q k s) (row_from q (k + 1) cells) rest (later_row q k q (k + 1) s cells (grind (arith, nat_tests))) (after k s), rising_row q (k + 1) cells rest h after)
+
+rising_rows : (q : ℕ) (rows : Rows) → IsRising fd_before (rows_from q rows)
+rising_rows q [] = tt
+rising_rows q (row ∷ rows) = rising_row q 0 row (rows_from (q + 1) rows) (rising_rows (q + 1) rows) (λ n s. later_rows q n (q + 1) s rows (omega arith))
+
+-- no more than there is room for
+
+few_in_row : (q k : ℕ) (cells : List (Option StreamId)) → length (row_from q k cells) ≤ length cells
+few_in_row q k [] = omega arith
+few_in_row q k (None ∷ cells) = omega (arith, few_in_row q (k + 1) cells)
+few_in_row q k (Some s ∷ cells) = omega (arith, few_in_row q (k + 1) cells)
+
+pub short : (row : List (Option StreamId)) → AreAllOrNone row → length row ≤ MAX_DESCRIPTORS
+short [] h = omega arith
+short (c ∷ cells) h = omega (arith, h (omega arith))
+
+few_in_rows : (q : ℕ) (rows : Rows) → All AreAllOrNone rows → length (rows_from q rows) ≤ 16 * length rows
+few_in_rows q [] h = omega arith
+few_in_rows q (row ∷ rows) h =
+    omega (arith, length-append (row_from q 0 row) (rows_from (q + 1) rows), few_in_row q 0 row, short row (h 0 row (omega arith)), few_in_rows (q + 1) rows (λ k d lt. h (suc k) d (omega (arith, lt))))
+
+numbered_row : (q k : ℕ) (cells : List (Option StreamId)) → k + length cells ≤ MAX_DESCRIPTORS → All (λ d. d.fd < MAX_DESCRIPTORS) (row_from q k cells)
+numbered_row q k [] h = All-nil _
+numbered_row q k (None ∷ cells) h = numbered_row q (k + 1) cells (omega arith)
+numbered_row q k (Some s ∷ cells) h = All-cons (λ d. d.fd < MAX_DESCRIPTORS) _ _ (omega arith) (numbered_row q (k + 1) cells (omega arith))
+
+numbered_rows : (q : ℕ) (rows : Rows) → All AreAllOrNone rows → All (λ d. d.fd < MAX_DESCRIPTORS) (rows_from q rows)
+numbered_rows q [] h = All-nil _
+numbered_rows q (row ∷ rows) h = All-append (λ d. d.fd < MAX_DESCRIPTORS) _ _ (numbered_row q 0 row (omega (arith, short row (h 0 row (omega arith))))) (numbered_rows (q + 1) rows (λ k d lt. h (suc k) d (omega (arith, lt))))
+
+pub are_listed : (rows : Rows) → AreRows rows → IsListed (rows_from 0 rows)
+are_listed rows h = record { rise = rising_rows 0 rows; few = omega (arith, few_in_rows 0 rows h.rooms, h.processes); numbered = numbered_rows 0 rows h.rooms }
+
+-- room
+
+no_cells : (q k n : ℕ) → row_from q k (replicate n None) ≡ []
+no_cells q k zero = refl
+no_cells q k (suc n) = no_cells q (k + 1) n
+
+room_in_row : (q k : ℕ) (row : List (Option StreamId)) → row_from q k (with_room row) ≡ row_from q k row
+room_in_row q k [] = no_cells q k MAX_DESCRIPTORS
+room_in_row q k (c ∷ cells) = refl
+
+room_in_rows : (q i : ℕ) (rows : Rows) → rows_from q (set rows i (with_room (get_or rows i []))) ≡ rows_from q rows
+room_in_rows q i [] = refl
+room_in_rows q zero (row ∷ rows) = ap (λ ds. ds ++ rows_from (q + 1) rows) (room_in_row q 0 row)
+room_in_rows q (suc i) (row ∷ rows) = ap (λ ds. row_from q 0 row ++ ds) (room_in_rows (q + 1) i rows)
+
+pub room_shows_the_same : (rows : Rows) (p : ℕ) → rows_from 0 (set rows p (with_room (get_or rows p []))) ≡ rows_from 0 rows
+room_shows_the_same rows p = room_in_rows 0 p rows
+
+room_of : (row : List (Option StreamId)) → AreAllOrNone row → length (with_room row) ≡ MAX_DESCRIPTORS
+room_of [] h = length-replicate {A = Option StreamId} MAX_DESCRIPTORS None
+room_of (c ∷ cells) h = h (omega arith)
+
+row_at : (rows : Rows) (p : ℕ) → All AreAllOrNone rows → AreAllOrNone (get_or rows p [])
+row_at [] p h = λ some. absurd (omega arith)
+row_at (row ∷ rows) zero h = h 0 row (omega arith)
+row_at (row ∷ rows) (suc p) h = row_at rows p (λ k d lt. h (suc k) d (omega (arith, lt)))
+
+pub there_is_room : (rows : Rows) (p : ℕ) → All AreAllOrNone rows → p < length rows → get_or (map length (set rows p (with_room (get_or rows p [])))) p 0 ≡ MAX_DESCRIPTORS
+there_is_room rows p h lt = get_or-map length (set rows p (with_room (get_or rows p []))) p [] ∙ ap length (get_or-set_same rows p (with_room (get_or rows p [])) [] lt) ∙ room_of (get_or rows p []) (row_at rows p h)
+
+pub row_length : (rows : Rows) (p : ℕ) → get_or (map length rows) p 0 ≡ length (get_or rows p [])
+row_length rows p = get_or-map length rows p []
+
+pub has_cells : (rows : Rows) (p n : ℕ) → list_any (is_fd p n) (rows_from 0 rows) ≡ true → 0 < length (get_or rows p [])
+has_cells rows p n h = by (get_or rows p []) (sym (any_is_cell rows p n) ∙ h) where
+  by : (row : List (Option StreamId)) → is_some (get_or row n None) ≡ true → 0 < length row
+  by [] k = absurd cc
+  by (c ∷ cells) k = omega arith
+
+-- what every table keeps
+
+pub rows_with_room : (rows : Rows) (p : ℕ) → AreRows rows → AreRows (set rows p (with_room (get_or rows p [])))
+rows_with_room rows p h = record { processes = length-set rows p (with_room (get_or rows p [])) ∙ h.processes; rooms = All-set AreAllOrNone rows p (with_room (get_or rows p [])) (λ some. room_of (get_or rows p []) (row_at rows p h.rooms)) h.rooms }
+
+pub rows_with_cell : (rows : Rows) (p n : ℕ) (cell : Option StreamId) → AreRows rows → AreRows (with_cell rows p n cell)
+rows_with_cell rows p n cell h =
+    let long = length-set (get_or rows p []) n cell in
+    record { processes = length-set rows p (set (get_or rows p []) n cell) ∙ h.processes; rooms = All-set AreAllOrNone rows p (set (get_or rows p []) n cell) (λ some. long ∙ row_at rows p h.rooms (omega (arith, long))) h.rooms }
+
+pub rows_empty : AreRows (replicate MAX_PROCESSES [])
+rows_empty = record { processes = length-replicate {A = List (Option StreamId)} MAX_PROCESSES []; rooms = each MAX_PROCESSES } where
+  each : (n : ℕ) → All AreAllOrNone (replicate n [])
+  each zero = All-nil _
+  each (suc n) = All-cons AreAllOrNone _ _ (λ some. absurd (omega arith)) (each n)
+
+pub none_listed : (q n : ℕ) → rows_from q (replicate n []) ≡ []
+none_listed q zero = refl
+none_listed q (suc n) = none_listed (q + 1) n

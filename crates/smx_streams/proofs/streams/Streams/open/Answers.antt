@@ -1,0 +1,26 @@
+use Rattle.std.proofs.Common.{◌≡◌, ◌≢◌, ◌+◌, ◌<◌, ◌≤◌, true, false, Bool, ℕ, List, Some, length, get_or, ap, sym, subst, refl, ◌∙◌, arith, inl, inr, if◌then◌else◌}
+use Rattle.std.specs.Prelude.{nat_lt}
+use Rattle.smx_types.specs.declared.stream.StreamId.{StreamId}
+use Rattle.smx_model.specs.Configuration.{same_stream}
+use Rattle.smx_streams.specs.StreamTables.{StreamTable, exists, is_in_range, number_at, stream_at}
+use Rattle.smx_streams.specs.TableFields.{names_of, table_of}
+use Rattle.std.proofs.lemmas.Bool.{false≢true}
+use Rattle.smx_streams.proofs.NameLemmas.{named_any, names_after_put, names_few, names_some}
+use Rattle.smx_streams.proofs.streams.Streams.open.Goals as goal
+
+pub returns-in_err-make_room-clause-in_place : goal.returns-in_err-make_room-clause-in_place
+returns-in_err-make_room-clause-in_place c = λ n there.
+    absurd (false≢true (c.in_err-make_room.ensures.in_place n (named_any c.args.stream c.args.process n c.self.inside.descriptors.fds (subst (λ (t : StreamTable). stream_at t.fds c.args.process n ≡ Some c.args.stream) (sym c.self.view_is) there))))
+
+pub open-requires-clause-few : goal.open-requires-clause-few
+open-requires-clause-few c = omega (arith, names_few c.args.stream c.self.inside.descriptors.fds, c.self.invariant c.args.stream, c.is_sound.ensures.few)
+
+pub returns-in_err-open-clause-in_place : goal.returns-in_err-open-clause-in_place
+returns-in_err-open-clause-in_place c = λ n there.
+    let some = names_some c.args.stream c.args.process n c.self.inside.descriptors.fds (subst (λ (t : StreamTable). stream_at t.fds c.args.process n ≡ Some c.args.stream) (sym c.self.view_is) there) in
+    absurd (false≢true (c.in_err-open.ensures.in_place (omega (arith, some, c.self.invariant c.args.stream))))
+
+pub invariant_of-self-2 : goal.invariant_of-self-2
+invariant_of-self-2 c = λ s.
+    c.in_ok-open.ensures.ok.opens_now s
+    ∙ rw (c.put.ensures, c.in_ok-make_room.ensures.fds) (names_after_put c.self.inside.records.opens s c.args.stream c.args.process c.args.fd c.self.inside.descriptors.fds c.self.invariant)

@@ -1,0 +1,79 @@
+-- The records of streams, by driver and minor. No public clause needs this.
+use Rattle.std.specs.Prelude.{◌≡◌, ℕ, ◌+◌, ◌<◌, List, [], map, length, slice_index_or, slice_set, Option, Some, None, if◌then◌else◌, IfSome}
+use Rattle.slab.specs.Slab.{Slab, get}
+use Rattle.smx_types.specs.declared.stream.StreamId.{StreamId}
+use Rattle.smx_model.specs.Configuration.{same_stream}
+use Rattle.smx_streams.specs.declared.records.Record.{Record}
+use Rattle.smx_streams.specs.StreamTables.{number_at}
+
+-- for each driver a key or none for each minor
+abbrev pub Grid : Type 0
+Grid = List (List (Option ℕ))
+
+-- the key of the stream's record
+abbrev pub key_at : Grid → StreamId → Option ℕ
+key_at grid s = slice_index_or (slice_index_or grid s.driver []) s.minor None
+
+-- with this key at a stream
+abbrev pub with_key : Grid → StreamId → Option ℕ → Grid
+with_key grid s key = slice_set grid s.driver (slice_set (slice_index_or grid s.driver []) s.minor key)
+
+-- the record of a key
+abbrev pub record_of_key : Slab Record → Option ℕ → Option Record
+record_of_key records None = None
+record_of_key records (Some key) = get records key
+
+-- the stream's record
+abbrev pub record_at : Grid → Slab Record → StreamId → Option Record
+record_at grid records s = record_of_key records (key_at grid s)
+
+-- its number of descriptors, or 0 where there is no record
+abbrev pub opens_of : Option Record → ℕ
+opens_of None = 0
+opens_of (Some r) = r.opens
+
+-- its number of holds, or 0 where there is no record
+abbrev pub holds_of : Option Record → ℕ
+holds_of None = 0
+holds_of (Some r) = r.holds
+
+-- the minors of each driver, and descriptors and holds for each of them
+pub record Uses : Type 0 where
+  pub minors : List ℕ
+  pub opens : List (List ℕ)
+  pub holds : List (List ℕ)
+
+abbrev pub uses_of : Grid → Slab Record → Uses
+uses_of grid records = record {
+  minors = map length grid;
+  opens = map (map (λ key. opens_of (record_of_key records key))) grid;
+  holds = map (map (λ key. holds_of (record_of_key records key))) grid;
+}
+
+-- the numbers of one stream are these, and no others changed
+pub record AreSet (old : Uses) (s : StreamId) (opens holds : ℕ) (new : Uses) : Type 0 where
+  pub minors : new.minors ≡ old.minors
+  pub opens_now : (x : StreamId) → number_at new.opens x ≡ (if same_stream x s then opens else number_at old.opens x)
+  pub holds_now : (x : StreamId) → number_at new.holds x ≡ (if same_stream x s then holds else number_at old.holds x)
+
+-- the numbers are those of the stream's record
+pub record IsRecordOf (u : Uses) (s : StreamId) (r : Option Record) : Type 0 where
+  pub opens : opens_of r ≡ number_at u.opens s
+  pub holds : holds_of r ≡ number_at u.holds s
+  pub used : IfSome r (λ x. 0 < x.opens + x.holds)
+
+-- the stream's record, which counts some descriptor or hold
+pub record IsRecord (s : StreamId) (r : Record) : Type 0 where
+  pub stream : r.stream ≡ s
+  pub used : 0 < r.opens + r.holds
+
+-- each key leads to the record of its stream, and each record has its key there
+pub record AreRecords (grid : Grid) (records : Slab Record) : Type 0 where
+  pub listed : (s : StreamId) (key : ℕ) → key_at grid s ≡ Some key
+      → (r : Record) × (get records key ≡ Some r) × IsRecord s r
+  pub recorded : (key : ℕ) (r : Record) → get records key ≡ Some r → key_at grid r.stream ≡ Some key
+
+-- a record's numbers are those of its stream, and no others changed
+pub record IsSet (grid : Grid) (records : Slab Record) (r : Record) (new_grid : Grid) (new : Slab Record) : Type 0 where
+  pub whole : AreRecords new_grid new
+  pub set : AreSet (uses_of grid records) r.stream r.opens r.holds (uses_of new_grid new)

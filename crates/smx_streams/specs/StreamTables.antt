@@ -1,0 +1,99 @@
+-- What a contract sees of a table of streams.
+use Rattle.std.specs.Prelude.{◌≡◌, ℕ, Bool, ◌||◌, not, nat_lt, nat_le, List, [], length, find, filter, slice_index, slice_index_or}
+use Rattle.std.specs.Prelude.{Option, Some, None, Result, Ok, Err, IsOk, ◌⊎◌, if◌then◌else◌}
+use Rattle.std.specs.List.{list_any, range_with_len}
+use Rattle.std.specs.Option.{option_map}
+use Rattle.smx_types.specs.declared.limits.TheConstants.{MAX_DESCRIPTORS}
+use Rattle.smx_types.specs.declared.stream.Descriptor.{Descriptor}
+use Rattle.smx_types.specs.declared.stream.StreamId.{StreamId}
+use Rattle.smx_model.specs.Configuration.{same_stream, is_fd, fd_before}
+use Rattle.smx_model.specs.Ordered.{with_inserted}
+use Rattle.smx_model.specs.Standing.{is_named}
+use Rattle.smx_streams.specs.declared.fault.StreamFault.{StreamFault}
+use Rattle.smx_streams.specs.declared.fault.StreamFault.TheVariants as fault
+
+-- the minors of each driver, the descriptors in order, and for each minor of each driver a number of holds
+pub record StreamTable : Type 0 where
+  pub minors : List ℕ
+  pub fds : List Descriptor
+  pub holds : List (List ℕ)
+
+-- a stream's number
+abbrev pub number_at : List (List ℕ) → StreamId → ℕ
+number_at grid s = slice_index (slice_index_or grid s.driver []) s.minor
+
+-- there is that driver, and the minor is below its minors
+abbrev pub is_in_range : List ℕ → ℕ → ℕ → Bool
+is_in_range minors driver minor = nat_lt minor (slice_index minors driver)
+
+-- a descriptor names the stream, or it is held
+abbrev pub exists : StreamTable → StreamId → Bool
+exists t s = is_named t.fds s || nat_lt 0 (number_at t.holds s)
+
+-- the stream of the process's descriptor
+abbrev pub stream_at : List Descriptor → ℕ → ℕ → Option StreamId
+stream_at fds process fd = option_map (λ d. d.stream) (find (is_fd process fd) fds)
+
+-- the least number that is no descriptor of the process
+abbrev pub least_fd : List Descriptor → ℕ → Option ℕ
+least_fd fds process = find (λ n. not (list_any (is_fd process n) fds)) (range_with_len 0 MAX_DESCRIPTORS)
+
+-- the least minor of the driver whose stream has neither a descriptor nor a hold
+abbrev pub least_minor : StreamTable → ℕ → Option ℕ
+least_minor t driver =
+    find (λ m. not (exists t (record { driver = driver; minor = m }))) (range_with_len 0 (slice_index t.minors driver))
+
+-- a number and a stream, or the first refusal that applies
+abbrev pub Answer : Type 0
+Answer = Result (ℕ × StreamId) StreamFault
+
+-- the least number that is free for the stream
+abbrev pub numbered : StreamTable → ℕ → StreamId → Answer
+numbered t process s = given (least_fd t.fds process) where
+  given : Option ℕ → Answer
+  given (Some n) = Ok (n, s)
+  given None = Err fault.TooManyDescriptors
+
+-- what a clone open is answered
+abbrev pub clone_answer : StreamTable → ℕ → ℕ → Answer
+clone_answer t process driver =
+    if nat_le (length t.minors) driver then Err fault.NoDriver else given (least_minor t driver) where
+      given : Option ℕ → Answer
+      given (Some m) = numbered t process (record { driver = driver; minor = m })
+      given None = Err fault.NoMinor
+
+-- what an open of a minor is answered
+abbrev pub minor_answer : StreamTable → ℕ → ℕ → ℕ → Answer
+minor_answer t process driver minor =
+    if nat_le (length t.minors) driver then Err fault.NoDriver
+    else if not (is_in_range t.minors driver minor) then Err fault.NoMinor
+    else numbered t process (record { driver = driver; minor = minor })
+
+-- what a descriptor that is doubled is answered
+abbrev pub dup_answer : StreamTable → ℕ → ℕ → Answer
+dup_answer t process fd = given (stream_at t.fds process fd) where
+  given : Option StreamId → Answer
+  given (Some s) = numbered t process s
+  given None = Err fault.BadDescriptor
+
+-- with one more descriptor, and else unchanged
+pub record HasOneMore (old : StreamTable) (process fd : ℕ) (s : StreamId) (new : StreamTable) : Type 0 where
+  pub minors : new.minors ≡ old.minors
+  pub fds : new.fds ≡ with_inserted fd_before old.fds (record { process = process; fd = fd; stream = s })
+  pub holds : (x : StreamId) → number_at new.holds x ≡ number_at old.holds x
+
+-- the refusal that applies, or want of memory where none does
+abbrev pub IsRefused : Answer → StreamFault → Type 0
+IsRefused wanted f = (wanted ≡ Err f) ⊎ ((f ≡ fault.NoMemory) × IsOk wanted)
+
+-- without one descriptor of the process, and else unchanged
+pub record HasOneLess (old : StreamTable) (process fd : ℕ) (new : StreamTable) : Type 0 where
+  pub minors : new.minors ≡ old.minors
+  pub fds : new.fds ≡ filter (λ d. not (is_fd process fd d)) old.fds
+  pub holds : (x : StreamId) → number_at new.holds x ≡ number_at old.holds x
+
+-- the stream has this number of holds, and else nothing has changed
+pub record HasHolds (old : StreamTable) (s : StreamId) (n : ℕ) (new : StreamTable) : Type 0 where
+  pub minors : new.minors ≡ old.minors
+  pub fds : new.fds ≡ old.fds
+  pub holds : (x : StreamId) → number_at new.holds x ≡ (if same_stream x s then n else number_at old.holds x)

@@ -1,0 +1,20 @@
+-- The fields of a table of streams. No public clause needs this.
+use Rattle.std.specs.Prelude.{◌≡◌, ℕ, ◌+◌, List, [], ◌∷◌, if◌then◌else◌}
+use Rattle.smx_types.specs.declared.stream.Descriptor.{Descriptor}
+use Rattle.smx_types.specs.declared.stream.StreamId.{StreamId}
+use Rattle.smx_model.specs.Configuration.{same_stream}
+use Rattle.smx_streams.specs.declared.streams.Streams.TheInside.{Inside}
+use Rattle.smx_streams.specs.StreamTables.{StreamTable, number_at}
+
+-- how many descriptors name the stream
+abbrev pub names_of : StreamId → List Descriptor → ℕ
+names_of s [] = 0
+names_of s (d ∷ ds) = (if same_stream d.stream s then 1 else 0) + names_of s ds
+
+-- the fields as the value that a contract sees
+abbrev pub table_of : Inside → StreamTable
+table_of t = record { minors = t.records.minors; fds = t.descriptors.fds; holds = t.records.holds }
+
+-- a stream's record has the number of its descriptors
+abbrev pub IsWhole : Inside → Type 0
+IsWhole t = (s : StreamId) → number_at t.records.opens s ≡ names_of s t.descriptors.fds

@@ -1,0 +1,164 @@
+//! The descriptors of all processes.
+
+ghost use Rattle.std.specs.Prelude.{◌≡◌, ◌<◌, ◌≤◌, false, true, not, [], length, filter, replicate, slice_index, slice_index_or};
+ghost use Rattle.std.specs.Prelude.{ℕ, None, IfNone, IfOk, IsOk, OnOk, OnErr};
+ghost use Rattle.std.specs.List.{list_any};
+ghost use Rattle.smx_types.specs.declared.limits.TheConstants.{MAX_DESCRIPTORS, MAX_PROCESSES};
+ghost use Rattle.smx_model.specs.Configuration.{is_fd, fd_before};
+ghost use Rattle.smx_model.specs.Ordered.{with_inserted};
+ghost use Rattle.smx_streams.specs.DescriptorRows.{IsListed, cell_at, with_cell, with_room_at};
+ghost use Rattle.smx_streams.specs.StreamTables.{stream_at, least_fd};
+
+use crate::numbers::Numbers;
+use smx_types::{MAX_DESCRIPTORS, MAX_PROCESSES, NoMemory, Process, StreamId};
+use std::alloc::Global;
+use std::marker::Model;
+
+/// Descriptors by process and number. A contract sees the list, and for how many numbers each process has room.
+#[derive(Debug, Drop)]
+pub struct Descriptors {
+    processes: Vec<Numbers>,
+}
+
+impl Model for Descriptors {
+    ghost use Rattle.smx_streams.specs.DescriptorRows.{Listed, listed_of, AreRows};
+
+    ghost Value = { Listed };
+
+    ghost view = { λ d. listed_of d.processes.items };
+
+    ghost invariant = { λ d. AreRows d.processes.items };
+}
+
+// The stream at a number of a process.
+fn cell_at(processes: &[Numbers], process: Process, fd: u32) -> Option<StreamId>
+    ensures { result ≡ cell_at processes.now process fd }
+{
+    let number = process.get();
+    match processes.get(number as usize) {
+        Some(numbers) => numbers.get(fd),
+        None => None,
+    }
+}
+
+// The rows, with this at a number of a process that has room for it.
+fn set_cell(processes: &mut Vec<Numbers>, process: Process, fd: u32, cell: Option<StreamId>)
+    requires process { process < length processes.old.items }
+    requires room { fd < length (slice_index_or processes.old.items process []) }
+    ensures { processes.new.items ≡ with_cell processes.old.items process fd cell }
+{
+    let number = process.get();
+    processes[number as usize].set(fd, cell);
+}
+
+// The rows, with room for all numbers of a process.
+fn make_room(processes: &mut Vec<Numbers>, alloc: Global, process: Process) -> Result<(), NoMemory>
+    requires { process < length processes.old.items }
+    ensures ok { OnOk result (processes.new.items ≡ with_room_at processes.old.items process) }
+    ensures err { OnErr result (processes.new.items ≡ processes.old.items) }
+    ensures in_place { 0 < length (slice_index_or processes.old.items process []) → IsOk result }
+{
+    let number = process.get();
+    processes[number as usize].make_room(alloc)
+}
+
+// No descriptors of any process.
+fn new_rows(alloc: Global) -> Result<Vec<Numbers>, NoMemory>
+    ensures { IfOk result (λ v. v.items ≡ replicate MAX_PROCESSES []) }
+{
+    let mut processes = Vec::with_capacity(alloc, MAX_PROCESSES as usize)?;
+    for process in 0..MAX_PROCESSES {
+        processes.push(Numbers::new(alloc))?;
+    }
+    Ok(processes)
+}
+
+fn copy_rows(alloc: Global, processes: &[Numbers]) -> Result<Vec<Numbers>, NoMemory>
+    ensures { IfOk result (λ v. v.items ≡ processes.now) }
+{
+    let mut made = Vec::with_capacity(alloc, processes.len())?;
+    for numbers in processes {
+        made.push(numbers.copy(alloc)?)?;
+    }
+    Ok(made)
+}
+
+impl Descriptors {
+    /// No descriptors, and room for none.
+    pub fn new(alloc: Global) -> Result<Descriptors, NoMemory>
+        ensures { IfOk result (λ d. d.fds ≡ []) }
+    {
+        Ok(Descriptors {
+            processes: new_rows(alloc)?,
+        })
+    }
+
+    pub fn stream_of(&self, process: Process, fd: u32) -> Option<StreamId>
+        ensures { result ≡ stream_at self.now.fds process fd }
+    {
+        cell_at(&self.processes, process, fd)
+    }
+
+    // Whether the number is free.
+    fn is_free(&self, process: Process, fd: u32) -> bool
+        ensures { result ≡ not (list_any (is_fd process fd) self.now.fds) }
+    {
+        !cell_at(&self.processes, process, fd).is_some()
+    }
+
+    /// The least number that is free.
+    pub fn least_free(&self, process: Process) -> Option<u32>
+        ensures { result ≡ least_fd self.now.fds process }
+    {
+        (0..MAX_DESCRIPTORS).find(|fd| self.is_free(process, *fd))
+    }
+
+    /// Makes room for all numbers of the process, where it has none.
+    pub fn make_room(&mut self, alloc: Global, process: Process) -> Result<(), NoMemory>
+        ensures fds { self.new.fds ≡ self.old.fds }
+        ensures room { OnOk result (slice_index self.new.rooms process ≡ MAX_DESCRIPTORS) }
+        ensures in_place { (fd : ℕ) → list_any (is_fd process fd) self.old.fds ≡ true → IsOk result }
+    {
+        let _number = process.get();
+        make_room(&mut self.processes, alloc, process)?;
+        Ok(())
+    }
+
+    /// One more descriptor, for which there is room.
+    pub fn put(&mut self, process: Process, fd: u32, stream: StreamId)
+        requires room { fd < slice_index self.old.rooms process }
+        requires free { list_any (is_fd process fd) self.old.fds ≡ false }
+        ensures { self.new.fds
+            ≡ with_inserted fd_before self.old.fds (record { process = process; fd = fd; stream = stream }) }
+    {
+        let _number = process.get();
+        set_cell(&mut self.processes, process, fd, Some(stream));
+    }
+
+    /// Takes out the descriptor of this number, and answers its stream.
+    pub fn take(&mut self, process: Process, fd: u32) -> Option<StreamId>
+        ensures stream { result ≡ stream_at self.old.fds process fd }
+        ensures rest { self.new.fds ≡ filter (λ d. not (is_fd process fd d)) self.old.fds }
+        ensures unchanged { IfNone result (self.new ≡ self.old) }
+    {
+        let stream = cell_at(&self.processes, process, fd)?;
+        let _number = process.get();
+        set_cell(&mut self.processes, process, fd, None);
+        Some(stream)
+    }
+
+    /// What every list of them is.
+    pub fn is_sound(&self)
+        ensures { IsListed self.now.fds }
+    {
+        let _processes = &self.processes;
+    }
+
+    pub fn copy(&self, alloc: Global) -> Result<Descriptors, NoMemory>
+        ensures { IfOk result (λ d. d ≡ self.now) }
+    {
+        Ok(Descriptors {
+            processes: copy_rows(alloc, &self.processes)?,
+        })
+    }
+}

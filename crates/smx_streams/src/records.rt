@@ -1,0 +1,258 @@
+//! The records of streams, found by driver and minor.
+
+ghost use Rattle.std.specs.Prelude.{◌≡◌, ◌≢◌, ℕ, ◌+◌, ◌<◌, ◌≤◌, nat_lt, true, [], None, Some, map, length, replicate};
+ghost use Rattle.std.specs.Prelude.{slice_get, slice_index_or, IfOk, IsOk, OnOk, OnErr};
+ghost use Rattle.slab.specs.Slab.{get, Updates};
+ghost use Rattle.smx_types.specs.declared.stream.StreamId.{StreamId};
+ghost use Rattle.smx_streams.specs.RecordGrids.{key_at, with_key, AreRecords, AreSet, IsRecordOf, IsSet};
+ghost use Rattle.smx_streams.specs.StreamTables.{is_in_range, number_at};
+
+use crate::keys::Keys;
+use slab::Slab;
+use smx_types::{NoMemory, StreamId};
+use std::alloc::Global;
+use std::marker::Model;
+
+/// How many descriptors and how many holds a stream has, of which there is one at least.
+#[derive(Clone, Copy, Debug)]
+pub struct Record {
+    pub stream: StreamId,
+    pub opens: u32,
+    pub holds: u32,
+}
+
+/// The records in one slab, and for each driver the keys of its streams' records. A contract sees the minors of each
+/// driver, and two numbers for each of them.
+#[derive(Debug, Drop)]
+pub struct Records {
+    drivers: Vec<Keys>,
+    records: Slab<Record>,
+}
+
+impl Model for Records {
+    ghost use Rattle.smx_streams.specs.RecordGrids.{Uses, uses_of, AreRecords};
+
+    ghost Value = { Uses };
+
+    ghost view = { λ r. uses_of r.drivers.items r.records };
+
+    ghost invariant = { λ r. AreRecords r.drivers.items r.records };
+}
+
+// The key of the stream's record.
+fn key_of(drivers: &[Keys], stream: StreamId) -> Option<usize>
+    ensures { result ≡ key_at drivers.now stream }
+{
+    match drivers.get(stream.driver as usize) {
+        Some(keys) => keys.get(stream.minor),
+        None => None,
+    }
+}
+
+// The keys, with this one at a stream.
+fn set_key(drivers: &mut Vec<Keys>, stream: StreamId, key: Option<usize>)
+    requires driver { stream.driver < length drivers.old.items }
+    requires minor { stream.minor < length (slice_index_or drivers.old.items stream.driver []) }
+    ensures { drivers.new.items ≡ with_key drivers.old.items stream key }
+{
+    drivers[stream.driver as usize].set(stream.minor, key);
+}
+
+fn record_at(records: &Slab<Record>, key: usize) -> Option<Record>
+    ensures { result ≡ get records.now key }
+{
+    records.get(key).copied()
+}
+
+fn set_record(records: &mut Slab<Record>, key: usize, changed: Record)
+    requires { get records.old key ≢ None }
+    ensures { Updates records.old records.new key (Some changed) }
+{
+    records[key] = changed;
+}
+
+// No keys, of drivers with so many minors.
+fn new_keys(alloc: Global, minors: &[u8]) -> Result<Vec<Keys>, NoMemory>
+    ensures { IfOk result (λ v. v.items ≡ map (λ n. replicate n None) minors.now) }
+{
+    let mut drivers = Vec::with_capacity(alloc, minors.len())?;
+    for count in minors {
+        drivers.push(Keys::new(alloc, *count)?)?;
+    }
+    Ok(drivers)
+}
+
+fn copy_keys(alloc: Global, drivers: &[Keys]) -> Result<Vec<Keys>, NoMemory>
+    ensures { IfOk result (λ v. v.items ≡ drivers.now) }
+{
+    let mut made = Vec::with_capacity(alloc, drivers.len())?;
+    for keys in drivers {
+        made.push(keys.copy(alloc)?)?;
+    }
+    Ok(made)
+}
+
+// Whether it counts some descriptor or hold.
+fn is_used(counted: Record) -> bool
+    ensures { result ≡ nat_lt 0 (counted.opens + counted.holds) }
+{
+    counted.opens > 0 || counted.holds > 0
+}
+
+// The record back at its key; or, where it counts nothing more, neither record nor key.
+fn put_back(drivers: &mut Vec<Keys>, records: &mut Slab<Record>, key: usize, changed: Record)
+    requires whole { AreRecords drivers.old.items records.old }
+    requires there { key_at drivers.old.items changed.stream ≡ Some key }
+    ensures { IsSet drivers.old.items records.old changed drivers.new.items records.new }
+{
+    if is_used(changed) {
+        set_record(records, key, changed);
+    } else {
+        let _gone = records.try_remove(key);
+        set_key(drivers, changed.stream, None);
+    }
+}
+
+// A new record, and its key.
+fn put(drivers: &mut Vec<Keys>, records: &mut Slab<Record>, added: Record) -> Result<(), NoMemory>
+    requires whole { AreRecords drivers.old.items records.old }
+    requires none { key_at drivers.old.items added.stream ≡ None }
+    requires driver { added.stream.driver < length drivers.old.items }
+    requires minor { added.stream.minor < length (slice_index_or drivers.old.items added.stream.driver []) }
+    requires used { 0 < added.opens + added.holds }
+    ensures ok { OnOk result (IsSet drivers.old.items records.old added drivers.new.items records.new) }
+    ensures drivers { OnErr result (drivers.new.items ≡ drivers.old.items) }
+    ensures records { OnErr result (records.new.slots ≡ records.old.slots) }
+{
+    let stream = added.stream;
+    let key = records.insert(added)?;
+    set_key(drivers, stream, Some(key));
+    Ok(())
+}
+
+impl Records {
+    /// No records, over drivers with so many minors.
+    pub fn new(alloc: Global, minors: &[u8]) -> Result<Records, NoMemory>
+        ensures minors { IfOk result (λ r. r.minors ≡ minors.now) }
+        ensures none { IfOk result (λ r. (s : StreamId) → (number_at r.opens s ≡ 0) × (number_at r.holds s ≡ 0)) }
+    {
+        Ok(Records {
+            drivers: new_keys(alloc, minors)?,
+            records: Slab::new(alloc),
+        })
+    }
+
+    /// How many minors the driver has; none where there is no such driver.
+    pub fn minors_of(&self, driver: u8) -> Option<u8>
+        ensures { result ≡ slice_get self.now.minors driver }
+    {
+        match self.drivers.get(driver as usize) {
+            Some(keys) => Some(keys.len()),
+            None => None,
+        }
+    }
+
+    // The stream's record, where it has one.
+    fn record_of(&self, stream: StreamId) -> Option<Record>
+        ensures { IsRecordOf self.now stream result }
+    {
+        let key = key_of(&self.drivers, stream)?;
+        record_at(&self.records, key)
+    }
+
+    /// How many descriptors the stream has.
+    pub fn opens_of(&self, stream: StreamId) -> u32
+        ensures { result ≡ number_at self.now.opens stream }
+    {
+        match self.record_of(stream) {
+            Some(record) => record.opens,
+            None => 0,
+        }
+    }
+
+    /// How many holds the stream has.
+    pub fn holds_of(&self, stream: StreamId) -> u32
+        ensures { result ≡ number_at self.now.holds stream }
+    {
+        match self.record_of(stream) {
+            Some(record) => record.holds,
+            None => 0,
+        }
+    }
+
+    /// Whether the stream has a record.
+    pub fn has(&self, stream: StreamId) -> bool
+        ensures { result ≡ nat_lt 0 (number_at self.now.opens stream + number_at self.now.holds stream) }
+    {
+        self.record_of(stream).is_some()
+    }
+
+    /// One more descriptor of a stream.
+    pub fn open(&mut self, stream: StreamId) -> Result<(), NoMemory>
+        requires range { is_in_range self.old.minors stream.driver stream.minor ≡ true }
+        requires few { number_at self.old.opens stream ≤ 1024 }
+        ensures ok { OnOk result (AreSet self.old stream (number_at self.old.opens stream + 1)
+            (number_at self.old.holds stream) self.new) }
+        ensures err { OnErr result (self.new ≡ self.old) }
+        ensures in_place { 0 < number_at self.old.opens stream → IsOk result }
+    {
+        match self.record_of(stream) {
+            Some(record) => {
+                self.set(stream, record.opens + 1, record.holds);
+                Ok(())
+            }
+            None => {
+                self.add(stream)?;
+                Ok(())
+            }
+        }
+    }
+
+    // A record of a stream that has none, with one descriptor.
+    fn add(&mut self, stream: StreamId) -> Result<(), NoMemory>
+        requires range { is_in_range self.old.minors stream.driver stream.minor ≡ true }
+        requires none { number_at self.old.opens stream + number_at self.old.holds stream ≡ 0 }
+        ensures ok { OnOk result (AreSet self.old stream 1 0 self.new) }
+        ensures err { OnErr result (self.new ≡ self.old) }
+    {
+        let record = Record {
+            stream,
+            opens: 1,
+            holds: 0,
+        };
+        put(&mut self.drivers, &mut self.records, record)?;
+        Ok(())
+    }
+
+    /// Other numbers for a stream that has a record; where both are 0 the record goes.
+    pub fn set(&mut self, stream: StreamId, opens: u32, holds: u32)
+        requires { 0 < number_at self.old.opens stream + number_at self.old.holds stream }
+        ensures { AreSet self.old stream opens holds self.new }
+    {
+        let record = Record {
+            stream,
+            opens,
+            holds,
+        };
+        if let Some(key) = key_of(&self.drivers, stream) {
+            put_back(&mut self.drivers, &mut self.records, key, record);
+        }
+    }
+
+    /// What every table of records is: a stream that has some is in range.
+    pub fn is_sound(&self)
+        ensures { (s : StreamId) → 0 < number_at self.now.opens s
+            → is_in_range self.now.minors s.driver s.minor ≡ true }
+    {
+        let _records = &self.records;
+    }
+
+    pub fn copy(&self, alloc: Global) -> Result<Records, NoMemory>
+        ensures { IfOk result (λ r. r ≡ self.now) }
+    {
+        Ok(Records {
+            drivers: copy_keys(alloc, &self.drivers)?,
+            records: self.records.clone()?,
+        })
+    }
+}

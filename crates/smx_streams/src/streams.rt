@@ -1,0 +1,253 @@
+//! The table of streams.
+
+ghost use Rattle.std.specs.Prelude.{◌≡◌, ℕ, ◌+◌, ◌-◌, ◌<◌, ◌≤◌, not, true, [], length, slice_index};
+ghost use Rattle.std.specs.Prelude.{Some, Ok, Err, IfOk, IfErr, IfSome, IfNone, IsOk, OnOk, OnErr};
+ghost use Rattle.smx_types.specs.declared.stream.StreamId.{StreamId};
+ghost use Rattle.std.specs.Option.{option_map};
+ghost use Rattle.smx_streams.specs.StreamTables.{number_at, is_in_range, exists, stream_at, least_fd, least_minor, numbered};
+ghost use Rattle.smx_streams.specs.StreamTables.{clone_answer, minor_answer, dup_answer};
+ghost use Rattle.smx_streams.specs.StreamTables.{HasOneMore, HasOneLess, HasHolds, IsRefused};
+
+use crate::descriptors::Descriptors;
+use crate::fault::StreamFault;
+use crate::records::Records;
+use smx_types::{NoMemory, Process, StreamId};
+use std::alloc::Global;
+use std::marker::Model;
+
+/// What a descriptor that was closed leaves.
+#[derive(Clone, Copy, Debug, PartialEq, Eq)]
+pub struct Closed {
+    /// The stream that it named.
+    pub stream: StreamId,
+    /// Neither a descriptor nor a hold is left of it.
+    pub last: bool,
+}
+
+/// The descriptors of all processes, and how many holds each stream has. A contract sees the minors of each driver,
+/// the list of descriptors, and the holds.
+#[derive(Debug, Drop)]
+pub struct Streams {
+    alloc: Global,
+    descriptors: Descriptors,
+    records: Records,
+}
+
+impl Model for Streams {
+    ghost use Rattle.smx_streams.specs.StreamTables.{StreamTable};
+
+    ghost Value = { StreamTable };
+
+    ghost use Rattle.smx_streams.specs.TableFields.{table_of, IsWhole};
+
+    ghost view = { table_of };
+
+    ghost invariant = { IsWhole };
+}
+
+impl Streams {
+    /// No streams, over drivers with so many minors, numbered from 0. It keeps the allocator. Fails only for want of
+    /// memory.
+    pub fn new(alloc: Global, minors: &[u8]) -> Result<Streams, NoMemory>
+        requires { length minors.now ≤ 128 }
+        ensures minors { IfOk result (λ t. t.minors ≡ minors.now) }
+        ensures fds { IfOk result (λ t. t.fds ≡ []) }
+        ensures holds { IfOk result (λ t. (s : StreamId) → number_at t.holds s ≡ 0) }
+    {
+        Ok(Streams {
+            alloc,
+            descriptors: Descriptors::new(alloc)?,
+            records: Records::new(alloc, minors)?,
+        })
+    }
+
+    /// Whether there is that driver, and the minor is below its minors.
+    pub fn in_range(&self, driver: u8, minor: u32) -> bool
+        ensures { result ≡ is_in_range self.now.minors driver minor }
+    {
+        match self.records.minors_of(driver) {
+            Some(minors) => minor < u32::from(minors),
+            None => false,
+        }
+    }
+
+    /// Whether a descriptor names the stream, or it is held.
+    pub fn exists(&self, stream: StreamId) -> bool
+        ensures { result ≡ exists self.now stream }
+    {
+        self.records.has(stream)
+    }
+
+    /// How many holds the stream has.
+    pub fn holds_of(&self, stream: StreamId) -> u32
+        ensures { result ≡ number_at self.now.holds stream }
+    {
+        self.records.holds_of(stream)
+    }
+
+    /// The stream of the process's descriptor.
+    pub fn stream_of(&self, process: Process, fd: u32) -> Option<StreamId>
+        ensures { result ≡ stream_at self.now.fds process fd }
+    {
+        self.descriptors.stream_of(process, fd)
+    }
+
+    // The least minor below `minors` whose stream doesn't exist.
+    fn least_minor(&self, driver: u8, minors: u8) -> Option<u8>
+        requires { minors ≡ slice_index self.now.minors driver }
+        ensures { result ≡ least_minor self.now driver }
+    {
+        (0..minors).find(|minor| {
+            let stream = StreamId {
+                driver,
+                minor: *minor,
+            };
+            !self.exists(stream)
+        })
+    }
+
+    // One more descriptor, whose number is free.
+    fn open(&mut self, process: Process, fd: u32, stream: StreamId) -> Result<(), NoMemory>
+        requires range { is_in_range self.old.minors stream.driver stream.minor ≡ true }
+        requires free { least_fd self.old.fds process ≡ Some fd }
+        ensures ok { OnOk result (HasOneMore self.old process fd stream self.new) }
+        ensures err { OnErr result (self.new ≡ self.old) }
+        ensures in_place { (n : ℕ) → stream_at self.old.fds process n ≡ Some stream → IsOk result }
+    {
+        self.descriptors.is_sound();
+        self.descriptors.make_room(self.alloc, process)?;
+        self.records.open(stream)?;
+        self.descriptors.put(process, fd, stream);
+        Ok(())
+    }
+
+    // The least number that is free for a stream, given to it.
+    fn give(&mut self, process: Process, stream: StreamId) -> Result<(u32, StreamId), StreamFault>
+        requires range { is_in_range self.old.minors stream.driver stream.minor ≡ true }
+        ensures ok { IfOk result (λ x.
+            (numbered self.old process stream ≡ Ok x) × HasOneMore self.old process x.0 x.1 self.new) }
+        ensures err { IfErr result (IsRefused (numbered self.old process stream)) }
+        ensures unchanged { OnErr result (self.new ≡ self.old) }
+        ensures in_place { (n : ℕ) → stream_at self.old.fds process n ≡ Some stream
+            → IfErr result (λ f. numbered self.old process stream ≡ Err f) }
+    {
+        let Some(fd) = self.descriptors.least_free(process) else {
+            return Err(StreamFault::TooManyDescriptors);
+        };
+        self.open(process, fd, stream)?;
+        Ok((fd, stream))
+    }
+
+    /// Opens the least minor of the driver whose stream doesn't exist, under the least number that is free. Refused
+    /// where there is no such driver; or else where all its minors are in use; or else where the process has 16
+    /// descriptors; or else for want of memory. Where it is refused nothing has changed.
+    pub fn open_clone(
+        &mut self,
+        process: Process,
+        driver: u8,
+    ) -> Result<(u32, StreamId), StreamFault>
+        ensures ok { IfOk result (λ x.
+            (clone_answer self.old process driver ≡ Ok x) × HasOneMore self.old process x.0 x.1 self.new) }
+        ensures err { IfErr result (IsRefused (clone_answer self.old process driver)) }
+        ensures unchanged { OnErr result (self.new ≡ self.old) }
+    {
+        let Some(minors) = self.records.minors_of(driver) else {
+            return Err(StreamFault::NoDriver);
+        };
+        let Some(minor) = self.least_minor(driver, minors) else {
+            return Err(StreamFault::NoMinor);
+        };
+        self.give(process, StreamId { driver, minor })
+    }
+
+    /// Opens the stream of a minor, whether it exists or not, under the least number that is free. Refused where there
+    /// is no such driver; or else where it has no such minor; or else where the process has 16 descriptors; or else
+    /// for want of memory. Where it is refused nothing has changed.
+    pub fn open_minor(
+        &mut self,
+        process: Process,
+        driver: u8,
+        minor: u32,
+    ) -> Result<(u32, StreamId), StreamFault>
+        ensures ok { IfOk result (λ x.
+            (minor_answer self.old process driver minor ≡ Ok x) × HasOneMore self.old process x.0 x.1 self.new) }
+        ensures err { IfErr result (IsRefused (minor_answer self.old process driver minor)) }
+        ensures unchanged { OnErr result (self.new ≡ self.old) }
+    {
+        let Some(minors) = self.records.minors_of(driver) else {
+            return Err(StreamFault::NoDriver);
+        };
+        if minor >= u32::from(minors) {
+            return Err(StreamFault::NoMinor);
+        }
+        let minor = minor as u8;
+        self.give(process, StreamId { driver, minor })
+    }
+
+    /// The least number that is free, for the stream of a descriptor. Refused where the process has no such
+    /// descriptor; or else where it has 16. Takes no memory.
+    pub fn dup(&mut self, process: Process, fd: u32) -> Result<(u32, StreamId), StreamFault>
+        ensures answer { result ≡ dup_answer self.old process fd }
+        ensures ok { IfOk result (λ x. HasOneMore self.old process x.0 x.1 self.new) }
+        ensures unchanged { OnErr result (self.new ≡ self.old) }
+    {
+        let Some(stream) = self.descriptors.stream_of(process, fd) else {
+            return Err(StreamFault::BadDescriptor);
+        };
+        self.records.is_sound();
+        self.give(process, stream)
+    }
+
+    /// Closes the process's descriptor, and no other; None where there is none. Takes no memory.
+    pub fn close_fd(&mut self, process: Process, fd: u32) -> Option<Closed>
+        ensures stream { option_map (λ c. c.stream) result ≡ stream_at self.old.fds process fd }
+        ensures rest { HasOneLess self.old process fd self.new }
+        ensures last { IfSome result (λ c. c.last ≡ not (exists self.new c.stream)) }
+        ensures unchanged { IfNone result (self.new ≡ self.old) }
+    {
+        self.descriptors.is_sound();
+        let stream = self.descriptors.take(process, fd)?;
+        let opens = self.records.opens_of(stream);
+        let holds = self.records.holds_of(stream);
+        self.records.set(stream, opens - 1, holds);
+        Some(Closed {
+            stream,
+            last: !self.exists(stream),
+        })
+    }
+
+    /// One more hold of a stream that exists. Takes no memory.
+    pub fn hold(&mut self, stream: StreamId)
+        requires there { exists self.old stream ≡ true }
+        requires few { number_at self.old.holds stream < 1024 }
+        ensures { HasHolds self.old stream (number_at self.old.holds stream + 1) self.new }
+    {
+        let opens = self.records.opens_of(stream);
+        let holds = self.records.holds_of(stream);
+        self.records.set(stream, opens, holds + 1);
+    }
+
+    /// One hold less of a stream that is held. Answers whether neither a descriptor nor a hold is left. Takes no
+    /// memory.
+    pub fn release(&mut self, stream: StreamId) -> bool
+        requires { 0 < number_at self.old.holds stream }
+        ensures answer { result ≡ not (exists self.new stream) }
+        ensures rest { HasHolds self.old stream (number_at self.old.holds stream - 1) self.new }
+    {
+        let opens = self.records.opens_of(stream);
+        let holds = self.records.holds_of(stream);
+        self.records.set(stream, opens, holds - 1);
+        !self.exists(stream)
+    }
+
+    /// The same table again, by the allocator that this one has. Fails only for want of memory.
+    pub fn copy(&self) -> Result<Streams, NoMemory>
+        ensures { IfOk result (λ t. t ≡ self.now) }
+    {
+        Ok(Streams {
+            alloc: self.alloc,
+            descriptors: self.descriptors.copy(self.alloc)?,
+            records: self.records.copy(self.alloc)?,
+        })
+    }
+}

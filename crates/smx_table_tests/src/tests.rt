@@ -1,0 +1,9 @@
+//! Tables that were filled by hand, and what they then hold.
+
+mod link_tables;
+mod link_tables_at_limits;
+mod queue_calls;
+mod queues;
+mod stream_tables;
+mod stream_tables_at_limits;
+mod tried_again;
