@@ -1,6 +1,6 @@
 //! The words of a reply.
 
-ghost use Rattle.std.specs.Prelude.{◌≡◌, ◌≢◌, ◌∷◌, ◌++◌, [], ℕ, codes, None, map, MatchBool, MatchOption};
+ghost use Rattle.std.specs.Prelude.{◌≡◌, ◌≢◌, ◌∷◌, ◌++◌, [], ℕ, List, codes, None, map, MatchBool, MatchOption};
 ghost use Rattle.std.specs.Prelude.{MatchResult, IfOk, IfErr};
 ghost use Rattle.std.specs.Fmt.{decimal};
 ghost use Rattle.smx_words.specs.LineReading.{IsReadAs, IsLineOf};
@@ -9,6 +9,7 @@ ghost use Rattle.smx_words.specs.Spelling.{fault_words, reply_words};
 ghost use Rattle.smx_words.specs.Verbs.{reply_verb_word};
 ghost use Rattle.smx_words.specs.Words.{line_of};
 
+use crate::reading::cutting::after;
 use crate::reading::hex_word::bytes_of;
 use crate::reading::number::{first_number, number};
 use crate::reading::verb::{ReplyVerb, first_reply_verb};
@@ -172,22 +173,43 @@ fn lone_reply(alloc: Global, line: &[u8]) -> Option<Reply>
 fn fault_of(line: &[u8]) -> Option<Fault>
     ensures { IsReadAs FitsAlways fault_words line.now result }
 {
+    match after(line, b"EINVAL ") {
+        Some(_) => invalid(line),
+        None => valid(line),
+    }
+}
+
+// The fault of an argument that is not valid, by what is wrong with it.
+fn invalid(line: &[u8]) -> Option<Fault>
+    requires { (cause : List ℕ) × (line.now ≡ codes "EINVAL " ++ cause) }
+    ensures { IsReadAs FitsAlways fault_words line.now result }
+{
     match line {
-        b"EBADF fd" => Some(Fault::BadDescriptor),
         b"EINVAL below" => Some(Fault::Below),
         b"EINVAL notmux" => Some(Fault::NotMux),
         b"EINVAL already" => Some(Fault::AlreadyBelow),
         b"EINVAL cycle" => Some(Fault::Cycle),
-        b"EAGAIN links" => Some(Fault::TooManyLinks),
         b"EINVAL id" => Some(Fault::NoLink),
+        b"EINVAL unbound" => Some(Fault::Unbound),
+        b"EINVAL unrouted" => Some(Fault::Unrouted),
+        _ => None,
+    }
+}
+
+// Any other fault.
+fn valid(line: &[u8]) -> Option<Fault>
+    requires { (cause : List ℕ) → line.now ≢ codes "EINVAL " ++ cause }
+    ensures { IsReadAs FitsAlways fault_words line.now result }
+{
+    match line {
+        b"EBADF fd" => Some(Fault::BadDescriptor),
+        b"EAGAIN links" => Some(Fault::TooManyLinks),
+        b"EAGAIN full" => Some(Fault::Full),
+        b"EAGAIN empty" => Some(Fault::Empty),
         b"ENXIO driver" => Some(Fault::NoDriver),
         b"ENXIO minor" => Some(Fault::NoMinor),
         b"EMFILE" => Some(Fault::TooManyDescriptors),
         b"EADDRINUSE" => Some(Fault::AddressInUse),
-        b"EINVAL unbound" => Some(Fault::Unbound),
-        b"EINVAL unrouted" => Some(Fault::Unrouted),
-        b"EAGAIN full" => Some(Fault::Full),
-        b"EAGAIN empty" => Some(Fault::Empty),
         b"ERANGE" => Some(Fault::BadSize),
         _ => None,
     }
