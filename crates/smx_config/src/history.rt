@@ -1,8 +1,11 @@
 //! Whether a history is legal, and its end as claimed.
 
-ghost use Rattle.std.specs.Prelude.{◌≡◌, ◌↔◌, IfOk, IfErr, IsTrue};
+ghost use Rattle.std.specs.Prelude.{◌≡◌, ◌↔◌, IfOk, IfErr, IfNone, IfSome, IsTrue};
 ghost use Rattle.smx_model.specs.Commands.{step};
+ghost use Rattle.smx_model.specs.Configuration.{empty};
 ghost use Rattle.smx_model.specs.DriverList.{IsDriverList};
+ghost use Rattle.smx_model.specs.Histories.{IsLegal, after};
+ghost use Rattle.smx_model.specs.IllegalEntries.{IsFirstIllegal};
 ghost use Rattle.smx_config.specs.DriverFaults.{RefusesDrivers};
 ghost use Rattle.smx_config.specs.Verdicts.{IsVerdict};
 
@@ -26,6 +29,24 @@ fn gets_its_reply(config: &mut Config, entry: &Entry) -> Result<bool, NoMemory>
     Ok(reply.is_same(&entry.reply))
 }
 
+// Gives the commands of the entries again, from the empty configuration on: the number of the first entry whose reply is
+// another.
+fn first_illegal(config: &mut Config, entries: &[Entry]) -> Result<Option<usize>, NoMemory>
+    requires { config.old.configuration ≡ empty }
+    ensures drivers { config.new.drivers ≡ config.old.drivers }
+    ensures illegal { IfOk result (λ o. IfSome o (IsFirstIllegal config.old.drivers entries.now)) }
+    ensures legal { IfOk result (λ o. IfNone o (IsLegal config.old.drivers entries.now)) }
+    ensures after { IfOk result (λ o. IfNone o (config.new.configuration ≡ after config.old.drivers entries.now)) }
+{
+    one_entry_more();
+    for (i, entry) in entries.iter().enumerate() {
+        if !gets_its_reply(config, entry)? {
+            return Ok(Some(i + 1));
+        }
+    }
+    Ok(None)
+}
+
 /// Judges a history, whoever made it, and the view that is claimed of its end: each command is given again, from the
 /// empty configuration on, up to the first whose reply is another. Refused for drivers that a configuration can't have,
 /// whatever the entries are, or for want of memory. Replies and view are compared where they stand, with no copy.
@@ -39,12 +60,9 @@ pub fn check_history(
     ensures verdict { IfOk result (IsVerdict drivers.now entries.now shown.now) }
     ensures refused { IfErr result (RefusesDrivers drivers.now) }
 {
-    one_entry_more();
     let mut config = Config::new(alloc, drivers)?;
-    for (i, entry) in entries.iter().enumerate() {
-        if !gets_its_reply(&mut config, entry)? {
-            return Ok(Verdict::Illegal { entry: i + 1 });
-        }
+    if let Some(entry) = first_illegal(&mut config, entries)? {
+        return Ok(Verdict::Illegal { entry });
     }
     if config.shows(shown) {
         Ok(Verdict::Legal)
