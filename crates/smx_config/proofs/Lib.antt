@@ -11,8 +11,6 @@ pub mod DroppedLemmas
 pub mod ReplyLemmas
 pub mod KnownLemmas
 pub mod LookupLemmas
-pub mod DescriptorLemmas
-pub mod LeastDescriptorLemmas
 pub mod DoneLemmas
 pub mod DriverFaultLemmas
 pub mod DriverListLemmas

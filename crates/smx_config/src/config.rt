@@ -22,7 +22,8 @@ use crate::settling::settle_after;
 use crate::show::{
     binding_lines, descriptor_lines, full_lines, link_lines, message_lines, route_lines,
 };
-use crate::shown_lines::{are_links_shown, are_shown};
+use crate::shown_lines::{are_fds_shown, are_links_shown, are_shown};
+use crate::standing::tells_existing;
 use crate::step_error::StepError;
 use smx_model::laws_of_steps::{
     commands_keep, empty_is_kept, outcomes_are_sound, refusals_change_nothing,
@@ -75,9 +76,10 @@ impl Config {
         let Ok(drivers) = Vec::from_slice(alloc, drivers) else {
             return Err(ConfigFault::NoMemory);
         };
-        let Ok(lists) = empty_lists(alloc, drivers.len()) else {
+        let Ok(lists) = empty_lists(alloc, &drivers) else {
             return Err(ConfigFault::NoMemory);
         };
+        tells_existing(&drivers, &lists);
         Ok(Config {
             alloc,
             drivers,
@@ -105,6 +107,7 @@ impl Config {
         match perform(self.alloc, &self.drivers, &mut self.lists, process, command) {
             Ok(reply) => {
                 settle_after(&self.drivers, &mut self.lists, command);
+                tells_existing(&self.drivers, &self.lists);
                 Ok(reply)
             }
             Err(StepError::Refused(fault)) => Ok(Reply::Fault(fault)),
@@ -150,7 +153,7 @@ impl Config {
     {
         let alloc = self.alloc;
         let drivers: &[DriverSpec] = &self.drivers;
-        let fds = descriptor_lines(alloc, drivers, &self.lists.fds)?;
+        let fds = descriptor_lines(alloc, drivers, &self.lists.streams)?;
         let links = link_lines(alloc, drivers, &self.lists.links)?;
         let binds = binding_lines(alloc, drivers, &self.lists.binds)?;
         let routes = route_lines(alloc, drivers, &self.lists.routes)?;
@@ -175,7 +178,7 @@ impl Config {
         let drivers: &[DriverSpec] = &self.drivers;
         shown.next_id == self.lists.links.next_id()
             && shown.next_serial == self.lists.next_serial
-            && are_shown(drivers, &self.lists.fds, shown.fds.as_slice())
+            && are_fds_shown(drivers, &self.lists.streams, shown.fds.as_slice())
             && are_links_shown(drivers, &self.lists.links, shown.links.as_slice())
             && are_shown(drivers, &self.lists.binds, shown.binds.as_slice())
             && are_shown(drivers, &self.lists.routes, shown.routes.as_slice())

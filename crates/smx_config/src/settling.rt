@@ -6,7 +6,7 @@ ghost use Rattle.smx_model.specs.KeptConfigurations.{IsSound};
 ghost use Rattle.smx_model.specs.Queues.{first_message};
 ghost use Rattle.smx_model.specs.Settling.{place_below, place_above, next_place, next_open_place, is_movable, IsSettled};
 ghost use Rattle.smx_model.specs.Settling.{after_move, after_settling};
-ghost use Rattle.smx_config.specs.ModelOfLists.{configuration_of};
+ghost use Rattle.smx_config.specs.ModelOfLists.{configuration_of, sizes_of};
 ghost use Rattle.smx_config.specs.Moves.{open_place, is_same, is_open, IsLeastMove};
 ghost use Rattle.smx_config.specs.ReservedRoom.{HasRoom};
 
@@ -154,7 +154,7 @@ fn move_on(drivers: &[DriverSpec], lists: &mut Lists, next: Move)
     requires open { next_open_place drivers.now (configuration_of lists.old) next.from ≡ Some next.to }
     ensures value { configuration_of lists.new ≡ after_move drivers.now (configuration_of lists.old) next.from }
     ensures kept { HasRoom lists.new }
-    ensures drivers { lists.new.links.drivers ≡ lists.old.links.drivers }
+    ensures drivers { sizes_of lists.new ≡ sizes_of lists.old }
 {
     if let Some(message) = leave(drivers, lists, next.from) {
         arrive(drivers, lists, next.to, message);
@@ -167,7 +167,7 @@ fn settle(drivers: &[DriverSpec], lists: &mut Lists)
     requires sound { IsSound drivers.now (configuration_of lists.old) }
     ensures value { configuration_of lists.new ≡ after_settling drivers.now (configuration_of lists.old) }
     ensures kept { HasRoom lists.new }
-    ensures drivers { lists.new.links.drivers ≡ lists.old.links.drivers }
+    ensures drivers { sizes_of lists.new ≡ sizes_of lists.old }
 {
     moves_keep_soundness();
     let mut left = lists.flow.len() as u128 * drivers.len() as u128;
@@ -211,7 +211,7 @@ pub fn settle_after(drivers: &[DriverSpec], lists: &mut Lists, command: &Command
     requires open { IsTrue (is_open command.now) → IsSettled drivers.now (configuration_of lists.old) }
     ensures value { configuration_of lists.new ≡ after_settling drivers.now (configuration_of lists.old) }
     ensures kept { HasRoom lists.new }
-    ensures drivers { lists.new.links.drivers ≡ lists.old.links.drivers }
+    ensures drivers { sizes_of lists.new ≡ sizes_of lists.old }
 {
     if !is_open(command) {
         settle(drivers, lists);

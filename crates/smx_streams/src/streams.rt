@@ -234,6 +234,16 @@ impl Streams {
         self.descriptors.next(process, fd)
     }
 
+    /// The first descriptor of all; None where there is none.
+    pub fn first_fd(&self) -> Option<Descriptor>
+        ensures { IsNext self.now.fds 0 0 result }
+    {
+        match Process::new(0) {
+            Some(process) => self.next_fd(process, 0),
+            None => None,
+        }
+    }
+
     // What every list of descriptors is.
     fn is_listed(&self)
         ensures { IsListed self.now.fds }

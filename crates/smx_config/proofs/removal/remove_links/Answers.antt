@@ -16,8 +16,7 @@ returns-clause-value c = λ goes e.
 
 pub returns-clause-kept : goal.returns-clause-kept
 returns-clause-kept c = record {
-  fds_room = c.requires.fds_room;
-  fds_rise = c.requires.fds_rise;
+  held = c.requires.held;
   marks_room = omega (arith, not_more (λ h. not (is_read_below_listed c.args.lists.now.links.links c.args.gone.now h.place)) c.args.lists.now.flow.items c.keep_flow.new.flow.items c.keep_flow.ensures);
   marks = marks_after_emptied (is_read_below_listed c.args.lists.now.links.links c.args.gone.now) c.args.lists.now.flow.items c.keep_flow.new.flow.items c.args.lists.now.fulls.items c.keep_fulls.new.fulls.items c.requires.marks c.keep_flow.ensures c.keep_fulls.ensures.marks;
 }
