@@ -2,6 +2,9 @@ pub mod InsertionLemmas
 pub mod AboveLemmas
 pub mod TableLemmas
 pub mod ClimbLemmas
+pub mod ExistingLemmas
+pub mod ReleaseLemmas
+pub mod DescriptorLemmas
 pub mod FirstMessageLemmas
 pub mod FlowLemmas
 pub mod MarkLemmas
@@ -17,3 +20,5 @@ pub mod DriverListLemmas
 pub mod PerformLemmas
 pub mod OpenLemmas
 pub mod VerdictLemmas
+pub mod WalkLemmas
+pub mod KeptLemmas

@@ -1,6 +1,6 @@
 -- The table of streams, beside the links: how many holds each stream has, and which streams exist. No public clause
 -- needs this.
-use Rattle.std.specs.Prelude.{◌≡◌, ℕ, ◌≤◌, Bool, true, false, ◌&&◌, not, nat_lt, List, if◌then◌else◌}
+use Rattle.std.specs.Prelude.{◌≡◌, ℕ, ◌+◌, ◌≤◌, Bool, true, false, ◌&&◌, not, nat_lt, List, [], ◌∷◌, if◌then◌else◌}
 use Rattle.std.specs.List.{All}
 use Rattle.smx_types.specs.declared.driver.DriverSpec.{DriverSpec}
 use Rattle.smx_types.specs.declared.link.Link.{Link}
@@ -36,3 +36,8 @@ pub record IsReleasing (links : List Link) (climbs : ℕ) (t : StreamTable) : Ty
   pub once : (s : StreamId) → number_at t.holds s ≤ holds_of links s
   -- a link whose lower stream is held no more is orphaned
   pub orphaned : All (λ l. is_held t l ≡ false → is_orphaned t.fds links climbs l ≡ true) links
+
+-- how many holds the lower streams of these links have, taken together
+abbrev pub holds_below : List Link → StreamTable → ℕ
+holds_below [] t = 0
+holds_below (l ∷ ls) t = number_at t.holds l.lower + holds_below ls t

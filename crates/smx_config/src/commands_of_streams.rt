@@ -2,6 +2,7 @@
 
 ghost use Rattle.std.specs.Prelude.{◌≡◌, ◌≢◌, Err};
 ghost use Rattle.smx_types.specs.declared.command.Command.TheVariants.{OpenClone, OpenMinor, Dup, Close, CloseAll};
+ghost use Rattle.smx_types.specs.declared.reply.Reply.TheVariants.{Fd};
 ghost use Rattle.smx_config.specs.declared.step_error.StepError.TheVariants as step_error;
 ghost use Rattle.smx_config.specs.ModelOfLists.{sizes_of};
 ghost use Rattle.smx_config.specs.Refinement.{StepInvariant, RefinesOrNoMemory};
@@ -16,6 +17,16 @@ use crate::sweep::{reserve_for_sweep, sweep_and_reply};
 use smx_types::{DriverSpec, Fault, Name, Process, Reply, StreamId};
 use std::alloc::Global;
 
+// A descriptor and its stream, as a reply.
+fn fd_reply(opened: (u32, StreamId)) -> Reply
+    ensures { result ≡ Fd opened.0 opened.1.minor }
+{
+    Reply::Fd {
+        fd: opened.0,
+        minor: u32::from(opened.1.minor),
+    }
+}
+
 pub fn open_clone(
     drivers: &[DriverSpec],
     lists: &mut Lists,
@@ -28,11 +39,8 @@ pub fn open_clone(
     ensures drivers { sizes_of lists.new ≡ sizes_of lists.old }
 {
     let driver = driver_of(drivers, name)?;
-    let (fd, stream) = lists.streams.open_clone(process, driver as u8)?;
-    Ok(Reply::Fd {
-        fd,
-        minor: u32::from(stream.minor),
-    })
+    let opened = lists.streams.open_clone(process, driver as u8)?;
+    Ok(fd_reply(opened))
 }
 
 pub fn open_minor(
@@ -54,8 +62,8 @@ pub fn open_minor(
         minor: minor as u8,
     };
     refuse(Fault::Below, lists.links.is_below(stream))?;
-    let (fd, _stream) = lists.streams.open_minor(process, stream.driver, minor)?;
-    Ok(Reply::Fd { fd, minor })
+    let opened = lists.streams.open_minor(process, stream.driver, minor)?;
+    Ok(fd_reply(opened))
 }
 
 pub fn dup(
@@ -70,11 +78,8 @@ pub fn dup(
     ensures kept { HasRoom lists.new }
     ensures drivers { sizes_of lists.new ≡ sizes_of lists.old }
 {
-    let (fd, stream) = lists.streams.dup(process, fd)?;
-    Ok(Reply::Fd {
-        fd,
-        minor: u32::from(stream.minor),
-    })
+    let opened = lists.streams.dup(process, fd)?;
+    Ok(fd_reply(opened))
 }
 
 pub fn close(

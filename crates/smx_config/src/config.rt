@@ -18,7 +18,7 @@ use crate::fault::ConfigFault;
 use crate::lists::Lists;
 use crate::perform::perform;
 use crate::second_reply::room_for_reply;
-use crate::settling::settle_after;
+use crate::settling::finish_step;
 use crate::show::{
     binding_lines, descriptor_lines, full_lines, link_lines, message_lines, route_lines,
 };
@@ -66,6 +66,7 @@ fn count_links(lists: &Lists) -> u32
 impl Config {
     /// The empty configuration over these drivers, which keeps the allocator for all that it makes. Refused where there are more than 64; or else at the least number
     /// of a driver that can't be had, or that has the name of an earlier one; or else for want of memory.
+    #[tactic(auto, using(crate::proofs::KeptLemmas::tells_again))]
     pub fn new(alloc: Global, drivers: &[DriverSpec]) -> Result<Config, ConfigFault>
         ensures drivers { IfOk result (λ c. (c.drivers ≡ drivers.now) × IsDriverList drivers.now) }
         ensures empty { IfOk result (λ c. c.configuration ≡ empty) }
@@ -90,6 +91,7 @@ impl Config {
     /// Does a command of a process: its reply and the new configuration are those of the command table. A fault for a
     /// reply changes nothing, and neither does want of memory. `dup`, `unbind`, `unroute`, `read`, `transmit` and every
     /// refusal take no memory, so they are always answered.
+    #[tactic(auto, using(crate::proofs::KeptLemmas::table_stays, crate::proofs::KeptLemmas::minors_stay, crate::proofs::KeptLemmas::tells_again))]
     pub fn step(&mut self, process: Process, command: &Command) -> Result<Reply, NoMemory>
         // What it does.
         ensures drivers { self.new.drivers ≡ self.old.drivers }
@@ -106,8 +108,7 @@ impl Config {
         refusals_change_nothing();
         match perform(self.alloc, &self.drivers, &mut self.lists, process, command) {
             Ok(reply) => {
-                settle_after(&self.drivers, &mut self.lists, command);
-                tells_existing(&self.drivers, &self.lists);
+                finish_step(&self.drivers, &mut self.lists, command);
                 Ok(reply)
             }
             Err(StepError::Refused(fault)) => Ok(Reply::Fault(fault)),
@@ -212,6 +213,7 @@ impl Config {
     }
 
     /// The same configuration again, by the allocator that this one has. Fails only for want of memory.
+    #[tactic(auto, using(crate::proofs::KeptLemmas::tells_again))]
     pub fn copy(&self) -> Result<Config, NoMemory>
         ensures { IfOk result (λ c. c ≡ self.now) }
     {

@@ -40,6 +40,7 @@ fn copy_fulls(alloc: Global, fulls: &[Place], room: usize) -> Result<Vec<Place>,
     Ok(made)
 }
 
+#[tactic(auto, using(crate::proofs::KeptLemmas::held_again))]
 pub fn copy_lists(alloc: Global, lists: &Lists) -> Result<Lists, NoMemory>
     requires { HasRoom lists.now }
     ensures value { IfOk result (λ l. configuration_of l ≡ configuration_of lists.now) }
@@ -60,6 +61,7 @@ pub fn copy_lists(alloc: Global, lists: &Lists) -> Result<Lists, NoMemory>
 }
 
 // How many minors each driver has.
+#[tactic(auto, using(crate::proofs::DriverListLemmas::minors_within))]
 fn minors_of_each(alloc: Global, drivers: &[DriverSpec]) -> Result<Vec<u8>, NoMemory>
     requires { IsDriverList drivers.now }
     ensures { IfOk result (λ v. v.items ≡ map (λ d. d.minors) drivers.now) }
@@ -72,6 +74,7 @@ fn minors_of_each(alloc: Global, drivers: &[DriverSpec]) -> Result<Vec<u8>, NoMe
 }
 
 // Empty lists, for these drivers.
+#[tactic(auto, using(crate::proofs::KeptLemmas::held_at_first))]
 pub fn empty_lists(alloc: Global, drivers: &[DriverSpec]) -> Result<Lists, NoMemory>
     requires { IsDriverList drivers.now }
     ensures value { IfOk result (λ l. configuration_of l ≡ empty) }

@@ -2,7 +2,7 @@
 
 ghost use Rattle.std.specs.Prelude.{◌≡◌, ℕ, ◌+◌, ◌<◌, ◌≤◌, ◌++◌, ◌∷◌, [], not, false, map, filter, length, vec_capacity, IsTrue};
 ghost use Rattle.std.specs.List.{list_any};
-ghost use Rattle.smx_config.specs.ExistingStreams.{is_held, is_loose, IsReleasing};
+ghost use Rattle.smx_config.specs.ExistingStreams.{is_held, is_loose, holds_below, IsReleasing};
 
 use crate::standing::is_persistent;
 use smx_links::LinkTable;
@@ -27,8 +27,7 @@ fn release_once(streams: &mut Streams, links: &LinkTable) -> bool
     ensures minors { streams.new.minors ≡ streams.old.minors }
     ensures releasing { (climbs : ℕ) → IsReleasing links.now.links climbs streams.old
         → IsReleasing links.now.links climbs streams.new }
-    ensures fewer { IsTrue result → length (filter (is_held streams.new) links.now.links)
-        < length (filter (is_held streams.old) links.now.links) }
+    ensures fewer { IsTrue result → holds_below links.now.links streams.new < holds_below links.now.links streams.old }
     ensures none { result ≡ false → list_any (is_loose streams.new) links.now.links ≡ false }
 {
     links.is_sound();
@@ -52,7 +51,7 @@ pub fn release_orphans(streams: &mut Streams, links: &LinkTable)
         → IsReleasing links.now.links climbs streams.new }
     ensures none { list_any (is_loose streams.new) links.now.links ≡ false }
 {
-    while release_once(streams, links) {}
+    'passes: while release_once(streams, links) {}
 }
 
 // One id more, for which there is room.

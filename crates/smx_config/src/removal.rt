@@ -4,6 +4,7 @@ ghost use Rattle.std.specs.Prelude.{◌≡◌, ◌≤◌, Bool, not, map, filter
 ghost use Rattle.smx_types.specs.declared.link.Link.{Link};
 ghost use Rattle.smx_model.specs.Removal.{without_links};
 ghost use Rattle.smx_links.specs.LinkLists.{is_one_of};
+ghost use Rattle.smx_streams.specs.StreamTables.{HasHolds, number_at};
 ghost use Rattle.smx_config.specs.ExistingStreams.{AreHeld};
 ghost use Rattle.smx_config.specs.ReservedRoom.{AreMarksHeld, HasRoom};
 ghost use Rattle.smx_config.specs.ModelOfLists.{configuration_of, sizes_of};
@@ -14,7 +15,7 @@ use crate::queued_message::QueuedMessage;
 use crate::streams::same_side;
 use smx_links::LinkTable;
 use smx_streams::Streams;
-use smx_types::{Place, Route, Side};
+use smx_types::{Place, Route, Side, StreamId};
 
 fn is_listed(ids: &[u32], id: u32) -> bool
     ensures { result ≡ is_listed ids.now id }
@@ -54,6 +55,16 @@ fn keep_fulls(fulls: &mut Vec<Place>, links: &LinkTable, gone: &[u32])
     fulls.retain(|p| !is_read_below(links, gone, *p));
 }
 
+// Releases the stream, where it is held.
+fn release_held(streams: &mut Streams, stream: StreamId)
+    requires { number_at streams.old.holds stream ≤ 1 }
+    ensures { HasHolds streams.old stream 0 streams.new }
+{
+    if streams.holds_of(stream) > 0 {
+        let _gone = streams.release(stream);
+    }
+}
+
 // Releases the lower streams of the links with these ids.
 fn release_each(streams: &mut Streams, links: &LinkTable, gone: &[u32])
     requires { AreHeld links.now.links streams.old }
@@ -64,9 +75,7 @@ fn release_each(streams: &mut Streams, links: &LinkTable, gone: &[u32])
     links.is_sound();
     for id in gone {
         if let Some(link) = links.get(*id) {
-            if streams.holds_of(link.lower) > 0 {
-                streams.release(link.lower);
-            }
+            release_held(streams, link.lower);
         }
     }
 }

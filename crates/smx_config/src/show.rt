@@ -100,6 +100,7 @@ pub fn full_line(drivers: &[DriverSpec], p: &Place) -> FullLine
     }
 }
 
+#[tactic(auto, using(crate::proofs::WalkLemmas::all_left, crate::proofs::WalkLemmas::left_all, crate::proofs::WalkLemmas::numbered, crate::proofs::WalkLemmas::lines_more, crate::proofs::WalkLemmas::fewer_left))]
 pub fn descriptor_lines(
     alloc: Global,
     drivers: &[DriverSpec],
