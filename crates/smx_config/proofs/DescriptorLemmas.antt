@@ -130,9 +130,9 @@ dup_agrees drivers c t process fd same = by (stream_at t.fds process fd) (least_
 pub dup_in_place : (t : StreamTable) (process fd : ℕ) → dup_answer t process fd ≡ Err stream_fault.NoMemory → ⊥
 dup_in_place t process fd h = by (stream_at t.fds process fd) (least_fd t.fds process) refl refl where
   by : (o : Option StreamId) (k : Option ℕ) → stream_at t.fds process fd ≡ o → least_fd t.fds process ≡ k → ⊥
-  by None k e g = let x : Err stream_fault.BadDescriptor ≡ Err stream_fault.NoMemory = rw e at h in absurd cc
-  by (Some s) None e g = let x : Err stream_fault.TooManyDescriptors ≡ Err stream_fault.NoMemory = rw (e, g) at h in absurd cc
-  by (Some s) (Some k) e g = let x : Ok (k, s) ≡ Err stream_fault.NoMemory = rw (e, g) at h in absurd cc
+  by None k e g = let x : ◌≡◌ {A = Answer} (Err stream_fault.BadDescriptor) (Err stream_fault.NoMemory) = rw e at h in absurd cc
+  by (Some s) None e g = let x : ◌≡◌ {A = Answer} (Err stream_fault.TooManyDescriptors) (Err stream_fault.NoMemory) = rw (e, g) at h in absurd cc
+  by (Some s) (Some k) e g = let x : ◌≡◌ {A = Answer} (Ok (k, s)) (Err stream_fault.NoMemory) = rw (e, g) at h in absurd cc
 
 pub dup_refused_in_place : (t : StreamTable) (process fd : ℕ) (f : StreamFault) → dup_answer t process fd ≡ Err f → as_step_error f ≡ step_error.NoMemory → ⊥
 dup_refused_in_place t process fd stream_fault.BadDescriptor h e = absurd cc

@@ -79,7 +79,8 @@ line_is {Y = Y} f fds lines i d y lt e same at = at ∙ ap (λ (ls : List Y). ge
   behind (suc n) [] lt = absurd (omega arith)
   behind (suc n) (l ∷ ls) lt = behind n ls (omega arith)
 
-taken_all : {Y : Type 0} (lines : List Y) (i : ℕ) → length lines ≤ i → take i lines ≡ lines
+-- all of them
+pub taken_all : {Y : Type 0} (lines : List Y) (i : ℕ) → length lines ≤ i → take i lines ≡ lines
 taken_all {Y = Y} [] zero le = refl
 taken_all {Y = Y} [] (suc j) le = refl
 taken_all {Y = Y} (l ∷ ls) zero le = absurd (omega arith)
@@ -97,3 +98,10 @@ one_hidden {Y = Y} f fds lines i (Some d) past e same =
     let rest = map f (fds_from d.process (d.fd + 1) fds) in
     let long : lines ≡ lines ++ f d ∷ rest = same ∙ sym e ∙ ap (λ (ls : List Y). ls ++ f d ∷ rest) (taken_all lines i past) in
     absurd (omega (arith, ap length long, length-append lines (f d ∷ rest)))
+
+-- one line more that is the right one
+pub shown_more : {Y : Type 0} (f : Descriptor → Y) (fds : List Descriptor) (lines : List Y) (i : ℕ) (d : Descriptor) (y : Y) (next : Option Descriptor) → i < length lines → y ≡ get_or lines i y → y ≡ f d → IsNext fds d.process (d.fd + 1) next
+    → take i lines ++ map f (left_of fds (Some d)) ≡ map f fds → take (i + 1) lines ++ map f (left_of fds next) ≡ map f fds
+shown_more {Y = Y} f fds lines i d y next lt at same h e =
+    ap (λ (ls : List Y). ls ++ map f (left_of fds next)) (take_more lines i y lt ∙ ap (λ (z : Y). take i lines ++ z ∷ []) (sym at ∙ same))
+    ∙ lines_more f fds (take i lines) d next (map f fds) h e

@@ -74,13 +74,13 @@ impl Config {
     {
         empty_is_kept();
         check_drivers(drivers)?;
+        let Ok(lists) = empty_lists(alloc, drivers) else {
+            return Err(ConfigFault::NoMemory);
+        };
+        tells_existing(drivers, &lists);
         let Ok(drivers) = Vec::from_slice(alloc, drivers) else {
             return Err(ConfigFault::NoMemory);
         };
-        let Ok(lists) = empty_lists(alloc, &drivers) else {
-            return Err(ConfigFault::NoMemory);
-        };
-        tells_existing(&drivers, &lists);
         Ok(Config {
             alloc,
             drivers,

@@ -2,6 +2,8 @@
 
 ghost use Rattle.std.specs.Prelude.{◌≡◌};
 ghost use Rattle.smx_model.specs.Lookups.{stream_of, free_stream, mux_stream, leaf_stream};
+ghost use Rattle.smx_model.specs.Standing.{exists};
+ghost use Rattle.smx_config.specs.ExistingStreams.{TellsExisting};
 ghost use Rattle.smx_config.specs.ModelOfLists.{configuration_of};
 ghost use Rattle.smx_config.specs.Refinement.{StepInvariant};
 
@@ -40,6 +42,15 @@ pub fn mux_stream(
     Ok(stream)
 }
 
+// Whether the stream exists, by the table.
+fn exists(drivers: &[DriverSpec], lists: &Lists, stream: StreamId) -> bool
+    requires { TellsExisting drivers.now (configuration_of lists.now) lists.now.streams }
+    ensures { result ≡ exists drivers.now (configuration_of lists.now) stream }
+{
+    let _drivers = drivers;
+    lists.streams.exists(stream)
+}
+
 pub fn leaf_stream(
     drivers: &[DriverSpec],
     lists: &Lists,
@@ -58,6 +69,6 @@ pub fn leaf_stream(
         driver: driver as u8,
         minor: minor as u8,
     };
-    refuse(Fault::NoMinor, !lists.streams.exists(stream))?;
+    refuse(Fault::NoMinor, !exists(drivers, lists, stream))?;
     Ok(stream)
 }

@@ -9,3 +9,6 @@ sweep_and_reply-requires-clause-kept c = record {
   marks_room = c.requires.kept.marks_room;
   marks = c.requires.kept.marks;
 }
+
+pub sweep_and_reply-requires-clause-known : goal.sweep_and_reply-requires-clause-known
+sweep_and_reply-requires-clause-known c = c.requires.known.controlling

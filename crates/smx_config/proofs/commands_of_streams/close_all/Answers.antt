@@ -13,3 +13,6 @@ sweep_and_reply-requires-clause-kept c = record {
 pub returns-clause-refines : goal.returns-clause-refines
 returns-clause-refines c =
     done_is c.args.drivers.now (configuration_of c.args.lists.now) _ (configuration_of c.sweep_and_reply.new.lists) c.in_ok-room.room.old.items c.sweep_and_reply.result (c.sweep_and_reply.ensures.value ∙ rw c.close_process.ensures.fds refl) c.in_ok-room.ensures.old_serials c.sweep_and_reply.ensures.reply
+
+pub sweep_and_reply-requires-clause-known : goal.sweep_and_reply-requires-clause-known
+sweep_and_reply-requires-clause-known c = c.requires.known.controlling

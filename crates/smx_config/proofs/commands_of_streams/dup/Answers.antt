@@ -16,14 +16,14 @@ use Rattle.smx_config.proofs.commands_of_streams.dup.Goals as goal
 pub returns-in_err-opened-clause-refines : goal.returns-in_err-opened-clause-refines
 returns-in_err-opened-clause-refines c =
     let p = err_from_is_err_and c.from_residual.result c.from_residual.ensures.1 in
-    rw (p.1, p.2) (refused_by c.args.lists.now _ _ (as_step_error c.in_err-opened.field-0) (rw c.in_err-opened.ensures.unchanged refl)
-    (agrees_err (configuration_of c.args.lists.now) c.args.process (dup_answer c.args.lists.now.streams c.args.process c.args.fd) _ c.in_err-opened.field-0 (dup_agrees c.args.drivers.now (configuration_of c.args.lists.now) c.args.lists.now.streams c.args.process c.args.fd refl) (inl (sym c.in_err-opened.ensures.answer))))
+    rw (p.1, p.2) (refused_by c.args.lists.now _ _ _ (rw c.in_err-opened.ensures.unchanged refl)
+    (agrees_err (configuration_of c.args.lists.now) c.args.process (dup_answer c.args.lists.now.streams c.args.process c.args.fd) _ _ (dup_agrees c.args.drivers.now (configuration_of c.args.lists.now) c.args.lists.now.streams c.args.process c.args.fd refl) (inl (sym c.in_err-opened.ensures.answer))))
 
 pub returns-in_err-opened-clause-in_place : goal.returns-in_err-opened-clause-in_place
 returns-in_err-opened-clause-in_place c = λ none.
     let p = err_from_is_err_and c.from_residual.result c.from_residual.ensures.1 in
     let both = sym p.1 ∙ none in
-    dup_refused_in_place c.args.lists.now.streams c.args.process c.args.fd c.in_err-opened.field-0 (sym c.in_err-opened.ensures.answer) (let same : p.0 ≡ step_error.NoMemory = cc in sym p.2 ∙ same)
+    dup_refused_in_place c.args.lists.now.streams c.args.process c.args.fd _ (sym c.in_err-opened.ensures.answer) (let same : p.0 ≡ step_error.NoMemory = cc in sym p.2 ∙ same)
 
 pub returns-clause-refines : goal.returns-clause-refines
 returns-clause-refines c =

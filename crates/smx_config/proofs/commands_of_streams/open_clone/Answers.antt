@@ -14,10 +14,10 @@ use Rattle.smx_config.proofs.commands_of_streams.open_clone.Goals as goal
 
 pub returns-in_err-opened-clause-refines : goal.returns-in_err-opened-clause-refines
 returns-in_err-opened-clause-refines c =
-    let p = err_from_is_err_and c.from_residual.result c.from_residual.ensures.1 in
+    let p = err_from_is_err_and c.from_residual-in_err-opened.result c.from_residual-in_err-opened.ensures.1 in
     let agrees = clone_agrees c.args.drivers.now (configuration_of c.args.lists.now) c.args.lists.now.streams c.args.process c.in_ok-driver.driver c.args.name.now c.requires.streams c.requires.existing refl (sym c.driver_of.ensures.found ∙ c.in_ok-driver.was) c.in_ok-driver.ensures.in_range in
-    rw (p.1, p.2) (refused_by c.args.lists.now _ _ (as_step_error c.in_err-opened.field-0) (rw c.in_err-opened.ensures.unchanged refl)
-    (agrees_err (configuration_of c.args.lists.now) c.args.process (clone_answer c.args.lists.now.streams c.args.process c.in_ok-driver.driver) _ c.in_err-opened.field-0 agrees c.in_err-opened.ensures.err))
+    rw (p.1, p.2) (refused_by c.args.lists.now _ _ _ (rw c.in_err-opened.ensures.unchanged refl)
+    (agrees_err (configuration_of c.args.lists.now) c.args.process (clone_answer c.args.lists.now.streams c.args.process c.in_ok-driver.driver) _ _ agrees c.in_err-opened.ensures.err))
 
 pub returns-clause-refines : goal.returns-clause-refines
 returns-clause-refines c =

@@ -14,13 +14,13 @@ use Rattle.smx_config.proofs.commands_of_streams.open_minor.Goals as goal
 
 pub returns-in_err-opened-clause-refines : goal.returns-in_err-opened-clause-refines
 returns-in_err-opened-clause-refines c =
-    let p = err_from_is_err_and c.from_residual.result c.from_residual.ensures.1 in
+    let p = err_from_is_err_and c.from_residual-in_err-opened.result c.from_residual-in_err-opened.ensures.1 in
     let n = c.in_ok-driver.driver in
     let few : nat_le (minors_of c.args.drivers.now n) c.args.minor ≡ false = rw c.minors_of.ensures at (not_refused _ _ (sym c.refuse.ensures ∙ c.in_ok-refuse.was)) in
     let free : is_below c.args.lists.now.links.links (record { driver = n; minor = c.args.minor }) ≡ false = sym c.is_below.ensures ∙ not_refused _ _ (sym c.refuse-2.ensures ∙ c.in_ok-refuse-2.was) in
     let agrees = minor_agrees c.args.drivers.now (configuration_of c.args.lists.now) c.args.lists.now.streams c.args.process n c.args.minor c.args.name.now c.requires.streams refl (sym c.driver_of.ensures.found ∙ c.in_ok-driver.was) c.in_ok-driver.ensures.in_range few free in
-    rw (p.1, p.2) (refused_by c.args.lists.now _ _ (as_step_error c.in_err-opened.field-0) (rw c.in_err-opened.ensures.unchanged refl)
-    (agrees_err (configuration_of c.args.lists.now) c.args.process (minor_answer c.args.lists.now.streams c.args.process n c.args.minor) _ c.in_err-opened.field-0 agrees c.in_err-opened.ensures.err))
+    rw (p.1, p.2) (refused_by c.args.lists.now _ _ _ (rw c.in_err-opened.ensures.unchanged refl)
+    (agrees_err (configuration_of c.args.lists.now) c.args.process (minor_answer c.args.lists.now.streams c.args.process n c.args.minor) _ _ agrees c.in_err-opened.ensures.err))
 
 pub returns-clause-refines : goal.returns-clause-refines
 returns-clause-refines c =

@@ -47,4 +47,12 @@ returns-clause-value c =
     c.drop_links.ensures.value goes (c.deref.ensures.value ∙ c.released_links-gone.ensures ∙ ap (map (λ (l : Link). l.id)) (kept_alike _ goes links alike)) ∙ rw c.release_orphans.ensures.fds refl
 
 pub returns-clause-kept : goal.returns-clause-kept
-returns-clause-kept c = record { held = c.tells_existing.requires.held; marks_room = c.drop_links.ensures.room; marks = c.drop_links.ensures.marks }
+returns-clause-kept c =
+    let links = c.args.lists.now.links.links in
+    let t = c.release_orphans.new.streams in
+    let left = c.drop_links.ensures.links ∙ left_links links _ t c.is_sound.ensures.ids.rise (c.deref.ensures.value ∙ c.released_links-gone.ensures) in
+    let held =
+        subst (λ (ls : List Link). AreHeld ls c.drop_links.new.lists.streams) (sym left)
+        (subst (λ (u : StreamTable). AreHeld (filter (is_held t) links) u) (sym c.drop_links.ensures.streams)
+        (held_is_left links (length c.args.drivers.now) t (c.release_orphans.ensures.releasing (length c.args.drivers.now) (starts links (length c.args.drivers.now) c.args.lists.now.streams c.requires.kept.held)))) in
+    record { held = held; marks_room = c.drop_links.ensures.room; marks = c.drop_links.ensures.marks }
