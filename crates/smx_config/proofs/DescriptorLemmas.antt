@@ -77,9 +77,9 @@ has_driver : (drivers : List DriverSpec) (t : StreamTable) (n : ℕ) → t.minor
 has_driver drivers t n minors lt =
     let len : length t.minors ≡ length drivers = ap length minors ∙ many drivers in
     grind (arith, nat_tests) where
-  many : (ds : List DriverSpec) → length (map (λ (d : DriverSpec). d.minors) ds) ≡ length ds
-  many [] = refl
-  many (d ∷ ds) = ap suc (many ds)
+      many : (ds : List DriverSpec) → length (map (λ (d : DriverSpec). d.minors) ds) ≡ length ds
+      many [] = refl
+      many (d ∷ ds) = ap suc (many ds)
 
 -- by what the answer is, and what the outcome is
 agree : (c : Configuration) (process : ℕ) (a b : Answer) (o p : Outcome) → a ≡ b → o ≡ p → Agrees c process b p → Agrees c process a o

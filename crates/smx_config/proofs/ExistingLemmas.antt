@@ -147,14 +147,15 @@ mutual_step : (links : List Link) (t : StreamTable) (n : ℕ) (s : StreamId) (ls
     → AllByRecursion (IsTight t) ls → AllByRecursion (ClimbsToFewer links) ls
     → AllByRecursion (λ l. same_stream l.lower s ≡ true → is_persistent l ≡ false → stands_within t.fds links n l.ctl ≡ true) ls
 mutual_step links t n s [] up few ih h r = tt
-mutual_step links t n s (l ∷ ls) up few ih h r =
-    ((λ here o.
-        let same = stream_is l.lower s here in
-        let held : is_held t l ≡ true = ap (λ (x : StreamId). nat_lt 0 (number_at t.holds x)) same ∙ up in
-        let less = r.0 in
-        let at : links_to links l.lower.driver ≡ links_to links s.driver = ap (λ (x : StreamId). links_to links x.driver) same in
-        ih l.ctl (omega (arith, less, at, few)) (h.0 held o)),
-      mutual_step links t n s ls up few ih h.1 r.1)
+mutual_step links t n s (l ∷ ls) up few ih h r = (
+  (λ here o.
+      let same = stream_is l.lower s here in
+      let held : is_held t l ≡ true = ap (λ (x : StreamId). nat_lt 0 (number_at t.holds x)) same ∙ up in
+      let less = r.0 in
+      let at : links_to links l.lower.driver ≡ links_to links s.driver = ap (λ (x : StreamId). links_to links x.driver) same in
+      ih l.ctl (omega (arith, less, at, few)) (h.0 held o)),
+  mutual_step links t n s ls up few ih h.1 r.1,
+)
 
 none_lower : (links : List Link) (s : StreamId) (ls : List Link) → links_to links s.driver ≤ 0 → AllByRecursion (ClimbsToFewer links) ls → is_below ls s ≡ false
 none_lower links s [] few r = refl
@@ -257,23 +258,23 @@ held_by_one_more old new ctl lower kind t u free is held h = λ s.
     let links : new.links ≡ old.links ++ l ∷ [] = ap (λ (x : LinkList). x.links) is in
     let more = ap (λ (ls : List Link). is_below ls s) links ∙ below_more old.links l s ∙ ap (λ (b : Bool). is_below old.links s || b) (turned lower s) in
     h.holds s ∙ by s (same_stream s lower) ∙ ap (λ (b : Bool). if b then 1 else 0) (sym more) where
-  turned : (x y : StreamId) → same_stream x y ≡ same_stream y x
-  turned x y = same_test (same_stream x y) (same_stream y x) (λ e. ap (λ (z : StreamId). same_stream z x) (sym (stream_is x y e)) ∙ stream_self x) (λ e. ap (λ (z : StreamId). same_stream z y) (sym (stream_is y x e)) ∙ stream_self y)
+      turned : (x y : StreamId) → same_stream x y ≡ same_stream y x
+      turned x y = same_test (same_stream x y) (same_stream y x) (λ e. ap (λ (z : StreamId). same_stream z x) (sym (stream_is x y e)) ∙ stream_self x) (λ e. ap (λ (z : StreamId). same_stream z y) (sym (stream_is y x e)) ∙ stream_self y)
 
-  none : number_at t.holds lower ≡ 0
-  none = held lower ∙ ap (λ (b : Bool). if b then 1 else 0) free
+      none : number_at t.holds lower ≡ 0
+      none = held lower ∙ ap (λ (b : Bool). if b then 1 else 0) free
 
-  one : (b : Bool) → ◌≡◌ {A = ℕ} (0 + 1) (if (b || true) then 1 else 0)
-  one true = refl
-  one false = refl
+      one : (b : Bool) → ◌≡◌ {A = ℕ} (0 + 1) (if (b || true) then 1 else 0)
+      one true = refl
+      one false = refl
 
-  as_before : (b : Bool) → ◌≡◌ {A = ℕ} (if b then 1 else 0) (if (b || false) then 1 else 0)
-  as_before true = refl
-  as_before false = refl
+      as_before : (b : Bool) → ◌≡◌ {A = ℕ} (if b then 1 else 0) (if (b || false) then 1 else 0)
+      as_before true = refl
+      as_before false = refl
 
-  by : (s : StreamId) (v : Bool) → (if v then number_at t.holds lower + 1 else number_at t.holds s) ≡ (if (is_below old.links s || v) then 1 else 0)
-  by s true = ap (λ (n : ℕ). n + 1) none ∙ one (is_below old.links s)
-  by s false = held s ∙ as_before (is_below old.links s)
+      by : (s : StreamId) (v : Bool) → (if v then number_at t.holds lower + 1 else number_at t.holds s) ≡ (if (is_below old.links s || v) then 1 else 0)
+      by s true = ap (λ (n : ℕ). n + 1) none ∙ one (is_below old.links s)
+      by s false = held s ∙ as_before (is_below old.links s)
 
 -- the stream of a descriptor is there
 pub fd_is_there : (t : StreamTable) (process fd : ℕ) (s : StreamId) → or_fault BadDescriptor (stream_at t.fds process fd) ≡ Ok s → is_there t s ≡ true

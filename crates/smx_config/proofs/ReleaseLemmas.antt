@@ -82,18 +82,18 @@ gone_stands_not : (links : List Link) (n : ℕ) (t : StreamTable) (s : StreamId)
 gone_stands_not links n t s apart h gone =
     let parts = or_parts (is_named t.fds s) (nat_lt 0 (number_at t.holds s)) gone in
     stands_is t.fds links n s apart ∙ rw parts.0 (by (find (λ l. same_stream l.lower s) links) n refl refl) where
-  above_goes : (m : ℕ) (l : Link) → is_persistent l ≡ false → stands_within t.fds links n l.ctl ≡ false → m ≡ n → stands_by t.fds links m (Some l) ≡ false
-  above_goes zero l o f e = o
-  above_goes (suc m) l o f e = rw o (false_from_ne_true _ (λ up. let k = more t.fds links m l.ctl up in false≢true (sym f ∙ subst (λ (x : ℕ). stands_within t.fds links x l.ctl ≡ true) e k)))
+      above_goes : (m : ℕ) (l : Link) → is_persistent l ≡ false → stands_within t.fds links n l.ctl ≡ false → m ≡ n → stands_by t.fds links m (Some l) ≡ false
+      above_goes zero l o f e = o
+      above_goes (suc m) l o f e = rw o (false_from_ne_true _ (λ up. let k = more t.fds links m l.ctl up in false≢true (sym f ∙ subst (λ (x : ℕ). stands_within t.fds links x l.ctl ≡ true) e k)))
 
-  by : (o : Option Link) (m : ℕ) → find (λ l. same_stream l.lower s) links ≡ o → m ≡ n → stands_by t.fds links m o ≡ false
-  by None m e k = refl
-  by (Some l) m e k =
-      let found = found_has (λ l. is_held t l ≡ false → is_orphaned t.fds links n l ≡ true) (λ l. same_stream l.lower s) links l (recursion_from_All (λ l. is_held t l ≡ false → is_orphaned t.fds links n l ≡ true) links h.orphaned) e in
-      let parts = or_parts (is_named t.fds s) (nat_lt 0 (number_at t.holds s)) gone in
-      let free : is_held t l ≡ false = ap (λ (x : StreamId). nat_lt 0 (number_at t.holds x)) (stream_is l.lower s found.0) ∙ parts.1 in
-      let two = and_parts (not (is_persistent l)) (not (stands_within t.fds links n l.ctl)) (found.1 free) in
-      above_goes m l (not_true _ two.0) (not_true _ two.1) k
+      by : (o : Option Link) (m : ℕ) → find (λ l. same_stream l.lower s) links ≡ o → m ≡ n → stands_by t.fds links m o ≡ false
+      by None m e k = refl
+      by (Some l) m e k =
+          let found = found_has (λ l. is_held t l ≡ false → is_orphaned t.fds links n l ≡ true) (λ l. same_stream l.lower s) links l (recursion_from_All (λ l. is_held t l ≡ false → is_orphaned t.fds links n l ≡ true) links h.orphaned) e in
+          let parts = or_parts (is_named t.fds s) (nat_lt 0 (number_at t.holds s)) gone in
+          let free : is_held t l ≡ false = ap (λ (x : StreamId). nat_lt 0 (number_at t.holds x)) (stream_is l.lower s found.0) ∙ parts.1 in
+          let two = and_parts (not (is_persistent l)) (not (stands_within t.fds links n l.ctl)) (found.1 free) in
+          above_goes m l (not_true _ two.0) (not_true _ two.1) k
 
 -- a loose link is orphaned
 loose_orphaned : (links : List Link) (n : ℕ) (t : StreamTable) (l : Link) → AreLowersApart links → IsReleasing links n t → is_loose t l ≡ true → is_orphaned t.fds links n l ≡ true
@@ -123,15 +123,15 @@ releases_one links n i d t new apart lt loose h was =
       orphaned = λ j e in_range free.
           subst (λ (fds : List Descriptor). is_orphaned fds links n (get_or links j e) ≡ true) (sym h.fds)
           (elim (cases_Bool (same_stream (get_or links j e).lower (get_or links i e).lower)) [
-            | inl same ↦ subst (λ (k : Link). is_orphaned t.fds links n k ≡ true) (sym (one_link links i j e apart lt in_range same) ) (loose_orphaned links n t (get_or links i e) apart was (subst (λ (k : Link). is_loose t k ≡ true) (defaults links i d e lt) loose))
+            | inl same ↦ subst (λ (k : Link). is_orphaned t.fds links n k ≡ true) (sym (one_link links i j e apart lt in_range same)) (loose_orphaned links n t (get_or links i e) apart was (subst (λ (k : Link). is_loose t k ≡ true) (defaults links i d e lt) loose))
             | inr other ↦ was.orphaned j e in_range
                 (ap (nat_lt 0) (sym (other_held t new l.lower (get_or links j e).lower h (subst (λ (k : Link). same_stream (get_or links j e).lower k.lower ≡ false) (sym (defaults links i d e lt)) other))) ∙ free)
           ]);
     } where
-  defaults : (ls : List Link) (i : ℕ) (d e : Link) → i < length ls → get_or ls i d ≡ get_or ls i e
-  defaults [] i d e lt = absurd (omega arith)
-  defaults (l ∷ ls) zero d e lt = refl
-  defaults (l ∷ ls) (suc i) d e lt = defaults ls i d e (omega arith)
+      defaults : (ls : List Link) (i : ℕ) (d e : Link) → i < length ls → get_or ls i d ≡ get_or ls i e
+      defaults [] i d e lt = absurd (omega arith)
+      defaults (l ∷ ls) zero d e lt = refl
+      defaults (l ∷ ls) (suc i) d e lt = defaults ls i d e (omega arith)
 
 not_more_below : (ls : List Link) (t new : StreamTable) → ((x : StreamId) → number_at new.holds x ≤ number_at t.holds x) → holds_below ls new ≤ holds_below ls t
 not_more_below [] t new h = omega arith
@@ -199,11 +199,11 @@ all_tight t [] h = tt
 all_tight t (l ∷ ls) h =
     let p = or_parts (is_loose t l) (list_any (is_loose t) ls) h in
     ((λ held o. tight (is_persistent l) (is_held t l) (is_there t l.ctl) p.0 held o), all_tight t ls p.1) where
-  tight : (a b c : Bool) → (not a && (b && not c)) ≡ false → b ≡ true → a ≡ false → c ≡ true
-  tight true b c h u o = absurd cc
-  tight false false c h u o = absurd cc
-  tight false true true h u o = refl
-  tight false true false h u o = absurd cc
+      tight : (a b c : Bool) → (not a && (b && not c)) ≡ false → b ≡ true → a ≡ false → c ≡ true
+      tight true b c h u o = absurd cc
+      tight false false c h u o = absurd cc
+      tight false true true h u o = refl
+      tight false true false h u o = absurd cc
 
 held_below : (links : List Link) (n : ℕ) (t : StreamTable) (s : StreamId) → IsReleasing links n t → nat_lt 0 (number_at t.holds s) ≡ true → is_below links s ≡ true
 held_below links n t s h up = let few = h.once s in below (is_below links s) few up where
@@ -217,19 +217,21 @@ pub released_are_orphaned : (drivers : List DriverSpec) (c : Configuration) (t :
 released_are_orphaned drivers c t climbs path join sound known same h none =
     let linked = all_tight t c.links none in
     each c.links (recursion_from_All (λ l. is_held t l ≡ false → is_orphaned t.fds c.links (length drivers) l ≡ true) c.links h.orphaned) linked where
-  each : (ls : List Link) → AllByRecursion (λ l. is_held t l ≡ false → is_orphaned t.fds c.links (length drivers) l ≡ true) ls → AllByRecursion (IsTight t) ls
-      → AllByRecursion (λ l. not (is_held t l) ≡ is_orphaned c.fds c.links (length drivers) l) ls
-  each [] a b = tt
-  each (l ∷ ls) a b =
-      (elim (cases_Bool (is_held t l)) [
-        | inl held ↦ rw held (elim (cases_Bool (is_persistent l)) [
-          | inl p ↦ rw p refl
-          | inr o ↦
-              let there : stands_within c.fds c.links (length drivers) l.ctl ≡ true = there_exists drivers c t l.ctl climbs path join sound known same (λ x up. held_below c.links (length drivers) t x h up) (all_tight t c.links none) (b.0 held o) in
-              rw (o, there) refl
-        ])
-        | inr free ↦ rw free (sym (subst (λ (fds : List Descriptor). is_orphaned fds c.links (length drivers) l ≡ true) same (a.0 free)))
-      ], each ls a.1 b.1)
+      each : (ls : List Link) → AllByRecursion (λ l. is_held t l ≡ false → is_orphaned t.fds c.links (length drivers) l ≡ true) ls → AllByRecursion (IsTight t) ls
+          → AllByRecursion (λ l. not (is_held t l) ≡ is_orphaned c.fds c.links (length drivers) l) ls
+      each [] a b = tt
+      each (l ∷ ls) a b = (
+        elim (cases_Bool (is_held t l)) [
+          | inl held ↦ rw held (elim (cases_Bool (is_persistent l)) [
+            | inl p ↦ rw p refl
+            | inr o ↦
+                let there : stands_within c.fds c.links (length drivers) l.ctl ≡ true = there_exists drivers c t l.ctl climbs path join sound known same (λ x up. held_below c.links (length drivers) t x h up) (all_tight t c.links none) (b.0 held o) in
+                rw (o, there) refl
+          ])
+          | inr free ↦ rw free (sym (subst (λ (fds : List Descriptor). is_orphaned fds c.links (length drivers) l ≡ true) same (a.0 free)))
+        ],
+        each ls a.1 b.1,
+      )
 
 -- two tests that agree on each link keep the same
 pub kept_alike : (f g : Link → Bool) (ls : List Link) → AllByRecursion (λ l. f l ≡ g l) ls → filter f ls ≡ filter g ls
@@ -275,10 +277,10 @@ left_is_linked t (l ∷ ls) h =
       | inl u ↦ rw u (and_from _ _ (tight (is_persistent l) (is_there t l.ctl) (rw u at p.0)) rest)
       | inr n ↦ rw n rest
     ] where
-  tight : (a c : Bool) → (not a && not c) ≡ false → (a || c) ≡ true
-  tight true c h = refl
-  tight false true h = refl
-  tight false false h = absurd cc
+      tight : (a c : Bool) → (not a && not c) ≡ false → (a || c) ≡ true
+      tight true c h = refl
+      tight false true h = refl
+      tight false false h = absurd cc
 
 -- the links that are left, by the ids of the others
 pub left_links : (links : List Link) (ids : List ℕ) (t : StreamTable) → IsIdsRising links → ids ≡ map (λ l. l.id) (filter (λ l. not (is_held t l)) links) → filter (λ l. not (is_one_of ids l)) links ≡ filter (is_held t) links
@@ -286,13 +288,13 @@ left_links links ids t rise e =
     ap (λ (xs : List ℕ). filter (λ l. not (is_one_of xs l)) links) e
     ∙ links_stay (is_one_of (ids_of (λ l. not (is_held t l)) links)) (λ l. not (is_held t l)) links (listed (λ l. not (is_held t l)) links rise)
     ∙ kept_alike (λ l. not (not (is_held t l))) (is_held t) links (twice links) where
-  no_no : (b : Bool) → not (not b) ≡ b
-  no_no true = refl
-  no_no false = refl
+      no_no : (b : Bool) → not (not b) ≡ b
+      no_no true = refl
+      no_no false = refl
 
-  twice : (ls : List Link) → AllByRecursion (λ l. not (not (is_held t l)) ≡ is_held t l) ls
-  twice [] = tt
-  twice (l ∷ ls) = (no_no (is_held t l), twice ls)
+      twice : (ls : List Link) → AllByRecursion (λ l. not (not (is_held t l)) ≡ is_held t l) ls
+      twice [] = tt
+      twice (l ∷ ls) = (no_no (is_held t l), twice ls)
 
 -- ---- a stream that is held once at most is released
 
@@ -343,12 +345,12 @@ below_one_less ids id s x ls h =
     any_kept (λ l. same_stream l.lower x) (λ l. not (is_one_of (ids ++ id ∷ []) l)) ls
     ∙ each ls h
     ∙ ap (λ (b : Bool). b && not (same_stream x s)) (sym (any_kept (λ l. same_stream l.lower x) (λ l. not (is_one_of ids l)) ls)) where
-  each : (ks : List Link) → AllByRecursion (IsFoundBy id s) ks
-      → list_any (λ l. same_stream l.lower x && not (is_one_of (ids ++ id ∷ []) l)) ks ≡ (list_any (λ l. same_stream l.lower x && not (is_one_of ids l)) ks && not (same_stream x s))
-  each [] k = refl
-  each (l ∷ ks) k = drop_one (same_stream l.lower x) (is_one_of ids l) (is_one_of (ids ++ id ∷ []) l) (eqb l.id id) (same_stream x s)
-      (list_any (λ m. same_stream m.lower x && not (is_one_of ids m)) ks) (list_any (λ m. same_stream m.lower x && not (is_one_of (ids ++ id ∷ []) m)) ks)
-      (one_of_more ids id l) (λ here. k.0 ∙ ap (λ (y : StreamId). same_stream y s) (stream_is l.lower x here)) (each ks k.1)
+      each : (ks : List Link) → AllByRecursion (IsFoundBy id s) ks
+          → list_any (λ l. same_stream l.lower x && not (is_one_of (ids ++ id ∷ []) l)) ks ≡ (list_any (λ l. same_stream l.lower x && not (is_one_of ids l)) ks && not (same_stream x s))
+      each [] k = refl
+      each (l ∷ ks) k = drop_one (same_stream l.lower x) (is_one_of ids l) (is_one_of (ids ++ id ∷ []) l) (eqb l.id id) (same_stream x s)
+          (list_any (λ m. same_stream m.lower x && not (is_one_of ids m)) ks) (list_any (λ m. same_stream m.lower x && not (is_one_of (ids ++ id ∷ []) m)) ks)
+          (one_of_more ids id l) (λ here. k.0 ∙ ap (λ (y : StreamId). same_stream y s) (stream_is l.lower x here)) (each ks k.1)
 
 -- a link that is found by its id, in links whose ids rise and whose lower streams are apart
 found_by : (links : List Link) (id : ℕ) (l : Link) → AreLowersApart links → IsIdsRising links → find (λ k. eqb k.id id) links ≡ Some l → All (IsFoundBy id l.lower) links
@@ -359,8 +361,8 @@ found_by links id l apart rise found = λ i d lt.
     same_test (eqb k.id id) (same_stream k.lower l.lower)
     (λ t. ap (λ (m : Link). same_stream m.lower l.lower) (by_id t) ∙ stream_self l.lower)
     (λ t. ap (λ (m : Link). eqb m.id id) (same_found k (sym (found_itself (λ n. same_stream n.lower l.lower) links i d (once_below l.lower links apart) lt t) ∙ has.1)) ∙ has.0) where
-  same_found : (k : Link) → ◌≡◌ {A = Option Link} (Some k) (Some l) → k ≡ l
-  same_found k e = cc
+      same_found : (k : Link) → ◌≡◌ {A = Option Link} (Some k) (Some l) → k ≡ l
+      same_found k e = cc
 
 -- one id more, whose link's lower stream is released
 pub released_more : (links : List Link) (ids : List ℕ) (id : ℕ) (l : Link) (t new : StreamTable) → AreLowersApart links → IsIdsRising links → find (λ k. eqb k.id id) links ≡ Some l
@@ -368,17 +370,17 @@ pub released_more : (links : List Link) (ids : List ℕ) (id : ℕ) (l : Link) (
 released_more links ids id l t new apart rise found held h = λ x.
     let less = below_one_less ids id l.lower x links (recursion_from_All (IsFoundBy id l.lower) links (found_by links id l apart rise found)) in
     h.holds x ∙ by x (same_stream x l.lower) ∙ ap (λ (b : Bool). if b then 1 else 0) (sym less) where
-  none_of : (b : Bool) → ◌≡◌ {A = ℕ} 0 (if (b && false) then 1 else 0)
-  none_of true = refl
-  none_of false = refl
+      none_of : (b : Bool) → ◌≡◌ {A = ℕ} 0 (if (b && false) then 1 else 0)
+      none_of true = refl
+      none_of false = refl
 
-  all_of : (b : Bool) → ◌≡◌ {A = ℕ} (if b then 1 else 0) (if (b && true) then 1 else 0)
-  all_of true = refl
-  all_of false = refl
+      all_of : (b : Bool) → ◌≡◌ {A = ℕ} (if b then 1 else 0) (if (b && true) then 1 else 0)
+      all_of true = refl
+      all_of false = refl
 
-  by : (x : StreamId) (v : Bool) → (if v then 0 else number_at t.holds x) ≡ (if (is_below (without ids links) x && not v) then 1 else 0)
-  by x true = none_of (is_below (without ids links) x)
-  by x false = held x ∙ all_of (is_below (without ids links) x)
+      by : (x : StreamId) (v : Bool) → (if v then 0 else number_at t.holds x) ≡ (if (is_below (without ids links) x && not v) then 1 else 0)
+      by x true = none_of (is_below (without ids links) x)
+      by x false = held x ∙ all_of (is_below (without ids links) x)
 
 -- one id more, which no link has
 pub released_none : (links : List Link) (ids : List ℕ) (id : ℕ) (t : StreamTable) → find (λ k. eqb k.id id) links ≡ None → AreHeld (without ids links) t → AreHeld (without (ids ++ id ∷ []) links) t

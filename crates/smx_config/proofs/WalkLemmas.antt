@@ -47,9 +47,9 @@ pub lines_more : {Y : Type 0} (f : Descriptor → Y) (fds : List Descriptor) (li
     → lines ++ map f (left_of fds (Some d)) ≡ all → (lines ++ f d ∷ []) ++ map f (left_of fds next) ≡ all
 lines_more {Y = Y} f fds lines d next all h e =
     append_one lines (f d) (map f (left_of fds next)) ∙ ap (λ (ds : List Descriptor). lines ++ f d ∷ map f ds) (left_is fds d.process (d.fd + 1) next h) ∙ e where
-  append_one : (xs : List Y) (y : Y) (ys : List Y) → (xs ++ y ∷ []) ++ ys ≡ xs ++ y ∷ ys
-  append_one [] y ys = refl
-  append_one (x ∷ xs) y ys = ap (λ (zs : List Y). x ∷ zs) (append_one xs y ys)
+      append_one : (xs : List Y) (y : Y) (ys : List Y) → (xs ++ y ∷ []) ++ ys ≡ xs ++ y ∷ ys
+      append_one [] y ys = refl
+      append_one (x ∷ xs) y ys = ap (λ (zs : List Y). x ∷ zs) (append_one xs y ys)
 
 -- fewer are left
 pub fewer_left : (fds : List Descriptor) (d : Descriptor) (next : Option Descriptor) → IsNext fds d.process (d.fd + 1) next → length (left_of fds next) < length (left_of fds (Some d))
@@ -64,11 +64,11 @@ pub no_line_more : {Y : Type 0} (f : Descriptor → Y) (fds : List Descriptor) (
 no_line_more {Y = Y} f fds lines i lt e same =
     let short = ap length (sym (append_none (take i lines)) ∙ e ∙ sym same) in
     omega (arith, lt, short, take_short i lines) where
-  take_short : (n : ℕ) (xs : List Y) → length (take n xs) ≤ n
-  take_short zero [] = omega arith
-  take_short zero (x ∷ xs) = omega arith
-  take_short (suc n) [] = omega arith
-  take_short (suc n) (x ∷ xs) = omega (arith, take_short n xs)
+      take_short : (n : ℕ) (xs : List Y) → length (take n xs) ≤ n
+      take_short zero [] = omega arith
+      take_short zero (x ∷ xs) = omega arith
+      take_short (suc n) [] = omega arith
+      take_short (suc n) (x ∷ xs) = omega (arith, take_short n xs)
 
 -- the line is that of the next descriptor
 pub line_is : {Y : Type 0} (f : Descriptor → Y) (fds : List Descriptor) (lines : List Y) (i : ℕ) (d : Descriptor) (y : Y) → i < length lines → take i lines ++ map f (left_of fds (Some d)) ≡ map f fds → lines ≡ map f fds → y ≡ get_or lines i y → y ≡ f d

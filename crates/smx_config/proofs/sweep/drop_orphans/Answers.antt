@@ -43,7 +43,7 @@ returns-clause-value c =
     let t = c.release_orphans.new.streams in
     let goes = is_orphaned c.args.lists.now.streams.fds links n in
     let alike = released_are_orphaned c.args.drivers.now (configuration_of c.args.lists.now) t c.climbs_suffice.ensures c.reaches_is_path.ensures c.paths_join.ensures c.is_sound.ensures.sound c.requires.known
-        c.release_orphans.ensures.fds (c.release_orphans.ensures.releasing n (starts links n c.args.lists.now.streams c.requires.kept.held)) c.release_orphans.ensures.none in
+    c.release_orphans.ensures.fds (c.release_orphans.ensures.releasing n (starts links n c.args.lists.now.streams c.requires.kept.held)) c.release_orphans.ensures.none in
     c.drop_links.ensures.value goes (c.deref.ensures.value ∙ c.released_links-gone.ensures ∙ ap (map (λ (l : Link). l.id)) (kept_alike _ goes links alike)) ∙ rw c.release_orphans.ensures.fds refl
 
 pub returns-clause-kept : goal.returns-clause-kept
@@ -52,7 +52,7 @@ returns-clause-kept c =
     let t = c.release_orphans.new.streams in
     let left = c.drop_links.ensures.links ∙ left_links links _ t c.is_sound.ensures.ids.rise (c.deref.ensures.value ∙ c.released_links-gone.ensures) in
     let held =
-        subst (λ (ls : List Link). AreHeld ls c.drop_links.new.lists.streams) (sym left)
-        (subst (λ (u : StreamTable). AreHeld (filter (is_held t) links) u) (sym c.drop_links.ensures.streams)
-        (held_is_left links (length c.args.drivers.now) t (c.release_orphans.ensures.releasing (length c.args.drivers.now) (starts links (length c.args.drivers.now) c.args.lists.now.streams c.requires.kept.held)))) in
+    subst (λ (ls : List Link). AreHeld ls c.drop_links.new.lists.streams) (sym left)
+    (subst (λ (u : StreamTable). AreHeld (filter (is_held t) links) u) (sym c.drop_links.ensures.streams)
+    (held_is_left links (length c.args.drivers.now) t (c.release_orphans.ensures.releasing (length c.args.drivers.now) (starts links (length c.args.drivers.now) c.args.lists.now.streams c.requires.kept.held)))) in
     record { held = held; marks_room = c.drop_links.ensures.room; marks = c.drop_links.ensures.marks }
