@@ -1,8 +1,6 @@
 //! Tables of streams: descriptors in order, and all of a process closed at once.
 
-ghost use Rattle.std.specs.Prelude.{◌≡◌};
-
-use crate::tests::stream_tables::{Act, do_acts};
+use super::stream_tables::{Act, do_acts};
 use smx_streams::Streams;
 use smx_types::{Descriptor, Process};
 use std::process::Abort;
@@ -47,6 +45,10 @@ fn an_exit_closes_all_of_its_process(rt: HostRuntime) -> Result<(), Fail> {
     table.close_process(process(&rt, 5));
     assert_eq!(rt; numbers(table.first_fd()), Some((2, 0)));
     assert_eq!(rt; numbers(table.next_fd(process(&rt, 2), 1)), None);
-    do_acts(&rt, &mut table, &[Act::Exists((0, 0), false), Act::Exists((0, 1), true)]);
+    do_acts(
+        &rt,
+        &mut table,
+        &[Act::Exists((0, 0), false), Act::Exists((0, 1), true)],
+    );
     Ok(())
 }
