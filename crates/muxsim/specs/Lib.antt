@@ -1,10 +1,1 @@
-pub mod Statuses
-pub mod Input
-pub mod Output
 pub mod Jobs
-pub mod Filters
-pub mod FrontsText
-pub mod RunText
-pub mod CheckText
-pub mod WorkedVerdicts
-pub mod InMemory

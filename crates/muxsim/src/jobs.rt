@@ -1,9 +1,4 @@
-//! The jobs that the program does, and what comes of them.
-
-ghost use Rattle.std.specs.Prelude.{◌≡◌};
-ghost use Rattle.muxsim.specs.Statuses.{status_of_done};
-
-use smx_config::Verdict;
+//! The jobs that the program does.
 
 /// What the program is asked to do.
 #[derive(Clone, Copy, Debug, PartialEq, Eq)]
@@ -17,26 +12,4 @@ pub enum Job {
     },
     /// To judge the transcript of the input and to write the verdict.
     Check,
-}
-
-/// What the program has done.
-#[derive(Clone, Copy, Debug, PartialEq, Eq)]
-pub enum Done {
-    /// All that it was asked: a transcript, fronts, help or the version was written.
-    Finished,
-    /// It has judged a transcript, and written the verdict.
-    Judged(Verdict),
-}
-
-impl Done {
-    /// The program's exit status: 4 for the verdict that a history is illegal or that its
-    /// configuration differs, else 0. Takes no memory.
-    pub fn status(&self) -> u8
-        ensures { result ≡ status_of_done self.now }
-    {
-        match self {
-            Done::Finished | Done::Judged(Verdict::Legal) => 0,
-            Done::Judged(Verdict::Illegal { .. } | Verdict::ConfigDiffers) => 4,
-        }
-    }
 }

@@ -1,31 +1,21 @@
 //! Runs programs against a STREAMS multiplexer and writes the transcript, or judges a transcript.
 #![tactic(auto)]
 
-mod check;
 mod command_line;
-mod device;
-mod fault;
-mod fronts_text;
-mod input;
 mod jobs;
-mod laws_of_filters;
-mod output;
 #[cfg(test)]
 mod tests;
-mod text;
 
 ghost use Rattle.std.specs.Prelude.{◌≡◌, ◌≢◌, ◌≤◌, ◌⊎◌, false};
 ghost use Rattle.std.specs.IoError.{error_kind};
 ghost use Rattle.std.specs.Process.{exit_status};
 ghost use Rattle.clap.specs.Values.{kind_of};
-ghost use Rattle.muxsim.specs.Statuses.{status_of_outcome};
+ghost use Rattle.smx_filters.specs.Statuses.{status_of_outcome};
 
-use check::check_text;
 use clap::error::ErrorKind;
 use command_line::job;
-use device::{Source, Target};
-use fault::MainFault;
-use jobs::{Done, Job};
+use jobs::Job;
+use smx_filters::{Done, MainFault, Source, Target, check_text, run_text};
 use smx_run::{NoGate, RunFault};
 use std::alloc::Global;
 use std::io::{ErrorKind as IoKind, Stdin, Stdout};
@@ -33,7 +23,6 @@ use std::process::ExitCode;
 use std::sync::Wait;
 use std::thread::Threads;
 use std::{env, io};
-use text::run_text;
 
 /// Does what the words ask for. The exit status is 0 where that was done, also for help and the
 /// version; 1 where a run or a check is refused, also for want of memory; 2 where the words are

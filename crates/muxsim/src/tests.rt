@@ -1,15 +1,3 @@
-//! Tests, and the devices of tests.
+//! Tests of the words of the command line.
 
-mod broken;
-mod broken_checks;
-mod checks;
-mod damaged;
-mod devices;
-mod faults;
-mod limits;
-mod reading;
-mod runs;
-mod tried_again;
 mod words;
-mod workers;
-mod writing;

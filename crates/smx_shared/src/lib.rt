@@ -9,6 +9,7 @@ mod hold;
 pub mod laws_of_calls;
 pub mod laws_of_systems;
 pub mod laws_of_the_turn;
+mod parked;
 mod seat;
 mod seat_view;
 mod shared;

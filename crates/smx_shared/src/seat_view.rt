@@ -1,5 +1,6 @@
 //! What is kept of each seat in the proofs, the rule of the turn, and the kinds of step that keep it.
 
+use crate::parked::Parked;
 use crate::system::System;
 use atomic_table::{Join, Play, Split, TableRule};
 use smx_types::{DriverSpec, Entry};
@@ -56,7 +57,7 @@ pub struct Start {
     pub processes: usize,
 }
 
-impl TableRule<Option<System>, SeatView, Start> for OneTurn {
+impl TableRule<Option<Parked>, SeatView, Start> for OneTurn {
     ghost use Rattle.smx_shared.specs.TurnRule.{TurnRule};
     ghost use Rattle.smx_shared.specs.SeatViews.{opened};
 
@@ -68,7 +69,7 @@ impl TableRule<Option<System>, SeatView, Start> for OneTurn {
 /// A load of the first word.
 pub struct Look;
 
-impl Play<Option<System>, SeatView> for Look {
+impl Play<Option<Parked>, SeatView> for Look {
     ghost use Rattle.smx_shared.specs.SeatViews.{Looked};
 
     ghost then = { Looked };
@@ -77,7 +78,7 @@ impl Play<Option<System>, SeatView> for Look {
 /// The turn bit of the first word is set, and the word that was found is answered.
 pub struct Take;
 
-impl Play<Option<System>, SeatView> for Take {
+impl Play<Option<Parked>, SeatView> for Take {
     ghost use Rattle.smx_shared.specs.SeatViews.{Taken};
 
     ghost then = { Taken };
@@ -86,7 +87,7 @@ impl Play<Option<System>, SeatView> for Take {
 /// A store of the first word, by which the turn is given back.
 pub struct Publish;
 
-impl Play<Option<System>, SeatView> for Publish {
+impl Play<Option<Parked>, SeatView> for Publish {
     ghost use Rattle.smx_shared.specs.SeatViews.{Published};
 
     ghost then = { Published };
@@ -95,7 +96,7 @@ impl Play<Option<System>, SeatView> for Publish {
 /// The second word is counted up, and the name that was found there is taken.
 pub struct Call;
 
-impl Play<Option<System>, SeatView> for Call {
+impl Play<Option<Parked>, SeatView> for Call {
     ghost use Rattle.smx_shared.specs.SeatViews.{Called};
 
     ghost then = { Called };

@@ -9,6 +9,7 @@ ghost use Rattle.smx_shared.specs.Seats.{shared_as};
 ghost use Rattle.smx_shared.specs.SeatViews.{opened, dealt, left, called, known_of, system_of, IsAtRest, IsInformed, RestsAfter, HasTurn, HasGrown, HasMet, FoundWord, IsWordFrom, AddsFor};
 
 use crate::fault::ApplyFault;
+use crate::parked::Parked;
 use crate::seat_view::{Call, Deal, Look, Meet, OneTurn, Publish, SeatView, Start, Take};
 use crate::system::System;
 use atomic_table::Table;
@@ -20,12 +21,12 @@ use std::thread;
 use std::time::Duration;
 
 /// A seat as the table knows it.
-pub type Token = atomic_table::Seat<Option<System>, SeatView>;
+pub type Token = atomic_table::Seat<Option<Parked>, SeatView>;
 
 /// Two words and a slot: the front with the turn bit, the names given, and the system.
 #[derive(Drop)]
 pub struct TurnTable {
-    pub table: Table<Option<System>, SeatView, Start, OneTurn, Global>,
+    pub table: Table<Option<Parked>, SeatView, Start, OneTurn, Global>,
     pub ghost sized: { (table.shared.table_id.words ≡ 2) × (table.shared.table_id.slots ≡ 1) },
 }
 
@@ -71,8 +72,9 @@ impl TurnTable {
             processes,
         };
         let front = front_word(&system);
+        let parked = Parked::park(alloc, system)?;
         let mut slots = Vec::with_capacity(alloc, 1)?;
-        slots.push_reserved(Some(system));
+        slots.push_reserved(Some(parked));
         match Table::new(alloc, &[front, 0], slots, &about) {
             Ok((table, token)) => Ok((TurnTable { table }, token)),
             Err(_) => Err(NoMemory),
@@ -158,7 +160,7 @@ impl TurnTable {
     }
 
     // The system out of its slot, by the seat that has the turn.
-    fn take_out(&self, token: &mut Token) -> System
+    fn take_out(&self, token: &mut Token) -> Parked
         requires table { token.old.table_id ≡ self.now.table.shared.table_id }
         requires turn { HasTurn token.old.me (Some (system_of token.old.me.0)) }
         ensures table { token.new.table_id ≡ token.old.table_id }
@@ -172,7 +174,7 @@ impl TurnTable {
     }
 
     // The system goes back into its slot, and then the turn, with the word of just that system.
-    fn give_back(&self, token: &mut Token, system: System)
+    fn give_back(&self, token: &mut Token, system: Parked)
         requires table { token.old.table_id ≡ self.now.table.shared.table_id }
         requires turn { HasTurn token.old.me None × (token.old.me.0.named ≡ true) }
         requires same { (system.drivers ≡ token.old.me.0.drivers) × (system.limit ≡ token.old.me.0.limit) }
@@ -181,7 +183,7 @@ impl TurnTable {
         ensures rest { RestsAfter token.old.me.0 token.new.me }
         ensures seen { token.new.me.0.seen ≡ system.history }
     {
-        let front = front_word(&system);
+        let front = front_word(system.system());
         self.table.shared.exchange(token, SYSTEM, Some(system));
         self.table.shared.store::<Publish>(token, FRONT, front);
     }
@@ -257,7 +259,7 @@ impl TurnTable {
             return Err(word);
         }
         match slot {
-            Some(system) => Ok(system),
+            Some(system) => Ok(system.into_system()),
             None => unreachable!(),
         }
     }

@@ -1,9 +1,0 @@
-use Rattle.std.proofs.Common.{◌≡◌, ◌++◌, take}
-use Rattle.muxsim.specs.FrontsText.{fronts_header, front_lines}
-use Rattle.muxsim.proofs.fronts_text.fronts_text.Given as goal
-
-abbrev pub invariant-loop-front : goal.invariant-loop-front
-invariant-loop-front l = record {
-  process : l.process ≡ l.front-index;
-  text : l.text.items ≡ fronts_header ++ front_lines 0 (take l.front-index l.fronts);
-}

@@ -1,0 +1,5 @@
+//! Tests of the filters that go by their public calls alone.
+#![tactic(auto)]
+
+#[cfg(test)]
+mod tests;

@@ -1,0 +1,14 @@
+//! Tests, and the devices of tests.
+
+mod broken;
+mod broken_checks;
+mod checks;
+mod damaged;
+mod devices;
+mod faults;
+mod limits;
+mod reading;
+mod runs;
+mod tried_again;
+mod workers;
+mod writing;

@@ -1,0 +1,64 @@
+-- What a filter says where nothing comes of the bytes that it read.
+use Rattle.std.proofs.Common.{◌≡◌, ◌≢◌, ℕ, List, Option, Some, None, Bool, Result, Ok, Err, Vec, sym, subst, rules, arith, inl}
+use Rattle.std.specs.Prelude.{IsErrAnd, IsErrOf}
+use Rattle.std.specs.Global.{Global}
+use Rattle.std.specs.Io.KnownBytes.{Keeps}
+use Rattle.smx_text.specs.Grammar.{IsFault}
+use Rattle.smx_text.specs.declared.fault.TextFault.{TextFault}
+use Rattle.smx_run.specs.declared.fault.RunFault.{RunFault}
+use Rattle.smx_filters.specs.declared.fault.MainFault.{MainFault}
+use Rattle.smx_filters.specs.declared.fault.MainFault.TheVariants.{Refused, Text, TooLong, ReadFailed, WriteFailed}
+use Rattle.smx_filters.specs.Filters.{Filter, Answers, FiltersText, RefusesFor}
+use Rattle.smx_filters.specs.Input.{IsInput, IsWhole}
+use Rattle.smx_filters.specs.RunText.{items_of, running}
+
+-- known bytes that stay are kept
+kept : (known : Option (List ℕ)) → Keeps known known
+kept None = search rules
+kept (Some bytes) = search rules
+
+-- an error is the one that it is
+fault_of : {T : Type 0} {e f : MainFault} → IsErrOf {T = T} (Err e) f → e ≡ f
+fault_of is = cc
+
+module _ {V K T : Type 0} (filter : Filter V K T) (had left : Option (List ℕ)) (ended : Bool) (failures : ℕ) (held : Option (List ℕ)) (flushed : Bool) (written : ℕ) (v : Vec ℕ Global) (read : List ℕ) (h : IsInput had left ended failures (Ok v) read) (fine : written ≡ 0) where
+  -- the part that every such fault has
+  said : (e : MainFault) → e ≢ TooLong → e ≢ ReadFailed → e ≢ WriteFailed → ((f : TextFault) → e ≡ Text f → IsFault filter.grammar read f.line f.cause) → ((f : RunFault) → e ≡ Refused f → RefusesFor filter read f)
+      → FiltersText filter had left ended failures held held flushed written (Err e)
+  said e not_long not_read not_written text refused = record {
+    read = read;
+    consumed = h.consumed;
+    few = h.few;
+    done = tt;
+    text = λ f is. (whole, text f is);
+    refused = λ f is. inl (whole, refused f is);
+    too_long = (λ is. absurd (not_long (fault_of is)), λ long. let over : ok ≡ Err TooLong = h.too_long.1 long in absurd cc);
+    read_failed = (λ is. absurd (not_read (fault_of is)), λ failed. let broken : ok ≡ Err ReadFailed = h.read_failed.1 failed in absurd cc);
+    write_failed = (λ is. absurd (not_written (fault_of is)), λ failed. absurd (omega arith));
+    cut_short = λ is. absurd (not_written is);
+    unwritten = λ differs. kept held;
+  } where
+    whole : IsWhole had ended read
+    whole = h.whole
+
+    ok : Result (Vec ℕ Global) MainFault
+    ok = Ok v
+
+  at_answer : (e : MainFault) → Answers filter v.items (Err e) → FiltersText filter had left ended failures held held flushed written (Err e)
+  at_answer (Text f) a = said (Text f) (λ is. cc) (λ is. cc) (λ is. cc) (λ g is. let same : f ≡ g = cc in subst (λ (x : TextFault). IsFault filter.grammar read x.line x.cause) same (subst (λ (bytes : List ℕ). IsFault filter.grammar bytes f.line f.cause) h.answered a)) (λ g is. absurd cc)
+  at_answer (Refused f) a = said (Refused f) (λ is. cc) (λ is. cc) (λ is. cc) (λ g is. absurd cc) (λ g is. let same : f ≡ g = cc in subst (λ (x : RunFault). RefusesFor filter read x) same (subst (λ (bytes : List ℕ). RefusesFor filter bytes f) h.answered a))
+  at_answer TooLong a = absurd a
+  at_answer ReadFailed a = absurd a
+  at_answer WriteFailed a = absurd a
+
+  -- and a `?` passes the fault on as it is
+  pub passed_on : (e : MainFault) (answer : Result T MainFault) → IsErrAnd answer (λ f. f ≡ e) → Answers filter v.items (Err e) → FiltersText filter had left ended failures held held flushed written answer
+  passed_on e (Ok x) is a = absurd is
+  passed_on e (Err f) is a = subst (λ (x : MainFault). FiltersText filter had left ended failures held held flushed written (Err x)) (sym is) (at_answer e a)
+
+-- where the text is refused, its fault is the answer of a run
+pub text_refused : (fronts : Bool) (bytes input : List ℕ) → bytes ≡ input → (f : TextFault) (answer : Result (Vec ℕ Global) MainFault) → IsErrAnd answer (λ e. e ≡ Text f) → IsFault (running fronts).grammar bytes f.line f.cause
+    → Answers (running fronts) input (items_of answer)
+text_refused fronts bytes input same f (Ok v) is a = absurd is
+text_refused fronts bytes input same f (Err e) is a =
+    subst (λ (x : MainFault). Answers (running fronts) input (Err x)) (sym is) (subst (λ (given : List ℕ). IsFault (running fronts).grammar given f.line f.cause) same a)

@@ -1,0 +1,72 @@
+-- What a filter says of an input in memory.
+use Rattle.std.proofs.Common.{◌≡◌, ◌≢◌, ℕ, ◌+◌, ◌≤◌, ◌<◌, ltb, Bool, List, [], ◌++◌, length, drop, Some, Result, Ok, Err, sym, ap, ◌∙◌, arith, inl, inr, length-append, refl}
+use Rattle.std.proofs.lemmas.Bool.{cases_Bool}
+use Rattle.std.proofs.lemmas.Bool.Decides.{nat_tests}
+use Rattle.std.proofs.lemmas.List.{drop_at, nil_from_length}
+use Rattle.smx_filters.specs.Filters.{Filter, FiltersText, RefusesFor}
+use Rattle.smx_filters.specs.InMemory.{EndsInMemory, IsCutShort}
+use Rattle.smx_filters.specs.declared.fault.MainFault.{MainFault}
+use Rattle.smx_filters.specs.declared.fault.MainFault.TheVariants.{Refused, Text, TooLong, ReadFailed, WriteFailed}
+use Rattle.smx_filters.specs.declared.input.TheConstants.{MAX_INPUT}
+
+-- of a whole input nothing is left
+none_left : (input read left : List ℕ) → input ≡ read ++ left → input ≡ read → left ≡ []
+none_left input read left had whole =
+    nil_from_length left (omega (arith, length-append read left, ap (length {A = ℕ}) (sym had ∙ whole)))
+
+module _ {V K T : Type 0} (f : Filter V K T) (input left output : List ℕ) (ended flushed : Bool) where
+  -- by devices that don't fail
+  abbrev Filtered : Result T MainFault → Type 0
+  Filtered answer = FiltersText f (Some input) (Some left) ended 0 (Some []) (Some output) flushed 0 answer
+
+  -- an answer that is not TooLong is of an input that is short enough
+  short : (answer : Result T MainFault) → (h : Filtered answer) → answer ≢ Err TooLong → input ≡ h.read → length input ≤ MAX_INPUT
+  short answer h other whole = elim (cases_Bool (ltb MAX_INPUT (length h.read))) [
+    | inl t ↦ absurd (other (h.too_long.1 (grind (arith, nat_tests))))
+    | inr f ↦ let few : length h.read ≤ MAX_INPUT = grind (arith, nat_tests) in rw whole few
+  ]
+
+  -- what it says
+  pub ends : (answer : Result T MainFault) → Filtered answer → EndsInMemory f input left output flushed answer
+  ends (Ok a) h =
+      let (whole, is_flushed, bytes, gives, out) = h.done in
+      (short (Ok a) h (λ e. cc) whole.1, none_left input h.read left h.consumed whole.1, is_flushed, rw (whole.1, out) gives)
+  ends (Err (Text fault)) h =
+      let told = h.text fault refl in
+      (short _ h (λ e. cc) told.0.1, none_left input h.read left h.consumed told.0.1, h.unwritten (λ e. cc), rw told.0.1 told.1)
+  ends (Err (Refused fault)) h = (
+    elim (h.refused fault refl) [
+      | inl told ↦ inl (short _ h (λ e. cc) told.0.1, rw told.0.1 told.1)
+      | inr none ↦ inr none.0
+    ],
+    h.unwritten (λ e. cc),
+  )
+  ends (Err TooLong) h =
+      let long = h.too_long.0 refl in
+      let count : length h.read ≡ MAX_INPUT + 1 = omega (arith, long, h.few) in (
+        omega (arith, long, ap (length {A = ℕ}) h.consumed, length-append h.read left),
+        sym (ap (drop (MAX_INPUT + 1)) h.consumed ∙ drop_at h.read left (MAX_INPUT + 1) count),
+        h.unwritten (λ e. cc),
+      )
+  ends (Err ReadFailed) h = absurd (omega (arith, h.read_failed.0 refl))
+  ends (Err WriteFailed) h = absurd (omega (arith, h.write_failed.0 refl))
+
+  -- where the reader fails
+  pub unread : (answer : Result T MainFault)
+      → FiltersText f (Some input) (Some left) ended 1 (Some []) (Some output) flushed 0 answer
+      → (answer ≡ Err ReadFailed) × (output ≡ [])
+  unread (Ok a) h = let told : Ok a ≡ Err ReadFailed = h.read_failed.1 refl in absurd cc
+  unread (Err e) h =
+      let told : Err e ≡ Err ReadFailed = h.read_failed.1 refl in
+      (told, h.unwritten (λ is. cc))
+
+  -- where the writer fails
+  pub cut_short : (answer : Result T MainFault)
+      → FiltersText f (Some input) (Some left) ended 0 (Some []) (Some output) flushed 1 answer
+      → IsCutShort f input output answer
+  cut_short (Ok a) h = let told : Ok a ≡ Err WriteFailed = h.write_failed.1 refl in absurd cc
+  cut_short (Err e) h =
+      let told : Err e ≡ Err WriteFailed = h.write_failed.1 refl in
+      let is : e ≡ WriteFailed = cc in
+      let (whole, given, bytes, gives, beginning) = h.cut_short is in
+      record { told = told; given = given; whole = bytes; gives = rw whole.1 gives; count = beginning.0; beginning = beginning.1 }

@@ -1,0 +1,9 @@
+pub mod Statuses
+pub mod Input
+pub mod Output
+pub mod Filters
+pub mod FrontsText
+pub mod RunText
+pub mod CheckText
+pub mod WorkedVerdicts
+pub mod InMemory

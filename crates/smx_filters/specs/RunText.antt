@@ -1,0 +1,56 @@
+-- The headline over bytes: what a run says of the bytes that it read, and what it writes.
+use Rattle.std.specs.Prelude.{◌≡◌, ℕ, Bool, true, false, List, Option, Result, Vec, Ok, Err}
+use Rattle.std.specs.Global.{Global}
+use Rattle.smx_types.specs.ProgramLists.{ProgramLists}
+use Rattle.smx_types.specs.declared.transcript.Transcript.{Transcript}
+use Rattle.smx_model.specs.Headline.{IsReportOf}
+use Rattle.smx_run.specs.Fronts.{AreFrontsFrom}
+use Rattle.smx_shared.specs.declared.front.Front.{Front}
+use Rattle.smx_text.specs.ProgramLines.{Line}
+use Rattle.smx_text.specs.ProgramsText.{programs_grammar}
+use Rattle.smx_text.specs.TranscriptText.{SpellsTranscript}
+use Rattle.smx_filters.specs.Filters.{Filter, FiltersText}
+use Rattle.smx_filters.specs.FrontsText.{fronts_text}
+use Rattle.smx_filters.specs.declared.fault.MainFault.{MainFault}
+
+-- the transcript of a report that is promised for the programs
+pub record IsTranscriptFor (programs : ProgramLists) (output : List ℕ) : Type 0 where
+  -- There is a report that is promised for these programs.
+  pub report : Transcript
+  pub promised : IsReportOf programs report
+  -- The output is its transcript, and nothing else.
+  pub written : SpellsTranscript output report
+
+-- the fronts of such a report
+pub record IsFrontsTextFor (programs : ProgramLists) (output : List ℕ) : Type 0 where
+  -- There is a report that is promised for these programs,
+  pub report : Transcript
+  pub promised : IsReportOf programs report
+  -- and one front for each program, that of a beginning of its history which holds all commands of the program.
+  pub fronts : List Front
+  pub seen : AreFrontsFrom report.drivers report.entries 0 programs.programs fronts
+  -- The output is their text, and nothing else.
+  pub written : output ≡ fronts_text fronts
+
+-- what a run writes: the fronts, or the transcript
+abbrev pub IsWrittenFor : Bool → ProgramLists → List ℕ → Type 0
+IsWrittenFor true programs output = IsFrontsTextFor programs output
+IsWrittenFor false programs output = IsTranscriptFor programs output
+
+-- a run reads programs and writes the fronts or the transcript of a report; that it is done is all that it answers
+abbrev pub running : Bool → Filter ProgramLists Line (Unit {0})
+running fronts = record {
+  grammar = programs_grammar;
+  drivers_of = λ programs. programs.drivers;
+  Gives = λ programs done output. IsWrittenFor fronts programs output;
+}
+
+-- an answer of the text alone, with the vector as the list of its bytes
+abbrev pub items_of : Result (Vec ℕ Global) MainFault → Result (Unit {0} × List ℕ) MainFault
+items_of (Ok v) = Ok (tt, v.items)
+items_of (Err e) = Err e
+
+-- a run from bytes to bytes
+abbrev pub RunsText : Bool → Option (List ℕ) → Option (List ℕ) → Bool → ℕ
+    → Option (List ℕ) → Option (List ℕ) → Bool → ℕ → Result (Unit {0}) MainFault → Type 0
+RunsText fronts = FiltersText (running fronts)

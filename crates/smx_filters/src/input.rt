@@ -1,0 +1,62 @@
+//! Reading the whole input.
+
+ghost use Rattle.std.specs.Prelude.{◌≡◌, ℕ, ◌+◌, ◌<◌, ◌≤◌, List, false, length, take, OnOk, vec_len};
+ghost use Rattle.smx_filters.specs.Input.{IsInput};
+
+use crate::device::Feed;
+use crate::fault::MainFault;
+use std::alloc::{AllocError, Global};
+
+/// The most bytes that an input may have.
+pub const MAX_INPUT: usize = 16_777_216;
+
+// Room grows by as much as was read, but by no less and no more than this.
+const LEAST_PIECE: usize = 65_536;
+
+const MOST_PIECE: usize = 1_048_576;
+
+/// All bytes up to the end of the feed, which a read of none shows. `TooLong` comes exactly where
+/// more than `MAX_INPUT` bytes were read, and `ReadFailed` exactly where a read failed; else
+/// memory was wanting before the end was seen. Asks for room for `MAX_INPUT` bytes and one at most.
+/// Each read but the last adds a byte at least, so there are at most `MAX_INPUT` and one of them.
+pub fn read_all<F: Feed>(alloc: Global, feed: &mut F) -> Result<Vec<u8>, MainFault>
+    requires before_the_end { F.ended feed.old ≡ false }
+    requires fine_so_far { F.failures feed.old ≡ 0 }
+    ensures { (read : List ℕ) × IsInput (F.remaining feed.old) (F.remaining feed.new)
+        (F.ended feed.new) (F.failures feed.new) result read }
+{
+    let mut all = Vec::new(alloc);
+    let mut count = 0usize;
+    'reads: loop {
+        make_room(&mut all, count)?;
+        let Ok(n) = feed.read(&mut all[count..]) else {
+            return Err(MainFault::ReadFailed);
+        };
+        if n == 0 {
+            all.truncate(count);
+            return Ok(all);
+        }
+        count += n;
+        if count > MAX_INPUT {
+            return Err(MainFault::TooLong);
+        }
+    }
+}
+
+// Room behind the first `count` bytes, which stay.
+fn make_room(all: &mut Vec<u8>, count: usize) -> Result<(), AllocError>
+    requires within { count ≤ vec_len all.old }
+    requires few { count ≤ MAX_INPUT }
+    requires most { vec_len all.old ≤ MAX_INPUT + 1 }
+    ensures room { OnOk result (count < vec_len all.new) }
+    ensures most { vec_len all.new ≤ MAX_INPUT + 1 }
+    ensures kept { OnOk result (take count all.new.items ≡ take count all.old.items) }
+{
+    let len = all.len();
+    if count < len {
+        return Ok(());
+    }
+    let piece = len.clamp(LEAST_PIECE, MOST_PIECE).min(MAX_INPUT + 1 - len);
+    all.reserve_exact(piece)?;
+    all.resize(len + piece, 0)
+}

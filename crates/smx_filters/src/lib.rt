@@ -1,0 +1,20 @@
+//! Filters: what runs programs, and what judges a transcript, from bytes to bytes.
+#![tactic(auto)]
+
+mod check;
+mod device;
+mod done;
+mod fault;
+mod fronts_text;
+mod input;
+pub mod laws_of_filters;
+mod output;
+mod text;
+
+pub use check::check_text;
+pub use device::{Failed, Feed, Sink, Source, Target};
+pub use done::Done;
+pub use fault::MainFault;
+pub use input::{MAX_INPUT, read_all};
+pub use output::write_all;
+pub use text::run_text;

@@ -1,0 +1,64 @@
+//! A run from bytes to bytes.
+
+ghost use Rattle.std.specs.Prelude.{◌≡◌, ◌≤◌, false, Result};
+ghost use Rattle.smx_filters.specs.Filters.{Answers};
+ghost use Rattle.smx_filters.specs.RunText.{RunsText, items_of, running};
+
+use crate::device::{Feed, Sink};
+use crate::fault::MainFault;
+use crate::fronts_text::fronts_text;
+use crate::input::read_all;
+use crate::output::write_all;
+use smx_run::{Gate, run_programs};
+use smx_text::{read_programs, write_transcript_into};
+use std::alloc::Global;
+use std::sync::Wait;
+use std::thread::Threads;
+
+/// Reads the programs that `feed` has, has them run by so many workers, and writes the transcript of the run
+/// to `sink`, or with `fronts` how far the history had come when each program had ended. Process p is run by worker p modulo `workers`, which is 1 to 64; each worker has a thread of its own
+/// where there are several, and tells the gate of each command. Neither device has failed before, and no read
+/// has shown the end. Faults are found in this order: reading, text, drivers, run,
+/// writing.
+pub fn run_text<R: Threads + Wait + Sync, F: Feed, S: Sink, G: Gate + Sync>(
+    rt: &R,
+    alloc: Global,
+    feed: &mut F,
+    sink: &mut S,
+    workers: usize,
+    fronts: bool,
+    gate: &G,
+) -> Result<(), MainFault>
+    requires before_the_end { F.ended feed.old ≡ false }
+    requires fed { F.failures feed.old ≡ 0 }
+    requires sunk { S.failures sink.old ≡ 0 }
+    requires workers { (1 ≤ workers) × (workers ≤ 64) }
+    ensures { RunsText fronts (F.remaining feed.old) (F.remaining feed.new) (F.ended feed.new)
+        (F.failures feed.new) (S.contents sink.old) (S.contents sink.new) (S.flushed sink.new)
+        (S.failures sink.new) result }
+{
+    let input = read_all(alloc, feed)?;
+    let output = text_for(rt, alloc, input, workers, fronts, gate)?;
+    write_all(sink, output.as_slice())
+}
+
+// The text of a run of the programs that the input spells: the fronts, or the transcript in the room that the input had.
+fn text_for<R: Threads + Wait + Sync, G: Gate + Sync>(
+    rt: &R,
+    alloc: Global,
+    input: Vec<u8>,
+    workers: usize,
+    fronts: bool,
+    gate: &G,
+) -> Result<Vec<u8>, MainFault>
+    requires { (1 ≤ workers) × (workers ≤ 64) }
+    ensures { Answers (running fronts) input.items (items_of result) }
+{
+    let programs = read_programs(alloc, input.as_slice())?;
+    let report = run_programs(rt, alloc, programs, workers, gate)?;
+    if fronts {
+        return Ok(fronts_text(alloc, report.fronts.as_slice())?);
+    }
+    let output = write_transcript_into(input, &report.into_transcript())?;
+    Ok(output)
+}

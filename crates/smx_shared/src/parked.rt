@@ -1,0 +1,70 @@
+//! A system behind one pointer, so that it goes from hand to hand without being moved.
+
+ghost use Rattle.std.specs.Prelude.{◌≡◌, ◌↔◌, length, IfOk, OnOk, OnErr, IsErrOf};
+ghost use Rattle.smx_shared.specs.Recorded.{IsSoundSystem, next_entry, with_entry};
+ghost use Rattle.smx_shared.specs.declared.fault.ApplyFault.TheVariants.{HistoryFull};
+
+use crate::fault::ApplyFault;
+use crate::system::System;
+use smx_types::{Command, Entry, NoMemory, Process};
+use std::alloc::Global;
+use std::marker::Model;
+
+/// A system, which a contract sees as the system itself.
+#[derive(Drop)]
+pub struct Parked {
+    system: Box<System>,
+}
+
+impl Model for Parked {
+    ghost use Rattle.smx_shared.specs.Recorded.{Recorded};
+
+    ghost Value = { Recorded };
+
+    ghost view = { λ p. p.system.value };
+}
+
+impl Parked {
+    /// This system. Fails only for want of memory; the system is then given up.
+    pub fn park(alloc: Global, system: System) -> Result<Parked, NoMemory>
+        ensures { IfOk result (λ p. p ≡ system) }
+    {
+        let system = Box::new(alloc, system)?;
+        Ok(Parked { system })
+    }
+
+    /// The system. Takes no memory.
+    pub fn system(&self) -> &System
+        ensures { result.now ≡ self.now }
+    {
+        &self.system
+    }
+
+    /// The system, moved out. Takes no memory.
+    pub fn into_system(self) -> System
+        ensures { result ≡ self }
+    {
+        Box::into_inner(self.system)
+    }
+
+    /// `System::apply`.
+    pub fn apply(&mut self, process: Process, command: &Command) -> Result<Entry, ApplyFault>
+        ensures answer { IfOk result (λ e. e ≡ next_entry self.old process command.now) }
+        ensures ok { OnOk result (self.new ≡ with_entry self.old process command.now) }
+        ensures full { IsErrOf result HistoryFull ↔ (length self.old.history ≡ self.old.limit) }
+        ensures err { OnErr result (self.new ≡ self.old) }
+        ensures sound { IsSoundSystem self.new }
+    {
+        self.system.apply(process, command)
+    }
+
+    /// `System::append`.
+    pub fn append(&mut self, process: Process, command: Command) -> Result<(), ApplyFault>
+        ensures ok { OnOk result (self.new ≡ with_entry self.old process command) }
+        ensures full { IsErrOf result HistoryFull ↔ (length self.old.history ≡ self.old.limit) }
+        ensures err { OnErr result (self.new ≡ self.old) }
+        ensures sound { IsSoundSystem self.new }
+    {
+        self.system.append(process, command)
+    }
+}
