@@ -2,8 +2,7 @@
 
 use super::devices::{STOPS, Stop, one_byte_feed, one_byte_sink};
 use super::runs::{OPENED_AND_CLOSED, OPENS_AND_CLOSES, run_ending};
-use smx_filters::{Source, Target};
-use smx_filters::run_text;
+use smx_filters::{Source, Target, run_text};
 use smx_run::NoGate;
 use std::io::ErrorKind;
 

@@ -3,9 +3,7 @@
 use super::checks::{OTHER_CONFIGURATION, TWO_PROCESSES, WRONG_REPLY};
 use super::devices::{STOPS, Stop, one_byte_feed, one_byte_sink};
 use super::runs::ending;
-use smx_filters::check_text;
-use smx_filters::{Source, Target};
-use smx_filters::Done;
+use smx_filters::{Done, Source, Target, check_text};
 use std::io::ErrorKind;
 
 const VERDICTS: [(&[u8], &[u8], u8); 3] = [

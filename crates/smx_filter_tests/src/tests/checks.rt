@@ -1,9 +1,7 @@
 //! Checks over memory, with what is wanted typed in from the rules.
 
 use super::runs::{Ran, ending};
-use smx_filters::check_text;
-use smx_filters::{Source, Target};
-use smx_filters::Done;
+use smx_filters::{Done, Source, Target, check_text};
 use std::alloc::Global;
 
 /// Judges the transcript that these bytes are.

@@ -1,8 +1,7 @@
 //! Tests of what a fault prints, and of each status.
 
-use smx_filters::MainFault;
-use smx_filters::Done;
 use smx_config::{ConfigFault, Verdict};
+use smx_filters::{Done, MainFault};
 use smx_run::RunFault;
 use smx_text::{Cause, TextFault};
 use smx_types::SpecFault;

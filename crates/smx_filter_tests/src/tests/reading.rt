@@ -1,9 +1,7 @@
 //! Tests of reading from devices.
 
 use super::devices::one_byte_feed;
-use smx_filters::Source;
-use smx_filters::MainFault;
-use smx_filters::{MAX_INPUT, read_all};
+use smx_filters::{MAX_INPUT, MainFault, Source, read_all};
 use std::io;
 use std::io::{ErrorKind, Read};
 use std::test::Fail;

@@ -1,9 +1,6 @@
 //! Runs over memory, with what is wanted typed in from the rules.
 
-use smx_filters::{Source, Target};
-use smx_filters::MainFault;
-use smx_filters::Done;
-use smx_filters::run_text;
+use smx_filters::{Done, MainFault, Source, Target, run_text};
 use smx_run::NoGate;
 use std::alloc::Global;
 use std::fmt::InlineText;

@@ -2,10 +2,8 @@
 //! written goes to the stack, so that no growth is a device's.
 
 use super::checks::{MARKS_ACROSS_THE_JOIN, TWO_PROCESSES};
-use smx_filters::check_text;
-use smx_filters::{Source, Target};
-use smx_filters::MainFault;
 use smx_config::Verdict;
+use smx_filters::{MainFault, Source, Target, check_text};
 use smx_run::RunFault;
 use smx_text::{Cause, TextFault};
 use std::process::Abort;

@@ -1,8 +1,7 @@
 //! A run by four workers, each of which waits at its gate until all four are there.
 
 use super::checks::check_bytes;
-use smx_filters::{Source, Target};
-use smx_filters::run_text;
+use smx_filters::{Source, Target, run_text};
 use smx_run::Gate;
 use smx_types::Process;
 use std::hint::spin_loop;

@@ -1,9 +1,7 @@
 //! Tests of writing to devices.
 
 use super::devices::{STOPS, Stop, one_byte_sink};
-use smx_filters::Target;
-use smx_filters::MainFault;
-use smx_filters::write_all;
+use smx_filters::{MainFault, Target, write_all};
 use std::test::Fail;
 
 #[test]

@@ -1,0 +1,14 @@
+//! Histories and programs that were typed in, and what comes of them.
+
+mod fault_words;
+mod gates;
+mod gathered;
+mod looks;
+mod runs;
+mod seats;
+mod shared;
+mod shared_use;
+mod system_lines;
+mod systems;
+mod tried_again;
+mod workers;

@@ -1,0 +1,106 @@
+//! Runs by several workers: all at once, more than there is work for, and of programs that leave much undone.
+
+ghost use Rattle.std.specs.Prelude.{◌≤◌};
+ghost use Rattle.smx_run.specs.declared.run.TheConstants.{MAX_WORKERS};
+
+use super::gates::Meeting;
+use smx_run::{NoGate, Report, run_programs};
+use smx_samples::{named, numbered};
+use smx_text::{read_programs, write_transcript};
+use smx_types::DescriptorLine;
+use std::alloc::Global;
+use std::sync::Wait;
+use std::test::Fail;
+use std::thread::Threads;
+
+const FOUR: &[u8] =
+    b"programs 1\ndriver ip mux 4 8 3 16\ndriver eth leaf 2 8 3 16\nprocess 0\nclone ip\nexit\nprocess 1\nclone ip\nexit\nprocess 2\nclone ip\nexit\nprocess 3\nclone ip\nexit\nend\n";
+
+#[test]
+fn four_workers_are_inside_at_once(rt: HostRuntime) -> Result<(), Fail> {
+    let meeting = Meeting::of(4);
+    let programs = read_programs(rt.alloc(), FOUR)?;
+    let report = run_programs(&rt, rt.alloc(), programs, 4, &meeting)?;
+    assert_eq!(rt; meeting.met(), 4);
+    assert_eq!(rt; report.entries.as_slice().len(), 8);
+    Ok(())
+}
+
+const REFUSED: &[u8] =
+    b"programs 1\ndriver ip mux 0 8 3 16\nprocess 0\nclone ip\nprocess 1\nclone ip\nend\n";
+
+#[test]
+fn refused_drivers_start_no_worker(rt: HostRuntime) -> Result<(), Fail> {
+    let meeting = Meeting::of(1);
+    for workers in [1, 2] {
+        let programs = read_programs(rt.alloc(), REFUSED)?;
+        let run = run_programs(&rt, rt.alloc(), programs, workers, &meeting);
+        assert!(rt; run.is_err());
+    }
+    assert_eq!(rt; meeting.met(), 0);
+    Ok(())
+}
+
+// The report of a run of the programs that this text spells.
+fn reported<R: Threads + Wait + Sync>(
+    rt: &R,
+    alloc: Global,
+    text: &[u8],
+    workers: usize,
+) -> Result<Report, Fail>
+    requires { (1 ≤ workers) × (workers ≤ MAX_WORKERS) }
+{
+    let programs = read_programs(alloc, text)?;
+    Ok(run_programs(rt, alloc, programs, workers, &NoGate)?)
+}
+
+// Texts of which only one history can come, however many workers there are, and its transcript.
+const ONE_HISTORY: [(&[u8], &[u8]); 3] = [
+    (
+        b"programs 1\ndriver ip mux 4 8 3 16\nend\n",
+        b"transcript 1\ndriver ip mux 4 8 3 16\nconfig\nnext 1 1\nend\n",
+    ),
+    (
+        b"programs 1\ndriver ip mux 4 8 3 16\nprocess 0\nclone ip\nclone ip\nclose 0\nend\n",
+        b"transcript 1\ndriver ip mux 4 8 3 16\n0 clone ip = fd 0 0\n0 clone ip = fd 1 1\n0 close 0 = done\nconfig\nnext 1 1\nfd 0 1 ip 1\nend\n",
+    ),
+    (
+        b"programs 1\ndriver ip mux 4 8 3 16\nprocess 0\nprocess 1\nclone ip\nclone eth\nprocess 2\nend\n",
+        b"transcript 1\ndriver ip mux 4 8 3 16\n1 clone ip = fd 0 0\n1 clone eth = ENXIO driver\nconfig\nnext 1 1\nfd 1 0 ip 0\nend\n",
+    ),
+];
+
+#[test]
+fn writes_the_one_history(rt: HostRuntime) -> Result<(), Fail> {
+    for workers in [1, 2, 3, 64] {
+        for (input, output) in ONE_HISTORY {
+            let report = reported(&rt, rt.alloc(), input, workers)?;
+            let written = write_transcript(rt.alloc(), &report.into_transcript())?;
+            assert_eq!(rt; written.as_slice(), output);
+        }
+    }
+    Ok(())
+}
+
+const LEFT_OPEN: &[u8] =
+    b"programs 1\ndriver ip mux 4 8 3 16\ndriver eth leaf 2 8 3 16\nprocess 0\nclone ip\nprocess 1\nclone eth\nend\n";
+
+// The first descriptor of a process, for the first stream of a driver.
+fn first(process: u32, driver: &str) -> Result<DescriptorLine, Fail> {
+    Ok(DescriptorLine {
+        process: numbered(process)?,
+        fd: 0,
+        driver: named(driver)?,
+        minor: 0,
+    })
+}
+
+#[test]
+fn leaves_descriptors_open(rt: HostRuntime) -> Result<(), Fail> {
+    for workers in [1, 2, 64] {
+        let report = reported(&rt, rt.alloc(), LEFT_OPEN, workers)?;
+        assert_eq!(rt; report.entries.as_slice().len(), 2);
+        assert!(rt; report.view.fds.as_slice() == [first(0, "ip")?, first(1, "eth")?].as_slice());
+    }
+    Ok(())
+}

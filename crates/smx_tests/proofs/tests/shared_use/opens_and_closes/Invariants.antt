@@ -1,5 +1,0 @@
-use Rattle.std.proofs.Common.{◌≡◌}
-use Rattle.smx_tests.proofs.tests.shared_use.opens_and_closes.Given as goal
-
-abbrev pub invariant-loop : goal.invariant-loop
-invariant-loop g l = record { shared : l.seat.shared ≡ l.shared.name }

@@ -1,0 +1,13 @@
+//! Values and texts that were typed in, and what comes of them.
+
+mod command_lines;
+mod copies;
+mod copies_at_limits;
+mod entry_lines;
+mod plain_values;
+mod program_faults;
+mod program_texts;
+mod texts_at_limits;
+mod transcript_faults;
+mod transcript_texts;
+mod view_lines;

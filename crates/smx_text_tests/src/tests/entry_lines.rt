@@ -1,0 +1,120 @@
+//! The line of each entry of a history, as it is written.
+
+use smx_samples::{Answer, Call, command_of, nothing_open, numbered, reply_of};
+use smx_text::write_transcript;
+use smx_types::{Entry, Fault, Items, Transcript};
+use std::alloc::Global;
+use std::process::Abort;
+use std::test::Fail;
+
+type EntryLine = (u32, Call<'static>, Answer<'static>, &'static [u8]);
+
+const LINES: [EntryLine; 8] = [
+    (
+        63,
+        Call::Open("a", 10),
+        Answer::Fd(15, 10),
+        b"63 open a 10 = fd 15 10",
+    ),
+    (0, Call::Plink(0, 1), Answer::Id(12), b"0 plink 0 1 = id 12"),
+    (
+        1,
+        Call::Write(0, 5, &[1]),
+        Answer::Took(11),
+        b"1 write 0 5 01 = took 11",
+    ),
+    (
+        0,
+        Call::Read(0),
+        Answer::Got(9, 0, &[0, 175]),
+        b"0 read 0 = got 9 0 00af",
+    ),
+    (
+        0,
+        Call::Read(0),
+        Answer::Got(10, u32::MAX, &[]),
+        b"0 read 0 = got 10 4294967295 -",
+    ),
+    (0, Call::Close(0), Answer::Done(&[]), b"0 close 0 = done"),
+    (2, Call::Close(0), Answer::Done(&[7]), b"2 close 0 = done 7"),
+    (
+        10,
+        Call::Exit,
+        Answer::Done(&[7, 100]),
+        b"10 exit = done 7 100",
+    ),
+];
+
+const FAULTS: [(Fault, &[u8]); 16] = [
+    (Fault::BadDescriptor, b"0 exit = EBADF fd"),
+    (Fault::Below, b"0 exit = EINVAL below"),
+    (Fault::NotMux, b"0 exit = EINVAL notmux"),
+    (Fault::AlreadyBelow, b"0 exit = EINVAL already"),
+    (Fault::Cycle, b"0 exit = EINVAL cycle"),
+    (Fault::TooManyLinks, b"0 exit = EAGAIN links"),
+    (Fault::NoLink, b"0 exit = EINVAL id"),
+    (Fault::NoDriver, b"0 exit = ENXIO driver"),
+    (Fault::NoMinor, b"0 exit = ENXIO minor"),
+    (Fault::TooManyDescriptors, b"0 exit = EMFILE"),
+    (Fault::AddressInUse, b"0 exit = EADDRINUSE"),
+    (Fault::Unbound, b"0 exit = EINVAL unbound"),
+    (Fault::Unrouted, b"0 exit = EINVAL unrouted"),
+    (Fault::Full, b"0 exit = EAGAIN full"),
+    (Fault::Empty, b"0 exit = EAGAIN empty"),
+    (Fault::BadSize, b"0 exit = ERANGE"),
+];
+
+/// A transcript of this entry alone.
+pub fn of_one(alloc: Global, entry: Entry) -> Result<Transcript, Fail> {
+    let mut entries = Items::new(alloc);
+    entries.push(entry)?;
+    Ok(Transcript {
+        drivers: Items::new(alloc),
+        entries,
+        view: nothing_open(alloc, 1, 1),
+    })
+}
+
+// A text whose one entry is this line.
+fn with_line(alloc: Global, line: &[u8]) -> Result<Vec<u8>, Fail> {
+    let mut text = Vec::from_slice(alloc, b"transcript 1\n".as_slice())?;
+    text.extend_from_slice(line)?;
+    text.extend_from_slice(b"\nconfig\nnext 1 1\nend\n")?;
+    Ok(text)
+}
+
+fn entry_of(alloc: Global, number: u32, call: Call, answer: Answer) -> Result<Entry, Fail> {
+    let command = command_of(alloc, call)?;
+    let reply = reply_of(alloc, answer)?;
+    Ok(Entry {
+        process: numbered(number)?,
+        command,
+        reply,
+    })
+}
+
+fn writes(rt: &impl Abort, alloc: Global, entry: Entry, line: &[u8]) -> Result<(), Fail> {
+    let transcript = of_one(alloc, entry)?;
+    let text = with_line(alloc, line)?;
+    let written = write_transcript(alloc, &transcript)?;
+    assert_eq!(rt; written.as_slice(), text.as_slice());
+    Ok(())
+}
+
+#[test]
+fn each_reply_has_its_words(rt: HostRuntime) -> Result<(), Fail> {
+    for (number, call, answer, line) in LINES {
+        let entry = entry_of(rt.alloc(), number, call, answer)?;
+        writes(&rt, rt.alloc(), entry, line)?;
+    }
+    Ok(())
+}
+
+#[test]
+fn each_fault_has_its_words(rt: HostRuntime) -> Result<(), Fail> {
+    for (fault, line) in FAULTS {
+        let entry = entry_of(rt.alloc(), 0, Call::Exit, Answer::Refused(fault))?;
+        writes(&rt, rt.alloc(), entry, line)?;
+    }
+    Ok(())
+}

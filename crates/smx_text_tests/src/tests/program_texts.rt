@@ -1,0 +1,147 @@
+//! Programs and their texts.
+
+use smx_samples::{ip, named};
+use smx_text::{read_programs, write_programs};
+use smx_types::{Command, Commands, Items, Programs};
+use std::alloc::Global;
+use std::test::Fail;
+
+const OPENS_AND_CLOSES: &[u8] =
+    b"programs 1\ndriver ip mux 4 8 3 16\nprocess 0\nclone ip\nclone ip\nclose 0\nclone ip\nend\n";
+
+fn opening_and_closing(alloc: Global) -> Result<Commands, Fail> {
+    let driver = named("ip")?;
+    let mut commands = Items::new(alloc);
+    commands.push(Command::OpenClone { driver })?;
+    commands.push(Command::OpenClone { driver })?;
+    commands.push(Command::Close { fd: 0 })?;
+    commands.push(Command::OpenClone { driver })?;
+    Ok(commands)
+}
+
+// What that text spells.
+fn opens_and_closes(alloc: Global) -> Result<Programs, Fail> {
+    let mut drivers = Items::new(alloc);
+    drivers.push(ip()?)?;
+    let mut programs = Items::new(alloc);
+    programs.push(opening_and_closing(alloc)?)?;
+    Ok(Programs::new(drivers, programs)?)
+}
+
+#[test]
+fn reads_and_writes_programs(rt: HostRuntime) -> Result<(), Fail> {
+    let programs = opens_and_closes(rt.alloc())?;
+    let read = read_programs(rt.alloc(), OPENS_AND_CLOSES)?;
+    assert!(rt; read == programs);
+    let text = write_programs(rt.alloc(), &programs)?;
+    assert_eq!(rt; text.as_slice(), OPENS_AND_CLOSES);
+    Ok(())
+}
+
+const MARKS_ACROSS_THE_JOIN: &[u8] = b"programs 1
+driver ip mux 4 8 3 16
+driver eth leaf 2 8 3 16
+process 0
+clone ip
+clone eth
+link 0 1
+route 0 5 1
+write 0 5 00000001
+write 0 5 00000002
+write 0 5 00000003
+write 0 5 00000004
+write 0 5 00000005
+transmit eth 0
+write 0 5 00000005
+transmit eth 0
+write 0 5 00000005
+end
+";
+
+const BINDINGS: &[u8] = b"programs 1
+driver ip mux 4 8 3 16
+driver eth leaf 2 8 3 16
+process 0
+clone ip
+clone ip
+clone eth
+bind 2 9
+plink 0 2
+inject eth 0 9 aa
+bind 0 9
+bind 1 9
+bind 0 8
+inject eth 0 9 bb
+flush 0 r
+unbind 0
+unbind 0
+read 0
+route 0 5 9
+end
+";
+
+const IDS_OF_THE_WRONG_KIND_OR_STREAM: &[u8] = b"programs 1
+driver ip mux 4 8 3 16
+driver eth leaf 2 8 3 16
+process 0
+clone ip
+clone ip
+clone eth
+clone eth
+link 0 2
+plink 0 3
+unlink 0 2
+punlink 0 1
+unlink 1 1
+punlink 1 2
+unlink 1 all
+unlink 0 all
+unlink 0 1
+punlink 2 all
+end
+";
+
+const TWO_LEVELS_DOWN_AND_UP: &[u8] = b"programs 1
+driver top mux 2 8 3 16
+driver mid mux 2 8 3 16
+driver eth leaf 2 8 3 16
+process 0
+clone top
+clone mid
+clone eth
+link 1 2
+route 1 5 1
+bind 1 9
+link 0 1
+route 0 5 2
+bind 0 9
+route 1 6 1
+write 0 5 aa
+inject eth 0 9 bb
+transmit eth 0
+read 0
+close 0
+close 1
+end
+";
+
+fn written_again(alloc: Global, text: &[u8]) -> Result<Vec<u8>, Fail> {
+    let programs = read_programs(alloc, text)?;
+    Ok(write_programs(alloc, &programs)?)
+}
+
+#[test]
+fn writes_what_it_reads(rt: HostRuntime) -> Result<(), Fail> {
+    let texts = [
+        OPENS_AND_CLOSES,
+        MARKS_ACROSS_THE_JOIN,
+        BINDINGS,
+        IDS_OF_THE_WRONG_KIND_OR_STREAM,
+        TWO_LEVELS_DOWN_AND_UP,
+    ];
+    for text in texts {
+        let written = written_again(rt.alloc(), text)?;
+        assert_eq!(rt; written.as_slice(), text);
+    }
+    Ok(())
+}
