@@ -120,21 +120,30 @@ const AFTERWARDS: [Act; 3] = [
     Act::Clone(0, 0, Ok((0, (0, 0)))),
 ];
 
-#[test]
-fn a_held_stream_stays(rt: HostRuntime) -> Result<(), Fail> {
-    let mut table = Streams::new(rt.alloc(), &[2, 1]).ok().ok_or("memory")?;
-    do_acts(&rt, &mut table, &OPENED);
+// The last hold goes, and with it the stream.
+fn is_released(rt: &impl Abort, table: &mut Streams) {
+    let held = stream((0, 0));
+    assert!(rt; table.holds_of(held) == 1 && table.release(held));
+    do_acts(rt, table, &AFTERWARDS);
+}
+
+fn stays_while_held(rt: &impl Abort, table: &mut Streams) -> Result<(), Fail> {
+    do_acts(rt, table, &OPENED);
     let held = stream((0, 0));
     assert!(rt; table.exists(held) && table.holds_of(held) == 0);
     table.hold(held);
-    do_acts(&rt, &mut table, &CLOSED);
+    do_acts(rt, table, &CLOSED);
     assert_eq!(rt; table.holds_of(held), 1);
     let mut again = table.copy().ok().ok_or("memory")?;
-    assert!(rt; table.release(held));
-    do_acts(&rt, &mut table, &AFTERWARDS);
-    assert!(rt; again.holds_of(held) == 1 && again.release(held));
-    do_acts(&rt, &mut again, &AFTERWARDS);
+    is_released(rt, table);
+    is_released(rt, &mut again);
     Ok(())
+}
+
+#[test]
+fn a_held_stream_stays(rt: HostRuntime) -> Result<(), Fail> {
+    let mut table = Streams::new(rt.alloc(), &[2, 1]).ok().ok_or("memory")?;
+    stays_while_held(&rt, &mut table)
 }
 
 const REFUSED: [Act; 8] = [
