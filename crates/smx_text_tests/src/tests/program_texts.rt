@@ -1,9 +1,12 @@
 //! Programs and their texts.
 
+use super::lists::one_program;
+use super::spelling::{are_spelled, are_written};
 use smx_samples::{ip, named};
-use smx_text::{read_programs, write_programs};
+use smx_text::read_programs;
 use smx_types::{Command, Commands, Items, Programs};
 use std::alloc::Global;
+use std::process::Abort;
 use std::test::Fail;
 
 const OPENS_AND_CLOSES: &[u8] =
@@ -21,21 +24,15 @@ fn opening_and_closing(alloc: Global) -> Result<Commands, Fail> {
 
 // What that text spells.
 fn opens_and_closes(alloc: Global) -> Result<Programs, Fail> {
-    let mut drivers = Items::new(alloc);
-    drivers.push(ip()?)?;
-    let mut programs = Items::new(alloc);
-    programs.push(opening_and_closing(alloc)?)?;
-    Ok(Programs::new(drivers, programs)?)
+    let driver = ip()?;
+    let commands = opening_and_closing(alloc)?;
+    one_program(alloc, driver, commands)
 }
 
 #[test]
 fn reads_and_writes_programs(rt: HostRuntime) -> Result<(), Fail> {
     let programs = opens_and_closes(rt.alloc())?;
-    let read = read_programs(rt.alloc(), OPENS_AND_CLOSES)?;
-    assert!(rt; read == programs);
-    let text = write_programs(rt.alloc(), &programs)?;
-    assert_eq!(rt; text.as_slice(), OPENS_AND_CLOSES);
-    Ok(())
+    are_spelled(&rt, &programs, OPENS_AND_CLOSES)
 }
 
 const MARKS_ACROSS_THE_JOIN: &[u8] = b"programs 1
@@ -125,23 +122,23 @@ close 1
 end
 ";
 
-fn written_again(alloc: Global, text: &[u8]) -> Result<Vec<u8>, Fail> {
-    let programs = read_programs(alloc, text)?;
-    Ok(write_programs(alloc, &programs)?)
+const TEXTS: [&[u8]; 5] = [
+    OPENS_AND_CLOSES,
+    MARKS_ACROSS_THE_JOIN,
+    BINDINGS,
+    IDS_OF_THE_WRONG_KIND_OR_STREAM,
+    TWO_LEVELS_DOWN_AND_UP,
+];
+
+fn is_written_again(rt: &(impl AllocGlobal + Abort), text: &[u8]) -> Result<(), Fail> {
+    let programs = read_programs(rt.alloc(), text)?;
+    are_written(rt, &programs, text)
 }
 
 #[test]
 fn writes_what_it_reads(rt: HostRuntime) -> Result<(), Fail> {
-    let texts = [
-        OPENS_AND_CLOSES,
-        MARKS_ACROSS_THE_JOIN,
-        BINDINGS,
-        IDS_OF_THE_WRONG_KIND_OR_STREAM,
-        TWO_LEVELS_DOWN_AND_UP,
-    ];
-    for text in texts {
-        let written = written_again(rt.alloc(), text)?;
-        assert_eq!(rt; written.as_slice(), text);
+    for text in &TEXTS {
+        is_written_again(&rt, *text)?;
     }
     Ok(())
 }

@@ -1,7 +1,7 @@
 //! The groups of a view, as they are written.
 
+use super::spelling::is_written;
 use smx_samples::{items, named, nothing_open, open_on_ip};
-use smx_text::write_transcript;
 use smx_types::{
     BindingLine, ConfigView, FullLine, Items, LinkKind, LinkLine, Message, MessageLine, RouteLine,
     Side, Transcript,
@@ -9,18 +9,6 @@ use smx_types::{
 use std::alloc::Global;
 use std::process::Abort;
 use std::test::Fail;
-
-// Writes a transcript of this view alone, which has to be this text.
-fn writes(rt: &impl Abort, alloc: Global, view: ConfigView, text: &[u8]) -> Result<(), Fail> {
-    let transcript = Transcript {
-        drivers: Items::new(alloc),
-        entries: Items::new(alloc),
-        view,
-    };
-    let written = write_transcript(alloc, &transcript)?;
-    assert_eq!(rt; written.as_slice(), text);
-    Ok(())
-}
 
 fn linked(id: u32, kind: LinkKind) -> Result<LinkLine, Fail> {
     Ok(LinkLine {
@@ -84,13 +72,7 @@ fn add_messages(alloc: Global, view: &mut ConfigView) -> Result<(), Fail> {
     Ok(())
 }
 
-#[test]
-fn writes_groups_in_order(rt: HostRuntime) -> Result<(), Fail> {
-    let mut view = nothing_open(rt.alloc(), 3, 6);
-    add_links(&mut view)?;
-    add_addresses(&mut view)?;
-    add_messages(rt.alloc(), &mut view)?;
-    let text = b"transcript 1
+const GROUPS: &[u8] = b"transcript 1
 config
 next 3 6
 fd 0 0 ip 0
@@ -103,5 +85,24 @@ msg eth 0 r 4 5 bc
 full eth 0 w
 end
 ";
-    writes(&rt, rt.alloc(), view, text.as_slice())
+
+// Shows these groups, and is written so.
+fn groups_are_in_order(
+    rt: &(impl AllocGlobal + Abort),
+    transcript: &mut Transcript,
+) -> Result<(), Fail> {
+    add_links(&mut transcript.view)?;
+    add_addresses(&mut transcript.view)?;
+    add_messages(rt.alloc(), &mut transcript.view)?;
+    is_written(rt, transcript, GROUPS)
+}
+
+#[test]
+fn writes_groups_in_order(rt: HostRuntime) -> Result<(), Fail> {
+    let mut transcript = Transcript {
+        drivers: Items::new(rt.alloc()),
+        entries: Items::new(rt.alloc()),
+        view: nothing_open(rt.alloc(), 3, 6),
+    };
+    groups_are_in_order(&rt, &mut transcript)
 }
