@@ -26,9 +26,11 @@ fn reads_to_the_end(rt: HostRuntime) -> Result<(), Fail> {
     Ok(())
 }
 
+const ABC: &[u8] = b"abc";
+
 // A read that stops fails, and is not tried again: these bytes are left.
 fn stops_before(rt: &(impl AllocGlobal + Abort), reads: usize, left: &[u8], kind: ErrorKind) {
-    let mut feed = one_byte_feed(b"abc", reads, kind);
+    let mut feed = one_byte_feed(ABC, reads, kind);
     let answer = read_all(rt.alloc(), &mut feed);
     assert!(rt;
         matches!(answer, Err(MainFault::ReadFailed)),
@@ -42,7 +44,7 @@ fn stops_before(rt: &(impl AllocGlobal + Abort), reads: usize, left: &[u8], kind
 fn tries_no_read_again(rt: HostRuntime) {
     for kind in &ERRORS {
         for reads in 0..4 {
-            stops_before(&rt, reads, &b"abc"[reads..], *kind);
+            stops_before(&rt, reads, &ABC[reads..], *kind);
         }
     }
 }

@@ -23,11 +23,13 @@ fn writes_all_at_once(rt: HostRuntime) -> Result<(), Fail> {
     Ok(())
 }
 
+const ABC: &[u8] = b"abc";
+
 // A write that is stopped behind this beginning fails, and is not tried again.
 fn stops_behind(rt: &(impl AllocGlobal + Abort), beginning: &[u8], stop: Stop) {
     let calls = beginning.len();
     let mut sink = one_byte_sink(rt.alloc(), calls, stop);
-    let answer = write_all(&mut sink, b"abc");
+    let answer = write_all(&mut sink, ABC);
     assert!(rt;
         matches!(answer, Err(MainFault::WriteFailed)),
         "after {calls} calls"
@@ -40,7 +42,7 @@ fn stops_behind(rt: &(impl AllocGlobal + Abort), beginning: &[u8], stop: Stop) {
 fn tries_no_write_again(rt: HostRuntime) {
     for stop in &STOPS {
         for calls in 0..3 {
-            stops_behind(&rt, &b"abc"[..calls], *stop);
+            stops_behind(&rt, &ABC[..calls], *stop);
         }
     }
 }
@@ -48,6 +50,6 @@ fn tries_no_write_again(rt: HostRuntime) {
 #[test]
 fn tries_no_flush_again(rt: HostRuntime) {
     for stop in &STOPS_OF_FLUSHES {
-        stops_behind(&rt, b"abc", *stop);
+        stops_behind(&rt, ABC, *stop);
     }
 }
