@@ -1,5 +1,7 @@
 //! The configuration at its real limits: the most drivers, links and descriptors.
 
+ghost use Rattle.std.specs.Prelude.{◌<◌};
+
 use smx_config::Config;
 use smx_samples::{Answer, Call, Line, driver, leaves, made_over, named, numbered, play, shown};
 use smx_types::{Command, DriverKind, DriverSpec, Fault, Process, Reply};
@@ -71,7 +73,9 @@ fn add_link(
 }
 
 // The link behind so many others.
-fn add_next(rt: &(impl AllocGlobal + Print), config: &mut Config, before: u32) -> Result<(), Fail> {
+fn add_next(rt: &(impl AllocGlobal + Print), config: &mut Config, before: u32) -> Result<(), Fail>
+    requires { before < 1024 }
+{
     let leaf = format!(in rt.alloc(); "l{}", before / 64)?;
     add_link(rt, config, leaf.as_str(), before % 64, before + 1)
 }

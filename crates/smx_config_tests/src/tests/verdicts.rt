@@ -193,8 +193,8 @@ fn differs(
 #[test]
 fn on_views_that_differ_in_one_thing(rt: HostRuntime) -> Result<(), Fail> {
     are_judged(&rt, MARKS, AFTER_MARKS, Verdict::Legal)?;
-    for claim in CLAIMS {
-        differs(&rt, MARKS, AFTER_MARKS, claim)?;
+    for claim in &CLAIMS {
+        differs(&rt, MARKS, AFTER_MARKS, *claim)?;
     }
     Ok(())
 }

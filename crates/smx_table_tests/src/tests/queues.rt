@@ -39,10 +39,29 @@ fn a_message_moves_on(rt: HostRuntime) -> Result<(), Fail> {
     moves_on(&rt, &mut queues)
 }
 
+// The next place gets this number.
+fn adds(
+    rt: &(impl Abort + Print),
+    queues: &mut Queues,
+    (high, low): (usize, usize),
+    number: usize,
+) -> Result<(), Fail> {
+    let p = add(rt, queues, high, low)?;
+    assert_eq!(rt; p, number);
+    Ok(())
+}
+
+// The message of this serial leaves, or none.
+fn takes(rt: &impl Abort, queues: &mut Queues, p: usize, serial: Option<u32>) -> Result<(), Fail> {
+    let taken = take(queues, p)?;
+    assert_eq!(rt; taken, serial);
+    Ok(())
+}
+
 // Two places, at the first of which two messages of four bytes arrive.
 fn add_two(rt: &(impl AllocGlobal + Abort + Print), queues: &mut Queues) -> Result<(), Fail> {
-    assert_eq!(rt; add(rt, queues, 8, 3)?, 0);
-    assert_eq!(rt; add(rt, queues, 1, 0)?, 1);
+    adds(rt, queues, (8, 3), 0)?;
+    adds(rt, queues, (1, 0), 1)?;
     put(rt, queues, 0, 1, 4)?;
     has(rt, queues, 0, 4, false, &[1])?;
     put(rt, queues, 0, 2, 4)?;
@@ -76,14 +95,13 @@ fn both_have(
 
 fn moves_across(rt: &(impl AllocGlobal + Abort + Print), queues: &mut Queues) -> Result<(), Fail> {
     add_two(rt, queues)?;
-    assert_eq!(rt; take(queues, 0)?, Some(1));
+    takes(rt, queues, 0, Some(1))?;
     both_have(rt, queues, (4, true, &[2]), (0, false, &[]))?;
     move_front(queues, 0, 1)?;
     both_have(rt, queues, (0, false, &[]), (4, true, &[2]))?;
     clear(queues, 1)?;
     both_have(rt, queues, (0, false, &[]), (0, false, &[]))?;
-    assert_eq!(rt; take(queues, 1)?, None);
-    Ok(())
+    takes(rt, queues, 1, None)
 }
 
 /// Two places, a move between them, and the marks on the way, with a copy after each step.
@@ -108,7 +126,7 @@ fn fill(
 // These serials leave in their order, from 1 to 4,096.
 fn take_all(rt: &impl Abort, queues: &mut Queues, p: usize) -> Result<(), Fail> {
     for serial in 1..4097u32 {
-        assert_eq!(rt; take(queues, p)?, Some(serial));
+        takes(rt, queues, p, Some(serial))?;
     }
     Ok(())
 }
@@ -220,11 +238,10 @@ fn drops_and_adds(
     queues.drop_place(1);
     queues.drop_place(9);
     assert!(rt; !queues.has_place(1) && !queues.has_place(3));
-    assert_eq!(rt; add(rt, queues, 4, 1)?, 1);
+    adds(rt, queues, (4, 1), 1)?;
     has(rt, queues, 1, 0, false, &[])?;
     has(rt, queues, 2, 4, false, &[2])?;
-    assert_eq!(rt; add(rt, queues, 4, 1)?, 3);
-    Ok(())
+    adds(rt, queues, (4, 1), 3)
 }
 
 #[test]
@@ -241,10 +258,9 @@ fn go_apart(
 ) -> Result<(), Fail> {
     assert!(rt; !again.has_place(0) && again.has_place(1) && !again.has_place(3));
     has(rt, again, 2, 8, true, &[1])?;
-    assert_eq!(rt; take(queues, 2)?, Some(1));
+    takes(rt, queues, 2, Some(1))?;
     has(rt, again, 2, 8, true, &[1])?;
-    assert_eq!(rt; add(rt, again, 8, 3)?, 0);
-    Ok(())
+    adds(rt, again, (8, 3), 0)
 }
 
 fn leaves_its_copy(

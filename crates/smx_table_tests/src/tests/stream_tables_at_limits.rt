@@ -1,12 +1,16 @@
 //! Tables of streams at their limits: 64 processes with 16 descriptors each, and 128 drivers.
 
+ghost use Rattle.std.specs.Prelude.{◌<◌};
+
 use super::stream_tables::{Act, do_acts};
 use smx_streams::{StreamFault, Streams};
 use std::process::Abort;
 use std::test::Fail;
 
 // The process has its stream of driver 0, in 16 descriptors, and gets no more.
-fn fill(rt: &impl Abort, table: &mut Streams, p: u32) {
+fn fill(rt: &impl Abort, table: &mut Streams, p: u32)
+    requires { p < 64 }
+{
     let at = (0, p as u8);
     do_acts(rt, table, &[Act::Clone(p, 0, Ok((0, at)))]);
     for fd in 1..16u32 {
