@@ -64,7 +64,7 @@ route_does drivers c process fd addr id s new r idle clean e there is none = rw 
   rest = record c { routes = with_inserted route_before (filter (λ x. not (eqb x.driver s.driver && eqb x.addr addr)) c.routes) (record { driver = s.driver; addr = addr; id = id }) }
 
 -- the stream of a descriptor exists
-named_stream : (process fd : ℕ) (fds : List Descriptor) (s : StreamId) → option_map (λ (d : Descriptor). d.stream) (find (is_fd process fd) fds) ≡ Some s → is_named fds s ≡ true
+pub named_stream : (process fd : ℕ) (fds : List Descriptor) (s : StreamId) → option_map (λ (d : Descriptor). d.stream) (find (is_fd process fd) fds) ≡ Some s → is_named fds s ≡ true
 named_stream process fd [] s h = absurd cc
 named_stream process fd (d ∷ ds) s h = elim (cases_Bool (is_fd process fd d)) [
   | inl t ↦ let k : Some d.stream ≡ Some s = rw t at h in let same : d.stream ≡ s = cc in or_left _ _ (ap (λ (x : StreamId). same_stream x s) same ∙ stream_self s)

@@ -2,6 +2,9 @@ pub mod InsertionLemmas
 pub mod AboveLemmas
 pub mod TableLemmas
 pub mod ClimbLemmas
+pub mod ExistingLemmas
+pub mod ReleaseLemmas
+pub mod DescriptorLemmas
 pub mod FirstMessageLemmas
 pub mod FlowLemmas
 pub mod MarkLemmas
@@ -11,11 +14,11 @@ pub mod DroppedLemmas
 pub mod ReplyLemmas
 pub mod KnownLemmas
 pub mod LookupLemmas
-pub mod DescriptorLemmas
-pub mod LeastDescriptorLemmas
 pub mod DoneLemmas
 pub mod DriverFaultLemmas
 pub mod DriverListLemmas
 pub mod PerformLemmas
 pub mod OpenLemmas
 pub mod VerdictLemmas
+pub mod WalkLemmas
+pub mod KeptLemmas

@@ -4,9 +4,10 @@ pub mod FaultWords
 pub mod ModelOfLists
 pub mod InsertionIndexes
 pub mod Moves
-pub mod Climbs
 pub mod ListedLinks
+pub mod ExistingStreams
 pub mod LinkFaults
+pub mod StreamFaults
 pub mod UnlinkTargets
 pub mod Sending
 pub mod FewMinors

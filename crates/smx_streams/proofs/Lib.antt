@@ -4,3 +4,4 @@ pub mod RowOrderLemmas
 pub mod GridLemmas
 pub mod RecordLemmas
 pub mod NameLemmas
+pub mod NextLemmas

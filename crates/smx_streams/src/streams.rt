@@ -4,14 +4,15 @@ ghost use Rattle.std.specs.Prelude.{◌≡◌, ℕ, ◌+◌, ◌-◌, ◌<◌, �
 ghost use Rattle.std.specs.Prelude.{Some, Ok, Err, IfOk, IfErr, IfSome, IfNone, IsOk, OnOk, OnErr};
 ghost use Rattle.smx_types.specs.declared.stream.StreamId.{StreamId};
 ghost use Rattle.std.specs.Option.{option_map};
+ghost use Rattle.smx_streams.specs.DescriptorRows.{IsListed};
 ghost use Rattle.smx_streams.specs.StreamTables.{number_at, is_in_range, exists, stream_at, least_fd, least_minor, numbered};
 ghost use Rattle.smx_streams.specs.StreamTables.{clone_answer, minor_answer, dup_answer};
-ghost use Rattle.smx_streams.specs.StreamTables.{HasOneMore, HasOneLess, HasHolds, IsRefused};
+ghost use Rattle.smx_streams.specs.StreamTables.{HasOneMore, HasOneLess, HasNoneOf, HasHolds, IsNext, IsRefused};
 
 use crate::descriptors::Descriptors;
 use crate::fault::StreamFault;
 use crate::records::Records;
-use smx_types::{NoMemory, Process, StreamId};
+use smx_types::{Descriptor, MAX_DESCRIPTORS, NoMemory, Process, StreamId};
 use std::alloc::Global;
 use std::marker::Model;
 
@@ -214,6 +215,40 @@ impl Streams {
             stream,
             last: !self.exists(stream),
         })
+    }
+
+    /// Closes all descriptors of a process, and no other. Takes no memory.
+    pub fn close_process(&mut self, process: Process)
+        ensures { HasNoneOf self.old process self.new }
+    {
+        self.is_listed();
+        for fd in 0..MAX_DESCRIPTORS {
+            let _closed = self.close_fd(process, fd);
+        }
+    }
+
+    /// The first descriptor from a number of a process on, by process and number; None where there is none.
+    pub fn next_fd(&self, process: Process, fd: u32) -> Option<Descriptor>
+        ensures { IsNext self.now.fds process fd result }
+    {
+        self.descriptors.next(process, fd)
+    }
+
+    /// The first descriptor of all; None where there is none.
+    pub fn first_fd(&self) -> Option<Descriptor>
+        ensures { IsNext self.now.fds 0 0 result }
+    {
+        match Process::new(0) {
+            Some(process) => self.next_fd(process, 0),
+            None => None,
+        }
+    }
+
+    // What every list of descriptors is.
+    fn is_listed(&self)
+        ensures { IsListed self.now.fds }
+    {
+        self.descriptors.is_sound();
     }
 
     /// One more hold of a stream that exists. Takes no memory.

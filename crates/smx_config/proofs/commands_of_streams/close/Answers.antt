@@ -1,12 +1,14 @@
-use Rattle.std.proofs.Common.{arith, not}
-use Rattle.smx_model.specs.Configuration.{is_fd}
-use Rattle.smx_config.proofs.DescriptorLemmas.{fds_rise_fewer}
+use Rattle.std.proofs.Common.{refl, ◌∙◌}
+use Rattle.smx_config.specs.ModelOfLists.{configuration_of}
+use Rattle.smx_config.proofs.DoneLemmas.{done_is}
 use Rattle.smx_config.proofs.commands_of_streams.close.Goals as goal
 
 pub sweep_and_reply-requires-clause-kept : goal.sweep_and_reply-requires-clause-kept
 sweep_and_reply-requires-clause-kept c = record {
-  fds_room = omega arith;
-  fds_rise = fds_rise_fewer (λ d. not (is_fd c.args.process c.args.fd d)) c.args.lists.now.fds.items c.drop_fd.new.fds.items c.requires.kept.fds_rise c.drop_fd.ensures.fds;
+  held = λ s. c.close_fd-closed.ensures.rest.holds s ∙ c.requires.kept.held s;
   marks_room = c.requires.kept.marks_room;
   marks = c.requires.kept.marks;
 }
+
+pub sweep_and_reply-requires-clause-known : goal.sweep_and_reply-requires-clause-known
+sweep_and_reply-requires-clause-known c = c.requires.known.controlling
