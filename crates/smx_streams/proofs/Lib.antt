@@ -5,3 +5,4 @@ pub mod GridLemmas
 pub mod RecordLemmas
 pub mod NameLemmas
 pub mod NextLemmas
+pub mod WentLemmas

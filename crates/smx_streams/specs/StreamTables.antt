@@ -1,8 +1,8 @@
 -- What a contract sees of a table of streams.
-use Rattle.std.specs.Prelude.{◌≡◌, ℕ, ◌+◌, ◌<◌, Bool, ◌||◌, not, ◌==◌, nat_lt, nat_le, List, [], ◌∷◌, length, find, filter, slice_index, slice_index_or}
+use Rattle.std.specs.Prelude.{◌≡◌, ℕ, ◌+◌, ◌<◌, Bool, false, ◌||◌, not, ◌==◌, nat_lt, nat_le, List, [], ◌∷◌, length, find, filter, slice_index, slice_index_or}
 use Rattle.std.specs.Prelude.{Option, Some, None, Result, Ok, Err, IsOk, ◌⊎◌, if◌then◌else◌}
 use Rattle.std.specs.List.{list_any, range_with_len}
-use Rattle.std.specs.Option.{option_map}
+use Rattle.std.specs.Option.{option_map, option_map_or}
 use Rattle.smx_types.specs.declared.limits.TheConstants.{MAX_DESCRIPTORS}
 use Rattle.smx_types.specs.declared.stream.Descriptor.{Descriptor}
 use Rattle.smx_types.specs.declared.stream.StreamId.{StreamId}
@@ -33,6 +33,14 @@ exists t s = is_named t.fds s || nat_lt 0 (number_at t.holds s)
 -- the stream of the process's descriptor
 abbrev pub stream_at : List Descriptor → ℕ → ℕ → Option StreamId
 stream_at fds process fd = option_map (λ d. d.stream) (find (is_fd process fd) fds)
+
+-- with one descriptor less
+abbrev pub without_fd : StreamTable → ℕ → ℕ → StreamTable
+without_fd t process fd = record t { fds = filter (λ d. not (is_fd process fd d)) t.fds }
+
+-- nothing is left of the descriptor's stream once it is closed
+abbrev pub is_last : StreamTable → ℕ → ℕ → Bool
+is_last t process fd = option_map_or (λ s. not (exists (without_fd t process fd) s)) (stream_at t.fds process fd) false
 
 -- the least number that is no descriptor of the process
 abbrev pub least_fd : List Descriptor → ℕ → Option ℕ
