@@ -3,7 +3,13 @@ pub mod AboveLemmas
 pub mod TableLemmas
 pub mod ClimbLemmas
 pub mod ExistingLemmas
+pub mod DeadStreamLemmas
+pub mod FoundLinkLemmas
 pub mod ReleaseLemmas
+pub mod WatchLemmas
+pub mod OrphanLemmas
+pub mod ReleasedIdLemmas
+pub mod TouchLemmas
 pub mod DescriptorLemmas
 pub mod FirstMessageLemmas
 pub mod FlowLemmas

@@ -6,6 +6,7 @@ pub mod InsertionIndexes
 pub mod Moves
 pub mod ListedLinks
 pub mod ExistingStreams
+pub mod TouchedStreams
 pub mod LinkFaults
 pub mod StreamFaults
 pub mod UnlinkTargets
@@ -13,6 +14,7 @@ pub mod Sending
 pub mod FewMinors
 pub mod ReservedRoom
 pub mod SweepReserves
+pub mod Closing
 pub mod Refinement
 pub mod SecondReplies
 pub mod ModelOfConfig

@@ -165,9 +165,10 @@ fn unlink_as(
 {
     let stream = mux_stream(drivers, lists, process, fd)?;
     check_targets(lists, which, kind, stream)?;
+    lists.links.is_sound();
     let gone = targets(alloc, &lists.links, which, kind, stream)?;
-    let room = reserve_for_sweep(alloc, lists)?;
-    remove_links(lists, &gone);
+    let mut room = reserve_for_sweep(alloc, lists, gone.len())?;
+    remove_links(lists, &gone, &mut room.touched);
     Ok(sweep_and_reply(drivers, lists, room))
 }
 

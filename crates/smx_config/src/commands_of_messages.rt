@@ -174,6 +174,7 @@ fn flush_fulls(fulls: &mut Vec<Place>, stream: StreamId, sides: Sides)
 fn empty(lists: &mut Lists, stream: StreamId, sides: Sides)
     requires { HasRoom lists.old }
     ensures value { configuration_of lists.new ≡ without_queues_at (configuration_of lists.old) (λ p. same_stream p.stream stream && is_side sides p.side) }
+    ensures streams { lists.new.streams ≡ lists.old.streams }
     ensures kept { HasRoom lists.new }
     ensures drivers { sizes_of lists.new ≡ sizes_of lists.old }
 {
@@ -195,7 +196,7 @@ pub fn flush(
     ensures drivers { sizes_of lists.new ≡ sizes_of lists.old }
 {
     let stream = free_stream(lists, process, fd)?;
-    let room = reserve_for_sweep(alloc, lists)?;
+    let room = reserve_for_sweep(alloc, lists, 0)?;
     empty(lists, stream, sides);
     Ok(sweep_and_reply(drivers, lists, room))
 }

@@ -220,3 +220,12 @@ fn the_table_in_use(rt: HostRuntime) -> Result<(), Fail> {
     assert!(rt; links.remove(1).is_some() && links.next_id() == 2);
     Ok(())
 }
+
+#[test]
+fn drivers_with_links(rt: HostRuntime) -> Result<(), Fail> {
+    let mut table = LinkTable::new(rt.alloc(), 3).ok().ok_or("memory")?;
+    do_acts(&rt, &mut table, 3, &OF_THREE_DRIVERS);
+    assert!(rt; table.is_upper(1));
+    assert!(rt; !table.is_upper(0) && !table.is_upper(3));
+    Ok(())
+}

@@ -52,3 +52,13 @@ fn an_exit_closes_all_of_its_process(rt: HostRuntime) -> Result<(), Fail> {
     );
     Ok(())
 }
+
+#[test]
+fn the_last_descriptor_of_a_stream(rt: HostRuntime) -> Result<(), Fail> {
+    let mut table = Streams::new(rt.alloc(), &[2]).ok().ok_or("memory")?;
+    do_acts(&rt, &mut table, &FILLED);
+    assert!(rt; table.is_last(process(&rt, 2), 0));
+    assert!(rt; !table.is_last(process(&rt, 5), 0));
+    assert!(rt; !table.is_last(process(&rt, 5), 1));
+    Ok(())
+}

@@ -1,4 +1,4 @@
-use Rattle.std.proofs.Common.{◌++◌, ◌∷◌, [], List, ℕ, not, length, length-append, arith, ap, sym, ◌∙◌}
+use Rattle.std.proofs.Common.{◌++◌, ◌∷◌, [], List, ℕ, map, not, length, length-append, arith, ap, sym, ◌∙◌}
 use Rattle.smx_types.specs.declared.link.Link.{Link}
 use Rattle.smx_config.specs.ExistingStreams.{is_held}
 use Rattle.smx_config.proofs.TableLemmas.{none_past, kept_more, left_more}
@@ -20,3 +20,6 @@ loop-i-preserved c = elim c.match-at.branch [
   })
   | in_default w ↦ absurd (none_past c.args.links.now.links c.loop-i.i w.in_default.ensures (omega arith))
 ]
+
+pub returns-then-not-released : goal.returns-then-not-released
+returns-then-not-released c = c.requires.empty ∙ ap (map (λ (l : Link). l.id)) (sym (c.requires.none c.if-not-released.true))

@@ -2,7 +2,7 @@ use Rattle.std.proofs.Common.{arith, not}
 use Rattle.smx_types.specs.declared.stream.Place.{Place}
 use Rattle.smx_streams.specs.StreamTables.{exists as is_there}
 use Rattle.smx_config.specs.ModelOfLists.{configuration_of}
-use Rattle.smx_config.proofs.ExistingLemmas.{dead_dropped}
+use Rattle.smx_config.proofs.DeadStreamLemmas.{dead_dropped}
 use Rattle.smx_config.proofs.MarkLemmas.{marks_after_emptied, not_more}
 use Rattle.smx_config.proofs.sweep.drop_dead.Goals as goal
 
