@@ -68,12 +68,7 @@ fn release_held(streams: &mut Streams, stream: StreamId)
 }
 
 // Releases the lower streams of the links with these ids, and puts them to those that may have gone.
-fn release_each(
-    streams: &mut Streams,
-    links: &LinkTable,
-    gone: &[u32],
-    touched: &mut Vec<StreamId>,
-)
+fn release_each(streams: &mut Streams, links: &LinkTable, gone: &[u32], touched: &mut Vec<StreamId>)
     requires held { AreHeld links.now.links streams.old }
     requires room { length touched.old.items + length gone.now ≤ vec_capacity touched.old }
     ensures held { AreHeld (filter (λ l. not (is_one_of gone.now l)) links.now.links) streams.new }

@@ -76,12 +76,7 @@ fn drop_dead(drivers: &[DriverSpec], lists: &mut Lists)
 
 // Removes the ordinary links whose controlling stream doesn't exist, which is one of those that were touched. The last
 // list has room for all ids.
-fn drop_orphans(
-    drivers: &[DriverSpec],
-    lists: &mut Lists,
-    touched: Vec<StreamId>,
-    room: Vec<u32>,
-)
+fn drop_orphans(drivers: &[DriverSpec], lists: &mut Lists, touched: Vec<StreamId>, room: Vec<u32>)
     requires kept { HasRoom lists.old }
     requires known { All (λ l. IsKnown drivers.now l.ctl) lists.old.links.links }
     requires cascade { IsCascade lists.old.links.links lists.old.streams touched.items (vec_capacity touched) }

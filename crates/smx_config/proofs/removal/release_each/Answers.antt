@@ -21,18 +21,18 @@ loop-id-init c = record {
 pub loop-id-preserved : goal.loop-id-preserved
 loop-id-preserved c = elim c.match-get.branch [
   | in-Some w ↦
-    let pushed = w.push_reserved.ensures.items in
-    let longer = ap length pushed in
-    let one_more = length-append c.loop-id.touched.items (w.in-Some.link.now.lower ∷ []) in
-    rw (w.streams-is, w.touched-is) (record {
-    held = subst (λ (ids : List ℕ). AreHeld (without ids c.args.links.now.links) w.release_held.new.streams) (sym (take_more c.args.gone.now c.loop-id.id-index 0 (omega arith)))
-        (released_more c.args.links.now.links (take c.loop-id.id-index c.args.gone.now) _ w.in-Some.link.now c.loop-id.streams w.release_held.new.streams c.is_sound.ensures.sound.lowers c.is_sound.ensures.ids.rise (sym w.in-Some.ensures) c.loop-id.invariant.held w.release_held.ensures);
-    fds = w.release_held.ensures.fds ∙ c.loop-id.invariant.fds;
-    minors = w.release_held.ensures.minors ∙ c.loop-id.invariant.minors;
-    touched = rw pushed (release_touches c.args.streams.now c.loop-id.streams w.release_held.new.streams c.loop-id.touched.items w.in-Some.link.now.lower 0 w.release_held.ensures c.loop-id.invariant.touched);
-    few = omega (arith, longer, one_more, c.loop-id.invariant.few);
-    capacity = w.push_reserved.ensures.capacity ∙ c.loop-id.invariant.capacity;
-  })
+      let pushed = w.push_reserved.ensures.items in
+      let longer = ap length pushed in
+      let one_more = length-append c.loop-id.touched.items (w.in-Some.link.now.lower ∷ []) in
+      rw (w.streams-is, w.touched-is) (record {
+        held = subst (λ (ids : List ℕ). AreHeld (without ids c.args.links.now.links) w.release_held.new.streams) (sym (take_more c.args.gone.now c.loop-id.id-index 0 (omega arith)))
+            (released_more c.args.links.now.links (take c.loop-id.id-index c.args.gone.now) _ w.in-Some.link.now c.loop-id.streams w.release_held.new.streams c.is_sound.ensures.sound.lowers c.is_sound.ensures.ids.rise (sym w.in-Some.ensures) c.loop-id.invariant.held w.release_held.ensures);
+        fds = w.release_held.ensures.fds ∙ c.loop-id.invariant.fds;
+        minors = w.release_held.ensures.minors ∙ c.loop-id.invariant.minors;
+        touched = rw pushed (release_touches c.args.streams.now c.loop-id.streams w.release_held.new.streams c.loop-id.touched.items w.in-Some.link.now.lower 0 w.release_held.ensures c.loop-id.invariant.touched);
+        few = omega (arith, longer, one_more, c.loop-id.invariant.few);
+        capacity = w.push_reserved.ensures.capacity ∙ c.loop-id.invariant.capacity;
+      })
   | in_default w ↦ rw (w.streams-is, w.touched-is) (record {
     held = subst (λ (ids : List ℕ). AreHeld (without ids c.args.links.now.links) c.loop-id.streams) (sym (take_more c.args.gone.now c.loop-id.id-index 0 (omega arith)))
         (released_none c.args.links.now.links (take c.loop-id.id-index c.args.gone.now) _ c.loop-id.streams (sym w.in_default.ensures) c.loop-id.invariant.held);
