@@ -5,11 +5,13 @@ pub mod ClimbLemmas
 pub mod ExistingLemmas
 pub mod ReleaseLemmas
 pub mod DescriptorLemmas
-pub mod FirstMessageLemmas
-pub mod FlowLemmas
 pub mod MarkLemmas
 pub mod SettleLemmas
 pub mod RemovalLemmas
+pub mod BelowLemmas
+pub mod DropLemmas
+pub mod DeadLemmas
+pub mod NextPlaceLemmas
 pub mod DroppedLemmas
 pub mod ReplyLemmas
 pub mod KnownLemmas

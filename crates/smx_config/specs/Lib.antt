@@ -13,6 +13,7 @@ pub mod Sending
 pub mod FewMinors
 pub mod ReservedRoom
 pub mod SweepReserves
+pub mod DroppedMessages
 pub mod Refinement
 pub mod SecondReplies
 pub mod ModelOfConfig

@@ -166,8 +166,8 @@ fn unlink_as(
     let stream = mux_stream(drivers, lists, process, fd)?;
     check_targets(lists, which, kind, stream)?;
     let gone = targets(alloc, &lists.links, which, kind, stream)?;
-    let room = reserve_for_sweep(alloc, lists)?;
-    remove_links(lists, &gone);
+    let mut room = reserve_for_sweep(alloc, lists)?;
+    remove_links(lists, &gone, &mut room.dropped);
     Ok(sweep_and_reply(drivers, lists, room))
 }
 

@@ -14,8 +14,9 @@ pub returns-clause-refines : goal.returns-clause-refines
 returns-clause-refines c =
     let goes = is_target c.args.which c.args.kind c.in_ok-stream.stream in
     unlink_does c.args.drivers.now (configuration_of c.args.lists.now) c.args.process c.args.fd c.args.which c.args.kind c.in_ok-stream.stream _ (sym c.mux_stream.ensures ∙ c.in_ok-stream.was) (sym c.check_targets.ensures ∙ c.in_ok-check_targets.was)
-    (done_is c.args.drivers.now (configuration_of c.args.lists.now) _ (configuration_of c.sweep_and_reply.new.lists) c.in_ok-room.room.old.items c.sweep_and_reply.result
-    (c.sweep_and_reply.ensures.value ∙ ap (after_sweep c.args.drivers.now) (c.remove_links.ensures.value goes (c.deref.ensures.value ∙ c.in_ok-gone.ensures))) c.in_ok-room.ensures.old_serials c.sweep_and_reply.ensures.reply)
+    (done_is c.args.drivers.now (configuration_of c.args.lists.now) _ (configuration_of c.sweep_and_reply.new.lists) c.sweep_and_reply.result
+    (c.sweep_and_reply.ensures.value ∙ ap (after_sweep c.args.drivers.now) (c.remove_links.ensures.value goes (c.deref.ensures.value ∙ c.in_ok-gone.ensures)))
+    (c.sweep_and_reply.ensures.reply c.args.lists.now.queues.flow c.requires.serials.apart (c.remove_links.ensures.dropped c.args.lists.now.queues.flow c.in_ok-room.ensures.none)))
 
 pub sweep_and_reply-requires-clause-known : goal.sweep_and_reply-requires-clause-known
 sweep_and_reply-requires-clause-known c =

@@ -6,7 +6,6 @@ use Rattle.smx_config.proofs.commands_of_streams.close.Goals as goal
 pub sweep_and_reply-requires-clause-kept : goal.sweep_and_reply-requires-clause-kept
 sweep_and_reply-requires-clause-kept c = record {
   held = λ s. c.close_fd-closed.ensures.rest.holds s ∙ c.requires.kept.held s;
-  marks_room = c.requires.kept.marks_room;
   marks = c.requires.kept.marks;
 }
 
