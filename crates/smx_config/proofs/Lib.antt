@@ -12,9 +12,12 @@ pub mod BelowLemmas
 pub mod DropLemmas
 pub mod DeadLemmas
 pub mod NextPlaceLemmas
+pub mod LinesLemmas
+pub mod MoveLemmas
 pub mod DroppedLemmas
 pub mod ReplyLemmas
 pub mod KnownLemmas
+pub mod SendLemmas
 pub mod LookupLemmas
 pub mod DoneLemmas
 pub mod DriverFaultLemmas

@@ -61,24 +61,24 @@ pub record IsNext (drivers : List DriverSpec) (p q : Place) : Type 0 where
 
 next_below : (drivers : List DriverSpec) (c : Configuration) (p : Place) (addr : ℕ) (q : Place) → IsSound drivers c → place_below c.links c.routes p.stream.driver addr ≡ Some q → IsNext drivers p q
 next_below drivers c p addr q h e =
-    let r = bound (find (λ r. eqb r.driver p.stream.driver && eqb r.addr addr) c.routes) _ q e in
-    let l = bound (find (λ k. eqb k.id r.0.id) c.links) _ q r.2 in
+    let r = bound (find (λ r. eqb r.driver p.stream.driver && eqb r.addr addr) c.routes) (λ r. find (λ k. eqb k.id r.id) c.links >>= (λ k. Some (record { stream = k.lower; side = side.Write }))) q e in
+    let l = bound (find (λ k. eqb k.id r.0.id) c.links) (λ k. Some (record { stream = k.lower; side = side.Write })) q r.2 in
     let at = found_has (λ (x : Route). list_any (λ k. eqb k.id x.id && eqb k.ctl.driver x.driver) c.links ≡ true) (λ x. eqb x.driver p.stream.driver && eqb x.addr addr) c.routes r.0 (recursion_from_All (λ (x : Route). list_any (λ k. eqb k.id x.id && eqb k.ctl.driver x.driver) c.links ≡ true) c.routes h.routes.lead) r.1 in
     let own = eqb-true r.0.driver p.stream.driver (and_parts _ _ at.0).0 in
     let upper = eqb-true l.0.ctl.driver r.0.driver (some_with_id (λ k. eqb k.ctl.driver r.0.driver) r.0.id c.links l.0 h.ids.rise (sym l.1) ∙ at.1) in
-    let here : record { stream = l.0.lower; side = side.Write } ≡ q = some_is _ q l.2 in
+    let here : record { stream = l.0.lower; side = side.Write } ≡ q = some_is (record { stream = l.0.lower; side = side.Write }) q l.2 in
     let apart = drivers_differ c.links (λ k. eqb k.id r.0.id) l.0 h.links.no_cycle l.1 in
     let low = found_has (λ (k : Link). IsKnown drivers k.lower) (λ k. eqb k.id r.0.id) c.links l.0 (recursion_from_All (λ (k : Link). IsKnown drivers k.lower) c.links h.known.lowers) l.1 in
     subst (λ (x : Place). IsNext drivers p x) here (record { known = low.1; differ = λ same. apart (sym same ∙ sym (upper ∙ own)) })
 
 next_above : (drivers : List DriverSpec) (c : Configuration) (p : Place) (addr : ℕ) (q : Place) → IsSound drivers c → place_above c.links c.binds p.stream addr ≡ Some q → IsNext drivers p q
 next_above drivers c p addr q h e =
-    let l = bound (find (λ k. same_stream k.lower p.stream) c.links) _ q e in
-    let b = bound (find (λ x. eqb x.driver l.0.ctl.driver && eqb x.addr addr) c.binds) _ q l.2 in
+    let l = bound (find (λ k. same_stream k.lower p.stream) c.links) (λ k. find (λ x. eqb x.driver k.ctl.driver && eqb x.addr addr) c.binds >>= (λ x. Some (record { stream = record { driver = x.driver; minor = x.minor }; side = side.Read }))) q e in
+    let b = bound (find (λ x. eqb x.driver l.0.ctl.driver && eqb x.addr addr) c.binds) (λ x. Some (record { stream = record { driver = x.driver; minor = x.minor }; side = side.Read })) q l.2 in
     let at = found_has (λ (x : Binding). IsKnown drivers (record { driver = x.driver; minor = x.minor })) (λ x. eqb x.driver l.0.ctl.driver && eqb x.addr addr) c.binds b.0 (recursion_from_All (λ (x : Binding). IsKnown drivers (record { driver = x.driver; minor = x.minor })) c.binds h.known.binds) b.1 in
     let upper = eqb-true b.0.driver l.0.ctl.driver (and_parts _ _ at.0).0 in
     let lower = ap (λ (s : StreamId). s.driver) (stream_is l.0.lower p.stream (found_passes (λ k. same_stream k.lower p.stream) c.links l.0 l.1)) in
-    let here : record { stream = record { driver = b.0.driver; minor = b.0.minor }; side = side.Read } ≡ q = some_is _ q b.2 in
+    let here : record { stream = record { driver = b.0.driver; minor = b.0.minor }; side = side.Read } ≡ q = some_is (record { stream = record { driver = b.0.driver; minor = b.0.minor }; side = side.Read }) q b.2 in
     let apart = drivers_differ c.links (λ k. same_stream k.lower p.stream) l.0 h.links.no_cycle l.1 in
     subst (λ (x : Place). IsNext drivers p x) here (record { known = at.1; differ = λ same. apart (lower ∙ same ∙ upper) })
 
@@ -103,8 +103,8 @@ not_full false p q e = (refl, some_is p q e)
 
 pub open_next : (drivers : List DriverSpec) (c : Configuration) (p q : Place) → IsSound drivers c → next_open_place drivers c p ≡ Some q → IsOpenNext drivers c p q
 open_next drivers c p q h e =
-    let m = bound (first_message c.flow p) _ q e in
-    let n = bound (next_place drivers c p m.0.addr) _ q m.2 in
+    let m = bound (first_message c.flow p) (λ m. next_place drivers c p m.addr >>= (λ r. cond (is_full c r) None (Some r))) q e in
+    let n = bound (next_place drivers c p m.0.addr) (λ r. cond (is_full c r) None (Some r)) q m.2 in
     let o = not_full (is_full c n.0) n.0 q n.2 in
     let next = subst (λ (x : Place). IsNext drivers p x) o.1 (next_by drivers c p.stream p.side m.0.addr n.0 h n.1) in
     record {

@@ -6,6 +6,7 @@ ghost use Rattle.smx_types.specs.declared.limits.TheConstants.{NUMBER_END};
 ghost use Rattle.smx_model.specs.Commands.{send_outcome, receive_outcome, is_side};
 ghost use Rattle.smx_model.specs.Configuration.{QueuedMessage, same_stream};
 ghost use Rattle.smx_model.specs.DriverList.{max_of};
+ghost use Rattle.smx_model.specs.KnownStreams.{IsKnown};
 ghost use Rattle.smx_model.specs.Queues.{is_full};
 ghost use Rattle.smx_config.specs.DroppedMessages.{AreDropped, is_flushed_at};
 ghost use Rattle.smx_config.specs.ReservedRoom.{HasRoom};
@@ -65,7 +66,8 @@ fn send(
     addr: u32,
     bytes: &Bytes,
 ) -> Result<Reply, StepError>
-    requires { StepInvariant drivers.now lists.old }
+    requires whole { StepInvariant drivers.now lists.old }
+    requires known { IsKnown drivers.now place.stream }
     ensures refines { HasOutcomeOrNoMemory lists.old lists.new (send_outcome drivers.now (configuration_of lists.old) place addr bytes.now) result }
     ensures kept { HasRoom lists.new }
     ensures drivers { sizes_of lists.new ≡ sizes_of lists.old }

@@ -93,7 +93,7 @@ impl Config {
     /// Does a command of a process: its reply and the new configuration are those of the command table. A fault for a
     /// reply changes nothing, and neither does want of memory. `dup`, `unbind`, `unroute`, `read`, `transmit` and every
     /// refusal take no memory, so they are always answered.
-    #[tactic(auto, using(crate::proofs::KeptLemmas::table_stays, crate::proofs::KeptLemmas::minors_stay, crate::proofs::KeptLemmas::tells_again))]
+    #[tactic(auto, using(crate::proofs::KeptLemmas::table_stays, crate::proofs::KeptLemmas::minors_stay, crate::proofs::KeptLemmas::queues_stay, crate::proofs::KeptLemmas::tells_again))]
     pub fn step(&mut self, process: Process, command: &Command) -> Result<Reply, NoMemory>
         // What it does.
         ensures drivers { self.new.drivers ≡ self.old.drivers }

@@ -1,9 +1,11 @@
 -- What is left of a walk over places, of which some are passed by.
-use Rattle.std.proofs.Common.{◌≡◌, ℕ, zero, suc, ◌+◌, ◌<◌, ◌≤◌, ltb, Bool, true, false, List, [], ◌∷◌, ◌++◌, length, drop, get_or, Option, Some, None, refl, sym, ap, ◌∙◌, subst, arith, add-one, length-append}
+use Rattle.std.proofs.Common.{◌≡◌, ℕ, zero, suc, ◌+◌, ◌<◌, ◌≤◌, ltb, Bool, true, false, List, [], ◌∷◌, ◌++◌, length, drop, get_or, Option, Some, None, refl, sym, ap, ◌∙◌, subst, arith, length-append}
 use Rattle.std.specs.Prelude.{slice_get}
 use Rattle.std.specs.List.{AllByRecursion, list_any}
 use Rattle.std.proofs.lemmas.Bool.{or_parts}
 use Rattle.std.proofs.lemmas.Bool.Decides.{nat_tests}
+use Rattle.std.proofs.lemmas.List.{drop_more}
+use Rattle.std.proofs.lemmas.Option.{get_or_from_slice_get, slice_get_within}
 use Rattle.smx_types.specs.declared.driver.DriverSpec.{DriverSpec}
 use Rattle.smx_types.specs.declared.message.Message.{Message}
 use Rattle.smx_types.specs.declared.stream.Place.{Place}
@@ -50,14 +52,10 @@ skip_to shown passes (p ∷ places) (q ∷ queues) (suc n) (suc i) skips le belo
 -- then that number stands first
 first_left : {X : Type 0} (shown : List Place → List (Option Queue) → List X) (places : List Place) (queues : List (Option Queue)) (i : ℕ) (p : Place) → i < length queues → slice_get places i ≡ Some p
     → shown (drop i places) (drop i queues) ≡ shown (p ∷ drop (i + 1) places) (get_or queues i None ∷ drop (i + 1) queues)
-first_left shown [] queues i p below at = absurd cc
-first_left shown (r ∷ places) [] i p below at = absurd (omega arith)
-first_left shown (r ∷ places) (q ∷ queues) zero p below at = let e : r ≡ p = some_is r p at in rw e refl where
-  some_is : (x y : Place) → Some x ≡ Some y → x ≡ y
-  some_is x y e = cc
-first_left shown (r ∷ places) (q ∷ queues) (suc i) p below at = rw add-one (first_left' i below at) where
-  first_left' : (j : ℕ) → suc j < length (q ∷ queues) → slice_get places j ≡ Some p → shown (drop j places) (drop j queues) ≡ shown (p ∷ drop (suc j) places) (get_or queues j None ∷ drop (suc j) queues)
-  first_left' j lt here = first_left shown places queues j p (omega arith) here ∙ rw add-one refl
+first_left shown places queues i p below at =
+    let here : drop i places ≡ p ∷ drop (i + 1) places = drop_more places i p (slice_get_within places i p at) ∙ ap (λ (x : Place). x ∷ drop (i + 1) places) (get_or_from_slice_get places i p p at) in
+    let there : drop i queues ≡ get_or queues i None ∷ drop (i + 1) queues = drop_more queues i None below in
+    ap (λ (ps : List Place). shown ps (drop i queues)) here ∙ ap (shown (p ∷ drop (i + 1) places)) there
 
 no_messages : (q : Option Queue) → has_messages q ≡ false → messages_in q ≡ []
 no_messages q h = by (messages_in q) h where
