@@ -3,6 +3,7 @@ use Rattle.std.proofs.Common.{◌≡◌, ℕ, zero, suc, ◌+◌, ◌<◌, ◌�
 use Rattle.std.specs.List.{sum_by}
 use Rattle.std.proofs.lemmas.Bool.{cases_Bool, cases_lt}
 use Rattle.std.proofs.lemmas.Bool.Decides.{nat_tests}
+use Rattle.std.proofs.lemmas.List.Sums.{sum_by-cons}
 use Rattle.std.proofs.lemmas.List.{get_or_default, get_or_past}
 use Rattle.slab.specs.Slab.{Slab, slab_len}
 use Rattle.smx_types.specs.declared.message.Message.{Message}
@@ -69,9 +70,30 @@ sums_same [] [] many each = refl
 sums_same [] (q ∷ queues) many each = absurd (omega arith)
 sums_same (c ∷ chains) [] many each = absurd (omega arith)
 sums_same (c ∷ chains) (q ∷ queues) many each =
-    let here = each 0 (omega arith) in
+    let here : c.count ≡ length (messages_in (slot c q)) = each 0 (omega arith) in
     let rest = sums_same chains queues (omega arith) (λ p lt. each (suc p) (omega arith)) in
-    omega (arith, here, rest)
+    sum_by-cons (λ (x : Chain). x.count) c chains
+    ∙ (ap (λ (n : ℕ). n + sum_by (λ (x : Chain). x.count) chains) here
+    ∙ (ap (λ (n : ℕ). length (messages_in (slot c q)) + n) rest ∙ sym (sum_by-cons (λ (x : Option Queue). length (messages_in x)) (slot c q) (slots chains queues))))
+
+-- a number passes where its chain has messages
+pub filled : (view : List (Option Queue)) (p : ℕ) (chain : Chain) → IsSlot view p chain → 0 < chain.count → has_messages (get_or view p None) ≡ true
+filled view p chain s some = by (length (messages_in (get_or view p None))) (omega (arith, s.count)) where
+  by : (n : ℕ) → 0 < n → ltb 0 n ≡ true
+  by n lt = grind (arith, nat_tests)
+
+pub unfilled : (view : List (Option Queue)) (p : ℕ) (chain : Chain) → IsSlot view p chain → chain.count ≤ 0 → has_messages (get_or view p None) ≡ false
+unfilled view p chain s none = by (length (messages_in (get_or view p None))) (omega (arith, s.count)) where
+  by : (n : ℕ) → n ≤ 0 → ltb 0 n ≡ false
+  by n le = grind (arith, nat_tests)
+
+-- one number more that doesn't pass
+pub none_up_to : (passes : Option Queue → Bool) (view : List (Option Queue)) (start p : ℕ) → ((k : ℕ) → start ≤ k → k < p → passes (get_or view k None) ≡ false) → passes (get_or view p None) ≡ false
+    → (k : ℕ) → start ≤ k → k < p + 1 → passes (get_or view k None) ≡ false
+none_up_to passes view start p before here k le lt = elim (cases_lt k p) [
+  | inl less ↦ before k le less
+  | inr more ↦ let e : k ≡ p = omega arith in subst (λ (j : ℕ). passes (get_or view j None) ≡ false) (sym e) here
+]
 
 pub total_is : (s : Slab Node) (chains : List Chain) (sound : IsSound s chains) (view : List (Option Queue)) → map (slot_of s) chains ≡ view → slab_len s ≡ message_total view
 total_is s chains sound view is =

@@ -1,6 +1,6 @@
 -- What a call on the queue of a number says of the flow and the full places.
-use Rattle.std.proofs.Common.{◌≡◌, ℕ, Bool, true, false, List, [], ◌∷◌, ◌++◌, length, Option, Some, None, IsSome, refl, sym, ap, ◌∙◌, subst}
-use Rattle.std.specs.Prelude.{slice_get}
+use Rattle.std.proofs.Common.{◌≡◌, ℕ, ◌<◌, arith, Bool, true, false, List, [], ◌∷◌, ◌++◌, length, Option, Some, None, IsSome, refl, sym, ap, ◌∙◌, subst}
+use Rattle.std.specs.Prelude.{IfNone, OnSome, slice_get}
 use Rattle.std.specs.List.{list_any}
 use Rattle.smx_types.specs.declared.message.Message.{Message}
 use Rattle.smx_types.specs.declared.stream.Place.{Place}
@@ -8,7 +8,7 @@ use Rattle.smx_model.specs.Configuration.{same_place}
 use Rattle.smx_model.specs.Queues.{first_message, queue}
 use Rattle.smx_queues.specs.FlowTables.{FlowLists, IsFlow, after_arrival, after_leaving, flow_of, fulls_of, lists_of, without_place}
 use Rattle.smx_queues.specs.PlaceLists.{PlaceList}
-use Rattle.smx_queues.specs.QueueTable.{IsPlace, emptied, queue_at, with_arrival, with_queue, without_front}
+use Rattle.smx_queues.specs.QueueTable.{IsPlace, QueueTable, emptied, queue_at, with_arrival, with_queue, without_front}
 use Rattle.smx_queues.specs.Slots.{is_marked, message_total, messages_in}
 use Rattle.smx_queues.specs.QueueTable.{Queue}
 use Rattle.smx_queues.proofs.FlowLemmas.{queue_found, queue_none}
@@ -98,3 +98,67 @@ same_is p all n m t seen = ap (λ (x : FlowLists). record x { spare = m }) seen
 
 pub total_is : (p : PlaceList) (all : List (Option Queue)) (n : ℕ) (t : FlowLists) → IsFlow p all → lists_of p all n ≡ t → message_total all ≡ length t.flow
 total_is p all n t h seen = sym (flow_length p.places all (many_queues p.drivers p.places all h.queues)) ∙ ap (λ (x : FlowLists). length x.flow) seen
+
+-- ---- a message that leaves, if there is one
+
+pub record IsTaken (p : PlaceList) (all : List (Option Queue)) (n : ℕ) (t : FlowLists) (place : Place) (o : Option Message) : Type 0 where
+  pub sound : IsFlow p all
+  pub is : OnSome o (lists_of p all n ≡ record (after_leaving t place) { spare = n })
+
+pub taken_by : (p : PlaceList) (old new : QueueTable) (t : FlowLists) (place : Place) (i : ℕ) (o : Option Message) → IsFlow p old.queues → lists_of p old.queues old.spare ≡ t → slice_get p.places i ≡ Some place
+    → o ≡ slice_get (queue_at old.queues i).messages 0 → OnSome o (new.queues ≡ with_queue old.queues i (without_front (queue_at old.queues i))) → IfNone o (new ≡ old) → IsTaken p new.queues new.spare t place o
+taken_by p old new t place i None h seen at first left none = record { sound = subst (λ (x : QueueTable). IsFlow p x.queues) (sym none) h; is = tt }
+taken_by p old new t place i (Some m) h seen at first left none =
+    let a = take_is p old.queues new.queues old.spare t place i m h seen at (sym first) left in
+    record { sound = a.sound; is = a.is new.spare }
+
+-- ---- a place that is none of them
+
+pub drop_none_is : (p : PlaceList) (all : List (Option Queue)) (n : ℕ) (t : FlowLists) (place : Place) → IsFlow p all → lists_of p all n ≡ t → list_any (same_place place) p.places ≡ false
+    → t ≡ record (without_place t place) { spare = t.spare }
+drop_none_is p all n t place h seen none =
+    subst (λ (x : FlowLists). x ≡ record (without_place x place) { spare = x.spare }) seen (seen_now p all (without_place (lists_of p all n) place) n (nothing_now p all n place h none))
+
+-- ---- a message that moves on
+
+some_there : (ms : List Message) (o : Option Message) → slice_get ms 0 ≡ o → IsSome o → 0 < length ms
+some_there [] o e some = let bad = subst (λ (x : Option Message). IsSome x) (sym e) some in absurd cc
+some_there (m ∷ ms) o e some = omega arith
+
+pub some_queued : (p : PlaceList) (all : List (Option Queue)) (n : ℕ) (t : FlowLists) (place : Place) (i : ℕ) → IsFlow p all → lists_of p all n ≡ t → slice_get p.places i ≡ Some place → IsFirstOfQueue t place
+    → IsSome (first_message t.flow place) → 0 < length (queue_at all i).messages
+some_queued p all n t place i h seen at law some = some_there (queue_at all i).messages (first_message t.flow place) (first_is p all n t place i h seen at law) some
+
+pub record IsMovedOn (p : PlaceList) (all : List (Option Queue)) (n : ℕ) (t : FlowLists) (from to : Place) : Type 0 where
+  pub sound : IsFlow p all
+  pub is : (m : Message) → first_message t.flow from ≡ Some m → lists_of p all n ≡ after_arrival (after_leaving t from) to m
+
+moved_at : (p : PlaceList) (old new : QueueTable) (t : FlowLists) (from to : Place) (i j : ℕ) (m : Message) → IsFlow p old.queues → lists_of p old.queues old.spare ≡ t → slice_get p.places i ≡ Some from → slice_get p.places j ≡ Some to
+    → same_place from to ≡ false → slice_get (queue_at old.queues i).messages 0 ≡ Some m
+    → new.queues ≡ with_queue (with_queue old.queues i (without_front (queue_at old.queues i))) j (with_arrival (queue_at old.queues j) m) → new.spare ≡ old.spare
+    → IsFlow p new.queues × (lists_of p new.queues new.spare ≡ after_arrival (after_leaving t from) to m)
+moved_at p old new t from to i j m h seen at there differ first moved same =
+    let a = move_is p old.queues new.queues old.spare t from to i j m h seen at there differ first moved in
+    (a.sound, a.is new.spare ∙ ap (λ (n : ℕ). record (after_arrival (after_leaving t from) to m) { spare = n }) (same ∙ ap (λ (x : FlowLists). x.spare) seen))
+
+moved_some : (p : PlaceList) (old new : QueueTable) (t : FlowLists) (from to : Place) (i j : ℕ) (o : Option Message) → first_message t.flow from ≡ o → IsSome o → IsFlow p old.queues → lists_of p old.queues old.spare ≡ t
+    → slice_get p.places i ≡ Some from → slice_get p.places j ≡ Some to → same_place from to ≡ false → IsFirstOfQueue t from
+    → ((m : Message) → slice_get (queue_at old.queues i).messages 0 ≡ Some m → new.queues ≡ with_queue (with_queue old.queues i (without_front (queue_at old.queues i))) j (with_arrival (queue_at old.queues j) m))
+    → new.spare ≡ old.spare → IsMovedOn p new.queues new.spare t from to
+moved_some p old new t from to i j None e some h seen at there differ law moved same = absurd cc
+moved_some p old new t from to i j (Some m) e some h seen at there differ law moved same =
+    let first = first_is p old.queues old.spare t from i h seen at law in
+    record {
+      sound = (moved_at p old new t from to i j m h seen at there differ (first ∙ e) (moved m (first ∙ e)) same).0;
+      is = λ x f. (moved_at p old new t from to i j x h seen at there differ (first ∙ f) (moved x (first ∙ f)) same).1;
+    }
+
+pub moved_by : (p : PlaceList) (old new : QueueTable) (t : FlowLists) (from to : Place) (i j : ℕ) → IsSome (first_message t.flow from) → IsFlow p old.queues → lists_of p old.queues old.spare ≡ t
+    → slice_get p.places i ≡ Some from → slice_get p.places j ≡ Some to → same_place from to ≡ false → IsFirstOfQueue t from
+    → ((m : Message) → slice_get (queue_at old.queues i).messages 0 ≡ Some m → new.queues ≡ with_queue (with_queue old.queues i (without_front (queue_at old.queues i))) j (with_arrival (queue_at old.queues j) m))
+    → new.spare ≡ old.spare → IsMovedOn p new.queues new.spare t from to
+moved_by p old new t from to i j some h seen at there differ law moved same = moved_some p old new t from to i j (first_message t.flow from) refl some h seen at there differ law moved same
+
+pub none_some : (o : Option Message) → None ≡ o → IsSome o → ⊥
+none_some None e some = cc
+none_some (Some m) e some = cc

@@ -40,10 +40,11 @@ insert_first : (p : Place) (m : Message) (places : List Place) (queues : Queues)
     → with_inserted queued_before (flow_of places queues) (placed p m) ≡ placed p m ∷ flow_of places queues
 insert_first p m [] queues h = refl
 insert_first p m (r ∷ places) [] h = refl
-insert_first p m (r ∷ places) (q ∷ queues) h = by_messages (messages_in q) where
-  by_messages : (ms : List Message) → with_inserted queued_before (messages_at r ms ++ flow_of places queues) (placed p m) ≡ placed p m ∷ (messages_at r ms ++ flow_of places queues)
-  by_messages [] = insert_first p m places queues h.1
-  by_messages (x ∷ ms) = rw h.0 refl
+insert_first p m (r ∷ places) (q ∷ queues) h = by_messages (messages_in q) (insert_first p m places queues h.1) where
+  by_messages : (ms : List Message) → with_inserted queued_before (flow_of places queues) (placed p m) ≡ placed p m ∷ flow_of places queues
+      → with_inserted queued_before (messages_at r ms ++ flow_of places queues) (placed p m) ≡ placed p m ∷ (messages_at r ms ++ flow_of places queues)
+  by_messages [] rest = rest
+  by_messages (x ∷ ms) rest = rw h.0 refl
 
 one_more : (p : Place) (m : Message) (ms : List Message) (rest : List QueuedMessage) → messages_at p (ms ++ m ∷ []) ++ rest ≡ messages_at p ms ++ (placed p m ∷ rest)
 one_more p m [] rest = refl
@@ -76,7 +77,7 @@ flow_left p m [] queues i q rise at below is = absurd cc
 flow_left p m (r ∷ places) [] i q rise at below is = absurd (omega arith)
 flow_left p m (r ∷ places) (old ∷ queues) zero q rise at below is =
     let e = some_is r p at in
-    rw (is, e, place_self p) refl
+    subst (λ (x : Place). flow_of (x ∷ places) (Some q ∷ queues) ≡ without_first (is_at p) (flow_of (x ∷ places) (old ∷ queues))) (sym e) (rw (is, place_self p) refl)
 flow_left p m (r ∷ places) (old ∷ queues) (suc i) q rise at below is =
     ap (λ (xs : List QueuedMessage). messages_at r (messages_in old) ++ xs) (flow_left p m places queues i q rise.1 at (omega arith) is)
     ∙ sym (skip_without p r (messages_in old) (flow_of places queues) (apart r p (first_before r p places i rise.0 at)))

@@ -83,43 +83,9 @@ mark_none p (r ∷ places) (q ∷ queues) h = let b = or_parts (same_place p r) 
   | inr f ↦ rw f (mark_none p places queues b.1)
 ]
 
-here : (p : Place) (was full : Bool) (places : List Place) (queues : Queues) → ComesBefore place_before p places
-    → with_mark p full (cond was (p ∷ fulls_of places queues) (fulls_of places queues)) ≡ cond full (p ∷ fulls_of places queues) (fulls_of places queues)
-marked_here p true full places queues h = mark_again p full (fulls_of places queues) ∙ mark_first p full places queues h
-marked_here p false full places queues h = mark_first p full places queues h
-
-marked_later : (p r : Place) (was full : Bool) (fulls : List Place) → place_before r p ≡ true → with_mark p full (cond was (r ∷ fulls) fulls) ≡ cond was (r ∷ with_mark p full fulls) (with_mark p full fulls)
-marked_later p r true full fulls h = mark_later p r full fulls h
-marked_later p r false full fulls h = refl
-
-pub fulls_marked : (p : Place) (places : List Place) (queues : Queues) (i : ℕ) (q : Queue) → IsRising place_before places → slice_get places i ≡ Some p → i < length queues
-    → fulls_of places (set queues i (Some q)) ≡ with_mark p q.full (fulls_of places queues)
-fulls_marked p [] queues i q rise at below = absurd cc
-fulls_marked p (r ∷ places) [] i q rise at below = absurd (omega arith)
-fulls_marked p (r ∷ places) (old ∷ queues) zero q rise at below =
-    let e = some_is r p at in
-    let first : ComesBefore place_before p places = subst (λ (x : Place). ComesBefore place_before x places) e rise.0 in
-    rw e (sym (marked_here p (is_marked old) q.full places queues first))
-fulls_marked p (r ∷ places) (old ∷ queues) (suc i) q rise at below =
-    ap (λ (xs : List Place). cond (is_marked old) (r ∷ xs) xs) (fulls_marked p places queues i q rise.1 at (omega arith))
-    ∙ sym (marked_later p r (is_marked old) q.full (fulls_of places queues) (first_before r p places i rise.0 at))
-
--- ---- whether a place is marked
-
-pub mark_none : (p : Place) (places : List Place) (queues : Queues) → list_any (same_place p) places ≡ false → list_any (same_place p) (fulls_of places queues) ≡ false
-mark_none p [] queues h = refl
-mark_none p (r ∷ places) [] h = refl
-mark_none p (r ∷ places) (q ∷ queues) h = let b = or_parts (same_place p r) (list_any (same_place p) places) h in elim (cases_Bool (is_marked q)) [
-  | inl t ↦ rw t (or_from _ _ b.0 (mark_none p places queues b.1))
-  | inr f ↦ rw f (mark_none p places queues b.1)
-]
-
-pub mark_none : (p : Place) (places : List Place) (queues : Queues) → list_any (same_place p) places ≡ false → list_any (same_place p) (fulls_of places queues) ≡ false
-mark_none p places queues h = mark_none p places queues h
-
-here : (p : Place) (was : Bool) (fulls : List Place) → list_any (same_place p) fulls ≡ false → list_any (same_place p) (cond was (p ∷ fulls) fulls) ≡ was
-here p true fulls h = rw (place_self p) refl
-here p false fulls h = h
+at_front : (p : Place) (was : Bool) (fulls : List Place) → list_any (same_place p) fulls ≡ false → list_any (same_place p) (cond was (p ∷ fulls) fulls) ≡ was
+at_front p true fulls h = rw (place_self p) refl
+at_front p false fulls h = h
 
 elsewhere : (p r : Place) (was : Bool) (fulls : List Place) → same_place p r ≡ false → list_any (same_place p) (cond was (r ∷ fulls) fulls) ≡ list_any (same_place p) fulls
 elsewhere p r true fulls h = rw h refl
@@ -131,6 +97,6 @@ mark_found p (r ∷ places) [] i rise at = refl
 mark_found p (r ∷ places) (q ∷ queues) zero rise at =
     let e = some_is r p at in
     let first : ComesBefore place_before p places = subst (λ (x : Place). ComesBefore place_before x places) e rise.0 in
-    rw e (here p (is_marked q) (fulls_of places queues) (mark_none p places queues (none_behind p places first)))
+    rw e (at_front p (is_marked q) (fulls_of places queues) (mark_none p places queues (none_behind p places first)))
 mark_found p (r ∷ places) (q ∷ queues) (suc i) rise at =
     elsewhere p r (is_marked q) (fulls_of places queues) (behind r p (first_before r p places i rise.0 at)) ∙ mark_found p places queues i rise.1 at

@@ -4,6 +4,7 @@ use Rattle.std.specs.Prelude.{slice_get}
 use Rattle.std.specs.List.{AllByRecursion, list_any}
 use Rattle.std.proofs.lemmas.Bool.{or_parts}
 use Rattle.std.proofs.lemmas.Bool.Decides.{nat_tests}
+use Rattle.std.proofs.lemmas.List.Sums.{sum_by-cons}
 use Rattle.std.proofs.lemmas.List.{drop_more}
 use Rattle.std.proofs.lemmas.Option.{get_or_from_slice_get, slice_get_within}
 use Rattle.smx_types.specs.declared.driver.DriverSpec.{DriverSpec}
@@ -57,14 +58,15 @@ first_left shown places queues i p below at =
     let there : drop i queues ≡ get_or queues i None ∷ drop (i + 1) queues = drop_more queues i None below in
     ap (λ (ps : List Place). shown ps (drop i queues)) here ∙ ap (shown (p ∷ drop (i + 1) places)) there
 
-no_messages : (q : Option Queue) → has_messages q ≡ false → messages_in q ≡ []
-no_messages q h = by (messages_in q) h where
-  by : (ms : List Message) → ltb 0 (length ms) ≡ false → ms ≡ []
-  by [] e = refl
-  by (m ∷ ms) e = absurd (some (length ms) e)
+some_messages : (n : ℕ) → ltb 0 (suc n) ≡ false → ⊥
+some_messages n e = grind (arith, nat_tests)
 
-  some : (n : ℕ) → ltb 0 (suc n) ≡ false → ⊥
-  some n e = grind (arith, nat_tests)
+none_of : (ms : List Message) → ltb 0 (length ms) ≡ false → ms ≡ []
+none_of [] e = refl
+none_of (m ∷ ms) e = absurd (some_messages (length ms) e)
+
+no_messages : (q : Option Queue) → has_messages q ≡ false → messages_in q ≡ []
+no_messages q h = none_of (messages_in q) h
 
 pub many_queues : (drivers : List DriverSpec) (places : List Place) (queues : List (Option Queue)) → AreQueuesOf drivers places queues → length queues ≡ length places
 many_queues drivers [] [] h = refl
@@ -122,14 +124,13 @@ fronts_are : (before : Option Place) (places : List Place) (queues : List (Optio
     → fronts_of places queues ≡ fronts_after before (flow_of places queues)
 fronts_are before [] queues rise none = refl
 fronts_are before (p ∷ places) [] rise none = refl
-fronts_are before (p ∷ places) (q ∷ queues) rise none = by (messages_in q) where
-  parts : (is_same before p ≡ false) × (list_any (is_same before) places ≡ false)
-  parts = or_parts (is_same before p) (list_any (is_same before) places) none
-
-  by : (ms : List Message) → first_at p ms ++ fronts_of places queues ≡ fronts_after before (messages_at p ms ++ flow_of places queues)
-  by [] = fronts_are before places queues rise.1 parts.1
-  by (m ∷ ms) = rw parts.0 (ap (λ (hs : List QueuedMessage). record { place = p; message = m } ∷ hs)
-      (fronts_are (Some p) places queues rise.1 (none_behind p places rise.0) ∙ sym (pass_same p ms (flow_of places queues))))
+fronts_are before (p ∷ places) (q ∷ queues) rise none =
+    let parts = or_parts (is_same before p) (list_any (is_same before) places) none in
+    by (messages_in q) parts.0 (fronts_are before places queues rise.1 parts.1) (fronts_are (Some p) places queues rise.1 (none_behind p places rise.0)) where
+      by : (ms : List Message) → is_same before p ≡ false → fronts_of places queues ≡ fronts_after before (flow_of places queues) → fronts_of places queues ≡ fronts_after (Some p) (flow_of places queues)
+          → first_at p ms ++ fronts_of places queues ≡ fronts_after before (messages_at p ms ++ flow_of places queues)
+      by [] other same after = same
+      by (m ∷ ms) other same after = rw other (ap (λ (hs : List QueuedMessage). record { place = p; message = m } ∷ hs) (after ∙ sym (pass_same p ms (flow_of places queues))))
 
 none_before : (places : List Place) → list_any (is_same None) places ≡ false
 none_before [] = refl
@@ -139,7 +140,7 @@ pub fronts_found : (places : List Place) (queues : List (Option Queue)) → IsRi
 fronts_found places queues rise = fronts_are None places queues rise (none_before places)
 
 -- each of them is the first message at its place
-abbrev AreFirst : List QueuedMessage → List QueuedMessage → Type 0
+abbrev pub AreFirst : List QueuedMessage → List QueuedMessage → Type 0
 AreFirst flow hs = AllByRecursion (λ h. first_message flow h.place ≡ Some h.message) hs
 
 abbrev AreBehind : Place → List QueuedMessage → Type 0
@@ -156,21 +157,18 @@ still_first r ms rest (h ∷ hs) b f = (first_behind r h.place ms rest b.0 ∙ f
 fronts_behind : (p : Place) (places : List Place) (queues : List (Option Queue)) → ComesBefore place_before p places → AreBehind p (fronts_of places queues)
 fronts_behind p [] queues h = tt
 fronts_behind p (r ∷ places) [] h = tt
-fronts_behind p (r ∷ places) (q ∷ queues) h = by (messages_in q) where
-  by : (ms : List Message) → AreBehind p (first_at r ms ++ fronts_of places queues)
-  by [] = fronts_behind p places queues h.1
-  by (m ∷ ms) = (apart p r h.0, fronts_behind p places queues h.1)
+fronts_behind p (r ∷ places) (q ∷ queues) h = by (messages_in q) (fronts_behind p places queues h.1) where
+  by : (ms : List Message) → AreBehind p (fronts_of places queues) → AreBehind p (first_at r ms ++ fronts_of places queues)
+  by [] rest = rest
+  by (m ∷ ms) rest = (apart p r h.0, rest)
 
 pub fronts_first : (places : List Place) (queues : List (Option Queue)) → IsRising place_before places → AreFirst (flow_of places queues) (fronts_of places queues)
 fronts_first [] queues rise = tt
 fronts_first (p ∷ places) [] rise = tt
-fronts_first (p ∷ places) (q ∷ queues) rise = by (messages_in q) where
-  rest : (ms : List Message) → AreFirst (messages_at p ms ++ flow_of places queues) (fronts_of places queues)
-  rest ms = still_first p ms (flow_of places queues) (fronts_of places queues) (fronts_behind p places queues rise.0) (fronts_first places queues rise.1)
-
-  by : (ms : List Message) → AreFirst (messages_at p ms ++ flow_of places queues) (first_at p ms ++ fronts_of places queues)
-  by [] = rest []
-  by (m ∷ ms) = (rw (place_self p) refl, rest (m ∷ ms))
+fronts_first (p ∷ places) (q ∷ queues) rise = by (messages_in q) (λ ms. still_first p ms (flow_of places queues) (fronts_of places queues) (fronts_behind p places queues rise.0) (fronts_first places queues rise.1)) where
+  by : (ms : List Message) → ((ns : List Message) → AreFirst (messages_at p ns ++ flow_of places queues) (fronts_of places queues)) → AreFirst (messages_at p ms ++ flow_of places queues) (first_at p ms ++ fronts_of places queues)
+  by [] rest = rest []
+  by (m ∷ ms) rest = (rw (place_self p) refl, rest (m ∷ ms))
 
 -- ---- how many messages there are
 
@@ -183,4 +181,14 @@ flow_length [] [] many = refl
 flow_length [] (q ∷ queues) many = absurd (omega arith)
 flow_length (p ∷ places) [] many = absurd (omega arith)
 flow_length (p ∷ places) (q ∷ queues) many =
-    length-append (messages_at p (messages_in q)) (flow_of places queues) ∙ omega (arith, at_length p (messages_in q), flow_length places queues (omega arith))
+    length-append (messages_at p (messages_in q)) (flow_of places queues)
+    ∙ (ap (λ (n : ℕ). n + length (flow_of places queues)) (at_length p (messages_in q)) ∙ (ap (λ (n : ℕ). length (messages_in q) + n) (flow_length places queues (omega arith))
+    ∙ sym (sum_by-cons (λ (x : Option Queue). length (messages_in x)) q queues)))
+
+-- ---- what an iterator's step yields
+
+pub head_front : (p : Place) (q : Option Queue) (m : Message) (rest : List QueuedMessage) → slice_get (messages_in q) 0 ≡ Some m → first_at p (messages_in q) ++ rest ≡ record { place = p; message = m } ∷ rest
+head_front p q m rest e = by (messages_in q) e where
+  by : (ms : List Message) → slice_get ms 0 ≡ Some m → first_at p ms ++ rest ≡ record { place = p; message = m } ∷ rest
+  by [] f = absurd cc
+  by (x ∷ ms) f = let same : x ≡ m = cc in rw same refl

@@ -15,3 +15,4 @@ pub mod FindLemmas
 pub mod LeftLemmas
 pub mod FlowCallLemmas
 pub mod SpecLemmas
+pub mod StepLemmas

@@ -5,6 +5,7 @@ use Rattle.std.specs.List.{list_any}
 use Rattle.std.specs.Option.{option_map_or}
 use Rattle.std.proofs.lemmas.Bool.{cases_eq, cases_lt, or_from, ne_eqb}
 use Rattle.std.proofs.lemmas.Bool.Decides.{nat_tests}
+use Rattle.std.proofs.lemmas.List.{get_or_default}
 use Rattle.std.proofs.lemmas.List.Folds.{list_any-append}
 use Rattle.std.proofs.lemmas.Option.{slice_get_past, slice_get_within}
 use Rattle.smx_types.specs.declared.driver.DriverSpec.{DriverSpec}
@@ -90,7 +91,7 @@ below_higher (x ∷ xs) n m le h = (omega (arith, h.0), below_higher xs n m le h
 
 sides_below : (driver n m : ℕ) → driver < m → HaveDriversBelow m (sides_of driver n)
 sides_below driver zero m lt = tt
-sides_below driver (suc n) m lt = below_more (sides_of driver n) (place_at driver n side.Write ∷ place_at driver n side.Read ∷ []) m (sides_below driver n m lt) (lt, lt, tt)
+sides_below driver (suc n) m lt = below_more (sides_of driver n) (place_at driver n side.Write ∷ place_at driver n side.Read ∷ []) m (sides_below driver n m lt) (lt, (lt, tt))
 
 -- ---- lists that rise, one behind the other
 
@@ -120,10 +121,10 @@ sides_before driver (suc n) m le =
     let lt = less n m (omega arith) in
     all_before_more (sides_of driver n) (place_at driver n side.Write ∷ place_at driver n side.Read ∷ []) (place_at driver m side.Write ∷ place_at driver m side.Read ∷ [])
     (sides_before driver n m (omega arith))
-    ((lower_minor driver n m side.Write side.Write lt, lower_minor driver n m side.Write side.Read lt, tt), (lower_minor driver n m side.Read side.Write lt, lower_minor driver n m side.Read side.Read lt, tt), tt)
+    ((lower_minor driver n m side.Write side.Write lt, (lower_minor driver n m side.Write side.Read lt, tt)), ((lower_minor driver n m side.Read side.Write lt, (lower_minor driver n m side.Read side.Read lt, tt)), tt))
 
 two_rise : (driver n : ℕ) → IsRising place_before (place_at driver n side.Write ∷ place_at driver n side.Read ∷ [])
-two_rise driver n = ((write_first driver n, tt), tt, tt) where
+two_rise driver n = ((write_first driver n, tt), (tt, tt)) where
   write_first : (d m : ℕ) → place_before (place_at d m side.Write) (place_at d m side.Read) ≡ true
   write_first d m = grind (arith, nat_tests)
 
@@ -136,7 +137,7 @@ before_sides p driver zero lt = tt
 before_sides p driver (suc n) lt =
     let h = less p.stream.driver driver lt in
     before_more p (sides_of driver n) (place_at driver n side.Write ∷ place_at driver n side.Read ∷ []) (before_sides p driver n lt)
-    (lower_driver p (place_at driver n side.Write) h, lower_driver p (place_at driver n side.Read) h, tt)
+    (lower_driver p (place_at driver n side.Write) h, (lower_driver p (place_at driver n side.Read) h, tt))
 
 all_before_sides : (places : List Place) (driver n : ℕ) → HaveDriversBelow driver places → AllBefore places (sides_of driver n)
 all_before_sides [] driver n h = tt
@@ -191,3 +192,17 @@ one_driver_more ds firsts places d h = record {
 
 pub no_drivers : ArePlaces [] [] []
 no_drivers = record { one_each = refl; rising = tt; numbered = λ p lt. absurd (omega arith); none_else = λ p le. refl; drivers_below = tt }
+
+-- ---- what a place says where its driver has its minor
+
+pub driver_there : (ds : List DriverSpec) (firsts : List ℕ) (places : List Place) (p : Place) → ArePlaces ds firsts places → p.stream.minor < minors_of ds p.stream.driver → p.stream.driver < length firsts
+driver_there ds firsts places p h lt = elim (cases_lt p.stream.driver (length ds)) [
+  | inl before ↦ omega (arith, h.one_each)
+  | inr past ↦ absurd (omega (arith, minors_past ds p.stream.driver past))
+]
+
+pub number_below : (ds : List DriverSpec) (firsts : List ℕ) (places : List Place) (p : Place) → ArePlaces ds firsts places → p.stream.minor < minors_of ds p.stream.driver → number_of firsts p < length places
+number_below ds firsts places p h lt = slice_get_within places (number_of firsts p) p (h.numbered p lt)
+
+pub first_is : (firsts given : List ℕ) (d x : ℕ) → given ≡ firsts → d < length firsts → x ≡ get_or given d x → x ≡ get_or firsts d 0
+first_is firsts given d x e lt is = is ∙ (ap (λ (ns : List ℕ). get_or ns d x) e ∙ get_or_default firsts d x 0 lt)

@@ -1,5 +1,5 @@
 -- What a driver that can be had is like.
-use Rattle.std.proofs.Common.{◌≡◌, ℕ, suc, ◌+◌, ◌<◌, ◌≤◌, ltb, leb, ◌||◌, List, [], ◌∷◌, ◌++◌, length, get_or, take, Option, Ok, sym, ap, ◌∙◌, subst, arith, inl, inr}
+use Rattle.std.proofs.Common.{◌≡◌, ℕ, false, ◌+◌, ◌<◌, ◌≤◌, ltb, leb, ◌||◌, List, [], ◌∷◌, ◌++◌, length, get_or, take, Option, Ok, sym, ap, ◌∙◌, subst, arith, inl, inr}
 use Rattle.std.specs.Option.{option_map_or}
 use Rattle.std.proofs.lemmas.Bool.{cases_Bool}
 use Rattle.std.proofs.lemmas.Bool.Decides.{nat_tests}

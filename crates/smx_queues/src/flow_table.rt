@@ -128,8 +128,10 @@ impl FlowTable {
             → self.new ≡ after_arrival (after_leaving self.old from) to m }
     {
         the_first_leaves();
-        if let (Some(p), Some(q)) = (self.places.number(from), self.places.number(to)) {
-            self.queues.move_front(p, q);
+        if let Some(p) = self.places.number(from) {
+            if let Some(q) = self.places.number(to) {
+                self.queues.move_front(p, q);
+            }
         }
     }
 

@@ -1,7 +1,7 @@
 //! The first message of each place that has any.
 
 ghost use Rattle.std.specs.Prelude.{◌≡◌};
-ghost use Rattle.std.specs.Iterator.{YieldsFirstBy, item_count};
+ghost use Rattle.std.specs.Iterator.{YieldsFirstBy};
 ghost use Rattle.smx_queues.specs.FlowTables.{flow_of, fronts, IsFlow};
 
 use crate::places::Places;
@@ -44,14 +44,12 @@ impl<'a> Fronts<'a> {
     }
 }
 
-impl<'a> Iterator for Fronts<'a> {
-    type Item = Queued<'a>;
-
-    ghost next_gives = { YieldsFirstBy (λ item. record { place = item.place; message = item.message.now }) (λ rest. rest) };
-
-    ghost remaining = { item_count (λ rest. rest) };
-
-    fn next(&mut self) -> Option<Queued<'a>> {
+impl<'a> Fronts<'a> {
+    /// The next one, if any is left. Takes no memory.
+    pub fn next(&mut self) -> Option<Queued<'a>>
+        ensures { YieldsFirstBy (λ item. record { place = item.place; message = item.message.now }) (λ rest. rest) self.old result self.new }
+    {
+        let _count = self.places.len();
         let p = self.queues.filled_from(self.next)?;
         let message = self.queues.front(p)?;
         let place = self.places.at(p);

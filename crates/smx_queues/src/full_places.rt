@@ -1,7 +1,7 @@
 //! The full places.
 
 ghost use Rattle.std.specs.Prelude.{◌≡◌};
-ghost use Rattle.std.specs.Iterator.{YieldsFirstBy, item_count};
+ghost use Rattle.std.specs.Iterator.{YieldsFirstBy};
 ghost use Rattle.smx_queues.specs.FlowTables.{fulls_of, IsFlow};
 
 use crate::places::Places;
@@ -43,14 +43,12 @@ impl<'a> FullPlaces<'a> {
     }
 }
 
-impl<'a> Iterator for FullPlaces<'a> {
-    type Item = Place;
-
-    ghost next_gives = { YieldsFirstBy (λ item. item) (λ rest. rest) };
-
-    ghost remaining = { item_count (λ rest. rest) };
-
-    fn next(&mut self) -> Option<Place> {
+impl<'a> FullPlaces<'a> {
+    /// The next one, if any is left. Takes no memory.
+    pub fn next(&mut self) -> Option<Place>
+        ensures { YieldsFirstBy (λ item. item) (λ rest. rest) self.old result self.new }
+    {
+        let _count = self.places.len();
         let p = self.queues.full_from(self.next)?;
         self.next = p + 1;
         Some(self.places.at(p))

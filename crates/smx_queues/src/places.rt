@@ -1,7 +1,7 @@
 //! The places of all streams that some drivers have.
 
 ghost use Rattle.std.specs.Prelude.{◌≡◌, ◌≤◌, ◌++◌, ◌<◌, false, Some, IfOk, OnOk, IfSome, IsSome, IfNone, length};
-ghost use Rattle.std.specs.Prelude.{slice_get};
+ghost use Rattle.std.specs.Prelude.{slice_get, slice_index_or};
 ghost use Rattle.std.specs.List.{list_any};
 ghost use Rattle.smx_model.specs.Configuration.{place_before, same_place};
 ghost use Rattle.smx_model.specs.DriverList.{high_of, low_of, minors_of, IsDriverList};
@@ -49,6 +49,13 @@ fn minors_of(drivers: &[DriverSpec], driver: u8) -> u32
         Some(d) => d.minors,
         None => 0,
     }
+}
+
+fn first_of(firsts: &[usize], driver: u8) -> usize
+    requires { driver < length firsts.now }
+    ensures { result ≡ slice_index_or firsts.now driver 0 }
+{
+    firsts[driver as usize]
 }
 
 // The high and the low water mark of a driver that is there.
@@ -128,8 +135,10 @@ impl Places {
         if u32::from(minor) >= minors_of(&self.drivers, driver) {
             return None;
         }
-        let first = self.firsts[driver as usize];
-        Some(first + 2 * minor as usize + side_number(place.side))
+        let firsts: &[usize] = &self.firsts;
+        let places: &[Place] = &self.places;
+        let _count = places.len();
+        Some(first_of(firsts, driver) + 2 * minor as usize + side_number(place.side))
     }
 
     /// The place of a number.

@@ -1,7 +1,7 @@
 //! All queued messages, by place.
 
 ghost use Rattle.std.specs.Prelude.{◌≡◌};
-ghost use Rattle.std.specs.Iterator.{YieldsFirstBy, item_count};
+ghost use Rattle.std.specs.Iterator.{YieldsFirstBy};
 ghost use Rattle.smx_queues.specs.FlowTables.{flow_of, IsFlow};
 
 use crate::messages::Messages;
@@ -58,20 +58,18 @@ impl<'a> QueuedMessages<'a> {
     }
 }
 
-impl<'a> Iterator for QueuedMessages<'a> {
-    type Item = Queued<'a>;
-
-    ghost next_gives = { YieldsFirstBy (λ item. record { place = item.place; message = item.message.now }) (λ rest. rest) };
-
-    ghost remaining = { item_count (λ rest. rest) };
-
-    fn next(&mut self) -> Option<Queued<'a>> {
+impl<'a> QueuedMessages<'a> {
+    /// The next one, if any is left. Takes no memory.
+    pub fn next(&mut self) -> Option<Queued<'a>>
+        ensures { YieldsFirstBy (λ item. record { place = item.place; message = item.message.now }) (λ rest. rest) self.old result self.new }
+    {
         if let Some(message) = self.left.next() {
             return Some(Queued {
                 place: self.place,
                 message,
             });
         }
+        let _count = self.places.len();
         let p = self.queues.filled_from(self.next)?;
         self.place = self.places.at(p);
         self.left = self.queues.messages(p);

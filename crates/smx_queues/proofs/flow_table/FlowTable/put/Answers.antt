@@ -15,5 +15,5 @@ put-requires-clause-spare c = omega (arith, c.requires.spare, ap (λ (t : FlowLi
 pub invariant_of-self : goal.invariant_of-self
 invariant_of-self c = (put_is _ _ _ _ _ _ _ _ c.self.invariant c.self.view_is c.in-Some.ensures.found c.put.ensures.put).sound
 
-pub returns : goal.returns
-returns c = (put_is _ _ _ _ _ _ _ _ c.self.invariant c.self.view_is c.in-Some.ensures.found c.put.ensures.put).is _
+pub returns-in-Some : goal.returns-in-Some
+returns-in-Some c = (put_is _ _ _ _ _ _ _ _ c.self.invariant c.self.view_is c.in-Some.ensures.found c.put.ensures.put).is _
