@@ -74,7 +74,7 @@ IsMoved t q from to = (m : Message) → first_message t.flow from ≡ Some m →
 
 moved_by : (l : Lists) (q : FlowLists) (from to : Place) (o : Option Message) → first_message l.queues.flow from ≡ o → IsSome o → next_open_place l.queues.drivers (configuration_of l) from ≡ Some to → IsMoved l.queues q from to
     → configuration_of (with_queues l q) ≡ after_move l.queues.drivers (configuration_of l) from
-moved_by l q from to None first some next moved = absurd some
+moved_by l q from to None first some next moved = absurd cc
 moved_by l q from to (Some m) first some next moved =
     moved_is l.queues.drivers (configuration_of l) (model_leaving l.queues.drivers (configuration_of l) from) (configuration_of (with_queues l q)) from to m next first refl
     (ap (λ (x : FlowLists). configuration_of (with_queues l x)) (moved m first))
@@ -86,7 +86,7 @@ moved_on drivers l q from to same some next moved =
     subst (λ (ds : List DriverSpec). configuration_of (with_queues l q) ≡ after_move ds (configuration_of l) from) same (moved_by l q from to (first_message l.queues.flow from) refl some next_too moved)
 
 marks_by : (t q : FlowLists) (from to : Place) (o : Option Message) → first_message t.flow from ≡ o → IsSome o → IsMoved t q from to → AreMarksHeld t.flow t.fulls → AreMarksHeld q.flow q.fulls
-marks_by t q from to None first some moved h = absurd some
+marks_by t q from to None first some moved h = absurd cc
 marks_by t q from to (Some m) first some moved h =
     let left = after_leaving t from in
     marks_arrived left q to m left.spare (marks_left t left from t.spare h refl) (moved m first)
@@ -95,7 +95,7 @@ pub marks_moved : (t q : FlowLists) (from to : Place) → IsSome (first_message 
 marks_moved t q from to some moved h = marks_by t q from to (first_message t.flow from) refl some moved h
 
 drivers_by : (t q : FlowLists) (from to : Place) (o : Option Message) → first_message t.flow from ≡ o → IsSome o → IsMoved t q from to → q.drivers ≡ t.drivers
-drivers_by t q from to None first some moved = absurd some
+drivers_by t q from to None first some moved = absurd cc
 drivers_by t q from to (Some m) first some moved = ap (λ (x : FlowLists). x.drivers) (moved m first)
 
 pub drivers_moved : (t q : FlowLists) (from to : Place) → IsSome (first_message t.flow from) → IsMoved t q from to → q.drivers ≡ t.drivers

@@ -108,7 +108,7 @@ open_next drivers c p q h e =
     let o = not_full (is_full c n.0) n.0 q n.2 in
     let next = subst (λ (x : Place). IsNext drivers p x) o.1 (next_by drivers c p.stream p.side m.0.addr n.0 h n.1) in
     record {
-      some = rw m.1 tt;
+      some = rw m.1 refl;
       known = next.known;
       differ = rw (ne_eqb p.stream.driver q.stream.driver next.differ) refl;
       open = subst (λ (x : Place). is_full c x ≡ false) o.1 o.0;

@@ -101,7 +101,7 @@ left_now p all n place i m h at first =
             drivers = refl;
             flow = flow;
             fulls = fulls_marked place p.places all i (without_front f.q) h.rising at f.below
-            ∙ ap (λ (b : Bool). with_mark place b (fulls_of p.places all)) (rw (mark, ← flow, bytes, ← f.low) refl);
+                ∙ ap (λ (b : Bool). with_mark place b (fulls_of p.places all)) (rw (mark, ← flow, bytes, ← f.low) refl);
           }
 
 pub arrived_now : (p : PlaceList) (all : List (Option Queue)) (n : ℕ) (place : Place) (i : ℕ) (m : Message) → IsFlow p all → slice_get p.places i ≡ Some place
@@ -120,7 +120,7 @@ arrived_now p all n place i m h at =
             drivers = refl;
             flow = flow;
             fulls = fulls_marked place p.places all i (with_arrival f.q m) h.rising at f.below
-            ∙ ap (λ (b : Bool). with_mark place b (fulls_of p.places all)) (rw (mark, ← flow, bytes, ← f.high) refl);
+                ∙ ap (λ (b : Bool). with_mark place b (fulls_of p.places all)) (rw (mark, ← flow, bytes, ← f.high) refl);
           }
 
 pub emptied_now : (p : PlaceList) (all : List (Option Queue)) (n : ℕ) (place : Place) (i : ℕ) → IsFlow p all → slice_get p.places i ≡ Some place
@@ -134,7 +134,7 @@ emptied_now p all n place i h at =
         drivers = refl;
         flow = flow_emptied place p.places all i (emptied f.q) h.rising at f.below refl;
         fulls = fulls_marked place p.places all i (emptied f.q) h.rising at f.below
-        ∙ filter_agree (λ q. not (same_place place q)) (λ q. not (same_place q place)) (λ q. ap not (same_turned place q)) (fulls_of p.places all);
+            ∙ filter_agree (λ q. not (same_place place q)) (λ q. not (same_place q place)) (λ q. ap not (same_turned place q)) (fulls_of p.places all);
       }
 
 -- ---- a message moves on

@@ -82,3 +82,18 @@ first_there (m ∷ ms) o some e none = cc
 
 pub front_some : (all : List (Option Queue)) (n i : ℕ) (o : Option Message) → IsLeastFrom has_messages all n (Some i) → o ≡ slice_get (queue_at all i).messages 0 → o ≡ None → ⊥
 front_some all n i o least e none = first_there (queue_at all i).messages o (subst (λ (ms : List Message). has_some ms ≡ true) (slot_messages all i) least.2) e none
+
+-- ---- all messages
+
+pub messages_end : (p : PlaceList) (all : List (Option Queue)) (n : ℕ) (place : Place) (left : List Message) (now : List QueuedMessage) → IsFlow p all → messages_at place left ++ flow_of (drop n p.places) (drop n all) ≡ now → left ≡ []
+    → IsLeastFrom has_messages all n None → now ≡ []
+messages_end p all n place left now h seen none least =
+    sym seen ∙ (ap (λ (ms : List Message). messages_at place ms ++ flow_of (drop n p.places) (drop n all)) none ∙ flow_ends p.places all n (many p all h) least)
+
+pub messages_step : (p : PlaceList) (all : List (Option Queue)) (n i : ℕ) (was place : Place) (left : List Message) (now : List QueuedMessage) (m : Message) (rest : List Message) → IsFlow p all
+    → messages_at was left ++ flow_of (drop n p.places) (drop n all) ≡ now → left ≡ [] → IsLeastFrom has_messages all n (Some i) → slice_get p.places i ≡ Some place → (queue_at all i).messages ≡ m ∷ rest
+    → now ≡ record { place = place; message = m } ∷ (messages_at place rest ++ flow_of (drop (i + 1) p.places) (drop (i + 1) all))
+messages_step p all n i was place left now m rest h seen none least at here =
+    sym seen ∙ (ap (λ (ms : List Message). messages_at was ms ++ flow_of (drop n p.places) (drop n all)) none
+    ∙ (flow_next p.places all n i place (many p all h) least at
+    ∙ ap (λ (ms : List Message). messages_at place ms ++ flow_of (drop (i + 1) p.places) (drop (i + 1) all)) (slot_messages all i ∙ here)))
