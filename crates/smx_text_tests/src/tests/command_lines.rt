@@ -1,9 +1,9 @@
 //! The line of each command, read and written.
 
-use super::spelling::are_written;
+use super::lists::alone;
+use super::spelling::is_spelled;
 use smx_samples::{Call, command_of};
-use smx_text::read_programs;
-use smx_types::{Command, Programs, Sides, Which};
+use smx_types::{Items, Programs, Sides, Which};
 use std::alloc::Global;
 use std::process::Abort;
 use std::test::Fail;
@@ -50,26 +50,19 @@ fn with_line(alloc: Global, line: &[u8]) -> Result<Vec<u8>, Fail> {
     Ok(text)
 }
 
-fn are_of_one(rt: &impl Abort, programs: &Programs, command: &Command) {
-    assert_eq!(rt; programs.programs().len(), 1);
-    let commands = programs.programs()[0].as_slice();
-    assert_eq!(rt; commands.len(), 1);
-    assert!(rt; commands[0] == *command);
-}
-
-// The text is read as this command alone, and written again.
-fn is_text_of(rt: &(impl AllocGlobal + Abort), text: &[u8], command: &Command) -> Result<(), Fail> {
-    let programs = read_programs(rt.alloc(), text)?;
-    are_of_one(rt, &programs, command);
-    are_written(rt, &programs, text)
+// The program of one command.
+fn of_one(alloc: Global, call: Call) -> Result<Programs, Fail> {
+    let command = command_of(alloc, call)?;
+    let commands = alone(alloc, command)?;
+    let programs = alone(alloc, commands)?;
+    Ok(Programs::new(Items::new(alloc), programs)?)
 }
 
 // The line is the command's.
 fn is_line_of(rt: &(impl AllocGlobal + Abort), pair: CommandLine) -> Result<(), Fail> {
     let (call, line) = pair;
     let text = with_line(rt.alloc(), line)?;
-    let command = command_of(rt.alloc(), call)?;
-    is_text_of(rt, text.as_slice(), &command)
+    is_spelled(rt, of_one(rt.alloc(), call), text.as_slice())
 }
 
 #[test]

@@ -1,9 +1,6 @@
 //! Each copy, with ample memory, is equal to what it was made of.
 
-use super::copying::{
-    command_is_copied, entry_is_copied, list_is_copied, message_is_copied, reply_is_copied,
-    view_is_copied,
-};
+use super::copying::{is_copied, list_is_copied};
 use super::lists::alone;
 use smx_samples::{Answer, Call, command_of, entry_of, held_above, items, named, reply_of};
 use smx_types::{BindingLine, Command, ConfigView, Message, Same};
@@ -21,54 +18,57 @@ fn a_message(alloc: Global) -> Result<Message, Fail> {
 
 #[test]
 fn a_message_is_copied(rt: HostRuntime) -> Result<(), Fail> {
-    let message = a_message(rt.alloc())?;
-    message_is_copied(&rt, &message)
+    is_copied(&rt, a_message(rt.alloc()))
 }
 
 #[test]
 fn messages_are_copied(rt: HostRuntime) -> Result<(), Fail> {
     let message = a_message(rt.alloc())?;
-    let messages = alone(rt.alloc(), message)?;
-    list_is_copied(&rt, &messages, 1)
+    list_is_copied(&rt, alone(rt.alloc(), message), 1)
 }
 
 const GOT: Answer = Answer::Got(1, 5, &[0, 0, 0, 1]);
 
 #[test]
 fn an_entry_is_copied(rt: HostRuntime) -> Result<(), Fail> {
-    let entry = entry_of(rt.alloc(), (Call::Transmit("eth", 0), GOT))?;
-    entry_is_copied(&rt, &entry)
+    is_copied(&rt, entry_of(rt.alloc(), (Call::Transmit("eth", 0), GOT)))
 }
 
 #[test]
 fn a_reply_is_copied(rt: HostRuntime) -> Result<(), Fail> {
-    let reply = reply_of(rt.alloc(), GOT)?;
-    reply_is_copied(&rt, &reply)
+    is_copied(&rt, reply_of(rt.alloc(), GOT))
 }
 
 #[test]
 fn replies_are_copied(rt: HostRuntime) -> Result<(), Fail> {
     let reply = reply_of(rt.alloc(), GOT)?;
-    let replies = alone(rt.alloc(), reply)?;
-    list_is_copied(&rt, &replies, 1)
+    list_is_copied(&rt, alone(rt.alloc(), reply), 1)
 }
 
-// The command differs from one with another byte.
-fn is_of_its_bytes(rt: &(impl AllocGlobal + Abort), command: &Command) -> Result<(), Fail> {
-    let other = command_of(rt.alloc(), Call::Write(0, 5, &[0, 0, 0, 2]))?;
-    assert!(rt; !other.is_same(command));
+// What was made differs from the other.
+fn differ<T: Same + Drop>(rt: &impl Abort, made: Result<T, Fail>, other: T) -> Result<(), Fail> {
+    let value = made?;
+    assert!(rt; !other.is_same(&value));
     Ok(())
 }
 
-#[test]
-fn commands_are_copied(rt: HostRuntime) -> Result<(), Fail> {
-    let write = command_of(rt.alloc(), Call::Write(0, 5, &[0, 0, 0, 1]))?;
-    command_is_copied(&rt, &write)?;
-    is_of_its_bytes(&rt, &write)
+fn a_write(alloc: Global, last: u8) -> Result<Command, Fail> {
+    command_of(alloc, Call::Write(0, 5, &[0, 0, 0, last]))
 }
 
-// What is shown after the marks were met across a join, with an address that is bound.
-fn shown(alloc: Global) -> Result<ConfigView, Fail> {
+#[test]
+fn a_command_is_copied(rt: HostRuntime) -> Result<(), Fail> {
+    is_copied(&rt, a_write(rt.alloc(), 1))
+}
+
+#[test]
+fn a_command_has_its_bytes(rt: HostRuntime) -> Result<(), Fail> {
+    let other = a_write(rt.alloc(), 2)?;
+    differ(&rt, a_write(rt.alloc(), 1), other)
+}
+
+// What is shown after the marks were met across a join, with an address that is bound and this serial next.
+fn shown(alloc: Global, next_serial: u32) -> Result<ConfigView, Fail> {
     let bound = BindingLine {
         driver: named("ip")?,
         addr: 9,
@@ -77,11 +77,17 @@ fn shown(alloc: Global) -> Result<ConfigView, Fail> {
     let binds = items(alloc, &[bound])?;
     let mut view = held_above(alloc)?;
     view.binds = binds;
+    view.next_serial = next_serial;
     Ok(view)
 }
 
 #[test]
-fn views_are_copied(rt: HostRuntime) -> Result<(), Fail> {
-    let view = shown(rt.alloc())?;
-    view_is_copied(&rt, &view)
+fn a_view_is_copied(rt: HostRuntime) -> Result<(), Fail> {
+    is_copied(&rt, shown(rt.alloc(), 6))
+}
+
+#[test]
+fn a_view_has_its_numbers(rt: HostRuntime) -> Result<(), Fail> {
+    let other = shown(rt.alloc(), 7)?;
+    differ(&rt, shown(rt.alloc(), 6), other)
 }

@@ -1,9 +1,6 @@
 //! Each copy at its real limit.
 
-use super::copying::{
-    command_is_copied, line_is_copied, list_is_copied, many_are_copied, programs_are_copied,
-    reply_is_copied, transcript_is_copied, view_is_copied,
-};
+use super::copying::{is_copied, list_is_copied};
 use smx_samples::{
     leaves, longest_bytes, longest_transcript, most_entries, most_programs, most_serials,
     most_shown, named, queued, sixty_four_programs,
@@ -13,6 +10,7 @@ use std::alloc::Global;
 use std::process::Abort;
 use std::test::Fail;
 
+// 64 drivers and 64 programs.
 fn are_sixty_four(rt: &impl Abort, programs: &Programs) {
     assert_eq!(rt; programs.drivers().len(), 64);
     assert_eq!(rt; programs.programs().len(), 64);
@@ -20,9 +18,14 @@ fn are_sixty_four(rt: &impl Abort, programs: &Programs) {
 
 #[test]
 fn the_most_programs(rt: HostRuntime) -> Result<(), Fail> {
+    is_copied(&rt, most_programs(rt.alloc()))
+}
+
+#[test]
+fn the_most_programs_are_64(rt: HostRuntime) -> Result<(), Fail> {
     let programs = most_programs(rt.alloc())?;
     are_sixty_four(&rt, &programs);
-    programs_are_copied(&rt, &programs)
+    Ok(())
 }
 
 // As many drivers, and as many commands in the first of 64 programs, are too many.
@@ -34,69 +37,66 @@ fn too_many(alloc: Global, drivers: usize, first: usize) -> Result<Many, Fail> {
 
 #[test]
 fn one_more_driver(rt: HostRuntime) -> Result<(), Fail> {
-    let many = too_many(rt.alloc(), 65, 1)?;
-    many_are_copied(&rt, &many)
+    is_copied(&rt, too_many(rt.alloc(), 65, 1))
 }
 
 #[test]
 fn one_more_command(rt: HostRuntime) -> Result<(), Fail> {
-    let many = too_many(rt.alloc(), 64, 99_938)?;
-    many_are_copied(&rt, &many)
+    is_copied(&rt, too_many(rt.alloc(), 64, 99_938))
 }
 
 #[test]
 fn the_most_entries(rt: HostRuntime) -> Result<(), Fail> {
-    let entries = most_entries(rt.alloc())?;
-    list_is_copied(&rt, &entries, 100_000)
+    list_is_copied(&rt, most_entries(rt.alloc()), 100_000)
+}
+
+fn all_dropped(alloc: Global) -> Result<Reply, Fail> {
+    Ok(Reply::Done {
+        dropped: most_serials(alloc)?,
+    })
 }
 
 #[test]
 fn the_most_dropped(rt: HostRuntime) -> Result<(), Fail> {
-    let dropped = most_serials(rt.alloc())?;
-    let reply = Reply::Done { dropped };
-    reply_is_copied(&rt, &reply)
+    is_copied(&rt, all_dropped(rt.alloc()))
 }
 
 #[test]
 fn the_most_serials(rt: HostRuntime) -> Result<(), Fail> {
-    let serials = most_serials(rt.alloc())?;
-    list_is_copied(&rt, &serials, 100_000)
+    list_is_copied(&rt, most_serials(rt.alloc()), 100_000)
 }
 
 #[test]
 fn the_most_shown(rt: HostRuntime) -> Result<(), Fail> {
-    let view = most_shown(rt.alloc())?;
-    view_is_copied(&rt, &view)
+    is_copied(&rt, most_shown(rt.alloc()))
 }
 
 #[test]
 fn the_longest_transcript(rt: HostRuntime) -> Result<(), Fail> {
-    let transcript = longest_transcript(rt.alloc())?;
-    transcript_is_copied(&rt, &transcript)
+    is_copied(&rt, longest_transcript(rt.alloc()))
+}
+
+fn longest_command(alloc: Global) -> Result<Command, Fail> {
+    Ok(Command::Inject {
+        driver: named("eth")?,
+        minor: 0,
+        addr: 5,
+        bytes: longest_bytes(alloc, 255)?,
+    })
 }
 
 #[test]
 fn the_longest_command(rt: HostRuntime) -> Result<(), Fail> {
-    let driver = named("eth")?;
-    let bytes = longest_bytes(rt.alloc(), 255)?;
-    let command = Command::Inject {
-        driver,
-        minor: 0,
-        addr: 5,
-        bytes,
-    };
-    command_is_copied(&rt, &command)
+    is_copied(&rt, longest_command(rt.alloc()))
 }
 
 #[test]
 fn the_longest_line(rt: HostRuntime) -> Result<(), Fail> {
     let bytes = longest_bytes(rt.alloc(), 0)?;
-    let line = queued(1, bytes)?;
-    line_is_copied(&rt, &line)
+    is_copied(&rt, queued(1, bytes))
 }
 
 #[test]
 fn the_longest_message(rt: HostRuntime) -> Result<(), Fail> {
-    let bytes = longest_bytes(rt.alloc(), 1)?;
-    list_is_copied(&rt, &bytes, 1_024)
+    list_is_copied(&rt, longest_bytes(rt.alloc(), 1), 1_024)
 }

@@ -1,85 +1,97 @@
 //! How a copy is compared with what it was made of.
 
 use smx_types::{
-    Command, ConfigView, Copied, Entry, Items, Many, Message, MessageLine, Programs, Reply, Same,
-    Transcript,
+    Command, ConfigView, Copied, Entry, Items, Many, Message, MessageLine, NoMemory, Programs,
+    Reply, Same, Transcript,
 };
+use std::alloc::Global;
 use std::process::Abort;
 use std::test::Fail;
+
+/// What has a `copy`.
+pub trait Again: Same + Drop {
+    /// Its copy.
+    fn again(&self, alloc: Global) -> Result<Self, NoMemory>
+    where
+        Self: Sized;
+}
+
+/// What was made is copied.
+pub fn is_copied<T: Again>(
+    rt: &(impl AllocGlobal + Abort),
+    made: Result<T, Fail>,
+) -> Result<(), Fail> {
+    let value = made?;
+    let again = value.again(rt.alloc())?;
+    assert!(rt; again == value);
+    assert!(rt; again.is_same(&value));
+    Ok(())
+}
 
 /// A list of this many is copied, with room for just them.
 pub fn list_is_copied<T: Copied + PartialEq>(
     rt: &(impl AllocGlobal + Abort),
-    list: &Items<T>,
+    made: Result<Items<T>, Fail>,
     count: usize,
 ) -> Result<(), Fail> {
+    let list = made?;
     let again = list.copy(rt.alloc())?;
-    assert!(rt; again == *list);
+    assert!(rt; again == list);
     assert_eq!(rt; again.as_slice().len(), count);
     assert_eq!(rt; again.into_vec().capacity(), count);
     Ok(())
 }
 
-pub fn message_is_copied(rt: &(impl AllocGlobal + Abort), message: &Message) -> Result<(), Fail> {
-    let again = message.copy(rt.alloc())?;
-    assert!(rt; again == *message);
-    Ok(())
+impl Again for Message {
+    fn again(&self, alloc: Global) -> Result<Message, NoMemory> {
+        self.copy(alloc)
+    }
 }
 
-pub fn command_is_copied(rt: &(impl AllocGlobal + Abort), command: &Command) -> Result<(), Fail> {
-    let again = command.copy(rt.alloc())?;
-    assert!(rt; again == *command);
-    assert!(rt; again.is_same(command));
-    Ok(())
+impl Again for Command {
+    fn again(&self, alloc: Global) -> Result<Command, NoMemory> {
+        self.copy(alloc)
+    }
 }
 
-pub fn reply_is_copied(rt: &(impl AllocGlobal + Abort), reply: &Reply) -> Result<(), Fail> {
-    let again = reply.copy(rt.alloc())?;
-    assert!(rt; again.is_same(reply));
-    Ok(())
+impl Again for Reply {
+    fn again(&self, alloc: Global) -> Result<Reply, NoMemory> {
+        self.copy(alloc)
+    }
 }
 
-pub fn entry_is_copied(rt: &(impl AllocGlobal + Abort), entry: &Entry) -> Result<(), Fail> {
-    let again = entry.copy(rt.alloc())?;
-    assert!(rt; again == *entry);
-    Ok(())
+impl Again for Entry {
+    fn again(&self, alloc: Global) -> Result<Entry, NoMemory> {
+        self.copy(alloc)
+    }
 }
 
-pub fn line_is_copied(rt: &(impl AllocGlobal + Abort), line: &MessageLine) -> Result<(), Fail> {
-    let again = line.copy(rt.alloc())?;
-    assert!(rt; again == *line);
-    Ok(())
+impl Again for MessageLine {
+    fn again(&self, alloc: Global) -> Result<MessageLine, NoMemory> {
+        self.copy(alloc)
+    }
 }
 
-/// The view is copied, and its copy is another one with another number in it.
-pub fn view_is_copied(rt: &(impl AllocGlobal + Abort), view: &ConfigView) -> Result<(), Fail> {
-    let mut again = view.copy(rt.alloc())?;
-    assert!(rt; again.is_same(view));
-    again.next_serial = 7;
-    assert!(rt; !again.is_same(view));
-    Ok(())
+impl Again for ConfigView {
+    fn again(&self, alloc: Global) -> Result<ConfigView, NoMemory> {
+        self.copy(alloc)
+    }
 }
 
-pub fn transcript_is_copied(
-    rt: &(impl AllocGlobal + Abort),
-    transcript: &Transcript,
-) -> Result<(), Fail> {
-    let again = transcript.copy(rt.alloc())?;
-    assert!(rt; again == *transcript);
-    Ok(())
+impl Again for Transcript {
+    fn again(&self, alloc: Global) -> Result<Transcript, NoMemory> {
+        self.copy(alloc)
+    }
 }
 
-pub fn programs_are_copied(
-    rt: &(impl AllocGlobal + Abort),
-    programs: &Programs,
-) -> Result<(), Fail> {
-    let again = programs.copy(rt.alloc())?;
-    assert!(rt; again == *programs);
-    Ok(())
+impl Again for Programs {
+    fn again(&self, alloc: Global) -> Result<Programs, NoMemory> {
+        self.copy(alloc)
+    }
 }
 
-pub fn many_are_copied(rt: &(impl AllocGlobal + Abort), many: &Many) -> Result<(), Fail> {
-    let again = many.copy(rt.alloc())?;
-    assert!(rt; again == *many);
-    Ok(())
+impl Again for Many {
+    fn again(&self, alloc: Global) -> Result<Many, NoMemory> {
+        self.copy(alloc)
+    }
 }

@@ -96,20 +96,10 @@ fn with_line(alloc: Global, line: &[u8]) -> Result<Vec<u8>, Fail> {
     Ok(text)
 }
 
-// The one entry of the transcript is written as this line.
-fn has_line(
-    rt: &(impl AllocGlobal + Abort),
-    transcript: &Transcript,
-    line: &[u8],
-) -> Result<(), Fail> {
-    let text = with_line(rt.alloc(), line)?;
-    is_written(rt, transcript, text.as_slice())
-}
-
 fn is_line_of(rt: &(impl AllocGlobal + Abort), row: EntryLine) -> Result<(), Fail> {
     let (number, call, answer, line) = row;
-    let transcript = asked(rt.alloc(), number, call, answer)?;
-    has_line(rt, &transcript, line)
+    let text = with_line(rt.alloc(), line)?;
+    is_written(rt, asked(rt.alloc(), number, call, answer), text.as_slice())
 }
 
 #[test]

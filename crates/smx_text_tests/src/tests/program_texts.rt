@@ -1,12 +1,10 @@
 //! Programs and their texts.
 
 use super::lists::one_program;
-use super::spelling::{are_spelled, are_written};
+use super::spelling::{Spelled, is_spelled, is_written};
 use smx_samples::{ip, named};
-use smx_text::read_programs;
 use smx_types::{Command, Commands, Items, Programs};
 use std::alloc::Global;
-use std::process::Abort;
 use std::test::Fail;
 
 const OPENS_AND_CLOSES: &[u8] =
@@ -31,8 +29,7 @@ fn opens_and_closes(alloc: Global) -> Result<Programs, Fail> {
 
 #[test]
 fn reads_and_writes_programs(rt: HostRuntime) -> Result<(), Fail> {
-    let programs = opens_and_closes(rt.alloc())?;
-    are_spelled(&rt, &programs, OPENS_AND_CLOSES)
+    is_spelled(&rt, opens_and_closes(rt.alloc()), OPENS_AND_CLOSES)
 }
 
 const MARKS_ACROSS_THE_JOIN: &[u8] = b"programs 1
@@ -130,15 +127,10 @@ const TEXTS: [&[u8]; 5] = [
     TWO_LEVELS_DOWN_AND_UP,
 ];
 
-fn is_written_again(rt: &(impl AllocGlobal + Abort), text: &[u8]) -> Result<(), Fail> {
-    let programs = read_programs(rt.alloc(), text)?;
-    are_written(rt, &programs, text)
-}
-
 #[test]
 fn writes_what_it_reads(rt: HostRuntime) -> Result<(), Fail> {
     for text in &TEXTS {
-        is_written_again(&rt, *text)?;
+        is_written(&rt, Programs::read(rt.alloc(), *text), *text)?;
     }
     Ok(())
 }

@@ -2,7 +2,7 @@
 
 use super::entry_lines::of_one;
 use super::lists::{alone, one_program};
-use super::spelling::{are_spelled, is_spelled};
+use super::spelling::is_spelled;
 use smx_samples::{
     add_leaves, add_lines, leaf, longest_bytes, longest_transcript, most_programs, most_serials,
     numbered, with_lines,
@@ -37,8 +37,7 @@ fn text_of_most(alloc: Global) -> Result<Vec<u8>, Fail> {
 #[test]
 fn the_most_programs(rt: HostRuntime) -> Result<(), Fail> {
     let text = text_of_most(rt.alloc())?;
-    let programs = most_programs(rt.alloc())?;
-    are_spelled(&rt, &programs, text.as_slice())
+    is_spelled(&rt, most_programs(rt.alloc()), text.as_slice())
 }
 
 fn add_links(alloc: Global, text: &mut Vec<u8>) -> Result<(), Fail> {
@@ -76,8 +75,7 @@ fn text_of_longest(alloc: Global) -> Result<Vec<u8>, Fail> {
 #[test]
 fn the_longest_transcript(rt: HostRuntime) -> Result<(), Fail> {
     let text = text_of_longest(rt.alloc())?;
-    let transcript = longest_transcript(rt.alloc())?;
-    is_spelled(&rt, &transcript, text.as_slice())
+    is_spelled(&rt, longest_transcript(rt.alloc()), text.as_slice())
 }
 
 // The transcript of an entry that dropped the most.
@@ -110,8 +108,7 @@ fn text_of_all_dropped(alloc: Global) -> Result<Vec<u8>, Fail> {
 #[test]
 fn the_most_dropped(rt: HostRuntime) -> Result<(), Fail> {
     let text = text_of_all_dropped(rt.alloc())?;
-    let transcript = all_dropped(rt.alloc())?;
-    is_spelled(&rt, &transcript, text.as_slice())
+    is_spelled(&rt, all_dropped(rt.alloc()), text.as_slice())
 }
 
 // A program that writes the longest message.
@@ -136,6 +133,5 @@ fn text_of_longest_write(alloc: Global) -> Result<Vec<u8>, Fail> {
 #[test]
 fn the_longest_message(rt: HostRuntime) -> Result<(), Fail> {
     let text = text_of_longest_write(rt.alloc())?;
-    let programs = longest_write(rt.alloc())?;
-    are_spelled(&rt, &programs, text.as_slice())
+    is_spelled(&rt, longest_write(rt.alloc()), text.as_slice())
 }

@@ -1,8 +1,7 @@
 //! Transcripts that are read and written again.
 
-use super::spelling::is_written;
-use smx_text::read_transcript;
-use std::process::Abort;
+use super::spelling::{Spelled, is_written};
+use smx_types::Transcript;
 use std::test::Fail;
 
 const OPENS_AND_CLOSES: &[u8] = b"transcript 1
@@ -143,15 +142,10 @@ const TEXTS: [&[u8]; 5] = [
     ORDER_OF_REFUSALS,
 ];
 
-fn is_written_again(rt: &(impl AllocGlobal + Abort), text: &[u8]) -> Result<(), Fail> {
-    let transcript = read_transcript(rt.alloc(), text)?;
-    is_written(rt, &transcript, text)
-}
-
 #[test]
 fn reads_and_writes_again(rt: HostRuntime) -> Result<(), Fail> {
     for text in &TEXTS {
-        is_written_again(&rt, *text)?;
+        is_written(&rt, Transcript::read(rt.alloc(), *text), *text)?;
     }
     Ok(())
 }

@@ -7,7 +7,6 @@ use smx_types::{
     Side, Transcript,
 };
 use std::alloc::Global;
-use std::process::Abort;
 use std::test::Fail;
 
 fn linked(id: u32, kind: LinkKind) -> Result<LinkLine, Fail> {
@@ -86,23 +85,23 @@ full eth 0 w
 end
 ";
 
-// Shows these groups, and is written so.
-fn groups_are_in_order(
-    rt: &(impl AllocGlobal + Abort),
-    transcript: &mut Transcript,
-) -> Result<(), Fail> {
-    add_links(&mut transcript.view)?;
-    add_addresses(&mut transcript.view)?;
-    add_messages(rt.alloc(), &mut transcript.view)?;
-    is_written(rt, transcript, GROUPS)
+fn add_groups(alloc: Global, view: &mut ConfigView) -> Result<(), Fail> {
+    add_links(view)?;
+    add_addresses(view)?;
+    add_messages(alloc, view)
+}
+
+fn with_groups(alloc: Global) -> Result<Transcript, Fail> {
+    let mut view = nothing_open(alloc, 3, 6);
+    add_groups(alloc, &mut view)?;
+    Ok(Transcript {
+        drivers: Items::new(alloc),
+        entries: Items::new(alloc),
+        view,
+    })
 }
 
 #[test]
 fn writes_groups_in_order(rt: HostRuntime) -> Result<(), Fail> {
-    let mut transcript = Transcript {
-        drivers: Items::new(rt.alloc()),
-        entries: Items::new(rt.alloc()),
-        view: nothing_open(rt.alloc(), 3, 6),
-    };
-    groups_are_in_order(&rt, &mut transcript)
+    is_written(&rt, with_groups(rt.alloc()), GROUPS)
 }
