@@ -2,7 +2,10 @@
 
 mod configurations_at_limits;
 mod histories;
+mod messages_at_limits;
 mod refused_drivers;
 mod sweeps;
+mod text_sweeps;
 mod twins;
 mod verdicts;
+mod verdicts_on_entries;

@@ -1,9 +1,9 @@
 -- What a filter says of an input in memory.
-use Rattle.std.proofs.Common.{◌≡◌, ◌≢◌, ℕ, ◌+◌, ◌≤◌, ◌<◌, ltb, Bool, List, [], ◌++◌, length, drop, Some, Result, Ok, Err, sym, ap, ◌∙◌, arith, inl, inr, length-append, refl}
+use Rattle.std.proofs.Common.{◌≡◌, ◌≢◌, ℕ, ◌+◌, ◌≤◌, ltb, Bool, List, [], ◌++◌, length, drop, Some, Result, Ok, Err, sym, ap, ◌∙◌, arith, inl, inr, length-append, refl}
 use Rattle.std.proofs.lemmas.Bool.{cases_Bool}
 use Rattle.std.proofs.lemmas.Bool.Decides.{nat_tests}
 use Rattle.std.proofs.lemmas.List.{drop_at, nil_from_length}
-use Rattle.smx_filters.specs.Filters.{Filter, FiltersText, RefusesFor}
+use Rattle.smx_filters.specs.Filters.{Filter, FiltersText}
 use Rattle.smx_filters.specs.InMemory.{EndsInMemory, IsCutShort}
 use Rattle.smx_filters.specs.declared.fault.MainFault.{MainFault}
 use Rattle.smx_filters.specs.declared.fault.MainFault.TheVariants.{Refused, Text, TooLong, ReadFailed, WriteFailed}

@@ -5,10 +5,12 @@ use Rattle.smx_types.specs.ProgramLists.{ProgramLists}
 use Rattle.smx_types.specs.declared.transcript.Transcript.{Transcript}
 use Rattle.smx_model.specs.Headline.{IsReportOf}
 use Rattle.smx_run.specs.Fronts.{AreFrontsFrom}
+use Rattle.smx_run.specs.Reports.{transcript_of}
+use Rattle.smx_run.specs.declared.report.Report.{Report}
 use Rattle.smx_shared.specs.declared.front.Front.{Front}
 use Rattle.smx_text.specs.ProgramLines.{Line}
 use Rattle.smx_text.specs.ProgramsText.{programs_grammar}
-use Rattle.smx_text.specs.TranscriptText.{SpellsTranscript}
+use Rattle.smx_text.specs.TranscriptText.{transcript_text, IsSpellable, SpellsTranscript}
 use Rattle.smx_filters.specs.Filters.{Filter, FiltersText}
 use Rattle.smx_filters.specs.FrontsText.{fronts_text}
 use Rattle.smx_filters.specs.declared.fault.MainFault.{MainFault}
@@ -36,6 +38,11 @@ pub record IsFrontsTextFor (programs : ProgramLists) (output : List ℕ) : Type 
 abbrev pub IsWrittenFor : Bool → ProgramLists → List ℕ → Type 0
 IsWrittenFor true programs output = IsFrontsTextFor programs output
 IsWrittenFor false programs output = IsTranscriptFor programs output
+
+-- the text of a report: its fronts, or its transcript, each line of which can be spelled
+abbrev pub IsTextOf : Bool → Report → List ℕ → Type 0
+IsTextOf true report text = text ≡ fronts_text report.fronts
+IsTextOf false report text = (text ≡ transcript_text (transcript_of report)) × IsSpellable (transcript_of report)
 
 -- a run reads programs and writes the fronts or the transcript of a report; that it is done is all that it answers
 abbrev pub running : Bool → Filter ProgramLists Line (Unit {0})

@@ -1,16 +1,18 @@
 //! A run from bytes to bytes.
 
-ghost use Rattle.std.specs.Prelude.{◌≡◌, ◌≤◌, false, Result};
+ghost use Rattle.std.specs.Prelude.{◌≡◌, ◌≤◌, false, IfOk, Result};
 ghost use Rattle.smx_filters.specs.Filters.{Answers};
-ghost use Rattle.smx_filters.specs.RunText.{RunsText, items_of, running};
+ghost use Rattle.smx_filters.specs.FrontsText.{fronts_text};
+ghost use Rattle.smx_filters.specs.RunText.{IsTextOf, RunsText, items_of, running};
 
 use crate::device::{Feed, Sink};
 use crate::fault::MainFault;
 use crate::fronts_text::fronts_text;
 use crate::input::read_all;
 use crate::output::write_all;
-use smx_run::{Gate, run_programs};
+use smx_run::{Gate, Report, run_programs};
 use smx_text::{read_programs, write_transcript_into};
+use smx_types::NoMemory;
 use std::alloc::Global;
 use std::sync::Wait;
 use std::thread::Threads;
@@ -56,9 +58,23 @@ fn text_for<R: Threads + Wait + Sync, G: Gate + Sync>(
 {
     let programs = read_programs(alloc, input.as_slice())?;
     let report = run_programs(rt, alloc, programs, workers, gate)?;
+    let text = text_of(alloc, input, report, fronts)?;
+    Ok(text)
+}
+
+// The text of a report: its fronts, or its transcript in the room that is given. Fails only for want of memory.
+fn text_of(alloc: Global, room: Vec<u8>, report: Report, fronts: bool) -> Result<Vec<u8>, NoMemory>
+    ensures { IfOk result (λ text. IsTextOf fronts report text.items) }
+{
     if fronts {
-        return Ok(fronts_text(alloc, report.fronts.as_slice())?);
+        return fronts_of(alloc, &report);
     }
-    let output = write_transcript_into(input, &report.into_transcript())?;
-    Ok(output)
+    write_transcript_into(room, &report.into_transcript())
+}
+
+// The text of its fronts.
+fn fronts_of(alloc: Global, report: &Report) -> Result<Vec<u8>, NoMemory>
+    ensures { IfOk result (λ text. text.items ≡ fronts_text report.now.fronts) }
+{
+    Ok(fronts_text(alloc, report.fronts.as_slice())?)
 }

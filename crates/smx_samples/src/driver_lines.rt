@@ -19,3 +19,17 @@ pub fn add_lines(text: &mut Vec<u8>, line: &[u8], count: usize) -> Result<(), Fa
     }
     Ok(())
 }
+
+/// A text of this line so often, between a beginning and an end.
+pub fn with_lines(
+    alloc: Global,
+    begin: &[u8],
+    line: &[u8],
+    count: usize,
+    end: &[u8],
+) -> Result<Vec<u8>, Fail> {
+    let mut text = Vec::from_slice(alloc, begin)?;
+    add_lines(&mut text, line, count)?;
+    text.extend_from_slice(end)?;
+    Ok(text)
+}

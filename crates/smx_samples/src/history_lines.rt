@@ -7,7 +7,7 @@ use std::alloc::Global;
 use std::test::Fail;
 
 /// What a process asks, with the words of the programs' text in their order.
-#[derive(Clone, Copy, Debug)]
+#[derive(Clone, Copy)]
 pub enum Call<'a> {
     Clone(&'a str),
     Open(&'a str, u32),
@@ -112,39 +112,87 @@ pub fn entry_of(alloc: Global, line: Line) -> Result<Entry, Fail> {
     })
 }
 
-// Where memory was wanting nothing may have changed. The line that is printed tells that a growth inside a step was
-// refused.
-fn is_unchanged(rt: &impl Print, config: &Config, before: &ConfigView) -> Result<(), Fail> {
+// Whether the configuration is shown so.
+fn is_shown(config: &Config, view: &ConfigView) -> Result<bool, Fail> {
+    let now = shown(config)?;
+    Ok(now == *view)
+}
+
+// Tells that a growth inside a step was refused.
+fn tells_of_want(rt: &impl Print) -> Result<(), Fail> {
     println!(rt; "a step wanted memory")?;
-    if shown(config)? == *before {
+    Ok(())
+}
+
+// Where memory was wanting nothing may have changed.
+fn is_unchanged(rt: &impl Print, config: &Config, before: &ConfigView) -> Result<(), Fail> {
+    tells_of_want(rt)?;
+    if is_shown(config, before)? {
         return Ok(());
     }
     Err(Fail::new("a step that wanted memory has changed what is shown"))
 }
 
 // What memory was wanting for is tried again.
-fn reply_to(rt: &impl Print, config: &mut Config, command: &Command) -> Result<Reply, Fail> {
-    let process = numbered(0)?;
-    let before = shown(config)?;
-    if let Ok(reply) = config.step(process, command) {
-        return Ok(reply);
-    }
-    is_unchanged(rt, config, &before)?;
-    Ok(config.step(process, command)?)
-}
-
-fn replies_to(
+fn stepped(
     rt: &impl Print,
     config: &mut Config,
-    command: &Command,
+    before: &ConfigView,
+    entry: &Entry,
+) -> Result<Reply, Fail> {
+    if let Ok(reply) = config.step(entry.process, &entry.command) {
+        return Ok(reply);
+    }
+    is_unchanged(rt, config, before)?;
+    Ok(config.step(entry.process, &entry.command)?)
+}
+
+fn stepped_twice(
+    rt: &impl Print,
+    config: &mut Config,
+    before: &ConfigView,
+    entry: &Entry,
 ) -> Result<(Reply, Reply), Fail> {
-    let process = numbered(0)?;
-    let before = shown(config)?;
-    if let Ok(replies) = config.step_twin(process, command) {
+    if let Ok(replies) = config.step_twin(entry.process, &entry.command) {
         return Ok(replies);
     }
-    is_unchanged(rt, config, &before)?;
-    Ok(config.step_twin(process, command)?)
+    is_unchanged(rt, config, before)?;
+    Ok(config.step_twin(entry.process, &entry.command)?)
+}
+
+// The reply to the command of this entry.
+fn reply_to(rt: &impl Print, config: &mut Config, entry: &Entry) -> Result<Reply, Fail> {
+    let before = shown(config)?;
+    stepped(rt, config, &before, entry)
+}
+
+fn replies_to(rt: &impl Print, config: &mut Config, entry: &Entry) -> Result<(Reply, Reply), Fail> {
+    let before = shown(config)?;
+    stepped_twice(rt, config, &before, entry)
+}
+
+// This is the reply of the entry.
+fn is_reply(reply: &Reply, entry: &Entry) -> Result<(), Fail> {
+    if *reply == entry.reply {
+        return Ok(());
+    }
+    let command = &entry.command;
+    Err(Fail::new(format_args!("{command:?} is answered {reply:?}")))
+}
+
+fn is_answered(rt: &impl Print, config: &mut Config, entry: &Entry) -> Result<(), Fail> {
+    let reply = reply_to(rt, config, entry)?;
+    is_reply(&reply, entry)
+}
+
+fn are_replies(replies: &(Reply, Reply), entry: &Entry) -> Result<(), Fail> {
+    is_reply(&replies.0, entry)?;
+    is_reply(&replies.1, entry)
+}
+
+fn is_answered_twice(rt: &impl Print, config: &mut Config, entry: &Entry) -> Result<(), Fail> {
+    let replies = replies_to(rt, config, entry)?;
+    are_replies(&replies, entry)
 }
 
 /// Process 0 asks this, and gets this answer.
@@ -153,14 +201,8 @@ pub fn answers(
     config: &mut Config,
     line: Line,
 ) -> Result<(), Fail> {
-    let (call, answer) = line;
-    let command = command_of(rt.alloc(), call)?;
-    let want = reply_of(rt.alloc(), answer)?;
-    let reply = reply_to(rt, config, &command)?;
-    if reply == want {
-        return Ok(());
-    }
-    Err(Fail::new(format_args!("{call:?} is answered {reply:?}")))
+    let entry = entry_of(rt.alloc(), line)?;
+    is_answered(rt, config, &entry)
 }
 
 /// Process 0 asks this, and gets this answer twice.
@@ -169,14 +211,8 @@ pub fn answers_twice(
     config: &mut Config,
     line: Line,
 ) -> Result<(), Fail> {
-    let (call, answer) = line;
-    let command = command_of(rt.alloc(), call)?;
-    let want = reply_of(rt.alloc(), answer)?;
-    let (first, second) = replies_to(rt, config, &command)?;
-    if first == want && second == want {
-        return Ok(());
-    }
-    Err(Fail::new(format_args!("{call:?} is answered {first:?} and {second:?}")))
+    let entry = entry_of(rt.alloc(), line)?;
+    is_answered_twice(rt, config, &entry)
 }
 
 /// Process 0 asks all of these in turn, and gets their answers.
@@ -203,12 +239,16 @@ pub fn play_twice(
     Ok(())
 }
 
-/// Just this is shown.
-pub fn shows(config: &Config, want: ConfigView) -> Result<(), Fail> {
-    if shown(config)? == want && config.shows(&want) {
+fn is_what_it_shows(config: &Config, want: &ConfigView) -> Result<(), Fail> {
+    if is_shown(config, want)? && config.shows(want) {
         return Ok(());
     }
     Err(Fail::new("something else is shown"))
+}
+
+/// Just this is shown.
+pub fn shows(config: &Config, want: ConfigView) -> Result<(), Fail> {
+    is_what_it_shows(config, &want)
 }
 
 /// A stream of `eth` is linked below one of `ip`, which sends messages for address 5 there.

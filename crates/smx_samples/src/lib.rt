@@ -8,7 +8,7 @@ mod most;
 mod values;
 mod views;
 
-pub use driver_lines::{add_leaves, add_lines};
+pub use driver_lines::{add_leaves, add_lines, with_lines};
 pub use history_lines::{
     Answer, Call, JOIN, Line, answers, answers_twice, command_of, entry_of, play, play_twice,
     reply_of, shows,

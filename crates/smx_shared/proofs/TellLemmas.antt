@@ -68,11 +68,11 @@ looked m m' n r t = subst (λ (k : Mine). RestsAfter m.0 k × FoundWord m.0 k.0 
 
 -- it was free, and is this seat's
 pub taken_free : (m m' : Mine) (n : ℕ) → IsAtRest m → Taken (step 0 0 1 0 none) m n m' → n % 2 ≡ 0 →
-    HasTurn m' (Some (system_of m'.0)) × HasGrown m.0 m'.0 × (m'.0.own ≡ m.0.own)
+    HasTurn m' (Some (system_of m'.0)) × HasGrown m.0 m'.0 × (m'.0.own ≡ m.0.own) × (m'.0.looks ≡ m.0.looks + 1)
 taken_free m m' n r t even = ⊎_elim
     (λ (x : (n ≡ front_of m.0.drivers t.0 + 1) × (m' ≡ (stepped m.0 t.0 n false m.0.own, m.1))). absurd (let odd = held_odd m.0.drivers n t.0 x.0 in omega arith))
     (λ (x : (n ≡ front_of m.0.drivers t.0) × (m' ≡ (stepped m.0 t.0 n true m.0.own, (0, Some (system_with m.0.drivers m.0.limit t.0)) ∷ m.1))).
-    subst (λ (k : Mine). HasTurn k (Some (system_of k.0)) × HasGrown m.0 k.0 × (k.0.own ≡ m.0.own)) (sym x.1) (
+    subst (λ (k : Mine). HasTurn k (Some (system_of k.0)) × HasGrown m.0 k.0 × (k.0.own ≡ m.0.own) × (k.0.looks ≡ m.0.looks + 1)) (sym x.1) (
       record {
         turn = refl;
         whole = r.2;
@@ -80,6 +80,7 @@ taken_free m m' n r t even = ⊎_elim
         informed = record { sound = t.1.sound; own = t.1.own };
       },
       grown_by m.0 t.0 n true m.0.own t.1,
+      refl,
       refl,
     ))
     t.2
@@ -149,12 +150,12 @@ ready m m1 s n h named drivers limit more sound front is =
     }
 
 -- what the store tells it
-pub published : (m m1 m2 : Mine) (s : Recorded) (n : ℕ) → IsReady m m1 s n → Published (step 0 0 0 0 none) m1 n m2 → RestsAfter m.0 m2 × (m2.0.seen ≡ s.history)
+pub published : (m m1 m2 : Mine) (s : Recorded) (n : ℕ) → IsReady m m1 s n → Published (step 0 0 0 0 none) m1 n m2 → RestsAfter m.0 m2 × (m2.0.seen ≡ s.history) × (m2.0.looks ≡ m.0.looks + 1)
 published m m1 m2 s n r is =
     let entries : history_in m1.1 ≡ s.history = ap history_in r.has.has in
     let same : m2 ≡ (stepped m1.0 s.history n false (entries_of m1.0.process s.history), []) =
     is ∙ ap₂ (λ (h : List Entry) (c : List (ℕ × Slot)). (stepped m1.0 h n false (entries_of m1.0.process h), rest c)) entries r.has.has in
-    subst (λ (k : Mine). RestsAfter m.0 k × (k.0.seen ≡ s.history)) (sym same) (
+    subst (λ (k : Mine). RestsAfter m.0 k × (k.0.seen ≡ s.history) × (k.0.looks ≡ m.0.looks + 1)) (sym same) (
       (
         (refl, refl, r.has.whole),
         record {
@@ -169,6 +170,7 @@ published m m1 m2 s n r is =
         record { sound = r.sound; own = λ _. refl },
       ),
       refl,
+      ap (λ (v : SeatView). v.looks + 1) r.view,
     )
 
 -- ---- a command

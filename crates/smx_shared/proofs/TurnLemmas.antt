@@ -1,12 +1,13 @@
 -- What the rule of the turn says of the first word, and of the seat that has the turn.
-use Rattle.std.proofs.Common.{◌≡◌, ℕ, ◌+◌, ◌%◌, List, true, refl, sym, ap, ◌∙◌, arith}
-use mathlib.Core.Option.{some, some-injective}
+use Rattle.std.proofs.Common.{◌≡◌, ℕ, ◌+◌, ◌%◌, List, [], ◌∷◌, true, Some, refl, sym, ap, ◌∙◌, arith}
+use mathlib.Core.Option.{none, some, some-injective}
 use lib.ListN.{get_elem?}
 use Rattle.atomic_table.specs.Table.{State}
 use Rattle.smx_types.specs.declared.command.Entry.{Entry}
 use Rattle.smx_types.specs.declared.driver.DriverSpec.{DriverSpec}
 use Rattle.smx_shared.specs.Fronts.{front_of}
-use Rattle.smx_shared.specs.TurnRule.{Slot, Turn, TurnRule, free, held, bit_of}
+use Rattle.smx_shared.specs.Recorded.{Recorded, IsSoundSystem}
+use Rattle.smx_shared.specs.TurnRule.{Slot, Turn, TurnRule, free, held, bit_of, home_of, system_with}
 use Rattle.smx_shared.specs.declared.seat_view.SeatView.{SeatView}
 use Rattle.smx_shared.proofs.SeatListLemmas.{held_same}
 use Rattle.smx_shared.proofs.WordLemmas.{front_even, held_odd}
@@ -23,6 +24,30 @@ held_of free d h n is odd =
     let same : n ≡ k + 0 = is in
     absurd (omega (arith, even, same, odd))
 held_of (held j) d h n is odd = (j, refl)
+
+-- an even word is that of a turn that is free
+free_of : (t : Turn) (d : List DriverSpec) (h : List Entry) (n : ℕ) → n ≡ front_of d h + bit_of t → n % 2 ≡ 0 → t ≡ free
+free_of free d h n is even = refl
+free_of (held j) d h n is even = absurd (let odd = held_odd d n h is in omega arith)
+
+-- then the system is at home
+pub home_at : (d : List DriverSpec) (l : ℕ) (start : List Entry) (count n : ℕ) (s : State Slot SeatView) → TurnRule d l start count s → get_elem? s.words 0 ≡ some n → n % 2 ≡ 0
+    → (x : Recorded) × (s.homes ≡ some (Some x) ∷ []) × (n ≡ front_of x.drivers x.history) × IsSoundSystem x
+home_at d l start count n s r word even =
+    let is = word_is d l start count n s r word in
+    let t = free_of r.turn d r.history n is even in
+    let zero : front_of d r.history + 0 ≡ front_of d r.history = omega arith in (
+      system_with d l r.history,
+      r.home ∙ ap (λ (t : Turn). home_of (system_with d l r.history) t ∷ []) t,
+      is ∙ ap (λ (t : Turn). front_of d r.history + bit_of t) t ∙ zero,
+      r.sound,
+    )
+
+-- and otherwise it is out
+pub out_at : (d : List DriverSpec) (l : ℕ) (start : List Entry) (count n : ℕ) (s : State Slot SeatView) → TurnRule d l start count s → get_elem? s.words 0 ≡ some n → n % 2 ≡ 1 → s.homes ≡ none ∷ []
+out_at d l start count n s r word odd =
+    let holder = held_of r.turn d r.history n (word_is d l start count n s r word) odd in
+    r.home ∙ ap (λ (t : Turn). home_of (system_with d l r.history) t ∷ []) holder.1
 
 -- a seat has the turn where the word has the turn bit
 pub held_by : (d : List DriverSpec) (l : ℕ) (start : List Entry) (count n : ℕ) (s : State Slot SeatView) → TurnRule d l start count s → get_elem? s.words 0 ≡ some n → n % 2 ≡ 1

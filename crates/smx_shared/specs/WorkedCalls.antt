@@ -1,7 +1,8 @@
 -- What two seats knew of a history of one entry, before that entry and after it, and what is wrong with that in one thing.
 use Rattle.std.specs.Prelude.{ℕ, Bool, true, false, [], ◌∷◌}
 use Rattle.smx_types.specs.declared.command.Entry.{Entry}
-use Rattle.smx_model.specs.Worked.Common.{OpenClone, Fd, ◌does◌gets◌, ip}
+use Rattle.smx_model.specs.Worked.Common.{OpenClone, CloseAll, Fd, Done, ◌does◌gets◌, ip}
+use Rattle.smx_shared.specs.Recorded.{Recorded}
 use Rattle.smx_shared.specs.Seats.{Known, Seated, SharedId, entries_of, met_seat}
 use Rattle.smx_shared.specs.WorkedSystems.{with_first}
 use Rattle.smx_shared.specs.declared.front.Front.{Front}
@@ -26,6 +27,21 @@ blind = record (knows 0 1 9) { seen = [] }
 
 abbrev pub idle : Known
 idle = record (knows 0 1 9) { own = [] }
+
+-- an entry of process 1, which doesn't stand in that history
+abbrev pub exited : Entry
+exited = 1 does CloseAll gets Done []
+
+-- after the entry and another, and after that other alone
+abbrev pub passed : Known
+passed = record (knows 0 1 9) { seen = opened ∷ exited ∷ [] }
+
+abbrev pub astray : Known
+astray = record (knows 0 0 9) { seen = exited ∷ [] }
+
+-- a system with that other entry alone
+abbrev pub strayed : Recorded
+strayed = record (with_first 1 9) { history = exited ∷ [] }
 
 -- a seat that knows this, read this word last, and has made so many steps
 abbrev pub sits : SharedId → Known → ℕ → ℕ → Seated

@@ -1,11 +1,13 @@
 //! Laws of the rule of the turn, each the contract of a function that does nothing.
 
-ghost use Rattle.std.specs.Prelude.{◌≡◌, ◌%◌, ℕ, List, true};
-ghost use mathlib.Core.Option.{some};
+ghost use Rattle.std.specs.Prelude.{◌≡◌, ◌%◌, ℕ, List, [], ◌∷◌, true, Some};
+ghost use mathlib.Core.Option.{none, some};
 ghost use lib.ListN.{get_elem?};
 ghost use Rattle.atomic_table.specs.Table.{State};
 ghost use Rattle.smx_types.specs.declared.command.Entry.{Entry as Made};
 ghost use Rattle.smx_types.specs.declared.driver.DriverSpec.{DriverSpec as Driver};
+ghost use Rattle.smx_shared.specs.Fronts.{front_of};
+ghost use Rattle.smx_shared.specs.Recorded.{Recorded, IsSoundSystem};
 ghost use Rattle.smx_shared.specs.TurnRule.{Slot, TurnRule};
 ghost use Rattle.smx_shared.specs.declared.seat_view.SeatView.{SeatView as View};
 
@@ -20,4 +22,14 @@ pub fn the_turn_is_one_seats()
     ensures one { (drivers : List Driver) (limit : ℕ) (start : List Made) (processes i j : ℕ) (v w : View) (s : State Slot View)
         → TurnRule drivers limit start processes s → get_elem? s.views i ≡ some v → get_elem? s.views j ≡ some w
         → v.turn ≡ true → w.turn ≡ true → i ≡ j }
+{}
+
+/// While the turn bit is not set, the slot is at home with a sound system, whose front the word is; while it is set, the
+/// slot is out.
+pub fn the_slot_is_home_or_out()
+    ensures home { (drivers : List Driver) (limit : ℕ) (start : List Made) (processes word : ℕ) (s : State Slot View)
+        → TurnRule drivers limit start processes s → get_elem? s.words 0 ≡ some word → word % 2 ≡ 0
+        → (x : Recorded) × (s.homes ≡ some (Some x) ∷ []) × (word ≡ front_of x.drivers x.history) × IsSoundSystem x }
+    ensures out { (drivers : List Driver) (limit : ℕ) (start : List Made) (processes word : ℕ) (s : State Slot View)
+        → TurnRule drivers limit start processes s → get_elem? s.words 0 ≡ some word → word % 2 ≡ 1 → s.homes ≡ none ∷ [] }
 {}

@@ -1,6 +1,6 @@
 //! A system that many threads share: they take turns, and look on without waiting.
 
-ghost use Rattle.std.specs.Prelude.{◌≡◌, ◌≤◌, map, IfOk, IfErr, OnOk};
+ghost use Rattle.std.specs.Prelude.{◌≡◌, ◌≤◌, ◌+◌, map, IfOk, IfErr, OnOk};
 ghost use Rattle.std.specs.List.{range_with_len};
 ghost use Rattle.smx_types.specs.declared.limits.TheConstants.{MAX_PROCESSES};
 ghost use Rattle.smx_shared.specs.Calls.{AddsEntry, AnswersEntry, EndsAs, GoesOnFrom, HasSeenMore, LooksOnce, Meets, Refuses, RefusesTry, Rests};
@@ -76,6 +76,7 @@ impl Shared {
         ensures met { seat.new.met ≡ seat.old.met }
         ensures seen { HasSeenMore seat.old.known seat.new.known }
         ensures answer { IfOk result (AnswersEntry seat.old.known seat.new.known command.now) }
+        ensures steps { OnOk result (seat.new.looks ≡ seat.old.looks + 2) }
         ensures refused { IfErr result (RefusesTry seat.old seat.new) }
     {
         limits_hold();

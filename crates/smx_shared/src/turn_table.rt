@@ -119,6 +119,7 @@ impl TurnTable {
         ensures table { token.new.table_id ≡ token.old.table_id }
         ensures grown { HasGrown token.old.me.0 token.new.me.0 × (token.new.me.0.own ≡ token.old.me.0.own) }
         ensures taken { OnOk result (HasTurn token.new.me (Some (system_of token.new.me.0))) }
+        ensures counted { token.new.me.0.looks ≡ token.old.me.0.looks + 1 }
         ensures held { IfErr result (λ word. RestsAfter token.old.me.0 token.new.me × FoundWord token.old.me.0 token.new.me.0 word × (word % 2 ≡ 1)) }
     {
         let word = self.table.shared.fetch_or::<Take>(token, FRONT, 1);
@@ -182,6 +183,7 @@ impl TurnTable {
         ensures table { token.new.table_id ≡ token.old.table_id }
         ensures rest { RestsAfter token.old.me.0 token.new.me }
         ensures seen { token.new.me.0.seen ≡ system.history }
+        ensures counted { token.new.me.0.looks ≡ token.old.me.0.looks + 1 }
     {
         let front = front_word(system.system());
         self.table.shared.exchange(token, SYSTEM, Some(system));
@@ -201,6 +203,7 @@ impl TurnTable {
         ensures table { token.new.table_id ≡ token.old.table_id }
         ensures rest { RestsAfter token.old.me.0 token.new.me }
         ensures answer { IfOk result (AnswersEntry (known_of token.old.me.0) (known_of token.new.me.0) command.now) }
+        ensures counted { token.new.me.0.looks ≡ token.old.me.0.looks + 1 }
         ensures refused { IfErr result (Refuses (known_of token.old.me.0) (known_of token.new.me.0)) }
     {
         let mut system = self.take_out(token);

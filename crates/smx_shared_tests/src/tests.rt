@@ -1,9 +1,12 @@
 //! Histories and programs that were typed in, and what comes of them.
 
+mod callers;
 mod fault_words;
 mod gates;
 mod gathered;
 mod looks;
+mod many_looks;
+mod many_tries;
 mod runs;
 mod seats;
 mod shared;

@@ -3,10 +3,13 @@
 mod command_lines;
 mod copies;
 mod copies_at_limits;
+mod copying;
 mod entry_lines;
+mod lists;
 mod plain_values;
 mod program_faults;
 mod program_texts;
+mod spelling;
 mod texts_at_limits;
 mod transcript_faults;
 mod transcript_texts;

@@ -1,50 +1,42 @@
-//! Verdicts on histories, with the transcripts and what is said of them typed in from the rules.
+//! Verdicts on transcripts, which were typed in with what is said of them from the rules.
 
-use smx_config::{ConfigFault, Verdict, check_history};
-use smx_samples::{driver, eth, first_stream, ip, named, nothing_open, numbered};
+use smx_config::{Verdict, check_history};
 use smx_text::read_transcript;
-use smx_types::{Command, DriverKind, DriverSpec, Entry, Fault, Reply, SpecFault};
+use smx_types::Transcript;
 use std::alloc::Global;
+use std::process::Abort;
 use std::test::Fail;
 
-// `0 clone ip`, with this reply.
-fn cloned(reply: Reply) -> Result<Entry, Fail> {
-    Ok(Entry {
-        process: numbered(0)?,
-        command: Command::OpenClone {
-            driver: named("ip")?,
-        },
-        reply,
-    })
-}
-
-fn ip_over_eth() -> Result<[DriverSpec; 2], Fail> {
-    Ok([ip()?, eth()?])
-}
-
-#[test]
-fn on_one_entry(rt: HostRuntime) -> Result<(), Fail> {
-    let drivers = ip_over_eth()?;
-    let shown = first_stream(rt.alloc())?;
-    let entries = [cloned(Reply::Fd { fd: 0, minor: 0 })?];
-    let verdict = check_history(rt.alloc(), &drivers, &entries, &shown)?;
-    assert_eq!(rt; verdict, Verdict::Legal);
-    let none = nothing_open(rt.alloc(), 1, 1);
-    let verdict = check_history(rt.alloc(), &drivers, &entries, &none)?;
-    assert_eq!(rt; verdict, Verdict::ConfigDiffers);
-    let entries = [cloned(Reply::Fd { fd: 0, minor: 1 })?];
-    let verdict = check_history(rt.alloc(), &drivers, &entries, &shown)?;
-    assert_eq!(rt; verdict, Verdict::Illegal { entry: 1 });
-    Ok(())
-}
-
-// The verdict on the transcript of these entries and this view, under two drivers.
-fn judged(alloc: Global, entries: &str, view: &str) -> Result<Verdict, Fail> {
+// The text of a transcript of these entries and this view, under two drivers.
+fn text_of(alloc: Global, entries: &str, view: &str) -> Result<String, Fail> {
     let drivers = "driver ip mux 4 8 3 16\ndriver eth leaf 2 8 3 16";
-    let text = format!(in alloc; "transcript 1\n{drivers}\n{entries}config\n{view}end\n")?;
-    let t = read_transcript(alloc, text.as_bytes())?;
+    Ok(format!(in alloc; "transcript 1\n{drivers}\n{entries}config\n{view}end\n")?)
+}
+
+fn verdict_on(alloc: Global, t: &Transcript) -> Result<Verdict, Fail> {
     let verdict = check_history(alloc, t.drivers.as_slice(), t.entries.as_slice(), &t.view)?;
     Ok(verdict)
+}
+
+fn verdict_on_text(alloc: Global, text: &[u8]) -> Result<Verdict, Fail> {
+    let transcript = read_transcript(alloc, text)?;
+    verdict_on(alloc, &transcript)
+}
+
+fn judged(alloc: Global, entries: &str, view: &str) -> Result<Verdict, Fail> {
+    let text = text_of(alloc, entries, view)?;
+    verdict_on_text(alloc, text.as_bytes())
+}
+
+fn are_judged(
+    rt: &(impl AllocGlobal + Abort),
+    entries: &str,
+    view: &str,
+    want: Verdict,
+) -> Result<(), Fail> {
+    let verdict = judged(rt.alloc(), entries, view)?;
+    assert_eq!(rt; verdict, want);
+    Ok(())
 }
 
 const CASES: [(&str, &str, Verdict); 12] = [
@@ -110,8 +102,7 @@ const CASES: [(&str, &str, Verdict); 12] = [
 #[test]
 fn on_short_transcripts(rt: HostRuntime) -> Result<(), Fail> {
     for (entries, view, want) in CASES {
-        let verdict = judged(rt.alloc(), entries, view)?;
-        assert_eq!(rt; verdict, want);
+        are_judged(&rt, entries, view, want)?;
     }
     Ok(())
 }
@@ -188,13 +179,22 @@ fn claimed(alloc: Global, view: &str, stands: &str, claim: &str) -> Result<Strin
     Ok(format!(in alloc; "{before}{claim}{behind}")?)
 }
 
+// The view with this in the place of that is another.
+fn differs(
+    rt: &(impl AllocGlobal + Abort),
+    entries: &str,
+    view: &str,
+    (stands, claim): (&str, &str),
+) -> Result<(), Fail> {
+    let view = claimed(rt.alloc(), view, stands, claim)?;
+    are_judged(rt, entries, view.as_str(), Verdict::ConfigDiffers)
+}
+
 #[test]
 fn on_views_that_differ_in_one_thing(rt: HostRuntime) -> Result<(), Fail> {
-    assert_eq!(rt; judged(rt.alloc(), MARKS, AFTER_MARKS)?, Verdict::Legal);
-    for (stands, claim) in CLAIMS {
-        let view = claimed(rt.alloc(), AFTER_MARKS, stands, claim)?;
-        let verdict = judged(rt.alloc(), MARKS, view.as_str())?;
-        assert_eq!(rt; verdict, Verdict::ConfigDiffers);
+    are_judged(&rt, MARKS, AFTER_MARKS, Verdict::Legal)?;
+    for claim in &CLAIMS {
+        differs(&rt, MARKS, AFTER_MARKS, *claim)?;
     }
     Ok(())
 }
@@ -206,62 +206,9 @@ const BOUND: &str = "0 clone ip = fd 0 0
 #[test]
 fn on_bindings_that_differ(rt: HostRuntime) -> Result<(), Fail> {
     let view = "next 1 1\nfd 0 0 ip 0\nbind ip 9 0\n";
-    assert_eq!(rt; judged(rt.alloc(), BOUND, view)?, Verdict::Legal);
+    are_judged(&rt, BOUND, view, Verdict::Legal)?;
     for claim in ["", "bind eth 9 0\n", "bind ip 8 0\n", "bind ip 9 1\n"] {
-        let view = claimed(rt.alloc(), view, "bind ip 9 0\n", claim)?;
-        let verdict = judged(rt.alloc(), BOUND, view.as_str())?;
-        assert_eq!(rt; verdict, Verdict::ConfigDiffers);
+        differs(&rt, BOUND, view, ("bind ip 9 0\n", claim))?;
     }
-    Ok(())
-}
-
-fn fault_of(rt: &HostRuntime, drivers: &[DriverSpec]) -> Result<ConfigFault, Fail> {
-    let shown = nothing_open(rt.alloc(), 1, 1);
-    let entries = [cloned(Reply::Id(7))?];
-    let refused = check_history(rt.alloc(), drivers, &entries, &shown).err();
-    Ok(refused.ok_or("a verdict")?)
-}
-
-#[test]
-fn none_on_drivers_that_are_refused(rt: HostRuntime) -> Result<(), Fail> {
-    let none = driver("ip", DriverKind::Mux, 0)?;
-    let fault = fault_of(&rt, &[none])?;
-    assert_eq!(rt; fault, ConfigFault::BadSpec(0, SpecFault::BadMinors));
-    let fault = fault_of(&rt, &[ip()?, ip()?])?;
-    assert_eq!(rt; fault, ConfigFault::SameName(1));
-    let many = Vec::from_elem(rt.alloc(), ip()?, 65)?;
-    assert_eq!(rt; fault_of(&rt, many.as_slice())?, ConfigFault::TooMany);
-    Ok(())
-}
-
-// `0 close 0 = EBADF fd`.
-fn refused() -> Result<Entry, Fail> {
-    Ok(Entry {
-        process: numbered(0)?,
-        command: Command::Close { fd: 0 },
-        reply: Reply::Fault(Fault::BadDescriptor),
-    })
-}
-
-fn refused_entries(alloc: Global, count: usize) -> Result<Vec<Entry>, Fail> {
-    let mut entries = Vec::with_capacity(alloc, count)?;
-    for _ in 0..count {
-        entries.push(refused()?)?;
-    }
-    Ok(entries)
-}
-
-#[test]
-fn on_the_most_entries(rt: HostRuntime) -> Result<(), Fail> {
-    let drivers = ip_over_eth()?;
-    let shown = nothing_open(rt.alloc(), 1, 1);
-    let mut entries = refused_entries(rt.alloc(), 99_999)?;
-    entries.push(refused()?)?;
-    let verdict = check_history(rt.alloc(), &drivers, entries.as_slice(), &shown)?;
-    assert_eq!(rt; verdict, Verdict::Legal);
-    let _last = entries.pop();
-    entries.push(cloned(Reply::Fd { fd: 1, minor: 0 })?)?;
-    let verdict = check_history(rt.alloc(), &drivers, entries.as_slice(), &shown)?;
-    assert_eq!(rt; verdict, Verdict::Illegal { entry: 100_000 });
     Ok(())
 }

@@ -1,29 +1,34 @@
 //! Runs with devices that stop once, at each read and at each write, and would then go on.
 
-use super::devices::{STOPS, Stop, one_byte_feed, one_byte_sink};
+use super::devices::{ERRORS, STOPS, STOPS_OF_FLUSHES, Stop, one_byte_feed, one_byte_sink};
 use super::runs::{OPENED_AND_CLOSED, OPENS_AND_CLOSES, run_ending};
 use smx_filters::{Source, Target, run_text};
 use smx_run::NoGate;
 use std::io::ErrorKind;
+use std::process::Abort;
+use std::sync::Wait;
+use std::thread::Threads;
+
+// A run of which the read after this many fails writes nothing.
+fn writes_nothing<R: AllocGlobal + Abort + Threads + Wait + Sync>(
+    rt: &R,
+    reads: usize,
+    kind: ErrorKind,
+) {
+    let mut feed = one_byte_feed(OPENS_AND_CLOSES, reads, kind);
+    let mut sink = Target::new(Vec::new(rt.alloc()));
+    let outcome = run_text(rt, rt.alloc(), &mut feed, &mut sink, 1, false, &NoGate);
+    let (line, status) = run_ending(outcome);
+    assert_eq!(rt; line.as_str(), "read failed", "after {reads} reads");
+    assert_eq!(rt; status, 5);
+    assert!(rt; sink.writer.is_empty());
+}
 
 #[test]
 fn writes_nothing_after_a_failed_read(rt: HostRuntime) {
-    for kind in [ErrorKind::Other, ErrorKind::Interrupted] {
+    for kind in &ERRORS {
         for reads in 0..84 {
-            let mut feed = one_byte_feed(OPENS_AND_CLOSES, reads, kind);
-            let mut sink = Target::new(Vec::new(rt.alloc()));
-            let (line, status) = run_ending(run_text(
-                &rt,
-                rt.alloc(),
-                &mut feed,
-                &mut sink,
-                1,
-                false,
-                &NoGate,
-            ));
-            assert_eq!(rt; line.as_str(), "read failed", "after {reads} reads");
-            assert_eq!(rt; status, 5);
-            assert!(rt; sink.writer.is_empty());
+            writes_nothing(&rt, reads, *kind);
         }
     }
 }
@@ -32,58 +37,38 @@ fn writes_nothing_after_a_failed_read(rt: HostRuntime) {
 fn runs_byte_by_byte(rt: HostRuntime) {
     let mut feed = one_byte_feed(OPENS_AND_CLOSES, 84, ErrorKind::Other);
     let mut sink = one_byte_sink(rt.alloc(), 158, Stop::Fails);
-    let (_line, status) = run_ending(run_text(
-        &rt,
-        rt.alloc(),
-        &mut feed,
-        &mut sink,
-        1,
-        false,
-        &NoGate,
-    ));
+    let outcome = run_text(&rt, rt.alloc(), &mut feed, &mut sink, 1, false, &NoGate);
+    let (_line, status) = run_ending(outcome);
     assert_eq!(rt; status, 0);
     assert_eq!(rt; sink.writer.taken.as_slice(), OPENED_AND_CLOSED);
+}
+
+// A run that is stopped behind this beginning leaves just that.
+fn leaves<R: AllocGlobal + Abort + Threads + Wait + Sync>(rt: &R, beginning: &[u8], stop: Stop) {
+    let writes = beginning.len();
+    let mut feed = Source::new(OPENS_AND_CLOSES);
+    let mut sink = one_byte_sink(rt.alloc(), writes, stop);
+    let outcome = run_text(rt, rt.alloc(), &mut feed, &mut sink, 1, false, &NoGate);
+    let (line, status) = run_ending(outcome);
+    assert_eq!(rt; line.as_str(), "write failed", "after {writes} writes");
+    assert_eq!(rt; status, 5);
+    assert_eq!(rt; sink.writer.taken.as_slice(), beginning);
 }
 
 #[test]
 fn leaves_the_beginning_after_a_failed_write(rt: HostRuntime) {
     assert_eq!(rt; OPENED_AND_CLOSED.len(), 157);
-    for stop in STOPS {
+    for stop in &STOPS {
         for writes in 0..157 {
-            let mut feed = Source::new(OPENS_AND_CLOSES);
-            let mut sink = one_byte_sink(rt.alloc(), writes, stop);
-            let (line, status) = run_ending(run_text(
-                &rt,
-                rt.alloc(),
-                &mut feed,
-                &mut sink,
-                1,
-                false,
-                &NoGate,
-            ));
-            assert_eq!(rt; line.as_str(), "write failed", "after {writes} writes");
-            assert_eq!(rt; status, 5);
-            assert_eq!(rt; sink.writer.taken.as_slice(), &OPENED_AND_CLOSED[..writes]);
+            leaves(&rt, &OPENED_AND_CLOSED[..writes], *stop);
         }
     }
 }
 
 #[test]
 fn has_written_all_before_a_failed_flush(rt: HostRuntime) {
-    for stop in [Stop::Fails, Stop::IsInterrupted] {
-        let mut feed = Source::new(OPENS_AND_CLOSES);
-        let mut sink = one_byte_sink(rt.alloc(), 157, stop);
-        let (line, status) = run_ending(run_text(
-            &rt,
-            rt.alloc(),
-            &mut feed,
-            &mut sink,
-            1,
-            false,
-            &NoGate,
-        ));
-        assert_eq!(rt; line.as_str(), "write failed");
-        assert_eq!(rt; status, 5);
-        assert_eq!(rt; sink.writer.taken.as_slice(), OPENED_AND_CLOSED);
+    assert_eq!(rt; OPENED_AND_CLOSED.len(), 157);
+    for stop in &STOPS_OF_FLUSHES {
+        leaves(&rt, OPENED_AND_CLOSED, *stop);
     }
 }

@@ -1,10 +1,11 @@
 //! Checks with devices that stop once, at each read and at each write, and would then go on.
 
 use super::checks::{OTHER_CONFIGURATION, TWO_PROCESSES, WRONG_REPLY};
-use super::devices::{STOPS, Stop, one_byte_feed, one_byte_sink};
+use super::devices::{ERRORS, STOPS, STOPS_OF_FLUSHES, Stop, one_byte_feed, one_byte_sink};
 use super::runs::ending;
 use smx_filters::{Done, Source, Target, check_text};
 use std::io::ErrorKind;
+use std::process::Abort;
 
 const VERDICTS: [(&[u8], &[u8], u8); 3] = [
     (TWO_PROCESSES, b"legal 2\n", 0),
@@ -12,62 +13,75 @@ const VERDICTS: [(&[u8], &[u8], u8); 3] = [
     (OTHER_CONFIGURATION, b"config differs\n", 4),
 ];
 
+// A check of which the read after this many fails writes nothing.
+fn judges_nothing(rt: &(impl AllocGlobal + Abort), reads: usize, kind: ErrorKind) {
+    let mut feed = one_byte_feed(TWO_PROCESSES, reads, kind);
+    let mut sink = Target::new(Vec::new(rt.alloc()));
+    let outcome = check_text(rt.alloc(), &mut feed, &mut sink);
+    let (line, status) = ending(outcome.map(Done::Judged));
+    assert_eq!(rt; line.as_str(), "read failed", "after {reads} reads");
+    assert_eq!(rt; status, 5);
+    assert!(rt; sink.writer.is_empty());
+}
+
 #[test]
 fn judges_nothing_after_a_failed_read(rt: HostRuntime) {
-    for kind in [ErrorKind::Other, ErrorKind::Interrupted] {
+    for kind in &ERRORS {
         for reads in 0..TWO_PROCESSES.len() + 1 {
-            let mut feed = one_byte_feed(TWO_PROCESSES, reads, kind);
-            let mut sink = Target::new(Vec::new(rt.alloc()));
-            let outcome = check_text(rt.alloc(), &mut feed, &mut sink);
-            let (line, status) = ending(outcome.map(Done::Judged));
-            assert_eq!(rt; line.as_str(), "read failed", "after {reads} reads");
-            assert_eq!(rt; status, 5);
-            assert!(rt; sink.writer.is_empty());
+            judges_nothing(&rt, reads, *kind);
         }
     }
 }
 
+fn judges(rt: &(impl AllocGlobal + Abort), input: &[u8], output: &[u8], wanted: u8) {
+    let mut feed = one_byte_feed(input, input.len().saturating_add(1), ErrorKind::Other);
+    let mut sink = one_byte_sink(rt.alloc(), output.len().saturating_add(1), Stop::Fails);
+    let outcome = check_text(rt.alloc(), &mut feed, &mut sink);
+    let (_line, status) = ending(outcome.map(Done::Judged));
+    assert_eq!(rt; status, wanted);
+    assert_eq!(rt; sink.writer.taken.as_slice(), output);
+    assert!(rt; sink.flushed);
+}
+
 #[test]
 fn judges_byte_by_byte(rt: HostRuntime) {
-    for (input, output, wanted) in VERDICTS {
-        let mut feed = one_byte_feed(input, input.len() + 1, ErrorKind::Other);
-        let mut sink = one_byte_sink(rt.alloc(), output.len() + 1, Stop::Fails);
-        let outcome = check_text(rt.alloc(), &mut feed, &mut sink);
-        let (_line, status) = ending(outcome.map(Done::Judged));
-        assert_eq!(rt; status, wanted);
-        assert_eq!(rt; sink.writer.taken.as_slice(), output);
-        assert!(rt; sink.flushed);
+    for (input, output, wanted) in &VERDICTS {
+        judges(&rt, *input, *output, *wanted);
+    }
+}
+
+// A check that is stopped behind this beginning of its verdict leaves just that.
+fn leaves(rt: &(impl AllocGlobal + Abort), input: &[u8], beginning: &[u8], stop: Stop) {
+    let writes = beginning.len();
+    let mut feed = Source::new(input);
+    let mut sink = one_byte_sink(rt.alloc(), writes, stop);
+    let outcome = check_text(rt.alloc(), &mut feed, &mut sink);
+    let (line, status) = ending(outcome.map(Done::Judged));
+    assert_eq!(rt; line.as_str(), "write failed", "after {writes} writes");
+    assert_eq!(rt; status, 5);
+    assert_eq!(rt; sink.writer.taken.as_slice(), beginning);
+}
+
+fn leaves_each_beginning(rt: &(impl AllocGlobal + Abort), input: &[u8], output: &[u8], stop: Stop) {
+    for writes in 0..output.len() {
+        leaves(rt, input, &output[..writes], stop);
     }
 }
 
 #[test]
 fn leaves_the_beginning_of_a_verdict(rt: HostRuntime) {
-    for (input, output, _status) in VERDICTS {
-        for stop in STOPS {
-            for writes in 0..output.len() {
-                let mut feed = Source::new(input);
-                let mut sink = one_byte_sink(rt.alloc(), writes, stop);
-                let outcome = check_text(rt.alloc(), &mut feed, &mut sink);
-                let (line, status) = ending(outcome.map(Done::Judged));
-                assert_eq!(rt; line.as_str(), "write failed", "after {writes} writes");
-                assert_eq!(rt; status, 5);
-                assert_eq!(rt; sink.writer.taken.as_slice(), &output[..writes]);
-            }
+    for (input, output, _status) in &VERDICTS {
+        for stop in &STOPS {
+            leaves_each_beginning(&rt, *input, *output, *stop);
         }
     }
 }
 
 #[test]
 fn has_written_the_verdict_before_a_failed_flush(rt: HostRuntime) {
-    for (input, output, _status) in VERDICTS {
-        for stop in [Stop::Fails, Stop::IsInterrupted] {
-            let mut feed = Source::new(input);
-            let mut sink = one_byte_sink(rt.alloc(), output.len(), stop);
-            let outcome = check_text(rt.alloc(), &mut feed, &mut sink);
-            let (line, status) = ending(outcome.map(Done::Judged));
-            assert_eq!(rt; line.as_str(), "write failed");
-            assert_eq!(rt; status, 5);
-            assert_eq!(rt; sink.writer.taken.as_slice(), output);
+    for (input, output, _status) in &VERDICTS {
+        for stop in &STOPS_OF_FLUSHES {
+            leaves(&rt, *input, *output, *stop);
         }
     }
 }

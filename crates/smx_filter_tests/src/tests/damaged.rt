@@ -1,67 +1,90 @@
 //! Damaged texts: the line and the cause of each fault, typed in from the rules.
 
-use super::runs::{OPENS_AND_CLOSES, run_bytes};
+use super::runs::{OPENS_AND_CLOSES, run_is_refused};
 use std::process::Abort;
 use std::sync::Wait;
 use std::test::Fail;
 use std::thread::Threads;
 
-fn wants<R: AllocGlobal + Abort + Threads + Wait + Sync>(rt: &R, input: &[u8], line: &str) {
-    let ran = run_bytes(rt, rt.alloc(), input);
-    assert_eq!(rt; ran.line.as_str(), line);
-    assert_eq!(rt; ran.status, 3, "for {line}");
-    assert!(rt; ran.output.is_empty(), "for {line}");
+const WRONG: [(&[u8], &str); 6] = [
+    (b"", "line 1: cut"),
+    (b"programs 2\n", "line 1: header"),
+    (
+        b"programs 1\ndriver ip mux 4 8 3 16\nprocess 0\nclone ip\n",
+        "line 5: cut",
+    ),
+    (b"programs 1\nend\n ", "line 3: trailing"),
+    (b"programs 1\nclone ip\nend\n", "line 2: form"),
+    (
+        b"programs 1\nprocess 0\ndriver ip mux 4 8 3 16\nend\n",
+        "line 3: form",
+    ),
+];
+
+#[test]
+fn names_the_first_wrong_line(rt: HostRuntime) {
+    for (input, line) in &WRONG {
+        run_is_refused(&rt, *input, *line, 3);
+    }
+}
+
+const NO_COMMANDS: [&str; 25] = [
+    "dup 00",
+    "close  0",
+    "close 0 ",
+    " close 0",
+    "open ip 4294967296",
+    "process 2",
+    "dup +1",
+    "dup",
+    "exit 0",
+    "clone 9a",
+    "clone ninelette",
+    "clone IP",
+    "close 0\r",
+    "link 0",
+    "write 0 5 AA",
+    "write 0 5 aab",
+    "write 0 5",
+    "unlink 0 each",
+    "flush 0 x",
+    "inject eth 0 9 -1",
+    "route 0 5 01",
+    "driver eth leaf 1 1 0 1",
+    "",
+    "closed 0",
+    "hangup ip 0",
+];
+
+fn is_no_command<R: AllocGlobal + Abort + Threads + Wait + Sync>(
+    rt: &R,
+    line: &str,
+) -> Result<(), Fail> {
+    let input = format!(in rt.alloc();
+        "programs 1\ndriver ip mux 4 8 3 16\nprocess 0\n{line}\nend\n"
+    )?;
+    run_is_refused(rt, input.as_bytes(), "line 4: form", 3);
+    Ok(())
 }
 
 #[test]
-fn names_the_first_wrong_line(rt: HostRuntime) -> Result<(), Fail> {
-    wants(&rt, b"", "line 1: cut");
-    wants(&rt, b"programs 2\n", "line 1: header");
-    wants(
-        &rt,
-        b"programs 1\ndriver ip mux 4 8 3 16\nprocess 0\nclone ip\n",
-        "line 5: cut",
-    );
-    wants(&rt, b"programs 1\nend\n ", "line 3: trailing");
-    wants(&rt, b"programs 1\nclone ip\nend\n", "line 2: form");
-    wants(
-        &rt,
-        b"programs 1\nprocess 0\ndriver ip mux 4 8 3 16\nend\n",
-        "line 3: form",
-    );
-    let commands = [
-        "dup 00",
-        "close  0",
-        "close 0 ",
-        " close 0",
-        "open ip 4294967296",
-        "process 2",
-        "dup +1",
-        "dup",
-        "exit 0",
-        "clone 9a",
-        "clone ninelette",
-        "clone IP",
-        "close 0\r",
-        "link 0",
-        "write 0 5 AA",
-        "write 0 5 aab",
-        "write 0 5",
-        "unlink 0 each",
-        "flush 0 x",
-        "inject eth 0 9 -1",
-        "route 0 5 01",
-        "driver eth leaf 1 1 0 1",
-        "",
-        "closed 0",
-        "hangup ip 0",
-    ];
-    for command in commands {
-        let input = format!(in rt.alloc();
-            "programs 1\ndriver ip mux 4 8 3 16\nprocess 0\n{command}\nend\n"
-        )?;
-        wants(&rt, input.as_bytes(), "line 4: form");
+fn refuses_what_is_no_command(rt: HostRuntime) -> Result<(), Fail> {
+    for line in &NO_COMMANDS {
+        is_no_command(&rt, *line)?;
     }
+    Ok(())
+}
+
+// The line after this beginning is the one that is named, for this cause.
+fn names_the_next<R: AllocGlobal + Abort + Threads + Wait + Sync>(
+    rt: &R,
+    beginning: &[u8],
+    input: &[u8],
+    cause: &str,
+) -> Result<(), Fail> {
+    let number = lines_in(beginning).saturating_add(1);
+    let line = format!(in rt.alloc(); "line {number}: {cause}")?;
+    run_is_refused(rt, input, line.as_str(), 3);
     Ok(())
 }
 
@@ -70,11 +93,18 @@ fn finds_every_cut(rt: HostRuntime) -> Result<(), Fail> {
     assert_eq!(rt; OPENS_AND_CLOSES.len(), 83);
     for k in 0..OPENS_AND_CLOSES.len() {
         let beginning = &OPENS_AND_CLOSES[..k];
-        let line = lines_in(beginning).saturating_add(1);
-        let line = format!(in rt.alloc(); "line {line}: cut")?;
-        wants(&rt, beginning, line.as_str());
+        names_the_next(&rt, beginning, beginning, "cut")?;
     }
     Ok(())
+}
+
+// The cause where this byte is wrong.
+fn cause_at(k: usize) -> &'static str {
+    match k {
+        0..=10 => "header",
+        82 => "cut",
+        _ => "form",
+    }
 }
 
 #[test]
@@ -82,14 +112,7 @@ fn finds_every_wrong_byte(rt: HostRuntime) -> Result<(), Fail> {
     for k in 0..OPENS_AND_CLOSES.len() {
         let mut input = Vec::from_slice(rt.alloc(), OPENS_AND_CLOSES)?;
         input[k] = 0xff;
-        let line = lines_in(&OPENS_AND_CLOSES[..k]).saturating_add(1);
-        let cause = match k {
-            0..=10 => "header",
-            82 => "cut",
-            _ => "form",
-        };
-        let line = format!(in rt.alloc(); "line {line}: {cause}")?;
-        wants(&rt, input.as_slice(), line.as_str());
+        names_the_next(&rt, &OPENS_AND_CLOSES[..k], input.as_slice(), cause_at(k))?;
     }
     Ok(())
 }

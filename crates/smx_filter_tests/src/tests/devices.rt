@@ -22,6 +22,12 @@ pub enum Stop {
 /// Each way to stop.
 pub const STOPS: [Stop; 3] = [Stop::Fails, Stop::IsInterrupted, Stop::TakesNone];
 
+/// Each way to stop that is an error of a flush.
+pub const STOPS_OF_FLUSHES: [Stop; 2] = [Stop::Fails, Stop::IsInterrupted];
+
+/// The errors of a read that stops.
+pub const ERRORS: [ErrorKind; 2] = [ErrorKind::Other, ErrorKind::Interrupted];
+
 /// A reader of bytes in memory that gives one byte a read, and then none.
 #[derive(Drop)]
 pub struct OneByteReader<'a> {

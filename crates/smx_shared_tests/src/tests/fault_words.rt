@@ -8,7 +8,13 @@ use std::fmt::Display;
 use std::process::Abort;
 use std::test::Fail;
 
-fn prints(rt: &impl Abort, alloc: Global, fault: &impl Display, words: &str) -> Result<(), Fail> {
+/// The fault prints itself in these words.
+pub fn prints(
+    rt: &impl Abort,
+    alloc: Global,
+    fault: &impl Display,
+    words: &str,
+) -> Result<(), Fail> {
     assert_eq!(rt; fault.to_string(alloc)?.as_str(), words);
     Ok(())
 }

@@ -1,39 +1,18 @@
 //! Many seats, each on a thread of its own.
 
-ghost use Rattle.std.specs.Prelude.{◌≡◌, ◌≤◌, All, IfOk, IfSome};
-ghost use Rattle.smx_types.specs.declared.limits.TheConstants.{MAX_COMMANDS};
+ghost use Rattle.std.specs.Prelude.{◌≡◌, All, IfOk};
 
-use super::shared::{TURNS, front, holding, no_flags, opened, wait_for};
-use super::system_lines::system_over;
-use smx_run::{NoGate, run_programs};
-use smx_samples::{Call, command_of, driver, nothing_open};
-use smx_shared::{ApplyFault, Door, Hold, Seat, Shared, System, TryFault};
-use smx_text::read_programs;
-use smx_types::{Command, DriverKind, Reply};
+use super::callers::{closes_with, is_opened, last_of, last_two, opened, opens, system_of};
+use super::workers::reported;
+use smx_run::Report;
+use smx_samples::{Call, command_of, nothing_open};
+use smx_shared::{ApplyFault, Door, Seat, Shared};
+use smx_types::{Command, Reply};
 use std::alloc::Global;
+use std::process::Abort;
 use std::sync::Wait;
-use std::sync::atomic::{AtomicU64, Ordering};
 use std::test::Fail;
-use std::thread;
-use std::thread::{Scope, Threads, join};
-
-// A system over `driver ip mux 64 8 3 16`, of at most so many entries.
-fn system_of(alloc: Global, limit: usize) -> Result<System, Fail>
-    requires { limit ≤ MAX_COMMANDS }
-{
-    system_over(alloc, &[driver("ip", DriverKind::Mux, 64)?], limit)
-}
-
-// The last of these seats, and those before it.
-fn last_of(shared: &Shared, mut seats: Vec<Seat>) -> Option<(Vec<Seat>, Seat)>
-    requires { All (λ s. s.shared ≡ shared.now.name) seats.items }
-    ensures { IfSome result (λ r. All (λ s. s.shared ≡ shared.now.name) r.0.items × (r.1.shared ≡ shared.now.name)) }
-{
-    let Some(last) = seats.pop() else {
-        return None;
-    };
-    Some((seats, last))
-}
+use std::thread::{Threads, join};
 
 // Why each of two calls was refused, if it was.
 type Two = (Option<ApplyFault>, Option<ApplyFault>);
@@ -79,331 +58,139 @@ fn four_calls<R: Threads + Wait + Sync>(
     (one, first, second)
 }
 
-#[test]
-fn five_entries_of_eight_calls(rt: HostRuntime) -> Result<(), Fail> {
-    let alloc = rt.alloc();
-    let clone_ip = command_of(alloc, Call::Clone("ip"))?;
-    let (shared, mut seats) = Shared::start(alloc, system_of(alloc, 5)?, 4)?;
-    let (Some(three), Some(two), Some(one), Some(zero)) = (
-        seats.pop(),
-        seats.pop(),
-        seats.pop(),
-        seats.pop(),
-    ) else {
-        return Err(Fail::new("four seats"));
-    };
-    let (door, command) = (&shared, &clone_ip);
-    let ((zero, a, b), (_two, c, d)) = join(
-        &rt,
-        || -> (Seat, Two, Two)
-            requires { (zero.shared ≡ door.now.name) × (one.shared ≡ door.now.name) }
-            ensures { result.0.shared ≡ zero.shared }
-        { four_calls(&rt, door, zero, one, alloc, command) },
-        || -> (Seat, Two, Two)
-            requires { (two.shared ≡ door.now.name) × (three.shared ≡ door.now.name) }
-        { four_calls(&rt, door, two, three, alloc, command) },
-    );
-    let faults = [a.0, a.1, b.0, b.1, c.0, c.1, d.0, d.1];
+// Of eight calls five were answered, and three found the history full.
+fn are_five(rt: &impl Abort, faults: &[Option<ApplyFault>]) {
     assert_eq!(rt; faults.iter().filter(|it| it.is_none()).count(), 5);
     let full = Some(ApplyFault::HistoryFull);
     assert_eq!(rt; faults.iter().filter(|it| **it == full).count(), 3);
-    assert_eq!(rt; shared.close(zero)?.entries().len(), 5);
-    Ok(())
 }
 
-// Whether each of a hundred tries finds the turn held, with nothing in the history.
-fn finds_it_held(shared: &Shared, mut seat: Seat, alloc: Global, command: &Command) -> bool
-    requires { seat.shared ≡ shared.now.name }
-{
-    let held = Some(TryFault::Busy(front(0, 0, true)));
-    for _ in 0..100 {
-        if shared.try_call(alloc, &mut seat, command).err() != held {
-            return false;
-        }
-    }
-    true
-}
-
-// Whether they all do, each on a thread of its own.
-fn start_tries<'s, E, R: Threads>(
-    scope: &'s Scope<'s, E>,
-    rt: &'s R,
-    shared: &'s Shared,
-    seats: Vec<Seat>,
-    alloc: Global,
-    command: &'s Command,
-) -> Result<bool, Fail>
-    requires { All (λ s. s.shared ≡ shared.now.name) seats.items }
-{
-    let mut threads = Vec::new(alloc);
-    for seat in seats {
-        let thread = scope.spawn(
-            move || -> bool
-                requires { seat.shared ≡ shared.now.name }
-            { finds_it_held(shared, seat, alloc, command) },
-        );
-        threads.push(thread.ok().ok_or("a thread")?)?;
-    }
-    let mut all = true;
-    for thread in threads {
-        all = thread.join(rt) && all;
-    }
-    Ok(all)
-}
-
-fn all_find_it_held<R: Threads + Wait + Sync>(
+// Four seats on four threads, each with two calls: the first one's seat at the end.
+fn eight_calls<R: Abort + Threads + Wait + Sync>(
     rt: &R,
     shared: &Shared,
     seats: Vec<Seat>,
     alloc: Global,
     command: &Command,
-) -> Result<bool, Fail>
+) -> Result<Seat, Fail>
     requires { All (λ s. s.shared ≡ shared.now.name) seats.items }
+    ensures { IfOk result (λ s. s.shared ≡ shared.now.name) }
 {
-    thread::scope(
-        thread::scope_env(),
+    let (seats, three) = last_of(shared, seats)?;
+    let (seats, two) = last_of(shared, seats)?;
+    let (zero, one) = last_two(shared, seats)?;
+    let ((zero, a, b), (_two, c, d)) = join(
         rt,
-        |scope| -> Result<bool, Fail>
-            requires { All (λ s. s.shared ≡ shared.now.name) seats.items }
-        { start_tries(scope, rt, shared, seats, alloc, command) },
-    )
+        || -> (Seat, Two, Two)
+            requires { (zero.shared ≡ shared.now.name) × (one.shared ≡ shared.now.name) }
+            ensures { result.0.shared ≡ shared.entry.now.name }
+        { four_calls(rt, shared, zero, one, alloc, command) },
+        || -> (Seat, Two, Two)
+            requires { (two.shared ≡ shared.now.name) × (three.shared ≡ shared.now.name) }
+        { four_calls(rt, shared, two, three, alloc, command) },
+    );
+    are_five(rt, &[a.0, a.1, b.0, b.1, c.0, c.1, d.0, d.1]);
+    Ok(zero)
+}
+
+fn call_and_close<R: Abort + Threads + Wait + Sync>(
+    rt: &R,
+    alloc: Global,
+    command: &Command,
+) -> Result<(), Fail> {
+    let (shared, seats) = Shared::start(alloc, system_of(alloc, 5)?, 4)?;
+    let zero = eight_calls(rt, &shared, seats, alloc, command)?;
+    closes_with(rt, shared, zero, 5)
 }
 
 #[test]
-fn fifteen_try_while_one_holds(rt: HostRuntime) -> Result<(), Fail> {
-    let alloc = rt.alloc();
-    let clone_ip = command_of(alloc, Call::Clone("ip"))?;
-    let (shared, seats) = Shared::start(alloc, system_of(alloc, 10)?, 16)?;
-    assert_eq!(rt; seats.len(), 16);
-    let Some((seats, last)) = last_of(&shared, seats) else {
-        return Err(Fail::new("a seat"));
-    };
-    let flags = no_flags();
-    let (door, command, both) = (&shared, &clone_ip, &flags);
-    let ((last, reply), all) = join(
-        &rt,
-        || -> (Seat, Option<Reply>)
-            requires { last.shared ≡ door.now.name }
-            ensures { result.0.shared ≡ last.shared }
-        { holding(&rt, door, last, alloc, command, both) },
-        || -> Result<bool, Fail>
-            requires { All (λ s. s.shared ≡ door.now.name) seats.items }
-        {
-            wait_for(&both.held);
-            let all = all_find_it_held(&rt, door, seats, alloc, command);
-            both.done.store(1, Ordering::SeqCst);
-            all
-        },
+fn five_entries_of_eight_calls(rt: HostRuntime) -> Result<(), Fail> {
+    let command = command_of(rt.alloc(), Call::Clone("ip"))?;
+    call_and_close(&rt, rt.alloc(), &command)
+}
+
+// This seat opens the stream of minor 0 on a thread, where it is dropped.
+fn opens_on_a_thread<R: Abort + Threads + Wait + Sync>(
+    rt: &R,
+    shared: &Shared,
+    seat: Seat,
+    alloc: Global,
+    command: &Command,
+)
+    requires { seat.shared ≡ shared.now.name }
+{
+    let (first, ()) = join(
+        rt,
+        || -> Option<Reply>
+            requires { seat.shared ≡ shared.now.name }
+        { opened(rt, shared, seat, alloc, command).1 },
+        || (),
     );
-    assert!(rt; all?);
-    assert_eq!(rt; reply, Some(Reply::Fd { fd: 0, minor: 0 }));
-    assert_eq!(rt; shared.close(last)?.entries().len(), 1);
-    Ok(())
+    is_opened(rt, &first, 0);
+}
+
+fn one_is_dropped<R: Abort + Threads + Wait + Sync>(
+    rt: &R,
+    shared: &Shared,
+    seats: Vec<Seat>,
+    alloc: Global,
+    command: &Command,
+) -> Result<Seat, Fail>
+    requires { All (λ s. s.shared ≡ shared.now.name) seats.items }
+    ensures { IfOk result (λ s. s.shared ≡ shared.now.name) }
+{
+    let (zero, one) = last_two(shared, seats)?;
+    opens_on_a_thread(rt, shared, one, alloc, command);
+    Ok(opens(rt, shared, zero, alloc, command, 1))
+}
+
+fn drop_and_close<R: Abort + Threads + Wait + Sync>(
+    rt: &R,
+    alloc: Global,
+    command: &Command,
+) -> Result<(), Fail> {
+    let (shared, seats) = Shared::start(alloc, system_of(alloc, 10)?, 2)?;
+    let zero = one_is_dropped(rt, &shared, seats, alloc, command)?;
+    closes_with(rt, shared, zero, 2)
 }
 
 #[test]
 fn a_thread_that_drops_its_seat(rt: HostRuntime) -> Result<(), Fail> {
-    let alloc = rt.alloc();
-    let clone_ip = command_of(alloc, Call::Clone("ip"))?;
-    let (shared, mut seats) = Shared::start(alloc, system_of(alloc, 10)?, 2)?;
-    let (Some(one), Some(zero)) = (seats.pop(), seats.pop()) else {
-        return Err(Fail::new("two seats"));
-    };
-    let (door, command) = (&shared, &clone_ip);
-    let (first, ()) = join(
-        &rt,
-        || -> Option<Reply>
-            requires { one.shared ≡ door.now.name }
-        { opened(&rt, door, one, alloc, command).1 },
-        || (),
-    );
-    assert_eq!(rt; first, Some(Reply::Fd { fd: 0, minor: 0 }));
-    let (zero, second) = opened(&rt, door, zero, alloc, command);
-    assert_eq!(rt; second, Some(Reply::Fd { fd: 0, minor: 1 }));
-    assert_eq!(rt; shared.close(zero)?.entries().len(), 2);
-    Ok(())
+    let command = command_of(rt.alloc(), Call::Clone("ip"))?;
+    drop_and_close(&rt, rt.alloc(), &command)
 }
 
-// What those that only look on have seen, and whether the callers have ended.
-#[derive(Drop)]
-struct Sights {
-    free: AtomicU64,
-    held: AtomicU64,
-    ended: AtomicU64,
-}
-
-// The turn is held until somebody has seen it held.
-impl Hold for Sights {
-    fn inside(&self) {
-        wait_for(&self.held);
-    }
-}
-
-// Looks on until the callers have ended. Whether the history never seemed to have become shorter.
-fn looks_on(shared: &Shared, mut seat: Seat, sights: &Sights) -> bool
-    requires { seat.shared ≡ shared.now.name }
-{
-    let mut entries = 0;
-    for _ in 0..TURNS {
-        let front = shared.glance(&mut seat);
-        if front.entries < entries {
-            return false;
-        }
-        entries = front.entries;
-        let seen = if front.held {
-            &sights.held
-        } else {
-            &sights.free
-        };
-        seen.store(1, Ordering::SeqCst);
-        if sights.ended.load(Ordering::SeqCst) != 0 {
-            return true;
-        }
-    }
-    false
-}
-
-// Whether that is so for all of these, each on a thread of its own.
-fn start_looks<'s, E, R: Threads>(
-    scope: &'s Scope<'s, E>,
-    rt: &'s R,
-    shared: &'s Shared,
-    seats: Vec<Seat>,
-    alloc: Global,
-    sights: &'s Sights,
-) -> Result<bool, Fail>
-    requires { All (λ s. s.shared ≡ shared.now.name) seats.items }
-{
-    let mut threads = Vec::new(alloc);
-    for seat in seats {
-        let thread = scope.spawn(
-            move || -> bool
-                requires { seat.shared ≡ shared.now.name }
-            { looks_on(shared, seat, sights) },
-        );
-        threads.push(thread.ok().ok_or("a thread")?)?;
-    }
-    let mut all = true;
-    for thread in threads {
-        all = thread.join(rt) && all;
-    }
-    Ok(all)
-}
-
-fn all_look_on<R: Threads + Wait + Sync>(
-    rt: &R,
-    shared: &Shared,
-    seats: Vec<Seat>,
-    alloc: Global,
-    sights: &Sights,
-) -> Result<bool, Fail>
-    requires { All (λ s. s.shared ≡ shared.now.name) seats.items }
-{
-    thread::scope(
-        thread::scope_env(),
-        rt,
-        |scope| -> Result<bool, Fail>
-            requires { All (λ s. s.shared ≡ shared.now.name) seats.items }
-        { start_looks(scope, rt, shared, seats, alloc, sights) },
-    )
-}
-
-// Opens a stream once somebody has seen the turn free, and then closes it and opens it so many times.
-fn opens_and_closes<R: Wait>(
-    rt: &R,
-    shared: &Shared,
-    mut seat: Seat,
-    alloc: Global,
-    clone_ip: &Command,
-    sights: &Sights,
-) -> Result<Seat, ApplyFault>
-    requires { seat.shared ≡ shared.now.name }
-    ensures { IfOk result (λ s. s.shared ≡ shared.now.name) }
-{
-    wait_for(&sights.free);
-    shared.call_holding(rt, alloc, &mut seat, clone_ip, sights)?;
-    for _ in 0..500 {
-        shared.call(rt, alloc, &mut seat, &Command::Close { fd: 0 })?;
-        shared.call(rt, alloc, &mut seat, clone_ip)?;
-        thread::yield_now();
-    }
-    Ok(seat)
-}
-
-#[test]
-fn eight_look_on_while_two_call(rt: HostRuntime) -> Result<(), Fail> {
-    let alloc = rt.alloc();
-    let clone_ip = command_of(alloc, Call::Clone("ip"))?;
-    let (shared, seats) = Shared::start(alloc, system_of(alloc, 10_000)?, 10)?;
-    let Some((seats, one)) = last_of(&shared, seats) else {
-        return Err(Fail::new("a seat"));
-    };
-    let Some((seats, zero)) = last_of(&shared, seats) else {
-        return Err(Fail::new("two seats"));
-    };
-    let sights = Sights {
-        free: AtomicU64::new(0),
-        held: AtomicU64::new(0),
-        ended: AtomicU64::new(0),
-    };
-    let (door, command, seen) = (&shared, &clone_ip, &sights);
-    let (zero, all) = join(
-        &rt,
-        || -> Result<Seat, ApplyFault>
-            requires { (zero.shared ≡ door.now.name) × (one.shared ≡ door.now.name) }
-            ensures { IfOk result (λ s. s.shared ≡ door.entry.now.name) }
-        { both_call(&rt, door, zero, one, alloc, command, seen) },
-        || -> Result<bool, Fail>
-            requires { All (λ s. s.shared ≡ door.now.name) seats.items }
-        { all_look_on(&rt, door, seats, alloc, seen) },
-    );
-    assert!(rt; all?);
-    assert_eq!(rt; sights.free.load(Ordering::SeqCst), 1);
-    assert_eq!(rt; sights.held.load(Ordering::SeqCst), 1);
-    assert_eq!(rt; shared.close(zero?)?.entries().len(), 2002);
-    Ok(())
-}
-
-// Both on threads of their own, and the first one's seat at the end.
-fn both_call<R: Threads + Wait + Sync>(
-    rt: &R,
-    shared: &Shared,
-    zero: Seat,
-    one: Seat,
-    alloc: Global,
-    clone_ip: &Command,
-    sights: &Sights,
-) -> Result<Seat, ApplyFault>
-    requires { (zero.shared ≡ shared.now.name) × (one.shared ≡ shared.now.name) }
-    ensures { IfOk result (λ s. s.shared ≡ shared.now.name) }
-{
-    let (zero, one) = join(
-        rt,
-        || -> Result<Seat, ApplyFault>
-            requires { zero.shared ≡ shared.now.name }
-            ensures { IfOk result (λ s. s.shared ≡ shared.entry.now.name) }
-        { opens_and_closes(rt, shared, zero, alloc, clone_ip, sights) },
-        || -> Result<Seat, ApplyFault>
-            requires { one.shared ≡ shared.now.name }
-        { opens_and_closes(rt, shared, one, alloc, clone_ip, sights) },
-    );
-    sights.ended.store(1, Ordering::SeqCst);
-    one?;
-    zero
-}
-
-#[test]
-fn sixteen_processes_on_sixteen_workers(rt: HostRuntime) -> Result<(), Fail> {
-    let alloc = rt.alloc();
-    let mut text = Vec::from_slice(alloc, b"programs 1\ndriver ip mux 64 8 3 16\n".as_slice())?;
+fn add_sixteen(alloc: Global, text: &mut Vec<u8>) -> Result<(), Fail> {
     for process in 0..16 {
         let lines = format!(in alloc; "process {process}\nclone ip\nwrite 0 5 aa\nclose 0\n")?;
         text.extend_from_slice(lines.as_bytes())?;
     }
-    text.extend_from_slice(b"end\n".as_slice())?;
-    let programs = read_programs(alloc, text.as_slice())?;
-    let report = run_programs(&rt, alloc, programs, 16, &NoGate)?;
+    Ok(text.extend_from_slice(b"end\n".as_slice())?)
+}
+
+fn text_of_sixteen(alloc: Global) -> Result<Vec<u8>, Fail> {
+    let mut text = Vec::from_slice(alloc, b"programs 1\ndriver ip mux 64 8 3 16\n".as_slice())?;
+    add_sixteen(alloc, &mut text)?;
+    Ok(text)
+}
+
+fn have_closed(rt: &impl Abort, alloc: Global, report: &Report) {
     assert_eq!(rt; report.entries.as_slice().len(), 48);
     assert!(rt; report.view == nothing_open(alloc, 1, 17));
+}
+
+fn all_close<R: Abort + Threads + Wait + Sync>(
+    rt: &R,
+    alloc: Global,
+    text: &[u8],
+) -> Result<(), Fail> {
+    let report = reported(rt, alloc, text, 16)?;
+    have_closed(rt, alloc, &report);
     Ok(())
+}
+
+#[test]
+fn sixteen_processes_on_sixteen_workers(rt: HostRuntime) -> Result<(), Fail> {
+    let text = text_of_sixteen(rt.alloc())?;
+    all_close(&rt, rt.alloc(), text.as_slice())
 }

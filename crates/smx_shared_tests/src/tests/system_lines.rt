@@ -3,10 +3,11 @@
 ghost use Rattle.std.specs.Prelude.{◌≤◌};
 ghost use Rattle.smx_types.specs.declared.limits.TheConstants.{MAX_COMMANDS};
 
-use smx_samples::{Line, command_of, driver, ip, numbered, reply_of, shown};
+use smx_samples::{Line, driver, entry_of, ip, shown};
 use smx_shared::{ApplyFault, System};
-use smx_types::{Command, DriverKind, DriverSpec, Entry, Process};
+use smx_types::{ConfigView, DriverKind, DriverSpec, Entry};
 use std::alloc::Global;
+use std::process::Abort;
 use std::test::Fail;
 
 /// The system over these drivers, of at most so many entries.
@@ -33,35 +34,81 @@ pub fn copied(system: &System) -> Result<System, Fail> {
     Ok(system.copy()?)
 }
 
-/// Whether both have the same drivers, the same history, and a configuration that is shown in the same way.
-pub fn are_alike(one: &System, other: &System) -> Result<bool, Fail> {
-    Ok(
-        one.config().drivers() == other.config().drivers()
-            && one.entries() == other.entries()
-            && shown(one.config())? == shown(other.config())?,
-    )
+// Whether its configuration is shown so.
+fn is_shown(system: &System, view: &ConfigView) -> Result<bool, Fail> {
+    let now = shown(system.config())?;
+    Ok(now == *view)
 }
 
-// Where memory was wanting nothing may have changed, and the same command is tried again. The line that is printed
-// tells that a growth inside a step was refused.
+// Whether the configurations of both are shown in the same way.
+fn are_shown_alike(one: &System, other: &System) -> Result<bool, Fail> {
+    let view = shown(other.config())?;
+    is_shown(one, &view)
+}
+
+/// Whether both have the same drivers, the same history, and a configuration that is shown in the same way.
+pub fn are_alike(one: &System, other: &System) -> Result<bool, Fail> {
+    if one.config().drivers() != other.config().drivers() || one.entries() != other.entries() {
+        return Ok(false);
+    }
+    are_shown_alike(one, other)
+}
+
+/// Both are alike.
+pub fn are_same(rt: &impl Abort, one: &System, other: &System) -> Result<(), Fail> {
+    assert!(rt; are_alike(one, other)?);
+    Ok(())
+}
+
+// Tells that a growth inside a step was refused.
+fn tells_of_want(rt: &impl Print) -> Result<(), Fail> {
+    println!(rt; "a step wanted memory")?;
+    Ok(())
+}
+
+// Where memory was wanting nothing may have changed.
+fn is_unchanged(rt: &impl Print, system: &System, before: &System) -> Result<(), Fail> {
+    tells_of_want(rt)?;
+    if are_alike(system, before)? {
+        return Ok(());
+    }
+    Err(Fail::new("a step that wanted memory has changed the system"))
+}
+
+// What memory was wanting for is tried again.
 fn applied(
     rt: &impl Print,
     system: &mut System,
-    process: Process,
-    command: &Command,
+    before: &System,
+    want: &Entry,
 ) -> Result<Entry, Fail> {
-    let before = copied(system)?;
-    match system.apply(process, command) {
+    match system.apply(want.process, &want.command) {
         Ok(entry) => Ok(entry),
         Err(ApplyFault::HistoryFull) => Err(Fail::new("the history is full")),
         Err(ApplyFault::NoMemory) => {
-            println!(rt; "a step wanted memory")?;
-            if !are_alike(system, &before)? {
-                return Err(Fail::new("a step that wanted memory has changed the system"));
-            }
-            Ok(system.apply(process, command)?)
+            is_unchanged(rt, system, before)?;
+            Ok(system.apply(want.process, &want.command)?)
         }
     }
+}
+
+fn answer_to(rt: &impl Print, system: &mut System, want: &Entry) -> Result<Entry, Fail> {
+    let before = copied(system)?;
+    applied(rt, system, &before, want)
+}
+
+// This is the entry that was wanted, and it stands at the end of the history.
+fn is_last(system: &System, entry: &Entry, want: &Entry) -> Result<(), Fail> {
+    if entry == want && system.entries().last() == Some(want) {
+        return Ok(());
+    }
+    let command = &want.command;
+    Err(Fail::new(format_args!("{command:?} is answered {entry:?}")))
+}
+
+fn is_answered(rt: &impl Print, system: &mut System, want: &Entry) -> Result<(), Fail> {
+    let entry = answer_to(rt, system, want)?;
+    is_last(system, &entry, want)
 }
 
 /// Process 0 asks this, gets this answer, and the entry that it is answered stands at the end of the history.
@@ -70,17 +117,8 @@ pub fn answers(
     system: &mut System,
     line: Line,
 ) -> Result<(), Fail> {
-    let (call, answer) = line;
-    let want = Entry {
-        process: numbered(0)?,
-        command: command_of(rt.alloc(), call)?,
-        reply: reply_of(rt.alloc(), answer)?,
-    };
-    let entry = applied(rt, system, numbered(0)?, &want.command)?;
-    if entry == want && system.entries().last() == Some(&want) {
-        return Ok(());
-    }
-    Err(Fail::new(format_args!("{call:?} is answered {entry:?}")))
+    let want = entry_of(rt.alloc(), line)?;
+    is_answered(rt, system, &want)
 }
 
 /// Process 0 asks all of these in turn, and gets their answers.

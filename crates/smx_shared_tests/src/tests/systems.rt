@@ -1,10 +1,11 @@
 //! Systems: their limit, their entries, and their copies.
 
-use super::system_lines::{are_alike, copied, play, system_of_twenty, system_over};
+use super::fault_words::prints;
+use super::system_lines::{are_same, copied, play, system_of_twenty, system_over};
 use smx_config::ConfigFault;
 use smx_samples::{Answer, Call, JOIN, Line, command_of, driver, ip, leaves, numbered};
 use smx_shared::{ApplyFault, System};
-use smx_types::{Command, DriverKind, Fault, Process, Reply};
+use smx_types::{Command, DriverKind, DriverSpec, Entry, Fault, Process, Reply};
 use std::alloc::Global;
 use std::process::Abort;
 use std::test::Fail;
@@ -15,57 +16,124 @@ const THREE: [Line; 3] = [
     (Call::Clone("ip"), Answer::Fd(2, 2)),
 ];
 
+fn applies_no_more(rt: &impl Abort, alloc: Global, system: &mut System) -> Result<(), Fail> {
+    let command = command_of(alloc, Call::Clone("ip"))?;
+    let fault = system.apply(numbered(0)?, &command).err();
+    assert_eq!(rt; fault, Some(ApplyFault::HistoryFull));
+    Ok(())
+}
+
+fn appends_no_more(rt: &impl Abort, alloc: Global, system: &mut System) -> Result<(), Fail> {
+    let command = command_of(alloc, Call::Clone("ip"))?;
+    let fault = system.append(numbered(0)?, command).err();
+    assert_eq!(rt; fault, Some(ApplyFault::HistoryFull));
+    Ok(())
+}
+
+fn stays(rt: &impl Abort, alloc: Global, system: &mut System, before: &System) -> Result<(), Fail> {
+    applies_no_more(rt, alloc, system)?;
+    appends_no_more(rt, alloc, system)?;
+    are_same(rt, system, before)
+}
+
+// Two commands are refused, and change nothing.
 fn is_full(rt: &impl Abort, alloc: Global, system: &mut System) -> Result<(), Fail> {
     let before = copied(system)?;
-    let command = command_of(alloc, Call::Clone("ip"))?;
-    let fault = system.apply(numbered(0)?, &command).err().ok_or("full")?;
-    assert_eq!(rt; fault, ApplyFault::HistoryFull);
-    let fault = system.append(numbered(0)?, command).err().ok_or("full")?;
-    assert_eq!(rt; fault, ApplyFault::HistoryFull);
-    assert!(rt; are_alike(system, &before)?);
-    Ok(())
+    stays(rt, alloc, system, &before)
+}
+
+fn is_copied_full(rt: &impl Abort, alloc: Global, system: &System) -> Result<(), Fail> {
+    let mut again = system.copy()?;
+    is_same_and_full(rt, alloc, &mut again, system)
+}
+
+fn is_same_and_full(
+    rt: &impl Abort,
+    alloc: Global,
+    again: &mut System,
+    system: &System,
+) -> Result<(), Fail> {
+    are_same(rt, again, system)?;
+    is_full(rt, alloc, again)
+}
+
+fn three_fill_it(rt: &(impl Abort + AllocGlobal + Print), system: &mut System) -> Result<(), Fail> {
+    play(rt, system, &THREE)?;
+    is_full(rt, rt.alloc(), system)?;
+    assert_eq!(rt; system.entries().len(), 3);
+    is_copied_full(rt, rt.alloc(), system)
 }
 
 #[test]
 fn three_entries_at_most(rt: HostRuntime) -> Result<(), Fail> {
     let mut system = system_over(rt.alloc(), &[ip()?], 3)?;
-    play(&rt, &mut system, &THREE)?;
-    is_full(&rt, rt.alloc(), &mut system)?;
-    assert_eq!(rt; system.entries().len(), 3);
-    let mut again = system.copy()?;
-    assert!(rt; are_alike(&again, &system)?);
-    is_full(&rt, rt.alloc(), &mut again)
+    three_fill_it(&rt, &mut system)
+}
+
+// The history that a system leaves has so many entries.
+fn leaves_entries(rt: &impl Abort, system: System, count: usize) {
+    let entries = system.into_entries();
+    assert_eq!(rt; entries.as_slice().len(), count);
 }
 
 #[test]
 fn no_entry_at_all(rt: HostRuntime) -> Result<(), Fail> {
     let mut system = system_over(rt.alloc(), &[ip()?], 0)?;
     is_full(&rt, rt.alloc(), &mut system)?;
-    assert_eq!(rt; system.into_entries().as_slice().len(), 0);
+    leaves_entries(&rt, system, 0);
     Ok(())
 }
 
-// A process opens a stream of `ip`, and this is what it is answered.
-fn opens(alloc: Global, system: &mut System, process: u32) -> Result<Reply, Fail> {
-    let command = command_of(alloc, Call::Clone("ip"))?;
-    let entry = system.apply(numbered(process)?, &command)?;
-    if entry.process != numbered(process)? || entry.command != command {
+// The entry is of this process and command, and its stream has this minor.
+fn is_opening(
+    rt: &impl Abort,
+    entry: &Entry,
+    process: Process,
+    command: &Command,
+    minor: u32,
+) -> Result<(), Fail> {
+    if entry.process != process || entry.command != *command {
         return Err(Fail::new("the entry is of another process or command"));
     }
-    Ok(entry.reply)
+    assert!(rt; entry.reply == Reply::Fd { fd: 0, minor });
+    Ok(())
+}
+
+// A process opens a stream of `ip`, and gets this minor.
+fn opens(
+    rt: &impl Abort,
+    system: &mut System,
+    process: Process,
+    command: &Command,
+    minor: u32,
+) -> Result<(), Fail> {
+    let entry = system.apply(process, command)?;
+    is_opening(rt, &entry, process, command, minor)
+}
+
+fn is_copied(rt: &impl Abort, system: &System) -> Result<(), Fail> {
+    let again = system.copy()?;
+    are_same(rt, &again, system)
+}
+
+fn three_open(rt: &impl Abort, system: &mut System, command: &Command) -> Result<(), Fail> {
+    for (process, minor) in [(0u32, 0u32), (2, 1), (1, 2)] {
+        opens(rt, system, numbered(process)?, command, minor)?;
+    }
+    is_copied(rt, system)
+}
+
+fn three_leave_entries(rt: &(impl Abort + AllocGlobal), command: &Command) -> Result<(), Fail> {
+    let mut system = system_over(rt.alloc(), &[ip()?], 10)?;
+    three_open(rt, &mut system, command)?;
+    leaves_entries(rt, system, 3);
+    Ok(())
 }
 
 #[test]
 fn three_processes(rt: HostRuntime) -> Result<(), Fail> {
-    let mut system = system_over(rt.alloc(), &[ip()?], 10)?;
-    for (process, minor) in [(0u32, 0u32), (2, 1), (1, 2)] {
-        let reply = opens(rt.alloc(), &mut system, process)?;
-        assert!(rt; reply == Reply::Fd { fd: 0, minor });
-    }
-    let again = system.copy()?;
-    assert!(rt; are_alike(&again, &system)?);
-    assert_eq!(rt; system.into_entries().as_slice().len(), 3);
-    Ok(())
+    let command = command_of(rt.alloc(), Call::Clone("ip"))?;
+    three_leave_entries(&rt, &command)
 }
 
 // The same commands, given up.
@@ -76,26 +144,44 @@ fn append_all(alloc: Global, system: &mut System, lines: &[Line]) -> Result<(), 
     Ok(())
 }
 
+fn gives_up(
+    rt: &(impl Abort + AllocGlobal),
+    other: &mut System,
+    system: &System,
+) -> Result<(), Fail> {
+    other.reserve(JOIN.len())?;
+    append_all(rt.alloc(), other, &JOIN)?;
+    are_same(rt, other, system)
+}
+
+fn is_given_up(rt: &(impl Abort + AllocGlobal + Print), system: &mut System) -> Result<(), Fail> {
+    play(rt, system, &JOIN)?;
+    let mut other = system_of_twenty(rt.alloc())?;
+    gives_up(rt, &mut other, system)
+}
+
 #[test]
 fn commands_that_are_given_up(rt: HostRuntime) -> Result<(), Fail> {
     let mut system = system_of_twenty(rt.alloc())?;
-    play(&rt, &mut system, &JOIN)?;
-    let mut other = system_of_twenty(rt.alloc())?;
-    other.reserve(JOIN.len())?;
-    append_all(rt.alloc(), &mut other, &JOIN)?;
-    assert!(rt; are_alike(&other, &system)?);
+    is_given_up(&rt, &mut system)
+}
+
+// Why there is no system over these drivers.
+fn fault_of(alloc: Global, drivers: &[DriverSpec]) -> Result<ConfigFault, Fail> {
+    Ok(System::new(alloc, drivers, 3).err().ok_or("refused")?)
+}
+
+fn are_too_many(rt: &impl Abort, alloc: Global, drivers: &[DriverSpec]) -> Result<(), Fail> {
+    assert_eq!(rt; fault_of(alloc, drivers)?, ConfigFault::TooMany);
     Ok(())
 }
 
 #[test]
 fn drivers_that_are_refused(rt: HostRuntime) -> Result<(), Fail> {
-    let bad = driver("ip", DriverKind::Mux, 65)?;
-    let fault = System::new(rt.alloc(), &[bad], 3).err().ok_or("refused")?;
-    assert_eq!(rt; fault.to_string(rt.alloc())?.as_str(), "driver 0 minors");
+    let fault = fault_of(rt.alloc(), &[driver("ip", DriverKind::Mux, 65)?])?;
+    prints(&rt, rt.alloc(), &fault, "driver 0 minors")?;
     let many = leaves(rt.alloc(), 65)?;
-    let fault = System::new(rt.alloc(), many.as_slice(), 3);
-    assert_eq!(rt; fault.err().ok_or("refused")?, ConfigFault::TooMany);
-    Ok(())
+    are_too_many(&rt, rt.alloc(), many.as_slice())
 }
 
 fn close_often(system: &mut System, process: Process, count: usize) -> Result<(), Fail> {
@@ -105,15 +191,27 @@ fn close_often(system: &mut System, process: Process, count: usize) -> Result<()
     Ok(())
 }
 
-#[test]
-fn the_most_entries(rt: HostRuntime) -> Result<(), Fail> {
-    let mut system = system_over(rt.alloc(), &[ip()?], 100_000)?;
-    close_often(&mut system, numbered(63)?, 100_000)?;
-    is_full(&rt, rt.alloc(), &mut system)?;
-    let again = system.copy()?;
-    let entries = again.entries();
+fn has_the_most(rt: &impl Abort, system: &System) {
+    let entries = system.entries();
     assert_eq!(rt; entries.len(), 100_000);
     assert!(rt; entries[99_999].reply == Reply::Fault(Fault::BadDescriptor));
     assert_eq!(rt; entries[99_999].process.get(), 63);
+}
+
+fn is_copied_with_the_most(rt: &impl Abort, system: &System) -> Result<(), Fail> {
+    let again = system.copy()?;
+    has_the_most(rt, &again);
     Ok(())
+}
+
+fn the_most_fill_it(rt: &impl Abort, alloc: Global, system: &mut System) -> Result<(), Fail> {
+    close_often(system, numbered(63)?, 100_000)?;
+    is_full(rt, alloc, system)?;
+    is_copied_with_the_most(rt, system)
+}
+
+#[test]
+fn the_most_entries(rt: HostRuntime) -> Result<(), Fail> {
+    let mut system = system_over(rt.alloc(), &[ip()?], 100_000)?;
+    the_most_fill_it(&rt, rt.alloc(), &mut system)
 }

@@ -2,14 +2,14 @@
 
 ghost use Rattle.std.specs.Prelude.{◌≡◌, All, IfOk};
 
-use super::shared::front;
+use super::callers::{closes_with, front, last_two};
 use super::system_lines::{play as play_by, system_of_twenty, system_over};
-use smx_config::{ConfigFault, Verdict, check_history};
+use smx_config::{Config, ConfigFault, Verdict, check_history};
 use smx_samples::{
     Answer, Call, JOIN, Line, entry_of, eth, held_above, ip, ip_and_eth, nothing_open, play,
     play_twice, shows,
 };
-use smx_shared::{ApplyFault, Door, Seat, Shared, TryFault};
+use smx_shared::{ApplyFault, Door, Seat, Shared, System, TryFault};
 use smx_types::{Command, ConfigView, Entry, Fault, Reply, Which};
 use std::alloc::Global;
 use std::process::Abort;
@@ -34,12 +34,16 @@ const MARKS: [Line; 9] = [
     (Call::Write(0, 5, &[0, 0, 0, 5]), Answer::Took(5)),
 ];
 
+fn plays_marks(rt: &(impl AllocGlobal + Print), config: &mut Config) -> Result<(), Fail> {
+    play(rt, config, &JOIN)?;
+    play(rt, config, &MARKS)?;
+    shows(config, held_above(rt.alloc())?)
+}
+
 #[test]
 fn marks_across_the_join(rt: HostRuntime) -> Result<(), Fail> {
     let mut config = ip_and_eth(rt.alloc())?;
-    play(&rt, &mut config, &JOIN)?;
-    play(&rt, &mut config, &MARKS)?;
-    shows(&config, held_above(rt.alloc())?)
+    plays_marks(&rt, &mut config)
 }
 
 const CAUSES: [Line; 6] = [
@@ -51,12 +55,16 @@ const CAUSES: [Line; 6] = [
     (Call::Close(0), Answer::Done(&[3])),
 ];
 
+fn plays_causes(rt: &(impl AllocGlobal + Print), config: &mut Config) -> Result<(), Fail> {
+    play(rt, config, &JOIN)?;
+    play(rt, config, &CAUSES)?;
+    shows(config, nothing_open(rt.alloc(), 2, 4))
+}
+
 #[test]
 fn three_causes_of_dropping(rt: HostRuntime) -> Result<(), Fail> {
     let mut config = ip_and_eth(rt.alloc())?;
-    play(&rt, &mut config, &JOIN)?;
-    play(&rt, &mut config, &CAUSES)?;
-    shows(&config, nothing_open(rt.alloc(), 2, 4))
+    plays_causes(&rt, &mut config)
 }
 
 fn room_for_entries(alloc: Global) -> Result<Vec<Entry>, Fail> {
@@ -66,16 +74,26 @@ fn room_for_entries(alloc: Global) -> Result<Vec<Entry>, Fail> {
     Ok(Vec::with_capacity(alloc, 13)?)
 }
 
-fn entries_of_marks(alloc: Global) -> Result<Vec<Entry>, Fail> {
-    let mut entries = room_for_entries(alloc)?;
+fn add_marks(alloc: Global, entries: &mut Vec<Entry>) -> Result<(), Fail> {
     for line in JOIN.iter().chain(&MARKS) {
         entries.push(entry_of(alloc, *line)?)?;
     }
+    Ok(())
+}
+
+fn entries_of_marks(alloc: Global) -> Result<Vec<Entry>, Fail> {
+    let mut entries = room_for_entries(alloc)?;
+    add_marks(alloc, &mut entries)?;
     Ok(entries)
 }
 
-// Where memory was wanting, the same is judged again. The line that is printed tells that a growth inside the judging
-// was refused.
+// Tells that a growth inside the judging was refused.
+fn tells_of_a_verdict(rt: &impl Print) -> Result<(), Fail> {
+    println!(rt; "a verdict wanted memory")?;
+    Ok(())
+}
+
+// Where memory was wanting, the same is judged again.
 fn judged(
     rt: &(impl AllocGlobal + Print),
     entries: &[Entry],
@@ -84,45 +102,67 @@ fn judged(
     let drivers = [ip()?, eth()?];
     match check_history(rt.alloc(), &drivers, entries, view) {
         Err(ConfigFault::NoMemory) => {
-            println!(rt; "a verdict wanted memory")?;
+            tells_of_a_verdict(rt)?;
             Ok(check_history(rt.alloc(), &drivers, entries, view)?)
         }
         judged => Ok(judged?),
     }
 }
 
-#[test]
-fn a_history_is_judged(rt: HostRuntime) -> Result<(), Fail> {
-    let entries = entries_of_marks(rt.alloc())?;
+fn are_legal(rt: &(impl Abort + AllocGlobal + Print), entries: &[Entry]) -> Result<(), Fail> {
     let view = held_above(rt.alloc())?;
-    assert_eq!(rt; judged(&rt, entries.as_slice(), &view)?, Verdict::Legal);
+    assert_eq!(rt; judged(rt, entries, &view)?, Verdict::Legal);
     Ok(())
 }
 
 #[test]
-fn marks_by_a_system(rt: HostRuntime) -> Result<(), Fail> {
-    let mut system = system_of_twenty(rt.alloc())?;
-    play_by(&rt, &mut system, &JOIN)?;
-    play_by(&rt, &mut system, &MARKS)?;
+fn a_history_is_judged(rt: HostRuntime) -> Result<(), Fail> {
+    let entries = entries_of_marks(rt.alloc())?;
+    are_legal(&rt, entries.as_slice())
+}
+
+fn plays_marks_by(
+    rt: &(impl Abort + AllocGlobal + Print),
+    system: &mut System,
+) -> Result<(), Fail> {
+    play_by(rt, system, &JOIN)?;
+    play_by(rt, system, &MARKS)?;
     assert_eq!(rt; system.entries().len(), 13);
     shows(system.config(), held_above(rt.alloc())?)
 }
 
 #[test]
-fn causes_by_a_system(rt: HostRuntime) -> Result<(), Fail> {
+fn marks_by_a_system(rt: HostRuntime) -> Result<(), Fail> {
     let mut system = system_of_twenty(rt.alloc())?;
-    play_by(&rt, &mut system, &JOIN)?;
-    play_by(&rt, &mut system, &CAUSES)?;
+    plays_marks_by(&rt, &mut system)
+}
+
+fn plays_causes_by(
+    rt: &(impl Abort + AllocGlobal + Print),
+    system: &mut System,
+) -> Result<(), Fail> {
+    play_by(rt, system, &JOIN)?;
+    play_by(rt, system, &CAUSES)?;
     assert_eq!(rt; system.entries().len(), 10);
     shows(system.config(), nothing_open(rt.alloc(), 2, 4))
 }
 
 #[test]
+fn causes_by_a_system(rt: HostRuntime) -> Result<(), Fail> {
+    let mut system = system_of_twenty(rt.alloc())?;
+    plays_causes_by(&rt, &mut system)
+}
+
+fn plays_causes_twice(rt: &(impl AllocGlobal + Print), config: &mut Config) -> Result<(), Fail> {
+    play_twice(rt, config, &JOIN)?;
+    play_twice(rt, config, &CAUSES)?;
+    shows(config, nothing_open(rt.alloc(), 2, 4))
+}
+
+#[test]
 fn three_causes_of_dropping_twice(rt: HostRuntime) -> Result<(), Fail> {
     let mut config = ip_and_eth(rt.alloc())?;
-    play_twice(&rt, &mut config, &JOIN)?;
-    play_twice(&rt, &mut config, &CAUSES)?;
-    shows(&config, nothing_open(rt.alloc(), 2, 4))
+    plays_causes_twice(&rt, &mut config)
 }
 
 const DELIVERIES: [Line; 6] = [
@@ -134,12 +174,19 @@ const DELIVERIES: [Line; 6] = [
     (Call::Transmit("eth", 0), Answer::Got(2, 5, &[0xcc])),
 ];
 
+fn plays_deliveries_twice(
+    rt: &(impl AllocGlobal + Print),
+    config: &mut Config,
+) -> Result<(), Fail> {
+    play_twice(rt, config, &DELIVERIES)?;
+    play_twice(rt, config, &[(Call::Exit, Answer::Done(&[]))])?;
+    shows(config, nothing_open(rt.alloc(), 1, 3))
+}
+
 #[test]
 fn deliveries_twice(rt: HostRuntime) -> Result<(), Fail> {
     let mut config = ip_and_eth(rt.alloc())?;
-    play_twice(&rt, &mut config, &DELIVERIES)?;
-    play_twice(&rt, &mut config, &[(Call::Exit, Answer::Done(&[]))])?;
-    shows(&config, nothing_open(rt.alloc(), 1, 3))
+    plays_deliveries_twice(&rt, &mut config)
 }
 
 // A system of at most ten entries over `ip`, shared by two processes.
@@ -153,6 +200,21 @@ fn shared_by_two(alloc: Global) -> Result<(Shared, Vec<Seat>), Fail>
     Ok(Shared::start(alloc, system_over(alloc, &drivers, 10)?, 2)?)
 }
 
+// A growth inside a call was refused, and the other seat sees only so many entries.
+fn sees(
+    rt: &(impl Abort + Print),
+    shared: &Shared,
+    other: &mut Seat,
+    entries: u32,
+) -> Result<(), Fail>
+    requires { other.old.shared ≡ shared.now.name }
+    ensures { other.new.shared ≡ shared.now.name }
+{
+    println!(rt; "a call wanted memory")?;
+    assert_eq!(rt; shared.glance(other), front(entries, 0, false));
+    Ok(())
+}
+
 // Where memory was wanting the other seat sees nothing new, and the call is made again.
 fn called(
     rt: &(impl AllocGlobal + Abort + Print + Wait),
@@ -160,17 +222,16 @@ fn called(
     seat: &mut Seat,
     other: &mut Seat,
     command: &Command,
-) -> Result<Reply, Fail>
+) -> Result<Entry, Fail>
     requires { (seat.old.shared ≡ shared.now.name) × (other.old.shared ≡ shared.now.name) }
     ensures { (seat.new.shared ≡ shared.now.name) × (other.new.shared ≡ shared.now.name) }
 {
     match shared.call(rt, rt.alloc(), seat, command) {
-        Ok(entry) => Ok(entry.reply),
+        Ok(entry) => Ok(entry),
         Err(ApplyFault::HistoryFull) => Err(Fail::new("the history is full")),
         Err(ApplyFault::NoMemory) => {
-            println!(rt; "a call wanted memory")?;
-            assert_eq!(rt; shared.glance(other), front(0, 0, false));
-            Ok(shared.call(rt, rt.alloc(), seat, command)?.reply)
+            sees(rt, shared, other, 0)?;
+            Ok(shared.call(rt, rt.alloc(), seat, command)?)
         }
     }
 }
@@ -182,32 +243,55 @@ fn tried(
     seat: &mut Seat,
     other: &mut Seat,
     command: &Command,
-) -> Result<Reply, Fail>
+) -> Result<Entry, Fail>
     requires { (seat.old.shared ≡ shared.now.name) × (other.old.shared ≡ shared.now.name) }
     ensures { (seat.new.shared ≡ shared.now.name) × (other.new.shared ≡ shared.now.name) }
 {
     match shared.try_call(rt.alloc(), seat, command) {
-        Ok(entry) => Ok(entry.reply),
+        Ok(entry) => Ok(entry),
         Err(TryFault::NoMemory) => {
-            println!(rt; "a call wanted memory")?;
-            assert_eq!(rt; shared.glance(other), front(1, 0, false));
-            Ok(shared.try_call(rt.alloc(), seat, command)?.reply)
+            sees(rt, shared, other, 1)?;
+            Ok(shared.try_call(rt.alloc(), seat, command)?)
         }
         Err(_) => Err(Fail::new("a try is refused")),
     }
 }
 
+// A call of the first seat, and then a try of the second.
+fn call_and_try(
+    rt: &(impl AllocGlobal + Abort + Print + Wait),
+    shared: &Shared,
+    zero: &mut Seat,
+    one: &mut Seat,
+    command: &Command,
+) -> Result<(), Fail>
+    requires { (zero.old.shared ≡ shared.now.name) × (one.old.shared ≡ shared.now.name) }
+    ensures { (zero.new.shared ≡ shared.now.name) × (one.new.shared ≡ shared.now.name) }
+{
+    let first = called(rt, shared, zero, one, command)?;
+    assert_eq!(rt; first.reply, Reply::Fd { fd: 0, minor: 0 });
+    let second = tried(rt, shared, one, zero, command)?;
+    assert_eq!(rt; second.reply, Reply::Fd { fd: 0, minor: 1 });
+    Ok(())
+}
+
+fn both_call(
+    rt: &(impl AllocGlobal + Abort + Print + Wait),
+    shared: &Shared,
+    seats: Vec<Seat>,
+) -> Result<Seat, Fail>
+    requires { All (λ s. s.shared ≡ shared.now.name) seats.items }
+    ensures { IfOk result (λ s. s.shared ≡ shared.now.name) }
+{
+    let command = Command::OpenClone { driver: ip()?.name };
+    let (mut zero, mut one) = last_two(shared, seats)?;
+    call_and_try(rt, shared, &mut zero, &mut one, &command)?;
+    Ok(zero)
+}
+
 #[test]
 fn calls_of_two_seats(rt: HostRuntime) -> Result<(), Fail> {
-    let clone_ip = Command::OpenClone { driver: ip()?.name };
-    let (shared, mut seats) = shared_by_two(rt.alloc())?;
-    let (Some(mut one), Some(mut zero)) = (seats.pop(), seats.pop()) else {
-        return Err(Fail::new("two seats"));
-    };
-    let first = called(&rt, &shared, &mut zero, &mut one, &clone_ip)?;
-    assert_eq!(rt; first, Reply::Fd { fd: 0, minor: 0 });
-    let second = tried(&rt, &shared, &mut one, &mut zero, &clone_ip)?;
-    assert_eq!(rt; second, Reply::Fd { fd: 0, minor: 1 });
-    assert_eq!(rt; shared.close(zero)?.entries().len(), 2);
-    Ok(())
+    let (shared, seats) = shared_by_two(rt.alloc())?;
+    let zero = both_call(&rt, &shared, seats)?;
+    closes_with(&rt, shared, zero, 2)
 }

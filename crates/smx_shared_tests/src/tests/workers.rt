@@ -7,8 +7,9 @@ use super::gates::Meeting;
 use smx_run::{NoGate, Report, run_programs};
 use smx_samples::{named, numbered};
 use smx_text::{read_programs, write_transcript};
-use smx_types::DescriptorLine;
+use smx_types::{DescriptorLine, Transcript};
 use std::alloc::Global;
+use std::process::Abort;
 use std::sync::Wait;
 use std::test::Fail;
 use std::thread::Threads;
@@ -18,8 +19,8 @@ const FOUR: &[u8] =
 
 #[test]
 fn four_workers_are_inside_at_once(rt: HostRuntime) -> Result<(), Fail> {
-    let meeting = Meeting::of(4);
     let programs = read_programs(rt.alloc(), FOUR)?;
+    let meeting = Meeting::of(4);
     let report = run_programs(&rt, rt.alloc(), programs, 4, &meeting)?;
     assert_eq!(rt; meeting.met(), 4);
     assert_eq!(rt; report.entries.as_slice().len(), 8);
@@ -29,20 +30,32 @@ fn four_workers_are_inside_at_once(rt: HostRuntime) -> Result<(), Fail> {
 const REFUSED: &[u8] =
     b"programs 1\ndriver ip mux 0 8 3 16\nprocess 0\nclone ip\nprocess 1\nclone ip\nend\n";
 
+fn is_refused<R: Abort + Threads + Wait + Sync>(
+    rt: &R,
+    alloc: Global,
+    workers: usize,
+    meeting: &Meeting,
+) -> Result<(), Fail>
+    requires { (1 ≤ workers) × (workers ≤ MAX_WORKERS) }
+{
+    let programs = read_programs(alloc, REFUSED)?;
+    let run = run_programs(rt, alloc, programs, workers, meeting);
+    assert!(rt; run.is_err());
+    Ok(())
+}
+
 #[test]
 fn refused_drivers_start_no_worker(rt: HostRuntime) -> Result<(), Fail> {
     let meeting = Meeting::of(1);
     for workers in [1, 2] {
-        let programs = read_programs(rt.alloc(), REFUSED)?;
-        let run = run_programs(&rt, rt.alloc(), programs, workers, &meeting);
-        assert!(rt; run.is_err());
+        is_refused(&rt, rt.alloc(), workers, &meeting)?;
     }
     assert_eq!(rt; meeting.met(), 0);
     Ok(())
 }
 
-// The report of a run of the programs that this text spells.
-fn reported<R: Threads + Wait + Sync>(
+/// The report of a run of the programs that this text spells.
+pub fn reported<R: Threads + Wait + Sync>(
     rt: &R,
     alloc: Global,
     text: &[u8],
@@ -52,6 +65,23 @@ fn reported<R: Threads + Wait + Sync>(
 {
     let programs = read_programs(alloc, text)?;
     Ok(run_programs(rt, alloc, programs, workers, &NoGate)?)
+}
+
+fn written(alloc: Global, transcript: &Transcript) -> Result<Vec<u8>, Fail> {
+    Ok(write_transcript(alloc, transcript)?)
+}
+
+/// The transcript of a run of the programs that this text spells.
+pub fn ran<R: Threads + Wait + Sync>(
+    rt: &R,
+    alloc: Global,
+    text: &[u8],
+    workers: usize,
+) -> Result<Vec<u8>, Fail>
+    requires { (1 ≤ workers) × (workers ≤ MAX_WORKERS) }
+{
+    let transcript = reported(rt, alloc, text, workers)?.into_transcript();
+    written(alloc, &transcript)
 }
 
 // Texts of which only one history can come, however many workers there are, and its transcript.
@@ -74,8 +104,7 @@ const ONE_HISTORY: [(&[u8], &[u8]); 3] = [
 fn writes_the_one_history(rt: HostRuntime) -> Result<(), Fail> {
     for workers in [1, 2, 3, 64] {
         for (input, output) in ONE_HISTORY {
-            let report = reported(&rt, rt.alloc(), input, workers)?;
-            let written = write_transcript(rt.alloc(), &report.into_transcript())?;
+            let written = ran(&rt, rt.alloc(), input, workers)?;
             assert_eq!(rt; written.as_slice(), output);
         }
     }
@@ -95,12 +124,18 @@ fn first(process: u32, driver: &str) -> Result<DescriptorLine, Fail> {
     })
 }
 
+fn are_left_open(rt: &impl Abort, report: &Report) -> Result<(), Fail> {
+    assert_eq!(rt; report.entries.as_slice().len(), 2);
+    let fds = [first(0, "ip")?, first(1, "eth")?];
+    assert!(rt; report.view.fds.as_slice() == fds.as_slice());
+    Ok(())
+}
+
 #[test]
 fn leaves_descriptors_open(rt: HostRuntime) -> Result<(), Fail> {
     for workers in [1, 2, 64] {
         let report = reported(&rt, rt.alloc(), LEFT_OPEN, workers)?;
-        assert_eq!(rt; report.entries.as_slice().len(), 2);
-        assert!(rt; report.view.fds.as_slice() == [first(0, "ip")?, first(1, "eth")?].as_slice());
+        are_left_open(&rt, &report)?;
     }
     Ok(())
 }

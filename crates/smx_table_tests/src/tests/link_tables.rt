@@ -1,9 +1,10 @@
 //! Tables of links: made, refused, looked up, removed and copied.
 
-ghost use Rattle.std.specs.Prelude.{◌≡◌};
+ghost use Rattle.std.specs.Prelude.{◌≡◌, ◌≤◌, IfOk};
 
 use smx_links::{LinkFault, LinkTable};
 use smx_types::{Link, LinkKind, StreamId};
+use std::alloc::Global;
 use std::process::Abort;
 use std::test::Fail;
 
@@ -56,31 +57,58 @@ fn try_link(
     table.try_link(ctl, lower, kind)
 }
 
+// A link is made, or refused, as is wanted.
+fn links(
+    rt: &impl Abort,
+    table: &mut LinkTable,
+    drivers: u8,
+    streams: ((u8, u8), (u8, u8)),
+    kind: LinkKind,
+    wanted: Result<u32, LinkFault>,
+)
+    requires { table.old.drivers ≡ drivers }
+    ensures { table.new.drivers ≡ drivers }
+{
+    let made = try_link(rt, table, drivers, streams, kind);
+    assert!(rt; made == wanted);
+}
+
+fn removes(rt: &impl Abort, table: &mut LinkTable, id: u32, wanted: bool)
+    ensures { table.new.drivers ≡ table.old.drivers }
+{
+    let there = table.get(id).copied();
+    assert!(rt; there.is_some() == wanted);
+    assert!(rt; table.remove(id) == there);
+}
+
+fn is_above(rt: &impl Abort, table: &LinkTable, lower: StreamId, wanted: Option<u32>) {
+    assert!(rt; id_of(table.above(lower)) == wanted);
+    assert!(rt; table.is_below(lower) == wanted.is_some());
+}
+
 fn do_act(rt: &impl Abort, table: &mut LinkTable, drivers: u8, act: Act)
     requires { table.old.drivers ≡ drivers }
     ensures { table.new.drivers ≡ drivers }
 {
     match act {
         Act::Link(ctl, lower, wanted) => {
-            let made = try_link(rt, table, drivers, (ctl, lower), LinkKind::Ordinary);
-            assert_eq!(rt; made, wanted);
+            links(rt, table, drivers, (ctl, lower), LinkKind::Ordinary, wanted);
         }
         Act::Plink(ctl, lower, wanted) => {
-            let made = try_link(rt, table, drivers, (ctl, lower), LinkKind::Persistent);
-            assert_eq!(rt; made, wanted);
+            links(
+                rt,
+                table,
+                drivers,
+                (ctl, lower),
+                LinkKind::Persistent,
+                wanted,
+            );
         }
-        Act::Remove(id, wanted) => {
-            let there = table.get(id).copied();
-            assert_eq!(rt; there.is_some(), wanted);
-            assert_eq!(rt; table.remove(id), there);
-        }
-        Act::Reaches(a, b, wanted) => assert_eq!(rt; table.reaches(a, b), wanted),
-        Act::Above(lower, wanted) => {
-            assert_eq!(rt; id_of(table.above(stream(lower))), wanted);
-            assert_eq!(rt; table.is_below(stream(lower)), wanted.is_some());
-        }
-        Act::At(i, wanted) => assert_eq!(rt; id_of(table.at(i)), wanted),
-        Act::Count(wanted) => assert_eq!(rt; table.len(), wanted),
+        Act::Remove(id, wanted) => removes(rt, table, id, wanted),
+        Act::Reaches(a, b, wanted) => assert!(rt; table.reaches(a, b) == wanted),
+        Act::Above(lower, wanted) => is_above(rt, table, stream(lower), wanted),
+        Act::At(i, wanted) => assert!(rt; id_of(table.at(i)) == wanted),
+        Act::Count(wanted) => assert!(rt; table.len() == wanted),
     }
 }
 
@@ -114,11 +142,22 @@ const OF_THREE_DRIVERS: [Act; 17] = [
     Act::Count(2),
 ];
 
+fn table_over(alloc: Global, drivers: usize) -> Result<LinkTable, Fail>
+    requires { drivers ≤ 64 }
+    ensures { IfOk result (λ t. t.drivers ≡ drivers) }
+{
+    Ok(LinkTable::new(alloc, drivers).ok().ok_or("memory")?)
+}
+
+fn gives_next(rt: &impl Abort, table: &LinkTable, id: u32) {
+    assert_eq!(rt; table.next_id(), id);
+}
+
 #[test]
 fn links_of_three_drivers(rt: HostRuntime) -> Result<(), Fail> {
-    let mut table = LinkTable::new(rt.alloc(), 3).ok().ok_or("memory")?;
+    let mut table = table_over(rt.alloc(), 3)?;
     do_acts(&rt, &mut table, 3, &OF_THREE_DRIVERS);
-    assert_eq!(rt; table.next_id(), 4);
+    gives_next(&rt, &table, 4);
     Ok(())
 }
 
@@ -141,7 +180,7 @@ const OVER_TWO_LINKS: [Act; 13] = [
 
 #[test]
 fn links_that_share_a_path(rt: HostRuntime) -> Result<(), Fail> {
-    let mut table = LinkTable::new(rt.alloc(), 4).ok().ok_or("memory")?;
+    let mut table = table_over(rt.alloc(), 4)?;
     do_acts(&rt, &mut table, 4, &OVER_TWO_LINKS);
     Ok(())
 }
@@ -156,67 +195,104 @@ const THE_SAME: [Act; 6] = [
     Act::Plink((0, 1), (2, 1), Ok(4)),
 ];
 
+fn go_apart(rt: &impl Abort, table: &mut LinkTable, again: &mut LinkTable)
+    requires original { table.old.drivers ≡ 3 }
+    requires copy { again.old.drivers ≡ 3 }
+{
+    do_acts(rt, table, 3, &THE_SAME);
+    do_acts(rt, again, 3, &THE_SAME);
+}
+
+fn leaves_its_copy(rt: &impl Abort, table: &mut LinkTable) -> Result<(), Fail>
+    requires { table.old.drivers ≡ 3 }
+{
+    do_acts(rt, table, 3, &OF_THREE_DRIVERS);
+    let mut again = table.copy().ok().ok_or("memory")?;
+    go_apart(rt, table, &mut again);
+    Ok(())
+}
+
 #[test]
 fn a_copy_goes_on_by_itself(rt: HostRuntime) -> Result<(), Fail> {
-    let mut table = LinkTable::new(rt.alloc(), 3).ok().ok_or("memory")?;
-    do_acts(&rt, &mut table, 3, &OF_THREE_DRIVERS);
-    let mut again = table.copy().ok().ok_or("memory")?;
-    do_acts(&rt, &mut table, 3, &THE_SAME);
-    do_acts(&rt, &mut again, 3, &THE_SAME);
-    Ok(())
+    let mut table = table_over(rt.alloc(), 3)?;
+    leaves_its_copy(&rt, &mut table)
+}
+
+fn has_no_link(rt: &impl Abort, table: &mut LinkTable) {
+    assert!(rt; table.is_empty() && table.next_id() == 1);
+    assert!(rt; table.remove(1).is_none() && table.at(0).is_none() && table.get(1).is_none());
+    assert!(rt; !table.reaches(0, 0) && !table.reaches(255, 255));
 }
 
 #[test]
 fn an_empty_table(rt: HostRuntime) -> Result<(), Fail> {
-    let mut table = LinkTable::new(rt.alloc(), 0).ok().ok_or("memory")?;
-    assert!(rt; table.is_empty() && table.next_id() == 1);
-    assert!(rt; table.remove(1).is_none() && table.at(0).is_none() && table.get(1).is_none());
-    assert!(rt; !table.reaches(0, 0) && !table.reaches(255, 255));
+    let mut table = table_over(rt.alloc(), 0)?;
+    has_no_link(&rt, &mut table);
     Ok(())
 }
 
+const MADE: [Act; 3] = [
+    Act::Link((0, 0), (1, 0), Ok(1)),
+    Act::Link((1, 1), (2, 0), Ok(2)),
+    Act::Link((0, 0), (3, 0), Ok(3)),
+];
+
+const LEFT: [Act; 6] = [
+    Act::Count(1),
+    Act::At(0, Some(2)),
+    Act::Above((1, 0), None),
+    Act::Reaches(0, 2, false),
+    Act::Reaches(1, 2, true),
+    Act::Link((0, 0), (1, 0), Ok(4)),
+];
+
 // The links of driver 0 go at once, and that of driver 1 stays.
+fn go_at_once(rt: &impl Abort, table: &mut LinkTable)
+    requires { table.old.drivers ≡ 4 }
+{
+    do_acts(rt, table, 4, &MADE);
+    table.remove_each(&[3, 9, 1]);
+    do_acts(rt, table, 4, &LEFT);
+}
+
 #[test]
 fn several_go_at_once(rt: HostRuntime) -> Result<(), Fail> {
-    let mut table = LinkTable::new(rt.alloc(), 4).ok().ok_or("memory")?;
-    let made = [
-        Act::Link((0, 0), (1, 0), Ok(1)),
-        Act::Link((1, 1), (2, 0), Ok(2)),
-        Act::Link((0, 0), (3, 0), Ok(3)),
-    ];
-    do_acts(&rt, &mut table, 4, &made);
-    table.remove_each(&[3, 9, 1]);
-    let left = [
-        Act::Count(1),
-        Act::At(0, Some(2)),
-        Act::Above((1, 0), None),
-        Act::Reaches(0, 2, false),
-        Act::Reaches(1, 2, true),
-        Act::Link((0, 0), (1, 0), Ok(4)),
-    ];
-    do_acts(&rt, &mut table, 4, &left);
+    let mut table = table_over(rt.alloc(), 4)?;
+    go_at_once(&rt, &mut table);
     Ok(())
+}
+
+const TOP: StreamId = StreamId {
+    driver: 0,
+    minor: 0,
+};
+
+const BELOW: StreamId = StreamId {
+    driver: 1,
+    minor: 0,
+};
+
+fn links_two(rt: &impl Abort, links: &mut LinkTable)
+    requires { links.old.drivers ≡ 2 }
+    ensures { links.new.drivers ≡ 2 }
+{
+    assert!(rt; links.try_link(TOP, BELOW, LinkKind::Ordinary) == Ok(1));
+    assert!(rt; links.reaches(0, 1) && links.is_below(BELOW));
+}
+
+fn bars_a_cycle(rt: &impl Abort, links: &mut LinkTable)
+    requires { links.old.drivers ≡ 2 }
+{
+    assert!(rt; links.try_link(BELOW, TOP, LinkKind::Ordinary) == Err(LinkFault::Cycle));
+    assert!(rt; id_of(links.above(BELOW)) == Some(1));
+    assert!(rt; links.remove(1).is_some() && links.next_id() == 2);
 }
 
 // The lines that the crate's README shows.
 #[test]
 fn the_table_in_use(rt: HostRuntime) -> Result<(), Fail> {
-    let top = StreamId {
-        driver: 0,
-        minor: 0,
-    };
-    let below = StreamId {
-        driver: 1,
-        minor: 0,
-    };
-    let mut links = LinkTable::new(rt.alloc(), 2).ok().ok_or("memory")?;
-    assert_eq!(rt; links.try_link(top, below, LinkKind::Ordinary), Ok(1));
-    assert!(rt; links.reaches(0, 1) && links.is_below(below));
-    assert_eq!(rt;
-        links.try_link(below, top, LinkKind::Ordinary),
-        Err(LinkFault::Cycle)
-    );
-    assert_eq!(rt; id_of(links.above(below)), Some(1));
-    assert!(rt; links.remove(1).is_some() && links.next_id() == 2);
+    let mut links = table_over(rt.alloc(), 2)?;
+    links_two(&rt, &mut links);
+    bars_a_cycle(&rt, &mut links);
     Ok(())
 }

@@ -176,6 +176,18 @@ fn walks(queues: &Queues, p: usize, serials: &[u32]) -> bool {
     rest.next().is_none()
 }
 
+// Whether the list of the serials is this.
+fn lists(
+    rt: &(impl Abort + Print),
+    queues: &Queues,
+    p: usize,
+    serials: &[u32],
+) -> Result<(), Fail> {
+    let listed = listed(rt, queues, p)?;
+    assert!(rt; listed.as_slice() == serials);
+    Ok(())
+}
+
 /// The place has so many bytes, this mark, and messages of these serials, whichever call is asked.
 pub fn has(
     rt: &(impl Abort + Print),
@@ -188,11 +200,8 @@ pub fn has(
     if !queues.has_place(p) {
         return Err(Fail::new("no place"));
     }
-    assert_eq!(rt; queues.bytes(p), bytes);
-    assert_eq!(rt; queues.is_full(p), full);
-    assert_eq!(rt; queues.message_count(p), serials.len());
-    assert_eq!(rt; listed(rt, queues, p)?.as_slice(), serials);
-    assert!(rt; finds(queues, p, serials));
-    assert!(rt; walks(queues, p, serials));
-    Ok(())
+    assert!(rt; queues.bytes(p) == bytes && queues.is_full(p) == full);
+    assert!(rt; queues.message_count(p) == serials.len());
+    assert!(rt; finds(queues, p, serials) && walks(queues, p, serials));
+    lists(rt, queues, p, serials)
 }

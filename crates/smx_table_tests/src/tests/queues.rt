@@ -1,5 +1,7 @@
 //! Queues of places: what arrives, leaves and moves, and the marks.
 
+ghost use Rattle.std.specs.Prelude.{◌≡◌, []};
+
 use super::queue_calls::{
     add, add_all, clear, copied, has, listed, move_front, put, put_by_spare, take,
 };
@@ -10,14 +12,13 @@ use std::process::Abort;
 use std::test::Fail;
 
 // As the README of smx_queues has it.
-#[test]
-fn a_message_moves_on(rt: HostRuntime) -> Result<(), Fail> {
-    let alloc = rt.alloc();
-    let mut queues = Queues::new(alloc);
+fn moves_on(rt: &(impl AllocGlobal + Abort), queues: &mut Queues) -> Result<(), Fail>
+    requires { queues.old.queues ≡ [] }
+{
     let upper = queues.add_place(8, 3)?;
     let lower = queues.add_place(1, 0)?;
     queues.reserve_one()?;
-    let bytes = Bytes::from_vec(Vec::from_slice(alloc, b"ab")?);
+    let bytes = Bytes::from_vec(Vec::from_slice(rt.alloc(), b"ab")?);
     queues.put(
         upper,
         Message {
@@ -32,44 +33,81 @@ fn a_message_moves_on(rt: HostRuntime) -> Result<(), Fail> {
     Ok(())
 }
 
-// Two places, at the first of which two messages of four bytes arrived.
-fn with_two(rt: &(impl AllocGlobal + Abort + Print)) -> Result<Queues, Fail> {
+#[test]
+fn a_message_moves_on(rt: HostRuntime) -> Result<(), Fail> {
     let mut queues = Queues::new(rt.alloc());
-    assert_eq!(rt; add(rt, &mut queues, 8, 3)?, 0);
-    assert_eq!(rt; add(rt, &mut queues, 1, 0)?, 1);
-    put(rt, &mut queues, 0, 1, 4)?;
-    has(rt, &queues, 0, 4, false, &[1])?;
-    put(rt, &mut queues, 0, 2, 4)?;
-    has(rt, &queues, 0, 8, true, &[1, 2])?;
-    Ok(queues)
+    moves_on(&rt, &mut queues)
+}
+
+// The next place gets this number.
+fn adds(
+    rt: &(impl Abort + Print),
+    queues: &mut Queues,
+    (high, low): (usize, usize),
+    number: usize,
+) -> Result<(), Fail> {
+    let p = add(rt, queues, high, low)?;
+    assert_eq!(rt; p, number);
+    Ok(())
+}
+
+// The message of this serial leaves, or none.
+fn takes(rt: &impl Abort, queues: &mut Queues, p: usize, serial: Option<u32>) -> Result<(), Fail> {
+    let taken = take(queues, p)?;
+    assert_eq!(rt; taken, serial);
+    Ok(())
+}
+
+// Two places, at the first of which two messages of four bytes arrive.
+fn add_two(rt: &(impl AllocGlobal + Abort + Print), queues: &mut Queues) -> Result<(), Fail> {
+    adds(rt, queues, (8, 3), 0)?;
+    adds(rt, queues, (1, 0), 1)?;
+    put(rt, queues, 0, 1, 4)?;
+    has(rt, queues, 0, 4, false, &[1])?;
+    put(rt, queues, 0, 2, 4)?;
+    has(rt, queues, 0, 8, true, &[1, 2])
+}
+
+type Want<'a> = (usize, bool, &'a [u32]);
+
+// Whether the queues have these at both places.
+fn at_both(
+    rt: &(impl Abort + Print),
+    queues: &Queues,
+    first: Want,
+    second: Want,
+) -> Result<(), Fail> {
+    has(rt, queues, 0, first.0, first.1, first.2)?;
+    has(rt, queues, 1, second.0, second.1, second.2)
 }
 
 // Whether the queues and their copy have these at both places.
 fn both_have(
     rt: &(impl AllocGlobal + Abort + Print),
     queues: &Queues,
-    first: (usize, bool, &[u32]),
-    second: (usize, bool, &[u32]),
+    first: Want,
+    second: Want,
 ) -> Result<(), Fail> {
+    at_both(rt, queues, first, second)?;
     let again = copied(rt, queues)?;
-    for some in [queues, &again] {
-        has(rt, some, 0, first.0, first.1, first.2)?;
-        has(rt, some, 1, second.0, second.1, second.2)?;
-    }
-    Ok(())
+    at_both(rt, &again, first, second)
+}
+
+fn moves_across(rt: &(impl AllocGlobal + Abort + Print), queues: &mut Queues) -> Result<(), Fail> {
+    add_two(rt, queues)?;
+    takes(rt, queues, 0, Some(1))?;
+    both_have(rt, queues, (4, true, &[2]), (0, false, &[]))?;
+    move_front(queues, 0, 1)?;
+    both_have(rt, queues, (0, false, &[]), (4, true, &[2]))?;
+    clear(queues, 1)?;
+    both_have(rt, queues, (0, false, &[]), (0, false, &[]))?;
+    takes(rt, queues, 1, None)
 }
 
 /// Two places, a move between them, and the marks on the way, with a copy after each step.
 pub fn marks_across_a_move(rt: &(impl AllocGlobal + Abort + Print)) -> Result<(), Fail> {
-    let mut queues = with_two(rt)?;
-    assert_eq!(rt; take(&mut queues, 0)?, Some(1));
-    both_have(rt, &queues, (4, true, &[2]), (0, false, &[]))?;
-    move_front(&mut queues, 0, 1)?;
-    both_have(rt, &queues, (0, false, &[]), (4, true, &[2]))?;
-    clear(&mut queues, 1)?;
-    both_have(rt, &queues, (0, false, &[]), (0, false, &[]))?;
-    assert_eq!(rt; take(&mut queues, 1)?, None);
-    Ok(())
+    let mut queues = Queues::new(rt.alloc());
+    moves_across(rt, &mut queues)
 }
 
 // A message of one byte for each serial from 1 on.
@@ -85,34 +123,66 @@ fn fill(
     Ok(())
 }
 
+// These serials leave in their order, from 1 to 4,096.
+fn take_all(rt: &impl Abort, queues: &mut Queues, p: usize) -> Result<(), Fail> {
+    for serial in 1..4097u32 {
+        takes(rt, queues, p, Some(serial))?;
+    }
+    Ok(())
+}
+
+fn is_marked(rt: &impl Abort, queues: &Queues, full: bool) {
+    assert!(rt; queues.has_place(0) && queues.is_full(0) == full);
+}
+
+fn has_count(rt: &(impl Abort + Print), queues: &Queues, count: usize) -> Result<(), Fail> {
+    let serials = listed(rt, queues, 0)?;
+    assert_eq!(rt; serials.len(), count);
+    Ok(())
+}
+
+fn fills_and_empties(
+    rt: &(impl AllocGlobal + Abort + Print),
+    queues: &mut Queues,
+) -> Result<(), Fail> {
+    add(rt, queues, 4096, 4095)?;
+    fill(rt, queues, 0, 4095)?;
+    is_marked(rt, queues, false);
+    put(rt, queues, 0, 4096, 1)?;
+    is_marked(rt, queues, true);
+    has_count(rt, queues, 4096)?;
+    take_all(rt, queues, 0)?;
+    has(rt, queues, 0, 0, false, &[])
+}
+
 #[test]
 fn a_queue_of_4096_messages(rt: HostRuntime) -> Result<(), Fail> {
     let mut queues = Queues::new(rt.alloc());
-    add(&rt, &mut queues, 4096, 4095)?;
-    fill(&rt, &mut queues, 0, 4095)?;
-    assert!(rt; queues.has_place(0) && !queues.is_full(0));
-    put(&rt, &mut queues, 0, 4096, 1)?;
-    assert!(rt; queues.has_place(0) && queues.is_full(0));
-    assert_eq!(rt; listed(&rt, &queues, 0)?.len(), 4096);
-    for serial in 1..4097u32 {
-        assert_eq!(rt; take(&mut queues, 0)?, Some(serial));
+    fills_and_empties(&rt, &mut queues)
+}
+
+fn move_all(queues: &mut Queues) -> Result<(), Fail> {
+    for _i in 0..4096 {
+        move_front(queues, 0, 1)?;
     }
-    has(&rt, &queues, 0, 0, false, &[])
+    Ok(())
+}
+
+fn fills_and_moves(
+    rt: &(impl AllocGlobal + Abort + Print),
+    queues: &mut Queues,
+) -> Result<(), Fail> {
+    add_all(rt, queues, 2, 4096, 0)?;
+    fill(rt, queues, 0, 4096)?;
+    move_all(queues)?;
+    has(rt, queues, 0, 0, false, &[])?;
+    take_all(rt, queues, 1)
 }
 
 #[test]
 fn a_full_queue_moves_in_order(rt: HostRuntime) -> Result<(), Fail> {
     let mut queues = Queues::new(rt.alloc());
-    add_all(&rt, &mut queues, 2, 4096, 0)?;
-    fill(&rt, &mut queues, 0, 4096)?;
-    for _i in 0..4096 {
-        move_front(&mut queues, 0, 1)?;
-    }
-    has(&rt, &queues, 0, 0, false, &[])?;
-    for serial in 1..4097u32 {
-        assert_eq!(rt; take(&mut queues, 1)?, Some(serial));
-    }
-    Ok(())
+    fills_and_moves(&rt, &mut queues)
 }
 
 // Messages arrive for as long as there is room, and none is reserved.
@@ -126,50 +196,86 @@ fn fill_the_room(alloc: Global, queues: &mut Queues, p: usize) -> Result<(), Fai
     Err(Fail::new("room for more than can be"))
 }
 
-// The entry of the message that left serves the next one, so the store is as small after all rounds as before.
+// The entry of the message that left serves the next one.
+fn round(rt: &(impl AllocGlobal + Abort), queues: &mut Queues, serial: u32) -> Result<(), Fail> {
+    move_front(queues, 0, 1)?;
+    assert!(rt; take(queues, 1)?.is_some());
+    put_by_spare(rt.alloc(), queues, 0, serial, 1)?;
+    assert!(rt; !queues.has_spare());
+    Ok(())
+}
+
+fn goes_round(rt: &(impl AllocGlobal + Abort + Print), queues: &mut Queues) -> Result<(), Fail> {
+    add_all(rt, queues, 2, 4096, 3)?;
+    put(rt, queues, 0, 4096, 1)?;
+    fill_the_room(rt.alloc(), queues, 0)?;
+    for serial in 1..10_001u32 {
+        round(rt, queues, serial)?;
+    }
+    Ok(())
+}
+
+// The store is as small after all rounds as before.
 #[test]
 fn rounds_take_no_memory(rt: HostRuntime) -> Result<(), Fail> {
     let mut queues = Queues::new(rt.alloc());
-    add_all(&rt, &mut queues, 2, 4096, 3)?;
-    put(&rt, &mut queues, 0, 4096, 1)?;
-    fill_the_room(rt.alloc(), &mut queues, 0)?;
-    for round in 1..10_001u32 {
-        move_front(&mut queues, 0, 1)?;
-        assert!(rt; take(&mut queues, 1)?.is_some());
-        put_by_spare(rt.alloc(), &mut queues, 0, round, 1)?;
-        assert!(rt; !queues.has_spare());
-    }
-    Ok(())
+    goes_round(&rt, &mut queues)
+}
+
+// The places 0, 1 and 2; a message arrives at each of the last two.
+fn add_three(rt: &(impl AllocGlobal + Print), queues: &mut Queues) -> Result<(), Fail> {
+    add_all(rt, queues, 3, 8, 3)?;
+    put(rt, queues, 1, 1, 8)?;
+    put(rt, queues, 2, 2, 4)
+}
+
+fn drops_and_adds(
+    rt: &(impl AllocGlobal + Abort + Print),
+    queues: &mut Queues,
+) -> Result<(), Fail> {
+    add_three(rt, queues)?;
+    queues.drop_place(1);
+    queues.drop_place(1);
+    queues.drop_place(9);
+    assert!(rt; !queues.has_place(1) && !queues.has_place(3));
+    adds(rt, queues, (4, 1), 1)?;
+    has(rt, queues, 1, 0, false, &[])?;
+    has(rt, queues, 2, 4, false, &[2])?;
+    adds(rt, queues, (4, 1), 3)
 }
 
 #[test]
 fn numbers_are_given_again(rt: HostRuntime) -> Result<(), Fail> {
     let mut queues = Queues::new(rt.alloc());
-    add_all(&rt, &mut queues, 3, 8, 3)?;
-    put(&rt, &mut queues, 1, 1, 8)?;
-    put(&rt, &mut queues, 2, 2, 4)?;
-    queues.drop_place(1);
-    queues.drop_place(1);
-    queues.drop_place(9);
-    assert!(rt; !queues.has_place(1) && !queues.has_place(3));
-    assert_eq!(rt; add(&rt, &mut queues, 4, 1)?, 1);
-    has(&rt, &queues, 1, 0, false, &[])?;
-    has(&rt, &queues, 2, 4, false, &[2])?;
-    assert_eq!(rt; add(&rt, &mut queues, 4, 1)?, 3);
-    Ok(())
+    drops_and_adds(&rt, &mut queues)
+}
+
+// What leaves the queues stays in their copy.
+fn go_apart(
+    rt: &(impl Abort + Print),
+    queues: &mut Queues,
+    again: &mut Queues,
+) -> Result<(), Fail> {
+    assert!(rt; !again.has_place(0) && again.has_place(1) && !again.has_place(3));
+    has(rt, again, 2, 8, true, &[1])?;
+    takes(rt, queues, 2, Some(1))?;
+    has(rt, again, 2, 8, true, &[1])?;
+    adds(rt, again, (8, 3), 0)
+}
+
+fn leaves_its_copy(
+    rt: &(impl AllocGlobal + Abort + Print),
+    queues: &mut Queues,
+) -> Result<(), Fail> {
+    add_all(rt, queues, 3, 8, 3)?;
+    put(rt, queues, 2, 1, 8)?;
+    queues.drop_place(0);
+    let mut again = copied(rt, queues)?;
+    go_apart(rt, queues, &mut again)
 }
 
 #[test]
 fn a_copy_has_the_same_gaps(rt: HostRuntime) -> Result<(), Fail> {
     let mut queues = Queues::new(rt.alloc());
-    add_all(&rt, &mut queues, 3, 8, 3)?;
-    put(&rt, &mut queues, 2, 1, 8)?;
-    queues.drop_place(0);
-    let mut again = copied(&rt, &queues)?;
-    assert!(rt; !again.has_place(0) && again.has_place(1) && !again.has_place(3));
-    has(&rt, &again, 2, 8, true, &[1])?;
-    assert_eq!(rt; take(&mut queues, 2)?, Some(1));
-    has(&rt, &again, 2, 8, true, &[1])?;
-    assert_eq!(rt; add(&rt, &mut again, 8, 3)?, 0);
-    Ok(())
+    leaves_its_copy(&rt, &mut queues)
 }

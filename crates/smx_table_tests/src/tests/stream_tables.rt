@@ -60,30 +60,35 @@ fn of(answer: Option<StreamId>) -> Option<(u8, u8)> {
     }
 }
 
+type Given = Result<(u32, (u8, u8)), StreamFault>;
+
+fn gives(rt: &impl Abort, answer: Result<(u32, StreamId), StreamFault>, wanted: Given) {
+    assert!(rt; given(answer) == wanted);
+}
+
+fn closes(rt: &impl Abort, answer: Option<Closed>, wanted: Option<((u8, u8), bool)>) {
+    assert!(rt; left(answer) == wanted);
+}
+
+fn is_of(rt: &impl Abort, answer: Option<StreamId>, wanted: Option<(u8, u8)>) {
+    assert!(rt; of(answer) == wanted);
+}
+
 fn do_act(rt: &impl Abort, table: &mut Streams, act: Act) {
     match act {
         Act::Clone(p, driver, wanted) => {
-            assert_eq!(rt; given(table.open_clone(process(rt, p), driver)), wanted);
+            gives(rt, table.open_clone(process(rt, p), driver), wanted);
         }
         Act::Minor(p, driver, minor, wanted) => {
-            assert_eq!(rt;
-                given(table.open_minor(process(rt, p), driver, minor)),
-                wanted
-            );
+            gives(rt, table.open_minor(process(rt, p), driver, minor), wanted);
         }
-        Act::Dup(p, fd, wanted) => {
-            assert_eq!(rt; given(table.dup(process(rt, p), fd)), wanted);
-        }
-        Act::Close(p, fd, wanted) => {
-            assert_eq!(rt; left(table.close_fd(process(rt, p), fd)), wanted);
-        }
-        Act::Of(p, fd, wanted) => {
-            assert_eq!(rt; of(table.stream_of(process(rt, p), fd)), wanted);
-        }
+        Act::Dup(p, fd, wanted) => gives(rt, table.dup(process(rt, p), fd), wanted),
+        Act::Close(p, fd, wanted) => closes(rt, table.close_fd(process(rt, p), fd), wanted),
+        Act::Of(p, fd, wanted) => is_of(rt, table.stream_of(process(rt, p), fd), wanted),
         Act::InRange(driver, minor, wanted) => {
-            assert_eq!(rt; table.in_range(driver, minor), wanted);
+            assert!(rt; table.in_range(driver, minor) == wanted);
         }
-        Act::Exists(at, wanted) => assert_eq!(rt; table.exists(stream(at)), wanted),
+        Act::Exists(at, wanted) => assert!(rt; table.exists(stream(at)) == wanted),
     }
 }
 
@@ -120,21 +125,30 @@ const AFTERWARDS: [Act; 3] = [
     Act::Clone(0, 0, Ok((0, (0, 0)))),
 ];
 
-#[test]
-fn a_held_stream_stays(rt: HostRuntime) -> Result<(), Fail> {
-    let mut table = Streams::new(rt.alloc(), &[2, 1]).ok().ok_or("memory")?;
-    do_acts(&rt, &mut table, &OPENED);
+// The last hold goes, and with it the stream.
+fn is_released(rt: &impl Abort, table: &mut Streams) {
+    let held = stream((0, 0));
+    assert!(rt; table.holds_of(held) == 1 && table.release(held));
+    do_acts(rt, table, &AFTERWARDS);
+}
+
+fn stays_while_held(rt: &impl Abort, table: &mut Streams) -> Result<(), Fail> {
+    do_acts(rt, table, &OPENED);
     let held = stream((0, 0));
     assert!(rt; table.exists(held) && table.holds_of(held) == 0);
     table.hold(held);
-    do_acts(&rt, &mut table, &CLOSED);
+    do_acts(rt, table, &CLOSED);
     assert_eq!(rt; table.holds_of(held), 1);
     let mut again = table.copy().ok().ok_or("memory")?;
-    assert!(rt; table.release(held));
-    do_acts(&rt, &mut table, &AFTERWARDS);
-    assert!(rt; again.holds_of(held) == 1 && again.release(held));
-    do_acts(&rt, &mut again, &AFTERWARDS);
+    is_released(rt, table);
+    is_released(rt, &mut again);
     Ok(())
+}
+
+#[test]
+fn a_held_stream_stays(rt: HostRuntime) -> Result<(), Fail> {
+    let mut table = Streams::new(rt.alloc(), &[2, 1]).ok().ok_or("memory")?;
+    stays_while_held(&rt, &mut table)
 }
 
 const REFUSED: [Act; 8] = [
@@ -155,26 +169,32 @@ fn refused_opens_leave_nothing(rt: HostRuntime) -> Result<(), Fail> {
     Ok(())
 }
 
+const FIRST: StreamId = StreamId {
+    driver: 0,
+    minor: 0,
+};
+
+fn opens_twice(rt: &impl Abort, streams: &mut Streams, process: Process) {
+    assert!(rt; streams.open_clone(process, 0) == Ok((0, FIRST)));
+    assert!(rt; streams.dup(process, 0) == Ok((1, FIRST)));
+}
+
+fn holds_and_closes(rt: &impl Abort, streams: &mut Streams, process: Process) {
+    assert!(rt; streams.exists(FIRST) && streams.holds_of(FIRST) == 0);
+    streams.hold(FIRST);
+    let closed = Closed {
+        stream: FIRST,
+        last: false,
+    };
+    assert!(rt; streams.close_fd(process, 0) == Some(closed));
+}
+
 // The lines that the crate's README shows.
 #[test]
 fn the_table_in_use(rt: HostRuntime) -> Result<(), Fail> {
     let process = Process::new(0).ok_or("process")?;
     let mut streams = Streams::new(rt.alloc(), &[2, 1]).ok().ok_or("memory")?;
-    let stream = StreamId {
-        driver: 0,
-        minor: 0,
-    };
-    assert_eq!(rt; streams.open_clone(process, 0), Ok((0, stream)));
-    assert_eq!(rt; streams.dup(process, 0), Ok((1, stream)));
-    assert!(rt; streams.exists(stream) && streams.holds_of(stream) == 0);
-    streams.hold(stream);
-    let closed = streams.close_fd(process, 0);
-    assert_eq!(rt;
-        closed,
-        Some(Closed {
-            stream,
-            last: false
-        })
-    );
+    opens_twice(&rt, &mut streams, process);
+    holds_and_closes(&rt, &mut streams, process);
     Ok(())
 }

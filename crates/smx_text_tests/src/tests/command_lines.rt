@@ -1,13 +1,16 @@
 //! The line of each command, read and written.
 
+use super::lists::alone;
+use super::spelling::is_spelled;
 use smx_samples::{Call, command_of};
-use smx_text::{read_programs, write_programs};
-use smx_types::{Sides, Which};
+use smx_types::{Items, Programs, Sides, Which};
 use std::alloc::Global;
 use std::process::Abort;
 use std::test::Fail;
 
-const LINES: [(Call, &[u8]); 22] = [
+type CommandLine = (Call<'static>, &'static [u8]);
+
+const LINES: [CommandLine; 23] = [
     (Call::Clone("eth"), b"clone eth"),
     (Call::Open("eth", 1), b"open eth 1"),
     (Call::Dup(2), b"dup 2"),
@@ -36,6 +39,7 @@ const LINES: [(Call, &[u8]); 22] = [
     (Call::Flush(27, Sides::W), b"flush 27 w"),
     (Call::Flush(28, Sides::RW), b"flush 28 rw"),
     (Call::Inject("eth", 29, 30, &[171]), b"inject eth 29 30 ab"),
+    (Call::Transmit("eth", 31), b"transmit eth 31"),
 ];
 
 // A text whose one command is this line.
@@ -46,27 +50,25 @@ fn with_line(alloc: Global, line: &[u8]) -> Result<Vec<u8>, Fail> {
     Ok(text)
 }
 
-// The line is the command's.
-fn is_line_of(rt: &impl Abort, alloc: Global, call: Call, line: &[u8]) -> Result<(), Fail> {
-    let text = with_line(alloc, line)?;
-    let programs = read_programs(alloc, text.as_slice())?;
+// The program of one command.
+fn of_one(alloc: Global, call: Call) -> Result<Programs, Fail> {
     let command = command_of(alloc, call)?;
-    assert_eq!(rt; programs.programs().len(), 1);
-    assert!(rt; programs.programs()[0].as_slice() == [command].as_slice());
-    let written = write_programs(alloc, &programs)?;
-    assert_eq!(rt; written.as_slice(), text.as_slice());
-    Ok(())
+    let commands = alone(alloc, command)?;
+    let programs = alone(alloc, commands)?;
+    Ok(Programs::new(Items::new(alloc), programs)?)
+}
+
+// The line is the command's.
+fn is_line_of(rt: &(impl AllocGlobal + Abort), pair: CommandLine) -> Result<(), Fail> {
+    let (call, line) = pair;
+    let text = with_line(rt.alloc(), line)?;
+    is_spelled(rt, of_one(rt.alloc(), call), text.as_slice())
 }
 
 #[test]
 fn each_command_has_its_line(rt: HostRuntime) -> Result<(), Fail> {
-    for (call, line) in LINES {
-        is_line_of(&rt, rt.alloc(), call, line)?;
+    for pair in &LINES {
+        is_line_of(&rt, *pair)?;
     }
-    is_line_of(
-        &rt,
-        rt.alloc(),
-        Call::Transmit("eth", 31),
-        b"transmit eth 31",
-    )
+    Ok(())
 }

@@ -1,136 +1,93 @@
 //! Each copy, with ample memory, is equal to what it was made of.
 
-use smx_samples::{Answer, Call, command_of, items, named, numbered, reply_of};
-use smx_types::{
-    BindingLine, BindingLines, ConfigView, DescriptorLine, DescriptorLines, Entry, FullLine,
-    FullLines, Items, LinkKind, LinkLine, LinkLines, Message, MessageLine, MessageLines, Messages,
-    RouteLine, RouteLines, Same, Side,
-};
+use super::copying::{is_copied, list_is_copied};
+use super::lists::alone;
+use smx_samples::{Answer, Call, command_of, entry_of, held_above, items, named, reply_of};
+use smx_types::{BindingLine, Command, ConfigView, Message, Same};
 use std::alloc::Global;
+use std::process::Abort;
 use std::test::Fail;
+
+fn a_message(alloc: Global) -> Result<Message, Fail> {
+    Ok(Message {
+        serial: 1,
+        addr: 5,
+        bytes: items(alloc, &[0, 0, 0, 1])?,
+    })
+}
+
+#[test]
+fn a_message_is_copied(rt: HostRuntime) -> Result<(), Fail> {
+    is_copied(&rt, a_message(rt.alloc()))
+}
 
 #[test]
 fn messages_are_copied(rt: HostRuntime) -> Result<(), Fail> {
-    let message = Message {
-        serial: 1,
-        addr: 5,
-        bytes: items(rt.alloc(), &[0, 0, 0, 1])?,
+    let message = a_message(rt.alloc())?;
+    list_is_copied(&rt, alone(rt.alloc(), message), 1)
+}
+
+const GOT: Answer = Answer::Got(1, 5, &[0, 0, 0, 1]);
+
+#[test]
+fn an_entry_is_copied(rt: HostRuntime) -> Result<(), Fail> {
+    is_copied(&rt, entry_of(rt.alloc(), (Call::Transmit("eth", 0), GOT)))
+}
+
+#[test]
+fn a_reply_is_copied(rt: HostRuntime) -> Result<(), Fail> {
+    is_copied(&rt, reply_of(rt.alloc(), GOT))
+}
+
+#[test]
+fn replies_are_copied(rt: HostRuntime) -> Result<(), Fail> {
+    let reply = reply_of(rt.alloc(), GOT)?;
+    list_is_copied(&rt, alone(rt.alloc(), reply), 1)
+}
+
+// What was made differs from the other.
+fn differ<T: Same + Drop>(rt: &impl Abort, made: Result<T, Fail>, other: T) -> Result<(), Fail> {
+    let value = made?;
+    assert!(rt; !other.is_same(&value));
+    Ok(())
+}
+
+fn a_write(alloc: Global, last: u8) -> Result<Command, Fail> {
+    command_of(alloc, Call::Write(0, 5, &[0, 0, 0, last]))
+}
+
+#[test]
+fn a_command_is_copied(rt: HostRuntime) -> Result<(), Fail> {
+    is_copied(&rt, a_write(rt.alloc(), 1))
+}
+
+#[test]
+fn a_command_has_its_bytes(rt: HostRuntime) -> Result<(), Fail> {
+    let other = a_write(rt.alloc(), 2)?;
+    differ(&rt, a_write(rt.alloc(), 1), other)
+}
+
+// What is shown after the marks were met across a join, with an address that is bound and this serial next.
+fn shown(alloc: Global, next_serial: u32) -> Result<ConfigView, Fail> {
+    let bound = BindingLine {
+        driver: named("ip")?,
+        addr: 9,
+        minor: 0,
     };
-    assert!(rt; message.copy(rt.alloc())? == message);
-    let messages = Messages::from_vec(vec![in rt.alloc(); message]?);
-    assert!(rt; messages.copy(rt.alloc())? == messages);
-    Ok(())
-}
-
-fn taken_by_the_device(alloc: Global) -> Result<Entry, Fail> {
-    let command = command_of(alloc, Call::Transmit("eth", 0))?;
-    let reply = reply_of(alloc, Answer::Got(1, 5, &[0, 0, 0, 1]))?;
-    Ok(Entry {
-        process: numbered(0)?,
-        command,
-        reply,
-    })
+    let binds = items(alloc, &[bound])?;
+    let mut view = held_above(alloc)?;
+    view.binds = binds;
+    view.next_serial = next_serial;
+    Ok(view)
 }
 
 #[test]
-fn entries_are_copied(rt: HostRuntime) -> Result<(), Fail> {
-    let entry = taken_by_the_device(rt.alloc())?;
-    assert!(rt; entry.copy(rt.alloc())? == entry);
-    let reply = entry.reply.copy(rt.alloc())?;
-    assert!(rt; reply.is_same(&entry.reply));
-    let replies = Items::from_vec(vec![in rt.alloc(); reply]?);
-    assert!(rt; replies.copy(rt.alloc())? == replies);
-    Ok(())
+fn a_view_is_copied(rt: HostRuntime) -> Result<(), Fail> {
+    is_copied(&rt, shown(rt.alloc(), 6))
 }
 
 #[test]
-fn commands_are_copied(rt: HostRuntime) -> Result<(), Fail> {
-    let write = command_of(rt.alloc(), Call::Write(0, 5, &[0, 0, 0, 1]))?;
-    assert!(rt; write.copy(rt.alloc())? == write);
-    let mut again = write.copy(rt.alloc())?;
-    assert!(rt; again.is_same(&write));
-    again = command_of(rt.alloc(), Call::Write(0, 5, &[0, 0, 0, 2]))?;
-    assert!(rt; !again.is_same(&write));
-    Ok(())
-}
-
-// The configuration that is shown after the marks were met across a join.
-fn shown(alloc: Global) -> Result<ConfigView, Fail> {
-    let ip = named("ip")?;
-    let eth = named("eth")?;
-    let process = numbered(0)?;
-    let mut msgs = MessageLines::new(alloc);
-    for (driver, serial) in [(ip, 5u32), (eth, 3), (eth, 4)] {
-        let message = Message {
-            serial,
-            addr: 5,
-            bytes: items(alloc, &[0, 0, 0, serial as u8])?,
-        };
-        msgs.push(MessageLine {
-            driver,
-            minor: 0,
-            side: Side::Write,
-            message,
-        })?;
-    }
-    Ok(ConfigView {
-        next_id: 2,
-        next_serial: 6,
-        fds: DescriptorLines::from_vec(vec![in alloc;
-            DescriptorLine {
-                process,
-                fd: 0,
-                driver: ip,
-                minor: 0
-            },
-            DescriptorLine {
-                process,
-                fd: 1,
-                driver: eth,
-                minor: 0
-            },
-        ]?),
-        links: LinkLines::from_vec(vec![in alloc;
-            LinkLine {
-                id: 1,
-                ctl_driver: ip,
-                ctl_minor: 0,
-                lower_driver: eth,
-                lower_minor: 0,
-                kind: LinkKind::Ordinary
-            },
-        ]?),
-        binds: BindingLines::from_vec(vec![in alloc;
-            BindingLine {
-                driver: ip,
-                addr: 9,
-                minor: 0
-            },
-        ]?),
-        routes: RouteLines::from_vec(vec![in alloc;
-            RouteLine {
-                driver: ip,
-                addr: 5,
-                id: 1
-            },
-        ]?),
-        msgs,
-        fulls: FullLines::from_vec(vec![in alloc;
-            FullLine {
-                driver: eth,
-                minor: 0,
-                side: Side::Write
-            },
-        ]?),
-    })
-}
-
-#[test]
-fn views_are_copied(rt: HostRuntime) -> Result<(), Fail> {
-    let view = shown(rt.alloc())?;
-    let mut again = view.copy(rt.alloc())?;
-    assert!(rt; again.is_same(&view));
-    again.next_serial = 7;
-    assert!(rt; !again.is_same(&view));
-    Ok(())
+fn a_view_has_its_numbers(rt: HostRuntime) -> Result<(), Fail> {
+    let other = shown(rt.alloc(), 7)?;
+    differ(&rt, shown(rt.alloc(), 6), other)
 }

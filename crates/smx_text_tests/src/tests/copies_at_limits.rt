@@ -1,84 +1,102 @@
 //! Each copy at its real limit.
 
+use super::copying::{is_copied, list_is_copied};
 use smx_samples::{
     leaves, longest_bytes, longest_transcript, most_entries, most_programs, most_serials,
     most_shown, named, queued, sixty_four_programs,
 };
-use smx_types::{Command, Programs, Reply, Same};
+use smx_types::{Command, Many, Programs, Reply};
+use std::alloc::Global;
+use std::process::Abort;
 use std::test::Fail;
 
-#[test]
-fn the_most_programs(rt: HostRuntime) -> Result<(), Fail> {
-    let programs = most_programs(rt.alloc())?;
+// 64 drivers and 64 programs.
+fn are_sixty_four(rt: &impl Abort, programs: &Programs) {
     assert_eq!(rt; programs.drivers().len(), 64);
     assert_eq!(rt; programs.programs().len(), 64);
-    let again = programs.copy(rt.alloc())?;
-    assert!(rt; again == programs);
-    Ok(())
 }
 
 #[test]
-fn one_more_of_each(rt: HostRuntime) -> Result<(), Fail> {
-    for (drivers, first) in [(65, 1), (64, 99_938)] {
-        let drivers = leaves(rt.alloc(), drivers)?;
-        let programs = sixty_four_programs(rt.alloc(), first)?;
-        let many = Programs::new(drivers, programs).err().ok_or("few")?;
-        let again = many.copy(rt.alloc())?;
-        assert!(rt; again == many);
-    }
+fn the_most_programs(rt: HostRuntime) -> Result<(), Fail> {
+    is_copied(&rt, most_programs(rt.alloc()))
+}
+
+#[test]
+fn the_most_programs_are_64(rt: HostRuntime) -> Result<(), Fail> {
+    let programs = most_programs(rt.alloc())?;
+    are_sixty_four(&rt, &programs);
     Ok(())
+}
+
+// As many drivers, and as many commands in the first of 64 programs, are too many.
+fn too_many(alloc: Global, drivers: usize, first: usize) -> Result<Many, Fail> {
+    let drivers = leaves(alloc, drivers)?;
+    let programs = sixty_four_programs(alloc, first)?;
+    Ok(Programs::new(drivers, programs).err().ok_or("few")?)
+}
+
+#[test]
+fn one_more_driver(rt: HostRuntime) -> Result<(), Fail> {
+    is_copied(&rt, too_many(rt.alloc(), 65, 1))
+}
+
+#[test]
+fn one_more_command(rt: HostRuntime) -> Result<(), Fail> {
+    is_copied(&rt, too_many(rt.alloc(), 64, 99_938))
 }
 
 #[test]
 fn the_most_entries(rt: HostRuntime) -> Result<(), Fail> {
-    let entries = most_entries(rt.alloc())?;
-    let again = entries.copy(rt.alloc())?;
-    assert!(rt; again == entries);
-    assert_eq!(rt; again.as_slice().len(), 100_000);
-    assert_eq!(rt; again.into_vec().capacity(), 100_000);
-    Ok(())
+    list_is_copied(&rt, most_entries(rt.alloc()), 100_000)
+}
+
+fn all_dropped(alloc: Global) -> Result<Reply, Fail> {
+    Ok(Reply::Done {
+        dropped: most_serials(alloc)?,
+    })
 }
 
 #[test]
 fn the_most_dropped(rt: HostRuntime) -> Result<(), Fail> {
-    let reply = Reply::Done {
-        dropped: most_serials(rt.alloc())?,
-    };
-    let again = reply.copy(rt.alloc())?;
-    assert!(rt; again.is_same(&reply));
-    let serials = most_serials(rt.alloc())?.copy(rt.alloc())?;
-    assert_eq!(rt; serials.into_vec().capacity(), 100_000);
-    Ok(())
+    is_copied(&rt, all_dropped(rt.alloc()))
+}
+
+#[test]
+fn the_most_serials(rt: HostRuntime) -> Result<(), Fail> {
+    list_is_copied(&rt, most_serials(rt.alloc()), 100_000)
 }
 
 #[test]
 fn the_most_shown(rt: HostRuntime) -> Result<(), Fail> {
-    let view = most_shown(rt.alloc())?;
-    let again = view.copy(rt.alloc())?;
-    assert!(rt; again.is_same(&view));
-    Ok(())
+    is_copied(&rt, most_shown(rt.alloc()))
 }
 
 #[test]
 fn the_longest_transcript(rt: HostRuntime) -> Result<(), Fail> {
-    let transcript = longest_transcript(rt.alloc())?;
-    let again = transcript.copy(rt.alloc())?;
-    assert!(rt; again == transcript);
-    Ok(())
+    is_copied(&rt, longest_transcript(rt.alloc()))
+}
+
+fn longest_command(alloc: Global) -> Result<Command, Fail> {
+    Ok(Command::Inject {
+        driver: named("eth")?,
+        minor: 0,
+        addr: 5,
+        bytes: longest_bytes(alloc, 255)?,
+    })
+}
+
+#[test]
+fn the_longest_command(rt: HostRuntime) -> Result<(), Fail> {
+    is_copied(&rt, longest_command(rt.alloc()))
+}
+
+#[test]
+fn the_longest_line(rt: HostRuntime) -> Result<(), Fail> {
+    let bytes = longest_bytes(rt.alloc(), 0)?;
+    is_copied(&rt, queued(1, bytes))
 }
 
 #[test]
 fn the_longest_message(rt: HostRuntime) -> Result<(), Fail> {
-    let command = Command::Inject {
-        driver: named("eth")?,
-        minor: 0,
-        addr: 5,
-        bytes: longest_bytes(rt.alloc(), 255)?,
-    };
-    assert!(rt; command.copy(rt.alloc())? == command);
-    let line = queued(1, longest_bytes(rt.alloc(), 0)?)?;
-    assert!(rt; line.copy(rt.alloc())? == line);
-    let bytes = longest_bytes(rt.alloc(), 1)?.copy(rt.alloc())?;
-    assert_eq!(rt; bytes.into_vec().capacity(), 1_024);
-    Ok(())
+    list_is_copied(&rt, longest_bytes(rt.alloc(), 1), 1_024)
 }

@@ -1,7 +1,8 @@
 //! The line of each entry of a history, as it is written.
 
+use super::lists::alone;
+use super::spelling::is_written;
 use smx_samples::{Answer, Call, command_of, nothing_open, numbered, reply_of};
-use smx_text::write_transcript;
 use smx_types::{Entry, Fault, Items, Transcript};
 use std::alloc::Global;
 use std::process::Abort;
@@ -66,13 +67,25 @@ const FAULTS: [(Fault, &[u8]); 16] = [
 
 /// A transcript of this entry alone.
 pub fn of_one(alloc: Global, entry: Entry) -> Result<Transcript, Fail> {
-    let mut entries = Items::new(alloc);
-    entries.push(entry)?;
+    let entries = alone(alloc, entry)?;
     Ok(Transcript {
         drivers: Items::new(alloc),
         entries,
         view: nothing_open(alloc, 1, 1),
     })
+}
+
+// A transcript of what this process asks alone.
+fn asked(alloc: Global, number: u32, call: Call, answer: Answer) -> Result<Transcript, Fail> {
+    let process = numbered(number)?;
+    let command = command_of(alloc, call)?;
+    let reply = reply_of(alloc, answer)?;
+    let entry = Entry {
+        process,
+        command,
+        reply,
+    };
+    of_one(alloc, entry)
 }
 
 // A text whose one entry is this line.
@@ -83,38 +96,24 @@ fn with_line(alloc: Global, line: &[u8]) -> Result<Vec<u8>, Fail> {
     Ok(text)
 }
 
-fn entry_of(alloc: Global, number: u32, call: Call, answer: Answer) -> Result<Entry, Fail> {
-    let command = command_of(alloc, call)?;
-    let reply = reply_of(alloc, answer)?;
-    Ok(Entry {
-        process: numbered(number)?,
-        command,
-        reply,
-    })
-}
-
-fn writes(rt: &impl Abort, alloc: Global, entry: Entry, line: &[u8]) -> Result<(), Fail> {
-    let transcript = of_one(alloc, entry)?;
-    let text = with_line(alloc, line)?;
-    let written = write_transcript(alloc, &transcript)?;
-    assert_eq!(rt; written.as_slice(), text.as_slice());
-    Ok(())
+fn is_line_of(rt: &(impl AllocGlobal + Abort), row: EntryLine) -> Result<(), Fail> {
+    let (number, call, answer, line) = row;
+    let text = with_line(rt.alloc(), line)?;
+    is_written(rt, asked(rt.alloc(), number, call, answer), text.as_slice())
 }
 
 #[test]
 fn each_reply_has_its_words(rt: HostRuntime) -> Result<(), Fail> {
-    for (number, call, answer, line) in LINES {
-        let entry = entry_of(rt.alloc(), number, call, answer)?;
-        writes(&rt, rt.alloc(), entry, line)?;
+    for row in &LINES {
+        is_line_of(&rt, *row)?;
     }
     Ok(())
 }
 
 #[test]
 fn each_fault_has_its_words(rt: HostRuntime) -> Result<(), Fail> {
-    for (fault, line) in FAULTS {
-        let entry = entry_of(rt.alloc(), 0, Call::Exit, Answer::Refused(fault))?;
-        writes(&rt, rt.alloc(), entry, line)?;
+    for (fault, line) in &FAULTS {
+        is_line_of(&rt, (0, Call::Exit, Answer::Refused(*fault), *line))?;
     }
     Ok(())
 }

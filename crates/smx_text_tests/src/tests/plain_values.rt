@@ -1,6 +1,7 @@
 //! Names, processes and drivers at the edges of what they may be.
 
 use smx_types::{DriverKind, DriverSpec, Name, Process, SpecFault};
+use std::process::Abort;
 use std::test::Fail;
 
 const IP: DriverSpecNumbers = (4, 8, 3, 16);
@@ -19,38 +20,51 @@ fn driver(text: &str, numbers: DriverSpecNumbers) -> Option<DriverSpec> {
     })
 }
 
-#[test]
-fn names_and_processes(rt: HostRuntime) -> Result<(), Fail> {
-    assert_eq!(rt;
-        Name::new("ip").ok_or("a name")?.as_bytes(),
-        b"ip".as_slice()
-    );
-    assert_eq!(rt;
-        Name::new("abcdefg8").ok_or("a name")?.as_bytes(),
-        b"abcdefg8".as_slice()
-    );
-    for text in ["", "9a", "ninelette", "Ip", "i p", "ip\n"] {
-        assert!(rt; Name::new(text).is_none(), "{text}");
-    }
-    assert_eq!(rt; Process::new(63).ok_or("a process")?.get(), 63);
-    assert!(rt; Process::new(64).is_none());
+fn is_name(rt: &impl Abort, text: &str, bytes: &[u8]) -> Result<(), Fail> {
+    let name = Name::new(text).ok_or("a name")?;
+    assert_eq!(rt; name.as_bytes(), bytes);
     Ok(())
 }
 
 #[test]
+fn names_that_can_be_had(rt: HostRuntime) -> Result<(), Fail> {
+    is_name(&rt, "ip", b"ip")?;
+    is_name(&rt, "abcdefg8", b"abcdefg8")
+}
+
+const NO_NAMES: [&str; 6] = ["", "9a", "ninelette", "Ip", "i p", "ip\n"];
+
+#[test]
+fn names_that_are_none(rt: HostRuntime) {
+    for text in &NO_NAMES {
+        assert!(rt; Name::new(*text).is_none(), "{text}");
+    }
+}
+
+#[test]
+fn processes_below_64(rt: HostRuntime) -> Result<(), Fail> {
+    let last = Process::new(63).ok_or("a process")?;
+    assert_eq!(rt; last.get(), 63);
+    assert!(rt; Process::new(64).is_none());
+    Ok(())
+}
+
+const WANTS: [(DriverSpecNumbers, Result<(), SpecFault>); 8] = [
+    (IP, Ok(())),
+    ((64, 4096, 4095, 1024), Ok(())),
+    ((0, 8, 3, 16), Err(SpecFault::BadMinors)),
+    ((65, 8, 8, 0), Err(SpecFault::BadMinors)),
+    ((4, 8, 8, 16), Err(SpecFault::BadMarks)),
+    ((4, 4097, 3, 16), Err(SpecFault::BadMarks)),
+    ((4, 8, 3, 0), Err(SpecFault::BadMax)),
+    ((4, 8, 3, 1025), Err(SpecFault::BadMax)),
+];
+
+#[test]
 fn drivers_that_can_be_had(rt: HostRuntime) -> Result<(), Fail> {
-    let wants = [
-        (IP, Ok(())),
-        ((64, 4096, 4095, 1024), Ok(())),
-        ((0, 8, 3, 16), Err(SpecFault::BadMinors)),
-        ((65, 8, 8, 0), Err(SpecFault::BadMinors)),
-        ((4, 8, 8, 16), Err(SpecFault::BadMarks)),
-        ((4, 4097, 3, 16), Err(SpecFault::BadMarks)),
-        ((4, 8, 3, 0), Err(SpecFault::BadMax)),
-        ((4, 8, 3, 1025), Err(SpecFault::BadMax)),
-    ];
-    for (numbers, want) in wants {
-        assert_eq!(rt; driver("ip", numbers).ok_or("a name")?.check(), want);
+    for (numbers, want) in &WANTS {
+        let spec = driver("ip", *numbers).ok_or("a name")?;
+        assert_eq!(rt; spec.check(), *want);
     }
     Ok(())
 }

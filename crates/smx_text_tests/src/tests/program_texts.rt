@@ -1,7 +1,8 @@
 //! Programs and their texts.
 
+use super::lists::one_program;
+use super::spelling::{Spelled, is_spelled, is_written};
 use smx_samples::{ip, named};
-use smx_text::{read_programs, write_programs};
 use smx_types::{Command, Commands, Items, Programs};
 use std::alloc::Global;
 use std::test::Fail;
@@ -21,21 +22,14 @@ fn opening_and_closing(alloc: Global) -> Result<Commands, Fail> {
 
 // What that text spells.
 fn opens_and_closes(alloc: Global) -> Result<Programs, Fail> {
-    let mut drivers = Items::new(alloc);
-    drivers.push(ip()?)?;
-    let mut programs = Items::new(alloc);
-    programs.push(opening_and_closing(alloc)?)?;
-    Ok(Programs::new(drivers, programs)?)
+    let driver = ip()?;
+    let commands = opening_and_closing(alloc)?;
+    one_program(alloc, driver, commands)
 }
 
 #[test]
 fn reads_and_writes_programs(rt: HostRuntime) -> Result<(), Fail> {
-    let programs = opens_and_closes(rt.alloc())?;
-    let read = read_programs(rt.alloc(), OPENS_AND_CLOSES)?;
-    assert!(rt; read == programs);
-    let text = write_programs(rt.alloc(), &programs)?;
-    assert_eq!(rt; text.as_slice(), OPENS_AND_CLOSES);
-    Ok(())
+    is_spelled(&rt, opens_and_closes(rt.alloc()), OPENS_AND_CLOSES)
 }
 
 const MARKS_ACROSS_THE_JOIN: &[u8] = b"programs 1
@@ -125,23 +119,18 @@ close 1
 end
 ";
 
-fn written_again(alloc: Global, text: &[u8]) -> Result<Vec<u8>, Fail> {
-    let programs = read_programs(alloc, text)?;
-    Ok(write_programs(alloc, &programs)?)
-}
+const TEXTS: [&[u8]; 5] = [
+    OPENS_AND_CLOSES,
+    MARKS_ACROSS_THE_JOIN,
+    BINDINGS,
+    IDS_OF_THE_WRONG_KIND_OR_STREAM,
+    TWO_LEVELS_DOWN_AND_UP,
+];
 
 #[test]
 fn writes_what_it_reads(rt: HostRuntime) -> Result<(), Fail> {
-    let texts = [
-        OPENS_AND_CLOSES,
-        MARKS_ACROSS_THE_JOIN,
-        BINDINGS,
-        IDS_OF_THE_WRONG_KIND_OR_STREAM,
-        TWO_LEVELS_DOWN_AND_UP,
-    ];
-    for text in texts {
-        let written = written_again(rt.alloc(), text)?;
-        assert_eq!(rt; written.as_slice(), text);
+    for text in &TEXTS {
+        is_written(&rt, Programs::read(rt.alloc(), *text), *text)?;
     }
     Ok(())
 }

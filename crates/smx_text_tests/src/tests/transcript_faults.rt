@@ -1,124 +1,133 @@
 //! Lines of transcripts, and texts that are none.
 
+use smx_samples::with_lines;
 use smx_text::{Cause, TextFault, read_transcript};
+use std::alloc::Global;
+use std::process::Abort;
 use std::test::Fail;
 
-// The fault of a text whose second line is this.
-fn fault_of(rt: &HostRuntime, line: &[u8]) -> Result<Option<TextFault>, Fail> {
-    let mut text = Vec::from_slice(rt.alloc(), b"transcript 1\n".as_slice())?;
+// A text whose second line is this.
+fn with_line(alloc: Global, line: &[u8]) -> Result<Vec<u8>, Fail> {
+    let mut text = Vec::from_slice(alloc, b"transcript 1\n".as_slice())?;
     text.extend_from_slice(line)?;
     text.extend_from_slice(b"\nconfig\nnext 1 1\nend\n")?;
-    Ok(read_transcript(rt.alloc(), text.as_slice()).err())
+    Ok(text)
+}
+
+const REPLIES: [&[u8]; 8] = [
+    b"0 exit = done",
+    b"0 exit = done 1 2 3",
+    b"63 exit = fd 1 2",
+    b"0 clone a = took 4294967295",
+    b"0 read 0 = got 1 2 -",
+    b"0 dup 0 = id 0",
+    b"0 dup 0 = EMFILE",
+    b"0 dup 0 = EINVAL unrouted",
+];
+
+fn is_taken(rt: &(impl AllocGlobal + Abort), line: &[u8]) -> Result<(), Fail> {
+    let text = with_line(rt.alloc(), line)?;
+    let fault = read_transcript(rt.alloc(), text.as_slice()).err();
+    assert_eq!(rt; fault, None);
+    Ok(())
 }
 
 #[test]
 fn takes_each_reply(rt: HostRuntime) -> Result<(), Fail> {
-    let lines = [
-        b"0 exit = done".as_slice(),
-        b"0 exit = done 1 2 3".as_slice(),
-        b"63 exit = fd 1 2".as_slice(),
-        b"0 clone a = took 4294967295".as_slice(),
-        b"0 read 0 = got 1 2 -".as_slice(),
-        b"0 dup 0 = id 0".as_slice(),
-        b"0 dup 0 = EMFILE".as_slice(),
-        b"0 dup 0 = EINVAL unrouted".as_slice(),
-    ];
-    for line in lines {
-        assert_eq!(rt; fault_of(&rt, line)?, None);
+    for line in &REPLIES {
+        is_taken(&rt, *line)?;
     }
+    Ok(())
+}
+
+// The text is no transcript, for this cause at this line.
+fn is_refused(rt: &(impl AllocGlobal + Abort), text: &[u8], line: usize, cause: Cause) {
+    let fault = read_transcript(rt.alloc(), text).err();
+    assert_eq!(rt; fault, Some(TextFault { line, cause }));
+}
+
+const ILL_FORMED: [&[u8]; 22] = [
+    b"64 exit = done",
+    b"0 exit",
+    b"0 exit = ",
+    b"0 exit =",
+    b"0 exit= done",
+    b"0 exit =done",
+    b"0 exit  = done",
+    b"0 exit = done ",
+    b"0 exit = done 01",
+    b"0 exit = done = done",
+    b"0 = done",
+    b"0 inject eth 0 0 AA = done",
+    b"0 inject eth 0 0 aab = done",
+    b"0 read 0 = got 1 2 A0",
+    b"0 read 0 = got 1 2",
+    b"0 read 0 = EINVAL",
+    b"0 read 0 = EMFILE fd",
+    b"next 1 1",
+    b"fd 0 0 ip 0",
+    b"end",
+    b"process 0",
+    b"clone ip",
+];
+
+fn is_ill_formed(rt: &(impl AllocGlobal + Abort), line: &[u8]) -> Result<(), Fail> {
+    let text = with_line(rt.alloc(), line)?;
+    is_refused(rt, text.as_slice(), 2, Cause::Form);
     Ok(())
 }
 
 #[test]
 fn refuses_ill_formed_entries(rt: HostRuntime) -> Result<(), Fail> {
-    let lines = [
-        b"64 exit = done".as_slice(),
-        b"0 exit".as_slice(),
-        b"0 exit = ".as_slice(),
-        b"0 exit =".as_slice(),
-        b"0 exit= done".as_slice(),
-        b"0 exit =done".as_slice(),
-        b"0 exit  = done".as_slice(),
-        b"0 exit = done ".as_slice(),
-        b"0 exit = done 01".as_slice(),
-        b"0 exit = done = done".as_slice(),
-        b"0 = done".as_slice(),
-        b"0 inject eth 0 0 AA = done".as_slice(),
-        b"0 inject eth 0 0 aab = done".as_slice(),
-        b"0 read 0 = got 1 2 A0".as_slice(),
-        b"0 read 0 = got 1 2".as_slice(),
-        b"0 read 0 = EINVAL".as_slice(),
-        b"0 read 0 = EMFILE fd".as_slice(),
-        b"next 1 1".as_slice(),
-        b"fd 0 0 ip 0".as_slice(),
-        b"end".as_slice(),
-        b"process 0".as_slice(),
-        b"clone ip".as_slice(),
-    ];
-    let fault = TextFault {
-        line: 2,
-        cause: Cause::Form,
-    };
-    for line in lines {
-        assert_eq!(rt; fault_of(&rt, line)?, Some(fault));
+    for line in &ILL_FORMED {
+        is_ill_formed(&rt, *line)?;
     }
     Ok(())
 }
 
+const REFUSED: [(&[u8], usize, Cause); 8] = [
+    (b"", 1, Cause::Cut),
+    (b"programs 1\n", 1, Cause::Header),
+    (
+        b"transcript 1\ndriver ip mux 4 8 3 16\n0 clone ip = fd 0 0\n1 clone",
+        4,
+        Cause::Cut,
+    ),
+    (b"transcript 1\nconfig\nnext 1 1\n", 4, Cause::Cut),
+    (b"transcript 1\nconfig\nend\n", 3, Cause::Form),
+    (
+        b"transcript 1\nconfig\nnext 1 1\nnext 1 1\nend\n",
+        4,
+        Cause::Form,
+    ),
+    (
+        b"transcript 1\nconfig\nnext 1 1\nroute ip 5 1\nbind ip 9 0\nend\n",
+        5,
+        Cause::Form,
+    ),
+    (
+        b"transcript 1\nconfig\nnext 1 1\nend\n ",
+        5,
+        Cause::Trailing,
+    ),
+];
+
 #[test]
 fn names_the_line_at_fault(rt: HostRuntime) {
-    let refused = [
-        (b"".as_slice(), 1, Cause::Cut),
-        (b"programs 1\n".as_slice(), 1, Cause::Header),
-        (
-            b"transcript 1\ndriver ip mux 4 8 3 16\n0 clone ip = fd 0 0\n1 clone".as_slice(),
-            4,
-            Cause::Cut,
-        ),
-        (
-            b"transcript 1\nconfig\nnext 1 1\n".as_slice(),
-            4,
-            Cause::Cut,
-        ),
-        (b"transcript 1\nconfig\nend\n".as_slice(), 3, Cause::Form),
-        (
-            b"transcript 1\nconfig\nnext 1 1\nnext 1 1\nend\n".as_slice(),
-            4,
-            Cause::Form,
-        ),
-        (
-            b"transcript 1\nconfig\nnext 1 1\nroute ip 5 1\nbind ip 9 0\nend\n".as_slice(),
-            5,
-            Cause::Form,
-        ),
-        (
-            b"transcript 1\nconfig\nnext 1 1\nend\n ".as_slice(),
-            5,
-            Cause::Trailing,
-        ),
-    ];
-    for (text, line, cause) in refused {
-        assert_eq!(rt;
-            read_transcript(rt.alloc(), text).err(),
-            Some(TextFault { line, cause })
-        );
+    for (text, line, cause) in &REFUSED {
+        is_refused(&rt, *text, *line, *cause);
     }
 }
 
 #[test]
 fn refuses_the_65th_driver(rt: HostRuntime) -> Result<(), Fail> {
-    let mut text = Vec::from_slice(rt.alloc(), b"transcript 1\n".as_slice())?;
-    for _ in 0u32..65 {
-        text.extend_from_slice(b"driver ip mux 4 8 3 16\n")?;
-    }
-    text.extend_from_slice(b"config\nnext 1 1\nend\n")?;
-    let fault = TextFault {
-        line: 66,
-        cause: Cause::Many,
-    };
-    assert_eq!(rt;
-        read_transcript(rt.alloc(), text.as_slice()).err(),
-        Some(fault)
-    );
+    let text = with_lines(
+        rt.alloc(),
+        b"transcript 1\n",
+        b"driver ip mux 4 8 3 16\n",
+        65,
+        b"config\nnext 1 1\nend\n",
+    )?;
+    is_refused(&rt, text.as_slice(), 66, Cause::Many);
     Ok(())
 }

@@ -1,7 +1,7 @@
 //! Transcripts that are read and written again.
 
-use smx_text::{read_transcript, write_transcript};
-use std::alloc::Global;
+use super::spelling::{Spelled, is_written};
+use smx_types::Transcript;
 use std::test::Fail;
 
 const OPENS_AND_CLOSES: &[u8] = b"transcript 1
@@ -134,23 +134,18 @@ link 2 a 0 eth 0 plink
 end
 ";
 
-fn written_again(alloc: Global, text: &[u8]) -> Result<Vec<u8>, Fail> {
-    let transcript = read_transcript(alloc, text)?;
-    Ok(write_transcript(alloc, &transcript)?)
-}
+const TEXTS: [&[u8]; 5] = [
+    OPENS_AND_CLOSES,
+    MARKS_ACROSS_THE_JOIN,
+    WAYS_BY_ROUTE_AND_BINDING,
+    SIZES_AND_ENDS,
+    ORDER_OF_REFUSALS,
+];
 
 #[test]
 fn reads_and_writes_again(rt: HostRuntime) -> Result<(), Fail> {
-    let texts = [
-        OPENS_AND_CLOSES,
-        MARKS_ACROSS_THE_JOIN,
-        WAYS_BY_ROUTE_AND_BINDING,
-        SIZES_AND_ENDS,
-        ORDER_OF_REFUSALS,
-    ];
-    for text in texts {
-        let written = written_again(rt.alloc(), text)?;
-        assert_eq!(rt; written.as_slice(), text);
+    for text in &TEXTS {
+        is_written(&rt, Transcript::read(rt.alloc(), *text), *text)?;
     }
     Ok(())
 }

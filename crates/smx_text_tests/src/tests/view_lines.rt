@@ -1,26 +1,13 @@
 //! The groups of a view, as they are written.
 
+use super::spelling::is_written;
 use smx_samples::{items, named, nothing_open, open_on_ip};
-use smx_text::write_transcript;
 use smx_types::{
     BindingLine, ConfigView, FullLine, Items, LinkKind, LinkLine, Message, MessageLine, RouteLine,
     Side, Transcript,
 };
 use std::alloc::Global;
-use std::process::Abort;
 use std::test::Fail;
-
-// Writes a transcript of this view alone, which has to be this text.
-fn writes(rt: &impl Abort, alloc: Global, view: ConfigView, text: &[u8]) -> Result<(), Fail> {
-    let transcript = Transcript {
-        drivers: Items::new(alloc),
-        entries: Items::new(alloc),
-        view,
-    };
-    let written = write_transcript(alloc, &transcript)?;
-    assert_eq!(rt; written.as_slice(), text);
-    Ok(())
-}
 
 fn linked(id: u32, kind: LinkKind) -> Result<LinkLine, Fail> {
     Ok(LinkLine {
@@ -84,13 +71,7 @@ fn add_messages(alloc: Global, view: &mut ConfigView) -> Result<(), Fail> {
     Ok(())
 }
 
-#[test]
-fn writes_groups_in_order(rt: HostRuntime) -> Result<(), Fail> {
-    let mut view = nothing_open(rt.alloc(), 3, 6);
-    add_links(&mut view)?;
-    add_addresses(&mut view)?;
-    add_messages(rt.alloc(), &mut view)?;
-    let text = b"transcript 1
+const GROUPS: &[u8] = b"transcript 1
 config
 next 3 6
 fd 0 0 ip 0
@@ -103,5 +84,24 @@ msg eth 0 r 4 5 bc
 full eth 0 w
 end
 ";
-    writes(&rt, rt.alloc(), view, text.as_slice())
+
+fn add_groups(alloc: Global, view: &mut ConfigView) -> Result<(), Fail> {
+    add_links(view)?;
+    add_addresses(view)?;
+    add_messages(alloc, view)
+}
+
+fn with_groups(alloc: Global) -> Result<Transcript, Fail> {
+    let mut view = nothing_open(alloc, 3, 6);
+    add_groups(alloc, &mut view)?;
+    Ok(Transcript {
+        drivers: Items::new(alloc),
+        entries: Items::new(alloc),
+        view,
+    })
+}
+
+#[test]
+fn writes_groups_in_order(rt: HostRuntime) -> Result<(), Fail> {
+    is_written(&rt, with_groups(rt.alloc()), GROUPS)
 }

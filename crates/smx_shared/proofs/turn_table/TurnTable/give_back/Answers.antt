@@ -23,4 +23,4 @@ returns c =
     let word = c.front_word-front.ensures.word ∙ ap (λ (s : Recorded). front_of s.drivers s.history) c.system.ensures in
     let is = ready _ _ c.args.system _ r.turn.0 r.turn.1 r.same.0 r.same.1 r.more sound word c.exchange.ensures.3 in
     let told = published _ _ _ _ _ is c.store.ensures.2 in
-    record { table = c.store.ensures.0 ∙ c.exchange.ensures.0; rest = told.0; seen = told.1 }
+    record { table = c.store.ensures.0 ∙ c.exchange.ensures.0; rest = told.0; seen = told.1; counted = told.2 }

@@ -1,4 +1,4 @@
-use Rattle.std.proofs.Common.{ap, sym, subst, ◌∙◌}
+use Rattle.std.proofs.Common.{ap, sym, subst, ◌∙◌, ◌+◌}
 use Rattle.smx_shared.specs.SeatViews.{HasGrown}
 use Rattle.smx_shared.specs.declared.seat_view.SeatView.{SeatView}
 use Rattle.smx_shared.proofs.TellLemmas.{adds_by, answers_if}
@@ -11,6 +11,9 @@ give_back-requires-clause-more c =
     let seen = ap (λ s. s.history) out.system ∙ sym (ap (λ (v : SeatView). v.seen) out.turn.0) in
     let process = sym (ap (λ (v : SeatView). v.process) out.turn.0 ∙ c.requires.named.1) in
     adds_by c.apply-outcome.result c.take_out-system.result c.apply-outcome.new.self c.args.process _ _ c.args.command.now did.ok did.err seen process
+
+pub returns-clause-counted : goal.returns-clause-counted
+returns-clause-counted c = c.give_back.ensures.counted ∙ ap (λ (v : SeatView). v.looks + 1) c.take_out-system.ensures.turn.0
 
 pub returns-clause-answer : goal.returns-clause-answer
 returns-clause-answer c =
