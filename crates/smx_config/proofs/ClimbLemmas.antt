@@ -8,8 +8,14 @@ use Rattle.smx_types.specs.declared.stream.StreamId.{StreamId}
 use Rattle.smx_model.specs.Configuration.{same_stream}
 use Rattle.smx_model.specs.Paths.{AreLowersApart}
 use Rattle.smx_model.specs.Standing.{is_named, is_persistent, stands_within}
-use Rattle.smx_config.specs.Climbs.{stands_by}
 use Rattle.smx_config.proofs.AboveLemmas.{any_once, once_below}
+
+-- how a stream stands that no descriptor names: the link above it is persistent, or the controlling stream of that link
+-- stands within one climb less
+abbrev pub stands_by : List Descriptor → List Link → ℕ → Option Link → Bool
+stands_by fds links n None = false
+stands_by fds links zero (Some l) = is_persistent l
+stands_by fds links (suc n) (Some l) = is_persistent l || stands_within fds links n l.ctl
 
 swapped : (a b : Bool) → (a && b) ≡ (b && a)
 swapped true true = refl
@@ -24,7 +30,7 @@ between false true c = refl
 between false false c = refl
 
 -- one climb more finds what fewer find
-more : (fds : List Descriptor) (links : List Link) (n : ℕ) (s : StreamId) → stands_within fds links n s ≡ true → stands_within fds links (suc n) s ≡ true
+pub more : (fds : List Descriptor) (links : List Link) (n : ℕ) (s : StreamId) → stands_within fds links n s ≡ true → stands_within fds links (suc n) s ≡ true
 more fds links n s h = or_left _ _ h
 
 climbed : (named persistent less above : Bool) → (less ≡ true → above ≡ true) → ((named || (persistent || less)) || (not persistent && above)) ≡ (named || (persistent || above))
@@ -69,27 +75,3 @@ stands_is fds links (suc n) s h =
 pub named_stands : (fds : List Descriptor) (links : List Link) (n : ℕ) (s : StreamId) → is_named fds s ≡ true → stands_within fds links n s ≡ true
 named_stands fds links zero s h = or_left _ _ h
 named_stands fds links (suc n) s h = or_left _ _ (named_stands fds links n s h)
-
--- the same, case by case
-
-pub unlinked : (fds : List Descriptor) (links : List Link) (n : ℕ) (s : StreamId) → AreLowersApart links → is_named fds s ≡ false → None ≡ find (λ l. same_stream l.lower s) links → false ≡ stands_within fds links n s
-unlinked fds links n s apart named found = sym (stands_is fds links n s apart ∙ rw (named, sym found) refl)
-
-held_by : (fds : List Descriptor) (links : List Link) (n : ℕ) (l : Link) → is_persistent l ≡ true → stands_by fds links n (Some l) ≡ true
-held_by fds links zero l h = h
-held_by fds links (suc n) l h = or_left _ _ h
-
-pub held : (fds : List Descriptor) (links : List Link) (n : ℕ) (s : StreamId) (l : Link) → AreLowersApart links → is_named fds s ≡ false → Some l ≡ find (λ l. same_stream l.lower s) links → is_persistent l ≡ true → true ≡ stands_within fds links n s
-held fds links n s l apart named found h = sym (stands_is fds links n s apart ∙ rw (named, sym found) (held_by fds links n l h))
-
-pub not_within_none : (fds : List Descriptor) (links : List Link) (n : ℕ) (s : StreamId) (l : Link) → AreLowersApart links → is_named fds s ≡ false → Some l ≡ find (λ l. same_stream l.lower s) links → is_persistent l ≡ false → n ≡ 0 → false ≡ stands_within fds links n s
-not_within_none fds links zero s l apart named found h none = sym (stands_is fds links 0 s apart ∙ rw (named, sym found) h)
-not_within_none fds links (suc n) s l apart named found h none = absurd cc
-
-pub climbs : (fds : List Descriptor) (links : List Link) (n : ℕ) (s : StreamId) (l : Link) (above : Bool) → AreLowersApart links → is_named fds s ≡ false → Some l ≡ find (λ l. same_stream l.lower s) links → is_persistent l ≡ false → (n ≡ 0 → ⊥)
-    → above ≡ stands_within fds links (n - 1) l.ctl → above ≡ stands_within fds links n s
-climbs fds links zero s l above apart named found h some e = absurd (some refl)
-climbs fds links (suc n) s l above apart named found h some e =
-    let k : suc n - 1 ≡ n = omega arith in
-    let up : above ≡ stands_within fds links n l.ctl = rw k at e in
-    up ∙ sym (stands_is fds links (suc n) s apart ∙ rw (named, sym found, h) refl)

@@ -1,67 +1,142 @@
--- Descriptors rise by process and number, so there are at most 1,024.
-use Rattle.std.proofs.Common.{◌≡◌, ℕ, ◌+◌, ◌<◌, ◌≤◌, Bool, true, false, ◌&&◌, eqb, ltb, List, [], ◌∷◌, length, filter, sym, ◌∙◌, arith, inl, inr}
-use Rattle.std.specs.List.{list_any}
-use Rattle.std.proofs.lemmas.Bool.{cases_Bool, and_parts, and_from, or_parts, or_cases, ltb-true, ltb-false, eqb-true, eq-eqb, cases_order, false≢true}
+-- What the table of streams answers an open or a dup is what the command table says.
+use Rattle.std.proofs.Common.{◌≡◌, ℕ, zero, suc, ◌<◌, ◌≤◌, Bool, true, false, not, List, [], ◌∷◌, length, map, find, get_or, slice_get, Option, Some, None, Result, Ok, Err, refl, sym, ap, subst, ◌∙◌, arith, inl, inr}
+use Rattle.std.specs.Prelude.{◌⊎◌, IsOk, nat_le, nat_lt, slice_index}
+use Rattle.std.specs.List.{range_with_len}
+use Rattle.std.specs.Option.{option_map_or}
+use Rattle.std.proofs.lemmas.Bool.{cases_Bool}
+use Rattle.std.proofs.lemmas.Bool.Decides.{nat_tests}
+use Rattle.smx_types.specs.declared.command.Command.TheVariants as command
+use Rattle.smx_types.specs.declared.driver.DriverSpec.{DriverSpec}
+use Rattle.smx_types.specs.declared.reply.Fault.{Fault}
+use Rattle.smx_types.specs.declared.reply.Fault.TheVariants.{BadDescriptor, NoMinor, TooManyDescriptors}
+use Rattle.smx_types.specs.declared.reply.Reply.{Reply}
+use Rattle.smx_types.specs.declared.reply.Reply.TheVariants.{Fd}
 use Rattle.smx_types.specs.declared.stream.Descriptor.{Descriptor}
-use Rattle.smx_model.specs.Configuration.{is_fd, fd_before}
-use Rattle.smx_model.specs.Ordered.{with_inserted}
-use Rattle.smx_config.specs.ReservedRoom.{code_of, RiseFrom, IsFree}
+use Rattle.smx_types.specs.declared.stream.StreamId.{StreamId}
+use Rattle.smx_model.specs.Commands.{outcome, with_fd}
+use Rattle.smx_model.specs.Configuration.{Configuration}
+use Rattle.smx_model.specs.DriverList.{minors_of}
+use Rattle.smx_model.specs.Lookups.{driver_of, free_fd, free_minor, stream_of}
+use Rattle.smx_model.specs.Outcomes.{Outcome, or_fault}
+use Rattle.smx_model.specs.Standing.{exists, is_below}
+use Rattle.smx_streams.specs.StreamTables.{Answer, StreamTable, IsRefused, is_in_range, clone_answer, dup_answer, minor_answer, least_fd, least_minor, stream_at, exists as is_there}
+use Rattle.smx_streams.specs.declared.fault.StreamFault.{StreamFault}
+use Rattle.smx_streams.specs.declared.fault.StreamFault.TheVariants as stream_fault
+use Rattle.smx_config.specs.declared.lists.Lists.{Lists}
+use Rattle.smx_config.specs.declared.step_error.StepError.{StepError}
+use Rattle.smx_config.specs.declared.step_error.StepError.TheVariants as step_error
+use Rattle.smx_config.specs.ExistingStreams.{TellsExisting}
+use Rattle.smx_config.specs.ModelOfLists.{configuration_of}
+use Rattle.smx_config.specs.Refinement.{HasOutcomeOrNoMemory}
+use Rattle.smx_config.specs.StreamFaults.{as_step_error}
 
-before_less : (d e : Descriptor) → d.fd < 16 → e.fd < 16 → fd_before d e ≡ true → code_of d < code_of e
-before_less d e a b h = elim (or_cases (ltb d.process e.process) (eqb d.process e.process && ltb d.fd e.fd) h) [
-  | inl l ↦ let k = ltb-true d.process e.process l in omega arith
-  | inr r ↦ let p = and_parts (eqb d.process e.process) (ltb d.fd e.fd) r in let k = eqb-true d.process e.process p.0 in let l = ltb-true d.fd e.fd p.1 in omega arith
-]
+-- a refusal with this fault; or none, where memory is wanted
+abbrev pub IsRefusedBy : Outcome → StepError → Type 0
+IsRefusedBy o (step_error.Refused f) = o ≡ Err f
+IsRefusedBy o step_error.NoMemory = IsOk o
 
-not_before_more : (d e : Descriptor) → d.fd < 16 → e.fd < 16 → fd_before d e ≡ false → is_fd d.process d.fd e ≡ false → code_of e < code_of d
-not_before_more d e a b h other =
-    let p = or_parts (ltb d.process e.process) (eqb d.process e.process && ltb d.fd e.fd) h in
-    let le = ltb-false d.process e.process p.0 in
-    elim (cases_order d.process e.process) [
-      | inl same ↦
-          let t = eq-eqb d.process e.process same in
-          let l : ltb d.fd e.fd ≡ false = rw t at p.1 in
-          let le2 = ltb-false d.fd e.fd l in
-          elim (cases_order d.fd e.fd) [
-            | inl fd_same ↦ absurd (false≢true (sym other ∙ and_from (eqb e.process d.process) (eqb e.fd d.fd) (eq-eqb e.process d.process (sym same)) (eq-eqb e.fd d.fd (sym fd_same))))
-            | inr differ ↦ elim differ [ inl x ↦ omega arith | inr x ↦ omega arith ]
-          ]
-      | inr differ ↦ elim differ [ inl x ↦ omega arith | inr x ↦ omega arith ]
-    ]
+pub refused_by : (old new : Lists) (o : Outcome) (e : StepError) → configuration_of new ≡ configuration_of old → IsRefusedBy o e → HasOutcomeOrNoMemory old new o (Err e)
+refused_by old new o (step_error.Refused f) same h = (same, h)
+refused_by old new o step_error.NoMemory same h = (same, h)
 
-pub rise_placed : (n : ℕ) (fds : List Descriptor) (d : Descriptor) → n ≤ code_of d → d.fd < 16 → d.process < 64 → list_any (is_fd d.process d.fd) fds ≡ false → RiseFrom n fds → RiseFrom n (with_inserted fd_before fds d)
-rise_placed n [] d le fd process free h = (le, fd, omega arith)
-rise_placed n (e ∷ es) d le fd process free h = let p = or_parts (is_fd d.process d.fd e) (list_any (is_fd d.process d.fd) es) free in elim (cases_Bool (fd_before d e)) [
-  | inl t ↦ let less = before_less d e fd h.1 t in rw t (le, fd, (omega arith, h.1, h.2))
-  | inr f ↦ let more = not_before_more d e fd h.1 f p.0 in rw f (h.0, h.1, rise_placed (code_of e + 1) es d (omega arith) fd process p.1 h.2)
-]
+-- the outcome is that of the table's answer: one more descriptor, or the same refusal
+abbrev pub Agrees : Configuration → ℕ → Answer → Outcome → Type 0
+Agrees c process (Ok x) o = o ≡ Ok (with_fd c process x.0 x.1, Fd x.0 x.1.minor)
+Agrees c process (Err f) o = IsRefusedBy o (as_step_error f)
 
--- descriptors that rise are no more than their numbers allow
-pub rise_room : (n : ℕ) (fds : List Descriptor) → RiseFrom n fds → n + length fds ≤ 1024
-rise_room n [] h = omega arith
-rise_room n (e ∷ es) h = let r = rise_room (code_of e + 1) es h.2 in let a = h.0 in omega arith
+pub agrees_ok : (c : Configuration) (process : ℕ) (a : Answer) (o : Outcome) (x : ℕ × StreamId) → Agrees c process a o → a ≡ Ok x → o ≡ Ok (with_fd c process x.0 x.1, Fd x.0 x.1.minor)
+agrees_ok c process a o x h e = subst (λ (b : Answer). Agrees c process b o) e h
 
-length_placed : (fds : List Descriptor) (d : Descriptor) → length (with_inserted fd_before fds d) ≡ length fds + 1
-length_placed [] d = omega arith
-length_placed (e ∷ es) d = elim (cases_Bool (fd_before d e)) [ inl a ↦ rw a (omega arith) | inr b ↦ rw b (omega (arith, length_placed es d)) ]
+agrees_some : (c : Configuration) (process : ℕ) (a : Answer) (o : Outcome) → Agrees c process a o → IsOk a → IsOk o
+agrees_some c process (Ok x) o h some = rw h refl
+agrees_some c process (Err f) o h some = absurd cc
 
--- one more has room
-pub fd_room : (fds : List Descriptor) (d : Descriptor) → d.process < 64 → IsFree d.process d.fd fds → RiseFrom 0 fds → length fds < 1024
-fd_room fds d process free h = omega (arith, rise_room 0 (with_inserted fd_before fds d) (rise_placed 0 fds d (omega arith) free.below process free.free h), length_placed fds d)
+pub agrees_err : (c : Configuration) (process : ℕ) (a : Answer) (o : Outcome) (f : StreamFault) → Agrees c process a o → IsRefused a f → IsRefusedBy o (as_step_error f)
+agrees_err c process a o f h (inl e) = subst (λ (b : Answer). Agrees c process b o) e h
+agrees_err c process a o f h (inr both) = subst (λ (g : StreamFault). IsRefusedBy o (as_step_error g)) (sym both.0) (agrees_some c process a o h both.1)
 
-pub fds_rise_on : (fds new : List Descriptor) (d : Descriptor) → d.process < 64 → IsFree d.process d.fd fds → RiseFrom 0 fds → new ≡ with_inserted fd_before fds d → RiseFrom 0 new
-fds_rise_on fds new d process free h e = rw e (rise_placed 0 fds d (omega arith) free.below process free.free h)
+-- ---- each of them
 
-rise_less : (m n : ℕ) (fds : List Descriptor) → m ≤ n → RiseFrom n fds → RiseFrom m fds
-rise_less m n [] le h = omega arith
-rise_less m n (e ∷ es) le h = (let a = h.0 in omega arith, h.1, h.2)
+minors_at : (drivers : List DriverSpec) (n : ℕ) → slice_index (map (λ (d : DriverSpec). d.minors) drivers) n ≡ minors_of drivers n
+minors_at [] n = refl
+minors_at (d ∷ ds) zero = refl
+minors_at (d ∷ ds) (suc n) = minors_at ds n
 
-rise_filtered : (t : Descriptor → Bool) (n : ℕ) (fds : List Descriptor) → RiseFrom n fds → RiseFrom n (filter t fds)
-rise_filtered t n [] h = h
-rise_filtered t n (e ∷ es) h = elim (cases_Bool (t e)) [
-  | inl a ↦ rw a (h.0, h.1, rise_filtered t (code_of e + 1) es h.2)
-  | inr b ↦ rw b (rise_less n (code_of e + 1) (filter t es) (let a = h.0 in omega arith) (rise_filtered t (code_of e + 1) es h.2))
-]
+find_same : (f g : ℕ → Bool) (ns : List ℕ) → ((n : ℕ) → f n ≡ g n) → find f ns ≡ find g ns
+find_same f g [] h = refl
+find_same f g (n ∷ ns) h = elim (cases_Bool (g n)) [ inl t ↦ rw (h n, t) refl | inr u ↦ rw (h n, u) (find_same f g ns h) ]
 
-pub fds_rise_fewer : (t : Descriptor → Bool) (fds new : List Descriptor) → RiseFrom 0 fds → new ≡ filter t fds → RiseFrom 0 new
-fds_rise_fewer t fds new h e = rw e (rise_filtered t 0 fds h)
+least_same : (drivers : List DriverSpec) (c : Configuration) (t : StreamTable) (n : ℕ) → t.minors ≡ map (λ d. d.minors) drivers → TellsExisting drivers c t
+    → least_minor t n ≡ find (λ m. not (exists drivers c (record { driver = n; minor = m }))) (range_with_len 0 (minors_of drivers n))
+least_same drivers c t n minors told =
+    let count : slice_index t.minors n ≡ minors_of drivers n = ap (λ (xs : List ℕ). slice_index xs n) minors ∙ minors_at drivers n in
+    rw count (find_same (λ m. not (is_there t (record { driver = n; minor = m }))) (λ m. not (exists drivers c (record { driver = n; minor = m }))) (range_with_len 0 (minors_of drivers n)) (λ m. ap not (told (record { driver = n; minor = m }))))
+
+-- there is such a driver
+has_driver : (drivers : List DriverSpec) (t : StreamTable) (n : ℕ) → t.minors ≡ map (λ d. d.minors) drivers → n < length drivers → nat_le (length t.minors) n ≡ false
+has_driver drivers t n minors lt =
+    let len : length t.minors ≡ length drivers = ap length minors ∙ many drivers in
+    grind (arith, nat_tests) where
+      many : (ds : List DriverSpec) → length (map (λ (d : DriverSpec). d.minors) ds) ≡ length ds
+      many [] = refl
+      many (d ∷ ds) = ap suc (many ds)
+
+-- by what the answer is, and what the outcome is
+agree : (c : Configuration) (process : ℕ) (a b : Answer) (o p : Outcome) → a ≡ b → o ≡ p → Agrees c process b p → Agrees c process a o
+agree c process a b o p e f h = subst (λ (x : Answer). Agrees c process x o) (sym e) (subst (λ (x : Outcome). Agrees c process b x) (sym f) h)
+
+pub clone_agrees : (drivers : List DriverSpec) (c : Configuration) (t : StreamTable) (process n : ℕ) (name : List ℕ) → t.minors ≡ map (λ d. d.minors) drivers → TellsExisting drivers c t → t.fds ≡ c.fds
+    → driver_of drivers name ≡ Ok n → n < length drivers → Agrees c process (clone_answer t process n) (outcome drivers c process (command.OpenClone name))
+clone_agrees drivers c t process n name minors told same found lt = by (least_minor t n) (least_fd t.fds process) refl refl where
+  free : (o : Option ℕ) → least_minor t n ≡ o → free_minor drivers c n ≡ or_fault NoMinor o
+  free o e = ap (or_fault NoMinor) (sym (least_same drivers c t n minors told) ∙ e)
+
+  number : (k : Option ℕ) → least_fd t.fds process ≡ k → free_fd c process ≡ or_fault TooManyDescriptors k
+  number k e = ap (or_fault TooManyDescriptors) (ap (λ (fds : List Descriptor). least_fd fds process) (sym same) ∙ e)
+
+  by : (o k : Option ℕ) → least_minor t n ≡ o → least_fd t.fds process ≡ k → Agrees c process (clone_answer t process n) (outcome drivers c process (command.OpenClone name))
+  by None k e g = agree c process _ (Err stream_fault.NoMinor) _ (Err NoMinor) (rw (has_driver drivers t n minors lt, e) refl) (rw (found, free None e) refl) refl
+  by (Some m) None e g = agree c process _ (Err stream_fault.TooManyDescriptors) _ (Err TooManyDescriptors) (rw (has_driver drivers t n minors lt, e, g) refl) (rw (found, free (Some m) e, number None g) refl) refl
+  by (Some m) (Some k) e g = agree c process _ (Ok (k, record { driver = n; minor = m })) _ _ (rw (has_driver drivers t n minors lt, e, g) refl) (rw (found, free (Some m) e, number (Some k) g) refl) refl
+
+pub minor_agrees : (drivers : List DriverSpec) (c : Configuration) (t : StreamTable) (process n minor : ℕ) (name : List ℕ) → t.minors ≡ map (λ d. d.minors) drivers → t.fds ≡ c.fds
+    → driver_of drivers name ≡ Ok n → n < length drivers → nat_le (minors_of drivers n) minor ≡ false → is_below c.links (record { driver = n; minor = minor }) ≡ false
+    → Agrees c process (minor_answer t process n minor) (outcome drivers c process (command.OpenMinor name minor))
+minor_agrees drivers c t process n minor name minors same found lt few free = by (least_fd t.fds process) refl where
+  inside : is_in_range t.minors n minor ≡ true
+  inside = let count : slice_index t.minors n ≡ minors_of drivers n = ap (λ (xs : List ℕ). slice_index xs n) minors ∙ minors_at drivers n in grind (arith, nat_tests)
+
+  number : (k : Option ℕ) → least_fd t.fds process ≡ k → free_fd c process ≡ or_fault TooManyDescriptors k
+  number k e = ap (or_fault TooManyDescriptors) (ap (λ (fds : List Descriptor). least_fd fds process) (sym same) ∙ e)
+
+  by : (k : Option ℕ) → least_fd t.fds process ≡ k → Agrees c process (minor_answer t process n minor) (outcome drivers c process (command.OpenMinor name minor))
+  by None g = agree c process _ (Err stream_fault.TooManyDescriptors) _ (Err TooManyDescriptors) (rw (has_driver drivers t n minors lt, inside, g) refl) (rw (found, few, free, number None g) refl) refl
+  by (Some k) g = agree c process _ (Ok (k, record { driver = n; minor = minor })) _ _ (rw (has_driver drivers t n minors lt, inside, g) refl) (rw (found, few, free, number (Some k) g) refl) refl
+
+pub dup_agrees : (drivers : List DriverSpec) (c : Configuration) (t : StreamTable) (process fd : ℕ) → t.fds ≡ c.fds → Agrees c process (dup_answer t process fd) (outcome drivers c process (command.Dup fd))
+dup_agrees drivers c t process fd same = by (stream_at t.fds process fd) (least_fd t.fds process) refl refl where
+  number : (k : Option ℕ) → least_fd t.fds process ≡ k → free_fd c process ≡ or_fault TooManyDescriptors k
+  number k e = ap (or_fault TooManyDescriptors) (ap (λ (fds : List Descriptor). least_fd fds process) (sym same) ∙ e)
+
+  stream : (o : Option StreamId) → stream_at t.fds process fd ≡ o → stream_of c process fd ≡ or_fault BadDescriptor o
+  stream o e = ap (or_fault BadDescriptor) (ap (λ (fds : List Descriptor). stream_at fds process fd) (sym same) ∙ e)
+
+  by : (o : Option StreamId) (k : Option ℕ) → stream_at t.fds process fd ≡ o → least_fd t.fds process ≡ k → Agrees c process (dup_answer t process fd) (outcome drivers c process (command.Dup fd))
+  by None k e g = agree c process _ (Err stream_fault.BadDescriptor) _ (Err BadDescriptor) (rw e refl) (rw (stream None e) refl) refl
+  by (Some s) None e g = agree c process _ (Err stream_fault.TooManyDescriptors) _ (Err TooManyDescriptors) (rw (e, g) refl) (rw (stream (Some s) e, number None g) refl) refl
+  by (Some s) (Some k) e g = agree c process _ (Ok (k, s)) _ _ (rw (e, g) refl) (rw (stream (Some s) e, number (Some k) g) refl) refl
+
+-- a dup never wants memory
+pub dup_in_place : (t : StreamTable) (process fd : ℕ) → dup_answer t process fd ≡ Err stream_fault.NoMemory → ⊥
+dup_in_place t process fd h = by (stream_at t.fds process fd) (least_fd t.fds process) refl refl where
+  by : (o : Option StreamId) (k : Option ℕ) → stream_at t.fds process fd ≡ o → least_fd t.fds process ≡ k → ⊥
+  by None k e g = let x : ◌≡◌ {A = Answer} (Err stream_fault.BadDescriptor) (Err stream_fault.NoMemory) = rw e at h in absurd cc
+  by (Some s) None e g = let x : ◌≡◌ {A = Answer} (Err stream_fault.TooManyDescriptors) (Err stream_fault.NoMemory) = rw (e, g) at h in absurd cc
+  by (Some s) (Some k) e g = let x : ◌≡◌ {A = Answer} (Ok (k, s)) (Err stream_fault.NoMemory) = rw (e, g) at h in absurd cc
+
+pub dup_refused_in_place : (t : StreamTable) (process fd : ℕ) (f : StreamFault) → dup_answer t process fd ≡ Err f → as_step_error f ≡ step_error.NoMemory → ⊥
+dup_refused_in_place t process fd stream_fault.BadDescriptor h e = absurd cc
+dup_refused_in_place t process fd stream_fault.NoDriver h e = absurd cc
+dup_refused_in_place t process fd stream_fault.NoMinor h e = absurd cc
+dup_refused_in_place t process fd stream_fault.TooManyDescriptors h e = absurd cc
+dup_refused_in_place t process fd stream_fault.NoMemory h e = dup_in_place t process fd h

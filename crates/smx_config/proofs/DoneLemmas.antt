@@ -41,7 +41,7 @@ unlink_does drivers c process fd w k s x e there h = rw (e, there) h
 
 -- ---- without a few bindings, or with other routes, nothing is left to sweep
 
-all_fewer : {X : Type 0} (t u : X → Bool) (xs : List X) → list_all t xs ≡ true → list_all t (filter u xs) ≡ true
+pub all_fewer : {X : Type 0} (t u : X → Bool) (xs : List X) → list_all t xs ≡ true → list_all t (filter u xs) ≡ true
 all_fewer t u [] h = refl
 all_fewer t u (x ∷ xs) h = let p = and_parts (t x) (list_all t xs) h in elim (cases_Bool (u x)) [ inl a ↦ rw a (and_from _ _ p.0 (all_fewer t u xs p.1)) | inr b ↦ rw b (all_fewer t u xs p.1) ]
 
@@ -52,7 +52,7 @@ other_routes : (drivers : List DriverSpec) (c : Configuration) (routes : List Ro
 other_routes drivers c routes h = record { links = h.links; binds = h.binds; flow = h.flow; fulls = h.fulls }
 
 -- what the law of the model says: then no message is dropped
-abbrev IdleDropsNone : List DriverSpec → Type 0
+abbrev pub IdleDropsNone : List DriverSpec → Type 0
 IdleDropsNone drivers = (c new : Configuration) → IsSwept drivers new → new.flow ≡ c.flow → done_outcome drivers c new ≡ Ok (new, Done [])
 
 pub route_does : (drivers : List DriverSpec) (c : Configuration) (process fd addr id : ℕ) (s : StreamId) (new : Configuration) (r : Reply) → IdleDropsNone drivers → IsSwept drivers c → mux_stream drivers c process fd ≡ Ok s
@@ -64,7 +64,7 @@ route_does drivers c process fd addr id s new r idle clean e there is none = rw 
   rest = record c { routes = with_inserted route_before (filter (λ x. not (eqb x.driver s.driver && eqb x.addr addr)) c.routes) (record { driver = s.driver; addr = addr; id = id }) }
 
 -- the stream of a descriptor exists
-named_stream : (process fd : ℕ) (fds : List Descriptor) (s : StreamId) → option_map (λ (d : Descriptor). d.stream) (find (is_fd process fd) fds) ≡ Some s → is_named fds s ≡ true
+pub named_stream : (process fd : ℕ) (fds : List Descriptor) (s : StreamId) → option_map (λ (d : Descriptor). d.stream) (find (is_fd process fd) fds) ≡ Some s → is_named fds s ≡ true
 named_stream process fd [] s h = absurd cc
 named_stream process fd (d ∷ ds) s h = elim (cases_Bool (is_fd process fd d)) [
   | inl t ↦ let k : Some d.stream ≡ Some s = rw t at h in let same : d.stream ≡ s = cc in or_left _ _ (ap (λ (x : StreamId). same_stream x s) same ∙ stream_self s)

@@ -21,7 +21,7 @@ use Rattle.smx_config.proofs.AboveLemmas.{any_once, eqb_swap, once_below}
 abbrev pub ids_of : (Link → Bool) → List Link → List ℕ
 ids_of goes ls = map (λ l. l.id) (filter goes ls)
 
-abbrev IsIdsRising : List Link → Type 0
+abbrev pub IsIdsRising : List Link → Type 0
 IsIdsRising ls = IsRising (λ l k. nat_lt l.id k.id) ls
 
 -- an id that comes before all others is none of them
@@ -33,7 +33,7 @@ not_later goes l (k ∷ ls) h =
     elim (cases_Bool (goes k)) [ inl t ↦ rw (t, f) (not_later goes l ls h.1) | inr n ↦ rw n (not_later goes l ls h.1) ]
 
 -- the ids list those links that go, and no others
-abbrev IsListOf : (Link → Bool) → List ℕ → List Link → Type 0
+abbrev pub IsListOf : (Link → Bool) → List ℕ → List Link → Type 0
 IsListOf goes ids ls = AllByRecursion (λ l. is_listed ids l.id ≡ goes l) ls
 
 list_more : (goes : Link → Bool) (l : Link) (ids : List ℕ) (ls : List Link) → ComesBefore (λ l k. nat_lt l.id k.id) l ls → IsListOf goes ids ls → IsListOf goes (l.id ∷ ids) ls
@@ -49,14 +49,14 @@ goes_first goes l ls h = rw h refl
 stays_first : (goes : Link → Bool) (l : Link) (ls : List Link) → goes l ≡ false → ids_of goes (l ∷ ls) ≡ ids_of goes ls
 stays_first goes l ls h = rw h refl
 
-listed : (goes : Link → Bool) (ls : List Link) → IsIdsRising ls → IsListOf goes (ids_of goes ls) ls
+pub listed : (goes : Link → Bool) (ls : List Link) → IsIdsRising ls → IsListOf goes (ids_of goes ls) ls
 listed goes [] h = tt
 listed goes (l ∷ ls) h = elim (cases_Bool (goes l)) [
   | inl t ↦ (rw (t, eq-eqb l.id l.id refl) refl, subst (λ (ids : List ℕ). IsListOf goes ids ls) (sym (goes_first goes l ls t)) (list_more goes l (ids_of goes ls) ls h.0 (listed goes ls h.1)))
   | inr f ↦ (rw f (not_later goes l ls h.0), subst (λ (ids : List ℕ). IsListOf goes ids ls) (sym (stays_first goes l ls f)) (listed goes ls h.1))
 ]
 
-links_stay : (f g : Link → Bool) (ls : List Link) → AllByRecursion (λ l. f l ≡ g l) ls → filter (λ l. not (f l)) ls ≡ filter (λ l. not (g l)) ls
+pub links_stay : (f g : Link → Bool) (ls : List Link) → AllByRecursion (λ l. f l ≡ g l) ls → filter (λ l. not (f l)) ls ≡ filter (λ l. not (g l)) ls
 links_stay f g [] h = refl
 links_stay f g (l ∷ ls) h = elim (cases_Bool (g l)) [
   | inl t ↦ rw (h.0, t) (links_stay f g ls h.1)
@@ -73,7 +73,7 @@ found_same : (f g key : Link → Bool) (ls : List Link) → AllByRecursion (λ l
 found_same f g key [] h = refl
 found_same f g key (l ∷ ls) h = elim (cases_Bool (key l)) [ inl t ↦ rw t (h.0) | inr n ↦ rw n (found_same f g key ls h.1) ]
 
-any_kept : (key goes : Link → Bool) (ls : List Link) → list_any key (filter goes ls) ≡ list_any (λ l. key l && goes l) ls
+pub any_kept : (key goes : Link → Bool) (ls : List Link) → list_any key (filter goes ls) ≡ list_any (λ l. key l && goes l) ls
 any_kept key goes [] = refl
 any_kept key goes (l ∷ ls) = elim (cases_Bool (goes l)) [
   | inl t ↦ elim (cases_Bool (key l)) [ inl k ↦ rw (t, k) refl | inr k ↦ rw (t, k) (any_kept key goes ls) ]
@@ -137,6 +137,10 @@ all_stay goes (l ∷ ls) h = elim (cases_Bool (goes l)) [ inl t ↦ let k = rw t
 none_passes : {X : Type 0} (t : X → Bool) (xs : List X) → ((x : X) → t x ≡ false) → filter (λ x. not (t x)) xs ≡ xs
 none_passes {X = X} t [] h = refl
 none_passes {X = X} t (x ∷ xs) h = rw (h x) (ap (λ (zs : List X). x ∷ zs) (none_passes t xs h))
+
+-- no ids list no link
+pub none_listed : (ids : List ℕ) (ls : List Link) → ids ≡ [] → ls ≡ filter (λ l. not (is_one_of ids l)) ls
+none_listed ids ls none = sym (none_passes (is_one_of ids) ls (λ l. ap (λ (xs : List ℕ). is_one_of xs l) none))
 
 no_read : (p : Place) → is_read_below [] p ≡ false
 no_read p = elim (cases_Bool (same_side p.side side.Read)) [ inl t ↦ rw t refl | inr f ↦ rw f refl ]

@@ -1,5 +1,5 @@
 -- What the part of a step that is a command leaves, before messages move on. No public clause needs this.
-use Rattle.std.specs.Prelude.{◌≡◌, ℕ, ◌≤◌, List, length, Result, Ok, Err, IsOk}
+use Rattle.std.specs.Prelude.{◌≡◌, ℕ, ◌≤◌, List, length, map, Result, Ok, Err, IsOk}
 use Rattle.smx_types.specs.declared.command.Command.{Command}
 use Rattle.smx_types.specs.declared.driver.DriverSpec.{DriverSpec}
 use Rattle.smx_types.specs.declared.reply.Fault.{Fault}
@@ -11,6 +11,7 @@ use Rattle.smx_model.specs.Swept.{IsSwept}
 use Rattle.smx_config.specs.declared.lists.Lists.{Lists}
 use Rattle.smx_config.specs.declared.step_error.StepError.{StepError}
 use Rattle.smx_config.specs.declared.step_error.StepError.TheVariants as step_error
+use Rattle.smx_config.specs.ExistingStreams.{TellsExisting}
 use Rattle.smx_config.specs.FewMinors.{HaveFewMinors}
 use Rattle.smx_config.specs.ReservedRoom.{HasRoom}
 use Rattle.smx_config.specs.ModelOfLists.{configuration_of}
@@ -20,7 +21,9 @@ pub record StepInvariant (drivers : List DriverSpec) (l : Lists) : Type 0 where
   pub few : length drivers ≤ 64
   pub minors : HaveFewMinors drivers
   pub table : l.links.drivers ≡ length drivers
+  pub streams : l.streams.minors ≡ map (λ d. d.minors) drivers
   pub kept : HasRoom l
+  pub existing : TellsExisting drivers (configuration_of l) l.streams
   pub known : AreStreamsKnown drivers (configuration_of l)
   pub swept_already : IsSwept drivers (configuration_of l)
 

@@ -1,10 +1,12 @@
 -- What is reserved for a sweep. No public clause needs this.
-use Rattle.std.specs.Prelude.{◌≡◌, ℕ, ◌≤◌, List, [], length, vec_capacity}
+use Rattle.std.specs.Prelude.{◌≡◌, ℕ, ◌+◌, ◌≤◌, List, [], length, vec_capacity}
 use Rattle.smx_types.specs.declared.link.Link.{Link}
 use Rattle.smx_config.specs.declared.sweep.SweepReserve.{SweepReserve}
 
--- these serials, and room for the ids of the links and for all of them
-pub record IsReserveFor (links : List Link) (old : List ℕ) (r : SweepReserve) : Type 0 where
+-- these serials, and room for so many streams more and what may go with them, for the ids of the links and for all
+-- serials
+pub record IsReserveFor (streams : ℕ) (links : List Link) (old : List ℕ) (r : SweepReserve) : Type 0 where
+  pub touched_room : length r.touched.items + (streams + length links) ≤ vec_capacity r.touched
   pub orphaned_empty : r.orphaned.items ≡ []
   pub orphaned_room : length links ≤ vec_capacity r.orphaned
   pub old_serials : r.old.items ≡ old

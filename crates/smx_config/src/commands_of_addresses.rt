@@ -7,6 +7,7 @@ ghost use Rattle.smx_types.specs.declared.reply.Fault.TheVariants.{AddressInUse,
 ghost use Rattle.smx_model.specs.Configuration.{bind_before, route_before};
 ghost use Rattle.smx_model.specs.Ordered.{with_inserted};
 ghost use Rattle.smx_model.specs.Outcomes.{refuse};
+ghost use Rattle.smx_config.specs.ModelOfLists.{sizes_of};
 ghost use Rattle.smx_config.specs.ReservedRoom.{HasRoom};
 ghost use Rattle.smx_config.specs.Refinement.{StepInvariant, Refines, RefinesOrNoMemory};
 
@@ -53,7 +54,7 @@ pub fn bind(
     requires { StepInvariant drivers.now lists.old }
     ensures refines { RefinesOrNoMemory drivers.now lists.old lists.new process (command.Bind fd addr) result }
     ensures kept { HasRoom lists.new }
-    ensures drivers { lists.new.links.drivers ≡ lists.old.links.drivers }
+    ensures drivers { sizes_of lists.new ≡ sizes_of lists.old }
 {
     idle_changes_drop_none();
     let stream = mux_stream(drivers, lists, process, fd)?;
@@ -100,7 +101,7 @@ pub fn unbind(
     requires { StepInvariant drivers.now lists.old }
     ensures refines { Refines drivers.now lists.old lists.new process (command.Unbind fd) result }
     ensures kept { HasRoom lists.new }
-    ensures drivers { lists.new.links.drivers ≡ lists.old.links.drivers }
+    ensures drivers { sizes_of lists.new ≡ sizes_of lists.old }
 {
     idle_changes_drop_none();
     let stream = mux_stream(drivers, lists, process, fd)?;
@@ -156,7 +157,7 @@ pub fn route(
     requires { StepInvariant drivers.now lists.old }
     ensures refines { RefinesOrNoMemory drivers.now lists.old lists.new process (command.Route fd addr id) result }
     ensures kept { HasRoom lists.new }
-    ensures drivers { lists.new.links.drivers ≡ lists.old.links.drivers }
+    ensures drivers { sizes_of lists.new ≡ sizes_of lists.old }
 {
     idle_changes_drop_none();
     let stream = mux_stream(drivers, lists, process, fd)?;
@@ -193,7 +194,7 @@ pub fn unroute(
     requires { StepInvariant drivers.now lists.old }
     ensures refines { Refines drivers.now lists.old lists.new process (command.Unroute fd addr) result }
     ensures kept { HasRoom lists.new }
-    ensures drivers { lists.new.links.drivers ≡ lists.old.links.drivers }
+    ensures drivers { sizes_of lists.new ≡ sizes_of lists.old }
 {
     idle_changes_drop_none();
     let stream = mux_stream(drivers, lists, process, fd)?;

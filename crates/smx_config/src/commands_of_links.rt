@@ -6,7 +6,7 @@ ghost use Rattle.smx_types.specs.declared.command.Command.TheVariants as command
 ghost use Rattle.smx_types.specs.declared.command.Which.TheVariants as which;
 ghost use Rattle.smx_model.specs.Commands.{link_outcome};
 ghost use Rattle.smx_config.specs.ReservedRoom.{HasRoom};
-ghost use Rattle.smx_config.specs.ModelOfLists.{configuration_of};
+ghost use Rattle.smx_config.specs.ModelOfLists.{configuration_of, sizes_of};
 ghost use Rattle.smx_config.specs.UnlinkTargets.{may_have_links, may_unlink, is_target, are_there, unlinks};
 ghost use Rattle.smx_config.specs.Refinement.{StepInvariant, RefinesOrNoMemory, HasOutcomeOrNoMemory};
 
@@ -42,12 +42,13 @@ fn link_as(
     requires { StepInvariant drivers.now lists.old }
     ensures refines { HasOutcomeOrNoMemory lists.old lists.new (link_outcome drivers.now (configuration_of lists.old) process fd arg kind) result }
     ensures kept { HasRoom lists.new }
-    ensures drivers { lists.new.links.drivers ≡ lists.old.links.drivers }
+    ensures drivers { sizes_of lists.new ≡ sizes_of lists.old }
 {
     let upper = stream_of(lists, process, fd)?;
     let lower = stream_of(lists, process, arg)?;
     check_upper(drivers, lists, upper)?;
     let id = lists.links.try_link(upper, lower, kind)?;
+    lists.streams.hold(lower);
     Ok(Reply::Id(id))
 }
 
@@ -61,7 +62,7 @@ pub fn link(
     requires { StepInvariant drivers.now lists.old }
     ensures refines { RefinesOrNoMemory drivers.now lists.old lists.new process (command.Link fd arg) result }
     ensures kept { HasRoom lists.new }
-    ensures drivers { lists.new.links.drivers ≡ lists.old.links.drivers }
+    ensures drivers { sizes_of lists.new ≡ sizes_of lists.old }
 {
     link_as(drivers, lists, process, fd, arg, LinkKind::Ordinary)
 }
@@ -76,7 +77,7 @@ pub fn plink(
     requires { StepInvariant drivers.now lists.old }
     ensures refines { RefinesOrNoMemory drivers.now lists.old lists.new process (command.Plink fd arg) result }
     ensures kept { HasRoom lists.new }
-    ensures drivers { lists.new.links.drivers ≡ lists.old.links.drivers }
+    ensures drivers { sizes_of lists.new ≡ sizes_of lists.old }
 {
     link_as(drivers, lists, process, fd, arg, LinkKind::Persistent)
 }
@@ -160,13 +161,14 @@ fn unlink_as(
     requires { StepInvariant drivers.now lists.old }
     ensures refines { HasOutcomeOrNoMemory lists.old lists.new (unlinks drivers.now (configuration_of lists.old) process fd which kind) result }
     ensures kept { HasRoom lists.new }
-    ensures drivers { lists.new.links.drivers ≡ lists.old.links.drivers }
+    ensures drivers { sizes_of lists.new ≡ sizes_of lists.old }
 {
     let stream = mux_stream(drivers, lists, process, fd)?;
     check_targets(lists, which, kind, stream)?;
+    lists.links.is_sound();
     let gone = targets(alloc, &lists.links, which, kind, stream)?;
-    let room = reserve_for_sweep(alloc, lists)?;
-    remove_links(lists, &gone);
+    let mut room = reserve_for_sweep(alloc, lists, gone.len())?;
+    remove_links(lists, &gone, &mut room.touched);
     Ok(sweep_and_reply(drivers, lists, room))
 }
 
@@ -181,7 +183,7 @@ pub fn unlink(
     requires { StepInvariant drivers.now lists.old }
     ensures refines { RefinesOrNoMemory drivers.now lists.old lists.new process (command.Unlink fd which) result }
     ensures kept { HasRoom lists.new }
-    ensures drivers { lists.new.links.drivers ≡ lists.old.links.drivers }
+    ensures drivers { sizes_of lists.new ≡ sizes_of lists.old }
 {
     let kind = LinkKind::Ordinary;
     unlink_as(alloc, drivers, lists, process, fd, which, kind)
@@ -198,7 +200,7 @@ pub fn punlink(
     requires { StepInvariant drivers.now lists.old }
     ensures refines { RefinesOrNoMemory drivers.now lists.old lists.new process (command.Punlink fd which) result }
     ensures kept { HasRoom lists.new }
-    ensures drivers { lists.new.links.drivers ≡ lists.old.links.drivers }
+    ensures drivers { sizes_of lists.new ≡ sizes_of lists.old }
 {
     let kind = LinkKind::Persistent;
     unlink_as(alloc, drivers, lists, process, fd, which, kind)

@@ -9,7 +9,7 @@ ghost use Rattle.smx_model.specs.DriverList.{max_of};
 ghost use Rattle.smx_model.specs.Queues.{is_full};
 ghost use Rattle.smx_model.specs.Removal.{without_queues_at};
 ghost use Rattle.smx_config.specs.ReservedRoom.{HasRoom};
-ghost use Rattle.smx_config.specs.ModelOfLists.{configuration_of};
+ghost use Rattle.smx_config.specs.ModelOfLists.{configuration_of, sizes_of};
 ghost use Rattle.smx_config.specs.Refinement.{StepInvariant, HasOutcome, HasOutcomeOrNoMemory, Refines, RefinesOrNoMemory};
 ghost use Rattle.smx_config.specs.Sending.{may_send};
 
@@ -67,7 +67,7 @@ fn send(
     requires { StepInvariant drivers.now lists.old }
     ensures refines { HasOutcomeOrNoMemory lists.old lists.new (send_outcome drivers.now (configuration_of lists.old) place addr bytes.now) result }
     ensures kept { HasRoom lists.new }
-    ensures drivers { lists.new.links.drivers ≡ lists.old.links.drivers }
+    ensures drivers { sizes_of lists.new ≡ sizes_of lists.old }
 {
     check_send(drivers, lists, place, bytes)?;
     let bytes = bytes.copy(alloc)?;
@@ -88,7 +88,7 @@ fn receive(drivers: &[DriverSpec], lists: &mut Lists, place: Place) -> Result<Re
     requires { StepInvariant drivers.now lists.old }
     ensures refines { HasOutcome lists.old lists.new (receive_outcome drivers.now (configuration_of lists.old) place) result }
     ensures kept { HasRoom lists.new }
-    ensures drivers { lists.new.links.drivers ≡ lists.old.links.drivers }
+    ensures drivers { sizes_of lists.new ≡ sizes_of lists.old }
 {
     refuse(Fault::Empty, first_addr(&lists.flow, place).is_none())?;
     match leave(drivers, lists, place) {
@@ -113,7 +113,7 @@ pub fn write(
     requires { StepInvariant drivers.now lists.old }
     ensures refines { RefinesOrNoMemory drivers.now lists.old lists.new process (Write fd addr bytes.now) result }
     ensures kept { HasRoom lists.new }
-    ensures drivers { lists.new.links.drivers ≡ lists.old.links.drivers }
+    ensures drivers { sizes_of lists.new ≡ sizes_of lists.old }
 {
     let stream = free_stream(lists, process, fd)?;
     let place = Place {
@@ -132,7 +132,7 @@ pub fn read(
     requires { StepInvariant drivers.now lists.old }
     ensures refines { Refines drivers.now lists.old lists.new process (Read fd) result }
     ensures kept { HasRoom lists.new }
-    ensures drivers { lists.new.links.drivers ≡ lists.old.links.drivers }
+    ensures drivers { sizes_of lists.new ≡ sizes_of lists.old }
 {
     let stream = free_stream(lists, process, fd)?;
     let place = Place {
@@ -174,8 +174,9 @@ fn flush_fulls(fulls: &mut Vec<Place>, stream: StreamId, sides: Sides)
 fn empty(lists: &mut Lists, stream: StreamId, sides: Sides)
     requires { HasRoom lists.old }
     ensures value { configuration_of lists.new ≡ without_queues_at (configuration_of lists.old) (λ p. same_stream p.stream stream && is_side sides p.side) }
+    ensures streams { lists.new.streams ≡ lists.old.streams }
     ensures kept { HasRoom lists.new }
-    ensures drivers { lists.new.links.drivers ≡ lists.old.links.drivers }
+    ensures drivers { sizes_of lists.new ≡ sizes_of lists.old }
 {
     flush_flow(&mut lists.flow, stream, sides);
     flush_fulls(&mut lists.fulls, stream, sides);
@@ -192,10 +193,10 @@ pub fn flush(
     requires { StepInvariant drivers.now lists.old }
     ensures refines { RefinesOrNoMemory drivers.now lists.old lists.new process (Flush fd sides) result }
     ensures kept { HasRoom lists.new }
-    ensures drivers { lists.new.links.drivers ≡ lists.old.links.drivers }
+    ensures drivers { sizes_of lists.new ≡ sizes_of lists.old }
 {
     let stream = free_stream(lists, process, fd)?;
-    let room = reserve_for_sweep(alloc, lists)?;
+    let room = reserve_for_sweep(alloc, lists, 0)?;
     empty(lists, stream, sides);
     Ok(sweep_and_reply(drivers, lists, room))
 }
@@ -213,7 +214,7 @@ pub fn inject(
     requires { StepInvariant drivers.now lists.old }
     ensures refines { RefinesOrNoMemory drivers.now lists.old lists.new process (Inject name.now minor addr bytes.now) result }
     ensures kept { HasRoom lists.new }
-    ensures drivers { lists.new.links.drivers ≡ lists.old.links.drivers }
+    ensures drivers { sizes_of lists.new ≡ sizes_of lists.old }
 {
     let stream = leaf_stream(drivers, lists, name, minor)?;
     let place = Place {
@@ -233,7 +234,7 @@ pub fn transmit(
     requires { StepInvariant drivers.now lists.old }
     ensures refines { Refines drivers.now lists.old lists.new process (Transmit name.now minor) result }
     ensures kept { HasRoom lists.new }
-    ensures drivers { lists.new.links.drivers ≡ lists.old.links.drivers }
+    ensures drivers { sizes_of lists.new ≡ sizes_of lists.old }
 {
     let stream = leaf_stream(drivers, lists, name, minor)?;
     let place = Place {

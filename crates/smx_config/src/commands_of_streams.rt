@@ -1,50 +1,39 @@
 //! Opening, sharing and closing streams.
 
-ghost use Rattle.std.specs.Prelude.{◌≡◌, ◌<◌, ◌==◌, not, filter, length, vec_capacity};
+ghost use Rattle.std.specs.Prelude.{◌≡◌, ◌≢◌, ℕ, ◌+◌, ◌<◌, ◌≤◌, false, true, length, vec_capacity, Some, Ok, Err};
+ghost use Rattle.std.specs.List.{list_any};
 ghost use Rattle.smx_types.specs.declared.command.Command.TheVariants.{OpenClone, OpenMinor, Dup, Close, CloseAll};
-ghost use Rattle.smx_model.specs.Commands.{with_fd};
-ghost use Rattle.smx_model.specs.Configuration.{is_fd, fd_before};
-ghost use Rattle.smx_model.specs.Ordered.{with_inserted};
-ghost use Rattle.smx_config.specs.ReservedRoom.{HasRoom, IsFree};
-ghost use Rattle.smx_config.specs.ModelOfLists.{configuration_of};
-ghost use Rattle.smx_config.specs.Refinement.{StepInvariant, Refines, RefinesOrNoMemory};
+ghost use Rattle.smx_types.specs.declared.limits.TheConstants.{MAX_DESCRIPTORS};
+ghost use Rattle.smx_types.specs.declared.reply.Reply.TheVariants.{Fd};
+ghost use Rattle.smx_types.specs.declared.stream.StreamId.{StreamId};
+ghost use Rattle.smx_model.specs.Configuration.{same_stream};
+ghost use Rattle.smx_streams.specs.StreamTables.{is_last, stream_at};
+ghost use Rattle.smx_config.specs.Closing.{closing};
+ghost use Rattle.smx_config.specs.declared.step_error.StepError.TheVariants as step_error;
+ghost use Rattle.smx_config.specs.ModelOfLists.{configuration_of, sizes_of};
+ghost use Rattle.smx_config.specs.Refinement.{StepInvariant, RefinesOrNoMemory, HasOutcomeOrNoMemory};
+ghost use Rattle.smx_config.specs.ReservedRoom.{HasRoom};
 
-use crate::descriptors::is_fd;
 use crate::driver_specs::{driver_of, minors_of};
-use crate::insertion_index::fd_insertion_index;
 use crate::lists::Lists;
-use crate::lookups::{free_fd, free_minor, stream_of};
+use crate::lookups::stream_of;
 use crate::refuse::refuse;
+use crate::standing::tells_existing;
 use crate::step_error::StepError;
 use crate::sweep::{reserve_for_sweep, sweep_and_reply};
-use smx_types::{Descriptor, DriverSpec, Fault, Name, Process, Reply, StreamId};
+use smx_model::laws_of_steps::idle_changes_drop_none;
+use smx_streams::Streams;
+use smx_types::{DriverSpec, Fault, MAX_DESCRIPTORS, Name, Process, Reply, Serials, StreamId};
 use std::alloc::Global;
 
-#[tactic(auto, using(crate::proofs::InsertionLemmas::index_le, crate::proofs::InsertionLemmas::insert_at_index))]
-fn put_fd(fds: &mut Vec<Descriptor>, fd: Descriptor)
-    requires { length fds.old.items < vec_capacity fds.old }
-    ensures fds { fds.new.items ≡ with_inserted fd_before fds.old.items fd }
-    ensures capacity { vec_capacity fds.new ≡ vec_capacity fds.old }
+// A descriptor and its stream, as a reply.
+fn fd_reply(opened: (u32, StreamId)) -> Reply
+    ensures { result ≡ Fd opened.0 opened.1.minor }
 {
-    let i = fd_insertion_index(fds, &fd);
-    let _ = fds.insert(i, fd);
-}
-
-// One more descriptor, which the process has not open.
-fn add_fd(lists: &mut Lists, process: Process, fd: u32, stream: StreamId)
-    requires kept { HasRoom lists.old }
-    requires free { IsFree process fd lists.old.fds.items }
-    ensures value { configuration_of lists.new ≡ with_fd (configuration_of lists.old) process fd stream }
-    ensures kept { HasRoom lists.new }
-    ensures drivers { lists.new.links.drivers ≡ lists.old.links.drivers }
-{
-    let _number = process.get();
-    let d = Descriptor {
-        process,
-        fd,
-        stream,
-    };
-    put_fd(&mut lists.fds, d);
+    Reply::Fd {
+        fd: opened.0,
+        minor: u32::from(opened.1.minor),
+    }
 }
 
 pub fn open_clone(
@@ -52,24 +41,15 @@ pub fn open_clone(
     lists: &mut Lists,
     process: Process,
     name: &Name,
-) -> Result<Reply, Fault>
+) -> Result<Reply, StepError>
     requires { StepInvariant drivers.now lists.old }
-    ensures refines { Refines drivers.now lists.old lists.new process (OpenClone name.now) result }
+    ensures refines { RefinesOrNoMemory drivers.now lists.old lists.new process (OpenClone name.now) result }
     ensures kept { HasRoom lists.new }
-    ensures drivers { lists.new.links.drivers ≡ lists.old.links.drivers }
+    ensures drivers { sizes_of lists.new ≡ sizes_of lists.old }
 {
     let driver = driver_of(drivers, name)?;
-    let minor = free_minor(drivers, lists, driver)?;
-    let fd = free_fd(lists, process)?;
-    let stream = StreamId {
-        driver: driver as u8,
-        minor,
-    };
-    add_fd(lists, process, fd, stream);
-    Ok(Reply::Fd {
-        fd,
-        minor: u32::from(minor),
-    })
+    let opened = lists.streams.open_clone(process, driver as u8)?;
+    Ok(fd_reply(opened))
 }
 
 pub fn open_minor(
@@ -78,11 +58,11 @@ pub fn open_minor(
     process: Process,
     name: &Name,
     minor: u32,
-) -> Result<Reply, Fault>
+) -> Result<Reply, StepError>
     requires { StepInvariant drivers.now lists.old }
-    ensures refines { Refines drivers.now lists.old lists.new process (OpenMinor name.now minor) result }
+    ensures refines { RefinesOrNoMemory drivers.now lists.old lists.new process (OpenMinor name.now minor) result }
     ensures kept { HasRoom lists.new }
-    ensures drivers { lists.new.links.drivers ≡ lists.old.links.drivers }
+    ensures drivers { sizes_of lists.new ≡ sizes_of lists.old }
 {
     let driver = driver_of(drivers, name)?;
     refuse(Fault::NoMinor, minors_of(drivers, driver) <= minor)?;
@@ -91,9 +71,8 @@ pub fn open_minor(
         minor: minor as u8,
     };
     refuse(Fault::Below, lists.links.is_below(stream))?;
-    let fd = free_fd(lists, process)?;
-    add_fd(lists, process, fd, stream);
-    Ok(Reply::Fd { fd, minor })
+    let opened = lists.streams.open_minor(process, stream.driver, minor)?;
+    Ok(fd_reply(opened))
 }
 
 pub fn dup(
@@ -101,40 +80,58 @@ pub fn dup(
     lists: &mut Lists,
     process: Process,
     fd: u32,
-) -> Result<Reply, Fault>
+) -> Result<Reply, StepError>
     requires { StepInvariant drivers.now lists.old }
-    ensures refines { Refines drivers.now lists.old lists.new process (Dup fd) result }
+    ensures refines { RefinesOrNoMemory drivers.now lists.old lists.new process (Dup fd) result }
+    ensures in_place { result ≢ Err step_error.NoMemory }
     ensures kept { HasRoom lists.new }
-    ensures drivers { lists.new.links.drivers ≡ lists.old.links.drivers }
+    ensures drivers { sizes_of lists.new ≡ sizes_of lists.old }
 {
-    let stream = stream_of(lists, process, fd)?;
-    let fd = free_fd(lists, process)?;
-    add_fd(lists, process, fd, stream);
-    Ok(Reply::Fd {
-        fd,
-        minor: u32::from(stream.minor),
-    })
+    let opened = lists.streams.dup(process, fd)?;
+    Ok(fd_reply(opened))
 }
 
-// Whether it is not the process's descriptor of this number.
-fn is_other(process: Process, fd: u32, d: &Descriptor) -> bool
-    ensures { result ≡ not (is_fd process fd d.now) }
+// Closes a descriptor whose stream stays: nothing goes with it, so no memory is taken.
+fn close_shared(
+    alloc: Global,
+    drivers: &[DriverSpec],
+    lists: &mut Lists,
+    process: Process,
+    fd: u32,
+) -> Reply
+    requires invariant { StepInvariant drivers.now lists.old }
+    requires stays { is_last lists.old.streams process fd ≡ false }
+    ensures outcome { closing drivers.now (configuration_of lists.old) process fd ≡ Ok (configuration_of lists.new, result) }
+    ensures kept { HasRoom lists.new }
+    ensures drivers { sizes_of lists.new ≡ sizes_of lists.old }
 {
-    !is_fd(process, fd, d)
+    idle_changes_drop_none();
+    let _stays = lists.streams.close_fd(process, fd);
+    tells_existing(drivers, lists);
+    Reply::Done {
+        dropped: Serials::new(alloc),
+    }
 }
 
-fn drop_fd(fds: &mut Vec<Descriptor>, process: Process, fd: u32)
-    ensures fds { fds.new.items ≡ filter (λ d. not (is_fd process fd d)) fds.old.items }
-    ensures capacity { vec_capacity fds.new ≡ vec_capacity fds.old }
+// Closes the last descriptor of a stream that isn't held, and sweeps what goes with it.
+fn close_last(
+    alloc: Global,
+    drivers: &[DriverSpec],
+    lists: &mut Lists,
+    process: Process,
+    fd: u32,
+    stream: StreamId,
+) -> Result<Reply, StepError>
+    requires invariant { StepInvariant drivers.now lists.old }
+    requires there { stream_at lists.old.streams.fds process fd ≡ Some stream }
+    ensures outcome { HasOutcomeOrNoMemory lists.old lists.new (closing drivers.now (configuration_of lists.old) process fd) result }
+    ensures kept { HasRoom lists.new }
+    ensures drivers { sizes_of lists.new ≡ sizes_of lists.old }
 {
-    fds.retain(|d| is_other(process, fd, d));
-}
-
-fn drop_process(fds: &mut Vec<Descriptor>, process: Process)
-    ensures fds { fds.new.items ≡ filter (λ d. not (d.process == process)) fds.old.items }
-    ensures capacity { vec_capacity fds.new ≡ vec_capacity fds.old }
-{
-    fds.retain(|d| d.process != process);
+    let mut room = reserve_for_sweep(alloc, lists, 1)?;
+    let _closed = lists.streams.close_fd(process, fd);
+    room.touched.push_reserved(stream);
+    Ok(sweep_and_reply(drivers, lists, room))
 }
 
 pub fn close(
@@ -147,12 +144,28 @@ pub fn close(
     requires { StepInvariant drivers.now lists.old }
     ensures refines { RefinesOrNoMemory drivers.now lists.old lists.new process (Close fd) result }
     ensures kept { HasRoom lists.new }
-    ensures drivers { lists.new.links.drivers ≡ lists.old.links.drivers }
+    ensures drivers { sizes_of lists.new ≡ sizes_of lists.old }
 {
-    let _stream = stream_of(lists, process, fd)?;
-    let room = reserve_for_sweep(alloc, lists)?;
-    drop_fd(&mut lists.fds, process, fd);
-    Ok(sweep_and_reply(drivers, lists, room))
+    let stream = stream_of(lists, process, fd)?;
+    if lists.streams.is_last(process, fd) {
+        return close_last(alloc, drivers, lists, process, fd, stream);
+    }
+    Ok(close_shared(alloc, drivers, lists, process, fd))
+}
+
+// Puts the streams of a process's descriptors to those that a change touches.
+fn touch_each(streams: &Streams, process: Process, touched: &mut Vec<StreamId>)
+    requires { length touched.old.items + MAX_DESCRIPTORS ≤ vec_capacity touched.old }
+    ensures named { (n : ℕ) (s : StreamId) → n < MAX_DESCRIPTORS → stream_at streams.now.fds process n ≡ Some s
+        → list_any (same_stream s) touched.new.items ≡ true }
+    ensures few { length touched.new.items ≤ length touched.old.items + MAX_DESCRIPTORS }
+    ensures capacity { vec_capacity touched.new ≡ vec_capacity touched.old }
+{
+    for fd in 0..MAX_DESCRIPTORS {
+        if let Some(stream) = streams.stream_of(process, fd) {
+            touched.push_reserved(stream);
+        }
+    }
 }
 
 pub fn close_all(
@@ -164,9 +177,10 @@ pub fn close_all(
     requires { StepInvariant drivers.now lists.old }
     ensures refines { RefinesOrNoMemory drivers.now lists.old lists.new process CloseAll result }
     ensures kept { HasRoom lists.new }
-    ensures drivers { lists.new.links.drivers ≡ lists.old.links.drivers }
+    ensures drivers { sizes_of lists.new ≡ sizes_of lists.old }
 {
-    let room = reserve_for_sweep(alloc, lists)?;
-    drop_process(&mut lists.fds, process);
+    let mut room = reserve_for_sweep(alloc, lists, MAX_DESCRIPTORS as usize)?;
+    touch_each(&lists.streams, process, &mut room.touched);
+    lists.streams.close_process(process);
     Ok(sweep_and_reply(drivers, lists, room))
 }

@@ -18,11 +18,12 @@ use crate::fault::ConfigFault;
 use crate::lists::Lists;
 use crate::perform::perform;
 use crate::second_reply::room_for_reply;
-use crate::settling::settle_after;
+use crate::settling::finish_step;
 use crate::show::{
     binding_lines, descriptor_lines, full_lines, link_lines, message_lines, route_lines,
 };
-use crate::shown_lines::{are_links_shown, are_shown};
+use crate::shown_lines::{are_fds_shown, are_links_shown, are_shown};
+use crate::standing::tells_existing;
 use crate::step_error::StepError;
 use smx_model::laws_of_steps::{
     commands_keep, empty_is_kept, outcomes_are_sound, refusals_change_nothing,
@@ -65,6 +66,7 @@ fn count_links(lists: &Lists) -> u32
 impl Config {
     /// The empty configuration over these drivers, which keeps the allocator for all that it makes. Refused where there are more than 64; or else at the least number
     /// of a driver that can't be had, or that has the name of an earlier one; or else for want of memory.
+    #[tactic(auto, using(crate::proofs::KeptLemmas::tells_again))]
     pub fn new(alloc: Global, drivers: &[DriverSpec]) -> Result<Config, ConfigFault>
         ensures drivers { IfOk result (λ c. (c.drivers ≡ drivers.now) × IsDriverList drivers.now) }
         ensures empty { IfOk result (λ c. c.configuration ≡ empty) }
@@ -72,10 +74,11 @@ impl Config {
     {
         empty_is_kept();
         check_drivers(drivers)?;
-        let Ok(drivers) = Vec::from_slice(alloc, drivers) else {
+        let Ok(lists) = empty_lists(alloc, drivers) else {
             return Err(ConfigFault::NoMemory);
         };
-        let Ok(lists) = empty_lists(alloc, drivers.len()) else {
+        tells_existing(drivers, &lists);
+        let Ok(drivers) = Vec::from_slice(alloc, drivers) else {
             return Err(ConfigFault::NoMemory);
         };
         Ok(Config {
@@ -88,6 +91,7 @@ impl Config {
     /// Does a command of a process: its reply and the new configuration are those of the command table. A fault for a
     /// reply changes nothing, and neither does want of memory. `dup`, `unbind`, `unroute`, `read`, `transmit` and every
     /// refusal take no memory, so they are always answered.
+    #[tactic(auto, using(crate::proofs::KeptLemmas::table_stays, crate::proofs::KeptLemmas::minors_stay, crate::proofs::KeptLemmas::tells_again))]
     pub fn step(&mut self, process: Process, command: &Command) -> Result<Reply, NoMemory>
         // What it does.
         ensures drivers { self.new.drivers ≡ self.old.drivers }
@@ -104,7 +108,7 @@ impl Config {
         refusals_change_nothing();
         match perform(self.alloc, &self.drivers, &mut self.lists, process, command) {
             Ok(reply) => {
-                settle_after(&self.drivers, &mut self.lists, command);
+                finish_step(&self.drivers, &mut self.lists, command);
                 Ok(reply)
             }
             Err(StepError::Refused(fault)) => Ok(Reply::Fault(fault)),
@@ -150,7 +154,7 @@ impl Config {
     {
         let alloc = self.alloc;
         let drivers: &[DriverSpec] = &self.drivers;
-        let fds = descriptor_lines(alloc, drivers, &self.lists.fds)?;
+        let fds = descriptor_lines(alloc, drivers, &self.lists.streams)?;
         let links = link_lines(alloc, drivers, &self.lists.links)?;
         let binds = binding_lines(alloc, drivers, &self.lists.binds)?;
         let routes = route_lines(alloc, drivers, &self.lists.routes)?;
@@ -175,7 +179,7 @@ impl Config {
         let drivers: &[DriverSpec] = &self.drivers;
         shown.next_id == self.lists.links.next_id()
             && shown.next_serial == self.lists.next_serial
-            && are_shown(drivers, &self.lists.fds, shown.fds.as_slice())
+            && are_fds_shown(drivers, &self.lists.streams, shown.fds.as_slice())
             && are_links_shown(drivers, &self.lists.links, shown.links.as_slice())
             && are_shown(drivers, &self.lists.binds, shown.binds.as_slice())
             && are_shown(drivers, &self.lists.routes, shown.routes.as_slice())
@@ -209,6 +213,7 @@ impl Config {
     }
 
     /// The same configuration again, by the allocator that this one has. Fails only for want of memory.
+    #[tactic(auto, using(crate::proofs::KeptLemmas::tells_again))]
     pub fn copy(&self) -> Result<Config, NoMemory>
         ensures { IfOk result (λ c. c ≡ self.now) }
     {

@@ -1,15 +1,16 @@
 //! The same lists again.
 
-ghost use Rattle.std.specs.Prelude.{◌≡◌, ◌≤◌, length, vec_capacity, IfOk};
-ghost use Rattle.smx_types.specs.declared.limits.TheConstants.{MAX_DRIVERS};
+ghost use Rattle.std.specs.Prelude.{◌≡◌, ◌≤◌, length, map, vec_capacity, IfOk};
 ghost use Rattle.smx_model.specs.Configuration.{empty};
+ghost use Rattle.smx_model.specs.DriverList.{IsDriverList};
 ghost use Rattle.smx_config.specs.ModelOfLists.{configuration_of};
 ghost use Rattle.smx_config.specs.ReservedRoom.{HasRoom};
 
 use crate::lists::Lists;
 use crate::queued_message::QueuedMessage;
 use smx_links::LinkTable;
-use smx_types::{Descriptor, NoMemory, Place};
+use smx_streams::Streams;
+use smx_types::{DriverSpec, NoMemory, Place};
 use std::alloc::Global;
 
 fn copy_message(alloc: Global, queued: &QueuedMessage) -> Result<QueuedMessage, NoMemory>
@@ -29,16 +30,6 @@ fn copy_flow(alloc: Global, flow: &[QueuedMessage]) -> Result<Vec<QueuedMessage>
     Ok(made)
 }
 
-// With room for all that a configuration can have.
-fn copy_fds(alloc: Global, fds: &[Descriptor]) -> Result<Vec<Descriptor>, NoMemory>
-    ensures fds { IfOk result (λ v. v.items ≡ fds.now) }
-    ensures room { IfOk result (λ v. 1024 ≤ vec_capacity v) }
-{
-    let mut made = Vec::with_capacity(alloc, 1024)?;
-    made.extend_from_slice(fds)?;
-    Ok(made)
-}
-
 // With room for so many.
 fn copy_fulls(alloc: Global, fulls: &[Place], room: usize) -> Result<Vec<Place>, NoMemory>
     ensures marks { IfOk result (λ v. v.items ≡ fulls.now) }
@@ -49,15 +40,17 @@ fn copy_fulls(alloc: Global, fulls: &[Place], room: usize) -> Result<Vec<Place>,
     Ok(made)
 }
 
+#[tactic(auto, using(crate::proofs::KeptLemmas::held_again))]
 pub fn copy_lists(alloc: Global, lists: &Lists) -> Result<Lists, NoMemory>
     requires { HasRoom lists.now }
     ensures value { IfOk result (λ l. configuration_of l ≡ configuration_of lists.now) }
-    ensures drivers { IfOk result (λ l. l.links.drivers ≡ lists.now.links.drivers) }
+    ensures links { IfOk result (λ l. l.links ≡ lists.now.links) }
+    ensures streams { IfOk result (λ l. l.streams ≡ lists.now.streams) }
     ensures room { IfOk result HasRoom }
 {
     let flow = copy_flow(alloc, &lists.flow)?;
     Ok(Lists {
-        fds: copy_fds(alloc, &lists.fds)?,
+        streams: lists.streams.copy()?,
         links: lists.links.copy()?,
         binds: Vec::from_slice(alloc, &lists.binds)?,
         routes: Vec::from_slice(alloc, &lists.routes)?,
@@ -67,16 +60,32 @@ pub fn copy_lists(alloc: Global, lists: &Lists) -> Result<Lists, NoMemory>
     })
 }
 
-// Empty lists, for so many drivers.
-pub fn empty_lists(alloc: Global, drivers: usize) -> Result<Lists, NoMemory>
-    requires { drivers ≤ MAX_DRIVERS }
+// How many minors each driver has.
+#[tactic(auto, using(crate::proofs::DriverListLemmas::minors_within))]
+fn minors_of_each(alloc: Global, drivers: &[DriverSpec]) -> Result<Vec<u8>, NoMemory>
+    requires { IsDriverList drivers.now }
+    ensures { IfOk result (λ v. v.items ≡ map (λ d. d.minors) drivers.now) }
+{
+    let mut minors = Vec::with_capacity(alloc, drivers.len())?;
+    for driver in drivers {
+        minors.push(driver.minors as u8)?;
+    }
+    Ok(minors)
+}
+
+// Empty lists, for these drivers.
+#[tactic(auto, using(crate::proofs::KeptLemmas::held_at_first))]
+pub fn empty_lists(alloc: Global, drivers: &[DriverSpec]) -> Result<Lists, NoMemory>
+    requires { IsDriverList drivers.now }
     ensures value { IfOk result (λ l. configuration_of l ≡ empty) }
-    ensures drivers { IfOk result (λ l. l.links.drivers ≡ drivers) }
+    ensures drivers { IfOk result (λ l. l.links.drivers ≡ length drivers.now) }
+    ensures minors { IfOk result (λ l. l.streams.minors ≡ map (λ d. d.minors) drivers.now) }
     ensures room { IfOk result HasRoom }
 {
+    let minors = minors_of_each(alloc, drivers)?;
     Ok(Lists {
-        fds: Vec::with_capacity(alloc, 1024)?,
-        links: LinkTable::new(alloc, drivers)?,
+        streams: Streams::new(alloc, &minors)?,
+        links: LinkTable::new(alloc, drivers.len())?,
         binds: Vec::new(alloc),
         routes: Vec::new(alloc),
         flow: Vec::new(alloc),

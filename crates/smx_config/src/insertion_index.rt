@@ -1,23 +1,12 @@
 //! Lists that are kept in order: where an element goes, before the first that comes after it.
 
 ghost use Rattle.std.specs.Prelude.{◌≡◌, nat_lt};
-ghost use Rattle.smx_model.specs.Configuration.{fd_before, bind_before, route_before, place_before, queued_before};
+ghost use Rattle.smx_model.specs.Configuration.{bind_before, route_before, place_before, queued_before};
 ghost use Rattle.smx_config.specs.InsertionIndexes.{insertion_index};
 
 use crate::queued_message::QueuedMessage;
-use crate::streams::{bind_before, fd_before, place_before, route_before};
-use smx_types::{Binding, Descriptor, Place, Route};
-
-pub fn fd_insertion_index(fds: &[Descriptor], d: &Descriptor) -> usize
-    ensures { result ≡ insertion_index fd_before d.now fds.now }
-{
-    for (i, e) in fds.iter().enumerate() {
-        if fd_before(d, e) {
-            return i;
-        }
-    }
-    fds.len()
-}
+use crate::streams::{bind_before, place_before, route_before};
+use smx_types::{Binding, Place, Route};
 
 pub fn bind_insertion_index(binds: &[Binding], b: &Binding) -> usize
     ensures { result ≡ insertion_index bind_before b.now binds.now }

@@ -4,6 +4,7 @@ ghost use Rattle.std.specs.Prelude.{◌≡◌, ◌≢◌, IsTrue, Err};
 ghost use Rattle.smx_config.specs.declared.step_error.StepError.TheVariants as step_error;
 ghost use Rattle.smx_config.specs.Machine.{takes_no_memory};
 ghost use Rattle.smx_config.specs.Refinement.{StepInvariant, RefinesOrNoMemory, as_step_error};
+ghost use Rattle.smx_config.specs.ModelOfLists.{sizes_of};
 ghost use Rattle.smx_config.specs.ReservedRoom.{HasRoom};
 
 use crate::commands_of_addresses::{bind, route, unbind, unroute};
@@ -36,14 +37,14 @@ pub fn perform(
     ensures refines { RefinesOrNoMemory drivers.now lists.old lists.new process command.now result }
     ensures in_place { IsTrue (takes_no_memory command.now) → result ≢ Err step_error.NoMemory }
     ensures room { HasRoom lists.new }
-    ensures drivers { lists.new.links.drivers ≡ lists.old.links.drivers }
+    ensures drivers { sizes_of lists.new ≡ sizes_of lists.old }
 {
     match command {
-        Command::OpenClone { driver } => as_step_error(open_clone(drivers, lists, process, driver)),
+        Command::OpenClone { driver } => open_clone(drivers, lists, process, driver),
         Command::OpenMinor { driver, minor } => {
-            as_step_error(open_minor(drivers, lists, process, driver, *minor))
+            open_minor(drivers, lists, process, driver, *minor)
         }
-        Command::Dup { fd } => as_step_error(dup(drivers, lists, process, *fd)),
+        Command::Dup { fd } => dup(drivers, lists, process, *fd),
         Command::Close { fd } => close(alloc, drivers, lists, process, *fd),
         Command::CloseAll => close_all(alloc, drivers, lists, process),
         Command::Link { fd, arg } => link(drivers, lists, process, *fd, *arg),

@@ -8,7 +8,7 @@ ghost use Rattle.smx_model.specs.DriverList.{high_of, low_of};
 ghost use Rattle.smx_model.specs.Ordered.{with_inserted, without_first};
 ghost use Rattle.smx_model.specs.Queues.{bytes_at, first_message, with_mark, after_leaving, after_arrival};
 ghost use Rattle.smx_config.specs.ReservedRoom.{HasRoom};
-ghost use Rattle.smx_config.specs.ModelOfLists.{configuration_of};
+ghost use Rattle.smx_config.specs.ModelOfLists.{configuration_of, sizes_of};
 
 use crate::driver_specs::{high_of, low_of};
 use crate::insertion_index::{mark_insertion_index, message_insertion_index};
@@ -152,7 +152,7 @@ pub fn leave(drivers: &[DriverSpec], lists: &mut Lists, place: Place) -> Option<
     ensures first { result ≡ first_message lists.old.flow.items place }
     ensures value { configuration_of lists.new ≡ after_leaving drivers.now (configuration_of lists.old) place }
     ensures kept { HasRoom lists.new }
-    ensures drivers { lists.new.links.drivers ≡ lists.old.links.drivers }
+    ensures drivers { sizes_of lists.new ≡ sizes_of lists.old }
     ensures one_less { IfSome result (λ _. length lists.new.flow.items + 1 ≡ length lists.old.flow.items) }
     ensures capacity { vec_capacity lists.new.flow ≡ vec_capacity lists.old.flow }
     ensures marks_capacity { vec_capacity lists.new.fulls ≡ vec_capacity lists.old.fulls }
@@ -170,7 +170,7 @@ pub fn arrive(drivers: &[DriverSpec], lists: &mut Lists, place: Place, message: 
     requires marks_room { length lists.old.flow.items < vec_capacity lists.old.fulls }
     ensures value { configuration_of lists.new ≡ after_arrival drivers.now (configuration_of lists.old) place message }
     ensures kept { HasRoom lists.new }
-    ensures drivers { lists.new.links.drivers ≡ lists.old.links.drivers }
+    ensures drivers { sizes_of lists.new ≡ sizes_of lists.old }
 {
     put_message(&mut lists.flow, QueuedMessage::new(place, message));
     let full = becomes_full(drivers, &lists.flow, &lists.fulls, place);

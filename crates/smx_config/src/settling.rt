@@ -6,7 +6,8 @@ ghost use Rattle.smx_model.specs.KeptConfigurations.{IsSound};
 ghost use Rattle.smx_model.specs.Queues.{first_message};
 ghost use Rattle.smx_model.specs.Settling.{place_below, place_above, next_place, next_open_place, is_movable, IsSettled};
 ghost use Rattle.smx_model.specs.Settling.{after_move, after_settling};
-ghost use Rattle.smx_config.specs.ModelOfLists.{configuration_of};
+ghost use Rattle.smx_config.specs.ExistingStreams.{TellsExisting};
+ghost use Rattle.smx_config.specs.ModelOfLists.{configuration_of, sizes_of};
 ghost use Rattle.smx_config.specs.Moves.{open_place, is_same, is_open, IsLeastMove};
 ghost use Rattle.smx_config.specs.ReservedRoom.{HasRoom};
 
@@ -14,9 +15,10 @@ use crate::driver_specs::is_mux;
 use crate::lists::Lists;
 use crate::queued_message::QueuedMessage;
 use crate::queues::{arrive, is_full, leave};
+use crate::standing::tells_existing;
 use crate::streams::same_place;
 use smx_links::LinkTable;
-use smx_model::laws_of_steps::moves_keep_soundness;
+use smx_model::laws_of_steps::{moves_keep_soundness, settling_suffices};
 use smx_types::{Binding, Command, DriverSpec, Place, Route, Side, StreamId};
 
 // A message goes from one place to another.
@@ -154,7 +156,7 @@ fn move_on(drivers: &[DriverSpec], lists: &mut Lists, next: Move)
     requires open { next_open_place drivers.now (configuration_of lists.old) next.from ≡ Some next.to }
     ensures value { configuration_of lists.new ≡ after_move drivers.now (configuration_of lists.old) next.from }
     ensures kept { HasRoom lists.new }
-    ensures drivers { lists.new.links.drivers ≡ lists.old.links.drivers }
+    ensures drivers { sizes_of lists.new ≡ sizes_of lists.old }
 {
     if let Some(message) = leave(drivers, lists, next.from) {
         arrive(drivers, lists, next.to, message);
@@ -167,7 +169,7 @@ fn settle(drivers: &[DriverSpec], lists: &mut Lists)
     requires sound { IsSound drivers.now (configuration_of lists.old) }
     ensures value { configuration_of lists.new ≡ after_settling drivers.now (configuration_of lists.old) }
     ensures kept { HasRoom lists.new }
-    ensures drivers { lists.new.links.drivers ≡ lists.old.links.drivers }
+    ensures drivers { sizes_of lists.new ≡ sizes_of lists.old }
 {
     moves_keep_soundness();
     let mut left = lists.flow.len() as u128 * drivers.len() as u128;
@@ -205,15 +207,30 @@ fn is_open(command: &Command) -> bool
 }
 
 // Settles after a command, without a look at the messages where it opened or shared a stream.
-pub fn settle_after(drivers: &[DriverSpec], lists: &mut Lists, command: &Command)
+fn settle_after(drivers: &[DriverSpec], lists: &mut Lists, command: &Command)
     requires kept { HasRoom lists.old }
     requires sound { IsSound drivers.now (configuration_of lists.old) }
     requires open { IsTrue (is_open command.now) → IsSettled drivers.now (configuration_of lists.old) }
     ensures value { configuration_of lists.new ≡ after_settling drivers.now (configuration_of lists.old) }
     ensures kept { HasRoom lists.new }
-    ensures drivers { lists.new.links.drivers ≡ lists.old.links.drivers }
+    ensures drivers { sizes_of lists.new ≡ sizes_of lists.old }
 {
     if !is_open(command) {
         settle(drivers, lists);
     }
+}
+
+// Settles after a command; from then on the table of streams tells again which streams exist.
+pub fn finish_step(drivers: &[DriverSpec], lists: &mut Lists, command: &Command)
+    requires kept { HasRoom lists.old }
+    requires sound { IsSound drivers.now (configuration_of lists.old) }
+    requires open { IsTrue (is_open command.now) → IsSettled drivers.now (configuration_of lists.old) }
+    ensures value { configuration_of lists.new ≡ after_settling drivers.now (configuration_of lists.old) }
+    ensures kept { HasRoom lists.new }
+    ensures existing { TellsExisting drivers.now (configuration_of lists.new) lists.new.streams }
+    ensures drivers { sizes_of lists.new ≡ sizes_of lists.old }
+{
+    settling_suffices();
+    settle_after(drivers, lists, command);
+    tells_existing(drivers, lists);
 }

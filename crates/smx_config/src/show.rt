@@ -8,6 +8,7 @@ ghost use Rattle.smx_model.specs.Views.{view_of_message, view_of_full};
 
 use crate::queued_message::QueuedMessage;
 use smx_links::LinkTable;
+use smx_streams::Streams;
 use smx_types::{
     Binding, BindingLine, Descriptor, DescriptorLine, DriverSpec, FullLine, Link, LinkLine,
     MessageLine, Name, NoMemory, Place, Route, RouteLine,
@@ -99,17 +100,20 @@ pub fn full_line(drivers: &[DriverSpec], p: &Place) -> FullLine
     }
 }
 
+#[tactic(auto, using(crate::proofs::WalkLemmas::all_left, crate::proofs::WalkLemmas::left_all, crate::proofs::WalkLemmas::numbered, crate::proofs::WalkLemmas::lines_more, crate::proofs::WalkLemmas::fewer_left))]
 pub fn descriptor_lines(
     alloc: Global,
     drivers: &[DriverSpec],
-    fds: &[Descriptor],
+    streams: &Streams,
 ) -> Result<Vec<DescriptorLine>, NoMemory>
-    requires { All (λ d. d.stream.driver < length drivers.now) fds.now }
-    ensures { IfOk result (λ v. v.items ≡ map (view_of_fd drivers.now) fds.now) }
+    requires { All (λ d. d.stream.driver < length drivers.now) streams.now.fds }
+    ensures { IfOk result (λ v. v.items ≡ map (view_of_fd drivers.now) streams.now.fds) }
 {
-    let mut lines = Vec::with_capacity(alloc, fds.len())?;
-    for d in fds {
-        lines.push(descriptor_line(drivers, d))?;
+    let mut lines = Vec::new(alloc);
+    let mut next = streams.first_fd();
+    while let Some(d) = next {
+        lines.push(descriptor_line(drivers, &d))?;
+        next = streams.next_fd(d.process, d.fd + 1);
     }
     Ok(lines)
 }

@@ -2,11 +2,12 @@
 
 ghost use Rattle.std.specs.Prelude.{◌≡◌, ◌↔◌, ◌<◌, length, map, IsTrue};
 ghost use Rattle.std.specs.List.{All};
-ghost use Rattle.smx_model.specs.Views.{view_of_link};
+ghost use Rattle.smx_model.specs.Views.{view_of_fd, view_of_link};
 
 use crate::queued_message::QueuedMessage;
 use crate::show::{binding_line, descriptor_line, full_line, link_line, name_of, route_line};
 use smx_links::LinkTable;
+use smx_streams::Streams;
 use smx_types::{
     Binding, BindingLine, Descriptor, DescriptorLine, DriverSpec, FullLine, Link, LinkLine,
     MessageLine, Place, Route, RouteLine,
@@ -156,4 +157,22 @@ pub fn are_links_shown(drivers: &[DriverSpec], links: &LinkTable, lines: &[LinkL
         }
     }
     true
+}
+
+/// The same of the descriptors of a table.
+pub fn are_fds_shown(drivers: &[DriverSpec], streams: &Streams, lines: &[DescriptorLine]) -> bool
+    requires { All (λ d. d.stream.driver < length drivers.now) streams.now.fds }
+    ensures { IsTrue result ↔ (lines.now ≡ map (view_of_fd drivers.now) streams.now.fds) }
+{
+    let mut next = streams.first_fd();
+    for line in lines {
+        let Some(d) = next else {
+            return false;
+        };
+        if !d.is_shown(drivers, line) {
+            return false;
+        }
+        next = streams.next_fd(d.process, d.fd + 1);
+    }
+    next.is_none()
 }

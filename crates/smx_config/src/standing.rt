@@ -1,12 +1,17 @@
 //! Which streams exist.
 
-ghost use Rattle.std.specs.Prelude.{◌≡◌, not, find};
-ghost use Rattle.std.specs.List.{range_with_len};
-ghost use Rattle.smx_model.specs.Standing.{is_persistent, is_named, stands_within};
+ghost use Rattle.std.specs.Prelude.{◌≡◌, true, ◌||◌};
+ghost use Rattle.std.specs.List.{All, list_all};
+ghost use Rattle.smx_model.specs.KnownStreams.{IsKnown};
+ghost use Rattle.smx_model.specs.Standing.{is_persistent};
+ghost use Rattle.smx_streams.specs.StreamTables.{exists as is_there};
+ghost use Rattle.smx_config.specs.ExistingStreams.{AreHeld, TellsExisting};
+ghost use Rattle.smx_config.specs.ModelOfLists.{configuration_of};
 
-use crate::streams::same_stream;
-use smx_links::LinkTable;
-use smx_types::{Descriptor, Link, LinkKind, StreamId};
+use crate::lists::Lists;
+use smx_model::laws_of_links::{paths_join, reaches_is_path};
+use smx_model::laws_of_streams::climbs_suffice;
+use smx_types::{DriverSpec, Link, LinkKind};
 
 pub fn is_persistent(link: &Link) -> bool
     ensures { result ≡ is_persistent link.now }
@@ -17,48 +22,16 @@ pub fn is_persistent(link: &Link) -> bool
     }
 }
 
-// Whether a descriptor names the stream.
-pub fn is_named(fds: &[Descriptor], stream: StreamId) -> bool
-    ensures { result ≡ is_named fds.now stream }
+// The table of streams has a stream exactly where it exists, once each ordinary link's controlling stream is there. It
+// does nothing: a caller who needs this calls it.
+pub fn tells_existing(drivers: &[DriverSpec], lists: &Lists)
+    requires held { AreHeld lists.now.links.links lists.now.streams }
+    requires known { All (λ l. IsKnown drivers.now l.ctl) lists.now.links.links }
+    requires linked { list_all (λ l. is_persistent l || is_there lists.now.streams l.ctl) lists.now.links.links ≡ true }
+    ensures { TellsExisting drivers.now (configuration_of lists.now) lists.now.streams }
 {
-    fds.iter().any(|d| same_stream(d.stream, stream))
-}
-
-// Whether the stream stands within so many climbs. A climb goes over the one link above a stream, which is a look-up.
-pub fn stands_within(fds: &[Descriptor], links: &LinkTable, climbs: usize, stream: StreamId) -> bool
-    ensures { result ≡ stands_within fds.now links.now.links climbs stream }
-{
-    links.is_sound();
-    if is_named(fds, stream) {
-        return true;
-    }
-    let Some(link) = links.above(stream) else {
-        return false;
-    };
-    if is_persistent(link) {
-        return true;
-    }
-    if climbs == 0 {
-        return false;
-    }
-    stands_within(fds, links, climbs - 1, link.ctl)
-}
-
-// The least minor below `minors` whose stream doesn't stand.
-pub fn least_minor(
-    fds: &[Descriptor],
-    links: &LinkTable,
-    climbs: usize,
-    driver: u8,
-    minors: u8,
-) -> Option<u8>
-    ensures { result ≡ find (λ m. not (stands_within fds.now links.now.links climbs (record { driver = driver; minor = m }))) (range_with_len 0 minors) }
-{
-    (0..minors).find(|minor| {
-        let stream = StreamId {
-            driver,
-            minor: *minor,
-        };
-        !stands_within(fds, links, climbs, stream)
-    })
+    climbs_suffice();
+    reaches_is_path();
+    paths_join();
+    lists.links.is_sound();
 }

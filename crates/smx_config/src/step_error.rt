@@ -1,6 +1,7 @@
 //! Why a command made no step.
 
 use smx_links::LinkFault;
+use smx_streams::StreamFault;
 use smx_types::{Fault, NoMemory};
 use std::alloc::{AllocError, AllocFailed};
 
@@ -45,6 +46,23 @@ impl From<LinkFault> for StepError {
             LinkFault::Cycle => StepError::Refused(Fault::Cycle),
             LinkFault::Full => StepError::Refused(Fault::TooManyLinks),
             LinkFault::NoMemory => StepError::NoMemory,
+        }
+    }
+}
+
+impl From<StreamFault> for StepError {
+    ghost use Rattle.std.specs.Prelude.{◌≡◌};
+    ghost use Rattle.smx_config.specs.StreamFaults.{as_step_error};
+
+    ghost from_gives = { λ f e. e ≡ as_step_error f };
+
+    fn from(fault: StreamFault) -> StepError {
+        match fault {
+            StreamFault::NoDriver => StepError::Refused(Fault::NoDriver),
+            StreamFault::NoMinor => StepError::Refused(Fault::NoMinor),
+            StreamFault::BadDescriptor => StepError::Refused(Fault::BadDescriptor),
+            StreamFault::TooManyDescriptors => StepError::Refused(Fault::TooManyDescriptors),
+            StreamFault::NoMemory => StepError::NoMemory,
         }
     }
 }

@@ -1,10 +1,10 @@
 //! Whether streams, sides and places are the same, and which comes first.
 
 ghost use Rattle.std.specs.Prelude.{◌≡◌};
-ghost use Rattle.smx_model.specs.Configuration.{same_stream, same_side, same_place, fd_before, bind_before};
+ghost use Rattle.smx_model.specs.Configuration.{same_stream, same_side, same_place, bind_before};
 ghost use Rattle.smx_model.specs.Configuration.{route_before, side_before, place_before, pair_before};
 
-use smx_types::{Binding, Descriptor, Place, Route, Side, StreamId};
+use smx_types::{Binding, Place, Route, Side, StreamId};
 
 pub fn same_stream(s: StreamId, t: StreamId) -> bool
     ensures { result ≡ same_stream s t }
@@ -59,12 +59,6 @@ pub fn place_before(p: Place, q: Place) -> bool
 {
     stream_before(p.stream, q.stream)
         || (same_stream(p.stream, q.stream) && side_before(p.side, q.side))
-}
-
-pub fn fd_before(d: &Descriptor, e: &Descriptor) -> bool
-    ensures { result ≡ fd_before d.now e.now }
-{
-    d.process.get() < e.process.get() || (d.process == e.process && d.fd < e.fd)
 }
 
 pub fn bind_before(b: &Binding, c: &Binding) -> bool

@@ -4,3 +4,4 @@ pub mod MaskLemmas
 pub mod IdLemmas
 pub mod TableLemmas
 pub mod PlaceLemmas
+pub mod UpperLemmas

@@ -25,6 +25,10 @@ pub record IsLinkList (t : LinkList) : Type 0 where
   pub few : length t.links ≤ MAX_LINKS
   pub numbered : t.next_id ≤ NUMBER_END
 
+-- the driver is the upper one of a link
+abbrev pub is_upper : List Link → ℕ → Bool
+is_upper links driver = list_any (λ l. l.ctl.driver == driver) links
+
 -- why a link may not be made, the first refusal that applies
 abbrev pub refusal : LinkList → StreamId → StreamId → Option LinkFault
 refusal t ctl lower =

@@ -1,5 +1,5 @@
 -- A word of bits for each driver, bit b of word a for a path from driver a to driver b.
-use Rattle.std.specs.Prelude.{◌≡◌, ℕ, Bool, ◌&&◌, ◌||◌, ◌==◌, List, slice_index}
+use Rattle.std.specs.Prelude.{◌≡◌, ℕ, Bool, true, false, ◌&&◌, ◌||◌, ◌==◌, List, slice_index}
 use Rattle.std.specs.Int.{bit_at}
 use Rattle.smx_types.specs.declared.link.Link.{Link}
 use Rattle.smx_model.specs.Paths.{reaches}
@@ -11,6 +11,11 @@ is_set w b = bit_at w b == 1
 -- bit b of word a is set; there is none past the last word
 abbrev pub has_bit : List ℕ → ℕ → ℕ → Bool
 has_bit ws a b = is_set (slice_index ws a) b
+
+-- true where some bit of word a is set, and false where none is
+abbrev pub HasAnyBit : List ℕ → ℕ → Bool → Type 0
+HasAnyBit ws a true = (b : ℕ) × (has_bit ws a b ≡ true)
+HasAnyBit ws a false = (b : ℕ) → has_bit ws a b ≡ false
 
 -- what driver l reaches, and l, has joined what u reaches and all that reach u
 abbrev pub AreJoined : List ℕ → ℕ → ℕ → List ℕ → Type 0

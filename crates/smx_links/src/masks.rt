@@ -1,7 +1,7 @@
 //! Which drivers a path leads to: a word of bits for each driver.
 
 ghost use Rattle.std.specs.Prelude.{◌≡◌, ◌<◌, ◌≤◌, ◌^◌, length, bit_or};
-ghost use Rattle.smx_links.specs.Masks.{is_set, has_bit, AreJoined};
+ghost use Rattle.smx_links.specs.Masks.{is_set, has_bit, AreJoined, HasAnyBit};
 
 /// A bit for each driver.
 pub type Word = u64;
@@ -26,6 +26,16 @@ pub fn has_bit(words: &[Word], a: u8, b: u8) -> bool
     }
     match words.get(a as usize) {
         Some(word) => is_set(*word, b),
+        None => false,
+    }
+}
+
+// Whether word a has a bit. There is none past the last word.
+pub fn has_any_bit(words: &[Word], a: u8) -> bool
+    ensures { HasAnyBit words.now a result }
+{
+    match words.get(a as usize) {
+        Some(word) => *word != 0,
         None => false,
     }
 }

@@ -6,11 +6,11 @@ ghost use Rattle.smx_types.specs.declared.limits.TheConstants.{MAX_DRIVERS, MAX_
 ghost use Rattle.smx_model.specs.Configuration.{same_stream};
 ghost use Rattle.smx_model.specs.Paths.{reaches};
 ghost use Rattle.smx_model.specs.Standing.{is_below};
-ghost use Rattle.smx_links.specs.LinkLists.{IsLinkList, IsLinked, refusal, with_link, without_id, without_ids};
+ghost use Rattle.smx_links.specs.LinkLists.{IsLinkList, IsLinked, is_upper, refusal, with_link, without_id, without_ids};
 
 use crate::entries::{Entries, above, at, get, is_below, put, recompute, take, take_each};
 use crate::fault::LinkFault;
-use crate::masks::{Word, has_bit, join};
+use crate::masks::{Word, has_any_bit, has_bit, join};
 use smx_model::laws_of_links::{
     fewer_links_stay_sound, linking_keeps_soundness, linking_takes_the_next_id, no_links_are_sound,
     one_link_more_joins,
@@ -198,6 +198,13 @@ impl LinkTable {
         ensures { result ≡ reaches self.now.links a b }
     {
         has_bit(&self.masks, a, b)
+    }
+
+    /// Whether the driver is the upper one of a link. It reads one word.
+    pub fn is_upper(&self, driver: u8) -> bool
+        ensures { result ≡ is_upper self.now.links driver }
+    {
+        has_any_bit(&self.masks, driver)
     }
 
     /// What every table is: its links form no cycle, no stream is below two of them, their ids rise and are below the

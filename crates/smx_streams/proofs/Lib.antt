@@ -4,3 +4,5 @@ pub mod RowOrderLemmas
 pub mod GridLemmas
 pub mod RecordLemmas
 pub mod NameLemmas
+pub mod NextLemmas
+pub mod WentLemmas

@@ -3,6 +3,7 @@ use Rattle.std.proofs.Common.{◌≡◌, ◌≢◌, ℕ, zero, ◌+◌, ◌<◌,
 use Rattle.std.proofs.lemmas.Bool.{cases_Bool, cases_eq, both_ways, ltb-true}
 use Rattle.std.specs.Prelude.{IfSome, nat_lt}
 use Rattle.std.specs.List.{AllZip}
+use Rattle.std.specs.Option.{is_some}
 use Rattle.std.proofs.lemmas.Bool.Decides.{nat_tests}
 use Rattle.slab.specs.Slab.{Slab, get, IsSlotClone, Updates}
 use Rattle.smx_types.specs.declared.stream.StreamId.{StreamId}
@@ -207,3 +208,13 @@ counts_none x y h = (grind (arith, nat_tests), grind (arith, nat_tests))
 
 pub counts_some : (n : ℕ) → nat_lt 0 n ≡ true → 0 < n
 counts_some n h = ltb-true 0 n h
+
+-- a stream with a key has a record, and one without has none
+pub key_tells : (grid : Grid) (records : Slab Record) (s : StreamId) → AreRecords grid records → is_some (key_at grid s) ≡ nat_lt 0 (number_at (uses_of grid records).opens s + number_at (uses_of grid records).holds s)
+key_tells grid records s whole = rw (opens_at grid records s, holds_at grid records s) (by (key_at grid s) refl) where
+  some_used : (opens holds : ℕ) → 0 < opens + holds → true ≡ nat_lt 0 (opens + holds)
+  some_used opens holds used = grind (arith, nat_tests)
+
+  by : (o : Option ℕ) → key_at grid s ≡ o → is_some o ≡ nat_lt 0 (opens_of (record_of_key records o) + holds_of (record_of_key records o))
+  by None e = refl
+  by (Some key) e = let there = whole.listed s key e in rw there.1 (some_used there.0.opens there.0.holds there.2.used)

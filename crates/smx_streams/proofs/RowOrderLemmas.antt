@@ -52,8 +52,17 @@ numbered_rows : (q : ℕ) (rows : Rows) → All AreAllOrNone rows → All (λ d.
 numbered_rows q [] h = All-nil _
 numbered_rows q (row ∷ rows) h = All-append (λ d. d.fd < MAX_DESCRIPTORS) _ _ (numbered_row q 0 row (omega (arith, short row (h 0 row (omega arith))))) (numbered_rows (q + 1) rows (λ k d lt. h (suc k) d (omega (arith, lt))))
 
+process_row : (q k : ℕ) (cells : List (Option StreamId)) → q < MAX_PROCESSES → All (λ d. d.process < MAX_PROCESSES) (row_from q k cells)
+process_row q k [] h = All-nil _
+process_row q k (None ∷ cells) h = process_row q (k + 1) cells h
+process_row q k (Some s ∷ cells) h = All-cons (λ d. d.process < MAX_PROCESSES) _ _ h (process_row q (k + 1) cells h)
+
+process_rows : (q : ℕ) (rows : Rows) → q + length rows ≤ MAX_PROCESSES → All (λ d. d.process < MAX_PROCESSES) (rows_from q rows)
+process_rows q [] h = All-nil _
+process_rows q (row ∷ rows) h = All-append (λ d. d.process < MAX_PROCESSES) _ _ (process_row q 0 row (omega arith)) (process_rows (q + 1) rows (omega arith))
+
 pub are_listed : (rows : Rows) → AreRows rows → IsListed (rows_from 0 rows)
-are_listed rows h = record { rise = rising_rows 0 rows; few = omega (arith, few_in_rows 0 rows h.rooms, h.processes); numbered = numbered_rows 0 rows h.rooms }
+are_listed rows h = record { rise = rising_rows 0 rows; few = omega (arith, few_in_rows 0 rows h.rooms, h.processes); processes = process_rows 0 rows (omega (arith, h.processes)); numbered = numbered_rows 0 rows h.rooms }
 
 -- room
 

@@ -48,8 +48,9 @@ pub record AreRows (rows : Rows) : Type 0 where
   pub processes : length rows ≡ MAX_PROCESSES
   pub rooms : All AreAllOrNone rows
 
--- in order, none twice, and no more than there may be
+-- in order, none twice, no more than there may be, and with the numbers that there are
 pub record IsListed (fds : List Descriptor) : Type 0 where
   pub rise : IsRising fd_before fds
   pub few : length fds ≤ 1024
+  pub processes : All (λ d. d.process < MAX_PROCESSES) fds
   pub numbered : All (λ d. d.fd < MAX_DESCRIPTORS) fds

@@ -1,12 +1,12 @@
 -- What a contract sees of a table of streams.
-use Rattle.std.specs.Prelude.{◌≡◌, ℕ, Bool, ◌||◌, not, nat_lt, nat_le, List, [], length, find, filter, slice_index, slice_index_or}
+use Rattle.std.specs.Prelude.{◌≡◌, ℕ, ◌+◌, ◌<◌, Bool, false, ◌||◌, not, ◌==◌, nat_lt, nat_le, List, [], ◌∷◌, length, find, filter, slice_index, slice_index_or}
 use Rattle.std.specs.Prelude.{Option, Some, None, Result, Ok, Err, IsOk, ◌⊎◌, if◌then◌else◌}
 use Rattle.std.specs.List.{list_any, range_with_len}
-use Rattle.std.specs.Option.{option_map}
+use Rattle.std.specs.Option.{option_map, option_map_or}
 use Rattle.smx_types.specs.declared.limits.TheConstants.{MAX_DESCRIPTORS}
 use Rattle.smx_types.specs.declared.stream.Descriptor.{Descriptor}
 use Rattle.smx_types.specs.declared.stream.StreamId.{StreamId}
-use Rattle.smx_model.specs.Configuration.{same_stream, is_fd, fd_before}
+use Rattle.smx_model.specs.Configuration.{same_stream, is_fd, fd_before, pair_before}
 use Rattle.smx_model.specs.Ordered.{with_inserted}
 use Rattle.smx_model.specs.Standing.{is_named}
 use Rattle.smx_streams.specs.declared.fault.StreamFault.{StreamFault}
@@ -34,6 +34,14 @@ exists t s = is_named t.fds s || nat_lt 0 (number_at t.holds s)
 abbrev pub stream_at : List Descriptor → ℕ → ℕ → Option StreamId
 stream_at fds process fd = option_map (λ d. d.stream) (find (is_fd process fd) fds)
 
+-- with one descriptor less
+abbrev pub without_fd : StreamTable → ℕ → ℕ → StreamTable
+without_fd t process fd = record t { fds = filter (λ d. not (is_fd process fd d)) t.fds }
+
+-- nothing is left of the descriptor's stream once it is closed
+abbrev pub is_last : StreamTable → ℕ → ℕ → Bool
+is_last t process fd = option_map_or (λ s. not (exists (without_fd t process fd) s)) (stream_at t.fds process fd) false
+
 -- the least number that is no descriptor of the process
 abbrev pub least_fd : List Descriptor → ℕ → Option ℕ
 least_fd fds process = find (λ n. not (list_any (is_fd process n) fds)) (range_with_len 0 MAX_DESCRIPTORS)
@@ -42,6 +50,16 @@ least_fd fds process = find (λ n. not (list_any (is_fd process n) fds)) (range_
 abbrev pub least_minor : StreamTable → ℕ → Option ℕ
 least_minor t driver =
     find (λ m. not (exists t (record { driver = driver; minor = m }))) (range_with_len 0 (slice_index t.minors driver))
+
+-- the descriptors from a number of a process on
+abbrev pub fds_from : ℕ → ℕ → List Descriptor → List Descriptor
+fds_from process fd fds = filter (λ d. not (pair_before d.process d.fd process fd)) fds
+
+-- the first of them, behind which go those from the next number on; or there is none
+abbrev pub IsNext : List Descriptor → ℕ → ℕ → Option Descriptor → Type 0
+IsNext fds process fd None = fds_from process fd fds ≡ []
+IsNext fds process fd (Some d) =
+    (fds_from process fd fds ≡ d ∷ fds_from d.process (d.fd + 1) fds) × (d.fd < MAX_DESCRIPTORS)
 
 -- a number and a stream, or the first refusal that applies
 abbrev pub Answer : Type 0
@@ -90,6 +108,12 @@ IsRefused wanted f = (wanted ≡ Err f) ⊎ ((f ≡ fault.NoMemory) × IsOk want
 pub record HasOneLess (old : StreamTable) (process fd : ℕ) (new : StreamTable) : Type 0 where
   pub minors : new.minors ≡ old.minors
   pub fds : new.fds ≡ filter (λ d. not (is_fd process fd d)) old.fds
+  pub holds : (x : StreamId) → number_at new.holds x ≡ number_at old.holds x
+
+-- without all descriptors of the process, and else unchanged
+pub record HasNoneOf (old : StreamTable) (process : ℕ) (new : StreamTable) : Type 0 where
+  pub minors : new.minors ≡ old.minors
+  pub fds : new.fds ≡ filter (λ d. not (d.process == process)) old.fds
   pub holds : (x : StreamId) → number_at new.holds x ≡ number_at old.holds x
 
 -- the stream has this number of holds, and else nothing has changed

@@ -7,10 +7,10 @@ ghost use Rattle.smx_types.specs.declared.limits.TheConstants.{MAX_DESCRIPTORS, 
 ghost use Rattle.smx_model.specs.Configuration.{is_fd, fd_before};
 ghost use Rattle.smx_model.specs.Ordered.{with_inserted};
 ghost use Rattle.smx_streams.specs.DescriptorRows.{IsListed, cell_at, with_cell, with_room_at};
-ghost use Rattle.smx_streams.specs.StreamTables.{stream_at, least_fd};
+ghost use Rattle.smx_streams.specs.StreamTables.{stream_at, least_fd, IsNext};
 
 use crate::numbers::Numbers;
-use smx_types::{MAX_DESCRIPTORS, MAX_PROCESSES, NoMemory, Process, StreamId};
+use smx_types::{Descriptor, MAX_DESCRIPTORS, MAX_PROCESSES, NoMemory, Process, StreamId};
 use std::alloc::Global;
 use std::marker::Model;
 
@@ -145,6 +145,29 @@ impl Descriptors {
         let _number = process.get();
         set_cell(&mut self.processes, process, fd, None);
         Some(stream)
+    }
+
+    /// The first descriptor from a number of a process on. It looks at each cell in between.
+    pub fn next(&self, process: Process, fd: u32) -> Option<Descriptor>
+        ensures { IsNext self.now.fds process fd result }
+    {
+        self.is_sound();
+        let mut at = process;
+        let mut number = fd;
+        loop {
+            if number >= MAX_DESCRIPTORS {
+                at = Process::new(at.get() + 1)?;
+                number = 0;
+            } else if let Some(stream) = self.stream_of(at, number) {
+                return Some(Descriptor {
+                    process: at,
+                    fd: number,
+                    stream,
+                });
+            } else {
+                number += 1;
+            }
+        }
     }
 
     /// What every list of them is.

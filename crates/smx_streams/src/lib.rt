@@ -1,6 +1,7 @@
 //! The table of streams: the descriptors of each process, and a record of each stream that is open or held.
 #![tactic(auto)]
 
+mod closed;
 mod descriptors;
 mod fault;
 mod keys;
@@ -8,5 +9,6 @@ mod numbers;
 mod records;
 mod streams;
 
+pub use closed::Closed;
 pub use fault::StreamFault;
-pub use streams::{Closed, Streams};
+pub use streams::Streams;

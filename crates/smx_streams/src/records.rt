@@ -184,7 +184,7 @@ impl Records {
     pub fn has(&self, stream: StreamId) -> bool
         ensures { result ≡ nat_lt 0 (number_at self.now.opens stream + number_at self.now.holds stream) }
     {
-        self.record_of(stream).is_some()
+        key_of(&self.drivers, stream).is_some()
     }
 
     /// One more descriptor of a stream.

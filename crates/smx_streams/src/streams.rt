@@ -1,28 +1,22 @@
 //! The table of streams.
 
-ghost use Rattle.std.specs.Prelude.{◌≡◌, ℕ, ◌+◌, ◌-◌, ◌<◌, ◌≤◌, not, true, [], length, slice_index};
+ghost use Rattle.std.specs.Prelude.{◌≡◌, ℕ, ◌+◌, ◌-◌, ◌<◌, ◌≤◌, not, false, true, [], length, slice_index};
 ghost use Rattle.std.specs.Prelude.{Some, Ok, Err, IfOk, IfErr, IfSome, IfNone, IsOk, OnOk, OnErr};
+ghost use Rattle.smx_types.specs.declared.limits.TheConstants.{MAX_DESCRIPTORS};
 ghost use Rattle.smx_types.specs.declared.stream.StreamId.{StreamId};
 ghost use Rattle.std.specs.Option.{option_map};
-ghost use Rattle.smx_streams.specs.StreamTables.{number_at, is_in_range, exists, stream_at, least_fd, least_minor, numbered};
+ghost use Rattle.smx_streams.specs.DescriptorRows.{IsListed};
+ghost use Rattle.smx_streams.specs.StreamTables.{number_at, is_in_range, exists, stream_at, is_last, least_fd, least_minor, numbered};
 ghost use Rattle.smx_streams.specs.StreamTables.{clone_answer, minor_answer, dup_answer};
-ghost use Rattle.smx_streams.specs.StreamTables.{HasOneMore, HasOneLess, HasHolds, IsRefused};
+ghost use Rattle.smx_streams.specs.StreamTables.{HasOneMore, HasOneLess, HasNoneOf, HasHolds, IsNext, IsRefused};
 
+use crate::closed::Closed;
 use crate::descriptors::Descriptors;
 use crate::fault::StreamFault;
 use crate::records::Records;
-use smx_types::{NoMemory, Process, StreamId};
+use smx_types::{Descriptor, MAX_DESCRIPTORS, NoMemory, Process, StreamId};
 use std::alloc::Global;
 use std::marker::Model;
-
-/// What a descriptor that was closed leaves.
-#[derive(Clone, Copy, Debug, PartialEq, Eq)]
-pub struct Closed {
-    /// The stream that it named.
-    pub stream: StreamId,
-    /// Neither a descriptor nor a hold is left of it.
-    pub last: bool,
-}
 
 /// The descriptors of all processes, and how many holds each stream has. A contract sees the minors of each driver,
 /// the list of descriptors, and the holds.
@@ -198,8 +192,22 @@ impl Streams {
         self.give(process, stream)
     }
 
-    /// Closes the process's descriptor, and no other; None where there is none. Takes no memory.
-    pub fn close_fd(&mut self, process: Process, fd: u32) -> Option<Closed>
+    /// Whether nothing is left of the descriptor's stream once it is closed: no other descriptor names it, and it is
+    /// not held.
+    pub fn is_last(&self, process: Process, fd: u32) -> bool
+        ensures { result ≡ is_last self.now process fd }
+    {
+        self.descriptors.is_sound();
+        match self.descriptors.stream_of(process, fd) {
+            Some(stream) => {
+                self.records.opens_of(stream) == 1 && self.records.holds_of(stream) == 0
+            }
+            None => false,
+        }
+    }
+
+    // Closes the process's descriptor, and no other.
+    fn take_fd(&mut self, process: Process, fd: u32) -> Option<Closed>
         ensures stream { option_map (λ c. c.stream) result ≡ stream_at self.old.fds process fd }
         ensures rest { HasOneLess self.old process fd self.new }
         ensures last { IfSome result (λ c. c.last ≡ not (exists self.new c.stream)) }
@@ -214,6 +222,57 @@ impl Streams {
             stream,
             last: !self.exists(stream),
         })
+    }
+
+    /// Closes the process's descriptor, and no other; None where there is none. No other stream goes than the one that
+    /// it names. Takes no memory.
+    pub fn close_fd(&mut self, process: Process, fd: u32) -> Option<Closed>
+        ensures stream { option_map (λ c. c.stream) result ≡ stream_at self.old.fds process fd }
+        ensures rest { HasOneLess self.old process fd self.new }
+        ensures last { IfSome result (λ c. c.last ≡ not (exists self.new c.stream)) }
+        ensures went { (s : StreamId) → exists self.old s ≡ true → exists self.new s ≡ false
+            → stream_at self.old.fds process fd ≡ Some s }
+        ensures unchanged { IfNone result (self.new ≡ self.old) }
+    {
+        self.is_listed();
+        self.take_fd(process, fd)
+    }
+
+    /// Closes all descriptors of a process, and no other. No other streams go than those that they name. Takes no
+    /// memory.
+    pub fn close_process(&mut self, process: Process)
+        ensures rest { HasNoneOf self.old process self.new }
+        ensures went { (s : StreamId) → exists self.old s ≡ true → exists self.new s ≡ false
+            → (n : ℕ) × (n < MAX_DESCRIPTORS) × (stream_at self.old.fds process n ≡ Some s) }
+    {
+        self.is_listed();
+        for fd in 0..MAX_DESCRIPTORS {
+            let _closed = self.close_fd(process, fd);
+        }
+    }
+
+    /// The first descriptor from a number of a process on, by process and number; None where there is none.
+    pub fn next_fd(&self, process: Process, fd: u32) -> Option<Descriptor>
+        ensures { IsNext self.now.fds process fd result }
+    {
+        self.descriptors.next(process, fd)
+    }
+
+    /// The first descriptor of all; None where there is none.
+    pub fn first_fd(&self) -> Option<Descriptor>
+        ensures { IsNext self.now.fds 0 0 result }
+    {
+        match Process::new(0) {
+            Some(process) => self.next_fd(process, 0),
+            None => None,
+        }
+    }
+
+    // What every list of descriptors is.
+    fn is_listed(&self)
+        ensures { IsListed self.now.fds }
+    {
+        self.descriptors.is_sound();
     }
 
     /// One more hold of a stream that exists. Takes no memory.

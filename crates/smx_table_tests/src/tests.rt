@@ -6,4 +6,5 @@ mod queue_calls;
 mod queues;
 mod stream_tables;
 mod stream_tables_at_limits;
+mod stream_walks;
 mod tried_again;

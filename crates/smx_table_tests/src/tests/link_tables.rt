@@ -296,3 +296,12 @@ fn the_table_in_use(rt: HostRuntime) -> Result<(), Fail> {
     bars_a_cycle(&rt, &mut links);
     Ok(())
 }
+
+#[test]
+fn drivers_with_links(rt: HostRuntime) -> Result<(), Fail> {
+    let mut table = LinkTable::new(rt.alloc(), 3).ok().ok_or("memory")?;
+    do_acts(&rt, &mut table, 3, &OF_THREE_DRIVERS);
+    assert!(rt; table.is_upper(1));
+    assert!(rt; !table.is_upper(0) && !table.is_upper(3));
+    Ok(())
+}

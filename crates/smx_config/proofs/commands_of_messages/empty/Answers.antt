@@ -9,8 +9,7 @@ pub returns-clause-kept : goal.returns-clause-kept
 returns-clause-kept c =
     let goes = λ (p : Place). same_stream p.stream c.args.stream && is_side c.args.sides p.side in
     record {
-      fds_room = c.requires.fds_room;
-      fds_rise = c.requires.fds_rise;
+      held = c.requires.held;
       marks_room = omega (arith, not_more (λ (h : QueuedMessage). not (goes h.place)) c.args.lists.now.flow.items c.flush_flow.new.flow.items c.flush_flow.ensures);
       marks = marks_after_emptied goes c.args.lists.now.flow.items c.flush_flow.new.flow.items c.args.lists.now.fulls.items c.flush_fulls.new.fulls.items c.requires.marks c.flush_flow.ensures c.flush_fulls.ensures.marks;
     }

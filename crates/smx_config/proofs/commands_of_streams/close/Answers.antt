@@ -1,12 +1,16 @@
-use Rattle.std.proofs.Common.{arith, not}
-use Rattle.smx_model.specs.Configuration.{is_fd}
-use Rattle.smx_config.proofs.DescriptorLemmas.{fds_rise_fewer}
+use Rattle.std.proofs.Common.{refl, sym, ◌∙◌}
+use Rattle.smx_streams.specs.StreamTables.{stream_at}
+use Rattle.smx_config.proofs.TouchLemmas.{fd_at}
 use Rattle.smx_config.proofs.commands_of_streams.close.Goals as goal
 
-pub sweep_and_reply-requires-clause-kept : goal.sweep_and_reply-requires-clause-kept
-sweep_and_reply-requires-clause-kept c = record {
-  fds_room = omega arith;
-  fds_rise = fds_rise_fewer (λ d. not (is_fd c.args.process c.args.fd d)) c.args.lists.now.fds.items c.drop_fd.new.fds.items c.requires.kept.fds_rise c.drop_fd.ensures.fds;
-  marks_room = c.requires.kept.marks_room;
-  marks = c.requires.kept.marks;
-}
+pub close_last-requires-clause-there : goal.close_last-requires-clause-there
+close_last-requires-clause-there c = fd_at (stream_at c.args.lists.now.streams.fds c.args.process c.args.fd) c.in_ok-stream.stream (sym c.stream_of.ensures ∙ c.in_ok-stream.was)
+
+pub close_shared-requires-clause-stays : goal.close_shared-requires-clause-stays
+close_shared-requires-clause-stays c = sym c.is_last.ensures ∙ c.if-is_last.false
+
+pub returns-then-is_last-clause-refines : goal.returns-then-is_last-clause-refines
+returns-then-is_last-clause-refines c = rw (sym c.stream_of.ensures ∙ c.in_ok-stream.was) c.close_last.ensures.outcome
+
+pub returns-clause-refines : goal.returns-clause-refines
+returns-clause-refines c = rw (sym c.stream_of.ensures ∙ c.in_ok-stream.was) c.close_shared.ensures.outcome

@@ -1,17 +1,41 @@
-use Rattle.std.proofs.Common.{arith, not, eqb, refl, ◌∙◌}
+use Rattle.std.proofs.Common.{refl, ◌∙◌, arith}
 use Rattle.smx_config.specs.ModelOfLists.{configuration_of}
-use Rattle.smx_config.proofs.DescriptorLemmas.{fds_rise_fewer}
 use Rattle.smx_config.proofs.DoneLemmas.{done_is}
+use Rattle.smx_config.proofs.TouchLemmas.{all_closed_touch, touched_by, touched_fds}
 use Rattle.smx_config.proofs.commands_of_streams.close_all.Goals as goal
+
+pub touch_each-requires : goal.touch_each-requires
+touch_each-requires c = omega (arith, c.in_ok-room.ensures.touched_room)
 
 pub sweep_and_reply-requires-clause-kept : goal.sweep_and_reply-requires-clause-kept
 sweep_and_reply-requires-clause-kept c = record {
-  fds_room = omega arith;
-  fds_rise = fds_rise_fewer (λ d. not (eqb d.process c.args.process)) c.args.lists.now.fds.items c.drop_process.new.fds.items c.requires.kept.fds_rise c.drop_process.ensures.fds;
+  held = λ s. c.close_process.ensures.rest.holds s ∙ c.requires.kept.held s;
   marks_room = c.requires.kept.marks_room;
   marks = c.requires.kept.marks;
 }
 
+pub sweep_and_reply-requires-clause-known : goal.sweep_and_reply-requires-clause-known
+sweep_and_reply-requires-clause-known c = c.requires.known.controlling
+
+pub sweep_and_reply-requires-clause-touched : goal.sweep_and_reply-requires-clause-touched
+sweep_and_reply-requires-clause-touched c =
+    let old = configuration_of c.args.lists.now in
+    let t = c.args.lists.now.streams in
+    let u = c.close_process.new.self in
+    let ss = c.touch_each.new.touched.items in
+    touched_fds u ss old u.fds (touched_by c.args.drivers.now old t u ss c.requires.existing c.requires.swept_already
+    (all_closed_touch t u c.args.process ss c.touch_each.ensures.named c.close_process.ensures.went))
+
+pub sweep_and_reply-requires-clause-room : goal.sweep_and_reply-requires-clause-room
+sweep_and_reply-requires-clause-room c = record {
+  touched_room = omega (arith, c.touch_each.ensures.few, c.touch_each.ensures.capacity, c.in_ok-room.ensures.touched_room);
+  orphaned_empty = c.in_ok-room.ensures.orphaned_empty;
+  orphaned_room = c.in_ok-room.ensures.orphaned_room;
+  old_serials = refl;
+  dropped_empty = c.in_ok-room.ensures.dropped_empty;
+  dropped_room = c.in_ok-room.ensures.dropped_room;
+}
+
 pub returns-clause-refines : goal.returns-clause-refines
 returns-clause-refines c =
-    done_is c.args.drivers.now (configuration_of c.args.lists.now) _ (configuration_of c.sweep_and_reply.new.lists) c.in_ok-room.room.old.items c.sweep_and_reply.result (c.sweep_and_reply.ensures.value ∙ rw c.drop_process.ensures.fds refl) c.in_ok-room.ensures.old_serials c.sweep_and_reply.ensures.reply
+    done_is c.args.drivers.now (configuration_of c.args.lists.now) _ (configuration_of c.sweep_and_reply.new.lists) c.in_ok-room.room.old.items c.sweep_and_reply.result (c.sweep_and_reply.ensures.value ∙ rw c.close_process.ensures.rest.fds refl) c.in_ok-room.ensures.old_serials c.sweep_and_reply.ensures.reply

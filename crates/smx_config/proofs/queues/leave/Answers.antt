@@ -10,8 +10,7 @@ mark-requires c = λ t. room_to_stay c.args.lists.now.flow.items c.take_first-me
 
 pub returns-clause-kept : goal.returns-clause-kept
 returns-clause-kept c = record {
-  fds_room = c.requires.fds_room;
-  fds_rise = c.requires.fds_rise;
+  held = c.requires.held;
   marks_room = omega (arith, not_longer (is_at c.args.place) c.args.lists.now.flow.items c.take_first-message.new.flow.items c.take_first-message.ensures.rest);
   marks = marks_after_left c.args.lists.now.flow.items c.take_first-message.new.flow.items c.args.lists.now.fulls.items c.mark.new.fulls.items c.args.place (low_of c.args.drivers.now c.args.place.stream.driver) c.stays_full-full.result
       c.requires.marks c.take_first-message.ensures.rest (c.stays_full-full.ensures ∙ rw (c.deref.ensures.value, c.deref-2.ensures.value) refl) c.mark.ensures.marked;

@@ -2,7 +2,7 @@ use Rattle.std.proofs.Common.{◌≡◌}
 use Rattle.smx_model.specs.KeptConfigurations.{IsSound}
 use Rattle.smx_model.specs.Settling.{after_settling, after_settling_within}
 use Rattle.smx_config.specs.ReservedRoom.{HasRoom}
-use Rattle.smx_config.specs.ModelOfLists.{configuration_of}
+use Rattle.smx_config.specs.ModelOfLists.{configuration_of, sizes_of}
 use Rattle.smx_config.proofs.settling.settle.Given as goal
 
 abbrev pub decreases-loop-left : goal.decreases-loop-left
@@ -13,5 +13,5 @@ invariant-loop-left l = record {
   comes_to : after_settling_within l.drivers l.left (configuration_of l.lists) ≡ after_settling l.drivers (configuration_of l.initial.lists);
   kept : HasRoom l.lists;
   sound : IsSound l.drivers (configuration_of l.lists);
-  drivers : l.lists.links.drivers ≡ l.initial.lists.links.drivers;
+  drivers : sizes_of l.lists ≡ sizes_of l.initial.lists;
 }

@@ -1,0 +1,18 @@
+use Rattle.std.proofs.Common.{◌≡◌, ℕ, ◌+◌, ◌≤◌, ◌++◌, ◌∷◌, [], true, false, length, take}
+use Rattle.std.specs.Prelude.{vec_capacity}
+use Rattle.std.specs.List.{list_all}
+use Rattle.smx_config.specs.ExistingStreams.{holds_below, IsReleasing}
+use Rattle.smx_config.specs.TouchedStreams.{is_watched}
+use Rattle.smx_config.proofs.orphans.release_below.Given as goal
+
+abbrev pub invariant-loop-i : goal.invariant-loop-i
+invariant-loop-i l = record {
+  fds : l.streams.fds ≡ l.initial.streams.fds;
+  minors : l.streams.minors ≡ l.initial.streams.minors;
+  releasing : (climbs : ℕ) → IsReleasing l.links.links climbs l.streams;
+  all : list_all (is_watched l.streams (l.touched.items ++ l.ctl ∷ [])) l.links.links ≡ true;
+  so_far : list_all (is_watched l.streams l.touched.items) (take l.i l.links.links) ≡ true;
+  enough : length l.touched.items + holds_below l.links.links l.streams ≤ vec_capacity l.touched;
+  less : length l.touched.items + holds_below l.links.links l.streams ≤ length l.initial.touched.items + holds_below l.links.links l.initial.streams;
+  none : l.released ≡ false → l.streams ≡ l.initial.streams;
+}

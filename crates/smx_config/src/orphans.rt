@@ -1,0 +1,129 @@
+//! Links whose controlling stream is gone: their lower streams are released, until no more go.
+
+ghost use Rattle.std.specs.Prelude.{◌≡◌, ℕ, ◌+◌, ◌<◌, ◌≤◌, ◌++◌, ◌∷◌, [], ◌&&◌, not, false, map, filter, length, vec_capacity};
+ghost use Rattle.std.specs.List.{list_any};
+ghost use Rattle.smx_model.specs.Configuration.{same_stream};
+ghost use Rattle.smx_streams.specs.StreamTables.{exists as is_there};
+ghost use Rattle.smx_links.specs.LinkLists.{is_upper};
+ghost use Rattle.smx_config.specs.ExistingStreams.{is_held, is_loose, holds_below, IsReleasing};
+ghost use Rattle.smx_config.specs.TouchedStreams.{IsCascade};
+
+use crate::standing::is_persistent;
+use crate::streams::same_stream;
+use smx_links::LinkTable;
+use smx_streams::Streams;
+use smx_types::{Link, StreamId};
+
+fn is_held(streams: &Streams, link: &Link) -> bool
+    ensures { result ≡ is_held streams.now link.now }
+{
+    streams.holds_of(link.lower) > 0
+}
+
+fn is_loose(streams: &Streams, link: &Link) -> bool
+    ensures { result ≡ is_loose streams.now link.now }
+{
+    !is_persistent(link) && is_held(streams, link) && !streams.exists(link.ctl)
+}
+
+// Whether it is loose, by this controlling stream.
+fn is_loose_by(streams: &Streams, ctl: StreamId, link: &Link) -> bool
+    ensures { result ≡ (same_stream link.now.ctl ctl && is_loose streams.now link.now) }
+{
+    same_stream(link.ctl, ctl) && is_loose(streams, link)
+}
+
+// Whether a link may be loose by this controlling stream: it is gone, and its driver has links.
+fn may_have_loose(streams: &Streams, links: &LinkTable, ctl: StreamId) -> bool
+    ensures { result ≡ (not (is_there streams.now ctl) && is_upper links.now.links ctl.driver) }
+{
+    !streams.exists(ctl) && links.is_upper(ctl.driver)
+}
+
+// Releases the lower streams of the links that are loose by this controlling stream, and puts them to those that may
+// have gone. Whether there were any.
+fn release_below(
+    streams: &mut Streams,
+    links: &LinkTable,
+    ctl: StreamId,
+    touched: &mut Vec<StreamId>,
+) -> bool
+    requires { IsCascade links.now.links streams.old (touched.old.items ++ ctl ∷ []) (vec_capacity touched.old) }
+    ensures fds { streams.new.fds ≡ streams.old.fds }
+    ensures minors { streams.new.minors ≡ streams.old.minors }
+    ensures cascade { IsCascade links.now.links streams.new touched.new.items (vec_capacity touched.new) }
+    ensures less { length touched.new.items + holds_below links.now.links streams.new
+        ≤ length touched.old.items + holds_below links.now.links streams.old }
+    ensures none { result ≡ false → streams.new ≡ streams.old }
+{
+    links.is_sound();
+    if !may_have_loose(streams, links, ctl) {
+        return false;
+    }
+    let mut released = false;
+    for i in 0..links.len() {
+        if let Some(link) = links.at(i) {
+            if is_loose_by(streams, ctl, link) {
+                let _gone = streams.release(link.lower);
+                touched.push_reserved(link.lower);
+                released = true;
+            }
+        }
+    }
+    released
+}
+
+// The same for each stream that may have gone, until no link is loose. Whether any stream was released.
+pub fn release_orphans(streams: &mut Streams, links: &LinkTable, touched: Vec<StreamId>) -> bool
+    requires { IsCascade links.now.links streams.old touched.items (vec_capacity touched) }
+    ensures fds { streams.new.fds ≡ streams.old.fds }
+    ensures minors { streams.new.minors ≡ streams.old.minors }
+    ensures releasing { (climbs : ℕ) → IsReleasing links.now.links climbs streams.new }
+    ensures none { list_any (is_loose streams.new) links.now.links ≡ false }
+    ensures unchanged { result ≡ false → streams.new ≡ streams.old }
+{
+    let mut left = touched;
+    let mut released = false;
+    while let Some(stream) = left.pop() {
+        if release_below(streams, links, stream, &mut left) {
+            released = true;
+        }
+    }
+    released
+}
+
+// One id more, for which there is room.
+fn put_id(ids: &mut Vec<u32>, id: u32)
+    requires { length ids.old.items < vec_capacity ids.old }
+    ensures ids { ids.new.items ≡ ids.old.items ++ id ∷ [] }
+    ensures capacity { vec_capacity ids.old ≤ vec_capacity ids.new }
+{
+    let _ = ids.push(id);
+}
+
+// The ids of the links whose lower stream isn't held, in a list that has room for all ids. There are none where no
+// stream was released.
+pub fn released_links(
+    streams: &Streams,
+    links: &LinkTable,
+    released: bool,
+    room: Vec<u32>,
+) -> Vec<u32>
+    requires empty { room.items ≡ [] }
+    requires room { length links.now.links ≤ vec_capacity room }
+    requires none { released ≡ false → filter (λ l. not (is_held streams.now l)) links.now.links ≡ [] }
+    ensures { result.items ≡ map (λ l. l.id) (filter (λ l. not (is_held streams.now l)) links.now.links) }
+{
+    let mut ids = room;
+    if !released {
+        return ids;
+    }
+    for i in 0..links.len() {
+        if let Some(link) = links.at(i) {
+            if !is_held(streams, link) {
+                put_id(&mut ids, link.id);
+            }
+        }
+    }
+    ids
+}

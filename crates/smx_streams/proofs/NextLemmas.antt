@@ -1,0 +1,132 @@
+-- The descriptors from a number of a process on, and those of one process.
+use Rattle.std.proofs.Common.{◌≡◌, ℕ, zero, suc, ◌+◌, ◌<◌, ◌≤◌, Bool, true, false, ◌&&◌, not, eqb, List, [], ◌∷◌, length, find, filter, Option, Some, None, refl, sym, ap, ◌∙◌, arith, inl, inr}
+use Rattle.std.specs.Prelude.{nat_lt}
+use Rattle.std.specs.List.{All}
+use Rattle.std.specs.Option.{option_map}
+use Rattle.std.proofs.lemmas.Bool.{cases_Bool, and_parts, both_ways, eqb-true}
+use Rattle.std.proofs.lemmas.Bool.Decides.{nat_tests}
+use Rattle.smx_types.specs.declared.limits.TheConstants.{MAX_DESCRIPTORS, MAX_PROCESSES}
+use Rattle.smx_types.specs.declared.stream.Descriptor.{Descriptor}
+use Rattle.smx_types.specs.declared.stream.StreamId.{StreamId}
+use Rattle.smx_model.specs.Configuration.{is_fd, fd_before, pair_before}
+use Rattle.smx_model.specs.Ordered.{ComesBefore, IsRising}
+use Rattle.smx_streams.specs.StreamTables.{fds_from, stream_at}
+use Rattle.smx_streams.proofs.RowLemmas.{fd_of}
+
+-- two tests that agree on each element keep the same
+pub kept_same : (f g : Descriptor → Bool) (ds : List Descriptor) → All (λ d. f d ≡ g d) ds → filter f ds ≡ filter g ds
+kept_same f g [] h = refl
+kept_same f g (d ∷ ds) h =
+    let here : f d ≡ g d = h 0 d (omega arith) in
+    let rest = kept_same f g ds (λ i e lt. h (suc i) e (omega (arith, lt))) in
+    elim (cases_Bool (g d)) [
+      | inl t ↦ rw (here, t) (ap (λ (es : List Descriptor). d ∷ es) rest)
+      | inr n ↦ rw (here, n) rest
+    ]
+
+from_more : (p n : ℕ) (d : Descriptor) → is_fd p n d ≡ false → not (pair_before d.process d.fd p n) ≡ not (pair_before d.process d.fd p (n + 1))
+from_more p n d other = grind (arith, nat_tests)
+
+-- a number with no descriptor is passed
+pub passed : (p n : ℕ) (ds : List Descriptor) → stream_at ds p n ≡ None → fds_from p n ds ≡ fds_from p (n + 1) ds
+passed p n [] h = refl
+passed p n (d ∷ ds) h = elim (cases_Bool (is_fd p n d)) [
+  | inl t ↦ let k : Some d.stream ≡ None = rw t at h in absurd cc
+  | inr f ↦
+      let e = from_more p n d f in
+      let rest = passed p n ds (rw f at h) in
+      elim (cases_Bool (not (pair_before d.process d.fd p (n + 1)))) [
+        | inl t ↦ rw (e, t) (ap (λ (es : List Descriptor). d ∷ es) rest)
+        | inr g ↦ rw (e, g) rest
+      ]
+]
+
+later_stays : (p n : ℕ) (s : StreamId) (ds : List Descriptor) → ComesBefore fd_before (fd_of p n s) ds → fds_from p n ds ≡ fds_from p (n + 1) ds
+later_stays p n s [] h = refl
+later_stays p n s (d ∷ ds) h =
+    let after : pair_before p n d.process d.fd ≡ true = h.0 in
+    let x : not (pair_before d.process d.fd p n) ≡ true = grind (arith, nat_tests) in
+    let y : not (pair_before d.process d.fd p (n + 1)) ≡ true = grind (arith, nat_tests) in
+    rw (x, y) (ap (λ (es : List Descriptor). d ∷ es) (later_stays p n s ds h.1))
+
+none_behind : (p n : ℕ) (d : Descriptor) (ds : List Descriptor) → not (pair_before d.process d.fd p n) ≡ true → ComesBefore fd_before d ds → find (is_fd p n) ds ≡ None
+none_behind p n d [] t h = refl
+none_behind p n d (e ∷ ds) t h =
+    let after : pair_before d.process d.fd e.process e.fd ≡ true = h.0 in
+    let f : is_fd p n e ≡ false = grind (arith, nat_tests) in
+    rw f (none_behind p n d ds t h.1)
+
+fd_is : (d : Descriptor) (p n : ℕ) (s : StreamId) → d.process ≡ p → d.fd ≡ n → d.stream ≡ s → d ≡ fd_of p n s
+fd_is d p n s a b e =
+    ap (λ (x : ℕ). record { process = x; fd = d.fd; stream = d.stream }) a
+    ∙ ap (λ (x : ℕ). record { process = p; fd = x; stream = d.stream }) b
+    ∙ ap (λ (x : StreamId). record { process = p; fd = n; stream = x }) e
+
+-- a number with a descriptor comes first
+pub found : (p n : ℕ) (s : StreamId) (ds : List Descriptor) → IsRising fd_before ds → stream_at ds p n ≡ Some s → fds_from p n ds ≡ fd_of p n s ∷ fds_from p (n + 1) ds
+found p n s [] r h = absurd cc
+found p n s (d ∷ ds) r h = elim (cases_Bool (is_fd p n d)) [
+  | inl t ↦
+      let k : ◌≡◌ {A = Option StreamId} (Some d.stream) (Some s) = rw t at h in
+      let both = and_parts (eqb d.process p) (eqb d.fd n) t in
+      let at_p = eqb-true d.process p both.0 in
+      let at_n = eqb-true d.fd n both.1 in
+      let same : d.stream ≡ s = cc in
+      let here = fd_is d p n s at_p at_n same in
+      let x : not (pair_before p n p n) ≡ true = grind (arith, nat_tests) in
+      let y : not (pair_before p n p (n + 1)) ≡ false = grind (arith, nat_tests) in
+      let rest = later_stays p n s ds (rw here at r.0) in
+      rw (here, x, y) (ap (λ (es : List Descriptor). fd_of p n s ∷ es) rest)
+  | inr f ↦
+      let later : stream_at ds p n ≡ Some s = rw f at h in
+      elim (cases_Bool (not (pair_before d.process d.fd p n))) [
+        | inl t ↦
+            let none : stream_at ds p n ≡ None = rw (none_behind p n d ds t r.0) refl in
+            absurd cc
+        | inr g ↦
+            let y : not (pair_before d.process d.fd p (n + 1)) ≡ false = grind (arith, nat_tests) in
+            rw (g, y) (found p n s ds r.1 later)
+      ]
+]
+
+-- behind the last number of a process stands the next process
+pub next_process : (p n : ℕ) (ds : List Descriptor) → MAX_DESCRIPTORS ≤ n → All (λ d. d.fd < MAX_DESCRIPTORS) ds → fds_from p n ds ≡ fds_from (p + 1) 0 ds
+next_process p n ds past h = kept_same _ _ ds (λ i d lt. let few = h i d lt in grind (arith, nat_tests))
+
+-- behind the last process stands none
+pub no_process : (p n : ℕ) (ds : List Descriptor) → MAX_DESCRIPTORS ≤ n → MAX_PROCESSES ≤ p + 1 → All (λ d. d.fd < MAX_DESCRIPTORS) ds → All (λ d. d.process < MAX_PROCESSES) ds → fds_from p n ds ≡ []
+no_process p n [] past last h k = refl
+no_process p n (d ∷ ds) past last h k =
+    let few = h 0 d (omega arith) in
+    let below = k 0 d (omega arith) in
+    let f : not (pair_before d.process d.fd p n) ≡ false = grind (arith, nat_tests) in
+    rw f (no_process p n ds past last (λ i e lt. h (suc i) e (omega (arith, lt))) (λ i e lt. k (suc i) e (omega (arith, lt))))
+
+-- the descriptors of a process that are closed so far
+abbrev pub is_closed : ℕ → ℕ → Descriptor → Bool
+is_closed p n d = eqb d.process p && nat_lt d.fd n
+
+filter_twice : (f g h : Descriptor → Bool) (ds : List Descriptor) → ((d : Descriptor) → h d ≡ (g d && f d)) → filter f (filter g ds) ≡ filter h ds
+filter_twice f g h [] e = refl
+filter_twice f g h (d ∷ ds) e = elim (cases_Bool (g d)) [
+  | inl t ↦ elim (cases_Bool (f d)) [
+    | inl u ↦ rw (e d, t, u) (ap (λ (es : List Descriptor). d ∷ es) (filter_twice f g h ds e))
+    | inr u ↦ rw (e d, t, u) (filter_twice f g h ds e)
+  ]
+  | inr n ↦ rw (e d, n) (filter_twice f g h ds e)
+]
+
+-- one number more
+pub closed_more : (p n : ℕ) (ds : List Descriptor) → filter (λ d. not (is_fd p n d)) (filter (λ d. not (is_closed p n d)) ds) ≡ filter (λ d. not (is_closed p (n + 1) d)) ds
+closed_more p n ds = filter_twice (λ d. not (is_fd p n d)) (λ d. not (is_closed p n d)) (λ d. not (is_closed p (n + 1) d)) ds (λ d. grind (arith, nat_tests))
+
+-- none at first
+pub closed_none : (p : ℕ) (ds : List Descriptor) → ds ≡ filter (λ d. not (is_closed p 0 d)) ds
+closed_none p [] = refl
+closed_none p (d ∷ ds) =
+    let f : not (is_closed p 0 d) ≡ true = grind (arith, nat_tests) in
+    rw f (ap (λ (es : List Descriptor). d ∷ es) (closed_none p ds))
+
+-- all in the end
+pub closed_all : (p n : ℕ) (ds : List Descriptor) → MAX_DESCRIPTORS ≤ n → All (λ d. d.fd < MAX_DESCRIPTORS) ds → filter (λ d. not (is_closed p n d)) ds ≡ filter (λ d. not (eqb d.process p)) ds
+closed_all p n ds past h = kept_same _ _ ds (λ i d lt. let few = h i d lt in grind (arith, nat_tests))
