@@ -79,8 +79,8 @@ AreMetApart views = (i j : ℕ) (v w : SeatView) →
 -- what is so of them all, where a system with these drivers, this limit and this history was shared among so many
 -- processes
 pub record TurnRule (drivers : List DriverSpec) (limit : ℕ) (start : List Entry) (processes : ℕ) (s : State Slot SeatView) : Type 0 where
-  -- There is one history, the longest that any seat has seen; how many names were given, and who may take the next;
-  -- and whether somebody has the turn.
+  -- There is one history, of which each seat has seen a beginning; how many names were given, and who may take the
+  -- next; and whether somebody has the turn.
   pub history : List Entry
   pub names : ℕ
   pub namer : ℕ
