@@ -17,7 +17,7 @@ use smx_types::{Command, Entry, NoMemory, Process};
 use std::alloc::Global;
 use std::snapshot::Snapshot;
 use std::sync::Wait;
-use std::thread;
+use std::thread::{self, Parker};
 use std::time::Duration;
 
 /// A seat as the table knows it.
@@ -38,9 +38,9 @@ const NAMES: usize = 1;
 const SYSTEM: usize = 0;
 
 // How often a caller yields that waits for the turn, before it sleeps; and after how many tries it sleeps no longer.
-const YIELDS: u32 = 16;
+const YIELDS: u32 = 4;
 
-const MOST_TRIES: u32 = 22;
+const MOST_TRIES: u32 = 10;
 
 // How long it first sleeps, in microseconds.
 const SHORTEST_SLEEP: u64 = 20;
@@ -53,6 +53,19 @@ fn front_word(system: &System) -> u64
     let entries = system.entries().len() as u64;
     let links = u64::from(system.config().link_count());
     4096 * entries + 2 * links
+}
+
+// Lets others go on, after so many tries: at first it only yields, and later it sleeps, longer each time. Nobody wakes
+// it: a sleep on the first word would end with each call of others, and who calls often would hardly sleep.
+fn let_others_go_on<R: Wait>(rt: &R, tries: u32)
+    requires { tries ≤ MOST_TRIES }
+{
+    if tries < YIELDS {
+        thread::yield_now();
+        return;
+    }
+    let dur = Duration::from_micros(SHORTEST_SLEEP << (tries - YIELDS));
+    Parker::new().park_timeout(rt, dur);
 }
 
 impl TurnTable {
@@ -138,26 +151,11 @@ impl TurnTable {
         for _ in rt.forever() {
             match self.try_take(token) {
                 Ok(()) => return,
-                Err(word) => self.wait(rt, tries, word),
+                Err(_) => let_others_go_on(rt, tries),
             }
             tries = if tries < MOST_TRIES { tries + 1 } else { tries };
         }
         unreachable!()
-    }
-
-    // Lets others go on, after so many tries: at first it only yields, and later it sleeps, longer each time, or until
-    // somebody has changed the word.
-    fn wait<R: Wait>(&self, rt: &R, tries: u32, word: u64)
-        requires { tries ≤ MOST_TRIES }
-    {
-        if tries < YIELDS {
-            thread::yield_now();
-            return;
-        }
-        let dur = Duration::from_micros(SHORTEST_SLEEP << (tries - YIELDS));
-        self.table
-            .shared
-            .park_timeout(rt, FRONT, (word % (1 << 32)) as u32, dur);
     }
 
     // The system out of its slot, by the seat that has the turn.
