@@ -10,6 +10,7 @@ mod input;
 pub mod laws_of_filters;
 mod output;
 mod text;
+mod text_recorder;
 
 pub use check::check_text;
 pub use device::{Failed, Feed, Sink, Source, Target};

@@ -1,18 +1,20 @@
 //! A run from bytes to bytes.
 
-ghost use Rattle.std.specs.Prelude.{◌≡◌, ◌≤◌, false, IfOk, Result};
+ghost use Rattle.std.specs.Prelude.{◌≡◌, ◌≤◌, false, IfOk, IfErr, Result};
 ghost use Rattle.smx_filters.specs.Filters.{Answers};
 ghost use Rattle.smx_filters.specs.FrontsText.{fronts_text};
-ghost use Rattle.smx_filters.specs.RunText.{IsTextOf, RunsText, items_of, running};
+ghost use Rattle.smx_filters.specs.RunText.{IsTextOf, IsTranscriptFor, RunsText, items_of, running};
+ghost use Rattle.smx_run.specs.RunFaults.{RefusesRun};
 
 use crate::device::{Feed, Sink};
 use crate::fault::MainFault;
 use crate::fronts_text::fronts_text;
 use crate::input::read_all;
 use crate::output::write_all;
-use smx_run::{Gate, Report, run_programs};
+use crate::text_recorder::TextRecorder;
+use smx_run::{Gate, Report, RunFault, run_programs, run_recorded};
 use smx_text::{read_programs, write_transcript_into};
-use smx_types::NoMemory;
+use smx_types::{NoMemory, Programs};
 use std::alloc::Global;
 use std::sync::Wait;
 use std::thread::Threads;
@@ -57,9 +59,29 @@ fn text_for<R: Threads + Wait + Sync, G: Gate + Sync>(
     ensures { Answers (running fronts) input.items (items_of result) }
 {
     let programs = read_programs(alloc, input.as_slice())?;
+    let hands = workers.min(programs.programs().len());
+    if !fronts && hands < 2 {
+        return Ok(transcript_of_one(rt, alloc, input, programs, gate)?);
+    }
     let report = run_programs(rt, alloc, programs, workers, gate)?;
     let text = text_of(alloc, input, report, fronts)?;
     Ok(text)
+}
+
+// The transcript of a run on this thread alone, in the room that is given. The line of each entry is written once its
+// command was answered.
+fn transcript_of_one<R: Wait, G: Gate>(
+    rt: &R,
+    alloc: Global,
+    room: Vec<u8>,
+    programs: Programs,
+    gate: &G,
+) -> Result<Vec<u8>, RunFault>
+    ensures written { IfOk result (λ text. IsTranscriptFor programs text.items) }
+    ensures refused { IfErr result (RefusesRun programs.drivers) }
+{
+    let (TextRecorder { writer }, view) = run_recorded(rt, alloc, programs, room, gate)?;
+    Ok(writer.finish(&view)?)
 }
 
 // The text of a report: its fronts, or its transcript in the room that is given. Fails only for want of memory.

@@ -2,4 +2,5 @@ pub mod FrontLemmas
 pub mod GatheringLemmas
 pub mod HandLemmas
 pub mod ProgramOrderLemmas
+pub mod RecordingLemmas
 pub mod RunLemmas

@@ -1,10 +1,14 @@
 -- What becomes of the commands of a process.
-use Rattle.std.specs.Prelude.{◌≡◌, List, ◌++◌, map}
+use Rattle.std.specs.Prelude.{◌≡◌, ℕ, List, ◌++◌, map}
 use Rattle.smx_types.specs.declared.command.Command.{Command}
-use Rattle.smx_model.specs.Histories.{call_of}
+use Rattle.smx_types.specs.declared.command.Entry.{Entry}
+use Rattle.smx_types.specs.declared.driver.DriverSpec.{DriverSpec}
+use Rattle.smx_model.specs.Histories.{after, call_of, IsLegal}
+use Rattle.smx_config.specs.Machine.{Machine}
 use Rattle.smx_shared.specs.Seats.{Known, IsBeginningOf}
 use Rattle.smx_run.specs.ProgramOrder.{calls_of}
 use Rattle.smx_run.specs.declared.desk.Alone.{Alone}
+use Rattle.smx_run.specs.declared.desk.Recording.{Recording}
 use Rattle.smx_run.specs.declared.desk.Seated.{Seated}
 
 -- the history has these commands of the process more, and the drivers are the same
@@ -13,6 +17,20 @@ pub record PerformedAlone (a : Alone) (commands : List Command) (b : Alone) : Ty
   pub drivers : b.system.drivers ≡ a.system.drivers
   pub begins : IsBeginningOf a.system.history b.system.history
   pub calls : map call_of b.system.history ≡ map call_of a.system.history ++ calls_of a.process commands
+
+-- the recorder was told of a legal history in which this was asked, and the configuration is the one after it
+pub record HasRecorded {K : Type 0} (told : List DriverSpec → List Entry → K → Type 0) (recorder : K) (m : Machine) (asked : List (ℕ × Command)) : Type 0 where
+  pub entries : List Entry
+  pub was_told : told m.drivers entries recorder
+  pub legal : IsLegal m.drivers entries
+  pub now : m.configuration ≡ after m.drivers entries
+  pub calls : map call_of entries ≡ asked
+
+-- whatever was recorded, these commands of the process are now recorded more, and the drivers are the same
+pub record PerformedRecording {K : Type 0} (told : List DriverSpec → List Entry → K → Type 0) (a : Recording K) (commands : List Command) (b : Recording K) : Type 0 where
+  pub process : b.process ≡ a.process
+  pub drivers : b.config.drivers ≡ a.config.drivers
+  pub more : (asked : List (ℕ × Command)) → HasRecorded told a.recorder a.config asked → HasRecorded told b.recorder b.config (asked ++ calls_of a.process commands)
 
 -- these commands of the process were made here more, at the same door
 pub record PerformedSeated {D S : Type 0} (known : S → Known) (a : Seated D S) (commands : List Command) (b : Seated D S) : Type 0 where

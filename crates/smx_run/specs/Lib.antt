@@ -6,5 +6,6 @@ pub mod Gathering
 pub mod Hands
 pub mod Meeting
 pub mod ProgramOrder
+pub mod RecordedRuns
 pub mod Reports
 pub mod RunFaults

@@ -1,7 +1,10 @@
 //! Where the commands of one process are performed.
 
+use crate::recorder::Recorder;
+use smx_config::Config;
+use smx_model::laws::one_entry_more;
 use smx_shared::{ApplyFault, Door, System};
-use smx_types::{Command, Process};
+use smx_types::{Command, Entry, Process};
 use std::alloc::Global;
 use std::sync::Wait;
 
@@ -56,6 +59,43 @@ impl Desk for Alone {
     ghost performed_none = { alone_none };
 
     ghost performed_more = { alone_more };
+}
+
+/// At a configuration that nobody shares. A recorder is told of each entry, which is then given up.
+#[derive(Drop)]
+pub struct Recording<K: Drop> {
+    pub process: Process,
+    pub config: Config,
+    pub recorder: K,
+}
+
+impl<K: Recorder> Desk for Recording<K> {
+    ghost use Rattle.smx_run.specs.Desks.{PerformedRecording};
+    ghost use Rattle.smx_run.specs.DeskLemmas.{recording_none, recording_more};
+
+    ghost ready = { λ _. Unit {0} };
+
+    ghost performed = { PerformedRecording K.told };
+
+    fn process(&self) -> Process {
+        self.process
+    }
+
+    fn perform<R: Wait>(&mut self, _rt: &R, command: Command) -> Result<(), ApplyFault> {
+        one_entry_more();
+        let process = self.process;
+        let reply = self.config.step(process, &command)?;
+        self.recorder.add(&Entry {
+            process,
+            command,
+            reply,
+        })?;
+        Ok(())
+    }
+
+    ghost performed_none = { recording_none K.told };
+
+    ghost performed_more = { recording_more K.told };
 }
 
 /// At a seat of a door. The seat knows what it has made.

@@ -8,6 +8,8 @@ mod gathering;
 mod hands;
 pub mod laws_of_runs;
 mod meeting;
+mod recorded_run;
+mod recorder;
 mod report;
 mod run;
 #[cfg(test)]
@@ -18,5 +20,7 @@ mod worker;
 pub use fault::{GatherFault, RunFault};
 pub use gate::{Gate, NoGate};
 pub use gathering::gather;
+pub use recorded_run::run_recorded;
+pub use recorder::Recorder;
 pub use report::Report;
 pub use run::{MAX_WORKERS, run_programs};

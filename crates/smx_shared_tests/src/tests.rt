@@ -7,6 +7,7 @@ mod gathered;
 mod looks;
 mod many_looks;
 mod many_tries;
+mod recorded;
 mod runs;
 mod seats;
 mod shared;

@@ -20,6 +20,7 @@ pub mod TranscriptLemmas
 pub mod TranscriptGrammarLemmas
 pub mod TranscriptDecidedLemmas
 pub mod WritingLemmas
+pub mod GrowingLemmas
 pub mod WorkedFaultLemmas
 pub mod WrongCommandLemmas
 pub mod WrongProgramLemmas

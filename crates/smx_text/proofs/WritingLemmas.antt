@@ -8,16 +8,14 @@ use Rattle.std.specs.List.{AllByRecursion}
 use Rattle.std.specs.Prelude.{codes}
 use Rattle.smx_types.specs.ProgramLists.{ProgramLists}
 use Rattle.smx_types.specs.declared.command.Command.{Command}
-use Rattle.smx_types.specs.declared.transcript.Transcript.{Transcript}
 use Rattle.smx_types.specs.declared.view.ConfigView.{ConfigView}
 use Rattle.smx_text.specs.ProgramLines as line
 use Rattle.smx_text.specs.ProgramsText.{line_words, program_lines, body, programs_text, FitsLine}
-use Rattle.smx_words.specs.Spelling.{bind_words, command_words, descriptor_words, driver_words, entry_words}
+use Rattle.smx_words.specs.Spelling.{bind_words, command_words, descriptor_words, driver_words}
 use Rattle.smx_words.specs.Spelling.{full_words, link_words, message_words, next_words, route_words}
 use Rattle.smx_words.specs.Spellable.{FitsCommand, FitsDriver}
-use Rattle.smx_text.specs.TranscriptText.{view_body, transcript_text}
+use Rattle.smx_text.specs.TranscriptText.{view_body}
 use Rattle.smx_text.specs.TranscriptText.{line_words as transcript_words}
-use Rattle.smx_text.specs.TranscriptLines as row
 use Rattle.smx_words.specs.Words.{LINE_FEED}
 use Rattle.smx_text.proofs.EachLemmas.{all_append, all_map}
 use Rattle.smx_text.proofs.BodyLemmas.{lines_add}
@@ -111,32 +109,3 @@ view_written v start next fds links binds routes msgs fulls a b c d e f g =
       regroup : (s n a b c d e f : List ℕ) → (s ++ n) ++ a ++ b ++ c ++ d ++ e ++ f
           ≡ s ++ (n ++ a ++ b ++ c ++ d ++ e ++ f)
       regroup s n a b c d e f = simp append_assoc
-
-abbrev view_text : ConfigView → List ℕ
-view_text v = text_of (map transcript_words (view_body v))
-
-whole_text : (t : Transcript) → transcript_text t
-    ≡ codes "transcript 1\n" ++ text_of (map driver_words t.drivers) ++ text_of (map entry_words t.entries)
-    ++ codes "config\n" ++ view_text t.view ++ codes "end\n"
-whole_text t = by_body (view_body t.view) where
-  by_body : (ls : List row.TranscriptLine)
-      → text_of ((codes "transcript" ∷ codes "1" ∷ []) ∷ map transcript_words
-      (map row.Driver t.drivers ++ (map row.Entry t.entries ++ row.Config ∷ ls)) ++ (codes "end" ∷ []) ∷ [])
-      ≡ codes "transcript 1\n" ++ text_of (map driver_words t.drivers) ++ text_of (map entry_words t.entries)
-      ++ codes "config\n" ++ text_of (map transcript_words ls) ++ codes "end\n"
-  by_body ls = simp (map-append, map-map, texts_append, append_assoc)
-
--- the parts of a transcript, one after the other
-pub transcript_written : (t : Transcript) (start header drivers entries config view end : List ℕ)
-    → header ≡ start ++ codes "transcript 1\n"
-    → drivers ≡ header ++ text_of (map driver_words t.drivers)
-    → entries ≡ drivers ++ text_of (map entry_words t.entries)
-    → config ≡ entries ++ codes "config\n" → view ≡ config ++ view_text t.view → end ≡ view ++ codes "end\n"
-    → end ≡ start ++ transcript_text t
-transcript_written t start header drivers entries config view end a b c d e f =
-    f ∙ rw (e, d, c, b, a) (regroup start (codes "transcript 1\n") (text_of (map driver_words t.drivers))
-    (text_of (map entry_words t.entries)) (codes "config\n") (view_text t.view) (codes "end\n"))
-    ∙ ap (λ (more : List ℕ). start ++ more) (sym (whole_text t)) where
-      regroup : (s h ds es c v e : List ℕ) → (((((s ++ h) ++ ds) ++ es) ++ c) ++ v) ++ e
-          ≡ s ++ (h ++ ds ++ es ++ c ++ v ++ e)
-      regroup s h ds es c v e = simp append_assoc

@@ -5,6 +5,7 @@ pub mod ProgramLines
 pub mod ProgramsText
 pub mod TranscriptLines
 pub mod TranscriptText
+pub mod GrowingTranscripts
 pub mod Drafts
 pub mod WorkedTexts
 pub mod WorkedFaults

@@ -6,6 +6,7 @@ pub mod laws;
 mod programs;
 mod reading;
 mod transcript;
+mod transcript_writer;
 pub mod worked_texts;
 mod write;
 
@@ -21,4 +22,5 @@ pub use smx_types::{
     Transcript, Which,
 };
 pub use transcript::read_transcript;
+pub use transcript_writer::TranscriptWriter;
 pub use write::{write_programs, write_transcript, write_transcript_into};

@@ -3,12 +3,12 @@
 ghost use Rattle.std.specs.Prelude.{◌≡◌, ◌<◌, ◌^◌, ◌++◌, length, map, IfOk, OnOk};
 ghost use Rattle.std.specs.List.{AllByRecursion};
 ghost use Rattle.smx_text.specs.ProgramsText.{line_words, program_lines, programs_text, FitsLine, IsAllowed};
-ghost use Rattle.smx_text.specs.TranscriptText.{transcript_text, view_body, IsSpellable, IsSpellableView};
-ghost use Rattle.smx_text.specs.TranscriptText.{line_words as view_words};
+ghost use Rattle.smx_text.specs.TranscriptText.{transcript_text, IsSpellable};
 ghost use Rattle.smx_words.specs.Words.{text_of};
 
-use smx_types::{Commands, ConfigView, NoMemory, Programs, Transcript};
-use smx_words::{write_lines, write_next, write_process};
+use crate::transcript_writer::TranscriptWriter;
+use smx_types::{Commands, NoMemory, Programs, Transcript};
+use smx_words::{write_lines, write_process};
 use std::alloc::Global;
 
 /// The one text of these programs. Fails only for want of memory.
@@ -41,24 +41,10 @@ pub fn write_transcript_into(room: Vec<u8>, transcript: &Transcript) -> Result<V
     // So what is written is read again, where the transcript is within the limits.
     ensures spellable { OnOk result (IsSpellable transcript.now) }
 {
-    let mut out = room;
-    out.clear();
-    write_all_lines(&mut out, transcript)?;
-    Ok(out)
-}
-
-// All lines of a transcript.
-fn write_all_lines(out: &mut Vec<u8>, transcript: &Transcript) -> Result<(), NoMemory>
-    ensures written { OnOk result (out.new.items ≡ out.old.items ++ transcript_text transcript.now) }
-    ensures spellable { OnOk result (IsSpellable transcript.now) }
-{
-    out.extend_from_slice(b"transcript 1\n")?;
-    write_lines(out, transcript.drivers.as_slice())?;
-    write_lines(out, transcript.entries.as_slice())?;
-    out.extend_from_slice(b"config\n")?;
-    write_view(out, &transcript.view)?;
-    out.extend_from_slice(b"end\n")?;
-    Ok(())
+    let mut writer = TranscriptWriter::begin(room, transcript.drivers.as_slice())?;
+    writer.add(transcript.entries.as_slice())?;
+    let text = writer.finish(&transcript.view)?;
+    Ok(text)
 }
 
 // Each program behind the line of its process.
@@ -72,20 +58,5 @@ fn write_each(out: &mut Vec<u8>, programs: &[Commands]) -> Result<(), NoMemory>
         write_process(out, i as u32)?;
         write_lines(out, commands.as_slice())?;
     }
-    Ok(())
-}
-
-// The lines of a view, its groups in their order.
-fn write_view(out: &mut Vec<u8>, view: &ConfigView) -> Result<(), NoMemory>
-    ensures written { OnOk result (out.new.items ≡ out.old.items ++ text_of (map view_words (view_body view.now))) }
-    ensures spellable { OnOk result (IsSpellableView view.now) }
-{
-    write_next(out, view.next_id, view.next_serial)?;
-    write_lines(out, view.fds.as_slice())?;
-    write_lines(out, view.links.as_slice())?;
-    write_lines(out, view.binds.as_slice())?;
-    write_lines(out, view.routes.as_slice())?;
-    write_lines(out, view.msgs.as_slice())?;
-    write_lines(out, view.fulls.as_slice())?;
     Ok(())
 }

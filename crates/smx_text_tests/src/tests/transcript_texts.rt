@@ -1,7 +1,10 @@
 //! Transcripts that are read and written again.
 
 use super::spelling::{Spelled, is_written};
+use smx_text::{TranscriptWriter, read_transcript};
 use smx_types::Transcript;
+use std::alloc::Global;
+use std::slice;
 use std::test::Fail;
 
 const OPENS_AND_CLOSES: &[u8] = b"transcript 1
@@ -146,6 +149,26 @@ const TEXTS: [&[u8]; 5] = [
 fn reads_and_writes_again(rt: HostRuntime) -> Result<(), Fail> {
     for text in &TEXTS {
         is_written(&rt, Transcript::read(rt.alloc(), *text), *text)?;
+    }
+    Ok(())
+}
+
+// The text of a transcript that is written entry by entry, in the room of other bytes.
+fn written_as_it_grows(alloc: Global, transcript: &Transcript) -> Result<Vec<u8>, Fail> {
+    let room = Vec::from_slice(alloc, b"no longer wanted")?;
+    let mut writer = TranscriptWriter::begin(room, transcript.drivers.as_slice())?;
+    for entry in transcript.entries.as_slice() {
+        writer.add(slice::from_ref(entry))?;
+    }
+    Ok(writer.finish(&transcript.view)?)
+}
+
+#[test]
+fn writes_entry_by_entry(rt: HostRuntime) -> Result<(), Fail> {
+    for text in &TEXTS {
+        let transcript = read_transcript(rt.alloc(), *text)?;
+        let written = written_as_it_grows(rt.alloc(), &transcript)?;
+        assert_eq!(rt; written.as_slice(), *text);
     }
     Ok(())
 }

@@ -2,7 +2,7 @@ use Rattle.std.proofs.Common.{◌≡◌, ◌++◌, ◌∷◌, [], ◌∙◌}
 use Rattle.smx_words.specs.Spelling.{next_words}
 use Rattle.smx_words.specs.Words.{text_of}
 use Rattle.smx_text.proofs.WritingLemmas.{view_written, one_line_more}
-use Rattle.smx_text.proofs.write.write_view.Goals as goal
+use Rattle.smx_text.proofs.transcript_writer.write_view.Goals as goal
 
 pub returns-clause-written : goal.returns-clause-written
 returns-clause-written c =

@@ -1,0 +1,30 @@
+//! The transcript of a run, which is written while it goes.
+
+use smx_run::Recorder;
+use smx_text::TranscriptWriter;
+use smx_types::{DriverSpec, Entry, NoMemory};
+use std::slice;
+
+/// Writes the lines of the drivers and of the entries that it is told of.
+#[derive(Drop)]
+pub struct TextRecorder {
+    pub writer: TranscriptWriter,
+}
+
+impl Recorder for TextRecorder {
+    ghost use Rattle.smx_text.specs.GrowingTranscripts.{BeginsTranscript};
+
+    type Room = Vec<u8>;
+
+    ghost told = { λ drivers entries recorder. BeginsTranscript drivers entries recorder.writer };
+
+    fn begin(room: Vec<u8>, drivers: &[DriverSpec]) -> Result<TextRecorder, NoMemory> {
+        let writer = TranscriptWriter::begin(room, drivers)?;
+        Ok(TextRecorder { writer })
+    }
+
+    fn add(&mut self, entry: &Entry) -> Result<(), NoMemory> {
+        self.writer.add(slice::from_ref(entry))?;
+        Ok(())
+    }
+}

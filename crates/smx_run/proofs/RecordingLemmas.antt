@@ -1,0 +1,120 @@
+-- What a recorder was told is a report.
+use Rattle.std.proofs.Common.{◌≡◌, ℕ, ◌+◌, ◌≤◌, List, [], ◌∷◌, ◌++◌, length, map, Result, Ok, Err, refl, sym, ap, subst, ◌∙◌, arith}
+use Rattle.std.proofs.lemmas.List.{length-append, length-map, map-append}
+use Rattle.std.proofs.lemmas.List.Sums.{sum_by-cons}
+use Rattle.std.specs.List.{sum_by}
+use Rattle.std.specs.Prelude.{IfErr, IsErrAnd}
+use Rattle.smx_types.specs.ProgramLists.{ProgramLists, AreWithinLimits}
+use Rattle.smx_types.specs.declared.command.Command.{Command}
+use Rattle.smx_types.specs.declared.command.Entry.{Entry}
+use Rattle.smx_types.specs.declared.driver.DriverSpec.{DriverSpec}
+use Rattle.smx_types.specs.declared.limits.TheConstants.{MAX_COMMANDS}
+use Rattle.smx_types.specs.declared.reply.Reply.{Reply}
+use Rattle.smx_types.specs.declared.view.ConfigView.{ConfigView}
+use Rattle.smx_model.specs.Commands.{step}
+use Rattle.smx_model.specs.Configuration.{Configuration, empty}
+use Rattle.smx_model.specs.DriverList.{IsDriverList}
+use Rattle.smx_model.specs.Histories.{after, call_of, IsLegal}
+use Rattle.smx_model.specs.LawfulHistories.{AreDropsAllowed, IsLawfulThroughout}
+use Rattle.smx_model.specs.Views.{view}
+use Rattle.smx_config.specs.Machine.{Machine}
+use Rattle.smx_run.specs.Desks.{HasRecorded}
+use Rattle.smx_run.specs.ProgramOrder.{calls_of, calls_from}
+use Rattle.smx_run.specs.RecordedRuns.{IsRecordOf}
+use Rattle.smx_run.specs.RunFaults.{RefusesRun}
+use Rattle.smx_run.specs.declared.fault.RunFault.{RunFault}
+use Rattle.smx_run.specs.declared.fault.RunFault.TheVariants as run
+use Rattle.smx_run.proofs.ProgramOrderLemmas.{holds}
+
+-- ---- what the laws of histories say
+
+abbrev OneStepFurther : Type 0
+OneStepFurther = (drivers : List DriverSpec) (history : List Entry) (e : Entry) →
+    after drivers (history ++ e ∷ []) ≡ (step drivers (after drivers history) e.process e.command).0
+
+abbrev StaysLegal : Type 0
+StaysLegal = (drivers : List DriverSpec) (history : List Entry) (e : Entry) → IsLegal drivers history →
+    (step drivers (after drivers history) e.process e.command).1 ≡ e.reply → IsLegal drivers (history ++ e ∷ [])
+
+abbrev LegalIsLawful : Type 0
+LegalIsLawful = (drivers : List DriverSpec) (history : List Entry) → IsLegal drivers history → IsLawfulThroughout drivers history
+
+abbrev FewDrop : Type 0
+FewDrop = (drivers : List DriverSpec) (history : List Entry) → IsLegal drivers history → AreDropsAllowed history
+
+module _ {K : Type 0} (told : List DriverSpec → List Entry → K → Type 0) where
+  -- a recorder that was told of no entry, at an empty configuration
+  pub none_recorded : (recorder : K) (m : Machine) (drivers : List DriverSpec) → m.drivers ≡ drivers → m.configuration ≡ empty
+      → told drivers [] recorder → HasRecorded told recorder m []
+  none_recorded recorder m drivers same is_empty was_told = record {
+    entries = [];
+    was_told = subst (λ (ds : List DriverSpec). told ds [] recorder) (sym same) was_told;
+    legal = tt;
+    now = is_empty;
+    calls = refl;
+  }
+
+  -- the recorder is told of one entry more, which a step of the configuration made
+  pub one_recorded : OneStepFurther → StaysLegal → (old new : Machine) (r s : K) (e : Entry) → new.drivers ≡ old.drivers
+      → step old.drivers old.configuration e.process e.command ≡ (new.configuration, e.reply)
+      → ((drivers : List DriverSpec) (entries : List Entry) → told drivers entries r → told drivers (entries ++ e ∷ []) s)
+      → (asked : List (ℕ × Command)) → HasRecorded told r old asked → HasRecorded told s new (asked ++ call_of e ∷ [])
+  one_recorded further stays old new r s e same did tells asked h =
+      let es : List Entry = h.entries ++ e ∷ [] in
+      let now : step old.drivers (after old.drivers h.entries) e.process e.command ≡ (new.configuration, e.reply) =
+      ap (λ (c : Configuration). step old.drivers c e.process e.command) (sym h.now) ∙ did in
+      let legal : IsLegal old.drivers es = stays old.drivers h.entries e h.legal (ap (λ (x : Configuration × Reply). x.1) now) in
+      let led : new.configuration ≡ after old.drivers es =
+      sym (ap (λ (x : Configuration × Reply). x.0) now) ∙ sym (further old.drivers h.entries e) in
+      record {
+        entries = es;
+        was_told = subst (λ (ds : List DriverSpec). told ds es s) (sym same) (tells old.drivers h.entries h.was_told);
+        legal = subst (λ (ds : List DriverSpec). IsLegal ds es) (sym same) legal;
+        now = led ∙ ap (λ (ds : List DriverSpec). after ds es) (sym same);
+        calls = map-append call_of h.entries (e ∷ []) ∙ ap (λ (cs : List (ℕ × Command)). cs ++ call_of e ∷ []) h.calls;
+      }
+
+-- ---- the whole
+
+-- as many calls as there are commands
+counted : (n : ℕ) (programs : List (List Command)) → length (calls_from n programs) ≡ sum_by length programs
+counted n [] = refl
+counted n (cs ∷ programs) = omega (
+  arith,
+  counted (n + 1) programs,
+  length-append (calls_of n cs) (calls_from (n + 1) programs),
+  length-map {B = ℕ × Command} cs (λ (c : Command). (n, c)),
+  sum_by-cons length cs programs,
+)
+
+-- a history in which the programs were asked has as many entries
+within : (programs : ProgramLists) (es : List Entry) → AreWithinLimits programs → map call_of es ≡ calls_from 0 programs.programs → length es ≤ MAX_COMMANDS
+within programs es few calls =
+    let same : length (map call_of es) ≡ length (calls_from 0 programs.programs) = ap (λ (cs : List (ℕ × Command)). length cs) calls in
+    omega (arith, same, length-map es call_of, counted 0 programs.programs, few.commands)
+
+-- want of memory is answered only for drivers that can be had
+pub memory_refused : {T : Type 0} (drivers : List DriverSpec) (result : Result T RunFault) → IsErrAnd result (λ e. e ≡ run.NoMemory) → IsDriverList drivers → IfErr result (RefusesRun drivers)
+memory_refused drivers (Ok x) is can = tt
+memory_refused drivers (Err e) is can = subst (RefusesRun drivers) (sym is) can
+
+-- what was told once all programs were asked, with the view at the end
+pub record_of : {K : Type 0} (told : List DriverSpec → List Entry → K → Type 0) → LegalIsLawful → FewDrop → (programs : ProgramLists) (recorder : K) (m : Machine) (shown : ConfigView)
+    → AreWithinLimits programs → IsDriverList programs.drivers → m.drivers ≡ programs.drivers → HasRecorded told recorder m (calls_from 0 programs.programs) → shown ≡ view m.drivers m.configuration
+    → IsRecordOf programs told recorder shown
+record_of told lawful drops programs recorder m shown few can same h is =
+    let legal : IsLegal programs.drivers h.entries = subst (λ (ds : List DriverSpec). IsLegal ds h.entries) same h.legal in
+    record {
+      entries = h.entries;
+      was_told = subst (λ (ds : List DriverSpec). told ds h.entries recorder) same h.was_told;
+      promised = record {
+        drivers = refl;
+        can_be_had = can;
+        legal = legal;
+        holds = holds h.entries programs.programs h.calls;
+        shown = is ∙ ap (view m.drivers) h.now ∙ ap (λ (ds : List DriverSpec). view ds (after ds h.entries)) same;
+        lawful = lawful programs.drivers h.entries legal;
+        drops = drops programs.drivers h.entries legal;
+      };
+      few = within programs h.entries few h.calls;
+    }

@@ -1,0 +1,135 @@
+//! Runs of which a recorder is told: all of it, drivers that are refused, and a recorder that wants memory.
+
+use super::fault_words::prints;
+use smx_run::{NoGate, Recorder, RunFault, run_recorded};
+use smx_text::{read_programs, write_transcript};
+use smx_types::{ConfigView, Copied, DriverSpec, Drivers, Entries, Entry, NoMemory, Transcript};
+use std::alloc::Global;
+use std::process::Abort;
+use std::sync::Wait;
+use std::test::Fail;
+
+// Keeps a copy of all that it is told, up to so many entries.
+#[derive(Drop)]
+struct Kept {
+    alloc: Global,
+    most: usize,
+    drivers: Drivers,
+    entries: Entries,
+}
+
+impl Recorder for Kept {
+    ghost use Rattle.std.specs.Prelude.{◌≡◌};
+
+    type Room = (Global, usize);
+
+    ghost told = { λ drivers entries kept. (kept.drivers ≡ drivers) × (kept.entries ≡ entries) };
+
+    fn begin(room: (Global, usize), drivers: &[DriverSpec]) -> Result<Kept, NoMemory> {
+        let (alloc, most) = room;
+        let drivers = Drivers::from_vec(DriverSpec::copies(alloc, drivers)?);
+        Ok(Kept {
+            alloc,
+            most,
+            drivers,
+            entries: Entries::new(alloc),
+        })
+    }
+
+    fn add(&mut self, entry: &Entry) -> Result<(), NoMemory> {
+        if self.entries.as_slice().len() >= self.most {
+            return Err(NoMemory);
+        }
+        let entry = entry.copy(self.alloc)?;
+        self.entries.push(entry)
+    }
+}
+
+// What a recorder of so many entries was told of a run of the programs that this text spells, and the view at the end.
+fn recorded<R: Wait>(
+    rt: &R,
+    alloc: Global,
+    text: &[u8],
+    most: usize,
+) -> Result<Result<(Kept, ConfigView), RunFault>, Fail> {
+    let programs = read_programs(alloc, text)?;
+    Ok(run_recorded(rt, alloc, programs, (alloc, most), &NoGate))
+}
+
+// What was told, as a text.
+fn told(alloc: Global, kept: Kept, view: ConfigView) -> Result<Vec<u8>, Fail> {
+    let transcript = Transcript {
+        drivers: kept.drivers,
+        entries: kept.entries,
+        view,
+    };
+    Ok(write_transcript(alloc, &transcript)?)
+}
+
+const TWO_PROCESSES: &[u8] = b"programs 1
+driver ip mux 2 8 3 16
+driver eth leaf 1 4 0 2
+process 0
+clone eth
+write 0 7 0a
+process 1
+process 2
+clone ip
+clone eth
+inject eth 0 5 0b
+exit
+end
+";
+
+const OF_TWO_PROCESSES: &[u8] = b"transcript 1
+driver ip mux 2 8 3 16
+driver eth leaf 1 4 0 2
+0 clone eth = fd 0 0
+0 write 0 7 0a = took 1
+2 clone ip = fd 0 0
+2 clone eth = ENXIO minor
+2 inject eth 0 5 0b = took 2
+2 exit = done
+config
+next 1 3
+fd 0 0 eth 0
+msg eth 0 w 1 7 0a
+msg eth 0 r 2 5 0b
+end
+";
+
+#[test]
+fn a_recorder_is_told_of_all(rt: HostRuntime) -> Result<(), Fail> {
+    let (kept, view) = recorded(&rt, rt.alloc(), TWO_PROCESSES, 6)??;
+    let written = told(rt.alloc(), kept, view)?;
+    assert_eq!(rt; written.as_slice(), OF_TWO_PROCESSES);
+    Ok(())
+}
+
+// The run is refused in these words.
+fn is_refused<R: Abort + Wait>(
+    rt: &R,
+    alloc: Global,
+    text: &[u8],
+    most: usize,
+    words: &str,
+) -> Result<(), Fail> {
+    let fault = recorded(rt, alloc, text, most)?.err().ok_or("refused")?;
+    prints(rt, alloc, &fault, words)
+}
+
+#[test]
+fn a_recorder_wants_memory(rt: HostRuntime) -> Result<(), Fail> {
+    for most in 0..6 {
+        is_refused(&rt, rt.alloc(), TWO_PROCESSES, most, "no memory")?;
+    }
+    Ok(())
+}
+
+const SAME_NAME: &[u8] =
+    b"programs 1\ndriver ip mux 4 8 3 16\ndriver ip leaf 1 1 0 1\nprocess 0\nexit\nend\n";
+
+#[test]
+fn drivers_come_before_the_recorder(rt: HostRuntime) -> Result<(), Fail> {
+    is_refused(&rt, rt.alloc(), SAME_NAME, 0, "driver 1 same name")
+}

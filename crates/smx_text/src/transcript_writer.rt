@@ -1,0 +1,81 @@
+//! A transcript that is written while its history grows, so that no entry is kept for it.
+
+ghost use Rattle.std.specs.Prelude.{◌≡◌, ◌++◌, [], List, map, IfOk, OnOk};
+ghost use Rattle.smx_types.specs.declared.command.Entry.{Entry as AnyEntry};
+ghost use Rattle.smx_types.specs.declared.driver.DriverSpec.{DriverSpec as AnyDriver};
+ghost use Rattle.smx_text.specs.GrowingTranscripts.{transcript_with, BeginsTranscript};
+ghost use Rattle.smx_text.specs.TranscriptText.{transcript_text, view_body, IsSpellable, IsSpellableView};
+ghost use Rattle.smx_text.specs.TranscriptText.{line_words as view_words};
+ghost use Rattle.smx_words.specs.Words.{text_of};
+
+use smx_types::{ConfigView, DriverSpec, Entry, NoMemory};
+use smx_words::{write_lines, write_next};
+use std::marker::Model;
+
+/// A transcript as far as it is written: its drivers, and the entries so far. Contracts see its bytes. Once a call has
+/// met want of memory it is of no more use.
+#[derive(Debug, Drop)]
+pub struct TranscriptWriter {
+    text: Vec<u8>,
+}
+
+impl Model for TranscriptWriter {
+    ghost use Rattle.std.specs.Prelude.{ℕ, List};
+
+    ghost Value = { List ℕ };
+
+    ghost view = { λ writer. writer.text.items };
+}
+
+impl TranscriptWriter {
+    /// These drivers and no entry yet, in the room of a vector whose bytes are no longer wanted. Fails only for want of
+    /// memory.
+    pub fn begin(room: Vec<u8>, drivers: &[DriverSpec]) -> Result<TranscriptWriter, NoMemory>
+        ensures { IfOk result (BeginsTranscript drivers.now []) }
+    {
+        let mut text = room;
+        text.clear();
+        text.extend_from_slice(b"transcript 1\n")?;
+        write_lines(&mut text, drivers)?;
+        Ok(TranscriptWriter { text })
+    }
+
+    /// These entries more, behind those so far. Fails only for want of memory.
+    pub fn add(&mut self, entries: &[Entry]) -> Result<(), NoMemory>
+        ensures { OnOk result ((drivers : List AnyDriver) (before : List AnyEntry)
+            → BeginsTranscript drivers before self.old → BeginsTranscript drivers (before ++ entries.now) self.new) }
+    {
+        write_lines(&mut self.text, entries)?;
+        Ok(())
+    }
+
+    /// The one text of the transcript, whose configuration at its end is shown so. Fails only for want of memory.
+    pub fn finish(self, view: &ConfigView) -> Result<Vec<u8>, NoMemory>
+        ensures written { IfOk result (λ v. (drivers : List AnyDriver) (entries : List AnyEntry)
+            → BeginsTranscript drivers entries self → v.items ≡ transcript_text (transcript_with drivers entries view.now)) }
+        // So what is written is read again, where the transcript is within the limits.
+        ensures spellable { OnOk result ((drivers : List AnyDriver) (entries : List AnyEntry)
+            → BeginsTranscript drivers entries self → IsSpellable (transcript_with drivers entries view.now)) }
+    {
+        let mut text = self.text;
+        text.extend_from_slice(b"config\n")?;
+        write_view(&mut text, view)?;
+        text.extend_from_slice(b"end\n")?;
+        Ok(text)
+    }
+}
+
+// The lines of a view, its groups in their order.
+fn write_view(out: &mut Vec<u8>, view: &ConfigView) -> Result<(), NoMemory>
+    ensures written { OnOk result (out.new.items ≡ out.old.items ++ text_of (map view_words (view_body view.now))) }
+    ensures spellable { OnOk result (IsSpellableView view.now) }
+{
+    write_next(out, view.next_id, view.next_serial)?;
+    write_lines(out, view.fds.as_slice())?;
+    write_lines(out, view.links.as_slice())?;
+    write_lines(out, view.binds.as_slice())?;
+    write_lines(out, view.routes.as_slice())?;
+    write_lines(out, view.msgs.as_slice())?;
+    write_lines(out, view.fulls.as_slice())?;
+    Ok(())
+}
