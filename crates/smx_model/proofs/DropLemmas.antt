@@ -65,7 +65,7 @@ DropsNone o = IfAccepted (λ d r. dropped_by r ≡ []) o
 idle_drops : (drivers : List DriverSpec) (c d : Configuration) → IsSwept drivers d → d.flow ≡ c.flow → DropsNone (done_outcome drivers c d)
 idle_drops drivers c d clean same = rw (done_idle drivers c d clean same) (at_ok _ d (Done []) refl)
 
-mux_exists : (drivers : List DriverSpec) (c : Configuration) (process fd : ℕ) (s : StreamId) → mux_stream drivers c process fd ≡ Ok s → exists drivers c s ≡ true
+pub mux_exists : (drivers : List DriverSpec) (c : Configuration) (process fd : ℕ) (s : StreamId) → mux_stream drivers c process fd ≡ Ok s → exists drivers c s ≡ true
 mux_exists drivers c process fd s e = by (free_stream c process fd) refl e where
   tested : (t : StreamId) (b : Bool) → (refuse NotMux b >>= (λ _. Ok t)) ≡ Ok s → t ≡ s
   tested t true k = cc

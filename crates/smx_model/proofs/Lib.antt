@@ -37,3 +37,8 @@ pub mod WaitingLemmas
 pub mod TurningLemmas
 pub mod TurningCommandLemmas
 pub mod KnownPlaceLemmas
+pub mod SettlingByMarksLemmas
+pub mod MarkedPlaceLemmas
+pub mod FreedPlaceLemmas
+pub mod NearMarkLemmas
+pub mod MarkedCommandLemmas

@@ -405,10 +405,10 @@ feeders drivers c q r sound keyed h = by (first_message c.flow r) h where
 
 -- ---- a move frees one place
 
-left_keeps : (drivers : List DriverSpec) (c : Configuration) (p q : Place) → same_place p q ≡ false → is_full (after_leaving drivers c p) q ≡ is_full c q
+pub left_keeps : (drivers : List DriverSpec) (c : Configuration) (p q : Place) → same_place p q ≡ false → is_full (after_leaving drivers c p) q ≡ is_full c q
 left_keeps drivers c p q f = marked_full p q _ c.fulls ∙ rw f refl
 
-arrived_more : (drivers : List DriverSpec) (c : Configuration) (p q : Place) (m : Message) → is_full c q ≡ true → is_full (after_arrival drivers c p m) q ≡ true
+pub arrived_more : (drivers : List DriverSpec) (c : Configuration) (p q : Place) (m : Message) → is_full c q ≡ true → is_full (after_arrival drivers c p m) q ≡ true
 arrived_more drivers c p q m h = marked_full p q _ c.fulls ∙ elim (cases_Bool (same_place p q)) [
   | inl t ↦ rw t (or_left _ _ (ap (is_full c) (same_place_is p q t) ∙ h))
   | inr f ↦ rw f h

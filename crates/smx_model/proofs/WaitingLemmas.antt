@@ -54,7 +54,7 @@ next_of_same drivers c d p l r b f = rw f (by (first_message c.flow p))
         next_is drivers d p m.addr ∙ next_same drivers c d p.stream m.addr p.side l r b ∙ sym (next_is drivers c p m.addr)
 
 -- a place, unless it is full
-abbrev if_open : Configuration → Option Place → Option Place
+abbrev pub if_open : Configuration → Option Place → Option Place
 if_open c o = o >>= (λ q. if is_full c q then None else Some q)
 
 waits_now : (c : Configuration) (wanted : Place → Bool) (o : Option Place) → is_some (if_open c o) ≡ false → is_held_up c (both wanted (λ q. is_one_of (λ x. same_place x q) o)) o ≡ true
@@ -68,7 +68,7 @@ waits_now c wanted (Some q) h = elim (cases_Bool (is_full c q)) [
     by true = refl
     by false = refl
 
-movable_by : (drivers : List DriverSpec) (c : Configuration) (p : Place) → is_movable drivers c p ≡ is_some (if_open c (next_of_first drivers c p))
+pub movable_by : (drivers : List DriverSpec) (c : Configuration) (p : Place) → is_movable drivers c p ≡ is_some (if_open c (next_of_first drivers c p))
 movable_by drivers c p = by (first_message c.flow p) refl
   where
     by : (o : Option Message) → first_message c.flow p ≡ o → is_movable drivers c p ≡ is_some (if_open c (next_of_first drivers c p))

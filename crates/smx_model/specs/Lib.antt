@@ -12,12 +12,15 @@ pub mod OrderedParts
 pub mod Settling
 pub mod LeastMovable
 pub mod RunMarks
+pub mod SettlingByMarks
+pub mod NearMarks
 pub mod Removal
 pub mod MeantLinks
 pub mod Outcomes
 pub mod Lookups
 pub mod TurnedPlaces
 pub mod Commands
+pub mod FreedPlaces
 pub mod Histories
 pub mod IllegalEntries
 pub mod LawfulHistories

@@ -1,0 +1,108 @@
+-- Settling that looks at the least marked place alone, until no run mark is left. Only the laws of it need this.
+use Rattle.std.specs.Prelude.{◌≡◌, ◌≢◌, ℕ, zero, suc, ◌*◌, Bool, true, false, List, [], ◌∷◌, length, Option, Some, None}
+use Rattle.smx_types.specs.declared.driver.DriverSpec.{DriverSpec}
+use Rattle.smx_types.specs.declared.stream.Place.{Place}
+use Rattle.smx_model.specs.Configuration.{Configuration, place_before, same_place}
+use Rattle.smx_model.specs.Queues.{after_leaving, first_message, is_full}
+use Rattle.smx_model.specs.RunMarks.{AreMarked, all_but, both, is_first_at, is_next_of_first, next_of_first}
+use Rattle.smx_model.specs.RunMarks.{nowhere, wanted_after, woken_by}
+use Rattle.smx_model.specs.Settling.{after_move, is_movable, least_movable, next_open_place}
+
+-- a configuration, its run marks and its wanted marks
+pub record MarkedConfiguration : Type 0 where
+  pub configuration : Configuration
+  pub run : Place → Bool
+  pub wanted : Place → Bool
+
+-- each place without a run mark waits
+abbrev pub HasItsMarks : List DriverSpec → MarkedConfiguration → Type 0
+HasItsMarks drivers m = AreMarked drivers m.configuration m.run m.wanted
+
+-- a run mark stands at each movable place
+abbrev pub AreMovableMarked : List DriverSpec → Configuration → (Place → Bool) → Type 0
+AreMovableMarked drivers c run = (p : Place) → is_movable drivers c p ≡ true → run p ≡ true
+
+-- the first message of the second place waits for the first place: it goes there next, and that is full
+abbrev pub HoldsUp : List DriverSpec → Configuration → Place → Place → Type 0
+HoldsUp drivers c full p = (next_of_first drivers c p ≡ Some full) × (is_full c full ≡ true)
+
+-- a wanted mark stands at each full place that holds up the first message of a place without a run mark
+abbrev pub AreHoldingWanted : List DriverSpec → Configuration → (Place → Bool) → (Place → Bool) → Type 0
+AreHoldingWanted drivers c run wanted = (p q : Place) → run p ≡ false → HoldsUp drivers c q p → wanted q ≡ true
+
+-- no place has a run mark
+abbrev pub HasNoRunMark : (Place → Bool) → Type 0
+HasNoRunMark run = (p : Place) → run p ≡ false
+
+-- between commands each place waits, and none has a run mark
+pub record IsAtRest (drivers : List DriverSpec) (m : MarkedConfiguration) : Type 0 where
+  pub marks : HasItsMarks drivers m
+  pub none : HasNoRunMark m.run
+
+-- the least place with a run mark
+pub record IsLeastMarked (run : Place → Bool) (p : Place) : Type 0 where
+  pub marked : run p ≡ true
+  pub none_before : (q : Place) → place_before q p ≡ true → run q ≡ false
+
+-- what has to be marked after a change that turned these places: where there is a message, what had a run mark or was
+-- woken has one, and what was wanted and wasn't freed is wanted
+pub record IsMarkedAfter (drivers : List DriverSpec) (turned : Place → Bool) (old new : MarkedConfiguration)
+    : Type 0 where
+  pub run : (p : Place) → first_message new.configuration.flow p ≢ None
+      → both old.run (woken_by drivers old.configuration new.configuration old.wanted turned) p ≡ true
+      → new.run p ≡ true
+  pub wanted : (p : Place) → wanted_after old.configuration new.configuration old.wanted p ≡ true
+      → new.wanted p ≡ true
+
+-- what an arrival turns, once the first message left a place: the place where it arrives, if that was empty
+abbrev pub is_first_there : List DriverSpec → Configuration → Place → Option Place → Place → Bool
+is_first_there drivers c p None = nowhere
+is_first_there drivers c p (Some q) = is_first_at (after_leaving drivers c p) q
+
+-- what a move turns: the place that it takes from, and the place that it goes to, if that was empty
+abbrev pub turned_by_move : List DriverSpec → Configuration → Place → Place → Bool
+turned_by_move drivers c p = both (same_place p) (is_first_there drivers c p (next_open_place drivers c p))
+
+-- the least marked place is movable: its first message moves on, and what that wakes is marked
+pub record IsMovedOn (drivers : List DriverSpec) (p : Place) (old new : MarkedConfiguration) : Type 0 where
+  pub least : IsLeastMarked old.run p
+  pub movable : is_movable drivers old.configuration p ≡ true
+  pub moved : new.configuration ≡ after_move drivers old.configuration p
+  pub marks : IsMarkedAfter drivers (turned_by_move drivers old.configuration p) old new
+
+-- the least marked place isn't: its mark is cleared, and the full place that it waits for is marked as wanted
+pub record IsCleared (drivers : List DriverSpec) (p : Place) (old new : MarkedConfiguration) : Type 0 where
+  pub least : IsLeastMarked old.run p
+  pub waits : is_movable drivers old.configuration p ≡ false
+  pub same : new.configuration ≡ old.configuration
+  pub run : (q : Place) → new.run q ≡ all_but old.run p q
+  pub wanted : (q : Place) → both old.wanted (is_next_of_first drivers old.configuration p) q ≡ true
+      → new.wanted q ≡ true
+
+-- settling by marks from one to another, by moves from these places in this order: as long as a place has a run mark,
+-- the least of them is moved from or cleared
+pub data SettlesByMarks (drivers : List DriverSpec)
+    : MarkedConfiguration → List Place → MarkedConfiguration → Type 0 where
+  is_settled : (m : MarkedConfiguration) → HasNoRunMark m.run → SettlesByMarks drivers m [] m
+  moves_on : (old new end : MarkedConfiguration) (p : Place) (ps : List Place)
+      → IsMovedOn drivers p old new → SettlesByMarks drivers new ps end → SettlesByMarks drivers old (p ∷ ps) end
+  clears_mark : (old new end : MarkedConfiguration) (p : Place) (ps : List Place)
+      → IsCleared drivers p old new → SettlesByMarks drivers new ps end → SettlesByMarks drivers old ps end
+
+-- the places from which at most so many moves take, in order
+abbrev pub moves_within : List DriverSpec → ℕ → Configuration → List Place
+moves_within drivers zero c = []
+moves_within drivers (suc n) c = elim (least_movable drivers c) [
+  | None ↦ []
+  | Some p ↦ p ∷ moves_within drivers n (after_move drivers c p)
+]
+
+-- the places from which settling takes, in order
+abbrev pub moves_of_settling : List DriverSpec → Configuration → List Place
+moves_of_settling drivers c = moves_within drivers (length c.flow * length drivers) c
+
+-- settling by marks can go on to its end
+pub record CanSettleByMarks (drivers : List DriverSpec) (old : MarkedConfiguration) : Type 0 where
+  pub moves : List Place
+  pub end : MarkedConfiguration
+  pub settles : SettlesByMarks drivers old moves end

@@ -1,0 +1,166 @@
+-- Which places some commands of worked histories turn and free, and the moves of settling that come of it.
+use Rattle.std.specs.Prelude.{◌≡◌, ℕ, Bool, true, false, List, [], ◌∷◌, filter, map, refl, take}
+use Rattle.std.specs.List.{list_all}
+use Rattle.smx_types.specs.declared.command.Command.{Command}
+use Rattle.smx_types.specs.declared.command.Which.TheVariants as which
+use Rattle.smx_types.specs.declared.stream.Place.{Place}
+use Rattle.smx_types.specs.declared.stream.Side.{Side}
+use Rattle.smx_types.specs.declared.stream.Side.TheVariants as side
+use Rattle.smx_model.specs.Configuration.{Configuration}
+use Rattle.smx_model.specs.FreedPlaces.{freed_by}
+use Rattle.smx_model.specs.Queues.{after_leaving}
+use Rattle.smx_model.specs.RunMarks.{is_freed}
+use Rattle.smx_model.specs.SettlingByMarks.{moves_of_settling}
+use Rattle.smx_model.specs.TurnedPlaces.{turned_by}
+use Rattle.smx_model.specs.Worked.Common.{OpenClone, OpenMinor, Dup, Close, CloseAll, Link, Plink, Unlink, Punlink}
+use Rattle.smx_model.specs.Worked.Common.{Bind, Unbind, Route, Unroute, Write, Read, Flush, Inject, Transmit, R, RW, W}
+use Rattle.smx_model.specs.Worked.Common.{after, eth, ip, ip_over_eth}
+use Rattle.smx_model.specs.Worked.EnabledByARouteABindingAndALink as enabled
+use Rattle.smx_model.specs.Worked.TwoStreamsWaitOnOneQueue as waiting
+
+abbrev pub place : ℕ → ℕ → Side → Place
+place driver minor s = record { stream = record { driver = driver; minor = minor }; side = s }
+
+abbrev pub ip_0_write : Place
+ip_0_write = place 0 0 side.Write
+
+abbrev pub ip_0_read : Place
+ip_0_read = place 0 0 side.Read
+
+abbrev pub ip_1_write : Place
+ip_1_write = place 0 1 side.Write
+
+abbrev pub eth_0_write : Place
+eth_0_write = place 1 0 side.Write
+
+abbrev pub eth_0_read : Place
+eth_0_read = place 1 0 side.Read
+
+abbrev pub eth_1_write : Place
+eth_1_write = place 1 1 side.Write
+
+abbrev pub places : List Place
+places = ip_0_write ∷ ip_0_read ∷ ip_1_write ∷ eth_0_write ∷ eth_0_read ∷ eth_1_write ∷ []
+
+abbrev pub is_empty : List Place → Bool
+is_empty [] = true
+is_empty (p ∷ ps) = false
+
+-- the places that a command of process 0 turns, after so many entries of the history whose messages wait for a route, a
+-- binding and a link
+abbrev pub turned_after : ℕ → Command → List Place
+turned_after n command = filter (turned_by ip_over_eth (after ip_over_eth (take n enabled.history)) 0 command) places
+
+-- a message at an empty place is its first one, and a further one is not
+pub a_first_write_turns : turned_after 6 (Write 0 5 (1 ∷ [])) ≡ ip_0_write ∷ []
+a_first_write_turns = refl
+
+pub a_second_write_turns_none : turned_after 8 (Write 0 5 (1 ∷ [])) ≡ []
+a_second_write_turns_none = refl
+
+pub a_first_inject_turns : turned_after 11 (Inject eth 0 9 (1 ∷ [])) ≡ eth_0_read ∷ []
+a_first_inject_turns = refl
+
+pub a_second_inject_turns_none : turned_after 12 (Inject eth 0 9 (1 ∷ [])) ≡ []
+a_second_inject_turns_none = refl
+
+-- a route turns what waits at its driver's write sides with its address, and with no other
+pub a_route_turns : turned_after 8 (Route 0 5 2) ≡ ip_0_write ∷ []
+a_route_turns = refl
+
+pub another_route_turns_none : turned_after 8 (Route 0 6 2) ≡ []
+another_route_turns_none = refl
+
+-- a binding turns what waits at the read sides below its driver with its address, and with no other
+pub a_binding_turns : turned_after 12 (Bind 0 9) ≡ eth_0_read ∷ []
+a_binding_turns = refl
+
+pub another_binding_turns_none : turned_after 12 (Bind 0 8) ≡ []
+another_binding_turns_none = refl
+
+-- a link turns its lower stream's read side
+pub a_link_turns : turned_after 16 (Plink 0 1) ≡ eth_0_read ∷ []
+a_link_turns = refl
+
+pub an_ordinary_link_turns : turned_after 16 (Link 0 1) ≡ eth_0_read ∷ []
+an_ordinary_link_turns = refl
+
+-- what delivers a message turns its place
+pub a_read_turns : turned_after 13 (Read 0) ≡ ip_0_read ∷ []
+a_read_turns = refl
+
+pub a_transmit_turns : turned_after 9 (Transmit eth 1) ≡ eth_1_write ∷ []
+a_transmit_turns = refl
+
+-- the others turn none
+abbrev pub others : List Command
+others = OpenClone ip
+    ∷ OpenMinor ip 0
+    ∷ Dup 0
+    ∷ Close 0
+    ∷ CloseAll
+    ∷ Unlink 0 (which.Id 1)
+    ∷ Punlink 0 which.All
+    ∷ Unbind 0
+    ∷ Unroute 0 5
+    ∷ Flush 0 RW
+    ∷ []
+
+pub others_turn_none : list_all (λ command. is_empty (turned_after 14 command)) others ≡ true
+others_turn_none = refl
+
+-- the configuration in which two streams wait for one queue, and that after a transmit from it
+abbrev pub full : Configuration
+full = after ip_over_eth (take 8 waiting.history)
+
+abbrev pub drained : Configuration
+drained = after_leaving ip_over_eth full eth_0_write
+
+pub a_transmit_frees : filter (is_freed full drained) places ≡ eth_0_write ∷ []
+a_transmit_frees = refl
+
+-- the places that a command may free in it
+abbrev pub freed_in_it : Command → List Place
+freed_in_it command = filter (freed_by ip_over_eth full 0 command drained) places
+
+pub a_transmit_may_free_one : freed_in_it (Transmit eth 0) ≡ eth_0_write ∷ []
+a_transmit_may_free_one = refl
+
+pub a_read_may_free_one : freed_in_it (Read 0) ≡ ip_0_read ∷ []
+a_read_may_free_one = refl
+
+pub a_flush_may_free_its_sides : freed_in_it (Flush 1 W) ≡ ip_1_write ∷ []
+a_flush_may_free_its_sides = refl
+
+pub another_flush_may_free_others : freed_in_it (Flush 0 R) ≡ ip_0_read ∷ []
+another_flush_may_free_others = refl
+
+-- what removes may free each place that is empty then
+abbrev pub empty_ones : List Place
+empty_ones = ip_0_read ∷ eth_0_write ∷ eth_0_read ∷ eth_1_write ∷ []
+
+pub removals_may_free_empty_ones : map freed_in_it (Close 1 ∷ CloseAll ∷ Unlink 0 which.All ∷ Punlink 0 which.All ∷ [])
+    ≡ empty_ones ∷ empty_ones ∷ empty_ones ∷ empty_ones ∷ []
+removals_may_free_empty_ones = refl
+
+-- what opens, links, names or sends frees none
+abbrev pub further : List Command
+further = OpenClone ip
+    ∷ OpenMinor ip 0
+    ∷ Dup 0
+    ∷ Link 1 2
+    ∷ Plink 1 2
+    ∷ Bind 0 9
+    ∷ Unbind 0
+    ∷ Route 0 5 1
+    ∷ Unroute 0 5
+    ∷ Write 0 5 (1 ∷ [])
+    ∷ Inject eth 0 9 (1 ∷ [])
+    ∷ []
+
+pub further_free_none : list_all (λ command. is_empty (freed_in_it command)) further ≡ true
+further_free_none = refl
+
+-- both streams then go on, the lesser first
+pub both_move : moves_of_settling ip_over_eth drained ≡ ip_0_write ∷ ip_1_write ∷ []
+both_move = refl

@@ -1,0 +1,39 @@
+//! Laws of the marks that are enough after a change, each the contract of a function that does nothing.
+
+ghost use Rattle.std.specs.Prelude.{◌≡◌, false, Bool, List, Option};
+ghost use Rattle.smx_types.specs.declared.driver.DriverSpec.{DriverSpec};
+ghost use Rattle.smx_types.specs.declared.stream.Place.{Place};
+ghost use Rattle.smx_model.specs.Configuration.{same_place};
+ghost use Rattle.smx_model.specs.FreedPlaces.{FreesOnly};
+ghost use Rattle.smx_model.specs.KeptConfigurations.{IsSound};
+ghost use Rattle.smx_model.specs.NearMarks.{AreAwaitedKnown, IsMarkedNear, awaits};
+ghost use Rattle.smx_model.specs.RunMarks.{TurnsOnly, can_feed, next_of_first};
+ghost use Rattle.smx_model.specs.SettlingByMarks.{IsCleared, IsMarkedAfter, MarkedConfiguration};
+
+/// It is enough to mark what a change turned, and all that can feed one of the wanted places that it freed.
+pub fn feeders_are_enough()
+    ensures { (drivers : List DriverSpec) (turned freed : Place → Bool) (old new : MarkedConfiguration)
+        → IsSound drivers new.configuration → FreesOnly old.configuration new.configuration freed
+        → IsMarkedNear turned freed (can_feed new.configuration) old new → IsMarkedAfter drivers turned old new }
+{}
+
+/// Where it is known for which place each one waits, it is enough to mark what a change turned, and those that wait for
+/// one of the wanted places that it freed. What was known is so still.
+pub fn known_waiters_are_enough()
+    ensures marks { (drivers : List DriverSpec) (turned freed : Place → Bool) (awaited : Place → Option Place)
+        (old new : MarkedConfiguration) → TurnsOnly drivers old.configuration new.configuration turned
+        → FreesOnly old.configuration new.configuration freed → AreAwaitedKnown drivers old awaited
+        → IsMarkedNear turned freed (awaits awaited) old new → IsMarkedAfter drivers turned old new }
+    ensures known { (drivers : List DriverSpec) (turned freed : Place → Bool) (awaited : Place → Option Place)
+        (old new : MarkedConfiguration) → TurnsOnly drivers old.configuration new.configuration turned
+        → AreAwaitedKnown drivers old awaited → IsMarkedNear turned freed (awaits awaited) old new
+        → AreAwaitedKnown drivers new awaited }
+{}
+
+/// A place becomes known when the mark of the one that waits for it is cleared.
+pub fn clearing_makes_known()
+    ensures { (drivers : List DriverSpec) (p : Place) (old new : MarkedConfiguration)
+        (awaited known : Place → Option Place) → AreAwaitedKnown drivers old awaited → IsCleared drivers p old new
+        → known p ≡ next_of_first drivers old.configuration p
+        → ((r : Place) → same_place p r ≡ false → known r ≡ awaited r) → AreAwaitedKnown drivers new known }
+{}

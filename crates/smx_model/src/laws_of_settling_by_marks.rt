@@ -1,0 +1,73 @@
+//! Laws of settling by marks, each the contract of a function that does nothing.
+
+ghost use Rattle.std.specs.Prelude.{◌≡◌, ◌↔◌, ℕ, suc, true, Bool, List, None, Some};
+ghost use Rattle.std.specs.List.{Contains};
+ghost use Rattle.smx_types.specs.declared.driver.DriverSpec.{DriverSpec};
+ghost use Rattle.smx_types.specs.declared.stream.Place.{Place};
+ghost use Rattle.smx_model.specs.Configuration.{Configuration};
+ghost use Rattle.smx_model.specs.FlowOrder.{IsInOrder};
+ghost use Rattle.smx_model.specs.KeptConfigurations.{IsSound};
+ghost use Rattle.smx_model.specs.RunMarks.{AreMarked};
+ghost use Rattle.smx_model.specs.Settling.{after_move, after_settling, after_settling_within, least_movable};
+ghost use Rattle.smx_model.specs.SettlingByMarks.{moves_of_settling, turned_by_move};
+ghost use Rattle.smx_model.specs.SettlingByMarks.{AreHoldingWanted, AreMovableMarked, CanSettleByMarks, HasItsMarks};
+ghost use Rattle.smx_model.specs.SettlingByMarks.{HoldsUp, IsAtRest, IsCleared, IsMarkedAfter, MarkedConfiguration};
+ghost use Rattle.smx_model.specs.SettlingByMarks.{SettlesByMarks};
+
+/// That each place without a run mark waits says two things: a run mark stands at each movable place, and a wanted mark
+/// at each full place that holds up the first message of a place without a run mark.
+pub fn marks_are_of_two_kinds()
+    ensures { (drivers : List DriverSpec) (c : Configuration) (run wanted : Place → Bool)
+        → (AreMarked drivers c run wanted
+        ↔ (AreMovableMarked drivers c run × AreHoldingWanted drivers c run wanted)) }
+{}
+
+/// Between commands a wanted mark stands at each full place that holds up another place's first message.
+pub fn what_holds_up_is_wanted()
+    ensures { (drivers : List DriverSpec) (m : MarkedConfiguration) → IsAtRest drivers m
+        → (p q : Place) → HoldsUp drivers m.configuration q p → m.wanted q ≡ true }
+{}
+
+/// Settling by marks comes to the very configuration that settling comes to, by the same moves in the same order. Each
+/// place then waits, and none has a run mark.
+pub fn settling_by_marks_is_settling()
+    ensures configuration { (drivers : List DriverSpec) (old end : MarkedConfiguration) (moves : List Place)
+        → IsSound drivers old.configuration → HasItsMarks drivers old → SettlesByMarks drivers old moves end
+        → end.configuration ≡ after_settling drivers old.configuration }
+    ensures moves { (drivers : List DriverSpec) (old end : MarkedConfiguration) (moves : List Place)
+        → IsSound drivers old.configuration → HasItsMarks drivers old → SettlesByMarks drivers old moves end
+        → moves ≡ moves_of_settling drivers old.configuration }
+    ensures rest { (drivers : List DriverSpec) (old end : MarkedConfiguration) (moves : List Place)
+        → IsSound drivers old.configuration → HasItsMarks drivers old → SettlesByMarks drivers old moves end
+        → IsAtRest drivers end }
+{}
+
+/// Where all run marks are among finitely many places, it can come to its end.
+pub fn settling_by_marks_can_end()
+    ensures { (drivers : List DriverSpec) (m : MarkedConfiguration) (places : List Place)
+        → IsSound drivers m.configuration → HasItsMarks drivers m
+        → ((p : Place) → m.run p ≡ true → Contains places p) → CanSettleByMarks drivers m }
+{}
+
+/// A move keeps the marks, where what it woke is marked.
+pub fn moves_keep_marks()
+    ensures { (drivers : List DriverSpec) (p : Place) (old new : MarkedConfiguration)
+        → IsInOrder old.configuration.flow → HasItsMarks drivers old
+        → new.configuration ≡ after_move drivers old.configuration p
+        → IsMarkedAfter drivers (turned_by_move drivers old.configuration p) old new → HasItsMarks drivers new }
+{}
+
+/// So does a run mark that is cleared, where the full place that is waited for is wanted.
+pub fn clearing_keeps_marks()
+    ensures { (drivers : List DriverSpec) (p : Place) (old new : MarkedConfiguration)
+        → HasItsMarks drivers old → IsCleared drivers p old new → HasItsMarks drivers new }
+{}
+
+/// Settling is a move from the least movable place and the rest of settling, or nothing where there is none.
+pub fn settling_goes_on()
+    ensures moves { (drivers : List DriverSpec) (n : ℕ) (c : Configuration) (p : Place)
+        → least_movable drivers c ≡ Some p
+        → after_settling_within drivers (suc n) c ≡ after_settling_within drivers n (after_move drivers c p) }
+    ensures stays { (drivers : List DriverSpec) (n : ℕ) (c : Configuration) → least_movable drivers c ≡ None
+        → after_settling_within drivers n c ≡ c }
+{}
