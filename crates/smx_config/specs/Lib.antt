@@ -15,6 +15,7 @@ pub mod FewMinors
 pub mod ReservedRoom
 pub mod SweepReserves
 pub mod Closing
+pub mod DroppedMessages
 pub mod Refinement
 pub mod SecondReplies
 pub mod ModelOfConfig

@@ -24,5 +24,7 @@ pub record ConfigInvariant (c : Inside) : Type 0 where
   pub table : c.lists.links.drivers ≡ length c.drivers.items
   -- the table of streams has the minors of the drivers
   pub streams : c.lists.streams.minors ≡ map (λ d. d.minors) c.drivers.items
-  -- it has a stream exactly where the stream exists: where a descriptor names it, or it is below a link
+  -- the table of queues is over the drivers
+  pub queues : c.lists.queues.drivers ≡ c.drivers.items
+  -- the table of streams has a stream exactly where the stream exists: where a descriptor names it, or it is below a link
   pub existing : TellsExisting c.drivers.items (configuration_of c.lists) c.lists.streams

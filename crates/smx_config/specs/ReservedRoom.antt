@@ -1,5 +1,5 @@
 -- What the lists of a configuration keep between any two changes. No public clause needs this.
-use Rattle.std.specs.Prelude.{◌≡◌, ◌≤◌, true, false, List, [], ◌∷◌, length, vec_capacity}
+use Rattle.std.specs.Prelude.{◌≡◌, true, false, List, [], ◌∷◌}
 use Rattle.std.specs.List.{list_any, list_all}
 use Rattle.smx_types.specs.declared.stream.Place.{Place}
 use Rattle.smx_config.specs.declared.lists.Lists.{Lists}
@@ -16,8 +16,7 @@ pub record AreMarksHeld (flow : List QueuedMessage) (fulls : List Place) : Type 
   pub apart : AreApart fulls
   pub held : list_all (λ p. list_any (is_at p) flow) fulls ≡ true
 
--- a hold of each stream that is below a link, and room for as many marks as there are messages
+-- a hold of each stream that is below a link, and full marks only where there are messages
 pub record HasRoom (l : Lists) : Type 0 where
   pub held : AreHeld l.links.links l.streams
-  pub marks_room : length l.flow.items ≤ vec_capacity l.fulls
-  pub marks : AreMarksHeld l.flow.items l.fulls.items
+  pub marks : AreMarksHeld l.queues.flow l.queues.fulls

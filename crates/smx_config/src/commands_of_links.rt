@@ -168,7 +168,7 @@ fn unlink_as(
     lists.links.is_sound();
     let gone = targets(alloc, &lists.links, which, kind, stream)?;
     let mut room = reserve_for_sweep(alloc, lists, gone.len())?;
-    remove_links(lists, &gone, &mut room.touched);
+    remove_links(lists, &gone, &mut room.touched, &mut room.dropped);
     Ok(sweep_and_reply(drivers, lists, room))
 }
 

@@ -1,13 +1,14 @@
 //! Writing, reading, flushing, and the device's side.
 
-ghost use Rattle.std.specs.Prelude.{◌≡◌, ◌<◌, ◌==◌, ◌&&◌, ◌||◌, not, nat_lt, nat_le, filter, length, vec_capacity};
+ghost use Rattle.std.specs.Prelude.{◌≡◌, ◌+◌, ◌<◌, ◌≤◌, ◌==◌, ◌&&◌, ◌||◌, not, nat_lt, nat_le, filter, length, vec_capacity, List};
 ghost use Rattle.smx_types.specs.declared.command.Command.TheVariants.{Write, Read, Flush, Inject, Transmit};
 ghost use Rattle.smx_types.specs.declared.limits.TheConstants.{NUMBER_END};
 ghost use Rattle.smx_model.specs.Commands.{send_outcome, receive_outcome, is_side};
-ghost use Rattle.smx_model.specs.Configuration.{same_stream};
+ghost use Rattle.smx_model.specs.Configuration.{QueuedMessage, same_stream};
 ghost use Rattle.smx_model.specs.DriverList.{max_of};
+ghost use Rattle.smx_model.specs.KnownStreams.{IsKnown};
 ghost use Rattle.smx_model.specs.Queues.{is_full};
-ghost use Rattle.smx_model.specs.Removal.{without_queues_at};
+ghost use Rattle.smx_config.specs.DroppedMessages.{AreDropped, is_flushed_at};
 ghost use Rattle.smx_config.specs.ReservedRoom.{HasRoom};
 ghost use Rattle.smx_config.specs.ModelOfLists.{configuration_of, sizes_of};
 ghost use Rattle.smx_config.specs.Refinement.{StepInvariant, HasOutcome, HasOutcomeOrNoMemory, Refines, RefinesOrNoMemory};
@@ -16,12 +17,13 @@ ghost use Rattle.smx_config.specs.Sending.{may_send};
 use crate::driver_specs::max_of;
 use crate::lists::Lists;
 use crate::lookups::{free_stream, leaf_stream};
-use crate::queued_message::QueuedMessage;
-use crate::queues::{arrive, first_addr, is_full, leave};
+use crate::dropped_messages::drop_at;
+use crate::queues::{arrive, leave};
 use crate::refuse::refuse;
 use crate::step_error::StepError;
-use crate::streams::{same_side, same_stream};
+use crate::streams::same_side;
 use crate::sweep::{reserve_for_sweep, sweep_and_reply};
+use smx_queues::FlowTable;
 use smx_types::{
     Bytes, DriverSpec, Fault, Message, NUMBER_END, Name, Place, Process, Reply, Side, Sides,
     StreamId,
@@ -40,7 +42,7 @@ fn has_bad_size(drivers: &[DriverSpec], place: Place, bytes: &Bytes) -> bool
 fn has_no_room(lists: &Lists, place: Place) -> bool
     ensures { result ≡ (is_full (configuration_of lists.now) place || nat_le NUMBER_END lists.now.next_serial) }
 {
-    is_full(&lists.fulls, place) || lists.next_serial >= NUMBER_END
+    lists.queues.is_full(place) || lists.next_serial >= NUMBER_END
 }
 
 // Whether bytes may be sent to the place; the first refusal that applies.
@@ -64,22 +66,22 @@ fn send(
     addr: u32,
     bytes: &Bytes,
 ) -> Result<Reply, StepError>
-    requires { StepInvariant drivers.now lists.old }
+    requires whole { StepInvariant drivers.now lists.old }
+    requires known { IsKnown drivers.now place.stream }
     ensures refines { HasOutcomeOrNoMemory lists.old lists.new (send_outcome drivers.now (configuration_of lists.old) place addr bytes.now) result }
     ensures kept { HasRoom lists.new }
     ensures drivers { sizes_of lists.new ≡ sizes_of lists.old }
 {
     check_send(drivers, lists, place, bytes)?;
     let bytes = bytes.copy(alloc)?;
-    lists.flow.reserve(1)?;
-    lists.fulls.reserve(lists.flow.len() + 1)?;
+    lists.queues.reserve_one()?;
     let serial = lists.next_serial;
     let message = Message {
         serial,
         addr,
         bytes,
     };
-    arrive(drivers, lists, place, message);
+    arrive(lists, place, message);
     lists.next_serial = serial + 1;
     Ok(Reply::Took { serial })
 }
@@ -90,8 +92,8 @@ fn receive(drivers: &[DriverSpec], lists: &mut Lists, place: Place) -> Result<Re
     ensures kept { HasRoom lists.new }
     ensures drivers { sizes_of lists.new ≡ sizes_of lists.old }
 {
-    refuse(Fault::Empty, first_addr(&lists.flow, place).is_none())?;
-    match leave(drivers, lists, place) {
+    let _drivers = drivers;
+    match leave(lists, place) {
         Some(message) => Ok(Reply::Got {
             serial: message.serial,
             addr: message.addr,
@@ -152,34 +154,38 @@ fn is_side(sides: Sides, side: Side) -> bool
     }
 }
 
-fn is_flushed(stream: StreamId, sides: Sides, place: Place) -> bool
-    ensures { result ≡ (same_stream place.stream stream && is_side sides place.side) }
+// Drops the messages on one side of a stream, where that side is named.
+fn empty_side(
+    queues: &mut FlowTable,
+    stream: StreamId,
+    sides: Sides,
+    side: Side,
+    dropped: &mut Vec<u32>,
+)
+    requires { length dropped.old.items + length queues.old.flow ≤ vec_capacity dropped.old }
+    ensures flow { queues.new.flow ≡ filter (λ h. not (is_flushed_at stream sides side h.place)) queues.old.flow }
+    ensures fulls { queues.new.fulls ≡ filter (λ p. not (is_flushed_at stream sides side p)) queues.old.fulls }
+    ensures drivers { queues.new.drivers ≡ queues.old.drivers }
+    ensures dropped { (old : List QueuedMessage) → AreDropped old queues.old.flow dropped.old.items
+        → AreDropped old queues.new.flow dropped.new.items }
+    ensures room { length dropped.new.items + length queues.new.flow ≤ vec_capacity dropped.new }
 {
-    same_stream(place.stream, stream) && is_side(sides, place.side)
+    if is_side(sides, side) {
+        drop_at(queues, Place { stream, side }, dropped);
+    }
 }
 
-fn flush_flow(flow: &mut Vec<QueuedMessage>, stream: StreamId, sides: Sides)
-    ensures { flow.new.items ≡ filter (λ h. not (same_stream h.place.stream stream && is_side sides h.place.side)) flow.old.items }
+fn empty(queues: &mut FlowTable, stream: StreamId, sides: Sides, dropped: &mut Vec<u32>)
+    requires { length dropped.old.items + length queues.old.flow ≤ vec_capacity dropped.old }
+    ensures flow { queues.new.flow ≡ filter (λ h. not (same_stream h.place.stream stream && is_side sides h.place.side)) queues.old.flow }
+    ensures fulls { queues.new.fulls ≡ filter (λ p. not (same_stream p.stream stream && is_side sides p.side)) queues.old.fulls }
+    ensures drivers { queues.new.drivers ≡ queues.old.drivers }
+    ensures dropped { (old : List QueuedMessage) → AreDropped old queues.old.flow dropped.old.items
+        → AreDropped old queues.new.flow dropped.new.items }
+    ensures room { length dropped.new.items + length queues.new.flow ≤ vec_capacity dropped.new }
 {
-    flow.retain(|h| !is_flushed(stream, sides, h.place()));
-}
-
-fn flush_fulls(fulls: &mut Vec<Place>, stream: StreamId, sides: Sides)
-    ensures marks { fulls.new.items ≡ filter (λ p. not (same_stream p.stream stream && is_side sides p.side)) fulls.old.items }
-    ensures capacity { vec_capacity fulls.new ≡ vec_capacity fulls.old }
-{
-    fulls.retain(|p| !is_flushed(stream, sides, *p));
-}
-
-fn empty(lists: &mut Lists, stream: StreamId, sides: Sides)
-    requires { HasRoom lists.old }
-    ensures value { configuration_of lists.new ≡ without_queues_at (configuration_of lists.old) (λ p. same_stream p.stream stream && is_side sides p.side) }
-    ensures streams { lists.new.streams ≡ lists.old.streams }
-    ensures kept { HasRoom lists.new }
-    ensures drivers { sizes_of lists.new ≡ sizes_of lists.old }
-{
-    flush_flow(&mut lists.flow, stream, sides);
-    flush_fulls(&mut lists.fulls, stream, sides);
+    empty_side(queues, stream, sides, Side::Write, dropped);
+    empty_side(queues, stream, sides, Side::Read, dropped);
 }
 
 pub fn flush(
@@ -196,8 +202,8 @@ pub fn flush(
     ensures drivers { sizes_of lists.new ≡ sizes_of lists.old }
 {
     let stream = free_stream(lists, process, fd)?;
-    let room = reserve_for_sweep(alloc, lists, 0)?;
-    empty(lists, stream, sides);
+    let mut room = reserve_for_sweep(alloc, lists, 0)?;
+    empty(&mut lists.queues, stream, sides, &mut room.dropped);
     Ok(sweep_and_reply(drivers, lists, room))
 }
 

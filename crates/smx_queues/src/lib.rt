@@ -2,9 +2,20 @@
 #![tactic(auto)]
 
 mod chain;
+mod flow_table;
+mod fronts;
+mod full_places;
 mod messages;
 mod node;
+mod places;
+mod queued;
+mod queued_messages;
 mod queues;
 
+pub use flow_table::FlowTable;
+pub use fronts::Fronts;
+pub use full_places::FullPlaces;
 pub use messages::Messages;
+pub use queued::Queued;
+pub use queued_messages::QueuedMessages;
 pub use queues::{PlaceId, Queues};

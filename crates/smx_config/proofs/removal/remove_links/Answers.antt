@@ -8,7 +8,6 @@ use Rattle.smx_config.proofs.removal.remove_links.Goals as goal
 pub returns-clause-kept : goal.returns-clause-kept
 returns-clause-kept c = record {
   held = rw (c.drop_links.ensures.links, c.drop_links.ensures.streams) c.release_each.ensures.held;
-  marks_room = c.drop_links.ensures.room;
   marks = c.drop_links.ensures.marks;
 }
 

@@ -61,4 +61,4 @@ returns-clause-kept c =
     subst (λ (ls : List Link). AreHeld ls c.drop_links.new.lists.streams) (sym left)
     (subst (λ (u : StreamTable). AreHeld (filter (is_held t) links) u) (sym c.drop_links.ensures.streams)
     (held_is_left links (length c.args.drivers.now) t (c.release_orphans-released.ensures.releasing (length c.args.drivers.now)))) in
-    record { held = held; marks_room = c.drop_links.ensures.room; marks = c.drop_links.ensures.marks }
+    record { held = held; marks = c.drop_links.ensures.marks }
