@@ -93,13 +93,17 @@ filter_twice t u (x ∷ xs) = elim (cases_Bool (t x)) [
   | inr a ↦ rw a (filter_twice t u xs)
 ]
 
+-- without what passes one test more
+pub tests_less : {X : Type 0} (goes one more : X → Bool) (xs ys zs : List X) → ((x : X) → more x ≡ (goes x || one x)) → ys ≡ filter (λ x. not (goes x)) xs → zs ≡ filter (λ x. not (one x)) ys → zs ≡ filter (λ x. not (more x)) xs
+tests_less goes one more xs ys zs h e f =
+    f ∙ (ap (filter (λ x. not (one x))) e
+    ∙ (filter_twice (λ x. not (goes x)) (λ x. not (one x)) xs
+    ∙ filter_agree (λ x. not (goes x) && not (one x)) (λ x. not (more x)) (λ x. not_either (goes x) (one x) ∙ ap not (sym (h x))) xs))
+
 -- without a place more
 pub one_less : {X : Type 0} (place : X → Place) (goes more : Place → Bool) (p : Place) (xs ys zs : List X) → ((q : Place) → more q ≡ (goes q || same_place q p))
     → ys ≡ filter (λ x. not (goes (place x))) xs → zs ≡ filter (λ x. not (same_place (place x) p)) ys → zs ≡ filter (λ x. not (more (place x))) xs
-one_less place goes more p xs ys zs h e f =
-    f ∙ (ap (filter (λ x. not (same_place (place x) p))) e
-    ∙ (filter_twice (λ x. not (goes (place x))) (λ x. not (same_place (place x) p)) xs
-    ∙ filter_agree (λ x. not (goes (place x)) && not (same_place (place x) p)) (λ x. not (more (place x))) (λ x. not_either (goes (place x)) (same_place (place x) p) ∙ ap not (sym (h (place x)))) xs))
+one_less place goes more p xs ys zs h e f = tests_less (λ x. goes (place x)) (λ x. same_place (place x) p) (λ x. more (place x)) xs ys zs (λ x. h (place x)) e f
 
 pub none_less : {X : Type 0} (place : X → Place) (goes more : Place → Bool) (xs ys : List X) → ((q : Place) → more q ≡ goes q) → ys ≡ filter (λ x. not (goes (place x))) xs → ys ≡ filter (λ x. not (more (place x))) xs
 none_less place goes more xs ys h e = e ∙ filter_agree (λ x. not (goes (place x))) (λ x. not (more (place x))) (λ x. ap not (sym (h (place x)))) xs

@@ -1,13 +1,22 @@
--- The first message of each place stands for all of them; places whose streams are gone are emptied, one after the other.
-use Rattle.std.proofs.Common.{◌≡◌, ℕ, ◌+◌, ◌<◌, ◌≤◌, Bool, true, false, ◌&&◌, ◌||◌, not, List, [], ◌∷◌, length, filter, find, Option, Some, None, refl, sym, ap, ◌∙◌, subst, arith, inl, inr}
+-- The first message of each place stands for all of them, and what dead streams hold goes, stream by stream.
+use Rattle.std.proofs.Common.{◌≡◌, ℕ, ◌+◌, ◌<◌, ◌≤◌, Bool, true, false, ◌&&◌, ◌||◌, not, List, [], ◌∷◌, ◌++◌, length, filter, find, take, get_or, Option, Some, None, refl, sym, ap, ◌∙◌, subst, arith, inl, inr}
 use Rattle.std.specs.Prelude.{IfSome}
 use Rattle.std.specs.List.{list_all, list_any}
 use Rattle.std.specs.Option.{option_map}
 use Rattle.std.proofs.lemmas.Bool.{and_parts, cases_Bool, false≢true, or_cases}
+use Rattle.std.proofs.lemmas.List.{take_more}
+use Rattle.std.proofs.lemmas.List.Elements.{filter_agree}
 use Rattle.smx_types.specs.declared.stream.Place.{Place}
-use Rattle.smx_model.specs.Configuration.{QueuedMessage, is_at, same_place}
+use Rattle.smx_types.specs.declared.stream.Side.{Side}
+use Rattle.smx_types.specs.declared.stream.StreamId.{StreamId}
+use Rattle.smx_model.specs.Configuration.{QueuedMessage, same_stream}
 use Rattle.smx_queues.specs.FlowTables.{fronts, fronts_after, is_same}
-use Rattle.smx_config.proofs.MarkLemmas.{place_is, place_self}
+use Rattle.smx_streams.specs.StreamTables.{StreamTable, exists as is_there}
+use Rattle.smx_config.specs.TouchedStreams.{is_dead, is_there_or_touched}
+use Rattle.smx_config.proofs.AboveLemmas.{stream_is}
+use Rattle.smx_config.proofs.BelowLemmas.{tests_less}
+use Rattle.smx_config.proofs.PlaceLemmas.{place_is}
+use Rattle.smx_config.proofs.WatchLemmas.{listed_more}
 
 -- the place of a message, where there is one
 abbrev pub place_of : Option QueuedMessage → Option Place
@@ -30,72 +39,69 @@ first_after test before (k ∷ ks) h = elim (cases_Bool (is_same before k.place)
 pub first_of_fronts : (test : Place → Bool) (flow : List QueuedMessage) → place_of (find (λ h. test h.place) (fronts flow)) ≡ place_of (find (λ h. test h.place) flow)
 first_of_fronts test flow = first_after test None flow tt
 
--- ---- a place that goes is emptied
+-- ---- one stream more
 
-pub filter_again : {X : Type 0} (place : X → Place) (goes : Place → Bool) (p : Place) (xs : List X) → goes p ≡ true
-    → filter (λ x. not (goes (place x))) (filter (λ x. not (same_place (place x) p)) xs) ≡ filter (λ x. not (goes (place x))) xs
-filter_again place goes p [] h = refl
-filter_again place goes p (x ∷ xs) h = elim (cases_Bool (same_place (place x) p)) [
-  | inl s ↦ let g : goes (place x) ≡ true = subst (λ (q : Place). goes q ≡ true) (sym (place_is (place x) p s)) h in rw (s, g) (filter_again place goes p xs h)
-  | inr n ↦ elim (cases_Bool (goes (place x))) [ inl g ↦ rw (n, g) (filter_again place goes p xs h) | inr f ↦ rw (n, f) (ap (λ (ys : List _). x ∷ ys) (filter_again place goes p xs h)) ]
-]
+dead_more : (t : StreamTable) (ss : List StreamId) (s x : StreamId) → is_there t s ≡ false → is_dead t (ss ++ s ∷ []) x ≡ (is_dead t ss x || same_stream x s)
+dead_more t ss s x gone = ap (λ (b : Bool). not (is_there t x) && b) (listed_more x ss s) ∙ table (is_there t x) (list_any (same_stream x) ss) (same_stream x s) (λ e. ap (is_there t) (stream_is x s e) ∙ gone) where
+  table : (there listed same : Bool) → (same ≡ true → there ≡ false) → (not there && (listed || same)) ≡ ((not there && listed) || same)
+  table false listed same h = refl
+  table true listed true h = absurd (false≢true (sym (h refl)))
+  table true listed false h = refl
 
-pub passes : (test : Place → Bool) (flow : List QueuedMessage) (p : Place) → place_of (find (λ h. test h.place) flow) ≡ Some p → test p ≡ true
-passes test [] p e = absurd cc
-passes test (h ∷ hs) p e = elim (cases_Bool (test h.place)) [
-  | inl t ↦ let f : ◌≡◌ {A = Option Place} (Some h.place) (Some p) = rw t at e in let same : h.place ≡ p = cc in subst (λ (x : Place). test x ≡ true) same t
-  | inr n ↦ passes test hs p (rw n at e)
-]
+dead_still : (t : StreamTable) (ss : List StreamId) (s x : StreamId) → is_there t s ≡ true → is_dead t (ss ++ s ∷ []) x ≡ is_dead t ss x
+dead_still t ss s x there = ap (λ (b : Bool). not (is_there t x) && b) (listed_more x ss s) ∙ table (is_there t x) (list_any (same_stream x) ss) (same_stream x s) (λ e. ap (is_there t) (stream_is x s e) ∙ there) where
+  table : (b listed same : Bool) → (same ≡ true → b ≡ true) → (not b && (listed || same)) ≡ (not b && listed)
+  table true listed same h = refl
+  table false listed true h = absurd (false≢true (h refl))
+  table false true false h = refl
+  table false false false h = refl
 
-no_longer : (p : Place) (hs : List QueuedMessage) → length (filter (λ h. not (same_place h.place p)) hs) ≤ length hs
-no_longer p [] = omega arith
-no_longer p (h ∷ hs) = elim (cases_Bool (same_place h.place p)) [ inl t ↦ rw t (omega (arith, no_longer p hs)) | inr f ↦ rw f (omega (arith, no_longer p hs)) ]
+and_true : (b : Bool) → (b && true) ≡ b
+and_true true = refl
+and_true false = refl
 
--- so there are fewer messages
-pub fewer_left : (test : Place → Bool) (flow : List QueuedMessage) (p : Place) → place_of (find (λ h. test h.place) flow) ≡ Some p → length (filter (λ h. not (same_place h.place p)) flow) < length flow
-fewer_left test [] p e = absurd cc
-fewer_left test (h ∷ hs) p e = elim (cases_Bool (test h.place)) [
-  | inl t ↦ let f : ◌≡◌ {A = Option Place} (Some h.place) (Some p) = rw t at e in let same : h.place ≡ p = cc in
-      let here : same_place h.place p ≡ true = subst (λ (x : Place). same_place x p ≡ true) (sym same) (place_self p) in rw here (omega (arith, no_longer p hs))
-  | inr n ↦ let less = fewer_left test hs p (rw n at e) in elim (cases_Bool (same_place h.place p)) [ inl t ↦ rw t (omega (arith, less)) | inr f ↦ rw f (omega (arith, less)) ]
-]
+-- one stream more is taken
+taken_one : (seen : List StreamId) (i : ℕ) (s : StreamId) → i < length seen → s ≡ get_or seen i s → take (i + 1) seen ≡ take i seen ++ s ∷ []
+taken_one seen i s lt at = take_more seen i s lt ∙ ap (λ (x : StreamId). take i seen ++ x ∷ []) (sym at)
 
--- ---- where no place goes, all stays
+-- a stream that is not there goes, with both its sides
+pub stream_less : {X : Type 0} (stream : X → StreamId) (t : StreamTable) (seen : List StreamId) (i : ℕ) (s : StreamId) (xs ys zs : List X) → i < length seen → s ≡ get_or seen i s → is_there t s ≡ false
+    → ys ≡ filter (λ x. not (is_dead t (take i seen) (stream x))) xs → zs ≡ filter (λ x. not (same_stream (stream x) s && true)) ys → zs ≡ filter (λ x. not (is_dead t (take (i + 1) seen) (stream x))) xs
+stream_less stream t seen i s xs ys zs lt at gone e f =
+    subst (λ (ss : List StreamId). zs ≡ filter (λ x. not (is_dead t ss (stream x))) xs) (sym (taken_one seen i s lt at))
+    (tests_less (λ x. is_dead t (take i seen) (stream x)) (λ x. same_stream (stream x) s && true) (λ x. is_dead t (take i seen ++ s ∷ []) (stream x)) xs ys zs
+    (λ x. dead_more t (take i seen) s (stream x) gone ∙ ap (λ (b : Bool). is_dead t (take i seen) (stream x) || b) (sym (and_true (same_stream (stream x) s)))) e f)
 
-none_goes : (test : Place → Bool) (flow : List QueuedMessage) → place_of (find (λ h. test h.place) flow) ≡ None → list_any (λ h. test h.place) flow ≡ false
-none_goes test [] e = refl
-none_goes test (h ∷ hs) e = elim (cases_Bool (test h.place)) [
-  | inl t ↦ let f : ◌≡◌ {A = Option Place} (Some h.place) None = rw t at e in absurd cc
-  | inr n ↦ rw n (none_goes test hs (rw n at e))
-]
+-- one that is there stays
+pub stream_stays : {X : Type 0} (stream : X → StreamId) (t : StreamTable) (seen : List StreamId) (i : ℕ) (s : StreamId) (xs ys : List X) → i < length seen → s ≡ get_or seen i s → is_there t s ≡ true
+    → ys ≡ filter (λ x. not (is_dead t (take i seen) (stream x))) xs → ys ≡ filter (λ x. not (is_dead t (take (i + 1) seen) (stream x))) xs
+stream_stays stream t seen i s xs ys lt at there e =
+    e ∙ filter_agree (λ x. not (is_dead t (take i seen) (stream x))) (λ x. not (is_dead t (take (i + 1) seen) (stream x)))
+    (λ x. ap not (sym (ap (λ (ss : List StreamId). is_dead t ss (stream x)) (taken_one seen i s lt at) ∙ dead_still t (take i seen) s (stream x) there))) xs
 
-all_stay : (test : Place → Bool) (flow : List QueuedMessage) → list_any (λ h. test h.place) flow ≡ false → filter (λ h. not (test h.place)) flow ≡ flow
-all_stay test [] e = refl
-all_stay test (h ∷ hs) e = elim (cases_Bool (test h.place)) [
-  | inl t ↦ let f : true ≡ false = rw t at e in absurd cc
-  | inr n ↦ rw n (ap (λ (ks : List QueuedMessage). h ∷ ks) (all_stay test hs (rw n at e)))
-]
+-- none at first
+pub none_dead : {X : Type 0} (stream : X → StreamId) (t : StreamTable) (xs : List X) → xs ≡ filter (λ x. not (is_dead t [] (stream x))) xs
+none_dead stream t [] = refl
+none_dead stream t (x ∷ xs) = rw (and_false (not (is_there t (stream x)))) (ap (λ (ys : List _). x ∷ ys) (none_dead stream t xs)) where
+  and_false : (b : Bool) → (b && false) ≡ false
+  and_false true = refl
+  and_false false = refl
 
-stays : (test : Place → Bool) (flow : List QueuedMessage) (p : Place) → list_any (λ h. test h.place) flow ≡ false → list_any (is_at p) flow ≡ true → test p ≡ false
-stays test [] p none there = absurd (false≢true there)
-stays test (h ∷ hs) p none there = elim (cases_Bool (test h.place)) [
-  | inl t ↦ let f : true ≡ false = rw t at none in absurd cc
-  | inr n ↦ elim (or_cases (is_at p h) (list_any (is_at p) hs) there) [
-    | inl here ↦ subst (λ (x : Place). test x ≡ false) (place_is h.place p here) n
-    | inr later ↦ stays test hs p (rw n at none) later
-  ]
-]
+-- ---- all that went were seen
 
-marks_stay : (test : Place → Bool) (flow : List QueuedMessage) (fulls : List Place) → list_any (λ h. test h.place) flow ≡ false → list_all (λ p. list_any (is_at p) flow) fulls ≡ true
-    → filter (λ p. not (test p)) fulls ≡ fulls
-marks_stay test flow [] none held = refl
-marks_stay test flow (p ∷ ps) none held =
-    let b = and_parts (list_any (is_at p) flow) (list_all (λ q. list_any (is_at q) flow) ps) held in
-    rw (stays test flow p none b.0) (ap (λ (qs : List Place). p ∷ qs) (marks_stay test flow ps none b.1))
+dead_is_gone : (t : StreamTable) (seen : List StreamId) (s : StreamId) → is_there_or_touched t seen s ≡ true → is_dead t seen s ≡ not (is_there t s)
+dead_is_gone t seen s h = table (is_there t s) (list_any (same_stream s) seen) h where
+  table : (there listed : Bool) → (there || listed) ≡ true → (not there && listed) ≡ not there
+  table true listed e = refl
+  table false listed e = e
 
-pub flow_stays : (test : Place → Bool) (flow : List QueuedMessage) → place_of (find (λ h. test h.place) flow) ≡ None → filter (λ h. not (test h.place)) flow ≡ flow
-flow_stays test flow e = all_stay test flow (none_goes test flow e)
-
-pub fulls_stay : (test : Place → Bool) (flow : List QueuedMessage) (fulls : List Place) → place_of (find (λ h. test h.place) flow) ≡ None → list_all (λ p. list_any (is_at p) flow) fulls ≡ true
-    → filter (λ p. not (test p)) fulls ≡ fulls
-fulls_stay test flow fulls e held = marks_stay test flow fulls (none_goes test flow e) held
+pub dead_are_gone : {X : Type 0} (stream : X → StreamId) (t : StreamTable) (seen : List StreamId) (xs : List X) → list_all (λ x. is_there_or_touched t seen (stream x)) xs ≡ true
+    → filter (λ x. not (is_dead t seen (stream x))) xs ≡ filter (λ x. not (not (is_there t (stream x)))) xs
+dead_are_gone stream t seen [] h = refl
+dead_are_gone stream t seen (x ∷ xs) h =
+    let p = and_parts (is_there_or_touched t seen (stream x)) (list_all (λ y. is_there_or_touched t seen (stream y)) xs) h in
+    let same = dead_is_gone t seen (stream x) p.0 in
+    elim (cases_Bool (is_there t (stream x))) [
+      | inl there ↦ rw (same, there) (ap (λ (ys : List _). x ∷ ys) (dead_are_gone stream t seen xs p.1))
+      | inr gone ↦ rw (same, gone) (dead_are_gone stream t seen xs p.1)
+    ]

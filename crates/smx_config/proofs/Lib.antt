@@ -11,7 +11,7 @@ pub mod OrphanLemmas
 pub mod ReleasedIdLemmas
 pub mod TouchLemmas
 pub mod DescriptorLemmas
-pub mod MarkLemmas
+pub mod PlaceLemmas
 pub mod SettleLemmas
 pub mod RemovalLemmas
 pub mod BelowLemmas

@@ -15,9 +15,7 @@ use Rattle.smx_config.specs.declared.lists.Lists.{Lists}
 use Rattle.smx_config.specs.declared.settling.Move.{Move}
 use Rattle.smx_config.specs.ModelOfLists.{configuration_of}
 use Rattle.smx_config.specs.Moves.{IsLeastMove, open_place}
-use Rattle.smx_config.specs.ReservedRoom.{AreMarksHeld}
 use Rattle.smx_config.proofs.DeadLemmas.{place_of}
-use Rattle.smx_config.proofs.MarkLemmas.{marks_after_arrived, marks_after_left}
 use Rattle.smx_config.proofs.SettleLemmas.{moved_is}
 
 -- the lists with another table of queues
@@ -35,23 +33,7 @@ left_is l q p n e = ap (λ (x : FlowLists). configuration_of (with_queues l x)) 
 pub arrived_is : (l : Lists) (q : FlowLists) (p : Place) (m : Message) (n : ℕ) → q ≡ with_spare (after_arrival l.queues p m) n → configuration_of (with_queues l q) ≡ model_arrival l.queues.drivers (configuration_of l) p m
 arrived_is l q p m n e = ap (λ (x : FlowLists). configuration_of (with_queues l x)) e
 
-pub marks_left : (t q : FlowLists) (p : Place) (n : ℕ) → AreMarksHeld t.flow t.fulls → q ≡ with_spare (after_leaving t p) n → AreMarksHeld q.flow q.fulls
-marks_left t q p n h e =
-    let new = after_leaving t p in
-    subst (λ (x : FlowLists). AreMarksHeld x.flow x.fulls) (sym e)
-    (marks_after_left t.flow new.flow t.fulls new.fulls p (low_of t.drivers p.stream.driver) (full_after_leaving (list_any (same_place p) t.fulls) (low_of t.drivers p.stream.driver) (bytes_at new.flow p)) h refl refl refl)
-
-pub marks_arrived : (t q : FlowLists) (p : Place) (m : Message) (n : ℕ) → AreMarksHeld t.flow t.fulls → q ≡ with_spare (after_arrival t p m) n → AreMarksHeld q.flow q.fulls
-marks_arrived t q p m n h e =
-    let new = after_arrival t p m in
-    subst (λ (x : FlowLists). AreMarksHeld x.flow x.fulls) (sym e)
-    (marks_after_arrived t.flow new.flow t.fulls new.fulls p m (full_after_arrival (list_any (same_place p) t.fulls) (high_of t.drivers p.stream.driver) (bytes_at new.flow p)) h refl refl)
-
 -- ---- a message that may leave
-
-pub marks_taken : (t q : FlowLists) (p : Place) (o : Option Message) → AreMarksHeld t.flow t.fulls → OnSome o (q ≡ with_spare (after_leaving t p) q.spare) → IfNone o (q ≡ t) → AreMarksHeld q.flow q.fulls
-marks_taken t q p None h some none = subst (λ (x : FlowLists). AreMarksHeld x.flow x.fulls) (sym none) h
-marks_taken t q p (Some m) h some none = marks_left t q p q.spare h some
 
 pub taken_is : (l : Lists) (q : FlowLists) (p : Place) (o : Option Message) → OnSome o (q ≡ with_spare (after_leaving l.queues p) q.spare)
     → OnSome o (configuration_of (with_queues l q) ≡ model_leaving l.queues.drivers (configuration_of l) p)
@@ -84,15 +66,6 @@ pub moved_on : (drivers : List DriverSpec) (l : Lists) (q : FlowLists) (from to 
 moved_on drivers l q from to same some next moved =
     let next_too = subst (λ (ds : List DriverSpec). next_open_place ds (configuration_of l) from ≡ Some to) (sym same) next in
     subst (λ (ds : List DriverSpec). configuration_of (with_queues l q) ≡ after_move ds (configuration_of l) from) same (moved_by l q from to (first_message l.queues.flow from) refl some next_too moved)
-
-marks_by : (t q : FlowLists) (from to : Place) (o : Option Message) → first_message t.flow from ≡ o → IsSome o → IsMoved t q from to → AreMarksHeld t.flow t.fulls → AreMarksHeld q.flow q.fulls
-marks_by t q from to None first some moved h = absurd cc
-marks_by t q from to (Some m) first some moved h =
-    let left = after_leaving t from in
-    marks_arrived left q to m left.spare (marks_left t left from t.spare h refl) (moved m first)
-
-pub marks_moved : (t q : FlowLists) (from to : Place) → IsSome (first_message t.flow from) → IsMoved t q from to → AreMarksHeld t.flow t.fulls → AreMarksHeld q.flow q.fulls
-marks_moved t q from to some moved h = marks_by t q from to (first_message t.flow from) refl some moved h
 
 drivers_by : (t q : FlowLists) (from to : Place) (o : Option Message) → first_message t.flow from ≡ o → IsSome o → IsMoved t q from to → q.drivers ≡ t.drivers
 drivers_by t q from to None first some moved = absurd cc

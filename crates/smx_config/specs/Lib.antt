@@ -12,7 +12,7 @@ pub mod StreamFaults
 pub mod UnlinkTargets
 pub mod Sending
 pub mod FewMinors
-pub mod ReservedRoom
+pub mod KeptHolds
 pub mod SweepReserves
 pub mod Closing
 pub mod DroppedMessages

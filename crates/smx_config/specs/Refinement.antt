@@ -14,7 +14,7 @@ use Rattle.smx_config.specs.declared.step_error.StepError.{StepError}
 use Rattle.smx_config.specs.declared.step_error.StepError.TheVariants as step_error
 use Rattle.smx_config.specs.ExistingStreams.{TellsExisting}
 use Rattle.smx_config.specs.FewMinors.{HaveFewMinors}
-use Rattle.smx_config.specs.ReservedRoom.{HasRoom}
+use Rattle.smx_config.specs.KeptHolds.{KeepsHolds}
 use Rattle.smx_config.specs.ModelOfLists.{configuration_of}
 
 -- what holds between any two steps
@@ -24,7 +24,7 @@ pub record StepInvariant (drivers : List DriverSpec) (l : Lists) : Type 0 where
   pub table : l.links.drivers ≡ length drivers
   pub streams : l.streams.minors ≡ map (λ d. d.minors) drivers
   pub queues : l.queues.drivers ≡ drivers
-  pub kept : HasRoom l
+  pub kept : KeepsHolds l
   pub existing : TellsExisting drivers (configuration_of l) l.streams
   pub known : AreStreamsKnown drivers (configuration_of l)
   pub swept_already : IsSwept drivers (configuration_of l)

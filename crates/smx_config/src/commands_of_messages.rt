@@ -1,32 +1,27 @@
 //! Writing, reading, flushing, and the device's side.
 
-ghost use Rattle.std.specs.Prelude.{◌≡◌, ◌+◌, ◌<◌, ◌≤◌, ◌==◌, ◌&&◌, ◌||◌, not, nat_lt, nat_le, filter, length, vec_capacity, List};
+ghost use Rattle.std.specs.Prelude.{◌≡◌, ◌==◌, ◌||◌, nat_lt, nat_le, length};
 ghost use Rattle.smx_types.specs.declared.command.Command.TheVariants.{Write, Read, Flush, Inject, Transmit};
 ghost use Rattle.smx_types.specs.declared.limits.TheConstants.{NUMBER_END};
-ghost use Rattle.smx_model.specs.Commands.{send_outcome, receive_outcome, is_side};
-ghost use Rattle.smx_model.specs.Configuration.{QueuedMessage, same_stream};
+ghost use Rattle.smx_model.specs.Commands.{send_outcome, receive_outcome};
 ghost use Rattle.smx_model.specs.DriverList.{max_of};
 ghost use Rattle.smx_model.specs.KnownStreams.{IsKnown};
 ghost use Rattle.smx_model.specs.Queues.{is_full};
-ghost use Rattle.smx_config.specs.DroppedMessages.{AreDropped, is_flushed_at};
-ghost use Rattle.smx_config.specs.ReservedRoom.{HasRoom};
+ghost use Rattle.smx_config.specs.KeptHolds.{KeepsHolds};
 ghost use Rattle.smx_config.specs.ModelOfLists.{configuration_of, sizes_of};
 ghost use Rattle.smx_config.specs.Refinement.{StepInvariant, HasOutcome, HasOutcomeOrNoMemory, Refines, RefinesOrNoMemory};
 ghost use Rattle.smx_config.specs.Sending.{may_send};
 
 use crate::driver_specs::max_of;
+use crate::dropped_messages::drop_sides;
 use crate::lists::Lists;
 use crate::lookups::{free_stream, leaf_stream};
-use crate::dropped_messages::drop_at;
 use crate::queues::{arrive, leave};
 use crate::refuse::refuse;
 use crate::step_error::StepError;
-use crate::streams::same_side;
 use crate::sweep::{reserve_for_sweep, sweep_and_reply};
-use smx_queues::FlowTable;
 use smx_types::{
     Bytes, DriverSpec, Fault, Message, NUMBER_END, Name, Place, Process, Reply, Side, Sides,
-    StreamId,
 };
 use std::alloc::Global;
 
@@ -69,7 +64,7 @@ fn send(
     requires whole { StepInvariant drivers.now lists.old }
     requires known { IsKnown drivers.now place.stream }
     ensures refines { HasOutcomeOrNoMemory lists.old lists.new (send_outcome drivers.now (configuration_of lists.old) place addr bytes.now) result }
-    ensures kept { HasRoom lists.new }
+    ensures kept { KeepsHolds lists.new }
     ensures drivers { sizes_of lists.new ≡ sizes_of lists.old }
 {
     check_send(drivers, lists, place, bytes)?;
@@ -89,7 +84,7 @@ fn send(
 fn receive(drivers: &[DriverSpec], lists: &mut Lists, place: Place) -> Result<Reply, Fault>
     requires { StepInvariant drivers.now lists.old }
     ensures refines { HasOutcome lists.old lists.new (receive_outcome drivers.now (configuration_of lists.old) place) result }
-    ensures kept { HasRoom lists.new }
+    ensures kept { KeepsHolds lists.new }
     ensures drivers { sizes_of lists.new ≡ sizes_of lists.old }
 {
     let _drivers = drivers;
@@ -114,7 +109,7 @@ pub fn write(
 ) -> Result<Reply, StepError>
     requires { StepInvariant drivers.now lists.old }
     ensures refines { RefinesOrNoMemory drivers.now lists.old lists.new process (Write fd addr bytes.now) result }
-    ensures kept { HasRoom lists.new }
+    ensures kept { KeepsHolds lists.new }
     ensures drivers { sizes_of lists.new ≡ sizes_of lists.old }
 {
     let stream = free_stream(lists, process, fd)?;
@@ -133,7 +128,7 @@ pub fn read(
 ) -> Result<Reply, Fault>
     requires { StepInvariant drivers.now lists.old }
     ensures refines { Refines drivers.now lists.old lists.new process (Read fd) result }
-    ensures kept { HasRoom lists.new }
+    ensures kept { KeepsHolds lists.new }
     ensures drivers { sizes_of lists.new ≡ sizes_of lists.old }
 {
     let stream = free_stream(lists, process, fd)?;
@@ -142,50 +137,6 @@ pub fn read(
         side: Side::Read,
     };
     receive(drivers, lists, place)
-}
-
-fn is_side(sides: Sides, side: Side) -> bool
-    ensures { result ≡ is_side sides side }
-{
-    match sides {
-        Sides::R => same_side(side, Side::Read),
-        Sides::W => same_side(side, Side::Write),
-        Sides::RW => true,
-    }
-}
-
-// Drops the messages on one side of a stream, where that side is named.
-fn empty_side(
-    queues: &mut FlowTable,
-    stream: StreamId,
-    sides: Sides,
-    side: Side,
-    dropped: &mut Vec<u32>,
-)
-    requires { length dropped.old.items + length queues.old.flow ≤ vec_capacity dropped.old }
-    ensures flow { queues.new.flow ≡ filter (λ h. not (is_flushed_at stream sides side h.place)) queues.old.flow }
-    ensures fulls { queues.new.fulls ≡ filter (λ p. not (is_flushed_at stream sides side p)) queues.old.fulls }
-    ensures drivers { queues.new.drivers ≡ queues.old.drivers }
-    ensures dropped { (old : List QueuedMessage) → AreDropped old queues.old.flow dropped.old.items
-        → AreDropped old queues.new.flow dropped.new.items }
-    ensures room { length dropped.new.items + length queues.new.flow ≤ vec_capacity dropped.new }
-{
-    if is_side(sides, side) {
-        drop_at(queues, Place { stream, side }, dropped);
-    }
-}
-
-fn empty(queues: &mut FlowTable, stream: StreamId, sides: Sides, dropped: &mut Vec<u32>)
-    requires { length dropped.old.items + length queues.old.flow ≤ vec_capacity dropped.old }
-    ensures flow { queues.new.flow ≡ filter (λ h. not (same_stream h.place.stream stream && is_side sides h.place.side)) queues.old.flow }
-    ensures fulls { queues.new.fulls ≡ filter (λ p. not (same_stream p.stream stream && is_side sides p.side)) queues.old.fulls }
-    ensures drivers { queues.new.drivers ≡ queues.old.drivers }
-    ensures dropped { (old : List QueuedMessage) → AreDropped old queues.old.flow dropped.old.items
-        → AreDropped old queues.new.flow dropped.new.items }
-    ensures room { length dropped.new.items + length queues.new.flow ≤ vec_capacity dropped.new }
-{
-    empty_side(queues, stream, sides, Side::Write, dropped);
-    empty_side(queues, stream, sides, Side::Read, dropped);
 }
 
 pub fn flush(
@@ -198,12 +149,12 @@ pub fn flush(
 ) -> Result<Reply, StepError>
     requires { StepInvariant drivers.now lists.old }
     ensures refines { RefinesOrNoMemory drivers.now lists.old lists.new process (Flush fd sides) result }
-    ensures kept { HasRoom lists.new }
+    ensures kept { KeepsHolds lists.new }
     ensures drivers { sizes_of lists.new ≡ sizes_of lists.old }
 {
     let stream = free_stream(lists, process, fd)?;
     let mut room = reserve_for_sweep(alloc, lists, 0)?;
-    empty(&mut lists.queues, stream, sides, &mut room.dropped);
+    drop_sides(&mut lists.queues, stream, sides, &mut room.dropped);
     Ok(sweep_and_reply(drivers, lists, room))
 }
 
@@ -219,7 +170,7 @@ pub fn inject(
 ) -> Result<Reply, StepError>
     requires { StepInvariant drivers.now lists.old }
     ensures refines { RefinesOrNoMemory drivers.now lists.old lists.new process (Inject name.now minor addr bytes.now) result }
-    ensures kept { HasRoom lists.new }
+    ensures kept { KeepsHolds lists.new }
     ensures drivers { sizes_of lists.new ≡ sizes_of lists.old }
 {
     let stream = leaf_stream(drivers, lists, name, minor)?;
@@ -239,7 +190,7 @@ pub fn transmit(
 ) -> Result<Reply, Fault>
     requires { StepInvariant drivers.now lists.old }
     ensures refines { Refines drivers.now lists.old lists.new process (Transmit name.now minor) result }
-    ensures kept { HasRoom lists.new }
+    ensures kept { KeepsHolds lists.new }
     ensures drivers { sizes_of lists.new ≡ sizes_of lists.old }
 {
     let stream = leaf_stream(drivers, lists, name, minor)?;

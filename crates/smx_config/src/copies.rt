@@ -4,7 +4,7 @@ ghost use Rattle.std.specs.Prelude.{◌≡◌, length, map, IfOk};
 ghost use Rattle.smx_model.specs.Configuration.{empty};
 ghost use Rattle.smx_model.specs.DriverList.{IsDriverList};
 ghost use Rattle.smx_config.specs.ModelOfLists.{configuration_of};
-ghost use Rattle.smx_config.specs.ReservedRoom.{HasRoom};
+ghost use Rattle.smx_config.specs.KeptHolds.{KeepsHolds};
 
 use crate::lists::Lists;
 use smx_links::LinkTable;
@@ -15,12 +15,12 @@ use std::alloc::Global;
 
 #[tactic(auto, using(crate::proofs::KeptLemmas::held_again))]
 pub fn copy_lists(alloc: Global, lists: &Lists) -> Result<Lists, NoMemory>
-    requires { HasRoom lists.now }
+    requires { KeepsHolds lists.now }
     ensures value { IfOk result (λ l. configuration_of l ≡ configuration_of lists.now) }
     ensures links { IfOk result (λ l. l.links ≡ lists.now.links) }
     ensures streams { IfOk result (λ l. l.streams ≡ lists.now.streams) }
     ensures queues { IfOk result (λ l. l.queues.drivers ≡ lists.now.queues.drivers) }
-    ensures room { IfOk result HasRoom }
+    ensures room { IfOk result KeepsHolds }
 {
     Ok(Lists {
         streams: lists.streams.copy()?,
@@ -53,7 +53,7 @@ pub fn empty_lists(alloc: Global, drivers: &[DriverSpec]) -> Result<Lists, NoMem
     ensures drivers { IfOk result (λ l. l.links.drivers ≡ length drivers.now) }
     ensures queues { IfOk result (λ l. l.queues.drivers ≡ drivers.now) }
     ensures minors { IfOk result (λ l. l.streams.minors ≡ map (λ d. d.minors) drivers.now) }
-    ensures room { IfOk result HasRoom }
+    ensures room { IfOk result KeepsHolds }
 {
     let minors = minors_of_each(alloc, drivers)?;
     Ok(Lists {

@@ -9,7 +9,7 @@ ghost use Rattle.smx_links.specs.LinkLists.{is_one_of};
 ghost use Rattle.smx_streams.specs.StreamTables.{HasHolds, exists as is_there, number_at};
 ghost use Rattle.smx_config.specs.DroppedMessages.{AreDropped};
 ghost use Rattle.smx_config.specs.ExistingStreams.{AreHeld};
-ghost use Rattle.smx_config.specs.ReservedRoom.{AreMarksHeld, HasRoom};
+ghost use Rattle.smx_config.specs.KeptHolds.{KeepsHolds};
 ghost use Rattle.smx_config.specs.ModelOfLists.{configuration_of, sizes_of};
 ghost use Rattle.smx_config.specs.ListedLinks.{is_listed, is_read_below_listed};
 ghost use Rattle.smx_config.specs.TouchedStreams.{is_there_or_touched};
@@ -94,8 +94,7 @@ fn release_each(streams: &mut Streams, links: &LinkTable, gone: &[u32], touched:
 // Removes the links with these ids, the routes to them, and what their lower streams' read sides hold, once those are
 // released.
 pub fn drop_links(lists: &mut Lists, gone: &[u32], dropped: &mut Vec<u32>)
-    requires marks { AreMarksHeld lists.old.queues.flow lists.old.queues.fulls }
-    requires room { length dropped.old.items + length lists.old.queues.flow ≤ vec_capacity dropped.old }
+    requires { length dropped.old.items + length lists.old.queues.flow ≤ vec_capacity dropped.old }
     ensures value { (goes : Link → Bool) → gone.now ≡ map (λ l. l.id) (filter goes lists.old.links.links)
         → configuration_of lists.new ≡ without_links (configuration_of lists.old) goes }
     ensures links { lists.new.links.links ≡ filter (λ l. not (is_one_of gone.now l)) lists.old.links.links }
@@ -103,7 +102,6 @@ pub fn drop_links(lists: &mut Lists, gone: &[u32], dropped: &mut Vec<u32>)
     ensures dropped { (old : List QueuedMessage) → AreDropped old lists.old.queues.flow dropped.old.items
         → AreDropped old lists.new.queues.flow dropped.new.items }
     ensures room { length dropped.new.items + length lists.new.queues.flow ≤ vec_capacity dropped.new }
-    ensures marks { AreMarksHeld lists.new.queues.flow lists.new.queues.fulls }
     ensures drivers { sizes_of lists.new ≡ sizes_of lists.old }
 {
     if gone.is_empty() {
@@ -122,7 +120,7 @@ pub fn remove_links(
     touched: &mut Vec<StreamId>,
     dropped: &mut Vec<u32>,
 )
-    requires kept { HasRoom lists.old }
+    requires kept { KeepsHolds lists.old }
     requires room { length touched.old.items + length gone.now ≤ vec_capacity touched.old }
     requires dropped { length dropped.old.items + length lists.old.queues.flow ≤ vec_capacity dropped.old }
     ensures value { (goes : Link → Bool) → gone.now ≡ map (λ l. l.id) (filter goes lists.old.links.links)
@@ -130,7 +128,7 @@ pub fn remove_links(
     ensures dropped { (old : List QueuedMessage) → AreDropped old lists.old.queues.flow dropped.old.items
         → AreDropped old lists.new.queues.flow dropped.new.items }
     ensures room { length dropped.new.items + length lists.new.queues.flow ≤ vec_capacity dropped.new }
-    ensures kept { HasRoom lists.new }
+    ensures kept { KeepsHolds lists.new }
     ensures drivers { sizes_of lists.new ≡ sizes_of lists.old }
     ensures fewer { length lists.new.links.links ≤ length lists.old.links.links }
     ensures touched { (s : StreamId) → is_there lists.old.streams s ≡ true

@@ -8,7 +8,7 @@ ghost use Rattle.smx_model.specs.Settling.{after_move, after_settling};
 ghost use Rattle.smx_config.specs.ExistingStreams.{TellsExisting};
 ghost use Rattle.smx_config.specs.ModelOfLists.{configuration_of, sizes_of};
 ghost use Rattle.smx_config.specs.Moves.{open_place, is_open, IsLeastMove};
-ghost use Rattle.smx_config.specs.ReservedRoom.{HasRoom};
+ghost use Rattle.smx_config.specs.KeptHolds.{KeepsHolds};
 
 use crate::driver_specs::is_mux;
 use crate::lists::Lists;
@@ -117,12 +117,12 @@ fn first_move(drivers: &[DriverSpec], lists: &Lists) -> Option<Move>
 
 // The first message of a place moves on to its next place.
 fn move_on(drivers: &[DriverSpec], lists: &mut Lists, next: Move)
-    requires kept { HasRoom lists.old }
+    requires kept { KeepsHolds lists.old }
     requires queues { lists.old.queues.drivers ≡ drivers.now }
     requires sound { IsSound drivers.now (configuration_of lists.old) }
     requires open { next_open_place drivers.now (configuration_of lists.old) next.from ≡ Some next.to }
     ensures value { configuration_of lists.new ≡ after_move drivers.now (configuration_of lists.old) next.from }
-    ensures kept { HasRoom lists.new }
+    ensures kept { KeepsHolds lists.new }
     ensures drivers { sizes_of lists.new ≡ sizes_of lists.old }
 {
     let _drivers = drivers;
@@ -132,11 +132,11 @@ fn move_on(drivers: &[DriverSpec], lists: &mut Lists, next: Move)
 
 // Moves messages on until none can.
 fn settle(drivers: &[DriverSpec], lists: &mut Lists)
-    requires kept { HasRoom lists.old }
+    requires kept { KeepsHolds lists.old }
     requires queues { lists.old.queues.drivers ≡ drivers.now }
     requires sound { IsSound drivers.now (configuration_of lists.old) }
     ensures value { configuration_of lists.new ≡ after_settling drivers.now (configuration_of lists.old) }
-    ensures kept { HasRoom lists.new }
+    ensures kept { KeepsHolds lists.new }
     ensures drivers { sizes_of lists.new ≡ sizes_of lists.old }
 {
     moves_keep_soundness();
@@ -176,12 +176,12 @@ fn is_open(command: &Command) -> bool
 
 // Settles after a command, without a look at the messages where it opened or shared a stream.
 fn settle_after(drivers: &[DriverSpec], lists: &mut Lists, command: &Command)
-    requires kept { HasRoom lists.old }
+    requires kept { KeepsHolds lists.old }
     requires queues { lists.old.queues.drivers ≡ drivers.now }
     requires sound { IsSound drivers.now (configuration_of lists.old) }
     requires open { IsTrue (is_open command.now) → IsSettled drivers.now (configuration_of lists.old) }
     ensures value { configuration_of lists.new ≡ after_settling drivers.now (configuration_of lists.old) }
-    ensures kept { HasRoom lists.new }
+    ensures kept { KeepsHolds lists.new }
     ensures drivers { sizes_of lists.new ≡ sizes_of lists.old }
 {
     if !is_open(command) {
@@ -191,12 +191,12 @@ fn settle_after(drivers: &[DriverSpec], lists: &mut Lists, command: &Command)
 
 // Settles after a command; from then on the table of streams tells again which streams exist.
 pub fn finish_step(drivers: &[DriverSpec], lists: &mut Lists, command: &Command)
-    requires kept { HasRoom lists.old }
+    requires kept { KeepsHolds lists.old }
     requires queues { lists.old.queues.drivers ≡ drivers.now }
     requires sound { IsSound drivers.now (configuration_of lists.old) }
     requires open { IsTrue (is_open command.now) → IsSettled drivers.now (configuration_of lists.old) }
     ensures value { configuration_of lists.new ≡ after_settling drivers.now (configuration_of lists.old) }
-    ensures kept { HasRoom lists.new }
+    ensures kept { KeepsHolds lists.new }
     ensures existing { TellsExisting drivers.now (configuration_of lists.new) lists.new.streams }
     ensures drivers { sizes_of lists.new ≡ sizes_of lists.old }
 {

@@ -76,17 +76,6 @@ sums_same (c ∷ chains) (q ∷ queues) many each =
     ∙ (ap (λ (n : ℕ). n + sum_by (λ (x : Chain). x.count) chains) here
     ∙ (ap (λ (n : ℕ). length (messages_in (slot c q)) + n) rest ∙ sym (sum_by-cons (λ (x : Option Queue). length (messages_in x)) (slot c q) (slots chains queues))))
 
--- a number passes where its chain has messages
-pub filled : (view : List (Option Queue)) (p : ℕ) (chain : Chain) → IsSlot view p chain → 0 < chain.count → has_messages (get_or view p None) ≡ true
-filled view p chain s some = by (length (messages_in (get_or view p None))) (omega (arith, s.count)) where
-  by : (n : ℕ) → 0 < n → ltb 0 n ≡ true
-  by n lt = grind (arith, nat_tests)
-
-pub unfilled : (view : List (Option Queue)) (p : ℕ) (chain : Chain) → IsSlot view p chain → chain.count ≤ 0 → has_messages (get_or view p None) ≡ false
-unfilled view p chain s none = by (length (messages_in (get_or view p None))) (omega (arith, s.count)) where
-  by : (n : ℕ) → n ≤ 0 → ltb 0 n ≡ false
-  by n le = grind (arith, nat_tests)
-
 -- one number more that doesn't pass
 pub none_up_to : (passes : Option Queue → Bool) (view : List (Option Queue)) (start p : ℕ) → ((k : ℕ) → start ≤ k → k < p → passes (get_or view k None) ≡ false) → passes (get_or view p None) ≡ false
     → (k : ℕ) → start ≤ k → k < p + 1 → passes (get_or view k None) ≡ false

@@ -12,6 +12,7 @@ pub mod FlowLemmas
 pub mod FullLemmas
 pub mod FlowTableLemmas
 pub mod FindLemmas
+pub mod BusyLemmas
 pub mod LeftLemmas
 pub mod FlowCallLemmas
 pub mod SpecLemmas

@@ -1,5 +1,5 @@
 -- What stands at a number: a queue, or nothing.
-use Rattle.std.specs.Prelude.{◌≡◌, ℕ, ◌<◌, ◌≤◌, nat_lt, Bool, true, false, List, [], length, Option, Some, None, slice_index_or}
+use Rattle.std.specs.Prelude.{◌≡◌, ℕ, ◌<◌, ◌≤◌, nat_lt, Bool, true, false, List, [], length, Option, Some, None, slice_index_or, if◌then◌else◌}
 use Rattle.std.specs.List.{sum_by}
 use Rattle.smx_types.specs.declared.message.Message.{Message}
 use Rattle.smx_queues.specs.QueueTable.{Queue}
@@ -28,3 +28,7 @@ IsLeastFrom passes queues start None = (k : ℕ) → start ≤ k → passes (sli
 -- it has messages
 abbrev pub has_messages : Option Queue → Bool
 has_messages q = nat_lt 0 (length (messages_in q))
+
+-- the byte that tells so
+abbrev pub busy_byte : Option Queue → ℕ
+busy_byte q = if has_messages q then 1 else 0

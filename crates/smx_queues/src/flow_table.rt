@@ -10,11 +10,11 @@ ghost use Rattle.smx_model.specs.KnownStreams.{IsKnown};
 ghost use Rattle.smx_model.specs.Queues.{first_message, queue};
 ghost use Rattle.smx_queues.specs.FlowTables.{after_arrival, after_leaving, fronts, without_place};
 
+use crate::busy_queues::BusyQueues;
 use crate::fronts::Fronts;
 use crate::full_places::FullPlaces;
 use crate::places::Places;
 use crate::queued_messages::QueuedMessages;
-use crate::queues::Queues;
 use smx_model::laws_of_queues::the_first_leaves;
 use smx_types::{DriverSpec, Message, NoMemory, Place};
 use std::alloc::Global;
@@ -24,7 +24,7 @@ use std::marker::Model;
 #[derive(Debug, Drop)]
 pub struct FlowTable {
     places: Places,
-    queues: Queues,
+    queues: BusyQueues,
 }
 
 impl Model for FlowTable {

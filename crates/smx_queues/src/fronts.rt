@@ -4,9 +4,9 @@ ghost use Rattle.std.specs.Prelude.{◌≡◌};
 ghost use Rattle.std.specs.Iterator.{YieldsFirstBy};
 ghost use Rattle.smx_queues.specs.FlowTables.{flow_of, fronts, IsFlow};
 
+use crate::busy_queues::BusyQueues;
 use crate::places::Places;
 use crate::queued::Queued;
-use crate::queues::Queues;
 use std::marker::Model;
 
 /// The first message of each place that has any, in order of place, seen as the list of those that are left. Takes no
@@ -14,7 +14,7 @@ use std::marker::Model;
 #[derive(Drop)]
 pub struct Fronts<'a> {
     places: &'a Places,
-    queues: &'a Queues,
+    queues: &'a BusyQueues,
     // The number of the next place to look at.
     next: usize,
 }
@@ -32,7 +32,7 @@ impl<'a> Model for Fronts<'a> {
 }
 
 impl<'a> Fronts<'a> {
-    pub(crate) fn new(places: &'a Places, queues: &'a Queues) -> Fronts<'a>
+    pub(crate) fn new(places: &'a Places, queues: &'a BusyQueues) -> Fronts<'a>
         requires { IsFlow places.now queues.now.queues }
         ensures { result ≡ fronts (flow_of places.now.places queues.now.queues) }
     {

@@ -4,8 +4,8 @@ ghost use Rattle.std.specs.Prelude.{◌≡◌};
 ghost use Rattle.std.specs.Iterator.{YieldsFirstBy};
 ghost use Rattle.smx_queues.specs.FlowTables.{fulls_of, IsFlow};
 
+use crate::busy_queues::BusyQueues;
 use crate::places::Places;
-use crate::queues::Queues;
 use smx_types::Place;
 use std::marker::Model;
 
@@ -13,7 +13,7 @@ use std::marker::Model;
 #[derive(Drop)]
 pub struct FullPlaces<'a> {
     places: &'a Places,
-    queues: &'a Queues,
+    queues: &'a BusyQueues,
     // The number of the next place to look at.
     next: usize,
 }
@@ -31,7 +31,7 @@ impl<'a> Model for FullPlaces<'a> {
 }
 
 impl<'a> FullPlaces<'a> {
-    pub(crate) fn new(places: &'a Places, queues: &'a Queues) -> FullPlaces<'a>
+    pub(crate) fn new(places: &'a Places, queues: &'a BusyQueues) -> FullPlaces<'a>
         requires { IsFlow places.now queues.now.queues }
         ensures { result ≡ fulls_of places.now.places queues.now.queues }
     {

@@ -1,6 +1,7 @@
 //! The queues of all places: each queue's messages in order, all of them in one store.
 #![tactic(auto)]
 
+mod busy_queues;
 mod chain;
 mod flow_table;
 mod fronts;

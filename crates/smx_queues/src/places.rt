@@ -9,7 +9,7 @@ ghost use Rattle.smx_model.specs.KnownStreams.{IsKnown};
 ghost use Rattle.smx_model.specs.Ordered.{IsRising};
 ghost use Rattle.smx_queues.specs.PlaceLists.{new_queues, side_number, sides_of};
 
-use crate::queues::Queues;
+use crate::busy_queues::BusyQueues;
 use smx_types::{DriverSpec, NoMemory, Place, Side, StreamId};
 use std::alloc::Global;
 use std::marker::Model;
@@ -150,14 +150,14 @@ impl Places {
     }
 
     /// A queue for each place, without messages, with the water marks of its driver. Fails only for want of memory.
-    pub fn new_queues(&self, alloc: Global) -> Result<Queues, NoMemory>
+    pub fn new_queues(&self, alloc: Global) -> Result<BusyQueues, NoMemory>
         requires { IsDriverList self.now.drivers }
         ensures { IfOk result (λ q. q.queues ≡ new_queues self.now.drivers self.now.places) }
     {
-        let mut made = Queues::new(alloc);
+        let mut made = BusyQueues::new(alloc);
         for place in &self.places {
             let (high, low) = marks_of(&self.drivers, place.stream.driver);
-            made.add_places(1, high, low)?;
+            made.add_place(high, low)?;
         }
         Ok(made)
     }

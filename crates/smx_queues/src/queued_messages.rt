@@ -4,10 +4,10 @@ ghost use Rattle.std.specs.Prelude.{◌≡◌};
 ghost use Rattle.std.specs.Iterator.{YieldsFirstBy};
 ghost use Rattle.smx_queues.specs.FlowTables.{flow_of, IsFlow};
 
+use crate::busy_queues::BusyQueues;
 use crate::messages::Messages;
 use crate::places::Places;
 use crate::queued::Queued;
-use crate::queues::Queues;
 use smx_types::{Place, Side, StreamId};
 use std::marker::Model;
 
@@ -15,7 +15,7 @@ use std::marker::Model;
 #[derive(Drop)]
 pub struct QueuedMessages<'a> {
     places: &'a Places,
-    queues: &'a Queues,
+    queues: &'a BusyQueues,
     // The place that is looked at, and what is left there.
     place: Place,
     left: Messages<'a>,
@@ -37,7 +37,7 @@ impl<'a> Model for QueuedMessages<'a> {
 }
 
 impl<'a> QueuedMessages<'a> {
-    pub(crate) fn new(places: &'a Places, queues: &'a Queues) -> QueuedMessages<'a>
+    pub(crate) fn new(places: &'a Places, queues: &'a BusyQueues) -> QueuedMessages<'a>
         requires { IsFlow places.now queues.now.queues }
         ensures { result ≡ flow_of places.now.places queues.now.queues }
     {

@@ -1,7 +1,7 @@
-//! Which places have messages or are full, and how many messages there are.
+//! Which places are full, and how many messages there are.
 
 ghost use Rattle.std.specs.Prelude.{◌≡◌, ◌&&◌};
-ghost use Rattle.smx_queues.specs.Slots.{has_messages, is_marked, message_total, IsLeastFrom};
+ghost use Rattle.smx_queues.specs.Slots.{is_marked, message_total, IsLeastFrom};
 
 use crate::chain::Chain;
 use crate::queues::{PlaceId, Queues};
@@ -19,18 +19,6 @@ impl Queues {
     {
         let _chains = &self.chains;
         self.nodes.len()
-    }
-
-    /// The least number from this one on of a place that has messages, if there is one. Takes no memory.
-    pub fn filled_from(&self, start: PlaceId) -> Option<PlaceId>
-        ensures { IsLeastFrom has_messages self.now.queues start result }
-    {
-        for p in start..self.chains.len() {
-            if self.chains[p].count > 0 {
-                return Some(p);
-            }
-        }
-        None
     }
 
     /// The least number from this one on of a place that is full, if there is one. Takes no memory.

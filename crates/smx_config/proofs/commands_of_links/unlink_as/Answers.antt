@@ -46,6 +46,8 @@ sweep_and_reply-requires-clause-touched c =
 pub sweep_and_reply-requires-clause-room : goal.sweep_and_reply-requires-clause-room
 sweep_and_reply-requires-clause-room c = record {
   touched_room = omega (arith, c.remove_links.ensures.few, c.remove_links.ensures.capacity, c.remove_links.ensures.fewer, c.in_ok-room.ensures.room.touched_room, ap length c.deref.ensures.value);
+  seen_empty = c.in_ok-room.ensures.room.seen_empty;
+  seen_room = omega (arith, c.remove_links.ensures.few, c.remove_links.ensures.fewer, c.in_ok-room.ensures.room.seen_room, ap length c.deref.ensures.value);
   orphaned_empty = c.in_ok-room.ensures.room.orphaned_empty;
   orphaned_room = omega (arith, c.in_ok-room.ensures.room.orphaned_room, c.remove_links.ensures.fewer);
   dropped_room = c.remove_links.ensures.room;

@@ -4,17 +4,11 @@ use Rattle.smx_types.specs.declared.stream.Place.{Place}
 use Rattle.smx_model.specs.Commands.{is_side}
 use Rattle.smx_model.specs.Configuration.{same_stream}
 use Rattle.smx_config.specs.ModelOfLists.{configuration_of}
-use Rattle.smx_config.proofs.MarkLemmas.{marks_after_emptied}
 use Rattle.smx_config.proofs.TouchLemmas.{touched_by, touched_emptied}
 use Rattle.smx_config.proofs.commands_of_messages.flush.Goals as goal
 
 pub sweep_and_reply-requires-clause-kept : goal.sweep_and_reply-requires-clause-kept
-sweep_and_reply-requires-clause-kept c =
-    let goes = λ (p : Place). same_stream p.stream c.in_ok-stream.stream && is_side c.args.sides p.side in
-    record {
-      held = c.requires.kept.held;
-      marks = marks_after_emptied goes c.args.lists.now.queues.flow c.empty.new.queues.flow c.args.lists.now.queues.fulls c.empty.new.queues.fulls c.requires.kept.marks c.empty.ensures.flow c.empty.ensures.fulls;
-    }
+sweep_and_reply-requires-clause-kept c = record { held = c.requires.kept.held }
 
 pub sweep_and_reply-requires-clause-known : goal.sweep_and_reply-requires-clause-known
 sweep_and_reply-requires-clause-known c = c.requires.known.controlling
@@ -25,12 +19,14 @@ sweep_and_reply-requires-clause-touched c =
     let t = c.args.lists.now.streams in
     let ss = c.in_ok-room.room.touched.items in
     let goes = λ (p : Place). same_stream p.stream c.in_ok-stream.stream && is_side c.args.sides p.side in
-    rw (c.empty.ensures.flow, c.empty.ensures.fulls) (touched_emptied t ss old goes (touched_by c.args.drivers.now old t t ss c.requires.existing c.requires.swept_already (λ s there. or_left _ _ there)))
+    rw (c.drop_sides.ensures.flow, c.drop_sides.ensures.fulls) (touched_emptied t ss old goes (touched_by c.args.drivers.now old t t ss c.requires.existing c.requires.swept_already (λ s there. or_left _ _ there)))
 
 pub sweep_and_reply-requires-clause-room : goal.sweep_and_reply-requires-clause-room
 sweep_and_reply-requires-clause-room c = record {
   touched_room = c.in_ok-room.ensures.room.touched_room;
+  seen_empty = c.in_ok-room.ensures.room.seen_empty;
+  seen_room = c.in_ok-room.ensures.room.seen_room;
   orphaned_empty = c.in_ok-room.ensures.room.orphaned_empty;
   orphaned_room = c.in_ok-room.ensures.room.orphaned_room;
-  dropped_room = c.empty.ensures.room;
+  dropped_room = c.drop_sides.ensures.room;
 }

@@ -10,7 +10,6 @@ touch_each-requires c = omega (arith, c.in_ok-room.ensures.room.touched_room)
 pub sweep_and_reply-requires-clause-kept : goal.sweep_and_reply-requires-clause-kept
 sweep_and_reply-requires-clause-kept c = record {
   held = λ s. c.close_process.ensures.rest.holds s ∙ c.requires.kept.held s;
-  marks = c.requires.kept.marks;
 }
 
 pub sweep_and_reply-requires-clause-known : goal.sweep_and_reply-requires-clause-known
@@ -28,6 +27,8 @@ sweep_and_reply-requires-clause-touched c =
 pub sweep_and_reply-requires-clause-room : goal.sweep_and_reply-requires-clause-room
 sweep_and_reply-requires-clause-room c = record {
   touched_room = omega (arith, c.touch_each.ensures.few, c.touch_each.ensures.capacity, c.in_ok-room.ensures.room.touched_room);
+  seen_empty = c.in_ok-room.ensures.room.seen_empty;
+  seen_room = omega (arith, c.touch_each.ensures.few, c.in_ok-room.ensures.room.seen_room);
   orphaned_empty = c.in_ok-room.ensures.room.orphaned_empty;
   orphaned_room = c.in_ok-room.ensures.room.orphaned_room;
   dropped_room = c.in_ok-room.ensures.room.dropped_room;

@@ -15,7 +15,6 @@ push_reserved-requires c = omega (arith, c.in_ok-room.ensures.room.touched_room)
 pub sweep_and_reply-requires-clause-kept : goal.sweep_and_reply-requires-clause-kept
 sweep_and_reply-requires-clause-kept c = record {
   held = λ s. c.close_fd-closed.ensures.rest.holds s ∙ c.requires.invariant.kept.held s;
-  marks = c.requires.invariant.kept.marks;
 }
 
 pub sweep_and_reply-requires-clause-known : goal.sweep_and_reply-requires-clause-known
@@ -34,6 +33,8 @@ sweep_and_reply-requires-clause-touched c =
 pub sweep_and_reply-requires-clause-room : goal.sweep_and_reply-requires-clause-room
 sweep_and_reply-requires-clause-room c = record {
   touched_room = omega (arith, ap length c.push_reserved.ensures.items, length-append c.in_ok-room.room.touched.items (c.args.stream ∷ []), c.push_reserved.ensures.capacity, c.in_ok-room.ensures.room.touched_room);
+  seen_empty = c.in_ok-room.ensures.room.seen_empty;
+  seen_room = omega (arith, ap length c.push_reserved.ensures.items, length-append c.in_ok-room.room.touched.items (c.args.stream ∷ []), c.in_ok-room.ensures.room.seen_room);
   orphaned_empty = c.in_ok-room.ensures.room.orphaned_empty;
   orphaned_room = c.in_ok-room.ensures.room.orphaned_room;
   dropped_room = c.in_ok-room.ensures.room.dropped_room;

@@ -1,8 +1,6 @@
 use Rattle.std.proofs.Common.{not, ap, sym, ◌∙◌}
 use Rattle.smx_links.specs.LinkLists.{LinkList}
-use Rattle.smx_config.specs.ListedLinks.{is_read_below_listed}
 use Rattle.smx_config.specs.ModelOfLists.{configuration_of}
-use Rattle.smx_config.proofs.MarkLemmas.{marks_after_emptied}
 use Rattle.smx_config.proofs.RemovalLemmas.{is_nothing, nothing_removed, none_listed, removed_is}
 use Rattle.smx_config.proofs.removal.drop_links.Goals as goal
 
@@ -19,7 +17,3 @@ returns-clause-value c = λ goes e.
 
 pub returns-clause-links : goal.returns-clause-links
 returns-clause-links c = ap (λ (t : LinkList). t.links) c.remove_each.ensures.rest
-
-pub returns-clause-marks : goal.returns-clause-marks
-returns-clause-marks c =
-    marks_after_emptied (is_read_below_listed c.args.lists.now.links.links c.args.gone.now) c.args.lists.now.queues.flow c.drop_below.new.queues.flow c.args.lists.now.queues.fulls c.drop_below.new.queues.fulls c.requires.marks c.drop_below.ensures.flow c.drop_below.ensures.fulls

@@ -1,6 +1,6 @@
 use Rattle.std.proofs.Common.{◌<◌, length, ap, sym, ◌∙◌, arith}
-use Rattle.smx_queues.specs.Slots.{has_messages, is_marked}
-use Rattle.smx_queues.proofs.FindLemmas.{filled, none_up_to, slot_at, unfilled, view_length}
+use Rattle.smx_queues.specs.Slots.{is_marked}
+use Rattle.smx_queues.proofs.FindLemmas.{none_up_to, slot_at}
 use Rattle.smx_queues.proofs.SoundLemmas.{queues_of}
 use Rattle.smx_queues.proofs.queues.Queues.full_from.Goals as goal
 
