@@ -80,6 +80,21 @@ read_none links ids id none p = ap (λ (b : Bool). same_side p.side side.Read &&
     or_none true = refl
     or_none false = refl
 
+-- no id takes none
+pub none_listed_yet : {X : Type 0} (place : X → Place) (links : List Link) (xs : List X) → xs ≡ filter (λ x. not (is_read_below_listed links [] (place x))) xs
+none_listed_yet place links [] = refl
+none_listed_yet place links (x ∷ xs) = rw (none (place x)) (ap (λ (ys : List _). x ∷ ys) (none_listed_yet place links xs)) where
+  by : (o : Option Link) → option_map_or (λ l. is_listed [] l.id) o false ≡ false
+  by None = refl
+  by (Some l) = refl
+
+  and_false : (b : Bool) → (b && false) ≡ false
+  and_false true = refl
+  and_false false = refl
+
+  none : (p : Place) → is_read_below_listed links [] p ≡ false
+  none p = ap (λ (b : Bool). same_side p.side side.Read && b) (by (find (λ l. same_stream l.lower p.stream) links)) ∙ and_false (same_side p.side side.Read)
+
 -- ---- lists without them
 
 not_either : (a b : Bool) → (not a && not b) ≡ not (a || b)

@@ -1,17 +1,25 @@
 -- What is dropped at a place, and the serials that were dropped, in order.
-use Rattle.std.proofs.Common.{◌≡◌, ◌≢◌, ℕ, suc, ◌+◌, ◌≤◌, Bool, true, false, ◌&&◌, not, cond, eqb, ltb, List, [], ◌∷◌, ◌++◌, length, map, filter, get_or, refl, sym, ap, ◌∙◌, subst, arith, inl, inr}
+use Rattle.std.proofs.Common.{◌≡◌, ◌≢◌, ℕ, suc, ◌+◌, ◌≤◌, Bool, true, false, ◌&&◌, ◌||◌, not, cond, eqb, ltb, List, [], ◌∷◌, ◌++◌, length, map, filter, get_or, refl, sym, ap, ◌∙◌, subst, arith, inl, inr}
 use Rattle.std.specs.List.{AllPairs, sum_by}
 use Rattle.std.specs.List.Sorted.{IsNonDecreasing, IsPermutation}
 use Rattle.std.proofs.lemmas.Bool.{cases_Bool, cases_eq, eq-eqb, ltb-true, ltb-false, ne_eqb}
 use Rattle.std.proofs.lemmas.List.{map-append}
 use Rattle.std.proofs.lemmas.List.Sorted.{IsPermutation-append_left, IsPermutation-cons, IsPermutation-map, IsPermutation-middle, IsPermutation-refl, IsPermutation-sym, IsPermutation-trans, sum_by-IsPermutation}
 use Rattle.smx_types.specs.declared.message.Message.{Message}
+use Rattle.smx_types.specs.declared.command.Sides.{Sides}
 use Rattle.smx_types.specs.declared.stream.Place.{Place}
-use Rattle.smx_model.specs.Configuration.{QueuedMessage, is_at}
+use Rattle.smx_types.specs.declared.stream.Side.{Side}
+use Rattle.smx_types.specs.declared.stream.Side.TheVariants as side
+use Rattle.smx_types.specs.declared.stream.StreamId.{StreamId}
+use Rattle.smx_model.specs.Commands.{is_side}
+use Rattle.smx_model.specs.Configuration.{QueuedMessage, is_at, same_stream}
 use Rattle.smx_model.specs.Ordered.{in_rising_order, with_inserted}
 use Rattle.smx_model.specs.Queues.{queue}
 use Rattle.smx_model.specs.Removal.{serials, serials_that_left}
-use Rattle.smx_config.specs.DroppedMessages.{AreDropped}
+use Rattle.smx_config.specs.DroppedMessages.{AreDropped, is_flushed_at}
+
+abbrev at : StreamId → Side → Place
+at s x = record { stream = s; side = x }
 
 -- ---- one place more is emptied
 
@@ -55,6 +63,10 @@ none_kept : {X : Type 0} (xs : List X) → (filter (λ x. true) xs ≡ xs) × (f
 none_kept [] = (refl, refl)
 none_kept (x ∷ xs) = let r = none_kept xs in (ap (λ (ys : List _). x ∷ ys) r.0, r.1)
 
+-- all stay
+pub all_stay : {X : Type 0} (xs : List X) → xs ≡ filter (λ x. true) xs
+all_stay xs = sym (none_kept xs).0
+
 -- nothing is dropped yet
 pub none_dropped : (flow : List QueuedMessage) (dropped : List ℕ) → dropped ≡ [] → AreDropped flow flow dropped
 none_dropped flow dropped none = record {
@@ -68,6 +80,28 @@ none_dropped flow dropped none = record {
 pub place_and_rest : (flow : List QueuedMessage) (p : Place) → length (queue flow p) + length (filter (λ h. not (is_at p h)) flow) ≡ length flow
 place_and_rest [] p = refl
 place_and_rest (h ∷ hs) p = elim (cases_Bool (is_at p h)) [ inl t ↦ rw t (omega (arith, place_and_rest hs p)) | inr f ↦ rw f (omega (arith, place_and_rest hs p)) ]
+
+-- both sides of a stream, where they are named
+pub on_both_sides : (stream : StreamId) (sides : Sides) (s : StreamId) (x : Side) → (same_stream s stream && is_side sides x) ≡ (is_flushed_at stream sides side.Write (at s x) || is_flushed_at stream sides side.Read (at s x))
+on_both_sides stream sides s side.Write = table (same_stream s stream) (is_side sides side.Write) (is_side sides side.Read) where
+  table : (a v r : Bool) → (a && v) ≡ ((v && (a && true)) || (r && (a && false)))
+  table true true r = refl
+  table true false true = refl
+  table true false false = refl
+  table false true true = refl
+  table false true false = refl
+  table false false true = refl
+  table false false false = refl
+on_both_sides stream sides s side.Read = table (same_stream s stream) (is_side sides side.Write) (is_side sides side.Read) where
+  table : (a v r : Bool) → (a && r) ≡ ((v && (a && false)) || (r && (a && true)))
+  table true true true = refl
+  table true true false = refl
+  table true false true = refl
+  table true false false = refl
+  table false true true = refl
+  table false true false = refl
+  table false false true = refl
+  table false false false = refl
 
 -- ---- sorted numbers
 

@@ -78,7 +78,7 @@ fn message_line(
 ) -> Result<MessageLine, NoMemory>
     requires { queued.place.stream.driver < length drivers.now }
     ensures { IfOk result (λ l. l ≡ view_of_message drivers.now
-        (record { place = queued.place; message = queued.message.now })) }
+        (record { place = queued.entry.place; message = queued.entry.message.now })) }
 {
     let place = queued.place;
     let message = queued.message.copy(alloc)?;

@@ -146,7 +146,7 @@ pub fn are_fds_shown(drivers: &[DriverSpec], streams: &Streams, lines: &[Descrip
 fn is_message_shown(drivers: &[DriverSpec], queued: Queued<'_>, line: &MessageLine) -> bool
     requires { queued.place.stream.driver < length drivers.now }
     ensures { IsTrue result ↔ (line.now ≡ view_of_message drivers.now
-        (record { place = queued.place; message = queued.message.now })) }
+        (record { place = queued.entry.place; message = queued.entry.message.now })) }
 {
     let place = queued.place;
     line.driver == name_of(drivers, place.stream.driver)
