@@ -39,45 +39,51 @@ first_after test before (k ∷ ks) h = elim (cases_Bool (is_same before k.place)
 pub first_of_fronts : (test : Place → Bool) (flow : List QueuedMessage) → place_of (find (λ h. test h.place) (fronts flow)) ≡ place_of (find (λ h. test h.place) flow)
 first_of_fronts test flow = first_after test None flow tt
 
--- ---- one stream more
+-- ---- one stream
 
-dead_more : (t : StreamTable) (ss : List StreamId) (s x : StreamId) → is_there t s ≡ false → is_dead t (ss ++ s ∷ []) x ≡ (is_dead t ss x || same_stream x s)
-dead_more t ss s x gone = ap (λ (b : Bool). not (is_there t x) && b) (listed_more x ss s) ∙ table (is_there t x) (list_any (same_stream x) ss) (same_stream x s) (λ e. ap (is_there t) (stream_is x s e) ∙ gone) where
-  table : (there listed same : Bool) → (same ≡ true → there ≡ false) → (not there && (listed || same)) ≡ ((not there && listed) || same)
-  table false listed same h = refl
-  table true listed true h = absurd (false≢true (sym (h refl)))
-  table true listed false h = refl
-
-dead_still : (t : StreamTable) (ss : List StreamId) (s x : StreamId) → is_there t s ≡ true → is_dead t (ss ++ s ∷ []) x ≡ is_dead t ss x
-dead_still t ss s x there = ap (λ (b : Bool). not (is_there t x) && b) (listed_more x ss s) ∙ table (is_there t x) (list_any (same_stream x) ss) (same_stream x s) (λ e. ap (is_there t) (stream_is x s e) ∙ there) where
-  table : (b listed same : Bool) → (same ≡ true → b ≡ true) → (not b && (listed || same)) ≡ (not b && listed)
-  table true listed same h = refl
-  table false listed true h = absurd (false≢true (h refl))
-  table false true false h = refl
-  table false false false h = refl
-
-and_true : (b : Bool) → (b && true) ≡ b
-and_true true = refl
-and_true false = refl
-
--- one stream more is taken
-taken_one : (seen : List StreamId) (i : ℕ) (s : StreamId) → i < length seen → s ≡ get_or seen i s → take (i + 1) seen ≡ take i seen ++ s ∷ []
-taken_one seen i s lt at = take_more seen i s lt ∙ ap (λ (x : StreamId). take i seen ++ x ∷ []) (sym at)
+or_false : (b : Bool) → (b || false) ≡ b
+or_false true = refl
+or_false false = refl
 
 -- a stream that is not there goes, with both its sides
-pub stream_less : {X : Type 0} (stream : X → StreamId) (t : StreamTable) (seen : List StreamId) (i : ℕ) (s : StreamId) (xs ys zs : List X) → i < length seen → s ≡ get_or seen i s → is_there t s ≡ false
-    → ys ≡ filter (λ x. not (is_dead t (take i seen) (stream x))) xs → zs ≡ filter (λ x. not (same_stream (stream x) s && true)) ys → zs ≡ filter (λ x. not (is_dead t (take (i + 1) seen) (stream x))) xs
-stream_less stream t seen i s xs ys zs lt at gone e f =
-    subst (λ (ss : List StreamId). zs ≡ filter (λ x. not (is_dead t ss (stream x))) xs) (sym (taken_one seen i s lt at))
-    (tests_less (λ x. is_dead t (take i seen) (stream x)) (λ x. same_stream (stream x) s && true) (λ x. is_dead t (take i seen ++ s ∷ []) (stream x)) xs ys zs
-    (λ x. dead_more t (take i seen) s (stream x) gone ∙ ap (λ (b : Bool). is_dead t (take i seen) (stream x) || b) (sym (and_true (same_stream (stream x) s)))) e f)
+pub one_dead : {X : Type 0} (stream : X → StreamId) (t : StreamTable) (s : StreamId) (xs ys : List X) → is_there t s ≡ false → ys ≡ filter (λ x. not (same_stream (stream x) s && true)) xs
+    → ys ≡ filter (λ x. not (is_dead t (s ∷ []) (stream x))) xs
+one_dead stream t s xs ys gone e = e ∙ filter_agree (λ x. not (same_stream (stream x) s && true)) (λ x. not (is_dead t (s ∷ []) (stream x))) (λ x. ap not (dead (stream x))) xs where
+  table : (there same : Bool) → (same ≡ true → there ≡ false) → (same && true) ≡ (not there && (same || false))
+  table false true h = refl
+  table false false h = refl
+  table true true h = absurd (false≢true (sym (h refl)))
+  table true false h = refl
+
+  dead : (x : StreamId) → (same_stream x s && true) ≡ is_dead t (s ∷ []) x
+  dead x = table (is_there t x) (same_stream x s) (λ same. ap (is_there t) (stream_is x s same) ∙ gone)
 
 -- one that is there stays
-pub stream_stays : {X : Type 0} (stream : X → StreamId) (t : StreamTable) (seen : List StreamId) (i : ℕ) (s : StreamId) (xs ys : List X) → i < length seen → s ≡ get_or seen i s → is_there t s ≡ true
-    → ys ≡ filter (λ x. not (is_dead t (take i seen) (stream x))) xs → ys ≡ filter (λ x. not (is_dead t (take (i + 1) seen) (stream x))) xs
-stream_stays stream t seen i s xs ys lt at there e =
-    e ∙ filter_agree (λ x. not (is_dead t (take i seen) (stream x))) (λ x. not (is_dead t (take (i + 1) seen) (stream x)))
-    (λ x. ap not (sym (ap (λ (ss : List StreamId). is_dead t ss (stream x)) (taken_one seen i s lt at) ∙ dead_still t (take i seen) s (stream x) there))) xs
+pub none_of_one : {X : Type 0} (stream : X → StreamId) (t : StreamTable) (s : StreamId) (xs : List X) → is_there t s ≡ true → xs ≡ filter (λ x. not (is_dead t (s ∷ []) (stream x))) xs
+none_of_one stream t s [] there = refl
+none_of_one stream t s (x ∷ xs) there = rw (alive (is_there t (stream x)) (same_stream (stream x) s) (λ same. ap (is_there t) (stream_is (stream x) s same) ∙ there)) (ap (λ (ys : List _). x ∷ ys) (none_of_one stream t s xs there)) where
+  alive : (b same : Bool) → (same ≡ true → b ≡ true) → (not b && (same || false)) ≡ false
+  alive true same h = refl
+  alive false true h = absurd (false≢true (h refl))
+  alive false false h = refl
+
+-- ---- one stream more
+
+-- without those that are dead of one more
+pub stream_less : {X : Type 0} (stream : X → StreamId) (t : StreamTable) (seen : List StreamId) (i : ℕ) (s : StreamId) (xs ys zs : List X) → i < length seen → s ≡ get_or seen i s
+    → ys ≡ filter (λ x. not (is_dead t (take i seen) (stream x))) xs → zs ≡ filter (λ x. not (is_dead t (s ∷ []) (stream x))) ys → zs ≡ filter (λ x. not (is_dead t (take (i + 1) seen) (stream x))) xs
+stream_less stream t seen i s xs ys zs lt at e f =
+    tests_less (λ x. is_dead t (take i seen) (stream x)) (λ x. is_dead t (s ∷ []) (stream x)) (λ x. is_dead t (take (i + 1) seen) (stream x)) xs ys zs (λ x. more (stream x)) e f where
+      taken_one : take (i + 1) seen ≡ take i seen ++ s ∷ []
+      taken_one = take_more seen i s lt ∙ ap (λ (x : StreamId). take i seen ++ x ∷ []) (sym at)
+
+      parts : (gone a b : Bool) → (gone && (a || b)) ≡ ((gone && a) || (gone && (b || false)))
+      parts true true b = refl
+      parts true false b = sym (or_false b)
+      parts false a b = refl
+
+      more : (x : StreamId) → is_dead t (take (i + 1) seen) x ≡ (is_dead t (take i seen) x || is_dead t (s ∷ []) x)
+      more x = ap (λ (ss : List StreamId). is_dead t ss x) taken_one ∙ (ap (λ (b : Bool). not (is_there t x) && b) (listed_more x (take i seen) s) ∙ parts (not (is_there t x)) (list_any (same_stream x) (take i seen)) (same_stream x s))
 
 -- none at first
 pub none_dead : {X : Type 0} (stream : X → StreamId) (t : StreamTable) (xs : List X) → xs ≡ filter (λ x. not (is_dead t [] (stream x))) xs

@@ -1,5 +1,5 @@
 -- What is dropped at a place, and the serials that were dropped, in order.
-use Rattle.std.proofs.Common.{◌≡◌, ◌≢◌, ℕ, suc, ◌+◌, ◌≤◌, Bool, true, false, ◌&&◌, ◌||◌, not, cond, eqb, ltb, List, [], ◌∷◌, ◌++◌, length, map, filter, get_or, refl, sym, ap, ◌∙◌, subst, arith, inl, inr}
+use Rattle.std.proofs.Common.{◌≡◌, ◌≢◌, ℕ, suc, ◌+◌, ◌≤◌, Bool, true, false, ◌&&◌, ◌||◌, not, cond, eqb, ltb, List, [], ◌∷◌, ◌++◌, length, map, filter, take, drop, get_or, refl, sym, ap, ◌∙◌, subst, arith, inl, inr}
 use Rattle.std.specs.List.{AllPairs, sum_by}
 use Rattle.std.specs.List.Sorted.{IsNonDecreasing, IsPermutation}
 use Rattle.std.proofs.lemmas.Bool.{cases_Bool, cases_eq, eq-eqb, ltb-true, ltb-false, ne_eqb}
@@ -187,6 +187,13 @@ from_sorted (n ∷ ns) h = (all_from n ns (λ j d lt. let e = h 0 (suc j) d (ome
 
 pub sorted_is : (ns ms out : List ℕ) → IsPermutation ns ms → IsPermutation ms out → IsNonDecreasing out → out ≡ in_rising_order ns
 sorted_is ns ms out h k up = one_up out (in_rising_order ns) (from_sorted out up) (rising_up ns) (λ n. times_permuted n ms out k ∙ (times_permuted n ns ms h ∙ sym (times_rising n ns)))
+
+-- a vector that was lent as a slice
+pub lent : (n : ℕ) (new old : List ℕ) → length new ≡ length old → n ≡ length old → take n (new ++ drop (length new) old) ≡ new
+lent n new old same all = ap (λ (m : ℕ). take m (new ++ drop (length new) old)) (all ∙ sym same) ∙ front new (drop (length new) old) where
+  front : (xs ys : List ℕ) → take (length xs) (xs ++ ys) ≡ xs
+  front [] ys = refl
+  front (x ∷ xs) ys = ap (λ (zs : List ℕ). x ∷ zs) (front xs ys)
 
 -- what the law of the model says
 abbrev pub DroppedAreNotKept : Type 0

@@ -10,7 +10,7 @@ use smx_queues::{FlowTable, Queued};
 use smx_streams::Streams;
 use smx_types::{
     Binding, BindingLine, Descriptor, DescriptorLine, DriverSpec, FullLine, Link, LinkLine,
-    MessageLine, Route, RouteLine,
+    MessageLine, Place, Route, RouteLine,
 };
 
 /// A part of a configuration, which one line shows.
@@ -176,6 +176,13 @@ pub fn are_messages_shown(
     rest.next().is_none()
 }
 
+fn is_full_shown(drivers: &[DriverSpec], place: Place, line: &FullLine) -> bool
+    requires { place.stream.driver < length drivers.now }
+    ensures { IsTrue result ↔ (line.now ≡ view_of_full drivers.now place) }
+{
+    full_line(drivers, &place) == *line
+}
+
 /// The same of its full places.
 pub fn are_fulls_shown(drivers: &[DriverSpec], queues: &FlowTable, lines: &[FullLine]) -> bool
     requires { All (λ p. p.stream.driver < length drivers.now) queues.now.fulls }
@@ -186,7 +193,7 @@ pub fn are_fulls_shown(drivers: &[DriverSpec], queues: &FlowTable, lines: &[Full
         let Some(place) = rest.next() else {
             return false;
         };
-        if full_line(drivers, &place) != *line {
+        if !is_full_shown(drivers, place, line) {
             return false;
         }
     }

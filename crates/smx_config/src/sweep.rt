@@ -1,6 +1,6 @@
 //! The sweep: what goes with streams that don't exist any longer, and the reply that names it.
 
-ghost use Rattle.std.specs.Prelude.{◌≡◌, ◌≢◌, ◌+◌, ◌≤◌, not, true, filter, length, vec_capacity, IfOk, [], List};
+ghost use Rattle.std.specs.Prelude.{◌≡◌, ◌≢◌, ◌+◌, ◌≤◌, not, true, filter, length, vec_capacity, IfOk, [], ◌∷◌, List};
 ghost use Rattle.std.specs.List.{All, AllPairs, list_all};
 ghost use Rattle.smx_types.specs.declared.reply.Reply.TheVariants.{Done};
 ghost use Rattle.smx_types.specs.declared.stream.StreamId.{StreamId};
@@ -43,6 +43,26 @@ fn keep_live_binds(binds: &mut Vec<Binding>, streams: &Streams)
     binds.retain(|b| binding_stands(streams, b));
 }
 
+// Drops the messages and full marks of the stream, unless it exists.
+fn drop_if_dead(
+    streams: &Streams,
+    stream: &StreamId,
+    queues: &mut FlowTable,
+    dropped: &mut Vec<u32>,
+)
+    requires { length dropped.old.items + length queues.old.flow ≤ vec_capacity dropped.old }
+    ensures flow { queues.new.flow ≡ filter (λ h. not (is_dead streams.now (stream.now ∷ []) h.place.stream)) queues.old.flow }
+    ensures fulls { queues.new.fulls ≡ filter (λ p. not (is_dead streams.now (stream.now ∷ []) p.stream)) queues.old.fulls }
+    ensures drivers { queues.new.drivers ≡ queues.old.drivers }
+    ensures dropped { (old : List QueuedMessage) → AreDropped old queues.old.flow dropped.old.items
+        → AreDropped old queues.new.flow dropped.new.items }
+    ensures room { length dropped.new.items + length queues.new.flow ≤ vec_capacity dropped.new }
+{
+    if !streams.exists(*stream) {
+        drop_sides(queues, *stream, Sides::RW, dropped);
+    }
+}
+
 // Drops the messages and full marks of those of these streams that don't exist.
 fn drop_dead_places(
     streams: &Streams,
@@ -58,9 +78,7 @@ fn drop_dead_places(
         → AreDropped old queues.new.flow dropped.new.items }
 {
     for stream in seen {
-        if !streams.exists(*stream) {
-            drop_sides(queues, *stream, Sides::RW, dropped);
-        }
+        drop_if_dead(streams, stream, queues, dropped);
     }
 }
 
@@ -168,6 +186,7 @@ fn sweep(drivers: &[DriverSpec], lists: &mut Lists, room: SweepReserve) -> Vec<u
 }
 
 // For a change that touches so many streams.
+#[tactic(auto, using(crate::proofs::DropLemmas::none_dropped))]
 pub fn reserve_for_sweep(
     alloc: Global,
     lists: &Lists,

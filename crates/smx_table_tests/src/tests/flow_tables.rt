@@ -84,6 +84,7 @@ fn move_front(table: &mut FlowTable, from: Place, to: Place) -> Result<(), Fail>
 }
 
 // What is at the place is dropped, where its serials have room for certain.
+#[tactic(auto, using(crate::proofs::QueueLemmas::queue_short))]
 fn drop_at(table: &mut FlowTable, place: Place, dropped: &mut Vec<u32>) -> Result<(), Fail> {
     if dropped.is_empty() && dropped.capacity() >= table.len() {
         table.drop_at(place, dropped);

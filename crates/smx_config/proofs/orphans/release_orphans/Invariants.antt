@@ -16,6 +16,6 @@ invariant-loop-stream l = record {
   minors : l.streams.minors ≡ l.initial.streams.minors;
   cascade : IsCascade l.links.links l.streams l.left.items (vec_capacity l.left);
   room : length l.seen.items + (length l.left.items + holds_below l.links.links l.streams) ≤ vec_capacity l.seen;
-  seen : (s : StreamId) → is_there_or_touched l.initial.streams l.touched.items s ≡ true → (is_there_or_touched l.streams l.left.items s || list_any (same_stream s) l.seen.items) ≡ true;
+  seen : (s : StreamId) → is_there_or_touched l.initial.streams l.fn.touched.items s ≡ true → (is_there_or_touched l.streams l.left.items s || list_any (same_stream s) l.seen.items) ≡ true;
   none : l.released ≡ false → l.streams ≡ l.initial.streams;
 }

@@ -1,5 +1,6 @@
-use Rattle.std.proofs.Common.{ap}
-use Rattle.smx_config.proofs.MoveLemmas.{not_taken_is, taken_is}
+use Rattle.std.proofs.Common.{List, ap}
+use Rattle.smx_types.specs.declared.driver.DriverSpec.{DriverSpec}
+use Rattle.smx_config.proofs.MoveLemmas.{drivers_taken, not_taken_is, taken_is}
 use Rattle.smx_config.proofs.queues.leave.Goals as goal
 
 pub returns-clause-value : goal.returns-clause-value
@@ -10,3 +11,7 @@ returns-clause-none c = not_taken_is c.args.lists.now c.take.new.self c.take.res
 
 pub returns-clause-kept : goal.returns-clause-kept
 returns-clause-kept c = record { held = c.requires.held }
+
+pub returns-clause-drivers : goal.returns-clause-drivers
+returns-clause-drivers c =
+    ap (λ (ds : List DriverSpec). (c.args.lists.now.links.drivers, c.args.lists.now.streams.minors, ds)) (drivers_taken c.args.lists.now.queues c.take.new.self c.args.place c.take.result c.take.ensures.left c.take.ensures.none)
