@@ -4,7 +4,6 @@ use Rattle.std.specs.Prelude.{IfSome}
 use Rattle.std.specs.List.{list_all, list_any}
 use Rattle.std.specs.Option.{option_map}
 use Rattle.std.proofs.lemmas.Bool.{and_parts, cases_Bool, false≢true, or_cases}
-use Rattle.std.proofs.lemmas.List.{take_more}
 use Rattle.std.proofs.lemmas.List.Elements.{filter_agree}
 use Rattle.smx_types.specs.declared.stream.Place.{Place}
 use Rattle.smx_types.specs.declared.stream.Side.{Side}
@@ -70,13 +69,10 @@ none_of_one stream t s (x ∷ xs) there = rw (alive (is_there t (stream x)) (sam
 -- ---- one stream more
 
 -- without those that are dead of one more
-pub stream_less : {X : Type 0} (stream : X → StreamId) (t : StreamTable) (seen : List StreamId) (i : ℕ) (s : StreamId) (xs ys zs : List X) → i < length seen → s ≡ get_or seen i s
+pub stream_less : {X : Type 0} (stream : X → StreamId) (t : StreamTable) (seen : List StreamId) (i : ℕ) (s : StreamId) (xs ys zs : List X) → take (i + 1) seen ≡ take i seen ++ s ∷ []
     → ys ≡ filter (λ x. not (is_dead t (take i seen) (stream x))) xs → zs ≡ filter (λ x. not (is_dead t (s ∷ []) (stream x))) ys → zs ≡ filter (λ x. not (is_dead t (take (i + 1) seen) (stream x))) xs
-stream_less stream t seen i s xs ys zs lt at e f =
+stream_less stream t seen i s xs ys zs taken_one e f =
     tests_less (λ x. is_dead t (take i seen) (stream x)) (λ x. is_dead t (s ∷ []) (stream x)) (λ x. is_dead t (take (i + 1) seen) (stream x)) xs ys zs (λ x. more (stream x)) e f where
-      taken_one : take (i + 1) seen ≡ take i seen ++ s ∷ []
-      taken_one = take_more seen i s lt ∙ ap (λ (x : StreamId). take i seen ++ x ∷ []) (sym at)
-
       parts : (gone a b : Bool) → (gone && (a || b)) ≡ ((gone && a) || (gone && (b || false)))
       parts true true b = refl
       parts true false b = sym (or_false b)

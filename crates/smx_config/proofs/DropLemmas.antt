@@ -1,9 +1,10 @@
 -- What is dropped at a place, and the serials that were dropped, in order.
-use Rattle.std.proofs.Common.{◌≡◌, ◌≢◌, ℕ, suc, ◌+◌, ◌≤◌, Bool, true, false, ◌&&◌, ◌||◌, not, cond, eqb, ltb, List, [], ◌∷◌, ◌++◌, length, map, filter, take, drop, get_or, refl, sym, ap, ◌∙◌, subst, arith, inl, inr}
+use Rattle.std.proofs.Common.{◌≡◌, ◌≢◌, ℕ, suc, ◌+◌, ◌≤◌, Bool, true, false, ◌&&◌, ◌||◌, not, cond, eqb, ltb, List, [], ◌∷◌, ◌++◌, length, map, filter, get_or, refl, sym, ap, ◌∙◌, subst, arith, inl, inr}
 use Rattle.std.specs.List.{AllPairs, sum_by}
 use Rattle.std.specs.List.Sorted.{IsNonDecreasing, IsPermutation}
 use Rattle.std.proofs.lemmas.Bool.{cases_Bool, cases_eq, eq-eqb, ltb-true, ltb-false, ne_eqb}
 use Rattle.std.proofs.lemmas.List.{map-append}
+use Rattle.std.proofs.lemmas.List.Sums.{sum_by-cons}
 use Rattle.std.proofs.lemmas.List.Sorted.{IsPermutation-append_left, IsPermutation-cons, IsPermutation-map, IsPermutation-middle, IsPermutation-refl, IsPermutation-sym, IsPermutation-trans, sum_by-IsPermutation}
 use Rattle.smx_types.specs.declared.message.Message.{Message}
 use Rattle.smx_types.specs.declared.command.Sides.{Sides}
@@ -146,7 +147,7 @@ times_rising k (n ∷ ns) = times_placed k n (in_rising_order ns) ∙ omega (ari
 
 times_sum : (k : ℕ) (ns : List ℕ) → times k ns ≡ sum_by (λ m. cond (eqb m k) 1 0) ns
 times_sum k [] = refl
-times_sum k (n ∷ ns) = omega (arith, times_sum k ns)
+times_sum k (n ∷ ns) = ap (λ (m : ℕ). cond (eqb n k) 1 0 + m) (times_sum k ns) ∙ sym (sum_by-cons (λ (m : ℕ). cond (eqb m k) 1 0) n ns)
 
 times_permuted : (k : ℕ) (ns ms : List ℕ) → IsPermutation ns ms → times k ms ≡ times k ns
 times_permuted k ns ms h = times_sum k ms ∙ (sum_by-IsPermutation (λ m. cond (eqb m k) 1 0) ns ms h ∙ sym (times_sum k ns))
@@ -157,7 +158,7 @@ here_once n ns = rw (eq-eqb n n refl) (omega arith)
 -- a number that is below all others is none of them
 low_is_none : (n m : ℕ) (ns : List ℕ) → AllFrom m ns → suc n ≤ m → times n ns ≡ 0
 low_is_none n m [] h lt = refl
-low_is_none n m (k ∷ ns) h lt = rw (ne_eqb k n (λ e. let j = h.0 in omega arith)) (low_is_none n m ns h.1 lt)
+low_is_none n m (k ∷ ns) h lt = rw (ne_eqb k n (λ e. let j = h.0 in omega arith)) (omega (arith, low_is_none n m ns h.1 lt))
 
 one_up : (ns ms : List ℕ) → IsUp ns → IsUp ms → ((k : ℕ) → times k ns ≡ times k ms) → ns ≡ ms
 one_up [] [] h g same = refl
@@ -167,6 +168,9 @@ one_up (n ∷ ns) (m ∷ ms) h g same = elim (cases_eq n m) [
   | inl e ↦ rw e (ap (λ (ks : List ℕ). m ∷ ks) (one_up ns ms h.1 g.1 (λ k. let s : times k (m ∷ ns) ≡ times k (m ∷ ms) = subst (λ (x : ℕ). times k (x ∷ ns) ≡ times k (m ∷ ms)) e (same k) in omega (arith, s))))
   | inr ne ↦ absurd (differ ne)
 ] where
+  above : m ≤ n → n ≢ m → suc m ≤ n
+  above le other = elim (cases_Bool (ltb m n)) [ inl t ↦ let lt = ltb-true m n t in omega arith | inr f ↦ let ge = ltb-false m n f in absurd (other (omega arith)) ]
+
   differ : n ≢ m → ⊥
   differ ne = elim (cases_Bool (ltb n m)) [
     | inl t ↦ let lt = ltb-true n m t in let none = low_is_none n m ms g.0 (omega arith) in let not_m : eqb m n ≡ false = ne_eqb m n (λ e. ne (sym e)) in
@@ -174,9 +178,6 @@ one_up (n ∷ ns) (m ∷ ms) h g same = elim (cases_eq n m) [
     | inr f ↦ let le = ltb-false n m f in let none = low_is_none m n ns h.0 (omega (arith, above le ne)) in let not_n : eqb n m ≡ false = ne_eqb n m ne in
         let s : times m (n ∷ ns) ≡ suc (times m ms) = same m ∙ here_once m ms in let z : times m (n ∷ ns) ≡ 0 = rw not_n (omega (arith, none)) in omega (arith, s, z)
   ]
-
-  above : m ≤ n → n ≢ m → suc m ≤ n
-  above le other = elim (cases_Bool (ltb m n)) [ inl t ↦ let lt = ltb-true m n t in omega arith | inr f ↦ let ge = ltb-false m n f in absurd (other (omega arith)) ]
 
 from_sorted : (ns : List ℕ) → IsNonDecreasing ns → IsUp ns
 from_sorted [] h = tt
@@ -187,13 +188,6 @@ from_sorted (n ∷ ns) h = (all_from n ns (λ j d lt. let e = h 0 (suc j) d (ome
 
 pub sorted_is : (ns ms out : List ℕ) → IsPermutation ns ms → IsPermutation ms out → IsNonDecreasing out → out ≡ in_rising_order ns
 sorted_is ns ms out h k up = one_up out (in_rising_order ns) (from_sorted out up) (rising_up ns) (λ n. times_permuted n ms out k ∙ (times_permuted n ns ms h ∙ sym (times_rising n ns)))
-
--- a vector that was lent as a slice
-pub lent : (n : ℕ) (new old : List ℕ) → length new ≡ length old → n ≡ length old → take n (new ++ drop (length new) old) ≡ new
-lent n new old same all = ap (λ (m : ℕ). take m (new ++ drop (length new) old)) (all ∙ sym same) ∙ front new (drop (length new) old) where
-  front : (xs ys : List ℕ) → take (length xs) (xs ++ ys) ≡ xs
-  front [] ys = refl
-  front (x ∷ xs) ys = ap (λ (zs : List ℕ). x ∷ zs) (front xs ys)
 
 -- what the law of the model says
 abbrev pub DroppedAreNotKept : Type 0

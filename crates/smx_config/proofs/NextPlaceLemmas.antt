@@ -95,7 +95,7 @@ pub record IsOpenNext (drivers : List DriverSpec) (c : Configuration) (p q : Pla
   pub some : IsSome (first_message c.flow p)
   pub known : IsKnown drivers q.stream
   pub differ : same_place p q ≡ false
-  pub open : is_full c q ≡ false
+  pub free : is_full c q ≡ false
 
 not_full : (b : Bool) (p q : Place) → cond b None (Some p) ≡ Some q → (b ≡ false) × (p ≡ q)
 not_full true p q e = absurd cc
@@ -111,5 +111,5 @@ open_next drivers c p q h e =
       some = rw m.1 refl;
       known = next.known;
       differ = rw (ne_eqb p.stream.driver q.stream.driver next.differ) refl;
-      open = subst (λ (x : Place). is_full c x ≡ false) o.1 o.0;
+      free = subst (λ (x : Place). is_full c x ≡ false) o.1 o.0;
     }

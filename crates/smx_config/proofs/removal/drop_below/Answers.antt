@@ -1,4 +1,4 @@
-use Rattle.std.proofs.Common.{◌∙◌, ◌+◌, List, ℕ, ap, refl, subst, sym, take, arith}
+use Rattle.std.proofs.Common.{◌≡◌, ◌∙◌, ◌+◌, List, ℕ, ap, filter, not, refl, subst, sym, take, arith}
 use Rattle.std.proofs.lemmas.List.{take_more}
 use Rattle.smx_types.specs.declared.stream.Place.{Place}
 use Rattle.smx_model.specs.Configuration.{QueuedMessage}
@@ -42,3 +42,7 @@ loop-id-preserved c =
             room = c.loop-id.invariant.room;
           })
     ]
+
+pub returns-clause-fulls : goal.returns-clause-fulls
+returns-clause-fulls c =
+    subst (λ (ids : List ℕ). c.loop-id.queues.fulls ≡ filter (λ (p : Place). not (is_read_below_listed c.args.links.now.links ids p)) c.args.queues.now.fulls) (taken_all c.args.gone.now c.loop-id.id-index (omega arith)) c.loop-id.invariant.fulls

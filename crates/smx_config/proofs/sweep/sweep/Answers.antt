@@ -20,11 +20,11 @@ returns-then-are_there-clause-value c =
     (swept_still c.args.drivers.now (configuration_of c.args.lists.now) c.args.lists.now.streams c.args.room.touched.items c.tells_existing.ensures (ap (list_all (is_there c.args.lists.now.streams)) (sym c.deref.ensures.value) ∙ sym c.are_there.ensures ∙ c.if-are_there.true) c.requires.touched))
 
 pub drop_orphans-requires-clause-cascade : goal.drop_orphans-requires-clause-cascade
-drop_orphans-requires-clause-cascade c = cascade_at_first c.args.lists.now.links.links c.args.lists.now.streams c.args.room.touched.items _ c.requires.kept.held c.requires.touched.links c.requires.room.touched_room
+drop_orphans-requires-clause-cascade c = cascade_at_first c.args.lists.now.links.links c.args.lists.now.streams c.args.room.touched.items _ c.requires.kept.held c.requires.touched.links (omega (arith, c.requires.room.touched_room))
 
 pub drop_orphans-requires-clause-seen : goal.drop_orphans-requires-clause-seen
 drop_orphans-requires-clause-seen c =
-    let cascade = cascade_at_first c.args.lists.now.links.links c.args.lists.now.streams c.args.room.touched.items (vec_capacity c.args.room.seen) c.requires.kept.held c.requires.touched.links c.requires.room.seen_room in
+    let cascade = cascade_at_first c.args.lists.now.links.links c.args.lists.now.streams c.args.room.touched.items (vec_capacity c.args.room.seen) c.requires.kept.held c.requires.touched.links (omega (arith, c.requires.room.seen_room)) in
     omega (arith, cascade.enough, ap length c.requires.room.seen_empty)
 
 pub drop_dead-requires-clause-seen : goal.drop_dead-requires-clause-seen
