@@ -54,7 +54,7 @@ abbrev pub without : List ℕ → List Link → List Link
 without ids ls = filter (λ l. not (is_one_of ids l)) ls
 
 -- by id and by lower stream the same link is found
-abbrev IsFoundBy : ℕ → StreamId → Link → Type 0
+abbrev pub IsFoundBy : ℕ → StreamId → Link → Type 0
 IsFoundBy id s l = eqb l.id id ≡ same_stream l.lower s
 
 drop_one : (a o p g v r less : Bool) → p ≡ (o || g) → (a ≡ true → g ≡ v) → less ≡ (r && not v) → ((a && not p) || less) ≡ (((a && not o) || r) && not v)
@@ -83,7 +83,7 @@ below_one_less ids id s x ls h =
           (one_of_more ids id l) (λ here. k.0 ∙ ap (λ (y : StreamId). same_stream y s) (stream_is l.lower x here)) (each ks k.1)
 
 -- a link that is found by its id, in links whose ids rise and whose lower streams are apart
-found_by : (links : List Link) (id : ℕ) (l : Link) → AreLowersApart links → IsIdsRising links → find (λ k. eqb k.id id) links ≡ Some l → All (IsFoundBy id l.lower) links
+pub found_by : (links : List Link) (id : ℕ) (l : Link) → AreLowersApart links → IsIdsRising links → find (λ k. eqb k.id id) links ≡ Some l → All (IsFoundBy id l.lower) links
 found_by links id l apart rise found = λ i d lt.
     let k = get_or links i d in
     let by_id : eqb k.id id ≡ true → k ≡ l = λ t. same_found k (sym (found_itself (λ m. eqb m.id id) links i d (once_id id links rise) lt t) ∙ found) in

@@ -12,9 +12,10 @@ pub mod StreamFaults
 pub mod UnlinkTargets
 pub mod Sending
 pub mod FewMinors
-pub mod ReservedRoom
+pub mod KeptHolds
 pub mod SweepReserves
 pub mod Closing
+pub mod DroppedMessages
 pub mod Refinement
 pub mod SecondReplies
 pub mod ModelOfConfig

@@ -5,7 +5,7 @@ use Rattle.smx_types.specs.declared.command.Command.{Command}
 use Rattle.smx_types.specs.declared.command.Command.TheVariants as command
 use Rattle.smx_types.specs.declared.driver.DriverSpec.{DriverSpec}
 use Rattle.smx_types.specs.declared.stream.Place.{Place}
-use Rattle.smx_model.specs.Configuration.{Configuration, same_place}
+use Rattle.smx_model.specs.Configuration.{Configuration}
 use Rattle.smx_model.specs.Queues.{is_full}
 use Rattle.smx_model.specs.Settling.{◌>>=◌, next_place, next_open_place, least_movable}
 
@@ -14,11 +14,6 @@ abbrev pub open_place : List DriverSpec → Configuration → Place → ℕ → 
 open_place drivers c p addr = do
   q ← next_place drivers c p addr
   if is_full c q then None else Some q
-
--- it is this place, where there is one
-abbrev pub is_same : Option Place → Place → Bool
-is_same None q = false
-is_same (Some p) q = same_place p q
 
 -- from the least movable place to its next open place; or no place is movable
 abbrev pub IsLeastMove : List DriverSpec → Configuration → Option Move → Type 0

@@ -8,7 +8,7 @@ ghost use Rattle.smx_model.specs.Configuration.{bind_before, route_before};
 ghost use Rattle.smx_model.specs.Ordered.{with_inserted};
 ghost use Rattle.smx_model.specs.Outcomes.{refuse};
 ghost use Rattle.smx_config.specs.ModelOfLists.{sizes_of};
-ghost use Rattle.smx_config.specs.ReservedRoom.{HasRoom};
+ghost use Rattle.smx_config.specs.KeptHolds.{KeepsHolds};
 ghost use Rattle.smx_config.specs.Refinement.{StepInvariant, Refines, RefinesOrNoMemory};
 
 use crate::insertion_index::{bind_insertion_index, route_insertion_index};
@@ -53,7 +53,7 @@ pub fn bind(
 ) -> Result<Reply, StepError>
     requires { StepInvariant drivers.now lists.old }
     ensures refines { RefinesOrNoMemory drivers.now lists.old lists.new process (command.Bind fd addr) result }
-    ensures kept { HasRoom lists.new }
+    ensures kept { KeepsHolds lists.new }
     ensures drivers { sizes_of lists.new ≡ sizes_of lists.old }
 {
     idle_changes_drop_none();
@@ -100,7 +100,7 @@ pub fn unbind(
 ) -> Result<Reply, Fault>
     requires { StepInvariant drivers.now lists.old }
     ensures refines { Refines drivers.now lists.old lists.new process (command.Unbind fd) result }
-    ensures kept { HasRoom lists.new }
+    ensures kept { KeepsHolds lists.new }
     ensures drivers { sizes_of lists.new ≡ sizes_of lists.old }
 {
     idle_changes_drop_none();
@@ -156,7 +156,7 @@ pub fn route(
 ) -> Result<Reply, StepError>
     requires { StepInvariant drivers.now lists.old }
     ensures refines { RefinesOrNoMemory drivers.now lists.old lists.new process (command.Route fd addr id) result }
-    ensures kept { HasRoom lists.new }
+    ensures kept { KeepsHolds lists.new }
     ensures drivers { sizes_of lists.new ≡ sizes_of lists.old }
 {
     idle_changes_drop_none();
@@ -193,7 +193,7 @@ pub fn unroute(
 ) -> Result<Reply, Fault>
     requires { StepInvariant drivers.now lists.old }
     ensures refines { Refines drivers.now lists.old lists.new process (command.Unroute fd addr) result }
-    ensures kept { HasRoom lists.new }
+    ensures kept { KeepsHolds lists.new }
     ensures drivers { sizes_of lists.new ≡ sizes_of lists.old }
 {
     idle_changes_drop_none();

@@ -22,7 +22,9 @@ use crate::settling::finish_step;
 use crate::show::{
     binding_lines, descriptor_lines, full_lines, link_lines, message_lines, route_lines,
 };
-use crate::shown_lines::{are_fds_shown, are_links_shown, are_shown};
+use crate::shown_lines::{
+    are_fds_shown, are_fulls_shown, are_links_shown, are_messages_shown, are_shown,
+};
 use crate::standing::tells_existing;
 use crate::step_error::StepError;
 use smx_model::laws_of_steps::{
@@ -91,7 +93,7 @@ impl Config {
     /// Does a command of a process: its reply and the new configuration are those of the command table. A fault for a
     /// reply changes nothing, and neither does want of memory. `dup`, `unbind`, `unroute`, `read`, `transmit` and every
     /// refusal take no memory, so they are always answered.
-    #[tactic(auto, using(crate::proofs::KeptLemmas::table_stays, crate::proofs::KeptLemmas::minors_stay, crate::proofs::KeptLemmas::tells_again))]
+    #[tactic(auto, using(crate::proofs::KeptLemmas::table_stays, crate::proofs::KeptLemmas::minors_stay, crate::proofs::KeptLemmas::queues_stay, crate::proofs::KeptLemmas::tells_again))]
     pub fn step(&mut self, process: Process, command: &Command) -> Result<Reply, NoMemory>
         // What it does.
         ensures drivers { self.new.drivers ≡ self.old.drivers }
@@ -158,8 +160,8 @@ impl Config {
         let links = link_lines(alloc, drivers, &self.lists.links)?;
         let binds = binding_lines(alloc, drivers, &self.lists.binds)?;
         let routes = route_lines(alloc, drivers, &self.lists.routes)?;
-        let msgs = message_lines(alloc, drivers, &self.lists.flow)?;
-        let fulls = full_lines(alloc, drivers, &self.lists.fulls)?;
+        let msgs = message_lines(alloc, drivers, &self.lists.queues)?;
+        let fulls = full_lines(alloc, drivers, &self.lists.queues)?;
         Ok(ConfigView {
             next_id: self.lists.links.next_id(),
             next_serial: self.lists.next_serial,
@@ -183,8 +185,8 @@ impl Config {
             && are_links_shown(drivers, &self.lists.links, shown.links.as_slice())
             && are_shown(drivers, &self.lists.binds, shown.binds.as_slice())
             && are_shown(drivers, &self.lists.routes, shown.routes.as_slice())
-            && are_shown(drivers, &self.lists.flow, shown.msgs.as_slice())
-            && are_shown(drivers, &self.lists.fulls, shown.fulls.as_slice())
+            && are_messages_shown(drivers, &self.lists.queues, shown.msgs.as_slice())
+            && are_fulls_shown(drivers, &self.lists.queues, shown.fulls.as_slice())
     }
 
     /// How many links stand. Takes no memory.

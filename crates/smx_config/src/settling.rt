@@ -1,23 +1,20 @@
 //! Messages that move on.
 
-ghost use Rattle.std.specs.Prelude.{IsTrue, ◌≡◌, ◌≤◌, ◌==◌, ◌&&◌, false, find, length, IfSome, Some};
+ghost use Rattle.std.specs.Prelude.{IsTrue, ◌≡◌, ◌==◌, ◌&&◌, find, Some};
 ghost use Rattle.smx_model.specs.FlowOrder.{IsInOrder};
 ghost use Rattle.smx_model.specs.KeptConfigurations.{IsSound};
-ghost use Rattle.smx_model.specs.Queues.{first_message};
-ghost use Rattle.smx_model.specs.Settling.{place_below, place_above, next_place, next_open_place, is_movable, IsSettled};
+ghost use Rattle.smx_model.specs.Settling.{place_below, place_above, next_place, next_open_place, IsSettled};
 ghost use Rattle.smx_model.specs.Settling.{after_move, after_settling};
 ghost use Rattle.smx_config.specs.ExistingStreams.{TellsExisting};
 ghost use Rattle.smx_config.specs.ModelOfLists.{configuration_of, sizes_of};
-ghost use Rattle.smx_config.specs.Moves.{open_place, is_same, is_open, IsLeastMove};
-ghost use Rattle.smx_config.specs.ReservedRoom.{HasRoom};
+ghost use Rattle.smx_config.specs.Moves.{open_place, is_open, IsLeastMove};
+ghost use Rattle.smx_config.specs.KeptHolds.{KeepsHolds};
 
 use crate::driver_specs::is_mux;
 use crate::lists::Lists;
-use crate::queued_message::QueuedMessage;
-use crate::queues::{arrive, is_full, leave};
 use crate::standing::tells_existing;
-use crate::streams::same_place;
 use smx_links::LinkTable;
+use smx_model::laws_of_queues::the_first_leaves;
 use smx_model::laws_of_steps::{moves_keep_soundness, settling_suffices};
 use smx_types::{Binding, Command, DriverSpec, Place, Route, Side, StreamId};
 
@@ -95,86 +92,57 @@ fn open_place(drivers: &[DriverSpec], lists: &Lists, place: Place, addr: u32) ->
     ensures { result ≡ open_place drivers.now (configuration_of lists.now) place addr }
 {
     let next = next_place(drivers, lists, place, addr)?;
-    if is_full(&lists.fulls, next) {
+    if lists.queues.is_full(next) {
         None
     } else {
         Some(next)
     }
 }
 
-// Whether this is the place before.
-fn is_same(before: Option<Place>, place: Place) -> bool
-    ensures { result ≡ is_same before place }
-{
-    match before {
-        Some(p) => same_place(p, place),
-        None => false,
-    }
-}
-
-// Where the first message of this one's place may go on to. From the place before none may, and a message of another
-// place is the first there.
-fn next_open_place(
-    drivers: &[DriverSpec],
-    lists: &Lists,
-    before: Option<Place>,
-    queued: &QueuedMessage,
-) -> Option<Place>
-    requires stuck { IfSome before (λ p. is_movable drivers.now (configuration_of lists.now) p ≡ false) }
-    requires first { is_same before queued.now.place ≡ false
-        → first_message lists.now.flow.items queued.now.place ≡ Some queued.now.message }
-    ensures { result ≡ next_open_place drivers.now (configuration_of lists.now) queued.now.place }
-{
-    let place = queued.place();
-    if is_same(before, place) {
-        return None;
-    }
-    open_place(drivers, lists, place, queued.message().addr)
-}
-
-// The least movable place, with where its first message goes. The messages of a place stand together, so each place is
-// looked at once, at its first message.
-fn first_move(drivers: &[DriverSpec], lists: &Lists, flow: &[QueuedMessage]) -> Option<Move>
-    requires same { flow.now ≡ lists.now.flow.items }
-    requires order { IsInOrder flow.now }
+// The least movable place, with where its first message goes. Only places that have messages are looked at.
+fn first_move(drivers: &[DriverSpec], lists: &Lists) -> Option<Move>
+    requires { IsInOrder lists.now.queues.flow }
     ensures { IsLeastMove drivers.now (configuration_of lists.now) result }
 {
-    let mut before = None;
-    for queued in flow {
-        if let Some(to) = next_open_place(drivers, lists, before, queued) {
-            let from = queued.place();
+    the_first_leaves();
+    let mut rest = lists.queues.fronts();
+    while let Some(front) = rest.next() {
+        let from = front.place;
+        if let Some(to) = open_place(drivers, lists, from, front.message.addr) {
             return Some(Move { from, to });
         }
-        before = Some(queued.place());
     }
     None
 }
 
 // The first message of a place moves on to its next place.
 fn move_on(drivers: &[DriverSpec], lists: &mut Lists, next: Move)
-    requires kept { HasRoom lists.old }
+    requires kept { KeepsHolds lists.old }
+    requires queues { lists.old.queues.drivers ≡ drivers.now }
+    requires sound { IsSound drivers.now (configuration_of lists.old) }
     requires open { next_open_place drivers.now (configuration_of lists.old) next.from ≡ Some next.to }
     ensures value { configuration_of lists.new ≡ after_move drivers.now (configuration_of lists.old) next.from }
-    ensures kept { HasRoom lists.new }
+    ensures kept { KeepsHolds lists.new }
     ensures drivers { sizes_of lists.new ≡ sizes_of lists.old }
 {
-    if let Some(message) = leave(drivers, lists, next.from) {
-        arrive(drivers, lists, next.to, message);
-    }
+    let _drivers = drivers;
+    lists.links.is_sound();
+    lists.queues.move_front(next.from, next.to);
 }
 
 // Moves messages on until none can.
 fn settle(drivers: &[DriverSpec], lists: &mut Lists)
-    requires kept { HasRoom lists.old }
+    requires kept { KeepsHolds lists.old }
+    requires queues { lists.old.queues.drivers ≡ drivers.now }
     requires sound { IsSound drivers.now (configuration_of lists.old) }
     ensures value { configuration_of lists.new ≡ after_settling drivers.now (configuration_of lists.old) }
-    ensures kept { HasRoom lists.new }
+    ensures kept { KeepsHolds lists.new }
     ensures drivers { sizes_of lists.new ≡ sizes_of lists.old }
 {
     moves_keep_soundness();
-    let mut left = lists.flow.len() as u128 * drivers.len() as u128;
+    let mut left = lists.queues.len() as u128 * drivers.len() as u128;
     while left > 0 {
-        let Some(next) = first_move(drivers, lists, &lists.flow) else {
+        let Some(next) = first_move(drivers, lists) else {
             return;
         };
         move_on(drivers, lists, next);
@@ -208,11 +176,12 @@ fn is_open(command: &Command) -> bool
 
 // Settles after a command, without a look at the messages where it opened or shared a stream.
 fn settle_after(drivers: &[DriverSpec], lists: &mut Lists, command: &Command)
-    requires kept { HasRoom lists.old }
+    requires kept { KeepsHolds lists.old }
+    requires queues { lists.old.queues.drivers ≡ drivers.now }
     requires sound { IsSound drivers.now (configuration_of lists.old) }
     requires open { IsTrue (is_open command.now) → IsSettled drivers.now (configuration_of lists.old) }
     ensures value { configuration_of lists.new ≡ after_settling drivers.now (configuration_of lists.old) }
-    ensures kept { HasRoom lists.new }
+    ensures kept { KeepsHolds lists.new }
     ensures drivers { sizes_of lists.new ≡ sizes_of lists.old }
 {
     if !is_open(command) {
@@ -222,11 +191,12 @@ fn settle_after(drivers: &[DriverSpec], lists: &mut Lists, command: &Command)
 
 // Settles after a command; from then on the table of streams tells again which streams exist.
 pub fn finish_step(drivers: &[DriverSpec], lists: &mut Lists, command: &Command)
-    requires kept { HasRoom lists.old }
+    requires kept { KeepsHolds lists.old }
+    requires queues { lists.old.queues.drivers ≡ drivers.now }
     requires sound { IsSound drivers.now (configuration_of lists.old) }
     requires open { IsTrue (is_open command.now) → IsSettled drivers.now (configuration_of lists.old) }
     ensures value { configuration_of lists.new ≡ after_settling drivers.now (configuration_of lists.old) }
-    ensures kept { HasRoom lists.new }
+    ensures kept { KeepsHolds lists.new }
     ensures existing { TellsExisting drivers.now (configuration_of lists.new) lists.new.streams }
     ensures drivers { sizes_of lists.new ≡ sizes_of lists.old }
 {

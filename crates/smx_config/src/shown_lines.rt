@@ -2,11 +2,11 @@
 
 ghost use Rattle.std.specs.Prelude.{◌≡◌, ◌↔◌, ◌<◌, length, map, IsTrue};
 ghost use Rattle.std.specs.List.{All};
-ghost use Rattle.smx_model.specs.Views.{view_of_fd, view_of_link};
+ghost use Rattle.smx_model.specs.Views.{view_of_fd, view_of_full, view_of_link, view_of_message};
 
-use crate::queued_message::QueuedMessage;
 use crate::show::{binding_line, descriptor_line, full_line, link_line, name_of, route_line};
 use smx_links::LinkTable;
+use smx_queues::{FlowTable, Queued};
 use smx_streams::Streams;
 use smx_types::{
     Binding, BindingLine, Descriptor, DescriptorLine, DriverSpec, FullLine, Link, LinkLine,
@@ -90,40 +90,6 @@ impl Shown for Route {
     }
 }
 
-impl Shown for QueuedMessage {
-    type Line = MessageLine;
-
-    ghost use Rattle.std.specs.Prelude.{◌<◌, length};
-    ghost use Rattle.smx_model.specs.Views.{view_of_message};
-
-    ghost is_within = { λ drivers h. h.place.stream.driver < length drivers };
-
-    ghost line_of = { view_of_message };
-
-    fn is_shown(&self, drivers: &[DriverSpec], line: &MessageLine) -> bool {
-        let place = self.place();
-        line.driver == name_of(drivers, place.stream.driver)
-            && line.minor == u32::from(place.stream.minor)
-            && line.side == place.side
-            && line.message == *self.message()
-    }
-}
-
-impl Shown for Place {
-    type Line = FullLine;
-
-    ghost use Rattle.std.specs.Prelude.{◌<◌, length};
-    ghost use Rattle.smx_model.specs.Views.{view_of_full};
-
-    ghost is_within = { λ drivers p. p.stream.driver < length drivers };
-
-    ghost line_of = { view_of_full };
-
-    fn is_shown(&self, drivers: &[DriverSpec], line: &FullLine) -> bool {
-        full_line(drivers, self) == *line
-    }
-}
-
 /// Whether there is a line for each item, in order, and no other.
 pub fn are_shown<T: Shown>(drivers: &[DriverSpec], items: &[T], lines: &[T::Line]) -> bool
     requires { All (T.is_within drivers.now) items.now }
@@ -175,4 +141,61 @@ pub fn are_fds_shown(drivers: &[DriverSpec], streams: &Streams, lines: &[Descrip
         next = streams.next_fd(d.process, d.fd + 1);
     }
     next.is_none()
+}
+
+fn is_message_shown(drivers: &[DriverSpec], queued: Queued<'_>, line: &MessageLine) -> bool
+    requires { queued.place.stream.driver < length drivers.now }
+    ensures { IsTrue result ↔ (line.now ≡ view_of_message drivers.now
+        (record { place = queued.entry.place; message = queued.entry.message.now })) }
+{
+    let place = queued.place;
+    line.driver == name_of(drivers, place.stream.driver)
+        && line.minor == u32::from(place.stream.minor)
+        && line.side == place.side
+        && line.message == *queued.message
+}
+
+/// The same of the messages of a table.
+pub fn are_messages_shown(
+    drivers: &[DriverSpec],
+    queues: &FlowTable,
+    lines: &[MessageLine],
+) -> bool
+    requires { All (λ h. h.place.stream.driver < length drivers.now) queues.now.flow }
+    ensures { IsTrue result ↔ (lines.now ≡ map (view_of_message drivers.now) queues.now.flow) }
+{
+    let mut rest = queues.messages();
+    for line in lines {
+        let Some(queued) = rest.next() else {
+            return false;
+        };
+        if !is_message_shown(drivers, queued, line) {
+            return false;
+        }
+    }
+    rest.next().is_none()
+}
+
+fn is_full_shown(drivers: &[DriverSpec], place: Place, line: &FullLine) -> bool
+    requires { place.stream.driver < length drivers.now }
+    ensures { IsTrue result ↔ (line.now ≡ view_of_full drivers.now place) }
+{
+    full_line(drivers, &place) == *line
+}
+
+/// The same of its full places.
+pub fn are_fulls_shown(drivers: &[DriverSpec], queues: &FlowTable, lines: &[FullLine]) -> bool
+    requires { All (λ p. p.stream.driver < length drivers.now) queues.now.fulls }
+    ensures { IsTrue result ↔ (lines.now ≡ map (view_of_full drivers.now) queues.now.fulls) }
+{
+    let mut rest = queues.fulls();
+    for line in lines {
+        let Some(place) = rest.next() else {
+            return false;
+        };
+        if !is_full_shown(drivers, place, line) {
+            return false;
+        }
+    }
+    rest.next().is_none()
 }

@@ -1,5 +1,6 @@
 //! Tables that were filled by hand, and what they then hold.
 
+mod flow_tables;
 mod link_tables;
 mod link_tables_at_limits;
 mod queue_calls;

@@ -30,6 +30,4 @@ returns-clause-outcome c =
 pub returns-clause-kept : goal.returns-clause-kept
 returns-clause-kept c = record {
   held = λ s. c.close_fd-stays.ensures.rest.holds s ∙ c.requires.invariant.kept.held s;
-  marks_room = c.requires.invariant.kept.marks_room;
-  marks = c.requires.invariant.kept.marks;
 }

@@ -30,4 +30,4 @@ returns-clause-refines c =
     ∙ rw c.in_ok-opened.ensures.ok.1.fds refl)
 
 pub returns-clause-kept : goal.returns-clause-kept
-returns-clause-kept c = record { held = λ s. c.in_ok-opened.ensures.ok.1.holds s ∙ c.requires.kept.held s; marks_room = c.requires.kept.marks_room; marks = c.requires.kept.marks }
+returns-clause-kept c = record { held = λ s. c.in_ok-opened.ensures.ok.1.holds s ∙ c.requires.kept.held s }

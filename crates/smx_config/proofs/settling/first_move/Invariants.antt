@@ -1,13 +1,16 @@
-use Rattle.std.proofs.Common.{◌≡◌, false, drop, find}
-use Rattle.std.specs.Prelude.{IfSome}
+use Rattle.std.proofs.Common.{◌≡◌, Some, length, find}
+use Rattle.std.specs.List.{AllByRecursion}
+use Rattle.smx_model.specs.Queues.{first_message}
 use Rattle.smx_model.specs.Settling.{is_movable}
 use Rattle.smx_config.specs.ModelOfLists.{configuration_of}
-use Rattle.smx_config.proofs.FlowLemmas.{IsPlaceBefore}
+use Rattle.smx_config.proofs.DeadLemmas.{place_of}
 use Rattle.smx_config.proofs.settling.first_move.Given as goal
 
-abbrev pub invariant-loop-queued : goal.invariant-loop-queued
-invariant-loop-queued l = record {
-  rest : find (λ h. is_movable l.drivers (configuration_of l.lists) h.place) (drop l.queued-index l.flow) ≡ find (λ h. is_movable l.drivers (configuration_of l.lists) h.place) l.flow;
-  stuck : IfSome l.before (λ p. is_movable l.drivers (configuration_of l.lists) p ≡ false);
-  last : IsPlaceBefore l.flow l.queued-index l.before;
+abbrev pub decreases-loop-front : goal.decreases-loop-front
+decreases-loop-front l = length l.rest
+
+abbrev pub invariant-loop-front : goal.invariant-loop-front
+invariant-loop-front l = record {
+  rest : place_of (find (λ h. is_movable l.drivers (configuration_of l.lists) h.place) l.rest) ≡ place_of (find (λ h. is_movable l.drivers (configuration_of l.lists) h.place) l.lists.queues.flow);
+  first : AllByRecursion (λ h. first_message l.lists.queues.flow h.place ≡ Some h.message) l.rest;
 }

@@ -1,7 +1,11 @@
 use Rattle.std.proofs.Common.{◌∙◌, arith}
 use Rattle.smx_config.specs.ModelOfLists.{configuration_of}
+use Rattle.smx_config.proofs.KeptLemmas.{queues_stay}
 use Rattle.smx_config.proofs.SettleLemmas.{settled_one}
 use Rattle.smx_config.proofs.settling.settle.Goals as goal
+
+pub move_on-requires-clause-queues : goal.move_on-requires-clause-queues
+move_on-requires-clause-queues c = queues_stay c.args.lists.now c.loop-left.lists c.args.drivers.now c.loop-left.invariant.drivers c.requires.queues
 
 pub loop-left-preserved : goal.loop-left-preserved
 loop-left-preserved c = record {

@@ -1,19 +1,14 @@
-use Rattle.std.proofs.Common.{arith, not}
+use Rattle.std.proofs.Common.{◌∙◌}
 use Rattle.smx_types.specs.declared.stream.Place.{Place}
-use Rattle.smx_streams.specs.StreamTables.{exists as is_there}
+use Rattle.smx_model.specs.Configuration.{QueuedMessage}
 use Rattle.smx_config.specs.ModelOfLists.{configuration_of}
+use Rattle.smx_config.proofs.DeadLemmas.{dead_are_gone}
 use Rattle.smx_config.proofs.DeadStreamLemmas.{dead_dropped}
-use Rattle.smx_config.proofs.MarkLemmas.{marks_after_emptied, not_more}
 use Rattle.smx_config.proofs.sweep.drop_dead.Goals as goal
 
 pub returns-clause-value : goal.returns-clause-value
-returns-clause-value c = rw (c.keep_live_binds.ensures, c.keep_live_flow.ensures, c.keep_live_fulls.ensures.marks) (dead_dropped c.args.drivers.now (configuration_of c.args.lists.now) c.args.lists.now.streams c.requires.existing)
-
-pub returns-clause-kept : goal.returns-clause-kept
-returns-clause-kept c =
-    let is_dead = λ (p : Place). not (is_there c.args.lists.now.streams p.stream) in
-    record {
-      held = c.requires.kept.held;
-      marks_room = omega (arith, not_more (λ h. not (is_dead h.place)) c.args.lists.now.flow.items c.keep_live_flow.new.flow.items c.keep_live_flow.ensures);
-      marks = marks_after_emptied is_dead c.args.lists.now.flow.items c.keep_live_flow.new.flow.items c.args.lists.now.fulls.items c.keep_live_fulls.new.fulls.items c.requires.kept.marks c.keep_live_flow.ensures c.keep_live_fulls.ensures.marks;
-    }
+returns-clause-value c =
+    let t = c.args.lists.now.streams in
+    let flow = c.drop_dead_places.ensures.flow ∙ dead_are_gone (λ (h : QueuedMessage). h.place.stream) t c.args.seen.now c.args.lists.now.queues.flow c.requires.seen.flow in
+    let fulls = c.drop_dead_places.ensures.fulls ∙ dead_are_gone (λ (p : Place). p.stream) t c.args.seen.now c.args.lists.now.queues.fulls c.requires.seen.fulls in
+    rw (c.keep_live_binds.ensures, flow, fulls) (dead_dropped c.args.drivers.now (configuration_of c.args.lists.now) t c.requires.existing)

@@ -16,5 +16,6 @@ invariant_of-result c = record {
   room = c.in-Ok.ensures.room;
   table = rw c.in-Ok-from_slice.ensures.items c.in-Ok.ensures.drivers;
   streams = rw c.in-Ok-from_slice.ensures.items c.in-Ok.ensures.minors;
+  queues = rw c.in-Ok-from_slice.ensures.items c.in-Ok.ensures.queues;
   existing = rw c.in-Ok-from_slice.ensures.items c.tells_existing.ensures;
 }
