@@ -1,0 +1,19 @@
+-- What a contract sees of a table of bindings.
+use Rattle.std.specs.Prelude.{List}
+use Rattle.smx_types.specs.declared.link.Binding.{Binding}
+use Rattle.smx_model.specs.Configuration.{bind_before}
+use Rattle.smx_model.specs.Ordered.{IsRising}
+use Rattle.smx_addresses.specs.Keys.{Key, AreApart}
+
+-- the driver and its address
+abbrev pub address_of : Binding → Key
+address_of b = (b.driver, b.addr)
+
+-- the stream: its driver and its minor
+abbrev pub stream_of : Binding → Key
+stream_of b = (b.driver, b.minor)
+
+-- by driver and address, so that no address comes twice, and no stream twice either
+pub record IsBindingList (binds : List Binding) : Type 0 where
+  pub rise : IsRising bind_before binds
+  pub streams : AreApart stream_of binds
