@@ -1,4 +1,4 @@
--- Which keys are routed to a link, as sets under the ids of links.
+-- Which keys are routed to a link, as sets under the ids of links. No public clause needs this.
 use Rattle.std.specs.Prelude.{◌≡◌, ℕ, Bool, false, ◌&&◌, ◌==◌, if◌then◌else◌, List}
 use Rattle.std.specs.HashSet.{HashSet}
 use Rattle.std.specs.List.{list_any}
@@ -7,10 +7,6 @@ use Rattle.std.specs.Option.{option_map_or}
 use Rattle.smx_addresses.specs.Keys.{Key, is_key}
 
 module _ {S : Type 0} where
-  -- a set of keys under each id
-  abbrev pub KeySets : Type 0
-  KeySets = List (ℕ × HashSet Key S)
-
   -- the key is in the set under the id
   abbrev pub is_target : List (ℕ × HashSet Key S) → ℕ → Key → Bool
   is_target sets id k = option_map_or (λ s. list_any (is_key k) s.keys) (lookup (λ i. id == i) sets) false

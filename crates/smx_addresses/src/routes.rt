@@ -5,7 +5,7 @@ ghost use Rattle.std.specs.List.{list_any, IsDistinct};
 ghost use Rattle.std.specs.Map.{keys_of, lookup};
 ghost use Rattle.smx_model.specs.Configuration.{route_before};
 ghost use Rattle.smx_model.specs.Ordered.{with_inserted};
-ghost use Rattle.smx_addresses.specs.Keys.{Key as AnyKey, is_key};
+ghost use Rattle.smx_addresses.specs.Keys.{Key as AnyKey, is_key, left_of};
 ghost use Rattle.smx_addresses.specs.RouteLists.{IsRouteList};
 
 use crate::key::{Key, Numbers};
