@@ -1,5 +1,5 @@
 -- What each change of the table of bindings makes of its list.
-use Rattle.std.proofs.Common.{◌≡◌, ℕ, Bool, true, false, cond, ◌&&◌, ◌||◌, ◌==◌, not, List, [], ◌∷◌, filter, find, is_some, Option, Some, None, refl, sym, ap, ◌∙◌, arith, inl, inr}
+use Rattle.std.proofs.Common.{◌≡◌, ℕ, Bool, true, false, ◌&&◌, ◌||◌, ◌==◌, not, List, [], ◌∷◌, filter, find, is_some, Option, Some, None, refl, sym, ap, ◌∙◌, arith, inl, inr}
 use Rattle.std.specs.List.{list_any, IsDistinct}
 use Rattle.std.specs.Map.{lookup, keys_of}
 use Rattle.std.specs.Option.{option_map}
@@ -10,7 +10,7 @@ use Rattle.smx_model.specs.Configuration.{bind_before}
 use Rattle.smx_model.specs.Ordered.{with_inserted}
 use Rattle.smx_addresses.specs.BindingLists.{address_of, stream_of, IsBindingList}
 use Rattle.smx_addresses.specs.Keys.{Key, is_key, found, AreApart}
-use Rattle.smx_addresses.specs.TableFields.{Entries, Finds, binding_of, bindings_of, AreBindings}
+use Rattle.smx_addresses.specs.TableFields.{Entries, binding_of, bindings_of, AreBindings}
 use Rattle.smx_addresses.proofs.ChangeLemmas.{Sets, finds_inserted, finds_filter}
 use Rattle.smx_addresses.proofs.KeyLemmas.{is_key_sym, key_same, found_any, found_find, none_of, filter_all, apart_filter, apart_inserted}
 use Rattle.smx_addresses.proofs.OrderLemmas.{rising_filter, rising_inserted, apart_rising}
@@ -57,12 +57,12 @@ either_any : (d a m : ℕ) (bs : List Binding)
 either_any d a m [] = refl
 either_any d a m (b ∷ bs) = rw (either_any d a m bs)
     (by (b.driver == d) (b.addr == a) (b.minor == m) (list_any (λ c. is_key (address_of c) (d, a)) bs) (list_any (λ c. is_key (stream_of c) (d, m)) bs)) where
-  by : (p q r x y : Bool) → ((p && (q || r)) || (x || y)) ≡ (((p && q) || x) || ((p && r) || y))
-  by true true r x y = refl
-  by true false true true y = refl
-  by true false true false y = refl
-  by true false false x y = refl
-  by false q r x y = refl
+      by : (p q r x y : Bool) → ((p && (q || r)) || (x || y)) ≡ (((p && q) || x) || ((p && r) || y))
+      by true true r x y = refl
+      by true false true true y = refl
+      by true false true false y = refl
+      by true false false x y = refl
+      by false q r x y = refl
 
 -- the test of both, by the two tables
 pub taken_either : (xs ys : Entries) (bs : List Binding) (d a m : ℕ) → bindings_of xs ≡ bs → AreBindings xs ys

@@ -15,7 +15,7 @@ use Rattle.std.proofs.lemmas.Map.Keys.{IsDistinct-IsPermutation, apart_from_dist
 use Rattle.indexmap.proofs.MapLemmas.{lookup_permutation}
 use Rattle.smx_model.specs.Ordered.{ComesBefore, IsRising}
 use Rattle.smx_addresses.specs.Keys.{Key, is_key, found, by_key}
-use Rattle.smx_addresses.specs.TableFields.{Entries, Finds}
+use Rattle.smx_addresses.specs.TableFields.{Entries}
 use Rattle.smx_addresses.proofs.KeyLemmas.{is_key_sym, is_key_congr, keys_equal}
 use Rattle.smx_addresses.proofs.OrderLemmas.{rising_same}
 use Rattle.smx_addresses.proofs.TableLemmas.{Stands}

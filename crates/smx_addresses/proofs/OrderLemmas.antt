@@ -1,7 +1,7 @@
 -- Rising lists: one more and fewer elements, and that what is found in them tells them apart.
 use Rattle.std.proofs.Common.{◌≡◌, ℕ, Bool, true, false, List, [], ◌∷◌, filter, Some, None, refl, sym, ap, ◌∙◌, arith, inl, inr}
 use Rattle.std.specs.List.{list_any}
-use Rattle.std.proofs.lemmas.Bool.{cases_Bool, false≢true}
+use Rattle.std.proofs.lemmas.Bool.{cases_Bool}
 use Rattle.std.proofs.lemmas.Bool.Decides.{nat_tests}
 use Rattle.smx_model.specs.Configuration.{pair_before}
 use Rattle.smx_model.specs.Ordered.{with_inserted, ComesBefore, IsRising}

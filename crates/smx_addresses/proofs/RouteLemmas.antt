@@ -1,8 +1,10 @@
 -- What each change of the table of routes makes of its list.
-use Rattle.std.proofs.Common.{◌≡◌, ℕ, ◌&&◌, ◌==◌, not, List, filter, find, is_some, Option, Some, None, refl, sym, ap, ◌∙◌}
+use Rattle.std.proofs.Common.{◌≡◌, ℕ, ◌<◌, ◌+◌, ◌&&◌, ◌||◌, ◌==◌, not, List, [], ◌∷◌, ◌++◌, length, get_or, take, filter, find, is_some, Option, Some, None, refl, sym, ap, ◌∙◌, inl, inr}
 use Rattle.std.specs.List.{list_any, IsDistinct}
 use Rattle.std.specs.Map.{lookup, keys_of}
 use Rattle.std.specs.Option.{option_map}
+use Rattle.std.proofs.lemmas.Bool.{cases_Bool}
+use Rattle.std.proofs.lemmas.List.{take_more}
 use Rattle.std.proofs.lemmas.Map.Entries.{option_filter}
 use Rattle.smx_types.specs.declared.link.Route.{Route}
 use Rattle.smx_model.specs.Configuration.{route_before}
@@ -73,3 +75,28 @@ unlinked xs us id u v s =
       rises = rising_filter route_before _ (routes_of xs) k.rises;
       finds = λ q. s q ∙ ap (option_filter (λ n. not (n == id))) (k.finds q) ∙ sym (found_kept target_of (λ r. r.id) (λ n. not (n == id)) (routes_of xs) (apart_rising target_of (routes_of xs) k.rises) q);
     })
+
+-- one link more whose routes are gone
+
+ids_more : (ids : List ℕ) (id : ℕ) (r : Route) → list_any (λ i. r.id == i) (ids ++ id ∷ []) ≡ (list_any (λ i. r.id == i) ids || (r.id == id))
+ids_more [] id r = elim (cases_Bool (r.id == id)) [ inl t ↦ rw t refl | inr f ↦ rw f refl ]
+ids_more (x ∷ ids) id r = elim (cases_Bool (r.id == x)) [ inl t ↦ rw t refl | inr f ↦ rw f (ids_more ids id r) ]
+
+unlinked_more : (rs : List Route) (ids : List ℕ) (id : ℕ)
+    → filter (λ r. not (r.id == id)) (filter (λ r. not (list_any (λ i. r.id == i) ids)) rs) ≡ filter (λ r. not (list_any (λ i. r.id == i) (ids ++ id ∷ []))) rs
+unlinked_more [] ids id = refl
+unlinked_more (r ∷ rs) ids id = elim (cases_Bool (list_any (λ i. r.id == i) ids)) [
+  | inl t ↦ rw (ids_more ids id r, t) (unlinked_more rs ids id)
+  | inr f ↦ elim (cases_Bool (r.id == id)) [
+    | inl e ↦ rw (ids_more ids id r, f, e) (unlinked_more rs ids id)
+    | inr n ↦ rw (ids_more ids id r, f, n) (ap (λ x. r ∷ x) (unlinked_more rs ids id))
+  ]
+]
+
+pub unlinked_next : (rs : List Route) (ids : List ℕ) (i : ℕ) → i < length ids
+    → filter (λ r. not (r.id == get_or ids i 0)) (filter (λ r. not (list_any (λ i. r.id == i) (take i ids))) rs) ≡ filter (λ r. not (list_any (λ i. r.id == i) (take (i + 1) ids))) rs
+unlinked_next rs ids i lt = rw (take_more ids i 0 lt) (unlinked_more rs (take i ids) (get_or ids i 0))
+
+pub unlinked_none : (rs : List Route) → filter (λ r. not (list_any (λ i. r.id == i) [])) rs ≡ rs
+unlinked_none [] = refl
+unlinked_none (r ∷ rs) = ap (λ x. r ∷ x) (unlinked_none rs)

@@ -1,10 +1,10 @@
 -- The sets of keys under the links, after each change of the table of routes.
-use Rattle.std.proofs.Common.{◌≡◌, ℕ, ◌<◌, ◌+◌, Bool, true, false, cond, ◌||◌, ◌&&◌, ◌==◌, not, List, [], ◌∷◌, ◌++◌, length, get_or, take, Option, Some, None, refl, sym, ap, ◌∙◌, arith, if◌then◌else◌, inl, inr}
+use Rattle.std.proofs.Common.{◌≡◌, ℕ, ◌<◌, ◌+◌, Bool, true, false, cond, ◌||◌, ◌==◌, not, List, [], ◌∷◌, ◌++◌, length, get_or, take, Option, Some, None, Result, Ok, Err, OnErr, refl, sym, ap, ◌∙◌, arith, if◌then◌else◌, inl, inr}
 use Rattle.std.specs.HashSet.{HashSet}
 use Rattle.std.specs.List.{list_any, AllZip, IsDistinct}
 use Rattle.std.specs.Map.{lookup, keys_of}
 use Rattle.std.specs.Option.{option_map_or}
-use Rattle.std.proofs.lemmas.Bool.{cases_Bool}
+use Rattle.std.proofs.lemmas.Bool.{cases_Bool, eqb-true}
 use Rattle.std.proofs.lemmas.Bool.Decides.{nat_tests}
 use Rattle.std.proofs.lemmas.List.{take_more}
 use Rattle.std.proofs.lemmas.Map.Entries.{option_filter}
@@ -48,6 +48,22 @@ leads_filtered id i (Some n) = elim (cases_Bool (n == id)) [
   | inl t ↦ elim (cases_Bool (id == i)) [ inl a ↦ rw (t, a) refl | inr a ↦ let b : (n == i) ≡ false = grind (arith, nat_tests) in rw (t, a, b) refl ]
   | inr f ↦ elim (cases_Bool (id == i)) [ inl a ↦ let b : (n == i) ≡ false = grind (arith, nat_tests) in rw (f, a, b) refl | inr a ↦ rw (f, a) refl ]
 ]
+
+-- keys that are cloned
+keys_again : (xs ys : List Key) → AllZip (λ x y. (y.0 ≡ x.0) × (y.1 ≡ x.1)) xs ys → ys ≡ xs
+keys_again [] [] h = refl
+keys_again [] (y ∷ ys) h = absurd h
+keys_again (x ∷ xs) [] h = absurd h
+keys_again (x ∷ xs) (y ∷ ys) h = (λ i. (h.0.0 i, h.0.1 i) ∷ keys_again xs ys h.1 i)
+
+-- where an outcome is an error, what holds anyhow
+pub on_err : {X E : Type 0} (r : Result X E) (P : Type 0) → P → OnErr r P
+on_err (Ok x) P p = tt
+on_err (Err e) P p = p
+
+pub when_true : (b : Bool) → cond b true false ≡ b
+when_true true = refl
+when_true false = refl
 
 module _ {S : Type 0} where
   -- no route and no key
@@ -135,3 +151,64 @@ module _ {S : Type 0} where
         ap (λ (o : Option (HashSet Key S)). option_map_or (λ s. list_any (is_key q) s.keys) o false) (t i) ∙ elim (cases_Bool (id == i)) [ inl a ↦ rw a refl | inr a ↦ rw a refl ] in
         there ∙ ap (cond (id == i) false) (h.targets i q) ∙ sym now;
   }
+
+  -- the sets after a change of the table that holds them
+
+  -- a set written back with the same keys
+  pub same_set : (ts vs : List (ℕ × HashSet Key S)) (id : ℕ) (s w : HashSet Key S) → lookup (λ j. id == j) ts ≡ Some s → w.keys ≡ s.keys
+      → ((i : ℕ) → lookup (λ j. i == j) vs ≡ cond (id == i) (Some w) (lookup (λ j. i == j) ts)) → (i : ℕ) (q : Key) → is_target vs i q ≡ is_target ts i q
+  same_set ts vs id s w at e t i q =
+      ap (λ (o : Option (HashSet Key S)). option_map_or (λ x. list_any (is_key q) x.keys) o false) (t i) ∙ elim (cases_Bool (id == i)) [
+        | inl a ↦
+            let same : lookup (λ j. i == j) ts ≡ Some s = ap (λ n. lookup (λ j. n == j) ts) (sym (eqb-true id i a)) ∙ at in
+            rw (a, same, e) refl
+        | inr a ↦ rw a refl
+      ]
+
+  -- a first key, under an id that had no set
+  pub new_set : (ts vs : List (ℕ × HashSet Key S)) (id : ℕ) (k : Key) (w : HashSet Key S) → lookup (λ j. id == j) ts ≡ None → ((q : Key) → list_any (is_key q) w.keys ≡ is_key k q)
+      → ((i : ℕ) → lookup (λ j. i == j) vs ≡ cond (id == i) (Some w) (lookup (λ j. i == j) ts)) → IsTargetSet ts vs id k true
+  new_set ts vs id k w at e t i q =
+      ap (λ (o : Option (HashSet Key S)). option_map_or (λ x. list_any (is_key q) x.keys) o false) (t i) ∙ elim (cases_Bool (id == i)) [
+        | inl a ↦
+            let same : lookup (λ j. i == j) ts ≡ None = ap (λ n. lookup (λ j. n == j) ts) (sym (eqb-true id i a)) ∙ at in
+            elim (cases_Bool (is_key k q)) [ inl b ↦ rw (a, e q, b) refl | inr b ↦ rw (a, e q, b, same) refl ]
+        | inr a ↦ rw a refl
+      ]
+
+  -- no key goes from a set that isn't there
+  pub no_set : (ts : List (ℕ × HashSet Key S)) (id : ℕ) (k : Key) → lookup (λ j. id == j) ts ≡ None → IsTargetSet ts ts id k false
+  no_set ts id k at i q = elim (cases_Bool (id == i)) [
+    | inl a ↦
+        let same : lookup (λ j. i == j) ts ≡ None = ap (λ n. lookup (λ j. n == j) ts) (sym (eqb-true id i a)) ∙ at in
+        elim (cases_Bool (is_key k q)) [ inl b ↦ rw (a, b, same) refl | inr b ↦ rw (a, b) refl ]
+    | inr a ↦ rw a refl
+  ]
+
+  -- a copy
+
+  targets_again : (ts vs : List (ℕ × HashSet Key S)) → AllZip (λ p q. (q.0 ≡ p.0) × AllZip (λ x y. (y.0 ≡ x.0) × (y.1 ≡ x.1)) p.1.keys q.1.keys) ts vs
+      → (i : ℕ) (q : Key) → is_target vs i q ≡ is_target ts i q
+  targets_again [] [] h i q = refl
+  targets_again [] (v ∷ vs) h i q = absurd h
+  targets_again (t ∷ ts) [] h i q = absurd h
+  targets_again (t ∷ ts) (v ∷ vs) h i q = elim (cases_Bool (i == t.0)) [
+    | inl a ↦
+        let b : (i == v.0) ≡ true = ap (λ n. i == n) h.0.0 ∙ a in
+        rw (a, b) (ap (list_any (is_key q)) (keys_again t.1.keys v.1.keys h.0.1))
+    | inr a ↦
+        let b : (i == v.0) ≡ false = ap (λ n. i == n) h.0.0 ∙ a in
+        rw (a, b) (targets_again ts vs h.1 i q)
+  ]
+
+  -- of both tables
+  pub copied_whole : (xs us : Entries) (ts vs : List (ℕ × HashSet Key S)) → AreRoutes xs ts → us ≡ xs → AllZip (λ p q. (q.0 ≡ p.0) × AllZip (λ x y. (y.0 ≡ x.0) × (y.1 ≡ x.1)) p.1.keys q.1.keys) ts vs
+      → AreRoutes us vs
+  copied_whole xs us ts vs h e z = record { unique = rw e h.unique; targets = λ i q. rw e (targets_again ts vs z i q ∙ h.targets i q) }
+
+-- the ids of a copy
+pub ids_again : (es fs : Entries) → AllZip (λ p q. ((q.0.0 ≡ p.0.0) × (q.0.1 ≡ p.0.1)) × (q.1 ≡ p.1)) es fs → fs ≡ es
+ids_again [] [] h = refl
+ids_again [] (f ∷ fs) h = absurd h
+ids_again (e ∷ es) [] h = absurd h
+ids_again (e ∷ es) (f ∷ fs) h = (λ i. ((h.0.0.0 i, h.0.0.1 i), h.0.1 i) ∷ ids_again es fs h.1 i)

@@ -8,9 +8,8 @@ use Rattle.smx_types.specs.declared.link.Binding.{Binding}
 use Rattle.smx_types.specs.declared.link.Route.{Route}
 use Rattle.smx_model.specs.Configuration.{bind_before, route_before}
 use Rattle.smx_model.specs.Ordered.{with_inserted}
-use Rattle.smx_addresses.specs.BindingLists.{address_of, stream_of}
+use Rattle.smx_addresses.specs.BindingLists.{stream_of}
 use Rattle.smx_addresses.specs.Keys.{Key, AreApart, found, is_key}
-use Rattle.smx_addresses.specs.RouteLists.{target_of}
 use Rattle.smx_addresses.specs.Targets.{is_target}
 
 -- a number under each key

@@ -73,8 +73,7 @@ impl Bindings {
     pub fn is_taken(&self, stream: StreamId, addr: u32) -> bool
         ensures { result ≡ list_any (λ b. (b.driver == stream.driver) && ((b.addr == addr) || (b.minor == stream.minor))) self.now }
     {
-        self.minors.contains_key(&(stream.driver, addr))
-            || self.addrs.contains_key(&key_of(stream))
+        self.minors.contains_key(&(stream.driver, addr)) || self.addrs.contains_key(&key_of(stream))
     }
 
     /// Binds a stream that has no address to one that its driver has not bound. Fails only for want of memory, and
