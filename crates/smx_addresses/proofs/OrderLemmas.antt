@@ -1,12 +1,14 @@
 -- Rising lists: one more and fewer elements, and that what is found in them tells them apart.
-use Rattle.std.proofs.Common.{◌≡◌, ℕ, Bool, true, false, List, [], ◌∷◌, filter, Some, None, refl, sym, ap, ◌∙◌, arith, inl, inr}
-use Rattle.std.specs.List.{list_any}
+use Rattle.std.proofs.Common.{◌≡◌, ℕ, ◌≤◌, Bool, true, false, List, [], ◌∷◌, length, filter, find, Some, None, ◌⊎◌, refl, sym, ap, subst, ◌∙◌, arith, inl, inr}
+use Rattle.std.specs.List.{All, list_any}
+use Rattle.std.specs.Option.{option_map}
 use Rattle.std.proofs.lemmas.Bool.{cases_Bool}
 use Rattle.std.proofs.lemmas.Bool.Decides.{nat_tests}
+use Rattle.std.proofs.lemmas.List.Elements.{All-head, All-tail}
 use Rattle.smx_model.specs.Configuration.{pair_before}
 use Rattle.smx_model.specs.Ordered.{with_inserted, ComesBefore, IsRising}
 use Rattle.smx_addresses.specs.Keys.{Key, is_key, found, by_key, AreApart}
-use Rattle.smx_addresses.proofs.KeyLemmas.{is_key_refl, is_key_sym, key_same}
+use Rattle.smx_addresses.proofs.KeyLemmas.{is_key_refl, is_key_sym, key_same, found_value}
 
 -- keys in their order
 
@@ -117,3 +119,62 @@ module _ {X : Type 0} (key : X → Key) (value : X → ℕ) where
             (λ i. first i ∷ rest i)
       ]
     ]
+
+    -- as many elements in order, each of which is found in a rising list, are that list
+
+    -- each is found there
+    abbrev pub AreFound : List X → List X → Type 0
+    AreFound ys [] = Unit {0}
+    AreFound ys (x ∷ xs) = (found key value ys (key x) ≡ Some (value x)) × AreFound ys xs
+
+    past_first : (y : X) (ys xs : List X) → ComesBefore (by_key key) y xs → AreFound (y ∷ ys) xs → AreFound ys xs
+    past_first y ys [] b h = tt
+    past_first y ys (x ∷ xs) b h =
+        let other : is_key (key x) (key y) ≡ false = is_key_sym (key x) (key y) ∙ before_apart (key y) (key x) b.0 in
+        let off : found key value (y ∷ ys) (key x) ≡ found key value ys (key x) = rw other refl in
+        (sym off ∙ h.0, past_first y ys xs b.1 h.1)
+
+    first_or_past : (x y : X) (xs ys : List X) → IsRising (by_key key) (x ∷ xs) → IsRising (by_key key) (y ∷ ys) → AreFound (y ∷ ys) (x ∷ xs) → (x ≡ y) ⊎ ComesBefore (by_key key) y (x ∷ xs)
+    first_or_past x y xs ys r s h = elim (cases_Bool (is_key (key x) (key y))) [
+      | inl t ↦
+          let at : found key value (y ∷ ys) (key x) ≡ Some (value y) = rw t refl in
+          let some : Some (value x) ≡ Some (value y) = sym h.0 ∙ at in
+          let one : value x ≡ value y = cc in
+          inl (exact x y (key_same (key x) (key y) t) one)
+      | inr f ↦ elim (cases_Bool (by_key key y x)) [
+        | inl t ↦ inr (t, before_all key y x xs t r.0)
+        | inr g ↦
+            let off : found key value (y ∷ ys) (key x) ≡ found key value ys (key x) = rw f refl in
+            let none : found key value ys (key x) ≡ None = found_past x y ys (before_other (key y) (key x) f g) s.0 in
+            let no : None ≡ Some (value x) = sym none ∙ sym off ∙ h.0 in absurd cc
+      ]
+    ]
+
+    found_few : (xs ys : List X) → IsRising (by_key key) xs → IsRising (by_key key) ys → AreFound ys xs → length xs ≤ length ys
+    found_few [] ys r s h = omega arith
+    found_few (x ∷ xs) [] r s h = let no : None ≡ Some (value x) = h.0 in absurd cc
+    found_few (x ∷ xs) (y ∷ ys) r s h = elim (first_or_past x y xs ys r s h) [
+      | inl first ↦ omega (arith, found_few xs ys r.1 s.1 (past_first y ys xs (subst (λ (z : X). ComesBefore (by_key key) z xs) first r.0) h.1))
+      | inr past ↦ omega (arith, found_few (x ∷ xs) ys r s.1 (past_first y ys (x ∷ xs) past h))
+    ]
+
+    pub found_all : (xs ys : List X) → IsRising (by_key key) xs → IsRising (by_key key) ys → length ys ≤ length xs → AreFound ys xs → xs ≡ ys
+    found_all [] [] r s e h = refl
+    found_all [] (y ∷ ys) r s e h = absurd (omega (arith, e))
+    found_all (x ∷ xs) [] r s e h = let no : None ≡ Some (value x) = h.0 in absurd cc
+    found_all (x ∷ xs) (y ∷ ys) r s e h = elim (first_or_past x y xs ys r s h) [
+      | inl first ↦
+          let rest : xs ≡ ys = found_all xs ys r.1 s.1 (omega (arith, e)) (past_first y ys xs (subst (λ (z : X). ComesBefore (by_key key) z xs) first r.0) h.1) in
+          (λ i. first i ∷ rest i)
+      | inr past ↦ absurd (omega (arith, e, found_few (x ∷ xs) ys r s.1 (past_first y ys (x ∷ xs) past h)))
+    ]
+
+    are_found : (ys xs : List X) → All (λ x. find (λ y. is_key (key y) (key x)) ys ≡ Some x) xs → AreFound ys xs
+    are_found ys [] h = tt
+    are_found ys (x ∷ xs) h =
+        let here : find (λ y. is_key (key y) (key x)) ys ≡ Some x = All-head (λ z. find (λ y. is_key (key y) (key z)) ys ≡ Some z) x xs h in
+        (found_value key value ys (key x) ∙ ap (option_map value) here, are_found ys xs (All-tail (λ z. find (λ y. is_key (key y) (key z)) ys ≡ Some z) x xs h))
+
+    -- by the search of the model
+    pub look_ups_tell : (xs ys : List X) → IsRising (by_key key) xs → IsRising (by_key key) ys → length xs ≡ length ys → All (λ x. find (λ y. is_key (key y) (key x)) ys ≡ Some x) xs → xs ≡ ys
+    look_ups_tell xs ys r s e h = found_all xs ys r s (omega (arith, e)) (are_found ys xs h)

@@ -1,6 +1,8 @@
 -- What a contract sees of a table of bindings.
-use Rattle.std.specs.Prelude.{List}
+use Rattle.std.specs.Prelude.{ℕ, Bool, ◌==◌, ◌&&◌, ◌||◌, List}
+use Rattle.std.specs.List.{list_any}
 use Rattle.smx_types.specs.declared.link.Binding.{Binding}
+use Rattle.smx_types.specs.declared.stream.StreamId.{StreamId}
 use Rattle.smx_model.specs.Configuration.{bind_before}
 use Rattle.smx_model.specs.Ordered.{IsRising}
 use Rattle.smx_addresses.specs.Keys.{Key, AreApart}
@@ -17,3 +19,7 @@ stream_of b = (b.driver, b.minor)
 pub record IsBindingList (binds : List Binding) : Type 0 where
   pub rise : IsRising bind_before binds
   pub streams : AreApart stream_of binds
+
+-- its driver has bound the address, or the stream has one
+abbrev pub is_taken : List Binding → StreamId → ℕ → Bool
+is_taken binds s addr = list_any (λ b. (b.driver == s.driver) && ((b.addr == addr) || (b.minor == s.minor))) binds

@@ -1,10 +1,9 @@
 //! The bindings of all drivers.
 
-ghost use Rattle.std.specs.Prelude.{◌≡◌, false, ◌==◌, ◌&&◌, ◌||◌, not, [], filter, find, length, IfOk, OnOk, OnErr};
-ghost use Rattle.std.specs.List.{list_any};
+ghost use Rattle.std.specs.Prelude.{◌≡◌, false, ◌==◌, ◌&&◌, not, [], filter, find, length, IfOk, OnOk, OnErr};
 ghost use Rattle.smx_model.specs.Configuration.{bind_before};
 ghost use Rattle.smx_model.specs.Ordered.{with_inserted};
-ghost use Rattle.smx_addresses.specs.BindingLists.{IsBindingList};
+ghost use Rattle.smx_addresses.specs.BindingLists.{is_taken, IsBindingList};
 
 use crate::key::{Key, key_of};
 use indexmap::IndexMap;
@@ -71,7 +70,7 @@ impl Bindings {
 
     /// Whether the stream's driver has bound the address, or the stream has one. Two look-ups.
     pub fn is_taken(&self, stream: StreamId, addr: u32) -> bool
-        ensures { result ≡ list_any (λ b. (b.driver == stream.driver) && ((b.addr == addr) || (b.minor == stream.minor))) self.now }
+        ensures { result ≡ is_taken self.now stream addr }
     {
         self.minors.contains_key(&(stream.driver, addr)) || self.addrs.contains_key(&key_of(stream))
     }
@@ -79,7 +78,7 @@ impl Bindings {
     /// Binds a stream that has no address to one that its driver has not bound. Fails only for want of memory, and
     /// nothing has then changed.
     pub fn bind(&mut self, stream: StreamId, addr: u32) -> Result<(), NoMemory>
-        requires { list_any (λ b. (b.driver == stream.driver) && ((b.addr == addr) || (b.minor == stream.minor))) self.old ≡ false }
+        requires { is_taken self.old stream addr ≡ false }
         ensures ok { OnOk result (self.new ≡ with_inserted bind_before self.old
             (record { driver = stream.driver; addr = addr; minor = stream.minor })) }
         ensures err { OnErr result (self.new ≡ self.old) }
@@ -96,7 +95,8 @@ impl Bindings {
     /// Takes the stream's binding away, and no other; None where it has none. Takes no memory.
     pub fn unbind(&mut self, stream: StreamId) -> Option<Binding>
         ensures binding { result ≡ find (λ b. (b.driver == stream.driver) && (b.minor == stream.minor)) self.old }
-        ensures rest { self.new ≡ filter (λ b. not ((b.driver == stream.driver) && (b.minor == stream.minor))) self.old }
+        ensures rest { self.new
+            ≡ filter (λ b. not ((b.driver == stream.driver) && (b.minor == stream.minor))) self.old }
     {
         let addr = self.addrs.swap_remove(&key_of(stream))?;
         let _minor = self.minors.swap_remove(&(stream.driver, addr));

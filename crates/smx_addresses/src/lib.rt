@@ -3,6 +3,7 @@
 
 mod bindings;
 mod key;
+pub mod laws;
 mod routes;
 mod targets;
 

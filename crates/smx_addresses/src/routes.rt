@@ -40,7 +40,8 @@ impl Model for Routes {
 // Takes out what is under each of these keys.
 fn take_each(ids: &mut Numbers, keys: &[Key])
     requires { IsDistinct is_key (keys_of ids.old.entries) }
-    ensures rest { (q : AnyKey) → lookup (is_key q) ids.new.entries ≡ left_of keys.now q (lookup (is_key q) ids.old.entries) }
+    ensures rest { (q : AnyKey) → lookup (is_key q) ids.new.entries
+        ≡ left_of keys.now q (lookup (is_key q) ids.old.entries) }
     ensures unique { IsDistinct is_key (keys_of ids.new.entries) }
 {
     for key in keys {

@@ -14,7 +14,8 @@ pub type Targets = IndexMap<u32, IndexSet<Key>>;
 // One key more of a link, or the same where it has that.
 pub fn put_target(targets: &mut Targets, id: u32, key: Key) -> Result<(), NoMemory>
     ensures ok { OnOk result (IsTargetSet targets.old.entries targets.new.entries id key true) }
-    ensures err { OnErr result ((i : ℕ) (k : AnyKey) → is_target targets.new.entries i k ≡ is_target targets.old.entries i k) }
+    ensures err { OnErr result ((i : ℕ) (k : AnyKey) →
+        is_target targets.new.entries i k ≡ is_target targets.old.entries i k) }
 {
     if let Some(keys) = targets.get_mut(&id) {
         let _new = keys.insert(key)?;
