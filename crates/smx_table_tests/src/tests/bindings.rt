@@ -157,6 +157,23 @@ fn bindings_of_three_streams(rt: HostRuntime) -> Result<(), Fail> {
     is_listed(&rt, rt.alloc(), &table, &LISTED)
 }
 
+// The lines that the crate's README shows.
+const IN_USE: [Act; 6] = [
+    Act::Bind((1, 3), 9),
+    Act::At(1, 9, Some(3)),
+    Act::Of((1, 3), Some(9)),
+    Act::IsTaken((1, 4), 9),
+    Act::Unbind((1, 3), Some(9)),
+    Act::Count(0),
+];
+
+#[test]
+fn bindings_in_use(rt: HostRuntime) -> Result<(), Fail> {
+    let mut table = Bindings::new(rt.alloc());
+    do_acts(&rt, &mut table, &IN_USE);
+    Ok(())
+}
+
 #[test]
 fn no_bindings(rt: HostRuntime) -> Result<(), Fail> {
     let mut table = Bindings::new(rt.alloc());

@@ -135,6 +135,22 @@ fn routes_of_three_links(rt: HostRuntime) -> Result<(), Fail> {
     Ok(())
 }
 
+// The lines that the crate's README shows.
+const IN_USE: [Act; 5] = [
+    Act::Route(0, 5, 1),
+    Act::Route(0, 5, 2),
+    Act::At(0, 5, Some(2)),
+    Act::UnrouteLink(2),
+    Act::Count(0),
+];
+
+#[test]
+fn routes_in_use(rt: HostRuntime) -> Result<(), Fail> {
+    let mut table = Routes::new(rt.alloc());
+    do_acts(&rt, &mut table, &IN_USE);
+    Ok(())
+}
+
 #[test]
 fn no_routes(rt: HostRuntime) -> Result<(), Fail> {
     let mut table = Routes::new(rt.alloc());
