@@ -178,7 +178,15 @@ fn bindings_in_use(rt: HostRuntime) -> Result<(), Fail> {
 fn no_bindings(rt: HostRuntime) -> Result<(), Fail> {
     let mut table = Bindings::new(rt.alloc());
     assert!(&rt; table.is_empty());
-    do_acts(&rt, &mut table, &[Act::Unbind((0, 0), None), Act::At(0, 0, None), Act::Count(0)]);
+    do_acts(
+        &rt,
+        &mut table,
+        &[
+            Act::Unbind((0, 0), None),
+            Act::At(0, 0, None),
+            Act::Count(0),
+        ],
+    );
     is_listed(&rt, rt.alloc(), &table, &[])
 }
 

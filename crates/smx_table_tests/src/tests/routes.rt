@@ -155,7 +155,11 @@ fn routes_in_use(rt: HostRuntime) -> Result<(), Fail> {
 fn no_routes(rt: HostRuntime) -> Result<(), Fail> {
     let mut table = Routes::new(rt.alloc());
     assert!(&rt; table.is_empty());
-    do_acts(&rt, &mut table, &[Act::Unroute(0, 0, None), Act::UnrouteLink(0), Act::Count(0)]);
+    do_acts(
+        &rt,
+        &mut table,
+        &[Act::Unroute(0, 0, None), Act::UnrouteLink(0), Act::Count(0)],
+    );
     is_listed(&rt, rt.alloc(), &table, &[])
 }
 
