@@ -145,8 +145,8 @@ fn are_there(streams: &Streams, touched: &[StreamId]) -> bool
     touched.iter().all(|s| streams.exists(*s))
 }
 
-/// The streams that a change touches, in a list with room for all that may go with them; a list with room for all of them
-/// again; one with room for the ids of all links; and the serials of dropped messages, with room for those of all.
+/// The streams that a change touches, in a list with room for all that may go with them; a list with room for all of
+/// them again; one with room for the ids of all links; and the serials of dropped messages, with room for those of all.
 #[derive(Debug, Drop)]
 pub struct SweepReserve {
     pub touched: Vec<StreamId>,
