@@ -50,7 +50,7 @@ pub dropped_more : (old flow new : List QueuedMessage) (p : Place) (dropped more
 dropped_more old flow new p dropped more fewer longer h =
     let at : map (λ (m : Message). m.serial) (queue flow p) ≡ serials (filter (is_at p) (filter h.keep old)) = sym (serials_at flow p) ∙ ap (λ (hs : List QueuedMessage). serials (filter (is_at p) hs)) h.left in
     let parts : serials (filter (λ x. not (h.keep x)) old ++ filter (is_at p) (filter h.keep old)) ≡ serials (filter (λ x. not (h.keep x)) old) ++ map (λ (m : Message). m.serial) (queue flow p) =
-        map-append (λ (x : QueuedMessage). x.message.serial) (filter (λ x. not (h.keep x)) old) (filter (is_at p) (filter h.keep old)) ∙ ap (λ (ns : List ℕ). serials (filter (λ x. not (h.keep x)) old) ++ ns) (sym at) in
+    map-append (λ (x : QueuedMessage). x.message.serial) (filter (λ x. not (h.keep x)) old) (filter (is_at p) (filter h.keep old)) ∙ ap (λ (ns : List ℕ). serials (filter (λ x. not (h.keep x)) old) ++ ns) (sym at) in
     let all = IsPermutation-map (λ (x : QueuedMessage). x.message.serial) _ _ (split h.keep (is_at p) old) in
     let first = IsPermutation-append_left (map (λ (m : Message). m.serial) (queue flow p)) (serials (filter (λ x. not (h.keep x)) old)) dropped h.gone in
     record {

@@ -1,18 +1,15 @@
 -- What a call on the table of queues comes to in the configuration, and which message moves next.
-use Rattle.std.proofs.Common.{◌≡◌, ℕ, Bool, true, false, List, [], ◌∷◌, cond, find, Option, Some, None, refl, sym, ap, ◌∙◌, subst, inl, inr}
+use Rattle.std.proofs.Common.{◌≡◌, ℕ, true, false, List, [], ◌∷◌, find, Option, Some, None, refl, sym, ap, subst}
 use Rattle.std.specs.Prelude.{IfNone, IsSome, OnSome}
-use Rattle.std.specs.List.{AllByRecursion, list_any}
-use Rattle.std.proofs.lemmas.Bool.{cases_Bool}
+use Rattle.std.specs.List.{AllByRecursion}
 use Rattle.smx_types.specs.declared.driver.DriverSpec.{DriverSpec}
 use Rattle.smx_types.specs.declared.message.Message.{Message}
 use Rattle.smx_types.specs.declared.stream.Place.{Place}
-use Rattle.smx_model.specs.Configuration.{Configuration, QueuedMessage, same_place}
-use Rattle.smx_model.specs.DriverList.{high_of, low_of}
-use Rattle.smx_model.specs.Queues.{bytes_at, first_message, full_after_arrival, full_after_leaving, after_arrival as model_arrival, after_leaving as model_leaving}
+use Rattle.smx_model.specs.Configuration.{Configuration, QueuedMessage}
+use Rattle.smx_model.specs.Queues.{first_message, after_arrival as model_arrival, after_leaving as model_leaving}
 use Rattle.smx_model.specs.Settling.{after_move, is_movable, least_movable, next_open_place}
 use Rattle.smx_queues.specs.FlowTables.{FlowLists, after_arrival, after_leaving}
 use Rattle.smx_config.specs.declared.lists.Lists.{Lists}
-use Rattle.smx_config.specs.declared.settling.Move.{Move}
 use Rattle.smx_config.specs.ModelOfLists.{configuration_of}
 use Rattle.smx_config.specs.Moves.{IsLeastMove, open_place}
 use Rattle.smx_config.proofs.DeadLemmas.{place_of}

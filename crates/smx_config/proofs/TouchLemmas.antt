@@ -1,8 +1,8 @@
 -- Streams that a change touches: which went, and what is left of them.
-use Rattle.std.proofs.Common.{◌≡◌, ℕ, zero, suc, ◌+◌, ◌<◌, ◌≤◌, Bool, true, false, ◌&&◌, ◌||◌, not, List, [], ◌∷◌, ◌++◌, length, map, filter, get_or, Option, Some, None, Ok, Err, refl, sym, ap, subst, ◌∙◌, arith, inl, inr}
+use Rattle.std.proofs.Common.{◌≡◌, ℕ, suc, ◌+◌, ◌<◌, ◌≤◌, Bool, true, false, ◌&&◌, ◌||◌, not, List, [], ◌∷◌, ◌++◌, length, map, filter, get_or, Option, Some, None, Ok, refl, sym, ap, subst, ◌∙◌, arith, inl, inr}
 use Rattle.std.specs.Prelude.{nat_lt}
 use Rattle.std.specs.List.{All, list_any, list_all}
-use Rattle.std.proofs.lemmas.Bool.{cases_Bool, cases_lt, and_parts, and_from, or_cases, or_left, or_right, false≢true}
+use Rattle.std.proofs.lemmas.Bool.{cases_Bool, cases_lt, and_parts, or_cases, or_left, or_right, false≢true}
 use Rattle.std.proofs.lemmas.List.{length-map}
 use Rattle.smx_types.specs.declared.driver.DriverSpec.{DriverSpec}
 use Rattle.smx_types.specs.declared.limits.TheConstants.{MAX_DESCRIPTORS}
@@ -18,7 +18,7 @@ use Rattle.smx_model.specs.Commands.{done_outcome}
 use Rattle.smx_model.specs.Configuration.{Configuration, QueuedMessage, is_fd, same_stream}
 use Rattle.smx_model.specs.Outcomes.{or_fault}
 use Rattle.smx_model.specs.Removal.{without_links, without_queues_at}
-use Rattle.smx_model.specs.Standing.{exists, is_below, is_named, is_persistent}
+use Rattle.smx_model.specs.Standing.{exists, is_named, is_persistent}
 use Rattle.smx_model.specs.Swept.{IsSwept}
 use Rattle.smx_streams.specs.StreamTables.{StreamTable, HasHolds, HasOneLess, is_last, number_at, stream_at, without_fd, exists as is_there}
 use Rattle.smx_config.specs.Closing.{closing}

@@ -5,8 +5,8 @@ use smx_queues::FlowTable;
 use smx_streams::Streams;
 use smx_types::{Binding, Route};
 
-/// All of a configuration: the table of streams with their descriptors, the table of links, the table of queues, and two
-/// lists, each in the order in which it is shown.
+/// All of a configuration: the table of streams with their descriptors, the table of links, the table of queues, and
+/// two lists, each in the order in which it is shown.
 #[derive(Debug, Drop)]
 pub struct Lists {
     pub streams: Streams,

@@ -34,12 +34,7 @@ fn keep_routes(routes: &mut Vec<Route>, gone: &[u32])
 }
 
 // Drops what the read sides of the streams below the links with these ids hold.
-fn drop_below(
-    queues: &mut FlowTable,
-    links: &LinkTable,
-    gone: &[u32],
-    dropped: &mut Vec<u32>,
-)
+fn drop_below(queues: &mut FlowTable, links: &LinkTable, gone: &[u32], dropped: &mut Vec<u32>)
     requires { length dropped.old.items + length queues.old.flow ≤ vec_capacity dropped.old }
     ensures flow { queues.new.flow ≡ filter (λ h. not (is_read_below_listed links.now.links gone.now h.place)) queues.old.flow }
     ensures fulls { queues.new.fulls ≡ filter (λ p. not (is_read_below_listed links.now.links gone.now p)) queues.old.fulls }

@@ -156,11 +156,7 @@ fn is_message_shown(drivers: &[DriverSpec], queued: Queued<'_>, line: &MessageLi
 }
 
 /// The same of the messages of a table.
-pub fn are_messages_shown(
-    drivers: &[DriverSpec],
-    queues: &FlowTable,
-    lines: &[MessageLine],
-) -> bool
+pub fn are_messages_shown(drivers: &[DriverSpec], queues: &FlowTable, lines: &[MessageLine]) -> bool
     requires { All (λ h. h.place.stream.driver < length drivers.now) queues.now.flow }
     ensures { IsTrue result ↔ (lines.now ≡ map (view_of_message drivers.now) queues.now.flow) }
 {

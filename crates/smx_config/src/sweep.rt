@@ -83,12 +83,7 @@ fn drop_dead_places(
 }
 
 // Drops the bindings, messages and full marks of streams that don't exist, all of which are among these.
-fn drop_dead(
-    drivers: &[DriverSpec],
-    lists: &mut Lists,
-    seen: &[StreamId],
-    dropped: &mut Vec<u32>,
-)
+fn drop_dead(drivers: &[DriverSpec], lists: &mut Lists, seen: &[StreamId], dropped: &mut Vec<u32>)
     requires kept { KeepsHolds lists.old }
     requires existing { TellsExisting drivers.now (configuration_of lists.old) lists.old.streams }
     requires seen { IsTouched lists.old.streams seen.now (configuration_of lists.old) }
@@ -150,8 +145,8 @@ fn are_there(streams: &Streams, touched: &[StreamId]) -> bool
     touched.iter().all(|s| streams.exists(*s))
 }
 
-/// The streams that a change touches, in a list with room for all that may go with them; a list with room for all of them
-/// again; one with room for the ids of all links; and the serials of dropped messages, with room for those of all.
+/// The streams that a change touches, in a list with room for all that may go with them; a list with room for all of
+/// them again; one with room for the ids of all links; and the serials of dropped messages, with room for those of all.
 #[derive(Debug, Drop)]
 pub struct SweepReserve {
     pub touched: Vec<StreamId>,
@@ -180,7 +175,14 @@ fn sweep(drivers: &[DriverSpec], lists: &mut Lists, room: SweepReserve) -> Vec<u
         return dropped;
     }
     let mut seen = room.seen;
-    drop_orphans(drivers, lists, room.touched, &mut seen, room.orphaned, &mut dropped);
+    drop_orphans(
+        drivers,
+        lists,
+        room.touched,
+        &mut seen,
+        room.orphaned,
+        &mut dropped,
+    );
     drop_dead(drivers, lists, &seen, &mut dropped);
     dropped
 }

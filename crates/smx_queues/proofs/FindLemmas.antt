@@ -1,8 +1,7 @@
 -- What the chain of a number says of the slot of that number, and how many messages all chains have.
-use Rattle.std.proofs.Common.{◌≡◌, ℕ, zero, suc, ◌+◌, ◌<◌, ◌≤◌, ltb, Bool, true, false, ◌&&◌, List, [], ◌∷◌, length, map, get_or, Option, Some, None, refl, sym, ap, ◌∙◌, subst, arith, inl, inr}
+use Rattle.std.proofs.Common.{◌≡◌, ℕ, zero, suc, ◌+◌, ◌<◌, ◌≤◌, Bool, false, ◌&&◌, List, [], ◌∷◌, length, map, get_or, Option, None, refl, sym, ap, ◌∙◌, subst, arith, inl, inr}
 use Rattle.std.specs.List.{sum_by}
 use Rattle.std.proofs.lemmas.Bool.{cases_Bool, cases_lt}
-use Rattle.std.proofs.lemmas.Bool.Decides.{nat_tests}
 use Rattle.std.proofs.lemmas.List.Sums.{sum_by-cons}
 use Rattle.std.proofs.lemmas.List.{get_or_default, get_or_past}
 use Rattle.slab.specs.Slab.{Slab, slab_len}
@@ -11,7 +10,7 @@ use Rattle.smx_queues.specs.declared.chain.Chain.{Chain}
 use Rattle.smx_queues.specs.declared.node.Node.{Node}
 use Rattle.smx_queues.specs.Chains.{IsQueue, IsSound, no_chain, no_queue, slot_of}
 use Rattle.smx_queues.specs.QueueTable.{Queue}
-use Rattle.smx_queues.specs.Slots.{has_messages, is_marked, message_total, messages_in}
+use Rattle.smx_queues.specs.Slots.{is_marked, message_total, messages_in}
 use Rattle.smx_queues.proofs.SlotLemmas.{slot, slots}
 use Rattle.smx_queues.proofs.SoundLemmas.{view_slots}
 

@@ -1,12 +1,12 @@
 -- What a call on the queue of a number says of the flow and the full places.
-use Rattle.std.proofs.Common.{◌≡◌, ℕ, ◌<◌, arith, Bool, true, false, List, [], ◌∷◌, ◌++◌, length, Option, Some, None, IsSome, refl, sym, ap, ◌∙◌, subst}
+use Rattle.std.proofs.Common.{◌≡◌, ℕ, ◌<◌, arith, false, List, [], ◌∷◌, length, Option, Some, None, IsSome, refl, sym, ap, ◌∙◌, subst}
 use Rattle.std.specs.Prelude.{IfNone, OnSome, slice_get}
 use Rattle.std.specs.List.{list_any}
 use Rattle.smx_types.specs.declared.message.Message.{Message}
 use Rattle.smx_types.specs.declared.stream.Place.{Place}
 use Rattle.smx_model.specs.Configuration.{same_place}
 use Rattle.smx_model.specs.Queues.{first_message, queue}
-use Rattle.smx_queues.specs.FlowTables.{FlowLists, IsFlow, after_arrival, after_leaving, flow_of, fulls_of, lists_of, without_place}
+use Rattle.smx_queues.specs.FlowTables.{FlowLists, IsFlow, after_arrival, after_leaving, lists_of, without_place}
 use Rattle.smx_queues.specs.PlaceLists.{PlaceList}
 use Rattle.smx_queues.specs.QueueTable.{IsPlace, QueueTable, emptied, queue_at, with_arrival, with_queue, without_front}
 use Rattle.smx_queues.specs.Slots.{is_marked, message_total, messages_in}

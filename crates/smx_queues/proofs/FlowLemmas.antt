@@ -1,18 +1,17 @@
 -- The flow and the full places that the queues of rising places make, where one queue changes.
-use Rattle.std.proofs.Common.{◌≡◌, ℕ, zero, suc, ◌<◌, Bool, true, false, not, List, [], ◌∷◌, ◌++◌, length, map, filter, set, get_or, Option, Some, None, refl, sym, ap, ◌∙◌, subst, arith, append_assoc, inl, inr}
+use Rattle.std.proofs.Common.{◌≡◌, ℕ, zero, suc, ◌<◌, Bool, true, false, not, List, [], ◌∷◌, ◌++◌, length, filter, set, get_or, Option, Some, None, refl, sym, ap, ◌∙◌, subst, arith}
 use Rattle.std.specs.Prelude.{slice_get}
 use Rattle.std.specs.List.{list_any}
 use Rattle.std.proofs.lemmas.Bool.{or_parts}
-use Rattle.std.proofs.lemmas.List.{map-append}
 use Rattle.smx_types.specs.declared.message.Message.{Message}
 use Rattle.smx_types.specs.declared.stream.Place.{Place}
 use Rattle.smx_model.specs.Configuration.{QueuedMessage, is_at, place_before, queued_before, same_place}
 use Rattle.smx_model.specs.Ordered.{ComesBefore, IsRising, with_inserted, without_first}
-use Rattle.smx_model.specs.Queues.{queue, with_mark}
+use Rattle.smx_model.specs.Queues.{queue}
 use Rattle.smx_queues.specs.FlowTables.{flow_of, messages_at}
 use Rattle.smx_queues.specs.QueueTable.{Queue}
 use Rattle.smx_queues.specs.Slots.{messages_in}
-use Rattle.smx_queues.proofs.PlaceLemmas.{apart, behind, none_behind, not_after, not_before, place_self, same_turned}
+use Rattle.smx_queues.proofs.PlaceLemmas.{apart, behind, not_after, not_before, place_self, same_turned}
 
 abbrev Queues : Type 0
 Queues = List (Option Queue)

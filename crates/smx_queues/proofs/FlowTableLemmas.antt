@@ -1,17 +1,16 @@
 -- What a change of the queue of one place comes to in the flow and the full places.
-use Rattle.std.proofs.Common.{◌≡◌, ◌≢◌, ℕ, zero, suc, ◌+◌, ◌<◌, Bool, true, false, not, List, [], ◌∷◌, ◌++◌, length, map, drop, filter, set, get_or, Option, Some, None, refl, sym, ap, ◌∙◌, subst, arith, inl, inr}
+use Rattle.std.proofs.Common.{◌≡◌, ◌≢◌, ℕ, zero, suc, ◌<◌, Bool, false, not, List, [], ◌∷◌, ◌++◌, length, drop, filter, set, get_or, Option, Some, None, refl, sym, ap, ◌∙◌, subst, arith, inl, inr}
 use Rattle.std.specs.Prelude.{slice_get}
 use Rattle.std.specs.List.{list_any}
 use Rattle.std.proofs.lemmas.Bool.{cases_Bool, false≢true, or_parts}
 use Rattle.std.proofs.lemmas.List.Elements.{filter_agree}
-use Rattle.std.proofs.lemmas.List.{get_or-set_same, get_or-set_other, length-set}
+use Rattle.std.proofs.lemmas.List.{get_or-set_same, get_or-set_other}
 use Rattle.smx_types.specs.declared.driver.DriverSpec.{DriverSpec}
 use Rattle.smx_types.specs.declared.message.Message.{Message}
 use Rattle.smx_types.specs.declared.stream.Place.{Place}
-use Rattle.smx_model.specs.Configuration.{QueuedMessage, place_before, same_place}
+use Rattle.smx_model.specs.Configuration.{QueuedMessage, same_place}
 use Rattle.smx_model.specs.DriverList.{high_of, low_of}
-use Rattle.smx_model.specs.Ordered.{IsRising}
-use Rattle.smx_model.specs.Queues.{bytes_at, bytes_of, full_after_arrival, full_after_leaving, queue, with_mark}
+use Rattle.smx_model.specs.Queues.{bytes_at, bytes_of, with_mark}
 use Rattle.smx_queues.specs.FlowTables.{AreQueuesOf, FlowLists, IsFlow, after_arrival, after_leaving, flow_of, fulls_of, lists_of, messages_at, without_place}
 use Rattle.smx_queues.specs.PlaceLists.{PlaceList, new_queues}
 use Rattle.smx_queues.specs.QueueTable.{IsPlace, Queue, emptied, queue_at, with_arrival, with_queue, without_front}

@@ -7,7 +7,7 @@ use Rattle.std.proofs.lemmas.List.{length-take-le, take_more}
 use Rattle.std.proofs.lemmas.Option.{slice_get-get_or}
 use Rattle.smx_types.specs.Drivers.{spec_check}
 use Rattle.smx_types.specs.declared.driver.DriverSpec.{DriverSpec}
-use Rattle.smx_types.specs.declared.limits.TheConstants.{MAX_DRIVERS, MAX_HIGH, MAX_MINORS}
+use Rattle.smx_types.specs.declared.limits.TheConstants.{MAX_HIGH, MAX_MINORS}
 use Rattle.smx_types.specs.declared.stream.Place.{Place}
 use Rattle.smx_model.specs.DriverList.{IsDriverList, high_of, low_of, minors_of}
 use Rattle.smx_queues.specs.PlaceLists.{ArePlaces, sides_of}

@@ -1,5 +1,5 @@
 -- What a walk over places meets next, in lists as which the tables are seen.
-use Rattle.std.proofs.Common.{◌≡◌, ℕ, zero, suc, ◌+◌, ◌<◌, ◌≤◌, Bool, true, false, List, [], ◌∷◌, ◌++◌, length, map, drop, get_or, Option, Some, None, IsSome, refl, sym, ap, ◌∙◌, subst, arith}
+use Rattle.std.proofs.Common.{◌≡◌, ℕ, zero, suc, ◌+◌, ◌<◌, Bool, true, List, [], ◌∷◌, ◌++◌, length, map, drop, get_or, Option, Some, None, refl, sym, ap, ◌∙◌, subst, arith}
 use Rattle.std.specs.Prelude.{nat_lt, slice_get}
 use Rattle.std.specs.List.{All}
 use Rattle.std.proofs.lemmas.List.Elements.{All-from_recursion}
@@ -7,11 +7,11 @@ use Rattle.smx_types.specs.declared.message.Message.{Message}
 use Rattle.smx_types.specs.declared.stream.Place.{Place}
 use Rattle.smx_model.specs.Configuration.{QueuedMessage}
 use Rattle.smx_model.specs.Queues.{first_message}
-use Rattle.smx_queues.specs.FlowTables.{FlowLists, IsFlow, flow_of, fronts, fronts_of, fulls_of, lists_of, messages_at, without_place}
+use Rattle.smx_queues.specs.FlowTables.{FlowLists, IsFlow, flow_of, fronts, fronts_of, fulls_of, lists_of, messages_at}
 use Rattle.smx_queues.specs.PlaceLists.{HaveDriversBelow, PlaceList}
-use Rattle.smx_queues.specs.QueueTable.{IsPlace, Queue, queue_at}
+use Rattle.smx_queues.specs.QueueTable.{Queue, queue_at}
 use Rattle.smx_queues.specs.Slots.{IsLeastFrom, has_messages, is_marked, messages_in}
-use Rattle.smx_queues.proofs.FlowTableLemmas.{found, found_at, nothing_now, seen_now}
+use Rattle.smx_queues.proofs.FlowTableLemmas.{found, found_at}
 use Rattle.smx_queues.proofs.LeftLemmas.{AreFirst, flow_ends, flow_next, fronts_end, fronts_first, fronts_found, fronts_next, fulls_end, fulls_next, head_front, many_queues}
 
 many : (p : PlaceList) (all : List (Option Queue)) → IsFlow p all → length all ≡ length p.places

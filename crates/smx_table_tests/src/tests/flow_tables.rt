@@ -10,13 +10,6 @@ use std::alloc::Global;
 use std::process::Abort;
 use std::test::Fail;
 
-const fn place(minor: u8, side: Side) -> Place {
-    Place {
-        stream: StreamId { driver: 0, minor },
-        side,
-    }
-}
-
 // Two minors, whose queues are full from 8 bytes on.
 fn ethernet() -> Result<DriverSpec, Fail>
     ensures minors { IfOk result (λ d. d.minors ≡ 2) }
@@ -72,7 +65,6 @@ fn put(
 // The first message of one place moves on to the other.
 fn move_front(table: &mut FlowTable, from: Place, to: Place) -> Result<(), Fail>
     requires { IsKnown table.old.drivers to.stream }
-    ensures { table.new.drivers ≡ table.old.drivers }
 {
     if from.stream.minor != to.stream.minor && !table.is_full(to) {
         if table.front(from).is_some() {
@@ -154,9 +146,29 @@ fn both_have(
     has(rt, &again, serials, fronts, full)
 }
 
-const DOWN: Place = place(0, Side::Write);
-const UP: Place = place(1, Side::Read);
-const ACROSS: Place = place(1, Side::Write);
+const DOWN: Place = Place {
+    stream: StreamId {
+        driver: 0,
+        minor: 0,
+    },
+    side: Side::Write,
+};
+
+const UP: Place = Place {
+    stream: StreamId {
+        driver: 0,
+        minor: 1,
+    },
+    side: Side::Read,
+};
+
+const ACROSS: Place = Place {
+    stream: StreamId {
+        driver: 0,
+        minor: 1,
+    },
+    side: Side::Write,
+};
 
 // Two messages at a write side, and one that fills a read side behind it.
 fn fill(rt: &impl AllocGlobal, table: &mut FlowTable) -> Result<(), Fail>
@@ -184,7 +196,7 @@ fn empties(rt: &(impl AllocGlobal + Abort), table: &mut FlowTable) -> Result<(),
     assert!(rt; table.take(UP).is_some() && table.take(UP).is_none());
     let mut dropped = Vec::with_capacity(rt.alloc(), table.len())?;
     drop_at(table, DOWN, &mut dropped)?;
-    assert!(rt; dropped.as_slice() == [3]);
+    assert!(rt; dropped.as_slice() == [3].as_slice());
     both_have(rt, table, &[2], &[2], &[])
 }
 

@@ -1,9 +1,8 @@
-use Rattle.std.proofs.Common.{[], ◌∷◌, ap, length, length-append, refl, sym, subst, ◌∙◌, List, arith}
+use Rattle.std.proofs.Common.{[], ◌∷◌, ap, length, length-append, refl, ◌∙◌, List, arith}
 use Rattle.smx_types.specs.declared.stream.StreamId.{StreamId}
 use Rattle.std.specs.List.{list_any}
 use Rattle.smx_model.specs.Configuration.{same_stream}
 use Rattle.smx_config.specs.ModelOfLists.{configuration_of}
-use Rattle.smx_config.specs.TouchedStreams.{IsTouched}
 use Rattle.smx_config.proofs.DoneLemmas.{done_is}
 use Rattle.smx_config.proofs.TouchLemmas.{closed_touches, touched_by, touched_fds}
 use Rattle.smx_config.proofs.WatchLemmas.{listed_last}

@@ -1,7 +1,6 @@
-use Rattle.std.proofs.Common.{◌++◌, List, ℕ, ap, length, length-append, map, arith}
+use Rattle.std.proofs.Common.{ap, length, length-append, map, arith}
 use Rattle.std.proofs.lemmas.List.{length-map}
 use Rattle.smx_types.specs.declared.message.Message.{Message}
-use Rattle.smx_model.specs.Configuration.{QueuedMessage}
 use Rattle.smx_model.specs.Queues.{queue}
 use Rattle.smx_queues.specs.FlowTables.{FlowLists}
 use Rattle.smx_config.proofs.DropLemmas.{dropped_more, place_and_rest}
@@ -28,6 +27,12 @@ returns-clause-room c =
     let gone = queue c.args.queues.now.flow c.args.place in
     let serials = map (λ (m : Message). m.serial) gone in
     omega (
-      arith, c.requires, place_and_rest c.args.queues.now.flow c.args.place, ap length c.drop_at.ensures.serials, length-append c.args.dropped.now.items serials, length-map gone (λ (m : Message). m.serial),
-      ap (λ (t : FlowLists). length t.flow) c.drop_at.ensures.gone, c.drop_at.ensures.capacity,
+      arith,
+      c.requires,
+      place_and_rest c.args.queues.now.flow c.args.place,
+      ap length c.drop_at.ensures.serials,
+      length-append c.args.dropped.now.items serials,
+      length-map gone (λ (m : Message). m.serial),
+      ap (λ (t : FlowLists). length t.flow) c.drop_at.ensures.gone,
+      c.drop_at.ensures.capacity,
     )

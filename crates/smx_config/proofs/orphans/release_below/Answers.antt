@@ -1,6 +1,5 @@
-use Rattle.std.proofs.Common.{List, take, ◌++◌, ◌∷◌, [], true, false, length, length-append, refl, sym, ap, ◌∙◌, arith}
+use Rattle.std.proofs.Common.{take, ◌++◌, ◌∷◌, [], length, length-append, refl, sym, ap, ◌∙◌, arith}
 use Rattle.std.proofs.lemmas.Bool.{and_parts, true≢false}
-use Rattle.smx_types.specs.declared.stream.StreamId.{StreamId}
 use Rattle.smx_model.specs.Configuration.{same_stream}
 use Rattle.smx_config.specs.ExistingStreams.{is_loose}
 use Rattle.smx_config.specs.TouchedStreams.{is_watched}

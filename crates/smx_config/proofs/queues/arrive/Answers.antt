@@ -1,5 +1,3 @@
-use Rattle.std.proofs.Common.{ap, refl}
-use Rattle.smx_queues.specs.FlowTables.{FlowLists}
 use Rattle.smx_config.proofs.MoveLemmas.{arrived_is}
 use Rattle.smx_config.proofs.queues.arrive.Goals as goal
 

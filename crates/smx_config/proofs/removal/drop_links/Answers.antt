@@ -1,4 +1,4 @@
-use Rattle.std.proofs.Common.{not, ap, sym, ◌∙◌}
+use Rattle.std.proofs.Common.{ap, sym, ◌∙◌}
 use Rattle.smx_links.specs.LinkLists.{LinkList}
 use Rattle.smx_config.specs.ModelOfLists.{configuration_of}
 use Rattle.smx_config.proofs.RemovalLemmas.{is_nothing, nothing_removed, none_listed, removed_is}

@@ -1,7 +1,5 @@
-use Rattle.std.proofs.Common.{arith, not, subst, sym, List}
-use Rattle.smx_types.specs.declared.link.Link.{Link}
+use Rattle.std.proofs.Common.{arith, not}
 use Rattle.smx_links.specs.LinkLists.{is_one_of}
-use Rattle.smx_config.specs.ExistingStreams.{AreHeld}
 use Rattle.smx_config.proofs.PlaceLemmas.{not_more}
 use Rattle.smx_config.proofs.removal.remove_links.Goals as goal
 

@@ -1,7 +1,7 @@
-use Rattle.std.proofs.Common.{◌<◌, length, map, ap}
+use Rattle.std.proofs.Common.{◌<◌, length}
 use Rattle.smx_model.specs.Configuration.{QueuedMessage}
 use Rattle.smx_model.specs.Views.{view_of_message}
-use Rattle.smx_config.proofs.LinesLemmas.{left_has, line_more, lines_all}
+use Rattle.smx_config.proofs.LinesLemmas.{left_has, line_more}
 use Rattle.smx_config.proofs.show.message_lines.Goals as goal
 
 pub loop-queued-preserved : goal.loop-queued-preserved

@@ -1,4 +1,4 @@
-use Rattle.std.proofs.Common.{◌≡◌, ◌∙◌, List, filter, not, refl, subst, take, arith}
+use Rattle.std.proofs.Common.{◌≡◌, ◌∙◌, List, filter, not, refl, subst, arith}
 use Rattle.std.proofs.lemmas.List.{take_more}
 use Rattle.smx_types.specs.declared.stream.Place.{Place}
 use Rattle.smx_types.specs.declared.stream.StreamId.{StreamId}

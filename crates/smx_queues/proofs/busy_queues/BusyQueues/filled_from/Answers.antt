@@ -1,4 +1,4 @@
-use Rattle.std.proofs.Common.{ℕ, List, Option, None, Some, subst}
+use Rattle.std.proofs.Common.{ℕ, List, None, Some, subst}
 use Rattle.memchr.specs.Find.{IsFirstByte, is_byte}
 use Rattle.smx_queues.proofs.BusyLemmas.{from_start, none_found, one_found}
 use Rattle.smx_queues.proofs.busy_queues.BusyQueues.filled_from.Goals as goal

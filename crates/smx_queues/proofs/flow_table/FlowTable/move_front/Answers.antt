@@ -1,4 +1,4 @@
-use Rattle.std.proofs.Common.{ap, ◌∙◌, sym}
+use Rattle.std.proofs.Common.{◌∙◌}
 use Rattle.smx_queues.proofs.FlowCallLemmas.{first_is_none, mark_is, moved_by, none_some, place_there, some_queued}
 use Rattle.smx_queues.proofs.flow_table.FlowTable.move_front.Goals as goal
 

@@ -1,4 +1,4 @@
-use Rattle.std.proofs.Common.{ap, ◌∙◌, sym}
+use Rattle.std.proofs.Common.{◌∙◌}
 use Rattle.smx_queues.proofs.FlowCallLemmas.{first_is, first_is_none, place_there, taken_by}
 use Rattle.smx_queues.proofs.flow_table.FlowTable.take.Goals as goal
 

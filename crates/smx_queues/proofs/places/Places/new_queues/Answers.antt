@@ -1,4 +1,4 @@
-use Rattle.std.proofs.Common.{◌<◌, length, ap, sym, arith}
+use Rattle.std.proofs.Common.{length, ap, arith}
 use Rattle.smx_queues.proofs.StepLemmas.{driver_at}
 use Rattle.smx_queues.proofs.places.Places.new_queues.Goals as goal
 
