@@ -54,8 +54,9 @@ fn at_address(driver: u8, addr: u32, minor: Option<u8>) -> Option<Binding> {
 }
 
 fn binds(rt: &impl Abort, table: &mut Bindings, at: (u8, u8), addr: u32) {
-    assert!(rt; !table.is_taken(stream(at), addr));
-    assert!(rt; table.bind(stream(at), addr).is_ok());
+    let stream = stream(at);
+    assert!(rt; !table.is_taken(stream, addr));
+    assert!(rt; table.bind(stream, addr).is_ok());
 }
 
 fn do_act(rt: &impl Abort, table: &mut Bindings, act: Act) {
