@@ -14,6 +14,7 @@ use Rattle.smx_types.specs.declared.view.ConfigView.{ConfigView}
 use Rattle.smx_model.specs.Commands.{step}
 use Rattle.smx_model.specs.Configuration.{Configuration, empty}
 use Rattle.smx_model.specs.DriverList.{IsDriverList}
+use Rattle.smx_model.specs.Headline.{IsReportOf}
 use Rattle.smx_model.specs.Histories.{after, call_of, IsLegal}
 use Rattle.smx_model.specs.LawfulHistories.{AreDropsAllowed, IsLawfulThroughout}
 use Rattle.smx_model.specs.Views.{view}
@@ -116,5 +117,15 @@ record_of told lawful drops programs recorder m shown few can same h is =
         lawful = lawful programs.drivers h.entries legal;
         drops = drops programs.drivers h.entries legal;
       };
+      asked = h.calls;
       few = within programs h.entries few h.calls;
     }
+
+-- a recorder that keeps all that it is told has the report
+pub kept_all : (programs : ProgramLists) (drivers : List DriverSpec) (entries : List Entry) (shown : ConfigView)
+    → IsRecordOf programs (λ (ds : List DriverSpec) (es : List Entry) (k : List DriverSpec × List Entry). k ≡ (ds, es)) (drivers, entries) shown
+    → IsReportOf programs (record { drivers = drivers; entries = entries; view = shown }) × (map call_of entries ≡ calls_from 0 programs.programs) × (length entries ≤ MAX_COMMANDS)
+kept_all programs drivers entries shown h =
+    let d : drivers ≡ programs.drivers = ap (λ (k : List DriverSpec × List Entry). k.0) h.was_told in
+    let e : entries ≡ h.entries = ap (λ (k : List DriverSpec × List Entry). k.1) h.was_told in
+    (rw (d, e) h.promised, rw e h.asked, rw e h.few)

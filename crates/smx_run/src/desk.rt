@@ -1,10 +1,11 @@
 //! Where the commands of one process are performed.
 
+use crate::gate::Gate;
 use crate::recorder::Recorder;
 use smx_config::Config;
 use smx_model::laws::one_entry_more;
 use smx_shared::{ApplyFault, Door, System};
-use smx_types::{Command, Entry, Process};
+use smx_types::{Command, Commands, Entry, NoMemory, Process};
 use std::alloc::Global;
 use std::sync::Wait;
 
@@ -69,19 +70,30 @@ pub struct Recording<K: Drop> {
     pub recorder: K,
 }
 
-impl<K: Recorder> Desk for Recording<K> {
+impl<K: Recorder> Recording<K> {
+    ghost use Rattle.std.specs.Prelude.{[], ◌∷◌, OnOk};
     ghost use Rattle.smx_run.specs.Desks.{PerformedRecording};
-    ghost use Rattle.smx_run.specs.DeskLemmas.{recording_none, recording_more};
 
-    ghost ready = { λ _. Unit {0} };
-
-    ghost performed = { PerformedRecording K.told };
-
-    fn process(&self) -> Process {
-        self.process
+    /// Has the commands of a program performed, in order, to the end of it or to the first growth that is refused.
+    pub fn run<G: Gate>(&mut self, commands: Commands, gate: &G) -> Result<(), NoMemory>
+        ensures { OnOk result (PerformedRecording K.told self.old commands self.new) }
+    {
+        let process = self.process;
+        let mut number = 0;
+        for command in commands.into_vec() {
+            gate.before(process, number);
+            let outcome = self.perform(command);
+            gate.after(process, number);
+            outcome?;
+            number += 1;
+        }
+        Ok(())
     }
 
-    fn perform<R: Wait>(&mut self, _rt: &R, command: Command) -> Result<(), ApplyFault> {
+    // Performs the next command, which is given up. Fails only for want of memory.
+    fn perform(&mut self, command: Command) -> Result<(), NoMemory>
+        ensures { OnOk result (PerformedRecording K.told self.old (command ∷ []) self.new) }
+    {
         one_entry_more();
         let process = self.process;
         let reply = self.config.step(process, &command)?;
@@ -92,10 +104,6 @@ impl<K: Recorder> Desk for Recording<K> {
         })?;
         Ok(())
     }
-
-    ghost performed_none = { recording_none K.told };
-
-    ghost performed_more = { recording_more K.told };
 }
 
 /// At a seat of a door. The seat knows what it has made.

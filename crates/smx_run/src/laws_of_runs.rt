@@ -1,12 +1,21 @@
 //! Laws of what runs tell, each the contract of a function that does nothing: an example of each, and what is none.
 
-ghost use Rattle.std.specs.Prelude.{ℕ, [], ◌∷◌, true, false};
+ghost use Rattle.std.specs.Prelude.{◌≡◌, ◌≤◌, ℕ, List, [], ◌∷◌, length, map, true, false};
+ghost use Rattle.smx_types.specs.ProgramLists.{ProgramLists};
+ghost use Rattle.smx_types.specs.declared.command.Entry.{Entry};
+ghost use Rattle.smx_types.specs.declared.driver.DriverSpec.{DriverSpec};
+ghost use Rattle.smx_types.specs.declared.limits.TheConstants.{MAX_COMMANDS};
+ghost use Rattle.smx_types.specs.declared.view.ConfigView.{ConfigView};
+ghost use Rattle.smx_model.specs.Headline.{IsReportOf};
+ghost use Rattle.smx_model.specs.Histories.{call_of};
 ghost use Rattle.smx_model.specs.Worked.Common.{mux, ip};
 ghost use Rattle.smx_model.specs.Worked.Reports.{copied, drivers, exited, opened, programs};
 ghost use Rattle.smx_config.specs.declared.fault.ConfigFault.TheVariants as config;
 ghost use Rattle.smx_shared.specs.WorkedCalls.{front};
 ghost use Rattle.smx_run.specs.Fronts.{AreFrontsFrom};
 ghost use Rattle.smx_run.specs.Gathering.{IsLeastStrange};
+ghost use Rattle.smx_run.specs.ProgramOrder.{calls_from};
+ghost use Rattle.smx_run.specs.RecordedRuns.{IsRecordOf};
 ghost use Rattle.smx_run.specs.RunFaults.{RefusesRun};
 ghost use Rattle.smx_run.specs.declared.fault.RunFault.TheVariants as run;
 
@@ -37,4 +46,13 @@ pub fn strange_processes_of_an_example()
     ensures strange { IsLeastStrange (opened ∷ exited ∷ copied ∷ []) ((opened ∷ copied ∷ []) ∷ []) 1 }
     ensures not_borne_out { IsLeastStrange (opened ∷ exited ∷ copied ∷ []) ((opened ∷ copied ∷ []) ∷ (exited ∷ []) ∷ []) 1 → ⊥ }
     ensures not_later { IsLeastStrange (opened ∷ exited ∷ copied ∷ []) ((opened ∷ []) ∷ []) 1 → ⊥ }
+{}
+
+/// A recorder that keeps all that it is told has the drivers and the entries of a report, process by process, and what
+/// comes back with it is the view of that report.
+pub fn what_is_recorded()
+    ensures { (programs : ProgramLists) (drivers : List DriverSpec) (entries : List Entry) (view : ConfigView)
+        → IsRecordOf programs (λ (ds : List DriverSpec) (es : List Entry) (k : List DriverSpec × List Entry). k ≡ (ds, es)) (drivers, entries) view
+        → IsReportOf programs (record { drivers = drivers; entries = entries; view = view })
+        × (map call_of entries ≡ calls_from 0 programs.programs) × (length entries ≤ MAX_COMMANDS) }
 {}

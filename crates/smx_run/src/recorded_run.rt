@@ -11,21 +11,17 @@ use crate::desk::Recording;
 use crate::fault::RunFault;
 use crate::gate::Gate;
 use crate::recorder::Recorder;
-use crate::worker::run_program;
 use smx_config::Config;
 use smx_model::laws::lawful_after_each_entry;
 use smx_model::laws_of_messages::few_commands_drop;
-use smx_shared::ApplyFault;
-use smx_types::{ConfigView, Process, ProgramList, Programs};
+use smx_types::{ConfigView, NoMemory, Process, ProgramList, Programs};
 use std::alloc::Global;
-use std::sync::Wait;
 
 /// Runs the programs on this thread, by rising number, each to its end, and tells the gate. The recorder, which begins
 /// in the room, is told of each entry once its command was answered, and then the entry is given up. What comes back is
 /// the recorder, and the view of the configuration at the end. Refused for drivers that a configuration can't have,
 /// before there is a recorder; or for want of memory.
-pub fn run_recorded<K: Recorder, G: Gate, R: Wait>(
-    rt: &R,
+pub fn run_recorded<K: Recorder, G: Gate>(
     alloc: Global,
     programs: Programs,
     room: K::Room,
@@ -39,19 +35,18 @@ pub fn run_recorded<K: Recorder, G: Gate, R: Wait>(
     let (drivers, programs) = programs.into_parts();
     let config = Config::new(alloc, drivers.as_slice())?;
     let recorder = K::begin(room, drivers.as_slice())?;
-    let (recorder, config) = record_all(rt, config, recorder, programs, gate)?;
+    let (recorder, config) = record_all(config, recorder, programs, gate)?;
     let view = config.show()?;
     Ok((recorder, view))
 }
 
 // Each program in turn, on this thread.
-fn record_all<K: Recorder, G: Gate, R: Wait>(
-    rt: &R,
+fn record_all<K: Recorder, G: Gate>(
     config: Config,
     recorder: K,
     programs: ProgramList,
     gate: &G,
-) -> Result<(K, Config), ApplyFault>
+) -> Result<(K, Config), NoMemory>
     requires none { HasRecorded K.told recorder config [] }
     requires processes { length programs ≤ MAX_PROCESSES }
     ensures drivers { IfOk result (λ r. r.1.drivers ≡ config.drivers) }
@@ -67,7 +62,7 @@ fn record_all<K: Recorder, G: Gate, R: Wait>(
             config,
             recorder,
         };
-        run_program(rt, &mut desk, commands, gate)?;
+        desk.run(commands, gate)?;
         config = desk.config;
         recorder = desk.recorder;
         number += 1;

@@ -8,7 +8,7 @@ use Rattle.smx_run.proofs.recorded_run.record_all.Goals as goal
 pub loop-commands-preserved : goal.loop-commands-preserved
 loop-commands-preserved g c =
     let before = c.loop-commands.invariant in
-    let did = c.in_ok-run_program.ensures.performed in
+    let did = c.in_ok-run.ensures in
     let commands = c.in-Some.commands in
     let p : ℕ = c.unwrap-process.result in
     let number : p ≡ 0 + length c.loop-commands.yielded = search rules in
