@@ -1,5 +1,5 @@
 -- Settling by marks can come to its end, where finitely many places have run marks.
-use Rattle.std.proofs.Common.{◌≡◌, ℕ, zero, suc, ◌*◌, Bool, true, false, not, List, [], ◌∷◌, length, Option, Some, None, refl, sym, ap, ◌∙◌, subst, inl, inr}
+use Rattle.std.proofs.Common.{◌≡◌, ℕ, zero, suc, ◌*◌, Bool, true, false, ◌&&◌, not, List, [], ◌∷◌, length, Option, Some, None, refl, sym, ap, ◌∙◌, subst, inl, inr}
 use mathlib.Core.Logic.{◌⊎◌}
 use Rattle.std.specs.List.{Contains, list_any}
 use Rattle.std.proofs.lemmas.Bool.{both_ways, cases_Bool, and_parts, false_from_ne_true, false≢true, or_cases, or_left, or_parts, or_right}
@@ -13,7 +13,7 @@ use Rattle.smx_model.specs.Ordered.{with_inserted, without_first}
 use Rattle.smx_model.specs.Queues.{first_message}
 use Rattle.smx_model.specs.RunMarks.{AreMarked, all_but, both, feeds, is_next_of_first, is_one_of, next_of, wanted_after, woken_by}
 use Rattle.smx_model.specs.Settling.{IsSettled, after_move, after_move_to, after_settling_within, is_movable, next_open_place}
-use Rattle.smx_model.specs.SettlingByMarks.{CanSettleByMarks, HasItsMarks, IsLeastMarked, MarkedConfiguration, clears_mark, is_first_there, is_settled, moves_on, turned_by_move}
+use Rattle.smx_model.specs.SettlingByMarks.{CanSettleByMarks, HasItsMarks, IsCleared, IsLeastMarked, IsMovedOn, MarkedConfiguration, clears_mark, is_first_there, is_settled, moves_on, turned_by_move}
 use Rattle.smx_model.proofs.FlowLemmas.{order_moved}
 use Rattle.smx_model.proofs.KeptLemmas.{settled_kept}
 use Rattle.smx_model.proofs.MemberLemmas.{first_or_later, in_none}
@@ -192,3 +192,27 @@ message_there p (q ∷ ps) h = any_of_placed (is_at p) queued_before (messages_a
 pub settling_ends : (drivers : List DriverSpec) (m : MarkedConfiguration) (places : List Place) → IsSound drivers m.configuration → HasItsMarks drivers m → ((p : Place) → m.run p ≡ true → Contains places p) → CanSettleByMarks drivers m
 settling_ends drivers m places sound h w = ends_within drivers (length m.configuration.flow * length drivers) m (messages_at places) sound.ordered.flow h (settled_kept drivers m.configuration sound).settled
     (messages_in_order places) (λ p t. message_there p places (w p t))
+
+-- ---- the least that is asked for
+
+pub least_move : (drivers : List DriverSpec) (p : Place) (m : MarkedConfiguration) → IsLeastMarked m.run p → is_movable drivers m.configuration p ≡ true → IsMovedOn drivers p m (marked_move drivers m p)
+least_move drivers p m l t = record { least = l; movable = t; moved = refl; marks = record { run = λ q _ k. k; wanted = λ q k. k } }
+
+pub least_clear : (drivers : List DriverSpec) (p : Place) (m : MarkedConfiguration) → IsLeastMarked m.run p → is_movable drivers m.configuration p ≡ false
+    → IsCleared drivers p m (record { configuration = m.configuration; run = all_but m.run p; wanted = both m.wanted (is_next_of_first drivers m.configuration p) })
+least_clear drivers p m l t = record { least = l; waits = t; same = refl; run = λ q. refl; wanted = λ q k. k }
+
+and_true : (b : Bool) → (b && true) ≡ b
+and_true true = refl
+and_true false = refl
+
+and_false : (b : Bool) → (b && false) ≡ false
+and_false true = refl
+and_false false = refl
+
+pub one_mark : (drivers : List DriverSpec) (p : Place) (old new : MarkedConfiguration) → IsCleared drivers p old new → IsLeastMarked old.run p × (new.run p ≡ false) × ((q : Place) → same_place p q ≡ false → new.run q ≡ old.run q)
+one_mark drivers p old new k = (
+  k.least,
+  k.run p ∙ (ap (λ (b : Bool). old.run p && not b) (same_self p) ∙ and_false (old.run p)),
+  λ q n. k.run q ∙ (ap (λ (b : Bool). old.run q && not b) n ∙ and_true (old.run q)),
+)

@@ -1,15 +1,15 @@
 -- Marks that are enough after a change.
 use Rattle.std.proofs.Common.{◌≡◌, Bool, true, false, ◌&&◌, List, Option, Some, None, refl, sym, ap, ◌∙◌, subst, inl, inr}
 use Rattle.std.specs.Prelude.{◌≢◌}
-use Rattle.std.proofs.lemmas.Bool.{both_ways, cases_Bool, and_parts, false_from_ne_true, false≢true}
+use Rattle.std.proofs.lemmas.Bool.{both_ways, cases_Bool, and_from, and_parts, false_from_ne_true, false≢true, or_left, or_right}
 use Rattle.smx_types.specs.declared.driver.DriverSpec.{DriverSpec}
 use Rattle.smx_types.specs.declared.stream.Place.{Place}
-use Rattle.smx_model.specs.Configuration.{same_place}
+use Rattle.smx_model.specs.Configuration.{Configuration, empty, same_place}
 use Rattle.smx_model.specs.FreedPlaces.{FreesOnly}
 use Rattle.smx_model.specs.KeptConfigurations.{IsSound}
 use Rattle.smx_model.specs.NearMarks.{AreAwaitedKnown, IsMarkedNear, awaits}
 use Rattle.smx_model.specs.Queues.{first_message}
-use Rattle.smx_model.specs.RunMarks.{Stays, TurnsOnly, both, can_feed, is_freed, is_one_of, next_of, next_of_first, woken_by}
+use Rattle.smx_model.specs.RunMarks.{Stays, TurnsOnly, both, can_feed, is_freed, is_one_of, next_of, next_of_first, nowhere, wanted_after, woken_by}
 use Rattle.smx_model.specs.SettlingByMarks.{IsCleared, IsMarkedAfter, MarkedConfiguration}
 use Rattle.smx_model.proofs.OrderLemmas.{same_self}
 use Rattle.smx_model.proofs.SettlingLemmas.{same_place_is}
@@ -84,3 +84,24 @@ cleared_known drivers p old new awaited known before k here others r q f e = eli
   unmarked : (b : Bool) → (b && true) ≡ false → b ≡ false
   unmarked true h = h
   unmarked false h = refl
+
+-- of the empty configuration nothing need be known
+pub none_known : (drivers : List DriverSpec) (awaited : Place → Option Place) → AreAwaitedKnown drivers (record { configuration = empty; run = nowhere; wanted = nowhere }) awaited
+none_known drivers awaited p q f e = let k : None ≡ Some q = e in absurd (cc)
+
+-- the least marks are enough
+pub least_near : (turned freed : Place → Bool) (awaited : Place → Option Place) (old : MarkedConfiguration) (c : Configuration) → IsMarkedNear turned freed (awaits awaited) old (record {
+  configuration = c;
+  run = both old.run (both turned (λ p. is_one_of (λ q. freed q && (is_freed old.configuration c q && old.wanted q)) (awaited p)));
+  wanted = wanted_after old.configuration c old.wanted;
+})
+least_near turned freed awaited old c = record {
+  kept = λ p some h. or_left _ _ h;
+  turned_ones = λ p some h. or_right (old.run p) _ (or_left _ _ h);
+  waiting_ones = λ q p f g w some h. or_right (old.run p) _ (or_right (turned p) _ (waiting q (awaited p) f g w h));
+  wanted = λ p h. h;
+} where
+  waiting : (q : Place) (o : Option Place) → freed q ≡ true → is_freed old.configuration c q ≡ true → old.wanted q ≡ true → is_one_of (same_place q) o ≡ true
+      → is_one_of (λ x. freed x && (is_freed old.configuration c x && old.wanted x)) o ≡ true
+  waiting q None f g w h = absurd (false≢true h)
+  waiting q (Some r) f g w h = subst (λ (x : Place). (freed x && (is_freed old.configuration c x && old.wanted x)) ≡ true) (same_place_is q r h) (and_from _ _ f (and_from _ _ g w))

@@ -1,13 +1,14 @@
 //! Laws of the marks that are enough after a change, each the contract of a function that does nothing.
 
-ghost use Rattle.std.specs.Prelude.{◌≡◌, false, Bool, List, Option};
+ghost use Rattle.std.specs.Prelude.{◌≡◌, ◌&&◌, false, Bool, List, Option};
 ghost use Rattle.smx_types.specs.declared.driver.DriverSpec.{DriverSpec};
 ghost use Rattle.smx_types.specs.declared.stream.Place.{Place};
-ghost use Rattle.smx_model.specs.Configuration.{same_place};
+ghost use Rattle.smx_model.specs.Configuration.{Configuration, empty, same_place};
 ghost use Rattle.smx_model.specs.FreedPlaces.{FreesOnly};
 ghost use Rattle.smx_model.specs.KeptConfigurations.{IsSound};
 ghost use Rattle.smx_model.specs.NearMarks.{AreAwaitedKnown, IsMarkedNear, awaits};
-ghost use Rattle.smx_model.specs.RunMarks.{TurnsOnly, can_feed, next_of_first};
+ghost use Rattle.smx_model.specs.RunMarks.{TurnsOnly, both, can_feed, is_freed, is_one_of, next_of_first, nowhere};
+ghost use Rattle.smx_model.specs.RunMarks.{wanted_after};
 ghost use Rattle.smx_model.specs.SettlingByMarks.{IsCleared, IsMarkedAfter, MarkedConfiguration};
 
 /// It is enough to mark what a change turned, and all that can feed one of the wanted places that it freed.
@@ -36,4 +37,20 @@ pub fn clearing_makes_known()
         (awaited known : Place → Option Place) → AreAwaitedKnown drivers old awaited → IsCleared drivers p old new
         → known p ≡ next_of_first drivers old.configuration p
         → ((r : Place) → same_place p r ≡ false → known r ≡ awaited r) → AreAwaitedKnown drivers new known }
+{}
+
+/// Of the empty configuration nothing need be known.
+pub fn nothing_is_known_at_first()
+    ensures { (drivers : List DriverSpec) (awaited : Place → Option Place)
+        → AreAwaitedKnown drivers (record { configuration = empty; run = nowhere; wanted = nowhere }) awaited }
+{}
+
+/// Where it is known for which place each one waits, no more marks are asked for than these.
+pub fn few_marks_are_asked_for()
+    ensures { (turned freed : Place → Bool) (awaited : Place → Option Place) (old : MarkedConfiguration)
+        (c : Configuration) → IsMarkedNear turned freed (awaits awaited) old (record {
+          configuration = c;
+          run = both old.run (both turned (λ p. is_one_of (λ q. freed q && (is_freed old.configuration c q && old.wanted q)) (awaited p)));
+          wanted = wanted_after old.configuration c old.wanted;
+        }) }
 {}

@@ -1,17 +1,18 @@
 //! Laws of settling by marks, each the contract of a function that does nothing.
 
-ghost use Rattle.std.specs.Prelude.{◌≡◌, ◌↔◌, ℕ, suc, true, Bool, List, None, Some};
+ghost use Rattle.std.specs.Prelude.{◌≡◌, ◌↔◌, ℕ, suc, true, false, Bool, List, None, Some};
 ghost use Rattle.std.specs.List.{Contains};
 ghost use Rattle.smx_types.specs.declared.driver.DriverSpec.{DriverSpec};
 ghost use Rattle.smx_types.specs.declared.stream.Place.{Place};
-ghost use Rattle.smx_model.specs.Configuration.{Configuration};
+ghost use Rattle.smx_model.specs.Configuration.{Configuration, same_place};
 ghost use Rattle.smx_model.specs.FlowOrder.{IsInOrder};
 ghost use Rattle.smx_model.specs.KeptConfigurations.{IsSound};
-ghost use Rattle.smx_model.specs.RunMarks.{AreMarked};
-ghost use Rattle.smx_model.specs.Settling.{after_move, after_settling, after_settling_within, least_movable};
+ghost use Rattle.smx_model.specs.RunMarks.{AreMarked, all_but, both, is_next_of_first, wanted_after, woken_by};
+ghost use Rattle.smx_model.specs.Settling.{after_move, after_settling, after_settling_within, is_movable, least_movable};
 ghost use Rattle.smx_model.specs.SettlingByMarks.{moves_of_settling, turned_by_move};
 ghost use Rattle.smx_model.specs.SettlingByMarks.{AreHoldingWanted, AreMovableMarked, CanSettleByMarks, HasItsMarks};
-ghost use Rattle.smx_model.specs.SettlingByMarks.{HoldsUp, IsAtRest, IsCleared, IsMarkedAfter, MarkedConfiguration};
+ghost use Rattle.smx_model.specs.SettlingByMarks.{HoldsUp, IsAtRest, IsCleared, IsLeastMarked, IsMarkedAfter};
+ghost use Rattle.smx_model.specs.SettlingByMarks.{IsMovedOn, MarkedConfiguration};
 ghost use Rattle.smx_model.specs.SettlingByMarks.{SettlesByMarks};
 
 /// That each place without a run mark waits says two things: a run mark stands at each movable place, and a wanted mark
@@ -70,4 +71,35 @@ pub fn settling_goes_on()
         → after_settling_within drivers (suc n) c ≡ after_settling_within drivers n (after_move drivers c p) }
     ensures stays { (drivers : List DriverSpec) (n : ℕ) (c : Configuration) → least_movable drivers c ≡ None
         → after_settling_within drivers n c ≡ c }
+{}
+
+/// No more is asked for than this: of the least marked place the message moves on and what that woke is marked, or its
+/// mark is cleared and the place that it waits for is wanted.
+pub fn the_least_marks_do()
+    ensures moved { (drivers : List DriverSpec) (p : Place) (m : MarkedConfiguration) → IsLeastMarked m.run p
+        → is_movable drivers m.configuration p ≡ true → IsMovedOn drivers p m (record {
+          configuration = after_move drivers m.configuration p;
+          run = both m.run (woken_by drivers m.configuration (after_move drivers m.configuration p) m.wanted (turned_by_move drivers m.configuration p));
+          wanted = wanted_after m.configuration (after_move drivers m.configuration p) m.wanted;
+        }) }
+    ensures cleared { (drivers : List DriverSpec) (p : Place) (m : MarkedConfiguration) → IsLeastMarked m.run p
+        → is_movable drivers m.configuration p ≡ false → IsCleared drivers p m (record {
+          configuration = m.configuration;
+          run = all_but m.run p;
+          wanted = both m.wanted (is_next_of_first drivers m.configuration p);
+        }) }
+{}
+
+/// A look that moves nothing is at the least marked place, and takes its mark and no other.
+pub fn a_look_takes_one_mark()
+    ensures { (drivers : List DriverSpec) (p : Place) (old new : MarkedConfiguration) → IsCleared drivers p old new
+        → IsLeastMarked old.run p × (new.run p ≡ false)
+        × ((q : Place) → same_place p q ≡ false → new.run q ≡ old.run q) }
+{}
+
+/// Where it can come to its end, it comes to the configuration that settling comes to, by the same moves.
+pub fn it_comes_to_the_settled_one()
+    ensures { (drivers : List DriverSpec) (m : MarkedConfiguration) (c : CanSettleByMarks drivers m)
+        → IsSound drivers m.configuration → HasItsMarks drivers m
+        → (c.end.configuration ≡ after_settling drivers m.configuration) × (c.moves ≡ moves_of_settling drivers m.configuration) }
 {}

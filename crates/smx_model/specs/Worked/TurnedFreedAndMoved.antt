@@ -1,16 +1,18 @@
 -- Which places some commands of worked histories turn and free, and the moves of settling that come of it.
-use Rattle.std.specs.Prelude.{◌≡◌, ℕ, Bool, true, false, List, [], ◌∷◌, filter, map, refl, take}
+use Rattle.std.specs.Prelude.{◌≡◌, ℕ, Bool, true, false, List, [], ◌∷◌, Option, Some, None, filter, if◌then◌else◌, map, refl, take}
 use Rattle.std.specs.List.{list_all}
 use Rattle.smx_types.specs.declared.command.Command.{Command}
 use Rattle.smx_types.specs.declared.command.Which.TheVariants as which
 use Rattle.smx_types.specs.declared.stream.Place.{Place}
 use Rattle.smx_types.specs.declared.stream.Side.{Side}
 use Rattle.smx_types.specs.declared.stream.Side.TheVariants as side
-use Rattle.smx_model.specs.Configuration.{Configuration}
+use Rattle.smx_model.specs.Configuration.{Configuration, same_place}
 use Rattle.smx_model.specs.FreedPlaces.{freed_by}
+use Rattle.smx_model.specs.NearMarks.{awaits}
 use Rattle.smx_model.specs.Queues.{after_leaving}
-use Rattle.smx_model.specs.RunMarks.{is_freed}
-use Rattle.smx_model.specs.SettlingByMarks.{moves_of_settling}
+use Rattle.smx_model.specs.RunMarks.{can_feed, is_freed, wanted_after, woken_by}
+use Rattle.smx_model.specs.Settling.{after_move}
+use Rattle.smx_model.specs.SettlingByMarks.{moves_of_settling, turned_by_move}
 use Rattle.smx_model.specs.TurnedPlaces.{turned_by}
 use Rattle.smx_model.specs.Worked.Common.{OpenClone, OpenMinor, Dup, Close, CloseAll, Link, Plink, Unlink, Punlink}
 use Rattle.smx_model.specs.Worked.Common.{Bind, Unbind, Route, Unroute, Write, Read, Flush, Inject, Transmit, R, RW, W}
@@ -164,3 +166,39 @@ further_free_none = refl
 -- both streams then go on, the lesser first
 pub both_move : moves_of_settling ip_over_eth drained ≡ ip_0_write ∷ ip_1_write ∷ []
 both_move = refl
+
+-- a move turns the place that it takes from, and the place that it goes to, if that was empty
+pub a_first_move_turns_two : filter (turned_by_move ip_over_eth drained ip_0_write) places ≡ ip_0_write ∷ eth_0_write ∷ []
+a_first_move_turns_two = refl
+
+abbrev pub once_moved : Configuration
+once_moved = after_move ip_over_eth drained ip_0_write
+
+pub a_second_move_turns_one : filter (turned_by_move ip_over_eth once_moved ip_1_write) places ≡ ip_1_write ∷ []
+a_second_move_turns_one = refl
+
+-- what is freed wakes all that feed it, if it was wanted, and is wanted no longer
+abbrev pub woken_where : (Place → Bool) → List Place
+woken_where wanted = filter (woken_by ip_over_eth full drained wanted (λ p. false)) places
+
+pub a_wanted_place_wakes_its_feeders : woken_where (λ p. true) ≡ ip_0_write ∷ ip_1_write ∷ []
+a_wanted_place_wakes_its_feeders = refl
+
+pub an_unwanted_place_wakes_none : woken_where (λ p. false) ≡ []
+an_unwanted_place_wakes_none = refl
+
+pub a_freed_place_is_wanted_no_longer : filter (wanted_after full drained (λ p. true)) places
+    ≡ ip_0_write ∷ ip_0_read ∷ ip_1_write ∷ eth_0_read ∷ eth_1_write ∷ []
+a_freed_place_is_wanted_no_longer = refl
+
+-- the write sides above can feed a write side below, and the read sides below a read side above; nothing else can
+pub what_can_feed : map (λ q. filter (can_feed full q) places) (eth_0_write ∷ ip_0_read ∷ eth_1_write ∷ eth_0_read ∷ ip_0_write ∷ [])
+    ≡ (ip_0_write ∷ ip_1_write ∷ []) ∷ (eth_0_read ∷ []) ∷ [] ∷ [] ∷ [] ∷ []
+what_can_feed = refl
+
+-- known to wait for a place are those of which just that is known
+abbrev pub known_in_it : Place → Option Place
+known_in_it p = if same_place p ip_0_write then Some eth_0_write else None
+
+pub one_awaits : map (λ q. filter (awaits known_in_it q) places) (eth_0_write ∷ eth_1_write ∷ []) ≡ (ip_0_write ∷ []) ∷ [] ∷ []
+one_awaits = refl
