@@ -2,26 +2,21 @@
 #![tactic(auto)]
 
 mod command_line;
+mod doing;
 mod jobs;
-#[cfg(test)]
-mod tests;
 
-ghost use Rattle.std.specs.Prelude.{◌≡◌, ◌≢◌, ◌≤◌, ◌⊎◌, false};
+ghost use Rattle.std.specs.Prelude.{◌≡◌, ◌≢◌, ◌⊎◌};
 ghost use Rattle.std.specs.IoError.{error_kind};
 ghost use Rattle.std.specs.Process.{exit_status};
 ghost use Rattle.clap.specs.Values.{kind_of};
-ghost use Rattle.smx_filters.specs.Statuses.{status_of_outcome};
 
 use clap::error::ErrorKind;
 use command_line::job;
-use jobs::Job;
-use smx_filters::{Done, MainFault, Source, Target, check_text, run_text};
-use smx_run::{NoGate, RunFault};
-use std::alloc::Global;
-use std::io::{ErrorKind as IoKind, Stdin, Stdout};
+use doing::{do_job, ended};
+use smx_filters::{Done, MainFault, Source, Target};
+use smx_run::RunFault;
+use std::io::ErrorKind as IoKind;
 use std::process::ExitCode;
-use std::sync::Wait;
-use std::thread::Threads;
 use std::{env, io};
 
 /// Does what the words ask for. The exit status is 0 where that was done, also for help and the
@@ -33,12 +28,13 @@ fn main(rt: HostRuntime) -> ExitCode {
         Ok(words) => words,
         Err(error) => return no_words(&rt, &error),
     };
-    let (alloc, stdin, stdout) = (rt.alloc(), rt.stdin(), rt.stdout());
+    let alloc = rt.alloc();
     match job(alloc, words.as_slice()) {
-        Ok(Job::Run { workers, fronts }) => {
-            ended(&rt, run_stdin(&rt, alloc, stdin, stdout, workers, fronts))
+        Ok(job) => {
+            let mut feed = Source::new(rt.stdin());
+            let mut sink = Target::new(rt.stdout());
+            do_job(&rt, alloc, job, &mut feed, &mut sink)
         }
-        Ok(Job::Check) => check_stdin(&rt, alloc, stdin, stdout),
         Err(error) => no_job(&rt, &error),
     }
 }
@@ -46,47 +42,6 @@ fn main(rt: HostRuntime) -> ExitCode {
 // The words of the command line, the program's name first.
 fn words(rt: &HostRuntime) -> io::Result<Vec<String>> {
     Ok(env::args(rt)?.collect(rt.alloc())?)
-}
-
-// Runs the programs on standard input.
-fn run_stdin<R: Threads + Wait + Sync>(
-    rt: &R,
-    alloc: Global,
-    stdin: Stdin,
-    stdout: Stdout,
-    workers: usize,
-    fronts: bool,
-) -> Result<Done, MainFault>
-    requires { (1 ≤ workers) × (workers ≤ 64) }
-{
-    let mut feed = Source::new(stdin);
-    let mut sink = Target::new(stdout);
-    run_text(rt, alloc, &mut feed, &mut sink, workers, fronts, &NoGate)?;
-    Ok(Done::Finished)
-}
-
-// Judges the transcript on standard input; the status of what was done.
-fn check_stdin<R: Eprint>(rt: &R, alloc: Global, stdin: Stdin, stdout: Stdout) -> ExitCode {
-    let mut feed = Source::new(stdin);
-    let mut sink = Target::new(stdout);
-    match check_text(alloc, &mut feed, &mut sink) {
-        Ok(verdict) => ended(rt, Ok(Done::Judged(verdict))),
-        Err(fault) => ended(rt, Err(fault)),
-    }
-}
-
-// The status of what was done, with the line on standard error that says why nothing came of it.
-fn ended<R: Eprint>(rt: &R, outcome: Result<Done, MainFault>) -> ExitCode
-    ensures { exit_status result ≡ status_of_outcome outcome }
-{
-    match outcome {
-        Ok(done) => ExitCode::from(done.status()),
-        Err(fault) => {
-            let status = fault.status();
-            let _ = eprintln!(rt; "muxsim: {fault}");
-            ExitCode::from(status)
-        }
-    }
 }
 
 // Prints clap's text, a mistake in the words to standard error and all else to standard output.

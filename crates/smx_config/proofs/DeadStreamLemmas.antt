@@ -1,33 +1,19 @@
--- What dead streams hold goes with them.
-use Rattle.std.proofs.Common.{◌≡◌, ℕ, zero, suc, ◌+◌, ◌<◌, ◌≤◌, Bool, true, false, ◌&&◌, ◌||◌, not, ltb, List, [], ◌∷◌, length, filter, get_or, find, Option, Some, None, Ok, Err, ◌++◌, if◌then◌else◌, refl, sym, ap, subst, ◌∙◌, arith, inl, inr}
-use Rattle.std.specs.Prelude.{IsTrue, ◌↔◌, nat_lt}
-use Rattle.std.specs.List.{All, AllByRecursion, list_any, list_all}
-use Rattle.std.proofs.lemmas.Bool.{cases_Bool, and_parts, and_from, or_cases, or_left, or_right, false_from_ne_true, false≢true}
-use Rattle.std.proofs.lemmas.Bool.Decides.{nat_tests}
-use Rattle.std.proofs.lemmas.List.Elements.{recursion_from_All, Contains-get_or}
+-- What dead streams hold goes with them, stream by stream.
+use Rattle.std.proofs.Common.{◌≡◌, ℕ, ◌+◌, Bool, true, false, ◌&&◌, not, eqb, List, [], ◌∷◌, ◌++◌, filter, take, refl, ap, ◌∙◌, inl, inr}
+use Rattle.std.proofs.lemmas.Bool.{cases_Bool}
 use Rattle.smx_types.specs.declared.driver.DriverSpec.{DriverSpec}
 use Rattle.smx_types.specs.declared.link.Binding.{Binding}
-use Rattle.smx_types.specs.declared.link.Link.{Link}
-use Rattle.smx_types.specs.declared.link.LinkKind.{LinkKind}
-use Rattle.smx_types.specs.declared.reply.Fault.TheVariants.{BadDescriptor}
-use Rattle.smx_types.specs.declared.stream.Descriptor.{Descriptor}
 use Rattle.smx_types.specs.declared.stream.Place.{Place}
 use Rattle.smx_types.specs.declared.stream.StreamId.{StreamId}
 use Rattle.smx_model.specs.Configuration.{Configuration, QueuedMessage, same_stream}
-use Rattle.smx_model.specs.KnownStreams.{IsKnown}
-use Rattle.smx_model.specs.Outcomes.{or_fault}
-use Rattle.smx_model.specs.Paths.{Path, HasNoCycle, reaches}
 use Rattle.smx_model.specs.Removal.{without_dead_streams}
-use Rattle.smx_model.specs.SoundLinks.{AreLinksSound}
-use Rattle.smx_model.specs.Standing.{Stands, exists, is_below, is_named, is_persistent, stands_within}
-use Rattle.smx_streams.specs.StreamTables.{StreamTable, HasHolds, number_at, stream_at, exists as is_there}
-use Rattle.smx_config.specs.ExistingStreams.{AreHeld, TellsExisting, holds_of, is_held}
-use Rattle.smx_links.specs.LinkLists.{LinkList, IsLinked, refusal, with_link}
-use Rattle.smx_links.specs.declared.fault.LinkFault.TheVariants as link_fault
-use Rattle.smx_config.proofs.AboveLemmas.{stream_is, stream_self}
-use Rattle.smx_config.proofs.ClimbLemmas.{named_stands}
-use Rattle.smx_config.proofs.DoneLemmas.{named_stream}
+use Rattle.smx_model.specs.Standing.{exists}
+use Rattle.smx_streams.specs.StreamTables.{StreamTable, exists as is_there}
+use Rattle.smx_config.specs.ExistingStreams.{TellsExisting}
+use Rattle.smx_config.specs.TouchedStreams.{is_dead, without_streams, IsTouched}
+use Rattle.smx_config.proofs.DeadLemmas.{dead_are_gone, none_dead, none_of_one, one_dead, stream_less}
 
+-- tests that agree keep the same
 filter_alike : {X : Type 0} (f g : X → Bool) (xs : List X) → ((x : X) → f x ≡ g x) → filter f xs ≡ filter g xs
 filter_alike {X = X} f g [] h = refl
 filter_alike {X = X} f g (x ∷ xs) h = elim (cases_Bool (g x)) [
@@ -35,16 +21,81 @@ filter_alike {X = X} f g (x ∷ xs) h = elim (cases_Bool (g x)) [
   | inr n ↦ rw (h x, n) (filter_alike f g xs h)
 ]
 
+-- ---- the streams of each list
+
+abbrev bound : Binding → StreamId
+bound b = record { driver = b.driver; minor = b.minor }
+
+abbrev queued : QueuedMessage → StreamId
+queued h = h.place.stream
+
+abbrev marked : Place → StreamId
+marked p = p.stream
+
+-- ---- three lists of a configuration
+
 abbrev parts : Configuration → List Binding → List QueuedMessage → List Place → Configuration
 parts c binds flow fulls = record c { binds = binds; flow = flow; fulls = fulls }
 
-same_parts : (c : Configuration) (xs bs : List Binding) (hs gs : List QueuedMessage) (ps qs : List Place) → xs ≡ bs → hs ≡ gs → ps ≡ qs → parts c xs hs ps ≡ parts c bs gs qs
+-- equal parts make equal configurations
+same_parts : (c : Configuration) (xs bs : List Binding) (hs gs : List QueuedMessage) (ps qs : List Place)
+    → xs ≡ bs → hs ≡ gs → ps ≡ qs → parts c xs hs ps ≡ parts c bs gs qs
 same_parts c xs bs hs gs ps qs a b d = cc
 
--- what is not there goes with what does not exist
-pub dead_dropped : (drivers : List DriverSpec) (c : Configuration) (t : StreamTable) → TellsExisting drivers c t
-    → record c { binds = filter (λ b. is_there t (record { driver = b.driver; minor = b.minor })) c.binds; flow = filter (λ h. not (not (is_there t h.place.stream))) c.flow; fulls = filter (λ p. not (not (is_there t p.stream))) c.fulls } ≡ without_dead_streams drivers c
-dead_dropped drivers c t told = same_parts c _ _ _ _ _ _
-    (filter_alike (λ (b : Binding). is_there t (record { driver = b.driver; minor = b.minor })) (λ b. exists drivers c (record { driver = b.driver; minor = b.minor })) c.binds (λ b. told (record { driver = b.driver; minor = b.minor })))
-    (filter_alike (λ (h : QueuedMessage). not (not (is_there t h.place.stream))) (λ h. not (not (exists drivers c h.place.stream))) c.flow (λ h. ap (λ (b : Bool). not (not b)) (told h.place.stream)))
-    (filter_alike (λ (p : Place). not (not (is_there t p.stream))) (λ p. not (not (exists drivers c p.stream))) c.fulls (λ p. ap (λ (b : Bool). not (not b)) (told p.stream)))
+and_true : (b : Bool) → (b && true) ≡ b
+and_true true = refl
+and_true false = refl
+
+-- a stream that is not there goes, with its binding and both its sides
+pub one_gone : (c : Configuration) (t : StreamTable) (s : StreamId)
+    (binds : List Binding) (flow : List QueuedMessage) (fulls : List Place)
+    → is_there t s ≡ false → binds ≡ filter (λ b. not (eqb b.driver s.driver && eqb b.minor s.minor)) c.binds
+    → flow ≡ filter (λ h. not (same_stream h.place.stream s && true)) c.flow
+    → fulls ≡ filter (λ p. not (same_stream p.stream s && true)) c.fulls
+    → parts c binds flow fulls ≡ without_streams c (is_dead t (s ∷ []))
+one_gone c t s binds flow fulls gone no_bind no_message no_mark = same_parts c _ _ _ _ _ _
+    (one_dead bound (λ b. same_stream (bound b) s) t s c.binds binds gone (λ b. refl) no_bind)
+    (one_dead queued (λ h. same_stream (queued h) s && true) t s c.flow flow gone
+    (λ h. and_true (same_stream (queued h) s)) no_message)
+    (one_dead marked (λ p. same_stream (marked p) s && true) t s c.fulls fulls gone
+    (λ p. and_true (same_stream (marked p) s)) no_mark)
+
+-- one that is there stays, with all that it has
+pub none_gone : (c : Configuration) (t : StreamTable) (s : StreamId) → is_there t s ≡ true
+    → c ≡ without_streams c (is_dead t (s ∷ []))
+none_gone c t s there = same_parts c c.binds _ c.flow _ c.fulls _
+    (none_of_one bound t s c.binds there) (none_of_one queued t s c.flow there) (none_of_one marked t s c.fulls there)
+
+-- none goes at first
+pub none_gone_yet : (c : Configuration) (t : StreamTable) → c ≡ without_streams c (is_dead t [])
+none_gone_yet c t = same_parts c c.binds _ c.flow _ c.fulls _
+    (none_dead bound t c.binds) (none_dead queued t c.flow) (none_dead marked t c.fulls)
+
+-- one stream more
+pub one_more_gone : (old c new : Configuration) (t u : StreamTable) (seen : List StreamId) (i : ℕ) (s : StreamId)
+    → u ≡ t → take (i + 1) seen ≡ take i seen ++ s ∷ [] → c ≡ without_streams old (is_dead t (take i seen))
+    → new ≡ without_streams c (is_dead u (s ∷ [])) → new ≡ without_streams old (is_dead t (take (i + 1) seen))
+one_more_gone old c new t u seen i s here taken_one e f =
+    f ∙ ap (λ (x : StreamTable). without_streams c (is_dead x (s ∷ []))) here
+    ∙ ap (λ (x : Configuration). without_streams x (is_dead t (s ∷ []))) e ∙ same_parts old _ _ _ _ _ _
+    (stream_less bound t seen i s old.binds _ _ taken_one refl refl)
+    (stream_less queued t seen i s old.flow _ _ taken_one refl refl)
+    (stream_less marked t seen i s old.fulls _ _ taken_one refl refl)
+
+not_not : (b : Bool) → not (not b) ≡ b
+not_not true = refl
+not_not false = refl
+
+-- where all that went were seen, what is not there goes with what does not exist
+pub all_gone : (drivers : List DriverSpec) (c : Configuration) (t : StreamTable) (seen : List StreamId)
+    → TellsExisting drivers c t → IsTouched t seen c → without_streams c (is_dead t seen) ≡ without_dead_streams drivers c
+all_gone drivers c t seen told touched = same_parts c _ _ _ _ _ _
+    (dead_are_gone bound t seen c.binds touched.binds
+    ∙ filter_alike (λ b. not (not (is_there t (bound b)))) (λ b. exists drivers c (bound b)) c.binds
+    (λ b. not_not _ ∙ told (bound b)))
+    (dead_are_gone queued t seen c.flow touched.flow
+    ∙ filter_alike (λ h. not (not (is_there t (queued h)))) (λ h. not (not (exists drivers c (queued h)))) c.flow
+    (λ h. ap (λ (b : Bool). not (not b)) (told (queued h))))
+    (dead_are_gone marked t seen c.fulls touched.fulls
+    ∙ filter_alike (λ p. not (not (is_there t (marked p)))) (λ p. not (not (exists drivers c (marked p)))) c.fulls
+    (λ p. ap (λ (b : Bool). not (not b)) (told (marked p))))

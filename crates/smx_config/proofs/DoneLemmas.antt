@@ -19,19 +19,18 @@ use Rattle.smx_types.specs.declared.reply.Reply.TheVariants.{Done}
 use Rattle.smx_model.specs.Commands.{done_outcome, outcome}
 use Rattle.smx_model.specs.Configuration.{Configuration, same_stream, is_fd, bind_before, route_before}
 use Rattle.smx_model.specs.DriverList.{is_mux}
-use Rattle.smx_model.specs.Ordered.{with_inserted, in_rising_order}
+use Rattle.smx_model.specs.Ordered.{with_inserted}
 use Rattle.smx_model.specs.Lookups.{mux_stream}
 use Rattle.smx_model.specs.Outcomes.{◌>>=◌, or_fault, refuse}
-use Rattle.smx_model.specs.Removal.{serials, after_sweep, without_links}
+use Rattle.smx_model.specs.Removal.{serials_that_left, after_sweep, without_links}
 use Rattle.smx_model.specs.Standing.{is_named, is_below, exists}
 use Rattle.smx_model.specs.Swept.{IsSwept}
 use Rattle.smx_config.proofs.ClimbLemmas.{named_stands}
 use Rattle.smx_config.proofs.AboveLemmas.{stream_self}
 use Rattle.smx_config.specs.UnlinkTargets.{is_target, are_there, unlinks}
 
-pub done_is : (drivers : List DriverSpec) (c new d : Configuration) (old : List ℕ) (r : Reply) → d ≡ after_sweep drivers new → old ≡ serials c.flow
-    → r ≡ Done (in_rising_order (filter (λ n. not (list_any (λ m. eqb n m) (serials d.flow))) old)) → done_outcome drivers c new ≡ Ok (d, r)
-done_is drivers c new d old r is was gone = rw (gone, was, is) refl
+pub done_is : (drivers : List DriverSpec) (c new d : Configuration) (r : Reply) → d ≡ after_sweep drivers new → r ≡ Done (serials_that_left c.flow d.flow) → done_outcome drivers c new ≡ Ok (d, r)
+done_is drivers c new d r is gone = rw (gone, is) refl
 
 -- ---- the same, behind the refusals of a command
 

@@ -1,29 +1,12 @@
 -- Links that are found.
-use Rattle.std.proofs.Common.{◌≡◌, ℕ, zero, suc, ◌+◌, ◌-◌, ◌<◌, ◌≤◌, Bool, true, false, ◌&&◌, ◌||◌, not, eqb, List, [], ◌∷◌, ◌++◌, length, map, filter, take, get_or, find, Option, Some, None, if◌then◌else◌, refl, sym, ap, subst, ◌∙◌, arith, inl, inr}
-use Rattle.std.specs.Prelude.{nat_lt, slice_get}
-use Rattle.std.specs.List.{All, AllByRecursion, list_any, list_all}
-use Rattle.std.proofs.lemmas.Bool.{cases_Bool, and_parts, and_from, or_parts, or_left, or_right, eqb-true, eq-eqb, false_from_ne_true, false≢true}
-use Rattle.std.proofs.lemmas.Bool.Decides.{nat_tests}
-use Rattle.std.proofs.lemmas.List.Elements.{All-from_recursion, recursion_from_All}
-use Rattle.std.proofs.lemmas.Option.{get_or_from_slice_get, slice_get_within}
-use Rattle.smx_types.specs.declared.driver.DriverSpec.{DriverSpec}
+use Rattle.std.proofs.Common.{◌≡◌, ℕ, zero, suc, ◌<◌, Bool, true, List, [], ◌∷◌, length, get_or, find, Option, Some, refl, sym, subst, ◌∙◌, arith, inl, inr}
+use Rattle.std.specs.List.{AllByRecursion, list_any}
+use Rattle.std.proofs.lemmas.Bool.{cases_Bool, or_left, or_right, false≢true}
 use Rattle.smx_types.specs.declared.link.Link.{Link}
-use Rattle.smx_types.specs.declared.stream.Descriptor.{Descriptor}
-use Rattle.smx_types.specs.declared.stream.StreamId.{StreamId}
-use Rattle.smx_model.specs.Configuration.{Configuration, same_stream}
-use Rattle.smx_model.specs.KnownStreams.{IsKnown}
+use Rattle.smx_model.specs.Configuration.{same_stream}
 use Rattle.smx_model.specs.Paths.{AreLowersApart}
-use Rattle.smx_model.specs.SoundLinks.{AreLinksSound}
-use Rattle.smx_model.specs.Standing.{exists, is_below, is_named, is_persistent, stands_within}
-use Rattle.smx_streams.specs.StreamTables.{StreamTable, HasHolds, number_at, exists as is_there}
-use Rattle.smx_config.specs.ExistingStreams.{AreHeld, IsReleasing, holds_below, holds_of, is_held, is_loose}
-use Rattle.smx_config.specs.ListedLinks.{is_orphaned}
-use Rattle.smx_links.specs.LinkLists.{is_one_of}
-use Rattle.smx_config.proofs.AboveLemmas.{IsOnce, once_below, once_id, stream_is, stream_self}
-use Rattle.smx_config.proofs.ClimbLemmas.{more, stands_by, stands_is}
-use Rattle.smx_config.proofs.ExistingLemmas.{DoClimbsSuffice, DoPathsJoin, IsReachPath, IsTight, held_is_below, same_test, there_exists}
-use Rattle.smx_config.proofs.RemovalLemmas.{IsIdsRising, any_kept, ids_of, links_stay, listed}
-use Rattle.smx_config.proofs.TableLemmas.{take_one_more}
+use Rattle.smx_model.specs.Standing.{is_below}
+use Rattle.smx_config.proofs.AboveLemmas.{IsOnce, once_below, stream_self}
 
 any_at : (test : Link → Bool) (ls : List Link) (i : ℕ) (d : Link) → i < length ls → test (get_or ls i d) ≡ true → list_any test ls ≡ true
 any_at test [] i d lt h = absurd (omega arith)

@@ -1,5 +1,5 @@
 -- What holds of lists holds of others with the same tables.
-use Rattle.std.proofs.Common.{◌≡◌, ℕ, List, [], ap, sym, subst, ◌∙◌, refl}
+use Rattle.std.proofs.Common.{◌≡◌, ℕ, List, [], ap, sym, subst, ◌∙◌}
 use Rattle.smx_types.specs.declared.driver.DriverSpec.{DriverSpec}
 use Rattle.smx_types.specs.declared.link.Link.{Link}
 use Rattle.smx_types.specs.declared.stream.StreamId.{StreamId}
@@ -24,7 +24,10 @@ tells_again drivers given c d t u h e f g =
 
 -- the same sizes
 pub table_stays : (old new : Lists) (n : ℕ) → sizes_of new ≡ sizes_of old → old.links.drivers ≡ n → new.links.drivers ≡ n
-table_stays old new n e h = ap (λ (x : ℕ × List ℕ). x.0) e ∙ h
+table_stays old new n e h = ap (λ (x : ℕ × List ℕ × List DriverSpec). x.0) e ∙ h
 
 pub minors_stay : (old new : Lists) (minors : List ℕ) → sizes_of new ≡ sizes_of old → old.streams.minors ≡ minors → new.streams.minors ≡ minors
-minors_stay old new minors e h = ap (λ (x : ℕ × List ℕ). x.1) e ∙ h
+minors_stay old new minors e h = ap (λ (x : ℕ × List ℕ × List DriverSpec). x.1) e ∙ h
+
+pub queues_stay : (old new : Lists) (drivers : List DriverSpec) → sizes_of new ≡ sizes_of old → old.queues.drivers ≡ drivers → new.queues.drivers ≡ drivers
+queues_stay old new drivers e h = ap (λ (x : ℕ × List ℕ × List DriverSpec). x.2) e ∙ h

@@ -49,5 +49,8 @@ found_known drivers process fd (d ∷ ds) s k h = elim (cases_Bool (is_fd proces
   | inr f ↦ found_known drivers process fd ds s k.1 (rw f at h)
 ]
 
+pub stream_known : (drivers : List DriverSpec) (c : Configuration) (process fd : ℕ) (s : StreamId) → AreStreamsKnown drivers c → stream_of c process fd ≡ Ok s → IsKnown drivers s
+stream_known drivers c process fd s k h = found_known drivers process fd c.fds s (recursion_from_All (λ d. IsKnown drivers d.stream) c.fds k.fds) h
+
 pub driver_known : (drivers : List DriverSpec) (c : Configuration) (process fd : ℕ) (s : StreamId) → AreStreamsKnown drivers c → stream_of c process fd ≡ Ok s → s.driver < length drivers
 driver_known drivers c process fd s k h = (found_known drivers process fd c.fds s (recursion_from_All (λ d. IsKnown drivers d.stream) c.fds k.fds) h).0

@@ -1,5 +1,8 @@
--- What a leaf stream's words come to.
-use Rattle.std.proofs.Common.{◌≡◌, ℕ, Bool, true, false, List, Ok, Err, refl}
+-- What a leaf stream's words come to, and whether anything is found.
+use Rattle.std.proofs.Common.{◌≡◌, ℕ, Bool, true, false, not, List, [], ◌∷◌, find, Ok, Err, refl, sym, ap, ◌∙◌, inl, inr}
+use Rattle.std.specs.List.{list_any}
+use Rattle.std.specs.Option.{is_some}
+use Rattle.std.proofs.lemmas.Bool.{cases_Bool}
 use Rattle.smx_types.specs.declared.driver.DriverSpec.{DriverSpec}
 use Rattle.smx_types.specs.declared.reply.Fault.{Fault}
 use Rattle.smx_types.specs.declared.reply.Fault.TheVariants.{NoMinor}
@@ -17,3 +20,13 @@ not_refused f false h = refl
 pub no_leaf : (drivers : List DriverSpec) (c : Configuration) (name : List ℕ) (n minor : ℕ) → driver_of drivers name ≡ Ok n → is_mux drivers n ≡ false → exists drivers c (record { driver = n; minor = minor }) ≡ false
     → Err NoMinor ≡ leaf_stream drivers c name minor
 no_leaf drivers c name n minor e m x = rw (e, m, x) refl
+
+-- something is found where an element passes
+found_any : {X : Type 0} (test : X → Bool) (xs : List X) → is_some (find test xs) ≡ list_any test xs
+found_any test [] = refl
+found_any test (x ∷ xs) = elim (cases_Bool (test x)) [ inl t ↦ rw t refl | inr f ↦ rw f (found_any test xs) ]
+
+-- nothing is found where none passes
+pub none_found : {X : Type 0} (test : X → Bool) (xs : List X) (none : Bool) → is_some (find test xs) ≡ not none → none ≡ not (list_any test xs)
+none_found test xs true h = ap not (sym h ∙ found_any test xs)
+none_found test xs false h = ap not (sym h ∙ found_any test xs)

@@ -1,30 +1,20 @@
 -- The lower streams of links are released by the links' ids.
-use Rattle.std.proofs.Common.{◌≡◌, ℕ, zero, suc, ◌+◌, ◌-◌, ◌<◌, ◌≤◌, Bool, true, false, ◌&&◌, ◌||◌, not, eqb, List, [], ◌∷◌, ◌++◌, length, map, filter, take, get_or, find, Option, Some, None, if◌then◌else◌, refl, sym, ap, subst, ◌∙◌, arith, inl, inr}
-use Rattle.std.specs.Prelude.{nat_lt, slice_get}
-use Rattle.std.specs.List.{All, AllByRecursion, list_any, list_all}
-use Rattle.std.proofs.lemmas.Bool.{cases_Bool, and_parts, and_from, or_parts, or_left, or_right, eqb-true, eq-eqb, false_from_ne_true, false≢true}
-use Rattle.std.proofs.lemmas.Bool.Decides.{nat_tests}
-use Rattle.std.proofs.lemmas.List.Elements.{All-from_recursion, recursion_from_All}
-use Rattle.std.proofs.lemmas.Option.{get_or_from_slice_get, slice_get_within}
-use Rattle.smx_types.specs.declared.driver.DriverSpec.{DriverSpec}
+use Rattle.std.proofs.Common.{◌≡◌, ℕ, ◌-◌, ◌<◌, ◌≤◌, Bool, true, false, ◌&&◌, ◌||◌, not, eqb, List, [], ◌∷◌, ◌++◌, filter, get_or, find, Option, Some, None, if◌then◌else◌, refl, sym, ap, subst, ◌∙◌, arith, inl, inr}
+use Rattle.std.specs.List.{All, AllByRecursion, list_any}
+use Rattle.std.proofs.lemmas.Bool.{cases_Bool}
+use Rattle.std.proofs.lemmas.List.Elements.{recursion_from_All}
 use Rattle.smx_types.specs.declared.link.Link.{Link}
-use Rattle.smx_types.specs.declared.stream.Descriptor.{Descriptor}
 use Rattle.smx_types.specs.declared.stream.StreamId.{StreamId}
-use Rattle.smx_model.specs.Configuration.{Configuration, same_stream}
-use Rattle.smx_model.specs.KnownStreams.{IsKnown}
+use Rattle.smx_model.specs.Configuration.{same_stream}
 use Rattle.smx_model.specs.Paths.{AreLowersApart}
-use Rattle.smx_model.specs.SoundLinks.{AreLinksSound}
-use Rattle.smx_model.specs.Standing.{exists, is_below, is_named, is_persistent, stands_within}
-use Rattle.smx_streams.specs.StreamTables.{StreamTable, HasHolds, number_at, exists as is_there}
-use Rattle.smx_config.specs.ExistingStreams.{AreHeld, IsReleasing, holds_below, holds_of, is_held, is_loose}
-use Rattle.smx_config.specs.ListedLinks.{is_orphaned}
+use Rattle.smx_model.specs.Standing.{is_below}
+use Rattle.smx_streams.specs.StreamTables.{StreamTable, HasHolds, number_at}
+use Rattle.smx_config.specs.ExistingStreams.{AreHeld}
 use Rattle.smx_links.specs.LinkLists.{is_one_of}
-use Rattle.smx_config.proofs.AboveLemmas.{IsOnce, once_below, once_id, stream_is, stream_self}
-use Rattle.smx_config.proofs.ClimbLemmas.{more, stands_by, stands_is}
-use Rattle.smx_config.proofs.ExistingLemmas.{DoClimbsSuffice, DoPathsJoin, IsReachPath, IsTight, held_is_below, same_test, there_exists}
-use Rattle.smx_config.proofs.RemovalLemmas.{IsIdsRising, any_kept, ids_of, links_stay, listed}
-use Rattle.smx_config.proofs.TableLemmas.{take_one_more}
-use Rattle.smx_config.proofs.FoundLinkLemmas.{below_at, found_has, found_itself, one_link}
+use Rattle.smx_config.proofs.AboveLemmas.{once_below, once_id, stream_is, stream_self}
+use Rattle.smx_config.proofs.ExistingLemmas.{same_test}
+use Rattle.smx_config.proofs.RemovalLemmas.{IsIdsRising, any_kept}
+use Rattle.smx_config.proofs.FoundLinkLemmas.{found_has, found_itself}
 
 -- ---- a stream that is held once at most is released
 
@@ -54,7 +44,7 @@ abbrev pub without : List ℕ → List Link → List Link
 without ids ls = filter (λ l. not (is_one_of ids l)) ls
 
 -- by id and by lower stream the same link is found
-abbrev IsFoundBy : ℕ → StreamId → Link → Type 0
+abbrev pub IsFoundBy : ℕ → StreamId → Link → Type 0
 IsFoundBy id s l = eqb l.id id ≡ same_stream l.lower s
 
 drop_one : (a o p g v r less : Bool) → p ≡ (o || g) → (a ≡ true → g ≡ v) → less ≡ (r && not v) → ((a && not p) || less) ≡ (((a && not o) || r) && not v)
@@ -83,7 +73,7 @@ below_one_less ids id s x ls h =
           (one_of_more ids id l) (λ here. k.0 ∙ ap (λ (y : StreamId). same_stream y s) (stream_is l.lower x here)) (each ks k.1)
 
 -- a link that is found by its id, in links whose ids rise and whose lower streams are apart
-found_by : (links : List Link) (id : ℕ) (l : Link) → AreLowersApart links → IsIdsRising links → find (λ k. eqb k.id id) links ≡ Some l → All (IsFoundBy id l.lower) links
+pub found_by : (links : List Link) (id : ℕ) (l : Link) → AreLowersApart links → IsIdsRising links → find (λ k. eqb k.id id) links ≡ Some l → All (IsFoundBy id l.lower) links
 found_by links id l apart rise found = λ i d lt.
     let k = get_or links i d in
     let by_id : eqb k.id id ≡ true → k ≡ l = λ t. same_found k (sym (found_itself (λ m. eqb m.id id) links i d (once_id id links rise) lt t) ∙ found) in

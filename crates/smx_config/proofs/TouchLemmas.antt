@@ -1,8 +1,8 @@
 -- Streams that a change touches: which went, and what is left of them.
-use Rattle.std.proofs.Common.{◌≡◌, ℕ, zero, suc, ◌+◌, ◌<◌, ◌≤◌, Bool, true, false, ◌&&◌, ◌||◌, not, List, [], ◌∷◌, ◌++◌, length, map, filter, get_or, Option, Some, None, Ok, Err, refl, sym, ap, subst, ◌∙◌, arith, inl, inr}
+use Rattle.std.proofs.Common.{◌≡◌, ℕ, suc, ◌+◌, ◌<◌, ◌≤◌, Bool, true, false, ◌&&◌, ◌||◌, not, List, [], ◌∷◌, ◌++◌, length, map, filter, get_or, Option, Some, None, Ok, refl, sym, ap, subst, ◌∙◌, arith, inl, inr}
 use Rattle.std.specs.Prelude.{nat_lt}
 use Rattle.std.specs.List.{All, list_any, list_all}
-use Rattle.std.proofs.lemmas.Bool.{cases_Bool, cases_lt, and_parts, and_from, or_cases, or_left, or_right, false≢true}
+use Rattle.std.proofs.lemmas.Bool.{cases_Bool, cases_lt, and_parts, or_cases, or_left, or_right, false≢true}
 use Rattle.std.proofs.lemmas.List.{length-map}
 use Rattle.smx_types.specs.declared.driver.DriverSpec.{DriverSpec}
 use Rattle.smx_types.specs.declared.limits.TheConstants.{MAX_DESCRIPTORS}
@@ -18,7 +18,7 @@ use Rattle.smx_model.specs.Commands.{done_outcome}
 use Rattle.smx_model.specs.Configuration.{Configuration, QueuedMessage, is_fd, same_stream}
 use Rattle.smx_model.specs.Outcomes.{or_fault}
 use Rattle.smx_model.specs.Removal.{without_links, without_queues_at}
-use Rattle.smx_model.specs.Standing.{exists, is_below, is_named, is_persistent}
+use Rattle.smx_model.specs.Standing.{exists, is_named, is_persistent}
 use Rattle.smx_model.specs.Swept.{IsSwept}
 use Rattle.smx_streams.specs.StreamTables.{StreamTable, HasHolds, HasOneLess, is_last, number_at, stream_at, without_fd, exists as is_there}
 use Rattle.smx_config.specs.Closing.{closing}
@@ -28,9 +28,9 @@ use Rattle.smx_config.proofs.AboveLemmas.{stream_is}
 use Rattle.smx_config.proofs.DoneLemmas.{IdleDropsNone, all_fewer}
 use Rattle.smx_config.proofs.ExistingLemmas.{all_weaker, held_is_below, holds_few}
 use Rattle.smx_config.proofs.FoundLinkLemmas.{below_at}
-use Rattle.smx_config.proofs.MarkLemmas.{not_more}
+use Rattle.smx_config.proofs.PlaceLemmas.{not_more}
 use Rattle.smx_config.proofs.ReleaseLemmas.{not_true, starts}
-use Rattle.smx_config.proofs.WatchLemmas.{listed_last, still_listed, there_same}
+use Rattle.smx_config.proofs.WatchLemmas.{listed_last, listed_more, still_listed, there_same}
 
 -- ---- where all that were touched are there
 
@@ -83,6 +83,16 @@ touched_without t ss c goes h = record { links = all_fewer _ _ c.links h.links; 
 pub touched_emptied : (t : StreamTable) (ss : List StreamId) (c : Configuration) (goes : Place → Bool) → IsTouched t ss c → IsTouched t ss (without_queues_at c goes)
 touched_emptied t ss c goes h = record { links = h.links; binds = h.binds; flow = all_fewer _ _ c.flow h.flow; fulls = all_fewer _ _ c.fulls h.fulls }
 
+-- what was there or touched still is
+pub touched_on : (t u : StreamTable) (ss vs : List StreamId) (c : Configuration) → IsTouched t ss c → ((s : StreamId) → is_there_or_touched t ss s ≡ true → is_there_or_touched u vs s ≡ true) → IsTouched u vs c
+touched_on t u ss vs c h on = record {
+  links = all_weaker (λ l. is_persistent l || is_there_or_touched t ss l.ctl) (λ l. is_persistent l || is_there_or_touched u vs l.ctl) c.links
+      (λ l e. elim (or_cases (is_persistent l) (is_there_or_touched t ss l.ctl) e) [ inl p ↦ or_left _ _ p | inr o ↦ or_right _ _ (on l.ctl o) ]) h.links;
+  binds = all_weaker (λ (b : Binding). is_there_or_touched t ss (record { driver = b.driver; minor = b.minor })) (λ b. is_there_or_touched u vs (record { driver = b.driver; minor = b.minor })) c.binds (λ b. on (record { driver = b.driver; minor = b.minor })) h.binds;
+  flow = all_weaker (λ (m : QueuedMessage). is_there_or_touched t ss m.place.stream) (λ m. is_there_or_touched u vs m.place.stream) c.flow (λ m. on m.place.stream) h.flow;
+  fulls = all_weaker (λ (p : Place). is_there_or_touched t ss p.stream) (λ p. is_there_or_touched u vs p.stream) c.fulls (λ p. on p.stream) h.fulls;
+}
+
 -- one descriptor is closed, and its stream stays
 pub closed_stays : (t u : StreamTable) (p n : ℕ) → is_last t p n ≡ false → HasOneLess t p n u → ((s : StreamId) → is_there t s ≡ true → is_there u s ≡ false → stream_at t.fds p n ≡ Some s)
     → (s : StreamId) → is_there t s ≡ true → is_there_or_touched u [] s ≡ true
@@ -123,6 +133,41 @@ release_touches t u v ss s n h so_far x there = elim (or_cases (is_there u x) (l
     | inr other ↦ or_left _ _ (there_same u v s x n h other ∙ still)
   ]
   | inr earlier ↦ or_right _ _ (still_listed x ss s earlier)
+]
+
+-- the same of what was there or touched, and of one stream more that is put aside
+pub release_touches_on : (t u v : StreamTable) (first ss : List StreamId) (s : StreamId) (n : ℕ) → HasHolds u s n v → ((x : StreamId) → is_there_or_touched t first x ≡ true → is_there_or_touched u ss x ≡ true)
+    → (x : StreamId) → is_there_or_touched t first x ≡ true → is_there_or_touched v (ss ++ s ∷ []) x ≡ true
+release_touches_on t u v first ss s n h so_far x there = elim (or_cases (is_there u x) (list_any (same_stream x) ss) (so_far x there)) [
+  | inl still ↦ elim (cases_Bool (same_stream x s)) [
+    | inl it ↦ or_right _ _ (ap (λ (y : StreamId). list_any (same_stream y) (ss ++ s ∷ [])) (stream_is x s it) ∙ listed_last ss s)
+    | inr other ↦ or_left _ _ (there_same u v s x n h other ∙ still)
+  ]
+  | inr earlier ↦ or_right _ _ (still_listed x ss s earlier)
+]
+
+-- a stream that may have gone is put to those that were seen
+pub seen_more : (u v : StreamTable) (left rest now seen : List StreamId) (s x : StreamId) → left ≡ rest ++ s ∷ [] → ((y : StreamId) → is_there_or_touched u rest y ≡ true → is_there_or_touched v now y ≡ true)
+    → (is_there_or_touched u left x || list_any (same_stream x) seen) ≡ true → (is_there_or_touched v now x || list_any (same_stream x) (seen ++ s ∷ [])) ≡ true
+seen_more u v left rest now seen s x last on h = elim (or_cases (is_there_or_touched u left x) (list_any (same_stream x) seen) h) [
+  | inl a ↦ elim (or_cases (is_there u x) (list_any (same_stream x) left) a) [
+    | inl there ↦ or_left _ _ (on x (or_left _ _ there))
+    | inr one ↦ elim (or_cases (list_any (same_stream x) rest) (same_stream x s) (sym (listed_more x rest s) ∙ (ap (list_any (same_stream x)) (sym last) ∙ one))) [
+      | inl earlier ↦ or_left _ _ (on x (or_right _ _ earlier))
+      | inr it ↦ or_right _ _ (listed_more x seen s ∙ or_right _ _ it)
+    ]
+  ]
+  | inr b ↦ or_right _ _ (still_listed x seen s b)
+]
+
+-- in the end all of them were seen
+pub all_seen : (u : StreamTable) (left seen : List StreamId) (x : StreamId) → left ≡ [] → (is_there_or_touched u left x || list_any (same_stream x) seen) ≡ true → is_there_or_touched u seen x ≡ true
+all_seen u left seen x none h = elim (or_cases (is_there_or_touched u left x) (list_any (same_stream x) seen) h) [
+  | inl a ↦ elim (or_cases (is_there u x) (list_any (same_stream x) left) a) [
+    | inl there ↦ or_left _ _ there
+    | inr one ↦ let bad : list_any (same_stream x) [] ≡ true = ap (list_any (same_stream x)) (sym none) ∙ one in absurd (false≢true bad)
+  ]
+  | inr b ↦ or_right _ _ b
 ]
 
 -- ---- the cascade at first

@@ -2,7 +2,7 @@
 use Rattle.std.proofs.Common.{◌≡◌, ℕ, zero, suc, ◌+◌, ◌-◌, ◌<◌, ◌≤◌, Bool, true, false, ◌&&◌, ◌||◌, not, eqb, List, [], ◌∷◌, ◌++◌, length, take, get_or, Some, refl, sym, ap, subst, ◌∙◌, arith, inl, inr}
 use Rattle.std.specs.Prelude.{nat_lt, slice_get}
 use Rattle.std.specs.List.{list_any, list_all}
-use Rattle.std.proofs.lemmas.Bool.{cases_Bool, and_parts, and_from, or_cases, or_parts, or_left, or_right, eq-eqb, false≢true}
+use Rattle.std.proofs.lemmas.Bool.{cases_Bool, and_parts, and_from, or_cases, or_left, or_right, eq-eqb, false≢true}
 use Rattle.std.proofs.lemmas.Bool.Decides.{nat_tests}
 use Rattle.std.proofs.lemmas.Option.{slice_get_within}
 use Rattle.smx_types.specs.declared.link.Link.{Link}
@@ -16,7 +16,7 @@ use Rattle.smx_config.specs.ExistingStreams.{holds_of, is_held, is_loose}
 use Rattle.smx_config.specs.TouchedStreams.{is_watched}
 use Rattle.smx_config.proofs.AboveLemmas.{stream_is, stream_self}
 use Rattle.smx_config.proofs.ExistingLemmas.{all_weaker, holds_few}
-use Rattle.smx_config.proofs.ReleaseLemmas.{not_more_held, not_true, other_held, this_one}
+use Rattle.smx_config.proofs.ReleaseLemmas.{not_more_held, not_true, this_one}
 use Rattle.smx_config.proofs.TableLemmas.{take_one_more}
 
 -- ---- streams in a list

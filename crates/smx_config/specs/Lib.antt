@@ -2,7 +2,6 @@ pub mod Machine
 pub mod DriverFaults
 pub mod FaultWords
 pub mod ModelOfLists
-pub mod InsertionIndexes
 pub mod Moves
 pub mod ListedLinks
 pub mod ExistingStreams
@@ -12,10 +11,14 @@ pub mod StreamFaults
 pub mod UnlinkTargets
 pub mod Sending
 pub mod FewMinors
-pub mod ReservedRoom
+pub mod KeptHolds
+pub mod Marking
+pub mod Wakes
 pub mod SweepReserves
 pub mod Closing
+pub mod DroppedMessages
 pub mod Refinement
+pub mod ShownAddresses
 pub mod SecondReplies
 pub mod ModelOfConfig
 pub mod Verdicts

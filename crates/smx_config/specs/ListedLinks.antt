@@ -1,5 +1,5 @@
 -- Links that are removed, by the list of their ids. No public clause needs this.
-use Rattle.std.specs.Prelude.{ℕ, Bool, false, ◌&&◌, not, ◌==◌, nat_lt, List, [], ◌∷◌, find}
+use Rattle.std.specs.Prelude.{ℕ, Bool, false, ◌&&◌, not, ◌==◌, List, find}
 use Rattle.std.specs.List.{list_any}
 use Rattle.std.specs.Option.{option_map_or}
 use Rattle.smx_types.specs.declared.link.Link.{Link}
@@ -7,7 +7,6 @@ use Rattle.smx_types.specs.declared.stream.Descriptor.{Descriptor}
 use Rattle.smx_types.specs.declared.stream.Place.{Place}
 use Rattle.smx_types.specs.declared.stream.Side.TheVariants as side
 use Rattle.smx_model.specs.Configuration.{same_side, same_stream}
-use Rattle.smx_model.specs.Ordered.{with_inserted}
 use Rattle.smx_model.specs.Standing.{is_persistent, stands_within}
 
 -- it is one of these ids
@@ -22,8 +21,3 @@ is_read_below_listed links gone p =
 -- an ordinary link whose controlling stream doesn't stand
 abbrev pub is_orphaned : List Descriptor → List Link → ℕ → Link → Bool
 is_orphaned fds links climbs l = not (is_persistent l) && not (stands_within fds links climbs l.ctl)
-
--- numbers put in order into a list of numbers, the last first
-abbrev pub rising_onto : List ℕ → List ℕ → List ℕ
-rising_onto placed_already [] = placed_already
-rising_onto placed_already (n ∷ ns) = with_inserted nat_lt (rising_onto placed_already ns) n

@@ -3,10 +3,12 @@ use Rattle.smx_config.specs.declared.config.Config.TheInside.{Inside}
 use Rattle.std.specs.Prelude.{◌≡◌, length, map}
 use Rattle.smx_model.specs.DriverList.{IsDriverList}
 use Rattle.smx_model.specs.KeptConfigurations.{IsKept}
+use Rattle.smx_model.specs.SettlingByMarks.{IsAtRest}
 use Rattle.smx_config.specs.ModelOfLists.{configuration_of}
 use Rattle.smx_config.specs.ExistingStreams.{TellsExisting}
 use Rattle.smx_config.specs.Machine.{Machine}
-use Rattle.smx_config.specs.ReservedRoom.{HasRoom}
+use Rattle.smx_config.specs.KeptHolds.{KeepsHolds}
+use Rattle.smx_config.specs.Marking.{AreMarks, marked_configuration}
 
 -- the fields as the value that a contract sees
 abbrev pub machine_of : Inside → Machine
@@ -19,10 +21,16 @@ pub record ConfigInvariant (c : Inside) : Type 0 where
   -- the configuration is what commands leave
   pub kept : IsKept c.drivers.items (configuration_of c.lists)
   -- each stream below a link is held, and there is room for the commands that take no memory
-  pub room : HasRoom c.lists
+  pub room : KeepsHolds c.lists
   -- the table of links is over the drivers
   pub table : c.lists.links.drivers ≡ length c.drivers.items
   -- the table of streams has the minors of the drivers
   pub streams : c.lists.streams.minors ≡ map (λ d. d.minors) c.drivers.items
-  -- it has a stream exactly where the stream exists: where a descriptor names it, or it is below a link
+  -- the table of queues is over the drivers
+  pub queues : c.lists.queues.drivers ≡ c.drivers.items
+  -- the table of streams has a stream exactly where the stream exists: where a descriptor names it, or it is below a link
   pub existing : TellsExisting c.drivers.items (configuration_of c.lists) c.lists.streams
+  -- each place waits, for what is marked as wanted, and a wanted mark stands at full places alone
+  pub marks : AreMarks c.drivers.items (configuration_of c.lists) c.marks
+  -- none has a run mark
+  pub rest : IsAtRest c.drivers.items (marked_configuration (configuration_of c.lists) c.marks)

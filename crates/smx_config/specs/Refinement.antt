@@ -5,6 +5,7 @@ use Rattle.smx_types.specs.declared.driver.DriverSpec.{DriverSpec}
 use Rattle.smx_types.specs.declared.reply.Fault.{Fault}
 use Rattle.smx_types.specs.declared.reply.Reply.{Reply}
 use Rattle.smx_model.specs.Commands.{outcome}
+use Rattle.smx_model.specs.KeptConfigurations.{AreSerialsSound}
 use Rattle.smx_model.specs.KnownStreams.{AreStreamsKnown}
 use Rattle.smx_model.specs.Outcomes.{Outcome}
 use Rattle.smx_model.specs.Swept.{IsSwept}
@@ -13,7 +14,7 @@ use Rattle.smx_config.specs.declared.step_error.StepError.{StepError}
 use Rattle.smx_config.specs.declared.step_error.StepError.TheVariants as step_error
 use Rattle.smx_config.specs.ExistingStreams.{TellsExisting}
 use Rattle.smx_config.specs.FewMinors.{HaveFewMinors}
-use Rattle.smx_config.specs.ReservedRoom.{HasRoom}
+use Rattle.smx_config.specs.KeptHolds.{KeepsHolds}
 use Rattle.smx_config.specs.ModelOfLists.{configuration_of}
 
 -- what holds between any two steps
@@ -22,10 +23,12 @@ pub record StepInvariant (drivers : List DriverSpec) (l : Lists) : Type 0 where
   pub minors : HaveFewMinors drivers
   pub table : l.links.drivers ≡ length drivers
   pub streams : l.streams.minors ≡ map (λ d. d.minors) drivers
-  pub kept : HasRoom l
+  pub queues : l.queues.drivers ≡ drivers
+  pub kept : KeepsHolds l
   pub existing : TellsExisting drivers (configuration_of l) l.streams
   pub known : AreStreamsKnown drivers (configuration_of l)
   pub swept_already : IsSwept drivers (configuration_of l)
+  pub serials : AreSerialsSound (configuration_of l)
 
 -- accepted, with this outcome; or refused, and nothing has changed
 abbrev pub HasOutcome : Lists → Lists → Outcome → Result Reply Fault → Type 0

@@ -1,9 +1,10 @@
 -- Streams that a change touches, so that they may have gone, and what goes with them. No public clause needs this.
-use Rattle.std.specs.Prelude.{◌≡◌, ℕ, ◌+◌, ◌≤◌, Bool, true, ◌||◌, not, List, length}
+use Rattle.std.specs.Prelude.{◌≡◌, ℕ, ◌+◌, ◌≤◌, Bool, true, ◌&&◌, ◌||◌, not, List, filter, length}
 use Rattle.std.specs.List.{list_any, list_all}
 use Rattle.smx_types.specs.declared.link.Link.{Link}
 use Rattle.smx_types.specs.declared.stream.StreamId.{StreamId}
 use Rattle.smx_model.specs.Configuration.{Configuration, same_stream}
+use Rattle.smx_model.specs.Removal.{without_queues_at}
 use Rattle.smx_model.specs.Standing.{is_persistent}
 use Rattle.smx_streams.specs.StreamTables.{StreamTable, exists as is_there}
 use Rattle.smx_config.specs.ExistingStreams.{is_loose, holds_below, IsReleasing}
@@ -12,7 +13,17 @@ use Rattle.smx_config.specs.ExistingStreams.{is_loose, holds_below, IsReleasing}
 abbrev pub is_there_or_touched : StreamTable → List StreamId → StreamId → Bool
 is_there_or_touched t touched s = is_there t s || list_any (same_stream s) touched
 
--- so is each ordinary link's controlling stream, and each stream with a binding, a message or a full mark
+-- one of these, and it isn't there
+abbrev pub is_dead : StreamTable → List StreamId → StreamId → Bool
+is_dead t seen s = not (is_there t s) && list_any (same_stream s) seen
+
+-- without the messages, full marks and bindings of some streams
+abbrev pub without_streams : Configuration → (StreamId → Bool) → Configuration
+without_streams c goes = without_queues_at unbound (λ p. goes p.stream) where
+  unbound : Configuration
+  unbound = record c { binds = filter (λ b. not (goes (record { driver = b.driver; minor = b.minor }))) c.binds }
+
+-- there or one of these: so is each ordinary link's controlling stream, and each stream with a binding, a message or a full mark
 pub record IsTouched (t : StreamTable) (touched : List StreamId) (c : Configuration) : Type 0 where
   pub links : list_all (λ l. is_persistent l || is_there_or_touched t touched l.ctl) c.links ≡ true
   pub binds : list_all (λ b. is_there_or_touched t touched (record { driver = b.driver; minor = b.minor })) c.binds ≡ true

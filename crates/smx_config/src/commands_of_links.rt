@@ -5,7 +5,7 @@ ghost use Rattle.std.specs.List.{list_any};
 ghost use Rattle.smx_types.specs.declared.command.Command.TheVariants as command;
 ghost use Rattle.smx_types.specs.declared.command.Which.TheVariants as which;
 ghost use Rattle.smx_model.specs.Commands.{link_outcome};
-ghost use Rattle.smx_config.specs.ReservedRoom.{HasRoom};
+ghost use Rattle.smx_config.specs.KeptHolds.{KeepsHolds};
 ghost use Rattle.smx_config.specs.ModelOfLists.{configuration_of, sizes_of};
 ghost use Rattle.smx_config.specs.UnlinkTargets.{may_have_links, may_unlink, is_target, are_there, unlinks};
 ghost use Rattle.smx_config.specs.Refinement.{StepInvariant, RefinesOrNoMemory, HasOutcomeOrNoMemory};
@@ -41,7 +41,7 @@ fn link_as(
 ) -> Result<Reply, StepError>
     requires { StepInvariant drivers.now lists.old }
     ensures refines { HasOutcomeOrNoMemory lists.old lists.new (link_outcome drivers.now (configuration_of lists.old) process fd arg kind) result }
-    ensures kept { HasRoom lists.new }
+    ensures kept { KeepsHolds lists.new }
     ensures drivers { sizes_of lists.new ≡ sizes_of lists.old }
 {
     let upper = stream_of(lists, process, fd)?;
@@ -61,7 +61,7 @@ pub fn link(
 ) -> Result<Reply, StepError>
     requires { StepInvariant drivers.now lists.old }
     ensures refines { RefinesOrNoMemory drivers.now lists.old lists.new process (command.Link fd arg) result }
-    ensures kept { HasRoom lists.new }
+    ensures kept { KeepsHolds lists.new }
     ensures drivers { sizes_of lists.new ≡ sizes_of lists.old }
 {
     link_as(drivers, lists, process, fd, arg, LinkKind::Ordinary)
@@ -76,7 +76,7 @@ pub fn plink(
 ) -> Result<Reply, StepError>
     requires { StepInvariant drivers.now lists.old }
     ensures refines { RefinesOrNoMemory drivers.now lists.old lists.new process (command.Plink fd arg) result }
-    ensures kept { HasRoom lists.new }
+    ensures kept { KeepsHolds lists.new }
     ensures drivers { sizes_of lists.new ≡ sizes_of lists.old }
 {
     link_as(drivers, lists, process, fd, arg, LinkKind::Persistent)
@@ -160,7 +160,7 @@ fn unlink_as(
 ) -> Result<Reply, StepError>
     requires { StepInvariant drivers.now lists.old }
     ensures refines { HasOutcomeOrNoMemory lists.old lists.new (unlinks drivers.now (configuration_of lists.old) process fd which kind) result }
-    ensures kept { HasRoom lists.new }
+    ensures kept { KeepsHolds lists.new }
     ensures drivers { sizes_of lists.new ≡ sizes_of lists.old }
 {
     let stream = mux_stream(drivers, lists, process, fd)?;
@@ -168,7 +168,7 @@ fn unlink_as(
     lists.links.is_sound();
     let gone = targets(alloc, &lists.links, which, kind, stream)?;
     let mut room = reserve_for_sweep(alloc, lists, gone.len())?;
-    remove_links(lists, &gone, &mut room.touched);
+    remove_links(lists, &gone, &mut room.touched, &mut room.dropped);
     Ok(sweep_and_reply(drivers, lists, room))
 }
 
@@ -182,7 +182,7 @@ pub fn unlink(
 ) -> Result<Reply, StepError>
     requires { StepInvariant drivers.now lists.old }
     ensures refines { RefinesOrNoMemory drivers.now lists.old lists.new process (command.Unlink fd which) result }
-    ensures kept { HasRoom lists.new }
+    ensures kept { KeepsHolds lists.new }
     ensures drivers { sizes_of lists.new ≡ sizes_of lists.old }
 {
     let kind = LinkKind::Ordinary;
@@ -199,7 +199,7 @@ pub fn punlink(
 ) -> Result<Reply, StepError>
     requires { StepInvariant drivers.now lists.old }
     ensures refines { RefinesOrNoMemory drivers.now lists.old lists.new process (command.Punlink fd which) result }
-    ensures kept { HasRoom lists.new }
+    ensures kept { KeepsHolds lists.new }
     ensures drivers { sizes_of lists.new ≡ sizes_of lists.old }
 {
     let kind = LinkKind::Persistent;

@@ -1,30 +1,27 @@
 //! Writing, reading, flushing, and the device's side.
 
-ghost use Rattle.std.specs.Prelude.{◌≡◌, ◌<◌, ◌==◌, ◌&&◌, ◌||◌, not, nat_lt, nat_le, filter, length, vec_capacity};
+ghost use Rattle.std.specs.Prelude.{◌≡◌, ◌==◌, ◌||◌, nat_lt, nat_le, length};
 ghost use Rattle.smx_types.specs.declared.command.Command.TheVariants.{Write, Read, Flush, Inject, Transmit};
 ghost use Rattle.smx_types.specs.declared.limits.TheConstants.{NUMBER_END};
-ghost use Rattle.smx_model.specs.Commands.{send_outcome, receive_outcome, is_side};
-ghost use Rattle.smx_model.specs.Configuration.{same_stream};
+ghost use Rattle.smx_model.specs.Commands.{send_outcome, receive_outcome};
 ghost use Rattle.smx_model.specs.DriverList.{max_of};
+ghost use Rattle.smx_model.specs.KnownStreams.{IsKnown};
 ghost use Rattle.smx_model.specs.Queues.{is_full};
-ghost use Rattle.smx_model.specs.Removal.{without_queues_at};
-ghost use Rattle.smx_config.specs.ReservedRoom.{HasRoom};
+ghost use Rattle.smx_config.specs.KeptHolds.{KeepsHolds};
 ghost use Rattle.smx_config.specs.ModelOfLists.{configuration_of, sizes_of};
 ghost use Rattle.smx_config.specs.Refinement.{StepInvariant, HasOutcome, HasOutcomeOrNoMemory, Refines, RefinesOrNoMemory};
 ghost use Rattle.smx_config.specs.Sending.{may_send};
 
 use crate::driver_specs::max_of;
+use crate::dropped_messages::drop_sides;
 use crate::lists::Lists;
 use crate::lookups::{free_stream, leaf_stream};
-use crate::queued_message::QueuedMessage;
-use crate::queues::{arrive, first_addr, is_full, leave};
+use crate::queues::{arrive, leave};
 use crate::refuse::refuse;
 use crate::step_error::StepError;
-use crate::streams::{same_side, same_stream};
 use crate::sweep::{reserve_for_sweep, sweep_and_reply};
 use smx_types::{
     Bytes, DriverSpec, Fault, Message, NUMBER_END, Name, Place, Process, Reply, Side, Sides,
-    StreamId,
 };
 use std::alloc::Global;
 
@@ -40,7 +37,7 @@ fn has_bad_size(drivers: &[DriverSpec], place: Place, bytes: &Bytes) -> bool
 fn has_no_room(lists: &Lists, place: Place) -> bool
     ensures { result ≡ (is_full (configuration_of lists.now) place || nat_le NUMBER_END lists.now.next_serial) }
 {
-    is_full(&lists.fulls, place) || lists.next_serial >= NUMBER_END
+    lists.queues.is_full(place) || lists.next_serial >= NUMBER_END
 }
 
 // Whether bytes may be sent to the place; the first refusal that applies.
@@ -64,22 +61,22 @@ fn send(
     addr: u32,
     bytes: &Bytes,
 ) -> Result<Reply, StepError>
-    requires { StepInvariant drivers.now lists.old }
+    requires whole { StepInvariant drivers.now lists.old }
+    requires known { IsKnown drivers.now place.stream }
     ensures refines { HasOutcomeOrNoMemory lists.old lists.new (send_outcome drivers.now (configuration_of lists.old) place addr bytes.now) result }
-    ensures kept { HasRoom lists.new }
+    ensures kept { KeepsHolds lists.new }
     ensures drivers { sizes_of lists.new ≡ sizes_of lists.old }
 {
     check_send(drivers, lists, place, bytes)?;
     let bytes = bytes.copy(alloc)?;
-    lists.flow.reserve(1)?;
-    lists.fulls.reserve(lists.flow.len() + 1)?;
+    lists.queues.reserve_one()?;
     let serial = lists.next_serial;
     let message = Message {
         serial,
         addr,
         bytes,
     };
-    arrive(drivers, lists, place, message);
+    arrive(lists, place, message);
     lists.next_serial = serial + 1;
     Ok(Reply::Took { serial })
 }
@@ -87,11 +84,11 @@ fn send(
 fn receive(drivers: &[DriverSpec], lists: &mut Lists, place: Place) -> Result<Reply, Fault>
     requires { StepInvariant drivers.now lists.old }
     ensures refines { HasOutcome lists.old lists.new (receive_outcome drivers.now (configuration_of lists.old) place) result }
-    ensures kept { HasRoom lists.new }
+    ensures kept { KeepsHolds lists.new }
     ensures drivers { sizes_of lists.new ≡ sizes_of lists.old }
 {
-    refuse(Fault::Empty, first_addr(&lists.flow, place).is_none())?;
-    match leave(drivers, lists, place) {
+    let _drivers = drivers;
+    match leave(lists, place) {
         Some(message) => Ok(Reply::Got {
             serial: message.serial,
             addr: message.addr,
@@ -112,7 +109,7 @@ pub fn write(
 ) -> Result<Reply, StepError>
     requires { StepInvariant drivers.now lists.old }
     ensures refines { RefinesOrNoMemory drivers.now lists.old lists.new process (Write fd addr bytes.now) result }
-    ensures kept { HasRoom lists.new }
+    ensures kept { KeepsHolds lists.new }
     ensures drivers { sizes_of lists.new ≡ sizes_of lists.old }
 {
     let stream = free_stream(lists, process, fd)?;
@@ -131,7 +128,7 @@ pub fn read(
 ) -> Result<Reply, Fault>
     requires { StepInvariant drivers.now lists.old }
     ensures refines { Refines drivers.now lists.old lists.new process (Read fd) result }
-    ensures kept { HasRoom lists.new }
+    ensures kept { KeepsHolds lists.new }
     ensures drivers { sizes_of lists.new ≡ sizes_of lists.old }
 {
     let stream = free_stream(lists, process, fd)?;
@@ -140,46 +137,6 @@ pub fn read(
         side: Side::Read,
     };
     receive(drivers, lists, place)
-}
-
-fn is_side(sides: Sides, side: Side) -> bool
-    ensures { result ≡ is_side sides side }
-{
-    match sides {
-        Sides::R => same_side(side, Side::Read),
-        Sides::W => same_side(side, Side::Write),
-        Sides::RW => true,
-    }
-}
-
-fn is_flushed(stream: StreamId, sides: Sides, place: Place) -> bool
-    ensures { result ≡ (same_stream place.stream stream && is_side sides place.side) }
-{
-    same_stream(place.stream, stream) && is_side(sides, place.side)
-}
-
-fn flush_flow(flow: &mut Vec<QueuedMessage>, stream: StreamId, sides: Sides)
-    ensures { flow.new.items ≡ filter (λ h. not (same_stream h.place.stream stream && is_side sides h.place.side)) flow.old.items }
-{
-    flow.retain(|h| !is_flushed(stream, sides, h.place()));
-}
-
-fn flush_fulls(fulls: &mut Vec<Place>, stream: StreamId, sides: Sides)
-    ensures marks { fulls.new.items ≡ filter (λ p. not (same_stream p.stream stream && is_side sides p.side)) fulls.old.items }
-    ensures capacity { vec_capacity fulls.new ≡ vec_capacity fulls.old }
-{
-    fulls.retain(|p| !is_flushed(stream, sides, *p));
-}
-
-fn empty(lists: &mut Lists, stream: StreamId, sides: Sides)
-    requires { HasRoom lists.old }
-    ensures value { configuration_of lists.new ≡ without_queues_at (configuration_of lists.old) (λ p. same_stream p.stream stream && is_side sides p.side) }
-    ensures streams { lists.new.streams ≡ lists.old.streams }
-    ensures kept { HasRoom lists.new }
-    ensures drivers { sizes_of lists.new ≡ sizes_of lists.old }
-{
-    flush_flow(&mut lists.flow, stream, sides);
-    flush_fulls(&mut lists.fulls, stream, sides);
 }
 
 pub fn flush(
@@ -192,12 +149,12 @@ pub fn flush(
 ) -> Result<Reply, StepError>
     requires { StepInvariant drivers.now lists.old }
     ensures refines { RefinesOrNoMemory drivers.now lists.old lists.new process (Flush fd sides) result }
-    ensures kept { HasRoom lists.new }
+    ensures kept { KeepsHolds lists.new }
     ensures drivers { sizes_of lists.new ≡ sizes_of lists.old }
 {
     let stream = free_stream(lists, process, fd)?;
-    let room = reserve_for_sweep(alloc, lists, 0)?;
-    empty(lists, stream, sides);
+    let mut room = reserve_for_sweep(alloc, lists, 0)?;
+    drop_sides(&mut lists.queues, stream, sides, &mut room.dropped);
     Ok(sweep_and_reply(drivers, lists, room))
 }
 
@@ -213,7 +170,7 @@ pub fn inject(
 ) -> Result<Reply, StepError>
     requires { StepInvariant drivers.now lists.old }
     ensures refines { RefinesOrNoMemory drivers.now lists.old lists.new process (Inject name.now minor addr bytes.now) result }
-    ensures kept { HasRoom lists.new }
+    ensures kept { KeepsHolds lists.new }
     ensures drivers { sizes_of lists.new ≡ sizes_of lists.old }
 {
     let stream = leaf_stream(drivers, lists, name, minor)?;
@@ -233,7 +190,7 @@ pub fn transmit(
 ) -> Result<Reply, Fault>
     requires { StepInvariant drivers.now lists.old }
     ensures refines { Refines drivers.now lists.old lists.new process (Transmit name.now minor) result }
-    ensures kept { HasRoom lists.new }
+    ensures kept { KeepsHolds lists.new }
     ensures drivers { sizes_of lists.new ≡ sizes_of lists.old }
 {
     let stream = leaf_stream(drivers, lists, name, minor)?;

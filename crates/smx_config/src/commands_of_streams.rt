@@ -12,7 +12,7 @@ ghost use Rattle.smx_config.specs.Closing.{closing};
 ghost use Rattle.smx_config.specs.declared.step_error.StepError.TheVariants as step_error;
 ghost use Rattle.smx_config.specs.ModelOfLists.{configuration_of, sizes_of};
 ghost use Rattle.smx_config.specs.Refinement.{StepInvariant, RefinesOrNoMemory, HasOutcomeOrNoMemory};
-ghost use Rattle.smx_config.specs.ReservedRoom.{HasRoom};
+ghost use Rattle.smx_config.specs.KeptHolds.{KeepsHolds};
 
 use crate::driver_specs::{driver_of, minors_of};
 use crate::lists::Lists;
@@ -44,7 +44,7 @@ pub fn open_clone(
 ) -> Result<Reply, StepError>
     requires { StepInvariant drivers.now lists.old }
     ensures refines { RefinesOrNoMemory drivers.now lists.old lists.new process (OpenClone name.now) result }
-    ensures kept { HasRoom lists.new }
+    ensures kept { KeepsHolds lists.new }
     ensures drivers { sizes_of lists.new ≡ sizes_of lists.old }
 {
     let driver = driver_of(drivers, name)?;
@@ -61,7 +61,7 @@ pub fn open_minor(
 ) -> Result<Reply, StepError>
     requires { StepInvariant drivers.now lists.old }
     ensures refines { RefinesOrNoMemory drivers.now lists.old lists.new process (OpenMinor name.now minor) result }
-    ensures kept { HasRoom lists.new }
+    ensures kept { KeepsHolds lists.new }
     ensures drivers { sizes_of lists.new ≡ sizes_of lists.old }
 {
     let driver = driver_of(drivers, name)?;
@@ -84,7 +84,7 @@ pub fn dup(
     requires { StepInvariant drivers.now lists.old }
     ensures refines { RefinesOrNoMemory drivers.now lists.old lists.new process (Dup fd) result }
     ensures in_place { result ≢ Err step_error.NoMemory }
-    ensures kept { HasRoom lists.new }
+    ensures kept { KeepsHolds lists.new }
     ensures drivers { sizes_of lists.new ≡ sizes_of lists.old }
 {
     let opened = lists.streams.dup(process, fd)?;
@@ -102,7 +102,7 @@ fn close_shared(
     requires invariant { StepInvariant drivers.now lists.old }
     requires stays { is_last lists.old.streams process fd ≡ false }
     ensures outcome { closing drivers.now (configuration_of lists.old) process fd ≡ Ok (configuration_of lists.new, result) }
-    ensures kept { HasRoom lists.new }
+    ensures kept { KeepsHolds lists.new }
     ensures drivers { sizes_of lists.new ≡ sizes_of lists.old }
 {
     idle_changes_drop_none();
@@ -125,7 +125,7 @@ fn close_last(
     requires invariant { StepInvariant drivers.now lists.old }
     requires there { stream_at lists.old.streams.fds process fd ≡ Some stream }
     ensures outcome { HasOutcomeOrNoMemory lists.old lists.new (closing drivers.now (configuration_of lists.old) process fd) result }
-    ensures kept { HasRoom lists.new }
+    ensures kept { KeepsHolds lists.new }
     ensures drivers { sizes_of lists.new ≡ sizes_of lists.old }
 {
     let mut room = reserve_for_sweep(alloc, lists, 1)?;
@@ -143,7 +143,7 @@ pub fn close(
 ) -> Result<Reply, StepError>
     requires { StepInvariant drivers.now lists.old }
     ensures refines { RefinesOrNoMemory drivers.now lists.old lists.new process (Close fd) result }
-    ensures kept { HasRoom lists.new }
+    ensures kept { KeepsHolds lists.new }
     ensures drivers { sizes_of lists.new ≡ sizes_of lists.old }
 {
     let stream = stream_of(lists, process, fd)?;
@@ -176,7 +176,7 @@ pub fn close_all(
 ) -> Result<Reply, StepError>
     requires { StepInvariant drivers.now lists.old }
     ensures refines { RefinesOrNoMemory drivers.now lists.old lists.new process CloseAll result }
-    ensures kept { HasRoom lists.new }
+    ensures kept { KeepsHolds lists.new }
     ensures drivers { sizes_of lists.new ≡ sizes_of lists.old }
 {
     let mut room = reserve_for_sweep(alloc, lists, MAX_DESCRIPTORS as usize)?;

@@ -15,16 +15,22 @@ ghost use Rattle.smx_config.specs.Machine.{takes_no_memory};
 use crate::copies::{copy_lists, empty_lists};
 use crate::driver_list::check_drivers;
 use crate::fault::ConfigFault;
+use crate::laws_of_waking::woken_marks_are_enough;
 use crate::lists::Lists;
+use crate::marks::{Marks, copy_marks, no_marks};
 use crate::perform::perform;
 use crate::second_reply::room_for_reply;
 use crate::settling::finish_step;
 use crate::show::{
     binding_lines, descriptor_lines, full_lines, link_lines, message_lines, route_lines,
 };
-use crate::shown_lines::{are_fds_shown, are_links_shown, are_shown};
+use crate::shown_addresses::{are_bindings_shown, are_routes_shown};
+use crate::shown_lines::{are_fds_shown, are_fulls_shown, are_links_shown, are_messages_shown};
 use crate::standing::tells_existing;
 use crate::step_error::StepError;
+use crate::wakes::wakes_of;
+use crate::waking::wake;
+use smx_model::laws_of_marked_commands::empty_needs_no_mark;
 use smx_model::laws_of_steps::{
     commands_keep, empty_is_kept, outcomes_are_sound, refusals_change_nothing,
 };
@@ -41,6 +47,7 @@ pub struct Config {
     alloc: Global,
     drivers: Vec<DriverSpec>,
     lists: Lists,
+    marks: Marks,
 }
 
 impl Model for Config {
@@ -73,8 +80,12 @@ impl Config {
         ensures refused { IfErr result (RefusesDrivers drivers.now) }
     {
         empty_is_kept();
+        empty_needs_no_mark();
         check_drivers(drivers)?;
         let Ok(lists) = empty_lists(alloc, drivers) else {
+            return Err(ConfigFault::NoMemory);
+        };
+        let Ok(marks) = no_marks(alloc, drivers) else {
             return Err(ConfigFault::NoMemory);
         };
         tells_existing(drivers, &lists);
@@ -85,13 +96,14 @@ impl Config {
             alloc,
             drivers,
             lists,
+            marks,
         })
     }
 
     /// Does a command of a process: its reply and the new configuration are those of the command table. A fault for a
     /// reply changes nothing, and neither does want of memory. `dup`, `unbind`, `unroute`, `read`, `transmit` and every
     /// refusal take no memory, so they are always answered.
-    #[tactic(auto, using(crate::proofs::KeptLemmas::table_stays, crate::proofs::KeptLemmas::minors_stay, crate::proofs::KeptLemmas::tells_again))]
+    #[tactic(auto, using(crate::proofs::KeptLemmas::table_stays, crate::proofs::KeptLemmas::minors_stay, crate::proofs::KeptLemmas::queues_stay, crate::proofs::KeptLemmas::tells_again))]
     pub fn step(&mut self, process: Process, command: &Command) -> Result<Reply, NoMemory>
         // What it does.
         ensures drivers { self.new.drivers ≡ self.old.drivers }
@@ -106,9 +118,12 @@ impl Config {
         commands_keep();
         outcomes_are_sound();
         refusals_change_nothing();
+        woken_marks_are_enough();
+        let wakes = wakes_of(&self.drivers, &self.lists, process, command);
         match perform(self.alloc, &self.drivers, &mut self.lists, process, command) {
             Ok(reply) => {
-                finish_step(&self.drivers, &mut self.lists, command);
+                wake(&self.drivers, &self.lists, &mut self.marks, wakes);
+                finish_step(&self.drivers, &mut self.lists, &mut self.marks);
                 Ok(reply)
             }
             Err(StepError::Refused(fault)) => Ok(Reply::Fault(fault)),
@@ -158,8 +173,8 @@ impl Config {
         let links = link_lines(alloc, drivers, &self.lists.links)?;
         let binds = binding_lines(alloc, drivers, &self.lists.binds)?;
         let routes = route_lines(alloc, drivers, &self.lists.routes)?;
-        let msgs = message_lines(alloc, drivers, &self.lists.flow)?;
-        let fulls = full_lines(alloc, drivers, &self.lists.fulls)?;
+        let msgs = message_lines(alloc, drivers, &self.lists.queues)?;
+        let fulls = full_lines(alloc, drivers, &self.lists.queues)?;
         Ok(ConfigView {
             next_id: self.lists.links.next_id(),
             next_serial: self.lists.next_serial,
@@ -181,10 +196,10 @@ impl Config {
             && shown.next_serial == self.lists.next_serial
             && are_fds_shown(drivers, &self.lists.streams, shown.fds.as_slice())
             && are_links_shown(drivers, &self.lists.links, shown.links.as_slice())
-            && are_shown(drivers, &self.lists.binds, shown.binds.as_slice())
-            && are_shown(drivers, &self.lists.routes, shown.routes.as_slice())
-            && are_shown(drivers, &self.lists.flow, shown.msgs.as_slice())
-            && are_shown(drivers, &self.lists.fulls, shown.fulls.as_slice())
+            && are_bindings_shown(drivers, &self.lists.binds, shown.binds.as_slice())
+            && are_routes_shown(drivers, &self.lists.routes, shown.routes.as_slice())
+            && are_messages_shown(drivers, &self.lists.queues, shown.msgs.as_slice())
+            && are_fulls_shown(drivers, &self.lists.queues, shown.fulls.as_slice())
     }
 
     /// How many links stand. Takes no memory.
@@ -220,10 +235,12 @@ impl Config {
         let alloc = self.alloc;
         let drivers = Vec::from_slice(alloc, &self.drivers)?;
         let lists = copy_lists(alloc, &self.lists)?;
+        let marks = copy_marks(alloc, &self.marks)?;
         Ok(Config {
             alloc,
             drivers,
             lists,
+            marks,
         })
     }
 }

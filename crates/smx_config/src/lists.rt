@@ -1,19 +1,32 @@
-//! The lists of a configuration.
+//! The parts of a configuration.
 
-use crate::queued_message::QueuedMessage;
+use smx_addresses::{Bindings, Routes};
 use smx_links::LinkTable;
+use smx_queues::FlowTable;
 use smx_streams::Streams;
-use smx_types::{Binding, Place, Route};
 
-/// All of a configuration: the table of streams with their descriptors, the table of links, and lists, each in the order
-/// in which it is shown.
-#[derive(Debug, Drop)]
+/// All of a configuration: the tables of streams with their descriptors, of links, bindings, routes and queues.
+/// A contract sees each as the lists of the model, in the order in which they are shown.
+#[derive(Debug)]
 pub struct Lists {
     pub streams: Streams,
     pub links: LinkTable,
-    pub binds: Vec<Binding>,
-    pub routes: Vec<Route>,
-    pub flow: Vec<QueuedMessage>,
-    pub fulls: Vec<Place>,
+    pub binds: Bindings,
+    pub routes: Routes,
+    pub queues: FlowTable,
     pub next_serial: u32,
+}
+
+impl Drop for Lists {
+    // One call in each body that has them, however many ways it ends, in place of a drop for each field of each table.
+    fn drop(self) {
+        let Lists {
+            streams: _streams,
+            links: _links,
+            binds: _binds,
+            routes: _routes,
+            queues: _queues,
+            next_serial: _next_serial,
+        } = self;
+    }
 }

@@ -1,12 +1,13 @@
 //! Links whose controlling stream is gone: their lower streams are released, until no more go.
 
-ghost use Rattle.std.specs.Prelude.{◌≡◌, ℕ, ◌+◌, ◌<◌, ◌≤◌, ◌++◌, ◌∷◌, [], ◌&&◌, not, false, map, filter, length, vec_capacity};
+ghost use Rattle.std.specs.Prelude.{◌≡◌, ℕ, ◌+◌, ◌<◌, ◌≤◌, ◌++◌, ◌∷◌, [], ◌&&◌, not, false, true, map, filter, length, vec_capacity};
 ghost use Rattle.std.specs.List.{list_any};
+ghost use Rattle.smx_types.specs.declared.stream.StreamId.{StreamId};
 ghost use Rattle.smx_model.specs.Configuration.{same_stream};
 ghost use Rattle.smx_streams.specs.StreamTables.{exists as is_there};
 ghost use Rattle.smx_links.specs.LinkLists.{is_upper};
 ghost use Rattle.smx_config.specs.ExistingStreams.{is_held, is_loose, holds_below, IsReleasing};
-ghost use Rattle.smx_config.specs.TouchedStreams.{IsCascade};
+ghost use Rattle.smx_config.specs.TouchedStreams.{is_there_or_touched, IsCascade};
 
 use crate::standing::is_persistent;
 use crate::streams::same_stream;
@@ -54,6 +55,8 @@ fn release_below(
     ensures cascade { IsCascade links.now.links streams.new touched.new.items (vec_capacity touched.new) }
     ensures less { length touched.new.items + holds_below links.now.links streams.new
         ≤ length touched.old.items + holds_below links.now.links streams.old }
+    ensures touched { (s : StreamId) → is_there_or_touched streams.old touched.old.items s ≡ true
+        → is_there_or_touched streams.new touched.new.items s ≡ true }
     ensures none { result ≡ false → streams.new ≡ streams.old }
 {
     links.is_sound();
@@ -73,18 +76,29 @@ fn release_below(
     released
 }
 
-// The same for each stream that may have gone, until no link is loose. Whether any stream was released.
-pub fn release_orphans(streams: &mut Streams, links: &LinkTable, touched: Vec<StreamId>) -> bool
-    requires { IsCascade links.now.links streams.old touched.items (vec_capacity touched) }
+// The same for each stream that may have gone, until no link is loose. Those are put to a list that has room for them.
+// Whether any stream was released.
+pub fn release_orphans(
+    streams: &mut Streams,
+    links: &LinkTable,
+    touched: Vec<StreamId>,
+    seen: &mut Vec<StreamId>,
+) -> bool
+    requires cascade { IsCascade links.now.links streams.old touched.items (vec_capacity touched) }
+    requires room { length seen.old.items + (length touched.items + holds_below links.now.links streams.old)
+        ≤ vec_capacity seen.old }
     ensures fds { streams.new.fds ≡ streams.old.fds }
     ensures minors { streams.new.minors ≡ streams.old.minors }
     ensures releasing { (climbs : ℕ) → IsReleasing links.now.links climbs streams.new }
     ensures none { list_any (is_loose streams.new) links.now.links ≡ false }
+    ensures seen { (s : StreamId) → is_there_or_touched streams.old touched.items s ≡ true
+        → is_there_or_touched streams.new seen.new.items s ≡ true }
     ensures unchanged { result ≡ false → streams.new ≡ streams.old }
 {
     let mut left = touched;
     let mut released = false;
     while let Some(stream) = left.pop() {
+        seen.push_reserved(stream);
         if release_below(streams, links, stream, &mut left) {
             released = true;
         }

@@ -5,7 +5,7 @@ ghost use Rattle.smx_config.specs.declared.step_error.StepError.TheVariants as s
 ghost use Rattle.smx_config.specs.Machine.{takes_no_memory};
 ghost use Rattle.smx_config.specs.Refinement.{StepInvariant, RefinesOrNoMemory, as_step_error};
 ghost use Rattle.smx_config.specs.ModelOfLists.{sizes_of};
-ghost use Rattle.smx_config.specs.ReservedRoom.{HasRoom};
+ghost use Rattle.smx_config.specs.KeptHolds.{KeepsHolds};
 
 use crate::commands_of_addresses::{bind, route, unbind, unroute};
 use crate::commands_of_links::{link, plink, punlink, unlink};
@@ -36,7 +36,7 @@ pub fn perform(
     requires { StepInvariant drivers.now lists.old }
     ensures refines { RefinesOrNoMemory drivers.now lists.old lists.new process command.now result }
     ensures in_place { IsTrue (takes_no_memory command.now) → result ≢ Err step_error.NoMemory }
-    ensures room { HasRoom lists.new }
+    ensures room { KeepsHolds lists.new }
     ensures drivers { sizes_of lists.new ≡ sizes_of lists.old }
 {
     match command {

@@ -15,7 +15,6 @@ ghost use Rattle.smx_config.specs.UnlinkTargets.{unlinks};
 use crate::commands_of_links::check_targets;
 use crate::lists::Lists;
 use crate::lookups::{free_stream, leaf_stream, mux_stream, stream_of};
-use crate::queues::first_len;
 use crate::step_error::StepError;
 use smx_model::laws_of_steps::other_commands_drop_none;
 use smx_types::{
@@ -64,18 +63,18 @@ fn room_for_first(
         (receive_outcome drivers (configuration_of lists.now) (record { stream = stream; side = side }))).1 ≡ []
         → result ≢ Err step_error.NoMemory }
 {
-    let Some(len) = first_len(&lists.flow, Place { stream, side }) else {
+    let Some(message) = lists.queues.front(Place { stream, side }) else {
         return Err(StepError::Refused(Fault::Empty));
     };
-    Ok(room_for(alloc, len, 0)?)
+    Ok(room_for(alloc, message.bytes.as_slice().len(), 0)?)
 }
 
 // Room for the serials of all messages.
 fn room_for_all(alloc: Global, lists: &Lists) -> Result<ReplyRoom, StepError>
-    ensures ok { IfOk result (HasRoomFor 0 (length lists.now.flow.items)) }
+    ensures ok { IfOk result (HasRoomFor 0 (length lists.now.queues.flow)) }
     ensures err { IfErr result (λ e. e ≡ step_error.NoMemory) }
 {
-    Ok(room_for(alloc, 0, lists.flow.len())?)
+    Ok(room_for(alloc, 0, lists.queues.len())?)
 }
 
 // Whether links may be removed; the first refusal that applies.

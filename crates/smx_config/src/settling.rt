@@ -1,25 +1,36 @@
 //! Messages that move on.
 
-ghost use Rattle.std.specs.Prelude.{IsTrue, ◌≡◌, ◌≤◌, ◌==◌, ◌&&◌, false, find, length, IfSome, Some};
-ghost use Rattle.smx_model.specs.FlowOrder.{IsInOrder};
+ghost use Rattle.std.specs.Prelude.{◌≡◌, ◌⊎◌, ◌<◌, true, length, IfNone, None, Some};
+ghost use Rattle.smx_types.specs.declared.stream.Place.{Place as PlaceValue};
 ghost use Rattle.smx_model.specs.KeptConfigurations.{IsSound};
-ghost use Rattle.smx_model.specs.Queues.{first_message};
-ghost use Rattle.smx_model.specs.Settling.{place_below, place_above, next_place, next_open_place, is_movable, IsSettled};
+ghost use Rattle.smx_model.specs.KnownStreams.{IsKnown};
+ghost use Rattle.smx_model.specs.RunMarks.{next_of_first};
+ghost use Rattle.smx_model.specs.Settling.{place_below, place_above, next_place, next_open_place};
 ghost use Rattle.smx_model.specs.Settling.{after_move, after_settling};
+ghost use Rattle.smx_model.specs.SettlingByMarks.{HasNoRunMark, IsLeastMarked};
+ghost use Rattle.smx_queues.specs.PlaceMarks.{has_mark};
 ghost use Rattle.smx_config.specs.ExistingStreams.{TellsExisting};
 ghost use Rattle.smx_config.specs.ModelOfLists.{configuration_of, sizes_of};
-ghost use Rattle.smx_config.specs.Moves.{open_place, is_same, is_open, IsLeastMove};
-ghost use Rattle.smx_config.specs.ReservedRoom.{HasRoom};
+ghost use Rattle.smx_config.specs.Moves.{if_open, IsLeastMove};
+ghost use Rattle.smx_config.specs.KeptHolds.{KeepsHolds};
+ghost use Rattle.smx_config.specs.Marking.{AreMarks};
 
 use crate::driver_specs::is_mux;
+use crate::feeders::mark_both;
+use crate::laws_of_waking::moved_marks_are_enough;
 use crate::lists::Lists;
-use crate::queued_message::QueuedMessage;
-use crate::queues::{arrive, is_full, leave};
+use crate::marks::Marks;
 use crate::standing::tells_existing;
-use crate::streams::same_place;
+use crate::waking::release_if_open;
+use smx_addresses::{Bindings, Routes};
 use smx_links::LinkTable;
+use smx_model::laws_of_run_marks::{
+    places_are_known, the_least_marked_is_the_least, without_marks_it_is_settled,
+};
+use smx_model::laws_of_settling_by_marks::clearing_keeps_marks;
 use smx_model::laws_of_steps::{moves_keep_soundness, settling_suffices};
-use smx_types::{Binding, Command, DriverSpec, Place, Route, Side, StreamId};
+use smx_queues::PlaceMarks;
+use smx_types::{DriverSpec, Place, Side, StreamId};
 
 // A message goes from one place to another.
 #[derive(Clone, Copy, Debug)]
@@ -28,29 +39,11 @@ pub struct Move {
     pub to: Place,
 }
 
-fn route_of(routes: &[Route], driver: u8, addr: u32) -> Option<Route>
-    ensures { result ≡ find (λ r. (r.driver == driver) && (r.addr == addr)) routes.now }
-{
-    routes
-        .iter()
-        .copied()
-        .find(|r| r.driver == driver && r.addr == addr)
-}
-
-fn binding_of(binds: &[Binding], driver: u8, addr: u32) -> Option<Binding>
-    ensures { result ≡ find (λ b. (b.driver == driver) && (b.addr == addr)) binds.now }
-{
-    binds
-        .iter()
-        .copied()
-        .find(|b| b.driver == driver && b.addr == addr)
-}
-
 // The write side of the stream below the link of the driver's route.
-fn down(links: &LinkTable, routes: &[Route], driver: u8, addr: u32) -> Option<Place>
+fn down(links: &LinkTable, routes: &Routes, driver: u8, addr: u32) -> Option<Place>
     ensures { result ≡ place_below links.now.links routes.now driver addr }
 {
-    let route = route_of(routes, driver, addr)?;
+    let route = routes.at(driver, addr)?;
     let link = links.get(route.id)?;
     Some(Place {
         stream: link.lower,
@@ -59,11 +52,11 @@ fn down(links: &LinkTable, routes: &[Route], driver: u8, addr: u32) -> Option<Pl
 }
 
 // The read side of the stream that is bound to the address on the upper driver.
-fn up(links: &LinkTable, binds: &[Binding], stream: StreamId, addr: u32) -> Option<Place>
+fn up(links: &LinkTable, binds: &Bindings, stream: StreamId, addr: u32) -> Option<Place>
     ensures { result ≡ place_above links.now.links binds.now stream addr }
 {
     let link = links.above(stream)?;
-    let binding = binding_of(binds, link.ctl.driver, addr)?;
+    let binding = binds.at(link.ctl.driver, addr)?;
     Some(Place {
         stream: StreamId {
             driver: binding.driver,
@@ -90,147 +83,154 @@ fn next_place(drivers: &[DriverSpec], lists: &Lists, place: Place, addr: u32) ->
     }
 }
 
-// The same, unless that is full.
-fn open_place(drivers: &[DriverSpec], lists: &Lists, place: Place, addr: u32) -> Option<Place>
-    ensures { result ≡ open_place drivers.now (configuration_of lists.now) place addr }
+// Where the first message of the place goes next, if there is one, whether that is full or not.
+fn next_of_first(drivers: &[DriverSpec], lists: &Lists, place: Place) -> Option<Place>
+    ensures { result ≡ next_of_first drivers.now (configuration_of lists.now) place }
 {
-    let next = next_place(drivers, lists, place, addr)?;
-    if is_full(&lists.fulls, next) {
+    let message = lists.queues.front(place)?;
+    next_place(drivers, lists, place, message.addr)
+}
+
+// The place, unless it is full.
+fn if_open(lists: &Lists, place: Option<Place>) -> Option<Place>
+    ensures { result ≡ if_open (configuration_of lists.now) place }
+{
+    let place = place?;
+    if lists.queues.is_full(place) {
         None
     } else {
-        Some(next)
+        Some(place)
     }
 }
 
-// Whether this is the place before.
-fn is_same(before: Option<Place>, place: Place) -> bool
-    ensures { result ≡ is_same before place }
+// Marks the place that is waited for, if there is one.
+fn mark_wanted(wanted: &mut PlaceMarks, next: Option<Place>)
+    ensures there { (q : PlaceValue) → next ≡ Some q → IsKnown wanted.old.drivers q.stream → has_mark wanted.new q ≡ true }
+    ensures kept { (q : PlaceValue) → has_mark wanted.old q ≡ true → has_mark wanted.new q ≡ true }
+    ensures few { (q : PlaceValue) → has_mark wanted.new q ≡ true → (has_mark wanted.old q ≡ true) ⊎ (next ≡ Some q) }
+    ensures drivers { wanted.new.drivers ≡ wanted.old.drivers }
 {
-    match before {
-        Some(p) => same_place(p, place),
-        None => false,
+    if let Some(to) = next {
+        wanted.mark(to);
     }
 }
 
-// Where the first message of this one's place may go on to. From the place before none may, and a message of another
-// place is the first there.
-fn next_open_place(
+// The run mark of a place that can't be moved from is cleared, and the full place that it waits for is wanted.
+fn clear_mark(
     drivers: &[DriverSpec],
     lists: &Lists,
-    before: Option<Place>,
-    queued: &QueuedMessage,
-) -> Option<Place>
-    requires stuck { IfSome before (λ p. is_movable drivers.now (configuration_of lists.now) p ≡ false) }
-    requires first { is_same before queued.now.place ≡ false
-        → first_message lists.now.flow.items queued.now.place ≡ Some queued.now.message }
-    ensures { result ≡ next_open_place drivers.now (configuration_of lists.now) queued.now.place }
+    marks: &mut Marks,
+    from: Place,
+    next: Option<Place>,
+)
+    requires sound { IsSound drivers.now (configuration_of lists.now) }
+    requires marks { AreMarks drivers.now (configuration_of lists.now) marks.old }
+    requires least { IsLeastMarked (has_mark marks.old.run) from }
+    requires next { next ≡ next_of_first drivers.now (configuration_of lists.now) from }
+    requires stays { if_open (configuration_of lists.now) next ≡ None }
+    ensures marks { AreMarks drivers.now (configuration_of lists.now) marks.new }
+    ensures fewer { length marks.new.run.marked < length marks.old.run.marked }
 {
-    let place = queued.place();
-    if is_same(before, place) {
-        return None;
-    }
-    open_place(drivers, lists, place, queued.message().addr)
+    let (_drivers, _lists) = (drivers, lists);
+    places_are_known();
+    clearing_keeps_marks();
+    mark_wanted(&mut marks.wanted, next);
+    marks.run.clear(from);
 }
 
-// The least movable place, with where its first message goes. The messages of a place stand together, so each place is
-// looked at once, at its first message.
-fn first_move(drivers: &[DriverSpec], lists: &Lists, flow: &[QueuedMessage]) -> Option<Move>
-    requires same { flow.now ≡ lists.now.flow.items }
-    requires order { IsInOrder flow.now }
-    ensures { IsLeastMove drivers.now (configuration_of lists.now) result }
+// The least movable place, with where its first message goes. Only places with a run mark are looked at, and the marks of
+// those that come before it are cleared.
+fn next_move(drivers: &[DriverSpec], lists: &Lists, marks: &mut Marks) -> Option<Move>
+    requires sound { IsSound drivers.now (configuration_of lists.now) }
+    requires marks { AreMarks drivers.now (configuration_of lists.now) marks.old }
+    ensures least { IsLeastMove drivers.now (configuration_of lists.now) result }
+    ensures marks { AreMarks drivers.now (configuration_of lists.now) marks.new }
+    ensures none { IfNone result (HasNoRunMark (has_mark marks.new.run)) }
 {
-    let mut before = None;
-    for queued in flow {
-        if let Some(to) = next_open_place(drivers, lists, before, queued) {
-            let from = queued.place();
+    the_least_marked_is_the_least();
+    without_marks_it_is_settled();
+    while let Some(from) = marks.run.first() {
+        let next = next_of_first(drivers, lists, from);
+        if let Some(to) = if_open(lists, next) {
             return Some(Move { from, to });
         }
-        before = Some(queued.place());
+        clear_mark(drivers, lists, marks, from, next);
     }
     None
 }
 
 // The first message of a place moves on to its next place.
 fn move_on(drivers: &[DriverSpec], lists: &mut Lists, next: Move)
-    requires kept { HasRoom lists.old }
+    requires kept { KeepsHolds lists.old }
+    requires queues { lists.old.queues.drivers ≡ drivers.now }
+    requires sound { IsSound drivers.now (configuration_of lists.old) }
     requires open { next_open_place drivers.now (configuration_of lists.old) next.from ≡ Some next.to }
     ensures value { configuration_of lists.new ≡ after_move drivers.now (configuration_of lists.old) next.from }
-    ensures kept { HasRoom lists.new }
+    ensures kept { KeepsHolds lists.new }
     ensures drivers { sizes_of lists.new ≡ sizes_of lists.old }
 {
-    if let Some(message) = leave(drivers, lists, next.from) {
-        arrive(drivers, lists, next.to, message);
-    }
+    let _drivers = drivers;
+    lists.links.is_sound();
+    lists.queues.move_front(next.from, next.to);
 }
 
-// Moves messages on until none can.
-fn settle(drivers: &[DriverSpec], lists: &mut Lists)
-    requires kept { HasRoom lists.old }
+// The first message of a place moves on, and what that wakes is marked.
+fn move_marked(drivers: &[DriverSpec], lists: &mut Lists, marks: &mut Marks, next: Move)
+    requires kept { KeepsHolds lists.old }
+    requires queues { lists.old.queues.drivers ≡ drivers.now }
     requires sound { IsSound drivers.now (configuration_of lists.old) }
+    requires marks { AreMarks drivers.now (configuration_of lists.old) marks.old }
+    requires open { next_open_place drivers.now (configuration_of lists.old) next.from ≡ Some next.to }
+    ensures value { configuration_of lists.new ≡ after_move drivers.now (configuration_of lists.old) next.from }
+    ensures kept { KeepsHolds lists.new }
+    ensures marks { AreMarks drivers.now (configuration_of lists.new) marks.new }
+    ensures drivers { sizes_of lists.new ≡ sizes_of lists.old }
+{
+    moved_marks_are_enough();
+    move_on(drivers, lists, next);
+    release_if_open(drivers, lists, marks, next.from);
+    mark_both(&lists.queues, &mut marks.run, next.from, next.to);
+}
+
+// Moves messages on until none can, and no run mark is left.
+fn settle(drivers: &[DriverSpec], lists: &mut Lists, marks: &mut Marks)
+    requires kept { KeepsHolds lists.old }
+    requires queues { lists.old.queues.drivers ≡ drivers.now }
+    requires sound { IsSound drivers.now (configuration_of lists.old) }
+    requires marks { AreMarks drivers.now (configuration_of lists.old) marks.old }
     ensures value { configuration_of lists.new ≡ after_settling drivers.now (configuration_of lists.old) }
-    ensures kept { HasRoom lists.new }
+    ensures kept { KeepsHolds lists.new }
+    ensures marks { AreMarks drivers.now (configuration_of lists.new) marks.new }
+    ensures none { HasNoRunMark (has_mark marks.new.run) }
     ensures drivers { sizes_of lists.new ≡ sizes_of lists.old }
 {
     moves_keep_soundness();
-    let mut left = lists.flow.len() as u128 * drivers.len() as u128;
+    settling_suffices();
+    let mut left = lists.queues.len() as u128 * drivers.len() as u128;
     while left > 0 {
-        let Some(next) = first_move(drivers, lists, &lists.flow) else {
+        let Some(next) = next_move(drivers, lists, marks) else {
             return;
         };
-        move_on(drivers, lists, next);
+        move_marked(drivers, lists, marks, next);
         left -= 1;
     }
-}
-
-// Whether it opens or shares a stream. No message can move on after it that could not before.
-fn is_open(command: &Command) -> bool
-    ensures { result ≡ is_open command.now }
-{
-    match command {
-        Command::OpenClone { .. } | Command::OpenMinor { .. } | Command::Dup { .. } => true,
-        Command::Close { .. }
-        | Command::CloseAll
-        | Command::Link { .. }
-        | Command::Plink { .. }
-        | Command::Unlink { .. }
-        | Command::Punlink { .. }
-        | Command::Bind { .. }
-        | Command::Unbind { .. }
-        | Command::Route { .. }
-        | Command::Unroute { .. }
-        | Command::Write { .. }
-        | Command::Read { .. }
-        | Command::Flush { .. }
-        | Command::Inject { .. }
-        | Command::Transmit { .. } => false,
-    }
-}
-
-// Settles after a command, without a look at the messages where it opened or shared a stream.
-fn settle_after(drivers: &[DriverSpec], lists: &mut Lists, command: &Command)
-    requires kept { HasRoom lists.old }
-    requires sound { IsSound drivers.now (configuration_of lists.old) }
-    requires open { IsTrue (is_open command.now) → IsSettled drivers.now (configuration_of lists.old) }
-    ensures value { configuration_of lists.new ≡ after_settling drivers.now (configuration_of lists.old) }
-    ensures kept { HasRoom lists.new }
-    ensures drivers { sizes_of lists.new ≡ sizes_of lists.old }
-{
-    if !is_open(command) {
-        settle(drivers, lists);
-    }
+    let _none = next_move(drivers, lists, marks);
 }
 
 // Settles after a command; from then on the table of streams tells again which streams exist.
-pub fn finish_step(drivers: &[DriverSpec], lists: &mut Lists, command: &Command)
-    requires kept { HasRoom lists.old }
+pub fn finish_step(drivers: &[DriverSpec], lists: &mut Lists, marks: &mut Marks)
+    requires kept { KeepsHolds lists.old }
+    requires queues { lists.old.queues.drivers ≡ drivers.now }
     requires sound { IsSound drivers.now (configuration_of lists.old) }
-    requires open { IsTrue (is_open command.now) → IsSettled drivers.now (configuration_of lists.old) }
+    requires marks { AreMarks drivers.now (configuration_of lists.old) marks.old }
     ensures value { configuration_of lists.new ≡ after_settling drivers.now (configuration_of lists.old) }
-    ensures kept { HasRoom lists.new }
+    ensures kept { KeepsHolds lists.new }
     ensures existing { TellsExisting drivers.now (configuration_of lists.new) lists.new.streams }
+    ensures marks { AreMarks drivers.now (configuration_of lists.new) marks.new }
+    ensures none { HasNoRunMark (has_mark marks.new.run) }
     ensures drivers { sizes_of lists.new ≡ sizes_of lists.old }
 {
     settling_suffices();
-    settle_after(drivers, lists, command);
+    settle(drivers, lists, marks);
     tells_existing(drivers, lists);
 }

@@ -6,8 +6,9 @@ ghost use Rattle.smx_model.specs.DriverList.{name_of};
 ghost use Rattle.smx_model.specs.Views.{view_of_fd, view_of_link, view_of_bind, view_of_route};
 ghost use Rattle.smx_model.specs.Views.{view_of_message, view_of_full};
 
-use crate::queued_message::QueuedMessage;
+use smx_addresses::{Bindings, Routes};
 use smx_links::LinkTable;
+use smx_queues::{FlowTable, Queued};
 use smx_streams::Streams;
 use smx_types::{
     Binding, BindingLine, Descriptor, DescriptorLine, DriverSpec, FullLine, Link, LinkLine,
@@ -74,13 +75,14 @@ pub fn route_line(drivers: &[DriverSpec], r: &Route) -> RouteLine
 fn message_line(
     alloc: Global,
     drivers: &[DriverSpec],
-    h: &QueuedMessage,
+    queued: Queued<'_>,
 ) -> Result<MessageLine, NoMemory>
-    requires { h.now.place.stream.driver < length drivers.now }
-    ensures { IfOk result (λ l. l ≡ view_of_message drivers.now h.now) }
+    requires { queued.place.stream.driver < length drivers.now }
+    ensures { IfOk result (λ l. l ≡ view_of_message drivers.now
+        (record { place = queued.entry.place; message = queued.entry.message.now })) }
 {
-    let place = h.place();
-    let message = h.message().copy(alloc)?;
+    let place = queued.place;
+    let message = queued.message.copy(alloc)?;
     Ok(MessageLine {
         driver: name_of(drivers, place.stream.driver),
         minor: u32::from(place.stream.minor),
@@ -139,13 +141,14 @@ pub fn link_lines(
 pub fn binding_lines(
     alloc: Global,
     drivers: &[DriverSpec],
-    binds: &[Binding],
+    binds: &Bindings,
 ) -> Result<Vec<BindingLine>, NoMemory>
     requires { All (λ b. b.driver < length drivers.now) binds.now }
     ensures { IfOk result (λ v. v.items ≡ map (view_of_bind drivers.now) binds.now) }
 {
-    let mut lines = Vec::with_capacity(alloc, binds.len())?;
-    for b in binds {
+    let list = binds.list(alloc)?;
+    let mut lines = Vec::with_capacity(alloc, list.len())?;
+    for b in &list {
         lines.push(binding_line(drivers, b))?;
     }
     Ok(lines)
@@ -154,13 +157,14 @@ pub fn binding_lines(
 pub fn route_lines(
     alloc: Global,
     drivers: &[DriverSpec],
-    routes: &[Route],
+    routes: &Routes,
 ) -> Result<Vec<RouteLine>, NoMemory>
     requires { All (λ r. r.driver < length drivers.now) routes.now }
     ensures { IfOk result (λ v. v.items ≡ map (view_of_route drivers.now) routes.now) }
 {
-    let mut lines = Vec::with_capacity(alloc, routes.len())?;
-    for r in routes {
+    let list = routes.list(alloc)?;
+    let mut lines = Vec::with_capacity(alloc, list.len())?;
+    for r in &list {
         lines.push(route_line(drivers, r))?;
     }
     Ok(lines)
@@ -169,14 +173,15 @@ pub fn route_lines(
 pub fn message_lines(
     alloc: Global,
     drivers: &[DriverSpec],
-    flow: &[QueuedMessage],
+    queues: &FlowTable,
 ) -> Result<Vec<MessageLine>, NoMemory>
-    requires { All (λ h. h.place.stream.driver < length drivers.now) flow.now }
-    ensures { IfOk result (λ v. v.items ≡ map (view_of_message drivers.now) flow.now) }
+    requires { All (λ h. h.place.stream.driver < length drivers.now) queues.now.flow }
+    ensures { IfOk result (λ v. v.items ≡ map (view_of_message drivers.now) queues.now.flow) }
 {
-    let mut lines = Vec::with_capacity(alloc, flow.len())?;
-    for h in flow {
-        lines.push(message_line(alloc, drivers, h)?)?;
+    let mut lines = Vec::with_capacity(alloc, queues.len())?;
+    let mut rest = queues.messages();
+    while let Some(queued) = rest.next() {
+        lines.push(message_line(alloc, drivers, queued)?)?;
     }
     Ok(lines)
 }
@@ -184,14 +189,15 @@ pub fn message_lines(
 pub fn full_lines(
     alloc: Global,
     drivers: &[DriverSpec],
-    fulls: &[Place],
+    queues: &FlowTable,
 ) -> Result<Vec<FullLine>, NoMemory>
-    requires { All (λ p. p.stream.driver < length drivers.now) fulls.now }
-    ensures { IfOk result (λ v. v.items ≡ map (view_of_full drivers.now) fulls.now) }
+    requires { All (λ p. p.stream.driver < length drivers.now) queues.now.fulls }
+    ensures { IfOk result (λ v. v.items ≡ map (view_of_full drivers.now) queues.now.fulls) }
 {
-    let mut lines = Vec::with_capacity(alloc, fulls.len())?;
-    for p in fulls {
-        lines.push(full_line(drivers, p))?;
+    let mut lines = Vec::new(alloc);
+    let mut rest = queues.fulls();
+    while let Some(place) = rest.next() {
+        lines.push(full_line(drivers, &place))?;
     }
     Ok(lines)
 }

@@ -2,145 +2,25 @@
 
 ghost use Rattle.std.specs.Prelude.{◌≡◌, ◌↔◌, ◌<◌, length, map, IsTrue};
 ghost use Rattle.std.specs.List.{All};
-ghost use Rattle.smx_model.specs.Views.{view_of_fd, view_of_link};
+ghost use Rattle.smx_model.specs.Views.{view_of_fd, view_of_full, view_of_link, view_of_message};
 
-use crate::queued_message::QueuedMessage;
-use crate::show::{binding_line, descriptor_line, full_line, link_line, name_of, route_line};
+use crate::show::{descriptor_line, full_line, link_line, name_of};
 use smx_links::LinkTable;
+use smx_queues::{FlowTable, Queued};
 use smx_streams::Streams;
 use smx_types::{
-    Binding, BindingLine, Descriptor, DescriptorLine, DriverSpec, FullLine, Link, LinkLine,
-    MessageLine, Place, Route, RouteLine,
+    Descriptor, DescriptorLine, DriverSpec, FullLine, Link, LinkLine, MessageLine, Place,
 };
 
-/// A part of a configuration, which one line shows.
-pub trait Shown {
-    ghost use Rattle.std.specs.Prelude.{◌≡◌, ◌↔◌, IsTrue, List};
-    ghost use Rattle.smx_types.specs.declared.driver.DriverSpec.{DriverSpec};
-
-    type Line;
-
-    ghost is_within: { List DriverSpec → Self → Type 0 };
-
-    ghost line_of: { List DriverSpec → Self → Self.Line };
-
-    fn is_shown(&self, drivers: &[DriverSpec], line: &Self::Line) -> bool
-        requires { is_within drivers.now self.now }
-        ensures { IsTrue result ↔ (line.now ≡ line_of drivers.now self.now) };
-}
-
-impl Shown for Descriptor {
-    type Line = DescriptorLine;
-
-    ghost use Rattle.std.specs.Prelude.{◌<◌, length};
-    ghost use Rattle.smx_model.specs.Views.{view_of_fd};
-
-    ghost is_within = { λ drivers d. d.stream.driver < length drivers };
-
-    ghost line_of = { view_of_fd };
-
-    fn is_shown(&self, drivers: &[DriverSpec], line: &DescriptorLine) -> bool {
-        descriptor_line(drivers, self) == *line
-    }
-}
-
-impl Shown for Link {
-    type Line = LinkLine;
-
-    ghost use Rattle.std.specs.Prelude.{◌<◌, length};
-    ghost use Rattle.smx_model.specs.Views.{view_of_link};
-
-    ghost is_within = { λ drivers l.
-        (l.ctl.driver < length drivers) × (l.lower.driver < length drivers) };
-
-    ghost line_of = { view_of_link };
-
-    fn is_shown(&self, drivers: &[DriverSpec], line: &LinkLine) -> bool {
-        link_line(drivers, self) == *line
-    }
-}
-
-impl Shown for Binding {
-    type Line = BindingLine;
-
-    ghost use Rattle.std.specs.Prelude.{◌<◌, length};
-    ghost use Rattle.smx_model.specs.Views.{view_of_bind};
-
-    ghost is_within = { λ drivers b. b.driver < length drivers };
-
-    ghost line_of = { view_of_bind };
-
-    fn is_shown(&self, drivers: &[DriverSpec], line: &BindingLine) -> bool {
-        binding_line(drivers, self) == *line
-    }
-}
-
-impl Shown for Route {
-    type Line = RouteLine;
-
-    ghost use Rattle.std.specs.Prelude.{◌<◌, length};
-    ghost use Rattle.smx_model.specs.Views.{view_of_route};
-
-    ghost is_within = { λ drivers r. r.driver < length drivers };
-
-    ghost line_of = { view_of_route };
-
-    fn is_shown(&self, drivers: &[DriverSpec], line: &RouteLine) -> bool {
-        route_line(drivers, self) == *line
-    }
-}
-
-impl Shown for QueuedMessage {
-    type Line = MessageLine;
-
-    ghost use Rattle.std.specs.Prelude.{◌<◌, length};
-    ghost use Rattle.smx_model.specs.Views.{view_of_message};
-
-    ghost is_within = { λ drivers h. h.place.stream.driver < length drivers };
-
-    ghost line_of = { view_of_message };
-
-    fn is_shown(&self, drivers: &[DriverSpec], line: &MessageLine) -> bool {
-        let place = self.place();
-        line.driver == name_of(drivers, place.stream.driver)
-            && line.minor == u32::from(place.stream.minor)
-            && line.side == place.side
-            && line.message == *self.message()
-    }
-}
-
-impl Shown for Place {
-    type Line = FullLine;
-
-    ghost use Rattle.std.specs.Prelude.{◌<◌, length};
-    ghost use Rattle.smx_model.specs.Views.{view_of_full};
-
-    ghost is_within = { λ drivers p. p.stream.driver < length drivers };
-
-    ghost line_of = { view_of_full };
-
-    fn is_shown(&self, drivers: &[DriverSpec], line: &FullLine) -> bool {
-        full_line(drivers, self) == *line
-    }
-}
-
-/// Whether there is a line for each item, in order, and no other.
-pub fn are_shown<T: Shown>(drivers: &[DriverSpec], items: &[T], lines: &[T::Line]) -> bool
-    requires { All (T.is_within drivers.now) items.now }
-    ensures { IsTrue result ↔ (lines.now ≡ map (T.line_of drivers.now) items.now) }
+fn is_link_shown(drivers: &[DriverSpec], link: &Link, line: &LinkLine) -> bool
+    requires ctl { link.now.ctl.driver < length drivers.now }
+    requires lower { link.now.lower.driver < length drivers.now }
+    ensures { IsTrue result ↔ (line.now ≡ view_of_link drivers.now link.now) }
 {
-    if items.len() != lines.len() {
-        return false;
-    }
-    for (item, line) in items.iter().zip(lines) {
-        if !item.is_shown(drivers, line) {
-            return false;
-        }
-    }
-    true
+    link_line(drivers, link) == *line
 }
 
-/// The same of the links of a table.
+/// Whether there is a line for each link of a table, in order, and no other.
 pub fn are_links_shown(drivers: &[DriverSpec], links: &LinkTable, lines: &[LinkLine]) -> bool
     requires ctl { All (λ l. l.ctl.driver < length drivers.now) links.now.links }
     requires lower { All (λ l. l.lower.driver < length drivers.now) links.now.links }
@@ -151,12 +31,19 @@ pub fn are_links_shown(drivers: &[DriverSpec], links: &LinkTable, lines: &[LinkL
     }
     for i in 0..links.len() {
         if let Some(link) = links.at(i) {
-            if !link.is_shown(drivers, &lines[i]) {
+            if !is_link_shown(drivers, link, &lines[i]) {
                 return false;
             }
         }
     }
     true
+}
+
+fn is_fd_shown(drivers: &[DriverSpec], d: &Descriptor, line: &DescriptorLine) -> bool
+    requires { d.now.stream.driver < length drivers.now }
+    ensures { IsTrue result ↔ (line.now ≡ view_of_fd drivers.now d.now) }
+{
+    descriptor_line(drivers, d) == *line
 }
 
 /// The same of the descriptors of a table.
@@ -169,10 +56,63 @@ pub fn are_fds_shown(drivers: &[DriverSpec], streams: &Streams, lines: &[Descrip
         let Some(d) = next else {
             return false;
         };
-        if !d.is_shown(drivers, line) {
+        if !is_fd_shown(drivers, &d, line) {
             return false;
         }
         next = streams.next_fd(d.process, d.fd + 1);
     }
     next.is_none()
+}
+
+fn is_message_shown(drivers: &[DriverSpec], queued: Queued<'_>, line: &MessageLine) -> bool
+    requires { queued.place.stream.driver < length drivers.now }
+    ensures { IsTrue result ↔ (line.now ≡ view_of_message drivers.now
+        (record { place = queued.entry.place; message = queued.entry.message.now })) }
+{
+    let place = queued.place;
+    line.driver == name_of(drivers, place.stream.driver)
+        && line.minor == u32::from(place.stream.minor)
+        && line.side == place.side
+        && line.message == *queued.message
+}
+
+/// The same of the messages of a table.
+pub fn are_messages_shown(drivers: &[DriverSpec], queues: &FlowTable, lines: &[MessageLine]) -> bool
+    requires { All (λ h. h.place.stream.driver < length drivers.now) queues.now.flow }
+    ensures { IsTrue result ↔ (lines.now ≡ map (view_of_message drivers.now) queues.now.flow) }
+{
+    let mut rest = queues.messages();
+    for line in lines {
+        let Some(queued) = rest.next() else {
+            return false;
+        };
+        if !is_message_shown(drivers, queued, line) {
+            return false;
+        }
+    }
+    rest.next().is_none()
+}
+
+fn is_full_shown(drivers: &[DriverSpec], place: Place, line: &FullLine) -> bool
+    requires { place.stream.driver < length drivers.now }
+    ensures { IsTrue result ↔ (line.now ≡ view_of_full drivers.now place) }
+{
+    full_line(drivers, &place) == *line
+}
+
+/// The same of its full places.
+pub fn are_fulls_shown(drivers: &[DriverSpec], queues: &FlowTable, lines: &[FullLine]) -> bool
+    requires { All (λ p. p.stream.driver < length drivers.now) queues.now.fulls }
+    ensures { IsTrue result ↔ (lines.now ≡ map (view_of_full drivers.now) queues.now.fulls) }
+{
+    let mut rest = queues.fulls();
+    for line in lines {
+        let Some(place) = rest.next() else {
+            return false;
+        };
+        if !is_full_shown(drivers, place, line) {
+            return false;
+        }
+    }
+    rest.next().is_none()
 }

@@ -1,10 +1,10 @@
 //! Whether streams, sides and places are the same, and which comes first.
 
 ghost use Rattle.std.specs.Prelude.{◌≡◌};
-ghost use Rattle.smx_model.specs.Configuration.{same_stream, same_side, same_place, bind_before};
-ghost use Rattle.smx_model.specs.Configuration.{route_before, side_before, place_before, pair_before};
+ghost use Rattle.smx_model.specs.Configuration.{same_stream, same_side, bind_before};
+ghost use Rattle.smx_model.specs.Configuration.{route_before};
 
-use smx_types::{Binding, Place, Route, Side, StreamId};
+use smx_types::{Binding, Route, Side, StreamId};
 
 pub fn same_stream(s: StreamId, t: StreamId) -> bool
     ensures { result ≡ same_stream s t }
@@ -25,40 +25,6 @@ pub fn same_side(a: Side, b: Side) -> bool
             Side::Read => true,
         },
     }
-}
-
-pub fn same_place(p: Place, q: Place) -> bool
-    ensures { result ≡ same_place p q }
-{
-    same_stream(p.stream, q.stream) && same_side(p.side, q.side)
-}
-
-fn side_before(a: Side, b: Side) -> bool
-    ensures { result ≡ side_before a b }
-{
-    match a {
-        Side::Write => match b {
-            Side::Write => false,
-            Side::Read => true,
-        },
-        Side::Read => match b {
-            Side::Write => false,
-            Side::Read => false,
-        },
-    }
-}
-
-fn stream_before(s: StreamId, t: StreamId) -> bool
-    ensures { result ≡ pair_before s.driver s.minor t.driver t.minor }
-{
-    s.driver < t.driver || (s.driver == t.driver && s.minor < t.minor)
-}
-
-pub fn place_before(p: Place, q: Place) -> bool
-    ensures { result ≡ place_before p q }
-{
-    stream_before(p.stream, q.stream)
-        || (same_stream(p.stream, q.stream) && side_before(p.side, q.side))
 }
 
 pub fn bind_before(b: &Binding, c: &Binding) -> bool

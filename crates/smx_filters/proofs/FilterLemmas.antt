@@ -57,8 +57,8 @@ module _ {V K T : Type 0} (filter : Filter V K T) (had left : Option (List ℕ))
   passed_on e (Err f) is a = subst (λ (x : MainFault). FiltersText filter had left ended failures held held flushed written (Err x)) (sym is) (at_answer e a)
 
 -- where the text is refused, its fault is the answer of a run
-pub text_refused : (fronts : Bool) (bytes input : List ℕ) → bytes ≡ input → (f : TextFault) (answer : Result (Vec ℕ Global) MainFault) → IsErrAnd answer (λ e. e ≡ Text f) → IsFault (running fronts).grammar bytes f.line f.cause
-    → Answers (running fronts) input (items_of answer)
-text_refused fronts bytes input same f (Ok v) is a = absurd is
-text_refused fronts bytes input same f (Err e) is a =
-    subst (λ (x : MainFault). Answers (running fronts) input (Err x)) (sym is) (subst (λ (given : List ℕ). IsFault (running fronts).grammar given f.line f.cause) same a)
+pub text_refused : (fronts : Bool) (workers : ℕ) (bytes input : List ℕ) → bytes ≡ input → (f : TextFault) (answer : Result (Vec ℕ Global) MainFault) → IsErrAnd answer (λ e. e ≡ Text f) → IsFault (running fronts workers).grammar bytes f.line f.cause
+    → Answers (running fronts workers) input (items_of answer)
+text_refused fronts workers bytes input same f (Ok v) is a = absurd is
+text_refused fronts workers bytes input same f (Err e) is a =
+    subst (λ (x : MainFault). Answers (running fronts workers) input (Err x)) (sym is) (subst (λ (given : List ℕ). IsFault (running fronts workers).grammar given f.line f.cause) same a)

@@ -10,6 +10,7 @@ use Rattle.smx_model.specs.DriverList.{IsDriverList}
 use Rattle.smx_config.specs.Verdicts.{IsVerdict}
 use Rattle.smx_config.specs.declared.verdict.Verdict.{Verdict}
 use Rattle.smx_config.specs.declared.verdict.Verdict.TheVariants.{Legal, Illegal, ConfigDiffers}
+use Rattle.smx_run.specs.RunFaults.{RefusesAlone}
 use Rattle.smx_filters.specs.Filters.{Filter, FiltersText}
 use Rattle.smx_filters.specs.declared.fault.MainFault.{MainFault}
 
@@ -32,12 +33,13 @@ pub record IsJudged (t : Transcript) (verdict : Verdict) (output : List ℕ) : T
   -- The output is the line of that verdict, with the number of the entries, and nothing else.
   pub written : output ≡ verdict_line (length t.entries) verdict
 
--- a check reads a transcript, writes the line of the verdict on it, and answers that verdict
+-- a check reads a transcript, writes the line of the verdict on it, and answers that verdict; or it refuses the drivers,
+-- or memory was wanting
 abbrev pub checking : Filter Transcript TranscriptLine Verdict
 checking = record {
   grammar = transcript_grammar;
-  drivers_of = λ t. t.drivers;
   Gives = IsJudged;
+  Refuses = λ t. RefusesAlone t.drivers;
 }
 
 -- an answer with the line as the list of its bytes

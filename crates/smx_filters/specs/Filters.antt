@@ -1,10 +1,8 @@
 -- A filter reads the whole input, and then writes what it makes of it.
 use Rattle.std.specs.Prelude.{◌≡◌, ◌≢◌, ℕ, ◌+◌, ◌<◌, ◌≤◌, ◌↔◌, ◌⊎◌, Bool, true, false, List, length, Option, Result, Ok, Err, IfOk, IfErr, IsErrOf}
 use Rattle.std.specs.Io.KnownBytes.{Consumes, Appends, Keeps}
-use Rattle.smx_types.specs.declared.driver.DriverSpec.{DriverSpec}
 use Rattle.smx_text.specs.Grammar.{Grammar, IsFault, Spells}
 use Rattle.smx_text.specs.declared.fault.TextFault.{TextFault}
-use Rattle.smx_run.specs.RunFaults.{RefusesRun}
 use Rattle.smx_run.specs.declared.fault.RunFault.{RunFault}
 use Rattle.smx_run.specs.declared.fault.RunFault.TheVariants as run
 use Rattle.smx_filters.specs.Input.{IsWhole}
@@ -17,19 +15,19 @@ use Rattle.smx_filters.specs.declared.input.TheConstants.{MAX_INPUT}
 pub record Filter (V K T : Type 0) : Type 1 where
   -- how an input spells its value
   pub grammar : Grammar V K
-  -- the drivers of the value
-  pub drivers_of : V → List DriverSpec
   -- for this value this may be answered and written
   pub Gives : V → T → List ℕ → Type 0
+  -- or it may be refused so
+  pub Refuses : V → RunFault → Type 0
 
 module _ {V K T : Type 0} (f : Filter V K T) where
   -- the input spells a value, for which this may be answered and written
   abbrev pub GivesFor : List ℕ → T → List ℕ → Type 0
   GivesFor input answer output = (v : V) × Spells f.grammar input v × f.Gives v answer output
 
-  -- the input spells a value, whose drivers are refused so, or can be had and memory was wanting
+  -- the input spells a value, which may be refused so
   abbrev pub RefusesFor : List ℕ → RunFault → Type 0
-  RefusesFor input fault = (v : V) × Spells f.grammar input v × RefusesRun (f.drivers_of v) fault
+  RefusesFor input fault = (v : V) × Spells f.grammar input v × f.Refuses v fault
 
   -- what is said of an input that was read whole
   abbrev pub Answers : List ℕ → Result (T × List ℕ) MainFault → Type 0

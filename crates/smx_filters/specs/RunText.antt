@@ -1,11 +1,15 @@
 -- The headline over bytes: what a run says of the bytes that it read, and what it writes.
-use Rattle.std.specs.Prelude.{◌≡◌, ℕ, Bool, true, false, List, Option, Result, Vec, Ok, Err}
+use Rattle.std.specs.Prelude.{◌≡◌, ℕ, zero, suc, Bool, true, false, List, map, Option, Result, Vec, Ok, Err}
 use Rattle.std.specs.Global.{Global}
 use Rattle.smx_types.specs.ProgramLists.{ProgramLists}
 use Rattle.smx_types.specs.declared.transcript.Transcript.{Transcript}
 use Rattle.smx_model.specs.Headline.{IsReportOf}
+use Rattle.smx_model.specs.Histories.{call_of}
 use Rattle.smx_run.specs.Fronts.{AreFrontsFrom}
+use Rattle.smx_run.specs.ProgramOrder.{calls_from}
 use Rattle.smx_run.specs.Reports.{transcript_of}
+use Rattle.smx_run.specs.RunFaults.{RefusesAlone, RefusesRun}
+use Rattle.smx_run.specs.declared.fault.RunFault.{RunFault}
 use Rattle.smx_run.specs.declared.report.Report.{Report}
 use Rattle.smx_shared.specs.declared.front.Front.{Front}
 use Rattle.smx_text.specs.ProgramLines.{Line}
@@ -34,22 +38,41 @@ pub record IsFrontsTextFor (programs : ProgramLists) (output : List ℕ) : Type 
   -- The output is their text, and nothing else.
   pub written : output ≡ fronts_text fronts
 
--- what a run writes: the fronts, or the transcript
-abbrev pub IsWrittenFor : Bool → ProgramLists → List ℕ → Type 0
-IsWrittenFor true programs output = IsFrontsTextFor programs output
-IsWrittenFor false programs output = IsTranscriptFor programs output
+-- the transcript of the report in which each program comes whole, by rising number; there is one such report at most
+pub record IsTranscriptInTurn (programs : ProgramLists) (output : List ℕ) : Type 0 where
+  -- There is a report that is promised for these programs, with one program after the other,
+  pub report : Transcript
+  pub promised : IsReportOf programs report
+  pub in_turn : map call_of report.entries ≡ calls_from 0 programs.programs
+  -- and the output is its transcript, and nothing else.
+  pub written : SpellsTranscript output report
+
+-- what so many workers write: the fronts, or the transcript, which one worker alone makes of one program after the other
+abbrev pub IsWrittenFor : Bool → ℕ → ProgramLists → List ℕ → Type 0
+IsWrittenFor true workers programs output = IsFrontsTextFor programs output
+IsWrittenFor false zero programs output = IsTranscriptFor programs output
+IsWrittenFor false (suc zero) programs output = IsTranscriptInTurn programs output
+IsWrittenFor false (suc (suc more)) programs output = IsTranscriptFor programs output
+
+-- what so many workers may refuse: one alone, who writes the transcript, refuses for nothing that workers share
+abbrev pub IsRefusedFor : Bool → ℕ → ProgramLists → RunFault → Type 0
+IsRefusedFor true workers programs fault = RefusesRun programs.drivers fault
+IsRefusedFor false zero programs fault = RefusesRun programs.drivers fault
+IsRefusedFor false (suc zero) programs fault = RefusesAlone programs.drivers fault
+IsRefusedFor false (suc (suc more)) programs fault = RefusesRun programs.drivers fault
 
 -- the text of a report: its fronts, or its transcript, each line of which can be spelled
 abbrev pub IsTextOf : Bool → Report → List ℕ → Type 0
 IsTextOf true report text = text ≡ fronts_text report.fronts
 IsTextOf false report text = (text ≡ transcript_text (transcript_of report)) × IsSpellable (transcript_of report)
 
--- a run reads programs and writes the fronts or the transcript of a report; that it is done is all that it answers
-abbrev pub running : Bool → Filter ProgramLists Line (Unit {0})
-running fronts = record {
+-- a run by so many workers reads programs and writes the fronts or the transcript of a report; that it is done is all
+-- that it answers
+abbrev pub running : Bool → ℕ → Filter ProgramLists Line (Unit {0})
+running fronts workers = record {
   grammar = programs_grammar;
-  drivers_of = λ programs. programs.drivers;
-  Gives = λ programs done output. IsWrittenFor fronts programs output;
+  Gives = λ programs done output. IsWrittenFor fronts workers programs output;
+  Refuses = IsRefusedFor fronts workers;
 }
 
 -- an answer of the text alone, with the vector as the list of its bytes
@@ -58,6 +81,6 @@ items_of (Ok v) = Ok (tt, v.items)
 items_of (Err e) = Err e
 
 -- a run from bytes to bytes
-abbrev pub RunsText : Bool → Option (List ℕ) → Option (List ℕ) → Bool → ℕ
+abbrev pub RunsText : Bool → ℕ → Option (List ℕ) → Option (List ℕ) → Bool → ℕ
     → Option (List ℕ) → Option (List ℕ) → Bool → ℕ → Result (Unit {0}) MainFault → Type 0
-RunsText fronts = FiltersText (running fronts)
+RunsText fronts workers = FiltersText (running fronts workers)

@@ -1,26 +1,37 @@
 //! Laws of runs and checks over memory, each the contract of a function that does nothing.
 
-ghost use Rattle.std.specs.Prelude.{◌≡◌, ℕ, Bool, List, [], Result, Some, Err};
+ghost use Rattle.std.specs.Prelude.{◌≡◌, ℕ, Bool, false, List, [], Result, Some, Err};
+ghost use Rattle.smx_types.specs.ProgramLists.{ProgramLists};
 ghost use Rattle.smx_config.specs.declared.verdict.Verdict.{Verdict};
 ghost use Rattle.smx_filters.specs.CheckText.{ChecksText, checking};
 ghost use Rattle.smx_filters.specs.InMemory.{EndsInMemory, IsCutShort};
-ghost use Rattle.smx_filters.specs.RunText.{RunsText, running};
+ghost use Rattle.smx_filters.specs.RunText.{IsWrittenFor, RunsText, running};
 ghost use Rattle.smx_filters.specs.declared.fault.MainFault.{MainFault};
 ghost use Rattle.smx_filters.specs.declared.fault.MainFault.TheVariants.{ReadFailed};
+
+use smx_model::laws_of_reports::reports_are_determined;
 
 /// What a run says of an input in memory, by devices that don't fail; where the reader fails it says so and writes
 /// nothing, and where the writer fails a beginning of what it writes is out.
 pub fn runs_end_in_memory()
-    ensures ends { (input left output : List ℕ) (fronts ended flushed : Bool) (answer : Result (Unit {0}) MainFault)
-        → RunsText fronts (Some input) (Some left) ended 0 (Some []) (Some output) flushed 0 answer
-        → EndsInMemory (running fronts) input left output flushed answer }
-    ensures unread { (input left output : List ℕ) (fronts ended flushed : Bool) (answer : Result (Unit {0}) MainFault)
-        → RunsText fronts (Some input) (Some left) ended 1 (Some []) (Some output) flushed 0 answer
+    ensures ends { (input left output : List ℕ) (workers : ℕ) (fronts ended flushed : Bool) (answer : Result (Unit {0}) MainFault)
+        → RunsText fronts workers (Some input) (Some left) ended 0 (Some []) (Some output) flushed 0 answer
+        → EndsInMemory (running fronts workers) input left output flushed answer }
+    ensures unread { (input left output : List ℕ) (workers : ℕ) (fronts ended flushed : Bool) (answer : Result (Unit {0}) MainFault)
+        → RunsText fronts workers (Some input) (Some left) ended 1 (Some []) (Some output) flushed 0 answer
         → (answer ≡ Err ReadFailed) × (output ≡ []) }
-    ensures cut_short { (input left output : List ℕ) (fronts ended flushed : Bool) (answer : Result (Unit {0}) MainFault)
-        → RunsText fronts (Some input) (Some left) ended 0 (Some []) (Some output) flushed 1 answer
-        → IsCutShort (running fronts) input output answer }
+    ensures cut_short { (input left output : List ℕ) (workers : ℕ) (fronts ended flushed : Bool) (answer : Result (Unit {0}) MainFault)
+        → RunsText fronts workers (Some input) (Some left) ended 0 (Some []) (Some output) flushed 1 answer
+        → IsCutShort (running fronts workers) input output answer }
 {}
+
+/// Of some programs, one worker has one transcript to write.
+pub fn one_worker_writes_one_transcript()
+    ensures { (programs : ProgramLists) (one other : List ℕ) → IsWrittenFor false 1 programs one
+        → IsWrittenFor false 1 programs other → one ≡ other }
+{
+    reports_are_determined();
+}
 
 /// The same of a check, which answers its verdict.
 pub fn checks_end_in_memory()

@@ -3,8 +3,8 @@
 ghost use Rattle.std.specs.Prelude.{◌≡◌, ◌≤◌, false, IfOk, IfErr, Result};
 ghost use Rattle.smx_filters.specs.Filters.{Answers};
 ghost use Rattle.smx_filters.specs.FrontsText.{fronts_text};
-ghost use Rattle.smx_filters.specs.RunText.{IsTextOf, IsTranscriptFor, RunsText, items_of, running};
-ghost use Rattle.smx_run.specs.RunFaults.{RefusesRun};
+ghost use Rattle.smx_filters.specs.RunText.{IsRefusedFor, IsTextOf, IsTranscriptInTurn, IsWrittenFor, RunsText, items_of, running};
+ghost use Rattle.smx_run.specs.RunFaults.{RefusesAlone};
 
 use crate::device::{Feed, Sink};
 use crate::fault::MainFault;
@@ -12,6 +12,7 @@ use crate::fronts_text::fronts_text;
 use crate::input::read_all;
 use crate::output::write_all;
 use crate::text_recorder::TextRecorder;
+use smx_run::laws_of_runs::refusals_have_few_causes;
 use smx_run::{Gate, Report, RunFault, run_programs, run_recorded};
 use smx_text::{read_programs, write_transcript_into};
 use smx_types::{NoMemory, Programs};
@@ -19,11 +20,11 @@ use std::alloc::Global;
 use std::sync::Wait;
 use std::thread::Threads;
 
-/// Reads the programs that `feed` has, has them run by so many workers, and writes the transcript of the run
-/// to `sink`, or with `fronts` how far the history had come when each program had ended. Process p is run by worker p modulo `workers`, which is 1 to 64; each worker has a thread of its own
-/// where there are several, and tells the gate of each command. Neither device has failed before, and no read
-/// has shown the end. Faults are found in this order: reading, text, drivers, run,
-/// writing.
+/// Reads the programs that `feed` has, has them run by so many workers, 1 to 64, and writes the transcript of the run to
+/// `sink`, or with `fronts` how far the history had come when each program had ended. One worker runs one program after
+/// the other, by rising number, so that its transcript is determined. Of several, each has a thread of its own; process p
+/// is run by worker p modulo `workers`. A worker tells the gate of each command. Neither device has failed before, and no
+/// read has shown the end. Faults are found in this order: reading, text, drivers, run, writing.
 pub fn run_text<R: Threads + Wait + Sync, F: Feed, S: Sink, G: Gate + Sync>(
     rt: &R,
     alloc: Global,
@@ -37,7 +38,7 @@ pub fn run_text<R: Threads + Wait + Sync, F: Feed, S: Sink, G: Gate + Sync>(
     requires fed { F.failures feed.old ≡ 0 }
     requires sunk { S.failures sink.old ≡ 0 }
     requires workers { (1 ≤ workers) × (workers ≤ 64) }
-    ensures { RunsText fronts (F.remaining feed.old) (F.remaining feed.new) (F.ended feed.new)
+    ensures { RunsText fronts workers (F.remaining feed.old) (F.remaining feed.new) (F.ended feed.new)
         (F.failures feed.new) (S.contents sink.old) (S.contents sink.new) (S.flushed sink.new)
         (S.failures sink.new) result }
 {
@@ -46,7 +47,7 @@ pub fn run_text<R: Threads + Wait + Sync, F: Feed, S: Sink, G: Gate + Sync>(
     write_all(sink, output.as_slice())
 }
 
-// The text of a run of the programs that the input spells: the fronts, or the transcript in the room that the input had.
+// The text of a run of the programs that the input spells, in the room that the input had.
 fn text_for<R: Threads + Wait + Sync, G: Gate + Sync>(
     rt: &R,
     alloc: Global,
@@ -56,31 +57,50 @@ fn text_for<R: Threads + Wait + Sync, G: Gate + Sync>(
     gate: &G,
 ) -> Result<Vec<u8>, MainFault>
     requires { (1 ≤ workers) × (workers ≤ 64) }
-    ensures { Answers (running fronts) input.items (items_of result) }
+    ensures { Answers (running fronts workers) input.items (items_of result) }
 {
     let programs = read_programs(alloc, input.as_slice())?;
+    let text = text_of_run(rt, alloc, input, programs, workers, fronts, gate)?;
+    Ok(text)
+}
+
+// The fronts of a run by so many workers, or its transcript in the room that is given. Where a second worker would have
+// no process, it is run on this thread alone.
+fn text_of_run<R: Threads + Wait + Sync, G: Gate + Sync>(
+    rt: &R,
+    alloc: Global,
+    room: Vec<u8>,
+    programs: Programs,
+    workers: usize,
+    fronts: bool,
+    gate: &G,
+) -> Result<Vec<u8>, RunFault>
+    requires { (1 ≤ workers) × (workers ≤ 64) }
+    ensures written { IfOk result (λ text. IsWrittenFor fronts workers programs text.items) }
+    ensures refused { IfErr result (IsRefusedFor fronts workers programs) }
+{
+    refusals_have_few_causes();
     let hands = workers.min(programs.programs().len());
     if !fronts && hands < 2 {
-        return Ok(transcript_of_one(rt, alloc, input, programs, gate)?);
+        return transcript_of_one(alloc, room, programs, gate);
     }
     let report = run_programs(rt, alloc, programs, workers, gate)?;
-    let text = text_of(alloc, input, report, fronts)?;
+    let text = text_of(alloc, room, report, fronts)?;
     Ok(text)
 }
 
 // The transcript of a run on this thread alone, in the room that is given. The line of each entry is written once its
 // command was answered.
-fn transcript_of_one<R: Wait, G: Gate>(
-    rt: &R,
+fn transcript_of_one<G: Gate>(
     alloc: Global,
     room: Vec<u8>,
     programs: Programs,
     gate: &G,
 ) -> Result<Vec<u8>, RunFault>
-    ensures written { IfOk result (λ text. IsTranscriptFor programs text.items) }
-    ensures refused { IfErr result (RefusesRun programs.drivers) }
+    ensures written { IfOk result (λ text. IsTranscriptInTurn programs text.items) }
+    ensures refused { IfErr result (RefusesAlone programs.drivers) }
 {
-    let (TextRecorder { writer }, view) = run_recorded(rt, alloc, programs, room, gate)?;
+    let (TextRecorder { writer }, view) = run_recorded(alloc, programs, room, gate)?;
     Ok(writer.finish(&view)?)
 }
 

@@ -6,3 +6,15 @@ pub mod SoundLemmas
 pub mod WalkLemmas
 pub mod TableLemmas
 pub mod CopyLemmas
+pub mod PlaceLemmas
+pub mod NumberLemmas
+pub mod FlowLemmas
+pub mod FullLemmas
+pub mod FlowTableLemmas
+pub mod FindLemmas
+pub mod BusyLemmas
+pub mod LeftLemmas
+pub mod FlowCallLemmas
+pub mod SpecLemmas
+pub mod StepLemmas
+pub mod MarkLemmas

@@ -1,2 +1,6 @@
 pub mod QueueTable
 pub mod Chains
+pub mod Slots
+pub mod PlaceLists
+pub mod FlowTables
+pub mod PlaceMarks

@@ -1,6 +1,7 @@
 //! The queues of all places.
 
 mod copying;
+mod finding;
 mod reading;
 
 ghost use Rattle.std.specs.Prelude.{◌≡◌, ◌≢◌, ◌↔◌, ◌+◌, ◌-◌, ◌<◌, ◌≤◌, ◌^◌, [], ◌∷◌, ◌++◌, length, map, Some};

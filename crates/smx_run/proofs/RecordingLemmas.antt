@@ -14,6 +14,7 @@ use Rattle.smx_types.specs.declared.view.ConfigView.{ConfigView}
 use Rattle.smx_model.specs.Commands.{step}
 use Rattle.smx_model.specs.Configuration.{Configuration, empty}
 use Rattle.smx_model.specs.DriverList.{IsDriverList}
+use Rattle.smx_model.specs.Headline.{IsReportOf}
 use Rattle.smx_model.specs.Histories.{after, call_of, IsLegal}
 use Rattle.smx_model.specs.LawfulHistories.{AreDropsAllowed, IsLawfulThroughout}
 use Rattle.smx_model.specs.Views.{view}
@@ -21,7 +22,7 @@ use Rattle.smx_config.specs.Machine.{Machine}
 use Rattle.smx_run.specs.Desks.{HasRecorded}
 use Rattle.smx_run.specs.ProgramOrder.{calls_of, calls_from}
 use Rattle.smx_run.specs.RecordedRuns.{IsRecordOf}
-use Rattle.smx_run.specs.RunFaults.{RefusesRun}
+use Rattle.smx_run.specs.RunFaults.{RefusesAlone, RefusesRun}
 use Rattle.smx_run.specs.declared.fault.RunFault.{RunFault}
 use Rattle.smx_run.specs.declared.fault.RunFault.TheVariants as run
 use Rattle.smx_run.proofs.ProgramOrderLemmas.{holds}
@@ -94,9 +95,17 @@ within programs es few calls =
     omega (arith, same, length-map es call_of, counted 0 programs.programs, few.commands)
 
 -- want of memory is answered only for drivers that can be had
-pub memory_refused : {T : Type 0} (drivers : List DriverSpec) (result : Result T RunFault) → IsErrAnd result (λ e. e ≡ run.NoMemory) → IsDriverList drivers → IfErr result (RefusesRun drivers)
+pub memory_refused : {T : Type 0} (drivers : List DriverSpec) (result : Result T RunFault) → IsErrAnd result (λ e. e ≡ run.NoMemory) → IsDriverList drivers → IfErr result (RefusesAlone drivers)
 memory_refused drivers (Ok x) is can = tt
-memory_refused drivers (Err e) is can = subst (RefusesRun drivers) (sym is) can
+memory_refused drivers (Err e) is can = subst (RefusesAlone drivers) (sym is) can
+
+-- a run of several workers is refused for whatever a run on one thread is
+pub alone_refuses : (drivers : List DriverSpec) (fault : RunFault) → RefusesAlone drivers fault → RefusesRun drivers fault
+alone_refuses drivers run.NoMemory h = h
+alone_refuses drivers (run.Strange p) h = h
+alone_refuses drivers (run.ConfigFault f) h = h
+alone_refuses drivers run.HistoryFull h = absurd h
+alone_refuses drivers run.Held h = absurd h
 
 -- what was told once all programs were asked, with the view at the end
 pub record_of : {K : Type 0} (told : List DriverSpec → List Entry → K → Type 0) → LegalIsLawful → FewDrop → (programs : ProgramLists) (recorder : K) (m : Machine) (shown : ConfigView)
@@ -116,5 +125,15 @@ record_of told lawful drops programs recorder m shown few can same h is =
         lawful = lawful programs.drivers h.entries legal;
         drops = drops programs.drivers h.entries legal;
       };
+      asked = h.calls;
       few = within programs h.entries few h.calls;
     }
+
+-- a recorder that keeps all that it is told has the report
+pub kept_all : (programs : ProgramLists) (drivers : List DriverSpec) (entries : List Entry) (shown : ConfigView)
+    → IsRecordOf programs (λ (ds : List DriverSpec) (es : List Entry) (k : List DriverSpec × List Entry). k ≡ (ds, es)) (drivers, entries) shown
+    → IsReportOf programs (record { drivers = drivers; entries = entries; view = shown }) × (map call_of entries ≡ calls_from 0 programs.programs) × (length entries ≤ MAX_COMMANDS)
+kept_all programs drivers entries shown h =
+    let d : drivers ≡ programs.drivers = ap (λ (k : List DriverSpec × List Entry). k.0) h.was_told in
+    let e : entries ≡ h.entries = ap (λ (k : List DriverSpec × List Entry). k.1) h.was_told in
+    (rw (d, e) h.promised, rw e h.asked, rw e h.few)

@@ -9,7 +9,7 @@ use Rattle.smx_shared.specs.Seats.{Known}
 use Rattle.smx_run.specs.ProgramOrder.{calls_of}
 use Rattle.smx_run.specs.Desks.{HasRecorded, PerformedAlone, PerformedRecording, PerformedSeated}
 use Rattle.smx_run.specs.declared.desk.Alone.{Alone}
-use Rattle.smx_run.specs.declared.desk.Recording.{Recording}
+use Rattle.smx_run.specs.declared.recording.Recording.{Recording}
 use Rattle.smx_run.specs.declared.desk.Seated.{Seated}
 
 -- the calls of two lists of commands, one after the other

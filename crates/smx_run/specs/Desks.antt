@@ -8,7 +8,7 @@ use Rattle.smx_config.specs.Machine.{Machine}
 use Rattle.smx_shared.specs.Seats.{Known, IsBeginningOf}
 use Rattle.smx_run.specs.ProgramOrder.{calls_of}
 use Rattle.smx_run.specs.declared.desk.Alone.{Alone}
-use Rattle.smx_run.specs.declared.desk.Recording.{Recording}
+use Rattle.smx_run.specs.declared.recording.Recording.{Recording}
 use Rattle.smx_run.specs.declared.desk.Seated.{Seated}
 
 -- the history has these commands of the process more, and the drivers are the same

@@ -1,4 +1,4 @@
--- Why a run is refused: its drivers are, or something else was wanting.
+-- Why a run is refused: its drivers are, or memory was wanting, or the workers met it in what they share.
 use Rattle.std.specs.Prelude.{◌≢◌, List}
 use Rattle.smx_types.specs.declared.driver.DriverSpec.{DriverSpec}
 use Rattle.smx_model.specs.DriverList.{IsDriverList}
@@ -22,10 +22,18 @@ abbrev pub fault_of_worker : ApplyFault → RunFault
 fault_of_worker apply.HistoryFull = run.HistoryFull
 fault_of_worker apply.NoMemory = run.NoMemory
 
--- the drivers are refused, and that is said; or they are not, and something else was wanting
+-- the drivers are refused, and that is said; or they are not, and memory was wanting
+abbrev pub RefusesAlone : List DriverSpec → RunFault → Type 0
+RefusesAlone drivers run.NoMemory = IsDriverList drivers
+RefusesAlone drivers (run.Strange process) = ⊥
+RefusesAlone drivers (run.ConfigFault f) = RefusesDrivers drivers f × (f ≢ config.NoMemory)
+RefusesAlone drivers run.HistoryFull = ⊥
+RefusesAlone drivers run.Held = ⊥
+
+-- or they are not, and the workers met a full history, or a turn that was never given back
 abbrev pub RefusesRun : List DriverSpec → RunFault → Type 0
 RefusesRun drivers run.NoMemory = IsDriverList drivers
-RefusesRun drivers (run.Strange process) = IsDriverList drivers
+RefusesRun drivers (run.Strange process) = ⊥
 RefusesRun drivers (run.ConfigFault f) = RefusesDrivers drivers f × (f ≢ config.NoMemory)
 RefusesRun drivers run.HistoryFull = IsDriverList drivers
 RefusesRun drivers run.Held = IsDriverList drivers

@@ -1,17 +1,17 @@
 //! Where the commands of one process are performed.
 
-use crate::recorder::Recorder;
-use smx_config::Config;
-use smx_model::laws::one_entry_more;
 use smx_shared::{ApplyFault, Door, System};
-use smx_types::{Command, Entry, Process};
+use smx_types::{Command, Process};
 use std::alloc::Global;
 use std::sync::Wait;
 
 /// Performs the commands of one process.
 pub trait Desk {
-    ghost use Rattle.std.specs.Prelude.{List, [], ◌∷◌, ◌++◌, OnOk};
+    ghost use Rattle.std.specs.Prelude.{◌≡◌, ℕ, List, [], ◌∷◌, ◌++◌, OnOk};
     ghost use Rattle.smx_types.specs.declared.command.Command.{Command as Asked};
+
+    // The process that it is of.
+    ghost whose: { Self → ℕ };
 
     // Whether it may be asked.
     ghost ready: { Self → Type 0 };
@@ -19,12 +19,14 @@ pub trait Desk {
     // From one state to another by these commands of the process, in order, and no others.
     ghost performed: { Self → List Asked → Self → Type 0 };
 
-    /// The process.
-    fn process(&self) -> Process;
+    /// The process that it is of.
+    fn process(&self) -> Process
+        ensures { result ≡ whose self.now };
 
-    /// Performs its next command, which is given up.
+    /// Performs the next command of its process, which is given up.
     fn perform<R: Wait>(&mut self, rt: &R, command: Command) -> Result<(), ApplyFault>
         requires { ready self.old }
+        ensures whose { whose self.new ≡ whose self.old }
         ensures ready { OnOk result (ready self.new) }
         ensures performed { OnOk result (performed self.old (command ∷ []) self.new) };
 
@@ -44,6 +46,8 @@ impl Desk for Alone {
     ghost use Rattle.smx_run.specs.Desks.{PerformedAlone};
     ghost use Rattle.smx_run.specs.DeskLemmas.{alone_none, alone_more};
 
+    ghost whose = { λ a. a.process };
+
     ghost ready = { λ _. Unit {0} };
 
     ghost performed = { PerformedAlone };
@@ -59,43 +63,6 @@ impl Desk for Alone {
     ghost performed_none = { alone_none };
 
     ghost performed_more = { alone_more };
-}
-
-/// At a configuration that nobody shares. A recorder is told of each entry, which is then given up.
-#[derive(Drop)]
-pub struct Recording<K: Drop> {
-    pub process: Process,
-    pub config: Config,
-    pub recorder: K,
-}
-
-impl<K: Recorder> Desk for Recording<K> {
-    ghost use Rattle.smx_run.specs.Desks.{PerformedRecording};
-    ghost use Rattle.smx_run.specs.DeskLemmas.{recording_none, recording_more};
-
-    ghost ready = { λ _. Unit {0} };
-
-    ghost performed = { PerformedRecording K.told };
-
-    fn process(&self) -> Process {
-        self.process
-    }
-
-    fn perform<R: Wait>(&mut self, _rt: &R, command: Command) -> Result<(), ApplyFault> {
-        one_entry_more();
-        let process = self.process;
-        let reply = self.config.step(process, &command)?;
-        self.recorder.add(&Entry {
-            process,
-            command,
-            reply,
-        })?;
-        Ok(())
-    }
-
-    ghost performed_none = { recording_none K.told };
-
-    ghost performed_more = { recording_more K.told };
 }
 
 /// At a seat of a door. The seat knows what it has made.
@@ -115,6 +82,8 @@ where
 {
     ghost use Rattle.smx_run.specs.Desks.{PerformedSeated};
     ghost use Rattle.smx_run.specs.DeskLemmas.{seated_none, seated_more};
+
+    ghost whose = { λ a. (D.known a.seat).process };
 
     ghost ready = { λ a. D.is_seat a.door.now a.seat };
 

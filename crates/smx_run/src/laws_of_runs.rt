@@ -1,13 +1,23 @@
 //! Laws of what runs tell, each the contract of a function that does nothing: an example of each, and what is none.
 
-ghost use Rattle.std.specs.Prelude.{ℕ, [], ◌∷◌, true, false};
+ghost use Rattle.std.specs.Prelude.{◌≡◌, ◌≤◌, ℕ, List, [], ◌∷◌, length, map, true, false};
+ghost use Rattle.smx_types.specs.ProgramLists.{ProgramLists};
+ghost use Rattle.smx_types.specs.declared.command.Entry.{Entry};
+ghost use Rattle.smx_types.specs.declared.driver.DriverSpec.{DriverSpec};
+ghost use Rattle.smx_types.specs.declared.limits.TheConstants.{MAX_COMMANDS};
+ghost use Rattle.smx_types.specs.declared.view.ConfigView.{ConfigView};
+ghost use Rattle.smx_model.specs.Headline.{IsReportOf};
+ghost use Rattle.smx_model.specs.Histories.{call_of};
 ghost use Rattle.smx_model.specs.Worked.Common.{mux, ip};
 ghost use Rattle.smx_model.specs.Worked.Reports.{copied, drivers, exited, opened, programs};
 ghost use Rattle.smx_config.specs.declared.fault.ConfigFault.TheVariants as config;
 ghost use Rattle.smx_shared.specs.WorkedCalls.{front};
 ghost use Rattle.smx_run.specs.Fronts.{AreFrontsFrom};
 ghost use Rattle.smx_run.specs.Gathering.{IsLeastStrange};
-ghost use Rattle.smx_run.specs.RunFaults.{RefusesRun};
+ghost use Rattle.smx_run.specs.ProgramOrder.{calls_from};
+ghost use Rattle.smx_run.specs.RecordedRuns.{IsRecordOf};
+ghost use Rattle.smx_run.specs.RunFaults.{RefusesAlone, RefusesRun};
+ghost use Rattle.smx_run.specs.declared.fault.RunFault.{RunFault};
 ghost use Rattle.smx_run.specs.declared.fault.RunFault.TheVariants as run;
 
 /// Two programs have two fronts, each of a beginning of the history that holds all commands of the program: none is
@@ -29,7 +39,16 @@ pub fn refusals_of_an_example()
     ensures not_by_config { RefusesRun (mux ip 4 ∷ []) (run.ConfigFault config.NoMemory) → ⊥ }
     ensures not_full { RefusesRun (mux ip 4 ∷ mux ip 4 ∷ []) run.HistoryFull → ⊥ }
     ensures not_held { RefusesRun (mux ip 4 ∷ mux ip 4 ∷ []) run.Held → ⊥ }
-    ensures not_strange { (p : ℕ) → RefusesRun (mux ip 4 ∷ mux ip 4 ∷ []) (run.Strange p) → ⊥ }
+{}
+
+/// No run is refused for a strange process; and what is run on one thread alone is refused for its drivers or for want of
+/// memory, and for nothing else that a run may be refused for.
+pub fn refusals_have_few_causes()
+    ensures not_strange { (drivers : List DriverSpec) (p : ℕ) → RefusesRun drivers (run.Strange p) → ⊥ }
+    ensures not_full { (drivers : List DriverSpec) → RefusesAlone drivers run.HistoryFull → ⊥ }
+    ensures not_held { (drivers : List DriverSpec) → RefusesAlone drivers run.Held → ⊥ }
+    ensures not_strange_alone { (drivers : List DriverSpec) (p : ℕ) → RefusesAlone drivers (run.Strange p) → ⊥ }
+    ensures no_more { (drivers : List DriverSpec) (fault : RunFault) → RefusesAlone drivers fault → RefusesRun drivers fault }
 {}
 
 /// A process is strange whose entries are not its transcript, also one past the list; and no later one is answered.
@@ -37,4 +56,13 @@ pub fn strange_processes_of_an_example()
     ensures strange { IsLeastStrange (opened ∷ exited ∷ copied ∷ []) ((opened ∷ copied ∷ []) ∷ []) 1 }
     ensures not_borne_out { IsLeastStrange (opened ∷ exited ∷ copied ∷ []) ((opened ∷ copied ∷ []) ∷ (exited ∷ []) ∷ []) 1 → ⊥ }
     ensures not_later { IsLeastStrange (opened ∷ exited ∷ copied ∷ []) ((opened ∷ []) ∷ []) 1 → ⊥ }
+{}
+
+/// A recorder that keeps all that it is told has the drivers and the entries of a report, process by process, and what
+/// comes back with it is the view of that report.
+pub fn what_is_recorded()
+    ensures { (programs : ProgramLists) (drivers : List DriverSpec) (entries : List Entry) (view : ConfigView)
+        → IsRecordOf programs (λ (ds : List DriverSpec) (es : List Entry) (k : List DriverSpec × List Entry). k ≡ (ds, es)) (drivers, entries) view
+        → IsReportOf programs (record { drivers = drivers; entries = entries; view = view })
+        × (map call_of entries ≡ calls_from 0 programs.programs) × (length entries ≤ MAX_COMMANDS) }
 {}

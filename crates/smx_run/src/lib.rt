@@ -10,10 +10,9 @@ pub mod laws_of_runs;
 mod meeting;
 mod recorded_run;
 mod recorder;
+mod recording;
 mod report;
 mod run;
-#[cfg(test)]
-mod tests;
 mod threads;
 mod worker;
 
@@ -24,3 +23,4 @@ pub use recorded_run::run_recorded;
 pub use recorder::Recorder;
 pub use report::Report;
 pub use run::{MAX_WORKERS, run_programs};
+pub use worker::{Done, Job, work};

@@ -1,6 +1,6 @@
 //! A run: the programs of all processes, by so many workers.
 
-ghost use Rattle.std.specs.Prelude.{◌≡◌, ◌≤◌, ◌++◌, [], length, map, IfOk, IfErr};
+ghost use Rattle.std.specs.Prelude.{◌≡◌, ◌≤◌, ◌++◌, [], length, map, IfOk, IfErr, OnOk};
 ghost use Rattle.smx_model.specs.Headline.{IsReportOf};
 ghost use Rattle.smx_model.specs.DriverList.{IsDriverList};
 ghost use Rattle.smx_model.specs.Histories.{call_of, HoldsPrograms};
@@ -21,7 +21,7 @@ use crate::threads::run_together;
 use crate::worker::run_program;
 use smx_model::laws_of_messages::few_commands_drop;
 use smx_shared::{ApplyFault, Front, Fronts, System};
-use smx_types::{Commands, MAX_COMMANDS, Process, ProgramList, Programs};
+use smx_types::{Commands, DriverSpec, MAX_COMMANDS, Process, ProgramList, Programs};
 use std::alloc::Global;
 use std::sync::Wait;
 use std::thread::Threads;
@@ -49,10 +49,25 @@ pub fn run_programs<R: Threads + Wait + Sync, G: Gate + Sync>(
 {
     few_commands_drop();
     let (drivers, programs) = programs.into_parts();
-    let mut system = System::new(alloc, drivers.as_slice(), MAX_COMMANDS)?;
-    system.reserve(count_commands(programs.as_slice()))?;
+    let system = new_system(
+        alloc,
+        drivers.as_slice(),
+        count_commands(programs.as_slice()),
+    )?;
     let (system, fronts) = run_all(rt, alloc, system, programs, workers, gate)?;
     Ok(report(system, drivers, fronts)?)
+}
+
+// A system without a history, with room for so many entries.
+fn new_system(alloc: Global, drivers: &[DriverSpec], entries: usize) -> Result<System, RunFault>
+    ensures drivers { IfOk result (λ s. (s.drivers ≡ drivers.now) × IsDriverList drivers.now) }
+    ensures empty { IfOk result (λ s. s.history ≡ []) }
+    ensures limit { IfOk result (λ s. s.limit ≡ MAX_COMMANDS) }
+    ensures refused { IfErr result (RefusesRun drivers.now) }
+{
+    let mut system = System::new(alloc, drivers, MAX_COMMANDS)?;
+    system.reserve(entries)?;
+    Ok(system)
 }
 
 // The system once it was asked all programs, on this thread alone where a second worker would have no process.
@@ -73,7 +88,10 @@ fn run_all<R: Threads + Wait + Sync, G: Gate + Sync>(
 {
     let hands = workers.min(programs.as_slice().len());
     if hands < 2 {
-        return Ok(run_alone(rt, alloc, system, programs, gate)?);
+        let process = Process::new(0).unwrap();
+        let mut desk = Alone { process, system };
+        let fronts = run_alone(rt, alloc, &mut desk, programs, gate)?;
+        return Ok((desk.system, fronts));
     }
     run_together(rt, alloc, system, programs, hands, gate)
 }
@@ -102,25 +120,23 @@ fn front_of(system: &System) -> Front
 fn run_alone<G: Gate, R: Wait>(
     rt: &R,
     alloc: Global,
-    mut system: System,
+    desk: &mut Alone,
     programs: ProgramList,
     gate: &G,
-) -> Result<(System, Fronts), ApplyFault>
-    requires empty { system.history ≡ [] }
+) -> Result<Fronts, ApplyFault>
+    requires empty { desk.old.system.history ≡ [] }
     requires processes { length programs ≤ MAX_PROCESSES }
-    ensures drivers { IfOk result (λ r. r.0.drivers ≡ system.drivers) }
-    ensures calls { IfOk result (λ r. map call_of r.0.history ≡ calls_from 0 programs) }
-    ensures fronts { IfOk result (λ r. AreFrontsFrom r.0.drivers r.0.history 0 programs r.1) }
+    ensures drivers { OnOk result (desk.new.system.drivers ≡ desk.old.system.drivers) }
+    ensures calls { OnOk result (map call_of desk.new.system.history ≡ calls_from 0 programs) }
+    ensures fronts { IfOk result (AreFrontsFrom desk.new.system.drivers desk.new.system.history 0 programs) }
 {
     let mut fronts = Vec::with_capacity(alloc, programs.as_slice().len())?;
     let mut number = 0;
     for commands in programs.into_vec() {
-        let process = Process::new(number).unwrap();
-        let mut desk = Alone { process, system };
-        run_program(rt, &mut desk, commands, gate)?;
-        system = desk.system;
-        fronts.push_reserved(front_of(&system));
+        desk.process = Process::new(number).unwrap();
+        run_program(rt, desk, commands, gate)?;
+        fronts.push_reserved(front_of(&desk.system));
         number += 1;
     }
-    Ok((system, Fronts::from_vec(fronts)))
+    Ok(Fronts::from_vec(fronts))
 }

@@ -24,7 +24,8 @@ pub struct Done<S: Drop> {
     pub front: Front,
 }
 
-/// Runs each process to its end, in turn, or to the first fault.
+/// Runs each process to its end, in turn, or to the first fault. The door is any that keeps its promises, as a
+/// `Shared` system does.
 pub fn work<D: Door, G: Gate, R: Wait>(
     rt: &R,
     alloc: Global,
@@ -69,7 +70,8 @@ where
     })
 }
 
-/// Has the commands of a program performed, in order, to the end of it or to the first fault.
+/// Has the commands of a program performed, in order, to the end of it or to the first fault. The gate is told of each
+/// under the process that the desk is of.
 pub fn run_program<K: Desk, G: Gate, R: Wait>(
     rt: &R,
     desk: &mut K,
@@ -77,6 +79,7 @@ pub fn run_program<K: Desk, G: Gate, R: Wait>(
     gate: &G,
 ) -> Result<(), ApplyFault>
     requires { K.ready desk.old }
+    ensures whose { K.whose desk.new ≡ K.whose desk.old }
     ensures ready { OnOk result (K.ready desk.new) }
     ensures performed { OnOk result (K.performed desk.old commands desk.new) }
 {

@@ -1,6 +1,7 @@
 //! Histories and programs that were typed in, and what comes of them.
 
 mod callers;
+mod doors;
 mod fault_words;
 mod gates;
 mod gathered;

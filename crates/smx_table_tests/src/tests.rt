@@ -1,9 +1,13 @@
 //! Tables that were filled by hand, and what they then hold.
 
+mod bindings;
+mod flow_tables;
 mod link_tables;
 mod link_tables_at_limits;
+mod place_marks;
 mod queue_calls;
 mod queues;
+mod routes;
 mod stream_tables;
 mod stream_tables_at_limits;
 mod stream_walks;

@@ -1,26 +1,33 @@
-//! A run by four workers, each of which waits at its gate until all four are there.
+//! Runs whose gate waits until as many workers are there as there may be, and a run of one worker that tells its gate.
+
+ghost use Rattle.std.specs.Prelude.{◌≤◌};
 
 use super::checks::check_bytes;
 use smx_filters::{Source, Target, run_text};
 use smx_run::Gate;
 use smx_types::Process;
+use std::alloc::Global;
 use std::hint::spin_loop;
+use std::process::Abort;
+use std::sync::Wait;
 use std::sync::atomic::{AtomicU64, Ordering};
+use std::thread::Threads;
 
 // The most turns that a worker waits.
 const TURNS: u32 = 100_000_000;
 
-// How many workers came to their first command, and how many have seen all four there.
+// How many workers are wanted, how many came to their first command, and how many have seen all of them there.
 #[derive(Drop)]
-struct FourMeet {
+struct Meet {
+    wanted: u64,
     inside: AtomicU64,
     met: AtomicU64,
 }
 
-impl FourMeet {
+impl Meet {
     fn are_all_inside(&self) -> bool {
         for _ in 0..TURNS {
-            if self.inside.load(Ordering::SeqCst) == 4 {
+            if self.inside.load(Ordering::SeqCst) == self.wanted {
                 return true;
             }
             spin_loop();
@@ -29,7 +36,7 @@ impl FourMeet {
     }
 }
 
-impl Gate for FourMeet {
+impl Gate for Meet {
     fn before(&self, _process: Process, number: usize) {
         if number == 0 {
             self.inside.fetch_add(1, Ordering::SeqCst);
@@ -45,18 +52,71 @@ impl Gate for FourMeet {
 const FOUR: &[u8] =
     b"programs 1\ndriver ip mux 4 8 3 16\ndriver eth leaf 2 8 3 16\nprocess 0\nclone ip\nexit\nprocess 1\nclone ip\nexit\nprocess 2\nclone ip\nexit\nprocess 3\nclone ip\nexit\nend\n";
 
-#[test]
-fn four_workers_are_inside_at_once(rt: HostRuntime) {
-    let gate = FourMeet {
+const TWO: &[u8] =
+    b"programs 1\ndriver ip mux 4 8 3 16\ndriver eth leaf 2 8 3 16\nprocess 0\nclone ip\nexit\nprocess 1\nclone ip\nexit\nend\n";
+
+// So many workers are inside at once, and the check of what they wrote says this line.
+fn all_meet<R: Abort + Threads + Wait + Sync>(
+    rt: &R,
+    alloc: Global,
+    input: &[u8],
+    workers: usize,
+    line: &[u8],
+)
+    requires { (1 ≤ workers) × (workers ≤ 64) }
+{
+    let gate = Meet {
+        wanted: workers as u64,
         inside: AtomicU64::new(0),
         met: AtomicU64::new(0),
     };
+    let mut written = Target::new(Vec::new(alloc));
+    let mut feed = Source::new(input);
+    let ran = run_text(rt, alloc, &mut feed, &mut written, workers, false, &gate);
+    assert!(rt; ran.is_ok());
+    assert_eq!(rt; gate.met.load(Ordering::SeqCst), workers as u64);
+    let judged = check_bytes(alloc, written.writer.as_slice());
+    assert_eq!(rt; judged.status, 0);
+    assert_eq!(rt; judged.output.as_slice(), line);
+}
+
+#[test]
+fn four_workers_are_inside_at_once(rt: HostRuntime) {
+    all_meet(&rt, rt.alloc(), FOUR, 4, b"legal 8\n");
+}
+
+#[test]
+fn two_workers_are_inside_at_once(rt: HostRuntime) {
+    all_meet(&rt, rt.alloc(), TWO, 2, b"legal 4\n");
+}
+
+// How often it was told that a command is performed next, and that one was.
+#[derive(Drop)]
+struct Counts {
+    before: AtomicU64,
+    after: AtomicU64,
+}
+
+impl Gate for Counts {
+    fn before(&self, _process: Process, _number: usize) {
+        self.before.fetch_add(1, Ordering::SeqCst);
+    }
+
+    fn after(&self, _process: Process, _number: usize) {
+        self.after.fetch_add(1, Ordering::SeqCst);
+    }
+}
+
+#[test]
+fn one_worker_tells_the_gate(rt: HostRuntime) {
+    let gate = Counts {
+        before: AtomicU64::new(0),
+        after: AtomicU64::new(0),
+    };
     let mut written = Target::new(Vec::new(rt.alloc()));
     let mut feed = Source::new(FOUR);
-    let ran = run_text(&rt, rt.alloc(), &mut feed, &mut written, 4, false, &gate);
+    let ran = run_text(&rt, rt.alloc(), &mut feed, &mut written, 1, false, &gate);
     assert!(rt; ran.is_ok());
-    assert_eq!(rt; gate.met.load(Ordering::SeqCst), 4);
-    let judged = check_bytes(rt.alloc(), written.writer.as_slice());
-    assert_eq!(rt; judged.status, 0);
-    assert_eq!(rt; judged.output.as_slice(), b"legal 8\n".as_slice());
+    assert_eq!(rt; gate.before.load(Ordering::SeqCst), 8);
+    assert_eq!(rt; gate.after.load(Ordering::SeqCst), 8);
 }

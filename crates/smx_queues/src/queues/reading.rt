@@ -1,6 +1,6 @@
 //! What a place has: its messages, its mark, its bytes.
 
-ghost use Rattle.std.specs.Prelude.{◌≡◌, ◌+◌, ◌≤◌, ◌++◌, length, map, Some, None, IfOk, option_copied};
+ghost use Rattle.std.specs.Prelude.{◌≡◌, ◌+◌, ◌≤◌, [], ◌++◌, length, map, Some, None, IfOk, option_copied};
 ghost use Rattle.std.specs.Prelude.{slice_get, vec_capacity, Option};
 ghost use Rattle.smx_types.specs.declared.message.Message.{Message};
 ghost use Rattle.smx_model.specs.Queues.{bytes_of};
@@ -73,6 +73,17 @@ impl Queues {
             nodes: &self.nodes,
             key: chain.first,
             left: chain.count,
+        }
+    }
+
+    // No messages, of any place.
+    pub(crate) fn no_messages(&self) -> Messages<'_>
+        ensures { result ≡ [] }
+    {
+        Messages {
+            nodes: &self.nodes,
+            key: 0,
+            left: 0,
         }
     }
 

@@ -6,7 +6,6 @@ use smx_text::{read_programs, write_transcript};
 use smx_types::{ConfigView, Copied, DriverSpec, Drivers, Entries, Entry, NoMemory, Transcript};
 use std::alloc::Global;
 use std::process::Abort;
-use std::sync::Wait;
 use std::test::Fail;
 
 // Keeps a copy of all that it is told, up to so many entries.
@@ -46,14 +45,13 @@ impl Recorder for Kept {
 }
 
 // What a recorder of so many entries was told of a run of the programs that this text spells, and the view at the end.
-fn recorded<R: Wait>(
-    rt: &R,
+fn recorded(
     alloc: Global,
     text: &[u8],
     most: usize,
 ) -> Result<Result<(Kept, ConfigView), RunFault>, Fail> {
     let programs = read_programs(alloc, text)?;
-    Ok(run_recorded(rt, alloc, programs, (alloc, most), &NoGate))
+    Ok(run_recorded(alloc, programs, (alloc, most), &NoGate))
 }
 
 // What was told, as a text.
@@ -100,21 +98,21 @@ end
 
 #[test]
 fn a_recorder_is_told_of_all(rt: HostRuntime) -> Result<(), Fail> {
-    let (kept, view) = recorded(&rt, rt.alloc(), TWO_PROCESSES, 6)??;
+    let (kept, view) = recorded(rt.alloc(), TWO_PROCESSES, 6)??;
     let written = told(rt.alloc(), kept, view)?;
     assert_eq!(rt; written.as_slice(), OF_TWO_PROCESSES);
     Ok(())
 }
 
 // The run is refused in these words.
-fn is_refused<R: Abort + Wait>(
+fn is_refused<R: Abort>(
     rt: &R,
     alloc: Global,
     text: &[u8],
     most: usize,
     words: &str,
 ) -> Result<(), Fail> {
-    let fault = recorded(rt, alloc, text, most)?.err().ok_or("refused")?;
+    let fault = recorded(alloc, text, most)?.err().ok_or("refused")?;
     prints(rt, alloc, &fault, words)
 }
 

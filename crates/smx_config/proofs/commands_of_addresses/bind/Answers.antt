@@ -1,10 +1,14 @@
 use Rattle.std.proofs.Common.{refl, sym, ◌∙◌}
 use Rattle.smx_config.specs.ModelOfLists.{configuration_of}
 use Rattle.smx_config.proofs.DoneLemmas.{bind_does}
+use Rattle.smx_config.proofs.LookupLemmas.{not_refused}
 use Rattle.smx_config.proofs.commands_of_addresses.bind.Goals as goal
 
 pub returns-clause-refines : goal.returns-clause-refines
 returns-clause-refines c =
     bind_does c.args.drivers.now (configuration_of c.args.lists.now) c.args.process c.args.fd c.args.addr c.in_ok-stream.stream _ _ (c.idle_changes_drop_none.ensures c.args.drivers.now) c.requires.swept_already (sym c.mux_stream.ensures ∙ c.in_ok-stream.was)
     (sym c.refuse_taken_address.ensures ∙ c.in_ok-refuse_taken_address.was)
-    (rw (c.put_bind.ensures, c.in_ok-reserve.ensures.items) refl) (rw c.new.ensures refl)
+    (rw c.in_ok-bind.ensures.ok refl) (rw c.new.ensures refl)
+
+pub bind-requires : goal.bind-requires
+bind-requires c = not_refused _ _ (sym c.refuse_taken_address.ensures ∙ c.in_ok-refuse_taken_address.was)

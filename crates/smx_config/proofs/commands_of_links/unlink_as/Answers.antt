@@ -1,4 +1,4 @@
-use Rattle.std.proofs.Common.{List, length, not, refl, sym, ap, subst, ◌∙◌, arith}
+use Rattle.std.proofs.Common.{List, length, not, sym, ap, subst, ◌∙◌, arith}
 use Rattle.std.specs.List.{All}
 use Rattle.std.proofs.lemmas.List.Elements.{All-filter}
 use Rattle.smx_types.specs.declared.link.Link.{Link}
@@ -16,8 +16,9 @@ pub returns-clause-refines : goal.returns-clause-refines
 returns-clause-refines c =
     let goes = is_target c.args.which c.args.kind c.in_ok-stream.stream in
     unlink_does c.args.drivers.now (configuration_of c.args.lists.now) c.args.process c.args.fd c.args.which c.args.kind c.in_ok-stream.stream _ (sym c.mux_stream.ensures ∙ c.in_ok-stream.was) (sym c.check_targets.ensures ∙ c.in_ok-check_targets.was)
-    (done_is c.args.drivers.now (configuration_of c.args.lists.now) _ (configuration_of c.sweep_and_reply.new.lists) c.in_ok-room.room.old.items c.sweep_and_reply.result
-    (c.sweep_and_reply.ensures.value ∙ ap (after_sweep c.args.drivers.now) (c.remove_links.ensures.value goes (c.deref.ensures.value ∙ c.in_ok-gone.ensures))) c.in_ok-room.ensures.old_serials c.sweep_and_reply.ensures.reply)
+    (done_is c.args.drivers.now (configuration_of c.args.lists.now) _ (configuration_of c.sweep_and_reply.new.lists) c.sweep_and_reply.result
+    (c.sweep_and_reply.ensures.value ∙ ap (after_sweep c.args.drivers.now) (c.remove_links.ensures.value goes (c.deref.ensures.value ∙ c.in_ok-gone.ensures)))
+    (c.sweep_and_reply.ensures.reply c.args.lists.now.queues.flow c.requires.serials.apart (c.remove_links.ensures.dropped c.args.lists.now.queues.flow c.in_ok-room.ensures.none)))
 
 pub sweep_and_reply-requires-clause-known : goal.sweep_and_reply-requires-clause-known
 sweep_and_reply-requires-clause-known c =
@@ -31,7 +32,7 @@ reserve_for_sweep-requires c =
     omega (arith, few_ids goes c.args.lists.now.links.links _ c.in_ok-gone.ensures, c.is_sound.ensures.few)
 
 pub remove_links-requires-clause-room : goal.remove_links-requires-clause-room
-remove_links-requires-clause-room c = omega (arith, c.in_ok-room.ensures.touched_room, ap length c.deref.ensures.value)
+remove_links-requires-clause-room c = omega (arith, c.in_ok-room.ensures.room.touched_room, ap length c.deref.ensures.value)
 
 pub sweep_and_reply-requires-clause-touched : goal.sweep_and_reply-requires-clause-touched
 sweep_and_reply-requires-clause-touched c =
@@ -44,10 +45,10 @@ sweep_and_reply-requires-clause-touched c =
 
 pub sweep_and_reply-requires-clause-room : goal.sweep_and_reply-requires-clause-room
 sweep_and_reply-requires-clause-room c = record {
-  touched_room = omega (arith, c.remove_links.ensures.few, c.remove_links.ensures.capacity, c.remove_links.ensures.fewer, c.in_ok-room.ensures.touched_room, ap length c.deref.ensures.value);
-  orphaned_empty = c.in_ok-room.ensures.orphaned_empty;
-  orphaned_room = omega (arith, c.in_ok-room.ensures.orphaned_room, c.remove_links.ensures.fewer);
-  old_serials = refl;
-  dropped_empty = c.in_ok-room.ensures.dropped_empty;
-  dropped_room = c.in_ok-room.ensures.dropped_room;
+  touched_room = omega (arith, c.remove_links.ensures.few, c.remove_links.ensures.capacity, c.remove_links.ensures.fewer, c.in_ok-room.ensures.room.touched_room, ap length c.deref.ensures.value);
+  seen_empty = c.in_ok-room.ensures.room.seen_empty;
+  seen_room = omega (arith, c.remove_links.ensures.few, c.remove_links.ensures.fewer, c.in_ok-room.ensures.room.seen_room, ap length c.deref.ensures.value);
+  orphaned_empty = c.in_ok-room.ensures.room.orphaned_empty;
+  orphaned_room = omega (arith, c.in_ok-room.ensures.room.orphaned_room, c.remove_links.ensures.fewer);
+  dropped_room = c.remove_links.ensures.room;
 }

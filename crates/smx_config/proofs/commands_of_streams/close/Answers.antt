@@ -1,4 +1,4 @@
-use Rattle.std.proofs.Common.{refl, sym, ◌∙◌}
+use Rattle.std.proofs.Common.{sym, ◌∙◌}
 use Rattle.smx_streams.specs.StreamTables.{stream_at}
 use Rattle.smx_config.proofs.TouchLemmas.{fd_at}
 use Rattle.smx_config.proofs.commands_of_streams.close.Goals as goal

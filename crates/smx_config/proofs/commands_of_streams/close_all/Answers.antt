@@ -5,13 +5,11 @@ use Rattle.smx_config.proofs.TouchLemmas.{all_closed_touch, touched_by, touched_
 use Rattle.smx_config.proofs.commands_of_streams.close_all.Goals as goal
 
 pub touch_each-requires : goal.touch_each-requires
-touch_each-requires c = omega (arith, c.in_ok-room.ensures.touched_room)
+touch_each-requires c = omega (arith, c.in_ok-room.ensures.room.touched_room)
 
 pub sweep_and_reply-requires-clause-kept : goal.sweep_and_reply-requires-clause-kept
 sweep_and_reply-requires-clause-kept c = record {
   held = λ s. c.close_process.ensures.rest.holds s ∙ c.requires.kept.held s;
-  marks_room = c.requires.kept.marks_room;
-  marks = c.requires.kept.marks;
 }
 
 pub sweep_and_reply-requires-clause-known : goal.sweep_and_reply-requires-clause-known
@@ -28,14 +26,15 @@ sweep_and_reply-requires-clause-touched c =
 
 pub sweep_and_reply-requires-clause-room : goal.sweep_and_reply-requires-clause-room
 sweep_and_reply-requires-clause-room c = record {
-  touched_room = omega (arith, c.touch_each.ensures.few, c.touch_each.ensures.capacity, c.in_ok-room.ensures.touched_room);
-  orphaned_empty = c.in_ok-room.ensures.orphaned_empty;
-  orphaned_room = c.in_ok-room.ensures.orphaned_room;
-  old_serials = refl;
-  dropped_empty = c.in_ok-room.ensures.dropped_empty;
-  dropped_room = c.in_ok-room.ensures.dropped_room;
+  touched_room = omega (arith, c.touch_each.ensures.few, c.touch_each.ensures.capacity, c.in_ok-room.ensures.room.touched_room);
+  seen_empty = c.in_ok-room.ensures.room.seen_empty;
+  seen_room = omega (arith, c.touch_each.ensures.few, c.in_ok-room.ensures.room.seen_room);
+  orphaned_empty = c.in_ok-room.ensures.room.orphaned_empty;
+  orphaned_room = c.in_ok-room.ensures.room.orphaned_room;
+  dropped_room = c.in_ok-room.ensures.room.dropped_room;
 }
 
 pub returns-clause-refines : goal.returns-clause-refines
 returns-clause-refines c =
-    done_is c.args.drivers.now (configuration_of c.args.lists.now) _ (configuration_of c.sweep_and_reply.new.lists) c.in_ok-room.room.old.items c.sweep_and_reply.result (c.sweep_and_reply.ensures.value ∙ rw c.close_process.ensures.rest.fds refl) c.in_ok-room.ensures.old_serials c.sweep_and_reply.ensures.reply
+    done_is c.args.drivers.now (configuration_of c.args.lists.now) _ (configuration_of c.sweep_and_reply.new.lists) c.sweep_and_reply.result (c.sweep_and_reply.ensures.value ∙ rw c.close_process.ensures.rest.fds refl)
+    (c.sweep_and_reply.ensures.reply c.args.lists.now.queues.flow c.requires.serials.apart c.in_ok-room.ensures.none)

@@ -1,22 +1,19 @@
-use Rattle.std.proofs.Common.{[], ◌∷◌, ap, length, length-append, refl, sym, subst, ◌∙◌, List, arith}
+use Rattle.std.proofs.Common.{[], ◌∷◌, ap, length, length-append, refl, ◌∙◌, List, arith}
 use Rattle.smx_types.specs.declared.stream.StreamId.{StreamId}
 use Rattle.std.specs.List.{list_any}
 use Rattle.smx_model.specs.Configuration.{same_stream}
 use Rattle.smx_config.specs.ModelOfLists.{configuration_of}
-use Rattle.smx_config.specs.TouchedStreams.{IsTouched}
 use Rattle.smx_config.proofs.DoneLemmas.{done_is}
 use Rattle.smx_config.proofs.TouchLemmas.{closed_touches, touched_by, touched_fds}
 use Rattle.smx_config.proofs.WatchLemmas.{listed_last}
 use Rattle.smx_config.proofs.commands_of_streams.close_last.Goals as goal
 
 pub push_reserved-requires : goal.push_reserved-requires
-push_reserved-requires c = omega (arith, c.in_ok-room.ensures.touched_room)
+push_reserved-requires c = omega (arith, c.in_ok-room.ensures.room.touched_room)
 
 pub sweep_and_reply-requires-clause-kept : goal.sweep_and_reply-requires-clause-kept
 sweep_and_reply-requires-clause-kept c = record {
   held = λ s. c.close_fd-closed.ensures.rest.holds s ∙ c.requires.invariant.kept.held s;
-  marks_room = c.requires.invariant.kept.marks_room;
-  marks = c.requires.invariant.kept.marks;
 }
 
 pub sweep_and_reply-requires-clause-known : goal.sweep_and_reply-requires-clause-known
@@ -34,14 +31,15 @@ sweep_and_reply-requires-clause-touched c =
 
 pub sweep_and_reply-requires-clause-room : goal.sweep_and_reply-requires-clause-room
 sweep_and_reply-requires-clause-room c = record {
-  touched_room = omega (arith, ap length c.push_reserved.ensures.items, length-append c.in_ok-room.room.touched.items (c.args.stream ∷ []), c.push_reserved.ensures.capacity, c.in_ok-room.ensures.touched_room);
-  orphaned_empty = c.in_ok-room.ensures.orphaned_empty;
-  orphaned_room = c.in_ok-room.ensures.orphaned_room;
-  old_serials = refl;
-  dropped_empty = c.in_ok-room.ensures.dropped_empty;
-  dropped_room = c.in_ok-room.ensures.dropped_room;
+  touched_room = omega (arith, ap length c.push_reserved.ensures.items, length-append c.in_ok-room.room.touched.items (c.args.stream ∷ []), c.push_reserved.ensures.capacity, c.in_ok-room.ensures.room.touched_room);
+  seen_empty = c.in_ok-room.ensures.room.seen_empty;
+  seen_room = omega (arith, ap length c.push_reserved.ensures.items, length-append c.in_ok-room.room.touched.items (c.args.stream ∷ []), c.in_ok-room.ensures.room.seen_room);
+  orphaned_empty = c.in_ok-room.ensures.room.orphaned_empty;
+  orphaned_room = c.in_ok-room.ensures.room.orphaned_room;
+  dropped_room = c.in_ok-room.ensures.room.dropped_room;
 }
 
 pub returns-clause-outcome : goal.returns-clause-outcome
 returns-clause-outcome c =
-    done_is c.args.drivers.now (configuration_of c.args.lists.now) _ (configuration_of c.sweep_and_reply.new.lists) c.in_ok-room.room.old.items c.sweep_and_reply.result (c.sweep_and_reply.ensures.value ∙ rw c.close_fd-closed.ensures.rest.fds refl) c.in_ok-room.ensures.old_serials c.sweep_and_reply.ensures.reply
+    done_is c.args.drivers.now (configuration_of c.args.lists.now) _ (configuration_of c.sweep_and_reply.new.lists) c.sweep_and_reply.result (c.sweep_and_reply.ensures.value ∙ rw c.close_fd-closed.ensures.rest.fds refl)
+    (c.sweep_and_reply.ensures.reply c.args.lists.now.queues.flow c.requires.invariant.serials.apart c.in_ok-room.ensures.none)

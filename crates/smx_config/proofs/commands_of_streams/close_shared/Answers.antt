@@ -1,4 +1,4 @@
-use Rattle.std.proofs.Common.{[], refl, sym, ◌∙◌}
+use Rattle.std.proofs.Common.{[], refl, ◌∙◌}
 use Rattle.smx_config.specs.ModelOfLists.{configuration_of}
 use Rattle.smx_config.proofs.TouchLemmas.{closed_stays, closes_shared, linked_still, swept_still, touched_by, touched_fds}
 use Rattle.smx_config.proofs.commands_of_streams.close_shared.Goals as goal
@@ -30,6 +30,4 @@ returns-clause-outcome c =
 pub returns-clause-kept : goal.returns-clause-kept
 returns-clause-kept c = record {
   held = λ s. c.close_fd-stays.ensures.rest.holds s ∙ c.requires.invariant.kept.held s;
-  marks_room = c.requires.invariant.kept.marks_room;
-  marks = c.requires.invariant.kept.marks;
 }

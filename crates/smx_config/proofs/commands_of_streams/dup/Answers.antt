@@ -1,17 +1,12 @@
-use Rattle.std.proofs.Common.{◌≡◌, refl, sym, ◌∙◌, inl, arith, ap}
+use Rattle.std.proofs.Common.{◌≡◌, refl, sym, ◌∙◌, inl, ap}
 use Rattle.std.proofs.lemmas.Result.{err_from_is_err_and}
-use Rattle.std.specs.Prelude.{nat_le}
 use Rattle.smx_types.specs.declared.command.Command.TheVariants as command
 use Rattle.smx_model.specs.Commands.{outcome}
-use Rattle.smx_model.specs.DriverList.{minors_of}
-use Rattle.smx_model.specs.Standing.{is_below}
-use Rattle.smx_streams.specs.StreamTables.{StreamTable, clone_answer, minor_answer, dup_answer}
+use Rattle.smx_streams.specs.StreamTables.{StreamTable, dup_answer}
 use Rattle.smx_config.specs.declared.step_error.StepError.TheVariants as step_error
 use Rattle.smx_config.specs.declared.lists.Lists.{Lists}
 use Rattle.smx_config.specs.ModelOfLists.{configuration_of}
-use Rattle.smx_config.specs.StreamFaults.{as_step_error}
-use Rattle.smx_config.proofs.DescriptorLemmas.{agrees_err, agrees_ok, clone_agrees, dup_agrees, dup_refused_in_place, minor_agrees, refused_by}
-use Rattle.smx_config.proofs.LookupLemmas.{not_refused}
+use Rattle.smx_config.proofs.DescriptorLemmas.{agrees_err, agrees_ok, dup_agrees, dup_refused_in_place, refused_by}
 use Rattle.smx_config.proofs.commands_of_streams.dup.Goals as goal
 
 pub returns-in_err-opened-clause-refines : goal.returns-in_err-opened-clause-refines
@@ -35,4 +30,4 @@ returns-clause-refines c =
     ∙ rw c.in_ok-opened.ensures.ok.fds refl)
 
 pub returns-clause-kept : goal.returns-clause-kept
-returns-clause-kept c = record { held = λ s. c.in_ok-opened.ensures.ok.holds s ∙ c.requires.kept.held s; marks_room = c.requires.kept.marks_room; marks = c.requires.kept.marks }
+returns-clause-kept c = record { held = λ s. c.in_ok-opened.ensures.ok.holds s ∙ c.requires.kept.held s }

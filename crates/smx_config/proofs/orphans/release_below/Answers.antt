@@ -1,11 +1,11 @@
-use Rattle.std.proofs.Common.{List, take, ◌++◌, ◌∷◌, [], true, false, length, length-append, refl, sym, ap, ◌∙◌, arith}
+use Rattle.std.proofs.Common.{take, ◌++◌, ◌∷◌, [], length, length-append, refl, sym, ap, ◌∙◌, arith}
 use Rattle.std.proofs.lemmas.Bool.{and_parts, true≢false}
-use Rattle.smx_types.specs.declared.stream.StreamId.{StreamId}
 use Rattle.smx_model.specs.Configuration.{same_stream}
 use Rattle.smx_config.specs.ExistingStreams.{is_loose}
 use Rattle.smx_config.specs.TouchedStreams.{is_watched}
 use Rattle.smx_config.proofs.ReleaseLemmas.{less_this, loose_held, releases_this}
 use Rattle.smx_config.proofs.TableLemmas.{none_past}
+use Rattle.smx_config.proofs.TouchLemmas.{release_touches_on}
 use Rattle.smx_config.proofs.WatchLemmas.{all_at, all_in_all, all_more, all_watch_on, listed_last, none_by, released_is_watched, still_listed, still_listed_before, watched_less}
 use Rattle.smx_config.proofs.orphans.release_below.Goals as goal
 use Rattle.smx_config.proofs.orphans.release_below.Goals.{in-Some+then-is_loose_by, in-Some+else-is_loose_by, in_default}
@@ -35,6 +35,7 @@ loop-i-init c = record {
   so_far = refl;
   enough = omega (arith, c.requires.enough, length-append c.args.touched.now.items (c.args.ctl ∷ []));
   less = omega arith;
+  touched = λ s h. h;
   none = λ f. refl;
 }
 
@@ -59,6 +60,7 @@ loop-i-preserved c = elim c.match-at.branch [
             (released_is_watched c.args.links.now.links c.loop-i.streams w.release-gone.new.self (c.loop-i.touched.items ++ w.in-Some.link.now.lower ∷ []) w.in-Some.link.now (c.loop-i.invariant.releasing 0).once w.release-gone.ensures.rest));
         enough = omega (arith, less, longer, one_more, c.loop-i.invariant.enough, w.push_reserved.ensures.capacity);
         less = omega (arith, less, longer, one_more, c.loop-i.invariant.less);
+        touched = rw pushed (release_touches_on c.args.streams.now c.loop-i.streams w.release-gone.new.self c.args.touched.now.items c.loop-i.touched.items w.in-Some.link.now.lower _ w.release-gone.ensures.rest c.loop-i.invariant.touched);
         none = λ f. absurd (true≢false f);
       })
   | in-Some+else-is_loose_by w ↦
@@ -72,6 +74,7 @@ loop-i-preserved c = elim c.match-at.branch [
             (all_at (is_watched c.loop-i.streams (c.loop-i.touched.items ++ c.args.ctl ∷ [])) c.args.links.now.links c.loop-i.i w.in-Some.link.now w.in-Some.ensures c.loop-i.invariant.all));
         enough = c.loop-i.invariant.enough;
         less = c.loop-i.invariant.less;
+        touched = c.loop-i.invariant.touched;
         none = c.loop-i.invariant.none;
       })
   | in_default w ↦ absurd (none_past c.args.links.now.links c.loop-i.i w.in_default.ensures (omega arith))

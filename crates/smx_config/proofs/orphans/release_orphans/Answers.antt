@@ -4,6 +4,7 @@ use Rattle.std.specs.Prelude.{vec_capacity}
 use Rattle.std.proofs.lemmas.Bool.{true≢false}
 use Rattle.smx_types.specs.declared.stream.StreamId.{StreamId}
 use Rattle.smx_config.specs.TouchedStreams.{IsCascade, is_watched}
+use Rattle.smx_config.proofs.TouchLemmas.{all_seen, seen_more}
 use Rattle.smx_config.proofs.WatchLemmas.{none_loose, nothing_left}
 use Rattle.smx_config.proofs.orphans.release_orphans.Goals as goal
 
@@ -20,6 +21,8 @@ loop-stream-preserved-then-release_below c = record {
   fds = c.release_below.ensures.fds ∙ c.loop-stream.invariant.fds;
   minors = c.release_below.ensures.minors ∙ c.loop-stream.invariant.minors;
   cascade = c.release_below.ensures.cascade;
+  room = omega (arith, c.loop-stream.invariant.room, c.release_below.ensures.less, ap length c.in-Some.ensures.items, length-append c.pop.new.self.items (c.in-Some.stream ∷ []), ap length c.push_reserved.ensures.items, length-append c.loop-stream.seen.items (c.in-Some.stream ∷ []), c.push_reserved.ensures.capacity);
+  seen = λ s h. rw c.push_reserved.ensures.items (seen_more c.loop-stream.streams c.release_below.new.streams c.loop-stream.left.items c.pop.new.self.items c.release_below.new.touched.items c.loop-stream.seen.items c.in-Some.stream s c.in-Some.ensures.items c.release_below.ensures.touched (c.loop-stream.invariant.seen s h));
   none = λ f. absurd (true≢false f);
 }
 
@@ -28,8 +31,18 @@ loop-stream-preserved c = record {
   fds = c.release_below.ensures.fds ∙ c.loop-stream.invariant.fds;
   minors = c.release_below.ensures.minors ∙ c.loop-stream.invariant.minors;
   cascade = c.release_below.ensures.cascade;
+  room = omega (arith, c.loop-stream.invariant.room, c.release_below.ensures.less, ap length c.in-Some.ensures.items, length-append c.pop.new.self.items (c.in-Some.stream ∷ []), ap length c.push_reserved.ensures.items, length-append c.loop-stream.seen.items (c.in-Some.stream ∷ []), c.push_reserved.ensures.capacity);
+  seen = λ s h. rw c.push_reserved.ensures.items (seen_more c.loop-stream.streams c.release_below.new.streams c.loop-stream.left.items c.pop.new.self.items c.release_below.new.touched.items c.loop-stream.seen.items c.in-Some.stream s c.in-Some.ensures.items c.release_below.ensures.touched (c.loop-stream.invariant.seen s h));
   none = λ f. c.release_below.ensures.none c.if-release_below.false ∙ c.loop-stream.invariant.none f;
 }
+
+pub push_reserved-requires : goal.push_reserved-requires
+push_reserved-requires c = omega (arith, c.loop-stream.invariant.room, ap length c.in-Some.ensures.items, length-append c.pop.new.self.items (c.in-Some.stream ∷ []))
+
+pub returns-clause-seen : goal.returns-clause-seen
+returns-clause-seen c = λ s h.
+    let none : length c.loop-stream.left.items ≡ 0 = search rules in
+    all_seen c.loop-stream.streams c.loop-stream.left.items c.loop-stream.seen.items s (nothing_left c.loop-stream.left.items none) (c.loop-stream.invariant.seen s h)
 
 pub returns-clause-none : goal.returns-clause-none
 returns-clause-none c =

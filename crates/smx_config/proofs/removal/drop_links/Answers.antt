@@ -1,8 +1,6 @@
-use Rattle.std.proofs.Common.{arith, not, ap, sym, ◌∙◌}
+use Rattle.std.proofs.Common.{ap, sym, ◌∙◌}
 use Rattle.smx_links.specs.LinkLists.{LinkList}
-use Rattle.smx_config.specs.ListedLinks.{is_read_below_listed}
 use Rattle.smx_config.specs.ModelOfLists.{configuration_of}
-use Rattle.smx_config.proofs.MarkLemmas.{marks_after_emptied, not_more}
 use Rattle.smx_config.proofs.RemovalLemmas.{is_nothing, nothing_removed, none_listed, removed_is}
 use Rattle.smx_config.proofs.removal.drop_links.Goals as goal
 
@@ -14,15 +12,8 @@ returns-then-is_empty-clause-links c = none_listed c.args.gone.now c.args.lists.
 
 pub returns-clause-value : goal.returns-clause-value
 returns-clause-value c = λ goes e.
-    rw (c.keep_routes.ensures, c.keep_flow.ensures, c.keep_fulls.ensures.marks, c.remove_each.ensures.rest)
+    rw (c.unroute_links.ensures, c.drop_below.ensures.flow, c.drop_below.ensures.fulls, c.remove_each.ensures.rest)
     (removed_is (configuration_of c.args.lists.now) c.args.gone.now c.is_sound.ensures.sound.lowers c.is_sound.ensures.ids.rise goes e)
 
 pub returns-clause-links : goal.returns-clause-links
 returns-clause-links c = ap (λ (t : LinkList). t.links) c.remove_each.ensures.rest
-
-pub returns-clause-room : goal.returns-clause-room
-returns-clause-room c = omega (arith, not_more (λ h. not (is_read_below_listed c.args.lists.now.links.links c.args.gone.now h.place)) c.args.lists.now.flow.items c.keep_flow.new.flow.items c.keep_flow.ensures)
-
-pub returns-clause-marks : goal.returns-clause-marks
-returns-clause-marks c =
-    marks_after_emptied (is_read_below_listed c.args.lists.now.links.links c.args.gone.now) c.args.lists.now.flow.items c.keep_flow.new.flow.items c.args.lists.now.fulls.items c.keep_fulls.new.fulls.items c.requires.marks c.keep_flow.ensures c.keep_fulls.ensures.marks

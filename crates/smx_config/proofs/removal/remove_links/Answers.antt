@@ -1,15 +1,11 @@
-use Rattle.std.proofs.Common.{arith, not, subst, sym, List}
-use Rattle.smx_types.specs.declared.link.Link.{Link}
+use Rattle.std.proofs.Common.{arith, not}
 use Rattle.smx_links.specs.LinkLists.{is_one_of}
-use Rattle.smx_config.specs.ExistingStreams.{AreHeld}
-use Rattle.smx_config.proofs.MarkLemmas.{not_more}
+use Rattle.smx_config.proofs.PlaceLemmas.{not_more}
 use Rattle.smx_config.proofs.removal.remove_links.Goals as goal
 
 pub returns-clause-kept : goal.returns-clause-kept
 returns-clause-kept c = record {
   held = rw (c.drop_links.ensures.links, c.drop_links.ensures.streams) c.release_each.ensures.held;
-  marks_room = c.drop_links.ensures.room;
-  marks = c.drop_links.ensures.marks;
 }
 
 pub returns-clause-fewer : goal.returns-clause-fewer

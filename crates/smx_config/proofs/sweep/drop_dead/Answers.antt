@@ -1,19 +1,47 @@
-use Rattle.std.proofs.Common.{arith, not}
-use Rattle.smx_types.specs.declared.stream.Place.{Place}
-use Rattle.smx_streams.specs.StreamTables.{exists as is_there}
+use Rattle.std.proofs.Common.{◌∙◌, List, ap, refl, arith}
+use Rattle.std.proofs.lemmas.List.{take_more}
+use Rattle.smx_types.specs.declared.stream.StreamId.{StreamId}
+use Rattle.smx_model.specs.Configuration.{Configuration}
 use Rattle.smx_config.specs.ModelOfLists.{configuration_of}
-use Rattle.smx_config.proofs.DeadStreamLemmas.{dead_dropped}
-use Rattle.smx_config.proofs.MarkLemmas.{marks_after_emptied, not_more}
+use Rattle.smx_config.specs.TouchedStreams.{is_dead, without_streams}
+use Rattle.smx_config.proofs.DeadStreamLemmas.{all_gone, none_gone_yet, one_more_gone}
+use Rattle.smx_config.proofs.KeptLemmas.{held_again}
+use Rattle.smx_config.proofs.WalkLemmas.{taken_all}
 use Rattle.smx_config.proofs.sweep.drop_dead.Goals as goal
 
+pub loop-stream-init : goal.loop-stream-init
+loop-stream-init c = record {
+  value = none_gone_yet (configuration_of c.args.lists.now) c.args.lists.now.streams;
+  streams = refl;
+  drivers = refl;
+  dropped = λ old h. h;
+  room = c.requires.room;
+}
+
+pub loop-stream-preserved : goal.loop-stream-preserved
+loop-stream-preserved c =
+    let old = c.args.lists.now in
+    let i = c.loop-stream.stream-index in
+    let more = take_more c.args.seen.now i (record { driver = 0; minor = 0 }) (omega arith) in
+    record {
+      value = one_more_gone (configuration_of old) (configuration_of c.loop-stream.lists) (configuration_of c.drop_if_dead.new.lists)
+          old.streams _ c.args.seen.now i _ c.loop-stream.invariant.streams more c.loop-stream.invariant.value c.drop_if_dead.ensures.value;
+      streams = c.drop_if_dead.ensures.streams ∙ c.loop-stream.invariant.streams;
+      drivers = c.drop_if_dead.ensures.drivers ∙ c.loop-stream.invariant.drivers;
+      dropped = λ old h. c.drop_if_dead.ensures.dropped old (c.loop-stream.invariant.dropped old h);
+      room = c.drop_if_dead.ensures.room;
+    }
+
 pub returns-clause-value : goal.returns-clause-value
-returns-clause-value c = rw (c.keep_live_binds.ensures, c.keep_live_flow.ensures, c.keep_live_fulls.ensures.marks) (dead_dropped c.args.drivers.now (configuration_of c.args.lists.now) c.args.lists.now.streams c.requires.existing)
+returns-clause-value c =
+    let old = c.args.lists.now in
+    let seen = taken_all c.args.seen.now c.loop-stream.stream-index (omega arith) in
+    c.loop-stream.invariant.value
+    ∙ ap (λ (ss : List StreamId). without_streams (configuration_of old) (is_dead old.streams ss)) seen
+    ∙ all_gone c.args.drivers.now (configuration_of old) old.streams c.args.seen.now c.requires.existing c.requires.seen
 
 pub returns-clause-kept : goal.returns-clause-kept
-returns-clause-kept c =
-    let is_dead = λ (p : Place). not (is_there c.args.lists.now.streams p.stream) in
-    record {
-      held = c.requires.kept.held;
-      marks_room = omega (arith, not_more (λ h. not (is_dead h.place)) c.args.lists.now.flow.items c.keep_live_flow.new.flow.items c.keep_live_flow.ensures);
-      marks = marks_after_emptied is_dead c.args.lists.now.flow.items c.keep_live_flow.new.flow.items c.args.lists.now.fulls.items c.keep_live_fulls.new.fulls.items c.requires.kept.marks c.keep_live_flow.ensures c.keep_live_fulls.ensures.marks;
-    }
+returns-clause-kept c = record {
+  held = held_again _ _ _ _ c.requires.kept.held (ap (λ (x : Configuration). x.links) c.loop-stream.invariant.value)
+      c.loop-stream.invariant.streams;
+}

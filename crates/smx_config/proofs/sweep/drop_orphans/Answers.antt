@@ -8,6 +8,7 @@ use Rattle.smx_streams.specs.StreamTables.{StreamTable, exists as is_there}
 use Rattle.smx_config.specs.ExistingStreams.{AreHeld, is_held}
 use Rattle.smx_config.specs.ListedLinks.{is_orphaned}
 use Rattle.smx_config.specs.ModelOfLists.{configuration_of}
+use Rattle.smx_config.specs.TouchedStreams.{is_there_or_touched}
 use Rattle.smx_config.proofs.OrphanLemmas.{held_is_left, kept_alike, left_is_linked, left_links, released_are_orphaned}
 use Rattle.smx_config.proofs.TouchLemmas.{none_free}
 use Rattle.smx_config.proofs.sweep.drop_orphans.Goals as goal
@@ -61,4 +62,7 @@ returns-clause-kept c =
     subst (λ (ls : List Link). AreHeld ls c.drop_links.new.lists.streams) (sym left)
     (subst (λ (u : StreamTable). AreHeld (filter (is_held t) links) u) (sym c.drop_links.ensures.streams)
     (held_is_left links (length c.args.drivers.now) t (c.release_orphans-released.ensures.releasing (length c.args.drivers.now)))) in
-    record { held = held; marks_room = c.drop_links.ensures.room; marks = c.drop_links.ensures.marks }
+    record { held = held }
+
+pub returns-clause-seen : goal.returns-clause-seen
+returns-clause-seen c = λ s h. subst (λ (t : StreamTable). is_there_or_touched t c.release_orphans-released.new.seen.items s ≡ true) (sym c.drop_links.ensures.streams) (c.release_orphans-released.ensures.seen s h)

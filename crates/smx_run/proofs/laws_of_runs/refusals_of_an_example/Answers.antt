@@ -9,6 +9,3 @@ returns-clause-not_full c = one_name
 
 pub returns-clause-not_held : goal.returns-clause-not_held
 returns-clause-not_held c = one_name
-
-pub returns-clause-not_strange : goal.returns-clause-not_strange
-returns-clause-not_strange c p = one_name

@@ -7,17 +7,23 @@ use Rattle.smx_run.specs.ProgramOrder.{calls_from}
 use Rattle.smx_run.proofs.RecordingLemmas.{memory_refused, record_of}
 use Rattle.smx_run.proofs.recorded_run.run_recorded.Goals as goal
 
-pub returns-in_err-view-clause-refused : goal.returns-in_err-view-clause-refused
-returns-in_err-view-clause-refused g c =
+pub returns-in_err-run_all-clause-refused : goal.returns-in_err-run_all-clause-refused
+returns-in_err-run_all-clause-refused g c =
     let can : IsDriverList c.args.programs.drivers = search rules in
-    memory_refused c.args.programs.drivers _ c.from_residual-in_err-view.ensures.1 can
+    memory_refused c.args.programs.drivers _ c.from_residual-in_err-run_all.ensures.1 can
+
+pub returns-in_err-finish-clause-refused : goal.returns-in_err-finish-clause-refused
+returns-in_err-finish-clause-refused g c =
+    let can : IsDriverList c.args.programs.drivers = search rules in
+    memory_refused c.args.programs.drivers _ c.from_residual-in_err-finish.ensures.1 can
 
 pub returns-clause-report : goal.returns-clause-report
 returns-clause-report g c =
     let parts = c.into_parts-drivers.ensures in
-    let run = c.in_ok-recorder-2 in
+    let end = c.run_all.new.self in
     let can : IsDriverList c.args.programs.drivers = search rules in
-    let same : run.config.drivers ≡ c.args.programs.drivers = search rules in
-    let shown : c.in_ok-view.view ≡ view run.config.drivers run.config.configuration = search rules in
-    let recorded = subst (λ (programs : List (List Command)). HasRecorded g.K.Recorder.told run.recorder run.config (calls_from 0 programs)) parts.programs run.ensures.calls in
-    record_of g.K.Recorder.told c.lawful_after_each_entry.ensures c.few_commands_drop.ensures c.args.programs run.recorder run.config _ parts.within can same recorded shown
+    let same : end.config.drivers ≡ c.args.programs.drivers = search rules in
+    let told : c.in_ok-finish.field-0.0 ≡ end.recorder = search rules in
+    let shown : c.in_ok-finish.field-0.1 ≡ view end.config.drivers end.config.configuration = search rules in
+    let recorded = subst (λ (programs : List (List Command)). HasRecorded g.K.Recorder.told end.recorder end.config (calls_from 0 programs)) parts.programs c.in_ok-run_all.ensures.calls in
+    rw told (record_of g.K.Recorder.told c.lawful_after_each_entry.ensures c.few_commands_drop.ensures c.args.programs end.recorder end.config _ parts.within can same recorded shown)

@@ -12,10 +12,10 @@ loop-commands-preserved g c =
     let before = c.loop-commands.invariant in
     let did = c.in_ok-run_program.ensures.performed in
     let commands = c.in-Some.commands in
-    let p : ℕ = c.unwrap-process.result in
+    let p : ℕ = c.unwrap-desk.result in
     let number : p ≡ 0 + length c.loop-commands.yielded = search rules in
     let calls = did.calls ∙ ap (λ (cs : List (ℕ × Command)). cs ++ calls_of p commands) before.calls ∙ sym (calls_more 0 p c.loop-commands.yielded commands number) in
-    let was = subst (λ (ds : List DriverSpec). AreFrontsFrom ds c.loop-commands.system.history 0 c.loop-commands.yielded c.loop-commands.fronts.items) (sym did.drivers) before.fronts in
+    let was = subst (λ (ds : List DriverSpec). AreFrontsFrom ds c.loop-commands.desk.system.history 0 c.loop-commands.yielded c.loop-commands.fronts.items) (sym did.drivers) before.fronts in
     record {
       drivers = did.drivers ∙ before.drivers;
       counted = search rules;

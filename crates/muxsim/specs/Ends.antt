@@ -1,0 +1,51 @@
+-- How the program ends: what came of the job, and the exit status that tells it.
+use Rattle.std.specs.Prelude.{◌≡◌, ℕ, Bool, List, Option, Result, Ok, Err}
+use Rattle.std.specs.Process.{exit_status}
+use Rattle.std.specs.declared.process.ExitCode.{ExitCode}
+use Rattle.smx_config.specs.declared.verdict.Verdict.{Verdict}
+use Rattle.smx_filters.specs.CheckText.{ChecksText}
+use Rattle.smx_filters.specs.RunText.{RunsText}
+use Rattle.smx_filters.specs.Statuses.{status_of_outcome}
+use Rattle.smx_filters.specs.declared.done.Done.{Done}
+use Rattle.smx_filters.specs.declared.done.Done.TheVariants.{Finished, Judged}
+use Rattle.smx_filters.specs.declared.fault.MainFault.{MainFault}
+use Rattle.muxsim.specs.declared.jobs.Job.{Job}
+use Rattle.muxsim.specs.declared.jobs.Job.TheVariants.{Run, Check}
+
+-- a run that was done is finished
+abbrev pub outcome_of_run : Result (Unit {0}) MainFault → Result Done MainFault
+outcome_of_run (Ok done) = Ok Finished
+outcome_of_run (Err fault) = Err fault
+
+-- a check that was done has judged
+abbrev pub outcome_of_check : Result Verdict MainFault → Result Done MainFault
+outcome_of_check (Ok verdict) = Ok (Judged verdict)
+outcome_of_check (Err fault) = Err fault
+
+-- what the reader had, has left and has shown, and how often it failed; the same of the writer
+pub record Devices : Type 0 where
+  pub had : Option (List ℕ)
+  pub left : Option (List ℕ)
+  pub ended : Bool
+  pub read_failures : ℕ
+  pub before : Option (List ℕ)
+  pub after : Option (List ℕ)
+  pub flushed : Bool
+  pub write_failures : ℕ
+
+-- the programs were run, and the status is that of what came of it
+pub record EndsRun (fronts : Bool) (workers : ℕ) (d : Devices) (code : ExitCode) : Type 0 where
+  pub answer : Result (Unit {0}) MainFault
+  pub ran : RunsText fronts workers d.had d.left d.ended d.read_failures d.before d.after d.flushed d.write_failures answer
+  pub status : exit_status code ≡ status_of_outcome (outcome_of_run answer)
+
+-- the transcript was judged, and the status is that of what came of it
+pub record EndsCheck (d : Devices) (code : ExitCode) : Type 0 where
+  pub answer : Result Verdict MainFault
+  pub judged : ChecksText d.had d.left d.ended d.read_failures d.before d.after d.flushed d.write_failures answer
+  pub status : exit_status code ≡ status_of_outcome (outcome_of_check answer)
+
+-- the job was done, and the status is that of what came of it
+abbrev pub EndsJob : Job → Devices → ExitCode → Type 0
+EndsJob (Run workers fronts) d code = EndsRun fronts workers d code
+EndsJob Check d code = EndsCheck d code

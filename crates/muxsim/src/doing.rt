@@ -1,0 +1,111 @@
+//! A job that is done on two devices, and the exit status that tells what came of it.
+
+ghost use Rattle.std.specs.Prelude.{◌≡◌, false};
+ghost use Rattle.std.specs.Process.{exit_status};
+ghost use Rattle.muxsim.specs.Ends.{EndsCheck, EndsJob, EndsRun};
+ghost use Rattle.muxsim.specs.Jobs.{CanRun};
+ghost use Rattle.smx_filters.specs.Statuses.{status_of_outcome};
+
+use crate::jobs::Job;
+use smx_filters::{Done, Feed, MainFault, Sink, check_text, run_text};
+use smx_run::NoGate;
+use std::alloc::Global;
+use std::process::ExitCode;
+use std::sync::Wait;
+use std::thread::Threads;
+
+/// Does the job with what `feed` has, and writes to `sink`. A fault gets its line on standard error. Neither device has
+/// failed before, and no read has shown the end.
+pub fn do_job<R: Threads + Wait + Sync + Eprint, F: Feed, S: Sink>(
+    rt: &R,
+    alloc: Global,
+    job: Job,
+    feed: &mut F,
+    sink: &mut S,
+) -> ExitCode
+    requires job { CanRun job }
+    requires before_the_end { F.ended feed.old ≡ false }
+    requires fed { F.failures feed.old ≡ 0 }
+    requires sunk { S.failures sink.old ≡ 0 }
+    ensures { EndsJob job (record {
+      had = F.remaining feed.old;
+      left = F.remaining feed.new;
+      ended = F.ended feed.new;
+      read_failures = F.failures feed.new;
+      before = S.contents sink.old;
+      after = S.contents sink.new;
+      flushed = S.flushed sink.new;
+      write_failures = S.failures sink.new;
+    }) result }
+{
+    match job {
+        Job::Run { workers, fronts } => run(rt, alloc, feed, sink, workers, fronts),
+        Job::Check => check(rt, alloc, feed, sink),
+    }
+}
+
+// Runs the programs.
+fn run<R: Threads + Wait + Sync + Eprint, F: Feed, S: Sink>(
+    rt: &R,
+    alloc: Global,
+    feed: &mut F,
+    sink: &mut S,
+    workers: usize,
+    fronts: bool,
+) -> ExitCode
+    requires workers { CanRun (Job.Run workers fronts) }
+    requires before_the_end { F.ended feed.old ≡ false }
+    requires fed { F.failures feed.old ≡ 0 }
+    requires sunk { S.failures sink.old ≡ 0 }
+    ensures { EndsRun fronts workers (record {
+      had = F.remaining feed.old;
+      left = F.remaining feed.new;
+      ended = F.ended feed.new;
+      read_failures = F.failures feed.new;
+      before = S.contents sink.old;
+      after = S.contents sink.new;
+      flushed = S.flushed sink.new;
+      write_failures = S.failures sink.new;
+    }) result }
+{
+    match run_text(rt, alloc, feed, sink, workers, fronts, &NoGate) {
+        Ok(()) => ended(rt, Ok(Done::Finished)),
+        Err(fault) => ended(rt, Err(fault)),
+    }
+}
+
+// Judges the transcript.
+fn check<R: Eprint, F: Feed, S: Sink>(rt: &R, alloc: Global, feed: &mut F, sink: &mut S) -> ExitCode
+    requires before_the_end { F.ended feed.old ≡ false }
+    requires fed { F.failures feed.old ≡ 0 }
+    requires sunk { S.failures sink.old ≡ 0 }
+    ensures { EndsCheck (record {
+      had = F.remaining feed.old;
+      left = F.remaining feed.new;
+      ended = F.ended feed.new;
+      read_failures = F.failures feed.new;
+      before = S.contents sink.old;
+      after = S.contents sink.new;
+      flushed = S.flushed sink.new;
+      write_failures = S.failures sink.new;
+    }) result }
+{
+    match check_text(alloc, feed, sink) {
+        Ok(verdict) => ended(rt, Ok(Done::Judged(verdict))),
+        Err(fault) => ended(rt, Err(fault)),
+    }
+}
+
+/// The status of what was done, with the line on standard error that says why nothing came of it.
+pub fn ended<R: Eprint>(rt: &R, outcome: Result<Done, MainFault>) -> ExitCode
+    ensures { exit_status result ≡ status_of_outcome outcome }
+{
+    match outcome {
+        Ok(done) => ExitCode::from(done.status()),
+        Err(fault) => {
+            let status = fault.status();
+            let _ = eprintln!(rt; "muxsim: {fault}");
+            ExitCode::from(status)
+        }
+    }
+}

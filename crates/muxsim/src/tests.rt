@@ -1,3 +1,0 @@
-//! Tests of the words of the command line.
-
-mod words;

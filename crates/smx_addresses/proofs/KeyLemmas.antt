@@ -1,0 +1,166 @@
+-- What is found in a list after one more goes to its place, and after some are taken out.
+use Rattle.std.proofs.Common.{◌≡◌, ℕ, Bool, true, false, cond, ◌||◌, not, List, [], ◌∷◌, filter, find, is_some, Some, None, refl, sym, ap, ◌∙◌, arith, inl, inr}
+use Rattle.std.specs.Cmp.{IsEquivalence}
+use Rattle.std.specs.List.{list_any}
+use Rattle.std.specs.Option.{option_map}
+use Rattle.std.proofs.lemmas.Bool.{cases_Bool, false≢true}
+use Rattle.std.proofs.lemmas.Bool.Decides.{nat_tests}
+use Rattle.smx_model.specs.Ordered.{with_inserted}
+use Rattle.smx_addresses.specs.Keys.{Key, is_key, found, AreApart}
+
+-- equal keys
+
+pub is_key_sym : (p q : Key) → is_key p q ≡ is_key q p
+is_key_sym p q = grind (arith, nat_tests)
+
+pub is_key_refl : (p : Key) → is_key p p ≡ true
+is_key_refl p = grind (arith, nat_tests)
+
+pub is_key_trans : (p q r : Key) → is_key p q ≡ true → is_key q r ≡ true → is_key p r ≡ true
+is_key_trans p q r h k = grind (arith, nat_tests)
+
+-- equal keys pass the same tests
+pub is_key_congr : (p q r : Key) → is_key p q ≡ true → is_key p r ≡ is_key q r
+is_key_congr p q r h = grind (arith, nat_tests)
+
+-- keys that pass as equal are equal
+pub key_same : (p q : Key) → is_key p q ≡ true → p ≡ q
+key_same p q h = let a : p.0 ≡ q.0 = grind (arith, nat_tests) in let b : p.1 ≡ q.1 = grind (arith, nat_tests) in (λ i. (a i, b i))
+
+pub keys_equal : IsEquivalence is_key
+keys_equal = record { refl = is_key_refl; symm = is_key_sym; congr = λ p q r h. is_key_congr p q r h }
+
+-- what is found
+
+module _ {X : Type 0} (key : X → Key) (value : X → ℕ) where
+  -- the test of the model, and the look-up
+  pub found_any : (xs : List X) (k : Key) → is_some (found key value xs k) ≡ list_any (λ x. is_key (key x) k) xs
+  found_any [] k = refl
+  found_any (x ∷ xs) k = rw (is_key_sym k (key x)) (elim (cases_Bool (is_key (key x) k)) [ inl t ↦ rw t refl | inr f ↦ rw f (found_any xs k) ])
+
+  -- the look-up, by the search of the model
+  pub found_value : (xs : List X) (k : Key) → found key value xs k ≡ option_map value (find (λ x. is_key (key x) k) xs)
+  found_value [] k = refl
+  found_value (x ∷ xs) k = rw (is_key_sym k (key x)) (elim (cases_Bool (is_key (key x) k)) [ inl t ↦ rw t refl | inr f ↦ rw f (found_value xs k) ])
+
+  -- where an element is made of its key and its value, the search of the model and the look-up
+  pub found_find : (make : Key → ℕ → X) → ((x : X) → make (key x) (value x) ≡ x) → (xs : List X) (k : Key) → find (λ x. is_key (key x) k) xs ≡ option_map (make k) (found key value xs k)
+  found_find make whole [] k = refl
+  found_find make whole (x ∷ xs) k = rw (is_key_sym k (key x)) (elim (cases_Bool (is_key (key x) k)) [
+    | inl t ↦ rw t (ap (λ (y : X). Some y) (sym (whole x) ∙ ap (λ (q : Key). make q (value x)) (key_same (key x) k t)))
+    | inr f ↦ rw f (found_find make whole xs k)
+  ])
+
+  -- where no element has the key nothing is found
+  pub found_none : (xs : List X) (k : Key) → list_any (λ x. is_key (key x) k) xs ≡ false → found key value xs k ≡ None
+  found_none [] k h = refl
+  found_none (x ∷ xs) k h = elim (cases_Bool (is_key (key x) k)) [
+    | inl t ↦ absurd (false≢true (sym h ∙ ap (λ b. b || list_any (λ x. is_key (key x) k) xs) t))
+    | inr f ↦ rw (is_key_sym k (key x), f) (found_none xs k (sym (ap (λ b. b || list_any (λ x. is_key (key x) k) xs) f) ∙ h))
+  ]
+
+  -- one more, whose key is new
+  pub found_inserted : (before : X → X → Bool) (xs : List X) (x : X) (q : Key) → list_any (λ y. is_key (key y) (key x)) xs ≡ false
+      → found key value (with_inserted before xs x) q ≡ cond (is_key (key x) q) (Some (value x)) (found key value xs q)
+  found_inserted before [] x q h = rw (is_key_sym q (key x)) refl
+  found_inserted before (y ∷ ys) x q h = elim (cases_Bool (before x y)) [
+    | inl t ↦ rw (t, is_key_sym q (key x)) refl
+    | inr f ↦ rw f (elim (cases_Bool (is_key (key y) (key x))) [
+      | inl s ↦ absurd (false≢true (sym h ∙ ap (λ b. b || list_any (λ z. is_key (key z) (key x)) ys) s))
+      | inr d ↦
+          let e = found_inserted before ys x q (sym (ap (λ b. b || list_any (λ z. is_key (key z) (key x)) ys) d) ∙ h) in
+          elim (cases_Bool (is_key q (key y))) [
+            | inl a ↦ elim (cases_Bool (is_key (key x) q)) [
+              | inl b ↦ absurd (false≢true (sym d ∙ is_key_sym (key y) (key x) ∙ is_key_trans (key x) q (key y) b a))
+              | inr b ↦ rw (a, b) refl
+            ]
+            | inr a ↦ rw a e
+          ]
+    ])
+  ]
+
+  -- without those that have the key
+  pub found_filter : (xs : List X) (k q : Key) → found key value (filter (λ x. not (is_key (key x) k)) xs) q ≡ cond (is_key k q) None (found key value xs q)
+  found_filter [] k q = elim (cases_Bool (is_key k q)) [ inl t ↦ rw t refl | inr f ↦ rw f refl ]
+  found_filter (x ∷ xs) k q = elim (cases_Bool (is_key (key x) k)) [
+    | inl t ↦ rw t (elim (cases_Bool (is_key k q)) [
+      | inl a ↦ rw a (found_filter xs k q ∙ rw a refl)
+      | inr a ↦ rw (a, is_key_sym q (key x), is_key_congr (key x) k q t, a) (found_filter xs k q ∙ rw a refl)
+    ])
+    | inr f ↦ rw f (elim (cases_Bool (is_key q (key x))) [
+      | inl a ↦ rw (a, is_key_sym k q ∙ is_key_congr q (key x) k a ∙ f) refl
+      | inr a ↦ rw a (found_filter xs k q)
+    ])
+  ]
+
+-- tests of all elements
+
+module _ {X : Type 0} where
+  -- fewer elements pass no more
+  pub any_filter : (test keep : X → Bool) (xs : List X) → list_any test xs ≡ false → list_any test (filter keep xs) ≡ false
+  any_filter test keep [] h = refl
+  any_filter test keep (x ∷ xs) h = elim (cases_Bool (test x)) [
+    | inl t ↦ absurd (false≢true (sym h ∙ ap (λ b. b || list_any test xs) t))
+    | inr f ↦
+        let rest = any_filter test keep xs (sym (ap (λ b. b || list_any test xs) f) ∙ h) in
+        elim (cases_Bool (keep x)) [ inl k ↦ rw (k, f) rest | inr k ↦ rw k rest ]
+  ]
+
+  -- where none passes none is taken out
+  pub filter_all : (test : X → Bool) (xs : List X) → list_any test xs ≡ false → filter (λ x. not (test x)) xs ≡ xs
+  filter_all test [] h = refl
+  filter_all test (x ∷ xs) h = elim (cases_Bool (test x)) [
+    | inl t ↦ absurd (false≢true (sym h ∙ ap (λ b. b || list_any test xs) t))
+    | inr f ↦ rw f (ap (λ (ys : List X). x ∷ ys) (filter_all test xs (sym (ap (λ b. b || list_any test xs) f) ∙ h)))
+  ]
+
+  -- tests that answer the same
+  pub any_same : (p q : X → Bool) → ((x : X) → p x ≡ q x) → (xs : List X) → list_any p xs ≡ list_any q xs
+  any_same p q e [] = refl
+  any_same p q e (x ∷ xs) = rw (e x, any_same p q e xs) refl
+
+  -- a test that answers true only where another does
+  pub none_of : (p q : X → Bool) → ((x : X) → p x ≡ true → q x ≡ true) → (xs : List X) → list_any q xs ≡ false → list_any p xs ≡ false
+  none_of p q h [] e = refl
+  none_of p q h (x ∷ xs) e = elim (cases_Bool (q x)) [
+    | inl t ↦ absurd (false≢true (sym e ∙ ap (λ b. b || list_any q xs) t))
+    | inr f ↦ elim (cases_Bool (p x)) [
+      | inl t ↦ absurd (false≢true (sym f ∙ h x t))
+      | inr g ↦ rw g (none_of p q h xs (sym (ap (λ b. b || list_any q xs) f) ∙ e))
+    ]
+  ]
+
+-- lists where no key comes twice
+
+module _ {X : Type 0} (key : X → Key) where
+  -- fewer elements
+  pub apart_filter : (keep : X → Bool) (xs : List X) → AreApart key xs → AreApart key (filter keep xs)
+  apart_filter keep [] h = tt
+  apart_filter keep (x ∷ xs) h = elim (cases_Bool (keep x)) [
+    | inl t ↦ rw t (any_filter (λ y. is_key (key y) (key x)) keep xs h.0, apart_filter keep xs h.1)
+    | inr f ↦ rw f (apart_filter keep xs h.1)
+  ]
+
+  any_inserted : (before : X → X → Bool) (test : X → Bool) (xs : List X) (x : X) → test x ≡ false → list_any test xs ≡ false → list_any test (with_inserted before xs x) ≡ false
+  any_inserted before test [] x f h = rw f refl
+  any_inserted before test (y ∷ ys) x f h = elim (cases_Bool (before x y)) [
+    | inl t ↦ rw (t, f) h
+    | inr n ↦ rw n (elim (cases_Bool (test y)) [
+      | inl s ↦ absurd (false≢true (sym h ∙ ap (λ b. b || list_any test ys) s))
+      | inr d ↦ rw d (any_inserted before test ys x f (sym (ap (λ b. b || list_any test ys) d) ∙ h))
+    ])
+  ]
+
+  -- one more, whose key is new
+  pub apart_inserted : (before : X → X → Bool) (xs : List X) (x : X) → list_any (λ y. is_key (key y) (key x)) xs ≡ false → AreApart key xs → AreApart key (with_inserted before xs x)
+  apart_inserted before [] x new h = (refl, tt)
+  apart_inserted before (y ∷ ys) x new h = elim (cases_Bool (before x y)) [
+    | inl t ↦ rw t (new, h)
+    | inr n ↦ rw n (elim (cases_Bool (is_key (key y) (key x))) [
+      | inl s ↦ absurd (false≢true (sym new ∙ ap (λ b. b || list_any (λ z. is_key (key z) (key x)) ys) s))
+      | inr d ↦ (
+        any_inserted before (λ z. is_key (key z) (key y)) ys x (is_key_sym (key x) (key y) ∙ d) h.0,
+        apart_inserted before ys x (sym (ap (λ b. b || list_any (λ z. is_key (key z) (key x)) ys) d) ∙ new) h.1,
+      )
+    ])
+  ]

@@ -1,0 +1,8 @@
+pub mod KeyLemmas
+pub mod OrderLemmas
+pub mod ChangeLemmas
+pub mod TableLemmas
+pub mod BindingLemmas
+pub mod RouteLemmas
+pub mod TargetLemmas
+pub mod LineLemmas

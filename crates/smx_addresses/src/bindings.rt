@@ -1,0 +1,157 @@
+//! The bindings of all drivers.
+
+ghost use Rattle.std.specs.Prelude.{◌≡◌, false, ◌==◌, ◌&&◌, not, [], filter, find, length, IfOk, OnOk, OnErr};
+ghost use Rattle.smx_model.specs.Configuration.{bind_before};
+ghost use Rattle.smx_model.specs.Ordered.{with_inserted};
+ghost use Rattle.smx_addresses.specs.BindingLists.{is_taken, IsBindingList};
+
+use crate::key::{Key, key_of};
+use indexmap::IndexMap;
+use smx_types::{Binding, NoMemory, StreamId};
+use std::alloc::Global;
+use std::marker::Model;
+
+/// Which stream each address of a driver is bound to. A contract sees the list of bindings, by driver and address.
+#[derive(Debug, Drop)]
+pub struct Bindings {
+    // The minor at a driver and an address.
+    minors: IndexMap<Key, u8>,
+    // The address at a driver and a minor.
+    addrs: IndexMap<Key, u32>,
+}
+
+impl Model for Bindings {
+    ghost use Rattle.std.specs.Prelude.{List};
+    ghost use Rattle.smx_types.specs.declared.link.Binding.{Binding};
+
+    ghost Value = { List Binding };
+
+    ghost use Rattle.smx_addresses.specs.TableFields.{bindings_of, AreBindings};
+
+    ghost view = { λ t. bindings_of t.minors.entries };
+
+    ghost invariant = { λ t. AreBindings t.minors.entries t.addrs.entries };
+}
+
+impl Bindings {
+    /// Nothing is bound. The table keeps the allocator.
+    pub fn new(alloc: Global) -> Bindings
+        ensures { result ≡ [] }
+    {
+        Bindings {
+            minors: IndexMap::new(alloc),
+            addrs: IndexMap::new(alloc),
+        }
+    }
+
+    /// The binding of a driver's address. One look-up.
+    pub fn at(&self, driver: u8, addr: u32) -> Option<Binding>
+        ensures { result ≡ find (λ b. (b.driver == driver) && (b.addr == addr)) self.now }
+    {
+        let minor = *self.minors.get(&(driver, addr))?;
+        Some(Binding {
+            driver,
+            addr,
+            minor,
+        })
+    }
+
+    /// The binding of a stream. One look-up.
+    pub fn of(&self, stream: StreamId) -> Option<Binding>
+        ensures { result ≡ find (λ b. (b.driver == stream.driver) && (b.minor == stream.minor)) self.now }
+    {
+        let addr = *self.addrs.get(&key_of(stream))?;
+        Some(Binding {
+            driver: stream.driver,
+            addr,
+            minor: stream.minor,
+        })
+    }
+
+    /// Whether the stream's driver has bound the address, or the stream has one. Two look-ups.
+    pub fn is_taken(&self, stream: StreamId, addr: u32) -> bool
+        ensures { result ≡ is_taken self.now stream addr }
+    {
+        self.minors.contains_key(&(stream.driver, addr)) || self.addrs.contains_key(&key_of(stream))
+    }
+
+    /// Binds a stream that has no address to one that its driver has not bound. Fails only for want of memory, and
+    /// nothing has then changed.
+    pub fn bind(&mut self, stream: StreamId, addr: u32) -> Result<(), NoMemory>
+        requires { is_taken self.old stream addr ≡ false }
+        ensures ok { OnOk result (self.new ≡ with_inserted bind_before self.old
+            (record { driver = stream.driver; addr = addr; minor = stream.minor })) }
+        ensures err { OnErr result (self.new ≡ self.old) }
+    {
+        self.minors.reserve(1)?;
+        self.addrs.reserve(1)?;
+        self.minors
+            .insert((stream.driver, addr), stream.minor)
+            .unwrap();
+        self.addrs.insert(key_of(stream), addr).unwrap();
+        Ok(())
+    }
+
+    /// Takes the stream's binding away, and no other; None where it has none. Takes no memory.
+    pub fn unbind(&mut self, stream: StreamId) -> Option<Binding>
+        ensures binding { result ≡ find (λ b. (b.driver == stream.driver) && (b.minor == stream.minor)) self.old }
+        ensures rest { self.new
+            ≡ filter (λ b. not ((b.driver == stream.driver) && (b.minor == stream.minor))) self.old }
+    {
+        let addr = self.addrs.swap_remove(&key_of(stream))?;
+        let _minor = self.minors.swap_remove(&(stream.driver, addr));
+        Some(Binding {
+            driver: stream.driver,
+            addr,
+            minor: stream.minor,
+        })
+    }
+
+    /// The number of bindings.
+    pub fn len(&self) -> usize
+        ensures { result ≡ length self.now }
+    {
+        self.minors.len()
+    }
+
+    /// Whether nothing is bound.
+    pub fn is_empty(&self) -> bool
+        ensures { result ≡ (length self.now == 0) }
+    {
+        self.len() == 0
+    }
+
+    /// The bindings, by driver and address. Fails only for want of memory.
+    pub fn list(&self, alloc: Global) -> Result<Vec<Binding>, NoMemory>
+        ensures { IfOk result (λ v. v.items ≡ self.now) }
+    {
+        let mut list = Vec::with_capacity(alloc, self.minors.len())?;
+        for (key, minor) in self.minors.iter() {
+            list.push(Binding {
+                driver: key.0,
+                addr: key.1,
+                minor: *minor,
+            })?;
+        }
+        list.sort_unstable_by_key(|b| (b.driver, b.addr));
+        Ok(list)
+    }
+
+    /// What every table is: its bindings rise, and no stream has two. It does nothing: a caller who needs these facts
+    /// calls it.
+    pub fn is_sound(&self)
+        ensures { IsBindingList self.now }
+    {
+        let _minors = &self.minors;
+    }
+
+    /// The same table again, by the allocator that this one has. Fails only for want of memory.
+    pub fn copy(&self) -> Result<Bindings, NoMemory>
+        ensures { IfOk result (λ t. t ≡ self.now) }
+    {
+        Ok(Bindings {
+            minors: self.minors.clone()?,
+            addrs: self.addrs.clone()?,
+        })
+    }
+}

@@ -1,0 +1,19 @@
+//! The keys of both tables.
+
+ghost use Rattle.std.specs.Prelude.{◌≡◌};
+
+use indexmap::IndexMap;
+use smx_types::StreamId;
+
+/// A driver, and an address or a minor of it.
+pub type Key = (u8, u32);
+
+/// A number under each key: a minor, an address or an id.
+pub type Numbers = IndexMap<Key, u32>;
+
+// The stream as a key.
+pub fn key_of(stream: StreamId) -> Key
+    ensures { result ≡ (stream.driver, stream.minor) }
+{
+    (stream.driver, u32::from(stream.minor))
+}

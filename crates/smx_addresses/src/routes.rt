@@ -1,0 +1,172 @@
+//! The routes of all drivers.
+
+ghost use Rattle.std.specs.Prelude.{◌≡◌, ◌==◌, ◌&&◌, not, [], filter, find, length, IfOk, OnOk, OnErr};
+ghost use Rattle.std.specs.List.{list_any, IsDistinct};
+ghost use Rattle.std.specs.Map.{keys_of, lookup};
+ghost use Rattle.smx_model.specs.Configuration.{route_before};
+ghost use Rattle.smx_model.specs.Ordered.{with_inserted};
+ghost use Rattle.smx_addresses.specs.Keys.{Key as AnyKey, is_key, left_of};
+ghost use Rattle.smx_addresses.specs.RouteLists.{IsRouteList};
+
+use crate::key::{Key, Numbers};
+use crate::targets::{Targets, drop_target, put_target};
+use indexmap::IndexMap;
+use smx_types::{NoMemory, Route};
+use std::alloc::Global;
+use std::marker::Model;
+
+/// Which link each address of a driver is routed to. A contract sees the list of routes, by driver and address.
+#[derive(Debug, Drop)]
+pub struct Routes {
+    // The link's id at a driver and an address.
+    ids: Numbers,
+    // The routes to each link.
+    targets: Targets,
+}
+
+impl Model for Routes {
+    ghost use Rattle.std.specs.Prelude.{List};
+    ghost use Rattle.smx_types.specs.declared.link.Route.{Route};
+
+    ghost Value = { List Route };
+
+    ghost use Rattle.smx_addresses.specs.TableFields.{routes_of, AreRoutes};
+
+    ghost view = { λ t. routes_of t.ids.entries };
+
+    ghost invariant = { λ t. AreRoutes t.ids.entries t.targets.entries };
+}
+
+// Takes out what is under each of these keys.
+fn take_each(ids: &mut Numbers, keys: &[Key])
+    requires { IsDistinct is_key (keys_of ids.old.entries) }
+    ensures rest { (q : AnyKey) → lookup (is_key q) ids.new.entries
+        ≡ left_of keys.now q (lookup (is_key q) ids.old.entries) }
+    ensures unique { IsDistinct is_key (keys_of ids.new.entries) }
+{
+    for key in keys {
+        let _id = ids.swap_remove(key);
+    }
+}
+
+impl Routes {
+    /// Nothing is routed. The table keeps the allocator.
+    pub fn new(alloc: Global) -> Routes
+        ensures { result ≡ [] }
+    {
+        Routes {
+            ids: IndexMap::new(alloc),
+            targets: IndexMap::new(alloc),
+        }
+    }
+
+    /// The route of a driver's address. One look-up.
+    pub fn at(&self, driver: u8, addr: u32) -> Option<Route>
+        ensures { result ≡ find (λ r. (r.driver == driver) && (r.addr == addr)) self.now }
+    {
+        let id = *self.ids.get(&(driver, addr))?;
+        Some(Route { driver, addr, id })
+    }
+
+    /// Whether the driver has a route for the address. One look-up.
+    pub fn is_routed(&self, driver: u8, addr: u32) -> bool
+        ensures { result ≡ list_any (λ r. (r.driver == driver) && (r.addr == addr)) self.now }
+    {
+        self.ids.contains_key(&(driver, addr))
+    }
+
+    /// Routes a driver's address to a link, in place of the route that it has. Fails only for want of memory, and
+    /// nothing has then changed.
+    pub fn route(&mut self, driver: u8, addr: u32, id: u32) -> Result<(), NoMemory>
+        ensures ok { OnOk result (self.new ≡ with_inserted route_before
+            (filter (λ r. not ((r.driver == driver) && (r.addr == addr))) self.old)
+            (record { driver = driver; addr = addr; id = id })) }
+        ensures err { OnErr result (self.new ≡ self.old) }
+    {
+        let key = (driver, addr);
+        self.ids.reserve(1)?;
+        put_target(&mut self.targets, id, key)?;
+        if let Some(before) = self.ids.insert(key, id).unwrap() {
+            if before != id {
+                drop_target(&mut self.targets, before, key);
+            }
+        }
+        Ok(())
+    }
+
+    /// Takes the address's route away, and no other; None where it has none. Takes no memory.
+    pub fn unroute(&mut self, driver: u8, addr: u32) -> Option<Route>
+        ensures route { result ≡ find (λ r. (r.driver == driver) && (r.addr == addr)) self.old }
+        ensures rest { self.new ≡ filter (λ r. not ((r.driver == driver) && (r.addr == addr))) self.old }
+    {
+        let key = (driver, addr);
+        let id = self.ids.swap_remove(&key)?;
+        drop_target(&mut self.targets, id, key);
+        Some(Route { driver, addr, id })
+    }
+
+    /// Takes away all routes to a link, and no others. It costs what these are. Takes no memory.
+    pub fn unroute_link(&mut self, id: u32)
+        ensures { self.new ≡ filter (λ r. not (r.id == id)) self.old }
+    {
+        if let Some(keys) = self.targets.swap_remove(&id) {
+            take_each(&mut self.ids, keys.as_slice());
+        }
+    }
+
+    /// The same, for each of these links.
+    pub fn unroute_links(&mut self, ids: &[u32])
+        ensures { self.new ≡ filter (λ r. not (list_any (λ id. r.id == id) ids.now)) self.old }
+    {
+        for id in ids {
+            self.unroute_link(*id);
+        }
+    }
+
+    /// The number of routes.
+    pub fn len(&self) -> usize
+        ensures { result ≡ length self.now }
+    {
+        self.ids.len()
+    }
+
+    /// Whether nothing is routed.
+    pub fn is_empty(&self) -> bool
+        ensures { result ≡ (length self.now == 0) }
+    {
+        self.len() == 0
+    }
+
+    /// The routes, by driver and address. Fails only for want of memory.
+    pub fn list(&self, alloc: Global) -> Result<Vec<Route>, NoMemory>
+        ensures { IfOk result (λ v. v.items ≡ self.now) }
+    {
+        let mut list = Vec::with_capacity(alloc, self.ids.len())?;
+        for (key, id) in self.ids.iter() {
+            list.push(Route {
+                driver: key.0,
+                addr: key.1,
+                id: *id,
+            })?;
+        }
+        list.sort_unstable_by_key(|r| (r.driver, r.addr));
+        Ok(list)
+    }
+
+    /// What every table is: its routes rise. It does nothing: a caller who needs this fact calls it.
+    pub fn is_sound(&self)
+        ensures { IsRouteList self.now }
+    {
+        let _ids = &self.ids;
+    }
+
+    /// The same table again, by the allocator that this one has. Fails only for want of memory.
+    pub fn copy(&self) -> Result<Routes, NoMemory>
+        ensures { IfOk result (λ t. t ≡ self.now) }
+    {
+        Ok(Routes {
+            ids: self.ids.clone()?,
+            targets: self.targets.clone()?,
+        })
+    }
+}

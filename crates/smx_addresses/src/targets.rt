@@ -1,0 +1,37 @@
+//! The keys of the routes to each link.
+
+ghost use Rattle.std.specs.Prelude.{◌≡◌, ℕ, true, false, OnOk, OnErr};
+ghost use Rattle.smx_addresses.specs.Keys.{Key as AnyKey};
+ghost use Rattle.smx_addresses.specs.Targets.{is_target, IsTargetSet};
+
+use crate::key::Key;
+use indexmap::{IndexMap, IndexSet};
+use smx_types::NoMemory;
+
+/// A set of keys under the id of each link that has had a route since it was made.
+pub type Targets = IndexMap<u32, IndexSet<Key>>;
+
+// One key more of a link, or the same where it has that.
+pub fn put_target(targets: &mut Targets, id: u32, key: Key) -> Result<(), NoMemory>
+    ensures ok { OnOk result (IsTargetSet targets.old.entries targets.new.entries id key true) }
+    ensures err { OnErr result ((i : ℕ) (k : AnyKey) →
+        is_target targets.new.entries i k ≡ is_target targets.old.entries i k) }
+{
+    if let Some(keys) = targets.get_mut(&id) {
+        let _new = keys.insert(key)?;
+        return Ok(());
+    }
+    let mut keys = IndexSet::new(*targets.allocator());
+    let _new = keys.insert(key)?;
+    targets.insert(id, keys)?;
+    Ok(())
+}
+
+// One key less of a link.
+pub fn drop_target(targets: &mut Targets, id: u32, key: Key)
+    ensures { IsTargetSet targets.old.entries targets.new.entries id key false }
+{
+    if let Some(keys) = targets.get_mut(&id) {
+        let _was = keys.swap_remove(&key);
+    }
+}

@@ -1,0 +1,133 @@
+-- The least place with a run mark, and what is left of the marks where it can't be moved from.
+use Rattle.std.proofs.Common.{◌≡◌, ℕ, zero, suc, ◌≤◌, Bool, true, false, cond, List, [], ◌∷◌, find, Option, Some, None, refl, sym, ap, ◌∙◌, subst, arith, inl, inr}
+use Rattle.std.specs.Prelude.{◌⊎◌, IfNone}
+use Rattle.std.specs.List.{AllByRecursion, list_any}
+use Rattle.std.specs.Option.{is_some, option_map}
+use Rattle.std.proofs.lemmas.Bool.{cases_Bool, false≢true}
+use Rattle.smx_types.specs.declared.driver.DriverSpec.{DriverSpec}
+use Rattle.smx_types.specs.declared.limits.TheConstants.{MAX_MINORS}
+use Rattle.smx_types.specs.declared.message.Message.{Message}
+use Rattle.smx_types.specs.declared.stream.Place.{Place}
+use Rattle.smx_model.specs.Configuration.{Configuration, QueuedMessage, empty, same_place}
+use Rattle.smx_model.specs.DriverList.{IsDriverList, minors_of}
+use Rattle.smx_model.specs.KnownStreams.{IsKnown}
+use Rattle.smx_model.specs.Queues.{first_message, is_full}
+use Rattle.smx_model.specs.RunMarks.{all_but, is_next_of_first, is_one_of, nowhere, next_of, next_of_first}
+use Rattle.smx_model.specs.Settling.{◌>>=◌, IsSettled, is_movable, least_movable, next_open_place, next_place}
+use Rattle.smx_model.specs.SettlingByMarks.{HasItsMarks, IsAtRest, IsCleared, IsLeastMarked}
+use Rattle.smx_queues.specs.PlaceMarks.{MarkList, has_mark}
+use Rattle.smx_config.specs.declared.marks.Marks.{Marks}
+use Rattle.smx_config.specs.declared.settling.Move.{Move}
+use Rattle.smx_config.specs.Marking.{AreMarks, marked_configuration}
+use Rattle.smx_config.specs.Moves.{IsLeastMove, if_open}
+use Rattle.smx_config.proofs.DriverListLemmas.{minors_within}
+use Rattle.smx_config.proofs.PlaceLemmas.{place_is}
+
+-- what is settled has nothing to move
+none_found : (t : Place → Bool) (flow : List QueuedMessage) → ((p : Place) → t p ≡ false) → find (λ h. t h.place) flow ≡ None
+none_found t [] f = refl
+none_found t (h ∷ hs) f = rw (f h.place) (none_found t hs f)
+
+pub least_none : (drivers : List DriverSpec) (c : Configuration) → IsSettled drivers c → least_movable drivers c ≡ None
+least_none drivers c s = ap (option_map (λ (h : QueuedMessage). h.place)) (none_found (is_movable drivers c) c.flow s)
+
+-- where it is settled there is no least move
+pub none_left : (drivers : List DriverSpec) (c : Configuration) (r : Option Move) (P : Type 0) → IsSettled drivers c → IsLeastMove drivers c r → IfNone r P → P
+none_left drivers c None P s least none = none
+none_left drivers c (Some m) P s least none = let e = least_none drivers c s in absurd (apart (sym e ∙ least.0)) where
+  apart : ◌≡◌ {A = Option Place} None (Some m.from) → ⊥
+  apart k = cc
+
+-- where a first message goes, unless that is full, is where it may go on to
+pub open_of_next : (drivers : List DriverSpec) (c : Configuration) (p : Place) → next_open_place drivers c p ≡ if_open c (next_of_first drivers c p)
+open_of_next drivers c p = by (first_message c.flow p) where
+  by : (o : Option Message) → (o >>= (λ m. next_place drivers c p m.addr >>= (λ q. cond (is_full c q) None (Some q)))) ≡ if_open c (next_of drivers c p o)
+  by None = refl
+  by (Some m) = refl
+
+pub moves_to : (drivers : List DriverSpec) (c : Configuration) (p q : Place) (next : Option Place) → next ≡ next_of_first drivers c p → Some q ≡ if_open c next → next_open_place drivers c p ≡ Some q
+moves_to drivers c p q next is e = open_of_next drivers c p ∙ (ap (if_open c) (sym is) ∙ sym e)
+
+pub movable_to : (drivers : List DriverSpec) (c : Configuration) (p q : Place) → next_open_place drivers c p ≡ Some q → is_movable drivers c p ≡ true
+movable_to drivers c p q e = ap (λ (o : Option Place). is_some o) e
+
+-- a place that is not open is full
+pub not_open : (c : Configuration) (q : Place) (next : Option Place) → next ≡ Some q → if_open c next ≡ None → is_full c q ≡ true
+not_open c q next is e = by (is_full c q) (subst (λ (o : Option Place). if_open c o ≡ None) is e) where
+  by : (b : Bool) → cond b None (Some q) ≡ None → b ≡ true
+  by true h = refl
+  by false h = absurd cc
+
+-- ---- a run mark is cleared
+
+next_is : (o : Option Place) (q : Place) → is_one_of (λ x. same_place x q) o ≡ true → o ≡ Some q
+next_is None q h = absurd (false≢true h)
+next_is (Some x) q h = ap (λ (y : Place). Some y) (place_is x q h)
+
+pub is_cleared : (drivers : List DriverSpec) (c : Configuration) (p : Place) (next : Option Place) (old new : Marks) → IsLeastMarked (has_mark old.run) p → next ≡ next_of_first drivers c p → if_open c next ≡ None
+    → ((q : Place) → has_mark new.run q ≡ all_but (has_mark old.run) p q) → ((q : Place) → has_mark old.wanted q ≡ true → has_mark new.wanted q ≡ true) → ((q : Place) → next ≡ Some q → has_mark new.wanted q ≡ true)
+    → IsCleared drivers p (marked_configuration c old) (marked_configuration c new)
+is_cleared drivers c p next old new least is stays gone kept there = record {
+  least = least;
+  waits = ap (λ (o : Option Place). is_some o) (open_of_next drivers c p ∙ (ap (if_open c) (sym is) ∙ stays));
+  same = refl;
+  run = gone;
+  wanted = λ q h. elim (cases_Bool (has_mark old.wanted q)) [
+    | inl t ↦ kept q t
+    | inr f ↦ let k : is_next_of_first drivers c p q ≡ true = rw f at h in there q (is ∙ next_is (next_of_first drivers c p) q k)
+  ];
+}
+
+-- what is left of the marks
+pub cleared_marks : (drivers : List DriverSpec) (c : Configuration) (next : Option Place) (old new : Marks) → AreMarks drivers c old → HasItsMarks drivers (marked_configuration c new) → if_open c next ≡ None
+    → ((q : Place) → has_mark new.wanted q ≡ true → (has_mark old.wanted q ≡ true) ⊎ (next ≡ Some q)) → new.run.drivers ≡ old.run.drivers → new.wanted.drivers ≡ old.wanted.drivers → AreMarks drivers c new
+cleared_marks drivers c next old new h waiting stays few run wanted = record {
+  few = h.few;
+  run = run ∙ h.run;
+  wanted = wanted ∙ h.wanted;
+  waiting = waiting;
+  full = λ q w. elim (few q w) [ inl before ↦ h.full q before | inr here ↦ not_open c q next here stays ];
+}
+
+-- ---- the place that is waited for
+
+pub few_wanted : (to q : Place) (old new : MarkList) (next : Option Place) → next ≡ Some to → (same_place to q ≡ false → has_mark new q ≡ has_mark old q) → has_mark new q ≡ true → (has_mark old q ≡ true) ⊎ (next ≡ Some q)
+few_wanted to q old new next is others h = elim (cases_Bool (same_place to q)) [
+  | inl t ↦ inr (is ∙ ap (λ (x : Place). Some x) (place_is to q t))
+  | inr f ↦ inl (sym (others f) ∙ h)
+]
+
+pub there_too : (to q : Place) (m : MarkList) (next : Option Place) (drivers : List DriverSpec) → next ≡ Some to → (IsKnown drivers to.stream → has_mark m to ≡ true) → next ≡ Some q → IsKnown drivers q.stream → has_mark m q ≡ true
+there_too to q m next drivers is here at known = let e : to ≡ q = same (sym is ∙ at) in subst (λ (x : Place). has_mark m x ≡ true) e (here (subst (λ (x : Place). IsKnown drivers x.stream) (sym e) known)) where
+  same : ◌≡◌ {A = Option Place} (Some to) (Some q) → to ≡ q
+  same e = cc
+
+-- ---- at first
+
+few_of : (drivers : List DriverSpec) → AllByRecursion (λ d. d.minors ≤ MAX_MINORS) drivers → (n : ℕ) → minors_of drivers n ≤ 64
+few_of [] h n = omega arith
+few_of (d ∷ ds) h zero = h.0
+few_of (d ∷ ds) h (suc n) = few_of ds h.1 n
+
+-- no marks beside the empty configuration
+pub marks_at_first : (drivers given : List DriverSpec) (c : Configuration) (m : Marks) → given ≡ drivers → IsDriverList drivers → c ≡ empty → m.run.drivers ≡ drivers → m.wanted.drivers ≡ drivers → m.run.marked ≡ [] → m.wanted.marked ≡ []
+    → IsAtRest drivers (record { configuration = empty; run = nowhere; wanted = nowhere }) → AreMarks given c m × IsAtRest given (marked_configuration c m)
+marks_at_first drivers given c m same can none run wanted no_run no_wanted rest =
+    let at_rest = none_marked in
+    let here : AreMarks drivers c m = record {
+      few = few_of drivers (minors_within drivers can);
+      run = run;
+      wanted = wanted;
+      waiting = at_rest.marks;
+      full = λ p h. absurd (false≢true (sym (ap (list_any (same_place p)) no_wanted) ∙ h));
+    } in
+    subst (λ (ds : List DriverSpec). AreMarks ds c m × IsAtRest ds (marked_configuration c m)) (sym same) (here, at_rest) where
+      rested : (xs ys : List Place) → xs ≡ [] → ys ≡ [] → IsAtRest drivers (record { configuration = c; run = λ p. list_any (same_place p) xs; wanted = λ p. list_any (same_place p) ys })
+      rested xs ys e f =
+          let now : IsAtRest drivers (record { configuration = c; run = λ p. list_any (same_place p) []; wanted = λ p. list_any (same_place p) [] }) =
+          subst (λ (x : Configuration). IsAtRest drivers (record { configuration = x; run = nowhere; wanted = nowhere })) (sym none) rest in
+          subst (λ (zs : List Place). IsAtRest drivers (record { configuration = c; run = λ p. list_any (same_place p) zs; wanted = λ p. list_any (same_place p) ys })) (sym e)
+          (subst (λ (zs : List Place). IsAtRest drivers (record { configuration = c; run = λ p. list_any (same_place p) []; wanted = λ p. list_any (same_place p) zs })) (sym f) now)
+
+      none_marked : IsAtRest drivers (marked_configuration c m)
+      none_marked = rested m.run.marked m.wanted.marked no_run no_wanted

@@ -1,0 +1,63 @@
+-- What a command may wake, as it is told before the command is done. No public clause needs this.
+use Rattle.std.specs.Prelude.{ℕ, Bool, true, List, Result, Ok, Err}
+use Rattle.smx_types.specs.declared.command.Command.{Command}
+use Rattle.smx_types.specs.declared.command.Command.TheVariants as command
+use Rattle.smx_types.specs.declared.driver.DriverSpec.{DriverSpec}
+use Rattle.smx_types.specs.declared.reply.Fault.{Fault}
+use Rattle.smx_types.specs.declared.stream.Place.{Place}
+use Rattle.smx_types.specs.declared.stream.StreamId.{StreamId}
+use Rattle.smx_model.specs.Configuration.{Configuration, same_place}
+use Rattle.smx_model.specs.Lookups.{free_stream, leaf_stream, mux_stream, stream_of}
+use Rattle.smx_model.specs.RunMarks.{nowhere}
+use Rattle.smx_model.specs.TurnedPlaces.{read_side, write_side}
+use Rattle.smx_config.specs.Marking.{is_read_below_driver, is_write_of}
+use Rattle.smx_config.specs.declared.wakes.Wakes.{Wakes}
+use Rattle.smx_config.specs.declared.wakes.Wakes.TheVariants as wakes
+
+-- every place
+abbrev pub everywhere : Place → Bool
+everywhere p = true
+
+-- where the first message may be another one, or may have another place to go to
+abbrev pub turned_under : Configuration → Wakes → Place → Bool
+turned_under c wakes.Nothing = nowhere
+turned_under c (wakes.Turns p) = same_place p
+turned_under c (wakes.Leaves p) = same_place p
+turned_under c (wakes.TurnsWrites driver) = is_write_of driver
+turned_under c (wakes.TurnsReads driver) = is_read_below_driver c driver
+turned_under c wakes.Frees = nowhere
+
+-- which places may stop being full
+abbrev pub freed_under : Wakes → Place → Bool
+freed_under wakes.Nothing = nowhere
+freed_under (wakes.Turns p) = nowhere
+freed_under (wakes.Leaves p) = same_place p
+freed_under (wakes.TurnsWrites driver) = nowhere
+freed_under (wakes.TurnsReads driver) = nowhere
+freed_under wakes.Frees = everywhere
+
+-- by the stream that is named, or nothing where none is
+abbrev pub on_stream : Result StreamId Fault → (StreamId → Wakes) → Wakes
+on_stream (Ok s) f = f s
+on_stream (Err fault) f = wakes.Nothing
+
+-- what a command may wake, if it is accepted
+abbrev pub wakes_of : List DriverSpec → Configuration → ℕ → Command → Wakes
+wakes_of drivers c process (command.OpenClone name) = wakes.Nothing
+wakes_of drivers c process (command.OpenMinor name minor) = wakes.Nothing
+wakes_of drivers c process (command.Dup fd) = wakes.Nothing
+wakes_of drivers c process (command.Close fd) = wakes.Frees
+wakes_of drivers c process command.CloseAll = wakes.Frees
+wakes_of drivers c process (command.Link fd arg) = on_stream (stream_of c process arg) (λ s. wakes.Turns (read_side s))
+wakes_of drivers c process (command.Plink fd arg) = on_stream (stream_of c process arg) (λ s. wakes.Turns (read_side s))
+wakes_of drivers c process (command.Unlink fd w) = wakes.Frees
+wakes_of drivers c process (command.Punlink fd w) = wakes.Frees
+wakes_of drivers c process (command.Bind fd addr) = on_stream (mux_stream drivers c process fd) (λ s. wakes.TurnsReads s.driver)
+wakes_of drivers c process (command.Unbind fd) = wakes.Nothing
+wakes_of drivers c process (command.Route fd addr id) = on_stream (mux_stream drivers c process fd) (λ s. wakes.TurnsWrites s.driver)
+wakes_of drivers c process (command.Unroute fd addr) = wakes.Nothing
+wakes_of drivers c process (command.Write fd addr bytes) = on_stream (free_stream c process fd) (λ s. wakes.Turns (write_side s))
+wakes_of drivers c process (command.Read fd) = on_stream (free_stream c process fd) (λ s. wakes.Leaves (read_side s))
+wakes_of drivers c process (command.Flush fd w) = wakes.Frees
+wakes_of drivers c process (command.Inject name minor addr bytes) = on_stream (leaf_stream drivers c name minor) (λ s. wakes.Turns (read_side s))
+wakes_of drivers c process (command.Transmit name minor) = on_stream (leaf_stream drivers c name minor) (λ s. wakes.Leaves (write_side s))

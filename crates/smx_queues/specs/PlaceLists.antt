@@ -1,0 +1,49 @@
+-- The places of all streams that some drivers have, and their numbers.
+use Rattle.std.specs.Prelude.{◌≡◌, ℕ, zero, suc, ◌+◌, ◌*◌, ◌<◌, ◌≤◌, false, List, [], ◌∷◌, ◌++◌, length, map, Option, Some, slice_get, slice_index_or}
+use Rattle.std.specs.List.{list_any}
+use Rattle.smx_types.specs.declared.driver.DriverSpec.{DriverSpec}
+use Rattle.smx_types.specs.declared.stream.Place.{Place}
+use Rattle.smx_types.specs.declared.stream.Side.{Side}
+use Rattle.smx_types.specs.declared.stream.Side.TheVariants as side
+use Rattle.smx_model.specs.Configuration.{place_before, same_place}
+use Rattle.smx_model.specs.DriverList.{high_of, low_of, minors_of}
+use Rattle.smx_model.specs.Ordered.{IsRising}
+use Rattle.smx_queues.specs.QueueTable.{Queue, empty_queue}
+
+-- some drivers, and the places of their streams, numbered as they stand
+pub record PlaceList : Type 0 where
+  pub drivers : List DriverSpec
+  pub places : List Place
+
+-- the write side comes first
+abbrev pub side_number : Side → ℕ
+side_number side.Write = 0
+side_number side.Read = 1
+
+-- both sides of so many minors of a driver
+abbrev pub sides_of : ℕ → ℕ → List Place
+sides_of driver zero = []
+sides_of driver (suc n) = sides_of driver n ++ at side.Write ∷ at side.Read ∷ [] where
+  at : Side → Place
+  at s = record { stream = record { driver = driver; minor = n }; side = s }
+
+-- the number of a place, where the first place of each driver has these numbers
+abbrev pub number_of : List ℕ → Place → ℕ
+number_of firsts p = slice_index_or firsts p.stream.driver 0 + 2 * p.stream.minor + side_number p.side
+
+-- each is of one of the first n drivers
+abbrev pub HaveDriversBelow : ℕ → List Place → Type 0
+HaveDriversBelow n [] = Unit {0}
+HaveDriversBelow n (p ∷ places) = (p.stream.driver < n) × HaveDriversBelow n places
+
+-- the places of the drivers' streams, in order, each at its number, and no others
+pub record ArePlaces (drivers : List DriverSpec) (firsts : List ℕ) (places : List Place) : Type 0 where
+  pub one_each : length firsts ≡ length drivers
+  pub rising : IsRising place_before places
+  pub numbered : (p : Place) → p.stream.minor < minors_of drivers p.stream.driver → slice_get places (number_of firsts p) ≡ Some p
+  pub none_else : (p : Place) → minors_of drivers p.stream.driver ≤ p.stream.minor → list_any (same_place p) places ≡ false
+  pub drivers_below : HaveDriversBelow (length drivers) places
+
+-- a queue for each place, without messages, with the water marks of its driver
+abbrev pub new_queues : List DriverSpec → List Place → List (Option Queue)
+new_queues drivers places = map (λ p. Some (empty_queue (high_of drivers p.stream.driver) (low_of drivers p.stream.driver))) places

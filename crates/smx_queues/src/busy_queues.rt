@@ -1,0 +1,203 @@
+//! The queues of places, and which of them have messages.
+
+ghost use Rattle.std.specs.Prelude.{◌≡◌, ◌≢◌, ◌+◌, ◌<◌, ◌≤◌, [], ◌∷◌, ◌++◌, false, length, map, vec_capacity};
+ghost use Rattle.std.specs.Prelude.{Some, None, IfOk, IfNone, OnOk, OnSome, option_copied, slice_get};
+ghost use Rattle.std.specs.Prelude.{slice_index_or, slice_set};
+ghost use Rattle.smx_types.specs.declared.message.Message.{Message};
+ghost use Rattle.smx_queues.specs.QueueTable.{emptied, empty_queue, queue_at, with_arrival, with_queue};
+ghost use Rattle.smx_queues.specs.QueueTable.{without_front, IsPlace};
+ghost use Rattle.smx_queues.specs.Slots.{busy_byte, has_messages, is_marked, message_total, IsLeastFrom};
+
+use crate::messages::Messages;
+use crate::queues::{PlaceId, Queues};
+use memchr::memchr;
+use smx_types::{Message, NoMemory};
+use std::alloc::Global;
+use std::marker::Model;
+
+/// Queues with a byte for each place, by which a place that has messages is found fast. A contract sees the queues.
+#[derive(Debug, Drop)]
+pub struct BusyQueues {
+    queues: Queues,
+    // 1 where there are messages, and 0 elsewhere.
+    busy: Vec<u8>,
+}
+
+impl Model for BusyQueues {
+    ghost use Rattle.std.specs.Prelude.{◌≡◌, map};
+    ghost use Rattle.smx_queues.specs.QueueTable.{QueueTable};
+    ghost use Rattle.smx_queues.specs.Slots.{busy_byte};
+
+    ghost Value = { QueueTable };
+
+    ghost view = { λ q. q.queues };
+
+    ghost invariant = { λ q. q.busy.items ≡ map busy_byte q.queues.queues };
+}
+
+// The byte of a place tells again whether it has messages.
+fn set_busy(queues: &Queues, busy: &mut Vec<u8>, p: PlaceId)
+    requires place { IsPlace queues.now.queues p }
+    requires there { p < length busy.old.items }
+    ensures { busy.new.items
+        ≡ slice_set busy.old.items p (busy_byte (slice_index_or queues.now.queues p None)) }
+{
+    busy[p] = if queues.message_count(p) > 0 { 1 } else { 0 };
+}
+
+impl BusyQueues {
+    /// No place yet. It keeps the allocator for all that it makes, and takes no memory.
+    pub fn new(alloc: Global) -> BusyQueues
+        ensures { result.queues ≡ [] }
+    {
+        BusyQueues {
+            queues: Queues::new(alloc),
+            busy: Vec::new(alloc),
+        }
+    }
+
+    /// A place more behind all others, without messages.
+    pub fn add_place(&mut self, high: usize, low: usize) -> Result<(), NoMemory>
+        requires low { low < high }
+        requires high { high ≤ 4096 }
+        ensures { OnOk result (self.new.queues ≡ self.old.queues ++ Some (empty_queue high low) ∷ []) }
+    {
+        self.busy.reserve(1)?;
+        self.queues.add_places(1, high, low)?;
+        self.busy.push_reserved(0);
+        Ok(())
+    }
+
+    pub fn len(&self) -> usize
+        ensures { result ≡ message_total self.now.queues }
+    {
+        self.queues.len()
+    }
+
+    pub fn is_full(&self, p: PlaceId) -> bool
+        requires { IsPlace self.now.queues p }
+        ensures { result ≡ (queue_at self.now.queues p).full }
+    {
+        self.queues.is_full(p)
+    }
+
+    pub fn front(&self, p: PlaceId) -> Option<&Message>
+        requires { IsPlace self.now.queues p }
+        ensures { option_copied result ≡ slice_get (queue_at self.now.queues p).messages 0 }
+    {
+        self.queues.front(p)
+    }
+
+    pub fn messages(&self, p: PlaceId) -> Messages<'_>
+        requires { IsPlace self.now.queues p }
+        ensures { result ≡ (queue_at self.now.queues p).messages }
+    {
+        self.queues.messages(p)
+    }
+
+    // No messages, of any place.
+    pub fn no_messages(&self) -> Messages<'_>
+        ensures { result ≡ [] }
+    {
+        self.queues.no_messages()
+    }
+
+    pub fn reserve_one(&mut self) -> Result<(), NoMemory>
+        ensures room { OnOk result (0 < self.new.spare) }
+        ensures unchanged { self.new.queues ≡ self.old.queues }
+    {
+        self.queues.reserve_one()
+    }
+
+    pub fn put(&mut self, p: PlaceId, message: Message)
+        requires place { IsPlace self.old.queues p }
+        requires open { (queue_at self.old.queues p).full ≡ false }
+        requires some { 0 < length message.bytes }
+        requires spare { 0 < self.old.spare }
+        ensures put { self.new.queues
+            ≡ with_queue self.old.queues p (with_arrival (queue_at self.old.queues p) message) }
+    {
+        self.queues.put(p, message);
+        set_busy(&self.queues, &mut self.busy, p);
+    }
+
+    pub fn take(&mut self, p: PlaceId) -> Option<Message>
+        requires { IsPlace self.old.queues p }
+        ensures taken { result ≡ slice_get (queue_at self.old.queues p).messages 0 }
+        ensures left { OnSome result (self.new.queues
+            ≡ with_queue self.old.queues p (without_front (queue_at self.old.queues p))) }
+        ensures none { IfNone result (self.new ≡ self.old) }
+    {
+        let message = self.queues.take(p)?;
+        set_busy(&self.queues, &mut self.busy, p);
+        Some(message)
+    }
+
+    pub fn move_front(&mut self, from: PlaceId, to: PlaceId)
+        requires from { IsPlace self.old.queues from }
+        requires to { IsPlace self.old.queues to }
+        requires differ { from ≢ to }
+        requires some { 0 < length (queue_at self.old.queues from).messages }
+        requires open { (queue_at self.old.queues to).full ≡ false }
+        ensures moved { (m : Message) → slice_get (queue_at self.old.queues from).messages 0 ≡ Some m
+            → self.new.queues ≡ with_queue
+            (with_queue self.old.queues from (without_front (queue_at self.old.queues from)))
+            to (with_arrival (queue_at self.old.queues to) m) }
+        ensures spare { self.new.spare ≡ self.old.spare }
+    {
+        self.queues.move_front(from, to);
+        set_busy(&self.queues, &mut self.busy, from);
+        set_busy(&self.queues, &mut self.busy, to);
+    }
+
+    // The serials of the messages at the place come behind those of a list that has room for them.
+    pub fn add_serials(&self, p: PlaceId, serials: &mut Vec<u32>)
+        requires place { IsPlace self.now.queues p }
+        requires room { length serials.old.items + length (queue_at self.now.queues p).messages
+            ≤ vec_capacity serials.old }
+        ensures added { serials.new.items
+            ≡ serials.old.items ++ map (λ m. m.serial) (queue_at self.now.queues p).messages }
+        ensures capacity { vec_capacity serials.new ≡ vec_capacity serials.old }
+    {
+        self.queues.add_serials(p, serials);
+    }
+
+    pub fn clear(&mut self, p: PlaceId)
+        requires { IsPlace self.old.queues p }
+        ensures cleared { self.new.queues
+            ≡ with_queue self.old.queues p (emptied (queue_at self.old.queues p)) }
+    {
+        self.queues.clear(p);
+        set_busy(&self.queues, &mut self.busy, p);
+    }
+
+    /// The least number from this one on of a place that has messages, if there is one.
+    pub fn filled_from(&self, start: PlaceId) -> Option<PlaceId>
+        ensures { IsLeastFrom has_messages self.now.queues start result }
+    {
+        let busy: &[u8] = &self.busy;
+        if start >= busy.len() {
+            return None;
+        }
+        match memchr(1, &busy[start..]) {
+            Some(i) => Some(start + i),
+            None => None,
+        }
+    }
+
+    /// The least number from this one on of a place that is full, if there is one.
+    pub fn full_from(&self, start: PlaceId) -> Option<PlaceId>
+        ensures { IsLeastFrom is_marked self.now.queues start result }
+    {
+        self.queues.full_from(start)
+    }
+
+    pub fn copy(&self, alloc: Global) -> Result<BusyQueues, NoMemory>
+        ensures { IfOk result (λ c. c.queues ≡ self.now.queues) }
+    {
+        Ok(BusyQueues {
+            queues: self.queues.copy(alloc)?,
+            busy: Vec::from_slice(alloc, &self.busy)?,
+        })
+    }
+}

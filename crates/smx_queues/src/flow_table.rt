@@ -1,0 +1,183 @@
+//! The queued messages and full marks of all places, by place.
+
+ghost use Rattle.std.specs.Prelude.{◌≡◌, ◌+◌, ◌<◌, ◌≤◌, ◌++◌, [], false, length, map, vec_capacity, Some};
+ghost use Rattle.std.specs.Prelude.{option_copied, IfOk, IfNone, IsSome, OnOk, OnSome};
+ghost use Rattle.std.specs.List.{All, list_any};
+ghost use Rattle.smx_types.specs.declared.message.Message.{Message};
+ghost use Rattle.smx_model.specs.Configuration.{same_place};
+ghost use Rattle.smx_model.specs.DriverList.{IsDriverList};
+ghost use Rattle.smx_model.specs.KnownStreams.{IsKnown};
+ghost use Rattle.smx_model.specs.Queues.{first_message, queue};
+ghost use Rattle.smx_queues.specs.FlowTables.{after_arrival, after_leaving, fronts, without_place};
+
+use crate::busy_queues::BusyQueues;
+use crate::fronts::Fronts;
+use crate::full_places::FullPlaces;
+use crate::places::Places;
+use crate::queued_messages::QueuedMessages;
+use smx_model::laws_of_queues::the_first_leaves;
+use smx_types::{DriverSpec, Message, NoMemory, Place};
+use std::alloc::Global;
+use std::marker::Model;
+
+/// The queues of all places that some drivers have, found by place. A contract sees the model's flow and full places.
+#[derive(Debug, Drop)]
+pub struct FlowTable {
+    places: Places,
+    queues: BusyQueues,
+}
+
+impl Model for FlowTable {
+    ghost use Rattle.smx_queues.specs.FlowTables.{FlowLists, flow_of, fulls_of, IsFlow};
+
+    ghost Value = { FlowLists };
+
+    ghost view = { λ t. record {
+      drivers = t.places.drivers;
+      flow = flow_of t.places.places t.queues.queues;
+      fulls = fulls_of t.places.places t.queues.queues;
+      spare = t.queues.spare;
+    } };
+
+    ghost invariant = { λ t. IsFlow t.places t.queues.queues };
+}
+
+impl FlowTable {
+    /// No messages, over these drivers. Fails only for want of memory.
+    pub fn new(alloc: Global, drivers: &[DriverSpec]) -> Result<FlowTable, NoMemory>
+        requires { IsDriverList drivers.now }
+        ensures drivers { IfOk result (λ t. t.drivers ≡ drivers.now) }
+        ensures none { IfOk result (λ t. t.flow ≡ []) }
+        ensures open { IfOk result (λ t. t.fulls ≡ []) }
+    {
+        let places = Places::new(alloc, drivers)?;
+        places.rise();
+        let queues = places.new_queues(alloc)?;
+        Ok(FlowTable { places, queues })
+    }
+
+    /// How many messages are queued. Takes no memory.
+    pub fn len(&self) -> usize
+        ensures { result ≡ length self.now.flow }
+    {
+        self.queues.len()
+    }
+
+    /// Whether the place is marked as full. Takes no memory.
+    pub fn is_full(&self, place: Place) -> bool
+        ensures { result ≡ list_any (same_place place) self.now.fulls }
+    {
+        match self.places.number(place) {
+            Some(p) => self.queues.is_full(p),
+            None => false,
+        }
+    }
+
+    /// The first message at the place, if there is one. Takes no memory.
+    pub fn front(&self, place: Place) -> Option<&Message>
+        ensures { option_copied result ≡ first_message self.now.flow place }
+    {
+        the_first_leaves();
+        match self.places.number(place) {
+            Some(p) => self.queues.front(p),
+            None => None,
+        }
+    }
+
+    /// Room for one message more. Fails only for want of memory.
+    pub fn reserve_one(&mut self) -> Result<(), NoMemory>
+        ensures room { OnOk result (0 < self.new.spare) }
+        ensures unchanged { self.new ≡ record self.old { spare = self.new.spare } }
+    {
+        self.queues.reserve_one()
+    }
+
+    /// A message arrives at a place that is not full. Takes no memory.
+    pub fn put(&mut self, place: Place, message: Message)
+        requires known { IsKnown self.old.drivers place.stream }
+        requires open { list_any (same_place place) self.old.fulls ≡ false }
+        requires some { 0 < length message.bytes }
+        requires spare { 0 < self.old.spare }
+        ensures { self.new ≡ record (after_arrival self.old place message) { spare = self.new.spare } }
+    {
+        if let Some(p) = self.places.number(place) {
+            self.queues.put(p, message);
+        }
+    }
+
+    /// The first message leaves the place, if there is one. Takes no memory.
+    pub fn take(&mut self, place: Place) -> Option<Message>
+        ensures taken { result ≡ first_message self.old.flow place }
+        ensures left { OnSome result (self.new ≡ record (after_leaving self.old place) { spare = self.new.spare }) }
+        ensures none { IfNone result (self.new ≡ self.old) }
+    {
+        the_first_leaves();
+        match self.places.number(place) {
+            Some(p) => self.queues.take(p),
+            None => None,
+        }
+    }
+
+    /// The first message of one place leaves it and arrives at another, which is not full. Takes no memory.
+    pub fn move_front(&mut self, from: Place, to: Place)
+        requires known { IsKnown self.old.drivers to.stream }
+        requires differ { same_place from to ≡ false }
+        requires some { IsSome (first_message self.old.flow from) }
+        requires open { list_any (same_place to) self.old.fulls ≡ false }
+        ensures { (m : Message) → first_message self.old.flow from ≡ Some m
+            → self.new ≡ after_arrival (after_leaving self.old from) to m }
+    {
+        the_first_leaves();
+        if let Some(p) = self.places.number(from) {
+            if let Some(q) = self.places.number(to) {
+                self.queues.move_front(p, q);
+            }
+        }
+    }
+
+    /// The messages at the place are dropped, and it is not full. Their serials come behind those of a list that has
+    /// room for them. Takes no memory.
+    pub fn drop_at(&mut self, place: Place, dropped: &mut Vec<u32>)
+        requires { length dropped.old.items + length (queue self.old.flow place) ≤ vec_capacity dropped.old }
+        ensures gone { self.new ≡ record (without_place self.old place) { spare = self.new.spare } }
+        ensures serials { dropped.new.items ≡ dropped.old.items ++ map (λ m. m.serial) (queue self.old.flow place) }
+        ensures capacity { vec_capacity dropped.new ≡ vec_capacity dropped.old }
+    {
+        if let Some(p) = self.places.number(place) {
+            self.queues.add_serials(p, dropped);
+            self.queues.clear(p);
+        }
+    }
+
+    /// The first message of each place that has any, in order of place. Takes no memory.
+    pub fn fronts(&self) -> Fronts<'_>
+        ensures fronts { result ≡ fronts self.now.flow }
+        ensures first { All (λ h. first_message self.now.flow h.place ≡ Some h.message) (fronts self.now.flow) }
+    {
+        Fronts::new(&self.places, &self.queues)
+    }
+
+    /// All messages, in order of place. Takes no memory.
+    pub fn messages(&self) -> QueuedMessages<'_>
+        ensures { result ≡ self.now.flow }
+    {
+        QueuedMessages::new(&self.places, &self.queues)
+    }
+
+    /// The full places, in order. Takes no memory.
+    pub fn fulls(&self) -> FullPlaces<'_>
+        ensures { result ≡ self.now.fulls }
+    {
+        FullPlaces::new(&self.places, &self.queues)
+    }
+
+    /// The same messages and marks again. Fails only for want of memory.
+    pub fn copy(&self, alloc: Global) -> Result<FlowTable, NoMemory>
+        ensures { IfOk result (λ t. t ≡ record self.now { spare = t.spare }) }
+    {
+        Ok(FlowTable {
+            places: self.places.copy(alloc)?,
+            queues: self.queues.copy(alloc)?,
+        })
+    }
+}

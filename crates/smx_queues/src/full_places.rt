@@ -1,0 +1,56 @@
+//! The full places.
+
+ghost use Rattle.std.specs.Prelude.{◌≡◌};
+ghost use Rattle.std.specs.Iterator.{YieldsFirstBy};
+ghost use Rattle.smx_queues.specs.FlowTables.{fulls_of, IsFlow};
+
+use crate::busy_queues::BusyQueues;
+use crate::places::Places;
+use smx_types::Place;
+use std::marker::Model;
+
+/// The full places in order, seen as the list of those that are left. Takes no memory.
+#[derive(Drop)]
+pub struct FullPlaces<'a> {
+    places: &'a Places,
+    queues: &'a BusyQueues,
+    // The number of the next place to look at.
+    next: usize,
+}
+
+impl<'a> Model for FullPlaces<'a> {
+    ghost use Rattle.std.specs.Prelude.{List, drop};
+    ghost use Rattle.smx_types.specs.declared.stream.Place.{Place};
+    ghost use Rattle.smx_queues.specs.FlowTables.{fulls_of, IsFlow};
+
+    ghost Value = { List Place };
+
+    ghost view = { λ it. fulls_of (drop it.next it.places.now.places) (drop it.next it.queues.now.queues) };
+
+    ghost invariant = { λ it. IsFlow it.places.now it.queues.now.queues };
+}
+
+impl<'a> FullPlaces<'a> {
+    pub(crate) fn new(places: &'a Places, queues: &'a BusyQueues) -> FullPlaces<'a>
+        requires { IsFlow places.now queues.now.queues }
+        ensures { result ≡ fulls_of places.now.places queues.now.queues }
+    {
+        FullPlaces {
+            places,
+            queues,
+            next: 0,
+        }
+    }
+}
+
+impl<'a> FullPlaces<'a> {
+    /// The next one, if any is left. Takes no memory.
+    pub fn next(&mut self) -> Option<Place>
+        ensures { YieldsFirstBy (λ item. item) (λ rest. rest) self.old result self.new }
+    {
+        let _count = self.places.len();
+        let p = self.queues.full_from(self.next)?;
+        self.next = p + 1;
+        Some(self.places.at(p))
+    }
+}

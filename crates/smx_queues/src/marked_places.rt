@@ -1,0 +1,69 @@
+//! The marked places.
+
+ghost use Rattle.std.specs.Prelude.{◌≡◌};
+ghost use Rattle.std.specs.Iterator.{YieldsFirstBy};
+ghost use Rattle.smx_queues.specs.PlaceMarks.{marked_of, HaveBytes, IsFirstOne};
+
+use crate::places::Places;
+use memchr::memchr;
+use smx_types::Place;
+use std::marker::Model;
+
+/// The marked places in order, seen as the list of those that are left. Takes no memory.
+#[derive(Drop)]
+pub struct MarkedPlaces<'a> {
+    places: &'a Places,
+    bytes: &'a [u8],
+    // The number of the next place to look at.
+    next: usize,
+}
+
+impl<'a> Model for MarkedPlaces<'a> {
+    ghost use Rattle.std.specs.Prelude.{List, drop};
+    ghost use Rattle.smx_types.specs.declared.stream.Place.{Place};
+    ghost use Rattle.smx_queues.specs.PlaceMarks.{marked_of, HaveBytes};
+
+    ghost Value = { List Place };
+
+    ghost view = { λ it. marked_of (drop it.next it.places.now.places) (drop it.next it.bytes.now) };
+
+    ghost invariant = { λ it. HaveBytes it.places.now it.bytes.now };
+}
+
+// The least number from this one on whose byte is 1.
+fn first_one(bytes: &[u8], start: usize) -> Option<usize>
+    ensures { IsFirstOne bytes.now start result }
+{
+    if start >= bytes.len() {
+        return None;
+    }
+    match memchr(1, &bytes[start..]) {
+        Some(i) => Some(start + i),
+        None => None,
+    }
+}
+
+impl<'a> MarkedPlaces<'a> {
+    pub(crate) fn new(places: &'a Places, bytes: &'a [u8]) -> MarkedPlaces<'a>
+        requires { HaveBytes places.now bytes.now }
+        ensures { result ≡ marked_of places.now.places bytes.now }
+    {
+        MarkedPlaces {
+            places,
+            bytes,
+            next: 0,
+        }
+    }
+}
+
+impl<'a> MarkedPlaces<'a> {
+    /// The next one, if any is left. Takes no memory.
+    pub fn next(&mut self) -> Option<Place>
+        ensures { YieldsFirstBy (λ item. item) (λ rest. rest) self.old result self.new }
+    {
+        let _count = self.places.len();
+        let p = first_one(self.bytes, self.next)?;
+        self.next = p + 1;
+        Some(self.places.at(p))
+    }
+}

@@ -1,0 +1,111 @@
+//! A mark for each place of some drivers.
+
+ghost use Rattle.std.specs.Prelude.{◌≡◌, ◌<◌, [], true, false, length, IfOk};
+ghost use Rattle.smx_types.specs.declared.stream.Place.{Place};
+ghost use Rattle.smx_model.specs.Configuration.{same_place};
+ghost use Rattle.smx_model.specs.DriverList.{IsDriverList};
+ghost use Rattle.smx_model.specs.KnownStreams.{IsKnown};
+ghost use Rattle.smx_model.specs.RunMarks.{all_but};
+ghost use Rattle.smx_queues.specs.PlaceMarks.{has_mark, IsFirstMark};
+
+use crate::marked_places::MarkedPlaces;
+use crate::places::Places;
+use smx_model::laws_of_queues::marks_are_of_one_place;
+use smx_types::{DriverSpec, NoMemory, Place};
+use std::alloc::Global;
+use std::marker::Model;
+
+/// A mark for each place that some drivers have, of which there are never more. A contract sees the marked places.
+#[derive(Debug, Drop)]
+pub struct PlaceMarks {
+    places: Places,
+    // 1 where there is a mark, and 0 elsewhere.
+    bytes: Vec<u8>,
+}
+
+impl Model for PlaceMarks {
+    ghost use Rattle.smx_queues.specs.PlaceMarks.{MarkList, marked_of, HaveBytes};
+
+    ghost Value = { MarkList };
+
+    ghost view = { λ m. record {
+      drivers = m.places.drivers;
+      marked = marked_of m.places.places m.bytes.items;
+    } };
+
+    ghost invariant = { λ m. HaveBytes m.places m.bytes.items };
+}
+
+impl PlaceMarks {
+    /// No mark, over these drivers. Fails only for want of memory.
+    pub fn new(alloc: Global, drivers: &[DriverSpec]) -> Result<PlaceMarks, NoMemory>
+        requires { IsDriverList drivers.now }
+        ensures drivers { IfOk result (λ m. m.drivers ≡ drivers.now) }
+        ensures none { IfOk result (λ m. m.marked ≡ []) }
+    {
+        let places = Places::new(alloc, drivers)?;
+        places.rise();
+        let bytes = vec![in alloc; 0; places.len()]?;
+        Ok(PlaceMarks { places, bytes })
+    }
+
+    /// Marks the place, if the drivers have it. Takes no memory.
+    pub fn mark(&mut self, place: Place)
+        ensures here { IsKnown self.old.drivers place.stream → has_mark self.new place ≡ true }
+        ensures others { (q : Place) → same_place place q ≡ false → has_mark self.new q ≡ has_mark self.old q }
+        ensures kept { (q : Place) → has_mark self.old q ≡ true → has_mark self.new q ≡ true }
+        ensures drivers { self.new.drivers ≡ self.old.drivers }
+    {
+        marks_are_of_one_place();
+        if let Some(p) = self.places.number(place) {
+            self.bytes[p] = 1;
+        }
+    }
+
+    /// Takes away the mark of the place, if it has one. Takes no memory.
+    pub fn clear(&mut self, place: Place)
+        ensures gone { (q : Place) → has_mark self.new q ≡ all_but (has_mark self.old) place q }
+        ensures fewer { has_mark self.old place ≡ true → length self.new.marked < length self.old.marked }
+        ensures drivers { self.new.drivers ≡ self.old.drivers }
+    {
+        marks_are_of_one_place();
+        if let Some(p) = self.places.number(place) {
+            self.bytes[p] = 0;
+        }
+    }
+
+    /// Whether the place is marked. Takes no memory.
+    pub fn is_marked(&self, place: Place) -> bool
+        ensures { result ≡ has_mark self.now place }
+    {
+        match self.places.number(place) {
+            Some(p) => self.bytes[p] == 1,
+            None => false,
+        }
+    }
+
+    /// The marked places, in order. Takes no memory.
+    pub fn marked(&self) -> MarkedPlaces<'_>
+        ensures { result ≡ self.now.marked }
+    {
+        MarkedPlaces::new(&self.places, &self.bytes)
+    }
+
+    /// The least marked place, if there is one. Takes no memory.
+    pub fn first(&self) -> Option<Place>
+        ensures { IsFirstMark self.now result }
+    {
+        let _places = &self.places;
+        self.marked().next()
+    }
+
+    /// The same marks again. Fails only for want of memory.
+    pub fn copy(&self, alloc: Global) -> Result<PlaceMarks, NoMemory>
+        ensures { IfOk result (λ m. m ≡ self.now) }
+    {
+        Ok(PlaceMarks {
+            places: self.places.copy(alloc)?,
+            bytes: Vec::from_slice(alloc, &self.bytes)?,
+        })
+    }
+}

@@ -1,0 +1,185 @@
+//! The places of all streams that some drivers have.
+
+ghost use Rattle.std.specs.Prelude.{◌≡◌, ◌≤◌, ◌++◌, ◌<◌, false, Some, IfOk, OnOk, IfSome, IsSome, IfNone, length};
+ghost use Rattle.std.specs.Prelude.{slice_get, slice_index_or};
+ghost use Rattle.std.specs.List.{list_any};
+ghost use Rattle.smx_model.specs.Configuration.{place_before, same_place};
+ghost use Rattle.smx_model.specs.DriverList.{high_of, low_of, minors_of, IsDriverList};
+ghost use Rattle.smx_model.specs.KnownStreams.{IsKnown};
+ghost use Rattle.smx_model.specs.Ordered.{IsRising};
+ghost use Rattle.smx_queues.specs.PlaceLists.{new_queues, side_number, sides_of};
+
+use crate::busy_queues::BusyQueues;
+use smx_types::{DriverSpec, NoMemory, Place, Side, StreamId};
+use std::alloc::Global;
+use std::marker::Model;
+
+/// Drivers, and both sides of each stream that they have, numbered in order. A contract sees two lists.
+#[derive(Debug, Drop)]
+pub struct Places {
+    drivers: Vec<DriverSpec>,
+    // The number of each driver's first place.
+    firsts: Vec<usize>,
+    places: Vec<Place>,
+}
+
+impl Model for Places {
+    ghost use Rattle.smx_queues.specs.PlaceLists.{PlaceList, ArePlaces};
+
+    ghost Value = { PlaceList };
+
+    ghost view = { λ p. record { drivers = p.drivers.items; places = p.places.items } };
+
+    ghost invariant = { λ p. ArePlaces p.drivers.items p.firsts.items p.places.items };
+}
+
+fn side_number(side: Side) -> usize
+    ensures { result ≡ side_number side }
+{
+    match side {
+        Side::Write => 0,
+        Side::Read => 1,
+    }
+}
+
+fn minors_of(drivers: &[DriverSpec], driver: u8) -> u32
+    ensures { result ≡ minors_of drivers.now driver }
+{
+    match drivers.get(driver as usize) {
+        Some(d) => d.minors,
+        None => 0,
+    }
+}
+
+fn first_of(firsts: &[usize], driver: u8) -> usize
+    requires { driver < length firsts.now }
+    ensures { result ≡ slice_index_or firsts.now driver 0 }
+{
+    firsts[driver as usize]
+}
+
+// The high and the low water mark of a driver that is there.
+fn marks_of(drivers: &[DriverSpec], driver: u8) -> (usize, usize)
+    requires list { IsDriverList drivers.now }
+    requires there { driver < length drivers.now }
+    ensures high { result.0 ≡ high_of drivers.now driver }
+    ensures low { result.1 ≡ low_of drivers.now driver }
+    ensures bounded { result.0 ≤ 4096 }
+    ensures apart { result.1 < result.0 }
+{
+    let d = &drivers[driver as usize];
+    (d.high as usize, d.low as usize)
+}
+
+// How many minors a driver that is there has.
+fn minors_at(drivers: &[DriverSpec], driver: usize) -> u8
+    requires list { IsDriverList drivers.now }
+    requires there { driver < length drivers.now }
+    ensures { result ≡ minors_of drivers.now driver }
+{
+    drivers[driver].minors as u8
+}
+
+// Both sides of so many minors of a driver come behind the others.
+fn push_sides(places: &mut Vec<Place>, driver: u8, minors: u8) -> Result<(), NoMemory>
+    ensures { OnOk result (places.new.items ≡ places.old.items ++ sides_of driver minors) }
+{
+    for minor in 0..minors {
+        let stream = StreamId { driver, minor };
+        places.push(Place {
+            stream,
+            side: Side::Write,
+        })?;
+        places.push(Place {
+            stream,
+            side: Side::Read,
+        })?;
+    }
+    Ok(())
+}
+
+impl Places {
+    /// The places of these drivers. Fails only for want of memory.
+    pub fn new(alloc: Global, drivers: &[DriverSpec]) -> Result<Places, NoMemory>
+        requires { IsDriverList drivers.now }
+        ensures { IfOk result (λ p. p.drivers ≡ drivers.now) }
+    {
+        let mut firsts = Vec::with_capacity(alloc, drivers.len())?;
+        let mut places = Vec::new(alloc);
+        for i in 0..drivers.len() {
+            firsts.push(places.len())?;
+            push_sides(&mut places, i as u8, minors_at(drivers, i))?;
+        }
+        let drivers = Vec::from_slice(alloc, drivers)?;
+        Ok(Places {
+            drivers,
+            firsts,
+            places,
+        })
+    }
+
+    /// How many places there are.
+    pub fn len(&self) -> usize
+        ensures { result ≡ length self.now.places }
+    {
+        self.places.len()
+    }
+
+    /// The number of the place, if its driver has such a stream.
+    pub fn number(&self, place: Place) -> Option<usize>
+        ensures found { IfSome result (λ i. slice_get self.now.places i ≡ Some place) }
+        ensures none { IfNone result (list_any (same_place place) self.now.places ≡ false) }
+        ensures known { IsKnown self.now.drivers place.stream → IsSome result }
+    {
+        let StreamId { driver, minor } = place.stream;
+        if u32::from(minor) >= minors_of(&self.drivers, driver) {
+            return None;
+        }
+        let firsts: &[usize] = &self.firsts;
+        let places: &[Place] = &self.places;
+        let _count = places.len();
+        Some(first_of(firsts, driver) + 2 * minor as usize + side_number(place.side))
+    }
+
+    /// The place of a number.
+    pub fn at(&self, number: usize) -> Place
+        requires { number < length self.now.places }
+        ensures { slice_get self.now.places number ≡ Some result }
+    {
+        self.places[number]
+    }
+
+    /// A queue for each place, without messages, with the water marks of its driver. Fails only for want of memory.
+    pub fn new_queues(&self, alloc: Global) -> Result<BusyQueues, NoMemory>
+        requires { IsDriverList self.now.drivers }
+        ensures { IfOk result (λ q. q.queues ≡ new_queues self.now.drivers self.now.places) }
+    {
+        let mut made = BusyQueues::new(alloc);
+        for place in &self.places {
+            let (high, low) = marks_of(&self.drivers, place.stream.driver);
+            made.add_place(high, low)?;
+        }
+        Ok(made)
+    }
+
+    // The places rise, so that none is there twice. It does nothing.
+    pub fn rise(&self)
+        ensures { IsRising place_before self.now.places }
+    {
+        let _places = &self.places;
+    }
+
+    /// The same places again. Fails only for want of memory.
+    pub fn copy(&self, alloc: Global) -> Result<Places, NoMemory>
+        ensures { IfOk result (λ p. p ≡ self.now) }
+    {
+        let drivers = Vec::from_slice(alloc, &self.drivers)?;
+        let firsts = Vec::from_slice(alloc, &self.firsts)?;
+        let places = Vec::from_slice(alloc, &self.places)?;
+        Ok(Places {
+            drivers,
+            firsts,
+            places,
+        })
+    }
+}

@@ -1,0 +1,10 @@
+//! A message where it stands in a queue.
+
+use smx_types::{Message, Place};
+
+/// A queued message, and its place.
+#[derive(Clone, Copy, Debug)]
+pub struct Queued<'a> {
+    pub place: Place,
+    pub message: &'a Message,
+}

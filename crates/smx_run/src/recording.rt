@@ -1,0 +1,116 @@
+//! A configuration that nobody shares, and the recorder that is told what becomes of it.
+
+ghost use Rattle.std.specs.Prelude.{◌≡◌, ◌≤◌, [], ◌∷◌, length, IfErr, IfOk, OnOk};
+ghost use Rattle.smx_types.specs.declared.limits.TheConstants.{MAX_PROCESSES};
+ghost use Rattle.smx_model.specs.DriverList.{IsDriverList};
+ghost use Rattle.smx_model.specs.Views.{view};
+ghost use Rattle.smx_run.specs.Desks.{HasRecorded, PerformedRecording};
+ghost use Rattle.smx_run.specs.ProgramOrder.{calls_from};
+ghost use Rattle.smx_run.specs.RunFaults.{RefusesAlone};
+
+use crate::fault::RunFault;
+use crate::gate::Gate;
+use crate::recorder::Recorder;
+use smx_config::Config;
+use smx_model::laws::one_entry_more;
+use smx_types::{Command, Commands, ConfigView, DriverSpec, Entry, NoMemory, Process, ProgramList};
+use std::alloc::Global;
+
+/// Where the commands of one process after the other are performed. The recorder is told of each entry, which is then
+/// given up.
+#[derive(Drop)]
+pub struct Recording<K: Drop> {
+    /// The process whose commands come next.
+    pub process: Process,
+    pub config: Config,
+    pub recorder: K,
+}
+
+impl<K: Recorder> Recording<K> {
+    /// The empty configuration over these drivers, and a recorder that begins in the room. Refused for drivers that a
+    /// configuration can't have, before there is a recorder; or for want of memory.
+    pub fn begin(
+        alloc: Global,
+        drivers: &[DriverSpec],
+        room: K::Room,
+    ) -> Result<Recording<K>, RunFault>
+        ensures drivers { IfOk result (λ a. (a.config.drivers ≡ drivers.now) × IsDriverList drivers.now) }
+        ensures none { IfOk result (λ a. HasRecorded K.told a.recorder a.config []) }
+        ensures refused { IfErr result (RefusesAlone drivers.now) }
+    {
+        let config = Config::new(alloc, drivers)?;
+        let recorder = K::begin(room, drivers)?;
+        Ok(Recording {
+            process: Process::new(0).unwrap(),
+            config,
+            recorder,
+        })
+    }
+
+    /// Has each program performed to its end, in turn, from process 0 on. Fails only for want of memory.
+    pub fn run_all<G: Gate>(&mut self, programs: ProgramList, gate: &G) -> Result<(), NoMemory>
+        requires none { HasRecorded K.told self.old.recorder self.old.config [] }
+        requires processes { length programs ≤ MAX_PROCESSES }
+        ensures drivers { OnOk result (self.new.config.drivers ≡ self.old.config.drivers) }
+        ensures calls { OnOk result (HasRecorded K.told self.new.recorder self.new.config (calls_from 0 programs)) }
+    {
+        let mut number = 0;
+        for commands in programs.into_vec() {
+            self.process = Process::new(number).unwrap();
+            self.run(commands, gate)?;
+            number += 1;
+        }
+        Ok(())
+    }
+
+    // Has the commands of a program performed, in order, and tells the gate of each. Fails only for want of memory.
+    fn run<G: Gate>(&mut self, commands: Commands, gate: &G) -> Result<(), NoMemory>
+        ensures { OnOk result (PerformedRecording K.told self.old commands self.new) }
+    {
+        let mut number = 0;
+        for command in commands.into_vec() {
+            self.perform_at(gate, number, command)?;
+            number += 1;
+        }
+        Ok(())
+    }
+
+    // Performs the next command, and tells the gate before and after, whatever came of it.
+    fn perform_at<G: Gate>(
+        &mut self,
+        gate: &G,
+        number: usize,
+        command: Command,
+    ) -> Result<(), NoMemory>
+        ensures { OnOk result (PerformedRecording K.told self.old (command ∷ []) self.new) }
+    {
+        gate.before(self.process, number);
+        let outcome = self.perform(command);
+        gate.after(self.process, number);
+        outcome
+    }
+
+    // Performs the next command, which is given up. Fails only for want of memory.
+    fn perform(&mut self, command: Command) -> Result<(), NoMemory>
+        ensures { OnOk result (PerformedRecording K.told self.old (command ∷ []) self.new) }
+    {
+        one_entry_more();
+        let process = self.process;
+        let reply = self.config.step(process, &command)?;
+        self.recorder.add(&Entry {
+            process,
+            command,
+            reply,
+        })?;
+        Ok(())
+    }
+
+    /// The recorder, and the view of the configuration. Fails only for want of memory.
+    pub fn finish(self) -> Result<(K, ConfigView), NoMemory>
+        ensures recorder { IfOk result (λ r. r.0 ≡ self.recorder) }
+        ensures view { IfOk result (λ r. r.1 ≡ view self.config.drivers self.config.configuration) }
+    {
+        let view = self.config.show()?;
+        Ok((self.recorder, view))
+    }
+}
