@@ -1,10 +1,10 @@
 -- The marked places that bytes make, where one byte changes, and what a walk over them meets next.
-use Rattle.std.proofs.Common.{◌≡◌, ℕ, zero, suc, ◌+◌, ◌-◌, ◌<◌, ◌≤◌, Bool, true, false, not, cond, ◌&&◌, eqb, List, [], ◌∷◌, length, map, filter, drop, set, replicate, get_or, Option, Some, None, refl, sym, ap, ◌∙◌, subst, arith, inl, inr}
+use Rattle.std.proofs.Common.{◌≡◌, ℕ, zero, suc, ◌+◌, ◌-◌, ◌<◌, ◌≤◌, Bool, true, false, not, cond, ◌&&◌, eqb, List, [], ◌∷◌, length, map, filter, drop, take, set, replicate, get_or, Option, Some, None, refl, sym, ap, ◌∙◌, subst, arith, inl, inr}
 use Rattle.std.specs.Prelude.{slice_get}
 use Rattle.std.specs.Iterator.{YieldsFirstBy}
 use Rattle.std.specs.List.{list_any}
-use Rattle.std.proofs.lemmas.Bool.{cases_Bool, cases_lt, false≢true, or_from}
-use Rattle.std.proofs.lemmas.List.{get_or_default, get_or_past, length-drop, length-map, map-set}
+use Rattle.std.proofs.lemmas.Bool.{cases_Bool, cases_eq, cases_lt, false≢true, or_from}
+use Rattle.std.proofs.lemmas.List.{get_or-set_other, get_or-set_same, get_or-take, get_or_default, get_or_past, length-drop, length-map, length-set, length-take, map-set}
 use Rattle.std.proofs.lemmas.Option.{slice_get_within}
 use Rattle.memchr.specs.Find.{IsFirstByte, is_byte}
 use Rattle.smx_types.specs.declared.stream.Place.{Place}
@@ -14,7 +14,7 @@ use Rattle.smx_model.specs.Queues.{with_mark}
 use Rattle.smx_model.specs.RunMarks.{all_but}
 use Rattle.smx_model.specs.SettlingByMarks.{IsLeastMarked}
 use Rattle.smx_queues.specs.FlowTables.{fulls_of}
-use Rattle.smx_queues.specs.PlaceMarks.{IsFirstMark, IsFirstOne, MarkList, has_mark, marked_of}
+use Rattle.smx_queues.specs.PlaceMarks.{AreWithin, IsFirstMark, IsFirstOne, MarkList, has_mark, marked_of}
 use Rattle.smx_queues.specs.QueueTable.{Queue}
 use Rattle.smx_queues.specs.Slots.{IsLeastFrom, is_marked}
 use Rattle.smx_queues.proofs.FullLemmas.{fulls_marked, mark_found, mark_none}
@@ -184,28 +184,86 @@ byte_here bytes start k le = ap (λ (b : ℕ). eqb b 1) (byte_from bytes start (
 past_all : (bytes : List ℕ) (k : ℕ) → length bytes ≤ k → eqb (get_or bytes k 0) 1 ≡ false
 past_all bytes k past = ap (λ (b : ℕ). eqb b 1) (get_or_past bytes k 0 past)
 
-pub none_past : (bytes : List ℕ) (start : ℕ) → length bytes ≤ start → IsFirstOne bytes start None
-none_past bytes start past = λ k le. past_all bytes k (omega (arith, past, le))
+pub none_past : (bytes : List ℕ) (start end : ℕ) → AreWithin 0 end bytes → end ≤ start → IsFirstOne bytes start None
+none_past bytes start end w past = λ k le. w.none_behind k (omega (arith, past, le))
 
-pub none_from : (bytes : List ℕ) (start : ℕ) → IsFirstByte (is_byte 1) (drop start bytes) None → IsFirstOne bytes start None
-none_from bytes start none = λ k le. elim (cases_lt k (length bytes)) [
+-- the bytes from the start on, up to the end
+byte_between : (bytes : List ℕ) (start end k : ℕ) → start ≤ k → k < end → eqb (get_or (take (end - start) (drop start bytes)) (k - start) 0) 1 ≡ eqb (get_or bytes k 0) 1
+byte_between bytes start end k le lt = ap (λ (b : ℕ). eqb b 1) (get_or-take (end - start) (drop start bytes) (k - start) 0 (omega arith)) ∙ byte_here bytes start k le
+
+many_between : (bytes : List ℕ) (start end : ℕ) → start ≤ end → end ≤ length bytes → length (take (end - start) (drop start bytes)) ≡ end - start
+many_between bytes start end le within = omega (arith, length-take (end - start) (drop start bytes), length-drop start bytes)
+
+pub none_from : (bytes : List ℕ) (start end : ℕ) → AreWithin 0 end bytes → start < end → IsFirstByte (is_byte 1) (take (end - start) (drop start bytes)) None → IsFirstOne bytes start None
+none_from bytes start end w less none = λ k le. elim (cases_lt k end) [
   | inl lt ↦ elim (cases_Bool (eqb (get_or bytes k 0) 1)) [
-    | inl t ↦ absurd (none (k - start) (omega arith) (omega (arith, le, lt, length-drop start bytes)) (byte_here bytes start k le ∙ t))
+    | inl t ↦ absurd (none (k - start) (omega arith) (omega (arith, le, lt, many_between bytes start end (omega arith) w.end_in)) (byte_between bytes start end k le lt ∙ t))
     | inr f ↦ f
   ]
-  | inr past ↦ past_all bytes k past
+  | inr past ↦ w.none_behind k past
 ]
 
-pub one_from : (bytes : List ℕ) (start i : ℕ) → IsFirstByte (is_byte 1) (drop start bytes) (Some i) → IsFirstOne bytes start (Some (start + i))
-one_from bytes start i found = (
+pub one_from : (bytes : List ℕ) (start end i : ℕ) → AreWithin 0 end bytes → start < end → IsFirstByte (is_byte 1) (take (end - start) (drop start bytes)) (Some i) → IsFirstOne bytes start (Some (start + i))
+one_from bytes start end i w less found =
+    let low : i < end - start = omega (arith, found.0.high, many_between bytes start end (omega arith) w.end_in) in (
   omega arith,
-  omega (arith, found.0.high, length-drop start bytes),
-  ap (λ (b : ℕ). eqb b 1) (sym (byte_from bytes start i)) ∙ found.1,
+  omega (arith, low, w.end_in),
+  here (start + i) (omega arith) (omega (arith, low)) (omega arith) found.1,
   λ k le lt. elim (cases_Bool (eqb (get_or bytes k 0) 1)) [
-    | inl t ↦ absurd (found.0.before (k - start) (omega arith) (omega arith) (byte_here bytes start k le ∙ t))
+    | inl t ↦ absurd (found.0.before (k - start) (omega arith) (omega arith) (byte_between bytes start end k le (omega (arith, low)) ∙ t))
     | inr f ↦ f
   ],
+) where
+  here : (k : ℕ) → start ≤ k → k < end → i ≡ k - start → eqb (get_or (take (end - start) (drop start bytes)) i 0) 1 ≡ true → eqb (get_or bytes k 0) 1 ≡ true
+  here k le lt is one = sym (byte_between bytes start end k le lt) ∙ (ap (λ (n : ℕ). eqb (get_or (take (end - start) (drop start bytes)) n 0) 1) (sym is) ∙ one)
+
+-- ---- where all marks are
+
+no_place_left : (places : List Place) → marked_of places [] ≡ []
+no_place_left [] = refl
+no_place_left (p ∷ places) = refl
+
+-- a walk may begin at a number below which no byte is 1
+pub marked_from : (places : List Place) (bytes : List ℕ) (n : ℕ) → ((k : ℕ) → k < n → eqb (get_or bytes k 0) 1 ≡ false) → marked_of (drop n places) (drop n bytes) ≡ marked_of places bytes
+marked_from places bytes zero none = refl
+marked_from [] bytes (suc n) none = refl
+marked_from (p ∷ places) [] (suc n) none = no_place_left (drop n places)
+marked_from (p ∷ places) (b ∷ bytes) (suc n) none = rw (none 0 (omega arith)) (marked_from places bytes n (λ k lt. none (suc k) (omega arith)))
+
+other_byte : (bytes : List ℕ) (i b k : ℕ) → (i ≡ k → ⊥) → eqb (get_or (set bytes i b) k 0) 1 ≡ eqb (get_or bytes k 0) 1
+other_byte bytes i b k differ = ap (λ (x : ℕ). eqb x 1) (get_or-set_other bytes i k b 0 (λ e. differ (sym e)))
+
+-- a byte that is 1 lies within
+lies_within : (first end : ℕ) (bytes : List ℕ) (k : ℕ) → AreWithin first end bytes → eqb (get_or bytes k 0) 1 ≡ true → (first ≤ k) × (k < end)
+lies_within first end bytes k w one = (
+  elim (cases_lt k first) [ inl lt ↦ absurd (false≢true (sym (w.none_before k lt) ∙ one)) | inr le ↦ le ],
+  elim (cases_lt k end) [ inl lt ↦ lt | inr le ↦ absurd (false≢true (sym (w.none_behind k le) ∙ one)) ],
 )
+
+pub marked_within : (first end low high : ℕ) (bytes : List ℕ) (i : ℕ) → AreWithin first end bytes → i < length bytes → low ≤ i → i < high → ((k : ℕ) → first ≤ k → k < end → (low ≤ k) × (k < high)) → high ≤ length bytes
+    → AreWithin low high (set bytes i 1)
+marked_within first end low high bytes i w there le lt kept few = record {
+  end_in = omega (arith, few, length-set bytes i 1);
+  none_before = λ k before. out k (λ e. omega arith) (λ l. omega arith);
+  none_behind = λ k behind. out k (λ e. omega arith) (λ l. omega arith);
+} where
+  out : (k : ℕ) → (i ≡ k → ⊥) → ((low ≤ k) × (k < high) → ⊥) → eqb (get_or (set bytes i 1) k 0) 1 ≡ false
+  out k differ outside = elim (cases_Bool (eqb (get_or bytes k 0) 1)) [
+    | inl t ↦ let l = lies_within first end bytes k w t in absurd (outside (kept k l.0 l.1))
+    | inr f ↦ other_byte bytes i 1 k differ ∙ f
+  ]
+
+pub cleared_within : (first end : ℕ) (bytes : List ℕ) (i : ℕ) → AreWithin first end bytes → i < length bytes → AreWithin first end (set bytes i 0)
+cleared_within first end bytes i w there = record {
+  end_in = omega (arith, w.end_in, length-set bytes i 0);
+  none_before = λ k before. still k (w.none_before k before);
+  none_behind = λ k behind. still k (w.none_behind k behind);
+} where
+  still : (k : ℕ) → eqb (get_or bytes k 0) 1 ≡ false → eqb (get_or (set bytes i 0) k 0) 1 ≡ false
+  still k none = elim (cases_eq i k) [
+    | inl e ↦ subst (λ (n : ℕ). eqb (get_or (set bytes i 0) n 0) 1 ≡ false) e (ap (λ (x : ℕ). eqb x 1) (get_or-set_same bytes i 0 0 there))
+    | inr differ ↦ other_byte bytes i 0 k differ ∙ none
+  ]
 
 -- ---- the first of places that rise is the least of them
 

@@ -28,6 +28,12 @@ pub record HaveBytes (p : PlaceList) (bytes : List ℕ) : Type 0 where
   pub rising : IsRising place_before p.places
   pub one_each : length bytes ≡ length p.places
 
+-- the numbers whose byte is 1 are among those from the first one on that are below the end
+pub record AreWithin (first end : ℕ) (bytes : List ℕ) : Type 0 where
+  pub end_in : end ≤ length bytes
+  pub none_before : (k : ℕ) → k < first → (slice_index bytes k == 1) ≡ false
+  pub none_behind : (k : ℕ) → end ≤ k → (slice_index bytes k == 1) ≡ false
+
 -- the least number from this one on whose byte is 1, if there is one
 abbrev pub IsFirstOne : List ℕ → ℕ → Option ℕ → Type 0
 IsFirstOne bytes start (Some p) =

@@ -14,6 +14,7 @@ mod places;
 mod queued;
 mod queued_messages;
 mod queues;
+mod span;
 
 pub use flow_table::FlowTable;
 pub use fronts::Fronts;

@@ -1,15 +1,16 @@
 //! A mark for each place of some drivers.
 
-ghost use Rattle.std.specs.Prelude.{◌≡◌, ◌<◌, [], true, false, length, IfOk};
+ghost use Rattle.std.specs.Prelude.{◌≡◌, ◌==◌, ◌<◌, [], true, false, length, slice_index, IfOk};
 ghost use Rattle.smx_types.specs.declared.stream.Place.{Place};
 ghost use Rattle.smx_model.specs.Configuration.{same_place};
 ghost use Rattle.smx_model.specs.DriverList.{IsDriverList};
 ghost use Rattle.smx_model.specs.KnownStreams.{IsKnown};
 ghost use Rattle.smx_model.specs.RunMarks.{all_but};
-ghost use Rattle.smx_queues.specs.PlaceMarks.{has_mark, IsFirstMark};
+ghost use Rattle.smx_queues.specs.PlaceMarks.{has_mark, AreWithin, IsFirstMark};
 
-use crate::marked_places::MarkedPlaces;
+use crate::marked_places::{MarkedPlaces, first_one};
 use crate::places::Places;
+use crate::span::Span;
 use smx_model::laws_of_queues::marks_are_of_one_place;
 use smx_types::{DriverSpec, NoMemory, Place};
 use std::alloc::Global;
@@ -21,10 +22,12 @@ pub struct PlaceMarks {
     places: Places,
     // 1 where there is a mark, and 0 elsewhere.
     bytes: Vec<u8>,
+    // Where all marks are, so that a search begins at the first one and passes no more than there can be.
+    span: Span,
 }
 
 impl Model for PlaceMarks {
-    ghost use Rattle.smx_queues.specs.PlaceMarks.{MarkList, marked_of, HaveBytes};
+    ghost use Rattle.smx_queues.specs.PlaceMarks.{MarkList, marked_of, AreWithin, HaveBytes};
 
     ghost Value = { MarkList };
 
@@ -33,7 +36,32 @@ impl Model for PlaceMarks {
       marked = marked_of m.places.places m.bytes.items;
     } };
 
-    ghost invariant = { λ m. HaveBytes m.places m.bytes.items };
+    ghost invariant = { λ m. HaveBytes m.places m.bytes.items × AreWithin m.span.first m.span.end m.bytes.items };
+}
+
+// Where the marks still are, once a number has none.
+fn narrowed(bytes: &[u8], span: Span, number: usize) -> Span
+    requires within { AreWithin span.first span.end bytes.now }
+    requires there { number < length bytes.now }
+    requires gone { (slice_index bytes.now number == 1) ≡ false }
+    ensures { AreWithin result.first result.end bytes.now }
+{
+    if number == span.first {
+        match first_one(bytes, number + 1, span.end) {
+            Some(first) => Span {
+                first,
+                end: span.end,
+            },
+            None => Span::NONE,
+        }
+    } else if number + 1 == span.end {
+        Span {
+            first: span.first,
+            end: number,
+        }
+    } else {
+        span
+    }
 }
 
 impl PlaceMarks {
@@ -46,7 +74,11 @@ impl PlaceMarks {
         let places = Places::new(alloc, drivers)?;
         places.rise();
         let bytes = vec![in alloc; 0; places.len()]?;
-        Ok(PlaceMarks { places, bytes })
+        Ok(PlaceMarks {
+            places,
+            bytes,
+            span: Span::NONE,
+        })
     }
 
     /// Marks the place, if the drivers have it. Takes no memory.
@@ -59,6 +91,7 @@ impl PlaceMarks {
         marks_are_of_one_place();
         if let Some(p) = self.places.number(place) {
             self.bytes[p] = 1;
+            self.span = self.span.with(p);
         }
     }
 
@@ -71,6 +104,7 @@ impl PlaceMarks {
         marks_are_of_one_place();
         if let Some(p) = self.places.number(place) {
             self.bytes[p] = 0;
+            self.span = narrowed(&self.bytes, self.span, p);
         }
     }
 
@@ -88,7 +122,7 @@ impl PlaceMarks {
     pub fn marked(&self) -> MarkedPlaces<'_>
         ensures { result ≡ self.now.marked }
     {
-        MarkedPlaces::new(&self.places, &self.bytes)
+        MarkedPlaces::new(&self.places, &self.bytes, self.span)
     }
 
     /// The least marked place, if there is one. Takes no memory.
@@ -106,6 +140,7 @@ impl PlaceMarks {
         Ok(PlaceMarks {
             places: self.places.copy(alloc)?,
             bytes: Vec::from_slice(alloc, &self.bytes)?,
+            span: self.span,
         })
     }
 }
