@@ -1,5 +1,5 @@
 -- At most one link is above a stream, and at most one has an id.
-use Rattle.std.proofs.Common.{◌≡◌, ℕ, suc, ◌<◌, Bool, true, false, ◌&&◌, eqb, List, [], ◌∷◌, length, get_or, find, Some, None, refl, sym, ap, ◌∙◌, arith, inl, inr}
+use Rattle.std.proofs.Common.{◌≡◌, ℕ, suc, ◌<◌, Bool, true, false, ◌&&◌, eqb, List, [], ◌∷◌, length, map, filter, get_or, find, Some, None, refl, sym, ap, ◌∙◌, arith, inl, inr}
 use Rattle.std.specs.Prelude.{nat_lt}
 use Rattle.std.specs.List.{list_any}
 use Rattle.std.specs.Option.{option_map_or}
@@ -83,3 +83,25 @@ some_with_id t id ls l h e = sym (any_with_id t id ls h ∙ rw (sym e) refl)
 
 pub none_with_id : (t : Link → Bool) (id : ℕ) (ls : List Link) → IsRising (λ l k. nat_lt l.id k.id) ls → None ≡ find (λ l. eqb l.id id) ls → false ≡ list_any (λ l. eqb l.id id && t l) ls
 none_with_id t id ls h e = sym (any_with_id t id ls h ∙ rw (sym e) refl)
+
+none_kept : (t : Link → Bool) (id : ℕ) (ls : List Link) → list_any (λ l. eqb l.id id) ls ≡ false → filter (λ l. eqb l.id id && t l) ls ≡ []
+none_kept t id [] h = refl
+none_kept t id (l ∷ ls) h = elim (cases_Bool (eqb l.id id)) [
+  | inl k ↦ let n : true ≡ false = rw k at h in absurd cc
+  | inr k ↦ rw k (none_kept t id ls (rw k at h))
+]
+
+-- where a link with the id passes a further test, the id is all that there is of such links
+ids_of_one : (t : Link → Bool) (id : ℕ) (ls : List Link) → IsOnce (λ l. eqb l.id id) ls → list_any (λ l. eqb l.id id && t l) ls ≡ true → map (λ l. l.id) (filter (λ l. eqb l.id id && t l) ls) ≡ id ∷ []
+ids_of_one t id [] o h = absurd (false≢true h)
+ids_of_one t id (l ∷ ls) o h = elim (cases_Bool (eqb l.id id)) [
+  | inl k ↦ elim (cases_Bool (t l)) [
+    | inl g ↦ rw (k, g) (ap (λ (ks : List Link). l.id ∷ map (λ m. m.id) ks) (none_kept t id ls (o.0 k)) ∙ ap (λ (x : ℕ). x ∷ []) (eqb-true l.id id k))
+    | inr f ↦ let later : list_any (λ m. eqb m.id id && t m) ls ≡ true = rw (k, f) at h in
+        absurd (false≢true (sym (none_also (λ m. eqb m.id id) t (λ m. eqb m.id id && t m) ls (λ m. refl) (o.0 k)) ∙ later))
+  ]
+  | inr k ↦ rw k (ids_of_one t id ls o.1 (rw k at h))
+]
+
+pub target_of_id : (t : Link → Bool) (id : ℕ) (ls : List Link) → IsRising (λ l k. nat_lt l.id k.id) ls → list_any (λ l. eqb l.id id && t l) ls ≡ true → map (λ l. l.id) (filter (λ l. eqb l.id id && t l) ls) ≡ id ∷ []
+target_of_id t id ls rise h = ids_of_one t id ls (once_id id ls rise) h

@@ -1,10 +1,9 @@
 -- Places that are marked, one after another.
 use Rattle.std.proofs.Common.{◌≡◌, ℕ, ◌+◌, ◌<◌, Bool, true, false, ◌&&◌, ◌||◌, eqb, ltb, List, [], ◌∷◌, length, find, take, Option, Some, None, refl, sym, ap, ◌∙◌, subst, arith, inl, inr}
-use Rattle.std.specs.Prelude.{slice_get}
+use Rattle.std.specs.Prelude.{◌≢◌, ◌⊎◌}
 use Rattle.std.specs.List.{list_any}
 use Rattle.std.specs.Option.{option_map_or}
 use Rattle.std.proofs.lemmas.Bool.{and_from, and_parts, cases_Bool, cases_eq, eqb-true, eq-eqb, false≢true, lt-ltb, ltb-true}
-use Rattle.std.proofs.lemmas.List.Folds.{list_any-append}
 use Rattle.smx_types.specs.declared.driver.DriverSpec.{DriverSpec}
 use Rattle.smx_types.specs.declared.link.Link.{Link}
 use Rattle.smx_types.specs.declared.stream.Place.{Place}
@@ -17,12 +16,10 @@ use Rattle.smx_model.specs.KnownStreams.{IsKnown}
 use Rattle.smx_model.specs.Paths.{AreLowersApart}
 use Rattle.smx_model.specs.Queues.{first_message}
 use Rattle.smx_model.specs.RunMarks.{both, can_feed, is_below_driver}
-use Rattle.smx_links.specs.LinkLists.{is_upper}
 use Rattle.smx_queues.specs.PlaceMarks.{MarkList, has_mark}
-use Rattle.smx_config.specs.Marking.{IsMarkedWhere, is_read_below_driver, is_read_of, is_write_above, is_write_of}
+use Rattle.smx_config.specs.Marking.{IsMarkedWhere, is_read_below_driver, is_write_above, is_write_of}
 use Rattle.smx_config.proofs.AboveLemmas.{any_once, eqb_swap, once_below}
 use Rattle.smx_config.proofs.PlaceLemmas.{place_is}
-use Rattle.smx_config.proofs.TableLemmas.{take_one_more}
 
 or_from_left : (a b : Bool) → a ≡ true → (a || b) ≡ true
 or_from_left a b h = rw h refl
@@ -34,14 +31,6 @@ or_from_right false b h = h
 side_swap : (s : Side) → same_side s side.Write ≡ true → same_side side.Write s ≡ true
 side_swap side.Write h = refl
 side_swap side.Read h = absurd (false≢true h)
-
-read_swap : (s : Side) → same_side s side.Read ≡ true → same_side side.Read s ≡ true
-read_swap side.Write h = absurd (false≢true h)
-read_swap side.Read h = refl
-
-all_taken : (ls : List Link) → take (length ls) ls ≡ ls
-all_taken [] = refl
-all_taken (l ∷ ls) = ap (λ (ks : List Link). l ∷ ks) (all_taken ls)
 
 -- nothing is marked where no place with a message passes the test
 pub none_marked : (flow : List QueuedMessage) (test : Place → Bool) (m : MarkList) → ((p : Place) → test p ≡ true → first_message flow p ≡ None) → IsMarkedWhere flow test m m
@@ -74,6 +63,14 @@ both_marked flow one other old mid new a b = record {
 -- a test that fewer places pass
 pub fewer_marked : (flow : List QueuedMessage) (wide narrow : Place → Bool) (old new : MarkList) → ((p : Place) → narrow p ≡ true → wide p ≡ true) → IsMarkedWhere flow wide old new → IsMarkedWhere flow narrow old new
 fewer_marked flow wide narrow old new less h = record { kept = h.kept; marked = λ p known some t. h.marked p known some (less p t); drivers = h.drivers }
+
+-- in the other order
+pub swapped : (flow : List QueuedMessage) (one other : Place → Bool) (old new : MarkList) → IsMarkedWhere flow (both one other) old new → IsMarkedWhere flow (both other one) old new
+swapped flow one other old new h = fewer_marked flow (both one other) (both other one) old new (λ p t. turn (one p) (other p) t) h where
+  turn : (a b : Bool) → (b || a) ≡ true → (a || b) ≡ true
+  turn true b t = refl
+  turn false true t = refl
+  turn false false t = t
 
 -- ---- the write sides of a driver
 
@@ -113,61 +110,6 @@ writes_all flow driver n drivers old new same many h = record {
   drivers = h.drivers;
 }
 
--- ---- the read sides below a driver
-
-abbrev read_at : StreamId → Place
-read_at s = record { stream = s; side = side.Read }
-
--- below one link
-pub lower_marked : (flow : List QueuedMessage) (l : Link) (driver : ℕ) (old new : MarkList) → IsMarkedWhere flow (same_place (read_at l.lower)) old new → IsMarkedWhere flow (is_read_of l driver) old new
-lower_marked flow l driver old new h = fewer_marked flow (same_place (read_at l.lower)) (is_read_of l driver) old new (λ p t.
-    let parts = and_parts (same_side p.side side.Read) (same_stream l.lower p.stream && eqb l.ctl.driver driver) t in
-    and_from _ _ (and_parts (same_stream l.lower p.stream) _ parts.1).0 (read_swap p.side parts.0)) h
-
-pub not_upper : (flow : List QueuedMessage) (l : Link) (driver : ℕ) (m : MarkList) → eqb l.ctl.driver driver ≡ false → IsMarkedWhere flow (is_read_of l driver) m m
-not_upper flow l driver m other = none_marked flow (is_read_of l driver) m (λ p t.
-    let parts = and_parts (same_side p.side side.Read) (same_stream l.lower p.stream && eqb l.ctl.driver driver) t in
-    absurd (false≢true (sym other ∙ (and_parts (same_stream l.lower p.stream) _ parts.1).1)))
-
-abbrev pub reads_among : ℕ → List Link → Place → Bool
-reads_among driver links p = list_any (λ l. is_read_of l driver p) links
-
--- one link more
-pub reads_more : (flow : List QueuedMessage) (driver i : ℕ) (links : List Link) (l : Link) (old mid new : MarkList) → Some l ≡ slice_get links i → IsMarkedWhere flow (reads_among driver (take i links)) old mid → IsMarkedWhere flow (is_read_of l driver) mid new
-    → IsMarkedWhere flow (reads_among driver (take (i + 1) links)) old new
-reads_more flow driver i links l old mid new at a b =
-    fewer_marked flow (both (reads_among driver (take i links)) (is_read_of l driver)) (reads_among driver (take (i + 1) links)) old new one_or_other (both_marked flow (reads_among driver (take i links)) (is_read_of l driver) old mid new a b) where
-      last : (b : Bool) → (b || false) ≡ b
-      last true = refl
-      last false = refl
-
-      one_or_other : (p : Place) → reads_among driver (take (i + 1) links) p ≡ true → both (reads_among driver (take i links)) (is_read_of l driver) p ≡ true
-      one_or_other p t =
-          sym (ap (λ (ls : List Link). reads_among driver ls p) (take_one_more links i l at)
-          ∙ (list_any-append (λ k. is_read_of k driver p) (take i links) (l ∷ [])
-          ∙ ap (λ (b : Bool). reads_among driver (take i links) p || b) (last (is_read_of l driver p)))) ∙ t
-
-any_weaker : (t u : Link → Bool) (ls : List Link) → ((l : Link) → t l ≡ true → u l ≡ true) → list_any t ls ≡ true → list_any u ls ≡ true
-any_weaker t u [] weak h = absurd (false≢true h)
-any_weaker t u (l ∷ ls) weak h = elim (cases_Bool (t l)) [
-  | inl y ↦ or_from_left _ _ (weak l y)
-  | inr n ↦ or_from_right (u l) _ (any_weaker t u ls weak (rw n at h))
-]
-
--- all links
-pub reads_all : (flow : List QueuedMessage) (driver i : ℕ) (c : Configuration) (old new : MarkList) → i ≡ length c.links → IsMarkedWhere flow (reads_among driver (take i c.links)) old new → IsMarkedWhere flow (is_read_below_driver c driver) old new
-reads_all flow driver i c old new many h = fewer_marked flow (reads_among driver (take i c.links)) (is_read_below_driver c driver) old new among h where
-  among : (p : Place) → is_read_below_driver c driver p ≡ true → reads_among driver (take i c.links) p ≡ true
-  among p t =
-      let parts = and_parts (same_side p.side side.Read) (is_below_driver c driver p.stream) t in
-      ap (λ (ls : List Link). reads_among driver ls p) (ap (λ (n : ℕ). take n c.links) many ∙ all_taken c.links)
-      ∙ any_weaker (λ l. same_stream l.lower p.stream && eqb l.ctl.driver driver) (λ l. is_read_of l driver p) c.links (λ l y. and_from _ _ parts.0 y) parts.1
-
-pub none_below_it : (flow : List QueuedMessage) (driver : ℕ) (c : Configuration) (m : MarkList) → is_upper c.links driver ≡ false → IsMarkedWhere flow (is_read_below_driver c driver) m m
-none_below_it flow driver c m none = none_marked flow (is_read_below_driver c driver) m (λ p t.
-    let parts = and_parts (same_side p.side side.Read) (is_below_driver c driver p.stream) t in
-    absurd (false≢true (sym none ∙ any_weaker (λ l. same_stream l.lower p.stream && eqb l.ctl.driver driver) (λ l. eqb l.ctl.driver driver) c.links (λ l y. (and_parts (same_stream l.lower p.stream) _ y).1) parts.1)))
-
 -- ---- the driver above a stream
 
 above_is : (links : List Link) (s : StreamId) (d : ℕ) (o : Option Link) → AreLowersApart links → find (λ l. same_stream l.lower s) links ≡ o → list_any (λ l. same_stream l.lower s && eqb l.ctl.driver d) links ≡ option_map_or (λ l. eqb l.ctl.driver d) o false
@@ -184,6 +126,79 @@ pub none_above : (flow : List QueuedMessage) (links : List Link) (s : StreamId) 
 none_above flow links s m apart e = none_marked flow (is_write_above links s) m (λ p t.
     let parts = and_parts (same_side p.side side.Write) (list_any (λ k. same_stream k.lower s && eqb k.ctl.driver p.stream.driver) links) t in
     absurd (false≢true (sym (above_is links s p.stream.driver None apart (sym e)) ∙ parts.1)))
+
+-- ---- the read sides below a driver
+
+pub below_by : (c : Configuration) (p : Place) (l : Link) (driver : ℕ) → AreLowersApart c.links → Some l ≡ find (λ k. same_stream k.lower p.stream) c.links → p.side ≡ side.Read → eqb l.ctl.driver driver ≡ is_read_below_driver c driver p
+below_by c p l driver apart e is = sym (rw is (above_is c.links p.stream driver (Some l) apart (sym e)))
+
+pub below_none : (c : Configuration) (p : Place) (driver : ℕ) → AreLowersApart c.links → None ≡ find (λ k. same_stream k.lower p.stream) c.links → false ≡ is_read_below_driver c driver p
+below_none c p driver apart e = sym (and_false (same_side p.side side.Read) (above_is c.links p.stream driver None apart (sym e))) where
+  and_false : (a : Bool) {b : Bool} → b ≡ false → (a && b) ≡ false
+  and_false true none = none
+  and_false false none = refl
+
+pub below_not : (c : Configuration) (p : Place) (driver : ℕ) → p.side ≡ side.Write → false ≡ is_read_below_driver c driver p
+below_not c p driver is = rw is refl
+
+-- what is marked of the first messages that were passed: of places that pass the test each has a mark, or is still to come
+pub record ArePassed (flow rest : List QueuedMessage) (test : Place → Bool) (old new : MarkList) : Type 0 where
+  pub kept : (p : Place) → has_mark old p ≡ true → has_mark new p ≡ true
+  pub marked : (p : Place) → IsKnown old.drivers p.stream → first_message flow p ≢ None → test p ≡ true → (has_mark new p ≡ true) ⊎ (list_any (λ h. same_place h.place p) rest ≡ true)
+  pub drivers : new.drivers ≡ old.drivers
+
+pub none_passed : (flow rest : List QueuedMessage) (test : Place → Bool) (m : MarkList) → ((p : Place) → first_message flow p ≢ None → list_any (λ h. same_place h.place p) rest ≡ true) → ArePassed flow rest test m m
+none_passed flow rest test m all = record { kept = λ p h. h; marked = λ p known some t. inr (all p some); drivers = refl }
+
+-- one that passes the test was marked
+pub one_passed : (flow now rest : List QueuedMessage) (h : QueuedMessage) (test : Place → Bool) (old mid new : MarkList) → now ≡ h ∷ rest → ArePassed flow now test old mid
+    → (IsKnown mid.drivers h.place.stream → has_mark new h.place ≡ true) → ((p : Place) → has_mark mid p ≡ true → has_mark new p ≡ true) → new.drivers ≡ mid.drivers → ArePassed flow rest test old new
+one_passed flow now rest h test old mid new is a here kept same = record {
+  kept = λ p m. kept p (a.kept p m);
+  marked = λ p known some t. elim (a.marked p known some t) [
+    | inl m ↦ inl (kept p m)
+    | inr later ↦ elim (cases_Bool (same_place h.place p)) [
+      | inl y ↦ let e = place_is h.place p y in inl (subst (λ (x : Place). has_mark new x ≡ true) e (here (subst (λ (x : Place). IsKnown mid.drivers x.stream) (sym e) (subst (λ (ds : List DriverSpec). IsKnown ds p.stream) (sym a.drivers) known))))
+      | inr n ↦ inr (behind p n later)
+    ]
+  ];
+  drivers = same ∙ a.drivers;
+} where
+  behind : (p : Place) → same_place h.place p ≡ false → list_any (λ k. same_place k.place p) now ≡ true → list_any (λ k. same_place k.place p) rest ≡ true
+  behind p n later = rw n at (rw is at later)
+
+-- one that doesn't pass it was left
+pub one_left : (flow now rest : List QueuedMessage) (h : QueuedMessage) (test : Place → Bool) (old mid : MarkList) → now ≡ h ∷ rest → ArePassed flow now test old mid → test h.place ≡ false → ArePassed flow rest test old mid
+one_left flow now rest h test old mid is a not_it = record {
+  kept = a.kept;
+  marked = λ p known some t. elim (a.marked p known some t) [
+    | inl m ↦ inl m
+    | inr later ↦ elim (cases_Bool (same_place h.place p)) [
+      | inl y ↦ absurd (false≢true (sym not_it ∙ subst (λ (x : Place). test x ≡ true) (sym (place_is h.place p y)) t))
+      | inr n ↦ inr (behind p n later)
+    ]
+  ];
+  drivers = a.drivers;
+} where
+  behind : (p : Place) → same_place h.place p ≡ false → list_any (λ k. same_place k.place p) now ≡ true → list_any (λ k. same_place k.place p) rest ≡ true
+  behind p n later = rw n at (rw is at later)
+
+-- all were passed
+pub all_passed : (flow rest : List QueuedMessage) (test : Place → Bool) (old new : MarkList) → rest ≡ [] → ArePassed flow rest test old new → IsMarkedWhere flow test old new
+all_passed flow rest test old new none a = record {
+  kept = a.kept;
+  marked = λ p known some t. elim (a.marked p known some t) [
+    | inl m ↦ m
+    | inr later ↦ absurd (false≢true (rw none at later))
+  ];
+  drivers = a.drivers;
+}
+
+-- ---- a place that a message has left
+
+-- nothing is marked at a place without messages
+pub left_empty : (flow : List QueuedMessage) (one other : Place → Bool) (old new : MarkList) → ((p : Place) → one p ≡ true → first_message flow p ≡ None) → IsMarkedWhere flow other old new → IsMarkedWhere flow (both one other) old new
+left_empty flow one other old new none h = both_marked flow one other old old new (none_marked flow one old none) h
 
 -- ---- what can feed a place
 

@@ -12,7 +12,7 @@ use Rattle.smx_model.specs.Configuration.{Configuration, QueuedMessage, empty, s
 use Rattle.smx_model.specs.DriverList.{IsDriverList, minors_of}
 use Rattle.smx_model.specs.KnownStreams.{IsKnown}
 use Rattle.smx_model.specs.Queues.{first_message, is_full}
-use Rattle.smx_model.specs.RunMarks.{all_but, is_next_of_first, is_one_of, nowhere, next_of, next_of_first}
+use Rattle.smx_model.specs.RunMarks.{all_but, is_held_up, is_next_of_first, is_one_of, nowhere, next_of, next_of_first}
 use Rattle.smx_model.specs.Settling.{◌>>=◌, IsSettled, is_movable, least_movable, next_open_place, next_place}
 use Rattle.smx_model.specs.SettlingByMarks.{HasItsMarks, IsAtRest, IsCleared, IsLeastMarked}
 use Rattle.smx_queues.specs.PlaceMarks.{MarkList, has_mark}
@@ -88,6 +88,28 @@ cleared_marks drivers c next old new h waiting stays few run wanted = record {
   waiting = waiting;
   full = λ q w. elim (few q w) [ inl before ↦ h.full q before | inr here ↦ not_open c q next here stays ];
 }
+
+-- a place without messages waits, so its mark may go
+pub emptied_marks : (drivers : List DriverSpec) (c : Configuration) (p : Place) (old new : Marks) → first_message c.flow p ≡ None → AreMarks drivers c old → ((q : Place) → has_mark new.run q ≡ all_but (has_mark old.run) p q)
+    → new.run.drivers ≡ old.run.drivers → new.wanted ≡ old.wanted → AreMarks drivers c new
+emptied_marks drivers c p old new none h gone run wanted = record {
+  few = h.few;
+  run = run ∙ h.run;
+  wanted = ap (λ (m : MarkList). m.drivers) wanted ∙ h.wanted;
+  waiting = λ q clear. elim (cases_Bool (same_place p q)) [
+    | inl here ↦ ap (λ (o : Option Place). is_held_up c (has_mark new.wanted) o) (nowhere_next q here)
+    | inr other ↦ rw wanted (h.waiting q (still q other (sym (gone q) ∙ clear)))
+  ];
+  full = λ q w. h.full q (subst (λ (m : MarkList). has_mark m q ≡ true) wanted w);
+} where
+  nowhere_next : (q : Place) → same_place p q ≡ true → next_of_first drivers c q ≡ None
+  nowhere_next q here = ap (next_of drivers c q) (subst (λ (x : Place). first_message c.flow x ≡ None) (place_is p q here) none)
+
+  still : (q : Place) → same_place p q ≡ false → all_but (has_mark old.run) p q ≡ false → has_mark old.run q ≡ false
+  still q other e = elim (cases_Bool (has_mark old.run q)) [
+    | inl t ↦ absurd (false≢true (sym e ∙ rw t (rw other refl)))
+    | inr f ↦ f
+  ]
 
 -- ---- the place that is waited for
 

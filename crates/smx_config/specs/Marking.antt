@@ -9,7 +9,7 @@ use Rattle.smx_types.specs.declared.stream.StreamId.{StreamId}
 use Rattle.smx_model.specs.Configuration.{Configuration, QueuedMessage, same_side, same_stream}
 use Rattle.smx_model.specs.KnownStreams.{IsKnown}
 use Rattle.smx_model.specs.Queues.{first_message, is_full}
-use Rattle.smx_model.specs.RunMarks.{can_feed, is_below_driver}
+use Rattle.smx_model.specs.RunMarks.{all_but, can_feed, is_below_driver}
 use Rattle.smx_model.specs.SettlingByMarks.{HasItsMarks, MarkedConfiguration}
 use Rattle.smx_queues.specs.PlaceMarks.{MarkList, has_mark}
 use Rattle.smx_config.specs.FewMinors.{HaveFewMinors}
@@ -35,10 +35,6 @@ is_write_of driver p = same_side p.side side.Write && (p.stream.driver == driver
 abbrev pub is_read_below_driver : Configuration → ℕ → Place → Bool
 is_read_below_driver c driver p = same_side p.side side.Read && is_below_driver c driver p.stream
 
--- the read side of the link's lower stream, if the driver is the upper one
-abbrev pub is_read_of : Link → ℕ → Place → Bool
-is_read_of l driver p = same_side p.side side.Read && (same_stream l.lower p.stream && (l.ctl.driver == driver))
-
 -- a write side of a driver that has a link above the stream
 abbrev pub is_write_above : List Link → StreamId → Place → Bool
 is_write_above links s p =
@@ -48,6 +44,11 @@ is_write_above links s p =
 pub record IsMarkedWhere (flow : List QueuedMessage) (test : Place → Bool) (old new : MarkList) : Type 0 where
   pub kept : (p : Place) → has_mark old p ≡ true → has_mark new p ≡ true
   pub marked : (p : Place) → IsKnown old.drivers p.stream → first_message flow p ≢ None → test p ≡ true → has_mark new p ≡ true
+  pub drivers : new.drivers ≡ old.drivers
+
+-- the mark of the place is gone
+pub record IsWithoutMark (place : Place) (old new : MarkList) : Type 0 where
+  pub gone : (q : Place) → has_mark new q ≡ all_but (has_mark old) place q
   pub drivers : new.drivers ≡ old.drivers
 
 -- of the freed places those that are wanted and no longer full are wanted no more, and what can feed them has a run mark

@@ -1,6 +1,6 @@
 //! Linking streams below a driver, and removing links.
 
-ghost use Rattle.std.specs.Prelude.{◌≡◌, map, filter, IfOk};
+ghost use Rattle.std.specs.Prelude.{◌≡◌, map, filter, IfOk, Ok};
 ghost use Rattle.std.specs.List.{list_any};
 ghost use Rattle.smx_types.specs.declared.command.Command.TheVariants as command;
 ghost use Rattle.smx_types.specs.declared.command.Which.TheVariants as which;
@@ -92,13 +92,24 @@ fn may_unlink(kind: LinkKind, stream: StreamId, link: &Link) -> bool
     }
 }
 
-fn is_target(which: Which, kind: LinkKind, stream: StreamId, link: &Link) -> bool
-    ensures { result ≡ is_target which kind stream link.now }
+// The ids of all links that such a command may be for.
+fn all_targets(
+    alloc: Global,
+    links: &LinkTable,
+    kind: LinkKind,
+    stream: StreamId,
+) -> Result<Vec<u32>, AllocError>
+    ensures { IfOk result (λ v. v.items ≡ map (λ l. l.id) (filter (may_unlink kind stream) links.now.links)) }
 {
-    match which {
-        Which::All => may_unlink(kind, stream, link),
-        Which::Id(id) => link.id == id && may_unlink(kind, stream, link),
+    let mut ids = Vec::new(alloc);
+    for i in 0..links.len() {
+        if let Some(link) = links.at(i) {
+            if may_unlink(kind, stream, link) {
+                ids.push(link.id)?;
+            }
+        }
     }
+    Ok(ids)
 }
 
 // The ids of the links that the command is for.
@@ -109,17 +120,14 @@ fn targets(
     kind: LinkKind,
     stream: StreamId,
 ) -> Result<Vec<u32>, AllocError>
+    requires { are_there which kind stream links.now.links ≡ Ok tt }
     ensures { IfOk result (λ v. v.items ≡ map (λ l. l.id) (filter (is_target which kind stream) links.now.links)) }
 {
-    let mut ids = Vec::new(alloc);
-    for i in 0..links.len() {
-        if let Some(link) = links.at(i) {
-            if is_target(which, kind, stream, link) {
-                ids.push(link.id)?;
-            }
-        }
+    links.is_sound();
+    match which {
+        Which::All => all_targets(alloc, links, kind, stream),
+        Which::Id(id) => Vec::from_slice(alloc, &[id]),
     }
-    Ok(ids)
 }
 
 // Whether a command for links of this kind on this stream is for the link with the id.

@@ -1,16 +1,18 @@
 //! Run marks at the places that can feed one.
 
-ghost use Rattle.std.specs.Prelude.{◌≡◌};
-ghost use Rattle.smx_model.specs.Configuration.{same_place};
-ghost use Rattle.smx_model.specs.RunMarks.{both, can_feed};
+ghost use Rattle.std.specs.Prelude.{◌≡◌, ◌≢◌, None};
+ghost use Rattle.smx_model.specs.Configuration.{Configuration, same_place};
+ghost use Rattle.smx_model.specs.Queues.{first_message};
+ghost use Rattle.smx_model.specs.RunMarks.{can_feed};
 ghost use Rattle.smx_config.specs.FewMinors.{HaveFewMinors};
-ghost use Rattle.smx_config.specs.Marking.{is_read_below_driver, is_read_of, is_write_above, is_write_of, IsMarkedWhere};
+ghost use Rattle.smx_config.specs.Marking.{is_read_below_driver, is_write_above, is_write_of, IsMarkedWhere, IsWithoutMark};
 ghost use Rattle.smx_config.specs.ModelOfLists.{configuration_of};
 
 use crate::driver_specs::minors_of;
 use crate::lists::Lists;
+use smx_links::LinkTable;
 use smx_queues::{FlowTable, PlaceMarks};
-use smx_types::{DriverSpec, Link, Place, Side, StreamId};
+use smx_types::{DriverSpec, Place, Side, StreamId};
 
 // Marks the place, if it has a message.
 pub fn mark_waiting(queues: &FlowTable, run: &mut PlaceMarks, place: Place)
@@ -21,12 +23,15 @@ pub fn mark_waiting(queues: &FlowTable, run: &mut PlaceMarks, place: Place)
     }
 }
 
-// Marks both places, where they have a message.
-pub fn mark_both(queues: &FlowTable, run: &mut PlaceMarks, one: Place, other: Place)
-    ensures { IsMarkedWhere queues.now.flow (both (same_place one) (same_place other)) run.old run.new }
+// Marks a place that a message has left, if it has another, and else takes its mark.
+pub fn mark_left(queues: &FlowTable, run: &mut PlaceMarks, place: Place)
+    ensures some { first_message queues.now.flow place ≢ None → IsMarkedWhere queues.now.flow (same_place place) run.old run.new }
+    ensures none { first_message queues.now.flow place ≡ None → IsWithoutMark place run.old run.new }
 {
-    mark_waiting(queues, run, one);
-    mark_waiting(queues, run, other);
+    match queues.front(place) {
+        Some(_message) => run.mark(place),
+        None => run.clear(place),
+    }
 }
 
 // Marks the write sides of the driver's streams that have a message.
@@ -43,27 +48,29 @@ pub fn mark_writes(drivers: &[DriverSpec], queues: &FlowTable, run: &mut PlaceMa
     }
 }
 
-// Marks the read side of the link's lower stream, if the driver is the upper one and there is a message.
-fn mark_lower(queues: &FlowTable, run: &mut PlaceMarks, link: &Link, driver: u8)
-    ensures { IsMarkedWhere queues.now.flow (is_read_of link.now driver) run.old run.new }
+// Whether the place is the read side of a stream below the driver.
+fn is_read_below(links: &LinkTable, place: Place, driver: u8) -> bool
+    ensures { (c : Configuration) → c.links ≡ links.now.links → result ≡ is_read_below_driver c driver place }
 {
-    if link.ctl.driver == driver {
-        let stream = link.lower;
-        let side = Side::Read;
-        mark_waiting(queues, run, Place { stream, side });
+    links.is_sound();
+    match place.side {
+        Side::Write => false,
+        Side::Read => match links.above(place.stream) {
+            Some(link) => link.ctl.driver == driver,
+            None => false,
+        },
     }
 }
 
-// Marks the read sides of the streams below the driver that have a message.
+// Marks the read sides of the streams below the driver that have a message. It looks at no link but those above streams
+// that have one.
 pub fn mark_reads(lists: &Lists, run: &mut PlaceMarks, driver: u8)
     ensures { IsMarkedWhere lists.now.queues.flow (is_read_below_driver (configuration_of lists.now) driver) run.old run.new }
 {
-    if !lists.links.is_upper(driver) {
-        return;
-    }
-    for i in 0..lists.links.len() {
-        if let Some(link) = lists.links.at(i) {
-            mark_lower(&lists.queues, run, link, driver);
+    let mut rest = lists.queues.fronts();
+    while let Some(first) = rest.next() {
+        if is_read_below(&lists.links, first.place, driver) {
+            run.mark(first.place);
         }
     }
 }

@@ -16,7 +16,7 @@ ghost use Rattle.smx_config.specs.KeptHolds.{KeepsHolds};
 ghost use Rattle.smx_config.specs.Marking.{AreMarks};
 
 use crate::driver_specs::is_mux;
-use crate::feeders::mark_both;
+use crate::feeders::mark_left;
 use crate::laws_of_waking::moved_marks_are_enough;
 use crate::lists::Lists;
 use crate::marks::Marks;
@@ -189,7 +189,8 @@ fn move_marked(drivers: &[DriverSpec], lists: &mut Lists, marks: &mut Marks, nex
     moved_marks_are_enough();
     move_on(drivers, lists, next);
     release_if_open(drivers, lists, marks, next.from);
-    mark_both(&lists.queues, &mut marks.run, next.from, next.to);
+    marks.run.mark(next.to);
+    mark_left(&lists.queues, &mut marks.run, next.from);
 }
 
 // Moves messages on until none can, and no run mark is left.

@@ -1,8 +1,8 @@
 -- What is left of a walk over places, of which some are passed by.
-use Rattle.std.proofs.Common.{◌≡◌, ℕ, zero, suc, ◌+◌, ◌<◌, ◌≤◌, ltb, Bool, false, List, [], ◌∷◌, ◌++◌, length, drop, get_or, Option, Some, None, refl, sym, ap, ◌∙◌, arith, length-append}
+use Rattle.std.proofs.Common.{◌≡◌, ℕ, zero, suc, ◌+◌, ◌<◌, ◌≤◌, ltb, Bool, true, false, List, [], ◌∷◌, ◌++◌, length, drop, get_or, Option, Some, None, refl, sym, ap, ◌∙◌, subst, arith, inl, inr, length-append}
 use Rattle.std.specs.Prelude.{slice_get}
 use Rattle.std.specs.List.{AllByRecursion, list_any}
-use Rattle.std.proofs.lemmas.Bool.{or_parts}
+use Rattle.std.proofs.lemmas.Bool.{cases_Bool, false≢true, or_parts}
 use Rattle.std.proofs.lemmas.Bool.Decides.{nat_tests}
 use Rattle.std.proofs.lemmas.List.Sums.{sum_by-cons}
 use Rattle.std.proofs.lemmas.List.{drop_more}
@@ -16,7 +16,7 @@ use Rattle.smx_model.specs.Queues.{first_message}
 use Rattle.smx_queues.specs.FlowTables.{AreQueuesOf, first_at, flow_of, fronts, fronts_after, fronts_of, fulls_of, is_same, messages_at}
 use Rattle.smx_queues.specs.QueueTable.{Queue}
 use Rattle.smx_queues.specs.Slots.{IsLeastFrom, has_messages, is_marked, message_total, messages_in}
-use Rattle.smx_queues.proofs.PlaceLemmas.{apart, none_behind, place_self}
+use Rattle.smx_queues.proofs.PlaceLemmas.{apart, none_behind, place_is, place_self}
 
 -- a part that shows nothing of what fails the test
 abbrev Skips : {X : Type 0} → (List Place → List (Option Queue) → List X) → (Option Queue → Bool) → Type 0
@@ -169,6 +169,25 @@ fronts_first (p ∷ places) (q ∷ queues) rise = by (messages_in q) (λ ms. sti
   by : (ms : List Message) → ((ns : List Message) → AreFirst (messages_at p ns ++ flow_of places queues) (fronts_of places queues)) → AreFirst (messages_at p ms ++ flow_of places queues) (first_at p ms ++ fronts_of places queues)
   by [] rest = rest []
   by (m ∷ ms) rest = (rw (place_self p) refl, rest (m ∷ ms))
+
+-- each place that has a message has one of them
+pub fronts_of_all : (before : Option Place) (flow : List QueuedMessage) (p : Place) → is_same before p ≡ false → (first_message flow p ≡ None → ⊥) → list_any (λ h. same_place h.place p) (fronts_after before flow) ≡ true
+fronts_of_all before [] p other some = absurd (some refl)
+fronts_of_all before (h ∷ flow) p other some = elim (cases_Bool (is_same before h.place)) [
+  | inl again ↦ rw again (fronts_of_all before flow p other (λ none. some (passed h flow p (not_here again) none)))
+  | inr new ↦ rw new (elim (cases_Bool (same_place h.place p)) [
+    | inl here ↦ rw here refl
+    | inr there ↦ rw there (fronts_of_all (Some h.place) flow p there (λ none. some (passed h flow p there none)))
+  ])
+] where
+  passed : (h : QueuedMessage) (flow : List QueuedMessage) (p : Place) → same_place h.place p ≡ false → first_message flow p ≡ None → first_message (h ∷ flow) p ≡ None
+  passed h flow p differ none = rw differ none
+
+  not_here : is_same before h.place ≡ true → same_place h.place p ≡ false
+  not_here again = elim (cases_Bool (same_place h.place p)) [
+    | inl here ↦ absurd (false≢true (sym other ∙ subst (λ (x : Place). is_same before x ≡ true) (place_is h.place p here) again))
+    | inr there ↦ there
+  ]
 
 -- ---- how many messages there are
 

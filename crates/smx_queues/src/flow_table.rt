@@ -1,9 +1,10 @@
 //! The queued messages and full marks of all places, by place.
 
-ghost use Rattle.std.specs.Prelude.{◌≡◌, ◌+◌, ◌<◌, ◌≤◌, ◌++◌, [], false, length, map, vec_capacity, Some};
+ghost use Rattle.std.specs.Prelude.{◌≡◌, ◌≢◌, ◌+◌, ◌<◌, ◌≤◌, ◌++◌, [], false, true, length, map, vec_capacity, None, Some};
 ghost use Rattle.std.specs.Prelude.{option_copied, IfOk, IfNone, IsSome, OnOk, OnSome};
 ghost use Rattle.std.specs.List.{All, list_any};
 ghost use Rattle.smx_types.specs.declared.message.Message.{Message};
+ghost use Rattle.smx_types.specs.declared.stream.Place.{Place as PlaceValue};
 ghost use Rattle.smx_model.specs.Configuration.{same_place};
 ghost use Rattle.smx_model.specs.DriverList.{IsDriverList};
 ghost use Rattle.smx_model.specs.KnownStreams.{IsKnown};
@@ -153,6 +154,8 @@ impl FlowTable {
     pub fn fronts(&self) -> Fronts<'_>
         ensures fronts { result ≡ fronts self.now.flow }
         ensures first { All (λ h. first_message self.now.flow h.place ≡ Some h.message) (fronts self.now.flow) }
+        ensures all { (p : PlaceValue) → first_message self.now.flow p ≢ None
+            → list_any (λ h. same_place h.place p) (fronts self.now.flow) ≡ true }
     {
         Fronts::new(&self.places, &self.queues)
     }

@@ -1,17 +1,23 @@
-use Rattle.std.proofs.Common.{◌++◌, ◌∷◌, [], List, ℕ, arith, ap, sym, ◌∙◌}
+use Rattle.std.proofs.Common.{◌≡◌, ◌&&◌, ◌∷◌, [], ℕ, Bool, true, false, eqb, not, filter, map, List, refl, sym, subst}
+use Rattle.std.specs.Prelude.{IfOk, Ok, Result}
+use Rattle.std.specs.List.{list_any}
+use Rattle.smx_types.specs.declared.command.Which.{Which}
+use Rattle.smx_types.specs.declared.command.Which.TheVariants as which
 use Rattle.smx_types.specs.declared.link.Link.{Link}
-use Rattle.smx_config.specs.UnlinkTargets.{is_target}
-use Rattle.smx_config.proofs.TableLemmas.{none_past, kept_more, left_more}
+use Rattle.smx_types.specs.declared.reply.Fault.{Fault}
+use Rattle.smx_types.specs.declared.reply.Fault.TheVariants.{NoLink}
+use Rattle.smx_model.specs.Outcomes.{refuse}
+use Rattle.smx_config.specs.UnlinkTargets.{are_there, is_target, may_unlink}
+use Rattle.smx_config.proofs.AboveLemmas.{target_of_id}
 use Rattle.smx_config.proofs.commands_of_links.targets.Goals as goal
-use Rattle.smx_config.proofs.commands_of_links.targets.Goals.{in-Some+then-is_target+in_ok-push, in-Some+else-is_target, in_default}
 
-pub loop-i-preserved : goal.loop-i-preserved
-loop-i-preserved c = elim c.match-at.branch [
-  | in-Some+then-is_target+in_ok-push w ↦ rw w.ids-is
-      (w.in_ok-push.ensures.items ∙ ap (λ (ids : List ℕ). ids ++ w.in-Some.link.now.id ∷ []) c.loop-i.invariant
-      ∙ sym (kept_more (λ (l : Link). l.id) (is_target c.args.which c.args.kind c.args.stream) c.args.links.now.links c.loop-i.i w.in-Some.link.now w.in-Some.ensures (sym w.is_target.ensures ∙ w.if-is_target.true)))
-  | in-Some+else-is_target w ↦ rw w.ids-is
-      (c.loop-i.invariant
-      ∙ sym (left_more (λ (l : Link). l.id) (is_target c.args.which c.args.kind c.args.stream) c.args.links.now.links c.loop-i.i w.in-Some.link.now w.in-Some.ensures (sym w.is_target.ensures ∙ w.if-is_target.false)))
-  | in_default w ↦ absurd (none_past c.args.links.now.links c.loop-i.i w.in_default.ensures (omega arith))
-]
+not_refused : (b : Bool) → refuse NoLink (not b) ≡ Ok tt → b ≡ true
+not_refused true e = refl
+not_refused false e = absurd cc
+
+pub returns-in-Id : goal.returns-in-Id
+returns-in-Id c =
+    let t = may_unlink c.args.kind c.args.stream in
+    let links = c.args.links.now.links in
+    let there = not_refused (list_any (λ l. eqb l.id c.in-Id.id && t l) links) (subst (λ (w : Which). are_there w c.args.kind c.args.stream links ≡ Ok tt) c.in-Id.is c.requires) in
+    rw c.in-Id.is (rw (target_of_id t c.in-Id.id links c.is_sound.ensures.ids.rise there) c.from_slice.ensures.items)

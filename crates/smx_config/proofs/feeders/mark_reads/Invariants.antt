@@ -1,7 +1,11 @@
-use Rattle.std.proofs.Common.{take}
-use Rattle.smx_config.specs.Marking.{IsMarkedWhere}
-use Rattle.smx_config.proofs.FeederLemmas.{reads_among}
+use Rattle.std.proofs.Common.{length}
+use Rattle.smx_config.specs.Marking.{is_read_below_driver}
+use Rattle.smx_config.specs.ModelOfLists.{configuration_of}
+use Rattle.smx_config.proofs.FeederLemmas.{ArePassed}
 use Rattle.smx_config.proofs.feeders.mark_reads.Given as goal
 
-abbrev pub invariant-loop-i : goal.invariant-loop-i
-invariant-loop-i l = IsMarkedWhere l.lists.queues.flow (reads_among l.driver (take l.i l.lists.links.links)) l.initial.run l.run
+abbrev pub decreases-loop-first : goal.decreases-loop-first
+decreases-loop-first l = length l.rest
+
+abbrev pub invariant-loop-first : goal.invariant-loop-first
+invariant-loop-first l = ArePassed l.lists.queues.flow l.rest (is_read_below_driver (configuration_of l.lists) l.driver) l.initial.run l.run
