@@ -20,8 +20,9 @@ use Rattle.smx_model.specs.FreedPlaces.{freed_by}
 use Rattle.smx_model.specs.Lookups.{free_stream, leaf_stream, mux_stream, stream_of}
 use Rattle.smx_model.specs.Ordered.{with_inserted}
 use Rattle.smx_model.specs.Outcomes.{Outcome, ◌>>=◌, refuse}
+use Rattle.smx_model.specs.Queues.{after_leaving}
 use Rattle.smx_model.specs.Removal.{after_sweep}
-use Rattle.smx_model.specs.RunMarks.{both, is_below_driver}
+use Rattle.smx_model.specs.RunMarks.{TurnsOnly, both, is_below_driver, is_first_at}
 use Rattle.smx_model.specs.Settling.{next_open_place}
 use Rattle.smx_model.specs.SettlingByMarks.{is_first_there, turned_by_move}
 use Rattle.smx_model.specs.Standing.{exists, is_persistent}
@@ -134,11 +135,15 @@ move_turns drivers c from to p e t = by (same_place from p) (subst (λ (o : Opti
   by true h = refl
   by false h = first_part (same_place to p) _ h
 
+-- what a move turns, by where it goes
+pub turned_is : (drivers : List DriverSpec) (c new : Configuration) (from to : Place) → next_open_place drivers c from ≡ Some to → TurnsOnly drivers c new (both (same_place from) (is_first_at (after_leaving drivers c from) to)) → TurnsOnly drivers c new (turned_by_move drivers c from)
+turned_is drivers c new from to e h = subst (λ (o : Option Place). TurnsOnly drivers c new (both (same_place from) (is_first_there drivers c from o))) (sym e) h
+
 -- ---- what holds of an accepted outcome
 
-pub of_two : {X : Type 0} {P Q R : X → Type 0} (r : Result X Fault) → IfOk r P → IfOk r Q → ((x : X) → r ≡ Ok x → P x → Q x → R x) → IfOk r R
-of_two (Ok x) p q f = f x refl p q
-of_two (Err e) p q f = tt
+pub of_three : {X : Type 0} {P Q S R : X → Type 0} (r : Result X Fault) → IfOk r P → IfOk r Q → IfOk r S → ((x : X) → r ≡ Ok x → P x → Q x → S x → R x) → IfOk r R
+of_three (Ok x) p q s f = f x refl p q s
+of_three (Err e) p q s f = tt
 
 pub of_accepted : {X : Type 0} (P : X → Type 0) (r : Result X Fault) (x : X) → r ≡ Ok x → IfOk r P → P x
 of_accepted {X = X} P (Ok y) x e h = subst P (same e) h where
@@ -149,18 +154,19 @@ of_accepted P (Err g) x e h = absurd cc
 -- ---- after a command that was performed
 
 abbrev pub IsEnough : List DriverSpec → Configuration → ℕ → Command → Marks → Marks → Type 0
-IsEnough drivers c process k m n = IfOk (outcome drivers c process k) (λ x. IsWoken x.0 (turned_under x.0 (wakes_of drivers c process k)) (freed_under (wakes_of drivers c process k)) m n → AreMarks drivers x.0 n)
+IsEnough drivers c process k m n = IfOk (outcome drivers c process k) (λ x. IsWoken drivers x.0 (turned_under x.0 (wakes_of drivers c process k)) (freed_under (wakes_of drivers c process k)) m n → AreMarks drivers x.0 n)
 
 enough_at : (drivers : List DriverSpec) (c : Configuration) (process : ℕ) (k : Command) (m n : Marks) (x : Configuration × Reply) → IsEnough drivers c process k m n → outcome drivers c process k ≡ Ok x
-    → IsWoken x.0 (turned_under x.0 (wakes_of drivers c process k)) (freed_under (wakes_of drivers c process k)) m n → AreMarks drivers x.0 n
+    → IsWoken drivers x.0 (turned_under x.0 (wakes_of drivers c process k)) (freed_under (wakes_of drivers c process k)) m n → AreMarks drivers x.0 n
 enough_at drivers c process k m n x enough e =
-    of_accepted (λ (y : Configuration × Reply). IsWoken y.0 (turned_under y.0 (wakes_of drivers c process k)) (freed_under (wakes_of drivers c process k)) m n → AreMarks drivers y.0 n) (outcome drivers c process k) x e enough
+    of_accepted (λ (y : Configuration × Reply). IsWoken drivers y.0 (turned_under y.0 (wakes_of drivers c process k)) (freed_under (wakes_of drivers c process k)) m n → AreMarks drivers y.0 n) (outcome drivers c process k) x e enough
 
 pub woken_after : (drivers told done : List DriverSpec) (old new : Lists) (process : ℕ) (k : Command) (result : Result Reply StepError) (r : Reply) (w : Wakes) (m n : Marks) → told ≡ drivers → done ≡ drivers → result ≡ Ok r
     → RefinesOrNoMemory done old new process k result → w ≡ wakes_of told (configuration_of old) process k → IsEnough drivers (configuration_of old) process k m n
-    → IsWoken (configuration_of new) (turned_under (configuration_of new) w) (freed_under w) m n → AreMarks drivers (configuration_of new) n
+    → IsWoken told (configuration_of new) (turned_under (configuration_of new) w) (freed_under w) m n → AreMarks drivers (configuration_of new) n
 woken_after drivers told done old new process k result r w m n same same_too is refines tells enough woken =
     let here = subst (λ (x : Result Reply StepError). RefinesOrNoMemory drivers old new process k x) is (subst (λ (ds : List DriverSpec). RefinesOrNoMemory ds old new process k result) same_too refines) in
     let told_so : w ≡ wakes_of drivers (configuration_of old) process k = tells ∙ ap (λ (ds : List DriverSpec). wakes_of ds (configuration_of old) process k) same in
     enough_at drivers (configuration_of old) process k m n (configuration_of new, r) enough here
-    (subst (λ (x : Wakes). IsWoken (configuration_of new) (turned_under (configuration_of new) x) (freed_under x) m n) told_so woken)
+    (subst (λ (x : Wakes). IsWoken drivers (configuration_of new) (turned_under (configuration_of new) x) (freed_under x) m n) told_so
+    (subst (λ (ds : List DriverSpec). IsWoken ds (configuration_of new) (turned_under (configuration_of new) w) (freed_under w) m n) same woken))

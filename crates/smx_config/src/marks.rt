@@ -1,4 +1,4 @@
-//! Run marks and wanted marks.
+//! Run marks, wanted marks, and marks of places that wait.
 
 ghost use Rattle.std.specs.Prelude.{◌≡◌, [], IfOk};
 ghost use Rattle.smx_model.specs.DriverList.{IsDriverList};
@@ -7,22 +7,25 @@ use smx_queues::PlaceMarks;
 use smx_types::{DriverSpec, NoMemory};
 use std::alloc::Global;
 
-/// Two marks for each place: a run mark where the first message may be able to move on, and a wanted mark where a full
-/// place holds up another place's first message.
+/// Three marks for each place: a run mark where the first message may be able to move on, a wanted mark where a full
+/// place holds up another place's first message, and a mark where a first message may be held up.
 #[derive(Debug, Drop)]
 pub struct Marks {
     pub run: PlaceMarks,
     pub wanted: PlaceMarks,
+    pub waits: PlaceMarks,
 }
 
 pub fn no_marks(alloc: Global, drivers: &[DriverSpec]) -> Result<Marks, NoMemory>
     requires { IsDriverList drivers.now }
     ensures run { IfOk result (λ m. (m.run.drivers ≡ drivers.now) × (m.run.marked ≡ [])) }
     ensures wanted { IfOk result (λ m. (m.wanted.drivers ≡ drivers.now) × (m.wanted.marked ≡ [])) }
+    ensures waits { IfOk result (λ m. m.waits.drivers ≡ drivers.now) }
 {
     Ok(Marks {
         run: PlaceMarks::new(alloc, drivers)?,
         wanted: PlaceMarks::new(alloc, drivers)?,
+        waits: PlaceMarks::new(alloc, drivers)?,
     })
 }
 
@@ -32,5 +35,6 @@ pub fn copy_marks(alloc: Global, marks: &Marks) -> Result<Marks, NoMemory>
     Ok(Marks {
         run: marks.run.copy(alloc)?,
         wanted: marks.wanted.copy(alloc)?,
+        waits: marks.waits.copy(alloc)?,
     })
 }

@@ -4,36 +4,63 @@ ghost use Rattle.std.specs.Prelude.{◌≡◌, ◌<◌, false, true, length, IfS
 ghost use Rattle.smx_types.specs.declared.stream.Place.{Place as PlaceValue};
 ghost use Rattle.smx_model.specs.Configuration.{same_place};
 ghost use Rattle.smx_model.specs.Queues.{is_full};
+ghost use Rattle.smx_model.specs.RunMarks.{is_next_of_first};
 ghost use Rattle.smx_queues.specs.PlaceMarks.{has_mark};
 ghost use Rattle.smx_config.specs.FewMinors.{HaveFewMinors};
-ghost use Rattle.smx_config.specs.Marking.{IsMarkedWhere, IsReleased, IsWoken};
+ghost use Rattle.smx_config.specs.Marking.{AreWaitersMarked, IsMarkedWhere, IsReleased, IsWoken};
 ghost use Rattle.smx_config.specs.ModelOfLists.{configuration_of};
 ghost use Rattle.smx_config.specs.Wakes.{everywhere, freed_under, turned_under};
 
-use crate::feeders::{mark_feeders, mark_reads, mark_waiting, mark_writes};
 use crate::lists::Lists;
 use crate::marks::Marks;
+use crate::next_places::next_of_first;
+use crate::run_marks::{mark_reads, mark_waiting, mark_writes};
+use crate::streams::same_place;
 use crate::wakes::Wakes;
 use smx_queues::PlaceMarks;
 use smx_types::{DriverSpec, Place};
 
-// The place is wanted no more, and what can feed it has a run mark.
+// Whether the first message of the waiter goes to the place next.
+fn waits_for(drivers: &[DriverSpec], lists: &Lists, waiter: Place, place: Place) -> bool
+    ensures { result ≡ is_next_of_first drivers.now (configuration_of lists.now) waiter place }
+{
+    match next_of_first(drivers, lists, waiter) {
+        Some(next) => same_place(next, place),
+        None => false,
+    }
+}
+
+// Marks those of the waiting places whose first message goes to this one next.
+fn mark_waiters(
+    drivers: &[DriverSpec],
+    lists: &Lists,
+    waits: &PlaceMarks,
+    run: &mut PlaceMarks,
+    place: Place,
+)
+    ensures { AreWaitersMarked drivers.now (configuration_of lists.now) waits.now place run.old run.new }
+{
+    let mut rest = waits.marked();
+    while let Some(waiter) = rest.next() {
+        if waits_for(drivers, lists, waiter, place) {
+            run.mark(waiter);
+        }
+    }
+}
+
+// The place is wanted no more, and what waits for it has a run mark.
 fn release(drivers: &[DriverSpec], lists: &Lists, marks: &mut Marks, place: Place)
-    requires few { HaveFewMinors drivers.now }
-    requires same { marks.old.run.drivers ≡ drivers.now }
     requires open { is_full (configuration_of lists.now) place ≡ false }
-    ensures released { IsReleased (configuration_of lists.now) (same_place place) marks.old marks.new }
+    ensures released { IsReleased drivers.now (configuration_of lists.now) (same_place place) marks.old marks.new }
     ensures fewer { has_mark marks.old.wanted place ≡ true → length marks.new.wanted.marked < length marks.old.wanted.marked }
 {
     marks.wanted.clear(place);
-    mark_feeders(drivers, lists, &mut marks.run, place);
+    mark_waiters(drivers, lists, &marks.waits, &mut marks.run, place);
 }
 
 // So it is with the place, if it is wanted and not full.
 pub fn release_if_open(drivers: &[DriverSpec], lists: &Lists, marks: &mut Marks, place: Place)
-    requires few { HaveFewMinors drivers.now }
-    requires same { marks.old.run.drivers ≡ drivers.now }
-    ensures { IsReleased (configuration_of lists.now) (same_place place) marks.old marks.new }
+    ensures { IsReleased drivers.now (configuration_of lists.now) (same_place place) marks.old marks.new }
 {
     if marks.wanted.is_marked(place) && !lists.queues.is_full(place) {
         release(drivers, lists, marks, place);
@@ -56,9 +83,7 @@ fn first_open(lists: &Lists, wanted: &PlaceMarks) -> Option<Place>
 
 // So it is with each place.
 fn release_all(drivers: &[DriverSpec], lists: &Lists, marks: &mut Marks)
-    requires few { HaveFewMinors drivers.now }
-    requires same { marks.old.run.drivers ≡ drivers.now }
-    ensures { IsReleased (configuration_of lists.now) everywhere marks.old marks.new }
+    ensures { IsReleased drivers.now (configuration_of lists.now) everywhere marks.old marks.new }
 {
     while let Some(place) = first_open(lists, &marks.wanted) {
         release(drivers, lists, marks, place);
@@ -66,9 +91,7 @@ fn release_all(drivers: &[DriverSpec], lists: &Lists, marks: &mut Marks)
 }
 
 fn release_freed(drivers: &[DriverSpec], lists: &Lists, marks: &mut Marks, wakes: Wakes)
-    requires few { HaveFewMinors drivers.now }
-    requires same { marks.old.run.drivers ≡ drivers.now }
-    ensures { IsReleased (configuration_of lists.now) (freed_under wakes) marks.old marks.new }
+    ensures { IsReleased drivers.now (configuration_of lists.now) (freed_under wakes) marks.old marks.new }
 {
     match wakes {
         Wakes::Leaves(place) => release_if_open(drivers, lists, marks, place),
@@ -94,7 +117,7 @@ fn mark_turned(drivers: &[DriverSpec], lists: &Lists, run: &mut PlaceMarks, wake
 pub fn wake(drivers: &[DriverSpec], lists: &Lists, marks: &mut Marks, wakes: Wakes)
     requires few { HaveFewMinors drivers.now }
     requires same { marks.old.run.drivers ≡ drivers.now }
-    ensures { IsWoken (configuration_of lists.now) (turned_under (configuration_of lists.now) wakes) (freed_under wakes) marks.old marks.new }
+    ensures { IsWoken drivers.now (configuration_of lists.now) (turned_under (configuration_of lists.now) wakes) (freed_under wakes) marks.old marks.new }
 {
     release_freed(drivers, lists, marks, wakes);
     mark_turned(drivers, lists, &mut marks.run, wakes);

@@ -1,6 +1,6 @@
 use Rattle.std.proofs.Common.{◌≡◌, ◌∙◌, arith}
-use Rattle.smx_config.proofs.FeederLemmas.{no_writes, writes_all, writes_more}
-use Rattle.smx_config.proofs.feeders.mark_writes.Goals as goal
+use Rattle.smx_config.proofs.RunMarkLemmas.{no_writes, writes_all, writes_more}
+use Rattle.smx_config.proofs.run_marks.mark_writes.Goals as goal
 
 pub loop-minor-init : goal.loop-minor-init
 loop-minor-init c = no_writes _ _ _

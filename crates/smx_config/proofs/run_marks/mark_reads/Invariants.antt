@@ -1,8 +1,8 @@
 use Rattle.std.proofs.Common.{length}
 use Rattle.smx_config.specs.Marking.{is_read_below_driver}
 use Rattle.smx_config.specs.ModelOfLists.{configuration_of}
-use Rattle.smx_config.proofs.FeederLemmas.{ArePassed}
-use Rattle.smx_config.proofs.feeders.mark_reads.Given as goal
+use Rattle.smx_config.proofs.RunMarkLemmas.{ArePassed}
+use Rattle.smx_config.proofs.run_marks.mark_reads.Given as goal
 
 abbrev pub decreases-loop-first : goal.decreases-loop-first
 decreases-loop-first l = length l.rest

@@ -1,7 +1,7 @@
 use Rattle.std.proofs.Common.{refl, sym, ◌∙◌}
 use Rattle.smx_config.specs.ModelOfLists.{configuration_of}
-use Rattle.smx_config.proofs.FeederLemmas.{all_passed, none_passed, one_left, one_passed}
-use Rattle.smx_config.proofs.feeders.mark_reads.Goals as goal
+use Rattle.smx_config.proofs.RunMarkLemmas.{all_passed, none_passed, one_left, one_passed}
+use Rattle.smx_config.proofs.run_marks.mark_reads.Goals as goal
 
 pub loop-first-preserved-then-is_read_below : goal.loop-first-preserved-then-is_read_below
 loop-first-preserved-then-is_read_below c = one_passed _ _ _ _ _ _ _ _ c.in-Some.ensures c.loop-first.invariant c.mark.ensures.here c.mark.ensures.kept c.mark.ensures.drivers

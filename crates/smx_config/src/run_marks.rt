@@ -1,11 +1,10 @@
-//! Run marks at the places that can feed one.
+//! Run marks at places that have a message.
 
 ghost use Rattle.std.specs.Prelude.{◌≡◌, ◌≢◌, None};
 ghost use Rattle.smx_model.specs.Configuration.{Configuration, same_place};
 ghost use Rattle.smx_model.specs.Queues.{first_message};
-ghost use Rattle.smx_model.specs.RunMarks.{can_feed};
 ghost use Rattle.smx_config.specs.FewMinors.{HaveFewMinors};
-ghost use Rattle.smx_config.specs.Marking.{is_read_below_driver, is_write_above, is_write_of, IsMarkedWhere, IsWithoutMark};
+ghost use Rattle.smx_config.specs.Marking.{is_read_below_driver, is_write_of, IsMarkedWhere, IsWithoutMark};
 ghost use Rattle.smx_config.specs.ModelOfLists.{configuration_of};
 
 use crate::driver_specs::minors_of;
@@ -72,29 +71,5 @@ pub fn mark_reads(lists: &Lists, run: &mut PlaceMarks, driver: u8)
         if is_read_below(&lists.links, first.place, driver) {
             run.mark(first.place);
         }
-    }
-}
-
-// Marks the write sides of the driver above the stream that have a message.
-fn mark_above(drivers: &[DriverSpec], lists: &Lists, run: &mut PlaceMarks, stream: StreamId)
-    requires few { HaveFewMinors drivers.now }
-    requires same { run.old.drivers ≡ drivers.now }
-    ensures { IsMarkedWhere lists.now.queues.flow (is_write_above lists.now.links.links stream) run.old run.new }
-{
-    lists.links.is_sound();
-    if let Some(link) = lists.links.above(stream) {
-        mark_writes(drivers, &lists.queues, run, link.ctl.driver);
-    }
-}
-
-// Marks the places with a message that can feed one.
-pub fn mark_feeders(drivers: &[DriverSpec], lists: &Lists, run: &mut PlaceMarks, place: Place)
-    requires few { HaveFewMinors drivers.now }
-    requires same { run.old.drivers ≡ drivers.now }
-    ensures { IsMarkedWhere lists.now.queues.flow (can_feed (configuration_of lists.now) place) run.old run.new }
-{
-    match place.side {
-        Side::Write => mark_above(drivers, lists, run, place.stream),
-        Side::Read => mark_reads(lists, run, place.stream.driver),
     }
 }

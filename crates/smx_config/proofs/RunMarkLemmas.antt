@@ -15,9 +15,9 @@ use Rattle.smx_model.specs.DriverList.{minors_of}
 use Rattle.smx_model.specs.KnownStreams.{IsKnown}
 use Rattle.smx_model.specs.Paths.{AreLowersApart}
 use Rattle.smx_model.specs.Queues.{first_message}
-use Rattle.smx_model.specs.RunMarks.{both, can_feed, is_below_driver}
+use Rattle.smx_model.specs.RunMarks.{both, is_below_driver}
 use Rattle.smx_queues.specs.PlaceMarks.{MarkList, has_mark}
-use Rattle.smx_config.specs.Marking.{IsMarkedWhere, is_read_below_driver, is_write_above, is_write_of}
+use Rattle.smx_config.specs.Marking.{IsMarkedWhere, is_read_below_driver, is_write_of}
 use Rattle.smx_config.proofs.AboveLemmas.{any_once, eqb_swap, once_below}
 use Rattle.smx_config.proofs.PlaceLemmas.{place_is}
 
@@ -116,17 +116,6 @@ above_is : (links : List Link) (s : StreamId) (d : ℕ) (o : Option Link) → Ar
 above_is links s d o apart e =
     any_once (λ l. same_stream l.lower s) (λ l. eqb l.ctl.driver d) (λ l. same_stream l.lower s && eqb l.ctl.driver d) links (once_below s links apart) (λ l. refl) ∙ ap (λ (x : Option Link). option_map_or (λ l. eqb l.ctl.driver d) x false) e
 
-pub above_marked : (flow : List QueuedMessage) (links : List Link) (s : StreamId) (l : Link) (old new : MarkList) → AreLowersApart links → Some l ≡ find (λ k. same_stream k.lower s) links → IsMarkedWhere flow (is_write_of l.ctl.driver) old new
-    → IsMarkedWhere flow (is_write_above links s) old new
-above_marked flow links s l old new apart e h = fewer_marked flow (is_write_of l.ctl.driver) (is_write_above links s) old new (λ p t.
-    let parts = and_parts (same_side p.side side.Write) (list_any (λ k. same_stream k.lower s && eqb k.ctl.driver p.stream.driver) links) t in
-    and_from _ _ parts.0 (eqb_swap p.stream.driver l.ctl.driver ∙ (sym (above_is links s p.stream.driver (Some l) apart (sym e)) ∙ parts.1))) h
-
-pub none_above : (flow : List QueuedMessage) (links : List Link) (s : StreamId) (m : MarkList) → AreLowersApart links → None ≡ find (λ k. same_stream k.lower s) links → IsMarkedWhere flow (is_write_above links s) m m
-none_above flow links s m apart e = none_marked flow (is_write_above links s) m (λ p t.
-    let parts = and_parts (same_side p.side side.Write) (list_any (λ k. same_stream k.lower s && eqb k.ctl.driver p.stream.driver) links) t in
-    absurd (false≢true (sym (above_is links s p.stream.driver None apart (sym e)) ∙ parts.1)))
-
 -- ---- the read sides below a driver
 
 pub below_by : (c : Configuration) (p : Place) (l : Link) (driver : ℕ) → AreLowersApart c.links → Some l ≡ find (λ k. same_stream k.lower p.stream) c.links → p.side ≡ side.Read → eqb l.ctl.driver driver ≡ is_read_below_driver c driver p
@@ -199,11 +188,3 @@ all_passed flow rest test old new none a = record {
 -- nothing is marked at a place without messages
 pub left_empty : (flow : List QueuedMessage) (one other : Place → Bool) (old new : MarkList) → ((p : Place) → one p ≡ true → first_message flow p ≡ None) → IsMarkedWhere flow other old new → IsMarkedWhere flow (both one other) old new
 left_empty flow one other old new none h = both_marked flow one other old old new (none_marked flow one old none) h
-
--- ---- what can feed a place
-
-pub feeds_write : (flow : List QueuedMessage) (c : Configuration) (q : Place) (old new : MarkList) → q.side ≡ side.Write → IsMarkedWhere flow (is_write_above c.links q.stream) old new → IsMarkedWhere flow (can_feed c q) old new
-feeds_write flow c q old new e h = fewer_marked flow (is_write_above c.links q.stream) (can_feed c q) old new (λ p t. rw e at t) h
-
-pub feeds_read : (flow : List QueuedMessage) (c : Configuration) (q : Place) (old new : MarkList) → q.side ≡ side.Read → IsMarkedWhere flow (is_read_below_driver c q.stream.driver) old new → IsMarkedWhere flow (can_feed c q) old new
-feeds_read flow c q old new e h = fewer_marked flow (is_read_below_driver c q.stream.driver) (can_feed c q) old new (λ p t. rw e at t) h
