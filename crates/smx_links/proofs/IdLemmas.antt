@@ -1,5 +1,5 @@
 -- Links by their ids.
-use Rattle.std.proofs.Common.{◌≡◌, ℕ, zero, suc, ◌<◌, Bool, true, false, not, ◌||◌, eqb, List, [], ◌∷◌, ◌++◌, length, get_or, filter, take, ◌+◌, find, slice_get, Some, None, refl, sym, ap, ◌∙◌, arith, inl, inr}
+use Rattle.std.proofs.Common.{◌≡◌, ℕ, zero, suc, ◌<◌, Bool, true, false, not, ◌||◌, eqb, List, [], ◌∷◌, ◌++◌, length, get_or, filter, take, ◌+◌, find, slice_get, Option, Some, None, refl, sym, ap, ◌∙◌, arith, inl, inr}
 use Rattle.std.specs.Prelude.{nat_lt}
 use Rattle.std.proofs.lemmas.List.{take_more}
 use Rattle.std.specs.Ordering.{nat_cmp}
@@ -50,12 +50,24 @@ none_of_none [] = refl
 none_of_none (l ∷ ls) = ap (λ x. l ∷ x) (none_of_none ls)
 
 -- later ids are others
-later_stay : (l : Link) (ls : List Link) (id : ℕ) → l.id ≡ id → ComesBefore before l ls → filter (λ l. not (eqb l.id id)) ls ≡ ls
+pub later_stay : (l : Link) (ls : List Link) (id : ℕ) → l.id ≡ id → ComesBefore before l ls → filter (λ l. not (eqb l.id id)) ls ≡ ls
 later_stay l [] id e h = refl
 later_stay l (k ∷ ls) id e h =
     let up : l.id < k.id = ltb-true l.id k.id h.0 in
     let f : eqb k.id id ≡ false = false_from_ne_true (eqb k.id id) (λ t. let same = eqb-true k.id id t in absurd (omega arith)) in
     rw f (ap (λ x. k ∷ x) (later_stay l ls id e h.1))
+
+-- what is found among them has another id
+pub before_found : (test : Link → Bool) (k : Link) (ls : List Link) (l : Link) → ComesBefore before k ls → find test ls ≡ Some l → eqb k.id l.id ≡ false
+before_found test k [] l h some = absurd cc
+before_found test k (j ∷ ls) l h some = elim (cases_Bool (test j)) [
+  | inl t ↦
+      let found : ◌≡◌ {A = Option Link} (Some j) (Some l) = rw t at some in
+      let is : j ≡ l = cc in
+      let up : k.id < j.id = ltb-true k.id j.id h.0 in
+      rw (← is) (false_from_ne_true (eqb k.id j.id) (λ same. let e = eqb-true k.id j.id same in absurd (omega arith)))
+  | inr f ↦ before_found test k ls l h.1 (rw f at some)
+]
 
 pub before_at : (l : Link) (ls : List Link) (i : ℕ) (d : Link) → ComesBefore before l ls → i < length ls → before l (get_or ls i d) ≡ true
 before_at l [] i d h lt = absurd (omega arith)
@@ -76,11 +88,8 @@ pub remove_held : (ls : List Link) (i id : ℕ) → IsRising (λ l k. nat_lt l.i
 remove_held [] i id r lt at = absurd (omega arith)
 remove_held (l ∷ ls) i id r lt at = remove_id (l ∷ ls) i id l r lt (at l)
 
-pub some_held : (ls : List Link) (i : ℕ) → i < length ls → (l : Link) × (slice_get ls i ≡ Some l)
-some_held [] i lt = absurd (omega arith)
-some_held (l ∷ ls) i lt = (get_or (l ∷ ls) i l, slice_get-get_or (l ∷ ls) i l lt)
-
-found_id : (ls : List Link) (i id : ℕ) (d : Link) → IsRising (λ l k. nat_lt l.id k.id) ls → i < length ls → (get_or ls i d).id ≡ id → find (λ l. eqb l.id id) ls ≡ Some (get_or ls i d)
+-- the link at a place is found by its id
+pub found_id : (ls : List Link) (i id : ℕ) (d : Link) → IsRising (λ l k. nat_lt l.id k.id) ls → i < length ls → (get_or ls i d).id ≡ id → find (λ l. eqb l.id id) ls ≡ Some (get_or ls i d)
 found_id [] i id d r lt e = absurd (omega arith)
 found_id (l ∷ ls) zero id d r lt e = rw (eq-eqb l.id id e) refl
 found_id (l ∷ ls) (suc i) id d r lt e =
@@ -91,6 +100,10 @@ found_id (l ∷ ls) (suc i) id d r lt e =
 pub at_found : (ls : List Link) (i id : ℕ) → IsRising (λ l k. nat_lt l.id k.id) ls → i < length ls → HoldsAt (λ l. l.id ≡ id) ls i → find (λ l. eqb l.id id) ls ≡ slice_get ls i
 at_found [] i id r lt at = absurd (omega arith)
 at_found (l ∷ ls) i id r lt at = found_id (l ∷ ls) i id l r lt (at l) ∙ sym (slice_get-get_or (l ∷ ls) i l lt)
+
+-- the link that is read where the one with the id is
+pub found_at : (ls : List Link) (i id : ℕ) (l : Link) → IsRising (λ l k. nat_lt l.id k.id) ls → i < length ls → HoldsAt (λ l. l.id ≡ id) ls i → l ≡ get_or ls i l → find (λ l. eqb l.id id) ls ≡ Some l
+found_at ls i id l rise lt at is = at_found ls i id rise lt at ∙ slice_get-get_or ls i l lt ∙ ap (λ (k : Link). Some k) (sym is)
 
 -- where a binary search ends
 

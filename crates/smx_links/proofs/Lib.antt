@@ -1,5 +1,5 @@
 pub mod BitLemmas
-pub mod EntryLemmas
+pub mod LowerLemmas
 pub mod MaskLemmas
 pub mod IdLemmas
 pub mod TableLemmas

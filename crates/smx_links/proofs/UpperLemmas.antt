@@ -1,13 +1,13 @@
 -- Drivers with links, by the bits of their words.
-use Rattle.std.proofs.Common.{◌≡◌, ℕ, ◌<◌, ◌^◌, Bool, true, false, ◌&&◌, ◌||◌, not, eqb, List, [], ◌∷◌, get_or, refl, sym, ap, ◌∙◌, arith, inl, inr}
-use Rattle.std.specs.Int.{bit_at, trailing_zeros, w64}
-use Rattle.std.proofs.lemmas.Bool.{cases_Bool, cases_eq, eqb-true, eq-eqb, false_from_ne_true, false≢true, or_left, or_parts, or_right}
+use Rattle.std.proofs.Common.{◌≡◌, ℕ, ◌<◌, ◌^◌, Bool, true, false, not, eqb, List, [], ◌∷◌, get_or, refl, sym, ap, ◌∙◌, arith, inl, inr}
+use Rattle.std.specs.Int.{trailing_zeros, w64}
+use Rattle.std.proofs.lemmas.Bool.{cases_Bool, eqb-true, eq-eqb, false_from_ne_true, false≢true, or_left, or_parts, or_right}
 use Rattle.std.proofs.lemmas.Bool.Decides.{nat_tests}
 use Rattle.std.proofs.lemmas.Nat.Bits.{bit_at-trailing_zeros}
 use Rattle.smx_types.specs.declared.link.Link.{Link}
 use Rattle.smx_model.specs.Paths.{reaches}
 use Rattle.smx_links.specs.LinkLists.{is_upper}
-use Rattle.smx_links.specs.Masks.{AreMasks, HasAnyBit, has_bit, is_set}
+use Rattle.smx_links.specs.Masks.{AreMasks, HasAnyBit, is_set}
 use Rattle.smx_links.proofs.BitLemmas.{is_set_zero}
 
 -- a driver without links reaches none
@@ -50,7 +50,3 @@ has_bits ws a w e fits = elim (cases_Bool (eqb w 0)) [
       let low = bit_at-trailing_zeros w64 (get_or ws a 0) some fits in
       rw f (trailing_zeros w64 (get_or ws a 0), ap (λ (x : ℕ). eqb x 1) low.1)
 ]
-
--- and there is none past the last word
-pub no_word : (ws : List ℕ) (a : ℕ) → get_or ws a 0 ≡ 0 → HasAnyBit ws a false
-no_word ws a none = λ b. ap (λ (w : ℕ). is_set w b) none ∙ is_set_zero b

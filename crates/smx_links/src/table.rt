@@ -8,9 +8,9 @@ ghost use Rattle.smx_model.specs.Paths.{reaches};
 ghost use Rattle.smx_model.specs.Standing.{is_below};
 ghost use Rattle.smx_links.specs.LinkLists.{IsLinkList, IsLinked, is_upper, refusal, with_link, without_id, without_ids};
 
-use crate::entries::{Entries, above, at, get, is_below, put, recompute, take, take_each};
 use crate::fault::LinkFault;
-use crate::masks::{Word, has_any_bit, has_bit, join};
+use crate::links::{Ids, above, get, is_below, put, take, take_each};
+use crate::masks::{Word, has_any_bit, has_bit, join, recompute};
 use smx_model::laws_of_links::{
     fewer_links_stay_sound, linking_keeps_soundness, linking_takes_the_next_id, no_links_are_sound,
     one_link_more_joins,
@@ -24,7 +24,9 @@ use std::marker::Model;
 #[derive(Debug, Drop)]
 pub struct LinkTable {
     masks: Vec<Word>,
-    entries: Entries,
+    // By rising id.
+    links: Vec<Link>,
+    ids: Ids,
     next_id: u32,
 }
 
@@ -49,7 +51,8 @@ impl LinkTable {
         no_links_are_sound();
         Ok(LinkTable {
             masks: vec![in alloc; 0; drivers]?,
-            entries: Entries::new(alloc),
+            links: Vec::new(alloc),
+            ids: Ids::new(alloc),
             next_id: 1,
         })
     }
@@ -78,15 +81,13 @@ impl LinkTable {
             return Err(fault);
         }
         let id = self.next_id;
-        put(
-            &mut self.entries,
-            Link {
-                id,
-                ctl,
-                lower,
-                kind,
-            },
-        )?;
+        let link = Link {
+            id,
+            ctl,
+            lower,
+            kind,
+        };
+        put(&mut self.links, &mut self.ids, link)?;
         join(&mut self.masks, ctl.driver, lower.driver);
         self.next_id = id + 1;
         Ok(id)
@@ -128,8 +129,8 @@ impl LinkTable {
         ensures drivers { self.new.drivers ≡ self.old.drivers }
     {
         fewer_links_stay_sound();
-        let link = take(&mut self.entries, id)?;
-        recompute(&mut self.masks, &self.entries);
+        let link = take(&mut self.links, &mut self.ids, id)?;
+        recompute(&mut self.masks, &self.links);
         Some(link)
     }
 
@@ -140,43 +141,50 @@ impl LinkTable {
         ensures drivers { self.new.drivers ≡ self.old.drivers }
     {
         fewer_links_stay_sound();
-        take_each(&mut self.entries, ids);
-        recompute(&mut self.masks, &self.entries);
+        take_each(&mut self.links, &mut self.ids, ids);
+        recompute(&mut self.masks, &self.links);
     }
 
-    /// The link with the id. A binary search.
+    /// The link with the id. A look at the place where it stands if no link has gone, or else a binary search.
     pub fn get(&self, id: u32) -> Option<&Link>
         ensures { option_copied result ≡ find (λ l. l.id == id) self.now.links }
     {
-        get(&self.entries, id)
+        get(&self.links, id)
     }
 
     /// The link that the stream is below. One look-up.
     pub fn above(&self, lower: StreamId) -> Option<&Link>
         ensures { option_copied result ≡ find (λ l. same_stream l.lower lower) self.now.links }
     {
-        above(&self.entries, lower)
+        above(&self.links, &self.ids, lower)
     }
 
     /// Whether the stream is the lower of a link. One look-up.
     pub fn is_below(&self, lower: StreamId) -> bool
         ensures { result ≡ is_below self.now.links lower }
     {
-        is_below(&self.entries, lower)
+        is_below(&self.ids, lower)
+    }
+
+    /// All links, by rising id. Takes no memory.
+    pub fn links(&self) -> &[Link]
+        ensures { result.now ≡ self.now.links }
+    {
+        self.links.as_slice()
     }
 
     /// The link at a place, from 0, by rising id.
     pub fn at(&self, i: usize) -> Option<&Link>
         ensures { option_copied result ≡ slice_get self.now.links i }
     {
-        at(&self.entries, i)
+        self.links.get(i)
     }
 
     /// The number of links.
     pub fn len(&self) -> usize
         ensures { result ≡ length self.now.links }
     {
-        self.entries.len()
+        self.links.len()
     }
 
     /// Whether there is no link.
@@ -221,7 +229,8 @@ impl LinkTable {
     {
         Ok(LinkTable {
             masks: self.masks.clone()?,
-            entries: self.entries.clone()?,
+            links: self.links.clone()?,
+            ids: self.ids.clone()?,
             next_id: self.next_id,
         })
     }
