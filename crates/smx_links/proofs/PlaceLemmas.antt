@@ -1,5 +1,6 @@
 -- A search among links by their ids.
-use Rattle.std.proofs.Common.{◌≡◌, ℕ, zero, suc, ◌<◌, ◌+◌, false, eqb, List, [], ◌∷◌, length, get_or, Result, Ok, Err, refl, add-one, arith, inl, inr}
+use Rattle.std.proofs.Common.{◌≡◌, ℕ, zero, suc, ◌<◌, ◌+◌, false, eqb, List, [], ◌∷◌, length, get_or, Result, Ok, Err}
+use Rattle.std.proofs.Common.{refl, add-one, arith, inl, inr}
 use Rattle.std.specs.Prelude.{nat_lt}
 use Rattle.std.specs.List.Sorted.{IsBinarySearchResult, IsSearchInRange, IsSortedBy}
 use Rattle.std.specs.Ordering.{nat_cmp, is_lt}
@@ -13,7 +14,8 @@ use Rattle.smx_links.specs.Ids.{IsPlace}
 use Rattle.smx_links.proofs.IdLemmas.{before_at, none_held, cmp_other, cmp_equal}
 
 -- each id is below the one behind it
-rise_at : (ls : List Link) (k : ℕ) (d : Link) → IsRising (λ l k. nat_lt l.id k.id) ls → k + 1 < length ls → (get_or ls k d).id < (get_or ls (suc k) d).id
+rise_at : (ls : List Link) (k : ℕ) (d : Link) → IsRising (λ l k. nat_lt l.id k.id) ls → k + 1 < length ls
+    → (get_or ls k d).id < (get_or ls (suc k) d).id
 rise_at [] k d r lt = absurd (omega arith)
 rise_at (l ∷ ls) zero d r lt = ltb-true l.id (get_or ls 0 d).id (before_at l ls 0 d r.0 (omega arith))
 rise_at (l ∷ ls) (suc k) d r lt = rise_at ls k d r.1 (omega arith)
@@ -29,7 +31,8 @@ sorted ls r k d low high =
     rw add-one (not_less (get_or ls (suc k) d).id (get_or ls k d).id up)
 
 -- where a binary search ends is the link, or there is none
-pub place_of : (ls : List Link) (id : ℕ) (r : Result ℕ ℕ) → IsRising (λ l k. nat_lt l.id k.id) ls → IsSearchInRange r (length ls) → IsBinarySearchResult (λ l. nat_cmp l.id id) ls r → IsPlace ls id (result_ok r)
+pub place_of : (ls : List Link) (id : ℕ) (r : Result ℕ ℕ) → IsRising (λ l k. nat_lt l.id k.id) ls
+    → IsSearchInRange r (length ls) → IsBinarySearchResult (λ l. nat_cmp l.id id) ls r → IsPlace ls id (result_ok r)
 place_of ls id (Ok i) rise bound h = (bound, λ d. cmp_equal _ _ (h d))
 place_of ls id (Err i) rise bound h = none_held ls id other where
   other : (k : ℕ) (d : Link) → k < length ls → eqb (get_or ls k d).id id ≡ false

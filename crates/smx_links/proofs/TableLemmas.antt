@@ -1,5 +1,7 @@
 -- A table of links, made and changed.
-use Rattle.std.proofs.Common.{◌≡◌, ℕ, ◌<◌, ◌≤◌, ◌+◌, Bool, true, false, ◌||◌, eqb, leb, List, [], ◌∷◌, ◌++◌, length, filter, take, drop, Option, Some, None, refl, arith, if◌then◌else◌, length-append, inl, inr}
+use Rattle.std.proofs.Common.{◌≡◌, ℕ, ◌<◌, ◌≤◌, ◌+◌, Bool, true, false, ◌||◌, eqb, leb, List, [], ◌∷◌, ◌++◌, length}
+use Rattle.std.proofs.Common.{filter, take, drop, Option, Some, None, refl, arith, if◌then◌else◌, length-append, inl}
+use Rattle.std.proofs.Common.{inr}
 use Rattle.std.proofs.lemmas.Bool.{cases_Bool, leb-false, or_parts}
 use Rattle.std.proofs.lemmas.List.{take_at}
 use Rattle.std.proofs.lemmas.List.Elements.{All-push, All-filter}
@@ -20,7 +22,10 @@ use Rattle.smx_links.proofs.MaskLemmas.{Joins, masks_push}
 
 -- no refusal applies
 
-not_refused : (x y z : LinkFault) (a b c : Bool) → ◌≡◌ {A = Option LinkFault} (if a then Some x else if b then Some y else if c then Some z else None) None → (a ≡ false) × (b ≡ false) × (c ≡ false)
+-- where the first of three refusals that applies is none, none of them applies
+not_refused : (x y z : LinkFault) (a b c : Bool)
+    → ◌≡◌ {A = Option LinkFault} (if a then Some x else if b then Some y else if c then Some z else None) None
+    → (a ≡ false) × (b ≡ false) × (c ≡ false)
 not_refused x y z true b c h = absurd cc
 not_refused x y z false true c h = absurd cc
 not_refused x y z false false true h = absurd cc
@@ -33,25 +38,36 @@ pub record IsFree (t : LinkList) (ctl lower : StreamId) : Type 0 where
   pub few : length t.links < MAX_LINKS
   pub numbered : t.next_id < NUMBER_END
 
+-- where no refusal applies, this is known
 pub is_free : (t : LinkList) (ctl lower : StreamId) → refusal t ctl lower ≡ None → IsFree t ctl lower
 is_free t ctl lower h =
     let each = not_refused _ _ _ _ _ _ h in
     let room = or_parts (leb MAX_LINKS (length t.links)) (leb NUMBER_END t.next_id) each.2 in
-    record { below = each.0; apart = each.1; few = leb-false MAX_LINKS (length t.links) room.0; numbered = leb-false NUMBER_END t.next_id room.1 }
+    record {
+      below = each.0;
+      apart = each.1;
+      few = leb-false MAX_LINKS
+          (length t.links) room.0;
+      numbered = leb-false NUMBER_END t.next_id room.1;
+    }
 
 -- one link more
 
 -- the fields of a table with one link more
-pub parts_push : Joins → (ws vs : List ℕ) (ls : List Link) (es fs : List (Lower × ℕ)) (n : ℕ) (ctl lower : StreamId) (kind : LinkKind) → AreParts ws ls es n → IsFree (list_of_parts ws ls n) ctl lower
+pub parts_push : Joins → (ws vs : List ℕ) (ls : List Link) (es fs : List (Lower × ℕ)) (n : ℕ) (ctl lower : StreamId)
+    (kind : LinkKind) → AreParts ws ls es n → IsFree (list_of_parts ws ls n) ctl lower
     → ctl.driver < length ws → lower.driver < length ws
-    → AreLinksSound (ls ++ record { id = n; ctl = ctl; lower = lower; kind = kind } ∷ []) → AreIdsRising (ls ++ record { id = n; ctl = ctl; lower = lower; kind = kind } ∷ []) (n + 1)
+    → AreLinksSound (ls ++ record { id = n; ctl = ctl; lower = lower; kind = kind } ∷ [])
+    → AreIdsRising (ls ++ record { id = n; ctl = ctl; lower = lower; kind = kind } ∷ []) (n + 1)
     → HasIds fs (ls ++ record { id = n; ctl = ctl; lower = lower; kind = kind } ∷ [])
-    → length vs ≡ length ws → AreJoined ws ctl.driver lower.driver vs → AreParts vs (ls ++ record { id = n; ctl = ctl; lower = lower; kind = kind } ∷ []) fs (n + 1)
+    → length vs ≡ length ws → AreJoined ws ctl.driver lower.driver vs
+    → AreParts vs (ls ++ record { id = n; ctl = ctl; lower = lower; kind = kind } ∷ []) fs (n + 1)
 parts_push joins ws vs ls es fs n ctl lower kind h free up low sound ids more long joined = record {
   list = record {
     sound = sound;
     ids = ids;
-    few = let one = length-append ls (record { id = n; ctl = ctl; lower = lower; kind = kind } ∷ []) in omega (arith, one, free.few);
+    few = let one = length-append ls (record { id = n; ctl = ctl; lower = lower; kind = kind } ∷ []) in omega
+        (arith, one, free.few);
     numbered = omega (arith, free.numbered);
   };
   within = rw long (All-push (IsWithin (length ws)) ls _ h.within (up, low));
@@ -62,16 +78,28 @@ parts_push joins ws vs ls es fs n ctl lower kind h free up low sound ids more lo
 
 -- fewer links
 
+-- a filter leaves no more
 fewer : {X : Type 0} (test : X → Bool) (xs : List X) → length (filter test xs) ≤ length xs
 fewer test [] = omega arith
-fewer test (x ∷ xs) = elim (cases_Bool (test x)) [ inl t ↦ rw t (omega (arith, fewer test xs)) | inr f ↦ rw f (omega (arith, fewer test xs)) ]
+fewer test (x ∷ xs) = elim (cases_Bool (test x)) [
+  | inl t ↦ rw t (omega (arith, fewer test xs))
+  | inr f ↦ rw f
+      (omega (arith, fewer test xs))
+]
 
 -- the fields of a table with some links less
-pub parts_less : (ws vs : List ℕ) (ls : List Link) (es fs : List (Lower × ℕ)) (n : ℕ) (stays : Link → Bool) → AreParts ws ls es n → HasIds fs (filter stays ls)
+pub parts_less : (ws vs : List ℕ) (ls : List Link) (es fs : List (Lower × ℕ)) (n : ℕ) (stays : Link → Bool)
+    → AreParts ws ls es n → HasIds fs (filter stays ls)
     → AreLinksSound (filter stays ls) → AreIdsRising (filter stays ls) n
     → length vs ≡ length ws → AreMasks (filter stays ls) vs → AreParts vs (filter stays ls) fs n
 parts_less ws vs ls es fs n stays h kept sound ids long masks = record {
-  list = record { sound = sound; ids = ids; few = omega (arith, fewer stays ls, h.list.few); numbered = h.list.numbered };
+  list = record {
+    sound = sound;
+    ids = ids;
+    few = omega
+        (arith, fewer stays ls, h.list.few);
+    numbered = h.list.numbered;
+  };
   within = rw long (All-filter stays (IsWithin (length ws)) ls h.within);
   few = rw long h.few;
   masks = masks;
@@ -79,5 +107,6 @@ parts_less ws vs ls es fs n stays h kept sound ids long masks = record {
 }
 
 -- a vector, after a slice of all of it was lent
-pub lent : (n : ℕ) (new old : List ℕ) → length new ≡ length old → n ≡ length old → take n (new ++ drop (length new) old) ≡ new
+pub lent : (n : ℕ) (new old : List ℕ) → length new ≡ length old → n ≡ length old
+    → take n (new ++ drop (length new) old) ≡ new
 lent n new old e k = take_at new (drop (length new) old) n (omega arith)

@@ -1,6 +1,6 @@
 //! Which drivers a path leads to: a word of bits for each driver.
 
-ghost use Rattle.std.specs.Prelude.{◌≡◌, ◌<◌, ◌≤◌, ◌^◌, length, bit_or};
+ghost use Rattle.std.specs.Prelude.{◌≡◌, ◌<◌, ◌≤◌, ◌^◌, true, length, bit_or};
 ghost use Rattle.std.specs.List.{All};
 ghost use Rattle.smx_links.specs.Masks.{is_set, has_bit, AreJoined, AreMasks, HasAnyBit, IsWithin};
 
@@ -69,7 +69,7 @@ pub fn join(words: &mut [Word], upper: u8, lower: u8)
 }
 
 // The masks of the links, from nothing. A link between drivers that are joined already changes nothing.
-pub fn recompute(words: &mut [Word], links: &[Link])
+fn recompute(words: &mut [Word], links: &[Link])
     requires within { All (IsWithin (length words.old)) links.now }
     requires few { length words.old ≤ 64 }
     ensures length { length words.new ≡ length words.old }
@@ -82,5 +82,18 @@ pub fn recompute(words: &mut [Word], links: &[Link])
         if !has_bit(words, link.ctl.driver, link.lower.driver) {
             join(words, link.ctl.driver, link.lower.driver);
         }
+    }
+}
+
+// The masks of the links that are left where some have gone. What leads to the same drivers as before needs none anew.
+pub fn renew(words: &mut [Word], links: &[Link], same: bool)
+    requires within { All (IsWithin (length words.old)) links.now }
+    requires few { length words.old ≤ 64 }
+    requires same { same ≡ true → AreMasks links.now words.old }
+    ensures length { length words.new ≡ length words.old }
+    ensures masks { AreMasks links.now words.new }
+{
+    if !same {
+        recompute(words, links);
     }
 }

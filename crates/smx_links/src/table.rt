@@ -6,14 +6,15 @@ ghost use Rattle.smx_types.specs.declared.limits.TheConstants.{MAX_DRIVERS, MAX_
 ghost use Rattle.smx_model.specs.Configuration.{same_stream};
 ghost use Rattle.smx_model.specs.Paths.{reaches};
 ghost use Rattle.smx_model.specs.Standing.{is_below};
-ghost use Rattle.smx_links.specs.LinkLists.{IsLinkList, IsLinked, is_upper, refusal, with_link, without_id, without_ids};
+ghost use Rattle.smx_links.specs.LinkLists.{IsLinkList, IsLinked, is_upper, refusal};
+ghost use Rattle.smx_links.specs.LinkLists.{with_link, without_id, without_ids};
 
 use crate::fault::LinkFault;
-use crate::links::{Ids, above, get, is_below, put, take, take_each};
-use crate::masks::{Word, has_any_bit, has_bit, join, recompute};
+use crate::links::{Ids, above, get, has_twin, is_below, put, take, take_each};
+use crate::masks::{Word, has_any_bit, has_bit, join, renew};
 use smx_model::laws_of_links::{
     fewer_links_stay_sound, linking_keeps_soundness, linking_takes_the_next_id, no_links_are_sound,
-    one_link_more_joins,
+    one_link_more_joins, paths_join,
 };
 use smx_types::{Link, LinkKind, MAX_LINKS, NUMBER_END, NoMemory, StreamId};
 use std::alloc::Global;
@@ -129,20 +130,23 @@ impl LinkTable {
         ensures drivers { self.new.drivers ≡ self.old.drivers }
     {
         fewer_links_stay_sound();
+        one_link_more_joins();
+        paths_join();
         let link = take(&mut self.links, &mut self.ids, id)?;
-        recompute(&mut self.masks, &self.links);
+        let same = has_twin(&self.links, link);
+        renew(&mut self.masks, &self.links, same);
         Some(link)
     }
 
-    /// Takes out each link with one of these ids, and no other. The next id stays. What drivers
-    /// reach is found anew once, however many go. Takes no memory.
+    /// Takes out each link with one of these ids, and no other. The next id stays. What drivers reach is found anew
+    /// at most once, however many go. Takes no memory.
     pub fn remove_each(&mut self, ids: &[u32])
         ensures rest { self.new ≡ without_ids self.old ids.now }
         ensures drivers { self.new.drivers ≡ self.old.drivers }
     {
         fewer_links_stay_sound();
-        take_each(&mut self.links, &mut self.ids, ids);
-        recompute(&mut self.masks, &self.links);
+        let same = take_each(&mut self.links, &mut self.ids, ids);
+        renew(&mut self.masks, &self.links, same);
     }
 
     /// The link with the id. A look at the place where it stands if no link has gone, or else a binary search.

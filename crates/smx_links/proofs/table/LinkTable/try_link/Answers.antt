@@ -7,13 +7,23 @@ use Rattle.smx_links.proofs.table.LinkTable.try_link.Goals as goal
 
 pub invariant_of-self-2 : goal.invariant_of-self-2
 invariant_of-self-2 c =
-    let link : Link = record { id = c.self.inside.next_id; ctl = c.args.ctl; lower = c.args.lower; kind = c.args.kind } in
+    let link : Link = record { id = c.self.inside.next_id; ctl = c.args.ctl; lower = c.args.lower; kind = c.args.kind }
+    in
     let list : LinkList = list_of_parts c.self.inside.masks.items c.self.inside.links.items c.self.inside.next_id in
     let free : IsFree list c.args.ctl c.args.lower =
-    is_free list c.args.ctl c.args.lower (ap (λ (t : LinkList). refusal t c.args.ctl c.args.lower) c.self.view_is ∙ sym c.refusal.ensures ∙ c.in_default.is) in
-    let long : length c.join.new.words ≡ length c.self.inside.masks.items = c.join.ensures.length ∙ ap length c.deref_mut.ensures.value in
-    rw (lent c.self.inside.masks.len c.join.new.words c.self.inside.masks.items long (omega (arith, c.self.inside.masks.ok.0)), c.in_ok-put.ensures.ok)
-    (parts_push c.one_link_more_joins.ensures c.self.inside.masks.items c.join.new.words c.self.inside.links.items c.self.inside.ids.entries c.put.new.ids.entries c.self.inside.next_id c.args.ctl c.args.lower c.args.kind c.self.invariant
+    is_free list c.args.ctl c.args.lower
+    (ap (λ (t : LinkList). refusal t c.args.ctl c.args.lower) c.self.view_is ∙ sym c.refusal.ensures
+    ∙ c.in_default.is) in
+    let long : length c.join.new.words ≡ length c.self.inside.masks.items = c.join.ensures.length
+    ∙ ap length c.deref_mut.ensures.value in
+    rw (
+      lent c.self.inside.masks.len c.join.new.words c.self.inside.masks.items long
+          (omega (arith, c.self.inside.masks.ok.0)),
+      c.in_ok-put.ensures.ok,
+    )
+    (parts_push c.one_link_more_joins.ensures c.self.inside.masks.items c.join.new.words c.self.inside.links.items
+    c.self.inside.ids.entries c.put.new.ids.entries c.self.inside.next_id c.args.ctl c.args.lower c.args.kind
+    c.self.invariant
     free
     (subst (λ (t : LinkList). c.args.ctl.driver < t.drivers) (sym c.self.view_is) c.requires.ctl)
     (subst (λ (t : LinkList). c.args.lower.driver < t.drivers) (sym c.self.view_is) c.requires.lower)
