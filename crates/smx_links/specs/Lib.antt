@@ -1,4 +1,4 @@
 pub mod Masks
-pub mod Entries
+pub mod Ids
 pub mod LinkLists
 pub mod TableFields

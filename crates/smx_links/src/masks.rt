@@ -1,7 +1,11 @@
 //! Which drivers a path leads to: a word of bits for each driver.
 
-ghost use Rattle.std.specs.Prelude.{◌≡◌, ◌<◌, ◌≤◌, ◌^◌, length, bit_or};
-ghost use Rattle.smx_links.specs.Masks.{is_set, has_bit, AreJoined, HasAnyBit};
+ghost use Rattle.std.specs.Prelude.{◌≡◌, ◌<◌, ◌≤◌, ◌^◌, true, length, bit_or};
+ghost use Rattle.std.specs.List.{All};
+ghost use Rattle.smx_links.specs.Masks.{is_set, has_bit, AreJoined, AreMasks, HasAnyBit, IsWithin};
+
+use smx_model::laws_of_links::{one_link_more_joins, paths_join};
+use smx_types::Link;
 
 /// A bit for each driver.
 pub type Word = u64;
@@ -61,5 +65,35 @@ pub fn join(words: &mut [Word], upper: u8, lower: u8)
         if a == upper as usize || is_set(words[a], upper) {
             words[a] |= reached;
         }
+    }
+}
+
+// The masks of the links, from nothing. A link between drivers that are joined already changes nothing.
+fn recompute(words: &mut [Word], links: &[Link])
+    requires within { All (IsWithin (length words.old)) links.now }
+    requires few { length words.old ≤ 64 }
+    ensures length { length words.new ≡ length words.old }
+    ensures masks { AreMasks links.now words.new }
+{
+    one_link_more_joins();
+    paths_join();
+    words.fill(0);
+    for link in links {
+        if !has_bit(words, link.ctl.driver, link.lower.driver) {
+            join(words, link.ctl.driver, link.lower.driver);
+        }
+    }
+}
+
+// The masks of the links that are left where some have gone. What leads to the same drivers as before needs none anew.
+pub fn renew(words: &mut [Word], links: &[Link], same: bool)
+    requires within { All (IsWithin (length words.old)) links.now }
+    requires few { length words.old ≤ 64 }
+    requires same { same ≡ true → AreMasks links.now words.old }
+    ensures length { length words.new ≡ length words.old }
+    ensures masks { AreMasks links.now words.new }
+{
+    if !same {
+        recompute(words, links);
     }
 }

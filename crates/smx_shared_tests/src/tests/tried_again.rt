@@ -10,7 +10,7 @@ use smx_samples::{
     play_twice, shows,
 };
 use smx_shared::{ApplyFault, Door, Seat, Shared, System, TryFault};
-use smx_types::{Command, ConfigView, Entry, Fault, Reply, Which};
+use smx_types::{Command, ConfigView, Entry, Fault, NoMemory, Reply, Which};
 use std::alloc::Global;
 use std::process::Abort;
 use std::sync::Wait;
@@ -189,15 +189,22 @@ fn deliveries_twice(rt: HostRuntime) -> Result<(), Fail> {
     plays_deliveries_twice(&rt, &mut config)
 }
 
-// A system of at most ten entries over `ip`, shared by two processes.
+// The system, shared by two processes.
+fn start_for_two(alloc: Global, system: System) -> Result<(Shared, Vec<Seat>), NoMemory>
+    ensures { IfOk result (λ r. All (λ s. s.shared ≡ r.0.name) r.1.items) }
+{
+    Shared::start(alloc, system, 2)
+}
+
+// A system of at most ten entries over `ip`, shared by two processes. It is started again where memory was wanting.
 fn shared_by_two(alloc: Global) -> Result<(Shared, Vec<Seat>), Fail>
     ensures { IfOk result (λ r. All (λ s. s.shared ≡ r.0.name) r.1.items) }
 {
     let drivers = [ip()?];
-    if let Ok(both) = Shared::start(alloc, system_over(alloc, &drivers, 10)?, 2) {
+    if let Ok(both) = start_for_two(alloc, system_over(alloc, &drivers, 10)?) {
         return Ok(both);
     }
-    Ok(Shared::start(alloc, system_over(alloc, &drivers, 10)?, 2)?)
+    Ok(start_for_two(alloc, system_over(alloc, &drivers, 10)?)?)
 }
 
 // A growth inside a call was refused, and the other seat sees only so many entries.

@@ -1,6 +1,5 @@
 use Rattle.std.proofs.Common.{◌≡◌, ◌<◌, length, sym, ap, ◌∙◌, subst, arith}
 use Rattle.smx_types.specs.declared.link.Link.{Link}
-use Rattle.indexmap.specs.IndexMap.{values}
 use Rattle.smx_links.specs.LinkLists.{LinkList, refusal}
 use Rattle.smx_links.specs.TableFields.{list_of_parts}
 use Rattle.smx_links.proofs.TableLemmas.{IsFree, is_free, parts_push, lent}
@@ -8,16 +7,27 @@ use Rattle.smx_links.proofs.table.LinkTable.try_link.Goals as goal
 
 pub invariant_of-self-2 : goal.invariant_of-self-2
 invariant_of-self-2 c =
-    let link : Link = record { id = c.self.inside.next_id; ctl = c.args.ctl; lower = c.args.lower; kind = c.args.kind } in
-    let free : IsFree (list_of_parts c.self.inside.masks.items c.self.inside.entries.entries c.self.inside.next_id) c.args.ctl c.args.lower =
-    is_free (list_of_parts c.self.inside.masks.items c.self.inside.entries.entries c.self.inside.next_id) c.args.ctl c.args.lower (ap (λ (t : LinkList). refusal t c.args.ctl c.args.lower) c.self.view_is ∙ sym c.refusal.ensures ∙ c.in_default.is) in
-    let long : length c.join.new.words ≡ length c.self.inside.masks.items = c.join.ensures.length ∙ ap length c.deref_mut.ensures.value in
-    rw (lent c.self.inside.masks.len c.join.new.words c.self.inside.masks.items long (omega (arith, c.self.inside.masks.ok.0)))
-    (parts_push c.one_link_more_joins.ensures c.self.inside.masks.items c.join.new.words c.self.inside.entries.entries c.put.new.entries.entries c.self.inside.next_id c.args.ctl c.args.lower c.args.kind c.self.invariant
+    let link : Link = record { id = c.self.inside.next_id; ctl = c.args.ctl; lower = c.args.lower; kind = c.args.kind }
+    in
+    let list : LinkList = list_of_parts c.self.inside.masks.items c.self.inside.links.items c.self.inside.next_id in
+    let free : IsFree list c.args.ctl c.args.lower =
+    is_free list c.args.ctl c.args.lower
+    (ap (λ (t : LinkList). refusal t c.args.ctl c.args.lower) c.self.view_is ∙ sym c.refusal.ensures
+    ∙ c.in_default.is) in
+    let long : length c.join.new.words ≡ length c.self.inside.masks.items = c.join.ensures.length
+    ∙ ap length c.deref_mut.ensures.value in
+    rw (
+      lent c.self.inside.masks.len c.join.new.words c.self.inside.masks.items long
+          (omega (arith, c.self.inside.masks.ok.0)),
+      c.in_ok-put.ensures.ok,
+    )
+    (parts_push c.one_link_more_joins.ensures c.self.inside.masks.items c.join.new.words c.self.inside.links.items
+    c.self.inside.ids.entries c.put.new.ids.entries c.self.inside.next_id c.args.ctl c.args.lower c.args.kind
+    c.self.invariant
     free
     (subst (λ (t : LinkList). c.args.ctl.driver < t.drivers) (sym c.self.view_is) c.requires.ctl)
     (subst (λ (t : LinkList). c.args.lower.driver < t.drivers) (sym c.self.view_is) c.requires.lower)
-    (c.linking_keeps_soundness.ensures (values c.self.inside.entries) link c.self.invariant.list.sound free.below free.apart)
-    (c.linking_takes_the_next_id.ensures (values c.self.inside.entries) link c.self.invariant.list.ids)
-    c.in_ok-put.ensures.ok c.in_ok-put.ensures.keyed long
+    (c.linking_keeps_soundness.ensures c.self.inside.links.items link c.self.invariant.list.sound free.below free.apart)
+    (c.linking_takes_the_next_id.ensures c.self.inside.links.items link c.self.invariant.list.ids)
+    (rw c.in_ok-put.ensures.ok at c.in_ok-put.ensures.ids) long
     (rw c.deref_mut.ensures.value at c.join.ensures.joined))
