@@ -1,4 +1,4 @@
-//! Runs whose gate waits until as many workers are there as there may be, and a run of one worker that tells its gate.
+//! Runs whose gate waits until as many workers are there as were asked for, and runs that tell their gate.
 
 ghost use Rattle.std.specs.Prelude.{◌≤◌};
 
@@ -7,10 +7,11 @@ use smx_filters::{Source, Target, run_text};
 use smx_run::Gate;
 use smx_types::Process;
 use std::alloc::Global;
-use std::hint::spin_loop;
 use std::process::Abort;
 use std::sync::Wait;
 use std::sync::atomic::{AtomicU64, Ordering};
+use std::test::Fail;
+use std::thread;
 use std::thread::Threads;
 
 // The most turns that a worker waits.
@@ -30,7 +31,7 @@ impl Meet {
             if self.inside.load(Ordering::SeqCst) == self.wanted {
                 return true;
             }
-            spin_loop();
+            thread::yield_now();
         }
         false
     }
@@ -49,11 +50,21 @@ impl Gate for Meet {
     fn after(&self, _process: Process, _number: usize) {}
 }
 
-const FOUR: &[u8] =
-    b"programs 1\ndriver ip mux 4 8 3 16\ndriver eth leaf 2 8 3 16\nprocess 0\nclone ip\nexit\nprocess 1\nclone ip\nexit\nprocess 2\nclone ip\nexit\nprocess 3\nclone ip\nexit\nend\n";
+// So many processes, each of which opens a stream and exits.
+fn add_processes(alloc: Global, text: &mut Vec<u8>, count: usize) -> Result<(), Fail> {
+    for process in 0..count {
+        let lines = format!(in alloc; "process {process}\nclone ip\nexit\n")?;
+        text.extend_from_slice(lines.as_bytes())?;
+    }
+    Ok(text.extend_from_slice(b"end\n".as_slice())?)
+}
 
-const TWO: &[u8] =
-    b"programs 1\ndriver ip mux 4 8 3 16\ndriver eth leaf 2 8 3 16\nprocess 0\nclone ip\nexit\nprocess 1\nclone ip\nexit\nend\n";
+// The text of their programs.
+fn text_of(alloc: Global, count: usize) -> Result<Vec<u8>, Fail> {
+    let mut text = Vec::from_slice(alloc, b"programs 1\ndriver ip mux 64 8 3 16\n".as_slice())?;
+    add_processes(alloc, &mut text, count)?;
+    Ok(text)
+}
 
 // So many workers are inside at once, and the check of what they wrote says this line.
 fn all_meet<R: Abort + Threads + Wait + Sync>(
@@ -80,14 +91,22 @@ fn all_meet<R: Abort + Threads + Wait + Sync>(
     assert_eq!(rt; judged.output.as_slice(), line);
 }
 
-#[test]
-fn four_workers_are_inside_at_once(rt: HostRuntime) {
-    all_meet(&rt, rt.alloc(), FOUR, 4, b"legal 8\n");
-}
+// How many workers are asked for, for as many processes, and the verdict on what they write.
+const MEETINGS: [(usize, &[u8]); 5] = [
+    (2, b"legal 4\n"),
+    (3, b"legal 6\n"),
+    (4, b"legal 8\n"),
+    (16, b"legal 32\n"),
+    (64, b"legal 128\n"),
+];
 
 #[test]
-fn two_workers_are_inside_at_once(rt: HostRuntime) {
-    all_meet(&rt, rt.alloc(), TWO, 2, b"legal 4\n");
+fn as_many_workers_as_asked_for_are_inside_at_once(rt: HostRuntime) -> Result<(), Fail> {
+    for (workers, line) in MEETINGS {
+        let input = text_of(rt.alloc(), workers)?;
+        all_meet(&rt, rt.alloc(), input.as_slice(), workers, line);
+    }
+    Ok(())
 }
 
 // How often it was told that a command is performed next, and that one was.
@@ -107,16 +126,29 @@ impl Gate for Counts {
     }
 }
 
-#[test]
-fn one_worker_tells_the_gate(rt: HostRuntime) {
+// Four processes have two commands each.
+const FOUR: &[u8] =
+    b"programs 1\ndriver ip mux 4 8 3 16\ndriver eth leaf 2 8 3 16\nprocess 0\nclone ip\nexit\nprocess 1\nclone ip\nexit\nprocess 2\nclone ip\nexit\nprocess 3\nclone ip\nexit\nend\n";
+
+// A run of them by so many workers tells its gate of eight commands.
+fn is_told_of_eight<R: Abort + Threads + Wait + Sync>(rt: &R, alloc: Global, workers: usize)
+    requires { (1 ≤ workers) × (workers ≤ 64) }
+{
     let gate = Counts {
         before: AtomicU64::new(0),
         after: AtomicU64::new(0),
     };
-    let mut written = Target::new(Vec::new(rt.alloc()));
+    let mut written = Target::new(Vec::new(alloc));
     let mut feed = Source::new(FOUR);
-    let ran = run_text(&rt, rt.alloc(), &mut feed, &mut written, 1, false, &gate);
+    let ran = run_text(rt, alloc, &mut feed, &mut written, workers, false, &gate);
     assert!(rt; ran.is_ok());
     assert_eq!(rt; gate.before.load(Ordering::SeqCst), 8);
     assert_eq!(rt; gate.after.load(Ordering::SeqCst), 8);
+}
+
+#[test]
+fn workers_tell_the_gate_of_each_command(rt: HostRuntime) {
+    for workers in [1, 2, 3, 64] {
+        is_told_of_eight(&rt, rt.alloc(), workers);
+    }
 }

@@ -1,9 +1,10 @@
-//! A gate at which workers wait for one another.
+//! Gates of tests: one at which workers wait for one another, and one that writes down what it is told.
 
 use smx_run::Gate;
 use smx_types::Process;
-use std::hint::spin_loop;
-use std::sync::atomic::{AtomicU64, Ordering};
+use std::alloc::{AllocError, Global};
+use std::sync::atomic::{AtomicBool, AtomicU32, AtomicU64, AtomicUsize, Ordering};
+use std::thread;
 
 /// The most turns that a worker waits.
 const TURNS: u32 = 100_000_000;
@@ -37,7 +38,7 @@ impl Meeting {
             if self.inside.load(Ordering::SeqCst) == self.wanted {
                 return true;
             }
-            spin_loop();
+            thread::yield_now();
         }
         false
     }
@@ -54,4 +55,100 @@ impl Gate for Meeting {
     }
 
     fn after(&self, _process: Process, _number: usize) {}
+}
+
+/// What a gate is told, of a process and the number of its command.
+#[derive(Clone, Copy, Debug, PartialEq, Eq)]
+pub enum Told {
+    /// The command is performed next.
+    Before(u32, usize),
+    /// The command was performed.
+    After(u32, usize),
+}
+
+impl Told {
+    /// The process that it is of.
+    pub fn process(&self) -> u32 {
+        match self {
+            Told::Before(process, _) | Told::After(process, _) => *process,
+        }
+    }
+}
+
+// A line of a log, in parts that threads can write.
+#[derive(Drop)]
+struct Line {
+    process: AtomicU32,
+    number: AtomicUsize,
+    performed: AtomicBool,
+}
+
+impl Line {
+    fn empty() -> Line {
+        Line {
+            process: AtomicU32::new(0),
+            number: AtomicUsize::new(0),
+            performed: AtomicBool::new(false),
+        }
+    }
+
+    fn told(&self) -> Told {
+        let process = self.process.load(Ordering::SeqCst);
+        let number = self.number.load(Ordering::SeqCst);
+        if self.performed.load(Ordering::SeqCst) {
+            Told::After(process, number)
+        } else {
+            Told::Before(process, number)
+        }
+    }
+}
+
+/// Writes down all that it is told, in order, while it has lines.
+#[derive(Drop)]
+pub struct Log {
+    lines: Vec<Line>,
+    count: AtomicUsize,
+}
+
+impl Log {
+    /// A log of so many lines, with nothing in it.
+    pub fn of(alloc: Global, lines: usize) -> Result<Log, AllocError> {
+        let mut empty = Vec::with_capacity(alloc, lines)?;
+        for _ in 0..lines {
+            empty.push(Line::empty())?;
+        }
+        Ok(Log {
+            lines: empty,
+            count: AtomicUsize::new(0),
+        })
+    }
+
+    /// What it was told.
+    pub fn told(&self, alloc: Global) -> Result<Vec<Told>, AllocError> {
+        let mut told = Vec::new(alloc);
+        for line in self.lines.iter().take(self.count.load(Ordering::SeqCst)) {
+            told.push(line.told())?;
+        }
+        Ok(told)
+    }
+
+    // The next line is that.
+    fn write(&self, process: Process, number: usize, performed: bool) {
+        let place = self.count.fetch_add(1, Ordering::SeqCst);
+        if let Some(line) = self.lines.get(place) {
+            line.process.store(process.get(), Ordering::SeqCst);
+            line.number.store(number, Ordering::SeqCst);
+            line.performed.store(performed, Ordering::SeqCst);
+        }
+    }
+}
+
+impl Gate for Log {
+    fn before(&self, process: Process, number: usize) {
+        self.write(process, number, false);
+    }
+
+    fn after(&self, process: Process, number: usize) {
+        self.write(process, number, true);
+    }
 }

@@ -1,6 +1,9 @@
-//! Runs of which a recorder is told: all of it, drivers that are refused, and a recorder that wants memory.
+//! Runs of which a recorder is told: all of it, drivers that are refused, and a recorder that wants memory. And what a
+//! gate is told of such a run.
 
 use super::fault_words::prints;
+use super::gates::Log;
+use super::told::{FIVE, IN_TURN};
 use smx_run::{NoGate, Recorder, RunFault, run_recorded};
 use smx_text::{read_programs, write_transcript};
 use smx_types::{ConfigView, Copied, DriverSpec, Drivers, Entries, Entry, NoMemory, Transcript};
@@ -130,4 +133,19 @@ const SAME_NAME: &[u8] =
 #[test]
 fn drivers_come_before_the_recorder(rt: HostRuntime) -> Result<(), Fail> {
     is_refused(&rt, rt.alloc(), SAME_NAME, 0, "driver 1 same name")
+}
+
+// The five programs are run, and the log is told.
+fn runs_five(alloc: Global, log: &Log) -> Result<(), Fail> {
+    let programs = read_programs(alloc, FIVE)?;
+    run_recorded::<Kept, _>(alloc, programs, (alloc, 8), log)?;
+    Ok(())
+}
+
+#[test]
+fn a_recorded_run_tells_of_each_command_in_turn(rt: HostRuntime) -> Result<(), Fail> {
+    let log = Log::of(rt.alloc(), 40)?;
+    runs_five(rt.alloc(), &log)?;
+    assert_eq!(rt; log.told(rt.alloc())?.as_slice(), IN_TURN.as_slice());
+    Ok(())
 }

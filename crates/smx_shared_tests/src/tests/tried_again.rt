@@ -5,16 +5,19 @@ ghost use Rattle.std.specs.Prelude.{◌≡◌, All, IfOk};
 use super::callers::{closes_with, front, last_two};
 use super::system_lines::{play as play_by, system_of_twenty, system_over};
 use smx_config::{Config, ConfigFault, Verdict, check_history};
+use smx_run::{NoGate, RunFault, run_programs};
 use smx_samples::{
     Answer, Call, JOIN, Line, entry_of, eth, held_above, ip, ip_and_eth, nothing_open, play,
     play_twice, shows,
 };
 use smx_shared::{ApplyFault, Door, Seat, Shared, System, TryFault};
-use smx_types::{Command, ConfigView, Entry, Fault, NoMemory, Reply, Which};
+use smx_text::read_programs;
+use smx_types::{Command, ConfigView, Entry, Fault, NoMemory, Programs, Reply, Which};
 use std::alloc::Global;
 use std::process::Abort;
 use std::sync::Wait;
 use std::test::Fail;
+use std::thread::Threads;
 
 const MARKS: [Line; 9] = [
     (Call::Write(0, 5, &[0, 0, 0, 1]), Answer::Took(1)),
@@ -301,4 +304,53 @@ fn calls_of_two_seats(rt: HostRuntime) -> Result<(), Fail> {
     let (shared, seats) = shared_by_two(rt.alloc())?;
     let zero = both_call(&rt, &shared, seats)?;
     closes_with(&rt, shared, zero, 2)
+}
+
+const TWO: &[u8] = b"programs 1
+driver ip mux 4 8 3 16
+process 0
+clone ip
+write 0 5 aa
+exit
+process 1
+clone ip
+exit
+end
+";
+
+// They are read again where memory was wanting.
+fn two_programs(alloc: Global) -> Result<Programs, Fail> {
+    if let Ok(programs) = read_programs(alloc, TWO) {
+        return Ok(programs);
+    }
+    Ok(read_programs(alloc, TWO)?)
+}
+
+// How many entries a run of the two programs on two workers has.
+fn entries_by_two<R: AllocGlobal + Threads + Wait + Sync>(
+    rt: &R,
+) -> Result<Result<usize, RunFault>, Fail> {
+    let programs = two_programs(rt.alloc())?;
+    Ok(match run_programs(rt, rt.alloc(), programs, 2, &NoGate) {
+        Ok(report) => Ok(report.entries.as_slice().len()),
+        Err(fault) => Err(fault),
+    })
+}
+
+// Where memory was wanting, or a worker could not be started, they are run again. No other fault is told.
+fn entries_again<R: AllocGlobal + Print + Threads + Wait + Sync>(
+    rt: &R,
+) -> Result<Result<usize, RunFault>, Fail> {
+    let first = entries_by_two(rt)?;
+    if first != Err(RunFault::NoMemory) {
+        return Ok(first);
+    }
+    println!(rt; "a run wanted memory")?;
+    entries_by_two(rt)
+}
+
+#[test]
+fn a_run_on_two_workers(rt: HostRuntime) -> Result<(), Fail> {
+    assert_eq!(rt; entries_again(&rt)?, Ok(5));
+    Ok(())
 }

@@ -14,16 +14,61 @@ use std::sync::Wait;
 use std::test::Fail;
 use std::thread::Threads;
 
-const FOUR: &[u8] =
-    b"programs 1\ndriver ip mux 4 8 3 16\ndriver eth leaf 2 8 3 16\nprocess 0\nclone ip\nexit\nprocess 1\nclone ip\nexit\nprocess 2\nclone ip\nexit\nprocess 3\nclone ip\nexit\nend\n";
+// So many processes, each of which opens a stream and exits.
+fn add_processes(alloc: Global, text: &mut Vec<u8>, count: usize) -> Result<(), Fail> {
+    for process in 0..count {
+        let lines = format!(in alloc; "process {process}\nclone ip\nexit\n")?;
+        text.extend_from_slice(lines.as_bytes())?;
+    }
+    Ok(text.extend_from_slice(b"end\n".as_slice())?)
+}
+
+// Their programs.
+fn text_of(alloc: Global, count: usize) -> Result<Vec<u8>, Fail> {
+    let mut text = Vec::from_slice(alloc, b"programs 1\ndriver ip mux 64 8 3 16\n".as_slice())?;
+    add_processes(alloc, &mut text, count)?;
+    Ok(text)
+}
+
+// How many entries a run of the programs has, which this text spells.
+fn entries_at<R: Threads + Wait + Sync>(
+    rt: &R,
+    alloc: Global,
+    text: &[u8],
+    workers: usize,
+    meeting: &Meeting,
+) -> Result<usize, Fail>
+    requires { (1 ≤ workers) × (workers ≤ MAX_WORKERS) }
+{
+    let programs = read_programs(alloc, text)?;
+    let report = run_programs(rt, alloc, programs, workers, meeting)?;
+    Ok(report.entries.as_slice().len())
+}
+
+// So many workers are inside at once, and their run has so many entries.
+fn all_meet<R: Abort + Threads + Wait + Sync>(
+    rt: &R,
+    alloc: Global,
+    workers: usize,
+    entries: usize,
+) -> Result<(), Fail>
+    requires { (1 ≤ workers) × (workers ≤ MAX_WORKERS) }
+{
+    let text = text_of(alloc, workers)?;
+    let meeting = Meeting::of(workers as u64);
+    assert_eq!(rt;
+        entries_at(rt, alloc, text.as_slice(), workers, &meeting)?,
+        entries
+    );
+    assert_eq!(rt; meeting.met(), workers as u64);
+    Ok(())
+}
 
 #[test]
-fn four_workers_are_inside_at_once(rt: HostRuntime) -> Result<(), Fail> {
-    let programs = read_programs(rt.alloc(), FOUR)?;
-    let meeting = Meeting::of(4);
-    let report = run_programs(&rt, rt.alloc(), programs, 4, &meeting)?;
-    assert_eq!(rt; meeting.met(), 4);
-    assert_eq!(rt; report.entries.as_slice().len(), 8);
+fn as_many_workers_as_asked_for_are_inside_at_once(rt: HostRuntime) -> Result<(), Fail> {
+    for (workers, entries) in [(2, 4), (3, 6), (4, 8), (16, 32), (64, 128)] {
+        all_meet(&rt, rt.alloc(), workers, entries)?;
+    }
     Ok(())
 }
 

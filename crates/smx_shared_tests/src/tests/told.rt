@@ -1,0 +1,119 @@
+//! What a gate is told of a run: each command of each process, right before it and right after it.
+
+ghost use Rattle.std.specs.Prelude.{◌≤◌};
+ghost use Rattle.smx_run.specs.declared.run.TheConstants.{MAX_WORKERS};
+
+use super::gates::Told::{After, Before};
+use super::gates::{Log, Told};
+use smx_run::run_programs;
+use smx_text::read_programs;
+use std::alloc::{AllocError, Global};
+use std::sync::Wait;
+use std::test::Fail;
+use std::thread::Threads;
+
+/// Five programs, one of them with no command. Those of processes 0 and 2 have a command that is refused.
+pub const FIVE: &[u8] = b"programs 1
+driver ip mux 4 8 3 16
+process 0
+clone ip
+clone eth
+process 1
+process 2
+close 3
+process 3
+clone ip
+clone ip
+close 0
+process 4
+clone ip
+exit
+end
+";
+
+/// What a gate is told of them on one worker.
+pub const IN_TURN: [Told; 16] = [
+    Before(0, 0),
+    After(0, 0),
+    Before(0, 1),
+    After(0, 1),
+    Before(2, 0),
+    After(2, 0),
+    Before(3, 0),
+    After(3, 0),
+    Before(3, 1),
+    After(3, 1),
+    Before(3, 2),
+    After(3, 2),
+    Before(4, 0),
+    After(4, 0),
+    Before(4, 1),
+    After(4, 1),
+];
+
+// What it is told by each of three workers: by the first of processes 0 and 3, by the second of 1 and 4, and by the third
+// of process 2.
+const BY_EACH: [&[Told]; 3] = [
+    &[
+        Before(0, 0),
+        After(0, 0),
+        Before(0, 1),
+        After(0, 1),
+        Before(3, 0),
+        After(3, 0),
+        Before(3, 1),
+        After(3, 1),
+        Before(3, 2),
+        After(3, 2),
+    ],
+    &[Before(4, 0), After(4, 0), Before(4, 1), After(4, 1)],
+    &[Before(2, 0), After(2, 0)],
+];
+
+// The programs are run by so many workers, who tell the log.
+fn runs<R: Threads + Wait + Sync>(
+    rt: &R,
+    alloc: Global,
+    workers: usize,
+    log: &Log,
+) -> Result<(), Fail>
+    requires { (1 ≤ workers) × (workers ≤ MAX_WORKERS) }
+{
+    let programs = read_programs(alloc, FIVE)?;
+    run_programs(rt, alloc, programs, workers, log)?;
+    Ok(())
+}
+
+#[test]
+fn one_worker_tells_of_each_command_in_turn(rt: HostRuntime) -> Result<(), Fail> {
+    let log = Log::of(rt.alloc(), 40)?;
+    runs(&rt, rt.alloc(), 1, &log)?;
+    assert_eq!(rt; log.told(rt.alloc())?.as_slice(), IN_TURN.as_slice());
+    Ok(())
+}
+
+// What was told by this worker of three.
+fn by_worker(alloc: Global, told: &[Told], worker: u32) -> Result<Vec<Told>, AllocError> {
+    let mut own = Vec::new(alloc);
+    for line in told {
+        if line.process() % 3 == worker {
+            own.push(*line)?;
+        }
+    }
+    Ok(own)
+}
+
+#[test]
+fn three_workers_tell_of_their_processes_in_turn(rt: HostRuntime) -> Result<(), Fail> {
+    let log = Log::of(rt.alloc(), 40)?;
+    runs(&rt, rt.alloc(), 3, &log)?;
+    let told = log.told(rt.alloc())?;
+    assert_eq!(rt; told.len(), 16);
+    for (worker, own) in (0..3u32).zip(BY_EACH) {
+        assert_eq!(rt;
+            by_worker(rt.alloc(), told.as_slice(), worker)?.as_slice(),
+            own
+        );
+    }
+    Ok(())
+}
