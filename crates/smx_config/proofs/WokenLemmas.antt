@@ -154,19 +154,18 @@ of_accepted P (Err g) x e h = absurd cc
 -- ---- after a command that was performed
 
 abbrev pub IsEnough : List DriverSpec → Configuration → ℕ → Command → Marks → Marks → Type 0
-IsEnough drivers c process k m n = IfOk (outcome drivers c process k) (λ x. IsWoken drivers x.0 (turned_under x.0 (wakes_of drivers c process k)) (freed_under (wakes_of drivers c process k)) m n → AreMarks drivers x.0 n)
+IsEnough drivers c process k m n = IfOk (outcome drivers c process k) (λ x. IsWoken x.0 (turned_under x.0 (wakes_of drivers c process k)) (freed_under (wakes_of drivers c process k)) m n → AreMarks drivers x.0 n)
 
 enough_at : (drivers : List DriverSpec) (c : Configuration) (process : ℕ) (k : Command) (m n : Marks) (x : Configuration × Reply) → IsEnough drivers c process k m n → outcome drivers c process k ≡ Ok x
-    → IsWoken drivers x.0 (turned_under x.0 (wakes_of drivers c process k)) (freed_under (wakes_of drivers c process k)) m n → AreMarks drivers x.0 n
+    → IsWoken x.0 (turned_under x.0 (wakes_of drivers c process k)) (freed_under (wakes_of drivers c process k)) m n → AreMarks drivers x.0 n
 enough_at drivers c process k m n x enough e =
-    of_accepted (λ (y : Configuration × Reply). IsWoken drivers y.0 (turned_under y.0 (wakes_of drivers c process k)) (freed_under (wakes_of drivers c process k)) m n → AreMarks drivers y.0 n) (outcome drivers c process k) x e enough
+    of_accepted (λ (y : Configuration × Reply). IsWoken y.0 (turned_under y.0 (wakes_of drivers c process k)) (freed_under (wakes_of drivers c process k)) m n → AreMarks drivers y.0 n) (outcome drivers c process k) x e enough
 
-pub woken_after : (drivers told done marked : List DriverSpec) (old new : Lists) (process : ℕ) (k : Command) (result : Result Reply StepError) (r : Reply) (w : Wakes) (m n : Marks) → told ≡ drivers → done ≡ drivers → marked ≡ drivers → result ≡ Ok r
+pub woken_after : (drivers told done : List DriverSpec) (old new : Lists) (process : ℕ) (k : Command) (result : Result Reply StepError) (r : Reply) (w : Wakes) (m n : Marks) → told ≡ drivers → done ≡ drivers → result ≡ Ok r
     → RefinesOrNoMemory done old new process k result → w ≡ wakes_of told (configuration_of old) process k → IsEnough drivers (configuration_of old) process k m n
-    → IsWoken marked (configuration_of new) (turned_under (configuration_of new) w) (freed_under w) m n → AreMarks drivers (configuration_of new) n
-woken_after drivers told done marked old new process k result r w m n same same_too same_still is refines tells enough woken =
+    → IsWoken (configuration_of new) (turned_under (configuration_of new) w) (freed_under w) m n → AreMarks drivers (configuration_of new) n
+woken_after drivers told done old new process k result r w m n same same_too is refines tells enough woken =
     let here = subst (λ (x : Result Reply StepError). RefinesOrNoMemory drivers old new process k x) is (subst (λ (ds : List DriverSpec). RefinesOrNoMemory ds old new process k result) same_too refines) in
     let told_so : w ≡ wakes_of drivers (configuration_of old) process k = tells ∙ ap (λ (ds : List DriverSpec). wakes_of ds (configuration_of old) process k) same in
     enough_at drivers (configuration_of old) process k m n (configuration_of new, r) enough here
-    (subst (λ (x : Wakes). IsWoken drivers (configuration_of new) (turned_under (configuration_of new) x) (freed_under x) m n) told_so
-    (subst (λ (ds : List DriverSpec). IsWoken ds (configuration_of new) (turned_under (configuration_of new) w) (freed_under w) m n) same_still woken))
+    (subst (λ (x : Wakes). IsWoken (configuration_of new) (turned_under (configuration_of new) x) (freed_under x) m n) told_so woken)

@@ -10,6 +10,7 @@ use Rattle.smx_model.specs.Queues.{first_message, is_full}
 use Rattle.smx_model.specs.RunMarks.{all_but, is_below_driver, next_of_first}
 use Rattle.smx_model.specs.SettlingByMarks.{HasItsMarks, MarkedConfiguration}
 use Rattle.smx_queues.specs.PlaceMarks.{MarkList, has_mark}
+use Rattle.smx_queues.specs.PlaceTargets.{TargetList, target_of}
 use Rattle.smx_config.specs.FewMinors.{HaveFewMinors}
 use Rattle.smx_config.specs.declared.marks.Marks.{Marks}
 
@@ -17,16 +18,21 @@ use Rattle.smx_config.specs.declared.marks.Marks.{Marks}
 abbrev pub marked_configuration : Configuration → Marks → MarkedConfiguration
 marked_configuration c m = record { configuration = c; run = has_mark m.run; wanted = has_mark m.wanted }
 
--- over these drivers, each place without a run mark waits, a wanted mark stands at full places alone, and a mark of those
--- that wait where there is no run mark and the first message has a next place
+-- that the first place waits for the second is noted
+abbrev pub IsNotedFor : Marks → Place → Place → Type 0
+IsNotedFor m p q = (has_mark m.waits p ≡ true) × (target_of m.targets p ≡ Some q)
+
+-- over these drivers, each place without a run mark waits, a wanted mark stands at full places alone, and where there is no
+-- run mark and the first message has a next place, that it waits for that place is noted
 pub record AreMarks (drivers : List DriverSpec) (c : Configuration) (m : Marks) : Type 0 where
   pub few : HaveFewMinors drivers
   pub run : m.run.drivers ≡ drivers
   pub wanted : m.wanted.drivers ≡ drivers
   pub waits : m.waits.drivers ≡ drivers
+  pub targets : m.targets.drivers ≡ drivers
   pub waiting : HasItsMarks drivers (marked_configuration c m)
   pub full : (p : Place) → has_mark m.wanted p ≡ true → is_full c p ≡ true
-  pub held_up : (p q : Place) → has_mark m.run p ≡ false → next_of_first drivers c p ≡ Some q → has_mark m.waits p ≡ true
+  pub held_up : (p q : Place) → has_mark m.run p ≡ false → next_of_first drivers c p ≡ Some q → IsNotedFor m p q
 
 -- a write side of the driver's streams
 abbrev pub is_write_of : ℕ → Place → Bool
@@ -47,21 +53,18 @@ pub record IsWithoutMark (place : Place) (old new : MarkList) : Type 0 where
   pub gone : (q : Place) → has_mark new q ≡ all_but (has_mark old) place q
   pub drivers : new.drivers ≡ old.drivers
 
--- of the waiting places those whose first message goes to this one next have a mark, and all that had one
-pub record AreWaitersMarked (drivers : List DriverSpec) (c : Configuration) (waits : MarkList) (q : Place)
-    (old new : MarkList) : Type 0 where
+-- of the waiting places those that are noted to wait for this one have a mark, and all that had one
+pub record AreWaitersMarked (waits : MarkList) (targets : TargetList) (q : Place) (old new : MarkList) : Type 0 where
   pub kept : (p : Place) → has_mark old p ≡ true → has_mark new p ≡ true
   pub marked : (p : Place) → IsKnown old.drivers p.stream → has_mark waits p ≡ true
-      → next_of_first drivers c p ≡ Some q → has_mark new p ≡ true
+      → target_of targets p ≡ Some q → has_mark new p ≡ true
   pub same_drivers : new.drivers ≡ old.drivers
 
 -- of the freed places those that are wanted and no longer full are wanted no more, and what waits for them has a run mark
-pub record IsReleased (drivers : List DriverSpec) (c : Configuration) (freed : Place → Bool) (old new : Marks)
-    : Type 0 where
+pub record IsReleased (c : Configuration) (freed : Place → Bool) (old new : Marks) : Type 0 where
   pub kept : (p : Place) → has_mark old.run p ≡ true → has_mark new.run p ≡ true
   pub waiters : (q p : Place) → freed q ≡ true → is_full c q ≡ false → has_mark old.wanted q ≡ true
-      → IsKnown old.run.drivers p.stream → has_mark old.waits p ≡ true → next_of_first drivers c p ≡ Some q
-      → has_mark new.run p ≡ true
+      → IsKnown old.run.drivers p.stream → IsNotedFor old p q → has_mark new.run p ≡ true
   pub wanted : (q : Place) → has_mark old.wanted q ≡ true → is_full c q ≡ true → has_mark new.wanted q ≡ true
   pub gone : (q : Place) → freed q ≡ true → has_mark new.wanted q ≡ true → is_full c q ≡ true
   pub left : (q : Place) → freed q ≡ false → has_mark old.wanted q ≡ true → has_mark new.wanted q ≡ true
@@ -69,9 +72,9 @@ pub record IsReleased (drivers : List DriverSpec) (c : Configuration) (freed : P
   pub run_drivers : new.run.drivers ≡ old.run.drivers
   pub wanted_drivers : new.wanted.drivers ≡ old.wanted.drivers
   pub waits : new.waits ≡ old.waits
+  pub targets : new.targets ≡ old.targets
 
 -- the same, and the turned places with a message have a run mark
-pub record IsWoken (drivers : List DriverSpec) (c : Configuration) (turned freed : Place → Bool) (old new : Marks)
-    : Type 0 where
-  pub released : IsReleased drivers c freed old new
+pub record IsWoken (c : Configuration) (turned freed : Place → Bool) (old new : Marks) : Type 0 where
+  pub released : IsReleased c freed old new
   pub turned_ones : (p : Place) → IsKnown old.run.drivers p.stream → first_message c.flow p ≢ None → turned p ≡ true → has_mark new.run p ≡ true

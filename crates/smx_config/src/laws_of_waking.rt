@@ -24,7 +24,7 @@ use smx_model::laws_of_steps::{moves_keep_soundness, outcomes_are_sound};
 pub fn woken_marks_are_enough()
     ensures { (drivers : List DriverSpec) (c : Configuration) (process : ℕ) (command : Command) (old new : Marks)
         → IsSound drivers c → AreMarks drivers c old → IfOk (outcome drivers c process command) (λ x.
-        IsWoken drivers x.0 (turned_under x.0 (wakes_of drivers c process command)) (freed_under (wakes_of drivers c process command)) old new
+        IsWoken x.0 (turned_under x.0 (wakes_of drivers c process command)) (freed_under (wakes_of drivers c process command)) old new
         → AreMarks drivers x.0 new) }
 {
     commands_free_few();
@@ -38,7 +38,7 @@ pub fn woken_marks_are_enough()
 pub fn moved_marks_are_enough()
     ensures { (drivers : List DriverSpec) (c : Configuration) (p q : Place) (old new : Marks) → IsSound drivers c
         → AreMarks drivers c old → next_open_place drivers c p ≡ Some q
-        → IsWoken drivers (after_move drivers c p) (both (same_place p) (same_place q)) (same_place p) old new
+        → IsWoken (after_move drivers c p) (both (same_place p) (same_place q)) (same_place p) old new
         → AreMarks drivers (after_move drivers c p) new }
 {
     moves_free_one();

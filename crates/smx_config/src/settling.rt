@@ -10,6 +10,7 @@ ghost use Rattle.smx_model.specs.Settling.{next_open_place};
 ghost use Rattle.smx_model.specs.Settling.{after_move, after_settling};
 ghost use Rattle.smx_model.specs.SettlingByMarks.{HasNoRunMark, IsLeastMarked};
 ghost use Rattle.smx_queues.specs.PlaceMarks.{has_mark};
+ghost use Rattle.smx_queues.specs.PlaceTargets.{target_of};
 ghost use Rattle.smx_config.specs.ExistingStreams.{TellsExisting};
 ghost use Rattle.smx_config.specs.ModelOfLists.{configuration_of, sizes_of};
 ghost use Rattle.smx_config.specs.Moves.{if_open, IsLeastMove};
@@ -28,7 +29,7 @@ use smx_model::laws_of_run_marks::{
 };
 use smx_model::laws_of_settling_by_marks::clearing_keeps_marks;
 use smx_model::laws_of_steps::{moves_keep_soundness, settling_suffices};
-use smx_queues::PlaceMarks;
+use smx_queues::{PlaceMarks, PlaceTargets};
 use smx_types::{DriverSpec, Place};
 
 // A message goes from one place to another.
@@ -62,14 +63,24 @@ fn mark_wanted(wanted: &mut PlaceMarks, next: Option<Place>)
     }
 }
 
-// Notes that the place waits, if its first message has a next place, and else that it doesn't.
-fn note_waiting(waits: &mut PlaceMarks, from: Place, next: Option<Place>)
+// Notes for which place it waits, if its first message has a next place, and else that it doesn't wait.
+fn note_waiting(
+    waits: &mut PlaceMarks,
+    targets: &mut PlaceTargets,
+    from: Place,
+    next: Option<Place>,
+)
     ensures there { (q : PlaceValue) → next ≡ Some q → IsKnown waits.old.drivers from.stream → has_mark waits.new from ≡ true }
-    ensures others { (r : PlaceValue) → same_place from r ≡ false → has_mark waits.new r ≡ has_mark waits.old r }
-    ensures drivers { waits.new.drivers ≡ waits.old.drivers }
+    ensures target { (q : PlaceValue) → next ≡ Some q → IsKnown targets.old.drivers from.stream → target_of targets.new from ≡ Some q }
+    ensures others { (r : PlaceValue) → same_place from r ≡ false
+        → (has_mark waits.new r ≡ has_mark waits.old r) × (target_of targets.new r ≡ target_of targets.old r) }
+    ensures drivers { (waits.new.drivers ≡ waits.old.drivers) × (targets.new.drivers ≡ targets.old.drivers) }
 {
     match next {
-        Some(_) => waits.mark(from),
+        Some(to) => {
+            waits.mark(from);
+            targets.set(from, to);
+        }
         None => waits.clear(from),
     }
 }
@@ -94,7 +105,7 @@ fn clear_mark(
     places_are_known();
     clearing_keeps_marks();
     mark_wanted(&mut marks.wanted, next);
-    note_waiting(&mut marks.waits, from, next);
+    note_waiting(&mut marks.waits, &mut marks.targets, from, next);
     marks.run.clear(from);
 }
 
@@ -149,7 +160,7 @@ fn move_marked(drivers: &[DriverSpec], lists: &mut Lists, marks: &mut Marks, nex
     moved_marks_are_enough();
     places_are_known();
     move_on(drivers, lists, next);
-    release_if_open(drivers, lists, marks, next.from);
+    release_if_open(lists, marks, next.from);
     marks.run.mark(next.to);
     mark_left(&lists.queues, &mut marks.run, next.from);
     marks.waits.clear(next.from);

@@ -8,4 +8,4 @@ abbrev pub decreases-loop-place : goal.decreases-loop-place
 decreases-loop-place l = length l.marks.wanted.marked
 
 abbrev pub invariant-loop-place : goal.invariant-loop-place
-invariant-loop-place l = IsReleased l.drivers (configuration_of l.lists) (unwanted l.marks) l.initial.marks l.marks
+invariant-loop-place l = IsReleased (configuration_of l.lists) (unwanted l.marks) l.initial.marks l.marks
