@@ -17,7 +17,7 @@ returns-clause-marks c =
     (λ q at. c.mark_wanted.ensures.there q at (subst (λ (ds : List DriverSpec). IsKnown ds q.stream) (sym c.requires.marks.wanted) (c.places_are_known.ensures.next c.args.drivers.now now c.args.from q c.requires.sound (sym c.requires.next ∙ at))))))
     c.requires.stays c.mark_wanted.ensures.few c.clear.ensures.drivers c.mark_wanted.ensures.drivers
     (noted c.args.drivers.now now c.args.from c.args.next c.args.marks.now left c.requires.marks c.requires.next c.clear.ensures.gone (λ q at.
-        let known = c.places_are_known.ensures.with_messages c.args.drivers.now now c.args.from c.requires.sound (next_has_message c.args.drivers.now now c.args.from q (sym c.requires.next ∙ at)) in (
-          c.note_waiting.ensures.there q at (subst (λ (ds : List DriverSpec). IsKnown ds c.args.from.stream) (sym c.requires.marks.waits) known),
-          c.note_waiting.ensures.target q at (subst (λ (ds : List DriverSpec). IsKnown ds c.args.from.stream) (sym c.requires.marks.targets) known),
-        )) c.note_waiting.ensures.others c.note_waiting.ensures.drivers)
+    let known = c.places_are_known.ensures.with_messages c.args.drivers.now now c.args.from c.requires.sound (next_has_message c.args.drivers.now now c.args.from q (sym c.requires.next ∙ at)) in (
+      c.note_waiting.ensures.there q at (subst (λ (ds : List DriverSpec). IsKnown ds c.args.from.stream) (sym c.requires.marks.waits) known),
+      c.note_waiting.ensures.target q at (subst (λ (ds : List DriverSpec). IsKnown ds c.args.from.stream) (sym c.requires.marks.targets) known),
+    )) c.note_waiting.ensures.others c.note_waiting.ensures.drivers)
