@@ -2,6 +2,8 @@ pub mod BitLemmas
 pub mod LowerLemmas
 pub mod MaskLemmas
 pub mod TwinLemmas
+pub mod CountLemmas
+pub mod PairLemmas
 pub mod IdLemmas
 pub mod TableLemmas
 pub mod PlaceLemmas

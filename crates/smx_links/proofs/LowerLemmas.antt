@@ -43,7 +43,7 @@ some_above ls s = mapped (find (λ l. same_stream l.lower s) ls) ∙ any_found (
   mapped (Some l) = refl
 
 -- what holds of all holds of what is found
-found_has : {X : Type 0} (P : X → Type 0) (test : X → Bool) (xs : List X) (x : X) → All P xs → find test xs ≡ Some x
+pub found_has : {X : Type 0} (P : X → Type 0) (test : X → Bool) (xs : List X) (x : X) → All P xs → find test xs ≡ Some x
     → P x
 found_has P test [] x all h = absurd cc
 found_has {X} P test (y ∷ ys) x all h = elim (cases_Bool (test y)) [

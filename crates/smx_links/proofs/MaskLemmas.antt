@@ -1,11 +1,10 @@
 -- Masks of links.
-use Rattle.std.proofs.Common.{◌≡◌, ℕ, ◌+◌, ◌<◌, true, ◌&&◌, ◌||◌, eqb, subst, inl, inr, List, [], ◌∷◌, ◌++◌, length}
-use Rattle.std.proofs.Common.{get_or, take, sym, ◌∙◌}
+use Rattle.std.proofs.Common.{◌≡◌, ℕ, true, ◌&&◌, ◌||◌, eqb, subst, inl, inr, List, [], ◌∷◌, ◌++◌}
+use Rattle.std.proofs.Common.{sym, ◌∙◌}
 use Rattle.std.proofs.lemmas.Bool.{cases_Bool, or_cases, or_left, and_parts, eqb-true, false_from_ne_true, both_ways}
-use Rattle.std.proofs.lemmas.List.{take_more}
 use Rattle.smx_types.specs.declared.link.Link.{Link}
 use Rattle.smx_model.specs.Paths.{reaches}
-use Rattle.smx_links.specs.Masks.{has_bit, AreJoined, AreMasks, LeadAlike}
+use Rattle.smx_links.specs.Masks.{AreJoined, AreMasks, LeadAlike}
 
 -- what the laws of paths say
 
@@ -52,23 +51,3 @@ known_same trans ls l k a b = elim (cases_Bool (reaches ls a b)) [
   | inl t ↦ t ∙ sym (or_left _ _ t)
   | inr f ↦ f ∙ sym (false_from_ne_true (reaches (l ∷ ls) a b) (λ t. both_ways _ f (known trans ls l a b k t)))
 ]
-
--- the masks stay with such a link
-pub masks_known : Joins → PathsJoin → (ls : List Link) (l : Link) (ws : List ℕ) → AreMasks ls ws
-    → has_bit ws l.ctl.driver l.lower.driver ≡ true → AreMasks (ls ++ l ∷ []) ws
-masks_known joins trans ls l ws m k a b =
-    m a b ∙ known_same trans ls l (sym (m l.ctl.driver l.lower.driver) ∙ k) a b ∙ sym (joins ls l a b)
-
--- the masks of the links up to a place, with the one that stands there
-pub masks_next : Joins → (ls : List Link) (i : ℕ) (d : Link) (old new : List ℕ) → i < length ls
-    → AreMasks (take i ls) old
-    → AreJoined old (get_or ls i d).ctl.driver (get_or ls i d).lower.driver new → AreMasks (take (i + 1) ls) new
-masks_next joins ls i d old new lt m j = rw (take_more ls i d lt)
-    (masks_push joins (take i ls) (get_or ls i d) old new m j)
-
--- and with one that leads nowhere new
-pub masks_stay : Joins → PathsJoin → (ls : List Link) (i : ℕ) (d : Link) (ws : List ℕ) → i < length ls
-    → AreMasks (take i ls) ws
-    → true ≡ has_bit ws (get_or ls i d).ctl.driver (get_or ls i d).lower.driver → AreMasks (take (i + 1) ls) ws
-masks_stay joins trans ls i d ws lt m k = rw (take_more ls i d lt)
-    (masks_known joins trans (take i ls) (get_or ls i d) ws m (sym k))

@@ -1,9 +1,9 @@
 -- A table of links, made and changed.
-use Rattle.std.proofs.Common.{◌≡◌, ℕ, ◌<◌, ◌≤◌, ◌+◌, Bool, true, false, ◌||◌, eqb, leb, List, [], ◌∷◌, ◌++◌, length}
-use Rattle.std.proofs.Common.{filter, take, drop, Option, Some, None, refl, arith, if◌then◌else◌, length-append, inl}
-use Rattle.std.proofs.Common.{inr}
-use Rattle.std.proofs.lemmas.Bool.{cases_Bool, leb-false, or_parts}
+use Rattle.std.proofs.Common.{◌≡◌, ℕ, ◌<◌, ◌+◌, Bool, true, false, ◌||◌, eqb, leb, List, [], ◌∷◌, ◌++◌, length}
+use Rattle.std.proofs.Common.{filter, take, drop, Option, Some, None, refl, arith, if◌then◌else◌, length-append}
+use Rattle.std.proofs.lemmas.Bool.{leb-false, or_parts}
 use Rattle.std.proofs.lemmas.List.{take_at}
+use Rattle.std.specs.List.{All}
 use Rattle.std.proofs.lemmas.List.Elements.{All-push, All-filter}
 use Rattle.smx_types.specs.declared.limits.TheConstants.{MAX_LINKS, NUMBER_END}
 use Rattle.smx_types.specs.declared.link.Link.{Link}
@@ -16,9 +16,12 @@ use Rattle.smx_links.specs.declared.fault.LinkFault.{LinkFault}
 use Rattle.smx_links.specs.declared.links.Lower.{Lower}
 use Rattle.smx_links.specs.Ids.{HasIds}
 use Rattle.smx_links.specs.LinkLists.{LinkList, refusal}
-use Rattle.smx_links.specs.Masks.{AreJoined, AreMasks, IsWithin}
+use Rattle.smx_links.specs.Masks.{AreJoined, AreMasks, IsWithin, LeadAlike}
+use Rattle.smx_links.specs.Pairs.{AreCounts, with_one_more}
 use Rattle.smx_links.specs.TableFields.{AreParts, list_of_parts}
+use Rattle.smx_links.proofs.CountLemmas.{counts_more, fewer}
 use Rattle.smx_links.proofs.MaskLemmas.{Joins, masks_push}
+use Rattle.smx_links.proofs.TwinLemmas.{masks_alike}
 
 -- no refusal applies
 
@@ -54,15 +57,16 @@ is_free t ctl lower h =
 -- one link more
 
 -- the fields of a table with one link more
-pub parts_push : Joins → (ws vs : List ℕ) (ls : List Link) (es fs : List (Lower × ℕ)) (n : ℕ) (ctl lower : StreamId)
-    (kind : LinkKind) → AreParts ws ls es n → IsFree (list_of_parts ws ls n) ctl lower
+pub parts_push : Joins → (ws vs : List ℕ) (ls : List Link) (es fs : List (Lower × ℕ)) (ps : List ℕ) (n : ℕ) (ctl lower : StreamId)
+    (kind : LinkKind) → AreParts ws ls es ps n → IsFree (list_of_parts ws ls n) ctl lower
     → ctl.driver < length ws → lower.driver < length ws
     → AreLinksSound (ls ++ record { id = n; ctl = ctl; lower = lower; kind = kind } ∷ [])
     → AreIdsRising (ls ++ record { id = n; ctl = ctl; lower = lower; kind = kind } ∷ []) (n + 1)
     → HasIds fs (ls ++ record { id = n; ctl = ctl; lower = lower; kind = kind } ∷ [])
     → length vs ≡ length ws → AreJoined ws ctl.driver lower.driver vs
-    → AreParts vs (ls ++ record { id = n; ctl = ctl; lower = lower; kind = kind } ∷ []) fs (n + 1)
-parts_push joins ws vs ls es fs n ctl lower kind h free up low sound ids more long joined = record {
+    → AreParts vs (ls ++ record { id = n; ctl = ctl; lower = lower; kind = kind } ∷ []) fs
+    (with_one_more (length ws) ps (record { id = n; ctl = ctl; lower = lower; kind = kind })) (n + 1)
+parts_push joins ws vs ls es fs ps n ctl lower kind h free up low sound ids more long joined = record {
   list = record {
     sound = sound;
     ids = ids;
@@ -74,37 +78,35 @@ parts_push joins ws vs ls es fs n ctl lower kind h free up low sound ids more lo
   few = rw long h.few;
   masks = masks_push joins ls _ ws vs h.masks joined;
   ids = more;
+  pairs = rw long (counts_more (length ws) ls ps _ h.pairs (up, low));
 }
 
 -- fewer links
 
--- a filter leaves no more
-fewer : {X : Type 0} (test : X → Bool) (xs : List X) → length (filter test xs) ≤ length xs
-fewer test [] = omega arith
-fewer test (x ∷ xs) = elim (cases_Bool (test x)) [
-  | inl t ↦ rw t (omega (arith, fewer test xs))
-  | inr f ↦ rw f
-      (omega (arith, fewer test xs))
-]
+-- what renews the masks of links that are left: words stay where these lead alike
+abbrev Renews : List ℕ → List ℕ → List ℕ → Bool → Type 0
+Renews ws vs qs same = (links : List Link) → All (IsWithin (length ws)) links → AreCounts (length ws) links qs
+    → (same ≡ true → AreMasks links ws) → AreMasks links vs
 
 -- the fields of a table with some links less
-pub parts_less : (ws vs : List ℕ) (ls : List Link) (es fs : List (Lower × ℕ)) (n : ℕ) (stays : Link → Bool)
-    → AreParts ws ls es n → HasIds fs (filter stays ls)
-    → AreLinksSound (filter stays ls) → AreIdsRising (filter stays ls) n
-    → length vs ≡ length ws → AreMasks (filter stays ls) vs → AreParts vs (filter stays ls) fs n
-parts_less ws vs ls es fs n stays h kept sound ids long masks = record {
-  list = record {
-    sound = sound;
-    ids = ids;
-    few = omega
-        (arith, fewer stays ls, h.list.few);
-    numbered = h.list.numbered;
-  };
-  within = rw long (All-filter stays (IsWithin (length ws)) ls h.within);
-  few = rw long h.few;
-  masks = masks;
-  ids = kept;
-}
+pub parts_less : (ws vs : List ℕ) (ls ks : List Link) (es fs : List (Lower × ℕ)) (ps qs : List ℕ) (n : ℕ)
+    (stays : Link → Bool) (same : Bool) → AreParts ws ls es ps n → ks ≡ filter stays ls → HasIds fs ks
+    → AreLinksSound (filter stays ls) → AreIdsRising (filter stays ls) n → length vs ≡ length ws
+    → AreCounts (length ws) ks qs → (same ≡ true → LeadAlike ls ks) → Renews ws vs qs same → AreParts vs ks fs qs n
+parts_less ws vs ls ks es fs ps qs n stays same h is kept sound ids long counts alike renews =
+    let within : All (IsWithin (length ws)) ks = rw is (All-filter stays (IsWithin (length ws)) ls h.within) in record {
+      list = record {
+        sound = rw is sound;
+        ids = rw is ids;
+        few = rw is (omega (arith, fewer stays ls, h.list.few));
+        numbered = h.list.numbered;
+      };
+      within = rw long within;
+      few = rw long h.few;
+      masks = renews ks within counts (λ t. masks_alike ls ks ws h.masks (alike t));
+      ids = kept;
+      pairs = rw long counts;
+    }
 
 -- a vector, after a slice of all of it was lent
 pub lent : (n : ℕ) (new old : List ℕ) → length new ≡ length old → n ≡ length old

@@ -1,23 +1,24 @@
 -- What links lead to, without one of two that are between the same drivers.
-use Rattle.std.proofs.Common.{◌≡◌, ℕ, true, not, eqb, List, [], ◌∷◌, ◌++◌, filter, find, Option, Some}
-use Rattle.std.proofs.Common.{None, refl, sym, ap, ◌∙◌, inl, inr}
+use Rattle.std.proofs.Common.{◌≡◌, ℕ, ◌<◌, true, not, eqb, List, [], ◌∷◌, ◌++◌, filter, find, Option, Some}
+use Rattle.std.proofs.Common.{refl, sym, ap, ◌∙◌, arith, inl, inr}
 use Rattle.std.specs.Prelude.{nat_lt}
-use Rattle.std.specs.List.{list_any}
-use Rattle.std.specs.Option.{option_map_or}
 use Rattle.std.proofs.lemmas.Bool.{cases_Bool, and_parts, eq-eqb, eqb-true, or_left, or_right}
+use Rattle.std.proofs.lemmas.Bool.Decides.{nat_tests}
 use Rattle.smx_types.specs.declared.link.Link.{Link}
 use Rattle.smx_model.specs.Ordered.{IsRising}
 use Rattle.smx_model.specs.Paths.{reaches}
-use Rattle.smx_links.specs.Masks.{AreMasks, is_twin, LeadAlike}
-use Rattle.smx_links.proofs.IdLemmas.{later_stay, none_goes}
+use Rattle.smx_links.specs.Masks.{AreMasks, IsWithin, LeadAlike}
+use Rattle.smx_links.specs.Pairs.{AreCounts, count_between, entry_of, is_between}
+use Rattle.smx_links.proofs.CountLemmas.{entry_is}
+use Rattle.smx_links.proofs.IdLemmas.{later_stay}
 use Rattle.smx_links.proofs.MaskLemmas.{Joins, PathsJoin, known_same}
 
 -- links that lead alike do so behind the same link
-behind_same : (k : Link) (ls ks : List Link) → LeadAlike ls ks → LeadAlike (k ∷ ls) (k ∷ ks)
+pub behind_same : (k : Link) (ls ks : List Link) → LeadAlike ls ks → LeadAlike (k ∷ ls) (k ∷ ks)
 behind_same k ls ks h a b = rw (h a b, h a k.ctl.driver, h k.lower.driver b) refl
 
 -- two links lead alike in either order
-swapped : Joins → (k l : Link) (ls : List Link) → LeadAlike (k ∷ l ∷ ls) (l ∷ k ∷ ls)
+pub swapped : Joins → (k l : Link) (ls : List Link) → LeadAlike (k ∷ l ∷ ls) (l ∷ k ∷ ls)
 swapped joins k l ls a b = sym (joins (k ∷ ls) l a b) ∙ behind_same k (l ∷ ls) (ls ++ l ∷ []) (joins ls l) a b
 
 -- links lead alike with one of them in front
@@ -36,33 +37,36 @@ in_front joins (k ∷ ks) l id rise h = elim (cases_Bool (eqb k.id id)) [
 ]
 
 -- a link leads from its upper driver to its lower one
-twin_leads : (ls : List Link) (l : Link) → list_any (is_twin l) ls ≡ true
-    → reaches ls l.ctl.driver l.lower.driver ≡ true
-twin_leads [] l h = absurd cc
-twin_leads (k ∷ ks) l h = elim (cases_Bool (is_twin l k)) [
-  | inl t ↦
-      let both = and_parts (eqb k.ctl.driver l.ctl.driver) (eqb k.lower.driver l.lower.driver) t in
-      or_right (reaches ks l.ctl.driver l.lower.driver) _
-      (rw (eq-eqb l.ctl.driver k.ctl.driver (sym (eqb-true k.ctl.driver l.ctl.driver both.0)), both.1) refl)
-  | inr f ↦ or_left (reaches ks l.ctl.driver l.lower.driver) _ (twin_leads ks l (rw f at h))
+pub own_path : (k : Link) (ks : List Link) (u l : ℕ) → is_between u l k ≡ true → reaches (k ∷ ks) u l ≡ true
+own_path k ks u l t =
+    let both = and_parts (eqb k.ctl.driver u) (eqb k.lower.driver l) t in
+    or_right (reaches ks u l) _ (rw (eq-eqb u k.ctl.driver (sym (eqb-true k.ctl.driver u both.0)), both.1) refl)
+
+-- and so a path leads from a driver to another where a link is between them
+pub counted_leads : (ls : List Link) (u l : ℕ) → 0 < count_between ls u l → reaches ls u l ≡ true
+counted_leads [] u l h = absurd (omega (arith, h))
+counted_leads (k ∷ ks) u l h = elim (cases_Bool (is_between u l k)) [
+  | inl t ↦ own_path k ks u l t
+  | inr f ↦ or_left (reaches ks u l) _ (counted_leads ks u l (rw f at h))
 ]
 
 -- what is left leads alike where one between the same drivers is left
 pub twin_stays : Joins → PathsJoin → (ls ks : List Link) (l : Link) (id : ℕ) → IsRising (λ l k. nat_lt l.id k.id) ls
-    → Some l ≡ find (λ l. eqb l.id id) ls
-    → ks ≡ filter (λ l. not (eqb l.id id)) ls → list_any (is_twin l) ks ≡ true → LeadAlike ls ks
+    → find (λ l. eqb l.id id) ls ≡ Some l → ks ≡ filter (λ l. not (eqb l.id id)) ls
+    → 0 < count_between ks l.ctl.driver l.lower.driver → LeadAlike ls ks
 twin_stays joins trans ls ks l id rise found rest twin a b =
-    known_same trans ks l (twin_leads ks l twin) a b ∙ ap (λ (xs : List Link). reaches (l ∷ xs) a b) rest
-    ∙ in_front joins ls l id rise (sym found) a b
+    known_same trans ks l (counted_leads ks l.ctl.driver l.lower.driver twin) a b
+    ∙ ap (λ (xs : List Link). reaches (l ∷ xs) a b) rest
+    ∙ in_front joins ls l id rise found a b
 
--- or where nothing went
-pub went_alike : Joins → PathsJoin → (ls ks : List Link) (o : Option Link) (id : ℕ)
-    → IsRising (λ l k. nat_lt l.id k.id) ls → o ≡ find (λ l. eqb l.id id) ls
-    → ks ≡ filter (λ l. not (eqb l.id id)) ls → option_map_or (λ l. list_any (is_twin l) ks) o true ≡ true
-    → LeadAlike ls ks
-went_alike joins trans ls ks None id rise found rest h = λ a b. ap (λ (xs : List Link). reaches xs a b)
-    (rest ∙ none_goes ls id (sym found))
-went_alike joins trans ls ks (Some l) id rise found rest h = twin_stays joins trans ls ks l id rise found rest h
+-- and that is so where the entry of the two drivers is not 0
+pub entry_stays : Joins → PathsJoin → (n : ℕ) (ls ks : List Link) (ps : List ℕ) (l : Link) (id : ℕ)
+    → IsRising (λ l k. nat_lt l.id k.id) ls → find (λ l. eqb l.id id) ls ≡ Some l
+    → ks ≡ filter (λ l. not (eqb l.id id)) ls → AreCounts n ks ps → IsWithin n l
+    → not (eqb (entry_of n ps l) 0) ≡ true → LeadAlike ls ks
+entry_stays joins trans n ls ks ps l id rise found rest h w left =
+    twin_stays joins trans ls ks l id rise found rest
+    (rw (← entry_is n ks ps l h w) (grind (arith, nat_tests, left)))
 
 -- the masks are those of links that lead alike
 pub masks_alike : (ls ks : List Link) (ws : List ℕ) → AreMasks ls ws → LeadAlike ls ks → AreMasks ks ws

@@ -30,10 +30,6 @@ AreMasks links ws = (a b : ℕ) → has_bit ws a b ≡ reaches links a b
 abbrev pub IsWithin : ℕ → Link → Type 0
 IsWithin n l = (l.ctl.driver < n) × (l.lower.driver < n)
 
--- a link between the same two drivers
-abbrev pub is_twin : Link → Link → Bool
-is_twin l k = (k.ctl.driver == l.ctl.driver) && (k.lower.driver == l.lower.driver)
-
 -- some links lead from each driver to the same drivers as others do
 abbrev pub LeadAlike : List Link → List Link → Type 0
 LeadAlike old new = (a b : ℕ) → reaches new a b ≡ reaches old a b

@@ -8,21 +8,24 @@ use Rattle.smx_links.specs.declared.table.LinkTable.TheInside.{Inside}
 use Rattle.smx_links.specs.Ids.{HasIds}
 use Rattle.smx_links.specs.LinkLists.{LinkList, IsLinkList}
 use Rattle.smx_links.specs.Masks.{AreMasks, IsWithin}
+use Rattle.smx_links.specs.Pairs.{AreCounts}
 
 abbrev pub list_of_parts : List ℕ → List Link → ℕ → LinkList
 list_of_parts ws links n = record { links = links; next_id = n; drivers = length ws }
 
--- each link is between drivers of the table, each bit is exactly a path, and under each lower stream is its link's id
-pub record AreParts (ws : List ℕ) (links : List Link) (es : List (Lower × ℕ)) (n : ℕ) : Type 0 where
+-- each link is between drivers of the table, each bit is exactly a path, under each lower stream is its link's id,
+-- and the links between each two drivers are counted
+pub record AreParts (ws : List ℕ) (links : List Link) (es : List (Lower × ℕ)) (ps : List ℕ) (n : ℕ) : Type 0 where
   pub list : IsLinkList (list_of_parts ws links n)
   pub within : All (IsWithin (length ws)) links
   pub few : length ws ≤ MAX_DRIVERS
   pub masks : AreMasks links ws
   pub ids : HasIds es links
+  pub pairs : AreCounts (length ws) links ps
 
 -- the fields as the value that a contract sees
 abbrev pub list_of : Inside → LinkList
 list_of t = list_of_parts t.masks.items t.links.items t.next_id
 
 abbrev pub IsWhole : Inside → Type 0
-IsWhole t = AreParts t.masks.items t.links.items t.ids.entries t.next_id
+IsWhole t = AreParts t.masks.items t.links.items t.ids.entries t.pairs.items t.next_id

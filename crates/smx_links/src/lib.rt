@@ -4,6 +4,7 @@
 mod fault;
 mod links;
 mod masks;
+mod pairs;
 mod table;
 
 pub use fault::LinkFault;

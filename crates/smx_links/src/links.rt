@@ -1,17 +1,18 @@
 //! Links by rising id, and the id of the link that a stream is below.
 
-ghost use Rattle.std.specs.Prelude.{◌≡◌, ◌==◌, ◌++◌, [], ◌∷◌, true, false, find, filter, not, nat_lt, is_some};
+ghost use Rattle.std.specs.Prelude.{◌≡◌, ◌≤◌, ◌==◌, ◌++◌, [], ◌∷◌, true, false, find, filter, not, nat_lt, is_some};
 ghost use Rattle.std.specs.Prelude.{IfNone, OnOk, OnErr, option_copied};
-ghost use Rattle.std.specs.List.{list_any};
-ghost use Rattle.std.specs.Option.{option_map_or};
+ghost use Rattle.std.specs.List.{All};
 ghost use Rattle.smx_model.specs.Configuration.{same_stream};
 ghost use Rattle.smx_model.specs.Ordered.{IsRising};
 ghost use Rattle.smx_model.specs.SoundLinks.{AreLinksSound};
 ghost use Rattle.smx_model.specs.Standing.{is_below};
 ghost use Rattle.smx_links.specs.Ids.{key_of, id_at, HasIds, IsPlace};
 ghost use Rattle.smx_links.specs.LinkLists.{is_one_of};
-ghost use Rattle.smx_links.specs.Masks.{is_twin, LeadAlike};
+ghost use Rattle.smx_links.specs.Masks.{IsWithin, LeadAlike};
+ghost use Rattle.smx_links.specs.Pairs.{AreCounts};
 
+use crate::pairs::{Count, uncount};
 use indexmap::IndexMap;
 use smx_model::laws_of_links::{fewer_links_stay_sound, one_link_more_joins, paths_join};
 use smx_types::{Link, NoMemory, StreamId};
@@ -107,31 +108,23 @@ pub fn take(links: &mut Vec<Link>, ids: &mut Ids, id: u32) -> Option<Link>
     Some(link)
 }
 
-// Whether one of the links is between the same two drivers.
-pub fn has_twin(links: &[Link], gone: Link) -> bool
-    ensures { result ≡ list_any (is_twin gone) links.now }
-{
-    links.iter().any(|link| link.ctl.driver == gone.ctl.driver
-        && link.lower.driver == gone.lower.driver)
-}
-
-// Whether nothing went, or one of the links that are left is between the same two drivers as what went.
-fn leads_alike(links: &[Link], gone: Option<Link>) -> bool
-    ensures { result ≡ option_map_or (λ l. list_any (is_twin l) links.now) gone true }
-{
-    match gone {
-        Some(gone) => has_twin(links, gone),
-        None => true,
-    }
-}
-
 // Takes out the links with these ids. True where each left one behind that is between the same two drivers.
-pub fn take_each(links: &mut Vec<Link>, ids: &mut Ids, gone: &[u32]) -> bool
+pub fn take_each(
+    links: &mut Vec<Link>,
+    ids: &mut Ids,
+    pairs: &mut [Count],
+    drivers: usize,
+    gone: &[u32],
+) -> bool
     requires sound { AreLinksSound links.old.items }
     requires rise { IsRising (λ l k. nat_lt l.id k.id) links.old.items }
     requires ids { HasIds ids.old.entries links.old.items }
+    requires few { drivers ≤ 64 }
+    requires within { All (IsWithin drivers) links.old.items }
+    requires pairs { AreCounts drivers links.old.items pairs.old }
     ensures rest { links.new.items ≡ filter (λ l. not (is_one_of gone.now l)) links.old.items }
     ensures ids { HasIds ids.new.entries links.new.items }
+    ensures pairs { AreCounts drivers links.new.items pairs.new }
     ensures same { result ≡ true → LeadAlike links.old.items links.new.items }
 {
     fewer_links_stay_sound();
@@ -139,8 +132,10 @@ pub fn take_each(links: &mut Vec<Link>, ids: &mut Ids, gone: &[u32]) -> bool
     paths_join();
     let mut same = true;
     for id in gone {
-        let link = take(links, ids, *id);
-        same = same && leads_alike(links, link);
+        if let Some(link) = take(links, ids, *id) {
+            let left = uncount(pairs, drivers, link);
+            same = same && left;
+        }
     }
     same
 }

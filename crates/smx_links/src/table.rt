@@ -10,8 +10,9 @@ ghost use Rattle.smx_links.specs.LinkLists.{IsLinkList, IsLinked, is_upper, refu
 ghost use Rattle.smx_links.specs.LinkLists.{with_link, without_id, without_ids};
 
 use crate::fault::LinkFault;
-use crate::links::{Ids, above, get, has_twin, is_below, put, take, take_each};
+use crate::links::{Ids, above, get, is_below, put, take, take_each};
 use crate::masks::{Word, has_any_bit, has_bit, join, renew};
+use crate::pairs::{Count, count, uncount};
 use smx_model::laws_of_links::{
     fewer_links_stay_sound, linking_keeps_soundness, linking_takes_the_next_id, no_links_are_sound,
     one_link_more_joins, paths_join,
@@ -28,6 +29,8 @@ pub struct LinkTable {
     // By rising id.
     links: Vec<Link>,
     ids: Ids,
+    // A row for each upper driver, with an entry for each lower one.
+    pairs: Vec<Count>,
     next_id: u32,
 }
 
@@ -54,6 +57,7 @@ impl LinkTable {
             masks: vec![in alloc; 0; drivers]?,
             links: Vec::new(alloc),
             ids: Ids::new(alloc),
+            pairs: vec![in alloc; 0; drivers * drivers]?,
             next_id: 1,
         })
     }
@@ -89,6 +93,7 @@ impl LinkTable {
             kind,
         };
         put(&mut self.links, &mut self.ids, link)?;
+        count(&mut self.pairs, self.masks.len(), link);
         join(&mut self.masks, ctl.driver, lower.driver);
         self.next_id = id + 1;
         Ok(id)
@@ -133,8 +138,8 @@ impl LinkTable {
         one_link_more_joins();
         paths_join();
         let link = take(&mut self.links, &mut self.ids, id)?;
-        let same = has_twin(&self.links, link);
-        renew(&mut self.masks, &self.links, same);
+        let left = uncount(&mut self.pairs, self.masks.len(), link);
+        renew(&mut self.masks, &self.pairs, left);
         Some(link)
     }
 
@@ -145,8 +150,15 @@ impl LinkTable {
         ensures drivers { self.new.drivers ≡ self.old.drivers }
     {
         fewer_links_stay_sound();
-        let same = take_each(&mut self.links, &mut self.ids, ids);
-        renew(&mut self.masks, &self.links, same);
+        let drivers = self.masks.len();
+        let same = take_each(
+            &mut self.links,
+            &mut self.ids,
+            &mut self.pairs,
+            drivers,
+            ids,
+        );
+        renew(&mut self.masks, &self.pairs, same);
     }
 
     /// The link with the id. A look at the place where it stands if no link has gone, or else a binary search.
@@ -235,6 +247,7 @@ impl LinkTable {
             masks: self.masks.clone()?,
             links: self.links.clone()?,
             ids: self.ids.clone()?,
+            pairs: self.pairs.clone()?,
             next_id: self.next_id,
         })
     }
