@@ -1,6 +1,6 @@
 -- How many links are between two drivers, with one more and with one less.
-use Rattle.std.proofs.Common.{◌≡◌, ℕ, ◌+◌, ◌-◌, ◌*◌, ◌<◌, ◌≤◌, ◌≢◌, Bool, true, false, cond, not, eqb, List, [], ◌∷◌, ◌++◌}
-use Rattle.std.proofs.Common.{length, filter, find, get_or, set, Option, Some, refl, sym, ◌∙◌, arith, inl, inr}
+use Rattle.std.proofs.Common.{◌≡◌, ℕ, ◌+◌, ◌-◌, ◌*◌, ◌<◌, ◌≤◌, ◌≢◌, Bool, true, false, cond, not, eqb, List, [], ◌∷◌}
+use Rattle.std.proofs.Common.{◌++◌, length, filter, find, get_or, set, Option, Some, refl, sym, ◌∙◌, arith, inl, inr}
 use Rattle.std.specs.Prelude.{nat_lt}
 use Rattle.std.proofs.lemmas.Bool.{cases_Bool, and_parts, eq-eqb, eqb-true, false≢true}
 use Rattle.std.proofs.lemmas.List.{get_or-set_same, get_or-set_other, length-set}
@@ -8,7 +8,8 @@ use Rattle.std.proofs.lemmas.Nat.{mul-add-lt, same_from_place}
 use Rattle.smx_types.specs.declared.link.Link.{Link}
 use Rattle.smx_model.specs.Ordered.{IsRising}
 use Rattle.smx_links.specs.Masks.{IsWithin}
-use Rattle.smx_links.specs.Pairs.{AreCounts, count_between, entry_of, is_between, place_of, with_one_less, with_one_more}
+use Rattle.smx_links.specs.Pairs.{AreCounts, count_between, entry_of, is_between, place_of, with_one_less}
+use Rattle.smx_links.specs.Pairs.{with_one_more}
 use Rattle.smx_links.proofs.IdLemmas.{later_stay}
 
 -- the entry of the two drivers of a link is how many links are between them
@@ -21,7 +22,7 @@ pub between_own : (l : Link) → is_between l.ctl.driver l.lower.driver l ≡ tr
 between_own l = rw (eq-eqb l.ctl.driver l.ctl.driver refl, eq-eqb l.lower.driver l.lower.driver refl) refl
 
 -- how many there are with one in front
-pub count_front : (l : Link) (ls : List Link) (u k : ℕ)
+count_front : (l : Link) (ls : List Link) (u k : ℕ)
     → count_between (l ∷ ls) u k ≡ cond (is_between u k l) 1 0 + count_between ls u k
 count_front l ls u k = elim (cases_Bool (is_between u k l)) [
   | inl t ↦ rw t (omega arith)
@@ -88,7 +89,7 @@ count_few ls u k = fewer (is_between u k) ls
 -- one link less
 
 -- how many there were before the link that was found by its id went
-pub count_less : (ls : List Link) (l : Link) (id u k : ℕ) → IsRising (λ l k. nat_lt l.id k.id) ls
+count_less : (ls : List Link) (l : Link) (id u k : ℕ) → IsRising (λ l k. nat_lt l.id k.id) ls
     → find (λ l. eqb l.id id) ls ≡ Some l
     → count_between ls u k ≡ cond (is_between u k l) 1 0 + count_between (filter (λ l. not (eqb l.id id)) ls) u k
 count_less [] l id u k rise h = absurd cc

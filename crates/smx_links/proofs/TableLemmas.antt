@@ -57,8 +57,8 @@ is_free t ctl lower h =
 -- one link more
 
 -- the fields of a table with one link more
-pub parts_push : Joins → (ws vs : List ℕ) (ls : List Link) (es fs : List (Lower × ℕ)) (ps : List ℕ) (n : ℕ) (ctl lower : StreamId)
-    (kind : LinkKind) → AreParts ws ls es ps n → IsFree (list_of_parts ws ls n) ctl lower
+pub parts_push : Joins → (ws vs : List ℕ) (ls : List Link) (es fs : List (Lower × ℕ)) (ps : List ℕ) (n : ℕ)
+    (ctl lower : StreamId) (kind : LinkKind) → AreParts ws ls es ps n → IsFree (list_of_parts ws ls n) ctl lower
     → ctl.driver < length ws → lower.driver < length ws
     → AreLinksSound (ls ++ record { id = n; ctl = ctl; lower = lower; kind = kind } ∷ [])
     → AreIdsRising (ls ++ record { id = n; ctl = ctl; lower = lower; kind = kind } ∷ []) (n + 1)

@@ -51,7 +51,7 @@ counted_leads (k ∷ ks) u l h = elim (cases_Bool (is_between u l k)) [
 ]
 
 -- what is left leads alike where one between the same drivers is left
-pub twin_stays : Joins → PathsJoin → (ls ks : List Link) (l : Link) (id : ℕ) → IsRising (λ l k. nat_lt l.id k.id) ls
+twin_stays : Joins → PathsJoin → (ls ks : List Link) (l : Link) (id : ℕ) → IsRising (λ l k. nat_lt l.id k.id) ls
     → find (λ l. eqb l.id id) ls ≡ Some l → ks ≡ filter (λ l. not (eqb l.id id)) ls
     → 0 < count_between ks l.ctl.driver l.lower.driver → LeadAlike ls ks
 twin_stays joins trans ls ks l id rise found rest twin a b =
