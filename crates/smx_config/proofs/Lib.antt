@@ -35,7 +35,7 @@ pub mod PerformLemmas
 pub mod VerdictLemmas
 pub mod WalkLemmas
 pub mod KeptLemmas
-pub mod FeederLemmas
+pub mod RunMarkLemmas
 pub mod WakeLemmas
 pub mod WokenLemmas
 pub mod NextMoveLemmas

@@ -1,6 +1,6 @@
 -- The least place with a run mark, and what is left of the marks where it can't be moved from.
-use Rattle.std.proofs.Common.{◌≡◌, ℕ, zero, suc, ◌≤◌, Bool, true, false, cond, List, [], ◌∷◌, find, Option, Some, None, refl, sym, ap, ◌∙◌, subst, arith, inl, inr}
-use Rattle.std.specs.Prelude.{◌⊎◌, IfNone}
+use Rattle.std.proofs.Common.{◌≡◌, ℕ, zero, suc, ◌≤◌, Bool, true, false, ◌&&◌, cond, List, [], ◌∷◌, find, Option, Some, None, refl, sym, ap, ◌∙◌, subst, arith, inl, inr}
+use Rattle.std.specs.Prelude.{◌≢◌, ◌⊎◌, IfNone}
 use Rattle.std.specs.List.{AllByRecursion, list_any}
 use Rattle.std.specs.Option.{is_some, option_map}
 use Rattle.std.proofs.lemmas.Bool.{cases_Bool, false≢true}
@@ -16,9 +16,10 @@ use Rattle.smx_model.specs.RunMarks.{all_but, is_held_up, is_next_of_first, is_o
 use Rattle.smx_model.specs.Settling.{◌>>=◌, IsSettled, is_movable, least_movable, next_open_place, next_place}
 use Rattle.smx_model.specs.SettlingByMarks.{HasItsMarks, IsAtRest, IsCleared, IsLeastMarked}
 use Rattle.smx_queues.specs.PlaceMarks.{MarkList, has_mark}
+use Rattle.smx_queues.specs.PlaceTargets.{TargetList, target_of}
 use Rattle.smx_config.specs.declared.marks.Marks.{Marks}
 use Rattle.smx_config.specs.declared.settling.Move.{Move}
-use Rattle.smx_config.specs.Marking.{AreMarks, marked_configuration}
+use Rattle.smx_config.specs.Marking.{AreMarks, IsNotedFor, marked_configuration}
 use Rattle.smx_config.specs.Moves.{IsLeastMove, if_open}
 use Rattle.smx_config.proofs.DriverListLemmas.{minors_within}
 use Rattle.smx_config.proofs.PlaceLemmas.{place_is}
@@ -58,6 +59,17 @@ not_open c q next is e = by (is_full c q) (subst (λ (o : Option Place). if_open
   by true h = refl
   by false h = absurd cc
 
+-- a place from which a message goes next has one
+pub next_has_message : (drivers : List DriverSpec) (c : Configuration) (p q : Place) → next_of_first drivers c p ≡ Some q → first_message c.flow p ≢ None
+next_has_message drivers c p q e none = nowhere (sym (ap (next_of drivers c p) none) ∙ e) where
+  nowhere : ◌≡◌ {A = Option Place} None (Some q) → ⊥
+  nowhere k = cc
+
+pub open_has_message : (drivers : List DriverSpec) (c : Configuration) (p q : Place) → next_open_place drivers c p ≡ Some q → first_message c.flow p ≢ None
+open_has_message drivers c p q e none = nowhere (sym (open_of_next drivers c p ∙ ap (λ (o : Option Message). if_open c (next_of drivers c p o)) none) ∙ e) where
+  nowhere : ◌≡◌ {A = Option Place} None (Some q) → ⊥
+  nowhere k = cc
+
 -- ---- a run mark is cleared
 
 next_is : (o : Option Place) (q : Place) → is_one_of (λ x. same_place x q) o ≡ true → o ≡ Some q
@@ -78,37 +90,96 @@ is_cleared drivers c p next old new least is stays gone kept there = record {
   ];
 }
 
+-- what waits is noted
+pub record IsNoted (drivers : List DriverSpec) (c : Configuration) (old new : Marks) : Type 0 where
+  pub held_up : (p q : Place) → has_mark new.run p ≡ false → next_of_first drivers c p ≡ Some q → IsNotedFor new p q
+  pub same_drivers : new.waits.drivers ≡ old.waits.drivers
+  pub same_targets : new.targets.drivers ≡ old.targets.drivers
+
+still_run : (old new : MarkList) (p q : Place) → ((r : Place) → has_mark new r ≡ all_but (has_mark old) p r) → same_place p q ≡ false → has_mark new q ≡ false → has_mark old q ≡ false
+still_run old new p q gone other clear = elim (cases_Bool (has_mark old q)) [
+  | inl t ↦ absurd (false≢true (sym clear ∙ (gone q ∙ rw t (rw other refl))))
+  | inr f ↦ f
+]
+
+-- the place whose mark is cleared is noted, and the others are as before
+pub noted : (drivers : List DriverSpec) (c : Configuration) (p : Place) (next : Option Place) (old new : Marks) → AreMarks drivers c old → next ≡ next_of_first drivers c p → ((q : Place) → has_mark new.run q ≡ all_but (has_mark old.run) p q)
+    → ((q : Place) → next ≡ Some q → IsNotedFor new p q) → ((q : Place) → same_place p q ≡ false → (has_mark new.waits q ≡ has_mark old.waits q) × (target_of new.targets q ≡ target_of old.targets q))
+    → (new.waits.drivers ≡ old.waits.drivers) × (new.targets.drivers ≡ old.targets.drivers) → IsNoted drivers c old new
+noted drivers c p next old new h is gone there others same = record {
+  held_up = λ r q clear e. elim (cases_Bool (same_place p r)) [
+    | inl here ↦ let k = place_is p r here in subst (λ (x : Place). IsNotedFor new x q) k (there q (is ∙ subst (λ (x : Place). next_of_first drivers c x ≡ Some q) (sym k) e))
+    | inr other ↦ let was = h.held_up r q (still_run old.run new.run p r gone other clear) e in let now = others r other in (now.0 ∙ was.0, now.1 ∙ was.1)
+  ];
+  same_drivers = same.0;
+  same_targets = same.1;
+}
+
 -- what is left of the marks
 pub cleared_marks : (drivers : List DriverSpec) (c : Configuration) (next : Option Place) (old new : Marks) → AreMarks drivers c old → HasItsMarks drivers (marked_configuration c new) → if_open c next ≡ None
-    → ((q : Place) → has_mark new.wanted q ≡ true → (has_mark old.wanted q ≡ true) ⊎ (next ≡ Some q)) → new.run.drivers ≡ old.run.drivers → new.wanted.drivers ≡ old.wanted.drivers → AreMarks drivers c new
-cleared_marks drivers c next old new h waiting stays few run wanted = record {
+    → ((q : Place) → has_mark new.wanted q ≡ true → (has_mark old.wanted q ≡ true) ⊎ (next ≡ Some q)) → new.run.drivers ≡ old.run.drivers → new.wanted.drivers ≡ old.wanted.drivers → IsNoted drivers c old new → AreMarks drivers c new
+cleared_marks drivers c next old new h waiting stays few run wanted noted = record {
   few = h.few;
   run = run ∙ h.run;
   wanted = wanted ∙ h.wanted;
   waiting = waiting;
   full = λ q w. elim (few q w) [ inl before ↦ h.full q before | inr here ↦ not_open c q next here stays ];
+  waits = noted.same_drivers ∙ h.waits;
+  targets = noted.same_targets ∙ h.targets;
+  held_up = noted.held_up;
 }
 
 -- a place without messages waits, so its mark may go
 pub emptied_marks : (drivers : List DriverSpec) (c : Configuration) (p : Place) (old new : Marks) → first_message c.flow p ≡ None → AreMarks drivers c old → ((q : Place) → has_mark new.run q ≡ all_but (has_mark old.run) p q)
-    → new.run.drivers ≡ old.run.drivers → new.wanted ≡ old.wanted → AreMarks drivers c new
-emptied_marks drivers c p old new none h gone run wanted = record {
+    → new.run.drivers ≡ old.run.drivers → new.wanted ≡ old.wanted → new.waits ≡ old.waits → new.targets ≡ old.targets → AreMarks drivers c new
+emptied_marks drivers c p old new none h gone run wanted waits targets = record {
   few = h.few;
   run = run ∙ h.run;
   wanted = ap (λ (m : MarkList). m.drivers) wanted ∙ h.wanted;
   waiting = λ q clear. elim (cases_Bool (same_place p q)) [
     | inl here ↦ ap (λ (o : Option Place). is_held_up c (has_mark new.wanted) o) (nowhere_next q here)
-    | inr other ↦ rw wanted (h.waiting q (still q other (sym (gone q) ∙ clear)))
+    | inr other ↦ rw wanted (h.waiting q (still_run old.run new.run p q gone other clear))
   ];
   full = λ q w. h.full q (subst (λ (m : MarkList). has_mark m q ≡ true) wanted w);
+  waits = ap (λ (m : MarkList). m.drivers) waits ∙ h.waits;
+  targets = ap (λ (t : TargetList). t.drivers) targets ∙ h.targets;
+  held_up = λ r q clear e. elim (cases_Bool (same_place p r)) [
+    | inl here ↦ absurd (no_place q (sym (nowhere_next r here) ∙ e))
+    | inr other ↦ let was = h.held_up r q (still_run old.run new.run p r gone other clear) e in (subst (λ (m : MarkList). has_mark m r ≡ true) (sym waits) was.0, subst (λ (t : TargetList). target_of t r ≡ Some q) (sym targets) was.1)
+  ];
 } where
+  no_place : (q : Place) → ◌≡◌ {A = Option Place} None (Some q) → ⊥
+  no_place q k = cc
+
   nowhere_next : (q : Place) → same_place p q ≡ true → next_of_first drivers c q ≡ None
   nowhere_next q here = ap (next_of drivers c q) (subst (λ (x : Place). first_message c.flow x ≡ None) (place_is p q here) none)
 
-  still : (q : Place) → same_place p q ≡ false → all_but (has_mark old.run) p q ≡ false → has_mark old.run q ≡ false
-  still q other e = elim (cases_Bool (has_mark old.run q)) [
-    | inl t ↦ absurd (false≢true (sym e ∙ rw t (rw other refl)))
-    | inr f ↦ f
+-- a place with a run mark, or without messages, need not be noted
+pub forgotten : (drivers : List DriverSpec) (c : Configuration) (p : Place) (old new : Marks) → AreMarks drivers c old → (has_mark old.run p ≡ true) ⊎ (first_message c.flow p ≡ None) → new.run ≡ old.run → new.wanted ≡ old.wanted
+    → ((q : Place) → has_mark new.waits q ≡ all_but (has_mark old.waits) p q) → new.waits.drivers ≡ old.waits.drivers → new.targets ≡ old.targets → AreMarks drivers c new
+forgotten drivers c p old new h here run wanted gone same targets = record {
+  few = h.few;
+  run = ap (λ (m : MarkList). m.drivers) run ∙ h.run;
+  wanted = ap (λ (m : MarkList). m.drivers) wanted ∙ h.wanted;
+  waits = same ∙ h.waits;
+  targets = ap (λ (t : TargetList). t.drivers) targets ∙ h.targets;
+  waiting = λ q clear. rw wanted (h.waiting q (subst (λ (m : MarkList). has_mark m q ≡ false) run clear));
+  full = λ q w. h.full q (subst (λ (m : MarkList). has_mark m q ≡ true) wanted w);
+  held_up = λ r q clear e. elim (cases_Bool (same_place p r)) [
+    | inl y ↦ absurd (not_it r q (place_is p r y) (subst (λ (m : MarkList). has_mark m r ≡ false) run clear) e)
+    | inr other ↦ let was = h.held_up r q (subst (λ (m : MarkList). has_mark m r ≡ false) run clear) e in (gone r ∙ rw other (and_true was.0), subst (λ (t : TargetList). target_of t r ≡ Some q) (sym targets) was.1)
+  ];
+} where
+  and_true : {a : Bool} → a ≡ true → (a && true) ≡ true
+  and_true e = rw e refl
+
+  no_place : (q : Place) → ◌≡◌ {A = Option Place} None (Some q) → ⊥
+  no_place q k = cc
+
+  not_it : (r q : Place) → p ≡ r → has_mark old.run r ≡ false → next_of_first drivers c r ≡ Some q → ⊥
+  not_it r q k clear e = elim here [
+    | inl marked ↦ false≢true (sym clear ∙ subst (λ (x : Place). has_mark old.run x ≡ true) k marked)
+    | inr none ↦ no_place q (sym (ap (next_of drivers c r) (subst (λ (x : Place). first_message c.flow x ≡ None) k none)) ∙ e)
   ]
 
 -- ---- the place that is waited for
@@ -132,9 +203,9 @@ few_of (d ∷ ds) h zero = h.0
 few_of (d ∷ ds) h (suc n) = few_of ds h.1 n
 
 -- no marks beside the empty configuration
-pub marks_at_first : (drivers given : List DriverSpec) (c : Configuration) (m : Marks) → given ≡ drivers → IsDriverList drivers → c ≡ empty → m.run.drivers ≡ drivers → m.wanted.drivers ≡ drivers → m.run.marked ≡ [] → m.wanted.marked ≡ []
+pub marks_at_first : (drivers given : List DriverSpec) (c : Configuration) (m : Marks) → given ≡ drivers → IsDriverList drivers → c ≡ empty → m.run.drivers ≡ drivers → m.wanted.drivers ≡ drivers → (m.waits.drivers ≡ drivers) × (m.targets.drivers ≡ drivers) → m.run.marked ≡ [] → m.wanted.marked ≡ []
     → IsAtRest drivers (record { configuration = empty; run = nowhere; wanted = nowhere }) → AreMarks given c m × IsAtRest given (marked_configuration c m)
-marks_at_first drivers given c m same can none run wanted no_run no_wanted rest =
+marks_at_first drivers given c m same can none run wanted waits no_run no_wanted rest =
     let at_rest = none_marked in
     let here : AreMarks drivers c m = record {
       few = few_of drivers (minors_within drivers can);
@@ -142,6 +213,9 @@ marks_at_first drivers given c m same can none run wanted no_run no_wanted rest 
       wanted = wanted;
       waiting = at_rest.marks;
       full = λ p h. absurd (false≢true (sym (ap (list_any (same_place p)) no_wanted) ∙ h));
+      waits = waits.0;
+      targets = waits.1;
+      held_up = λ p q clear e. absurd (nothing p q (subst (λ (x : Configuration). next_of_first drivers x p ≡ Some q) none e));
     } in
     subst (λ (ds : List DriverSpec). AreMarks ds c m × IsAtRest ds (marked_configuration c m)) (sym same) (here, at_rest) where
       rested : (xs ys : List Place) → xs ≡ [] → ys ≡ [] → IsAtRest drivers (record { configuration = c; run = λ p. list_any (same_place p) xs; wanted = λ p. list_any (same_place p) ys })
@@ -150,6 +224,9 @@ marks_at_first drivers given c m same can none run wanted no_run no_wanted rest 
           subst (λ (x : Configuration). IsAtRest drivers (record { configuration = x; run = nowhere; wanted = nowhere })) (sym none) rest in
           subst (λ (zs : List Place). IsAtRest drivers (record { configuration = c; run = λ p. list_any (same_place p) zs; wanted = λ p. list_any (same_place p) ys })) (sym e)
           (subst (λ (zs : List Place). IsAtRest drivers (record { configuration = c; run = λ p. list_any (same_place p) []; wanted = λ p. list_any (same_place p) zs })) (sym f) now)
+
+      nothing : (p q : Place) → ◌≡◌ {A = Option Place} None (Some q) → ⊥
+      nothing p q k = cc
 
       none_marked : IsAtRest drivers (marked_configuration c m)
       none_marked = rested m.run.marked m.wanted.marked no_run no_wanted

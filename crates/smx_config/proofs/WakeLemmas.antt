@@ -1,6 +1,6 @@
 -- Full places that are wanted no more, and what a change keeps of the marks.
-use Rattle.std.proofs.Common.{◌≡◌, Bool, true, false, ◌&&◌, ◌||◌, not, List, [], ◌∷◌, None, refl, sym, ap, ◌∙◌, subst, inl, inr}
-use Rattle.std.specs.Prelude.{◌≢◌}
+use Rattle.std.proofs.Common.{◌≡◌, Bool, true, false, ◌&&◌, ◌||◌, not, List, [], ◌∷◌, Option, None, Some, refl, sym, ap, ◌∙◌, subst, inl, inr}
+use Rattle.std.specs.Prelude.{◌≢◌, ◌⊎◌}
 use Rattle.std.specs.List.{list_any}
 use Rattle.std.proofs.lemmas.Bool.{and_from, and_parts, cases_Bool, false≢true}
 use Rattle.smx_types.specs.declared.driver.DriverSpec.{DriverSpec}
@@ -8,26 +8,35 @@ use Rattle.smx_types.specs.declared.stream.Place.{Place}
 use Rattle.smx_model.specs.Configuration.{Configuration, same_place}
 use Rattle.smx_model.specs.FreedPlaces.{FreesOnly}
 use Rattle.smx_model.specs.KnownStreams.{IsKnown}
-use Rattle.smx_model.specs.NearMarks.{IsMarkedNear}
 use Rattle.smx_model.specs.Queues.{first_message, is_full}
-use Rattle.smx_model.specs.RunMarks.{all_but, can_feed, nowhere}
+use Rattle.smx_model.specs.RunMarks.{TurnsOnly, all_but, feeds, is_freed, is_one_of, next_of, next_of_first, nowhere}
+use Rattle.smx_model.specs.SettlingByMarks.{IsMarkedAfter}
 use Rattle.smx_queues.specs.PlaceMarks.{MarkList, has_mark}
-use Rattle.smx_config.specs.Marking.{AreMarks, IsMarkedWhere, IsReleased, IsWoken, marked_configuration}
+use Rattle.smx_queues.specs.PlaceTargets.{TargetList, target_of}
+use Rattle.smx_config.specs.Marking.{AreMarks, AreWaitersMarked, IsMarkedWhere, IsNotedFor, IsReleased, IsWoken, marked_configuration}
 use Rattle.smx_config.specs.declared.marks.Marks.{Marks}
 use Rattle.smx_config.specs.Wakes.{everywhere}
-use Rattle.smx_config.proofs.PlaceLemmas.{place_is}
+use Rattle.smx_config.proofs.NextMoveLemmas.{next_has_message}
+use Rattle.smx_config.proofs.PlaceLemmas.{place_is, place_self}
 
 never : {A : Type 0} (b : Bool) → b ≡ true → b ≡ false → A
 never b t f = absurd (false≢true (sym f ∙ t))
+
+-- what is noted is noted still
+noted_still : (old new : Marks) (p q : Place) → new.waits ≡ old.waits → new.targets ≡ old.targets → IsNotedFor old p q → IsNotedFor new p q
+noted_still old new p q waits targets noted = (
+  subst (λ (m : MarkList). has_mark m p ≡ true) (sym waits) noted.0,
+  subst (λ (t : TargetList). target_of t p ≡ Some q) (sym targets) noted.1,
+)
 
 -- ---- one place
 
 -- it is wanted no more, and what can feed it is marked
 pub released_one : (c : Configuration) (place : Place) (old new : Marks) → is_full c place ≡ false → ((q : Place) → has_mark new.wanted q ≡ all_but (has_mark old.wanted) place q) → new.wanted.drivers ≡ old.wanted.drivers
-    → IsMarkedWhere c.flow (can_feed c place) old.run new.run → IsReleased c (same_place place) old new
-released_one c place old new vacant gone same h = record {
+    → new.waits ≡ old.waits → new.targets ≡ old.targets → AreWaitersMarked old.waits old.targets place old.run new.run → IsReleased c (same_place place) old new
+released_one c place old new vacant gone same waits targets h = record {
   kept = h.kept;
-  feeders = λ q p f nf w known some feeds. h.marked p known some (subst (λ (x : Place). can_feed c x p ≡ true) (sym (place_is place q f)) feeds);
+  waiters = λ q p f nf w known noted. h.marked p known noted.0 (noted.1 ∙ ap (λ (x : Place). Some x) (sym (place_is place q f)));
   wanted = λ q w full. gone q ∙ and_from _ _ w (elim (cases_Bool (same_place place q)) [
     | inl t ↦ never (is_full c q) full (ap (is_full c) (sym (place_is place q t)) ∙ vacant)
     | inr f ↦ ap not f
@@ -35,21 +44,25 @@ released_one c place old new vacant gone same h = record {
   gone = λ q f w. never (not (same_place place q)) (and_parts (has_mark old.wanted q) _ (sym (gone q) ∙ w)).1 (ap not f);
   left = λ q f w. gone q ∙ and_from _ _ w (ap not f);
   fewer = λ q w. (and_parts (has_mark old.wanted q) _ (sym (gone q) ∙ w)).0;
-  run_drivers = h.drivers;
+  run_drivers = h.same_drivers;
   wanted_drivers = same;
+  waits = waits;
+  targets = targets;
 }
 
 -- it is full, or it wasn't wanted
 pub released_none : (c : Configuration) (freed : Place → Bool) (m : Marks) → ((q : Place) → freed q ≡ true → has_mark m.wanted q ≡ true → is_full c q ≡ true) → IsReleased c freed m m
 released_none c freed m full = record {
   kept = λ p h. h;
-  feeders = λ q p f nf w known some feeds. never (is_full c q) (full q f w) nf;
+  waiters = λ q p f nf w known noted. never (is_full c q) (full q f w) nf;
   wanted = λ q w f. w;
   gone = full;
   left = λ q f w. w;
   fewer = λ q w. w;
   run_drivers = refl;
   wanted_drivers = refl;
+  waits = refl;
+  targets = refl;
 }
 
 pub not_released : (c : Configuration) (place : Place) (m : Marks) → (has_mark m.wanted place ≡ true → is_full c place ≡ true) → IsReleased c (same_place place) m m
@@ -70,12 +83,12 @@ released_at_first c m = released_none c (unwanted m) m (λ q f w. never (unwante
 pub released_more : (c : Configuration) (place : Place) (old mid new : Marks) → IsReleased c (unwanted mid) old mid → IsReleased c (same_place place) mid new → IsReleased c (unwanted new) old new
 released_more c place old mid new a b = record {
   kept = λ p h. b.kept p (a.kept p h);
-  feeders = λ q p f nf w known some feeds. elim (cases_Bool (has_mark mid.wanted q)) [
+  waiters = λ q p f nf w known noted. elim (cases_Bool (has_mark mid.wanted q)) [
     | inl still ↦ elim (cases_Bool (same_place place q)) [
-      | inl here ↦ b.feeders q p here nf still (subst (λ (ds : List DriverSpec). IsKnown ds p.stream) (sym a.run_drivers) known) some feeds
+      | inl here ↦ b.waiters q p here nf still (subst (λ (ds : List DriverSpec). IsKnown ds p.stream) (sym a.run_drivers) known) (noted_still old mid p q a.waits a.targets noted)
       | inr other ↦ never (unwanted new q) f (ap not (b.left q other still))
     ]
-    | inr none ↦ b.kept p (a.feeders q p (ap not none) nf w known some feeds)
+    | inr none ↦ b.kept p (a.waiters q p (ap not none) nf w known noted)
   ];
   wanted = λ q w full. b.wanted q (a.wanted q w full) full;
   gone = λ q f w. never (unwanted new q) f (ap not w);
@@ -83,14 +96,16 @@ released_more c place old mid new a b = record {
   fewer = λ q w. a.fewer q (b.fewer q w);
   run_drivers = b.run_drivers ∙ a.run_drivers;
   wanted_drivers = b.wanted_drivers ∙ a.wanted_drivers;
+  waits = b.waits ∙ a.waits;
+  targets = b.targets ∙ a.targets;
 }
 
 pub released_all : (c : Configuration) (old new : Marks) → ((p : Place) → has_mark new.wanted p ≡ true → is_full c p ≡ true) → IsReleased c (unwanted new) old new → IsReleased c everywhere old new
 released_all c old new full h = record {
   kept = h.kept;
-  feeders = λ q p f nf w known some feeds. elim (cases_Bool (has_mark new.wanted q)) [
+  waiters = λ q p f nf w known noted. elim (cases_Bool (has_mark new.wanted q)) [
     | inl still ↦ never (is_full c q) (full q still) nf
-    | inr none ↦ h.feeders q p (ap not none) nf w known some feeds
+    | inr none ↦ h.waiters q p (ap not none) nf w known noted
   ];
   wanted = h.wanted;
   gone = λ q f w. full q w;
@@ -98,24 +113,28 @@ released_all c old new full h = record {
   fewer = h.fewer;
   run_drivers = h.run_drivers;
   wanted_drivers = h.wanted_drivers;
+  waits = h.waits;
+  targets = h.targets;
 }
 
 -- ---- and then the turned places
 
 abbrev with_run : Marks → MarkList → Marks
-with_run m run = record { run = run; wanted = m.wanted }
+with_run m run = record { run = run; wanted = m.wanted; waits = m.waits; targets = m.targets }
 
 pub woken : (c : Configuration) (turned freed : Place → Bool) (old mid : Marks) (run : MarkList) → IsReleased c freed old mid → IsMarkedWhere c.flow turned mid.run run → IsWoken c turned freed old (with_run mid run)
 woken c turned freed old mid run a b = record {
   released = record {
     kept = λ p h. b.kept p (a.kept p h);
-    feeders = λ q p f nf w known some feeds. b.kept p (a.feeders q p f nf w known some feeds);
+    waiters = λ q p f nf w known noted. b.kept p (a.waiters q p f nf w known noted);
     wanted = a.wanted;
     gone = a.gone;
     left = a.left;
     fewer = a.fewer;
     run_drivers = b.drivers ∙ a.run_drivers;
     wanted_drivers = a.wanted_drivers;
+    waits = a.waits;
+    targets = a.targets;
   };
   turned_ones = λ p known some t. b.marked p (subst (λ (ds : List DriverSpec). IsKnown ds p.stream) (sym a.run_drivers) known) some t;
 }
@@ -142,18 +161,38 @@ none_open c rest p none h = elim (cases_Bool (is_full c p)) [
 
 -- ---- what a change keeps
 
--- what a change woke is marked near it
-pub marked_near : (drivers : List DriverSpec) (old new : Configuration) (turned freed turned_too freed_too : Place → Bool) (m n : Marks) → AreMarks drivers old m → ((p : Place) → first_message new.flow p ≢ None → IsKnown drivers p.stream)
-    → ((p : Place) → turned p ≡ true → turned_too p ≡ true) → ((p : Place) → freed p ≡ true → freed_too p ≡ true) → IsWoken new turned_too freed_too m n
-    → IsMarkedNear turned freed (can_feed new) (marked_configuration old m) (marked_configuration new n)
-marked_near drivers old new turned freed turned_too freed_too m n marks known turns frees w = record {
-  kept = λ p some h. w.released.kept p h;
-  turned_ones = λ p some t. w.turned_ones p (here p some) some (turns p t);
-  waiting_ones = λ q p f gone wanted some feeds. w.released.feeders q p (frees q f) (not_true (is_full new q) (and_parts (is_full old q) _ gone).1) wanted (here p some) some feeds;
+-- a place that a change didn't turn goes where it went before
+went_there : (drivers : List DriverSpec) (old new : Configuration) (turned : Place → Bool) (p q : Place) → TurnsOnly drivers old new turned → turned p ≡ false → next_of_first drivers new p ≡ Some q → next_of_first drivers old p ≡ Some q
+went_there drivers old new turned p q only f e = elim (only p f) [
+  | inl same ↦ sym same ∙ e
+  | inr none ↦ absurd (nowhere (sym none ∙ e))
+] where
+  nowhere : ◌≡◌ {A = Option Place} None (Some q) → ⊥
+  nowhere k = cc
+
+-- what a change turned and freed is among what was woken
+pub record IsAmong (drivers : List DriverSpec) (old new : Configuration) (turned freed turned_too freed_too : Place → Bool) : Type 0 where
+  pub known : (p : Place) → first_message new.flow p ≢ None → IsKnown drivers p.stream
+  pub turns : (p : Place) → turned p ≡ true → turned_too p ≡ true
+  pub frees : (p : Place) → freed p ≡ true → freed_too p ≡ true
+  pub turns_only : TurnsOnly drivers old new turned
+  pub frees_only : FreesOnly old new freed
+
+-- what a change woke is marked after it
+pub marked_after : (drivers : List DriverSpec) (old new : Configuration) (turned freed turned_too freed_too : Place → Bool) (m n : Marks) → AreMarks drivers old m → IsAmong drivers old new turned freed turned_too freed_too → IsWoken new turned_too freed_too m n
+    → IsMarkedAfter drivers turned (marked_configuration old m) (marked_configuration new n)
+marked_after drivers old new turned freed turned_too freed_too m n marks among w = record {
+  run = λ p some h. elim (cases_Bool (has_mark m.run p)) [
+    | inl before ↦ w.released.kept p before
+    | inr none ↦ elim (cases_Bool (turned p)) [
+      | inl t ↦ w.turned_ones p (here p some) some (among.turns p t)
+      | inr f ↦ let fed : feeds drivers new (λ q. is_freed old new q && has_mark m.wanted q) p ≡ true = rw f at (rw none at h) in waiter p some none f (next_of_first drivers new p) refl fed
+    ]
+  ];
   wanted = λ p h. let b = and_parts (has_mark m.wanted p) _ h in w.released.wanted p b.0 (stays (is_full old p) (is_full new p) (marks.full p b.0) b.1);
 } where
   here : (p : Place) → first_message new.flow p ≢ None → IsKnown m.run.drivers p.stream
-  here p some = subst (λ (ds : List DriverSpec). IsKnown ds p.stream) (sym marks.run) (known p some)
+  here p some = subst (λ (ds : List DriverSpec). IsKnown ds p.stream) (sym marks.run) (among.known p some)
 
   not_true : (b : Bool) → not b ≡ true → b ≡ false
   not_true true h = sym h
@@ -164,6 +203,24 @@ marked_near drivers old new turned freed turned_too freed_too m n marks known tu
   stays true false h k = k
   stays false b h k = absurd (false≢true h)
 
+  waiter : (p : Place) → first_message new.flow p ≢ None → has_mark m.run p ≡ false → turned p ≡ false → (o : Option Place) → next_of_first drivers new p ≡ o → is_one_of (λ q. is_freed old new q && has_mark m.wanted q) o ≡ true → has_mark n.run p ≡ true
+  waiter p some none f None e fed = absurd (false≢true fed)
+  waiter p some none f (Some q) e fed =
+      let gone = and_parts (is_freed old new q) (has_mark m.wanted q) fed in
+      let vacant = not_true (is_full new q) (and_parts (is_full old q) _ gone.0).1 in
+      w.released.waiters q p (among.frees q (among.frees_only q gone.0)) vacant gone.1 (here p some) (marks.held_up p q none (went_there drivers old new turned p q among.turns_only f e))
+
+-- what waits is noted still
+pub held_up_still : (drivers : List DriverSpec) (old new : Configuration) (turned freed turned_too freed_too : Place → Bool) (m n : Marks) → AreMarks drivers old m → IsAmong drivers old new turned freed turned_too freed_too → IsWoken new turned_too freed_too m n
+    → (p q : Place) → has_mark n.run p ≡ false → next_of_first drivers new p ≡ Some q → IsNotedFor n p q
+held_up_still drivers old new turned freed turned_too freed_too m n marks among w p q none e = elim (cases_Bool (has_mark m.run p)) [
+  | inl before ↦ never (has_mark n.run p) (w.released.kept p before) none
+  | inr clear ↦ elim (cases_Bool (turned p)) [
+    | inl t ↦ let some = next_has_message drivers new p q e in never (has_mark n.run p) (w.turned_ones p (subst (λ (ds : List DriverSpec). IsKnown ds p.stream) (sym marks.run) (among.known p some)) some (among.turns p t)) none
+    | inr f ↦ noted_still m n p q w.released.waits w.released.targets (marks.held_up p q clear (went_there drivers old new turned p q among.turns_only f e))
+  ]
+]
+
 -- each wanted place is full again
 pub full_again : (drivers : List DriverSpec) (old new : Configuration) (turned_too freed freed_too : Place → Bool) (m n : Marks) → AreMarks drivers old m → FreesOnly old new freed → ((p : Place) → freed p ≡ true → freed_too p ≡ true)
     → IsWoken new turned_too freed_too m n → (p : Place) → has_mark n.wanted p ≡ true → is_full new p ≡ true
@@ -171,3 +228,57 @@ full_again drivers old new turned_too freed freed_too m n marks only frees w p h
   | inl t ↦ t
   | inr f ↦ w.released.gone p (frees p (only p (and_from _ _ (marks.full p (w.released.fewer p h)) (ap not f)))) h
 ]
+
+-- ---- the waiters of a place, one after another
+
+-- of those that were passed, the ones that wait for the place have a mark
+pub record ArePassed (waits : MarkList) (targets : TargetList) (rest : List Place) (q : Place) (old new : MarkList) : Type 0 where
+  pub kept : (p : Place) → has_mark old p ≡ true → has_mark new p ≡ true
+  pub marked : (p : Place) → IsKnown old.drivers p.stream → has_mark waits p ≡ true → target_of targets p ≡ Some q → (has_mark new p ≡ true) ⊎ (list_any (same_place p) rest ≡ true)
+  pub same_drivers : new.drivers ≡ old.drivers
+
+pub none_passed : (waits : MarkList) (targets : TargetList) (rest : List Place) (q : Place) (m : MarkList) → rest ≡ waits.marked → ArePassed waits targets rest q m m
+none_passed waits targets rest q m is = record { kept = λ p h. h; marked = λ p known w next. inr (rw is w); same_drivers = refl }
+
+later : (place : Place) (now rest : List Place) (p : Place) → now ≡ place ∷ rest → same_place p place ≡ false → list_any (same_place p) now ≡ true → list_any (same_place p) rest ≡ true
+later place now rest p is other h = rw other at (rw is at h)
+
+-- it waits for the place, and was marked
+pub waiter_passed : (waits : MarkList) (targets : TargetList) (now rest : List Place) (place q : Place) (old mid new : MarkList) → now ≡ place ∷ rest → ArePassed waits targets now q old mid
+    → (IsKnown mid.drivers place.stream → has_mark new place ≡ true) → ((p : Place) → has_mark mid p ≡ true → has_mark new p ≡ true) → new.drivers ≡ mid.drivers → ArePassed waits targets rest q old new
+waiter_passed waits targets now rest place q old mid new is a here kept same = record {
+  kept = λ p m. kept p (a.kept p m);
+  marked = λ p known w next. elim (a.marked p known w next) [
+    | inl m ↦ inl (kept p m)
+    | inr h ↦ elim (cases_Bool (same_place p place)) [
+      | inl y ↦ let e = place_is p place y in inl (subst (λ (x : Place). has_mark new x ≡ true) (sym e) (here (subst (λ (x : Place). IsKnown mid.drivers x.stream) e (subst (λ (ds : List DriverSpec). IsKnown ds p.stream) (sym a.same_drivers) known))))
+      | inr n ↦ inr (later place now rest p is n h)
+    ]
+  ];
+  same_drivers = same ∙ a.same_drivers;
+}
+
+-- it doesn't wait for the place
+pub other_passed : (waits : MarkList) (targets : TargetList) (now rest : List Place) (place q : Place) (old mid : MarkList) → now ≡ place ∷ rest → ArePassed waits targets now q old mid
+    → is_one_of (same_place q) (target_of targets place) ≡ false → ArePassed waits targets rest q old mid
+other_passed waits targets now rest place q old mid is a other = record {
+  kept = a.kept;
+  marked = λ p known w next. elim (a.marked p known w next) [
+    | inl m ↦ inl m
+    | inr h ↦ elim (cases_Bool (same_place p place)) [
+      | inl y ↦ let e = place_is p place y in absurd (false≢true (sym other ∙ (ap (is_one_of (same_place q)) (subst (λ (x : Place). target_of targets x ≡ Some q) e next) ∙ place_self q)))
+      | inr n ↦ inr (later place now rest p is n h)
+    ]
+  ];
+  same_drivers = a.same_drivers;
+}
+
+pub all_passed : (waits : MarkList) (targets : TargetList) (rest : List Place) (q : Place) (old new : MarkList) → rest ≡ [] → ArePassed waits targets rest q old new → AreWaitersMarked waits targets q old new
+all_passed waits targets rest q old new none a = record {
+  kept = a.kept;
+  marked = λ p known w next. elim (a.marked p known w next) [
+    | inl m ↦ m
+    | inr h ↦ absurd (false≢true (rw none at h))
+  ];
+  same_drivers = a.same_drivers;
+}

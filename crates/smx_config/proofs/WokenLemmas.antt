@@ -20,8 +20,9 @@ use Rattle.smx_model.specs.FreedPlaces.{freed_by}
 use Rattle.smx_model.specs.Lookups.{free_stream, leaf_stream, mux_stream, stream_of}
 use Rattle.smx_model.specs.Ordered.{with_inserted}
 use Rattle.smx_model.specs.Outcomes.{Outcome, ◌>>=◌, refuse}
+use Rattle.smx_model.specs.Queues.{after_leaving}
 use Rattle.smx_model.specs.Removal.{after_sweep}
-use Rattle.smx_model.specs.RunMarks.{both, is_below_driver}
+use Rattle.smx_model.specs.RunMarks.{TurnsOnly, both, is_below_driver, is_first_at}
 use Rattle.smx_model.specs.Settling.{next_open_place}
 use Rattle.smx_model.specs.SettlingByMarks.{is_first_there, turned_by_move}
 use Rattle.smx_model.specs.Standing.{exists, is_persistent}
@@ -134,11 +135,15 @@ move_turns drivers c from to p e t = by (same_place from p) (subst (λ (o : Opti
   by true h = refl
   by false h = first_part (same_place to p) _ h
 
+-- what a move turns, by where it goes
+pub turned_is : (drivers : List DriverSpec) (c new : Configuration) (from to : Place) → next_open_place drivers c from ≡ Some to → TurnsOnly drivers c new (both (same_place from) (is_first_at (after_leaving drivers c from) to)) → TurnsOnly drivers c new (turned_by_move drivers c from)
+turned_is drivers c new from to e h = subst (λ (o : Option Place). TurnsOnly drivers c new (both (same_place from) (is_first_there drivers c from o))) (sym e) h
+
 -- ---- what holds of an accepted outcome
 
-pub of_two : {X : Type 0} {P Q R : X → Type 0} (r : Result X Fault) → IfOk r P → IfOk r Q → ((x : X) → r ≡ Ok x → P x → Q x → R x) → IfOk r R
-of_two (Ok x) p q f = f x refl p q
-of_two (Err e) p q f = tt
+pub of_three : {X : Type 0} {P Q S R : X → Type 0} (r : Result X Fault) → IfOk r P → IfOk r Q → IfOk r S → ((x : X) → r ≡ Ok x → P x → Q x → S x → R x) → IfOk r R
+of_three (Ok x) p q s f = f x refl p q s
+of_three (Err e) p q s f = tt
 
 pub of_accepted : {X : Type 0} (P : X → Type 0) (r : Result X Fault) (x : X) → r ≡ Ok x → IfOk r P → P x
 of_accepted {X = X} P (Ok y) x e h = subst P (same e) h where

@@ -1,17 +1,16 @@
 -- Run marks and wanted marks beside the lists, and what marks a change puts and takes. No public clause needs this.
-use Rattle.std.specs.Prelude.{◌≡◌, ◌≢◌, ℕ, Bool, true, false, ◌&&◌, ◌==◌, List, None}
-use Rattle.std.specs.List.{list_any}
+use Rattle.std.specs.Prelude.{◌≡◌, ◌≢◌, ℕ, Bool, true, false, ◌&&◌, ◌==◌, List, Option, None, Some}
 use Rattle.smx_types.specs.declared.driver.DriverSpec.{DriverSpec}
-use Rattle.smx_types.specs.declared.link.Link.{Link}
 use Rattle.smx_types.specs.declared.stream.Place.{Place}
 use Rattle.smx_types.specs.declared.stream.Side.TheVariants as side
 use Rattle.smx_types.specs.declared.stream.StreamId.{StreamId}
 use Rattle.smx_model.specs.Configuration.{Configuration, QueuedMessage, same_side, same_stream}
 use Rattle.smx_model.specs.KnownStreams.{IsKnown}
 use Rattle.smx_model.specs.Queues.{first_message, is_full}
-use Rattle.smx_model.specs.RunMarks.{all_but, can_feed, is_below_driver}
+use Rattle.smx_model.specs.RunMarks.{all_but, is_below_driver, next_of_first}
 use Rattle.smx_model.specs.SettlingByMarks.{HasItsMarks, MarkedConfiguration}
 use Rattle.smx_queues.specs.PlaceMarks.{MarkList, has_mark}
+use Rattle.smx_queues.specs.PlaceTargets.{TargetList, target_of}
 use Rattle.smx_config.specs.FewMinors.{HaveFewMinors}
 use Rattle.smx_config.specs.declared.marks.Marks.{Marks}
 
@@ -19,13 +18,21 @@ use Rattle.smx_config.specs.declared.marks.Marks.{Marks}
 abbrev pub marked_configuration : Configuration → Marks → MarkedConfiguration
 marked_configuration c m = record { configuration = c; run = has_mark m.run; wanted = has_mark m.wanted }
 
--- over these drivers, each place without a run mark waits, and a wanted mark stands at full places alone
+-- that the first place waits for the second is noted
+abbrev pub IsNotedFor : Marks → Place → Place → Type 0
+IsNotedFor m p q = (has_mark m.waits p ≡ true) × (target_of m.targets p ≡ Some q)
+
+-- over these drivers, each place without a run mark waits, a wanted mark stands at full places alone, and where there is no
+-- run mark and the first message has a next place, that it waits for that place is noted
 pub record AreMarks (drivers : List DriverSpec) (c : Configuration) (m : Marks) : Type 0 where
   pub few : HaveFewMinors drivers
   pub run : m.run.drivers ≡ drivers
   pub wanted : m.wanted.drivers ≡ drivers
+  pub waits : m.waits.drivers ≡ drivers
+  pub targets : m.targets.drivers ≡ drivers
   pub waiting : HasItsMarks drivers (marked_configuration c m)
   pub full : (p : Place) → has_mark m.wanted p ≡ true → is_full c p ≡ true
+  pub held_up : (p q : Place) → has_mark m.run p ≡ false → next_of_first drivers c p ≡ Some q → IsNotedFor m p q
 
 -- a write side of the driver's streams
 abbrev pub is_write_of : ℕ → Place → Bool
@@ -34,11 +41,6 @@ is_write_of driver p = same_side p.side side.Write && (p.stream.driver == driver
 -- the read side of a stream below a link of the driver
 abbrev pub is_read_below_driver : Configuration → ℕ → Place → Bool
 is_read_below_driver c driver p = same_side p.side side.Read && is_below_driver c driver p.stream
-
--- a write side of a driver that has a link above the stream
-abbrev pub is_write_above : List Link → StreamId → Place → Bool
-is_write_above links s p =
-    same_side p.side side.Write && list_any (λ l. same_stream l.lower s && (l.ctl.driver == p.stream.driver)) links
 
 -- of the places that pass the test, those with a message have a mark, and all that had one
 pub record IsMarkedWhere (flow : List QueuedMessage) (test : Place → Bool) (old new : MarkList) : Type 0 where
@@ -51,17 +53,26 @@ pub record IsWithoutMark (place : Place) (old new : MarkList) : Type 0 where
   pub gone : (q : Place) → has_mark new q ≡ all_but (has_mark old) place q
   pub drivers : new.drivers ≡ old.drivers
 
--- of the freed places those that are wanted and no longer full are wanted no more, and what can feed them has a run mark
+-- of the waiting places those that are noted to wait for this one have a mark, and all that had one
+pub record AreWaitersMarked (waits : MarkList) (targets : TargetList) (q : Place) (old new : MarkList) : Type 0 where
+  pub kept : (p : Place) → has_mark old p ≡ true → has_mark new p ≡ true
+  pub marked : (p : Place) → IsKnown old.drivers p.stream → has_mark waits p ≡ true
+      → target_of targets p ≡ Some q → has_mark new p ≡ true
+  pub same_drivers : new.drivers ≡ old.drivers
+
+-- of the freed places those that are wanted and no longer full are wanted no more, and what waits for them has a run mark
 pub record IsReleased (c : Configuration) (freed : Place → Bool) (old new : Marks) : Type 0 where
   pub kept : (p : Place) → has_mark old.run p ≡ true → has_mark new.run p ≡ true
-  pub feeders : (q p : Place) → freed q ≡ true → is_full c q ≡ false → has_mark old.wanted q ≡ true
-      → IsKnown old.run.drivers p.stream → first_message c.flow p ≢ None → can_feed c q p ≡ true → has_mark new.run p ≡ true
+  pub waiters : (q p : Place) → freed q ≡ true → is_full c q ≡ false → has_mark old.wanted q ≡ true
+      → IsKnown old.run.drivers p.stream → IsNotedFor old p q → has_mark new.run p ≡ true
   pub wanted : (q : Place) → has_mark old.wanted q ≡ true → is_full c q ≡ true → has_mark new.wanted q ≡ true
   pub gone : (q : Place) → freed q ≡ true → has_mark new.wanted q ≡ true → is_full c q ≡ true
   pub left : (q : Place) → freed q ≡ false → has_mark old.wanted q ≡ true → has_mark new.wanted q ≡ true
   pub fewer : (q : Place) → has_mark new.wanted q ≡ true → has_mark old.wanted q ≡ true
   pub run_drivers : new.run.drivers ≡ old.run.drivers
   pub wanted_drivers : new.wanted.drivers ≡ old.wanted.drivers
+  pub waits : new.waits ≡ old.waits
+  pub targets : new.targets ≡ old.targets
 
 -- the same, and the turned places with a message have a run mark
 pub record IsWoken (c : Configuration) (turned freed : Place → Bool) (old new : Marks) : Type 0 where

@@ -14,8 +14,9 @@ ghost use Rattle.smx_config.specs.Wakes.{freed_under, turned_under, wakes_of};
 ghost use Rattle.smx_config.specs.declared.marks.Marks.{Marks};
 
 use smx_model::laws_of_marked_commands::{commands_free_few, commands_keep_marks};
-use smx_model::laws_of_near_marks::feeders_are_enough;
-use smx_model::laws_of_run_marks::{moves_free_one, places_are_known};
+use smx_model::laws_of_run_marks::{
+    commands_turn_few, moves_free_one, moves_turn_two, places_are_known,
+};
 use smx_model::laws_of_settling_by_marks::moves_keep_marks;
 use smx_model::laws_of_steps::{moves_keep_soundness, outcomes_are_sound};
 
@@ -28,12 +29,12 @@ pub fn woken_marks_are_enough()
 {
     commands_free_few();
     commands_keep_marks();
-    feeders_are_enough();
+    commands_turn_few();
     places_are_known();
     outcomes_are_sound();
 }
 
-// After a move it is enough to mark both its ends, and what can feed the place that it takes from, if that is freed.
+// After a move it is enough to mark both its ends, and what waits for the place that it takes from, if that is freed.
 pub fn moved_marks_are_enough()
     ensures { (drivers : List DriverSpec) (c : Configuration) (p q : Place) (old new : Marks) → IsSound drivers c
         → AreMarks drivers c old → next_open_place drivers c p ≡ Some q
@@ -42,7 +43,7 @@ pub fn moved_marks_are_enough()
 {
     moves_free_one();
     moves_keep_marks();
-    feeders_are_enough();
+    moves_turn_two();
     places_are_known();
     moves_keep_soundness();
 }

@@ -1,94 +1,42 @@
 //! Messages that move on.
 
-ghost use Rattle.std.specs.Prelude.{◌≡◌, ◌⊎◌, ◌<◌, true, length, IfNone, None, Some};
+ghost use Rattle.std.specs.Prelude.{◌≡◌, ◌⊎◌, ◌<◌, false, true, length, IfNone, None, Some};
 ghost use Rattle.smx_types.specs.declared.stream.Place.{Place as PlaceValue};
+ghost use Rattle.smx_model.specs.Configuration.{same_place};
 ghost use Rattle.smx_model.specs.KeptConfigurations.{IsSound};
 ghost use Rattle.smx_model.specs.KnownStreams.{IsKnown};
 ghost use Rattle.smx_model.specs.RunMarks.{next_of_first};
-ghost use Rattle.smx_model.specs.Settling.{place_below, place_above, next_place, next_open_place};
+ghost use Rattle.smx_model.specs.Settling.{next_open_place};
 ghost use Rattle.smx_model.specs.Settling.{after_move, after_settling};
 ghost use Rattle.smx_model.specs.SettlingByMarks.{HasNoRunMark, IsLeastMarked};
 ghost use Rattle.smx_queues.specs.PlaceMarks.{has_mark};
+ghost use Rattle.smx_queues.specs.PlaceTargets.{target_of};
 ghost use Rattle.smx_config.specs.ExistingStreams.{TellsExisting};
 ghost use Rattle.smx_config.specs.ModelOfLists.{configuration_of, sizes_of};
 ghost use Rattle.smx_config.specs.Moves.{if_open, IsLeastMove};
 ghost use Rattle.smx_config.specs.KeptHolds.{KeepsHolds};
 ghost use Rattle.smx_config.specs.Marking.{AreMarks};
 
-use crate::driver_specs::is_mux;
-use crate::feeders::mark_left;
 use crate::laws_of_waking::moved_marks_are_enough;
 use crate::lists::Lists;
 use crate::marks::Marks;
+use crate::next_places::next_of_first;
+use crate::run_marks::mark_left;
 use crate::standing::tells_existing;
 use crate::waking::release_if_open;
-use smx_addresses::{Bindings, Routes};
-use smx_links::LinkTable;
 use smx_model::laws_of_run_marks::{
     places_are_known, the_least_marked_is_the_least, without_marks_it_is_settled,
 };
 use smx_model::laws_of_settling_by_marks::clearing_keeps_marks;
 use smx_model::laws_of_steps::{moves_keep_soundness, settling_suffices};
-use smx_queues::PlaceMarks;
-use smx_types::{DriverSpec, Place, Side, StreamId};
+use smx_queues::{PlaceMarks, PlaceTargets};
+use smx_types::{DriverSpec, Place};
 
 // A message goes from one place to another.
 #[derive(Clone, Copy, Debug)]
 pub struct Move {
     pub from: Place,
     pub to: Place,
-}
-
-// The write side of the stream below the link of the driver's route.
-fn down(links: &LinkTable, routes: &Routes, driver: u8, addr: u32) -> Option<Place>
-    ensures { result ≡ place_below links.now.links routes.now driver addr }
-{
-    let route = routes.at(driver, addr)?;
-    let link = links.get(route.id)?;
-    Some(Place {
-        stream: link.lower,
-        side: Side::Write,
-    })
-}
-
-// The read side of the stream that is bound to the address on the upper driver.
-fn up(links: &LinkTable, binds: &Bindings, stream: StreamId, addr: u32) -> Option<Place>
-    ensures { result ≡ place_above links.now.links binds.now stream addr }
-{
-    let link = links.above(stream)?;
-    let binding = binds.at(link.ctl.driver, addr)?;
-    Some(Place {
-        stream: StreamId {
-            driver: binding.driver,
-            minor: binding.minor,
-        },
-        side: Side::Read,
-    })
-}
-
-// The next place of a message of this address.
-fn next_place(drivers: &[DriverSpec], lists: &Lists, place: Place, addr: u32) -> Option<Place>
-    ensures { result ≡ next_place drivers.now (configuration_of lists.now) place addr }
-{
-    let stream = place.stream;
-    match place.side {
-        Side::Write => {
-            if is_mux(drivers, stream.driver as usize) {
-                down(&lists.links, &lists.routes, stream.driver, addr)
-            } else {
-                None
-            }
-        }
-        Side::Read => up(&lists.links, &lists.binds, stream, addr),
-    }
-}
-
-// Where the first message of the place goes next, if there is one, whether that is full or not.
-fn next_of_first(drivers: &[DriverSpec], lists: &Lists, place: Place) -> Option<Place>
-    ensures { result ≡ next_of_first drivers.now (configuration_of lists.now) place }
-{
-    let message = lists.queues.front(place)?;
-    next_place(drivers, lists, place, message.addr)
 }
 
 // The place, unless it is full.
@@ -115,6 +63,28 @@ fn mark_wanted(wanted: &mut PlaceMarks, next: Option<Place>)
     }
 }
 
+// Notes for which place it waits, if its first message has a next place, and else that it doesn't wait.
+fn note_waiting(
+    waits: &mut PlaceMarks,
+    targets: &mut PlaceTargets,
+    from: Place,
+    next: Option<Place>,
+)
+    ensures there { (q : PlaceValue) → next ≡ Some q → IsKnown waits.old.drivers from.stream → has_mark waits.new from ≡ true }
+    ensures target { (q : PlaceValue) → next ≡ Some q → IsKnown targets.old.drivers from.stream → target_of targets.new from ≡ Some q }
+    ensures others { (r : PlaceValue) → same_place from r ≡ false
+        → (has_mark waits.new r ≡ has_mark waits.old r) × (target_of targets.new r ≡ target_of targets.old r) }
+    ensures drivers { (waits.new.drivers ≡ waits.old.drivers) × (targets.new.drivers ≡ targets.old.drivers) }
+{
+    match next {
+        Some(to) => {
+            waits.mark(from);
+            targets.set(from, to);
+        }
+        None => waits.clear(from),
+    }
+}
+
 // The run mark of a place that can't be moved from is cleared, and the full place that it waits for is wanted.
 fn clear_mark(
     drivers: &[DriverSpec],
@@ -135,6 +105,7 @@ fn clear_mark(
     places_are_known();
     clearing_keeps_marks();
     mark_wanted(&mut marks.wanted, next);
+    note_waiting(&mut marks.waits, &mut marks.targets, from, next);
     marks.run.clear(from);
 }
 
@@ -187,10 +158,12 @@ fn move_marked(drivers: &[DriverSpec], lists: &mut Lists, marks: &mut Marks, nex
     ensures drivers { sizes_of lists.new ≡ sizes_of lists.old }
 {
     moved_marks_are_enough();
+    places_are_known();
     move_on(drivers, lists, next);
-    release_if_open(drivers, lists, marks, next.from);
+    release_if_open(lists, marks, next.from);
     marks.run.mark(next.to);
     mark_left(&lists.queues, &mut marks.run, next.from);
+    marks.waits.clear(next.from);
 }
 
 // Moves messages on until none can, and no run mark is left.

@@ -1,10 +1,10 @@
 //! Whether streams, sides and places are the same, and which comes first.
 
 ghost use Rattle.std.specs.Prelude.{◌≡◌};
-ghost use Rattle.smx_model.specs.Configuration.{same_stream, same_side, bind_before};
+ghost use Rattle.smx_model.specs.Configuration.{same_place, same_stream, same_side, bind_before};
 ghost use Rattle.smx_model.specs.Configuration.{route_before};
 
-use smx_types::{Binding, Route, Side, StreamId};
+use smx_types::{Binding, Place, Route, Side, StreamId};
 
 pub fn same_stream(s: StreamId, t: StreamId) -> bool
     ensures { result ≡ same_stream s t }
@@ -25,6 +25,12 @@ pub fn same_side(a: Side, b: Side) -> bool
             Side::Read => true,
         },
     }
+}
+
+pub fn same_place(p: Place, q: Place) -> bool
+    ensures { result ≡ same_place p q }
+{
+    same_stream(p.stream, q.stream) && same_side(p.side, q.side)
 }
 
 pub fn bind_before(b: &Binding, c: &Binding) -> bool

@@ -4,39 +4,60 @@ ghost use Rattle.std.specs.Prelude.{◌≡◌, ◌<◌, false, true, length, IfS
 ghost use Rattle.smx_types.specs.declared.stream.Place.{Place as PlaceValue};
 ghost use Rattle.smx_model.specs.Configuration.{same_place};
 ghost use Rattle.smx_model.specs.Queues.{is_full};
+ghost use Rattle.smx_model.specs.RunMarks.{is_one_of};
 ghost use Rattle.smx_queues.specs.PlaceMarks.{has_mark};
+ghost use Rattle.smx_queues.specs.PlaceTargets.{target_of};
 ghost use Rattle.smx_config.specs.FewMinors.{HaveFewMinors};
-ghost use Rattle.smx_config.specs.Marking.{IsMarkedWhere, IsReleased, IsWoken};
+ghost use Rattle.smx_config.specs.Marking.{AreWaitersMarked, IsMarkedWhere, IsReleased, IsWoken};
 ghost use Rattle.smx_config.specs.ModelOfLists.{configuration_of};
 ghost use Rattle.smx_config.specs.Wakes.{everywhere, freed_under, turned_under};
 
-use crate::feeders::{mark_feeders, mark_reads, mark_waiting, mark_writes};
 use crate::lists::Lists;
 use crate::marks::Marks;
+use crate::run_marks::{mark_reads, mark_waiting, mark_writes};
+use crate::streams::same_place;
 use crate::wakes::Wakes;
-use smx_queues::PlaceMarks;
+use smx_queues::{PlaceMarks, PlaceTargets};
 use smx_types::{DriverSpec, Place};
 
-// The place is wanted no more, and what can feed it has a run mark.
-fn release(drivers: &[DriverSpec], lists: &Lists, marks: &mut Marks, place: Place)
-    requires few { HaveFewMinors drivers.now }
-    requires same { marks.old.run.drivers ≡ drivers.now }
+// Whether the waiter is noted to wait for the place.
+fn waits_for(targets: &PlaceTargets, waiter: Place, place: Place) -> bool
+    ensures { result ≡ is_one_of (same_place place) (target_of targets.now waiter) }
+{
+    match targets.at(waiter) {
+        Some(target) => same_place(place, target),
+        None => false,
+    }
+}
+
+// Marks those of the waiting places that wait for this one.
+fn mark_waiters(waits: &PlaceMarks, targets: &PlaceTargets, run: &mut PlaceMarks, place: Place)
+    ensures { AreWaitersMarked waits.now targets.now place run.old run.new }
+{
+    let mut rest = waits.marked();
+    while let Some(waiter) = rest.next() {
+        if waits_for(targets, waiter, place) {
+            run.mark(waiter);
+        }
+    }
+}
+
+// The place is wanted no more, and what waits for it has a run mark.
+fn release(lists: &Lists, marks: &mut Marks, place: Place)
     requires open { is_full (configuration_of lists.now) place ≡ false }
     ensures released { IsReleased (configuration_of lists.now) (same_place place) marks.old marks.new }
     ensures fewer { has_mark marks.old.wanted place ≡ true → length marks.new.wanted.marked < length marks.old.wanted.marked }
 {
     marks.wanted.clear(place);
-    mark_feeders(drivers, lists, &mut marks.run, place);
+    mark_waiters(&marks.waits, &marks.targets, &mut marks.run, place);
 }
 
 // So it is with the place, if it is wanted and not full.
-pub fn release_if_open(drivers: &[DriverSpec], lists: &Lists, marks: &mut Marks, place: Place)
-    requires few { HaveFewMinors drivers.now }
-    requires same { marks.old.run.drivers ≡ drivers.now }
+pub fn release_if_open(lists: &Lists, marks: &mut Marks, place: Place)
     ensures { IsReleased (configuration_of lists.now) (same_place place) marks.old marks.new }
 {
     if marks.wanted.is_marked(place) && !lists.queues.is_full(place) {
-        release(drivers, lists, marks, place);
+        release(lists, marks, place);
     }
 }
 
@@ -55,24 +76,20 @@ fn first_open(lists: &Lists, wanted: &PlaceMarks) -> Option<Place>
 }
 
 // So it is with each place.
-fn release_all(drivers: &[DriverSpec], lists: &Lists, marks: &mut Marks)
-    requires few { HaveFewMinors drivers.now }
-    requires same { marks.old.run.drivers ≡ drivers.now }
+fn release_all(lists: &Lists, marks: &mut Marks)
     ensures { IsReleased (configuration_of lists.now) everywhere marks.old marks.new }
 {
     while let Some(place) = first_open(lists, &marks.wanted) {
-        release(drivers, lists, marks, place);
+        release(lists, marks, place);
     }
 }
 
-fn release_freed(drivers: &[DriverSpec], lists: &Lists, marks: &mut Marks, wakes: Wakes)
-    requires few { HaveFewMinors drivers.now }
-    requires same { marks.old.run.drivers ≡ drivers.now }
+fn release_freed(lists: &Lists, marks: &mut Marks, wakes: Wakes)
     ensures { IsReleased (configuration_of lists.now) (freed_under wakes) marks.old marks.new }
 {
     match wakes {
-        Wakes::Leaves(place) => release_if_open(drivers, lists, marks, place),
-        Wakes::Frees => release_all(drivers, lists, marks),
+        Wakes::Leaves(place) => release_if_open(lists, marks, place),
+        Wakes::Frees => release_all(lists, marks),
         Wakes::Nothing | Wakes::Turns(_) | Wakes::TurnsWrites(_) | Wakes::TurnsReads(_) => {}
     }
 }
@@ -96,6 +113,6 @@ pub fn wake(drivers: &[DriverSpec], lists: &Lists, marks: &mut Marks, wakes: Wak
     requires same { marks.old.run.drivers ≡ drivers.now }
     ensures { IsWoken (configuration_of lists.now) (turned_under (configuration_of lists.now) wakes) (freed_under wakes) marks.old marks.new }
 {
-    release_freed(drivers, lists, marks, wakes);
+    release_freed(lists, marks, wakes);
     mark_turned(drivers, lists, &mut marks.run, wakes);
 }

@@ -1,9 +1,11 @@
 -- Bits of words, and what one link more joins.
-use Rattle.std.proofs.Common.{◌≡◌, ℕ, zero, suc, ◌<◌, ◌≤◌, ◌^◌, Bool, true, false, ◌&&◌, ◌||◌, eqb, cond, List, length, get_or, max, bit_or, refl, sym, ap, ◌∙◌, arith, inl, inr}
+use Rattle.std.proofs.Common.{◌≡◌, ℕ, zero, suc, ◌<◌, ◌≤◌, ◌^◌, Bool, true, false, ◌&&◌, ◌||◌, eqb, cond, List, length}
+use Rattle.std.proofs.Common.{get_or, max, bit_or, refl, sym, ap, ◌∙◌, arith, inl, inr}
 use Rattle.std.specs.Int.{bit_at}
 use Rattle.std.proofs.lemmas.Bool.{eqb-true, eq-eqb, cases_eq, cases_lt, false_from_ne_true}
 use Rattle.std.proofs.lemmas.List.{get_or_past}
-use Rattle.std.proofs.lemmas.Nat.Bits.{bit_at_or, bit_at-lt, bit_at-pow_same, bit_at-pow_other, bit_at-zero, bit_at_above}
+use Rattle.std.proofs.lemmas.Nat.Bits.{bit_at_or, bit_at-lt, bit_at-pow_same, bit_at-pow_other, bit_at-zero}
+use Rattle.std.proofs.lemmas.Nat.Bits.{bit_at_above}
 use Rattle.smx_links.specs.Masks.{is_set, has_bit, AreJoined}
 
 -- a bit is 0 or 1
@@ -16,15 +18,19 @@ set_max (suc (suc x)) y h k = absurd (omega arith)
 set_max zero (suc (suc y)) h k = absurd (omega arith)
 set_max (suc zero) (suc (suc y)) h k = absurd (omega arith)
 
+-- the bits of both words
 pub is_set_or : (v w b : ℕ) → is_set (bit_or v w) b ≡ (is_set v b || is_set w b)
 is_set_or v w b = rw (bit_at_or v w b) (set_max (bit_at v b) (bit_at w b) (bit_at-lt v b) (bit_at-lt w b))
 
+-- a power of two has one bit
 pub is_set_pow : (k b : ℕ) → is_set (2 ^ k) b ≡ eqb k b
 is_set_pow k b = elim (cases_eq b k) [
   | inl same ↦ rw same (ap (λ x. eqb x 1) (bit_at-pow_same k) ∙ sym (eq-eqb k k refl))
-  | inr other ↦ ap (λ x. eqb x 1) (bit_at-pow_other k b other) ∙ sym (false_from_ne_true (eqb k b) (λ t. other (sym (eqb-true k b t))))
+  | inr other ↦ ap (λ x. eqb x 1) (bit_at-pow_other k b other)
+      ∙ sym (false_from_ne_true (eqb k b) (λ t. other (sym (eqb-true k b t))))
 ]
 
+-- 0 has none
 pub is_set_zero : (b : ℕ) → is_set 0 b ≡ false
 is_set_zero b = ap (λ x. eqb x 1) (bit_at-zero b)
 
@@ -37,13 +43,16 @@ abbrev pub joined_word : List ℕ → ℕ → ℕ → ℕ → ℕ
 joined_word ws u r a = cond (eqb a u || has_bit ws a u) (bit_or (get_or ws a 0) r) (get_or ws a 0)
 
 -- which bits those are
-joined_bits : (c : Bool) (w x k b : ℕ) → is_set (cond c (bit_or w (bit_or x (2 ^ k))) w) b ≡ (is_set w b || (c && (eqb k b || is_set x b)))
-joined_bits true w x k b = is_set_or w (bit_or x (2 ^ k)) b ∙ ap (λ y. is_set w b || y) (is_set_or x (2 ^ k) b ∙ ap (λ y. is_set x b || y) (is_set_pow k b) ∙ or_comm (is_set x b) (eqb k b)) where
-  or_comm : (p q : Bool) → (p || q) ≡ (q || p)
-  or_comm true true = refl
-  or_comm true false = refl
-  or_comm false true = refl
-  or_comm false false = refl
+joined_bits : (c : Bool) (w x k b : ℕ) → is_set (cond c (bit_or w (bit_or x (2 ^ k))) w) b
+    ≡ (is_set w b || (c && (eqb k b || is_set x b)))
+joined_bits true w x k b = is_set_or w (bit_or x (2 ^ k)) b
+    ∙ ap (λ y. is_set w b || y) (is_set_or x (2 ^ k) b ∙ ap (λ y. is_set x b || y) (is_set_pow k b)
+    ∙ or_comm (is_set x b) (eqb k b)) where
+      or_comm : (p q : Bool) → (p || q) ≡ (q || p)
+      or_comm true true = refl
+      or_comm true false = refl
+      or_comm false true = refl
+      or_comm false false = refl
 joined_bits false w x k b = or_false (is_set w b) where
   or_false : (p : Bool) → p ≡ (p || false)
   or_false true = refl
@@ -53,10 +62,13 @@ joined_bits false w x k b = or_false (is_set w b) where
 past_bits : (ws : List ℕ) (a b : ℕ) → length ws ≤ a → has_bit ws a b ≡ false
 past_bits ws a b h = rw (get_or_past ws a 0 h) (is_set_zero b)
 
+-- words that are joined so, each of them, are joined
 pub joined_words : (old new : List ℕ) (u k : ℕ) → u < length old → length new ≡ length old
-    → ((a : ℕ) → a < length old → get_or new a 0 ≡ joined_word old u (bit_or (get_or old k 0) (2 ^ k)) a) → AreJoined old u k new
+    → ((a : ℕ) → a < length old → get_or new a 0 ≡ joined_word old u (bit_or (get_or old k 0) (2 ^ k)) a)
+    → AreJoined old u k new
 joined_words old new u k below long each a b = elim (cases_lt a (length old)) [
-  | inl lt ↦ ap (λ w. is_set w b) (each a lt) ∙ joined_bits (eqb a u || has_bit old a u) (get_or old a 0) (get_or old k 0) k b
+  | inl lt ↦ ap (λ w. is_set w b) (each a lt)
+      ∙ joined_bits (eqb a u || has_bit old a u) (get_or old a 0) (get_or old k 0) k b
   | inr past ↦
       let far : eqb a u ≡ false = false_from_ne_true (eqb a u) (λ t. let e = eqb-true a u t in absurd (omega arith)) in
       let no : (b : ℕ) → has_bit old a b ≡ false = λ b. past_bits old a b past in

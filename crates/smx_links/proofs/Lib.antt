@@ -1,6 +1,9 @@
 pub mod BitLemmas
-pub mod EntryLemmas
+pub mod LowerLemmas
 pub mod MaskLemmas
+pub mod TwinLemmas
+pub mod CountLemmas
+pub mod PairLemmas
 pub mod IdLemmas
 pub mod TableLemmas
 pub mod PlaceLemmas

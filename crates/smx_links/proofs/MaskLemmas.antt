@@ -1,30 +1,40 @@
 -- Masks of links.
-use Rattle.std.proofs.Common.{◌≡◌, ℕ, true, ◌&&◌, ◌||◌, eqb, subst, inl, inr, List, [], ◌∷◌, ◌++◌, map, sym, ◌∙◌, append_assoc}
+use Rattle.std.proofs.Common.{◌≡◌, ℕ, true, ◌&&◌, ◌||◌, eqb, subst, inl, inr, List, [], ◌∷◌, ◌++◌}
+use Rattle.std.proofs.Common.{sym, ◌∙◌}
 use Rattle.std.proofs.lemmas.Bool.{cases_Bool, or_cases, or_left, and_parts, eqb-true, false_from_ne_true, both_ways}
-use Rattle.std.proofs.lemmas.List.{map-append}
 use Rattle.smx_types.specs.declared.link.Link.{Link}
 use Rattle.smx_model.specs.Paths.{reaches}
-use Rattle.smx_links.specs.Masks.{has_bit, AreJoined, AreMasks}
+use Rattle.smx_links.specs.Masks.{AreJoined, AreMasks, LeadAlike}
 
 -- what the laws of paths say
 
+-- one link more joins
 abbrev pub Joins : Type 0
-Joins = (links : List Link) (l : Link) (a b : ℕ) → reaches (links ++ l ∷ []) a b ≡ (reaches links a b || (((eqb a l.ctl.driver) || reaches links a l.ctl.driver) && ((eqb l.lower.driver b) || reaches links l.lower.driver b)))
+Joins = (links : List Link) (l : Link) (a b : ℕ)
+    → reaches (links ++ l ∷ []) a b ≡ (reaches links a b ||
+    (((eqb a l.ctl.driver) || reaches links a l.ctl.driver) &&
+    ((eqb l.lower.driver b) || reaches links l.lower.driver b)))
 
+-- paths join
 abbrev pub PathsJoin : Type 0
-PathsJoin = (links : List Link) (a b c : ℕ) → reaches links a b ≡ true → reaches links b c ≡ true → reaches links a c ≡ true
+PathsJoin = (links : List Link) (a b c : ℕ) → reaches links a b ≡ true → reaches links b c ≡ true
+    → reaches links a c ≡ true
 
--- one link more
-pub masks_push : Joins → (ls : List Link) (l : Link) (old new : List ℕ) → AreMasks ls old → AreJoined old l.ctl.driver l.lower.driver new → AreMasks (ls ++ l ∷ []) new
+-- the masks with one link more
+pub masks_push : Joins → (ls : List Link) (l : Link) (old new : List ℕ) → AreMasks ls old
+    → AreJoined old l.ctl.driver l.lower.driver new → AreMasks (ls ++ l ∷ []) new
 masks_push joins ls l old new m j a b = j a b ∙ rw (m a b, m a l.ctl.driver, m l.lower.driver b) (sym (joins ls l a b))
 
 -- a link along a path that is there leads nowhere new
-known : PathsJoin → (ls : List Link) (l : Link) (a b : ℕ) → reaches ls l.ctl.driver l.lower.driver ≡ true → reaches (l ∷ ls) a b ≡ true → reaches ls a b ≡ true
+known : PathsJoin → (ls : List Link) (l : Link) (a b : ℕ) → reaches ls l.ctl.driver l.lower.driver ≡ true
+    → reaches (l ∷ ls) a b ≡ true → reaches ls a b ≡ true
 known trans ls l a b k h = elim (or_cases (reaches ls a b) _ h) [
   | inl there ↦ there
   | inr over ↦
-      let both = and_parts (eqb a l.ctl.driver || reaches ls a l.ctl.driver) (eqb l.lower.driver b || reaches ls l.lower.driver b) over in
-      let on : reaches ls l.ctl.driver b ≡ true = elim (or_cases (eqb l.lower.driver b) (reaches ls l.lower.driver b) both.1) [
+      let both = and_parts (eqb a l.ctl.driver || reaches ls a l.ctl.driver)
+      (eqb l.lower.driver b || reaches ls l.lower.driver b) over in
+      let on : reaches ls l.ctl.driver b ≡ true = elim
+      (or_cases (eqb l.lower.driver b) (reaches ls l.lower.driver b) both.1) [
         | inl same ↦ subst (λ (x : ℕ). reaches ls l.ctl.driver x ≡ true) (eqb-true l.lower.driver b same) k
         | inr path ↦ trans ls l.ctl.driver l.lower.driver b k path
       ] in
@@ -34,15 +44,10 @@ known trans ls l a b k h = elim (or_cases (reaches ls a b) _ h) [
       ]
 ]
 
-pub masks_known : Joins → PathsJoin → (ls : List Link) (l : Link) (ws : List ℕ) → AreMasks ls ws → has_bit ws l.ctl.driver l.lower.driver ≡ true → AreMasks (ls ++ l ∷ []) ws
-masks_known joins trans ls l ws m k a b =
-    m a b ∙ same ∙ sym (joins ls l a b) where
-      same : reaches ls a b ≡ reaches (l ∷ ls) a b
-      same = elim (cases_Bool (reaches ls a b)) [
-        | inl t ↦ t ∙ sym (or_left _ _ t)
-        | inr f ↦ f ∙ sym (false_from_ne_true (reaches (l ∷ ls) a b) (λ t. both_ways _ f (known trans ls l a b (sym (m l.ctl.driver l.lower.driver) ∙ k) t)))
-      ]
-
--- one item more of a list
-pub moved : {A X : Type 0} (f : A → X) (done : List A) (x : A) (rest left all : List X) → map f done ++ left ≡ all → left ≡ f x ∷ rest → map f (done ++ x ∷ []) ++ rest ≡ all
-moved f done x rest left all h e = rw (map-append f done (x ∷ []), append_assoc, ← e) h
+-- links lead alike without such a link
+pub known_same : PathsJoin → (ls : List Link) (l : Link) → reaches ls l.ctl.driver l.lower.driver ≡ true
+    → LeadAlike (l ∷ ls) ls
+known_same trans ls l k a b = elim (cases_Bool (reaches ls a b)) [
+  | inl t ↦ t ∙ sym (or_left _ _ t)
+  | inr f ↦ f ∙ sym (false_from_ne_true (reaches (l ∷ ls) a b) (λ t. both_ways _ f (known trans ls l a b k t)))
+]

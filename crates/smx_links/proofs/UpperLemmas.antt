@@ -1,13 +1,15 @@
 -- Drivers with links, by the bits of their words.
-use Rattle.std.proofs.Common.{◌≡◌, ℕ, ◌<◌, ◌^◌, Bool, true, false, ◌&&◌, ◌||◌, not, eqb, List, [], ◌∷◌, get_or, refl, sym, ap, ◌∙◌, arith, inl, inr}
-use Rattle.std.specs.Int.{bit_at, trailing_zeros, w64}
-use Rattle.std.proofs.lemmas.Bool.{cases_Bool, cases_eq, eqb-true, eq-eqb, false_from_ne_true, false≢true, or_left, or_parts, or_right}
+use Rattle.std.proofs.Common.{◌≡◌, ℕ, ◌<◌, ◌^◌, Bool, true, false, not, eqb, List, [], ◌∷◌, get_or, refl, sym, ap, ◌∙◌}
+use Rattle.std.proofs.Common.{arith, inl, inr}
+use Rattle.std.specs.Int.{trailing_zeros, w64}
+use Rattle.std.proofs.lemmas.Bool.{cases_Bool, eqb-true, eq-eqb, false_from_ne_true, false≢true, or_left, or_parts}
+use Rattle.std.proofs.lemmas.Bool.{or_right}
 use Rattle.std.proofs.lemmas.Bool.Decides.{nat_tests}
 use Rattle.std.proofs.lemmas.Nat.Bits.{bit_at-trailing_zeros}
 use Rattle.smx_types.specs.declared.link.Link.{Link}
 use Rattle.smx_model.specs.Paths.{reaches}
 use Rattle.smx_links.specs.LinkLists.{is_upper}
-use Rattle.smx_links.specs.Masks.{AreMasks, HasAnyBit, has_bit, is_set}
+use Rattle.smx_links.specs.Masks.{AreMasks, HasAnyBit, is_set}
 use Rattle.smx_links.proofs.BitLemmas.{is_set_zero}
 
 -- a driver without links reaches none
@@ -15,7 +17,8 @@ none_reached : (ls : List Link) (a b : ℕ) → is_upper ls a ≡ false → reac
 none_reached [] a b h = refl
 none_reached (l ∷ ls) a b h =
     let p = or_parts (eqb l.ctl.driver a) (is_upper ls a) h in
-    let other : eqb a l.ctl.driver ≡ false = false_from_ne_true (eqb a l.ctl.driver) (λ t. false≢true (sym p.0 ∙ eq-eqb l.ctl.driver a (sym (eqb-true a l.ctl.driver t)))) in
+    let other : eqb a l.ctl.driver ≡ false = false_from_ne_true (eqb a l.ctl.driver)
+    (λ t. false≢true (sym p.0 ∙ eq-eqb l.ctl.driver a (sym (eqb-true a l.ctl.driver t)))) in
     rw (none_reached ls a b p.1, none_reached ls a l.ctl.driver p.1, other) refl
 
 -- one with a link reaches some
@@ -23,15 +26,19 @@ some_reached : (ls : List Link) (a : ℕ) → is_upper ls a ≡ true → (b : �
 some_reached [] a h = absurd cc
 some_reached (l ∷ ls) a h = elim (cases_Bool (eqb l.ctl.driver a)) [
   | inl here ↦
-      let same : eqb a l.ctl.driver ≡ true = eq-eqb a l.ctl.driver (sym (eqb-true l.ctl.driver a here)) in
-      (l.lower.driver, or_right (reaches ls a l.lower.driver) _ (rw (same, eq-eqb l.lower.driver l.lower.driver refl) refl))
+      let same : eqb a l.ctl.driver ≡ true = eq-eqb a l.ctl.driver (sym (eqb-true l.ctl.driver a here)) in (
+        l.lower.driver,
+        or_right (reaches ls a l.lower.driver) _
+            (rw (same, eq-eqb l.lower.driver l.lower.driver refl) refl),
+      )
   | inr other ↦
       let rest = some_reached ls a (rw other at h) in
       (rest.0, or_left (reaches ls a rest.0) _ rest.1)
 ]
 
 -- a word has a bit exactly where a link leads from its driver
-pub any_is_upper : (ls : List Link) (ws : List ℕ) (a : ℕ) (r : Bool) → AreMasks ls ws → HasAnyBit ws a r → r ≡ is_upper ls a
+pub any_is_upper : (ls : List Link) (ws : List ℕ) (a : ℕ) (r : Bool) → AreMasks ls ws → HasAnyBit ws a r
+    → r ≡ is_upper ls a
 any_is_upper ls ws a true m h = elim (cases_Bool (is_upper ls a)) [
   | inl t ↦ sym t
   | inr f ↦ absurd (false≢true (sym (none_reached ls a h.0 f) ∙ sym (m a h.0) ∙ h.1))
@@ -50,7 +57,3 @@ has_bits ws a w e fits = elim (cases_Bool (eqb w 0)) [
       let low = bit_at-trailing_zeros w64 (get_or ws a 0) some fits in
       rw f (trailing_zeros w64 (get_or ws a 0), ap (λ (x : ℕ). eqb x 1) low.1)
 ]
-
--- and there is none past the last word
-pub no_word : (ws : List ℕ) (a : ℕ) → get_or ws a 0 ≡ 0 → HasAnyBit ws a false
-no_word ws a none = λ b. ap (λ (w : ℕ). is_set w b) none ∙ is_set_zero b

@@ -1,4 +1,5 @@
 pub mod Masks
-pub mod Entries
+pub mod Pairs
+pub mod Ids
 pub mod LinkLists
 pub mod TableFields

@@ -1,5 +1,5 @@
 -- A word of bits for each driver, bit b of word a for a path from driver a to driver b.
-use Rattle.std.specs.Prelude.{◌≡◌, ℕ, Bool, true, false, ◌&&◌, ◌||◌, ◌==◌, List, slice_index}
+use Rattle.std.specs.Prelude.{◌≡◌, ℕ, ◌<◌, Bool, true, false, ◌&&◌, ◌||◌, ◌==◌, List, slice_index}
 use Rattle.std.specs.Int.{bit_at}
 use Rattle.smx_types.specs.declared.link.Link.{Link}
 use Rattle.smx_model.specs.Paths.{reaches}
@@ -25,3 +25,11 @@ AreJoined old u l new = (a b : ℕ)
 -- bit b of word a is set exactly where a path leads from driver a to driver b
 abbrev pub AreMasks : List Link → List ℕ → Type 0
 AreMasks links ws = (a b : ℕ) → has_bit ws a b ≡ reaches links a b
+
+-- both drivers are below n
+abbrev pub IsWithin : ℕ → Link → Type 0
+IsWithin n l = (l.ctl.driver < n) × (l.lower.driver < n)
+
+-- some links lead from each driver to the same drivers as others do
+abbrev pub LeadAlike : List Link → List Link → Type 0
+LeadAlike old new = (a b : ℕ) → reaches new a b ≡ reaches old a b

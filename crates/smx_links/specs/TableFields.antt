@@ -1,29 +1,31 @@
 -- The fields of a table of links. No public clause needs this.
 use Rattle.std.specs.Prelude.{ℕ, ◌≤◌, List, length}
 use Rattle.std.specs.List.{All}
-use Rattle.std.specs.Map.{values_of}
 use Rattle.smx_types.specs.declared.link.Link.{Link}
 use Rattle.smx_types.specs.declared.limits.TheConstants.{MAX_DRIVERS}
-use Rattle.smx_links.specs.declared.entries.Lower.{Lower}
+use Rattle.smx_links.specs.declared.links.Lower.{Lower}
 use Rattle.smx_links.specs.declared.table.LinkTable.TheInside.{Inside}
-use Rattle.smx_links.specs.Entries.{IsKeyed, IsWithin}
+use Rattle.smx_links.specs.Ids.{HasIds}
 use Rattle.smx_links.specs.LinkLists.{LinkList, IsLinkList}
-use Rattle.smx_links.specs.Masks.{AreMasks}
+use Rattle.smx_links.specs.Masks.{AreMasks, IsWithin}
+use Rattle.smx_links.specs.Pairs.{AreCounts}
 
-abbrev pub list_of_parts : List ℕ → List (Lower × Link) → ℕ → LinkList
-list_of_parts ws es n = record { links = values_of es; next_id = n; drivers = length ws }
+abbrev pub list_of_parts : List ℕ → List Link → ℕ → LinkList
+list_of_parts ws links n = record { links = links; next_id = n; drivers = length ws }
 
--- each link is between drivers of the table and under its lower stream, and each bit is exactly a path
-pub record AreParts (ws : List ℕ) (es : List (Lower × Link)) (n : ℕ) : Type 0 where
-  pub list : IsLinkList (list_of_parts ws es n)
-  pub within : All (IsWithin (length ws)) (values_of es)
+-- each link is between drivers of the table, each bit is exactly a path, under each lower stream is its link's id,
+-- and the links between each two drivers are counted
+pub record AreParts (ws : List ℕ) (links : List Link) (es : List (Lower × ℕ)) (ps : List ℕ) (n : ℕ) : Type 0 where
+  pub list : IsLinkList (list_of_parts ws links n)
+  pub within : All (IsWithin (length ws)) links
   pub few : length ws ≤ MAX_DRIVERS
-  pub masks : AreMasks (values_of es) ws
-  pub keyed : IsKeyed es
+  pub masks : AreMasks links ws
+  pub ids : HasIds es links
+  pub pairs : AreCounts (length ws) links ps
 
 -- the fields as the value that a contract sees
 abbrev pub list_of : Inside → LinkList
-list_of t = list_of_parts t.masks.items t.entries.entries t.next_id
+list_of t = list_of_parts t.masks.items t.links.items t.next_id
 
 abbrev pub IsWhole : Inside → Type 0
-IsWhole t = AreParts t.masks.items t.entries.entries t.next_id
+IsWhole t = AreParts t.masks.items t.links.items t.ids.entries t.pairs.items t.next_id

@@ -1,7 +1,13 @@
 //! Which drivers a path leads to: a word of bits for each driver.
 
-ghost use Rattle.std.specs.Prelude.{◌≡◌, ◌<◌, ◌≤◌, ◌^◌, length, bit_or};
-ghost use Rattle.smx_links.specs.Masks.{is_set, has_bit, AreJoined, HasAnyBit};
+ghost use Rattle.std.specs.Prelude.{◌≡◌, ◌<◌, ◌≤◌, ◌*◌, ◌^◌, true, List, length, bit_or};
+ghost use Rattle.std.specs.List.{All};
+ghost use Rattle.smx_types.specs.declared.link.Link.{Link};
+ghost use Rattle.smx_links.specs.Masks.{is_set, has_bit, AreJoined, AreMasks, HasAnyBit, IsWithin};
+ghost use Rattle.smx_links.specs.Pairs.{AreCounts, AreMasksBefore, AreMasksOfCounts, IsRow};
+
+use crate::pairs::Count;
+use smx_model::laws_of_links::{one_link_more_joins, paths_join};
 
 /// A bit for each driver.
 pub type Word = u64;
@@ -61,5 +67,52 @@ pub fn join(words: &mut [Word], upper: u8, lower: u8)
         if a == upper as usize || is_set(words[a], upper) {
             words[a] |= reached;
         }
+    }
+}
+
+// Joins what links lead to from one upper driver, by its row. Two drivers that are joined already change nothing.
+fn join_row(words: &mut [Word], upper: u8, row: &[Count])
+    requires upper { upper < length words.old }
+    requires few { length words.old ≤ 64 }
+    requires row { length row.now ≡ length words.old }
+    ensures length { length words.new ≡ length words.old }
+    ensures masks { (links : List Link) → IsRow links upper row.now → AreMasksBefore links upper 0 words.old
+        → AreMasksBefore links upper (length words.old) words.new }
+{
+    one_link_more_joins();
+    paths_join();
+    for lower in 0..row.len() {
+        if row[lower] != 0 && !has_bit(words, upper, lower as u8) {
+            join(words, upper, lower as u8);
+        }
+    }
+}
+
+// The masks of the links that are counted, from nothing.
+fn recompute(words: &mut [Word], pairs: &[Count])
+    requires few { length words.old ≤ 64 }
+    requires long { length pairs.now ≡ length words.old * length words.old }
+    ensures length { length words.new ≡ length words.old }
+    ensures masks { AreMasksOfCounts (length words.old) pairs.now words.new }
+{
+    let drivers = words.len();
+    words.fill(0);
+    for upper in 0..drivers {
+        let start = upper * drivers;
+        join_row(words, upper as u8, &pairs[start..start + drivers]);
+    }
+}
+
+// The masks of the links that are left where some have gone. What leads to the same drivers as before needs none anew.
+pub fn renew(words: &mut [Word], pairs: &[Count], same: bool)
+    requires few { length words.old ≤ 64 }
+    requires long { length pairs.now ≡ length words.old * length words.old }
+    ensures length { length words.new ≡ length words.old }
+    ensures masks { (links : List Link) → All (IsWithin (length words.old)) links
+        → AreCounts (length words.old) links pairs.now → (same ≡ true → AreMasks links words.old)
+        → AreMasks links words.new }
+{
+    if !same {
+        recompute(words, pairs);
     }
 }

@@ -6,14 +6,16 @@ ghost use Rattle.smx_types.specs.declared.limits.TheConstants.{MAX_DRIVERS, MAX_
 ghost use Rattle.smx_model.specs.Configuration.{same_stream};
 ghost use Rattle.smx_model.specs.Paths.{reaches};
 ghost use Rattle.smx_model.specs.Standing.{is_below};
-ghost use Rattle.smx_links.specs.LinkLists.{IsLinkList, IsLinked, is_upper, refusal, with_link, without_id, without_ids};
+ghost use Rattle.smx_links.specs.LinkLists.{IsLinkList, IsLinked, is_upper, refusal};
+ghost use Rattle.smx_links.specs.LinkLists.{with_link, without_id, without_ids};
 
-use crate::entries::{Entries, above, at, get, is_below, put, recompute, take, take_each};
 use crate::fault::LinkFault;
-use crate::masks::{Word, has_any_bit, has_bit, join};
+use crate::links::{Ids, above, get, is_below, put, take, take_each};
+use crate::masks::{Word, has_any_bit, has_bit, join, renew};
+use crate::pairs::{Count, count, uncount};
 use smx_model::laws_of_links::{
     fewer_links_stay_sound, linking_keeps_soundness, linking_takes_the_next_id, no_links_are_sound,
-    one_link_more_joins,
+    one_link_more_joins, paths_join,
 };
 use smx_types::{Link, LinkKind, MAX_LINKS, NUMBER_END, NoMemory, StreamId};
 use std::alloc::Global;
@@ -24,7 +26,11 @@ use std::marker::Model;
 #[derive(Debug, Drop)]
 pub struct LinkTable {
     masks: Vec<Word>,
-    entries: Entries,
+    // By rising id.
+    links: Vec<Link>,
+    ids: Ids,
+    // A row for each upper driver, with an entry for each lower one.
+    pairs: Vec<Count>,
     next_id: u32,
 }
 
@@ -49,7 +55,9 @@ impl LinkTable {
         no_links_are_sound();
         Ok(LinkTable {
             masks: vec![in alloc; 0; drivers]?,
-            entries: Entries::new(alloc),
+            links: Vec::new(alloc),
+            ids: Ids::new(alloc),
+            pairs: vec![in alloc; 0; drivers * drivers]?,
             next_id: 1,
         })
     }
@@ -78,15 +86,14 @@ impl LinkTable {
             return Err(fault);
         }
         let id = self.next_id;
-        put(
-            &mut self.entries,
-            Link {
-                id,
-                ctl,
-                lower,
-                kind,
-            },
-        )?;
+        let link = Link {
+            id,
+            ctl,
+            lower,
+            kind,
+        };
+        put(&mut self.links, &mut self.ids, link)?;
+        count(&mut self.pairs, self.masks.len(), link);
         join(&mut self.masks, ctl.driver, lower.driver);
         self.next_id = id + 1;
         Ok(id)
@@ -128,55 +135,72 @@ impl LinkTable {
         ensures drivers { self.new.drivers ≡ self.old.drivers }
     {
         fewer_links_stay_sound();
-        let link = take(&mut self.entries, id)?;
-        recompute(&mut self.masks, &self.entries);
+        one_link_more_joins();
+        paths_join();
+        let link = take(&mut self.links, &mut self.ids, id)?;
+        let left = uncount(&mut self.pairs, self.masks.len(), link);
+        renew(&mut self.masks, &self.pairs, left);
         Some(link)
     }
 
-    /// Takes out each link with one of these ids, and no other. The next id stays. What drivers
-    /// reach is found anew once, however many go. Takes no memory.
+    /// Takes out each link with one of these ids, and no other. The next id stays. What drivers reach is found anew
+    /// at most once, however many go. Takes no memory.
     pub fn remove_each(&mut self, ids: &[u32])
         ensures rest { self.new ≡ without_ids self.old ids.now }
         ensures drivers { self.new.drivers ≡ self.old.drivers }
     {
         fewer_links_stay_sound();
-        take_each(&mut self.entries, ids);
-        recompute(&mut self.masks, &self.entries);
+        let drivers = self.masks.len();
+        let same = take_each(
+            &mut self.links,
+            &mut self.ids,
+            &mut self.pairs,
+            drivers,
+            ids,
+        );
+        renew(&mut self.masks, &self.pairs, same);
     }
 
-    /// The link with the id. A binary search.
+    /// The link with the id. A look at the place where it stands if no link has gone, or else a binary search.
     pub fn get(&self, id: u32) -> Option<&Link>
         ensures { option_copied result ≡ find (λ l. l.id == id) self.now.links }
     {
-        get(&self.entries, id)
+        get(&self.links, id)
     }
 
     /// The link that the stream is below. One look-up.
     pub fn above(&self, lower: StreamId) -> Option<&Link>
         ensures { option_copied result ≡ find (λ l. same_stream l.lower lower) self.now.links }
     {
-        above(&self.entries, lower)
+        above(&self.links, &self.ids, lower)
     }
 
     /// Whether the stream is the lower of a link. One look-up.
     pub fn is_below(&self, lower: StreamId) -> bool
         ensures { result ≡ is_below self.now.links lower }
     {
-        is_below(&self.entries, lower)
+        is_below(&self.ids, lower)
+    }
+
+    /// All links, by rising id. Takes no memory.
+    pub fn links(&self) -> &[Link]
+        ensures { result.now ≡ self.now.links }
+    {
+        self.links.as_slice()
     }
 
     /// The link at a place, from 0, by rising id.
     pub fn at(&self, i: usize) -> Option<&Link>
         ensures { option_copied result ≡ slice_get self.now.links i }
     {
-        at(&self.entries, i)
+        self.links.get(i)
     }
 
     /// The number of links.
     pub fn len(&self) -> usize
         ensures { result ≡ length self.now.links }
     {
-        self.entries.len()
+        self.links.len()
     }
 
     /// Whether there is no link.
@@ -221,7 +245,9 @@ impl LinkTable {
     {
         Ok(LinkTable {
             masks: self.masks.clone()?,
-            entries: self.entries.clone()?,
+            links: self.links.clone()?,
+            ids: self.ids.clone()?,
+            pairs: self.pairs.clone()?,
             next_id: self.next_id,
         })
     }

@@ -18,3 +18,4 @@ pub mod FlowCallLemmas
 pub mod SpecLemmas
 pub mod StepLemmas
 pub mod MarkLemmas
+pub mod TargetLemmas

@@ -206,16 +206,16 @@ none_from bytes start end w less none = λ k le. elim (cases_lt k end) [
 pub one_from : (bytes : List ℕ) (start end i : ℕ) → AreWithin 0 end bytes → start < end → IsFirstByte (is_byte 1) (take (end - start) (drop start bytes)) (Some i) → IsFirstOne bytes start (Some (start + i))
 one_from bytes start end i w less found =
     let low : i < end - start = omega (arith, found.0.high, many_between bytes start end (omega arith) w.end_in) in (
-  omega arith,
-  omega (arith, low, w.end_in),
-  here (start + i) (omega arith) (omega (arith, low)) (omega arith) found.1,
-  λ k le lt. elim (cases_Bool (eqb (get_or bytes k 0) 1)) [
-    | inl t ↦ absurd (found.0.before (k - start) (omega arith) (omega arith) (byte_between bytes start end k le (omega (arith, low)) ∙ t))
-    | inr f ↦ f
-  ],
-) where
-  here : (k : ℕ) → start ≤ k → k < end → i ≡ k - start → eqb (get_or (take (end - start) (drop start bytes)) i 0) 1 ≡ true → eqb (get_or bytes k 0) 1 ≡ true
-  here k le lt is one = sym (byte_between bytes start end k le lt) ∙ (ap (λ (n : ℕ). eqb (get_or (take (end - start) (drop start bytes)) n 0) 1) (sym is) ∙ one)
+      omega arith,
+      omega (arith, low, w.end_in),
+      here (start + i) (omega arith) (omega (arith, low)) (omega arith) found.1,
+      λ k le lt. elim (cases_Bool (eqb (get_or bytes k 0) 1)) [
+        | inl t ↦ absurd (found.0.before (k - start) (omega arith) (omega arith) (byte_between bytes start end k le (omega (arith, low)) ∙ t))
+        | inr f ↦ f
+      ],
+    ) where
+      here : (k : ℕ) → start ≤ k → k < end → i ≡ k - start → eqb (get_or (take (end - start) (drop start bytes)) i 0) 1 ≡ true → eqb (get_or bytes k 0) 1 ≡ true
+      here k le lt is one = sym (byte_between bytes start end k le lt) ∙ (ap (λ (n : ℕ). eqb (get_or (take (end - start) (drop start bytes)) n 0) 1) (sym is) ∙ one)
 
 -- ---- where all marks are
 

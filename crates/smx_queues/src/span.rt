@@ -28,7 +28,11 @@ impl Span {
             };
         }
         Span {
-            first: if number < self.first { number } else { self.first },
+            first: if number < self.first {
+                number
+            } else {
+                self.first
+            },
             end: if self.end < behind { behind } else { self.end },
         }
     }

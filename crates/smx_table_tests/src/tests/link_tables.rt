@@ -285,6 +285,7 @@ fn bars_a_cycle(rt: &impl Abort, links: &mut LinkTable)
 {
     assert!(rt; links.try_link(BELOW, TOP, LinkKind::Ordinary) == Err(LinkFault::Cycle));
     assert!(rt; id_of(links.above(BELOW)) == Some(1));
+    assert!(rt; id_of(links.links().first()) == Some(1));
     assert!(rt; links.remove(1).is_some() && links.next_id() == 2);
 }
 

@@ -7,6 +7,8 @@ use Rattle.smx_links.proofs.table.LinkTable.is_upper.Goals as goal
 
 pub returns : goal.returns
 returns c =
-    any_is_upper (list_of c.self.inside).links c.self.inside.masks.items c.args.driver c.has_any_bit.result c.self.invariant.masks
-    (subst (λ (ws : List ℕ). HasAnyBit ws c.args.driver c.has_any_bit.result) c.deref.ensures.value c.has_any_bit.ensures)
+    any_is_upper (list_of c.self.inside).links c.self.inside.masks.items c.args.driver c.has_any_bit.result
+    c.self.invariant.masks
+    (subst (λ (ws : List ℕ). HasAnyBit ws c.args.driver c.has_any_bit.result) c.deref.ensures.value
+    c.has_any_bit.ensures)
     ∙ ap (λ (t : LinkList). is_upper t.links c.args.driver) c.self.view_is

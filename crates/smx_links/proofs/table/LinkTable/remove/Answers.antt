@@ -1,20 +1,52 @@
-use Rattle.std.proofs.Common.{◌≡◌, ◌==◌, Bool, not, length, ap, ◌∙◌, arith}
-use Rattle.std.proofs.lemmas.List.Elements.{All-filter}
-use Rattle.indexmap.specs.IndexMap.{values}
+use Rattle.std.proofs.Common.{◌≡◌, ◌==◌, ℕ, List, Bool, not, length, sym, ap, ◌∙◌}
 use Rattle.smx_types.specs.declared.link.Link.{Link}
-use Rattle.smx_links.specs.Entries.{IsWithin}
+use Rattle.smx_links.specs.Masks.{IsWithin}
+use Rattle.smx_links.specs.Pairs.{AreCounts}
+use Rattle.smx_links.proofs.CountLemmas.{counts_less, some_counted}
+use Rattle.smx_links.proofs.LowerLemmas.{found_has}
 use Rattle.smx_links.proofs.TableLemmas.{parts_less, lent}
+use Rattle.smx_links.proofs.TwinLemmas.{entry_stays}
 use Rattle.smx_links.proofs.table.LinkTable.remove.Goals as goal
 
-pub recompute-requires-clause-within : goal.recompute-requires-clause-within
-recompute-requires-clause-within c = rw (c.in_ok-link.ensures.rest, c.deref_mut.ensures.value) (All-filter (λ l. not (l.id == c.args.id)) (IsWithin (length c.self.inside.masks.items)) (values c.self.inside.entries) c.self.invariant.within)
+pub uncount-left-requires-clause-within : goal.uncount-left-requires-clause-within
+uncount-left-requires-clause-within c =
+    rw (c.len.ensures, c.self.inside.masks.ok.0)
+    (found_has (IsWithin (length c.self.inside.masks.items)) _ c.self.inside.links.items c.in_ok-link.link
+    c.self.invariant.within (sym c.in_ok-link.ensures.link))
+
+pub uncount-left-requires-clause-some : goal.uncount-left-requires-clause-some
+uncount-left-requires-clause-some c =
+    rw (c.deref_mut.ensures.value, c.len.ensures, c.self.inside.masks.ok.0)
+    (some_counted (length c.self.inside.masks.items) c.self.inside.links.items c.self.inside.pairs.items
+    c.in_ok-link.link c.args.id c.self.invariant.list.ids.rise (sym c.in_ok-link.ensures.link) c.self.invariant.pairs
+    (found_has (IsWithin (length c.self.inside.masks.items)) _ c.self.inside.links.items c.in_ok-link.link
+    c.self.invariant.within (sym c.in_ok-link.ensures.link)))
 
 pub invariant_of-self-2 : goal.invariant_of-self-2
 invariant_of-self-2 c =
+    let ws : List ℕ = c.self.inside.masks.items in
+    let ls : List Link = c.self.inside.links.items in
     let stays : Link → Bool = λ l. not (l.id == c.args.id) in
-    let long : length c.recompute.new.words ≡ length c.self.inside.masks.items = c.recompute.ensures.length ∙ ap length c.deref_mut.ensures.value in
-    rw (lent c.self.inside.masks.len c.recompute.new.words c.self.inside.masks.items long (omega (arith, c.self.inside.masks.ok.0)))
-    (parts_less c.self.inside.masks.items c.recompute.new.words c.self.inside.entries.entries c.take.new.entries.entries c.self.inside.next_id stays c.self.invariant c.in_ok-link.ensures.rest c.in_ok-link.ensures.keyed
-    (c.fewer_links_stay_sound.ensures.sound (values c.self.inside.entries) stays c.self.invariant.list.sound)
-    (c.fewer_links_stay_sound.ensures.ids (values c.self.inside.entries) stays c.self.inside.next_id c.self.invariant.list.ids)
-    long c.recompute.ensures.masks)
+    let wide : c.len.result ≡ length ws = c.len.ensures ∙ c.self.inside.masks.ok.0 in
+    let own : IsWithin (length ws) c.in_ok-link.link = found_has (IsWithin (length ws)) _ ls c.in_ok-link.link
+    c.self.invariant.within (sym c.in_ok-link.ensures.link) in
+    let counts : AreCounts (length ws) c.take.new.links.items c.uncount-left.new.pairs =
+    rw (c.uncount-left.ensures.rest, c.deref_mut.ensures.value, wide)
+    (counts_less (length ws) ls c.take.new.links.items c.self.inside.pairs.items c.in_ok-link.link c.args.id
+    c.self.invariant.list.ids.rise (sym c.in_ok-link.ensures.link) c.in_ok-link.ensures.rest c.self.invariant.pairs own)
+    in
+    let back = lent c.self.inside.pairs.len c.uncount-left.new.pairs c.self.inside.pairs.items
+    (counts.long ∙ sym c.self.invariant.pairs.long) c.self.inside.pairs.ok.0 in
+    let long : length c.renew.new.words ≡ length ws = c.renew.ensures.length ∙ ap length c.deref_mut-2.ensures.value in
+    rw (lent c.self.inside.masks.len c.renew.new.words ws long c.self.inside.masks.ok.0, back)
+    (parts_less ws c.renew.new.words ls c.take.new.links.items c.self.inside.ids.entries c.take.new.ids.entries
+    c.self.inside.pairs.items c.uncount-left.new.pairs c.self.inside.next_id stays c.uncount-left.result
+    c.self.invariant c.in_ok-link.ensures.rest c.in_ok-link.ensures.ids
+    (c.fewer_links_stay_sound.ensures.sound ls stays c.self.invariant.list.sound)
+    (c.fewer_links_stay_sound.ensures.ids ls stays c.self.inside.next_id c.self.invariant.list.ids)
+    long counts
+    (λ t. entry_stays c.one_link_more_joins.ensures c.paths_join.ensures (length ws) ls c.take.new.links.items
+    c.uncount-left.new.pairs c.in_ok-link.link c.args.id c.self.invariant.list.ids.rise
+    (sym c.in_ok-link.ensures.link) c.in_ok-link.ensures.rest counts own
+    (sym (rw wide at c.uncount-left.ensures.left) ∙ t))
+    (rw (c.deref_mut-2.ensures.value, c.deref.ensures.value, back) at c.renew.ensures.masks))

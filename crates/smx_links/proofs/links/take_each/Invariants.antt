@@ -1,0 +1,14 @@
+use Rattle.std.proofs.Common.{◌≡◌, true, not, filter, take}
+use Rattle.smx_links.specs.Ids.{HasIds}
+use Rattle.smx_links.specs.LinkLists.{is_one_of}
+use Rattle.smx_links.specs.Masks.{LeadAlike}
+use Rattle.smx_links.specs.Pairs.{AreCounts}
+use Rattle.smx_links.proofs.links.take_each.Given as goal
+
+abbrev pub invariant-loop-id : goal.invariant-loop-id
+invariant-loop-id l = record {
+  rest : l.links.items ≡ filter (λ k. not (is_one_of (take l.id-index l.gone) k)) l.fn.links.items;
+  ids : HasIds l.ids.entries l.links.items;
+  pairs : AreCounts l.drivers l.links.items l.pairs;
+  same : l.same ≡ true → LeadAlike l.fn.links.items l.links.items;
+}

@@ -1,0 +1,141 @@
+//! Links by rising id, and the id of the link that a stream is below.
+
+ghost use Rattle.std.specs.Prelude.{◌≡◌, ◌≤◌, ◌==◌, ◌++◌, [], ◌∷◌, true, false, find, filter, not, nat_lt, is_some};
+ghost use Rattle.std.specs.Prelude.{IfNone, OnOk, OnErr, option_copied};
+ghost use Rattle.std.specs.List.{All};
+ghost use Rattle.smx_model.specs.Configuration.{same_stream};
+ghost use Rattle.smx_model.specs.Ordered.{IsRising};
+ghost use Rattle.smx_model.specs.SoundLinks.{AreLinksSound};
+ghost use Rattle.smx_model.specs.Standing.{is_below};
+ghost use Rattle.smx_links.specs.Ids.{key_of, id_at, HasIds, IsPlace};
+ghost use Rattle.smx_links.specs.LinkLists.{is_one_of};
+ghost use Rattle.smx_links.specs.Masks.{IsWithin, LeadAlike};
+ghost use Rattle.smx_links.specs.Pairs.{AreCounts};
+
+use crate::pairs::{Count, uncount};
+use indexmap::IndexMap;
+use smx_model::laws_of_links::{fewer_links_stay_sound, one_link_more_joins, paths_join};
+use smx_types::{Link, NoMemory, StreamId};
+
+/// A stream that is below, as a key.
+#[derive(Clone, Copy, Debug, PartialEq, Eq, Hash)]
+pub struct Lower {
+    pub driver: u8,
+    pub minor: u8,
+}
+
+/// The id of the link that a stream is below. The order means nothing.
+pub type Ids = IndexMap<Lower, u32>;
+
+// The stream as a key.
+fn key_of(stream: StreamId) -> Lower
+    ensures { result ≡ key_of stream }
+{
+    Lower {
+        driver: stream.driver,
+        minor: stream.minor,
+    }
+}
+
+// Whether the stream is below.
+pub fn is_below(ids: &Ids, lower: StreamId) -> bool
+    ensures { result ≡ is_some (id_at ids.now.entries lower) }
+{
+    ids.contains_key(&key_of(lower))
+}
+
+// The link that the stream is below.
+pub fn above<'a>(links: &'a [Link], ids: &Ids, lower: StreamId) -> Option<&'a Link>
+    requires rise { IsRising (λ l k. nat_lt l.id k.id) links.now }
+    requires ids { HasIds ids.now.entries links.now }
+    ensures { option_copied result ≡ find (λ l. same_stream l.lower lower) links.now }
+{
+    let id = *ids.get(&key_of(lower))?;
+    get(links, id)
+}
+
+// The link with the id.
+pub fn get(links: &[Link], id: u32) -> Option<&Link>
+    requires { IsRising (λ l k. nat_lt l.id k.id) links.now }
+    ensures { option_copied result ≡ find (λ l. l.id == id) links.now }
+{
+    let i = place(links, id)?;
+    Some(&links[i])
+}
+
+// Where the link with the id is. As long as no link has gone from between, it is as far behind the first as its id
+// is. So that place is looked at before there is a search.
+fn place(links: &[Link], id: u32) -> Option<usize>
+    requires { IsRising (λ l k. nat_lt l.id k.id) links.now }
+    ensures { IsPlace links.now id result }
+{
+    let first = links.first()?;
+    let far = id.saturating_sub(first.id) as usize;
+    let guess = far.min(links.len() - 1);
+    if links[guess].id == id {
+        return Some(guess);
+    }
+    links.binary_search_by_key(&id, |link| link.id).ok()
+}
+
+// One link more, behind all others, whose lower stream is below none. There is room before anything changes.
+pub fn put(links: &mut Vec<Link>, ids: &mut Ids, link: Link) -> Result<(), NoMemory>
+    requires ids { HasIds ids.old.entries links.old.items }
+    requires free { is_below links.old.items link.lower ≡ false }
+    ensures ok { OnOk result (links.new.items ≡ links.old.items ++ link ∷ []) }
+    ensures err { OnErr result (links.new.items ≡ links.old.items) }
+    ensures ids { HasIds ids.new.entries links.new.items }
+{
+    links.reserve(1)?;
+    ids.insert(key_of(link.lower), link.id)?;
+    links.push_reserved(link);
+    Ok(())
+}
+
+// Takes out the link with the id.
+pub fn take(links: &mut Vec<Link>, ids: &mut Ids, id: u32) -> Option<Link>
+    requires sound { AreLinksSound links.old.items }
+    requires rise { IsRising (λ l k. nat_lt l.id k.id) links.old.items }
+    requires ids { HasIds ids.old.entries links.old.items }
+    ensures link { result ≡ find (λ l. l.id == id) links.old.items }
+    ensures rest { links.new.items ≡ filter (λ l. not (l.id == id)) links.old.items }
+    ensures ids { HasIds ids.new.entries links.new.items }
+    ensures unchanged { IfNone result (links.new.items ≡ links.old.items) }
+{
+    let i = place(links, id)?;
+    let link = links.remove(i);
+    let _id = ids.swap_remove(&key_of(link.lower));
+    Some(link)
+}
+
+// Takes out the links with these ids. True where each left one behind that is between the same two drivers.
+pub fn take_each(
+    links: &mut Vec<Link>,
+    ids: &mut Ids,
+    pairs: &mut [Count],
+    drivers: usize,
+    gone: &[u32],
+) -> bool
+    requires sound { AreLinksSound links.old.items }
+    requires rise { IsRising (λ l k. nat_lt l.id k.id) links.old.items }
+    requires ids { HasIds ids.old.entries links.old.items }
+    requires few { drivers ≤ 64 }
+    requires within { All (IsWithin drivers) links.old.items }
+    requires pairs { AreCounts drivers links.old.items pairs.old }
+    ensures rest { links.new.items ≡ filter (λ l. not (is_one_of gone.now l)) links.old.items }
+    ensures ids { HasIds ids.new.entries links.new.items }
+    ensures pairs { AreCounts drivers links.new.items pairs.new }
+    ensures same { result ≡ true → LeadAlike links.old.items links.new.items }
+{
+    fewer_links_stay_sound();
+    one_link_more_joins();
+    paths_join();
+    let mut same = true;
+    for id in gone {
+        if let Some(link) = take(links, ids, *id) {
+            let left = uncount(pairs, drivers, link);
+            same = same && left;
+        }
+    }
+    same
+}
