@@ -9,3 +9,4 @@ mod text_sweeps;
 mod twins;
 mod verdicts;
 mod verdicts_on_entries;
+mod waiting_streams;
