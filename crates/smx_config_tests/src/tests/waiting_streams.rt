@@ -1,40 +1,38 @@
-//! Two levels of multiplexers, where 64 streams wait for one full place. Each time that it can take messages again, the
-//! least stream goes first.
+//! Two levels of multiplexers, where 64 streams wait for one full place. Each time that it takes messages again, the least
+//! stream goes first.
 
 ghost use Rattle.std.specs.Prelude.{◌<◌, ◌≤◌};
 
 use smx_config::Config;
 use smx_samples::{
-    Answer, Call, Line, command_of, driver, items, made_over, named, numbered, play, reply_of,
-    shown,
+    Answer, Call, Line, command_of, driver, made_over, named, numbered, play, reply_of, shown,
 };
-use smx_types::{DriverKind, DriverSpec, Entry, Fault, FullLine, FullLines, Side};
+use smx_types::{DriverKind, DriverSpec, Entry, Fault, FullLine, Side};
 use std::alloc::Global;
 use std::process::Abort;
 use std::test::Fail;
 
-// A driver of one stream, whose queues take this many bytes, and then none until they are empty.
-fn narrow(name: &str, kind: DriverKind, high: u32) -> Result<DriverSpec, Fail> {
-    let mut made = driver(name, kind, 1)?;
-    made.high = high;
-    made.low = 0;
-    Ok(made)
+// Down from 64 streams to a device, or up from 64 devices to a reader.
+#[derive(Clone, Copy)]
+enum Way {
+    Down,
+    Up,
 }
 
-// 64 streams over one stream over one device.
-fn below_many(alloc: Global) -> Result<Config, Fail> {
-    let top = driver("top", DriverKind::Mux, 64)?;
-    let mid = narrow("mid", DriverKind::Mux, 1)?;
-    let eth = narrow("eth", DriverKind::Leaf, 1)?;
-    made_over(alloc, &[top, mid, eth])
+// A message from the stream or the device of this number.
+fn sending(way: Way, minor: u32, payload: &[u8]) -> Call<'_> {
+    match way {
+        Way::Down => Call::Write(0, 5, payload),
+        Way::Up => Call::Inject("eth", minor, 5, payload),
+    }
 }
 
-// 64 devices below one stream below another.
-fn above_many(alloc: Global) -> Result<Config, Fail> {
-    let top = narrow("top", DriverKind::Mux, 1)?;
-    let mid = narrow("mid", DriverKind::Mux, 3)?;
-    let eth = driver("eth", DriverKind::Leaf, 64)?;
-    made_over(alloc, &[top, mid, eth])
+// The device's transmit, or the reader's read.
+fn taking(way: Way) -> Call<'static> {
+    match way {
+        Way::Down => Call::Transmit("eth", 0),
+        Way::Up => Call::Read(1),
+    }
 }
 
 fn entry_by(alloc: Global, process: u32, line: Line) -> Result<Entry, Fail> {
@@ -63,15 +61,128 @@ fn asks(
     is_answered(rt, config, &entry)
 }
 
-fn shows_full(rt: &impl Abort, config: &Config, want: &FullLines) -> Result<(), Fail> {
-    let view = shown(config)?;
-    assert!(rt; view.fulls == *want);
+// Streams are asked by the processes of their numbers, and a device may be asked by any.
+fn send(
+    rt: &(impl AllocGlobal + Abort),
+    config: &mut Config,
+    way: Way,
+    minor: u32,
+    serial: u32,
+) -> Result<(), Fail>
+    requires { minor < 64 }
+{
+    let payload = [minor as u8];
+    let line = (sending(way, minor, &payload), Answer::Took(serial));
+    asks(rt, config, minor, line)
+}
+
+fn take(
+    rt: &(impl AllocGlobal + Abort),
+    config: &mut Config,
+    way: Way,
+    minor: u32,
+    serial: u32,
+) -> Result<(), Fail>
+    requires { minor < 64 }
+{
+    let payload = [minor as u8];
+    let line = (taking(way), Answer::Got(serial, 5, &payload));
+    asks(rt, config, 0, line)
+}
+
+// The first messages, which fill the places behind the streams.
+fn send_first(
+    rt: &(impl AllocGlobal + Abort),
+    config: &mut Config,
+    way: Way,
+    end: u32,
+) -> Result<(), Fail> {
+    for serial in 1..end {
+        send(rt, config, way, 0, serial)?;
+    }
     Ok(())
 }
 
-fn shown_messages(config: &Config) -> Result<usize, Fail> {
-    let view = shown(config)?;
-    Ok(view.msgs.as_slice().len())
+// One message from each, the last stream first. The one of stream 0 gets this serial.
+fn send_all(
+    rt: &(impl AllocGlobal + Abort),
+    config: &mut Config,
+    way: Way,
+    last: u32,
+) -> Result<(), Fail>
+    requires { 64 ≤ last }
+{
+    for back in 0..64u32 {
+        let minor = 63 - back;
+        send(rt, config, way, minor, last - minor)?;
+    }
+    Ok(())
+}
+
+fn take_first(
+    rt: &(impl AllocGlobal + Abort),
+    config: &mut Config,
+    way: Way,
+    end: u32,
+) -> Result<(), Fail> {
+    for serial in 1..end {
+        take(rt, config, way, 0, serial)?;
+    }
+    Ok(())
+}
+
+// Both messages of each of these, one stream after the other.
+fn take_all(
+    rt: &(impl AllocGlobal + Abort),
+    config: &mut Config,
+    way: Way,
+    last: u32,
+    from: u32,
+    to: u32,
+) -> Result<(), Fail>
+    requires few { to ≤ 64 }
+    requires first { 64 ≤ last }
+    requires bounded { last < 1024 }
+{
+    for minor in from..to {
+        take(rt, config, way, minor, last - minor)?;
+        take(rt, config, way, minor, last + 64 - minor)?;
+    }
+    Ok(())
+}
+
+// Two rounds of messages wait behind the first ones.
+fn fill(
+    rt: &(impl AllocGlobal + Abort),
+    config: &mut Config,
+    way: Way,
+    last: u32,
+) -> Result<(), Fail>
+    requires first { 64 ≤ last }
+    requires bounded { last < 1024 }
+{
+    send_first(rt, config, way, last - 63)?;
+    send_all(rt, config, way, last)?;
+    send_all(rt, config, way, last + 64)
+}
+
+// A message that comes late on the least stream goes before all that still wait on others.
+fn drain(
+    rt: &(impl AllocGlobal + Abort),
+    config: &mut Config,
+    way: Way,
+    last: u32,
+) -> Result<(), Fail>
+    requires first { 64 ≤ last }
+    requires bounded { last < 1024 }
+{
+    take_first(rt, config, way, last - 63)?;
+    take_all(rt, config, way, last, 0, 32)?;
+    send(rt, config, way, 0, last + 65)?;
+    take_all(rt, config, way, last, 32, 33)?;
+    take(rt, config, way, 0, last + 65)?;
+    take_all(rt, config, way, last, 33, 64)?;
+    asks(rt, config, 0, (taking(way), Answer::Refused(Fault::Empty)))
 }
 
 fn full_line(driver: &str, side: Side) -> Result<FullLine, Fail> {
@@ -82,19 +193,35 @@ fn full_line(driver: &str, side: Side) -> Result<FullLine, Fail> {
     })
 }
 
-// So many messages are queued, and just these two places are full.
-fn wait_for(
-    rt: &(impl AllocGlobal + Abort),
+// So many messages are queued, and just these places are full.
+fn holds_up(
+    rt: &impl Abort,
     config: &Config,
     count: usize,
     fulls: &[FullLine],
 ) -> Result<(), Fail> {
-    assert_eq!(rt; shown_messages(config)?, count);
-    let want = items(rt.alloc(), fulls)?;
-    shows_full(rt, config, &want)
+    let view = shown(config)?;
+    assert_eq!(rt; view.msgs.as_slice().len(), count);
+    assert!(rt; view.fulls.as_slice() == fulls);
+    Ok(())
 }
 
-// Process 0 has a stream on each level, and messages for address 5 go down through all of them.
+// A driver of one stream, whose queues take this many bytes, and then none until they are empty.
+fn narrow(name: &str, kind: DriverKind, high: u32) -> Result<DriverSpec, Fail> {
+    let mut made = driver(name, kind, 1)?;
+    made.high = high;
+    made.low = 0;
+    Ok(made)
+}
+
+fn below_many(alloc: Global) -> Result<Config, Fail> {
+    let top = driver("top", DriverKind::Mux, 64)?;
+    let mid = narrow("mid", DriverKind::Mux, 1)?;
+    let eth = narrow("eth", DriverKind::Leaf, 1)?;
+    made_over(alloc, &[top, mid, eth])
+}
+
+// Process 0 has a stream of each driver, one below the other.
 const DOWN: [Line; 7] = [
     (Call::Clone("top"), Answer::Fd(0, 0)),
     (Call::Clone("mid"), Answer::Fd(1, 0)),
@@ -108,124 +235,39 @@ const DOWN: [Line; 7] = [
 // Each other process has the stream of its number.
 fn open_others(rt: &(impl AllocGlobal + Abort), config: &mut Config) -> Result<(), Fail> {
     for process in 1..64u32 {
-        asks(
-            rt,
-            config,
-            process,
-            (Call::Clone("top"), Answer::Fd(0, process)),
-        )?;
+        let line = (Call::Clone("top"), Answer::Fd(0, process));
+        asks(rt, config, process, line)?;
     }
     Ok(())
-}
-
-fn write(
-    rt: &(impl AllocGlobal + Abort),
-    config: &mut Config,
-    minor: u32,
-    serial: u32,
-) -> Result<(), Fail>
-    requires { minor < 64 }
-{
-    let payload = [minor as u8];
-    let line = (Call::Write(0, 5, &payload), Answer::Took(serial));
-    asks(rt, config, minor, line)
-}
-
-// One message on each stream, the last stream first. The one of stream 0 gets this serial.
-fn write_all(rt: &(impl AllocGlobal + Abort), config: &mut Config, last: u32) -> Result<(), Fail>
-    requires { 64 ≤ last }
-{
-    for back in 0..64u32 {
-        let minor = 63 - back;
-        write(rt, config, minor, last - minor)?;
-    }
-    Ok(())
-}
-
-// The device and the stream over it have a message each.
-const SENT: [Line; 2] = [
-    (Call::Write(0, 5, &[0]), Answer::Took(1)),
-    (Call::Write(0, 5, &[0]), Answer::Took(2)),
-];
-
-fn stack_down(rt: &(impl AllocGlobal + Abort + Print), config: &mut Config) -> Result<(), Fail> {
-    play(rt, config, &DOWN)?;
-    open_others(rt, config)?;
-    play(rt, config, &SENT)?;
-    write_all(rt, config, 66)?;
-    write_all(rt, config, 130)
-}
-
-fn wait_for_the_device(rt: &(impl AllocGlobal + Abort), config: &Config) -> Result<(), Fail> {
-    let fulls = [
-        full_line("mid", Side::Write)?,
-        full_line("eth", Side::Write)?,
-    ];
-    wait_for(rt, config, 130, &fulls)
-}
-
-fn transmit(
-    rt: &(impl AllocGlobal + Print),
-    config: &mut Config,
-    serial: u32,
-    minor: u32,
-) -> Result<(), Fail>
-    requires { minor < 64 }
-{
-    let payload = [minor as u8];
-    let line = (Call::Transmit("eth", 0), Answer::Got(serial, 5, &payload));
-    play(rt, config, &[line])
-}
-
-// Both messages of each of these streams, one stream after the other.
-fn transmit_all(
-    rt: &(impl AllocGlobal + Print),
-    config: &mut Config,
-    from: u32,
-    to: u32,
-) -> Result<(), Fail>
-    requires { to ≤ 64 }
-{
-    for minor in from..to {
-        transmit(rt, config, 66 - minor, minor)?;
-        transmit(rt, config, 130 - minor, minor)?;
-    }
-    Ok(())
-}
-
-const FIRST_SENT: [Line; 2] = [
-    (Call::Transmit("eth", 0), Answer::Got(1, 5, &[0])),
-    (Call::Transmit("eth", 0), Answer::Got(2, 5, &[0])),
-];
-
-// A message that comes late on the least stream goes before all that still wait there.
-const LATE: [Line; 1] = [(Call::Write(0, 5, &[0]), Answer::Took(131))];
-
-const LAST_SENT: [Line; 1] = [(Call::Transmit("eth", 0), Answer::Refused(Fault::Empty))];
-
-fn drain_down(rt: &(impl AllocGlobal + Print), config: &mut Config) -> Result<(), Fail> {
-    play(rt, config, &FIRST_SENT)?;
-    transmit_all(rt, config, 0, 32)?;
-    play(rt, config, &LATE)?;
-    transmit_all(rt, config, 32, 33)?;
-    transmit(rt, config, 131, 0)?;
-    transmit_all(rt, config, 33, 64)?;
-    play(rt, config, &LAST_SENT)
 }
 
 fn goes_down_in_order(
     rt: &(impl AllocGlobal + Abort + Print),
     config: &mut Config,
 ) -> Result<(), Fail> {
-    stack_down(rt, config)?;
-    wait_for_the_device(rt, config)?;
-    drain_down(rt, config)
+    play(rt, config, &DOWN)?;
+    open_others(rt, config)?;
+    fill(rt, config, Way::Down, 66)?;
+    let fulls = [
+        full_line("mid", Side::Write)?,
+        full_line("eth", Side::Write)?,
+    ];
+    holds_up(rt, config, 130, &fulls)?;
+    drain(rt, config, Way::Down, 66)
 }
 
 #[test]
 fn sixty_four_streams_wait_for_a_device(rt: HostRuntime) -> Result<(), Fail> {
     let mut config = below_many(rt.alloc())?;
     goes_down_in_order(&rt, &mut config)
+}
+
+// The stream between the devices and the reader takes three messages at once.
+fn above_many(alloc: Global) -> Result<Config, Fail> {
+    let top = narrow("top", DriverKind::Mux, 1)?;
+    let mid = narrow("mid", DriverKind::Mux, 3)?;
+    let eth = driver("eth", DriverKind::Leaf, 64)?;
+    made_over(alloc, &[top, mid, eth])
 }
 
 // A persistent link to the next device.
@@ -241,127 +283,32 @@ fn link_device(rt: &(impl AllocGlobal + Print), config: &mut Config, minor: u32)
 }
 
 fn link_devices(rt: &(impl AllocGlobal + Print), config: &mut Config) -> Result<(), Fail> {
-    play(rt, config, &[(Call::Clone("mid"), Answer::Fd(0, 0))])?;
     for minor in 0..64u32 {
         link_device(rt, config, minor)?;
     }
     Ok(())
 }
 
-// Messages for address 9 come up through both levels.
+const MID: [Line; 1] = [(Call::Clone("mid"), Answer::Fd(0, 0))];
+
 const UP: [Line; 4] = [
-    (Call::Bind(0, 9), Answer::Done(&[])),
+    (Call::Bind(0, 5), Answer::Done(&[])),
     (Call::Clone("top"), Answer::Fd(1, 0)),
-    (Call::Bind(1, 9), Answer::Done(&[])),
+    (Call::Bind(1, 5), Answer::Done(&[])),
     (Call::Link(1, 0), Answer::Id(65)),
 ];
-
-fn inject(
-    rt: &(impl AllocGlobal + Print),
-    config: &mut Config,
-    minor: u32,
-    serial: u32,
-) -> Result<(), Fail>
-    requires { minor < 64 }
-{
-    let payload = [minor as u8];
-    let line = (
-        Call::Inject("eth", minor, 9, &payload),
-        Answer::Took(serial),
-    );
-    play(rt, config, &[line])
-}
-
-// One message from each device, the last device first. The one of device 0 gets this serial.
-fn inject_all(rt: &(impl AllocGlobal + Print), config: &mut Config, last: u32) -> Result<(), Fail>
-    requires { 64 ≤ last }
-{
-    for back in 0..64u32 {
-        let minor = 63 - back;
-        inject(rt, config, minor, last - minor)?;
-    }
-    Ok(())
-}
-
-// The upper stream has one message, and the one below it three.
-const CAME: [Line; 4] = [
-    (Call::Inject("eth", 0, 9, &[0]), Answer::Took(1)),
-    (Call::Inject("eth", 0, 9, &[0]), Answer::Took(2)),
-    (Call::Inject("eth", 0, 9, &[0]), Answer::Took(3)),
-    (Call::Inject("eth", 0, 9, &[0]), Answer::Took(4)),
-];
-
-fn stack_up(rt: &(impl AllocGlobal + Print), config: &mut Config) -> Result<(), Fail> {
-    link_devices(rt, config)?;
-    play(rt, config, &UP)?;
-    play(rt, config, &CAME)?;
-    inject_all(rt, config, 68)?;
-    inject_all(rt, config, 132)
-}
-
-fn wait_for_the_reader(rt: &(impl AllocGlobal + Abort), config: &Config) -> Result<(), Fail> {
-    let fulls = [full_line("top", Side::Read)?, full_line("mid", Side::Read)?];
-    wait_for(rt, config, 132, &fulls)
-}
-
-fn read(
-    rt: &(impl AllocGlobal + Print),
-    config: &mut Config,
-    serial: u32,
-    minor: u32,
-) -> Result<(), Fail>
-    requires { minor < 64 }
-{
-    let payload = [minor as u8];
-    let line = (Call::Read(1), Answer::Got(serial, 9, &payload));
-    play(rt, config, &[line])
-}
-
-// Both messages of each of these devices, one device after the other.
-fn read_all(
-    rt: &(impl AllocGlobal + Print),
-    config: &mut Config,
-    from: u32,
-    to: u32,
-) -> Result<(), Fail>
-    requires { to ≤ 64 }
-{
-    for minor in from..to {
-        read(rt, config, 68 - minor, minor)?;
-        read(rt, config, 132 - minor, minor)?;
-    }
-    Ok(())
-}
-
-const FIRST_READ: [Line; 4] = [
-    (Call::Read(1), Answer::Got(1, 9, &[0])),
-    (Call::Read(1), Answer::Got(2, 9, &[0])),
-    (Call::Read(1), Answer::Got(3, 9, &[0])),
-    (Call::Read(1), Answer::Got(4, 9, &[0])),
-];
-
-// So does one that comes late from the least device.
-const LATE_UP: [Line; 1] = [(Call::Inject("eth", 0, 9, &[0]), Answer::Took(133))];
-
-const LAST_READ: [Line; 1] = [(Call::Read(1), Answer::Refused(Fault::Empty))];
-
-fn drain_up(rt: &(impl AllocGlobal + Print), config: &mut Config) -> Result<(), Fail> {
-    play(rt, config, &FIRST_READ)?;
-    read_all(rt, config, 0, 32)?;
-    play(rt, config, &LATE_UP)?;
-    read_all(rt, config, 32, 33)?;
-    read(rt, config, 133, 0)?;
-    read_all(rt, config, 33, 64)?;
-    play(rt, config, &LAST_READ)
-}
 
 fn comes_up_in_order(
     rt: &(impl AllocGlobal + Abort + Print),
     config: &mut Config,
 ) -> Result<(), Fail> {
-    stack_up(rt, config)?;
-    wait_for_the_reader(rt, config)?;
-    drain_up(rt, config)
+    play(rt, config, &MID)?;
+    link_devices(rt, config)?;
+    play(rt, config, &UP)?;
+    fill(rt, config, Way::Up, 68)?;
+    let fulls = [full_line("top", Side::Read)?, full_line("mid", Side::Read)?];
+    holds_up(rt, config, 132, &fulls)?;
+    drain(rt, config, Way::Up, 68)
 }
 
 #[test]
