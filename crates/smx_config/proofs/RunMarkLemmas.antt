@@ -1,5 +1,5 @@
 -- Places that are marked, one after another.
-use Rattle.std.proofs.Common.{◌≡◌, ℕ, ◌+◌, ◌<◌, Bool, true, false, ◌&&◌, ◌||◌, eqb, ltb, List, [], ◌∷◌, length, find, take, Option, Some, None, refl, sym, ap, ◌∙◌, subst, arith, inl, inr}
+use Rattle.std.proofs.Common.{◌≡◌, ℕ, ◌+◌, ◌<◌, Bool, true, false, ◌&&◌, ◌||◌, eqb, ltb, List, [], ◌∷◌, find, Option, Some, None, refl, sym, ap, ◌∙◌, subst, arith, inl, inr}
 use Rattle.std.specs.Prelude.{◌≢◌, ◌⊎◌}
 use Rattle.std.specs.List.{list_any}
 use Rattle.std.specs.Option.{option_map_or}
@@ -15,7 +15,7 @@ use Rattle.smx_model.specs.DriverList.{minors_of}
 use Rattle.smx_model.specs.KnownStreams.{IsKnown}
 use Rattle.smx_model.specs.Paths.{AreLowersApart}
 use Rattle.smx_model.specs.Queues.{first_message}
-use Rattle.smx_model.specs.RunMarks.{both, is_below_driver}
+use Rattle.smx_model.specs.RunMarks.{both}
 use Rattle.smx_queues.specs.PlaceMarks.{MarkList, has_mark}
 use Rattle.smx_config.specs.Marking.{IsMarkedWhere, is_read_below_driver, is_write_of}
 use Rattle.smx_config.proofs.AboveLemmas.{any_once, eqb_swap, once_below}

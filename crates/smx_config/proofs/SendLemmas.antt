@@ -1,6 +1,6 @@
 -- A message that may be sent: where it goes, and what it has.
 use Rattle.std.proofs.Common.{◌≡◌, ℕ, ◌<◌, Bool, true, false, ◌||◌, not, eqb, List, [], ◌∷◌, length, Result, Ok, Err, refl, sym, ◌∙◌, subst, arith}
-use Rattle.std.specs.Prelude.{nat_le, nat_lt}
+use Rattle.std.specs.Prelude.{nat_le, nat_lt, IfOk}
 use Rattle.std.proofs.lemmas.Bool.{or_parts, false≢true}
 use Rattle.smx_types.specs.declared.driver.DriverSpec.{DriverSpec}
 use Rattle.smx_types.specs.declared.limits.TheConstants.{NUMBER_END}
@@ -61,3 +61,8 @@ leaf_known drivers c name minor s k e =
       is_true : (b : Bool) → not b ≡ false → b ≡ true
       is_true true h = refl
       is_true false h = absurd cc
+
+-- every stream that a look-up answers is known
+pub answers_known : (drivers : List DriverSpec) (named : Result StreamId Fault) → ((s : StreamId) → named ≡ Ok s → IsKnown drivers s) → IfOk named (IsKnown drivers)
+answers_known drivers (Ok s) h = h s refl
+answers_known drivers (Err f) h = tt

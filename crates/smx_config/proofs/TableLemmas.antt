@@ -10,6 +10,10 @@ pub none_past : {X : Type 0} (xs : List X) (i : ℕ) → None ≡ slice_get xs i
 none_past [] i e lt = absurd (omega arith)
 none_past (x ∷ xs) i e lt = let k = e ∙ slice_get-get_or (x ∷ xs) i x lt in cc
 
+-- and one that was got out of the same items elsewhere
+pub one_got : {X : Type 0} (xs ys : List X) (i : ℕ) (x : X) → ys ≡ xs → i < length ys → x ≡ get_or ys i x → Some x ≡ slice_get xs i
+one_got {X = X} xs ys i x same lt is = ap Some is ∙ sym (slice_get-get_or ys i x lt) ∙ ap (λ (zs : List X). slice_get zs i) same
+
 -- one more
 pub take_one_more : {X : Type 0} (xs : List X) (i : ℕ) (x : X) → Some x ≡ slice_get xs i → take (i + 1) xs ≡ take i xs ++ x ∷ []
 take_one_more {X = X} xs i x e = take_more xs i x (slice_get_within xs i x (sym e)) ∙ ap (λ (y : X). take i xs ++ y ∷ []) (get_or_from_slice_get xs i x x (sym e))

@@ -13,6 +13,7 @@ pub mod Sending
 pub mod FewMinors
 pub mod KeptHolds
 pub mod Marking
+pub mod MessageStreams
 pub mod Wakes
 pub mod SweepReserves
 pub mod Closing

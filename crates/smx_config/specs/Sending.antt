@@ -1,13 +1,16 @@
--- The refusals of sending a message. No public clause needs this.
+-- Sending and taking a message, once it is known at which stream. No public clause needs this.
 use Rattle.std.specs.Prelude.{ℕ, ◌||◌, ◌==◌, nat_lt, nat_le, List, length, Result}
 use Rattle.smx_types.specs.declared.driver.DriverSpec.{DriverSpec}
 use Rattle.smx_types.specs.declared.limits.TheConstants.{NUMBER_END}
 use Rattle.smx_types.specs.declared.reply.Fault.{Fault}
 use Rattle.smx_types.specs.declared.reply.Fault.TheVariants.{BadSize, Full}
 use Rattle.smx_types.specs.declared.stream.Place.{Place}
+use Rattle.smx_types.specs.declared.stream.Side.{Side}
+use Rattle.smx_types.specs.declared.stream.StreamId.{StreamId}
+use Rattle.smx_model.specs.Commands.{receive_outcome, send_outcome}
 use Rattle.smx_model.specs.Configuration.{Configuration}
 use Rattle.smx_model.specs.DriverList.{max_of}
-use Rattle.smx_model.specs.Outcomes.{◌>>=◌, refuse}
+use Rattle.smx_model.specs.Outcomes.{◌>>=◌, refuse, Outcome}
 use Rattle.smx_model.specs.Queues.{is_full}
 
 -- once the place is known
@@ -15,3 +18,15 @@ abbrev pub may_send : List DriverSpec → Configuration → Place → List ℕ �
 may_send drivers c p bytes = do
   size ← refuse BadSize ((length bytes == 0) || nat_lt (max_of drivers p.stream.driver) (length bytes))
   refuse Full (is_full c p || nat_le NUMBER_END c.next_serial)
+
+-- a message is sent to a side of the stream that a command names, if it names one
+abbrev pub sent_to : List DriverSpec → Configuration → Result StreamId Fault → Side → ℕ → List ℕ → Outcome
+sent_to drivers c named on addr bytes = do
+  s ← named
+  send_outcome drivers c (record { stream = s; side = on }) addr bytes
+
+-- and so is one taken from it
+abbrev pub received_from : List DriverSpec → Configuration → Result StreamId Fault → Side → Outcome
+received_from drivers c named on = do
+  s ← named
+  receive_outcome drivers c (record { stream = s; side = on })

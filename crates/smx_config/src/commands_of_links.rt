@@ -102,8 +102,9 @@ fn all_targets(
     ensures { IfOk result (λ v. v.items ≡ map (λ l. l.id) (filter (may_unlink kind stream) links.now.links)) }
 {
     let mut ids = Vec::new(alloc);
-    for i in 0..links.len() {
-        if let Some(link) = links.at(i) {
+    let listed = links.links();
+    for i in 0..listed.len() {
+        if let Some(link) = listed.get(i) {
             if may_unlink(kind, stream, link) {
                 ids.push(link.id)?;
             }

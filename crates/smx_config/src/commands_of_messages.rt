@@ -1,7 +1,7 @@
 //! Writing, reading, flushing, and the device's side.
 
-ghost use Rattle.std.specs.Prelude.{◌≡◌, ◌==◌, ◌||◌, nat_lt, nat_le, length};
-ghost use Rattle.smx_types.specs.declared.command.Command.TheVariants.{Write, Read, Flush, Inject, Transmit};
+ghost use Rattle.std.specs.Prelude.{◌≡◌, ◌==◌, ◌||◌, nat_lt, nat_le, length, IfOk};
+ghost use Rattle.smx_types.specs.declared.command.Command.TheVariants.{Flush};
 ghost use Rattle.smx_types.specs.declared.limits.TheConstants.{NUMBER_END};
 ghost use Rattle.smx_model.specs.Commands.{send_outcome, receive_outcome};
 ghost use Rattle.smx_model.specs.DriverList.{max_of};
@@ -9,19 +9,19 @@ ghost use Rattle.smx_model.specs.KnownStreams.{IsKnown};
 ghost use Rattle.smx_model.specs.Queues.{is_full};
 ghost use Rattle.smx_config.specs.KeptHolds.{KeepsHolds};
 ghost use Rattle.smx_config.specs.ModelOfLists.{configuration_of, sizes_of};
-ghost use Rattle.smx_config.specs.Refinement.{StepInvariant, HasOutcome, HasOutcomeOrNoMemory, Refines, RefinesOrNoMemory};
-ghost use Rattle.smx_config.specs.Sending.{may_send};
+ghost use Rattle.smx_config.specs.Refinement.{StepInvariant, HasOutcome, HasOutcomeOrNoMemory, RefinesOrNoMemory};
+ghost use Rattle.smx_config.specs.Sending.{may_send, received_from, sent_to};
 
 use crate::driver_specs::max_of;
 use crate::dropped_messages::drop_sides;
 use crate::lists::Lists;
-use crate::lookups::{free_stream, leaf_stream};
+use crate::lookups::free_stream;
 use crate::queues::{arrive, leave};
 use crate::refuse::refuse;
 use crate::step_error::StepError;
 use crate::sweep::{reserve_for_sweep, sweep_and_reply};
 use smx_types::{
-    Bytes, DriverSpec, Fault, Message, NUMBER_END, Name, Place, Process, Reply, Side, Sides,
+    Bytes, DriverSpec, Fault, Message, NUMBER_END, Place, Process, Reply, Side, Sides, StreamId,
 };
 use std::alloc::Global;
 
@@ -53,7 +53,7 @@ fn check_send(
     refuse(Fault::Full, has_no_room(lists, place))
 }
 
-fn send(
+fn send_to(
     alloc: Global,
     drivers: &[DriverSpec],
     lists: &mut Lists,
@@ -81,7 +81,28 @@ fn send(
     Ok(Reply::Took { serial })
 }
 
-fn receive(drivers: &[DriverSpec], lists: &mut Lists, place: Place) -> Result<Reply, Fault>
+/// A message that a command sends to a side of the stream that it names.
+pub fn send(
+    alloc: Global,
+    drivers: &[DriverSpec],
+    lists: &mut Lists,
+    named: Result<StreamId, Fault>,
+    side: Side,
+    addr: u32,
+    bytes: &Bytes,
+) -> Result<Reply, StepError>
+    requires whole { StepInvariant drivers.now lists.old }
+    requires known { IfOk named (IsKnown drivers.now) }
+    ensures refines { HasOutcomeOrNoMemory lists.old lists.new
+        (sent_to drivers.now (configuration_of lists.old) named side addr bytes.now) result }
+    ensures kept { KeepsHolds lists.new }
+    ensures drivers { sizes_of lists.new ≡ sizes_of lists.old }
+{
+    let stream = named?;
+    send_to(alloc, drivers, lists, Place { stream, side }, addr, bytes)
+}
+
+fn receive_from(drivers: &[DriverSpec], lists: &mut Lists, place: Place) -> Result<Reply, Fault>
     requires { StepInvariant drivers.now lists.old }
     ensures refines { HasOutcome lists.old lists.new (receive_outcome drivers.now (configuration_of lists.old) place) result }
     ensures kept { KeepsHolds lists.new }
@@ -98,45 +119,21 @@ fn receive(drivers: &[DriverSpec], lists: &mut Lists, place: Place) -> Result<Re
     }
 }
 
-pub fn write(
-    alloc: Global,
+/// The message that a command takes from a side of the stream that it names.
+pub fn receive(
     drivers: &[DriverSpec],
     lists: &mut Lists,
-    process: Process,
-    fd: u32,
-    addr: u32,
-    bytes: &Bytes,
-) -> Result<Reply, StepError>
-    requires { StepInvariant drivers.now lists.old }
-    ensures refines { RefinesOrNoMemory drivers.now lists.old lists.new process (Write fd addr bytes.now) result }
-    ensures kept { KeepsHolds lists.new }
-    ensures drivers { sizes_of lists.new ≡ sizes_of lists.old }
-{
-    let stream = free_stream(lists, process, fd)?;
-    let place = Place {
-        stream,
-        side: Side::Write,
-    };
-    send(alloc, drivers, lists, place, addr, bytes)
-}
-
-pub fn read(
-    drivers: &[DriverSpec],
-    lists: &mut Lists,
-    process: Process,
-    fd: u32,
+    named: Result<StreamId, Fault>,
+    side: Side,
 ) -> Result<Reply, Fault>
     requires { StepInvariant drivers.now lists.old }
-    ensures refines { Refines drivers.now lists.old lists.new process (Read fd) result }
+    ensures refines { HasOutcome lists.old lists.new
+        (received_from drivers.now (configuration_of lists.old) named side) result }
     ensures kept { KeepsHolds lists.new }
     ensures drivers { sizes_of lists.new ≡ sizes_of lists.old }
 {
-    let stream = free_stream(lists, process, fd)?;
-    let place = Place {
-        stream,
-        side: Side::Read,
-    };
-    receive(drivers, lists, place)
+    let stream = named?;
+    receive_from(drivers, lists, Place { stream, side })
 }
 
 pub fn flush(
@@ -156,47 +153,4 @@ pub fn flush(
     let mut room = reserve_for_sweep(alloc, lists, 0)?;
     drop_sides(&mut lists.queues, stream, sides, &mut room.dropped);
     Ok(sweep_and_reply(drivers, lists, room))
-}
-
-pub fn inject(
-    alloc: Global,
-    drivers: &[DriverSpec],
-    lists: &mut Lists,
-    process: Process,
-    name: &Name,
-    minor: u32,
-    addr: u32,
-    bytes: &Bytes,
-) -> Result<Reply, StepError>
-    requires { StepInvariant drivers.now lists.old }
-    ensures refines { RefinesOrNoMemory drivers.now lists.old lists.new process (Inject name.now minor addr bytes.now) result }
-    ensures kept { KeepsHolds lists.new }
-    ensures drivers { sizes_of lists.new ≡ sizes_of lists.old }
-{
-    let stream = leaf_stream(drivers, lists, name, minor)?;
-    let place = Place {
-        stream,
-        side: Side::Read,
-    };
-    send(alloc, drivers, lists, place, addr, bytes)
-}
-
-pub fn transmit(
-    drivers: &[DriverSpec],
-    lists: &mut Lists,
-    process: Process,
-    name: &Name,
-    minor: u32,
-) -> Result<Reply, Fault>
-    requires { StepInvariant drivers.now lists.old }
-    ensures refines { Refines drivers.now lists.old lists.new process (Transmit name.now minor) result }
-    ensures kept { KeepsHolds lists.new }
-    ensures drivers { sizes_of lists.new ≡ sizes_of lists.old }
-{
-    let stream = leaf_stream(drivers, lists, name, minor)?;
-    let place = Place {
-        stream,
-        side: Side::Write,
-    };
-    receive(drivers, lists, place)
 }

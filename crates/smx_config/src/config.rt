@@ -28,7 +28,7 @@ use crate::shown_addresses::{are_bindings_shown, are_routes_shown};
 use crate::shown_lines::{are_fds_shown, are_fulls_shown, are_links_shown, are_messages_shown};
 use crate::standing::tells_existing;
 use crate::step_error::StepError;
-use crate::wakes::wakes_of;
+use crate::wakes::{message_stream, wakes_of};
 use crate::waking::wake;
 use smx_model::laws_of_marked_commands::empty_needs_no_mark;
 use smx_model::laws_of_steps::{
@@ -119,8 +119,16 @@ impl Config {
         outcomes_are_sound();
         refusals_change_nothing();
         woken_marks_are_enough();
-        let wakes = wakes_of(&self.drivers, &self.lists, process, command);
-        match perform(self.alloc, &self.drivers, &mut self.lists, process, command) {
+        let named = message_stream(&self.drivers, &self.lists, process, command);
+        let wakes = wakes_of(&self.drivers, &self.lists, process, command, named);
+        match perform(
+            self.alloc,
+            &self.drivers,
+            &mut self.lists,
+            process,
+            command,
+            named,
+        ) {
             Ok(reply) => {
                 wake(&self.drivers, &self.lists, &mut self.marks, wakes);
                 finish_step(&self.drivers, &mut self.lists, &mut self.marks);

@@ -64,8 +64,9 @@ fn release_below(
         return false;
     }
     let mut released = false;
-    for i in 0..links.len() {
-        if let Some(link) = links.at(i) {
+    let listed = links.links();
+    for i in 0..listed.len() {
+        if let Some(link) = listed.get(i) {
             if is_loose_by(streams, ctl, link) {
                 let _gone = streams.release(link.lower);
                 touched.push_reserved(link.lower);
@@ -132,8 +133,9 @@ pub fn released_links(
     if !released {
         return ids;
     }
-    for i in 0..links.len() {
-        if let Some(link) = links.at(i) {
+    let listed = links.links();
+    for i in 0..listed.len() {
+        if let Some(link) = listed.get(i) {
             if !is_held(streams, link) {
                 put_id(&mut ids, link.id);
             }

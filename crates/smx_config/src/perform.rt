@@ -1,19 +1,21 @@
 //! One command, before messages move on.
 
-ghost use Rattle.std.specs.Prelude.{◌≡◌, ◌≢◌, IsTrue, Err};
+ghost use Rattle.std.specs.Prelude.{◌≡◌, ◌≢◌, IfOk, IsTrue, Err};
+ghost use Rattle.smx_model.specs.KnownStreams.{IsKnown};
 ghost use Rattle.smx_config.specs.declared.step_error.StepError.TheVariants as step_error;
 ghost use Rattle.smx_config.specs.Machine.{takes_no_memory};
 ghost use Rattle.smx_config.specs.Refinement.{StepInvariant, RefinesOrNoMemory, as_step_error};
-ghost use Rattle.smx_config.specs.ModelOfLists.{sizes_of};
+ghost use Rattle.smx_config.specs.MessageStreams.{message_stream};
+ghost use Rattle.smx_config.specs.ModelOfLists.{configuration_of, sizes_of};
 ghost use Rattle.smx_config.specs.KeptHolds.{KeepsHolds};
 
 use crate::commands_of_addresses::{bind, route, unbind, unroute};
 use crate::commands_of_links::{link, plink, punlink, unlink};
-use crate::commands_of_messages::{flush, inject, read, transmit, write};
+use crate::commands_of_messages::{flush, receive, send};
 use crate::commands_of_streams::{close, close_all, dup, open_clone, open_minor};
 use crate::lists::Lists;
 use crate::step_error::StepError;
-use smx_types::{Command, DriverSpec, Fault, Process, Reply};
+use smx_types::{Command, DriverSpec, Fault, Process, Reply, Side, StreamId};
 use std::alloc::Global;
 
 fn as_step_error(answer: Result<Reply, Fault>) -> Result<Reply, StepError>
@@ -32,8 +34,11 @@ pub fn perform(
     lists: &mut Lists,
     process: Process,
     command: &Command,
+    named: Result<StreamId, Fault>,
 ) -> Result<Reply, StepError>
-    requires { StepInvariant drivers.now lists.old }
+    requires whole { StepInvariant drivers.now lists.old }
+    requires known { IfOk named (IsKnown drivers.now) }
+    requires named { named ≡ message_stream drivers.now (configuration_of lists.old) process command.now }
     ensures refines { RefinesOrNoMemory drivers.now lists.old lists.new process command.now result }
     ensures in_place { IsTrue (takes_no_memory command.now) → result ≢ Err step_error.NoMemory }
     ensures room { KeepsHolds lists.new }
@@ -59,19 +64,14 @@ pub fn perform(
         Command::Unroute { fd, addr } => {
             as_step_error(unroute(alloc, drivers, lists, process, *fd, *addr))
         }
-        Command::Write { fd, addr, bytes } => {
-            write(alloc, drivers, lists, process, *fd, *addr, bytes)
+        Command::Write { addr, bytes, .. } => {
+            send(alloc, drivers, lists, named, Side::Write, *addr, bytes)
         }
-        Command::Read { fd } => as_step_error(read(drivers, lists, process, *fd)),
+        Command::Read { .. } => as_step_error(receive(drivers, lists, named, Side::Read)),
         Command::Flush { fd, sides } => flush(alloc, drivers, lists, process, *fd, *sides),
-        Command::Inject {
-            driver,
-            minor,
-            addr,
-            bytes,
-        } => inject(alloc, drivers, lists, process, driver, *minor, *addr, bytes),
-        Command::Transmit { driver, minor } => {
-            as_step_error(transmit(drivers, lists, process, driver, *minor))
+        Command::Inject { addr, bytes, .. } => {
+            send(alloc, drivers, lists, named, Side::Read, *addr, bytes)
         }
+        Command::Transmit { .. } => as_step_error(receive(drivers, lists, named, Side::Write)),
     }
 }

@@ -1,7 +1,9 @@
 //! What a command may wake.
 
-ghost use Rattle.std.specs.Prelude.{◌≡◌};
+ghost use Rattle.std.specs.Prelude.{◌≡◌, IfOk};
 ghost use Rattle.smx_types.specs.declared.stream.Place.{Place as PlaceValue};
+ghost use Rattle.smx_model.specs.KnownStreams.{IsKnown};
+ghost use Rattle.smx_config.specs.MessageStreams.{message_stream};
 ghost use Rattle.smx_config.specs.ModelOfLists.{configuration_of};
 ghost use Rattle.smx_config.specs.Refinement.{StepInvariant};
 ghost use Rattle.smx_config.specs.Wakes.{on_stream, wakes_of};
@@ -64,9 +66,48 @@ fn turns_reads(stream: Result<StreamId, Fault>) -> Wakes
     }
 }
 
-// By the command table. Takes no memory.
-pub fn wakes_of(drivers: &[DriverSpec], lists: &Lists, process: Process, command: &Command) -> Wakes
+// The stream at which a command sends or takes a message. Takes no memory.
+pub fn message_stream(
+    drivers: &[DriverSpec],
+    lists: &Lists,
+    process: Process,
+    command: &Command,
+) -> Result<StreamId, Fault>
     requires { StepInvariant drivers.now lists.now }
+    ensures value { result ≡ message_stream drivers.now (configuration_of lists.now) process command.now }
+    ensures known { IfOk result (IsKnown drivers.now) }
+{
+    match command {
+        Command::Write { fd, .. } | Command::Read { fd } => free_stream(lists, process, *fd),
+        Command::Inject { driver, minor, .. } | Command::Transmit { driver, minor } => {
+            leaf_stream(drivers, lists, driver, *minor)
+        }
+        Command::OpenClone { .. }
+        | Command::OpenMinor { .. }
+        | Command::Dup { .. }
+        | Command::Close { .. }
+        | Command::CloseAll
+        | Command::Link { .. }
+        | Command::Plink { .. }
+        | Command::Unlink { .. }
+        | Command::Punlink { .. }
+        | Command::Bind { .. }
+        | Command::Unbind { .. }
+        | Command::Route { .. }
+        | Command::Unroute { .. }
+        | Command::Flush { .. } => Err(Fault::BadDescriptor),
+    }
+}
+
+// By the command table. Takes no memory.
+pub fn wakes_of(
+    drivers: &[DriverSpec],
+    lists: &Lists,
+    process: Process,
+    command: &Command,
+    named: Result<StreamId, Fault>,
+) -> Wakes
+    requires { named ≡ message_stream drivers.now (configuration_of lists.now) process command.now }
     ensures { result ≡ wakes_of drivers.now (configuration_of lists.now) process command.now }
 {
     match command {
@@ -84,13 +125,9 @@ pub fn wakes_of(drivers: &[DriverSpec], lists: &Lists, process: Process, command
         Command::Plink { arg, .. } => turns(stream_of(lists, process, *arg), Side::Read),
         Command::Bind { fd, .. } => turns_reads(mux_stream(drivers, lists, process, *fd)),
         Command::Route { fd, .. } => turns_writes(mux_stream(drivers, lists, process, *fd)),
-        Command::Write { fd, .. } => turns(free_stream(lists, process, *fd), Side::Write),
-        Command::Read { fd } => leaves(free_stream(lists, process, *fd), Side::Read),
-        Command::Inject { driver, minor, .. } => {
-            turns(leaf_stream(drivers, lists, driver, *minor), Side::Read)
-        }
-        Command::Transmit { driver, minor } => {
-            leaves(leaf_stream(drivers, lists, driver, *minor), Side::Write)
-        }
+        Command::Write { .. } => turns(named, Side::Write),
+        Command::Read { .. } => leaves(named, Side::Read),
+        Command::Inject { .. } => turns(named, Side::Read),
+        Command::Transmit { .. } => leaves(named, Side::Write),
     }
 }

@@ -1,13 +1,10 @@
-use Rattle.std.proofs.Common.{◌≡◌, ◌&&◌, ◌∷◌, [], ℕ, Bool, true, false, eqb, not, filter, map, List, refl, sym, subst}
-use Rattle.std.specs.Prelude.{IfOk, Ok, Result}
+use Rattle.std.proofs.Common.{◌≡◌, ◌&&◌, Bool, true, false, eqb, not, refl, subst}
+use Rattle.std.specs.Prelude.{Ok}
 use Rattle.std.specs.List.{list_any}
 use Rattle.smx_types.specs.declared.command.Which.{Which}
-use Rattle.smx_types.specs.declared.command.Which.TheVariants as which
-use Rattle.smx_types.specs.declared.link.Link.{Link}
-use Rattle.smx_types.specs.declared.reply.Fault.{Fault}
 use Rattle.smx_types.specs.declared.reply.Fault.TheVariants.{NoLink}
 use Rattle.smx_model.specs.Outcomes.{refuse}
-use Rattle.smx_config.specs.UnlinkTargets.{are_there, is_target, may_unlink}
+use Rattle.smx_config.specs.UnlinkTargets.{are_there, may_unlink}
 use Rattle.smx_config.proofs.AboveLemmas.{target_of_id}
 use Rattle.smx_config.proofs.commands_of_links.targets.Goals as goal
 

@@ -1,9 +1,6 @@
-use Rattle.std.proofs.Common.{◌≡◌, ◌||◌, Bool, true, false, Option, Some, refl, ◌∙◌}
-use Rattle.smx_types.specs.declared.driver.DriverSpec.{DriverSpec}
-use Rattle.smx_types.specs.declared.stream.Place.{Place}
+use Rattle.std.proofs.Common.{refl, ◌∙◌}
 use Rattle.smx_model.specs.Configuration.{same_place}
-use Rattle.smx_model.specs.Queues.{after_leaving}
-use Rattle.smx_model.specs.RunMarks.{both, is_first_at}
+use Rattle.smx_model.specs.RunMarks.{both}
 use Rattle.smx_model.specs.Settling.{after_move}
 use Rattle.smx_model.specs.SettlingByMarks.{turned_by_move}
 use Rattle.smx_config.specs.Marking.{marked_configuration}

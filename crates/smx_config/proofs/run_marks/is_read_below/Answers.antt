@@ -1,8 +1,4 @@
-use Rattle.std.proofs.Common.{refl, ap, subst, sym, ◌∙◌, false, List}
-use Rattle.smx_types.specs.declared.link.Link.{Link}
-use Rattle.smx_model.specs.Configuration.{Configuration}
-use Rattle.smx_model.specs.Paths.{AreLowersApart}
-use Rattle.smx_config.proofs.RunMarkLemmas.{below_by, below_none, below_not}
+use Rattle.smx_config.proofs.RunMarkLemmas.{below_by, below_none}
 use Rattle.smx_config.proofs.run_marks.is_read_below.Goals as goal
 
 pub returns-in-Some : goal.returns-in-Some

@@ -1,6 +1,6 @@
 use Rattle.std.proofs.Common.{refl, sym, ◌∙◌}
 use Rattle.smx_config.specs.ModelOfLists.{configuration_of}
-use Rattle.smx_config.proofs.RunMarkLemmas.{all_passed, none_passed, one_left, one_passed}
+use Rattle.smx_config.proofs.RunMarkLemmas.{one_left, one_passed}
 use Rattle.smx_config.proofs.run_marks.mark_reads.Goals as goal
 
 pub loop-first-preserved-then-is_read_below : goal.loop-first-preserved-then-is_read_below

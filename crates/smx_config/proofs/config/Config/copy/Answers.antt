@@ -1,5 +1,4 @@
-use Rattle.std.proofs.Common.{◌≡◌, ◌∙◌, List, ap, sym}
-use Rattle.smx_types.specs.declared.driver.DriverSpec.{DriverSpec}
+use Rattle.std.proofs.Common.{◌≡◌, ◌∙◌, ap, sym}
 use Rattle.smx_links.specs.LinkLists.{LinkList}
 use Rattle.smx_streams.specs.StreamTables.{StreamTable}
 use Rattle.smx_config.specs.ModelOfLists.{configuration_of}
