@@ -19,3 +19,4 @@ pub mod SpecLemmas
 pub mod StepLemmas
 pub mod MarkLemmas
 pub mod TargetLemmas
+pub mod WaiterLemmas

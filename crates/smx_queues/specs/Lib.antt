@@ -5,3 +5,4 @@ pub mod PlaceLists
 pub mod FlowTables
 pub mod PlaceMarks
 pub mod PlaceTargets
+pub mod Waiters

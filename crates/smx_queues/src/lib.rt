@@ -16,6 +16,7 @@ mod queued;
 mod queued_messages;
 mod queues;
 mod span;
+mod waiters;
 
 pub use flow_table::FlowTable;
 pub use fronts::Fronts;
@@ -27,3 +28,4 @@ pub use place_targets::PlaceTargets;
 pub use queued::Queued;
 pub use queued_messages::QueuedMessages;
 pub use queues::{PlaceId, Queues};
+pub use waiters::{Wait, Waiters};
