@@ -1,7 +1,6 @@
-use Rattle.std.proofs.Common.{◌≡◌, ℕ, ◌+◌, ◌-◌, ◌<◌, ◌∙◌, length, get_or, ap, sym, Option, Some, arith, vec_len}
+use Rattle.std.proofs.Common.{◌≡◌, ◌+◌, ◌-◌, ◌<◌, ◌∙◌, length, get_or, ap, sym, arith, vec_len}
 use Rattle.std.proofs.lemmas.List.{take_at}
 use Rattle.std.proofs.lemmas.Option.{slice_get_within}
-use Rattle.smx_types.specs.declared.stream.Place.{Place}
 use Rattle.smx_queues.specs.Waiters.{WaitList}
 use Rattle.smx_queues.proofs.WaiterLemmas.{at, by_no_slot, cleared, free_here, index_below, less_and_more, slot_read, taken_out}
 use Rattle.smx_queues.proofs.waiters.Waiters.clear.Goals as goal

@@ -1,6 +1,5 @@
-use Rattle.std.proofs.Common.{◌≡◌, ℕ, ◌+◌, ◌-◌, ◌<◌, ◌∙◌, length, get_or, ap, sym, Option, Some, arith}
+use Rattle.std.proofs.Common.{◌≡◌, ◌+◌, ◌-◌, ◌<◌, ◌∙◌, length, get_or, ap, arith}
 use Rattle.std.proofs.lemmas.Option.{slice_get_within}
-use Rattle.smx_types.specs.declared.stream.Place.{Place}
 use Rattle.smx_queues.specs.Waiters.{WaitList}
 use Rattle.smx_queues.proofs.WaiterLemmas.{anew_here, anew_others, at, index_below, less_and_more, more_here, more_others, one_anew, one_more, slot_read, some_free}
 use Rattle.smx_queues.proofs.waiters.Waiters.wait.Goals as goal
