@@ -51,9 +51,11 @@ one_number p (x ∷ places) (suc i) (suc j) rise a b = ap suc (one_number p plac
 
 -- ---- a list in which one element is another
 
+-- the one is written
 get_set : {X : Type 0} (xs : List X) (k : ℕ) (x : X) → k < length xs → slice_get (set xs k x) k ≡ Some x
 get_set xs k x below = slice_get-get_or (set xs k x) k x (omega (arith, length-set xs k x)) ∙ ap (λ y. Some y) (get_or-set_same xs k x x below)
 
+-- the others stay
 get_set_other : {X : Type 0} (xs : List X) (k j : ℕ) (x : X) → (j ≡ k → ⊥) → slice_get (set xs k x) j ≡ slice_get xs j
 get_set_other [] k j x other = refl
 get_set_other (y ∷ xs) zero zero x other = absurd (other refl)
@@ -100,11 +102,12 @@ found_none p (x ∷ waits) none = elim (cases_Bool (same_place x.waiter p)) [
   | inr f ↦ rw f (found_none p waits (λ j v h e. none (suc j) v h e))
 ]
 
--- a slot tells a wait of its place
+-- a wait of a place is there
 waiter_is : (o : Option Wait) (p : Place) → waiter_of o ≡ Some p → (w : Wait) × (o ≡ Some w) × (w.waiter ≡ p)
 waiter_is None p e = absurd cc
 waiter_is (Some w) p e = (w, refl, same_Some w.waiter p e)
 
+-- the slot of a place tells its wait
 told_at : (places : List Place) (slots : List ℕ) (waits : List Wait) (p : Place) (i k : ℕ) → HaveSlots places slots waits → slice_get places i ≡ Some p → get_or slots i 0 ≡ k + 1 → (w : Wait) × (slice_get waits k ≡ Some w) × (w.waiter ≡ p)
 told_at places slots waits p i k h there e = waiter_is (slice_get waits k) p (h.told i k e ∙ there)
 
@@ -113,6 +116,10 @@ told_back : (places : List Place) (slots : List ℕ) (waits : List Wait) (k : �
 told_back places slots waits k w h there =
     let by = h.known k (slice_get_within waits k w there) in
     (by.0, by.1, sym (h.told by.0 k by.1) ∙ ap waiter_of there)
+
+-- a place has a slot
+pub has_slot : (places : List Place) (slots : List ℕ) (waits : List Wait) (p : Place) (i : ℕ) → HaveSlots places slots waits → slice_get places i ≡ Some p → i < length slots
+has_slot places slots waits p i h there = omega (arith, slice_get_within places i p there, h.one_each)
 
 -- the slot of a place tells for which place it waits
 by_slot : (places : List Place) (slots : List ℕ) (waits : List Wait) (p : Place) (i : ℕ) → HaveSlots places slots waits → slice_get places i ≡ Some p → at p waits ≡ option_map (λ w. w.target) (held waits (get_or slots i 0))
@@ -163,8 +170,9 @@ counted_set : (slots : List ℕ) (i n : ℕ) → i < length slots → count_by i
 counted_set slots i n below = sum_by-set weight slots i n 0 below
 
 -- where a slot is 0 fewer wait than there are places
-pub some_free : (places : List Place) (slots : List ℕ) (waits : List Wait) (i : ℕ) → HaveSlots places slots waits → i < length slots → get_or slots i 0 ≡ 0 → length waits < length places
-some_free places slots waits i h below e =
+pub some_free : (places : List Place) (slots : List ℕ) (waits : List Wait) (p : Place) (i : ℕ) → HaveSlots places slots waits → slice_get places i ≡ Some p → get_or slots i 0 ≡ 0 → length waits < length places
+some_free places slots waits p i h there e =
+    let below = has_slot places slots waits p i h there in
     let one : 1 ≤ count_by is_free slots = subst (λ (n : ℕ). weight n ≤ count_by is_free slots) e (get_or-le-sum_by weight slots i 0 below) in
     omega (arith, h.counted, h.one_each)
 
@@ -222,7 +230,7 @@ one_more places slots waits p target i n h there e last = record {
       omega (arith, h.counted, length-set slots i n, length-append waits (wait_for p target ∷ []));
 } where
   below : i < length slots
-  below = omega (arith, slice_get_within places i p there, h.one_each)
+  below = has_slot places slots waits p i h there
 
   zero_not : (k : ℕ) → 0 ≡ k + 1 → ⊥
   zero_not k f = omega arith
@@ -321,7 +329,7 @@ mended places slots now waits waits_now p i k h there e out told end = elim (cas
       (mended_moved places slots waits i k new.0 h e more below (omega (arith, slice_get_within places new.0 w.0.waiter new.1, h.one_each)) (ap (λ (m : ℕ). get_or slots m 0) one ∙ (by.1 ∙ omega arith)))
 ] where
   below : i < length slots
-  below = omega (arith, slice_get_within places i p there, h.one_each)
+  below = has_slot places slots waits p i h there
 
 -- what the other slots tell is as before
 held_still : (places : List Place) (slots now : List ℕ) (waits waits_now : List Wait) (i k j : ℕ) → HaveSlots places slots waits → get_or slots i 0 ≡ k + 1 → IsTakenOut waits k waits_now → AreMended slots i k (length waits) now → (j ≡ i → ⊥)
@@ -396,23 +404,25 @@ other_number places p q i j there here other same =
     let e : p ≡ q = same_Some p q (sym there ∙ (ap (slice_get places) (sym same) ∙ here)) in
     false≢true (sym other ∙ subst (λ (x : Place). same_place p x ≡ true) e (place_self p))
 
--- what is read of a slot
-pub slot_read : (slots : List ℕ) (i x n : ℕ) → i < length slots → x ≡ get_or slots i x → x ≡ n → get_or slots i 0 ≡ n
-slot_read slots i x n below read is = get_or_default slots i 0 x below ∙ (sym read ∙ is)
+-- what is read of the slot of a place
+pub slot_read : (places : List Place) (slots : List ℕ) (waits : List Wait) (p : Place) (i x n : ℕ) → HaveSlots places slots waits → slice_get places i ≡ Some p → x ≡ get_or slots i x → x ≡ n → get_or slots i 0 ≡ n
+slot_read places slots waits p i x n h there read is = get_or_default slots i 0 x (has_slot places slots waits p i h there) ∙ (sym read ∙ is)
 
 -- a number that is not 0 is 1 more than 1 less
 pub less_and_more : (x : ℕ) → (x ≡ 0 → ⊥) → x ≡ x - 1 + 1
 less_and_more zero h = absurd (h refl)
 less_and_more (suc x) h = omega arith
 
+-- one that comes to the end waits for what it is to wait for
 pub more_here : (places : List Place) (slots : List ℕ) (waits : List Wait) (p target : Place) (i : ℕ) → HaveSlots places slots waits → slice_get places i ≡ Some p → get_or slots i 0 ≡ 0
     → at p (waits ++ wait_for p target ∷ []) ≡ Some target
 more_here places slots waits p target i h there e =
     by_slot places (set slots i (length waits + 1)) (waits ++ wait_for p target ∷ []) p i (one_more places slots waits p target i (length waits + 1) h there e refl) there
     ∙ ap (option_map (λ w. w.target))
-    (ap (held (waits ++ wait_for p target ∷ [])) (get_or-set_same slots i (length waits + 1) 0 (omega (arith, slice_get_within places i p there, h.one_each)) ∙ add-one (length waits))
+    (ap (held (waits ++ wait_for p target ∷ [])) (get_or-set_same slots i (length waits + 1) 0 (has_slot places slots waits p i h there) ∙ add-one (length waits))
     ∙ get_right waits (wait_for p target ∷ []) (length waits) 0 (omega arith))
 
+-- and the others for what they waited for
 pub more_others : (places : List Place) (slots : List ℕ) (waits : List Wait) (p target q : Place) (i : ℕ) → HaveSlots places slots waits → slice_get places i ≡ Some p → get_or slots i 0 ≡ 0 → same_place p q ≡ false
     → at q (waits ++ wait_for p target ∷ []) ≡ at q waits
 more_others places slots waits p target q i h there e other =
@@ -423,12 +433,14 @@ more_others places slots waits p target q i h there e other =
       still j zero f = refl
       still j (suc k) f = left_only waits (wait_for p target ∷ []) k (index_below places slots waits j k h (f ∙ sym (add-one k)))
 
+-- so it is with one that waited before
 pub anew_here : (places : List Place) (slots : List ℕ) (waits : List Wait) (p target : Place) (i k : ℕ) → HaveSlots places slots waits → slice_get places i ≡ Some p → get_or slots i 0 ≡ k + 1
     → at p (set waits k (wait_for p target)) ≡ Some target
 anew_here places slots waits p target i k h there e =
     by_slot places slots (set waits k (wait_for p target)) p i (one_anew places slots waits p target i k h there e) there
     ∙ ap (option_map (λ w. w.target)) (ap (held (set waits k (wait_for p target))) (e ∙ add-one k) ∙ get_set waits k (wait_for p target) (index_below places slots waits i k h e))
 
+-- and again with the others
 pub anew_others : (places : List Place) (slots : List ℕ) (waits : List Wait) (p target q : Place) (i k : ℕ) → HaveSlots places slots waits → slice_get places i ≡ Some p → get_or slots i 0 ≡ k + 1 → same_place p q ≡ false
     → at q (set waits k (wait_for p target)) ≡ at q waits
 anew_others places slots waits p target q i k h there e other =
@@ -439,12 +451,14 @@ anew_others places slots waits p target q i k h there e other =
       still j (suc m) f apart_from =
           get_set_other waits k m (wait_for p target) (λ same. apart_from (sym (apart places slots waits i j k h e (f ∙ (sym (add-one m) ∙ ap (λ (x : ℕ). x + 1) same)))))
 
+-- one that is taken out waits for none
 less_here : (places : List Place) (slots now : List ℕ) (waits waits_now : List Wait) (p : Place) (i k : ℕ) → HaveSlots places slots waits → slice_get places i ≡ Some p → get_or slots i 0 ≡ k + 1 → IsTakenOut waits k waits_now
     → AreMended slots i k (length waits) now → at p waits_now ≡ None
 less_here places slots now waits waits_now p i k h there e out m =
     by_slot places now waits_now p i (one_less places slots now waits waits_now i k h e out m) there
     ∙ ap (option_map (λ w. w.target)) (ap (held waits_now) m.own)
 
+-- and the others for what they waited for, also the one that came to its index
 less_others : (places : List Place) (slots now : List ℕ) (waits waits_now : List Wait) (p q : Place) (i k : ℕ) → HaveSlots places slots waits → slice_get places i ≡ Some p → get_or slots i 0 ≡ k + 1 → IsTakenOut waits k waits_now
     → AreMended slots i k (length waits) now → same_place p q ≡ false → at q waits_now ≡ at q waits
 less_others places slots now waits waits_now p q i k h there e out m other =

@@ -20,7 +20,8 @@ target_of t p = option_map (λ w. w.target) (find (λ w. same_place w.waiter p) 
 pub record HaveSlots (places : List Place) (slots : List ℕ) (waits : List Wait) : Type 0 where
   pub rising : IsRising place_before places
   pub one_each : length slots ≡ length places
-  pub told : (i k : ℕ) → slice_index slots i ≡ k + 1 → option_map (λ w. w.waiter) (slice_get waits k) ≡ slice_get places i
+  pub told : (i k : ℕ) → slice_index slots i ≡ k + 1
+      → option_map (λ w. w.waiter) (slice_get waits k) ≡ slice_get places i
   pub known : (k : ℕ) → k < length waits → (i : ℕ) × (slice_index slots i ≡ k + 1)
   pub counted : count_by (λ s. s == 0) slots + length waits ≡ length slots
 

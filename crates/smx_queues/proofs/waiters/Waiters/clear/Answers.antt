@@ -8,17 +8,15 @@ use Rattle.smx_queues.proofs.waiters.Waiters.clear.Goals as goal
 pub swap_remove-requires : goal.swap_remove-requires
 swap_remove-requires c =
     let h = c.self.invariant in
-    let below : c.in-Some.p < length c.self.inside.slots.items = omega (arith, slice_get_within c.self.inside.places.places c.in-Some.p c.args.place c.in-Some.ensures.found, h.0.one_each) in
-    let told : get_or c.self.inside.slots.items c.in-Some.p 0 ≡ c.index-slot.result.now - 1 + 1 = slot_read c.self.inside.slots.items c.in-Some.p c.index-slot.result.now _ below c.index-slot.ensures (less_and_more _ c.if-slot-ne0.true) in
-    omega (arith, index_below c.self.inside.places.places c.self.inside.slots.items c.self.inside.waits.items c.in-Some.p (c.index-slot.result.now - 1) h.0 told)
+    let told : get_or c.self.inside.slots.items c.in-Some.p 0 ≡ c.index-slot.result.now - 1 + 1 = slot_read _ _ _ c.args.place c.in-Some.p c.index-slot.result.now _ h.0 c.in-Some.ensures.found c.index-slot.ensures (less_and_more _ c.if-slot-ne0.true) in
+    omega (arith, index_below _ _ _ c.in-Some.p (c.index-slot.result.now - 1) h.0 told)
 
 pub returns-else-slot-ne0-clause-here : goal.returns-else-slot-ne0-clause-here
 returns-else-slot-ne0-clause-here c =
     let h = c.self.invariant in
-    let below : c.in-Some.p < length c.self.inside.slots.items = omega (arith, slice_get_within c.self.inside.places.places c.in-Some.p c.args.place c.in-Some.ensures.found, h.0.one_each) in
-    let free : get_or c.self.inside.slots.items c.in-Some.p 0 ≡ 0 = slot_read c.self.inside.slots.items c.in-Some.p c.index-slot.result.now _ below c.index-slot.ensures (omega arith) in
+    let free : get_or c.self.inside.slots.items c.in-Some.p 0 ≡ 0 = slot_read _ _ _ c.args.place c.in-Some.p c.index-slot.result.now _ h.0 c.in-Some.ensures.found c.index-slot.ensures (omega arith) in
     ap (at c.args.place) (sym (ap (λ (t : WaitList). t.waits) c.self.view_is))
-    ∙ free_here c.self.inside.places.places c.self.inside.slots.items c.self.inside.waits.items c.args.place c.in-Some.p h.0 c.in-Some.ensures.found free
+    ∙ free_here _ _ _ c.args.place c.in-Some.p h.0 c.in-Some.ensures.found free
 
 pub returns-in_default-clause-here : goal.returns-in_default-clause-here
 returns-in_default-clause-here c =
@@ -32,8 +30,7 @@ invariant_of-self c =
     let slots = c.self.inside.slots.items in
     let waits = c.self.inside.waits.items in
     let left = c.swap_remove.new.self.items in
-    let below : c.in-Some.p < length slots = omega (arith, slice_get_within places c.in-Some.p c.args.place c.in-Some.ensures.found, h.0.one_each) in
-    let told : get_or slots c.in-Some.p 0 ≡ c.index-slot.result.now - 1 + 1 = slot_read slots c.in-Some.p c.index-slot.result.now _ below c.index-slot.ensures (less_and_more _ c.if-slot-ne0.true) in
+    let told : get_or slots c.in-Some.p 0 ≡ c.index-slot.result.now - 1 + 1 = slot_read places slots waits c.args.place c.in-Some.p c.index-slot.result.now _ h.0 c.in-Some.ensures.found c.index-slot.ensures (less_and_more _ c.if-slot-ne0.true) in
     let within = index_below places slots waits c.in-Some.p (c.index-slot.result.now - 1) h.0 told in
     let out = taken_out waits left (c.index-slot.result.now - 1) (vec_len c.self.inside.waits) c.swap_remove.result within (omega arith) (omega (arith, c.swap_remove.ensures.len)) (c.swap_remove.ensures.by_index.0 c.swap_remove.result) (λ j other lt. c.swap_remove.ensures.by_index.1 j c.swap_remove.result other lt) in
     let now = cleared places slots c.deref_mut.result.now c.tell_index.new.slots waits left c.deref.result.now c.args.place c.in-Some.p (c.index-slot.result.now - 1) h.0 c.in-Some.ensures.found told out c.deref.ensures.value c.deref_mut.ensures.value c.tell_index.ensures.told c.tell_index.ensures.end in
@@ -46,8 +43,7 @@ returns-then-slot-ne0-clause-here c =
     let slots = c.self.inside.slots.items in
     let waits = c.self.inside.waits.items in
     let left = c.swap_remove.new.self.items in
-    let below : c.in-Some.p < length slots = omega (arith, slice_get_within places c.in-Some.p c.args.place c.in-Some.ensures.found, h.0.one_each) in
-    let told : get_or slots c.in-Some.p 0 ≡ c.index-slot.result.now - 1 + 1 = slot_read slots c.in-Some.p c.index-slot.result.now _ below c.index-slot.ensures (less_and_more _ c.if-slot-ne0.true) in
+    let told : get_or slots c.in-Some.p 0 ≡ c.index-slot.result.now - 1 + 1 = slot_read places slots waits c.args.place c.in-Some.p c.index-slot.result.now _ h.0 c.in-Some.ensures.found c.index-slot.ensures (less_and_more _ c.if-slot-ne0.true) in
     let within = index_below places slots waits c.in-Some.p (c.index-slot.result.now - 1) h.0 told in
     let out = taken_out waits left (c.index-slot.result.now - 1) (vec_len c.self.inside.waits) c.swap_remove.result within (omega arith) (omega (arith, c.swap_remove.ensures.len)) (c.swap_remove.ensures.by_index.0 c.swap_remove.result) (λ j other lt. c.swap_remove.ensures.by_index.1 j c.swap_remove.result other lt) in
     let now = cleared places slots c.deref_mut.result.now c.tell_index.new.slots waits left c.deref.result.now c.args.place c.in-Some.p (c.index-slot.result.now - 1) h.0 c.in-Some.ensures.found told out c.deref.ensures.value c.deref_mut.ensures.value c.tell_index.ensures.told c.tell_index.ensures.end in
@@ -60,8 +56,7 @@ returns-then-slot-ne0-clause-others c = λ q other.
     let slots = c.self.inside.slots.items in
     let waits = c.self.inside.waits.items in
     let left = c.swap_remove.new.self.items in
-    let below : c.in-Some.p < length slots = omega (arith, slice_get_within places c.in-Some.p c.args.place c.in-Some.ensures.found, h.0.one_each) in
-    let told : get_or slots c.in-Some.p 0 ≡ c.index-slot.result.now - 1 + 1 = slot_read slots c.in-Some.p c.index-slot.result.now _ below c.index-slot.ensures (less_and_more _ c.if-slot-ne0.true) in
+    let told : get_or slots c.in-Some.p 0 ≡ c.index-slot.result.now - 1 + 1 = slot_read places slots waits c.args.place c.in-Some.p c.index-slot.result.now _ h.0 c.in-Some.ensures.found c.index-slot.ensures (less_and_more _ c.if-slot-ne0.true) in
     let within = index_below places slots waits c.in-Some.p (c.index-slot.result.now - 1) h.0 told in
     let out = taken_out waits left (c.index-slot.result.now - 1) (vec_len c.self.inside.waits) c.swap_remove.result within (omega arith) (omega (arith, c.swap_remove.ensures.len)) (c.swap_remove.ensures.by_index.0 c.swap_remove.result) (λ j other lt. c.swap_remove.ensures.by_index.1 j c.swap_remove.result other lt) in
     let now = cleared places slots c.deref_mut.result.now c.tell_index.new.slots waits left c.deref.result.now c.args.place c.in-Some.p (c.index-slot.result.now - 1) h.0 c.in-Some.ensures.found told out c.deref.ensures.value c.deref_mut.ensures.value c.tell_index.ensures.told c.tell_index.ensures.end in
