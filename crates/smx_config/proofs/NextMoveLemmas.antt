@@ -16,7 +16,7 @@ use Rattle.smx_model.specs.RunMarks.{all_but, is_held_up, is_next_of_first, is_o
 use Rattle.smx_model.specs.Settling.{◌>>=◌, IsSettled, is_movable, least_movable, next_open_place, next_place}
 use Rattle.smx_model.specs.SettlingByMarks.{HasItsMarks, IsAtRest, IsCleared, IsLeastMarked}
 use Rattle.smx_queues.specs.PlaceMarks.{MarkList, has_mark}
-use Rattle.smx_queues.specs.PlaceTargets.{TargetList, target_of}
+use Rattle.smx_queues.specs.Waiters.{WaitList, target_of}
 use Rattle.smx_config.specs.declared.marks.Marks.{Marks}
 use Rattle.smx_config.specs.declared.settling.Move.{Move}
 use Rattle.smx_config.specs.Marking.{AreMarks, IsNotedFor, marked_configuration}
@@ -94,7 +94,6 @@ is_cleared drivers c p next old new least is stays gone kept there = record {
 pub record IsNoted (drivers : List DriverSpec) (c : Configuration) (old new : Marks) : Type 0 where
   pub held_up : (p q : Place) → has_mark new.run p ≡ false → next_of_first drivers c p ≡ Some q → IsNotedFor new p q
   pub same_drivers : new.waits.drivers ≡ old.waits.drivers
-  pub same_targets : new.targets.drivers ≡ old.targets.drivers
 
 still_run : (old new : MarkList) (p q : Place) → ((r : Place) → has_mark new r ≡ all_but (has_mark old) p r) → same_place p q ≡ false → has_mark new q ≡ false → has_mark old q ≡ false
 still_run old new p q gone other clear = elim (cases_Bool (has_mark old q)) [
@@ -104,15 +103,14 @@ still_run old new p q gone other clear = elim (cases_Bool (has_mark old q)) [
 
 -- the place whose mark is cleared is noted, and the others are as before
 pub noted : (drivers : List DriverSpec) (c : Configuration) (p : Place) (next : Option Place) (old new : Marks) → AreMarks drivers c old → next ≡ next_of_first drivers c p → ((q : Place) → has_mark new.run q ≡ all_but (has_mark old.run) p q)
-    → ((q : Place) → next ≡ Some q → IsNotedFor new p q) → ((q : Place) → same_place p q ≡ false → (has_mark new.waits q ≡ has_mark old.waits q) × (target_of new.targets q ≡ target_of old.targets q))
-    → (new.waits.drivers ≡ old.waits.drivers) × (new.targets.drivers ≡ old.targets.drivers) → IsNoted drivers c old new
+    → ((q : Place) → next ≡ Some q → IsNotedFor new p q) → ((q : Place) → same_place p q ≡ false → target_of new.waits q ≡ target_of old.waits q)
+    → new.waits.drivers ≡ old.waits.drivers → IsNoted drivers c old new
 noted drivers c p next old new h is gone there others same = record {
   held_up = λ r q clear e. elim (cases_Bool (same_place p r)) [
     | inl here ↦ let k = place_is p r here in subst (λ (x : Place). IsNotedFor new x q) k (there q (is ∙ subst (λ (x : Place). next_of_first drivers c x ≡ Some q) (sym k) e))
-    | inr other ↦ let was = h.held_up r q (still_run old.run new.run p r gone other clear) e in let now = others r other in (now.0 ∙ was.0, now.1 ∙ was.1)
+    | inr other ↦ others r other ∙ h.held_up r q (still_run old.run new.run p r gone other clear) e
   ];
-  same_drivers = same.0;
-  same_targets = same.1;
+  same_drivers = same;
 }
 
 -- what is left of the marks
@@ -125,14 +123,13 @@ cleared_marks drivers c next old new h waiting stays few run wanted noted = reco
   waiting = waiting;
   full = λ q w. elim (few q w) [ inl before ↦ h.full q before | inr here ↦ not_open c q next here stays ];
   waits = noted.same_drivers ∙ h.waits;
-  targets = noted.same_targets ∙ h.targets;
   held_up = noted.held_up;
 }
 
 -- a place without messages waits, so its mark may go
 pub emptied_marks : (drivers : List DriverSpec) (c : Configuration) (p : Place) (old new : Marks) → first_message c.flow p ≡ None → AreMarks drivers c old → ((q : Place) → has_mark new.run q ≡ all_but (has_mark old.run) p q)
-    → new.run.drivers ≡ old.run.drivers → new.wanted ≡ old.wanted → new.waits ≡ old.waits → new.targets ≡ old.targets → AreMarks drivers c new
-emptied_marks drivers c p old new none h gone run wanted waits targets = record {
+    → new.run.drivers ≡ old.run.drivers → new.wanted ≡ old.wanted → new.waits ≡ old.waits → AreMarks drivers c new
+emptied_marks drivers c p old new none h gone run wanted waits = record {
   few = h.few;
   run = run ∙ h.run;
   wanted = ap (λ (m : MarkList). m.drivers) wanted ∙ h.wanted;
@@ -141,11 +138,10 @@ emptied_marks drivers c p old new none h gone run wanted waits targets = record 
     | inr other ↦ rw wanted (h.waiting q (still_run old.run new.run p q gone other clear))
   ];
   full = λ q w. h.full q (subst (λ (m : MarkList). has_mark m q ≡ true) wanted w);
-  waits = ap (λ (m : MarkList). m.drivers) waits ∙ h.waits;
-  targets = ap (λ (t : TargetList). t.drivers) targets ∙ h.targets;
+  waits = ap (λ (t : WaitList). t.drivers) waits ∙ h.waits;
   held_up = λ r q clear e. elim (cases_Bool (same_place p r)) [
     | inl here ↦ absurd (no_place q (sym (nowhere_next r here) ∙ e))
-    | inr other ↦ let was = h.held_up r q (still_run old.run new.run p r gone other clear) e in (subst (λ (m : MarkList). has_mark m r ≡ true) (sym waits) was.0, subst (λ (t : TargetList). target_of t r ≡ Some q) (sym targets) was.1)
+    | inr other ↦ subst (λ (t : WaitList). target_of t r ≡ Some q) (sym waits) (h.held_up r q (still_run old.run new.run p r gone other clear) e)
   ];
 } where
   no_place : (q : Place) → ◌≡◌ {A = Option Place} None (Some q) → ⊥
@@ -156,23 +152,19 @@ emptied_marks drivers c p old new none h gone run wanted waits targets = record 
 
 -- a place with a run mark, or without messages, need not be noted
 pub forgotten : (drivers : List DriverSpec) (c : Configuration) (p : Place) (old new : Marks) → AreMarks drivers c old → (has_mark old.run p ≡ true) ⊎ (first_message c.flow p ≡ None) → new.run ≡ old.run → new.wanted ≡ old.wanted
-    → ((q : Place) → has_mark new.waits q ≡ all_but (has_mark old.waits) p q) → new.waits.drivers ≡ old.waits.drivers → new.targets ≡ old.targets → AreMarks drivers c new
-forgotten drivers c p old new h here run wanted gone same targets = record {
+    → ((q : Place) → same_place p q ≡ false → target_of new.waits q ≡ target_of old.waits q) → new.waits.drivers ≡ old.waits.drivers → AreMarks drivers c new
+forgotten drivers c p old new h here run wanted others same = record {
   few = h.few;
   run = ap (λ (m : MarkList). m.drivers) run ∙ h.run;
   wanted = ap (λ (m : MarkList). m.drivers) wanted ∙ h.wanted;
   waits = same ∙ h.waits;
-  targets = ap (λ (t : TargetList). t.drivers) targets ∙ h.targets;
   waiting = λ q clear. rw wanted (h.waiting q (subst (λ (m : MarkList). has_mark m q ≡ false) run clear));
   full = λ q w. h.full q (subst (λ (m : MarkList). has_mark m q ≡ true) wanted w);
   held_up = λ r q clear e. elim (cases_Bool (same_place p r)) [
     | inl y ↦ absurd (not_it r q (place_is p r y) (subst (λ (m : MarkList). has_mark m r ≡ false) run clear) e)
-    | inr other ↦ let was = h.held_up r q (subst (λ (m : MarkList). has_mark m r ≡ false) run clear) e in (gone r ∙ rw other (and_true was.0), subst (λ (t : TargetList). target_of t r ≡ Some q) (sym targets) was.1)
+    | inr other ↦ others r other ∙ h.held_up r q (subst (λ (m : MarkList). has_mark m r ≡ false) run clear) e
   ];
 } where
-  and_true : {a : Bool} → a ≡ true → (a && true) ≡ true
-  and_true e = rw e refl
-
   no_place : (q : Place) → ◌≡◌ {A = Option Place} None (Some q) → ⊥
   no_place q k = cc
 
@@ -203,7 +195,7 @@ few_of (d ∷ ds) h zero = h.0
 few_of (d ∷ ds) h (suc n) = few_of ds h.1 n
 
 -- no marks beside the empty configuration
-pub marks_at_first : (drivers given : List DriverSpec) (c : Configuration) (m : Marks) → given ≡ drivers → IsDriverList drivers → c ≡ empty → m.run.drivers ≡ drivers → m.wanted.drivers ≡ drivers → (m.waits.drivers ≡ drivers) × (m.targets.drivers ≡ drivers) → m.run.marked ≡ [] → m.wanted.marked ≡ []
+pub marks_at_first : (drivers given : List DriverSpec) (c : Configuration) (m : Marks) → given ≡ drivers → IsDriverList drivers → c ≡ empty → m.run.drivers ≡ drivers → m.wanted.drivers ≡ drivers → m.waits.drivers ≡ drivers → m.run.marked ≡ [] → m.wanted.marked ≡ []
     → IsAtRest drivers (record { configuration = empty; run = nowhere; wanted = nowhere }) → AreMarks given c m × IsAtRest given (marked_configuration c m)
 marks_at_first drivers given c m same can none run wanted waits no_run no_wanted rest =
     let at_rest = none_marked in
@@ -213,8 +205,7 @@ marks_at_first drivers given c m same can none run wanted waits no_run no_wanted
       wanted = wanted;
       waiting = at_rest.marks;
       full = λ p h. absurd (false≢true (sym (ap (list_any (same_place p)) no_wanted) ∙ h));
-      waits = waits.0;
-      targets = waits.1;
+      waits = waits;
       held_up = λ p q clear e. absurd (nothing p q (subst (λ (x : Configuration). next_of_first drivers x p ≡ Some q) none e));
     } in
     subst (λ (ds : List DriverSpec). AreMarks ds c m × IsAtRest ds (marked_configuration c m)) (sym same) (here, at_rest) where

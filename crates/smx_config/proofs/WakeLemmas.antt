@@ -1,7 +1,8 @@
 -- Full places that are wanted no more, and what a change keeps of the marks.
-use Rattle.std.proofs.Common.{◌≡◌, Bool, true, false, ◌&&◌, ◌||◌, not, List, [], ◌∷◌, Option, None, Some, refl, sym, ap, ◌∙◌, subst, inl, inr}
+use Rattle.std.proofs.Common.{◌≡◌, Bool, true, false, ◌&&◌, ◌||◌, not, List, [], ◌∷◌, find, Option, None, Some, refl, sym, ap, ◌∙◌, subst, inl, inr}
 use Rattle.std.specs.Prelude.{◌≢◌, ◌⊎◌}
 use Rattle.std.specs.List.{list_any}
+use Rattle.std.specs.Option.{option_map}
 use Rattle.std.proofs.lemmas.Bool.{and_from, and_parts, cases_Bool, false≢true}
 use Rattle.smx_types.specs.declared.driver.DriverSpec.{DriverSpec}
 use Rattle.smx_types.specs.declared.stream.Place.{Place}
@@ -12,7 +13,8 @@ use Rattle.smx_model.specs.Queues.{first_message, is_full}
 use Rattle.smx_model.specs.RunMarks.{TurnsOnly, all_but, feeds, is_freed, is_one_of, next_of_first, nowhere}
 use Rattle.smx_model.specs.SettlingByMarks.{IsMarkedAfter}
 use Rattle.smx_queues.specs.PlaceMarks.{MarkList, has_mark}
-use Rattle.smx_queues.specs.PlaceTargets.{TargetList, target_of}
+use Rattle.smx_queues.specs.declared.waiters.Wait.{Wait}
+use Rattle.smx_queues.specs.Waiters.{WaitList, target_of}
 use Rattle.smx_config.specs.Marking.{AreMarks, AreWaitersMarked, IsMarkedWhere, IsNotedFor, IsReleased, IsWoken, marked_configuration}
 use Rattle.smx_config.specs.declared.marks.Marks.{Marks}
 use Rattle.smx_config.specs.Wakes.{everywhere}
@@ -23,20 +25,17 @@ never : {A : Type 0} (b : Bool) → b ≡ true → b ≡ false → A
 never b t f = absurd (false≢true (sym f ∙ t))
 
 -- what is noted is noted still
-noted_still : (old new : Marks) (p q : Place) → new.waits ≡ old.waits → new.targets ≡ old.targets → IsNotedFor old p q → IsNotedFor new p q
-noted_still old new p q waits targets noted = (
-  subst (λ (m : MarkList). has_mark m p ≡ true) (sym waits) noted.0,
-  subst (λ (t : TargetList). target_of t p ≡ Some q) (sym targets) noted.1,
-)
+noted_still : (old new : Marks) (p q : Place) → new.waits ≡ old.waits → IsNotedFor old p q → IsNotedFor new p q
+noted_still old new p q waits noted = subst (λ (t : WaitList). target_of t p ≡ Some q) (sym waits) noted
 
 -- ---- one place
 
 -- it is wanted no more, and what can feed it is marked
 pub released_one : (c : Configuration) (place : Place) (old new : Marks) → is_full c place ≡ false → ((q : Place) → has_mark new.wanted q ≡ all_but (has_mark old.wanted) place q) → new.wanted.drivers ≡ old.wanted.drivers
-    → new.waits ≡ old.waits → new.targets ≡ old.targets → AreWaitersMarked old.waits old.targets place old.run new.run → IsReleased c (same_place place) old new
-released_one c place old new vacant gone same waits targets h = record {
+    → new.waits ≡ old.waits → AreWaitersMarked old.waits place old.run new.run → IsReleased c (same_place place) old new
+released_one c place old new vacant gone same waits h = record {
   kept = h.kept;
-  waiters = λ q p f nf w known noted. h.marked p known noted.0 (noted.1 ∙ ap (λ (x : Place). Some x) (sym (place_is place q f)));
+  waiters = λ q p f nf w known noted. h.marked p known (noted ∙ ap (λ (x : Place). Some x) (sym (place_is place q f)));
   wanted = λ q w full. gone q ∙ and_from _ _ w (elim (cases_Bool (same_place place q)) [
     | inl t ↦ never (is_full c q) full (ap (is_full c) (sym (place_is place q t)) ∙ vacant)
     | inr f ↦ ap not f
@@ -47,7 +46,6 @@ released_one c place old new vacant gone same waits targets h = record {
   run_drivers = h.same_drivers;
   wanted_drivers = same;
   waits = waits;
-  targets = targets;
 }
 
 -- it is full, or it wasn't wanted
@@ -62,7 +60,6 @@ released_none c freed m full = record {
   run_drivers = refl;
   wanted_drivers = refl;
   waits = refl;
-  targets = refl;
 }
 
 pub not_released : (c : Configuration) (place : Place) (m : Marks) → (has_mark m.wanted place ≡ true → is_full c place ≡ true) → IsReleased c (same_place place) m m
@@ -85,7 +82,7 @@ released_more c place old mid new a b = record {
   kept = λ p h. b.kept p (a.kept p h);
   waiters = λ q p f nf w known noted. elim (cases_Bool (has_mark mid.wanted q)) [
     | inl still ↦ elim (cases_Bool (same_place place q)) [
-      | inl here ↦ b.waiters q p here nf still (subst (λ (ds : List DriverSpec). IsKnown ds p.stream) (sym a.run_drivers) known) (noted_still old mid p q a.waits a.targets noted)
+      | inl here ↦ b.waiters q p here nf still (subst (λ (ds : List DriverSpec). IsKnown ds p.stream) (sym a.run_drivers) known) (noted_still old mid p q a.waits noted)
       | inr other ↦ never (unwanted new q) f (ap not (b.left q other still))
     ]
     | inr none ↦ b.kept p (a.waiters q p (ap not none) nf w known noted)
@@ -97,7 +94,6 @@ released_more c place old mid new a b = record {
   run_drivers = b.run_drivers ∙ a.run_drivers;
   wanted_drivers = b.wanted_drivers ∙ a.wanted_drivers;
   waits = b.waits ∙ a.waits;
-  targets = b.targets ∙ a.targets;
 }
 
 pub released_all : (c : Configuration) (old new : Marks) → ((p : Place) → has_mark new.wanted p ≡ true → is_full c p ≡ true) → IsReleased c (unwanted new) old new → IsReleased c everywhere old new
@@ -114,13 +110,12 @@ released_all c old new full h = record {
   run_drivers = h.run_drivers;
   wanted_drivers = h.wanted_drivers;
   waits = h.waits;
-  targets = h.targets;
 }
 
 -- ---- and then the turned places
 
 abbrev with_run : Marks → MarkList → Marks
-with_run m run = record { run = run; wanted = m.wanted; waits = m.waits; targets = m.targets }
+with_run m run = record { run = run; wanted = m.wanted; waits = m.waits }
 
 pub woken : (c : Configuration) (turned freed : Place → Bool) (old mid : Marks) (run : MarkList) → IsReleased c freed old mid → IsMarkedWhere c.flow turned mid.run run → IsWoken c turned freed old (with_run mid run)
 woken c turned freed old mid run a b = record {
@@ -134,7 +129,6 @@ woken c turned freed old mid run a b = record {
     run_drivers = b.drivers ∙ a.run_drivers;
     wanted_drivers = a.wanted_drivers;
     waits = a.waits;
-    targets = a.targets;
   };
   turned_ones = λ p known some t. b.marked p (subst (λ (ds : List DriverSpec). IsKnown ds p.stream) (sym a.run_drivers) known) some t;
 }
@@ -217,7 +211,7 @@ held_up_still drivers old new turned freed turned_too freed_too m n marks among 
   | inl before ↦ never (has_mark n.run p) (w.released.kept p before) none
   | inr clear ↦ elim (cases_Bool (turned p)) [
     | inl t ↦ let some = next_has_message drivers new p q e in never (has_mark n.run p) (w.turned_ones p (subst (λ (ds : List DriverSpec). IsKnown ds p.stream) (sym marks.run) (among.known p some)) some (among.turns p t)) none
-    | inr f ↦ noted_still m n p q w.released.waits w.released.targets (marks.held_up p q clear (went_there drivers old new turned p q among.turns_only f e))
+    | inr f ↦ noted_still m n p q w.released.waits (marks.held_up p q clear (went_there drivers old new turned p q among.turns_only f e))
   ]
 ]
 
@@ -231,52 +225,63 @@ full_again drivers old new turned_too freed freed_too m n marks only frees w p h
 
 -- ---- the waiters of a place, one after another
 
+-- it is the wait of the first place, for the second
+abbrev waits_for : Place → Place → Wait → Bool
+waits_for p q w = same_place w.waiter p && same_place w.target q
+
 -- of those that were passed, the ones that wait for the place have a mark
-pub record ArePassed (waits : MarkList) (targets : TargetList) (rest : List Place) (q : Place) (old new : MarkList) : Type 0 where
+pub record ArePassed (waits : WaitList) (rest : List Wait) (q : Place) (old new : MarkList) : Type 0 where
   pub kept : (p : Place) → has_mark old p ≡ true → has_mark new p ≡ true
-  pub marked : (p : Place) → IsKnown old.drivers p.stream → has_mark waits p ≡ true → target_of targets p ≡ Some q → (has_mark new p ≡ true) ⊎ (list_any (same_place p) rest ≡ true)
+  pub marked : (p : Place) → IsKnown old.drivers p.stream → target_of waits p ≡ Some q → (has_mark new p ≡ true) ⊎ (list_any (waits_for p q) rest ≡ true)
   pub same_drivers : new.drivers ≡ old.drivers
 
-pub none_passed : (waits : MarkList) (targets : TargetList) (rest : List Place) (q : Place) (m : MarkList) → rest ≡ waits.marked → ArePassed waits targets rest q m m
-none_passed waits targets rest q m is = record { kept = λ p h. h; marked = λ p known w next. inr (rw is w); same_drivers = refl }
+-- what waits for the place stands in the list
+stands_there : (p q : Place) (ws : List Wait) → option_map (λ w. w.target) (find (λ w. same_place w.waiter p) ws) ≡ Some q → list_any (waits_for p q) ws ≡ true
+stands_there p q [] e = absurd cc
+stands_there p q (w ∷ ws) e = elim (cases_Bool (same_place w.waiter p)) [
+  | inl t ↦
+      let here : ◌≡◌ {A = Option Place} (Some w.target) (Some q) = rw t at e in
+      let is : w.target ≡ q = cc in
+      rw (t, is, place_self q) refl
+  | inr f ↦ let later : option_map (λ (v : Wait). v.target) (find (λ (v : Wait). same_place v.waiter p) ws) ≡ Some q = rw f at e in rw f (stands_there p q ws later)
+]
 
-later : (place : Place) (now rest : List Place) (p : Place) → now ≡ place ∷ rest → same_place p place ≡ false → list_any (same_place p) now ≡ true → list_any (same_place p) rest ≡ true
-later place now rest p is other h = rw other at (rw is at h)
+pub none_passed : (waits : WaitList) (rest : List Wait) (q : Place) (m : MarkList) → rest ≡ waits.waits → ArePassed waits rest q m m
+none_passed waits rest q m is = record { kept = λ p h. h; marked = λ p known next. inr (rw is (stands_there p q waits.waits next)); same_drivers = refl }
 
 -- it waits for the place, and was marked
-pub waiter_passed : (waits : MarkList) (targets : TargetList) (now rest : List Place) (place q : Place) (old mid new : MarkList) → now ≡ place ∷ rest → ArePassed waits targets now q old mid
-    → (IsKnown mid.drivers place.stream → has_mark new place ≡ true) → ((p : Place) → has_mark mid p ≡ true → has_mark new p ≡ true) → new.drivers ≡ mid.drivers → ArePassed waits targets rest q old new
-waiter_passed waits targets now rest place q old mid new is a here kept same = record {
+pub waiter_passed : (waits : WaitList) (now rest : List Wait) (w : Wait) (q : Place) (old mid new : MarkList) → now ≡ w ∷ rest → ArePassed waits now q old mid
+    → (IsKnown mid.drivers w.waiter.stream → has_mark new w.waiter ≡ true) → ((p : Place) → has_mark mid p ≡ true → has_mark new p ≡ true) → new.drivers ≡ mid.drivers → ArePassed waits rest q old new
+waiter_passed waits now rest w q old mid new is a here kept same = record {
   kept = λ p m. kept p (a.kept p m);
-  marked = λ p known w next. elim (a.marked p known w next) [
+  marked = λ p known next. elim (a.marked p known next) [
     | inl m ↦ inl (kept p m)
-    | inr h ↦ elim (cases_Bool (same_place p place)) [
-      | inl y ↦ let e = place_is p place y in inl (subst (λ (x : Place). has_mark new x ≡ true) (sym e) (here (subst (λ (x : Place). IsKnown mid.drivers x.stream) e (subst (λ (ds : List DriverSpec). IsKnown ds p.stream) (sym a.same_drivers) known))))
-      | inr n ↦ inr (later place now rest p is n h)
+    | inr h ↦ elim (cases_Bool (waits_for p q w)) [
+      | inl y ↦ let e = place_is w.waiter p (and_parts (same_place w.waiter p) _ y).0 in inl (subst (λ (x : Place). has_mark new x ≡ true) e (here (subst (λ (x : Place). IsKnown mid.drivers x.stream) (sym e) (subst (λ (ds : List DriverSpec). IsKnown ds p.stream) (sym a.same_drivers) known))))
+      | inr n ↦ let later : list_any (waits_for p q) (w ∷ rest) ≡ true = rw is at h in inr (rw n at later)
     ]
   ];
   same_drivers = same ∙ a.same_drivers;
 }
 
 -- it doesn't wait for the place
-pub other_passed : (waits : MarkList) (targets : TargetList) (now rest : List Place) (place q : Place) (old mid : MarkList) → now ≡ place ∷ rest → ArePassed waits targets now q old mid
-    → is_one_of (same_place q) (target_of targets place) ≡ false → ArePassed waits targets rest q old mid
-other_passed waits targets now rest place q old mid is a other = record {
+pub other_passed : (waits : WaitList) (now rest : List Wait) (w : Wait) (q : Place) (old mid : MarkList) → now ≡ w ∷ rest → ArePassed waits now q old mid → same_place q w.target ≡ false → ArePassed waits rest q old mid
+other_passed waits now rest w q old mid is a other = record {
   kept = a.kept;
-  marked = λ p known w next. elim (a.marked p known w next) [
+  marked = λ p known next. elim (a.marked p known next) [
     | inl m ↦ inl m
-    | inr h ↦ elim (cases_Bool (same_place p place)) [
-      | inl y ↦ let e = place_is p place y in absurd (false≢true (sym other ∙ (ap (is_one_of (same_place q)) (subst (λ (x : Place). target_of targets x ≡ Some q) e next) ∙ place_self q)))
-      | inr n ↦ inr (later place now rest p is n h)
+    | inr h ↦ elim (cases_Bool (waits_for p q w)) [
+      | inl y ↦ let e = place_is w.target q (and_parts (same_place w.waiter p) _ y).1 in absurd (false≢true (sym other ∙ (ap (same_place q) e ∙ place_self q)))
+      | inr n ↦ let later : list_any (waits_for p q) (w ∷ rest) ≡ true = rw is at h in inr (rw n at later)
     ]
   ];
   same_drivers = a.same_drivers;
 }
 
-pub all_passed : (waits : MarkList) (targets : TargetList) (rest : List Place) (q : Place) (old new : MarkList) → rest ≡ [] → ArePassed waits targets rest q old new → AreWaitersMarked waits targets q old new
-all_passed waits targets rest q old new none a = record {
+pub all_passed : (waits : WaitList) (rest : List Wait) (q : Place) (old new : MarkList) → rest ≡ [] → ArePassed waits rest q old new → AreWaitersMarked waits q old new
+all_passed waits rest q old new none a = record {
   kept = a.kept;
-  marked = λ p known w next. elim (a.marked p known w next) [
+  marked = λ p known next. elim (a.marked p known next) [
     | inl m ↦ m
     | inr h ↦ absurd (false≢true (rw none at h))
   ];

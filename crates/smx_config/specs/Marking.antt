@@ -1,4 +1,5 @@
--- Run marks and wanted marks beside the lists, and what marks a change puts and takes. No public clause needs this.
+-- Run marks, wanted marks and the places that wait beside the lists, and what marks a change puts and takes. No public clause
+-- needs this.
 use Rattle.std.specs.Prelude.{◌≡◌, ◌≢◌, ℕ, Bool, true, false, ◌&&◌, ◌==◌, List, None, Some}
 use Rattle.smx_types.specs.declared.driver.DriverSpec.{DriverSpec}
 use Rattle.smx_types.specs.declared.stream.Place.{Place}
@@ -9,7 +10,7 @@ use Rattle.smx_model.specs.Queues.{first_message, is_full}
 use Rattle.smx_model.specs.RunMarks.{all_but, is_below_driver, next_of_first}
 use Rattle.smx_model.specs.SettlingByMarks.{HasItsMarks, MarkedConfiguration}
 use Rattle.smx_queues.specs.PlaceMarks.{MarkList, has_mark}
-use Rattle.smx_queues.specs.PlaceTargets.{TargetList, target_of}
+use Rattle.smx_queues.specs.Waiters.{WaitList, target_of}
 use Rattle.smx_config.specs.FewMinors.{HaveFewMinors}
 use Rattle.smx_config.specs.declared.marks.Marks.{Marks}
 
@@ -19,7 +20,7 @@ marked_configuration c m = record { configuration = c; run = has_mark m.run; wan
 
 -- that the first place waits for the second is noted
 abbrev pub IsNotedFor : Marks → Place → Place → Type 0
-IsNotedFor m p q = (has_mark m.waits p ≡ true) × (target_of m.targets p ≡ Some q)
+IsNotedFor m p q = target_of m.waits p ≡ Some q
 
 -- over these drivers, each place without a run mark waits, a wanted mark stands at full places alone, and where there is no
 -- run mark and the first message has a next place, that it waits for that place is noted
@@ -28,7 +29,6 @@ pub record AreMarks (drivers : List DriverSpec) (c : Configuration) (m : Marks) 
   pub run : m.run.drivers ≡ drivers
   pub wanted : m.wanted.drivers ≡ drivers
   pub waits : m.waits.drivers ≡ drivers
-  pub targets : m.targets.drivers ≡ drivers
   pub waiting : HasItsMarks drivers (marked_configuration c m)
   pub full : (p : Place) → has_mark m.wanted p ≡ true → is_full c p ≡ true
   pub held_up : (p q : Place) → has_mark m.run p ≡ false → next_of_first drivers c p ≡ Some q → IsNotedFor m p q
@@ -52,11 +52,10 @@ pub record IsWithoutMark (place : Place) (old new : MarkList) : Type 0 where
   pub gone : (q : Place) → has_mark new q ≡ all_but (has_mark old) place q
   pub drivers : new.drivers ≡ old.drivers
 
--- of the waiting places those that are noted to wait for this one have a mark, and all that had one
-pub record AreWaitersMarked (waits : MarkList) (targets : TargetList) (q : Place) (old new : MarkList) : Type 0 where
+-- the places that wait for this one have a mark, and all that had one
+pub record AreWaitersMarked (waits : WaitList) (q : Place) (old new : MarkList) : Type 0 where
   pub kept : (p : Place) → has_mark old p ≡ true → has_mark new p ≡ true
-  pub marked : (p : Place) → IsKnown old.drivers p.stream → has_mark waits p ≡ true
-      → target_of targets p ≡ Some q → has_mark new p ≡ true
+  pub marked : (p : Place) → IsKnown old.drivers p.stream → target_of waits p ≡ Some q → has_mark new p ≡ true
   pub same_drivers : new.drivers ≡ old.drivers
 
 -- of the freed places those that are wanted and no longer full are wanted no more, and what waits for them has a run mark
@@ -71,7 +70,6 @@ pub record IsReleased (c : Configuration) (freed : Place → Bool) (old new : Ma
   pub run_drivers : new.run.drivers ≡ old.run.drivers
   pub wanted_drivers : new.wanted.drivers ≡ old.wanted.drivers
   pub waits : new.waits ≡ old.waits
-  pub targets : new.targets ≡ old.targets
 
 -- the same, and the turned places with a message have a run mark
 pub record IsWoken (c : Configuration) (turned freed : Place → Bool) (old new : Marks) : Type 0 where

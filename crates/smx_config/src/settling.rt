@@ -10,7 +10,7 @@ ghost use Rattle.smx_model.specs.Settling.{next_open_place};
 ghost use Rattle.smx_model.specs.Settling.{after_move, after_settling};
 ghost use Rattle.smx_model.specs.SettlingByMarks.{HasNoRunMark, IsLeastMarked};
 ghost use Rattle.smx_queues.specs.PlaceMarks.{has_mark};
-ghost use Rattle.smx_queues.specs.PlaceTargets.{target_of};
+ghost use Rattle.smx_queues.specs.Waiters.{target_of};
 ghost use Rattle.smx_config.specs.ExistingStreams.{TellsExisting};
 ghost use Rattle.smx_config.specs.ModelOfLists.{configuration_of, sizes_of};
 ghost use Rattle.smx_config.specs.Moves.{if_open, IsLeastMove};
@@ -29,7 +29,7 @@ use smx_model::laws_of_run_marks::{
 };
 use smx_model::laws_of_settling_by_marks::clearing_keeps_marks;
 use smx_model::laws_of_steps::{moves_keep_soundness, settling_suffices};
-use smx_queues::{PlaceMarks, PlaceTargets};
+use smx_queues::{PlaceMarks, Waiters};
 use smx_types::{DriverSpec, Place};
 
 // A message goes from one place to another.
@@ -64,23 +64,13 @@ fn mark_wanted(wanted: &mut PlaceMarks, next: Option<Place>)
 }
 
 // Notes for which place it waits, if its first message has a next place, and else that it doesn't wait.
-fn note_waiting(
-    waits: &mut PlaceMarks,
-    targets: &mut PlaceTargets,
-    from: Place,
-    next: Option<Place>,
-)
-    ensures there { (q : PlaceValue) → next ≡ Some q → IsKnown waits.old.drivers from.stream → has_mark waits.new from ≡ true }
-    ensures target { (q : PlaceValue) → next ≡ Some q → IsKnown targets.old.drivers from.stream → target_of targets.new from ≡ Some q }
-    ensures others { (r : PlaceValue) → same_place from r ≡ false
-        → (has_mark waits.new r ≡ has_mark waits.old r) × (target_of targets.new r ≡ target_of targets.old r) }
-    ensures drivers { (waits.new.drivers ≡ waits.old.drivers) × (targets.new.drivers ≡ targets.old.drivers) }
+fn note_waiting(waits: &mut Waiters, from: Place, next: Option<Place>)
+    ensures there { (q : PlaceValue) → next ≡ Some q → IsKnown waits.old.drivers from.stream → target_of waits.new from ≡ Some q }
+    ensures others { (r : PlaceValue) → same_place from r ≡ false → target_of waits.new r ≡ target_of waits.old r }
+    ensures drivers { waits.new.drivers ≡ waits.old.drivers }
 {
     match next {
-        Some(to) => {
-            waits.mark(from);
-            targets.set(from, to);
-        }
+        Some(to) => waits.wait(from, to),
         None => waits.clear(from),
     }
 }
@@ -105,7 +95,7 @@ fn clear_mark(
     places_are_known();
     clearing_keeps_marks();
     mark_wanted(&mut marks.wanted, next);
-    note_waiting(&mut marks.waits, &mut marks.targets, from, next);
+    note_waiting(&mut marks.waits, from, next);
     marks.run.clear(from);
 }
 

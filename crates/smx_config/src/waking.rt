@@ -4,9 +4,7 @@ ghost use Rattle.std.specs.Prelude.{◌≡◌, ◌<◌, false, true, length, IfS
 ghost use Rattle.smx_types.specs.declared.stream.Place.{Place as PlaceValue};
 ghost use Rattle.smx_model.specs.Configuration.{same_place};
 ghost use Rattle.smx_model.specs.Queues.{is_full};
-ghost use Rattle.smx_model.specs.RunMarks.{is_one_of};
 ghost use Rattle.smx_queues.specs.PlaceMarks.{has_mark};
-ghost use Rattle.smx_queues.specs.PlaceTargets.{target_of};
 ghost use Rattle.smx_config.specs.FewMinors.{HaveFewMinors};
 ghost use Rattle.smx_config.specs.Marking.{AreWaitersMarked, IsMarkedWhere, IsReleased, IsWoken};
 ghost use Rattle.smx_config.specs.ModelOfLists.{configuration_of};
@@ -17,27 +15,16 @@ use crate::marks::Marks;
 use crate::run_marks::{mark_reads, mark_waiting, mark_writes};
 use crate::streams::same_place;
 use crate::wakes::Wakes;
-use smx_queues::{PlaceMarks, PlaceTargets};
+use smx_queues::{PlaceMarks, Waiters};
 use smx_types::{DriverSpec, Place};
 
-// Whether the waiter is noted to wait for the place.
-fn waits_for(targets: &PlaceTargets, waiter: Place, place: Place) -> bool
-    ensures { result ≡ is_one_of (same_place place) (target_of targets.now waiter) }
-{
-    match targets.at(waiter) {
-        Some(target) => same_place(place, target),
-        None => false,
-    }
-}
-
 // Marks those of the waiting places that wait for this one.
-fn mark_waiters(waits: &PlaceMarks, targets: &PlaceTargets, run: &mut PlaceMarks, place: Place)
-    ensures { AreWaitersMarked waits.now targets.now place run.old run.new }
+fn mark_waiters(waits: &Waiters, run: &mut PlaceMarks, place: Place)
+    ensures { AreWaitersMarked waits.now place run.old run.new }
 {
-    let mut rest = waits.marked();
-    while let Some(waiter) = rest.next() {
-        if waits_for(targets, waiter, place) {
-            run.mark(waiter);
+    for wait in waits.waits() {
+        if same_place(place, wait.target) {
+            run.mark(wait.waiter);
         }
     }
 }
@@ -49,7 +36,7 @@ fn release(lists: &Lists, marks: &mut Marks, place: Place)
     ensures fewer { has_mark marks.old.wanted place ≡ true → length marks.new.wanted.marked < length marks.old.wanted.marked }
 {
     marks.wanted.clear(place);
-    mark_waiters(&marks.waits, &marks.targets, &mut marks.run, place);
+    mark_waiters(&marks.waits, &mut marks.run, place);
 }
 
 // So it is with the place, if it is wanted and not full.

@@ -18,4 +18,4 @@ pub mod FlowCallLemmas
 pub mod SpecLemmas
 pub mod StepLemmas
 pub mod MarkLemmas
-pub mod TargetLemmas
+pub mod WaiterLemmas

@@ -28,12 +28,12 @@ get_left [] ys i x at = absurd cc
 get_left (y ∷ xs) ys zero x at = at
 get_left (y ∷ xs) ys (suc i) x at = get_left xs ys i x at
 
-get_right : {X : Type 0} (xs ys : List X) (n k : ℕ) → n ≡ length xs + k → slice_get (xs ++ ys) n ≡ slice_get ys k
+pub get_right : {X : Type 0} (xs ys : List X) (n k : ℕ) → n ≡ length xs + k → slice_get (xs ++ ys) n ≡ slice_get ys k
 get_right [] ys n k e = ap (slice_get ys) (omega arith)
 get_right (x ∷ xs) ys zero k e = absurd (omega arith)
 get_right (x ∷ xs) ys (suc n) k e = get_right xs ys n k (omega arith)
 
-left_only : {X : Type 0} (xs ys : List X) (i : ℕ) → i < length xs → slice_get (xs ++ ys) i ≡ slice_get xs i
+pub left_only : {X : Type 0} (xs ys : List X) (i : ℕ) → i < length xs → slice_get (xs ++ ys) i ≡ slice_get xs i
 left_only [] ys i lt = absurd (omega arith)
 left_only (x ∷ xs) ys zero lt = refl
 left_only (x ∷ xs) ys (suc i) lt = left_only xs ys i (omega arith)

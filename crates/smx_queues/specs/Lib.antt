@@ -4,4 +4,4 @@ pub mod Slots
 pub mod PlaceLists
 pub mod FlowTables
 pub mod PlaceMarks
-pub mod PlaceTargets
+pub mod Waiters

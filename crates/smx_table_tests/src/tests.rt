@@ -12,3 +12,4 @@ mod stream_tables;
 mod stream_tables_at_limits;
 mod stream_walks;
 mod tried_again;
+mod waiters;

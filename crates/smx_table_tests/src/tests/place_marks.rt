@@ -1,7 +1,7 @@
-//! Marks at places: which are marked, and in which order they come; and what is noted at places.
+//! Marks at places: which are marked, and in which order they come.
 
 use super::flow_tables::ethernet;
-use smx_queues::{PlaceMarks, PlaceTargets};
+use smx_queues::PlaceMarks;
 use smx_types::{Place, Side, StreamId};
 use std::process::Abort;
 use std::test::Fail;
@@ -44,30 +44,5 @@ fn marks_come_in_order(rt: HostRuntime) -> Result<(), Fail> {
         &mut same,
         &[place(0, Side::Read), place(1, Side::Write)],
     );
-    Ok(())
-}
-
-// Each of these places has this noted.
-fn has_noted<R: Abort>(rt: &R, targets: &PlaceTargets, noted: &[(Place, Option<Place>)]) {
-    for (place, target) in noted {
-        assert_eq!(rt; targets.at(*place), *target);
-    }
-}
-
-#[test]
-fn targets_are_noted_by_place(rt: HostRuntime) -> Result<(), Fail> {
-    let mut targets = PlaceTargets::new(rt.alloc(), &[ethernet()?])?;
-    targets.set(place(0, Side::Read), place(1, Side::Write));
-    targets.set(place(1, Side::Read), place(0, Side::Write));
-    targets.set(place(0, Side::Read), place(1, Side::Read));
-    targets.set(place(2, Side::Read), place(0, Side::Read));
-    let noted = [
-        (place(0, Side::Read), Some(place(1, Side::Read))),
-        (place(1, Side::Read), Some(place(0, Side::Write))),
-        (place(2, Side::Read), None),
-    ];
-    has_noted(&rt, &targets, &noted);
-    let again = targets.copy(rt.alloc())?;
-    has_noted(&rt, &again, &noted);
     Ok(())
 }

@@ -25,7 +25,6 @@ returns c = λ drivers old p q m n sound marks next woken.
       run = woken.released.run_drivers ∙ marks.run;
       wanted = woken.released.wanted_drivers ∙ marks.wanted;
       waits = rw woken.released.waits marks.waits;
-      targets = rw woken.released.targets marks.targets;
       waiting = c.moves_keep_marks.ensures drivers p (marked_configuration old m) (marked_configuration new n) sound.ordered.flow marks.waiting refl
           (marked_after drivers old new (turned_by_move drivers old p) (same_place p) ends (same_place p) m n marks among woken);
       full = full_again drivers old new ends (same_place p) (same_place p) m n marks among.frees_only among.frees woken;

@@ -31,7 +31,6 @@ returns c = λ drivers old process command m n sound marks.
       run = woken.released.run_drivers ∙ marks.run;
       wanted = woken.released.wanted_drivers ∙ marks.wanted;
       waits = rw woken.released.waits marks.waits;
-      targets = rw woken.released.targets marks.targets;
       waiting = of_accepted (λ (y : Configuration × Reply). x.0 ≡ y.0 → IsMarkedAfter drivers turned (marked_configuration old m) (marked_configuration x.0 n) → HasItsMarks drivers (marked_configuration x.0 n)) (outcome drivers old process command) x accepted (c.commands_keep_marks.ensures drivers (marked_configuration old m) (marked_configuration x.0 n) process command sound marks.waiting) refl
           (marked_after drivers old x.0 turned freed turned_too (freed_under wakes) m n marks among woken);
       full = full_again drivers old x.0 turned_too freed (freed_under wakes) m n marks frees_only among.frees woken;

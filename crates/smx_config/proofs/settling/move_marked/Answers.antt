@@ -28,7 +28,7 @@ returns-clause-marks c = by (first_message now.flow from) refl where
   to = c.args.next.to
 
   with_run : MarkList → Marks
-  with_run run = record { run = run; wanted = c.release_if_open.new.marks.wanted; waits = c.release_if_open.new.marks.waits; targets = c.release_if_open.new.marks.targets }
+  with_run run = record { run = run; wanted = c.release_if_open.new.marks.wanted; waits = c.release_if_open.new.marks.waits }
 
   last : Marks
   last = record (with_run c.mark_left.new.run) { waits = c.clear.new.self }
@@ -49,11 +49,11 @@ returns-clause-marks c = by (first_message now.flow from) refl where
   by None e =
       let mid = enough c.mark.new.self (left_empty now.flow (same_place from) (same_place to) _ _ (λ p here. subst (λ (x : Place). first_message now.flow x ≡ None) (place_is from p here) e) there) in
       let gone = c.mark_left.ensures.none e in
-      let left = emptied_marks c.args.drivers.now now from (with_run c.mark.new.self) (with_run c.mark_left.new.run) e mid gone.gone gone.drivers refl refl refl in
-      forgotten c.args.drivers.now now from (with_run c.mark_left.new.run) last left (inr e) refl refl c.clear.ensures.gone c.clear.ensures.drivers refl
+      let left = emptied_marks c.args.drivers.now now from (with_run c.mark.new.self) (with_run c.mark_left.new.run) e mid gone.gone gone.drivers refl refl in
+      forgotten c.args.drivers.now now from (with_run c.mark_left.new.run) last left (inr e) refl refl c.clear.ensures.others c.clear.ensures.drivers
   by (Some m) e =
       let one = c.mark_left.ensures.some (λ none. some_none (sym e ∙ none)) in
       let left = enough c.mark_left.new.run (swapped now.flow (same_place to) (same_place from) _ _ (both_marked now.flow (same_place to) (same_place from) _ _ _ there one)) in
-      forgotten c.args.drivers.now now from (with_run c.mark_left.new.run) last left (inl (one.marked from known (λ none. some_none (sym e ∙ none)) (place_self from))) refl refl c.clear.ensures.gone c.clear.ensures.drivers refl where
+      forgotten c.args.drivers.now now from (with_run c.mark_left.new.run) last left (inl (one.marked from known (λ none. some_none (sym e ∙ none)) (place_self from))) refl refl c.clear.ensures.others c.clear.ensures.drivers where
         some_none : ◌≡◌ {A = Option Message} (Some m) None → ⊥
         some_none x = cc

@@ -1,15 +1,19 @@
-use Rattle.std.proofs.Common.{sym, ◌∙◌}
+use Rattle.std.proofs.Common.{◌∙◌, sym}
+use Rattle.std.proofs.lemmas.List.{drop_all, drop_more}
 use Rattle.smx_config.proofs.WakeLemmas.{all_passed, none_passed, other_passed, waiter_passed}
 use Rattle.smx_config.proofs.waking.mark_waiters.Goals as goal
+use Rattle.smx_config.proofs.waking.mark_waiters.Goals.{then-same_place, else-same_place}
 
-pub loop-waiter-init : goal.loop-waiter-init
-loop-waiter-init c = none_passed _ _ _ _ _ c.marked-rest.ensures
+pub loop-wait-init : goal.loop-wait-init
+loop-wait-init c = none_passed _ _ _ _ c.waits-wait-items.ensures
 
-pub loop-waiter-preserved-then-waits_for : goal.loop-waiter-preserved-then-waits_for
-loop-waiter-preserved-then-waits_for c = waiter_passed _ _ _ _ _ _ _ _ _ c.in-Some.ensures c.loop-waiter.invariant c.mark.ensures.here c.mark.ensures.kept c.mark.ensures.drivers
-
-pub loop-waiter-preserved : goal.loop-waiter-preserved
-loop-waiter-preserved c = other_passed _ _ _ _ _ _ _ _ c.in-Some.ensures c.loop-waiter.invariant (sym c.waits_for.ensures ∙ c.if-waits_for.false)
+pub loop-wait-preserved : goal.loop-wait-preserved
+loop-wait-preserved c =
+    let next = drop_more c.waits-wait-items.result.now c.loop-wait.wait-index _ c.loop-wait-test.true in
+    elim c.if-same_place.branch [
+      | then-same_place w ↦ rw w.run-is (waiter_passed _ _ _ _ _ _ _ _ next c.loop-wait.invariant w.mark.ensures.here w.mark.ensures.kept w.mark.ensures.drivers)
+      | else-same_place w ↦ rw w.run-is (other_passed _ _ _ _ _ _ _ next c.loop-wait.invariant (sym c.same_place.ensures ∙ w.if-same_place.false))
+    ]
 
 pub returns : goal.returns
-returns c = all_passed _ _ _ _ _ _ c.in_default.ensures.0 c.loop-waiter.invariant
+returns c = all_passed _ _ _ _ _ (drop_all _ _ c.loop-wait-test.false) c.loop-wait.invariant
