@@ -9,6 +9,7 @@ pub mod WatchLemmas
 pub mod OrphanLemmas
 pub mod ReleasedIdLemmas
 pub mod TouchLemmas
+pub mod OrphanIdLemmas
 pub mod DescriptorLemmas
 pub mod PlaceLemmas
 pub mod SettleLemmas

@@ -1,5 +1,5 @@
 -- Once no link is loose, the links whose lower streams are not held are those that are orphaned.
-use Rattle.std.proofs.Common.{◌≡◌, ℕ, zero, suc, ◌≤◌, Bool, true, false, ◌&&◌, ◌||◌, not, List, [], ◌∷◌, length, map, filter, if◌then◌else◌, refl, sym, ap, subst, ◌∙◌, arith, inl, inr}
+use Rattle.std.proofs.Common.{◌≡◌, ℕ, zero, suc, ◌≤◌, Bool, true, false, ◌&&◌, ◌||◌, not, List, [], ◌∷◌, length, filter, if◌then◌else◌, refl, sym, ap, subst, ◌∙◌, arith, inl, inr}
 use Rattle.std.specs.Prelude.{nat_lt}
 use Rattle.std.specs.List.{All, AllByRecursion, list_any, list_all}
 use Rattle.std.proofs.lemmas.Bool.{cases_Bool, and_from, or_parts}
@@ -15,11 +15,11 @@ use Rattle.smx_model.specs.SoundLinks.{AreLinksSound}
 use Rattle.smx_model.specs.Standing.{is_below, is_persistent, stands_within}
 use Rattle.smx_streams.specs.StreamTables.{StreamTable, number_at, exists as is_there}
 use Rattle.smx_config.specs.ExistingStreams.{AreHeld, IsReleasing, is_held, is_loose}
-use Rattle.smx_config.specs.ListedLinks.{is_orphaned}
+use Rattle.smx_config.specs.ListedLinks.{is_orphaned, AreIdsOf}
 use Rattle.smx_links.specs.LinkLists.{is_one_of}
 use Rattle.smx_config.proofs.AboveLemmas.{stream_is}
 use Rattle.smx_config.proofs.ExistingLemmas.{DoClimbsSuffice, DoPathsJoin, IsReachPath, IsTight, there_exists}
-use Rattle.smx_config.proofs.RemovalLemmas.{IsIdsRising, any_kept, ids_of, links_stay, listed}
+use Rattle.smx_config.proofs.RemovalLemmas.{IsIdsRising, any_kept, links_stay, listed_any}
 
 all_tight : (t : StreamTable) (ls : List Link) → list_any (is_loose t) ls ≡ false → AllByRecursion (IsTight t) ls
 all_tight t [] h = tt
@@ -110,10 +110,9 @@ left_is_linked t (l ∷ ls) h =
       tight false false h = absurd cc
 
 -- the links that are left, by the ids of the others
-pub left_links : (links : List Link) (ids : List ℕ) (t : StreamTable) → IsIdsRising links → ids ≡ map (λ l. l.id) (filter (λ l. not (is_held t l)) links) → filter (λ l. not (is_one_of ids l)) links ≡ filter (is_held t) links
-left_links links ids t rise e =
-    ap (λ (xs : List ℕ). filter (λ l. not (is_one_of xs l)) links) e
-    ∙ links_stay (is_one_of (ids_of (λ l. not (is_held t l)) links)) (λ l. not (is_held t l)) links (listed (λ l. not (is_held t l)) links rise)
+pub left_links : (links : List Link) (ids : List ℕ) (t : StreamTable) → IsIdsRising links → AreIdsOf (λ l. not (is_held t l)) links ids → filter (λ l. not (is_one_of ids l)) links ≡ filter (is_held t) links
+left_links links ids t rise h =
+    links_stay (is_one_of ids) (λ l. not (is_held t l)) links (listed_any (λ l. not (is_held t l)) links ids rise h)
     ∙ kept_alike (λ l. not (not (is_held t l))) (is_held t) links (twice links) where
       no_no : (b : Bool) → not (not b) ≡ b
       no_no true = refl

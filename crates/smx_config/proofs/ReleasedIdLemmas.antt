@@ -10,6 +10,7 @@ use Rattle.smx_model.specs.Paths.{AreLowersApart}
 use Rattle.smx_model.specs.Standing.{is_below}
 use Rattle.smx_streams.specs.StreamTables.{StreamTable, HasHolds, number_at}
 use Rattle.smx_config.specs.ExistingStreams.{AreHeld}
+use Rattle.smx_config.specs.ListedLinks.{is_listed}
 use Rattle.smx_links.specs.LinkLists.{is_one_of}
 use Rattle.smx_config.proofs.AboveLemmas.{once_below, once_id, stream_is, stream_self}
 use Rattle.smx_config.proofs.ExistingLemmas.{same_test}
@@ -32,12 +33,15 @@ released_already t s none = record { minors = refl; fds = refl; holds = λ x. by
 
 -- ---- the lower streams of links by their ids
 
-one_of_more : (ids : List ℕ) (id : ℕ) (l : Link) → is_one_of (ids ++ id ∷ []) l ≡ (is_one_of ids l || eqb l.id id)
-one_of_more [] id l = or_none (eqb l.id id) where
+pub listed_one_more : (ids : List ℕ) (id x : ℕ) → is_listed (ids ++ id ∷ []) x ≡ (is_listed ids x || eqb x id)
+listed_one_more [] id x = or_none (eqb x id) where
   or_none : (b : Bool) → (b || false) ≡ b
   or_none true = refl
   or_none false = refl
-one_of_more (i ∷ ids) id l = elim (cases_Bool (eqb l.id i)) [ inl t ↦ rw t refl | inr f ↦ rw f (one_of_more ids id l) ]
+listed_one_more (i ∷ ids) id x = elim (cases_Bool (eqb x i)) [ inl t ↦ rw t refl | inr f ↦ rw f (listed_one_more ids id x) ]
+
+one_of_more : (ids : List ℕ) (id : ℕ) (l : Link) → is_one_of (ids ++ id ∷ []) l ≡ (is_one_of ids l || eqb l.id id)
+one_of_more ids id l = listed_one_more ids id l.id
 
 -- the links that none of the ids names
 abbrev pub without : List ℕ → List Link → List Link

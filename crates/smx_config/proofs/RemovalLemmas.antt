@@ -15,7 +15,7 @@ use Rattle.smx_model.specs.Paths.{AreLowersApart}
 use Rattle.smx_model.specs.Removal.{without_links, is_read_below}
 use Rattle.smx_model.specs.Standing.{is_below}
 use Rattle.smx_links.specs.LinkLists.{is_one_of}
-use Rattle.smx_config.specs.ListedLinks.{is_listed, is_read_below_listed}
+use Rattle.smx_config.specs.ListedLinks.{is_listed, is_read_below_listed, AreIdsOf}
 use Rattle.smx_config.proofs.AboveLemmas.{any_once, eqb_swap, once_below}
 
 abbrev pub ids_of : (Link → Bool) → List Link → List ℕ
@@ -97,6 +97,17 @@ same_kept {X = X} f g (x ∷ xs) h = elim (cases_Bool (g x)) [
   | inr n ↦ rw (h x, n) (ap (λ (zs : List X). x ∷ zs) (same_kept f g xs h))
 ]
 
+-- the ids of the links that go, in their order, are theirs
+pub ids_in_order : (goes : Link → Bool) (ls : List Link) (ids : List ℕ) → ids ≡ ids_of goes ls → AreIdsOf goes ls ids
+ids_in_order goes ls ids e id = ap (λ (xs : List ℕ). is_listed xs id) e ∙ route_listed (filter goes ls) id
+
+-- ids of the links that go list those and no others
+pub listed_any : (goes : Link → Bool) (ls : List Link) (ids : List ℕ) → IsIdsRising ls → AreIdsOf goes ls ids → IsListOf goes ids ls
+listed_any goes ls ids rise h = each ls (listed goes ls rise) where
+  each : (ks : List Link) → IsListOf goes (ids_of goes ls) ks → IsListOf goes ids ks
+  each [] a = tt
+  each (k ∷ ks) a = (h k.id ∙ sym (route_listed (filter goes ls) k.id) ∙ a.0, each ks a.1)
+
 -- without the links with these ids, the routes to them, and what their lower streams' read sides hold
 abbrev pub without_listed : Configuration → List ℕ → Configuration
 without_listed c ids = record c { links = filter (λ l. not (is_one_of ids l)) c.links; routes = filter (λ r. not (is_listed ids r.id)) c.routes; flow = filter (λ h. not (is_read_below_listed c.links ids h.place)) c.flow; fulls = filter (λ p. not (is_read_below_listed c.links ids p)) c.fulls }
@@ -107,30 +118,28 @@ parts c links routes flow fulls = record c { links = links; routes = routes; flo
 same_parts : (c : Configuration) (ls ks : List Link) (rs ss : List Route) (hs gs : List QueuedMessage) (ps qs : List Place) → ls ≡ ks → rs ≡ ss → hs ≡ gs → ps ≡ qs → parts c ls rs hs ps ≡ parts c ks ss gs qs
 same_parts c ls ks rs ss hs gs ps qs a b d e = cc
 
-removed : (c : Configuration) (goes : Link → Bool) → AreLowersApart c.links → IsIdsRising c.links → without_listed c (ids_of goes c.links) ≡ without_links c goes
-removed c goes apart rise =
-    let ids = ids_of goes c.links in
+pub removed_is : (c : Configuration) (ids : List ℕ) → AreLowersApart c.links → IsIdsRising c.links → (goes : Link → Bool) → AreIdsOf goes c.links ids → without_listed c ids ≡ without_links c goes
+removed_is c ids apart rise goes h =
     let gone = filter goes c.links in
-    let here = listed goes c.links rise in
+    let here = listed_any goes c.links ids rise h in
     same_parts c _ (filter (λ l. not (goes l)) c.links) _ (filter (λ r. not (list_any (λ l. eqb l.id r.id) gone)) c.routes) _ (filter (λ h. not (is_read_below gone h.place)) c.flow) _ (filter (λ p. not (is_read_below gone p)) c.fulls)
     (links_stay (is_one_of ids) goes c.links here)
-    (same_kept (λ (r : Route). is_listed ids r.id) (λ r. list_any (λ l. eqb l.id r.id) gone) c.routes (λ r. route_listed gone r.id))
+    (same_kept (λ (r : Route). is_listed ids r.id) (λ r. list_any (λ l. eqb l.id r.id) gone) c.routes (λ r. h r.id))
     (same_kept (λ (h : QueuedMessage). is_read_below_listed c.links ids h.place) (λ h. is_read_below gone h.place) c.flow (λ h. read_listed goes ids c.links h.place apart here))
     (same_kept (is_read_below_listed c.links ids) (is_read_below gone) c.fulls (λ p. read_listed goes ids c.links p apart here))
-
-pub removed_is : (c : Configuration) (ids : List ℕ) → AreLowersApart c.links → IsRising (λ l k. nat_lt l.id k.id) c.links → (goes : Link → Bool) → ids ≡ map (λ l. l.id) (filter goes c.links) → without_listed c ids ≡ without_links c goes
-removed_is c ids apart rise goes e = ap (without_listed c) e ∙ removed c goes apart rise
 
 -- where no link goes, all stays
 pub is_nothing : (ids : List ℕ) → eqb (length ids) 0 ≡ true → ids ≡ []
 is_nothing [] h = refl
 is_nothing (n ∷ ns) h = let k = eqb-true (length (n ∷ ns)) 0 h in absurd (omega arith)
 
-none_goes : (goes : Link → Bool) (ls : List Link) → map (λ l. l.id) (filter goes ls) ≡ [] → filter goes ls ≡ []
-none_goes goes [] h = refl
-none_goes goes (l ∷ ls) h = elim (cases_Bool (goes l)) [ inl t ↦ let k = rw t at h in absurd cc | inr f ↦ rw f (none_goes goes ls (rw f at h)) ]
+none_goes : (goes : Link → Bool) (ls : List Link) → AreIdsOf goes ls [] → filter goes ls ≡ []
+none_goes goes ls h = no_ids (filter goes ls) h where
+  no_ids : (ks : List Link) → ((id : ℕ) → is_listed [] id ≡ list_any (λ l. eqb l.id id) ks) → ks ≡ []
+  no_ids [] f = refl
+  no_ids (k ∷ ks) f = let e : false ≡ true = f k.id ∙ rw (eq-eqb k.id k.id refl) refl in absurd cc
 
-all_stay : (goes : Link → Bool) (ls : List Link) → map (λ l. l.id) (filter goes ls) ≡ [] → filter (λ l. not (goes l)) ls ≡ ls
+all_stay : (goes : Link → Bool) (ls : List Link) → filter goes ls ≡ [] → filter (λ l. not (goes l)) ls ≡ ls
 all_stay goes [] h = refl
 all_stay goes (l ∷ ls) h = elim (cases_Bool (goes l)) [ inl t ↦ let k = rw t at h in absurd cc | inr f ↦ rw f (ap (λ (zs : List Link). l ∷ zs) (all_stay goes ls (rw f at h))) ]
 
@@ -145,13 +154,12 @@ none_listed ids ls none = sym (none_passes (is_one_of ids) ls (λ l. ap (λ (xs 
 no_read : (p : Place) → is_read_below [] p ≡ false
 no_read p = elim (cases_Bool (same_side p.side side.Read)) [ inl t ↦ rw t refl | inr f ↦ rw f refl ]
 
-pub nothing_removed : (c : Configuration) (ids : List ℕ) → ids ≡ [] → (goes : Link → Bool) → ids ≡ map (λ l. l.id) (filter goes c.links) → c ≡ without_links c goes
-nothing_removed c ids none goes e =
+pub nothing_removed : (c : Configuration) (ids : List ℕ) → ids ≡ [] → (goes : Link → Bool) → AreIdsOf goes c.links ids → c ≡ without_links c goes
+nothing_removed c ids none goes h =
     let gone = filter goes c.links in
-    let empty : map (λ (l : Link). l.id) gone ≡ [] = sym e ∙ none in
-    let no_link : gone ≡ [] = none_goes goes c.links empty in
+    let no_link : gone ≡ [] = none_goes goes c.links (subst (AreIdsOf goes c.links) none h) in
     sym (same_parts c (filter (λ l. not (goes l)) c.links) c.links (filter (λ r. not (list_any (λ l. eqb l.id r.id) gone)) c.routes) c.routes (filter (λ h. not (is_read_below gone h.place)) c.flow) c.flow (filter (λ p. not (is_read_below gone p)) c.fulls) c.fulls
-    (all_stay goes c.links empty)
+    (all_stay goes c.links no_link)
     (none_passes (λ (r : Route). list_any (λ l. eqb l.id r.id) gone) c.routes (λ r. ap (list_any (λ l. eqb l.id r.id)) no_link))
     (none_passes (λ (h : QueuedMessage). is_read_below gone h.place) c.flow (λ h. ap (λ (ls : List Link). is_read_below ls h.place) no_link ∙ no_read h.place))
     (none_passes (is_read_below gone) c.fulls (λ p. ap (λ (ls : List Link). is_read_below ls p) no_link ∙ no_read p)))

@@ -172,16 +172,17 @@ all_seen u left seen x none h = elim (or_cases (is_there_or_touched u left x) (l
 
 -- ---- the cascade at first
 
+-- where each stream below a link has a hold, there are no more holds than links
+pub few_below : (links : List Link) (t : StreamTable) → AreHeld links t → (ls : List Link) → holds_below ls t ≤ length ls
+few_below links t held [] = omega arith
+few_below links t held (l ∷ ls) = let one = holds_few links l.lower in let here = held l.lower in let rest = few_below links t held ls in omega (arith, one, here, rest)
+
 pub cascade_at_first : (links : List Link) (t : StreamTable) (ss : List StreamId) (room : ℕ) → AreHeld links t → list_all (λ l. is_persistent l || is_there_or_touched t ss l.ctl) links ≡ true → length ss + length links ≤ room → IsCascade links t ss room
 cascade_at_first links t ss room held h enough = record {
   releasing = λ n. starts links n t held;
   watched = all_weaker (λ l. is_persistent l || is_there_or_touched t ss l.ctl) (is_watched t ss) links watch h;
-  enough = let few = few_below links in omega (arith, few, enough);
+  enough = let few = few_below links t held links in omega (arith, few, enough);
 } where
-  few_below : (ls : List Link) → holds_below ls t ≤ length ls
-  few_below [] = omega arith
-  few_below (l ∷ ls) = let one = holds_few links l.lower in let here = held l.lower in let rest = few_below ls in omega (arith, one, here, rest)
-
   watch : (l : Link) → (is_persistent l || is_there_or_touched t ss l.ctl) ≡ true → is_watched t ss l ≡ true
   watch l e = elim (cases_Bool (is_loose t l)) [
     | inr tight ↦ or_left (not (is_loose t l)) (list_any (same_stream l.ctl) ss) (ap not tight)

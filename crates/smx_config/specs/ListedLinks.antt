@@ -1,5 +1,5 @@
 -- Links that are removed, by the list of their ids. No public clause needs this.
-use Rattle.std.specs.Prelude.{ℕ, Bool, false, ◌&&◌, not, ◌==◌, List, find}
+use Rattle.std.specs.Prelude.{◌≡◌, ℕ, Bool, false, ◌&&◌, not, ◌==◌, List, filter, find}
 use Rattle.std.specs.List.{list_any}
 use Rattle.std.specs.Option.{option_map_or}
 use Rattle.smx_types.specs.declared.link.Link.{Link}
@@ -12,6 +12,10 @@ use Rattle.smx_model.specs.Standing.{is_persistent, stands_within}
 -- it is one of these ids
 abbrev pub is_listed : List ℕ → ℕ → Bool
 is_listed ids id = list_any (λ i. id == i) ids
+
+-- the ids are those of the links that go, in any order
+abbrev pub AreIdsOf : (Link → Bool) → List Link → List ℕ → Type 0
+AreIdsOf goes links ids = (id : ℕ) → is_listed ids id ≡ list_any (λ l. l.id == id) (filter goes links)
 
 -- the read side of a stream below a link whose id is one of these
 abbrev pub is_read_below_listed : List Link → List ℕ → Place → Bool

@@ -7,7 +7,8 @@ use Rattle.smx_model.specs.Configuration.{Configuration, same_stream}
 use Rattle.smx_model.specs.Removal.{without_queues_at}
 use Rattle.smx_model.specs.Standing.{is_persistent}
 use Rattle.smx_streams.specs.StreamTables.{StreamTable, exists as is_there}
-use Rattle.smx_config.specs.ExistingStreams.{is_loose, holds_below, IsReleasing}
+use Rattle.smx_config.specs.ExistingStreams.{is_held, is_loose, holds_below, IsReleasing}
+use Rattle.smx_config.specs.ListedLinks.{AreIdsOf}
 
 -- the stream is there, or one of these
 abbrev pub is_there_or_touched : StreamTable → List StreamId → StreamId → Bool
@@ -42,3 +43,8 @@ pub record IsCascade (links : List Link) (t : StreamTable) (touched : List Strea
   pub watched : list_all (is_watched t touched) links ≡ true
   -- there is room for them, and for those that are still held
   pub enough : length touched + holds_below links t ≤ room
+
+-- the ids of the links whose lower streams are held no more, with room for those of the others
+pub record AreReleased (links : List Link) (t : StreamTable) (ids : List ℕ) (room : ℕ) : Type 0 where
+  pub same : AreIdsOf (λ l. not (is_held t l)) links ids
+  pub enough : length ids + holds_below links t ≤ room

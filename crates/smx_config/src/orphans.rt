@@ -1,13 +1,13 @@
 //! Links whose controlling stream is gone: their lower streams are released, until no more go.
 
-ghost use Rattle.std.specs.Prelude.{◌≡◌, ℕ, ◌+◌, ◌<◌, ◌≤◌, ◌++◌, ◌∷◌, [], ◌&&◌, not, false, true, map, filter, length, vec_capacity};
+ghost use Rattle.std.specs.Prelude.{◌≡◌, ℕ, ◌+◌, ◌≤◌, ◌++◌, ◌∷◌, [], ◌&&◌, not, false, true, length, vec_capacity};
 ghost use Rattle.std.specs.List.{list_any};
 ghost use Rattle.smx_types.specs.declared.stream.StreamId.{StreamId};
 ghost use Rattle.smx_model.specs.Configuration.{same_stream};
 ghost use Rattle.smx_streams.specs.StreamTables.{exists as is_there};
 ghost use Rattle.smx_links.specs.LinkLists.{is_upper};
 ghost use Rattle.smx_config.specs.ExistingStreams.{is_held, is_loose, holds_below, IsReleasing};
-ghost use Rattle.smx_config.specs.TouchedStreams.{is_there_or_touched, IsCascade};
+ghost use Rattle.smx_config.specs.TouchedStreams.{is_there_or_touched, AreReleased, IsCascade};
 
 use crate::standing::is_persistent;
 use crate::streams::same_stream;
@@ -42,14 +42,16 @@ fn may_have_loose(streams: &Streams, links: &LinkTable, ctl: StreamId) -> bool
 }
 
 // Releases the lower streams of the links that are loose by this controlling stream, and puts them to those that may
-// have gone. Whether there were any.
+// have gone, and the links' ids to those that were released.
 fn release_below(
     streams: &mut Streams,
     links: &LinkTable,
     ctl: StreamId,
     touched: &mut Vec<StreamId>,
-) -> bool
-    requires { IsCascade links.now.links streams.old (touched.old.items ++ ctl ∷ []) (vec_capacity touched.old) }
+    gone: &mut Vec<u32>,
+)
+    requires cascade { IsCascade links.now.links streams.old (touched.old.items ++ ctl ∷ []) (vec_capacity touched.old) }
+    requires gone { AreReleased links.now.links streams.old gone.old.items (vec_capacity gone.old) }
     ensures fds { streams.new.fds ≡ streams.old.fds }
     ensures minors { streams.new.minors ≡ streams.old.minors }
     ensures cascade { IsCascade links.now.links streams.new touched.new.items (vec_capacity touched.new) }
@@ -57,89 +59,47 @@ fn release_below(
         ≤ length touched.old.items + holds_below links.now.links streams.old }
     ensures touched { (s : StreamId) → is_there_or_touched streams.old touched.old.items s ≡ true
         → is_there_or_touched streams.new touched.new.items s ≡ true }
-    ensures none { result ≡ false → streams.new ≡ streams.old }
+    ensures gone { AreReleased links.now.links streams.new gone.new.items (vec_capacity gone.new) }
 {
     links.is_sound();
     if !may_have_loose(streams, links, ctl) {
-        return false;
+        return;
     }
-    let mut released = false;
     let listed = links.links();
     for i in 0..listed.len() {
         if let Some(link) = listed.get(i) {
             if is_loose_by(streams, ctl, link) {
                 let _gone = streams.release(link.lower);
                 touched.push_reserved(link.lower);
-                released = true;
+                gone.push_reserved(link.id);
             }
         }
     }
-    released
 }
 
 // The same for each stream that may have gone, until no link is loose. Those are put to a list that has room for them.
-// Whether any stream was released.
 pub fn release_orphans(
     streams: &mut Streams,
     links: &LinkTable,
     touched: Vec<StreamId>,
     seen: &mut Vec<StreamId>,
-) -> bool
+    gone: &mut Vec<u32>,
+)
     requires cascade { IsCascade links.now.links streams.old touched.items (vec_capacity touched) }
     requires room { length seen.old.items + (length touched.items + holds_below links.now.links streams.old)
         ≤ vec_capacity seen.old }
+    requires gone { AreReleased links.now.links streams.old gone.old.items (vec_capacity gone.old) }
     ensures fds { streams.new.fds ≡ streams.old.fds }
     ensures minors { streams.new.minors ≡ streams.old.minors }
     ensures releasing { (climbs : ℕ) → IsReleasing links.now.links climbs streams.new }
     ensures none { list_any (is_loose streams.new) links.now.links ≡ false }
     ensures seen { (s : StreamId) → is_there_or_touched streams.old touched.items s ≡ true
         → is_there_or_touched streams.new seen.new.items s ≡ true }
-    ensures unchanged { result ≡ false → streams.new ≡ streams.old }
+    ensures gone { AreReleased links.now.links streams.new gone.new.items (vec_capacity gone.new) }
 {
     let mut left = touched;
-    let mut released = false;
     while let Some(stream) = left.pop() {
         seen.push_reserved(stream);
-        if release_below(streams, links, stream, &mut left) {
-            released = true;
-        }
+        release_below(streams, links, stream, &mut left, gone);
     }
-    released
-}
-
-// One id more, for which there is room.
-fn put_id(ids: &mut Vec<u32>, id: u32)
-    requires { length ids.old.items < vec_capacity ids.old }
-    ensures ids { ids.new.items ≡ ids.old.items ++ id ∷ [] }
-    ensures capacity { vec_capacity ids.old ≤ vec_capacity ids.new }
-{
-    let _ = ids.push(id);
-}
-
-// The ids of the links whose lower stream isn't held, in a list that has room for all ids. There are none where no
-// stream was released.
-pub fn released_links(
-    streams: &Streams,
-    links: &LinkTable,
-    released: bool,
-    room: Vec<u32>,
-) -> Vec<u32>
-    requires empty { room.items ≡ [] }
-    requires room { length links.now.links ≤ vec_capacity room }
-    requires none { released ≡ false → filter (λ l. not (is_held streams.now l)) links.now.links ≡ [] }
-    ensures { result.items ≡ map (λ l. l.id) (filter (λ l. not (is_held streams.now l)) links.now.links) }
-{
-    let mut ids = room;
-    if !released {
-        return ids;
-    }
-    let listed = links.links();
-    for i in 0..listed.len() {
-        if let Some(link) = listed.get(i) {
-            if !is_held(streams, link) {
-                put_id(&mut ids, link.id);
-            }
-        }
-    }
-    ids
 }

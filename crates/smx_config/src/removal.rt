@@ -11,7 +11,7 @@ ghost use Rattle.smx_config.specs.DroppedMessages.{AreDropped};
 ghost use Rattle.smx_config.specs.ExistingStreams.{AreHeld};
 ghost use Rattle.smx_config.specs.KeptHolds.{KeepsHolds};
 ghost use Rattle.smx_config.specs.ModelOfLists.{configuration_of, sizes_of};
-ghost use Rattle.smx_config.specs.ListedLinks.{is_read_below_listed};
+ghost use Rattle.smx_config.specs.ListedLinks.{is_read_below_listed, AreIdsOf};
 ghost use Rattle.smx_config.specs.TouchedStreams.{is_there_or_touched};
 
 use crate::dropped_messages::drop_at;
@@ -78,7 +78,7 @@ fn release_each(streams: &mut Streams, links: &LinkTable, gone: &[u32], touched:
 // released.
 pub fn drop_links(lists: &mut Lists, gone: &[u32], dropped: &mut Vec<u32>)
     requires { length dropped.old.items + length lists.old.queues.flow ≤ vec_capacity dropped.old }
-    ensures value { (goes : Link → Bool) → gone.now ≡ map (λ l. l.id) (filter goes lists.old.links.links)
+    ensures value { (goes : Link → Bool) → AreIdsOf goes lists.old.links.links gone.now
         → configuration_of lists.new ≡ without_links (configuration_of lists.old) goes }
     ensures links { lists.new.links.links ≡ filter (λ l. not (is_one_of gone.now l)) lists.old.links.links }
     ensures streams { lists.new.streams ≡ lists.old.streams }

@@ -18,7 +18,7 @@ ghost use Rattle.smx_config.specs.TouchedStreams.{is_dead, is_there_or_touched, 
 
 use crate::dropped_messages::{drop_sides, rising};
 use crate::lists::Lists;
-use crate::orphans::{release_orphans, released_links};
+use crate::orphans::release_orphans;
 use crate::removal::drop_links;
 use crate::standing::tells_existing;
 use smx_model::laws_of_links::{paths_join, reaches_is_path};
@@ -95,8 +95,8 @@ fn drop_orphans(
     climbs_suffice();
     reaches_is_path();
     paths_join();
-    let released = release_orphans(&mut lists.streams, &lists.links, touched, seen);
-    let gone = released_links(&lists.streams, &lists.links, released, room);
+    let mut gone = room;
+    release_orphans(&mut lists.streams, &lists.links, touched, seen, &mut gone);
     drop_links(lists, &gone, dropped);
     tells_existing(drivers, lists);
 }

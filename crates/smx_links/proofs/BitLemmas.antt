@@ -1,10 +1,10 @@
 -- Bits of words, and what one link more joins.
 use Rattle.std.proofs.Common.{◌≡◌, ℕ, zero, suc, ◌<◌, ◌≤◌, ◌^◌, Bool, true, false, ◌&&◌, ◌||◌, eqb, cond, List, length}
-use Rattle.std.proofs.Common.{get_or, max, bit_or, refl, sym, ap, ◌∙◌, arith, inl, inr}
+use Rattle.std.proofs.Common.{get_or, max, min, bit_and, bit_or, not, refl, sym, ap, ◌∙◌, arith, inl, inr}
 use Rattle.std.specs.Int.{bit_at}
 use Rattle.std.proofs.lemmas.Bool.{eqb-true, eq-eqb, cases_eq, cases_lt, false_from_ne_true}
 use Rattle.std.proofs.lemmas.List.{get_or_past}
-use Rattle.std.proofs.lemmas.Nat.Bits.{bit_at_or, bit_at-lt, bit_at-pow_same, bit_at-pow_other, bit_at-zero}
+use Rattle.std.proofs.lemmas.Nat.Bits.{bit_at_and, bit_at_or, bit_at-lt, bit_at-pow_same, bit_at-pow_other, bit_at-zero}
 use Rattle.std.proofs.lemmas.Nat.Bits.{bit_at_above}
 use Rattle.smx_links.specs.Masks.{is_set, has_bit, AreJoined}
 
@@ -59,7 +59,7 @@ joined_bits false w x k b = or_false (is_set w b) where
   or_false false = refl
 
 -- there are no bits past the last word
-past_bits : (ws : List ℕ) (a b : ℕ) → length ws ≤ a → has_bit ws a b ≡ false
+pub past_bits : (ws : List ℕ) (a b : ℕ) → length ws ≤ a → has_bit ws a b ≡ false
 past_bits ws a b h = rw (get_or_past ws a 0 h) (is_set_zero b)
 
 -- words that are joined so, each of them, are joined
@@ -74,3 +74,24 @@ joined_words old new u k below long each a b = elim (cases_lt a (length old)) [
       let no : (b : ℕ) → has_bit old a b ≡ false = λ b. past_bits old a b past in
       past_bits new a b (omega arith) ∙ sym (rw (no b, no u, far) refl)
 ]
+
+-- the bits that both words have
+pub is_set_and : (v w b : ℕ) → is_set (bit_and v w) b ≡ (is_set v b && is_set w b)
+is_set_and v w b = rw (bit_at_and v w b) (set_min (bit_at v b) (bit_at w b) (bit_at-lt v b) (bit_at-lt w b)) where
+  set_min : (x y : ℕ) → x < 2 → y < 2 → eqb (min x y) 1 ≡ (eqb x 1 && eqb y 1)
+  set_min zero zero h k = refl
+  set_min zero (suc zero) h k = refl
+  set_min zero (suc (suc y)) h k = absurd (omega arith)
+  set_min (suc zero) zero h k = refl
+  set_min (suc zero) (suc zero) h k = refl
+  set_min (suc (suc x)) y h k = absurd (omega arith)
+  set_min (suc zero) (suc (suc y)) h k = absurd (omega arith)
+
+-- one bit more
+pub is_set_with : (w k b : ℕ) → is_set (bit_or w (2 ^ k)) b ≡ (is_set w b || eqb k b)
+is_set_with w k b = is_set_or w (2 ^ k) b ∙ ap (λ (x : Bool). is_set w b || x) (is_set_pow k b)
+
+-- a word without the bits that are cleared
+pub cleared_bit : (s : Bool) (w b : ℕ) → is_set (cond s 0 w) b ≡ (not s && is_set w b)
+cleared_bit true w b = is_set_zero b
+cleared_bit false w b = refl

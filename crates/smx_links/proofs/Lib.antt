@@ -8,3 +8,4 @@ pub mod IdLemmas
 pub mod TableLemmas
 pub mod PlaceLemmas
 pub mod UpperLemmas
+pub mod StaleLemmas

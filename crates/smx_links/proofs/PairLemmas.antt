@@ -1,17 +1,17 @@
 -- The masks of links, from how many there are between each two drivers.
-use Rattle.std.proofs.Common.{◌≡◌, ℕ, ◌+◌, ◌-◌, ◌*◌, ◌<◌, Bool, true, false, ◌||◌, List, []}
-use Rattle.std.proofs.Common.{◌∷◌, filter, get_or, length-take, take, drop, refl, sym, ap, ◌∙◌, arith, inl, inr}
-use Rattle.std.specs.List.{All}
-use Rattle.std.proofs.lemmas.Bool.{cases_Bool, or_left, or_right}
+use Rattle.std.proofs.Common.{◌≡◌, ℕ, ◌+◌, ◌-◌, ◌*◌, ◌<◌, Bool, true, false, ◌&&◌, ◌||◌, not, eqb, List, []}
+use Rattle.std.proofs.Common.{◌∷◌, filter, length-take, take, drop, refl, sym, ap, ◌∙◌, arith, inl, inr}
+use Rattle.std.specs.List.{All, AllByRecursion}
+use Rattle.std.specs.Prelude.{nat_lt}
+use Rattle.std.proofs.lemmas.Bool.{cases_Bool, cases_eq, or_left, or_right}
 use Rattle.std.proofs.lemmas.Bool.Decides.{nat_tests}
 use Rattle.std.proofs.lemmas.List.{get_or-drop, get_or-take}
-use Rattle.std.proofs.lemmas.List.Elements.{All-head, All-tail}
+use Rattle.std.proofs.lemmas.List.Elements.{All-head, All-tail, filter_agree, recursion_from_All}
 use Rattle.smx_types.specs.declared.link.Link.{Link}
 use Rattle.smx_types.specs.declared.link.LinkKind.TheVariants.{Ordinary}
 use Rattle.smx_model.specs.Paths.{reaches}
-use Rattle.smx_links.specs.Masks.{AreJoined, IsWithin, LeadAlike, has_bit}
+use Rattle.smx_links.specs.Masks.{AreJoined, IsWithin, LeadAlike, has_bit, is_set}
 use Rattle.smx_links.specs.Pairs.{AreCounts, AreMasksBefore, IsRow, count_between, is_before, is_between}
-use Rattle.smx_links.proofs.BitLemmas.{is_set_zero}
 use Rattle.smx_links.proofs.CountLemmas.{counted}
 use Rattle.smx_links.proofs.MaskLemmas.{Joins, PathsJoin, known_same, masks_push}
 use Rattle.smx_links.proofs.TwinLemmas.{behind_same, own_path, swapped}
@@ -91,61 +91,97 @@ none_found p q u l each (k ∷ ks) h = elim (cases_Bool (is_between u l k)) [
 
 -- one pair more
 
--- what comes before the next two drivers
-before_next : (u l : ℕ) (k : Link) → is_before u (l + 1) k ≡ (is_before u l k || is_between u l k)
-before_next u l k = grind (arith, nat_tests)
+-- what comes before the next entry
+before_next : (done : ℕ → Bool) (u l : ℕ) (k : Link)
+    → is_before done u (l + 1) k ≡ (is_before done u l k || is_between u l k)
+before_next done u l k = by (done k.ctl.driver) where
+  by : (d : Bool) → (d || ((eqb k.ctl.driver u) && nat_lt k.lower.driver (l + 1)))
+      ≡ ((d || ((eqb k.ctl.driver u) && nat_lt k.lower.driver l)) || is_between u l k)
+  by true = refl
+  by false = grind (arith, nat_tests)
 
 -- the masks with what is between two drivers, where their link joins
-pub pair_joins : Joins → PathsJoin → (ls : List Link) (u l : ℕ) (old new : List ℕ)
-    → 0 < count_between ls u l → AreMasksBefore ls u l old → AreJoined old u l new
-    → AreMasksBefore ls u (l + 1) new
-pair_joins joins trans ls u l old new h m j a b =
-    masks_push joins (filter (is_before u l) ls) (between u l) old new m j a b
-    ∙ joins (filter (is_before u l) ls) (between u l) a b
-    ∙ sym (with_found joins trans (is_before u l) (is_before u (l + 1)) (between u l) (before_next u l) ls h a b)
+pub pair_joins : Joins → PathsJoin → (done : ℕ → Bool) (ls : List Link) (u l : ℕ) (old new : List ℕ)
+    → 0 < count_between ls u l → AreMasksBefore done ls u l old → AreJoined old u l new
+    → AreMasksBefore done ls u (l + 1) new
+pair_joins joins trans done ls u l old new h m j a b =
+    masks_push joins (filter (is_before done u l) ls) (between u l) old new m j a b
+    ∙ joins (filter (is_before done u l) ls) (between u l) a b
+    ∙ sym (with_found joins trans (is_before done u l) (is_before done u (l + 1)) (between u l) (before_next done u l) ls
+    h a b)
 
 -- where it leads nowhere new
-pub pair_known : Joins → PathsJoin → (ls : List Link) (u l : ℕ) (ws : List ℕ)
-    → 0 < count_between ls u l → AreMasksBefore ls u l ws → has_bit ws u l ≡ true
-    → AreMasksBefore ls u (l + 1) ws
-pair_known joins trans ls u l ws h m k a b =
-    m a b ∙ known_same trans (filter (is_before u l) ls) (between u l) (sym (m u l) ∙ k) a b
-    ∙ sym (with_found joins trans (is_before u l) (is_before u (l + 1)) (between u l) (before_next u l) ls h a b)
+pub pair_known : Joins → PathsJoin → (done : ℕ → Bool) (ls : List Link) (u l : ℕ) (ws : List ℕ)
+    → 0 < count_between ls u l → AreMasksBefore done ls u l ws → has_bit ws u l ≡ true
+    → AreMasksBefore done ls u (l + 1) ws
+pair_known joins trans done ls u l ws h m k a b =
+    m a b ∙ known_same trans (filter (is_before done u l) ls) (between u l) (sym (m u l) ∙ k) a b
+    ∙ sym (with_found joins trans (is_before done u l) (is_before done u (l + 1)) (between u l) (before_next done u l) ls
+    h a b)
 
 -- and where there is none
-pub pair_none : (ls : List Link) (u l : ℕ) (ws : List ℕ) → count_between ls u l ≡ 0 → AreMasksBefore ls u l ws
-    → AreMasksBefore ls u (l + 1) ws
-pair_none ls u l ws h m = rw (none_found (is_before u l) (is_before u (l + 1)) u l (before_next u l) ls h) m
+pub pair_none : (done : ℕ → Bool) (ls : List Link) (u l : ℕ) (ws : List ℕ) → count_between ls u l ≡ 0
+    → AreMasksBefore done ls u l ws → AreMasksBefore done ls u (l + 1) ws
+pair_none done ls u l ws h m =
+    rw (none_found (is_before done u l) (is_before done u (l + 1)) u l (before_next done u l) ls h) m
 
 -- rows
 
--- before the first two drivers there is nothing
-before_first : (ls : List Link) → filter (is_before 0 0) ls ≡ []
-before_first [] = refl
-before_first (k ∷ ks) =
-    let no : is_before 0 0 k ≡ false = grind (arith, nat_tests) in
-    rw no (before_first ks)
+-- two tests that agree at each link keep the same links
+pub kept_alike : (p q : Link → Bool) (ls : List Link) → AllByRecursion (λ k. p k ≡ q k) ls → filter p ls ≡ filter q ls
+kept_alike p q [] h = refl
+kept_alike p q (k ∷ ks) h = elim (cases_Bool (q k)) [
+  | inl t ↦ rw (h.0, t) (ap (λ (xs : List Link). k ∷ xs) (kept_alike p q ks h.1))
+  | inr f ↦ rw (h.0, f) (kept_alike p q ks h.1)
+]
 
--- words of zeros are the masks of that
-pub zero_words : (ls : List Link) (ws : List ℕ) → ((k : ℕ) → get_or ws k 0 ≡ 0) → AreMasksBefore ls 0 0 ws
-zero_words ls ws h a b = rw (h a, before_first ls) (is_set_zero b)
+-- the driver's word stayed, or its row comes before that of u
+abbrev pub is_done : ℕ → ℕ → ℕ → Bool
+is_done stale u d = not (is_set stale d) || nat_lt d u
 
 -- what comes before the end of a row comes before the next row
-pub row_end : (n u : ℕ) (ls : List Link) → All (IsWithin n) ls
-    → filter (is_before (u + 1) 0) ls ≡ filter (is_before u n) ls
-row_end n u [] h = refl
-row_end n u (k ∷ ks) h =
-    let low = All-head (IsWithin n) k ks h in
-    let same : is_before (u + 1) 0 k ≡ is_before u n k = grind (arith, nat_tests, low.1) in
-    rw (same, row_end n u ks (All-tail (IsWithin n) k ks h)) refl
+pub row_end : (stale n u : ℕ) (ls : List Link) → All (IsWithin n) ls
+    → filter (is_before (is_done stale u) u n) ls ≡ filter (is_before (is_done stale (u + 1)) (u + 1) 0) ls
+row_end stale n u ls h = kept_alike (is_before (is_done stale u) u n) (is_before (is_done stale (u + 1)) (u + 1) 0) ls
+    (each ls (recursion_from_All (IsWithin n) ls h)) where
+      each : (ks : List Link) → AllByRecursion (IsWithin n) ks
+          → AllByRecursion (λ k. is_before (is_done stale u) u n k ≡ is_before (is_done stale (u + 1)) (u + 1) 0 k) ks
+      each [] w = tt
+      each (k ∷ ks) w = (at_end (is_set stale k.ctl.driver) k.ctl.driver k.lower.driver w.0.1, each ks w.1) where
+        at_end : (s : Bool) (d l : ℕ) → l < n
+            → ((not s || nat_lt d u) || ((eqb d u) && nat_lt l n))
+            ≡ ((not s || nat_lt d (u + 1)) || ((eqb d (u + 1)) && nat_lt l 0))
+        at_end true d l low = grind (arith, nat_tests)
+        at_end false d l low = refl
+
+-- and so where the word of its driver stayed
+pub row_stays : (stale u : ℕ) (ls : List Link) → is_set stale u ≡ false
+    → filter (is_before (is_done stale u) u 0) ls ≡ filter (is_before (is_done stale (u + 1)) (u + 1) 0) ls
+row_stays stale u ls h = filter_agree (is_before (is_done stale u) u 0) (is_before (is_done stale (u + 1)) (u + 1) 0)
+    (λ k. at_row k.ctl.driver k.lower.driver) ls where
+      at_row : (d l : ℕ) → (is_done stale u d || ((eqb d u) && nat_lt l 0))
+          ≡ (is_done stale (u + 1) d || ((eqb d (u + 1)) && nat_lt l 0))
+      at_row d l = elim (cases_eq d u) [
+        | inl same ↦ rw (same, h) refl
+        | inr other ↦ by (is_set stale d) other
+      ] where
+        by : (s : Bool) → (d ≡ u → ⊥) → ((not s || nat_lt d u) || ((eqb d u) && nat_lt l 0))
+            ≡ ((not s || nat_lt d (u + 1)) || ((eqb d (u + 1)) && nat_lt l 0))
+        by true other = grind (arith, nat_tests)
+        by false other = refl
 
 -- all comes before the end of the last row
-pub before_all : (n : ℕ) (ls : List Link) → All (IsWithin n) ls → filter (is_before n 0) ls ≡ ls
-before_all n [] h = refl
-before_all n (k ∷ ks) h =
+pub all_done : (stale n : ℕ) (ls : List Link) → All (IsWithin n) ls
+    → filter (is_before (is_done stale n) n 0) ls ≡ ls
+all_done stale n [] h = refl
+all_done stale n (k ∷ ks) h =
     let low = All-head (IsWithin n) k ks h in
-    let yes : is_before n 0 k ≡ true = grind (arith, nat_tests, low.0) in
-    rw yes (ap (λ x. k ∷ x) (before_all n ks (All-tail (IsWithin n) k ks h)))
+    let yes : is_before (is_done stale n) n 0 k ≡ true = by (is_set stale k.ctl.driver) low.0 in
+    rw yes (ap (λ x. k ∷ x) (all_done stale n ks (All-tail (IsWithin n) k ks h))) where
+      by : (s : Bool) → k.ctl.driver < n
+          → ((not s || nat_lt k.ctl.driver n) || ((eqb k.ctl.driver n) && nat_lt k.lower.driver 0)) ≡ true
+      by true low = grind (arith, nat_tests)
+      by false low = refl
 
 -- a row of the counts is that of its driver
 pub row_of : (n u : ℕ) (ls : List Link) (ps : List ℕ) → AreCounts n ls ps → u < n

@@ -16,12 +16,11 @@ use Rattle.smx_links.specs.declared.fault.LinkFault.{LinkFault}
 use Rattle.smx_links.specs.declared.links.Lower.{Lower}
 use Rattle.smx_links.specs.Ids.{HasIds}
 use Rattle.smx_links.specs.LinkLists.{LinkList, refusal}
-use Rattle.smx_links.specs.Masks.{AreJoined, AreMasks, IsWithin, LeadAlike}
+use Rattle.smx_links.specs.Masks.{AreJoined, AreMasks, IsWithin, LeadAlikeBut}
 use Rattle.smx_links.specs.Pairs.{AreCounts, with_one_more}
 use Rattle.smx_links.specs.TableFields.{AreParts, list_of_parts}
 use Rattle.smx_links.proofs.CountLemmas.{counts_more, fewer}
 use Rattle.smx_links.proofs.MaskLemmas.{Joins, masks_push}
-use Rattle.smx_links.proofs.TwinLemmas.{masks_alike}
 
 -- no refusal applies
 
@@ -83,17 +82,17 @@ parts_push joins ws vs ls es fs ps n ctl lower kind h free up low sound ids more
 
 -- fewer links
 
--- what renews the masks of links that are left: words stay where these lead alike
-abbrev Renews : List ℕ → List ℕ → List ℕ → Bool → Type 0
-Renews ws vs qs same = (links : List Link) → All (IsWithin (length ws)) links → AreCounts (length ws) links qs
-    → (same ≡ true → AreMasks links ws) → AreMasks links vs
+-- what renews the masks of links that are left, but for drivers that lost some
+abbrev Renews : List ℕ → List ℕ → List ℕ → ℕ → Type 0
+Renews ws vs qs lost = (old links : List Link) → AreMasks old ws → LeadAlikeBut lost old links
+    → All (IsWithin (length ws)) links → AreCounts (length ws) links qs → AreMasks links vs
 
 -- the fields of a table with some links less
 pub parts_less : (ws vs : List ℕ) (ls ks : List Link) (es fs : List (Lower × ℕ)) (ps qs : List ℕ) (n : ℕ)
-    (stays : Link → Bool) (same : Bool) → AreParts ws ls es ps n → ks ≡ filter stays ls → HasIds fs ks
+    (stays : Link → Bool) (lost : ℕ) → AreParts ws ls es ps n → ks ≡ filter stays ls → HasIds fs ks
     → AreLinksSound (filter stays ls) → AreIdsRising (filter stays ls) n → length vs ≡ length ws
-    → AreCounts (length ws) ks qs → (same ≡ true → LeadAlike ls ks) → Renews ws vs qs same → AreParts vs ks fs qs n
-parts_less ws vs ls ks es fs ps qs n stays same h is kept sound ids long counts alike renews =
+    → AreCounts (length ws) ks qs → LeadAlikeBut lost ls ks → Renews ws vs qs lost → AreParts vs ks fs qs n
+parts_less ws vs ls ks es fs ps qs n stays lost h is kept sound ids long counts alike renews =
     let within : All (IsWithin (length ws)) ks = rw is (All-filter stays (IsWithin (length ws)) ls h.within) in record {
       list = record {
         sound = rw is sound;
@@ -103,7 +102,7 @@ parts_less ws vs ls ks es fs ps qs n stays same h is kept sound ids long counts 
       };
       within = rw long within;
       few = rw long h.few;
-      masks = renews ks within counts (λ t. masks_alike ls ks ws h.masks (alike t));
+      masks = renews ls ks h.masks alike within counts;
       ids = kept;
       pairs = rw long counts;
     }

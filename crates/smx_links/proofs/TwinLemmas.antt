@@ -7,7 +7,7 @@ use Rattle.std.proofs.lemmas.Bool.Decides.{nat_tests}
 use Rattle.smx_types.specs.declared.link.Link.{Link}
 use Rattle.smx_model.specs.Ordered.{IsRising}
 use Rattle.smx_model.specs.Paths.{reaches}
-use Rattle.smx_links.specs.Masks.{AreMasks, IsWithin, LeadAlike}
+use Rattle.smx_links.specs.Masks.{IsWithin, LeadAlike}
 use Rattle.smx_links.specs.Pairs.{AreCounts, count_between, entry_of, is_between}
 use Rattle.smx_links.proofs.CountLemmas.{entry_is}
 use Rattle.smx_links.proofs.IdLemmas.{later_stay}
@@ -22,7 +22,7 @@ pub swapped : Joins → (k l : Link) (ls : List Link) → LeadAlike (k ∷ l ∷
 swapped joins k l ls a b = sym (joins (k ∷ ls) l a b) ∙ behind_same k (l ∷ ls) (ls ++ l ∷ []) (joins ls l) a b
 
 -- links lead alike with one of them in front
-in_front : Joins → (ls : List Link) (l : Link) (id : ℕ) → IsRising (λ l k. nat_lt l.id k.id) ls
+pub in_front : Joins → (ls : List Link) (l : Link) (id : ℕ) → IsRising (λ l k. nat_lt l.id k.id) ls
     → find (λ l. eqb l.id id) ls ≡ Some l
     → LeadAlike ls (l ∷ filter (λ l. not (eqb l.id id)) ls)
 in_front joins [] l id rise h = absurd cc
@@ -67,7 +67,3 @@ pub entry_stays : Joins → PathsJoin → (n : ℕ) (ls ks : List Link) (ps : Li
 entry_stays joins trans n ls ks ps l id rise found rest h w left =
     twin_stays joins trans ls ks l id rise found rest
     (rw (← entry_is n ks ps l h w) (grind (arith, nat_tests, left)))
-
--- the masks are those of links that lead alike
-pub masks_alike : (ls ks : List Link) (ws : List ℕ) → AreMasks ls ws → LeadAlike ls ks → AreMasks ks ws
-masks_alike ls ks ws m h a b = m a b ∙ sym (h a b)

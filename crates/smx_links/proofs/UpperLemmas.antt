@@ -13,7 +13,7 @@ use Rattle.smx_links.specs.Masks.{AreMasks, HasAnyBit, is_set}
 use Rattle.smx_links.proofs.BitLemmas.{is_set_zero}
 
 -- a driver without links reaches none
-none_reached : (ls : List Link) (a b : ℕ) → is_upper ls a ≡ false → reaches ls a b ≡ false
+pub none_reached : (ls : List Link) (a b : ℕ) → is_upper ls a ≡ false → reaches ls a b ≡ false
 none_reached [] a b h = refl
 none_reached (l ∷ ls) a b h =
     let p = or_parts (eqb l.ctl.driver a) (is_upper ls a) h in

@@ -1,5 +1,5 @@
 -- A word of bits for each driver, bit b of word a for a path from driver a to driver b.
-use Rattle.std.specs.Prelude.{◌≡◌, ℕ, ◌<◌, Bool, true, false, ◌&&◌, ◌||◌, ◌==◌, List, slice_index}
+use Rattle.std.specs.Prelude.{◌≡◌, ℕ, ◌<◌, Bool, true, false, ◌&&◌, ◌||◌, not, ◌==◌, List, slice_index, bit_and, bit_or, ◌^◌}
 use Rattle.std.specs.Int.{bit_at}
 use Rattle.smx_types.specs.declared.link.Link.{Link}
 use Rattle.smx_model.specs.Paths.{reaches}
@@ -7,6 +7,10 @@ use Rattle.smx_model.specs.Paths.{reaches}
 -- bit b is set
 abbrev pub is_set : ℕ → ℕ → Bool
 is_set w b = bit_at w b == 1
+
+-- the word with the bit set
+abbrev pub with_bit : ℕ → ℕ → ℕ
+with_bit w b = bit_or w (2 ^ b)
 
 -- bit b of word a is set; there is none past the last word
 abbrev pub has_bit : List ℕ → ℕ → ℕ → Bool
@@ -33,3 +37,17 @@ IsWithin n l = (l.ctl.driver < n) × (l.lower.driver < n)
 -- some links lead from each driver to the same drivers as others do
 abbrev pub LeadAlike : List Link → List Link → Type 0
 LeadAlike old new = (a b : ℕ) → reaches new a b ≡ reaches old a b
+
+-- the driver is one of those whose bits are set, or leads to one of them
+abbrev pub is_stale : List ℕ → ℕ → ℕ → Bool
+is_stale ws lost a = is_set lost a || not (bit_and (slice_index ws a) lost == 0)
+
+-- the driver is none of those whose bits are set, and leads to none of them
+pub record IsClear (lost : ℕ) (links : List Link) (a : ℕ) : Type 0 where
+  pub own : is_set lost a ≡ false
+  pub led : (b : ℕ) → reaches links a b ≡ true → is_set lost b ≡ false
+
+-- some links lead nowhere but where others do, and from a driver that is clear to the same drivers
+pub record LeadAlikeBut (lost : ℕ) (old new : List Link) : Type 0 where
+  pub fewer : (a b : ℕ) → reaches new a b ≡ true → reaches old a b ≡ true
+  pub same : (a : ℕ) → IsClear lost old a → (b : ℕ) → reaches new a b ≡ reaches old a b

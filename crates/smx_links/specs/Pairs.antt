@@ -1,9 +1,8 @@
 -- How many links there are between each two drivers, row by row. No public clause needs this.
 use Rattle.std.specs.Prelude.{◌≡◌, ℕ, ◌+◌, ◌-◌, ◌*◌, ◌<◌, Bool, ◌&&◌, ◌||◌, ◌==◌, nat_lt, List, length, filter}
 use Rattle.std.specs.Prelude.{slice_index, slice_set}
-use Rattle.std.specs.List.{All}
 use Rattle.smx_types.specs.declared.link.Link.{Link}
-use Rattle.smx_links.specs.Masks.{AreMasks, IsWithin}
+use Rattle.smx_links.specs.Masks.{AreMasks}
 
 -- the link is between the two drivers
 abbrev pub is_between : ℕ → ℕ → Link → Bool
@@ -38,14 +37,10 @@ pub record AreCounts (n : ℕ) (links : List Link) (pairs : List ℕ) : Type 0 w
 abbrev pub IsRow : List Link → ℕ → List ℕ → Type 0
 IsRow links u row = (l : ℕ) → l < length row → slice_index row l ≡ count_between links u l
 
--- the link is between two drivers that come before these two, row by row
-abbrev pub is_before : ℕ → ℕ → Link → Bool
-is_before u l k = nat_lt k.ctl.driver u || ((k.ctl.driver == u) && nat_lt k.lower.driver l)
+-- the link is of a driver whose row is done, or before this entry of the row of u
+abbrev pub is_before : (ℕ → Bool) → ℕ → ℕ → Link → Bool
+is_before done u l k = done k.ctl.driver || ((k.ctl.driver == u) && nat_lt k.lower.driver l)
 
--- the words are the masks of the links between the drivers that come before these two
-abbrev pub AreMasksBefore : List Link → ℕ → ℕ → List ℕ → Type 0
-AreMasksBefore links u l ws = AreMasks (filter (is_before u l) links) ws
-
--- the words are the masks of all links that have these counts
-abbrev pub AreMasksOfCounts : ℕ → List ℕ → List ℕ → Type 0
-AreMasksOfCounts n pairs ws = (links : List Link) → All (IsWithin n) links → AreCounts n links pairs → AreMasks links ws
+-- the words are the masks of those links
+abbrev pub AreMasksBefore : (ℕ → Bool) → List Link → ℕ → ℕ → List ℕ → Type 0
+AreMasksBefore done links u l ws = AreMasks (filter (is_before done u l) links) ws

@@ -1,6 +1,6 @@
 //! Links by rising id, and the id of the link that a stream is below.
 
-ghost use Rattle.std.specs.Prelude.{◌≡◌, ◌≤◌, ◌==◌, ◌++◌, [], ◌∷◌, true, false, find, filter, not, nat_lt, is_some};
+ghost use Rattle.std.specs.Prelude.{◌≡◌, ◌<◌, ◌≤◌, ◌*◌, ◌==◌, ◌++◌, [], ◌∷◌, false, find, filter, length, not, nat_lt, is_some, if◌then◌else◌};
 ghost use Rattle.std.specs.Prelude.{IfNone, OnOk, OnErr, option_copied};
 ghost use Rattle.std.specs.List.{All};
 ghost use Rattle.smx_model.specs.Configuration.{same_stream};
@@ -9,9 +9,10 @@ ghost use Rattle.smx_model.specs.SoundLinks.{AreLinksSound};
 ghost use Rattle.smx_model.specs.Standing.{is_below};
 ghost use Rattle.smx_links.specs.Ids.{key_of, id_at, HasIds, IsPlace};
 ghost use Rattle.smx_links.specs.LinkLists.{is_one_of};
-ghost use Rattle.smx_links.specs.Masks.{IsWithin, LeadAlike};
-ghost use Rattle.smx_links.specs.Pairs.{AreCounts};
+ghost use Rattle.smx_links.specs.Masks.{with_bit, IsWithin, LeadAlikeBut};
+ghost use Rattle.smx_links.specs.Pairs.{entry_of, with_one_less, AreCounts};
 
+use crate::masks::{Word, with_bit};
 use crate::pairs::{Count, uncount};
 use indexmap::IndexMap;
 use smx_model::laws_of_links::{fewer_links_stay_sound, one_link_more_joins, paths_join};
@@ -108,14 +109,30 @@ pub fn take(links: &mut Vec<Link>, ids: &mut Ids, id: u32) -> Option<Link>
     Some(link)
 }
 
-// Takes out the links with these ids. True where each left one behind that is between the same two drivers.
+// One link less between its two drivers. The drivers that have lost links, with its upper one where none is left.
+pub fn lose(pairs: &mut [Count], drivers: usize, link: Link, lost: Word) -> Word
+    requires within { IsWithin drivers link }
+    requires few { drivers ≤ 64 }
+    requires long { length pairs.old ≡ drivers * drivers }
+    requires some { 0 < entry_of drivers pairs.old link }
+    ensures rest { pairs.new ≡ with_one_less drivers pairs.old link }
+    ensures lost { result ≡ (if entry_of drivers pairs.new link == 0 then with_bit lost link.ctl.driver else lost) }
+{
+    if uncount(pairs, drivers, link) {
+        lost
+    } else {
+        with_bit(lost, link.ctl.driver)
+    }
+}
+
+// Takes out the links with these ids. The drivers that were left with no link to some driver: a bit for each.
 pub fn take_each(
     links: &mut Vec<Link>,
     ids: &mut Ids,
     pairs: &mut [Count],
     drivers: usize,
     gone: &[u32],
-) -> bool
+) -> Word
     requires sound { AreLinksSound links.old.items }
     requires rise { IsRising (λ l k. nat_lt l.id k.id) links.old.items }
     requires ids { HasIds ids.old.entries links.old.items }
@@ -125,17 +142,16 @@ pub fn take_each(
     ensures rest { links.new.items ≡ filter (λ l. not (is_one_of gone.now l)) links.old.items }
     ensures ids { HasIds ids.new.entries links.new.items }
     ensures pairs { AreCounts drivers links.new.items pairs.new }
-    ensures same { result ≡ true → LeadAlike links.old.items links.new.items }
+    ensures same { LeadAlikeBut result links.old.items links.new.items }
 {
     fewer_links_stay_sound();
     one_link_more_joins();
     paths_join();
-    let mut same = true;
+    let mut lost: Word = 0;
     for id in gone {
         if let Some(link) = take(links, ids, *id) {
-            let left = uncount(pairs, drivers, link);
-            same = same && left;
+            lost = lose(pairs, drivers, link, lost);
         }
     }
-    same
+    lost
 }

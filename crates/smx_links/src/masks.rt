@@ -1,10 +1,10 @@
 //! Which drivers a path leads to: a word of bits for each driver.
 
-ghost use Rattle.std.specs.Prelude.{◌≡◌, ◌<◌, ◌≤◌, ◌*◌, ◌^◌, true, List, length, bit_or};
+ghost use Rattle.std.specs.Prelude.{◌≡◌, ℕ, ◌<◌, ◌≤◌, ◌*◌, Bool, ◌&&◌, not, List, length};
 ghost use Rattle.std.specs.List.{All};
 ghost use Rattle.smx_types.specs.declared.link.Link.{Link};
-ghost use Rattle.smx_links.specs.Masks.{is_set, has_bit, AreJoined, AreMasks, HasAnyBit, IsWithin};
-ghost use Rattle.smx_links.specs.Pairs.{AreCounts, AreMasksBefore, AreMasksOfCounts, IsRow};
+ghost use Rattle.smx_links.specs.Masks.{is_set, has_bit, is_stale, with_bit, AreJoined, AreMasks, HasAnyBit, IsWithin, LeadAlikeBut};
+ghost use Rattle.smx_links.specs.Pairs.{AreCounts, AreMasksBefore, IsRow};
 
 use crate::pairs::Count;
 use smx_model::laws_of_links::{one_link_more_joins, paths_join};
@@ -47,9 +47,9 @@ pub fn has_any_bit(words: &[Word], a: u8) -> bool
 }
 
 // The word with the bit set.
-fn with_bit(word: Word, b: u8) -> Word
+pub fn with_bit(word: Word, b: u8) -> Word
     requires { b < 64 }
-    ensures { result ≡ bit_or word (2 ^ b) }
+    ensures { result ≡ with_bit word b }
 {
     word | 1 << b
 }
@@ -70,14 +70,15 @@ pub fn join(words: &mut [Word], upper: u8, lower: u8)
     }
 }
 
-// Joins what links lead to from one upper driver, by its row. Two drivers that are joined already change nothing.
+// Joins what links lead to from one upper driver, by its row, where the rows of some drivers are joined already. Two
+// drivers that are joined change nothing.
 fn join_row(words: &mut [Word], upper: u8, row: &[Count])
     requires upper { upper < length words.old }
     requires few { length words.old ≤ 64 }
     requires row { length row.now ≡ length words.old }
     ensures length { length words.new ≡ length words.old }
-    ensures masks { (links : List Link) → IsRow links upper row.now → AreMasksBefore links upper 0 words.old
-        → AreMasksBefore links upper (length words.old) words.new }
+    ensures masks { (links : List Link) (done : ℕ → Bool) → IsRow links upper row.now
+        → AreMasksBefore done links upper 0 words.old → AreMasksBefore done links upper (length words.old) words.new }
 {
     one_link_more_joins();
     paths_join();
@@ -88,31 +89,51 @@ fn join_row(words: &mut [Word], upper: u8, row: &[Count])
     }
 }
 
-// The masks of the links that are counted, from nothing.
-fn recompute(words: &mut [Word], pairs: &[Count])
-    requires few { length words.old ≤ 64 }
-    requires long { length pairs.now ≡ length words.old * length words.old }
-    ensures length { length words.new ≡ length words.old }
-    ensures masks { AreMasksOfCounts (length words.old) pairs.now words.new }
+// The drivers that are one of these, or lead to one of them: a bit for each.
+fn stale_drivers(words: &[Word], lost: Word) -> Word
+    requires { length words.now ≤ 64 }
+    ensures { (a : ℕ) → is_set result a ≡ is_stale words.now lost a }
 {
-    let drivers = words.len();
-    words.fill(0);
-    for upper in 0..drivers {
-        let start = upper * drivers;
-        join_row(words, upper as u8, &pairs[start..start + drivers]);
+    let mut stale = lost;
+    for a in 0..words.len() {
+        if words[a] & lost != 0 {
+            stale = with_bit(stale, a as u8);
+        }
+    }
+    stale
+}
+
+// Clears the words of these drivers.
+fn clear(words: &mut [Word], stale: Word)
+    requires { length words.old ≤ 64 }
+    ensures length { length words.new ≡ length words.old }
+    ensures cleared { (a b : ℕ) → has_bit words.new a b ≡ (not (is_set stale a) && has_bit words.old a b) }
+{
+    for a in 0..words.len() {
+        if is_set(stale, a as u8) {
+            words[a] = 0;
+        }
     }
 }
 
-// The masks of the links that are left where some have gone. What leads to the same drivers as before needs none anew.
-pub fn renew(words: &mut [Word], pairs: &[Count], same: bool)
+// The masks of the links that are left, where some drivers have lost links: those of the drivers that have lost some, and
+// of those that led to one, are found anew, by how many links there are between each two drivers.
+pub fn renew(words: &mut [Word], pairs: &[Count], lost: Word)
     requires few { length words.old ≤ 64 }
     requires long { length pairs.now ≡ length words.old * length words.old }
     ensures length { length words.new ≡ length words.old }
-    ensures masks { (links : List Link) → All (IsWithin (length words.old)) links
-        → AreCounts (length words.old) links pairs.now → (same ≡ true → AreMasks links words.old)
+    ensures masks { (old links : List Link) → AreMasks old words.old → LeadAlikeBut lost old links
+        → All (IsWithin (length words.old)) links → AreCounts (length words.old) links pairs.now
         → AreMasks links words.new }
 {
-    if !same {
-        recompute(words, pairs);
+    paths_join();
+    let drivers = words.len();
+    let stale = stale_drivers(words, lost);
+    clear(words, stale);
+    for upper in 0..drivers {
+        if is_set(stale, upper as u8) {
+            let start = upper * drivers;
+            join_row(words, upper as u8, &pairs[start..start + drivers]);
+        }
     }
 }

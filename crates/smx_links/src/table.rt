@@ -10,9 +10,9 @@ ghost use Rattle.smx_links.specs.LinkLists.{IsLinkList, IsLinked, is_upper, refu
 ghost use Rattle.smx_links.specs.LinkLists.{with_link, without_id, without_ids};
 
 use crate::fault::LinkFault;
-use crate::links::{Ids, above, get, is_below, put, take, take_each};
+use crate::links::{Ids, above, get, is_below, lose, put, take, take_each};
 use crate::masks::{Word, has_any_bit, has_bit, join, renew};
-use crate::pairs::{Count, count, uncount};
+use crate::pairs::{Count, count};
 use smx_model::laws_of_links::{
     fewer_links_stay_sound, linking_keeps_soundness, linking_takes_the_next_id, no_links_are_sound,
     one_link_more_joins, paths_join,
@@ -138,8 +138,8 @@ impl LinkTable {
         one_link_more_joins();
         paths_join();
         let link = take(&mut self.links, &mut self.ids, id)?;
-        let left = uncount(&mut self.pairs, self.masks.len(), link);
-        renew(&mut self.masks, &self.pairs, left);
+        let lost = lose(&mut self.pairs, self.masks.len(), link, 0);
+        renew(&mut self.masks, &self.pairs, lost);
         Some(link)
     }
 
@@ -151,14 +151,14 @@ impl LinkTable {
     {
         fewer_links_stay_sound();
         let drivers = self.masks.len();
-        let same = take_each(
+        let lost = take_each(
             &mut self.links,
             &mut self.ids,
             &mut self.pairs,
             drivers,
             ids,
         );
-        renew(&mut self.masks, &self.pairs, same);
+        renew(&mut self.masks, &self.pairs, lost);
     }
 
     /// The link with the id. A look at the place where it stands if no link has gone, or else a binary search.

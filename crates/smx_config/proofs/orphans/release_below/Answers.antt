@@ -1,8 +1,9 @@
-use Rattle.std.proofs.Common.{take, ◌++◌, ◌∷◌, [], length, length-append, refl, sym, ap, ◌∙◌, arith}
-use Rattle.std.proofs.lemmas.Bool.{and_parts, true≢false}
+use Rattle.std.proofs.Common.{take, ◌++◌, ◌∷◌, [], length, length-append, refl, sym, ap, subst, ◌∙◌, arith}
+use Rattle.std.proofs.lemmas.Bool.{and_parts}
 use Rattle.smx_model.specs.Configuration.{same_stream}
 use Rattle.smx_config.specs.ExistingStreams.{is_loose}
-use Rattle.smx_config.specs.TouchedStreams.{is_watched}
+use Rattle.smx_config.specs.TouchedStreams.{is_watched, AreReleased}
+use Rattle.smx_config.proofs.OrphanIdLemmas.{one_released}
 use Rattle.smx_config.proofs.ReleaseLemmas.{less_this, loose_held, releases_this}
 use Rattle.smx_config.proofs.TableLemmas.{one_got}
 use Rattle.smx_config.proofs.TouchLemmas.{release_touches_on}
@@ -12,9 +13,9 @@ use Rattle.smx_config.proofs.orphans.release_below.Goals.{in-Some+then-is_loose_
 
 pub returns-then-not-may_have_loose-clause-cascade : goal.returns-then-not-may_have_loose-clause-cascade
 returns-then-not-may_have_loose-clause-cascade c = record {
-  releasing = c.requires.releasing;
-  watched = none_by c.args.streams.now c.args.touched.now.items c.args.ctl c.args.links.now.links (sym c.may_have_loose.ensures ∙ c.if-not-may_have_loose.true) c.requires.watched;
-  enough = omega (arith, c.requires.enough, length-append c.args.touched.now.items (c.args.ctl ∷ []));
+  releasing = c.requires.cascade.releasing;
+  watched = none_by c.args.streams.now c.args.touched.now.items c.args.ctl c.args.links.now.links (sym c.may_have_loose.ensures ∙ c.if-not-may_have_loose.true) c.requires.cascade.watched;
+  enough = omega (arith, c.requires.cascade.enough, length-append c.args.touched.now.items (c.args.ctl ∷ []));
 }
 
 pub release-gone-requires : goal.release-gone-requires
@@ -26,17 +27,23 @@ push_reserved-requires c =
     let less = less_this c.args.links.now.links c.loop-i.i c.in-Some.link.now c.loop-i.streams c.release-gone.new.self (one_got c.args.links.now.links c.links-listed.result.now c.loop-i.i c.in-Some.link.now c.links-listed.ensures (omega arith) c.in-Some.ensures.lookup.1) loose c.release-gone.ensures.rest in
     omega (arith, less, c.loop-i.invariant.enough)
 
+pub push_reserved-requires-then-is_loose_by : goal.push_reserved-requires-then-is_loose_by
+push_reserved-requires-then-is_loose_by c =
+    let loose = (and_parts (same_stream c.in-Some.link.now.ctl c.args.ctl) (is_loose c.loop-i.streams c.in-Some.link.now) (sym c.is_loose_by.ensures ∙ c.if-is_loose_by.true)).1 in
+    let less = less_this c.args.links.now.links c.loop-i.i c.in-Some.link.now c.loop-i.streams c.release-gone.new.self (one_got c.args.links.now.links c.links-listed.result.now c.loop-i.i c.in-Some.link.now c.links-listed.ensures (omega arith) c.in-Some.ensures.lookup.1) loose c.release-gone.ensures.rest in
+    omega (arith, less, c.loop-i.invariant.gone.enough)
+
 pub loop-i-init : goal.loop-i-init
 loop-i-init c = record {
   fds = refl;
   minors = refl;
-  releasing = c.requires.releasing;
-  all = c.requires.watched;
+  releasing = c.requires.cascade.releasing;
+  all = c.requires.cascade.watched;
   so_far = refl;
-  enough = omega (arith, c.requires.enough, length-append c.args.touched.now.items (c.args.ctl ∷ []));
+  enough = omega (arith, c.requires.cascade.enough, length-append c.args.touched.now.items (c.args.ctl ∷ []));
   less = omega arith;
   touched = λ s h. h;
-  none = λ f. refl;
+  gone = c.requires.gone;
 }
 
 pub loop-i-preserved : goal.loop-i-preserved
@@ -47,7 +54,7 @@ loop-i-preserved c = elim c.match-get.branch [
       let pushed = w.push_reserved.ensures.items in
       let longer = ap length pushed in
       let one_more = length-append c.loop-i.touched.items (w.in-Some.link.now.lower ∷ []) in
-      rw (w.streams-is, w.released-is, w.touched-is) (record {
+      rw (w.streams-is, w.touched-is, w.gone-is) (record {
         fds = w.release-gone.ensures.rest.fds ∙ c.loop-i.invariant.fds;
         minors = w.release-gone.ensures.rest.minors ∙ c.loop-i.invariant.minors;
         releasing = λ n. releases_this c.args.links.now.links n c.loop-i.i w.in-Some.link.now c.loop-i.streams w.release-gone.new.self c.is_sound.ensures.sound.lowers (one_got c.args.links.now.links c.links-listed.result.now c.loop-i.i w.in-Some.link.now c.links-listed.ensures (omega arith) w.in-Some.ensures.lookup.1) loose w.release-gone.ensures.rest (c.loop-i.invariant.releasing n);
@@ -61,10 +68,12 @@ loop-i-preserved c = elim c.match-get.branch [
         enough = omega (arith, less, longer, one_more, c.loop-i.invariant.enough, w.push_reserved.ensures.capacity);
         less = omega (arith, less, longer, one_more, c.loop-i.invariant.less);
         touched = rw pushed (release_touches_on c.args.streams.now c.loop-i.streams w.release-gone.new.self c.args.touched.now.items c.loop-i.touched.items w.in-Some.link.now.lower _ w.release-gone.ensures.rest c.loop-i.invariant.touched);
-        none = λ f. absurd (true≢false f);
+        gone = subst (AreReleased c.args.links.now.links w.release-gone.new.self w.push_reserved-then-is_loose_by.new.self.items) (sym w.push_reserved-then-is_loose_by.ensures.capacity)
+            (one_released c.args.links.now.links c.loop-i.i _ w.in-Some.link.now c.loop-i.streams w.release-gone.new.self c.loop-i.gone.items w.push_reserved-then-is_loose_by.new.self.items c.is_sound.ensures.sound.lowers
+            (one_got c.args.links.now.links c.links-listed.result.now c.loop-i.i w.in-Some.link.now c.links-listed.ensures (omega arith) w.in-Some.ensures.lookup.1) loose (c.loop-i.invariant.releasing 0) w.release-gone.ensures.rest w.push_reserved-then-is_loose_by.ensures.items c.loop-i.invariant.gone);
       })
   | in-Some+else-is_loose_by w ↦
-      rw (w.streams-is, w.released-is, w.touched-is) (record {
+      rw (w.streams-is, w.touched-is, w.gone-is) (record {
         fds = c.loop-i.invariant.fds;
         minors = c.loop-i.invariant.minors;
         releasing = c.loop-i.invariant.releasing;
@@ -75,7 +84,7 @@ loop-i-preserved c = elim c.match-get.branch [
         enough = c.loop-i.invariant.enough;
         less = c.loop-i.invariant.less;
         touched = c.loop-i.invariant.touched;
-        none = c.loop-i.invariant.none;
+        gone = c.loop-i.invariant.gone;
       })
   | in_default w ↦ absurd (omega (arith, w.in_default.ensures.lookup.3))
 ]

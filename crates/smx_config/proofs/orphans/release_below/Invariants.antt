@@ -1,9 +1,9 @@
-use Rattle.std.proofs.Common.{◌≡◌, ℕ, ◌+◌, ◌≤◌, ◌++◌, ◌∷◌, [], true, false, length, take}
+use Rattle.std.proofs.Common.{◌≡◌, ℕ, ◌+◌, ◌≤◌, ◌++◌, ◌∷◌, [], true, length, take}
 use Rattle.std.specs.Prelude.{vec_capacity}
 use Rattle.std.specs.List.{list_all}
 use Rattle.smx_types.specs.declared.stream.StreamId.{StreamId}
 use Rattle.smx_config.specs.ExistingStreams.{holds_below, IsReleasing}
-use Rattle.smx_config.specs.TouchedStreams.{is_there_or_touched, is_watched}
+use Rattle.smx_config.specs.TouchedStreams.{is_there_or_touched, is_watched, AreReleased}
 use Rattle.smx_config.proofs.orphans.release_below.Given as goal
 
 abbrev pub invariant-loop-i : goal.invariant-loop-i
@@ -16,5 +16,5 @@ invariant-loop-i l = record {
   enough : length l.touched.items + holds_below l.links.links l.streams ≤ vec_capacity l.touched;
   less : length l.touched.items + holds_below l.links.links l.streams ≤ length l.initial.touched.items + holds_below l.links.links l.initial.streams;
   touched : (s : StreamId) → is_there_or_touched l.initial.streams l.initial.touched.items s ≡ true → is_there_or_touched l.streams l.touched.items s ≡ true;
-  none : l.released ≡ false → l.streams ≡ l.initial.streams;
+  gone : AreReleased l.links.links l.streams l.gone.items (vec_capacity l.gone);
 }

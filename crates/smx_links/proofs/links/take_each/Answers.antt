@@ -1,7 +1,6 @@
-use Rattle.std.proofs.Common.{List, not, take, refl, sym, ◌∙◌}
+use Rattle.std.proofs.Common.{List, not, take, sym, ◌∙◌}
 use Rattle.std.specs.Prelude.{nat_lt}
 use Rattle.std.specs.List.{All}
-use Rattle.std.proofs.lemmas.Bool.{false≢true}
 use Rattle.std.proofs.lemmas.List.Elements.{All-filter}
 use Rattle.smx_types.specs.declared.link.Link.{Link}
 use Rattle.smx_model.specs.Ordered.{IsRising}
@@ -11,16 +10,16 @@ use Rattle.smx_links.specs.Pairs.{AreCounts}
 use Rattle.smx_links.proofs.CountLemmas.{counts_less, some_counted}
 use Rattle.smx_links.proofs.IdLemmas.{none_of_none, none_of_next, none_goes}
 use Rattle.smx_links.proofs.LowerLemmas.{found_has}
-use Rattle.smx_links.proofs.TwinLemmas.{entry_stays}
+use Rattle.smx_links.proofs.StaleLemmas.{lost_more, none_lost}
 use Rattle.smx_links.proofs.links.take_each.Goals as goal
-use Rattle.smx_links.proofs.links.take_each.Goals.{in-Some+then-same, in-Some+else-same, in_default}
+use Rattle.smx_links.proofs.links.take_each.Goals.{in-Some, in_default}
 
 pub loop-id-init : goal.loop-id-init
 loop-id-init c = record {
   rest = sym (none_of_none c.args.links.now.items);
   ids = c.requires.ids;
   pairs = c.requires.pairs;
-  same = λ _ a b. refl;
+  same = none_lost c.args.links.now.items;
 }
 
 pub take-requires-clause-sound : goal.take-requires-clause-sound
@@ -28,20 +27,20 @@ take-requires-clause-sound c =
     rw c.loop-id.invariant.rest (c.fewer_links_stay_sound.ensures.sound c.args.links.now.items
     (λ k. not (is_one_of (take c.loop-id.id-index c.args.gone.now) k)) c.requires.sound)
 
-pub uncount-left-requires-clause-within : goal.uncount-left-requires-clause-within
-uncount-left-requires-clause-within c =
+pub lose-lost-requires-clause-within : goal.lose-lost-requires-clause-within
+lose-lost-requires-clause-within c =
     let within : All (IsWithin c.args.drivers) c.loop-id.links.items =
     rw c.loop-id.invariant.rest (All-filter (λ k. not (is_one_of (take c.loop-id.id-index c.args.gone.now) k))
     (IsWithin c.args.drivers) c.args.links.now.items c.requires.within) in
     found_has (IsWithin c.args.drivers) _ c.loop-id.links.items c.in-Some.link within (sym c.in-Some.ensures.link)
 
-pub uncount-left-requires-clause-some : goal.uncount-left-requires-clause-some
-uncount-left-requires-clause-some c =
+pub lose-lost-requires-clause-some : goal.lose-lost-requires-clause-some
+lose-lost-requires-clause-some c =
     let rise : IsRising (λ l k. nat_lt l.id k.id) c.loop-id.links.items =
     rw c.loop-id.invariant.rest (c.fewer_links_stay_sound.ensures.order c.args.links.now.items
     (λ k. not (is_one_of (take c.loop-id.id-index c.args.gone.now) k)) c.requires.rise) in
     some_counted c.args.drivers c.loop-id.links.items c.loop-id.pairs c.in-Some.link _ rise
-    (sym c.in-Some.ensures.link) c.loop-id.invariant.pairs (uncount-left-requires-clause-within c)
+    (sym c.in-Some.ensures.link) c.loop-id.invariant.pairs (lose-lost-requires-clause-within c)
 
 pub loop-id-preserved : goal.loop-id-preserved
 loop-id-preserved c =
@@ -56,36 +55,24 @@ loop-id-preserved c =
     rw c.loop-id.invariant.rest (All-filter (λ k. not (is_one_of (take c.loop-id.id-index c.args.gone.now) k))
     (IsWithin c.args.drivers) links c.requires.within) in
     elim c.match-take.branch [
-      | in-Some+then-same w ↦
+      | in-Some w ↦
           let found = sym w.in-Some.ensures.link in
           let own = found_has (IsWithin c.args.drivers) _ earlier w.in-Some.link within found in
-          let counts : AreCounts c.args.drivers c.take.new.links.items w.uncount-left.new.pairs =
-          rw w.uncount-left.ensures.rest (counts_less c.args.drivers earlier c.take.new.links.items c.loop-id.pairs
+          let counts : AreCounts c.args.drivers c.take.new.links.items w.lose-lost.new.pairs =
+          rw w.lose-lost.ensures.rest (counts_less c.args.drivers earlier c.take.new.links.items c.loop-id.pairs
           w.in-Some.link _ rise found c.take.ensures.rest c.loop-id.invariant.pairs own) in record {
             rest = rest;
             ids = c.take.ensures.ids;
             pairs = rw w.pairs-is counts;
-            same = λ t a b.
-                entry_stays c.one_link_more_joins.ensures c.paths_join.ensures c.args.drivers earlier
-                c.take.new.links.items w.uncount-left.new.pairs w.in-Some.link _ rise found c.take.ensures.rest counts
-                own (sym w.uncount-left.ensures.left ∙ sym w.same-is ∙ t) a b
-                ∙ c.loop-id.invariant.same w.if-same.true a b;
-          }
-      | in-Some+else-same w ↦
-          let found = sym w.in-Some.ensures.link in
-          let own = found_has (IsWithin c.args.drivers) _ earlier w.in-Some.link within found in record {
-            rest = rest;
-            ids = c.take.ensures.ids;
-            pairs = rw (w.pairs-is, w.uncount-left.ensures.rest) (counts_less c.args.drivers earlier
-                c.take.new.links.items c.loop-id.pairs w.in-Some.link _ rise found c.take.ensures.rest
-                c.loop-id.invariant.pairs own);
-            same = λ t. absurd (false≢true (sym w.if-same.false ∙ sym w.same-is ∙ t));
+            same = rw (w.lost-is, w.lose-lost.ensures.lost) (lost_more c.one_link_more_joins.ensures c.paths_join.ensures
+                c.args.drivers c.loop-id.lost links earlier c.take.new.links.items w.lose-lost.new.pairs w.in-Some.link _ rise
+                found c.take.ensures.rest counts own c.loop-id.invariant.same);
           }
       | in_default w ↦
           let all = c.take.ensures.rest ∙ none_goes earlier _ (sym c.take.ensures.link ∙ w.in_default.is) in record {
             rest = rest;
             ids = c.take.ensures.ids;
             pairs = rw (w.pairs-is, all) c.loop-id.invariant.pairs;
-            same = λ t. rw all (c.loop-id.invariant.same (sym w.same-is ∙ t));
+            same = rw (w.lost-is, all) c.loop-id.invariant.same;
           }
     ]

@@ -5,17 +5,17 @@ use Rattle.smx_links.specs.Pairs.{AreCounts}
 use Rattle.smx_links.proofs.CountLemmas.{counts_less, some_counted}
 use Rattle.smx_links.proofs.LowerLemmas.{found_has}
 use Rattle.smx_links.proofs.TableLemmas.{parts_less, lent}
-use Rattle.smx_links.proofs.TwinLemmas.{entry_stays}
+use Rattle.smx_links.proofs.StaleLemmas.{lost_more, none_lost}
 use Rattle.smx_links.proofs.table.LinkTable.remove.Goals as goal
 
-pub uncount-left-requires-clause-within : goal.uncount-left-requires-clause-within
-uncount-left-requires-clause-within c =
+pub lose-lost-requires-clause-within : goal.lose-lost-requires-clause-within
+lose-lost-requires-clause-within c =
     rw (c.len.ensures, c.self.inside.masks.ok.0)
     (found_has (IsWithin (length c.self.inside.masks.items)) _ c.self.inside.links.items c.in_ok-link.link
     c.self.invariant.within (sym c.in_ok-link.ensures.link))
 
-pub uncount-left-requires-clause-some : goal.uncount-left-requires-clause-some
-uncount-left-requires-clause-some c =
+pub lose-lost-requires-clause-some : goal.lose-lost-requires-clause-some
+lose-lost-requires-clause-some c =
     rw (c.deref_mut.ensures.value, c.len.ensures, c.self.inside.masks.ok.0)
     (some_counted (length c.self.inside.masks.items) c.self.inside.links.items c.self.inside.pairs.items
     c.in_ok-link.link c.args.id c.self.invariant.list.ids.rise (sym c.in_ok-link.ensures.link) c.self.invariant.pairs
@@ -30,23 +30,22 @@ invariant_of-self-2 c =
     let wide : c.len.result ≡ length ws = c.len.ensures ∙ c.self.inside.masks.ok.0 in
     let own : IsWithin (length ws) c.in_ok-link.link = found_has (IsWithin (length ws)) _ ls c.in_ok-link.link
     c.self.invariant.within (sym c.in_ok-link.ensures.link) in
-    let counts : AreCounts (length ws) c.take.new.links.items c.uncount-left.new.pairs =
-    rw (c.uncount-left.ensures.rest, c.deref_mut.ensures.value, wide)
+    let counts : AreCounts (length ws) c.take.new.links.items c.lose-lost.new.pairs =
+    rw (c.lose-lost.ensures.rest, c.deref_mut.ensures.value, wide)
     (counts_less (length ws) ls c.take.new.links.items c.self.inside.pairs.items c.in_ok-link.link c.args.id
     c.self.invariant.list.ids.rise (sym c.in_ok-link.ensures.link) c.in_ok-link.ensures.rest c.self.invariant.pairs own)
     in
-    let back = lent c.self.inside.pairs.len c.uncount-left.new.pairs c.self.inside.pairs.items
+    let back = lent c.self.inside.pairs.len c.lose-lost.new.pairs c.self.inside.pairs.items
     (counts.long ∙ sym c.self.invariant.pairs.long) c.self.inside.pairs.ok.0 in
     let long : length c.renew.new.words ≡ length ws = c.renew.ensures.length ∙ ap length c.deref_mut-2.ensures.value in
     rw (lent c.self.inside.masks.len c.renew.new.words ws long c.self.inside.masks.ok.0, back)
     (parts_less ws c.renew.new.words ls c.take.new.links.items c.self.inside.ids.entries c.take.new.ids.entries
-    c.self.inside.pairs.items c.uncount-left.new.pairs c.self.inside.next_id stays c.uncount-left.result
+    c.self.inside.pairs.items c.lose-lost.new.pairs c.self.inside.next_id stays c.lose-lost.result
     c.self.invariant c.in_ok-link.ensures.rest c.in_ok-link.ensures.ids
     (c.fewer_links_stay_sound.ensures.sound ls stays c.self.invariant.list.sound)
     (c.fewer_links_stay_sound.ensures.ids ls stays c.self.inside.next_id c.self.invariant.list.ids)
     long counts
-    (λ t. entry_stays c.one_link_more_joins.ensures c.paths_join.ensures (length ws) ls c.take.new.links.items
-    c.uncount-left.new.pairs c.in_ok-link.link c.args.id c.self.invariant.list.ids.rise
-    (sym c.in_ok-link.ensures.link) c.in_ok-link.ensures.rest counts own
-    (sym (rw wide at c.uncount-left.ensures.left) ∙ t))
+    (rw c.lose-lost.ensures.lost (rw wide (lost_more c.one_link_more_joins.ensures c.paths_join.ensures (length ws) 0 ls ls
+    c.take.new.links.items c.lose-lost.new.pairs c.in_ok-link.link c.args.id c.self.invariant.list.ids.rise
+    (sym c.in_ok-link.ensures.link) c.in_ok-link.ensures.rest counts own (none_lost ls))))
     (rw (c.deref_mut-2.ensures.value, c.deref.ensures.value, back) at c.renew.ensures.masks))
