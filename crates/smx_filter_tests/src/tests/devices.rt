@@ -1,5 +1,5 @@
-//! Devices that move one byte a call, stop once at a given call, and would then go on. As a feed
-//! and a sink they stand in `Source` and `Target`.
+//! Devices that move one byte a call, stop once at a given call, and would then go on; and one that takes all at once.
+//! They count their calls. As a feed and a sink they stand in `Source` and `Target`.
 
 ghost use Rattle.std.specs.Prelude.{◌≡◌, Some, false};
 
@@ -9,24 +9,62 @@ use std::io;
 use std::io::{ErrorKind, Read, Write};
 
 /// What a device does at the call at which it stops.
-#[derive(Clone, Copy, Debug, PartialEq, Eq)]
+#[derive(Clone, Copy)]
 pub enum Stop {
-    /// The call is an error.
-    Fails,
-    /// The call is interrupted, which is an error that may be tried again.
-    IsInterrupted,
+    /// The call is an error of this kind.
+    Fails(ErrorKind),
     /// A write takes no byte; a flush is done all the same.
     TakesNone,
 }
 
-/// Each way to stop.
-pub const STOPS: [Stop; 3] = [Stop::Fails, Stop::IsInterrupted, Stop::TakesNone];
+/// Two kinds of error with which a call stops: one that is final, and one that may be tried again.
+pub const TWO_ERRORS: [ErrorKind; 2] = [ErrorKind::Other, ErrorKind::Interrupted];
 
-/// Each way to stop that is an error of a flush.
-pub const STOPS_OF_FLUSHES: [Stop; 2] = [Stop::Fails, Stop::IsInterrupted];
-
-/// The errors of a read that stops.
-pub const ERRORS: [ErrorKind; 2] = [ErrorKind::Other, ErrorKind::Interrupted];
+/// All kinds.
+pub const ERRORS: [ErrorKind; 42] = [
+    ErrorKind::NotFound,
+    ErrorKind::PermissionDenied,
+    ErrorKind::ConnectionRefused,
+    ErrorKind::ConnectionReset,
+    ErrorKind::HostUnreachable,
+    ErrorKind::NetworkUnreachable,
+    ErrorKind::ConnectionAborted,
+    ErrorKind::NotConnected,
+    ErrorKind::AddrInUse,
+    ErrorKind::AddrNotAvailable,
+    ErrorKind::NetworkDown,
+    ErrorKind::BrokenPipe,
+    ErrorKind::AlreadyExists,
+    ErrorKind::WouldBlock,
+    ErrorKind::NotADirectory,
+    ErrorKind::IsADirectory,
+    ErrorKind::DirectoryNotEmpty,
+    ErrorKind::ReadOnlyFilesystem,
+    ErrorKind::FilesystemLoop,
+    ErrorKind::StaleNetworkFileHandle,
+    ErrorKind::InvalidInput,
+    ErrorKind::InvalidData,
+    ErrorKind::TimedOut,
+    ErrorKind::WriteZero,
+    ErrorKind::StorageFull,
+    ErrorKind::NotSeekable,
+    ErrorKind::QuotaExceeded,
+    ErrorKind::FileTooLarge,
+    ErrorKind::ResourceBusy,
+    ErrorKind::ExecutableFileBusy,
+    ErrorKind::Deadlock,
+    ErrorKind::CrossesDevices,
+    ErrorKind::TooManyLinks,
+    ErrorKind::InvalidFilename,
+    ErrorKind::ArgumentListTooLong,
+    ErrorKind::Interrupted,
+    ErrorKind::Unsupported,
+    ErrorKind::UnexpectedEof,
+    ErrorKind::OutOfMemory,
+    ErrorKind::InProgress,
+    ErrorKind::Other,
+    ErrorKind::Uncategorized,
+];
 
 /// A reader of bytes in memory that gives one byte a read, and then none.
 #[derive(Drop)]
@@ -37,6 +75,8 @@ pub struct OneByteReader<'a> {
     pub reads: usize,
     /// The error of that read.
     pub kind: ErrorKind,
+    /// How often it was asked to read.
+    pub asked: usize,
 }
 
 /// A feed of these bytes, one byte a read. The read after this many reads is an error of this kind,
@@ -46,13 +86,19 @@ pub fn one_byte_feed(bytes: &[u8], reads: usize, kind: ErrorKind) -> Source<OneB
     ensures before_the_end { result.ended ≡ false }
     ensures fine { result.failures ≡ 0 }
 {
-    Source::new(OneByteReader { bytes, reads, kind })
+    Source::new(OneByteReader {
+        bytes,
+        reads,
+        kind,
+        asked: 0,
+    })
 }
 
 impl Read for OneByteReader<'_> {
     ghost remaining = { λ reader. Some reader.bytes.now };
 
     fn read(&mut self, buffer: &mut [u8]) -> io::Result<usize> {
+        self.asked = self.asked.saturating_add(1);
         if self.reads == 0 {
             self.reads = usize::MAX;
             return Err(io::Error::from(self.kind));
@@ -71,6 +117,8 @@ pub struct OneByteWriter {
     /// How many writes and flushes it still does before the one that stops.
     pub calls: usize,
     pub stop: Stop,
+    /// How often it was asked to write or to flush.
+    pub asked: usize,
 }
 
 /// A sink that takes one byte a write. The write or flush after this many writes stops it, and later
@@ -82,6 +130,7 @@ pub fn one_byte_sink(alloc: Global, calls: usize, stop: Stop) -> Target<OneByteW
         taken: Vec::new(alloc),
         calls,
         stop,
+        asked: 0,
     })
 }
 
@@ -89,11 +138,11 @@ impl Write for OneByteWriter {
     ghost contents = { λ writer. Some writer.taken.items };
 
     fn write(&mut self, bytes: &[u8]) -> io::Result<usize> {
+        self.asked = self.asked.saturating_add(1);
         if self.calls == 0 {
             self.calls = usize::MAX;
             return match self.stop {
-                Stop::Fails => Err(io::Error::from(ErrorKind::Other)),
-                Stop::IsInterrupted => Err(io::Error::from(ErrorKind::Interrupted)),
+                Stop::Fails(kind) => Err(io::Error::from(kind)),
                 Stop::TakesNone => Ok(0),
             };
         }
@@ -103,14 +152,37 @@ impl Write for OneByteWriter {
     }
 
     fn flush(&mut self) -> io::Result<()> {
+        self.asked = self.asked.saturating_add(1);
         if self.calls > 0 {
             return Ok(());
         }
         self.calls = usize::MAX;
         match self.stop {
-            Stop::Fails => Err(io::Error::from(ErrorKind::Other)),
-            Stop::IsInterrupted => Err(io::Error::from(ErrorKind::Interrupted)),
+            Stop::Fails(kind) => Err(io::Error::from(kind)),
             Stop::TakesNone => Ok(()),
         }
+    }
+}
+
+/// A writer into memory that takes all that it is given.
+#[derive(Drop)]
+pub struct WholeWriter {
+    /// What it has taken.
+    pub taken: Vec<u8>,
+    /// How often it was asked to write or to flush.
+    pub asked: usize,
+}
+
+impl Write for WholeWriter {
+    ghost contents = { λ writer. Some writer.taken.items };
+
+    fn write(&mut self, bytes: &[u8]) -> io::Result<usize> {
+        self.asked = self.asked.saturating_add(1);
+        self.taken.write(bytes)
+    }
+
+    fn flush(&mut self) -> io::Result<()> {
+        self.asked = self.asked.saturating_add(1);
+        Ok(())
     }
 }

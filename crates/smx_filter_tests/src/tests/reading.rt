@@ -15,6 +15,7 @@ fn is_read(rt: &(impl AllocGlobal + Abort), bytes: &[u8]) -> Result<(), Fail> {
     assert_eq!(rt; read.as_slice(), bytes);
     assert!(rt; feed.ended);
     assert_eq!(rt; feed.failures, 0);
+    assert_eq!(rt; feed.reader.asked, bytes.len().saturating_add(1));
     Ok(())
 }
 
@@ -38,6 +39,7 @@ fn stops_before(rt: &(impl AllocGlobal + Abort), reads: usize, left: &[u8], kind
     );
     assert_eq!(rt; feed.failures, 1);
     assert_eq!(rt; feed.reader.bytes, left);
+    assert_eq!(rt; feed.reader.asked, reads.saturating_add(1));
 }
 
 #[test]

@@ -103,6 +103,18 @@ fn writes_the_transcript(rt: HostRuntime) {
     }
 }
 
+/// Two processes with five thousand commands each, in more than 64 KiB.
+pub fn two_long_programs(alloc: Global) -> Result<Vec<u8>, Fail> {
+    let second = with_lines(alloc, b"process 1\n", b"close 0\n", 5_000, b"end\n")?;
+    with_lines(
+        alloc,
+        b"programs 1\nprocess 0\n",
+        b"close 0\n",
+        5_000,
+        second.as_slice(),
+    )
+}
+
 fn add_opened(alloc: Global, text: &mut Vec<u8>) -> Result<(), Fail> {
     for fd in 0u32..16 {
         let line = format!(in alloc; "0 open ip 0 = fd {fd} 0\n")?;

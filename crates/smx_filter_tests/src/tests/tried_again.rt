@@ -1,12 +1,16 @@
-//! Checks that pass with any one growth refused too: tests/refused_growths runs them so. What is
+//! Checks, and runs with fronts, that pass with any one growth refused too: tests/refused_growths runs them so. What is
 //! written goes to the stack, so that no growth is a device's.
+
+ghost use Rattle.std.specs.Prelude.{◌≤◌};
 
 use super::checks::{MARKS_ACROSS_THE_JOIN, TWO_PROCESSES};
 use smx_config::Verdict;
-use smx_filters::{MainFault, Source, Target, check_text};
-use smx_run::RunFault;
+use smx_filters::{MainFault, Source, Target, check_text, run_text};
+use smx_run::{NoGate, RunFault};
 use smx_text::{Cause, TextFault};
 use std::process::Abort;
+use std::sync::Wait;
+use std::thread::Threads;
 
 // Whether memory was wanting, of which the prover can't tell that it comes only where a growth was refused.
 fn is_want_of_memory(fault: &MainFault) -> bool {
@@ -54,4 +58,52 @@ fn two_processes(rt: HostRuntime) {
 #[test]
 fn marks_across_the_join(rt: HostRuntime) {
     judges(&rt, MARKS_ACROSS_THE_JOIN, b"legal 13\n");
+}
+
+// The first of two processes has three commands, and the second has none.
+const ONE_OF_TWO: &[u8] =
+    b"programs 1\ndriver ip mux 4 8 3 16\nprocess 0\nclone ip\nclone ip\nexit\nprocess 1\nend\n";
+
+// Whether a run of them by so many workers is answered, by fronts that begin so; else it wanted memory, and has written
+// nothing.
+fn are_fronts_answered<R: AllocGlobal + Abort + Threads + Wait + Sync>(
+    rt: &R,
+    workers: usize,
+) -> bool
+    requires { (1 ≤ workers) × (workers ≤ 64) }
+{
+    let mut buffer = [0u8; 64];
+    let mut feed = Source::new(ONE_OF_TWO);
+    let mut sink = Target::new(buffer.as_mut_slice());
+    match run_text(rt, rt.alloc(), &mut feed, &mut sink, workers, true, &NoGate) {
+        Ok(()) => {
+            assert!(rt; buffer.starts_with(b"fronts 1\nfront 0 3 0\nfront 1 "));
+            true
+        }
+        Err(fault) => {
+            assert!(rt; is_want_of_memory(&fault));
+            assert_eq!(rt; buffer, [0u8; 64]);
+            false
+        }
+    }
+}
+
+// A run that wanted memory, tried again, is answered.
+fn writes_fronts<R: AllocGlobal + Abort + Print + Threads + Wait + Sync>(rt: &R, workers: usize)
+    requires { (1 ≤ workers) × (workers ≤ 64) }
+{
+    if !are_fronts_answered(rt, workers) {
+        let _ = println!(rt; "a run wanted memory");
+        assert!(rt; are_fronts_answered(rt, workers));
+    }
+}
+
+#[test]
+fn fronts_on_one_worker(rt: HostRuntime) {
+    writes_fronts(&rt, 1);
+}
+
+#[test]
+fn fronts_on_two_workers(rt: HostRuntime) {
+    writes_fronts(&rt, 2);
 }

@@ -3,6 +3,7 @@
 ghost use Rattle.std.specs.Prelude.{◌≤◌};
 
 use super::checks::check_bytes;
+use super::runs::two_long_programs;
 use smx_filters::{Source, Target, run_text};
 use smx_run::Gate;
 use smx_types::Process;
@@ -17,18 +18,34 @@ use std::thread::Threads;
 // The most turns that a worker waits.
 const TURNS: u32 = 100_000_000;
 
-// How many workers are wanted, how many came to their first command, and how many have seen all of them there.
+// Each process waits before its first command until so many are there, and after its last one until so many have
+// performed theirs.
 #[derive(Drop)]
 struct Meet {
     wanted: u64,
+    // The number of each last command.
+    last: usize,
     inside: AtomicU64,
+    // How many have seen all inside.
     met: AtomicU64,
+    ended: AtomicU64,
 }
 
 impl Meet {
-    fn are_all_inside(&self) -> bool {
+    fn of(wanted: u64, last: usize) -> Meet {
+        Meet {
+            wanted,
+            last,
+            inside: AtomicU64::new(0),
+            met: AtomicU64::new(0),
+            ended: AtomicU64::new(0),
+        }
+    }
+
+    // Whether all are counted, before the turns are used up.
+    fn are_all(&self, count: &AtomicU64) -> bool {
         for _ in 0..TURNS {
-            if self.inside.load(Ordering::SeqCst) == self.wanted {
+            if count.load(Ordering::SeqCst) == self.wanted {
                 return true;
             }
             thread::yield_now();
@@ -41,19 +58,25 @@ impl Gate for Meet {
     fn before(&self, _process: Process, number: usize) {
         if number == 0 {
             self.inside.fetch_add(1, Ordering::SeqCst);
-            if self.are_all_inside() {
+            if self.are_all(&self.inside) {
                 self.met.fetch_add(1, Ordering::SeqCst);
             }
         }
     }
 
-    fn after(&self, _process: Process, _number: usize) {}
+    // Where they have not met, nobody waits again.
+    fn after(&self, _process: Process, number: usize) {
+        if number == self.last {
+            self.ended.fetch_add(1, Ordering::SeqCst);
+            let _all = self.met.load(Ordering::SeqCst) > 0 && self.are_all(&self.ended);
+        }
+    }
 }
 
-// So many processes, each of which opens a stream and exits.
+// So many processes, each of which opens two streams and links one below the other.
 fn add_processes(alloc: Global, text: &mut Vec<u8>, count: usize) -> Result<(), Fail> {
     for process in 0..count {
-        let lines = format!(in alloc; "process {process}\nclone ip\nexit\n")?;
+        let lines = format!(in alloc; "process {process}\nclone ip\nclone eth\nlink 0 1\n")?;
         text.extend_from_slice(lines.as_bytes())?;
     }
     Ok(text.extend_from_slice(b"end\n".as_slice())?)
@@ -61,50 +84,108 @@ fn add_processes(alloc: Global, text: &mut Vec<u8>, count: usize) -> Result<(), 
 
 // The text of their programs.
 fn text_of(alloc: Global, count: usize) -> Result<Vec<u8>, Fail> {
-    let mut text = Vec::from_slice(alloc, b"programs 1\ndriver ip mux 64 8 3 16\n".as_slice())?;
+    let begin = b"programs 1\ndriver ip mux 64 8 3 16\ndriver eth leaf 64 8 3 16\n";
+    let mut text = Vec::from_slice(alloc, begin.as_slice())?;
     add_processes(alloc, &mut text, count)?;
     Ok(text)
 }
 
-// So many workers are inside at once, and the check of what they wrote says this line.
+// What a run by so many workers writes, all of whom were inside at once.
+fn met_and_wrote<R: Abort + Threads + Wait + Sync>(
+    rt: &R,
+    alloc: Global,
+    input: &[u8],
+    workers: usize,
+    fronts: bool,
+    last: usize,
+) -> Vec<u8>
+    requires { (1 ≤ workers) × (workers ≤ 64) }
+{
+    let gate = Meet::of(workers as u64, last);
+    let mut written = Target::new(Vec::new(alloc));
+    let mut feed = Source::new(input);
+    let ran = run_text(rt, alloc, &mut feed, &mut written, workers, fronts, &gate);
+    assert!(rt; ran.is_ok());
+    assert_eq!(rt; gate.met.load(Ordering::SeqCst), workers as u64);
+    written.writer
+}
+
+// The check of what they wrote says this line.
 fn all_meet<R: Abort + Threads + Wait + Sync>(
     rt: &R,
     alloc: Global,
     input: &[u8],
     workers: usize,
+    last: usize,
     line: &[u8],
 )
     requires { (1 ≤ workers) × (workers ≤ 64) }
 {
-    let gate = Meet {
-        wanted: workers as u64,
-        inside: AtomicU64::new(0),
-        met: AtomicU64::new(0),
-    };
-    let mut written = Target::new(Vec::new(alloc));
-    let mut feed = Source::new(input);
-    let ran = run_text(rt, alloc, &mut feed, &mut written, workers, false, &gate);
-    assert!(rt; ran.is_ok());
-    assert_eq!(rt; gate.met.load(Ordering::SeqCst), workers as u64);
-    let judged = check_bytes(alloc, written.writer.as_slice());
+    let written = met_and_wrote(rt, alloc, input, workers, false, last);
+    let judged = check_bytes(alloc, written.as_slice());
     assert_eq!(rt; judged.status, 0);
     assert_eq!(rt; judged.output.as_slice(), line);
 }
 
 // How many workers are asked for, for as many processes, and the verdict on what they write.
 const MEETINGS: [(usize, &[u8]); 5] = [
-    (2, b"legal 4\n"),
-    (3, b"legal 6\n"),
-    (4, b"legal 8\n"),
-    (16, b"legal 32\n"),
-    (64, b"legal 128\n"),
+    (2, b"legal 6\n"),
+    (3, b"legal 9\n"),
+    (4, b"legal 12\n"),
+    (16, b"legal 48\n"),
+    (64, b"legal 192\n"),
 ];
 
 #[test]
 fn as_many_workers_as_asked_for_are_inside_at_once(rt: HostRuntime) -> Result<(), Fail> {
     for (workers, line) in MEETINGS {
         let input = text_of(rt.alloc(), workers)?;
-        all_meet(&rt, rt.alloc(), input.as_slice(), workers, line);
+        all_meet(&rt, rt.alloc(), input.as_slice(), workers, 2, line);
+    }
+    Ok(())
+}
+
+#[test]
+fn two_workers_are_inside_at_once_on_a_long_input(rt: HostRuntime) -> Result<(), Fail> {
+    let input = two_long_programs(rt.alloc())?;
+    all_meet(
+        &rt,
+        rt.alloc(),
+        input.as_slice(),
+        2,
+        4_999,
+        b"legal 10000\n",
+    );
+    Ok(())
+}
+
+// The fronts of so many processes, which all see the same.
+fn fronts_of(alloc: Global, processes: usize, seen: &str) -> Result<Vec<u8>, Fail> {
+    let mut text = Vec::from_slice(alloc, b"fronts 1\n".as_slice())?;
+    for process in 0..processes {
+        let line = format!(in alloc; "front {process} {seen}\n")?;
+        text.extend_from_slice(line.as_bytes())?;
+    }
+    text.extend_from_slice(b"end\n".as_slice())?;
+    Ok(text)
+}
+
+// How many workers are asked for, for as many processes, and how many entries and links each process sees at its end.
+const SEEN: [(usize, &str); 5] = [
+    (2, "6 2"),
+    (3, "9 3"),
+    (4, "12 4"),
+    (16, "48 16"),
+    (64, "192 64"),
+];
+
+#[test]
+fn each_process_sees_at_its_end_what_all_have_done(rt: HostRuntime) -> Result<(), Fail> {
+    for (workers, seen) in SEEN {
+        let input = text_of(rt.alloc(), workers)?;
+        let fronts = fronts_of(rt.alloc(), workers, seen)?;
+        let written = met_and_wrote(&rt, rt.alloc(), input.as_slice(), workers, true, 2);
+        assert_eq!(rt; written.as_slice(), fronts.as_slice());
     }
     Ok(())
 }
@@ -131,7 +212,12 @@ const FOUR: &[u8] =
     b"programs 1\ndriver ip mux 4 8 3 16\ndriver eth leaf 2 8 3 16\nprocess 0\nclone ip\nexit\nprocess 1\nclone ip\nexit\nprocess 2\nclone ip\nexit\nprocess 3\nclone ip\nexit\nend\n";
 
 // A run of them by so many workers tells its gate of eight commands.
-fn is_told_of_eight<R: Abort + Threads + Wait + Sync>(rt: &R, alloc: Global, workers: usize)
+fn is_told_of_eight<R: Abort + Threads + Wait + Sync>(
+    rt: &R,
+    alloc: Global,
+    workers: usize,
+    fronts: bool,
+)
     requires { (1 ≤ workers) × (workers ≤ 64) }
 {
     let gate = Counts {
@@ -140,7 +226,7 @@ fn is_told_of_eight<R: Abort + Threads + Wait + Sync>(rt: &R, alloc: Global, wor
     };
     let mut written = Target::new(Vec::new(alloc));
     let mut feed = Source::new(FOUR);
-    let ran = run_text(rt, alloc, &mut feed, &mut written, workers, false, &gate);
+    let ran = run_text(rt, alloc, &mut feed, &mut written, workers, fronts, &gate);
     assert!(rt; ran.is_ok());
     assert_eq!(rt; gate.before.load(Ordering::SeqCst), 8);
     assert_eq!(rt; gate.after.load(Ordering::SeqCst), 8);
@@ -149,6 +235,8 @@ fn is_told_of_eight<R: Abort + Threads + Wait + Sync>(rt: &R, alloc: Global, wor
 #[test]
 fn workers_tell_the_gate_of_each_command(rt: HostRuntime) {
     for workers in [1, 2, 3, 64] {
-        is_told_of_eight(&rt, rt.alloc(), workers);
+        for fronts in [false, true] {
+            is_told_of_eight(&rt, rt.alloc(), workers, fronts);
+        }
     }
 }

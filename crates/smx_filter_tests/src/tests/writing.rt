@@ -1,25 +1,37 @@
 //! Tests of writing to devices.
 
-use super::devices::{STOPS, STOPS_OF_FLUSHES, Stop, one_byte_sink};
-use smx_filters::{MainFault, Target, write_all};
+ghost use Rattle.std.specs.Prelude.{◌≤◌};
+
+use super::devices::{ERRORS, Stop, WholeWriter, one_byte_sink};
+use super::runs::two_long_programs;
+use smx_filters::{MainFault, Source, Target, run_text, write_all};
+use smx_run::NoGate;
+use std::io::ErrorKind;
 use std::process::Abort;
+use std::sync::Wait;
 use std::test::Fail;
+use std::thread::Threads;
 
 #[test]
 fn writes_all(rt: HostRuntime) -> Result<(), Fail> {
-    let mut sink = one_byte_sink(rt.alloc(), 4, Stop::Fails);
+    let mut sink = one_byte_sink(rt.alloc(), 4, Stop::Fails(ErrorKind::Other));
     write_all(&mut sink, b"abc")?;
     assert_eq!(rt; sink.writer.taken.as_slice(), b"abc".as_slice());
     assert!(rt; sink.flushed);
     assert_eq!(rt; sink.failures, 0);
+    assert_eq!(rt; sink.writer.asked, 4);
     Ok(())
 }
 
 #[test]
 fn writes_all_at_once(rt: HostRuntime) -> Result<(), Fail> {
-    let mut sink = Target::new(Vec::new(rt.alloc()));
+    let mut sink = Target::new(WholeWriter {
+        taken: Vec::new(rt.alloc()),
+        asked: 0,
+    });
     write_all(&mut sink, b"abc")?;
-    assert_eq!(rt; sink.writer.as_slice(), b"abc".as_slice());
+    assert_eq!(rt; sink.writer.taken.as_slice(), b"abc".as_slice());
+    assert_eq!(rt; sink.writer.asked, 2);
     Ok(())
 }
 
@@ -36,20 +48,72 @@ fn stops_behind(rt: &(impl AllocGlobal + Abort), beginning: &[u8], stop: Stop) {
     );
     assert_eq!(rt; sink.failures, 1);
     assert_eq!(rt; sink.writer.taken.as_slice(), beginning);
+    assert_eq!(rt; sink.writer.asked, calls.saturating_add(1));
+}
+
+// So it does behind each beginning that is not the whole.
+fn stops_behind_each(rt: &(impl AllocGlobal + Abort), stop: Stop) {
+    for calls in 0..3 {
+        stops_behind(rt, &ABC[..calls], stop);
+    }
 }
 
 #[test]
 fn tries_no_write_again(rt: HostRuntime) {
-    for stop in &STOPS {
-        for calls in 0..3 {
-            stops_behind(&rt, &ABC[..calls], *stop);
-        }
+    for kind in &ERRORS {
+        stops_behind_each(&rt, Stop::Fails(*kind));
     }
+    stops_behind_each(&rt, Stop::TakesNone);
 }
 
 #[test]
 fn tries_no_flush_again(rt: HostRuntime) {
-    for stop in &STOPS_OF_FLUSHES {
-        stops_behind(&rt, ABC, *stop);
+    for kind in &ERRORS {
+        stops_behind(&rt, ABC, Stop::Fails(*kind));
     }
+}
+
+// A run by so many workers writes once, what begins so, and flushes once.
+fn writes_once<R: AllocGlobal + Abort + Threads + Wait + Sync>(
+    rt: &R,
+    input: &[u8],
+    workers: usize,
+    fronts: bool,
+    beginning: &[u8],
+)
+    requires { (1 ≤ workers) × (workers ≤ 64) }
+{
+    let mut feed = Source::new(input);
+    let mut sink = Target::new(WholeWriter {
+        taken: Vec::new(rt.alloc()),
+        asked: 0,
+    });
+    let ran = run_text(
+        rt,
+        rt.alloc(),
+        &mut feed,
+        &mut sink,
+        workers,
+        fronts,
+        &NoGate,
+    );
+    assert!(rt; ran.is_ok());
+    assert!(rt; sink.writer.taken.starts_with(beginning));
+    assert_eq!(rt; sink.writer.asked, 2);
+}
+
+const RUNS: [(usize, bool, &[u8]); 4] = [
+    (1, false, b"transcript 1\n0 close 0 = EBADF fd\n"),
+    (2, false, b"transcript 1\n"),
+    (1, true, b"fronts 1\nfront 0 5000 0\nfront 1 10000 0\nend\n"),
+    (2, true, b"fronts 1\nfront 0 "),
+];
+
+#[test]
+fn runs_write_a_large_output_at_once(rt: HostRuntime) -> Result<(), Fail> {
+    let input = two_long_programs(rt.alloc())?;
+    for (workers, fronts, beginning) in RUNS {
+        writes_once(&rt, input.as_slice(), workers, fronts, beginning);
+    }
+    Ok(())
 }
