@@ -21,7 +21,7 @@ use Rattle.smx_types.specs.declared.stream.StreamId.{StreamId}
 use Rattle.smx_model.specs.Commands.{outcome, done_outcome, link_outcome, unlink_outcome, send_outcome, receive_outcome, with_fd}
 use Rattle.smx_model.specs.Configuration.{Configuration, QueuedMessage, bind_before, same_place}
 use Rattle.smx_model.specs.FreedPlaces.{FreesOnly, freed_by, is_empty_at, is_side_of}
-use Rattle.smx_model.specs.Lookups.{free_stream, leaf_stream, live_stream, live_leaf}
+use Rattle.smx_model.specs.Lookups.{free_stream, live_stream, live_leaf}
 use Rattle.smx_model.specs.Ordered.{with_inserted}
 use Rattle.smx_model.specs.Outcomes.{Outcome, ◌>>=◌}
 use Rattle.smx_model.specs.Queues.{after_arrival, after_leaving, first_message, is_full, queue}

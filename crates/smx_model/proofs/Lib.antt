@@ -43,3 +43,5 @@ pub mod MarkedPlaceLemmas
 pub mod FreedPlaceLemmas
 pub mod NearMarkLemmas
 pub mod MarkedCommandLemmas
+pub mod HungStreamLemmas
+pub mod QuietHistoryLemmas

@@ -21,7 +21,7 @@ use Rattle.smx_types.specs.declared.stream.StreamId.{StreamId}
 use Rattle.smx_model.specs.Commands.{outcome, done_outcome, link_outcome, unlink_outcome, send_outcome, receive_outcome, with_fd}
 use Rattle.smx_model.specs.Configuration.{Configuration, same_place, pair_before, bind_before, route_before, same_stream, stream_before}
 use Rattle.smx_model.specs.KeptConfigurations.{IsSound}
-use Rattle.smx_model.specs.Lookups.{stream_of, free_stream, mux_stream, leaf_stream, live_stream, live_leaf}
+use Rattle.smx_model.specs.Lookups.{stream_of, free_stream, mux_stream, live_stream, live_leaf}
 use Rattle.smx_model.specs.Ordered.{with_inserted, IsRising, ComesBefore}
 use Rattle.smx_model.specs.Outcomes.{Outcome, ◌>>=◌}
 use Rattle.smx_model.specs.Queues.{after_arrival}
@@ -161,12 +161,14 @@ turns_bind : (drivers : List DriverSpec) (c : Configuration) (driver addr minor 
     → IfAccepted (λ d r. TurnsOnly drivers c d (asks_up c driver addr)) (done_outcome drivers c (bound c driver addr minor))
 turns_bind drivers c driver addr minor k x free = turns_done drivers c (bound c driver addr minor) (asks_up c driver addr) (turns_bound drivers c driver addr minor) (keyed_bound c driver addr minor free k) x
 
-hung_more : (s t : StreamId) (hungs : List StreamId) → is_hung hungs t ≡ true → is_hung (with_hung s hungs) t ≡ true
+pub hung_more : (s t : StreamId) (hungs : List StreamId) → is_hung hungs t ≡ true → is_hung (with_hung s hungs) t ≡ true
 hung_more s t hungs h = elim (cases_Bool (is_hung hungs s)) [ inl y ↦ rw y h | inr n ↦ rw n (any_placed (λ u. same_stream u t) stream_before hungs s h) ]
 
+pub more_hung_turn_none : (drivers : List DriverSpec) (c : Configuration) (s : StreamId) → TurnsOnly drivers c (record c { hungs = with_hung s c.hungs }) nowhere
+more_hung_turn_none drivers c s = fewer_turns drivers c (record c { hungs = with_hung s c.hungs }) (record { routes = λ d a. inl refl; ids = λ i. inl refl; lowers = λ x. inl refl; binds = λ d a. inl refl; hungs = λ i l e h. hung_more s l.lower c.hungs h }) (λ r. inl refl)
+
 turns_hangup : (drivers : List DriverSpec) (c : Configuration) (s : StreamId) → IsKeyed c → AreRooted drivers c.links → IfAccepted (λ d r. TurnsOnly drivers c d nowhere) (done_outcome drivers c (record c { hungs = with_hung s c.hungs }))
-turns_hangup drivers c s k x = turns_done drivers c (record c { hungs = with_hung s c.hungs }) nowhere
-    (fewer_turns drivers c (record c { hungs = with_hung s c.hungs }) (record { routes = λ d a. inl refl; ids = λ i. inl refl; lowers = λ x. inl refl; binds = λ d a. inl refl; hungs = λ i l e h. hung_more s l.lower c.hungs h }) (λ r. inl refl))
+turns_hangup drivers c s k x = turns_done drivers c (record c { hungs = with_hung s c.hungs }) nowhere (more_hung_turn_none drivers c s)
     (record { routes = k.routes; ids = k.ids; lowers = k.lowers; binds = k.binds }) x
 
 -- what changes nothing turns none

@@ -211,7 +211,7 @@ turns_removed drivers c goes h = fewer_turns drivers c (without_links c goes) (r
 abbrev stream_of_parts : ℕ → ℕ → StreamId
 stream_of_parts driver minor = record { driver = driver; minor = minor }
 
-same_stream_is : (s t : StreamId) → same_stream s t ≡ true → s ≡ t
+pub same_stream_is : (s t : StreamId) → same_stream s t ≡ true → s ≡ t
 same_stream_is s t e =
     let p = and_parts (eqb s.driver t.driver) (eqb s.minor t.minor) e in
     ap (λ (n : ℕ). stream_of_parts n s.minor) (eqb-true s.driver t.driver p.0) ∙ ap (stream_of_parts t.driver) (eqb-true s.minor t.minor p.1)
