@@ -3,6 +3,7 @@
 ghost use Rattle.std.specs.Prelude.{◌≡◌, ◌<◌, ◌≤◌, ◌*◌, ◌^◌, true, List, length, bit_or};
 ghost use Rattle.std.specs.List.{All};
 ghost use Rattle.smx_types.specs.declared.link.Link.{Link};
+ghost use Rattle.smx_links.specs.declared.masks.TheConstants.{WORD_BITS};
 ghost use Rattle.smx_links.specs.Masks.{is_set, has_bit, AreJoined, AreMasks, HasAnyBit, IsWithin};
 ghost use Rattle.smx_links.specs.Pairs.{AreCounts, AreMasksBefore, AreMasksOfCounts, IsRow};
 
@@ -10,14 +11,14 @@ use crate::pairs::Count;
 use smx_model::laws_of_links::{one_link_more_joins, paths_join};
 
 /// A bit for each driver.
-pub type Word = u64;
+pub type Word = u128;
 
 /// The bits of a word, and so the most drivers that a table can have.
-pub const WORD_BITS: u8 = 64;
+pub const WORD_BITS: u8 = 128;
 
 // Whether the bit is set.
 fn is_set(word: Word, b: u8) -> bool
-    requires { b < 64 }
+    requires { b < WORD_BITS }
     ensures { result ≡ is_set word b }
 {
     word >> b & 1 == 1
@@ -48,7 +49,7 @@ pub fn has_any_bit(words: &[Word], a: u8) -> bool
 
 // The word with the bit set.
 fn with_bit(word: Word, b: u8) -> Word
-    requires { b < 64 }
+    requires { b < WORD_BITS }
     ensures { result ≡ bit_or word (2 ^ b) }
 {
     word | 1 << b
@@ -58,7 +59,7 @@ fn with_bit(word: Word, b: u8) -> Word
 pub fn join(words: &mut [Word], upper: u8, lower: u8)
     requires upper { upper < length words.old }
     requires lower { lower < length words.old }
-    requires few { length words.old ≤ 64 }
+    requires few { length words.old ≤ WORD_BITS }
     ensures length { length words.new ≡ length words.old }
     ensures joined { AreJoined words.old upper lower words.new }
 {
@@ -73,7 +74,7 @@ pub fn join(words: &mut [Word], upper: u8, lower: u8)
 // Joins what links lead to from one upper driver, by its row. Two drivers that are joined already change nothing.
 fn join_row(words: &mut [Word], upper: u8, row: &[Count])
     requires upper { upper < length words.old }
-    requires few { length words.old ≤ 64 }
+    requires few { length words.old ≤ WORD_BITS }
     requires row { length row.now ≡ length words.old }
     ensures length { length words.new ≡ length words.old }
     ensures masks { (links : List Link) → IsRow links upper row.now → AreMasksBefore links upper 0 words.old
@@ -90,7 +91,7 @@ fn join_row(words: &mut [Word], upper: u8, row: &[Count])
 
 // The masks of the links that are counted, from nothing.
 fn recompute(words: &mut [Word], pairs: &[Count])
-    requires few { length words.old ≤ 64 }
+    requires few { length words.old ≤ WORD_BITS }
     requires long { length pairs.now ≡ length words.old * length words.old }
     ensures length { length words.new ≡ length words.old }
     ensures masks { AreMasksOfCounts (length words.old) pairs.now words.new }
@@ -105,7 +106,7 @@ fn recompute(words: &mut [Word], pairs: &[Count])
 
 // The masks of the links that are left where some have gone. What leads to the same drivers as before needs none anew.
 pub fn renew(words: &mut [Word], pairs: &[Count], same: bool)
-    requires few { length words.old ≤ 64 }
+    requires few { length words.old ≤ WORD_BITS }
     requires long { length pairs.now ≡ length words.old * length words.old }
     ensures length { length words.new ≡ length words.old }
     ensures masks { (links : List Link) → All (IsWithin (length words.old)) links
