@@ -45,3 +45,4 @@ pub mod NearMarkLemmas
 pub mod MarkedCommandLemmas
 pub mod HungStreamLemmas
 pub mod QuietHistoryLemmas
+pub mod HungListLemmas

@@ -169,11 +169,14 @@ rising_route c driver addr id h = record {
   hungs = h.hungs;
 }
 
+pub rising_with_hung : (s : StreamId) (hungs : List StreamId) → IsRising stream_before hungs → IsRising stream_before (with_hung s hungs)
+rising_with_hung s hungs h = by (is_hung hungs s) refl where
+  by : (b : Bool) → is_hung hungs s ≡ b → IsRising stream_before (with_hung s hungs)
+  by true e = rw e h
+  by false e = rw e (rising_placed stream_before stream_trans s hungs (none_passes (λ t. same_stream t s) _ hungs (λ t f k. pair_other s.driver s.minor t.driver t.minor f k) e) h)
+
 rising_hung : (c : Configuration) (s : StreamId) → AreRising c → AreRising (record c { hungs = with_hung s c.hungs })
-rising_hung c s h = record { fds = h.fds; binds = h.binds; routes = h.routes; fulls = h.fulls; hungs = by (is_hung c.hungs s) refl } where
-  by : (b : Bool) → is_hung c.hungs s ≡ b → IsRising stream_before (with_hung s c.hungs)
-  by true e = rw e h.hungs
-  by false e = rw e (rising_placed stream_before stream_trans s c.hungs (none_passes (λ t. same_stream t s) _ c.hungs (λ t f k. pair_other s.driver s.minor t.driver t.minor f k) e) h.hungs)
+rising_hung c s h = record { fds = h.fds; binds = h.binds; routes = h.routes; fulls = h.fulls; hungs = rising_with_hung s c.hungs h.hungs }
 
 rising_unroute : (c : Configuration) (test : Route → Bool) → AreRising c → AreRising (record c { routes = filter test c.routes })
 rising_unroute c test h = record { fds = h.fds; binds = h.binds; routes = rising_filter route_before test c.routes h.routes; fulls = h.fulls; hungs = h.hungs }

@@ -202,8 +202,8 @@ pub record IsWhole (drivers : List DriverSpec) (c : Configuration) : Type 0 wher
   pub named : AreNamed drivers c
   pub swept_ : IsSwept drivers c
 
-same_self : (t : StreamId) → same_stream t t ≡ true
-same_self t = and_from _ _ (eq-eqb t.driver t.driver refl) (eq-eqb t.minor t.minor refl)
+pub stream_self : (t : StreamId) → same_stream t t ≡ true
+stream_self t = and_from _ _ (eq-eqb t.driver t.driver refl) (eq-eqb t.minor t.minor refl)
 
 -- what keeps the lower streams of links
 pub record AreKeepingLowers (drivers : List DriverSpec) (c : Configuration) : Type 0 where
@@ -213,13 +213,13 @@ pub record AreKeepingLowers (drivers : List DriverSpec) (c : Configuration) : Ty
 
 pub lower_exists : (drivers : List DriverSpec) (c : Configuration) (test : Link → Bool) (l : Link) → AreKeepingLowers drivers c → find test c.links ≡ Some l → exists drivers c l.lower ≡ true
 lower_exists drivers c test l h e = elim (cases_Bool (is_persistent l)) [
-  | inl p ↦ stands_more c.fds c.links 0 (length drivers) l.lower (omega arith) (or_right _ _ (found_any test (λ k. is_persistent k && same_stream k.lower l.lower) c.links l e (and_from _ _ p (same_self l.lower))))
+  | inl p ↦ stands_more c.fds c.links 0 (length drivers) l.lower (omega arith) (or_right _ _ (found_any test (λ k. is_persistent k && same_stream k.lower l.lower) c.links l e (and_from _ _ p (stream_self l.lower))))
   | inr o ↦
       let a = found_all test (λ k. is_persistent k || exists drivers c k.ctl) c.links l e h.alive in
       let up : exists drivers c l.ctl ≡ true = rw o at a in
       climbs_suffice drivers c.fds c.links (suc (length drivers)) l.lower h.none (links_in drivers c.links h.below)
       (or_right _ _ (found_any test (λ k. not (is_persistent k) && (same_stream k.lower l.lower && stands_within c.fds c.links (length drivers) k.ctl)) c.links l e
-      (and_from _ _ (rw o refl) (and_from _ _ (same_self l.lower) up))))
+      (and_from _ _ (rw o refl) (and_from _ _ (stream_self l.lower) up))))
 ]
 
 whole_keeps : (drivers : List DriverSpec) (c : Configuration) → IsWhole drivers c → AreKeepingLowers drivers c

@@ -1,6 +1,6 @@
 //! Laws of devices that hang up, each the contract of a function that does nothing.
 
-ghost use Rattle.std.specs.Prelude.{◌≡◌, ℕ, true, false, List, [], filter, Ok};
+ghost use Rattle.std.specs.Prelude.{◌≡◌, ℕ, Bool, true, false, ◌&&◌, ◌||◌, List, [], filter, Ok};
 ghost use Rattle.std.specs.List.{list_any};
 ghost use Rattle.smx_types.specs.ProgramLists.{ProgramLists};
 ghost use Rattle.smx_types.specs.Versions.{is_hangup, is_of_hangup, least_of_programs, least_of_transcript};
@@ -13,12 +13,13 @@ ghost use Rattle.smx_types.specs.declared.stream.StreamId.{StreamId};
 ghost use Rattle.smx_types.specs.declared.transcript.Transcript.{Transcript};
 ghost use Rattle.smx_types.specs.declared.version.Version.TheVariants.{V1};
 ghost use Rattle.smx_model.specs.Commands.{step};
-ghost use Rattle.smx_model.specs.Configuration.{Configuration};
+ghost use Rattle.smx_model.specs.Configuration.{Configuration, same_stream, stream_before};
 ghost use Rattle.smx_model.specs.Hangups.{is_hung, with_hung};
 ghost use Rattle.smx_model.specs.Headline.{IsReportOf};
 ghost use Rattle.smx_model.specs.Histories.{after, IsLegal};
 ghost use Rattle.smx_model.specs.KeptConfigurations.{IsKept};
 ghost use Rattle.smx_model.specs.Lookups.{leaf_stream};
+ghost use Rattle.smx_model.specs.Ordered.{IsRising};
 ghost use Rattle.smx_model.specs.Standing.{exists};
 
 /// A hangup drops nothing and moves nothing: its stream has hung up then, and all else is as it was. A second one
@@ -64,4 +65,19 @@ pub fn without_a_hangup_none_is_told()
 pub fn reports_need_no_later_version()
     ensures { (programs : ProgramLists) (report : Transcript) → IsReportOf programs report
         → least_of_programs programs.drivers programs.programs ≡ V1 → least_of_transcript report ≡ V1 }
+{}
+
+/// Lists of hung-up streams in their order are the same where the same streams are in them. One more, or fewer, keep
+/// the order, and hold that one more, or those that are kept.
+pub fn hung_up_streams_make_the_list()
+    ensures same { (xs ys : List StreamId) → IsRising stream_before xs → IsRising stream_before ys
+        → ((s : StreamId) → is_hung xs s ≡ is_hung ys s) → xs ≡ ys }
+    ensures more { (s : StreamId) (hungs : List StreamId) → IsRising stream_before hungs
+        → IsRising stream_before (with_hung s hungs) }
+    ensures fewer { (keep : StreamId → Bool) (hungs : List StreamId) → IsRising stream_before hungs
+        → IsRising stream_before (filter keep hungs) }
+    ensures each_of_more { (s t : StreamId) (hungs : List StreamId)
+        → is_hung (with_hung s hungs) t ≡ (same_stream s t || is_hung hungs t) }
+    ensures each_of_fewer { (keep : StreamId → Bool) (s : StreamId) (hungs : List StreamId)
+        → is_hung (filter keep hungs) s ≡ (keep s && is_hung hungs s) }
 {}
