@@ -128,7 +128,7 @@ done_line rest h = by_serials h.0 h.1 h.2 where
 
 pub standing_alone : (line : List ℕ) (r : Option Reply)
     → ((v : ReplyVerb) (after : List ℕ) → FitsAlways v → line ≢ reply_verb_word v ++ SPACE ∷ after)
-    → MatchOption r ((line ≢ codes "done") × ((f : Fault) → line ≢ line_of (fault_words f)))
+    → MatchOption r ((line ≢ codes "done") × (line ≢ codes "eof") × ((f : Fault) → line ≢ line_of (fault_words f)))
     (λ x. FitsReply x × (line ≡ line_of (reply_words x)))
     → IsReadAs FitsReply reply_words line r
 standing_alone line (Some x) none found = found
@@ -140,7 +140,8 @@ standing_alone line None none found = nothing where
   nothing (reply.Got serial addr bytes) fits e = none reply_verb.Got _ tt e
   nothing (reply.Done []) fits e = found.0 e
   nothing (reply.Done (n ∷ ns)) fits e = none reply_verb.Done _ tt e
-  nothing (reply.Fault f) fits e = found.1 f e
+  nothing reply.Eof fits e = found.1 e
+  nothing (reply.Fault f) fits e = found.2 f e
 
 pub last_wanted : {A E : Type 0} (line before rest : List ℕ) (r : Result A E) → AreThen line before rest
     → IfErr r (λ _. (n : ℕ) × FitsNumber n × (rest ≡ decimal n))

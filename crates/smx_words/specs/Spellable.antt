@@ -14,6 +14,7 @@ use Rattle.smx_types.specs.declared.reply.Reply.TheVariants as reply
 use Rattle.smx_types.specs.declared.view.BindingLine.{BindingLine}
 use Rattle.smx_types.specs.declared.view.DescriptorLine.{DescriptorLine}
 use Rattle.smx_types.specs.declared.view.FullLine.{FullLine}
+use Rattle.smx_types.specs.declared.view.HungLine.{HungLine}
 use Rattle.smx_types.specs.declared.view.LinkLine.{LinkLine}
 use Rattle.smx_types.specs.declared.view.MessageLine.{MessageLine}
 use Rattle.smx_types.specs.declared.view.RouteLine.{RouteLine}
@@ -76,6 +77,7 @@ FitsCommand (command.Flush fd sides) = FitsNumber fd
 FitsCommand (command.Inject driver minor addr bytes) =
     FitsName driver × FitsNumber minor × FitsNumber addr × FitsBytes bytes
 FitsCommand (command.Transmit driver minor) = FitsName driver × FitsNumber minor
+FitsCommand (command.Hangup driver minor) = FitsName driver × FitsNumber minor
 
 -- serials of which there is one or more
 abbrev pub FitsSerials : List ℕ → Type 0
@@ -88,6 +90,7 @@ FitsReply (reply.Id id) = FitsNumber id
 FitsReply (reply.Took serial) = FitsNumber serial
 FitsReply (reply.Got serial addr bytes) = FitsNumber serial × FitsNumber addr × FitsBytes bytes
 FitsReply (reply.Done dropped) = AllByRecursion FitsNumber dropped
+FitsReply reply.Eof = Unit {0}
 FitsReply (reply.Fault f) = Unit {0}
 
 -- there is such a process, and its command and reply can be spelled
@@ -135,3 +138,8 @@ pub record FitsMessage (m : MessageLine) : Type 0 where
 pub record FitsFull (f : FullLine) : Type 0 where
   pub driver : FitsName f.driver
   pub minor : FitsNumber f.minor
+
+-- a hung-up stream that can be shown
+pub record FitsHung (h : HungLine) : Type 0 where
+  pub driver : FitsName h.driver
+  pub minor : FitsNumber h.minor

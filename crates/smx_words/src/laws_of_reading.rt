@@ -7,15 +7,17 @@ ghost use Rattle.smx_types.specs.declared.driver.DriverSpec.{DriverSpec};
 ghost use Rattle.smx_types.specs.declared.view.BindingLine.{BindingLine};
 ghost use Rattle.smx_types.specs.declared.view.DescriptorLine.{DescriptorLine};
 ghost use Rattle.smx_types.specs.declared.view.FullLine.{FullLine};
+ghost use Rattle.smx_types.specs.declared.view.HungLine.{HungLine};
 ghost use Rattle.smx_types.specs.declared.view.LinkLine.{LinkLine};
 ghost use Rattle.smx_types.specs.declared.view.MessageLine.{MessageLine};
 ghost use Rattle.smx_types.specs.declared.view.RouteLine.{RouteLine};
 ghost use Rattle.smx_words.specs.LineReading.{IsReadAs};
 ghost use Rattle.smx_words.specs.Spellable.{FitsDriver, FitsNumber, FitsCommand, FitsEntry, FitsNext};
 ghost use Rattle.smx_words.specs.Spellable.{FitsDescriptor, FitsLink, FitsBinding, FitsRoute, FitsMessage, FitsFull};
+ghost use Rattle.smx_words.specs.Spellable.{FitsHung};
 ghost use Rattle.smx_words.specs.Spelling.{driver_words, process_words, command_words, entry_words, next_words};
 ghost use Rattle.smx_words.specs.Spelling.{descriptor_words, link_words, bind_words, route_words};
-ghost use Rattle.smx_words.specs.Spelling.{message_words, full_words};
+ghost use Rattle.smx_words.specs.Spelling.{message_words, full_words, hung_words};
 
 /// Whatever bytes a line is, there is a right answer to whose words they are: a value that can be
 /// spelled, or none. The answer that `driver_of` and the other readers give is such a one.
@@ -32,4 +34,5 @@ pub fn each_line_has_a_reading()
     ensures route { (line : List ℕ) → (o : Option RouteLine) × IsReadAs FitsRoute route_words line o }
     ensures message { (line : List ℕ) → (o : Option MessageLine) × IsReadAs FitsMessage message_words line o }
     ensures full { (line : List ℕ) → (o : Option FullLine) × IsReadAs FitsFull full_words line o }
+    ensures hung { (line : List ℕ) → (o : Option HungLine) × IsReadAs FitsHung hung_words line o }
 {}

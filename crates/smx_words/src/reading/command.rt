@@ -51,6 +51,7 @@ fn command_after(alloc: Global, verb: Verb, rest: &[u8]) -> Result<Option<Comman
         Verb::Read => Ok(read(rest)),
         Verb::Flush => Ok(flush(rest)),
         Verb::Transmit => Ok(transmit(rest)),
+        Verb::Hangup => Ok(hangup(rest)),
     }
 }
 
@@ -172,6 +173,16 @@ fn transmit(rest: &[u8]) -> Option<Command>
     };
     let minor = number(rest)?;
     Some(Command::Transmit { driver, minor })
+}
+
+fn hangup(rest: &[u8]) -> Option<Command>
+    ensures { IsReadAs FitsCommand command_words (line_of (codes "hangup" ∷ rest.now ∷ [])) result }
+{
+    let Some((driver, rest)) = first_name(rest) else {
+        return None;
+    };
+    let minor = number(rest)?;
+    Some(Command::Hangup { driver, minor })
 }
 
 fn write(alloc: Global, rest: &[u8]) -> Result<Option<Command>, NoMemory>

@@ -155,15 +155,19 @@ fn last_serial(mut serials: Serials, word: &[u8]) -> Result<Option<Serials>, NoM
     }
 }
 
-// The reply that stands alone: nothing dropped, or a fault.
+// The reply that stands alone: nothing dropped, end of file, or a fault.
 fn lone_reply(alloc: Global, line: &[u8]) -> Option<Reply>
-    ensures { MatchOption result ((line.now ≢ codes "done") × ((f : _) → line.now ≢ line_of (fault_words f)))
+    ensures { MatchOption result ((line.now ≢ codes "done") × (line.now ≢ codes "eof")
+        × ((f : _) → line.now ≢ line_of (fault_words f)))
         (λ r. FitsReply r × (line.now ≡ line_of (reply_words r))) }
 {
     if line == b"done".as_slice() {
         return Some(Reply::Done {
             dropped: Serials::new(alloc),
         });
+    }
+    if line == b"eof".as_slice() {
+        return Some(Reply::Eof);
     }
     let fault = fault_of(line)?;
     Some(Reply::Fault(fault))
@@ -211,6 +215,7 @@ fn valid(line: &[u8]) -> Option<Fault>
         b"EMFILE" => Some(Fault::TooManyDescriptors),
         b"EADDRINUSE" => Some(Fault::AddressInUse),
         b"ERANGE" => Some(Fault::BadSize),
+        b"ENXIO hangup" => Some(Fault::HungUp),
         _ => None,
     }
 }

@@ -1,5 +1,5 @@
 use Rattle.smx_words.proofs.DecidedCommandLemmas.{command_reading, entry_reading}
-use Rattle.smx_words.proofs.DecidedLineLemmas.{bind_reading, descriptor_reading, driver_reading}
+use Rattle.smx_words.proofs.DecidedLineLemmas.{bind_reading, descriptor_reading, driver_reading, hung_reading}
 use Rattle.smx_words.proofs.DecidedLineLemmas.{full_reading, link_reading, message_reading, next_reading}
 use Rattle.smx_words.proofs.DecidedLineLemmas.{process_reading, route_reading}
 use Rattle.smx_words.proofs.laws_of_reading.each_line_has_a_reading.Goals as goal
@@ -36,3 +36,6 @@ returns-clause-command c = command_reading
 
 pub returns-clause-entry : goal.returns-clause-entry
 returns-clause-entry c = entry_reading
+
+pub returns-clause-hung : goal.returns-clause-hung
+returns-clause-hung c = hung_reading
