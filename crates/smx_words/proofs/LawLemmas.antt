@@ -205,7 +205,7 @@ one_command c d h k e =
     same_command c d h k (same_words (command_words c) (command_words d) (command_spelled c h).0
     (command_spelled d k).0 e)
 
-one_reply : (r s : Reply) → FitsReply r → FitsReply s → line_of (reply_words r) ≡ line_of (reply_words s) → r ≡ s
+pub one_reply : (r s : Reply) → FitsReply r → FitsReply s → line_of (reply_words r) ≡ line_of (reply_words s) → r ≡ s
 one_reply r s h k e =
     same_reply r s h k (same_words (reply_words r) (reply_words s) (reply_spelled r h).0
     (reply_spelled s k).0 e)

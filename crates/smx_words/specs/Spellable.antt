@@ -1,7 +1,8 @@
 -- Which values can be spelled: names are names, and numbers and bytes are in range. The types keep this.
-use Rattle.std.specs.Prelude.{◌≡◌, ℕ, ◌<◌, ◌^◌, true, List, length}
+use Rattle.std.specs.Prelude.{◌≡◌, ℕ, ◌<◌, ◌^◌, Bool, true, false, List, length}
 use Rattle.std.specs.List.{AllByRecursion}
 use Rattle.smx_types.specs.Names.{is_name}
+use Rattle.smx_types.specs.Versions.{is_hangup, is_of_hangup, tells_of_hangup}
 use Rattle.smx_types.specs.declared.command.Command.{Command}
 use Rattle.smx_types.specs.declared.command.Command.TheVariants as command
 use Rattle.smx_types.specs.declared.command.Entry.{Entry}
@@ -11,6 +12,8 @@ use Rattle.smx_types.specs.declared.driver.DriverSpec.{DriverSpec}
 use Rattle.smx_types.specs.declared.limits.TheConstants.{MAX_PROCESSES}
 use Rattle.smx_types.specs.declared.reply.Reply.{Reply}
 use Rattle.smx_types.specs.declared.reply.Reply.TheVariants as reply
+use Rattle.smx_types.specs.declared.version.Version.{Version}
+use Rattle.smx_types.specs.declared.version.Version.TheVariants.{V1, V2}
 use Rattle.smx_types.specs.declared.view.BindingLine.{BindingLine}
 use Rattle.smx_types.specs.declared.view.DescriptorLine.{DescriptorLine}
 use Rattle.smx_types.specs.declared.view.FullLine.{FullLine}
@@ -93,11 +96,28 @@ FitsReply (reply.Done dropped) = AllByRecursion FitsNumber dropped
 FitsReply reply.Eof = Unit {0}
 FitsReply (reply.Fault f) = Unit {0}
 
+-- a version can tell it: what tells of a hangup is of the second one alone
+abbrev pub CanTell : Version → Bool → Type 0
+CanTell V1 hangup = hangup ≡ false
+CanTell V2 hangup = Unit {0}
+
+-- it can be spelled, and told in this version
+abbrev pub FitsCommandIn : Version → Command → Type 0
+FitsCommandIn version c = FitsCommand c × CanTell version (is_hangup c)
+
+-- the same of a reply
+abbrev pub FitsReplyIn : Version → Reply → Type 0
+FitsReplyIn version r = FitsReply r × CanTell version (tells_of_hangup r)
+
 -- there is such a process, and its command and reply can be spelled
 pub record FitsEntry (e : Entry) : Type 0 where
   pub process : e.process < MAX_PROCESSES
   pub command : FitsCommand e.command
   pub reply : FitsReply e.reply
+
+-- the same, and both can be told in this version
+abbrev pub FitsEntryIn : Version → Entry → Type 0
+FitsEntryIn version e = FitsEntry e × CanTell version (is_of_hangup e)
 
 -- an open descriptor that can be shown
 pub record FitsDescriptor (d : DescriptorLine) : Type 0 where
