@@ -339,4 +339,38 @@ module _ (version : Version) (ds : List DriverSpec) (es : List Entry) (id serial
       ≡ run (in_view fds links binds routes msgs (xs ++ ys) []) rest
   run_fulls fds links binds routes msgs xs [] rest =
       ap (λ (zs : List FullLine). run (in_view fds links binds routes msgs zs []) rest) (sym (append-nil xs))
-  run_fulls fds links binds routes msgs xs (y
+  run_fulls fds links binds routes msgs xs (y ∷ ys) rest =
+      run_fulls fds links binds routes msgs (xs ++ y ∷ []) ys rest
+      ∙ ap (λ (zs : List FullLine). run (in_view fds links binds routes msgs zs []) rest) (push_assoc xs y ys)
+
+  run_hungs : (fds : List DescriptorLine) (links : List LinkLine) (binds : List BindingLine)
+      (routes : List RouteLine) (msgs : List MessageLine) (fulls : List FullLine) (xs ys : List HungLine)
+      (rest : List TranscriptLine)
+      → run (in_view fds links binds routes msgs fulls xs) (map line.Hung ys ++ rest)
+      ≡ run (in_view fds links binds routes msgs fulls (xs ++ ys)) rest
+  run_hungs fds links binds routes msgs fulls xs [] rest =
+      ap (λ (zs : List HungLine). run (in_view fds links binds routes msgs fulls zs) rest) (sym (append-nil xs))
+  run_hungs fds links binds routes msgs fulls xs (y ∷ ys) rest =
+      run_hungs fds links binds routes msgs fulls (xs ++ y ∷ []) ys rest
+      ∙ ap (λ (zs : List HungLine). run (in_view fds links binds routes msgs fulls zs) rest) (push_assoc xs y ys)
+
+  run_view : (fds : List DescriptorLine) (links : List LinkLine) (binds : List BindingLine)
+      (routes : List RouteLine) (msgs : List MessageLine) (fulls : List FullLine) (hungs : List HungLine)
+      → run (in_view [] [] [] [] [] [] []) (map line.Fd fds
+      ++ (map line.Link links
+      ++ (map line.Bind binds ++ (map line.Route routes ++ (map line.Msg msgs
+      ++ (map line.Full fulls ++ map line.Hung hungs))))))
+      ≡ Some (in_view fds links binds routes msgs fulls hungs)
+  run_view fds links binds routes msgs fulls hungs =
+      run_fds [] fds _ ∙ run_links fds [] links _ ∙ run_binds fds links [] binds _
+      ∙ run_routes fds links binds [] routes _ ∙ run_msgs fds links binds routes [] msgs _
+      ∙ run_fulls fds links binds routes msgs [] fulls _
+      ∙ ap (run (in_view fds links binds routes msgs fulls [])) (sym (append-nil (map line.Hung hungs)))
+      ∙ run_hungs fds links binds routes msgs fulls [] hungs []
+
+pub run_body : (t : Transcript) → run (new_draft t.version) (body t) ≡ Some (draft stage.View t)
+run_body t =
+    run_drivers t.version [] t.drivers (map line.Entry t.entries ++ line.Config ∷ view_body t.view)
+    ∙ run_entries t.version t.drivers [] t.entries (line.Config ∷ view_body t.view)
+    ∙ run_view t.version t.drivers t.entries t.view.next_id t.view.next_serial t.view.fds t.view.links t.view.binds
+    t.view.routes t.view.msgs t.view.fulls t.view.hungs
