@@ -173,3 +173,7 @@ none_loose t (l ∷ ls) h =
 pub nothing_left : (ss : List StreamId) → length ss ≡ 0 → ss ≡ []
 nothing_left [] h = refl
 nothing_left (s ∷ ss) h = absurd (omega (arith, h))
+
+-- a link that isn't ordinary is not loose
+pub watched_by_kind : (t : StreamTable) (ss : List StreamId) (ls : List Link) → list_all is_persistent ls ≡ true → list_all (is_watched t ss) ls ≡ true
+watched_by_kind t ss ls h = all_weaker is_persistent (is_watched t ss) ls (λ l p. rw p refl) h

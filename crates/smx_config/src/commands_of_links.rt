@@ -82,13 +82,16 @@ pub fn plink(
     link_as(drivers, lists, process, fd, arg, LinkKind::Persistent)
 }
 
-// Whether a command for links of this kind on this stream is for the link.
+// Whether a command for links of this kind on this stream is for the link. Most links are of another driver.
 fn may_unlink(kind: LinkKind, stream: StreamId, link: &Link) -> bool
     ensures { result ≡ may_unlink kind stream link.now }
 {
+    if link.ctl.driver != stream.driver {
+        return false;
+    }
     match kind {
         LinkKind::Ordinary => !is_persistent(link) && same_stream(link.ctl, stream),
-        LinkKind::Persistent => is_persistent(link) && link.ctl.driver == stream.driver,
+        LinkKind::Persistent => is_persistent(link),
     }
 }
 

@@ -1,9 +1,10 @@
 //! Links whose controlling stream is gone: their lower streams are released, until no more go.
 
-ghost use Rattle.std.specs.Prelude.{◌≡◌, ℕ, ◌+◌, ◌≤◌, ◌++◌, ◌∷◌, [], ◌&&◌, not, false, true, length, vec_capacity};
-ghost use Rattle.std.specs.List.{list_any};
+ghost use Rattle.std.specs.Prelude.{◌≡◌, ℕ, ◌+◌, ◌≤◌, ◌++◌, ◌∷◌, [], ◌&&◌, not, false, true, length, take, vec_capacity};
+ghost use Rattle.std.specs.List.{list_all, list_any};
 ghost use Rattle.smx_types.specs.declared.stream.StreamId.{StreamId};
 ghost use Rattle.smx_model.specs.Configuration.{same_stream};
+ghost use Rattle.smx_model.specs.Standing.{is_persistent};
 ghost use Rattle.smx_streams.specs.StreamTables.{exists as is_there};
 ghost use Rattle.smx_links.specs.LinkLists.{is_upper};
 ghost use Rattle.smx_config.specs.ExistingStreams.{is_held, is_loose, holds_below, IsReleasing};
@@ -41,17 +42,36 @@ fn may_have_loose(streams: &Streams, links: &LinkTable, ctl: StreamId) -> bool
     !streams.exists(ctl) && links.is_upper(ctl.driver)
 }
 
+// Where the first ordinary link is, from a place on before which there is none.
+fn first_ordinary(links: &LinkTable, from: usize) -> usize
+    requires { list_all is_persistent (take from links.now.links) ≡ true }
+    ensures { list_all is_persistent (take result links.now.links) ≡ true }
+{
+    let listed = links.links();
+    for i in from..listed.len() {
+        if let Some(link) = listed.get(i) {
+            if !is_persistent(link) {
+                return i;
+            }
+        }
+    }
+    from.max(listed.len())
+}
+
 // Releases the lower streams of the links that are loose by this controlling stream, and puts them to those that may
-// have gone, and the links' ids to those that were released.
+// have gone, and the links' ids to those that were released. Looks at the links from a place on before which none is
+// ordinary, and tells a later one.
 fn release_below(
     streams: &mut Streams,
     links: &LinkTable,
     ctl: StreamId,
     touched: &mut Vec<StreamId>,
     gone: &mut Vec<u32>,
+    from: &mut usize,
 )
     requires cascade { IsCascade links.now.links streams.old (touched.old.items ++ ctl ∷ []) (vec_capacity touched.old) }
     requires gone { AreReleased links.now.links streams.old gone.old.items (vec_capacity gone.old) }
+    requires from { list_all is_persistent (take from.old links.now.links) ≡ true }
     ensures fds { streams.new.fds ≡ streams.old.fds }
     ensures minors { streams.new.minors ≡ streams.old.minors }
     ensures cascade { IsCascade links.now.links streams.new touched.new.items (vec_capacity touched.new) }
@@ -60,13 +80,16 @@ fn release_below(
     ensures touched { (s : StreamId) → is_there_or_touched streams.old touched.old.items s ≡ true
         → is_there_or_touched streams.new touched.new.items s ≡ true }
     ensures gone { AreReleased links.now.links streams.new gone.new.items (vec_capacity gone.new) }
+    ensures from { list_all is_persistent (take from.new links.now.links) ≡ true }
 {
     links.is_sound();
     if !may_have_loose(streams, links, ctl) {
         return;
     }
+    let first = first_ordinary(links, *from);
+    *from = first;
     let listed = links.links();
-    for i in 0..listed.len() {
+    for i in first..listed.len() {
         if let Some(link) = listed.get(i) {
             if is_loose_by(streams, ctl, link) {
                 let _gone = streams.release(link.lower);
@@ -98,8 +121,9 @@ pub fn release_orphans(
     ensures gone { AreReleased links.now.links streams.new gone.new.items (vec_capacity gone.new) }
 {
     let mut left = touched;
+    let mut from = 0;
     while let Some(stream) = left.pop() {
         seen.push_reserved(stream);
-        release_below(streams, links, stream, &mut left, gone);
+        release_below(streams, links, stream, &mut left, gone, &mut from);
     }
 }

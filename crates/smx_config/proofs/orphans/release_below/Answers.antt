@@ -7,7 +7,7 @@ use Rattle.smx_config.proofs.OrphanIdLemmas.{one_released}
 use Rattle.smx_config.proofs.ReleaseLemmas.{less_this, loose_held, releases_this}
 use Rattle.smx_config.proofs.TableLemmas.{one_got}
 use Rattle.smx_config.proofs.TouchLemmas.{release_touches_on}
-use Rattle.smx_config.proofs.WatchLemmas.{all_at, all_in_all, all_more, all_watch_on, listed_last, none_by, released_is_watched, still_listed, still_listed_before, watched_less}
+use Rattle.smx_config.proofs.WatchLemmas.{watched_by_kind, all_at, all_in_all, all_more, all_watch_on, listed_last, none_by, released_is_watched, still_listed, still_listed_before, watched_less}
 use Rattle.smx_config.proofs.orphans.release_below.Goals as goal
 use Rattle.smx_config.proofs.orphans.release_below.Goals.{in-Some+then-is_loose_by, in-Some+else-is_loose_by, in_default}
 
@@ -39,7 +39,7 @@ loop-i-init c = record {
   minors = refl;
   releasing = c.requires.cascade.releasing;
   all = c.requires.cascade.watched;
-  so_far = refl;
+  so_far = watched_by_kind c.args.streams.now c.args.touched.now.items (take c.first_ordinary-first.result c.args.links.now.links) c.first_ordinary-first.ensures;
   enough = omega (arith, c.requires.cascade.enough, length-append c.args.touched.now.items (c.args.ctl ∷ []));
   less = omega arith;
   touched = λ s h. h;

@@ -23,6 +23,7 @@ loop-stream-preserved c = record {
   room = omega (arith, c.loop-stream.invariant.room, c.release_below.ensures.less, ap length c.in-Some.ensures.items, length-append c.pop.new.self.items (c.in-Some.stream ∷ []), ap length c.push_reserved.ensures.items, length-append c.loop-stream.seen.items (c.in-Some.stream ∷ []), c.push_reserved.ensures.capacity);
   seen = λ s h. rw c.push_reserved.ensures.items (seen_more c.loop-stream.streams c.release_below.new.streams c.loop-stream.left.items c.pop.new.self.items c.release_below.new.touched.items c.loop-stream.seen.items c.in-Some.stream s c.in-Some.ensures.items c.release_below.ensures.touched (c.loop-stream.invariant.seen s h));
   gone = c.release_below.ensures.gone;
+  from = c.release_below.ensures.from;
 }
 
 pub push_reserved-requires : goal.push_reserved-requires

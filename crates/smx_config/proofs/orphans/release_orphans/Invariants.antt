@@ -1,5 +1,6 @@
-use Rattle.std.proofs.Common.{◌≡◌, ◌+◌, ◌≤◌, ◌||◌, true, length}
-use Rattle.std.specs.List.{list_any}
+use Rattle.std.proofs.Common.{◌≡◌, ◌+◌, ◌≤◌, ◌||◌, true, length, take}
+use Rattle.std.specs.List.{list_all, list_any}
+use Rattle.smx_model.specs.Standing.{is_persistent}
 use Rattle.std.specs.Prelude.{vec_capacity}
 use Rattle.smx_types.specs.declared.stream.StreamId.{StreamId}
 use Rattle.smx_model.specs.Configuration.{same_stream}
@@ -18,4 +19,5 @@ invariant-loop-stream l = record {
   room : length l.seen.items + (length l.left.items + holds_below l.links.links l.streams) ≤ vec_capacity l.seen;
   seen : (s : StreamId) → is_there_or_touched l.initial.streams l.fn.touched.items s ≡ true → (is_there_or_touched l.streams l.left.items s || list_any (same_stream s) l.seen.items) ≡ true;
   gone : AreReleased l.links.links l.streams l.gone.items (vec_capacity l.gone);
+  from : list_all is_persistent (take l.from l.links.links) ≡ true;
 }
