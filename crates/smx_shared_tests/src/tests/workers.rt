@@ -3,9 +3,11 @@
 ghost use Rattle.std.specs.Prelude.{◌≤◌};
 ghost use Rattle.smx_run.specs.declared.run.TheConstants.{MAX_WORKERS};
 
+use super::callers::front;
 use super::gates::Meeting;
 use smx_run::{NoGate, Report, run_programs};
 use smx_samples::{named, numbered};
+use smx_shared::{Front, Fronts};
 use smx_text::{read_programs, write_transcript};
 use smx_types::{DescriptorLine, Transcript};
 use std::alloc::Global;
@@ -14,10 +16,10 @@ use std::sync::Wait;
 use std::test::Fail;
 use std::thread::Threads;
 
-// So many processes, each of which opens a stream and exits.
+// So many processes, each of which opens two streams and links one below the other.
 fn add_processes(alloc: Global, text: &mut Vec<u8>, count: usize) -> Result<(), Fail> {
     for process in 0..count {
-        let lines = format!(in alloc; "process {process}\nclone ip\nexit\n")?;
+        let lines = format!(in alloc; "process {process}\nclone ip\nclone eth\nlink 0 1\n")?;
         text.extend_from_slice(lines.as_bytes())?;
     }
     Ok(text.extend_from_slice(b"end\n".as_slice())?)
@@ -25,49 +27,62 @@ fn add_processes(alloc: Global, text: &mut Vec<u8>, count: usize) -> Result<(), 
 
 // Their programs.
 fn text_of(alloc: Global, count: usize) -> Result<Vec<u8>, Fail> {
-    let mut text = Vec::from_slice(alloc, b"programs 1\ndriver ip mux 64 8 3 16\n".as_slice())?;
+    let begin = b"programs 1\ndriver ip mux 64 8 3 16\ndriver eth leaf 64 8 3 16\n";
+    let mut text = Vec::from_slice(alloc, begin.as_slice())?;
     add_processes(alloc, &mut text, count)?;
     Ok(text)
 }
 
-// How many entries a run of the programs has, which this text spells.
-fn entries_at<R: Threads + Wait + Sync>(
+// The fronts of a run of the programs, which this text spells.
+fn fronts_at<R: Threads + Wait + Sync>(
     rt: &R,
     alloc: Global,
     text: &[u8],
     workers: usize,
     meeting: &Meeting,
-) -> Result<usize, Fail>
+) -> Result<Fronts, Fail>
     requires { (1 ≤ workers) × (workers ≤ MAX_WORKERS) }
 {
     let programs = read_programs(alloc, text)?;
     let report = run_programs(rt, alloc, programs, workers, meeting)?;
-    Ok(report.entries.as_slice().len())
+    Ok(report.fronts)
 }
 
-// So many workers are inside at once, and their run has so many entries.
+// Each of so many processes has seen this front.
+fn all_see(rt: &impl Abort, fronts: &[Front], processes: usize, front: Front) {
+    assert_eq!(rt; fronts.len(), processes);
+    for seen in fronts {
+        assert_eq!(rt; *seen, front);
+    }
+}
+
+// So many workers are inside at once, and each of as many processes sees at its end what all have done.
 fn all_meet<R: Abort + Threads + Wait + Sync>(
     rt: &R,
     alloc: Global,
     workers: usize,
-    entries: usize,
+    front: Front,
 ) -> Result<(), Fail>
     requires { (1 ≤ workers) × (workers ≤ MAX_WORKERS) }
 {
     let text = text_of(alloc, workers)?;
-    let meeting = Meeting::of(workers as u64);
-    assert_eq!(rt;
-        entries_at(rt, alloc, text.as_slice(), workers, &meeting)?,
-        entries
-    );
+    let meeting = Meeting::of(workers as u64, 2);
+    let fronts = fronts_at(rt, alloc, text.as_slice(), workers, &meeting)?;
     assert_eq!(rt; meeting.met(), workers as u64);
+    all_see(rt, fronts.as_slice(), workers, front);
     Ok(())
 }
 
 #[test]
 fn as_many_workers_as_asked_for_are_inside_at_once(rt: HostRuntime) -> Result<(), Fail> {
-    for (workers, entries) in [(2, 4), (3, 6), (4, 8), (16, 32), (64, 128)] {
-        all_meet(&rt, rt.alloc(), workers, entries)?;
+    for (workers, entries, links) in [
+        (2, 6, 2),
+        (3, 9, 3),
+        (4, 12, 4),
+        (16, 48, 16),
+        (64, 192, 64),
+    ] {
+        all_meet(&rt, rt.alloc(), workers, front(entries, links, false))?;
     }
     Ok(())
 }
@@ -91,7 +106,7 @@ fn is_refused<R: Abort + Threads + Wait + Sync>(
 
 #[test]
 fn refused_drivers_start_no_worker(rt: HostRuntime) -> Result<(), Fail> {
-    let meeting = Meeting::of(1);
+    let meeting = Meeting::of(1, 0);
     for workers in [1, 2] {
         is_refused(&rt, rt.alloc(), workers, &meeting)?;
     }
