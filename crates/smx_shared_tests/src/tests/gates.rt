@@ -9,21 +9,27 @@ use std::thread;
 /// The most turns that a worker waits.
 const TURNS: u32 = 100_000_000;
 
-/// Each process waits before its first command until so many are there.
+/// Each process waits before its first command until so many are there, and after its last one until so many have
+/// performed theirs.
 #[derive(Drop)]
 pub struct Meeting {
     wanted: u64,
+    // The number of each last command.
+    last: usize,
     inside: AtomicU64,
     met: AtomicU64,
+    ended: AtomicU64,
 }
 
 impl Meeting {
     /// Nobody is there yet.
-    pub fn of(wanted: u64) -> Meeting {
+    pub fn of(wanted: u64, last: usize) -> Meeting {
         Meeting {
             wanted,
+            last,
             inside: AtomicU64::new(0),
             met: AtomicU64::new(0),
+            ended: AtomicU64::new(0),
         }
     }
 
@@ -32,10 +38,10 @@ impl Meeting {
         self.met.load(Ordering::SeqCst)
     }
 
-    // Whether all are inside, before the turns are used up.
-    fn is_met(&self) -> bool {
+    // Whether all are counted, before the turns are used up.
+    fn are_all(&self, count: &AtomicU64) -> bool {
         for _ in 0..TURNS {
-            if self.inside.load(Ordering::SeqCst) == self.wanted {
+            if count.load(Ordering::SeqCst) == self.wanted {
                 return true;
             }
             thread::yield_now();
@@ -48,13 +54,19 @@ impl Gate for Meeting {
     fn before(&self, _process: Process, number: usize) {
         if number == 0 {
             self.inside.fetch_add(1, Ordering::SeqCst);
-            if self.is_met() {
+            if self.are_all(&self.inside) {
                 self.met.fetch_add(1, Ordering::SeqCst);
             }
         }
     }
 
-    fn after(&self, _process: Process, _number: usize) {}
+    // Where they have not met, nobody waits again.
+    fn after(&self, _process: Process, number: usize) {
+        if number == self.last {
+            self.ended.fetch_add(1, Ordering::SeqCst);
+            let _all = self.met() > 0 && self.are_all(&self.ended);
+        }
+    }
 }
 
 /// What a gate is told, of a process and the number of its command.
@@ -62,7 +74,7 @@ impl Gate for Meeting {
 pub enum Told {
     /// The command is performed next.
     Before(u32, usize),
-    /// The command was performed.
+    /// The command was performed, or refused.
     After(u32, usize),
 }
 
@@ -101,6 +113,17 @@ impl Line {
             Told::Before(process, number)
         }
     }
+}
+
+/// What was told of this process.
+pub fn of_process(alloc: Global, told: &[Told], process: u32) -> Result<Vec<Told>, AllocError> {
+    let mut own = Vec::new(alloc);
+    for line in told {
+        if line.process() == process {
+            own.push(*line)?;
+        }
+    }
+    Ok(own)
 }
 
 /// Writes down all that it is told, in order, while it has lines.
