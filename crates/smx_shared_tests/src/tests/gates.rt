@@ -9,6 +9,17 @@ use std::thread;
 /// The most turns that a worker waits.
 const TURNS: u32 = 100_000_000;
 
+// Whether so many are counted, before the turns are used up.
+fn is_reached(count: &AtomicU64, wanted: u64) -> bool {
+    for _ in 0..TURNS {
+        if count.load(Ordering::SeqCst) >= wanted {
+            return true;
+        }
+        thread::yield_now();
+    }
+    false
+}
+
 /// Each process waits before its first command until so many are there, and after its last one until so many have
 /// performed theirs.
 #[derive(Drop)]
@@ -37,24 +48,13 @@ impl Meeting {
     pub fn met(&self) -> u64 {
         self.met.load(Ordering::SeqCst)
     }
-
-    // Whether all are counted, before the turns are used up.
-    fn are_all(&self, count: &AtomicU64) -> bool {
-        for _ in 0..TURNS {
-            if count.load(Ordering::SeqCst) == self.wanted {
-                return true;
-            }
-            thread::yield_now();
-        }
-        false
-    }
 }
 
 impl Gate for Meeting {
     fn before(&self, _process: Process, number: usize) {
         if number == 0 {
             self.inside.fetch_add(1, Ordering::SeqCst);
-            if self.are_all(&self.inside) {
+            if is_reached(&self.inside, self.wanted) {
                 self.met.fetch_add(1, Ordering::SeqCst);
             }
         }
@@ -64,7 +64,9 @@ impl Gate for Meeting {
     fn after(&self, _process: Process, number: usize) {
         if number == self.last {
             self.ended.fetch_add(1, Ordering::SeqCst);
-            let _all = self.met() > 0 && self.are_all(&self.ended);
+            if self.met() > 0 {
+                is_reached(&self.ended, self.wanted);
+            }
         }
     }
 }
@@ -124,6 +126,34 @@ pub fn of_process(alloc: Global, told: &[Told], process: u32) -> Result<Vec<Told
         }
     }
     Ok(own)
+}
+
+/// Has processes 0 to 4 of two workers go on one by one: before its first command, each but the first and the last waits
+/// until the next one comes to its own, for which the one before it has ended, on the same worker.
+#[derive(Drop)]
+pub struct OneByOne {
+    come: AtomicU64,
+}
+
+impl OneByOne {
+    /// None has come yet.
+    pub fn new() -> OneByOne {
+        OneByOne {
+            come: AtomicU64::new(0),
+        }
+    }
+}
+
+impl Gate for OneByOne {
+    // The first and the second come at once, and then one at a time.
+    fn before(&self, process: Process, number: usize) {
+        if number == 0 {
+            self.come.fetch_add(1, Ordering::SeqCst);
+            is_reached(&self.come, (process.get() as u64 + 2).min(5));
+        }
+    }
+
+    fn after(&self, _process: Process, _number: usize) {}
 }
 
 /// Writes down all that it is told, in order, while it has lines.

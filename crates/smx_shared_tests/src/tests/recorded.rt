@@ -2,8 +2,9 @@
 //! gate is told of such a run.
 
 use super::fault_words::prints;
-use super::gates::Log;
-use super::told::{FIVE, IN_TURN};
+use super::gates::Told::{After, Before};
+use super::gates::{Log, Told};
+use super::told::{IN_TURN, SIX};
 use smx_run::{NoGate, Recorder, RunFault, run_recorded};
 use smx_text::{read_programs, write_transcript};
 use smx_types::{ConfigView, Copied, DriverSpec, Drivers, Entries, Entry, NoMemory, Transcript};
@@ -135,17 +136,59 @@ fn drivers_come_before_the_recorder(rt: HostRuntime) -> Result<(), Fail> {
     is_refused(&rt, rt.alloc(), SAME_NAME, 0, "driver 1 same name")
 }
 
-// The five programs are run, and the log is told.
-fn runs_five(alloc: Global, log: &Log) -> Result<(), Fail> {
-    let programs = read_programs(alloc, FIVE)?;
-    run_recorded::<Kept, _>(alloc, programs, (alloc, 8), log)?;
-    Ok(())
+// The log is told of a run of the programs that this text spells, with a recorder of so many entries. Whether that was
+// enough.
+fn logs(alloc: Global, text: &[u8], most: usize, log: &Log) -> Result<bool, Fail> {
+    let programs = read_programs(alloc, text)?;
+    Ok(run_recorded::<Kept, _>(alloc, programs, (alloc, most), log).is_ok())
 }
 
 #[test]
 fn a_recorded_run_tells_of_each_command_in_turn(rt: HostRuntime) -> Result<(), Fail> {
     let log = Log::of(rt.alloc(), 40)?;
-    runs_five(rt.alloc(), &log)?;
+    assert!(rt; logs(rt.alloc(), SIX, 13, &log)?);
     assert_eq!(rt; log.told(rt.alloc())?.as_slice(), IN_TURN.as_slice());
+    Ok(())
+}
+
+// What a gate is told of the six commands of the two processes.
+const OF_SIX_COMMANDS: [Told; 12] = [
+    Before(0, 0),
+    After(0, 0),
+    Before(0, 1),
+    After(0, 1),
+    Before(2, 0),
+    After(2, 0),
+    Before(2, 1),
+    After(2, 1),
+    Before(2, 2),
+    After(2, 2),
+    Before(2, 3),
+    After(2, 3),
+];
+
+// A recorder of so many entries stops the run at the next command, and of the last one the log is told too.
+fn logs_one_more(
+    rt: &impl Abort,
+    alloc: Global,
+    entries: usize,
+    told: &[Told],
+) -> Result<(), Fail> {
+    let log = Log::of(alloc, 16)?;
+    assert!(rt; !logs(alloc, TWO_PROCESSES, entries, &log)?);
+    assert_eq!(rt; log.told(alloc)?.as_slice(), told);
+    Ok(())
+}
+
+#[test]
+fn a_recorded_run_tells_also_of_the_command_at_which_it_stops(rt: HostRuntime) -> Result<(), Fail> {
+    for entries in 0..6 {
+        logs_one_more(
+            &rt,
+            rt.alloc(),
+            entries,
+            &OF_SIX_COMMANDS[..2 * entries + 2],
+        )?;
+    }
     Ok(())
 }
