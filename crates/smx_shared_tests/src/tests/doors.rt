@@ -1,5 +1,7 @@
 //! Workers at a door of the test's own, whose seats own systems, and what a gate is told of them.
 
+ghost use Rattle.std.specs.Prelude.{◌≡◌, [], IfSome};
+
 use super::gates::Told::{After, Before};
 use super::gates::{Log, Told, of_process};
 use smx_run::{Job, work};
@@ -96,22 +98,18 @@ fn three_opens(alloc: Global) -> Option<Commands> {
     Some(commands)
 }
 
-// The seat of a process, at a system of one entry at most.
-fn seat_of(alloc: Global, process: u32) -> Option<OwnSeat> {
-    Some(OwnSeat {
-        process: Process::new(process)?,
-        system: System::new(alloc, &[ip()?], 1).ok()?,
-    })
+// The seat of a process, at a system with no entry, and of one at most.
+fn seat_of(alloc: Global, process: u32) -> Option<OwnSeat>
+    ensures { IfSome result (λ s. s.system.history ≡ []) }
+{
+    let process = Process::new(process)?;
+    let Ok(system) = System::new(alloc, &[ip()?], 1) else {
+        return None;
+    };
+    Some(OwnSeat { process, system })
 }
 
-// A hand of this process alone, which is to open three streams.
-fn hand_of(alloc: Global, process: u32) -> Option<Vec<Job<OwnSeat>>> {
-    let commands = three_opens(alloc)?;
-    let seat = seat_of(alloc, process)?;
-    vec![in alloc; Job { seat, commands }].ok()
-}
-
-// Why a worker with such a hand stops.
+// Why a worker stops that has this process alone, which is to open three streams.
 fn stops<R: Wait>(
     rt: &R,
     alloc: Global,
@@ -119,7 +117,11 @@ fn stops<R: Wait>(
     process: u32,
     log: &Log,
 ) -> Option<ApplyFault> {
-    let hand = hand_of(alloc, process)?;
+    let commands = three_opens(alloc)?;
+    let seat = seat_of(alloc, process)?;
+    let Ok(hand) = vec![in alloc; Job { seat, commands }] else {
+        return None;
+    };
     work(rt, alloc, door, hand, log).err()
 }
 
