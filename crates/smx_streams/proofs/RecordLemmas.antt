@@ -1,6 +1,6 @@
 -- Records by driver and minor, changed, made and gone.
-use Rattle.std.proofs.Common.{◌≡◌, ◌≢◌, ℕ, zero, ◌+◌, ◌<◌, Bool, true, false, List, [], ◌∷◌, length, map, get_or, replicate, Option, Some, None, if◌then◌else◌, refl, sym, ap, ◌∙◌, subst, arith, inl, inr}
-use Rattle.std.proofs.lemmas.Bool.{cases_Bool, cases_eq, both_ways, ltb-true}
+use Rattle.std.proofs.Common.{◌≡◌, ◌≢◌, ℕ, ◌+◌, ◌<◌, true, false, List, [], ◌∷◌, map, replicate, Option, Some, None, if◌then◌else◌, refl, sym, ap, ◌∙◌, subst, arith, inl, inr}
+use Rattle.std.proofs.lemmas.Bool.{cases_Bool, cases_eq, both_ways, ltb-true, lt-ltb}
 use Rattle.std.specs.Prelude.{IfSome, nat_lt}
 use Rattle.std.specs.List.{AllZip}
 use Rattle.std.specs.Option.{is_some}
@@ -9,9 +9,10 @@ use Rattle.slab.specs.Slab.{Slab, get, IsSlotClone, Updates}
 use Rattle.smx_types.specs.declared.stream.StreamId.{StreamId}
 use Rattle.smx_model.specs.Configuration.{same_stream}
 use Rattle.smx_streams.specs.declared.records.Record.{Record}
-use Rattle.smx_streams.specs.RecordGrids.{Grid, key_at, with_key, record_of_key, opens_of, holds_of, uses_of, AreSet, AreRecords, IsRecord, IsRecordOf, IsSet}
+use Rattle.smx_streams.specs.RecordGrids.{Grid, key_at, record_of_key, opens_of, holds_of, uses_of, AreSet, AreRecords, IsRecord, IsRecordOf, IsSet, hung_of, is_used_and_hung}
 use Rattle.smx_streams.specs.StreamTables.{number_at, is_in_range}
-use Rattle.smx_streams.proofs.GridLemmas.{same_is, same_self, opens_at, holds_at, in_range_of_key, no_keys}
+use Rattle.smx_streams.proofs.GridLemmas.{same_is, same_self, opens_at, holds_at, in_range_of_key, no_keys, hungs_at}
+use Rattle.smx_streams.specs.HungRows.{flag_at}
 
 -- what a change leaves: the slot of one key, and the key of one stream
 record IsChange (grid : Grid) (old : Slab Record) (s : StreamId) (key : ℕ) (new_key : Option ℕ) (slot : Option Record) (new_grid : Grid) (new : Slab Record) : Type 0 where
@@ -88,9 +89,9 @@ is_set_none grid old s key new_grid new whole h = record { listed = listed; reco
 
 -- the numbers that are then read
 numbers_set : (grid : Grid) (old : Slab Record) (r : Record) (key : ℕ) (new_key : Option ℕ) (slot : Option Record) (new_grid : Grid) (new : Slab Record) → IsChange grid old r.stream key new_key slot new_grid new
-    → opens_of (record_of_key new new_key) ≡ r.opens → holds_of (record_of_key new new_key) ≡ r.holds → (uses_of new_grid new).minors ≡ (uses_of grid old).minors
-    → AreSet (uses_of grid old) r.stream r.opens r.holds (uses_of new_grid new)
-numbers_set grid old r key new_key slot new_grid new h opens holds minors = record {
+    → opens_of (record_of_key new new_key) ≡ r.opens → holds_of (record_of_key new new_key) ≡ r.holds → hung_of (record_of_key new new_key) ≡ is_used_and_hung r → (uses_of new_grid new).minors ≡ (uses_of grid old).minors
+    → AreSet (uses_of grid old) r.stream r.opens r.holds (is_used_and_hung r) (uses_of new_grid new)
+numbers_set grid old r key new_key slot new_grid new h opens holds hung minors = record {
   minors = minors;
   opens_now = λ x. opens_at new_grid new x ∙ elim (cases_Bool (same_stream x r.stream)) [
     | inl t ↦ rw t (ap (λ o. opens_of (record_of_key new o)) (same_keys grid r.stream x new_key new_grid h.keys t) ∙ opens)
@@ -100,7 +101,18 @@ numbers_set grid old r key new_key slot new_grid new h opens holds minors = reco
     | inl t ↦ rw t (ap (λ o. holds_of (record_of_key new o)) (same_keys grid r.stream x new_key new_grid h.keys t) ∙ holds)
     | inr f ↦ rw f (ap holds_of (other_record grid old r.stream x key new_key slot new_grid new h f) ∙ sym (holds_at grid old x))
   ];
+  hungs_now = λ x. hungs_at new_grid new x ∙ elim (cases_Bool (same_stream x r.stream)) [
+    | inl t ↦ rw t (ap (λ o. hung_of (record_of_key new o)) (same_keys grid r.stream x new_key new_grid h.keys t) ∙ hung)
+    | inr f ↦ rw f (ap hung_of (other_record grid old r.stream x key new_key slot new_grid new h f) ∙ sym (hungs_at grid old x))
+  ];
 }
+
+-- the flag of a record that counts some, and of one that counts nothing
+flag_of_used : (r : Record) → 0 < r.opens + r.holds → r.hung ≡ is_used_and_hung r
+flag_of_used r used = rw (lt-ltb 0 (r.opens + r.holds) used) refl
+
+flag_of_none : (r : Record) → r.opens ≡ 0 → r.holds ≡ 0 → false ≡ is_used_and_hung r
+flag_of_none r opens holds = rw (opens, holds) refl
 
 -- where the stream had the key
 
@@ -130,7 +142,7 @@ put_back_some grid old key r new whole there used slots =
       apart = known_apart grid old r.stream key whole there;
       alone = known_alone grid old r.stream key whole there;
     } in
-    record { whole = is_set_some grid old key r grid new whole used change; set = numbers_set grid old r key (Some key) (Some r) grid new change (ap opens_of slots.changed) (ap holds_of slots.changed) refl }
+    record { whole = is_set_some grid old key r grid new whole used change; set = numbers_set grid old r key (Some key) (Some r) grid new change (ap opens_of slots.changed) (ap holds_of slots.changed) (ap hung_of slots.changed ∙ flag_of_used r used) refl }
 
 pub put_back_none : (grid : Grid) (old : Slab Record) (key : ℕ) (r : Record) (new_grid : Grid) (new : Slab Record) → AreRecords grid old → key_at grid r.stream ≡ Some key → r.opens ≡ 0 → r.holds ≡ 0 → Updates old new key None
     → ((x : StreamId) → key_at new_grid x ≡ (if same_stream x r.stream then None else key_at grid x)) → (uses_of new_grid new).minors ≡ (uses_of grid old).minors → IsSet grid old r new_grid new
@@ -141,7 +153,7 @@ put_back_none grid old key r new_grid new whole there opens holds slots keys min
       apart = known_apart grid old r.stream key whole there;
       alone = known_alone grid old r.stream key whole there;
     } in
-    record { whole = is_set_none grid old r.stream key new_grid new whole change; set = numbers_set grid old r key None None new_grid new change (sym opens) (sym holds) minors }
+    record { whole = is_set_none grid old r.stream key new_grid new whole change; set = numbers_set grid old r key None None new_grid new change (sym opens) (sym holds) (flag_of_none r opens holds) minors }
 
 -- where it had none
 
@@ -157,7 +169,7 @@ put_new grid old key r new_grid new whole none vacant used slots keys minors =
         | inr f ↦ f
       ];
     } in
-    record { whole = is_set_some grid old key r new_grid new whole used change; set = numbers_set grid old r key (Some key) (Some r) new_grid new change (ap opens_of slots.changed) (ap holds_of slots.changed) minors }
+    record { whole = is_set_some grid old key r new_grid new whole used change; set = numbers_set grid old r key (Some key) (Some r) new_grid new change (ap opens_of slots.changed) (ap holds_of slots.changed) (ap hung_of slots.changed ∙ flag_of_used r used) minors }
 
 -- a stream that has some descriptor is in range
 pub used_is_in_range : (grid : Grid) (records : Slab Record) (s : StreamId) → 0 < number_at (uses_of grid records).opens s → is_in_range (uses_of grid records).minors s.driver s.minor ≡ true
@@ -180,10 +192,20 @@ no_opens minors records s = opens_at (map (λ n. replicate n None) minors) recor
 pub no_holds : (minors : List ℕ) (records : Slab Record) (s : StreamId) → number_at (uses_of (map (λ n. replicate n None) minors) records).holds s ≡ 0
 no_holds minors records s = holds_at (map (λ n. replicate n None) minors) records s ∙ ap (λ o. holds_of (record_of_key records o)) (no_keys minors s)
 
+pub no_hungs : (minors : List ℕ) (records : Slab Record) (s : StreamId) → flag_at (uses_of (map (λ n. replicate n None) minors) records).hungs s ≡ false
+no_hungs minors records s = hungs_at (map (λ n. replicate n None) minors) records s ∙ ap (λ o. hung_of (record_of_key records o)) (no_keys minors s)
+
+-- a stream that has hung up counts some descriptor or hold
+pub hung_is_used : (grid : Grid) (records : Slab Record) (s : StreamId) → AreRecords grid records → flag_at (uses_of grid records).hungs s ≡ true → 0 < number_at (uses_of grid records).opens s + number_at (uses_of grid records).holds s
+hung_is_used grid records s whole h = rw (opens_at grid records s, holds_at grid records s) (by (key_at grid s) refl (sym (hungs_at grid records s) ∙ h)) where
+  by : (o : Option ℕ) → key_at grid s ≡ o → hung_of (record_of_key records o) ≡ true → 0 < opens_of (record_of_key records o) + holds_of (record_of_key records o)
+  by None e t = absurd cc
+  by (Some key) e t = let there = whole.listed s key e in rw there.1 there.2.used
+
 -- the numbers of a stream are those of its record
 
 pub record_read : (grid : Grid) (records : Slab Record) (s : StreamId) (r : Option Record) → AreRecords grid records → r ≡ record_of_key records (key_at grid s) → IsRecordOf (uses_of grid records) s r
-record_read grid records s r whole is = record { opens = ap opens_of is ∙ sym (opens_at grid records s); holds = ap holds_of is ∙ sym (holds_at grid records s); used = subst (λ o. IfSome o (λ x. 0 < x.opens + x.holds)) (sym is) (by (key_at grid s) refl) } where
+record_read grid records s r whole is = record { opens = ap opens_of is ∙ sym (opens_at grid records s); holds = ap holds_of is ∙ sym (holds_at grid records s); hung = ap hung_of is ∙ sym (hungs_at grid records s); used = subst (λ o. IfSome o (λ x. 0 < x.opens + x.holds)) (sym is) (by (key_at grid s) refl) } where
   by : (o : Option ℕ) → key_at grid s ≡ o → IfSome (record_of_key records o) (λ x. 0 < x.opens + x.holds)
   by None e = tt
   by (Some key) e = let there = whole.listed s key e in rw there.1 there.2.used

@@ -7,8 +7,9 @@ ghost use Rattle.smx_types.specs.declared.stream.StreamId.{StreamId};
 ghost use Rattle.std.specs.Option.{option_map};
 ghost use Rattle.smx_streams.specs.DescriptorRows.{IsListed};
 ghost use Rattle.smx_streams.specs.StreamTables.{number_at, is_in_range, exists, stream_at, is_last, least_fd, least_minor, numbered};
-ghost use Rattle.smx_streams.specs.StreamTables.{clone_answer, minor_answer, dup_answer};
-ghost use Rattle.smx_streams.specs.StreamTables.{HasOneMore, HasOneLess, HasNoneOf, HasHolds, IsNext, IsRefused};
+ghost use Rattle.smx_streams.specs.StreamTables.{clone_answer, minor_answer, dup_answer, IsNext, IsRefused};
+ghost use Rattle.smx_model.specs.Hangups.{is_hung};
+ghost use Rattle.smx_streams.specs.StreamTables.{HasOneMore, HasOneLess, HasNoneOf, HasHolds, HasHungUp, AreHungsSound};
 
 use crate::closed::Closed;
 use crate::descriptors::Descriptors;
@@ -18,8 +19,8 @@ use smx_types::{Descriptor, MAX_DESCRIPTORS, NoMemory, Process, StreamId};
 use std::alloc::Global;
 use std::marker::Model;
 
-/// The descriptors of all processes, and how many holds each stream has. A contract sees the minors of each driver,
-/// the list of descriptors, and the holds.
+/// The descriptors of all processes, how many holds each stream has, and which have hung up. A contract sees the
+/// minors of each driver, the list of descriptors, the holds, and the list of hung-up streams.
 #[derive(Debug, Drop)]
 pub struct Streams {
     alloc: Global,
@@ -47,6 +48,7 @@ impl Streams {
         ensures minors { IfOk result (λ t. t.minors ≡ minors.now) }
         ensures fds { IfOk result (λ t. t.fds ≡ []) }
         ensures holds { IfOk result (λ t. (s : StreamId) → number_at t.holds s ≡ 0) }
+        ensures hungs { IfOk result (λ t. t.hungs ≡ []) }
     {
         Ok(Streams {
             alloc,
@@ -70,6 +72,13 @@ impl Streams {
         ensures { result ≡ exists self.now stream }
     {
         self.records.has(stream)
+    }
+
+    /// Whether the stream has hung up.
+    pub fn is_hung(&self, stream: StreamId) -> bool
+        ensures { result ≡ is_hung self.now.hungs stream }
+    {
+        self.records.is_hung(stream)
     }
 
     /// How many holds the stream has.
@@ -214,6 +223,7 @@ impl Streams {
         ensures unchanged { IfNone result (self.new ≡ self.old) }
     {
         self.descriptors.is_sound();
+        self.records.is_sound();
         let stream = self.descriptors.take(process, fd)?;
         let opens = self.records.opens_of(stream);
         let holds = self.records.holds_of(stream);
@@ -246,6 +256,7 @@ impl Streams {
             → (n : ℕ) × (n < MAX_DESCRIPTORS) × (stream_at self.old.fds process n ≡ Some s) }
     {
         self.is_listed();
+        self.is_sound();
         for fd in 0..MAX_DESCRIPTORS {
             let _closed = self.close_fd(process, fd);
         }
@@ -281,6 +292,7 @@ impl Streams {
         requires few { number_at self.old.holds stream < 1024 }
         ensures { HasHolds self.old stream (number_at self.old.holds stream + 1) self.new }
     {
+        self.records.is_sound();
         let opens = self.records.opens_of(stream);
         let holds = self.records.holds_of(stream);
         self.records.set(stream, opens, holds + 1);
@@ -293,10 +305,27 @@ impl Streams {
         ensures answer { result ≡ not (exists self.new stream) }
         ensures rest { HasHolds self.old stream (number_at self.old.holds stream - 1) self.new }
     {
+        self.records.is_sound();
         let opens = self.records.opens_of(stream);
         let holds = self.records.holds_of(stream);
         self.records.set(stream, opens, holds - 1);
         !self.exists(stream)
+    }
+
+    /// A stream that exists hangs up. It stays so as long as it exists. Takes no memory.
+    pub fn hang(&mut self, stream: StreamId)
+        requires { exists self.old stream ≡ true }
+        ensures { HasHungUp self.old stream self.new }
+    {
+        self.records.hang(stream);
+    }
+
+    /// What the streams that have hung up always are: they are in order, and each exists. It does nothing: a caller who
+    /// needs these facts calls it.
+    pub fn is_sound(&self)
+        ensures { AreHungsSound self.now }
+    {
+        self.records.is_sound();
     }
 
     /// The same table again, by the allocator that this one has. Fails only for want of memory.

@@ -22,7 +22,7 @@ pub record IsWellMade {V K : Type 0} (g : Grammar V K) : Type 0 where
   pub fits : (v : V) → g.IsAllowed v → AllByRecursion g.FitsLine (g.body v)
   pub fits_end : g.FitsLine g.end
   pub end_is_last : (v : V) (lines more : List K) → g.body v ≡ lines ++ g.end ∷ more → ⊥
-  pub one_value : (v w : V) → g.body v ≡ g.body w → v ≡ w
+  pub one_value : (v w : V) → g.IsAllowed v → g.IsAllowed w → g.body v ≡ g.body w → v ≡ w
 
 same_fault : (f h : TextFault) → f.line ≡ h.line → f.cause ≡ h.cause → f ≡ h
 same_fault f h e k = ap (λ (n : ℕ). record { line = n; cause = f.cause }) e
@@ -142,7 +142,7 @@ module _ {V K : Type 0} (g : Grammar V K) (made : IsWellMade g) where
   one_answer : (lines : List K) (text after : List ℕ) (r s : Result V TextFault) → Answers lines text after r
       → Answers lines text after s → r ≡ s
   one_answer lines text after (Ok v) (Ok w) (allowed, e, _, _) (also, k, _, _) =
-      ap (λ (x : V). Ok x) (made.one_value v w (e ∙ sym k))
+      ap (λ (x : V). Ok x) (made.one_value v w allowed also (e ∙ sym k))
   one_answer lines text after (Ok v) (Err f) a b = absurd (no_value v lines text after f.line f.cause a b)
   one_answer lines text after (Err f) (Ok w) a b = absurd (no_value w lines text after f.line f.cause b a)
   one_answer lines text after (Err f) (Err h) a b =

@@ -1,51 +1,63 @@
 -- What a reader does with a line behind those of some programs.
-use Rattle.std.proofs.Common.{◌≡◌, ◌≢◌, ℕ, ◌+◌, ◌<◌, [], ◌∷◌, ◌++◌, length, sym, ap, subst, arith}
-use Rattle.std.specs.List.{sum_by, AllByRecursion}
+use Rattle.std.proofs.Common.{◌≡◌, ◌≢◌, ℕ, ◌+◌, ◌<◌, [], ◌∷◌, ◌++◌, length, sym, ap, subst, arith, List, ◌≤◌, ◌∙◌, map, refl, false}
+use Rattle.std.specs.List.{sum_by, AllByRecursion, list_any}
 use Rattle.std.specs.Prelude.{◌↔◌, Result, Ok, Err, IfOk, IsOk}
 use Rattle.std.specs.Result.{result_ok}
 use Rattle.smx_types.specs.declared.programs.Many.{Many}
 use Rattle.std.proofs.lemmas.List.{append-nil}
 use Rattle.std.proofs.lemmas.List.Sums.{sum_by-append, sum_by-cons}
 use Rattle.smx_types.specs.ProgramLists.{ProgramLists, AreWithinLimits}
-use Rattle.smx_types.specs.declared.limits.TheConstants.{MAX_DRIVERS, MAX_PROCESSES, MAX_COMMANDS}
+use Rattle.smx_types.specs.declared.limits.TheConstants.{MAX_DRIVERS_OF_VERSION_1, MAX_PROCESSES, MAX_COMMANDS}
 use Rattle.smx_text.specs.Grammar.{IsBegun}
 use Rattle.smx_text.specs.ProgramLines.{Line}
 use Rattle.smx_text.specs.ProgramLines as line
-use Rattle.smx_text.specs.ProgramsText.{FitsLine, body, IsAllowed, programs_grammar}
+use Rattle.smx_text.specs.ProgramsText.{FitsLine, program_lines, body, IsAllowed, programs_grammar}
 use Rattle.smx_text.specs.Reading.{EndsAs, AddsLine, RefusesLine}
 use Rattle.smx_text.specs.declared.fault.Cause.TheVariants as cause
 use Rattle.smx_text.proofs.EachLemmas.{all_push}
 use Rattle.smx_text.proofs.ProgramsOrderLemmas.{a_driver, a_process, a_command, counts}
-use Rattle.smx_text.proofs.ProgramsFollowLemmas.{MayStand, AreMany, with_line, body_more, may_stand}
+use Rattle.smx_text.proofs.ProgramsFollowLemmas.{MayStand, AreMany, with_line, body_more, may_stand, version_stays}
 use Rattle.smx_text.proofs.ProgramsFollowLemmas.{stand_may, are_full}
 use Rattle.smx_text.proofs.ProgramsValueLemmas.{allowed_of}
+use Rattle.smx_types.specs.declared.version.Version.{Version}
+use Rattle.smx_types.specs.declared.version.Version.TheVariants.{V1, V2}
+use Rattle.smx_types.specs.Versions.{most_drivers, are_more_drivers, is_hangup, least_of_programs}
+use Rattle.smx_types.specs.declared.command.Command.{Command}
+use Rattle.smx_types.specs.declared.driver.DriverSpec.{DriverSpec}
+use Rattle.std.proofs.lemmas.Bool.{false_from_ne_true, ltb-true}
 
 -- it is not one too many
-abbrev pub HasRoom : ProgramLists → Line → Type 0
-HasRoom v (line.Driver d) = length v.drivers < MAX_DRIVERS
-HasRoom v (line.Process number) = length v.programs < MAX_PROCESSES
-HasRoom v (line.Command c) = sum_by length v.programs < MAX_COMMANDS
-HasRoom v line.End = ⊥
+abbrev pub HasRoom : Version → ProgramLists → Line → Type 0
+HasRoom version v (line.Driver d) = length v.drivers < most_drivers version
+HasRoom version v (line.Process number) = length v.programs < MAX_PROCESSES
+HasRoom version v (line.Command c) = sum_by length v.programs < MAX_COMMANDS
+HasRoom version v line.End = ⊥
 
-not_end : (v : ProgramLists) (k : Line) → HasRoom v k → k ≢ line.End
-not_end v (line.Driver d) h e = cc
-not_end v (line.Process n) h e = cc
-not_end v (line.Command c) h e = cc
-not_end v line.End h e = h
+not_end : (version : Version) (v : ProgramLists) (k : Line) → HasRoom version v k → k ≢ line.End
+not_end version v (line.Driver d) h e = cc
+not_end version v (line.Process n) h e = cc
+not_end version v (line.Command c) h e = cc
+not_end version v line.End h e = h
 
-within_by : (v w : ProgramLists) (k : Line) → AreWithinLimits v → HasRoom v k → body w ≡ body v ++ k ∷ []
-    → AreWithinLimits w
-within_by v w k within room e = by_kind k room e where
+-- as many as may be of each kind
+record IsFew (version : Version) (v : ProgramLists) : Type 0 where
+  drivers : length v.drivers ≤ most_drivers version
+  programs : length v.programs ≤ MAX_PROCESSES
+  commands : sum_by length v.programs ≤ MAX_COMMANDS
+
+few_by : (version : Version) (v w : ProgramLists) (k : Line) → IsAllowed version v → HasRoom version v k
+    → body w ≡ body v ++ k ∷ [] → IsFew version w
+few_by version v w k within room e = by_kind k room e where
   sums : (weight : Line → ℕ) (k : Line) → body w ≡ body v ++ k ∷ []
       → sum_by weight (body w) ≡ sum_by weight (body v) + weight k
   sums weight k e = omega (arith, ap (sum_by weight) e, sum_by-append weight (body v) (k ∷ []), sum_by-cons weight k [])
 
-  by_kind : (k : Line) → HasRoom v k → body w ≡ body v ++ k ∷ [] → AreWithinLimits w
+  by_kind : (k : Line) → HasRoom version v k → body w ≡ body v ++ k ∷ [] → IsFew version w
   by_kind k room e = let a = counts v in let b = counts w in
       limits k room (sums a_driver k e) (sums a_process k e) (sums a_command k e) where
-        limits : (k : Line) → HasRoom v k → sum_by a_driver (body w) ≡ sum_by a_driver (body v) + a_driver k
+        limits : (k : Line) → HasRoom version v k → sum_by a_driver (body w) ≡ sum_by a_driver (body v) + a_driver k
             → sum_by a_process (body w) ≡ sum_by a_process (body v) + a_process k
-            → sum_by a_command (body w) ≡ sum_by a_command (body v) + a_command k → AreWithinLimits w
+            → sum_by a_command (body w) ≡ sum_by a_command (body v) + a_command k → IsFew version w
         limits (line.Driver d) room x y z = let a = counts v in let b = counts w in record {
           drivers = omega (arith, x, a.drivers, b.drivers, within.drivers, room);
           programs = omega (arith, y, a.processes, b.processes, within.programs);
@@ -64,34 +76,83 @@ within_by v w k within room e = by_kind k room e where
         limits line.End room x y z = absurd room
 
 -- programs with this line more
-pub adds : (v w : ProgramLists) (k : Line) → IsBegun programs_grammar (body v) → HasRoom v k → FitsLine k
+pub adds : (version : Version) (v w : ProgramLists) (k : Line) → v.version ≡ version → w.version ≡ version
+    → IsBegun (programs_grammar version) (body v) → HasRoom version v k → FitsLine version k
     → body w ≡ body v ++ k ∷ []
-    → AddsLine programs_grammar (body v) k (body w)
-adds v w k begun room fits e =
-    let own = allowed_of v begun in
-    let all = subst (AllByRecursion FitsLine) (sym e) (all_push FitsLine (body v) k own.fits fits) in
-    (e, (w, [], record { within = within_by v w k own.within room e; fits = all }, sym (append-nil (body w))))
+    → AddsLine (programs_grammar version) (body v) k (body w)
+adds version v w k of_v of_w begun room fits e =
+    let own = allowed_of version v of_v begun in
+    let few = few_by version v w k own room e in
+    let all = subst (AllByRecursion (FitsLine version)) (sym e) (all_push (FitsLine version) (body v) k own.fits fits) in
+    let kept : IsAllowed version w = record {
+      version_is = of_w;
+      drivers = few.drivers;
+      programs = few.programs;
+      commands = few.commands;
+      fits = all;
+    } in
+    (e, (w, [], kept, sym (append-nil (body w))))
 
 -- their lines and this one begin some programs
-pub longer_begun : (v : ProgramLists) (k : Line) → IsBegun programs_grammar (body v) → MayStand v k
-    → HasRoom v k → FitsLine k
-    → IsBegun programs_grammar (body v ++ k ∷ [])
-longer_begun v k begun may room fits =
-    let more = body_more v k may (not_end v k room) in
-    subst (IsBegun programs_grammar) more (adds v (with_line v k) k begun room fits more).1
-
--- so nothing hinders the end
-pub finished : (v : ProgramLists) → IsBegun programs_grammar (body v) → (r : Result ProgramLists Many)
-    → IfOk r (λ p. p ≡ v) → IsOk r ↔ AreWithinLimits v
-    → EndsAs programs_grammar (body v) (result_ok r)
-finished v begun (Ok p) same ok = (subst IsAllowed (sym same) (allowed_of v begun), ap body same)
-finished v begun (Err m) same ok = let never = ok.1 (allowed_of v begun).within in absurd cc
+pub longer_begun : (version : Version) (v : ProgramLists) (k : Line) → v.version ≡ version
+    → IsBegun (programs_grammar version) (body v) → MayStand v k → HasRoom version v k → FitsLine version k
+    → IsBegun (programs_grammar version) (body v ++ k ∷ [])
+longer_begun version v k is begun may room fits =
+    let more = body_more v k may (not_end version v k room) in
+    subst (IsBegun (programs_grammar version)) more
+    (adds version v (with_line v k) k is (version_stays v k ∙ is) begun room fits more).1
 
 -- one that may not stand there
-pub misplaced : (v : ProgramLists) (k : Line) → (MayStand v k → ⊥) → RefusesLine programs_grammar (body v) k cause.Form
-misplaced v k h may = h (may_stand v k may)
+pub misplaced : (version : Version) (v : ProgramLists) (k : Line) → (MayStand v k → ⊥)
+    → RefusesLine (programs_grammar version) (body v) k cause.Form
+misplaced version v k h may = h (may_stand version v k may)
 
 -- and one that may, of which there are as many as may be
-pub too_many : (v : ProgramLists) (k : Line) → MayStand v k → AreMany v k
-    → RefusesLine programs_grammar (body v) k cause.Many
-too_many v k may many = (stand_may v k may, are_full v k many)
+pub too_many : (version : Version) (v : ProgramLists) (k : Line) → MayStand v k → AreMany version v k
+    → RefusesLine (programs_grammar version) (body v) k cause.Many
+too_many version v k may many = (stand_may version v k may, are_full version v k many)
+
+-- ---- the version that programs need
+
+-- what may stand in the first version is told by it
+told_commands : (cs : List Command) (rest : List Line)
+    → AllByRecursion (FitsLine V1) (map line.Command cs ++ rest)
+    → (list_any is_hangup cs ≡ false) × AllByRecursion (FitsLine V1) rest
+told_commands [] rest h = (refl, h)
+told_commands (c ∷ cs) rest h = let more = told_commands cs rest h.1 in (rw (h.0.1, more.0) refl, more.1)
+
+told_programs : (n : ℕ) (ps : List (List Command)) → AllByRecursion (FitsLine V1) (program_lines n ps)
+    → list_any (list_any is_hangup) ps ≡ false
+told_programs n [] h = refl
+told_programs n (p ∷ ps) h =
+    let own = told_commands p (program_lines (n + 1) ps) h.1 in
+    rw (own.0, told_programs (n + 1) ps own.1) refl
+
+told_behind : (ds : List DriverSpec) (rest : List Line) → AllByRecursion (FitsLine V1) (map line.Driver ds ++ rest)
+    → AllByRecursion (FitsLine V1) rest
+told_behind [] rest h = h
+told_behind (d ∷ ds) rest h = told_behind ds rest h.1
+
+pub least_is_first : (v : ProgramLists) → IsAllowed V1 v → least_of_programs v.drivers v.programs ≡ V1
+least_is_first v allowed =
+    let few : are_more_drivers v.drivers ≡ false =
+    false_from_ne_true (are_more_drivers v.drivers)
+    (λ more. omega (arith, ltb-true MAX_DRIVERS_OF_VERSION_1 (length v.drivers) more, allowed.drivers)) in
+    let none =
+    told_programs 0 v.programs (told_behind v.drivers (program_lines 0 v.programs) allowed.fits) in
+    rw (few, none) refl
+
+-- so nothing hinders the end
+pub within_limits : (version : Version) (v : ProgramLists) → IsAllowed version v → AreWithinLimits v
+within_limits V1 v allowed = record {
+  drivers = omega (arith, allowed.drivers);
+  programs = allowed.programs;
+  commands = allowed.commands;
+  version = λ first. least_is_first v allowed;
+}
+within_limits V2 v allowed = record {
+  drivers = allowed.drivers;
+  programs = allowed.programs;
+  commands = allowed.commands;
+  version = λ first. absurd (cc (sym first ∙ allowed.version_is));
+}

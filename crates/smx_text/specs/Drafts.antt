@@ -1,7 +1,8 @@
 -- What was read so far, and what holds of it. No public clause needs this.
-use Rattle.std.specs.Prelude.{◌≡◌, Bool, true, false, ◌&&◌, ◌==◌, List, [], ◌∷◌, ◌++◌, length, map}
+use Rattle.std.specs.Prelude.{◌≡◌, ◌≤◌, Bool, true, false, ◌&&◌, ◌==◌, List, [], ◌∷◌, ◌++◌, length, map}
 use Rattle.std.specs.List.{sum_by}
-use Rattle.smx_types.specs.ProgramLists.{AreWithinLimits, program_lists}
+use Rattle.smx_types.specs.Versions.{most_drivers}
+use Rattle.smx_types.specs.declared.limits.TheConstants.{MAX_COMMANDS, MAX_PROCESSES}
 use Rattle.smx_types.specs.declared.view.ConfigView.{ConfigView}
 use Rattle.smx_text.specs.declared.programs.draft.ProgramsDraft.TheInside.{Inside}
 use Rattle.smx_text.specs.declared.transcript.draft.Stage.{Stage}
@@ -11,9 +12,11 @@ use Rattle.smx_text.specs.TranscriptLines.{TranscriptLine}
 use Rattle.smx_text.specs.TranscriptLines as line
 use Rattle.smx_text.specs.TranscriptText.{view_body}
 
--- programs within the limits, whose commands are counted
+-- programs within the limits of their version, whose commands are counted
 pub record IsCounted (d : Inside) : Type 0 where
-  pub within : AreWithinLimits (program_lists d.drivers.items d.programs.items)
+  pub drivers : length d.drivers.items ≤ most_drivers d.version
+  pub programs : length d.programs.items ≤ MAX_PROCESSES
+  pub commands : sum_by length d.programs.items ≤ MAX_COMMANDS
   pub count : d.count ≡ sum_by length d.programs.items
 
 -- the lines of a transcript behind its entries, as far as they were read
@@ -34,9 +37,13 @@ is_view stage.History = false
 is_view stage.Config = false
 is_view stage.View = true
 
--- a full place may come: it is of the last group
+-- a hung-up stream may come: it is of the last group
+abbrev pub takes_hungs : TranscriptDraft → Bool
+takes_hungs d = is_view d.stage
+
+-- a full place may come: no line of a later group came
 abbrev pub takes_fulls : TranscriptDraft → Bool
-takes_fulls d = is_view d.stage
+takes_fulls d = takes_hungs d && (length d.transcript.view.hungs == 0)
 
 -- a message may come: no line of a later group came
 abbrev pub takes_msgs : TranscriptDraft → Bool

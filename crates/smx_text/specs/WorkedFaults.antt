@@ -1,22 +1,22 @@
 -- Worked faults: texts that no value has, and where they go wrong.
-use Rattle.std.specs.Prelude.{ℕ, zero, suc, List, [], ◌++◌, codes}
+use Rattle.std.specs.Prelude.{ℕ, zero, suc, List, [], ◌++◌, codes, Err}
 use Rattle.std.specs.Fmt.{decimal}
 use Rattle.smx_types.specs.ProgramLists.{ProgramLists}
 use Rattle.smx_types.specs.declared.transcript.Transcript.{Transcript}
 use Rattle.smx_text.specs.declared.fault.Cause.{Cause}
-use Rattle.smx_text.specs.Grammar.{IsFault}
+use Rattle.smx_text.specs.Grammar.{ReadsAny}
 use Rattle.smx_text.specs.ProgramsText.{SpellsPrograms, programs_grammar}
 use Rattle.smx_text.specs.TranscriptText.{SpellsTranscript, transcript_grammar}
 
 -- they go wrong at this line for this cause, and spell no programs
 abbrev pub AreWrongPrograms : List ℕ → ℕ → Cause → Type 0
 AreWrongPrograms bytes line why =
-    IsFault programs_grammar bytes line why × ((v : ProgramLists) → SpellsPrograms bytes v → ⊥)
+    ReadsAny programs_grammar bytes (Err (record { line = line; cause = why })) × ((v : ProgramLists) → SpellsPrograms bytes v → ⊥)
 
 -- they go wrong at this line for this cause, and spell no transcript
 abbrev pub IsWrongTranscript : List ℕ → ℕ → Cause → Type 0
 IsWrongTranscript bytes line why =
-    IsFault transcript_grammar bytes line why × ((t : Transcript) → SpellsTranscript bytes t → ⊥)
+    ReadsAny transcript_grammar bytes (Err (record { line = line; cause = why })) × ((t : Transcript) → SpellsTranscript bytes t → ⊥)
 
 -- one driver and one process, and this as line 4
 abbrev pub with_line_4 : List ℕ → List ℕ

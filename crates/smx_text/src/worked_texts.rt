@@ -39,7 +39,9 @@ pub fn wrong_commands()
 pub fn wrong_programs()
     ensures nothing { AreWrongPrograms [] 1 Cut }
     ensures cut_header { AreWrongPrograms (codes "programs 1") 1 Cut }
-    ensures version_2 { AreWrongPrograms (codes "programs 2\n") 1 Header }
+    ensures version_3 { AreWrongPrograms (codes "programs 3\n") 1 Header }
+    ensures version_2_alone { AreWrongPrograms (codes "programs 2\n") 2 Cut }
+    ensures hangup_of_version_1 { AreWrongPrograms (with_line_4 (codes "hangup ip 0")) 4 Form }
     ensures header_alone { AreWrongPrograms (codes "programs 1\n") 2 Cut }
     ensures out_of_turn { AreWrongPrograms (with_line_4 (codes "process 2")) 4 Form }
     ensures late_driver { AreWrongPrograms (with_line_4 (codes "driver eth leaf 2 8 3 16")) 4 Form }

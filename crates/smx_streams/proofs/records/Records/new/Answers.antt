@@ -1,6 +1,6 @@
 use Rattle.std.proofs.Common.{refl}
 use Rattle.smx_streams.proofs.GridLemmas.{no_keys_lengths}
-use Rattle.smx_streams.proofs.RecordLemmas.{no_holds, no_opens, none_recorded}
+use Rattle.smx_streams.proofs.RecordLemmas.{no_holds, no_hungs, no_opens, none_recorded}
 use Rattle.smx_streams.proofs.records.Records.new.Goals as goal
 
 pub invariant_of-result : goal.invariant_of-result
@@ -11,3 +11,6 @@ returns-clause-minors c = rw c.in_ok-new_keys.ensures (no_keys_lengths c.args.mi
 
 pub returns-clause-none : goal.returns-clause-none
 returns-clause-none c = λ s. (rw c.in_ok-new_keys.ensures (no_opens c.args.minors.now c.new.result s), rw c.in_ok-new_keys.ensures (no_holds c.args.minors.now c.new.result s))
+
+pub returns-clause-hungs : goal.returns-clause-hungs
+returns-clause-hungs c = λ s. rw c.in_ok-new_keys.ensures (no_hungs c.args.minors.now c.new.result s)

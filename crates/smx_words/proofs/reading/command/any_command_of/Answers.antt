@@ -1,7 +1,7 @@
 use Rattle.std.specs.Prelude.{codes}
 use Rattle.smx_words.proofs.CommandLemmas.{no_verb}
 use Rattle.smx_words.proofs.CutLemmas.{differs}
-use Rattle.smx_words.proofs.reading.command.command_of.Goals as goal
+use Rattle.smx_words.proofs.reading.command.any_command_of.Goals as goal
 
 pub returns-in-None-2-clause-reading : goal.returns-in-None-2-clause-reading
 returns-in-None-2-clause-reading c =

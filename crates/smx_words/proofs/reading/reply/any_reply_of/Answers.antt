@@ -1,5 +1,5 @@
 use Rattle.smx_words.proofs.ReplyLemmas.{standing_alone}
-use Rattle.smx_words.proofs.reading.reply.reply_of.Goals as goal
+use Rattle.smx_words.proofs.reading.reply.any_reply_of.Goals as goal
 
 pub returns-in-None-clause-reading : goal.returns-in-None-clause-reading
 returns-in-None-clause-reading c =
