@@ -10,8 +10,8 @@ use Rattle.smx_types.specs.declared.version.Version.TheVariants.{V1}
 use Rattle.smx_types.specs.declared.view.ConfigView.{ConfigView}
 use Rattle.smx_words.specs.Spelling.{driver_words, entry_words, descriptor_words, link_words, bind_words}
 use Rattle.smx_words.specs.Spelling.{route_words, message_words, full_words, hung_words}
-use Rattle.smx_words.specs.Spellable.{CanTell, FitsNumber, FitsDriver, FitsEntry, FitsEntryIn, FitsDescriptor, FitsLink}
-use Rattle.smx_words.specs.Spellable.{FitsBinding, FitsRoute, FitsMessage, FitsFull, FitsHung}
+use Rattle.smx_words.specs.Spellable.{CanTell, FitsNumber, FitsDriver, FitsEntry, FitsEntryIn, FitsDescriptor}
+use Rattle.smx_words.specs.Spellable.{FitsLink, FitsBinding, FitsRoute, FitsMessage, FitsFull, FitsHung}
 use Rattle.smx_text.specs.Grammar.{Grammar, full_text, Spells}
 use Rattle.smx_text.specs.TextVersions.{version_word}
 use Rattle.smx_text.specs.TranscriptLines.{TranscriptLine}

@@ -13,8 +13,8 @@ use smx_types::{ConfigView, DriverSpec, Entry, NoMemory, Version};
 use smx_words::{write_lines, write_next};
 use std::marker::Model;
 
-/// A transcript as far as it is written: its drivers, and the entries so far. Contracts see its bytes. Once a call has
-/// met want of memory it is of no more use.
+/// A transcript as far as it is written: its drivers, and the entries so far. Contracts see its bytes. Once a call
+/// has met want of memory it is of no more use.
 #[derive(Debug, Drop)]
 pub struct TranscriptWriter {
     text: Vec<u8>,

@@ -23,7 +23,8 @@ pub fn right_texts_of_version_2()
     ensures hangups { SpellsPrograms hangups_bytes hangups }
     ensures shortest { SpellsPrograms (codes "programs 2\nend\n") (raised (program_lists [] [])) }
     ensures told_hangups { SpellsTranscript transcript_of_hangups_bytes transcript_of_hangups }
-    ensures shortest_transcript { SpellsTranscript (codes "transcript 2\nconfig\nnext 1 1\nend\n") shortest_transcript }
+    ensures shortest_transcript { SpellsTranscript
+        (codes "transcript 2\nconfig\nnext 1 1\nend\n") shortest_transcript }
 {}
 
 /// A number has no leading zero, no sign and 32 bits; a name begins with a letter and is not too long; bytes

@@ -16,7 +16,8 @@ ghost use Rattle.smx_types.specs.declared.limits.TheConstants.{MAX_COMMANDS};
 ghost use Rattle.smx_types.specs.declared.driver.DriverSpec.{DriverSpec as AnyDriver};
 ghost use Rattle.smx_text.specs.TranscriptLines.{Driver as DriverLine, Entry as EntryLine, Config as ConfigLine};
 ghost use Rattle.smx_text.specs.TranscriptLines.{Next as NextLine, Fd as FdLine, Link as AnyLink, Bind as BindLine};
-ghost use Rattle.smx_text.specs.TranscriptLines.{Route as AnyRoute, Msg as MsgLine, Full as AnyFull, Hung as AnyHung, End};
+ghost use Rattle.smx_text.specs.TranscriptLines.{Route as AnyRoute, Msg as MsgLine, Full as AnyFull};
+ghost use Rattle.smx_text.specs.TranscriptLines.{Hung as AnyHung, End};
 
 use crate::fault::Cause;
 use crate::reading::Draft;
@@ -131,9 +132,11 @@ impl TranscriptDraft {
     // A line that is no entry.
     fn add_other(&mut self, alloc: Global, text: &[u8]) -> Result<(), Cause>
         requires begun { IsBegun (grammar_of self.old) (lines self.old) }
-        requires no_entry { (e : AnyEntry) → FitsEntryIn self.old.transcript.version e → text.now ≢ line_of (entry_words e) }
+        requires no_entry { (e : AnyEntry) → FitsEntryIn self.old.transcript.version e
+            → text.now ≢ line_of (entry_words e) }
         requires no_end { text.now ≢ line_text (grammar_of self.old) End }
-        ensures added { OnOk result (Continues (grammar_of self.old) (lines self.old) text.now (lines self.new)) }
+        ensures added { OnOk result
+            (Continues (grammar_of self.old) (lines self.old) text.now (lines self.new)) }
         ensures version { OnOk result (self.new.transcript.version ≡ self.old.transcript.version) }
         ensures refused { IfErr result (Refuses (grammar_of self.old) (lines self.old) text.now) }
     {
@@ -147,10 +150,12 @@ impl TranscriptDraft {
     // A line of one of the kinds that are short.
     fn add_plain(&mut self, alloc: Global, text: &[u8]) -> Result<(), Cause>
         requires begun { IsBegun (grammar_of self.old) (lines self.old) }
-        requires no_entry { (e : AnyEntry) → FitsEntryIn self.old.transcript.version e → text.now ≢ line_of (entry_words e) }
+        requires no_entry { (e : AnyEntry) → FitsEntryIn self.old.transcript.version e
+            → text.now ≢ line_of (entry_words e) }
         requires no_message { (m : AnyMessage) → FitsMessage m → text.now ≢ line_of (message_words m) }
         requires no_end { text.now ≢ line_text (grammar_of self.old) End }
-        ensures added { OnOk result (Continues (grammar_of self.old) (lines self.old) text.now (lines self.new)) }
+        ensures added { OnOk result
+            (Continues (grammar_of self.old) (lines self.old) text.now (lines self.new)) }
         ensures version { OnOk result (self.new.transcript.version ≡ self.old.transcript.version) }
         ensures refused { IfErr result (Refuses (grammar_of self.old) (lines self.old) text.now) }
     {
@@ -169,13 +174,15 @@ impl TranscriptDraft {
     // A line of a group of the view.
     fn add_to_group(&mut self, text: &[u8]) -> Result<(), Cause>
         requires begun { IsBegun (grammar_of self.old) (lines self.old) }
-        requires no_entry { (e : AnyEntry) → FitsEntryIn self.old.transcript.version e → text.now ≢ line_of (entry_words e) }
+        requires no_entry { (e : AnyEntry) → FitsEntryIn self.old.transcript.version e
+            → text.now ≢ line_of (entry_words e) }
         requires no_message { (m : AnyMessage) → FitsMessage m → text.now ≢ line_of (message_words m) }
         requires no_driver { (d : AnyDriver) → FitsDriver d → text.now ≢ line_of (driver_words d) }
         requires no_config { text.now ≢ line_text (grammar_of self.old) ConfigLine }
         requires no_next { (n : ℕ × ℕ) → FitsNext n → text.now ≢ line_of (next_words n) }
         requires no_end { text.now ≢ line_text (grammar_of self.old) End }
-        ensures added { OnOk result (Continues (grammar_of self.old) (lines self.old) text.now (lines self.new)) }
+        ensures added { OnOk result
+            (Continues (grammar_of self.old) (lines self.old) text.now (lines self.new)) }
         ensures version { OnOk result (self.new.transcript.version ≡ self.old.transcript.version) }
         ensures refused { IfErr result (Refuses (grammar_of self.old) (lines self.old) text.now) }
     {
@@ -210,7 +217,8 @@ impl TranscriptDraft {
         ensures added { OnOk result
             (AddsLine (grammar_of self.old) (lines self.old) (DriverLine driver) (lines self.new)) }
         ensures version { OnOk result (self.new.transcript.version ≡ self.old.transcript.version) }
-        ensures refused { IfErr result (RefusesLine (grammar_of self.old) (lines self.old) (DriverLine driver)) }
+        ensures refused { IfErr result
+            (RefusesLine (grammar_of self.old) (lines self.old) (DriverLine driver)) }
     {
         if self.stage != Stage::History || !self.transcript.entries.as_slice().is_empty() {
             return Err(Cause::Form);
@@ -225,7 +233,8 @@ impl TranscriptDraft {
     fn add_entry(&mut self, entry: Entry) -> Result<(), Cause>
         requires begun { IsBegun (grammar_of self.old) (lines self.old) }
         requires fits { FitsEntryIn self.old.transcript.version entry }
-        ensures added { OnOk result (AddsLine (grammar_of self.old) (lines self.old) (EntryLine entry) (lines self.new)) }
+        ensures added { OnOk result
+            (AddsLine (grammar_of self.old) (lines self.old) (EntryLine entry) (lines self.new)) }
         ensures version { OnOk result (self.new.transcript.version ≡ self.old.transcript.version) }
         ensures refused { IfErr result (RefusesLine (grammar_of self.old) (lines self.old) (EntryLine entry)) }
     {
@@ -237,7 +246,8 @@ impl TranscriptDraft {
     // Why an entry is refused for which there is no memory.
     fn entry_unread(&self) -> Cause
         requires begun { IsBegun (grammar_of self.now) (lines self.now) }
-        ensures { (e : AnyEntry) → FitsEntryIn self.now.transcript.version e → RefusesLine (grammar_of self.now) (lines self.now) (EntryLine e) result }
+        ensures { (e : AnyEntry) → FitsEntryIn self.now.transcript.version e
+            → RefusesLine (grammar_of self.now) (lines self.now) (EntryLine e) result }
     {
         match self.room_for_entry() {
             Ok(()) => Cause::NoMemory,
@@ -264,7 +274,8 @@ impl TranscriptDraft {
     // The configuration comes behind the entries.
     fn add_config(&mut self) -> Result<(), Cause>
         requires begun { IsBegun (grammar_of self.old) (lines self.old) }
-        ensures added { OnOk result (AddsLine (grammar_of self.old) (lines self.old) ConfigLine (lines self.new)) }
+        ensures added { OnOk result
+            (AddsLine (grammar_of self.old) (lines self.old) ConfigLine (lines self.new)) }
         ensures version { OnOk result (self.new.transcript.version ≡ self.old.transcript.version) }
         ensures refused { IfErr result (RefusesLine (grammar_of self.old) (lines self.old) ConfigLine) }
     {
@@ -295,7 +306,8 @@ impl TranscriptDraft {
     fn add_fd(&mut self, fd: DescriptorLine) -> Result<(), Cause>
         requires begun { IsBegun (grammar_of self.old) (lines self.old) }
         requires fits { FitsDescriptor fd }
-        ensures added { OnOk result (AddsLine (grammar_of self.old) (lines self.old) (FdLine fd) (lines self.new)) }
+        ensures added { OnOk result
+            (AddsLine (grammar_of self.old) (lines self.old) (FdLine fd) (lines self.new)) }
         ensures version { OnOk result (self.new.transcript.version ≡ self.old.transcript.version) }
         ensures refused { IfErr result (RefusesLine (grammar_of self.old) (lines self.old) (FdLine fd)) }
     {
@@ -309,7 +321,8 @@ impl TranscriptDraft {
     fn add_link(&mut self, link: LinkLine) -> Result<(), Cause>
         requires begun { IsBegun (grammar_of self.old) (lines self.old) }
         requires fits { FitsLink link }
-        ensures added { OnOk result (AddsLine (grammar_of self.old) (lines self.old) (AnyLink link) (lines self.new)) }
+        ensures added { OnOk result
+            (AddsLine (grammar_of self.old) (lines self.old) (AnyLink link) (lines self.new)) }
         ensures version { OnOk result (self.new.transcript.version ≡ self.old.transcript.version) }
         ensures refused { IfErr result (RefusesLine (grammar_of self.old) (lines self.old) (AnyLink link)) }
     {
@@ -323,7 +336,8 @@ impl TranscriptDraft {
     fn add_bind(&mut self, bind: BindingLine) -> Result<(), Cause>
         requires begun { IsBegun (grammar_of self.old) (lines self.old) }
         requires fits { FitsBinding bind }
-        ensures added { OnOk result (AddsLine (grammar_of self.old) (lines self.old) (BindLine bind) (lines self.new)) }
+        ensures added { OnOk result
+            (AddsLine (grammar_of self.old) (lines self.old) (BindLine bind) (lines self.new)) }
         ensures version { OnOk result (self.new.transcript.version ≡ self.old.transcript.version) }
         ensures refused { IfErr result (RefusesLine (grammar_of self.old) (lines self.old) (BindLine bind)) }
     {
@@ -337,7 +351,8 @@ impl TranscriptDraft {
     fn add_route(&mut self, route: RouteLine) -> Result<(), Cause>
         requires begun { IsBegun (grammar_of self.old) (lines self.old) }
         requires fits { FitsRoute route }
-        ensures added { OnOk result (AddsLine (grammar_of self.old) (lines self.old) (AnyRoute route) (lines self.new)) }
+        ensures added { OnOk result
+            (AddsLine (grammar_of self.old) (lines self.old) (AnyRoute route) (lines self.new)) }
         ensures version { OnOk result (self.new.transcript.version ≡ self.old.transcript.version) }
         ensures refused { IfErr result (RefusesLine (grammar_of self.old) (lines self.old) (AnyRoute route)) }
     {
@@ -351,7 +366,8 @@ impl TranscriptDraft {
     fn add_message(&mut self, message: MessageLine) -> Result<(), Cause>
         requires begun { IsBegun (grammar_of self.old) (lines self.old) }
         requires fits { FitsMessage message }
-        ensures added { OnOk result (AddsLine (grammar_of self.old) (lines self.old) (MsgLine message) (lines self.new)) }
+        ensures added { OnOk result
+            (AddsLine (grammar_of self.old) (lines self.old) (MsgLine message) (lines self.new)) }
         ensures version { OnOk result (self.new.transcript.version ≡ self.old.transcript.version) }
         ensures refused { IfErr result (RefusesLine (grammar_of self.old) (lines self.old) (MsgLine message)) }
     {
@@ -378,7 +394,8 @@ impl TranscriptDraft {
     fn add_full(&mut self, full: FullLine) -> Result<(), Cause>
         requires begun { IsBegun (grammar_of self.old) (lines self.old) }
         requires fits { FitsFull full }
-        ensures added { OnOk result (AddsLine (grammar_of self.old) (lines self.old) (AnyFull full) (lines self.new)) }
+        ensures added { OnOk result
+            (AddsLine (grammar_of self.old) (lines self.old) (AnyFull full) (lines self.new)) }
         ensures version { OnOk result (self.new.transcript.version ≡ self.old.transcript.version) }
         ensures refused { IfErr result (RefusesLine (grammar_of self.old) (lines self.old) (AnyFull full)) }
     {
@@ -393,7 +410,8 @@ impl TranscriptDraft {
         requires begun { IsBegun (grammar_of self.old) (lines self.old) }
         requires fits { FitsHung hung }
         requires told { CanTell self.old.transcript.version true }
-        ensures added { OnOk result (AddsLine (grammar_of self.old) (lines self.old) (AnyHung hung) (lines self.new)) }
+        ensures added { OnOk result
+            (AddsLine (grammar_of self.old) (lines self.old) (AnyHung hung) (lines self.new)) }
         ensures version { OnOk result (self.new.transcript.version ≡ self.old.transcript.version) }
         ensures refused { IfErr result (RefusesLine (grammar_of self.old) (lines self.old) (AnyHung hung)) }
     {
