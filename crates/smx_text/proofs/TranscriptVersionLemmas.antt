@@ -21,7 +21,15 @@ AreToldEntries version es = AllByRecursion (λ e. CanTell version (is_of_hangup 
 abbrev pub AreToldHungs : Version → List HungLine → Type 0
 AreToldHungs version hs = AllByRecursion (λ h. CanTell version true) hs
 
--- version 2 can tell all
+-- version 1 can tell of no hangup, and version 2 of each
+pub first_tells_none : (version : Version) → version ≡ V1 → CanTell version true → ⊥
+first_tells_none V1 is h = absurd (cc h)
+first_tells_none V2 is h = absurd (cc is)
+
+pub second_tells : (version : Version) (hangup : Bool) → version ≡ V2 → CanTell version hangup
+second_tells V1 hangup is = absurd (cc is)
+second_tells V2 hangup is = tt
+
 each_entry : (es : List Entry) → AreToldEntries V2 es
 each_entry [] = tt
 each_entry (e ∷ es) = (tt, each_entry es)
