@@ -16,7 +16,7 @@ use Rattle.smx_words.specs.LineReading.{IsReadAs}
 use Rattle.smx_words.specs.Words.{line_of}
 use Rattle.smx_words.specs.Spelling.{driver_words, entry_words, descriptor_words, link_words, bind_words}
 use Rattle.smx_words.specs.Spelling.{route_words, message_words, full_words, hung_words, next_words}
-use Rattle.smx_words.specs.Spellable.{CanTell, FitsDriver, FitsEntryIn, FitsDescriptor, FitsLink, FitsBinding}
+use Rattle.smx_words.specs.Spellable.{FitsDriver, FitsEntryIn, FitsDescriptor, FitsLink, FitsBinding}
 use Rattle.smx_words.specs.Spellable.{FitsRoute, FitsMessage, FitsFull, FitsHung, FitsNext}
 use Rattle.smx_words.proofs.DecidedCommandLemmas.{entry_reading}
 use Rattle.smx_words.proofs.DecidedLineLemmas.{driver_reading, next_reading, descriptor_reading}
@@ -31,16 +31,12 @@ use Rattle.smx_text.specs.Drafts.{grammar_of, lines, is_view}
 use Rattle.smx_text.specs.Grammar.{IsBegun, IsNoLine, line_text}
 use Rattle.smx_text.specs.TranscriptLines.{TranscriptLine}
 use Rattle.smx_text.specs.TranscriptLines as line
-use Rattle.smx_text.specs.TranscriptText.{FitsLine, transcript_grammar}
+use Rattle.smx_text.specs.TranscriptText.{FitsHungIn, FitsLine, transcript_grammar}
 use Rattle.smx_words.proofs.DecidedLemmas.{same_or_not}
 use Rattle.smx_text.proofs.HasReadingLemmas.{Decision, HasReading, has_reading}
 use Rattle.smx_text.proofs.TranscriptDrafts.{takes, is_full}
 use Rattle.smx_text.proofs.TranscriptGrammarLemmas.{refused_line, not_at_end, well_made, no_line}
 use Rattle.smx_text.proofs.TranscriptLemmas.{misplaced, too_many, longer_begun, whole, begun_is_draft, nothing_begun}
-
--- it can be spelled, and told in this version
-abbrev FitsHungIn : Version → HungLine → Type 0
-FitsHungIn version h = FitsHung h × CanTell version true
 
 told_entry_reading : (version : Version) (text : List ℕ)
     → (o : Option Entry) × IsReadAs (FitsEntryIn version) entry_words text o
