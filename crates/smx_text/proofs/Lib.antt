@@ -6,6 +6,7 @@ pub mod LineLemmas
 pub mod GrammarLemmas
 pub mod HasReadingLemmas
 pub mod MemoryLemmas
+pub mod VersionLemmas
 pub mod ProgramsOrderLemmas
 pub mod ProgramsFollowLemmas
 pub mod ProgramsValueLemmas

@@ -1,12 +1,9 @@
 -- What a reader does with a line behind those of some programs.
-use Rattle.std.proofs.Common.{◌≡◌, ◌≢◌, ℕ, ◌+◌, ◌<◌, [], ◌∷◌, ◌++◌, length, sym, ap, subst, arith, List, ◌≤◌, ◌∙◌, map, refl, false}
+use Rattle.std.proofs.Common.{◌≡◌, ◌≢◌, ℕ, ◌+◌, ◌<◌, [], ◌∷◌, ◌++◌, length, sym, ap, subst, arith, List, ◌≤◌, ◌∙◌, map, refl, false, Some}
 use Rattle.std.specs.List.{sum_by, AllByRecursion, list_any}
-use Rattle.std.specs.Prelude.{◌↔◌, Result, Ok, Err, IfOk, IsOk}
-use Rattle.std.specs.Result.{result_ok}
-use Rattle.smx_types.specs.declared.programs.Many.{Many}
 use Rattle.std.proofs.lemmas.List.{append-nil}
 use Rattle.std.proofs.lemmas.List.Sums.{sum_by-append, sum_by-cons}
-use Rattle.smx_types.specs.ProgramLists.{ProgramLists, AreWithinLimits}
+use Rattle.smx_types.specs.ProgramLists.{ProgramLists, AreWithinLimits, program_lists, raised}
 use Rattle.smx_types.specs.declared.limits.TheConstants.{MAX_DRIVERS_OF_VERSION_1, MAX_PROCESSES, MAX_COMMANDS}
 use Rattle.smx_text.specs.Grammar.{IsBegun}
 use Rattle.smx_text.specs.ProgramLines.{Line}
@@ -156,3 +153,24 @@ within_limits V2 v allowed = record {
   commands = allowed.commands;
   version = λ first. absurd (cc (sym first ∙ allowed.version_is));
 }
+
+-- these programs in their version are those that were read
+same_in : (version : Version) (v w : ProgramLists) → v.version ≡ version → IsAllowed version v
+    → (version ≡ V1 → w ≡ program_lists v.drivers v.programs)
+    → (version ≡ V2 → w ≡ raised (program_lists v.drivers v.programs)) → w ≡ v
+same_in V1 v w is allowed first second =
+    first refl
+    ∙ ap (λ (n : Version). record { version = n; drivers = v.drivers; programs = v.programs })
+    (least_is_first v allowed ∙ sym is)
+same_in V2 v w is allowed first second =
+    second refl
+    ∙ ap (λ (n : Version). record { version = n; drivers = v.drivers; programs = v.programs }) (sym is)
+
+pub finished : (v w : ProgramLists) → IsBegun (programs_grammar v.version) (body v)
+    → (v.version ≡ V1 → w ≡ program_lists v.drivers v.programs)
+    → (v.version ≡ V2 → w ≡ raised (program_lists v.drivers v.programs))
+    → EndsAs (programs_grammar v.version) (body v) (Some w)
+finished v w begun first second =
+    let own = allowed_of v.version v refl begun in
+    let same = same_in v.version v w refl own first second in
+    (subst (IsAllowed v.version) (sym same) own, ap body same)

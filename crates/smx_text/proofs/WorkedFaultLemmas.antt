@@ -5,8 +5,6 @@ use Rattle.std.specs.List.{AllByRecursion}
 use Rattle.smx_text.specs.declared.fault.Cause.{Cause}
 use Rattle.smx_text.specs.declared.fault.Cause.TheVariants as cause
 use Rattle.smx_text.specs.declared.fault.TextFault.{TextFault}
-use Rattle.std.specs.Str.{bytes_eq}
-use Rattle.std.proofs.lemmas.Slice.Eq.{bytes_eq-Decides}
 use Rattle.smx_words.specs.Words.{AreWords, IsFree, SPACE, line_of}
 use Rattle.smx_words.proofs.LineLemmas.{same_free_words, words_free}
 use Rattle.smx_text.specs.Grammar.{Grammar, IsFault, Spells}
@@ -32,10 +30,3 @@ wrong {V} g made bytes line why other fault = (
 pub told : (ws vs : List (List ℕ)) → AllByRecursion (IsFree SPACE) ws × (0 < length ws) → AreWords vs
     → line_of ws ≡ line_of vs → ws ≡ vs
 told ws vs h k e = same_free_words ws vs h.0 (words_free SPACE (omega arith) vs k.0) h.1 k.1 e
-
--- bytes that a test tells apart
-pub differ : (w v : List ℕ) → bytes_eq w v ≡ false → w ≢ v
-differ w v other e =
-    let same = (bytes_eq-Decides w v).1 e in
-    let bad : true ≡ false = sym same ∙ other in
-    absurd (cc bad)

@@ -13,8 +13,8 @@ use smx_types::{ConfigView, DriverSpec, Entry, NoMemory, Version};
 use smx_words::{write_lines, write_next};
 use std::marker::Model;
 
-/// A transcript as far as it is written: its drivers, and the entries so far. Contracts see its bytes. Once a call has
-/// met want of memory it is of no more use.
+/// A transcript as far as it is written: its drivers, and the entries so far. Contracts see its bytes. Once a call
+/// has met want of memory it is of no more use.
 #[derive(Debug, Drop)]
 pub struct TranscriptWriter {
     text: Vec<u8>,
@@ -29,8 +29,8 @@ impl Model for TranscriptWriter {
 }
 
 impl TranscriptWriter {
-    /// A text of this version, of these drivers and no entry yet, in the room of a vector whose bytes are no longer wanted. Fails only for want of
-    /// memory.
+    /// A text of this version, of these drivers and no entry yet, in the room of a vector whose bytes are no longer
+    /// wanted. Fails only for want of memory.
     pub fn begin(
         room: Vec<u8>,
         version: Version,
@@ -51,7 +51,8 @@ impl TranscriptWriter {
     /// These entries more, behind those so far. Fails only for want of memory.
     pub fn add(&mut self, entries: &[Entry]) -> Result<(), NoMemory>
         ensures { OnOk result ((version : AnyVersion) (drivers : List AnyDriver) (before : List AnyEntry)
-            → BeginsTranscript version drivers before self.old → BeginsTranscript version drivers (before ++ entries.now) self.new) }
+            → BeginsTranscript version drivers before self.old
+            → BeginsTranscript version drivers (before ++ entries.now) self.new) }
     {
         write_lines(&mut self.text, entries)?;
         Ok(())
@@ -60,10 +61,12 @@ impl TranscriptWriter {
     /// The one text of the transcript, whose configuration at its end is shown so. Fails only for want of memory.
     pub fn finish(self, view: &ConfigView) -> Result<Vec<u8>, NoMemory>
         ensures written { IfOk result (λ v. (version : AnyVersion) (drivers : List AnyDriver) (entries : List AnyEntry)
-            → BeginsTranscript version drivers entries self → v.items ≡ transcript_text (transcript_with version drivers entries view.now)) }
-        // So what is written is read again, where the transcript is within the limits.
+            → BeginsTranscript version drivers entries self
+            → v.items ≡ transcript_text (transcript_with version drivers entries view.now)) }
+        // So what is written is read again, where the transcript is within the limits and its version can tell it.
         ensures spellable { OnOk result ((version : AnyVersion) (drivers : List AnyDriver) (entries : List AnyEntry)
-            → BeginsTranscript version drivers entries self → IsSpellable (transcript_with version drivers entries view.now)) }
+            → BeginsTranscript version drivers entries self
+            → IsSpellable (transcript_with version drivers entries view.now)) }
     {
         let mut text = self.text;
         text.extend_from_slice(b"config\n")?;
