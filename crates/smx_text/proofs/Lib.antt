@@ -15,6 +15,7 @@ pub mod ProgramsGrammarLemmas
 pub mod ProgramsDecidedLemmas
 pub mod TranscriptDrafts
 pub mod TranscriptDraftLemmas
+pub mod TranscriptVersionLemmas
 pub mod TranscriptWholeLemmas
 pub mod TranscriptFollowLemmas
 pub mod TranscriptLemmas
