@@ -27,3 +27,4 @@ pub mod WorkedFaultLemmas
 pub mod WrongCommandLemmas
 pub mod WrongProgramLemmas
 pub mod WrongTranscriptLemmas
+pub mod WrongCountLemmas

@@ -30,6 +30,7 @@ pub second_tells : (version : Version) (hangup : Bool) → version ≡ V2 → Ca
 second_tells V1 hangup is = absurd (cc is)
 second_tells V2 hangup is = tt
 
+-- so it can tell all
 each_entry : (es : List Entry) → AreToldEntries V2 es
 each_entry [] = tt
 each_entry (e ∷ es) = (tt, each_entry es)
@@ -40,11 +41,11 @@ each_hung (h ∷ hs) = (tt, each_hung hs)
 
 -- ---- version 1 can tell what needs no later one
 
-neither : (a b : Bool) → (a || b) ≡ false → (a ≡ false) × (b ≡ false)
+pub neither : (a b : Bool) → (a || b) ≡ false → (a ≡ false) × (b ≡ false)
 neither true b h = absurd cc
 neither false b h = (refl, h)
 
-is_first : (b : Bool) → version_2_where b ≡ V1 → b ≡ false
+pub is_first : (b : Bool) → version_2_where b ≡ V1 → b ≡ false
 is_first true h = absurd cc
 is_first false h = refl
 
@@ -78,6 +79,9 @@ pub few_drivers : (ds : List DriverSpec) → length ds ≤ most_drivers V1 → a
 few_drivers ds few =
     false_from_ne_true (are_more_drivers ds)
     (λ more. omega (arith, ltb-true MAX_DRIVERS_OF_VERSION_1 (length ds) more, few))
+
+pub not_more : (ds : List DriverSpec) → are_more_drivers ds ≡ false → length ds ≤ most_drivers V1
+not_more ds few = grind (arith, nat_tests)
 
 no_hangup : (es : List Entry) → AreToldEntries V1 es → list_any is_of_hangup es ≡ false
 no_hangup [] h = refl
