@@ -15,6 +15,7 @@ pub mod ProgramsGrammarLemmas
 pub mod ProgramsDecidedLemmas
 pub mod TranscriptDrafts
 pub mod TranscriptDraftLemmas
+pub mod TranscriptVersionLemmas
 pub mod TranscriptWholeLemmas
 pub mod TranscriptFollowLemmas
 pub mod TranscriptLemmas
@@ -26,3 +27,4 @@ pub mod WorkedFaultLemmas
 pub mod WrongCommandLemmas
 pub mod WrongProgramLemmas
 pub mod WrongTranscriptLemmas
+pub mod WrongCountLemmas

@@ -1,13 +1,15 @@
 //! A transcript that is written while its history grows, so that no entry is kept for it.
 
-ghost use Rattle.std.specs.Prelude.{◌≡◌, ◌++◌, [], List, map, IfOk, OnOk};
+ghost use Rattle.std.specs.Prelude.{◌≡◌, ◌∷◌, ◌++◌, [], List, map, IfOk, OnOk};
 ghost use Rattle.smx_types.specs.declared.command.Entry.{Entry as AnyEntry};
 ghost use Rattle.smx_types.specs.declared.driver.DriverSpec.{DriverSpec as AnyDriver};
 ghost use Rattle.smx_types.specs.declared.version.Version.{Version as AnyVersion};
+ghost use Rattle.smx_text.specs.Grammar.{header};
 ghost use Rattle.smx_text.specs.GrowingTranscripts.{transcript_with, BeginsTranscript};
-ghost use Rattle.smx_text.specs.TranscriptText.{transcript_text, view_body, IsSpellable, IsSpellableView};
+ghost use Rattle.smx_text.specs.TranscriptText.{transcript_grammar, transcript_text, view_body};
+ghost use Rattle.smx_text.specs.TranscriptText.{IsSpellable, IsSpellableView};
 ghost use Rattle.smx_text.specs.TranscriptText.{line_words as view_words};
-ghost use Rattle.smx_words.specs.Words.{text_of};
+ghost use Rattle.smx_words.specs.Words.{LINE_FEED, text_of};
 
 use smx_types::{ConfigView, DriverSpec, Entry, NoMemory, Version};
 use smx_words::{write_lines, write_next};
@@ -40,10 +42,7 @@ impl TranscriptWriter {
     {
         let mut text = room;
         text.clear();
-        text.extend_from_slice(match version {
-            Version::V1 => b"transcript 1\n",
-            Version::V2 => b"transcript 2\n",
-        })?;
+        text.extend_from_slice(first_line(version))?;
         write_lines(&mut text, drivers)?;
         Ok(TranscriptWriter { text })
     }
@@ -73,6 +72,16 @@ impl TranscriptWriter {
         write_view(&mut text, view)?;
         text.extend_from_slice(b"end\n")?;
         Ok(text)
+    }
+}
+
+// The header, with its line feed.
+fn first_line(version: Version) -> &'static [u8]
+    ensures { result.now ≡ header (transcript_grammar version) ++ LINE_FEED ∷ [] }
+{
+    match version {
+        Version::V1 => b"transcript 1\n",
+        Version::V2 => b"transcript 2\n",
     }
 }
 
