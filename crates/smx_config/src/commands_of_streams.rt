@@ -106,6 +106,7 @@ fn close_shared(
     ensures drivers { sizes_of lists.new ≡ sizes_of lists.old }
 {
     idle_changes_drop_none();
+    lists.streams.is_sound();
     let _stays = lists.streams.close_fd(process, fd);
     tells_existing(drivers, lists);
     Reply::Done {

@@ -1,5 +1,5 @@
 -- Which streams have hung up after a change of their records.
-use Rattle.std.proofs.Common.{◌≡◌, ℕ, ◌+◌, ◌<◌, Bool, true, false, ◌&&◌, ◌||◌, not, List, [], ◌∷◌, filter, if◌then◌else◌, refl, sym, ap, ◌∙◌, arith, inl, inr}
+use Rattle.std.proofs.Common.{◌≡◌, ℕ, ◌+◌, ◌<◌, Bool, true, false, ◌&&◌, ◌||◌, not, List, [], ◌∷◌, filter, if◌then◌else◌, refl, sym, ap, subst, ◌∙◌, arith, inl, inr}
 use Rattle.std.specs.Prelude.{nat_lt}
 use Rattle.std.proofs.lemmas.Bool.{cases_Bool, false≢true, lt-ltb, or_cases, or_left, or_right}
 use Rattle.std.proofs.lemmas.Bool.Decides.{nat_tests}
@@ -95,6 +95,12 @@ each_same u v s o h set x = flag_tells v.hungs x ∙ set.hungs_now x ∙ elim (c
 
 pub hung_same : MakeTheList → (u v : Uses) (s : StreamId) (o h : ℕ) → AreSet u s o h (flag_at u.hungs s) v → hungs_from 0 v.hungs ≡ hungs_from 0 u.hungs
 hung_same law u v s o h set = law.same (hungs_from 0 v.hungs) (hungs_from 0 u.hungs) (hungs_rise 0 v.hungs) (hungs_rise 0 u.hungs) (each_same u v s o h set)
+
+-- so it is with one hold more
+pub hung_still : MakeTheList → (u v : Uses) (s : StreamId) (o h : ℕ) → AreSet u s o (h + 1) (nat_lt 0 (o + (h + 1)) && flag_at u.hungs s) v → hungs_from 0 v.hungs ≡ hungs_from 0 u.hungs
+hung_still law u v s o h set = hung_same law u v s o (h + 1) (subst (λ (b : Bool). AreSet u s o (h + 1) b v) (counted (flag_at u.hungs s)) set) where
+  counted : (f : Bool) → (nat_lt 0 (o + (h + 1)) && f) ≡ f
+  counted f = rw (lt-ltb 0 (o + (h + 1)) (omega arith)) refl
 
 -- and where it is set, one more has hung up
 each_now : (u v : Uses) (s : StreamId) (o h : ℕ) → AreSet u s o h true v → (x : StreamId) → is_hung (hungs_from 0 v.hungs) x ≡ (same_stream x s || is_hung (hungs_from 0 u.hungs) x)

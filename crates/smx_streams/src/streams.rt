@@ -301,7 +301,8 @@ impl Streams {
     pub fn hold(&mut self, stream: StreamId)
         requires there { exists self.old stream ≡ true }
         requires few { number_at self.old.holds stream < 1024 }
-        ensures { HasHolds self.old stream (number_at self.old.holds stream + 1) self.new }
+        ensures rest { HasHolds self.old stream (number_at self.old.holds stream + 1) self.new }
+        ensures hungs { self.new.hungs ≡ self.old.hungs }
     {
         hung_up_streams_make_the_list();
         self.records.is_sound();

@@ -1,5 +1,4 @@
-use Rattle.std.proofs.Common.{◌≡◌, ℕ, ◌<◌, true, length, sym, ap, ◌∙◌, arith}
-use Rattle.smx_model.specs.Hangups.{is_hung}
+use Rattle.std.proofs.Common.{sym, ◌∙◌, arith}
 use Rattle.smx_streams.specs.HungRows.{hungs_from}
 use Rattle.smx_streams.proofs.HungNextLemmas.{found, next_driver, no_driver_left, passed}
 use Rattle.smx_streams.proofs.HungRowLemmas.{flag_tells, hungs_rise, stream}
@@ -15,10 +14,9 @@ loop-minors-preserved-then-number-minors c =
 
 pub returns-then-is_hung : goal.returns-then-is_hung
 returns-then-is_hung c =
-    let u = c.args.records.now in
-    (
+    let u = c.args.records.now in (
       c.loop-minors.invariant
-      ∙ found c.loop-minors.at c.loop-minors.number (hungs_from 0 u.hungs) (hungs_rise 0 u.hungs) (flag_tells u.hungs (stream c.loop-minors.at c.loop-minors.number) ∙ sym c.is_hung.ensures ∙ c.if-is_hung.true),
+          ∙ found c.loop-minors.at c.loop-minors.number (hungs_from 0 u.hungs) (hungs_rise 0 u.hungs) (flag_tells u.hungs (stream c.loop-minors.at c.loop-minors.number) ∙ sym c.is_hung.ensures ∙ c.if-is_hung.true),
       omega arith,
     )
 
