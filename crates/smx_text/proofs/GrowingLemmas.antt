@@ -9,8 +9,8 @@ use Rattle.smx_types.specs.declared.driver.DriverSpec.{DriverSpec}
 use Rattle.smx_types.specs.declared.view.ConfigView.{ConfigView}
 use Rattle.smx_words.specs.Spelling.{driver_words, entry_words}
 use Rattle.smx_words.specs.Spellable.{FitsDriver, FitsEntry}
-use Rattle.smx_words.specs.Words.{text_of}
-use Rattle.smx_text.specs.Grammar.{beginning}
+use Rattle.smx_words.specs.Words.{LINE_FEED, text_of}
+use Rattle.smx_text.specs.Grammar.{beginning, header}
 use Rattle.smx_text.specs.GrowingTranscripts.{transcript_with, BeginsTranscript}
 use Rattle.smx_text.specs.TranscriptLines as row
 use Rattle.smx_text.specs.TranscriptText.{transcript_grammar, transcript_text, view_body, IsSpellable, IsSpellableView}
@@ -19,38 +19,40 @@ use Rattle.smx_text.proofs.EachLemmas.{all_append}
 use Rattle.smx_text.proofs.ReadingLemmas.{texts_append}
 use Rattle.smx_types.specs.declared.version.Version.{Version}
 use Rattle.smx_types.specs.declared.version.Version.TheVariants.{V1, V2}
-use Rattle.smx_text.specs.TextVersions.{version_word}
 
 -- the header
-abbrev pub header_bytes : Version → List ℕ
-header_bytes V1 = codes "transcript 1\n"
-header_bytes V2 = codes "transcript 2\n"
+abbrev first : Version → List ℕ
+first version = header (transcript_grammar version) ++ LINE_FEED ∷ []
 
 -- the header, the lines of drivers and the lines of entries
 abbrev begun_text : Version → List DriverSpec → List Entry → List ℕ
-begun_text version drivers entries = header_bytes version ++ text_of (map driver_words drivers) ++ text_of (map entry_words entries)
+begun_text version drivers entries =
+    first version ++ text_of (map driver_words drivers) ++ text_of (map entry_words entries)
 
 begun_is : (version : Version) (drivers : List DriverSpec) (entries : List Entry)
-    → beginning (transcript_grammar version) (map row.Driver drivers ++ map row.Entry entries) ≡ begun_text version drivers entries
+    → beginning (transcript_grammar version) (map row.Driver drivers ++ map row.Entry entries)
+    ≡ begun_text version drivers entries
 begun_is V1 drivers entries = simp (map-append, map-map, texts_append, append_assoc)
 begun_is V2 drivers entries = simp (map-append, map-map, texts_append, append_assoc)
 
 -- the drivers, and no entry yet
-pub begun : (version : Version) (drivers : List DriverSpec) (cleared header text : List ℕ) → cleared ≡ []
-    → header ≡ cleared ++ header_bytes version → text ≡ header ++ text_of (map driver_words drivers)
+pub begun : (version : Version) (drivers : List DriverSpec) (cleared start text : List ℕ) → cleared ≡ []
+    → start ≡ cleared ++ first version → text ≡ start ++ text_of (map driver_words drivers)
     → AllByRecursion FitsDriver drivers → BeginsTranscript version drivers [] text
-begun version drivers cleared header text none a b fits = record {
+begun version drivers cleared start text none a b fits = record {
   written =
       b ∙ ap (λ (bytes : List ℕ). bytes ++ text_of (map driver_words drivers))
-      (a ∙ ap (λ (bytes : List ℕ). bytes ++ header_bytes version) none)
-      ∙ sym (append-nil (header_bytes version ++ text_of (map driver_words drivers))) ∙ sym (begun_is version drivers []);
+      (a ∙ ap (λ (bytes : List ℕ). bytes ++ first version) none)
+      ∙ sym (append-nil (first version ++ text_of (map driver_words drivers))) ∙ sym (begun_is version drivers []);
   drivers_fit = fits;
   entries_fit = tt;
 }
 
 more_text : (version : Version) (drivers : List DriverSpec) (before more : List Entry)
-    → begun_text version drivers before ++ text_of (map entry_words more) ≡ begun_text version drivers (before ++ more)
-more_text version drivers before more = simp (map-append, texts_append, append_assoc)
+    → begun_text version drivers before ++ text_of (map entry_words more)
+    ≡ begun_text version drivers (before ++ more)
+more_text V1 drivers before more = simp (map-append, texts_append, append_assoc)
+more_text V2 drivers before more = simp (map-append, texts_append, append_assoc)
 
 -- entries more
 pub grown : (version : Version) (drivers : List DriverSpec) (before more : List Entry) (old new : List ℕ)
@@ -72,23 +74,25 @@ whole_text : (version : Version) (drivers : List DriverSpec) (entries : List Ent
     ≡ begun_text version drivers entries ++ codes "config\n" ++ view_text v ++ codes "end\n"
 whole_text version drivers entries v = by_version version (view_body v) where
   by_version : (version : Version) (ls : List row.TranscriptLine)
-      → text_of ((codes "transcript" ∷ version_word version ∷ []) ∷ map transcript_words
+      → text_of ((transcript_grammar version).header_words ∷ map transcript_words
       (map row.Driver drivers ++ (map row.Entry entries ++ row.Config ∷ ls)) ++ (codes "end" ∷ []) ∷ [])
       ≡ begun_text version drivers entries ++ codes "config\n" ++ text_of (map transcript_words ls) ++ codes "end\n"
   by_version V1 ls = simp (map-append, map-map, texts_append, append_assoc)
   by_version V2 ls = simp (map-append, map-map, texts_append, append_assoc)
 
 -- and the view
-pub finished : (version : Version) (drivers : List DriverSpec) (entries : List Entry) (v : ConfigView) (start config view end : List ℕ)
-    → config ≡ start ++ codes "config\n" → view ≡ config ++ view_text v → end ≡ view ++ codes "end\n"
-    → BeginsTranscript version drivers entries start → end ≡ transcript_text (transcript_with version drivers entries v)
+pub finished : (version : Version) (drivers : List DriverSpec) (entries : List Entry) (v : ConfigView)
+    (start config view end : List ℕ) → config ≡ start ++ codes "config\n" → view ≡ config ++ view_text v
+    → end ≡ view ++ codes "end\n" → BeginsTranscript version drivers entries start
+    → end ≡ transcript_text (transcript_with version drivers entries v)
 finished version drivers entries v start config view end a b c was =
     let begins : start ≡ begun_text version drivers entries = was.written ∙ begun_is version drivers entries in
     c ∙ rw (b, a, begins) (sym (whole_text version drivers entries v))
 
 -- each line of it can be spelled
-pub finished_fits : (version : Version) (drivers : List DriverSpec) (entries : List Entry) (v : ConfigView) (start : List ℕ)
-    → IsSpellableView v → BeginsTranscript version drivers entries start → IsSpellable (transcript_with version drivers entries v)
+pub finished_fits : (version : Version) (drivers : List DriverSpec) (entries : List Entry) (v : ConfigView)
+    (start : List ℕ) → IsSpellableView v → BeginsTranscript version drivers entries start
+    → IsSpellable (transcript_with version drivers entries v)
 finished_fits version drivers entries v start fits was = record {
   drivers = was.drivers_fit;
   entries = was.entries_fit;

@@ -21,7 +21,8 @@ use Rattle.smx_text.proofs.ProgramsValueLemmas.{one_value}
 use Rattle.smx_words.specs.Words.{AreWords}
 use Rattle.smx_words.proofs.LawLemmas.{command_spelled, driver_spelled, process_spelled, one_command}
 use Rattle.smx_words.proofs.LawLemmas.{one_driver, one_process}
-use Rattle.smx_text.proofs.WordLemmas.{one_spelling, first_word, end_spelled, one_line_of}
+use Rattle.smx_text.proofs.VersionLemmas.{AreVersions}
+use Rattle.smx_text.proofs.WordLemmas.{one_spelling, first_word, end_spelled, one_line_of, differ}
 use Rattle.smx_types.specs.declared.version.Version.{Version}
 use Rattle.smx_types.specs.declared.version.Version.TheVariants.{V1, V2}
 
@@ -140,3 +141,6 @@ well_made version = record {
   end_is_last = end_is_last;
   one_value = λ v w allowed also e. one_value v w (allowed.version_is ∙ sym also.version_is) e;
 }
+
+pub versions : AreVersions programs_grammar
+versions = record { made = well_made; differ = differ (codes "programs 1") (codes "programs 2") refl }

@@ -3,14 +3,16 @@ use Rattle.std.specs.Prelude.{◌≡◌, ◌≤◌, Bool, true, false, ◌&&◌,
 use Rattle.std.specs.List.{sum_by}
 use Rattle.smx_types.specs.Versions.{most_drivers}
 use Rattle.smx_types.specs.declared.limits.TheConstants.{MAX_COMMANDS, MAX_PROCESSES}
+use Rattle.smx_types.specs.declared.transcript.Transcript.{Transcript}
 use Rattle.smx_types.specs.declared.view.ConfigView.{ConfigView}
 use Rattle.smx_text.specs.declared.programs.draft.ProgramsDraft.TheInside.{Inside}
 use Rattle.smx_text.specs.declared.transcript.draft.Stage.{Stage}
 use Rattle.smx_text.specs.declared.transcript.draft.Stage.TheVariants as stage
 use Rattle.smx_text.specs.declared.transcript.draft.TranscriptDraft.{TranscriptDraft}
+use Rattle.smx_text.specs.Grammar.{Grammar}
 use Rattle.smx_text.specs.TranscriptLines.{TranscriptLine}
 use Rattle.smx_text.specs.TranscriptLines as line
-use Rattle.smx_text.specs.TranscriptText.{view_body}
+use Rattle.smx_text.specs.TranscriptText.{transcript_grammar, view_body}
 
 -- programs within the limits of their version, whose commands are counted
 pub record IsCounted (d : Inside) : Type 0 where
@@ -30,6 +32,10 @@ abbrev pub lines : TranscriptDraft → List TranscriptLine
 lines d =
     map line.Driver d.transcript.drivers ++ (map line.Entry d.transcript.entries
     ++ shown d.stage d.transcript.view)
+
+-- how a text of its version is spelled
+abbrev pub grammar_of : TranscriptDraft → Grammar Transcript TranscriptLine
+grammar_of d = transcript_grammar d.transcript.version
 
 -- groups are read
 abbrev pub is_view : Stage → Bool

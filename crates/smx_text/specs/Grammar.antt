@@ -132,8 +132,8 @@ module _ {V K : Type 0} (g : Grammar V K) where
 
 -- ---- texts of several versions
 
--- What a reader of all versions may answer: what one of some version may, and that the header is wrong only where it is so
--- in each version. So its header says of which version a text is.
+-- What a reader of all versions may answer: what one of some version may, and that the header is wrong only where it
+-- is so in each version. So its header says of which version a text is.
 abbrev pub ReadsAny : {V K : Type 0} → (Version → Grammar V K) → List ℕ → Result V TextFault → Type 0
 ReadsAny {V} {K} g bytes r = (version : Version) × Reads (g version) bytes r
     × IfErr r (λ f. f.cause ≡ cause.Header → (other : Version) → IsFault (g other) bytes f.line cause.Header)

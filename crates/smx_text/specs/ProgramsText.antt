@@ -31,7 +31,8 @@ FitsLine version line.End = Unit {0}
 -- from process n on, each process' line and then its commands
 abbrev pub program_lines : ℕ → List (List Command) → List Line
 program_lines n [] = []
-program_lines n (commands ∷ programs) = line.Process n ∷ (map line.Command commands ++ program_lines (n + 1) programs)
+program_lines n (commands ∷ programs) =
+    line.Process n ∷ (map line.Command commands ++ program_lines (n + 1) programs)
 
 -- the lines between the header and the end
 abbrev pub body : ProgramLists → List Line

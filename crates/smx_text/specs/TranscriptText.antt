@@ -1,16 +1,17 @@
 -- The transcript text: drivers, history, and the configuration at its end.
-use Rattle.std.specs.Prelude.{◌≡◌, ◌≤◌, ℕ, true, nat_lt, List, [], ◌∷◌, ◌++◌, length, map, codes}
+use Rattle.std.specs.Prelude.{◌≡◌, ◌≤◌, ℕ, true, List, [], ◌∷◌, ◌++◌, length, map, codes}
 use Rattle.std.specs.List.{AllByRecursion}
 use Rattle.std.specs.Fmt.{decimal}
-use Rattle.smx_types.specs.Versions.{is_of_hangup, most_drivers}
+use Rattle.smx_types.specs.Versions.{least_of_transcript, most_drivers}
 use Rattle.smx_types.specs.declared.limits.TheConstants.{MAX_COMMANDS}
 use Rattle.smx_types.specs.declared.transcript.Transcript.{Transcript}
 use Rattle.smx_types.specs.declared.version.Version.{Version}
+use Rattle.smx_types.specs.declared.version.Version.TheVariants.{V1}
 use Rattle.smx_types.specs.declared.view.ConfigView.{ConfigView}
 use Rattle.smx_words.specs.Spelling.{driver_words, entry_words, descriptor_words, link_words, bind_words}
 use Rattle.smx_words.specs.Spelling.{route_words, message_words, full_words, hung_words}
-use Rattle.smx_words.specs.Spellable.{CanTell, FitsNumber, FitsDriver, FitsEntry, FitsEntryIn, FitsDescriptor, FitsLink}
-use Rattle.smx_words.specs.Spellable.{FitsBinding, FitsRoute, FitsMessage, FitsFull, FitsHung}
+use Rattle.smx_words.specs.Spellable.{CanTell, FitsNumber, FitsDriver, FitsEntry, FitsEntryIn, FitsDescriptor}
+use Rattle.smx_words.specs.Spellable.{FitsLink, FitsBinding, FitsRoute, FitsMessage, FitsFull, FitsHung}
 use Rattle.smx_text.specs.Grammar.{Grammar, full_text, Spells}
 use Rattle.smx_text.specs.TextVersions.{version_word}
 use Rattle.smx_text.specs.TranscriptLines.{TranscriptLine}
@@ -75,14 +76,13 @@ pub record IsSpellable (t : Transcript) : Type 0 where
   pub entries : AllByRecursion FitsEntry t.entries
   pub view : IsSpellableView t.view
 
--- of this version, within its limits; each line can be spelled, and told in it
+-- of this version, which can tell it, and within its limits, and each line can be spelled
 pub record IsAllowed (version : Version) (t : Transcript) : Type 0 where
   pub version_is : t.version ≡ version
   pub drivers : length t.drivers ≤ most_drivers version
   pub entries : length t.entries ≤ MAX_COMMANDS
   pub spellable : IsSpellable t
-  pub told : AllByRecursion (λ e. CanTell version (is_of_hangup e)) t.entries
-  pub hungs : CanTell version (nat_lt 0 (length t.view.hungs))
+  pub told : version ≡ V1 → least_of_transcript t ≡ V1
 
 -- the grammar of this text in a version
 abbrev pub transcript_grammar : Version → Grammar Transcript TranscriptLine

@@ -3,7 +3,8 @@
 ghost use Rattle.std.specs.Prelude.{◌≡◌, ◌≢◌, ◌<◌, ◌-◌, ◌^◌, ◌∷◌, ◌++◌, [], List, length, codes, MatchOption};
 ghost use Rattle.std.specs.Prelude.{IfOk, IfErr, OnOk};
 ghost use Rattle.smx_types.specs.declared.version.Version.{Version as AnyVersion};
-ghost use Rattle.smx_text.specs.Grammar.{Grammar, IsBegun, IsOneLine, IsFault, ReadsAny, Continues, header, line_text};
+ghost use Rattle.smx_text.specs.Grammar.{Grammar, IsBegun, IsOneLine, IsFault, ReadsAny, Continues, header};
+ghost use Rattle.smx_text.specs.Grammar.{line_text};
 ghost use Rattle.smx_words.specs.Words.{LINE_FEED};
 ghost use Rattle.smx_text.specs.Reading.{Refuses, EndsAs, EndsText};
 

@@ -1,12 +1,14 @@
 //! Writing texts.
 
-ghost use Rattle.std.specs.Prelude.{◌≡◌, ◌<◌, ◌^◌, ◌++◌, length, map, IfOk, OnOk};
+ghost use Rattle.std.specs.Prelude.{◌≡◌, ◌<◌, ◌^◌, ◌∷◌, ◌++◌, [], length, map, IfOk, OnOk};
 ghost use Rattle.std.specs.List.{AllByRecursion};
 ghost use Rattle.smx_types.specs.Versions.{least_of_transcript};
 ghost use Rattle.smx_types.specs.declared.version.Version.TheVariants.{V1, V2};
-ghost use Rattle.smx_text.specs.ProgramsText.{line_words, program_lines, programs_text, FitsLine, IsAllowed};
+ghost use Rattle.smx_text.specs.Grammar.{header};
+ghost use Rattle.smx_text.specs.ProgramsText.{line_words, program_lines, programs_grammar, programs_text};
+ghost use Rattle.smx_text.specs.ProgramsText.{FitsLine, IsAllowed};
 ghost use Rattle.smx_text.specs.TranscriptText.{transcript_text, IsSpellable};
-ghost use Rattle.smx_words.specs.Words.{text_of};
+ghost use Rattle.smx_words.specs.Words.{LINE_FEED, text_of};
 
 use crate::transcript_writer::TranscriptWriter;
 use smx_types::{Commands, NoMemory, Programs, Transcript, Version};
@@ -14,23 +16,26 @@ use smx_words::{write_lines, write_process};
 use std::alloc::Global;
 
 /// The one text of these programs. Fails only for want of memory.
-#[tactic(auto, using(crate::proofs::WritingLemmas::body_fits))]
 pub fn write_programs(alloc: Global, programs: &Programs) -> Result<Vec<u8>, NoMemory>
     ensures written { IfOk result (λ v. v.items ≡ programs_text programs.now) }
     // So what is written is read again, whatever these programs are.
     ensures allowed { OnOk result (IsAllowed programs.now.version programs.now) }
 {
-    let mut out = Vec::from_slice(
-        alloc,
-        match programs.version() {
-            Version::V1 => b"programs 1\n",
-            Version::V2 => b"programs 2\n",
-        },
-    )?;
+    let mut out = Vec::from_slice(alloc, first_line(programs.version()))?;
     write_lines(&mut out, programs.drivers())?;
     write_each(&mut out, programs.programs())?;
     out.extend_from_slice(b"end\n")?;
     Ok(out)
+}
+
+// The header, with its line feed.
+fn first_line(version: Version) -> &'static [u8]
+    ensures { result.now ≡ header (programs_grammar version) ++ LINE_FEED ∷ [] }
+{
+    match version {
+        Version::V1 => b"programs 1\n",
+        Version::V2 => b"programs 2\n",
+    }
 }
 
 /// The one text of this transcript, which its version can tell. Fails only for want of memory.

@@ -2,7 +2,9 @@
 
 ghost use Rattle.std.specs.Prelude.{◌≡◌, ◌≢◌, ◌<◌, codes, length, OnOk, IfErr};
 ghost use Rattle.std.specs.List.{sum_by};
+ghost use Rattle.smx_types.specs.ProgramLists.{raised};
 ghost use Rattle.smx_types.specs.declared.limits.TheConstants.{MAX_COMMANDS};
+ghost use Rattle.smx_types.specs.declared.version.Version.TheVariants.{V1, V2};
 ghost use Rattle.smx_types.specs.declared.command.Command.{Command as AnyCommand};
 ghost use Rattle.smx_words.specs.Words.{line_of};
 ghost use Rattle.smx_words.specs.Spelling.{command_words};
@@ -86,22 +88,32 @@ impl Draft for ProgramsDraft {
     fn finish(self) -> Option<Programs> {
         let drivers = Drivers::from_vec(self.drivers);
         let programs = Programs::new(drivers, ProgramList::from_vec(self.programs)).ok()?;
-        Some(match self.version {
-            Version::V1 => programs,
-            Version::V2 => programs.raised(),
-        })
+        Some(in_version(self.version, programs))
     }
 
     ghost end_is = { λ v. refl };
+}
+
+// The programs in this version, where it can tell them.
+fn in_version(version: Version, programs: Programs) -> Programs
+    ensures first { version ≡ V1 → result ≡ programs }
+    ensures second { version ≡ V2 → result ≡ raised programs }
+{
+    match version {
+        Version::V1 => programs,
+        Version::V2 => programs.raised(),
+    }
 }
 
 impl ProgramsDraft {
     // A line that is no command.
     fn add_other(&mut self, alloc: Global, text: &[u8]) -> Result<(), Cause>
         requires begun { IsBegun (programs_grammar self.old.version) (body self.old) }
-        requires no_command { (c : AnyCommand) → FitsCommandIn self.old.version c → text.now ≢ line_of (command_words c) }
+        requires no_command { (c : AnyCommand) → FitsCommandIn self.old.version c
+            → text.now ≢ line_of (command_words c) }
         requires no_end { text.now ≢ codes "end" }
-        ensures added { OnOk result (Continues (programs_grammar self.old.version) (body self.old) text.now (body self.new)) }
+        ensures added { OnOk result
+            (Continues (programs_grammar self.old.version) (body self.old) text.now (body self.new)) }
         ensures version { OnOk result (self.new.version ≡ self.old.version) }
         ensures refused { IfErr result (Refuses (programs_grammar self.old.version) (body self.old) text.now) }
     {
@@ -118,9 +130,11 @@ impl ProgramsDraft {
     fn add_driver(&mut self, driver: DriverSpec) -> Result<(), Cause>
         requires begun { IsBegun (programs_grammar self.old.version) (body self.old) }
         requires fits { FitsDriver driver }
-        ensures added { OnOk result (AddsLine (programs_grammar self.old.version) (body self.old) (DriverLine driver) (body self.new)) }
+        ensures added { OnOk result
+            (AddsLine (programs_grammar self.old.version) (body self.old) (DriverLine driver) (body self.new)) }
         ensures version { OnOk result (self.new.version ≡ self.old.version) }
-        ensures refused { IfErr result (RefusesLine (programs_grammar self.old.version) (body self.old) (DriverLine driver)) }
+        ensures refused { IfErr result
+            (RefusesLine (programs_grammar self.old.version) (body self.old) (DriverLine driver)) }
     {
         if !self.programs.is_empty() {
             return Err(Cause::Form);
@@ -135,9 +149,11 @@ impl ProgramsDraft {
     // Processes are numbered from 0 on, in order.
     fn add_process(&mut self, alloc: Global, number: u32) -> Result<(), Cause>
         requires begun { IsBegun (programs_grammar self.old.version) (body self.old) }
-        ensures added { OnOk result (AddsLine (programs_grammar self.old.version) (body self.old) (ProcessLine number) (body self.new)) }
+        ensures added { OnOk result
+            (AddsLine (programs_grammar self.old.version) (body self.old) (ProcessLine number) (body self.new)) }
         ensures version { OnOk result (self.new.version ≡ self.old.version) }
-        ensures refused { IfErr result (RefusesLine (programs_grammar self.old.version) (body self.old) (ProcessLine number)) }
+        ensures refused { IfErr result
+            (RefusesLine (programs_grammar self.old.version) (body self.old) (ProcessLine number)) }
     {
         if number as usize != self.programs.len() {
             return Err(Cause::Form);
@@ -156,7 +172,8 @@ impl ProgramsDraft {
         ensures added { OnOk result
             (AddsLine (programs_grammar self.old.version) (body self.old) (CommandLine command) (body self.new)) }
         ensures version { OnOk result (self.new.version ≡ self.old.version) }
-        ensures refused { IfErr result (RefusesLine (programs_grammar self.old.version) (body self.old) (CommandLine command)) }
+        ensures refused { IfErr result
+            (RefusesLine (programs_grammar self.old.version) (body self.old) (CommandLine command)) }
     {
         self.room_for_command()?;
         let last = self.programs.len() - 1;

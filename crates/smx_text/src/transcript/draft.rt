@@ -10,14 +10,14 @@ ghost use Rattle.smx_words.specs.Spellable.{FitsRoute, FitsMessage, FitsFull, Fi
 ghost use Rattle.smx_text.specs.Grammar.{IsBegun, Continues, line_text};
 ghost use Rattle.smx_text.specs.Reading.{Refuses, AddsLine, RefusesLine};
 ghost use Rattle.smx_text.specs.Drafts.{lines, takes_fds, takes_links, takes_binds, takes_routes, takes_msgs};
-ghost use Rattle.smx_text.specs.Drafts.{takes_fulls, takes_hungs};
+ghost use Rattle.smx_text.specs.Drafts.{takes_fulls, takes_hungs, grammar_of};
 ghost use Rattle.smx_text.specs.declared.transcript.draft.Stage.TheVariants.{History};
 ghost use Rattle.smx_types.specs.declared.limits.TheConstants.{MAX_COMMANDS};
 ghost use Rattle.smx_types.specs.declared.driver.DriverSpec.{DriverSpec as AnyDriver};
 ghost use Rattle.smx_text.specs.TranscriptLines.{Driver as DriverLine, Entry as EntryLine, Config as ConfigLine};
 ghost use Rattle.smx_text.specs.TranscriptLines.{Next as NextLine, Fd as FdLine, Link as AnyLink, Bind as BindLine};
-ghost use Rattle.smx_text.specs.TranscriptLines.{Route as AnyRoute, Msg as MsgLine, Full as AnyFull, Hung as AnyHung, End};
-ghost use Rattle.smx_text.specs.TranscriptText.{transcript_grammar};
+ghost use Rattle.smx_text.specs.TranscriptLines.{Route as AnyRoute, Msg as MsgLine, Full as AnyFull};
+ghost use Rattle.smx_text.specs.TranscriptLines.{Hung as AnyHung, End};
 
 use crate::fault::Cause;
 use crate::reading::Draft;
@@ -131,12 +131,14 @@ fn new_view(alloc: Global, next_id: u32, next_serial: u32) -> ConfigView
 impl TranscriptDraft {
     // A line that is no entry.
     fn add_other(&mut self, alloc: Global, text: &[u8]) -> Result<(), Cause>
-        requires begun { IsBegun (transcript_grammar self.old.transcript.version) (lines self.old) }
-        requires no_entry { (e : AnyEntry) → FitsEntryIn self.old.transcript.version e → text.now ≢ line_of (entry_words e) }
-        requires no_end { text.now ≢ line_text (transcript_grammar self.old.transcript.version) End }
-        ensures added { OnOk result (Continues (transcript_grammar self.old.transcript.version) (lines self.old) text.now (lines self.new)) }
+        requires begun { IsBegun (grammar_of self.old) (lines self.old) }
+        requires no_entry { (e : AnyEntry) → FitsEntryIn self.old.transcript.version e
+            → text.now ≢ line_of (entry_words e) }
+        requires no_end { text.now ≢ line_text (grammar_of self.old) End }
+        ensures added { OnOk result
+            (Continues (grammar_of self.old) (lines self.old) text.now (lines self.new)) }
         ensures version { OnOk result (self.new.transcript.version ≡ self.old.transcript.version) }
-        ensures refused { IfErr result (Refuses (transcript_grammar self.old.transcript.version) (lines self.old) text.now) }
+        ensures refused { IfErr result (Refuses (grammar_of self.old) (lines self.old) text.now) }
     {
         match message_of(alloc, text) {
             Ok(Some(message)) => self.add_message(message),
@@ -147,13 +149,15 @@ impl TranscriptDraft {
 
     // A line of one of the kinds that are short.
     fn add_plain(&mut self, alloc: Global, text: &[u8]) -> Result<(), Cause>
-        requires begun { IsBegun (transcript_grammar self.old.transcript.version) (lines self.old) }
-        requires no_entry { (e : AnyEntry) → FitsEntryIn self.old.transcript.version e → text.now ≢ line_of (entry_words e) }
+        requires begun { IsBegun (grammar_of self.old) (lines self.old) }
+        requires no_entry { (e : AnyEntry) → FitsEntryIn self.old.transcript.version e
+            → text.now ≢ line_of (entry_words e) }
         requires no_message { (m : AnyMessage) → FitsMessage m → text.now ≢ line_of (message_words m) }
-        requires no_end { text.now ≢ line_text (transcript_grammar self.old.transcript.version) End }
-        ensures added { OnOk result (Continues (transcript_grammar self.old.transcript.version) (lines self.old) text.now (lines self.new)) }
+        requires no_end { text.now ≢ line_text (grammar_of self.old) End }
+        ensures added { OnOk result
+            (Continues (grammar_of self.old) (lines self.old) text.now (lines self.new)) }
         ensures version { OnOk result (self.new.transcript.version ≡ self.old.transcript.version) }
-        ensures refused { IfErr result (Refuses (transcript_grammar self.old.transcript.version) (lines self.old) text.now) }
+        ensures refused { IfErr result (Refuses (grammar_of self.old) (lines self.old) text.now) }
     {
         if let Some(driver) = driver_of(text) {
             return self.add_driver(driver);
@@ -169,16 +173,18 @@ impl TranscriptDraft {
 
     // A line of a group of the view.
     fn add_to_group(&mut self, text: &[u8]) -> Result<(), Cause>
-        requires begun { IsBegun (transcript_grammar self.old.transcript.version) (lines self.old) }
-        requires no_entry { (e : AnyEntry) → FitsEntryIn self.old.transcript.version e → text.now ≢ line_of (entry_words e) }
+        requires begun { IsBegun (grammar_of self.old) (lines self.old) }
+        requires no_entry { (e : AnyEntry) → FitsEntryIn self.old.transcript.version e
+            → text.now ≢ line_of (entry_words e) }
         requires no_message { (m : AnyMessage) → FitsMessage m → text.now ≢ line_of (message_words m) }
         requires no_driver { (d : AnyDriver) → FitsDriver d → text.now ≢ line_of (driver_words d) }
-        requires no_config { text.now ≢ line_text (transcript_grammar self.old.transcript.version) ConfigLine }
+        requires no_config { text.now ≢ line_text (grammar_of self.old) ConfigLine }
         requires no_next { (n : ℕ × ℕ) → FitsNext n → text.now ≢ line_of (next_words n) }
-        requires no_end { text.now ≢ line_text (transcript_grammar self.old.transcript.version) End }
-        ensures added { OnOk result (Continues (transcript_grammar self.old.transcript.version) (lines self.old) text.now (lines self.new)) }
+        requires no_end { text.now ≢ line_text (grammar_of self.old) End }
+        ensures added { OnOk result
+            (Continues (grammar_of self.old) (lines self.old) text.now (lines self.new)) }
         ensures version { OnOk result (self.new.transcript.version ≡ self.old.transcript.version) }
-        ensures refused { IfErr result (Refuses (transcript_grammar self.old.transcript.version) (lines self.old) text.now) }
+        ensures refused { IfErr result (Refuses (grammar_of self.old) (lines self.old) text.now) }
     {
         if let Some(fd) = descriptor_of(text) {
             return self.add_fd(fd);
@@ -206,12 +212,13 @@ impl TranscriptDraft {
 
     // Drivers come before all entries.
     fn add_driver(&mut self, driver: DriverSpec) -> Result<(), Cause>
-        requires begun { IsBegun (transcript_grammar self.old.transcript.version) (lines self.old) }
+        requires begun { IsBegun (grammar_of self.old) (lines self.old) }
         requires fits { FitsDriver driver }
         ensures added { OnOk result
-            (AddsLine (transcript_grammar self.old.transcript.version) (lines self.old) (DriverLine driver) (lines self.new)) }
+            (AddsLine (grammar_of self.old) (lines self.old) (DriverLine driver) (lines self.new)) }
         ensures version { OnOk result (self.new.transcript.version ≡ self.old.transcript.version) }
-        ensures refused { IfErr result (RefusesLine (transcript_grammar self.old.transcript.version) (lines self.old) (DriverLine driver)) }
+        ensures refused { IfErr result
+            (RefusesLine (grammar_of self.old) (lines self.old) (DriverLine driver)) }
     {
         if self.stage != Stage::History || !self.transcript.entries.as_slice().is_empty() {
             return Err(Cause::Form);
@@ -224,11 +231,12 @@ impl TranscriptDraft {
     }
 
     fn add_entry(&mut self, entry: Entry) -> Result<(), Cause>
-        requires begun { IsBegun (transcript_grammar self.old.transcript.version) (lines self.old) }
+        requires begun { IsBegun (grammar_of self.old) (lines self.old) }
         requires fits { FitsEntryIn self.old.transcript.version entry }
-        ensures added { OnOk result (AddsLine (transcript_grammar self.old.transcript.version) (lines self.old) (EntryLine entry) (lines self.new)) }
+        ensures added { OnOk result
+            (AddsLine (grammar_of self.old) (lines self.old) (EntryLine entry) (lines self.new)) }
         ensures version { OnOk result (self.new.transcript.version ≡ self.old.transcript.version) }
-        ensures refused { IfErr result (RefusesLine (transcript_grammar self.old.transcript.version) (lines self.old) (EntryLine entry)) }
+        ensures refused { IfErr result (RefusesLine (grammar_of self.old) (lines self.old) (EntryLine entry)) }
     {
         self.room_for_entry()?;
         self.transcript.entries.push(entry)?;
@@ -237,8 +245,9 @@ impl TranscriptDraft {
 
     // Why an entry is refused for which there is no memory.
     fn entry_unread(&self) -> Cause
-        requires begun { IsBegun (transcript_grammar self.now.transcript.version) (lines self.now) }
-        ensures { (e : AnyEntry) → FitsEntryIn self.now.transcript.version e → RefusesLine (transcript_grammar self.now.transcript.version) (lines self.now) (EntryLine e) result }
+        requires begun { IsBegun (grammar_of self.now) (lines self.now) }
+        ensures { (e : AnyEntry) → FitsEntryIn self.now.transcript.version e
+            → RefusesLine (grammar_of self.now) (lines self.now) (EntryLine e) result }
     {
         match self.room_for_entry() {
             Ok(()) => Cause::NoMemory,
@@ -251,7 +260,7 @@ impl TranscriptDraft {
         ensures history { OnOk result (self.now.stage ≡ History) }
         ensures few { OnOk result (length self.now.transcript.entries < MAX_COMMANDS) }
         ensures refused { IfErr result (λ why. (e : AnyEntry)
-            → RefusesLine (transcript_grammar self.now.transcript.version) (lines self.now) (EntryLine e) why) }
+            → RefusesLine (grammar_of self.now) (lines self.now) (EntryLine e) why) }
     {
         if self.stage != Stage::History {
             return Err(Cause::Form);
@@ -264,10 +273,11 @@ impl TranscriptDraft {
 
     // The configuration comes behind the entries.
     fn add_config(&mut self) -> Result<(), Cause>
-        requires begun { IsBegun (transcript_grammar self.old.transcript.version) (lines self.old) }
-        ensures added { OnOk result (AddsLine (transcript_grammar self.old.transcript.version) (lines self.old) ConfigLine (lines self.new)) }
+        requires begun { IsBegun (grammar_of self.old) (lines self.old) }
+        ensures added { OnOk result
+            (AddsLine (grammar_of self.old) (lines self.old) ConfigLine (lines self.new)) }
         ensures version { OnOk result (self.new.transcript.version ≡ self.old.transcript.version) }
-        ensures refused { IfErr result (RefusesLine (transcript_grammar self.old.transcript.version) (lines self.old) ConfigLine) }
+        ensures refused { IfErr result (RefusesLine (grammar_of self.old) (lines self.old) ConfigLine) }
     {
         if self.stage != Stage::History {
             return Err(Cause::Form);
@@ -278,12 +288,12 @@ impl TranscriptDraft {
 
     // The view begins with what comes next.
     fn add_next(&mut self, alloc: Global, next_id: u32, next_serial: u32) -> Result<(), Cause>
-        requires begun { IsBegun (transcript_grammar self.old.transcript.version) (lines self.old) }
+        requires begun { IsBegun (grammar_of self.old) (lines self.old) }
         ensures added { OnOk result
-            (AddsLine (transcript_grammar self.old.transcript.version) (lines self.old) (NextLine next_id next_serial) (lines self.new)) }
+            (AddsLine (grammar_of self.old) (lines self.old) (NextLine next_id next_serial) (lines self.new)) }
         ensures version { OnOk result (self.new.transcript.version ≡ self.old.transcript.version) }
         ensures refused { IfErr result
-            (RefusesLine (transcript_grammar self.old.transcript.version) (lines self.old) (NextLine next_id next_serial)) }
+            (RefusesLine (grammar_of self.old) (lines self.old) (NextLine next_id next_serial)) }
     {
         if self.stage != Stage::Config {
             return Err(Cause::Form);
@@ -294,11 +304,12 @@ impl TranscriptDraft {
     }
 
     fn add_fd(&mut self, fd: DescriptorLine) -> Result<(), Cause>
-        requires begun { IsBegun (transcript_grammar self.old.transcript.version) (lines self.old) }
+        requires begun { IsBegun (grammar_of self.old) (lines self.old) }
         requires fits { FitsDescriptor fd }
-        ensures added { OnOk result (AddsLine (transcript_grammar self.old.transcript.version) (lines self.old) (FdLine fd) (lines self.new)) }
+        ensures added { OnOk result
+            (AddsLine (grammar_of self.old) (lines self.old) (FdLine fd) (lines self.new)) }
         ensures version { OnOk result (self.new.transcript.version ≡ self.old.transcript.version) }
-        ensures refused { IfErr result (RefusesLine (transcript_grammar self.old.transcript.version) (lines self.old) (FdLine fd)) }
+        ensures refused { IfErr result (RefusesLine (grammar_of self.old) (lines self.old) (FdLine fd)) }
     {
         if !self.takes_fds() {
             return Err(Cause::Form);
@@ -308,11 +319,12 @@ impl TranscriptDraft {
     }
 
     fn add_link(&mut self, link: LinkLine) -> Result<(), Cause>
-        requires begun { IsBegun (transcript_grammar self.old.transcript.version) (lines self.old) }
+        requires begun { IsBegun (grammar_of self.old) (lines self.old) }
         requires fits { FitsLink link }
-        ensures added { OnOk result (AddsLine (transcript_grammar self.old.transcript.version) (lines self.old) (AnyLink link) (lines self.new)) }
+        ensures added { OnOk result
+            (AddsLine (grammar_of self.old) (lines self.old) (AnyLink link) (lines self.new)) }
         ensures version { OnOk result (self.new.transcript.version ≡ self.old.transcript.version) }
-        ensures refused { IfErr result (RefusesLine (transcript_grammar self.old.transcript.version) (lines self.old) (AnyLink link)) }
+        ensures refused { IfErr result (RefusesLine (grammar_of self.old) (lines self.old) (AnyLink link)) }
     {
         if !self.takes_links() {
             return Err(Cause::Form);
@@ -322,11 +334,12 @@ impl TranscriptDraft {
     }
 
     fn add_bind(&mut self, bind: BindingLine) -> Result<(), Cause>
-        requires begun { IsBegun (transcript_grammar self.old.transcript.version) (lines self.old) }
+        requires begun { IsBegun (grammar_of self.old) (lines self.old) }
         requires fits { FitsBinding bind }
-        ensures added { OnOk result (AddsLine (transcript_grammar self.old.transcript.version) (lines self.old) (BindLine bind) (lines self.new)) }
+        ensures added { OnOk result
+            (AddsLine (grammar_of self.old) (lines self.old) (BindLine bind) (lines self.new)) }
         ensures version { OnOk result (self.new.transcript.version ≡ self.old.transcript.version) }
-        ensures refused { IfErr result (RefusesLine (transcript_grammar self.old.transcript.version) (lines self.old) (BindLine bind)) }
+        ensures refused { IfErr result (RefusesLine (grammar_of self.old) (lines self.old) (BindLine bind)) }
     {
         if !self.takes_binds() {
             return Err(Cause::Form);
@@ -336,11 +349,12 @@ impl TranscriptDraft {
     }
 
     fn add_route(&mut self, route: RouteLine) -> Result<(), Cause>
-        requires begun { IsBegun (transcript_grammar self.old.transcript.version) (lines self.old) }
+        requires begun { IsBegun (grammar_of self.old) (lines self.old) }
         requires fits { FitsRoute route }
-        ensures added { OnOk result (AddsLine (transcript_grammar self.old.transcript.version) (lines self.old) (AnyRoute route) (lines self.new)) }
+        ensures added { OnOk result
+            (AddsLine (grammar_of self.old) (lines self.old) (AnyRoute route) (lines self.new)) }
         ensures version { OnOk result (self.new.transcript.version ≡ self.old.transcript.version) }
-        ensures refused { IfErr result (RefusesLine (transcript_grammar self.old.transcript.version) (lines self.old) (AnyRoute route)) }
+        ensures refused { IfErr result (RefusesLine (grammar_of self.old) (lines self.old) (AnyRoute route)) }
     {
         if !self.takes_routes() {
             return Err(Cause::Form);
@@ -350,11 +364,12 @@ impl TranscriptDraft {
     }
 
     fn add_message(&mut self, message: MessageLine) -> Result<(), Cause>
-        requires begun { IsBegun (transcript_grammar self.old.transcript.version) (lines self.old) }
+        requires begun { IsBegun (grammar_of self.old) (lines self.old) }
         requires fits { FitsMessage message }
-        ensures added { OnOk result (AddsLine (transcript_grammar self.old.transcript.version) (lines self.old) (MsgLine message) (lines self.new)) }
+        ensures added { OnOk result
+            (AddsLine (grammar_of self.old) (lines self.old) (MsgLine message) (lines self.new)) }
         ensures version { OnOk result (self.new.transcript.version ≡ self.old.transcript.version) }
-        ensures refused { IfErr result (RefusesLine (transcript_grammar self.old.transcript.version) (lines self.old) (MsgLine message)) }
+        ensures refused { IfErr result (RefusesLine (grammar_of self.old) (lines self.old) (MsgLine message)) }
     {
         if !self.takes_msgs() {
             return Err(Cause::Form);
@@ -365,9 +380,9 @@ impl TranscriptDraft {
 
     // Why a message is refused for which there is no memory.
     fn message_unread(&self) -> Cause
-        requires begun { IsBegun (transcript_grammar self.now.transcript.version) (lines self.now) }
+        requires begun { IsBegun (grammar_of self.now) (lines self.now) }
         ensures { (m : AnyMessage) → FitsMessage m
-            → RefusesLine (transcript_grammar self.now.transcript.version) (lines self.now) (MsgLine m) result }
+            → RefusesLine (grammar_of self.now) (lines self.now) (MsgLine m) result }
     {
         if self.takes_msgs() {
             Cause::NoMemory
@@ -377,11 +392,12 @@ impl TranscriptDraft {
     }
 
     fn add_full(&mut self, full: FullLine) -> Result<(), Cause>
-        requires begun { IsBegun (transcript_grammar self.old.transcript.version) (lines self.old) }
+        requires begun { IsBegun (grammar_of self.old) (lines self.old) }
         requires fits { FitsFull full }
-        ensures added { OnOk result (AddsLine (transcript_grammar self.old.transcript.version) (lines self.old) (AnyFull full) (lines self.new)) }
+        ensures added { OnOk result
+            (AddsLine (grammar_of self.old) (lines self.old) (AnyFull full) (lines self.new)) }
         ensures version { OnOk result (self.new.transcript.version ≡ self.old.transcript.version) }
-        ensures refused { IfErr result (RefusesLine (transcript_grammar self.old.transcript.version) (lines self.old) (AnyFull full)) }
+        ensures refused { IfErr result (RefusesLine (grammar_of self.old) (lines self.old) (AnyFull full)) }
     {
         if !self.takes_fulls() {
             return Err(Cause::Form);
@@ -391,12 +407,13 @@ impl TranscriptDraft {
     }
 
     fn add_hung(&mut self, hung: HungLine) -> Result<(), Cause>
-        requires begun { IsBegun (transcript_grammar self.old.transcript.version) (lines self.old) }
+        requires begun { IsBegun (grammar_of self.old) (lines self.old) }
         requires fits { FitsHung hung }
         requires told { CanTell self.old.transcript.version true }
-        ensures added { OnOk result (AddsLine (transcript_grammar self.old.transcript.version) (lines self.old) (AnyHung hung) (lines self.new)) }
+        ensures added { OnOk result
+            (AddsLine (grammar_of self.old) (lines self.old) (AnyHung hung) (lines self.new)) }
         ensures version { OnOk result (self.new.transcript.version ≡ self.old.transcript.version) }
-        ensures refused { IfErr result (RefusesLine (transcript_grammar self.old.transcript.version) (lines self.old) (AnyHung hung)) }
+        ensures refused { IfErr result (RefusesLine (grammar_of self.old) (lines self.old) (AnyHung hung)) }
     {
         if !self.takes_hungs() {
             return Err(Cause::Form);

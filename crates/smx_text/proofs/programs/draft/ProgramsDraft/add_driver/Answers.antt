@@ -7,7 +7,7 @@ use Rattle.smx_text.proofs.programs.draft.ProgramsDraft.add_driver.Goals as goal
 pub returns-then-not-is_empty-clause-refused : goal.returns-then-not-is_empty-clause-refused
 returns-then-not-is_empty-clause-refused c = misplaced c.args.self.now.version c.args.self.now (line.Driver c.args.driver) (search rules)
 
-pub returns-then-len-max_drivers-clause-refused : goal.returns-then-len-ge-MAX_DRIVERS-clause-refused
+pub returns-then-len-max_drivers-clause-refused : goal.returns-then-len-max_drivers-clause-refused
 returns-then-len-max_drivers-clause-refused c =
     too_many c.args.self.now.version c.args.self.now (line.Driver c.args.driver) (search rules) (search rules)
 
