@@ -1,17 +1,19 @@
 -- What dead streams hold goes with them, stream by stream.
-use Rattle.std.proofs.Common.{◌≡◌, ℕ, ◌+◌, Bool, true, false, ◌&&◌, not, eqb, List, [], ◌∷◌, ◌++◌, filter, take, refl, ap, ◌∙◌, inl, inr}
+use Rattle.std.proofs.Common.{◌≡◌, ℕ, ◌+◌, Bool, true, false, ◌&&◌, not, eqb, List, [], ◌∷◌, ◌++◌, filter, take, refl, sym, ap, ◌∙◌, inl, inr}
 use Rattle.std.proofs.lemmas.Bool.{cases_Bool}
 use Rattle.smx_types.specs.declared.driver.DriverSpec.{DriverSpec}
 use Rattle.smx_types.specs.declared.link.Binding.{Binding}
 use Rattle.smx_types.specs.declared.stream.Place.{Place}
 use Rattle.smx_types.specs.declared.stream.StreamId.{StreamId}
 use Rattle.smx_model.specs.Configuration.{Configuration, QueuedMessage, same_stream}
+use Rattle.smx_model.specs.Hangups.{is_hung}
 use Rattle.smx_model.specs.Removal.{without_dead_streams}
 use Rattle.smx_model.specs.Standing.{exists}
 use Rattle.smx_streams.specs.StreamTables.{StreamTable, exists as is_there}
 use Rattle.smx_config.specs.ExistingStreams.{TellsExisting}
 use Rattle.smx_config.specs.TouchedStreams.{is_dead, without_streams, IsTouched}
 use Rattle.smx_config.proofs.DeadLemmas.{dead_are_gone, none_dead, none_of_one, one_dead, stream_less}
+use Rattle.smx_config.proofs.HungLemmas.{all_pass}
 
 -- tests that agree keep the same
 filter_alike : {X : Type 0} (f g : X → Bool) (xs : List X) → ((x : X) → f x ≡ g x) → filter f xs ≡ filter g xs
@@ -88,8 +90,9 @@ not_not false = refl
 
 -- where all that went were seen, what is not there goes with what does not exist
 pub all_gone : (drivers : List DriverSpec) (c : Configuration) (t : StreamTable) (seen : List StreamId)
-    → TellsExisting drivers c t → IsTouched t seen c → without_streams c (is_dead t seen) ≡ without_dead_streams drivers c
-all_gone drivers c t seen told touched = same_parts c _ _ _ _ _ _
+    → TellsExisting drivers c t → IsTouched t seen c → ((x : StreamId) → is_hung c.hungs x ≡ true → is_there t x ≡ true)
+    → without_streams c (is_dead t seen) ≡ without_dead_streams drivers c
+all_gone drivers c t seen told touched hung = same_parts c _ _ _ _ _ _
     (dead_are_gone bound t seen c.binds touched.binds
     ∙ filter_alike (λ b. not (not (is_there t (bound b)))) (λ b. exists drivers c (bound b)) c.binds
     (λ b. not_not _ ∙ told (bound b)))
@@ -99,3 +102,5 @@ all_gone drivers c t seen told touched = same_parts c _ _ _ _ _ _
     (dead_are_gone marked t seen c.fulls touched.fulls
     ∙ filter_alike (λ p. not (not (is_there t (marked p)))) (λ p. not (not (exists drivers c (marked p)))) c.fulls
     (λ p. ap (λ (b : Bool). not (not b)) (told (marked p))))
+    ∙ ap (λ (hs : List StreamId). record (without_dead_streams drivers c) { hungs = hs })
+    (all_pass (exists drivers c) c.hungs (λ x up. sym (told x) ∙ hung x up))

@@ -1,4 +1,5 @@
 pub mod AboveLemmas
+pub mod HungLemmas
 pub mod TableLemmas
 pub mod ClimbLemmas
 pub mod ExistingLemmas
@@ -14,6 +15,7 @@ pub mod DescriptorLemmas
 pub mod PlaceLemmas
 pub mod SettleLemmas
 pub mod RemovalLemmas
+pub mod HungSweepLemmas
 pub mod BelowLemmas
 pub mod DropLemmas
 pub mod DeadLemmas

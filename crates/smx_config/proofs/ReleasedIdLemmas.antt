@@ -8,12 +8,13 @@ use Rattle.smx_types.specs.declared.stream.StreamId.{StreamId}
 use Rattle.smx_model.specs.Configuration.{same_stream}
 use Rattle.smx_model.specs.Paths.{AreLowersApart}
 use Rattle.smx_model.specs.Standing.{is_below}
-use Rattle.smx_streams.specs.StreamTables.{StreamTable, HasHolds, number_at}
+use Rattle.smx_streams.specs.StreamTables.{StreamTable, AreHungsSound, HasHolds, number_at}
 use Rattle.smx_config.specs.ExistingStreams.{AreHeld}
 use Rattle.smx_config.specs.ListedLinks.{is_listed}
 use Rattle.smx_links.specs.LinkLists.{is_one_of}
 use Rattle.smx_config.proofs.AboveLemmas.{once_below, once_id, stream_is, stream_self}
 use Rattle.smx_config.proofs.ExistingLemmas.{same_test}
+use Rattle.smx_config.proofs.HungLemmas.{none_went}
 use Rattle.smx_config.proofs.RemovalLemmas.{IsIdsRising, any_kept}
 use Rattle.smx_config.proofs.FoundLinkLemmas.{found_has, found_itself}
 
@@ -22,8 +23,8 @@ use Rattle.smx_config.proofs.FoundLinkLemmas.{found_has, found_itself}
 pub released_once : (t new : StreamTable) (s : StreamId) → number_at t.holds s ≤ 1 → 0 < number_at t.holds s → HasHolds t s (number_at t.holds s - 1) new → HasHolds t s 0 new
 released_once t new s few some h = let none : number_at t.holds s - 1 ≡ 0 = omega (arith, few, some) in subst (λ (n : ℕ). HasHolds t s n new) none h
 
-pub released_already : (t : StreamTable) (s : StreamId) → number_at t.holds s ≤ 0 → HasHolds t s 0 t
-released_already t s none = record { minors = refl; fds = refl; holds = λ x. by x (same_stream x s) refl } where
+pub released_already : (t : StreamTable) (s : StreamId) → AreHungsSound t → number_at t.holds s ≤ 0 → HasHolds t s 0 t
+released_already t s sound none = record { minors = refl; fds = refl; holds = λ x. by x (same_stream x s) refl; hungs = none_went t sound } where
   none_there : number_at t.holds s ≡ 0
   none_there = omega (arith, none)
 

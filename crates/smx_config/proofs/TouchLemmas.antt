@@ -16,6 +16,7 @@ use Rattle.smx_types.specs.declared.stream.Place.{Place}
 use Rattle.smx_types.specs.declared.stream.StreamId.{StreamId}
 use Rattle.smx_model.specs.Commands.{done_outcome}
 use Rattle.smx_model.specs.Configuration.{Configuration, QueuedMessage, is_fd, same_stream}
+use Rattle.smx_model.specs.Hangups.{is_hung}
 use Rattle.smx_model.specs.Outcomes.{or_fault}
 use Rattle.smx_model.specs.Removal.{without_links, without_queues_at}
 use Rattle.smx_model.specs.Standing.{exists, is_named, is_persistent}
@@ -28,6 +29,7 @@ use Rattle.smx_config.proofs.AboveLemmas.{stream_is}
 use Rattle.smx_config.proofs.DoneLemmas.{IdleDropsNone, all_fewer}
 use Rattle.smx_config.proofs.ExistingLemmas.{all_weaker, held_is_below, holds_few}
 use Rattle.smx_config.proofs.FoundLinkLemmas.{below_at}
+use Rattle.smx_config.proofs.HungLemmas.{pass_all}
 use Rattle.smx_config.proofs.PlaceLemmas.{not_more}
 use Rattle.smx_config.proofs.ReleaseLemmas.{not_true, starts}
 use Rattle.smx_config.proofs.WatchLemmas.{listed_last, listed_more, still_listed, there_same}
@@ -48,13 +50,14 @@ linked_still t ss c all h = all_weaker (λ l. is_persistent l || is_there_or_tou
     (λ l e. elim (or_cases (is_persistent l) (is_there_or_touched t ss l.ctl) e) [ inl p ↦ or_left _ _ p | inr o ↦ or_right _ _ (touched_there t ss l.ctl all o) ]) h.links
 
 -- nothing is left to sweep
-pub swept_still : (drivers : List DriverSpec) (c : Configuration) (t : StreamTable) (ss : List StreamId) → TellsExisting drivers c t → list_all (is_there t) ss ≡ true → IsTouched t ss c → IsSwept drivers c
-swept_still drivers c t ss told all h = record {
+pub swept_still : (drivers : List DriverSpec) (c : Configuration) (t : StreamTable) (ss : List StreamId) → TellsExisting drivers c t → list_all (is_there t) ss ≡ true → IsTouched t ss c → ((x : StreamId) → is_hung c.hungs x ≡ true → is_there t x ≡ true) → IsSwept drivers c
+swept_still drivers c t ss told all h hung = record {
   links = all_weaker (λ l. is_persistent l || is_there_or_touched t ss l.ctl) (λ l. is_persistent l || exists drivers c l.ctl) c.links
       (λ l e. elim (or_cases (is_persistent l) (is_there_or_touched t ss l.ctl) e) [ inl p ↦ or_left _ _ p | inr o ↦ or_right _ _ (there l.ctl o) ]) h.links;
   binds = all_weaker (λ (b : Binding). is_there_or_touched t ss (record { driver = b.driver; minor = b.minor })) (λ b. exists drivers c (record { driver = b.driver; minor = b.minor })) c.binds (λ b. there (record { driver = b.driver; minor = b.minor })) h.binds;
   flow = all_weaker (λ (m : QueuedMessage). is_there_or_touched t ss m.place.stream) (λ m. exists drivers c m.place.stream) c.flow (λ m. there m.place.stream) h.flow;
   fulls = all_weaker (λ (p : Place). is_there_or_touched t ss p.stream) (λ p. exists drivers c p.stream) c.fulls (λ p. there p.stream) h.fulls;
+  hungs = pass_all (exists drivers c) c.hungs (λ x up. sym (told x) ∙ hung x up);
 } where
   there : (s : StreamId) → is_there_or_touched t ss s ≡ true → exists drivers c s ≡ true
   there s o = sym (told s) ∙ touched_there t ss s all o
@@ -72,9 +75,12 @@ touched_by drivers c t u ss told h stays = record {
   now : (s : StreamId) → exists drivers c s ≡ true → is_there_or_touched u ss s ≡ true
   now s e = stays s (told s ∙ e)
 
--- with other descriptors, and without some links
+-- with other descriptors, with other hung-up streams, and without some links
 pub touched_fds : (t : StreamTable) (ss : List StreamId) (c : Configuration) (fds : List Descriptor) → IsTouched t ss c → IsTouched t ss (record c { fds = fds })
 touched_fds t ss c fds h = record { links = h.links; binds = h.binds; flow = h.flow; fulls = h.fulls }
+
+pub touched_hungs : (t : StreamTable) (ss : List StreamId) (c : Configuration) (hungs : List StreamId) → IsTouched t ss c → IsTouched t ss (record c { hungs = hungs })
+touched_hungs t ss c hungs h = record { links = h.links; binds = h.binds; flow = h.flow; fulls = h.fulls }
 
 pub touched_without : (t : StreamTable) (ss : List StreamId) (c : Configuration) (goes : Link → Bool) → IsTouched t ss c → IsTouched t ss (without_links c goes)
 touched_without t ss c goes h = record { links = all_fewer _ _ c.links h.links; binds = h.binds; flow = all_fewer _ _ c.flow h.flow; fulls = all_fewer _ _ c.fulls h.fulls }
@@ -104,6 +110,11 @@ closed_stays t u p n stays less went s there = elim (cases_Bool (is_there u s)) 
 ] where
   same : is_there u s ≡ is_there (without_fd t p n) s
   same = ap (λ (fds : List Descriptor). is_named fds s || nat_lt 0 (number_at u.holds s)) less.fds ∙ ap (λ (m : ℕ). is_named (filter (λ d. not (is_fd p n d)) t.fds) s || nat_lt 0 m) (less.holds s)
+
+-- so the hung-up streams are there
+pub all_stay : (t u : StreamTable) (hungs : List StreamId) → ((x : StreamId) → is_hung hungs x ≡ true → is_there t x ≡ true) → ((x : StreamId) → is_there t x ≡ true → is_there_or_touched u [] x ≡ true)
+    → (x : StreamId) → is_hung hungs x ≡ true → is_there u x ≡ true
+all_stay t u hungs there stays x up = touched_there u [] x refl (stays x (there x up))
 
 -- or it is touched
 pub closed_touches : (t u : StreamTable) (p n : ℕ) (s : StreamId) (ss : List StreamId) → stream_at t.fds p n ≡ Some s → list_any (same_stream s) ss ≡ true

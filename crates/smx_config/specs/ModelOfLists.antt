@@ -15,6 +15,7 @@ configuration_of l = record {
   flow = l.queues.flow;
   fulls = l.queues.fulls;
   next_serial = l.next_serial;
+  hungs = l.streams.hungs;
 }
 
 -- over how many drivers the links are, how many minors each driver has, and over which drivers the queues are: no command

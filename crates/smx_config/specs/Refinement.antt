@@ -2,6 +2,7 @@
 use Rattle.std.specs.Prelude.{◌≡◌, ℕ, ◌≤◌, List, length, map, Result, Ok, Err, IsOk}
 use Rattle.smx_types.specs.declared.command.Command.{Command}
 use Rattle.smx_types.specs.declared.driver.DriverSpec.{DriverSpec}
+use Rattle.smx_types.specs.declared.limits.TheConstants.{MAX_DRIVERS}
 use Rattle.smx_types.specs.declared.reply.Fault.{Fault}
 use Rattle.smx_types.specs.declared.reply.Reply.{Reply}
 use Rattle.smx_model.specs.Commands.{outcome}
@@ -19,7 +20,7 @@ use Rattle.smx_config.specs.ModelOfLists.{configuration_of}
 
 -- what holds between any two steps
 pub record StepInvariant (drivers : List DriverSpec) (l : Lists) : Type 0 where
-  pub few : length drivers ≤ 64
+  pub few : length drivers ≤ MAX_DRIVERS
   pub minors : HaveFewMinors drivers
   pub table : l.links.drivers ≡ length drivers
   pub streams : l.streams.minors ≡ map (λ d. d.minors) drivers

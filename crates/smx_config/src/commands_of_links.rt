@@ -28,6 +28,7 @@ fn check_upper(drivers: &[DriverSpec], lists: &Lists, upper: StreamId) -> Result
     ensures { result ≡ may_have_links drivers.now (configuration_of lists.now) upper }
 {
     refuse(Fault::Below, lists.links.is_below(upper))?;
+    refuse(Fault::HungUp, lists.streams.is_hung(upper))?;
     refuse(Fault::NotMux, !is_mux(drivers, upper.driver as usize))
 }
 

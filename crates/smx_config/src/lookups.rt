@@ -1,7 +1,7 @@
 //! What the words of a command name in a configuration, and the refusals where they name nothing.
 
 ghost use Rattle.std.specs.Prelude.{◌≡◌};
-ghost use Rattle.smx_model.specs.Lookups.{stream_of, free_stream, mux_stream, leaf_stream};
+ghost use Rattle.smx_model.specs.Lookups.{stream_of, free_stream, live_stream, mux_stream, leaf_stream, live_leaf};
 ghost use Rattle.smx_model.specs.Standing.{exists};
 ghost use Rattle.smx_config.specs.ExistingStreams.{TellsExisting};
 ghost use Rattle.smx_config.specs.ModelOfLists.{configuration_of};
@@ -26,6 +26,15 @@ pub fn free_stream(lists: &Lists, process: Process, fd: u32) -> Result<StreamId,
 {
     let stream = stream_of(lists, process, fd)?;
     refuse(Fault::Below, lists.links.is_below(stream))?;
+    Ok(stream)
+}
+
+// The same, where its device has not hung up.
+pub fn live_stream(lists: &Lists, process: Process, fd: u32) -> Result<StreamId, Fault>
+    ensures { result ≡ live_stream (configuration_of lists.now) process fd }
+{
+    let stream = free_stream(lists, process, fd)?;
+    refuse(Fault::HungUp, lists.streams.is_hung(stream))?;
     Ok(stream)
 }
 
@@ -70,5 +79,20 @@ pub fn leaf_stream(
         minor: minor as u8,
     };
     refuse(Fault::NoMinor, !exists(drivers, lists, stream))?;
+    Ok(stream)
+}
+
+// The same, where its device has not hung up.
+pub fn live_leaf(
+    drivers: &[DriverSpec],
+    lists: &Lists,
+    name: &Name,
+    minor: u32,
+) -> Result<StreamId, Fault>
+    requires { StepInvariant drivers.now lists.now }
+    ensures { result ≡ live_leaf drivers.now (configuration_of lists.now) name.now minor }
+{
+    let stream = leaf_stream(drivers, lists, name, minor)?;
+    refuse(Fault::HungUp, lists.streams.is_hung(stream))?;
     Ok(stream)
 }

@@ -4,7 +4,7 @@ ghost use Rattle.std.specs.Prelude.{◌≡◌, ℕ, ◌+◌, ◌≤◌, ◌++◌
 ghost use Rattle.std.specs.List.{list_any};
 ghost use Rattle.smx_types.specs.declared.stream.StreamId.{StreamId};
 ghost use Rattle.smx_model.specs.Configuration.{same_stream};
-ghost use Rattle.smx_streams.specs.StreamTables.{exists as is_there};
+ghost use Rattle.smx_streams.specs.StreamTables.{LeavesHungs, exists as is_there};
 ghost use Rattle.smx_links.specs.LinkLists.{is_upper};
 ghost use Rattle.smx_config.specs.ExistingStreams.{is_held, is_loose, holds_below, IsReleasing};
 ghost use Rattle.smx_config.specs.TouchedStreams.{is_there_or_touched, AreReleased, IsCascade};
@@ -54,6 +54,8 @@ fn release_below(
     requires gone { AreReleased links.now.links streams.old gone.old.items (vec_capacity gone.old) }
     ensures fds { streams.new.fds ≡ streams.old.fds }
     ensures minors { streams.new.minors ≡ streams.old.minors }
+    ensures hungs { LeavesHungs streams.old streams.new }
+    ensures there { (s : StreamId) → is_there streams.new s ≡ true → is_there streams.old s ≡ true }
     ensures cascade { IsCascade links.now.links streams.new touched.new.items (vec_capacity touched.new) }
     ensures less { length touched.new.items + holds_below links.now.links streams.new
         ≤ length touched.old.items + holds_below links.now.links streams.old }
@@ -62,6 +64,7 @@ fn release_below(
     ensures gone { AreReleased links.now.links streams.new gone.new.items (vec_capacity gone.new) }
 {
     links.is_sound();
+    streams.is_sound();
     if !may_have_loose(streams, links, ctl) {
         return;
     }
@@ -91,12 +94,14 @@ pub fn release_orphans(
     requires gone { AreReleased links.now.links streams.old gone.old.items (vec_capacity gone.old) }
     ensures fds { streams.new.fds ≡ streams.old.fds }
     ensures minors { streams.new.minors ≡ streams.old.minors }
+    ensures hungs { LeavesHungs streams.old streams.new }
     ensures releasing { (climbs : ℕ) → IsReleasing links.now.links climbs streams.new }
     ensures none { list_any (is_loose streams.new) links.now.links ≡ false }
     ensures seen { (s : StreamId) → is_there_or_touched streams.old touched.items s ≡ true
         → is_there_or_touched streams.new seen.new.items s ≡ true }
     ensures gone { AreReleased links.now.links streams.new gone.new.items (vec_capacity gone.new) }
 {
+    streams.is_sound();
     let mut left = touched;
     while let Some(stream) = left.pop() {
         seen.push_reserved(stream);

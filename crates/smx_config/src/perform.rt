@@ -11,8 +11,8 @@ ghost use Rattle.smx_config.specs.KeptHolds.{KeepsHolds};
 
 use crate::commands_of_addresses::{bind, route, unbind, unroute};
 use crate::commands_of_links::{link, plink, punlink, unlink};
-use crate::commands_of_messages::{flush, receive, send};
-use crate::commands_of_streams::{close, close_all, dup, open_clone, open_minor};
+use crate::commands_of_messages::{flush, read, receive, send};
+use crate::commands_of_streams::{close, close_all, dup, hangup, open_clone, open_minor};
 use crate::lists::Lists;
 use crate::step_error::StepError;
 use smx_types::{Command, DriverSpec, Fault, Process, Reply, Side, StreamId};
@@ -67,11 +67,14 @@ pub fn perform(
         Command::Write { addr, bytes, .. } => {
             send(alloc, drivers, lists, named, Side::Write, *addr, bytes)
         }
-        Command::Read { .. } => as_step_error(receive(drivers, lists, named, Side::Read)),
+        Command::Read { .. } => as_step_error(read(drivers, lists, named)),
         Command::Flush { fd, sides } => flush(alloc, drivers, lists, process, *fd, *sides),
         Command::Inject { addr, bytes, .. } => {
             send(alloc, drivers, lists, named, Side::Read, *addr, bytes)
         }
         Command::Transmit { .. } => as_step_error(receive(drivers, lists, named, Side::Write)),
+        Command::Hangup { driver, minor } => {
+            as_step_error(hangup(alloc, drivers, lists, process, driver, *minor))
+        }
     }
 }

@@ -6,7 +6,7 @@ ghost use Rattle.smx_types.specs.declared.stream.StreamId.{StreamId};
 ghost use Rattle.smx_model.specs.Configuration.{QueuedMessage};
 ghost use Rattle.smx_model.specs.Removal.{without_links};
 ghost use Rattle.smx_links.specs.LinkLists.{is_one_of};
-ghost use Rattle.smx_streams.specs.StreamTables.{HasHolds, exists as is_there, number_at};
+ghost use Rattle.smx_streams.specs.StreamTables.{HasHolds, LeavesHungs, exists as is_there, number_at};
 ghost use Rattle.smx_config.specs.DroppedMessages.{AreDropped};
 ghost use Rattle.smx_config.specs.ExistingStreams.{AreHeld};
 ghost use Rattle.smx_config.specs.KeptHolds.{KeepsHolds};
@@ -48,6 +48,7 @@ fn release_held(streams: &mut Streams, stream: StreamId)
     requires { number_at streams.old.holds stream ≤ 1 }
     ensures { HasHolds streams.old stream 0 streams.new }
 {
+    streams.is_sound();
     if streams.holds_of(stream) > 0 {
         let _gone = streams.release(stream);
     }
@@ -60,12 +61,14 @@ fn release_each(streams: &mut Streams, links: &LinkTable, gone: &[u32], touched:
     ensures held { AreHeld (filter (λ l. not (is_one_of gone.now l)) links.now.links) streams.new }
     ensures fds { streams.new.fds ≡ streams.old.fds }
     ensures minors { streams.new.minors ≡ streams.old.minors }
+    ensures hungs { LeavesHungs streams.old streams.new }
     ensures touched { (s : StreamId) → is_there streams.old s ≡ true
         → is_there_or_touched streams.new touched.new.items s ≡ true }
     ensures few { length touched.new.items ≤ length touched.old.items + length gone.now }
     ensures capacity { vec_capacity touched.new ≡ vec_capacity touched.old }
 {
     links.is_sound();
+    streams.is_sound();
     for id in gone {
         if let Some(link) = links.get(*id) {
             release_held(streams, link.lower);
@@ -107,7 +110,9 @@ pub fn remove_links(
     requires room { length touched.old.items + length gone.now ≤ vec_capacity touched.old }
     requires dropped { length dropped.old.items + length lists.old.queues.flow ≤ vec_capacity dropped.old }
     ensures value { (goes : Link → Bool) → gone.now ≡ map (λ l. l.id) (filter goes lists.old.links.links)
-        → configuration_of lists.new ≡ without_links (configuration_of lists.old) goes }
+        → configuration_of lists.new
+        ≡ record (without_links (configuration_of lists.old) goes) { hungs = lists.new.streams.hungs } }
+    ensures hungs { LeavesHungs lists.old.streams lists.new.streams }
     ensures dropped { (old : List QueuedMessage) → AreDropped old lists.old.queues.flow dropped.old.items
         → AreDropped old lists.new.queues.flow dropped.new.items }
     ensures room { length dropped.new.items + length lists.new.queues.flow ≤ vec_capacity dropped.new }

@@ -4,15 +4,15 @@ ghost use Rattle.std.specs.Prelude.{◌≡◌, ◌<◌, length, map, IfOk};
 ghost use Rattle.std.specs.List.{All};
 ghost use Rattle.smx_model.specs.DriverList.{name_of};
 ghost use Rattle.smx_model.specs.Views.{view_of_fd, view_of_link, view_of_bind, view_of_route};
-ghost use Rattle.smx_model.specs.Views.{view_of_message, view_of_full};
+ghost use Rattle.smx_model.specs.Views.{view_of_message, view_of_full, view_of_hung};
 
 use smx_addresses::{Bindings, Routes};
 use smx_links::LinkTable;
 use smx_queues::{FlowTable, Queued};
 use smx_streams::Streams;
 use smx_types::{
-    Binding, BindingLine, Descriptor, DescriptorLine, DriverSpec, FullLine, Link, LinkLine,
-    MessageLine, Name, NoMemory, Place, Route, RouteLine,
+    Binding, BindingLine, Descriptor, DescriptorLine, DriverSpec, FullLine, HungLine, Link,
+    LinkLine, MessageLine, Name, NoMemory, Place, Route, RouteLine, StreamId,
 };
 use std::alloc::Global;
 
@@ -99,6 +99,16 @@ pub fn full_line(drivers: &[DriverSpec], p: &Place) -> FullLine
         driver: name_of(drivers, p.stream.driver),
         minor: u32::from(p.stream.minor),
         side: p.side,
+    }
+}
+
+pub fn hung_line(drivers: &[DriverSpec], stream: StreamId) -> HungLine
+    requires { stream.driver < length drivers.now }
+    ensures { result ≡ view_of_hung drivers.now stream }
+{
+    HungLine {
+        driver: name_of(drivers, stream.driver),
+        minor: u32::from(stream.minor),
     }
 }
 
@@ -198,6 +208,22 @@ pub fn full_lines(
     let mut rest = queues.fulls();
     while let Some(place) = rest.next() {
         lines.push(full_line(drivers, &place))?;
+    }
+    Ok(lines)
+}
+
+pub fn hung_lines(
+    alloc: Global,
+    drivers: &[DriverSpec],
+    streams: &Streams,
+) -> Result<Vec<HungLine>, NoMemory>
+    requires { All (λ s. s.driver < length drivers.now) streams.now.hungs }
+    ensures { IfOk result (λ v. v.items ≡ map (view_of_hung drivers.now) streams.now.hungs) }
+{
+    let mut lines = Vec::new(alloc);
+    let mut rest = streams.hungs();
+    while let Some(stream) = rest.next() {
+        lines.push(hung_line(drivers, stream))?;
     }
     Ok(lines)
 }

@@ -3,6 +3,7 @@
 ghost use Rattle.std.specs.Prelude.{◌≡◌, ◌↔◌, ◌<◌, ◌≤◌, true, length, map, IsTrue};
 ghost use Rattle.std.specs.List.{All};
 ghost use Rattle.std.specs.Option.{option_map_or};
+ghost use Rattle.smx_types.specs.declared.limits.TheConstants.{MAX_DRIVERS};
 ghost use Rattle.smx_model.specs.Configuration.{bind_before, route_before};
 ghost use Rattle.smx_model.specs.DriverList.{IsDriverList};
 ghost use Rattle.smx_model.specs.Views.{view_of_bind, view_of_route};
@@ -16,7 +17,7 @@ use smx_types::{Binding, BindingLine, DriverSpec, Route, RouteLine};
 
 // The binding that the line shows, where there is one.
 fn shown_binding(drivers: &[DriverSpec], binds: &Bindings, line: &BindingLine) -> Option<Binding>
-    requires { length drivers.now ≤ 64 }
+    requires { length drivers.now ≤ MAX_DRIVERS }
     ensures { result ≡ shown_binding drivers.now binds.now line.now }
 {
     let Ok(driver) = driver_of(drivers, &line.driver) else {
@@ -66,7 +67,7 @@ pub fn are_bindings_shown(drivers: &[DriverSpec], binds: &Bindings, lines: &[Bin
 
 // The route that the line shows, where there is one.
 fn shown_route(drivers: &[DriverSpec], routes: &Routes, line: &RouteLine) -> Option<Route>
-    requires { length drivers.now ≤ 64 }
+    requires { length drivers.now ≤ MAX_DRIVERS }
     ensures { result ≡ shown_route drivers.now routes.now line.now }
 {
     let Ok(driver) = driver_of(drivers, &line.driver) else {

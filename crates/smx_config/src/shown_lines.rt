@@ -2,14 +2,15 @@
 
 ghost use Rattle.std.specs.Prelude.{◌≡◌, ◌↔◌, ◌<◌, length, map, IsTrue};
 ghost use Rattle.std.specs.List.{All};
-ghost use Rattle.smx_model.specs.Views.{view_of_fd, view_of_full, view_of_link, view_of_message};
+ghost use Rattle.smx_model.specs.Views.{view_of_fd, view_of_full, view_of_hung, view_of_link, view_of_message};
 
-use crate::show::{descriptor_line, full_line, link_line, name_of};
+use crate::show::{descriptor_line, full_line, hung_line, link_line, name_of};
 use smx_links::LinkTable;
 use smx_queues::{FlowTable, Queued};
 use smx_streams::Streams;
 use smx_types::{
-    Descriptor, DescriptorLine, DriverSpec, FullLine, Link, LinkLine, MessageLine, Place,
+    Descriptor, DescriptorLine, DriverSpec, FullLine, HungLine, Link, LinkLine, MessageLine, Place,
+    StreamId,
 };
 
 fn is_link_shown(drivers: &[DriverSpec], link: &Link, line: &LinkLine) -> bool
@@ -111,6 +112,30 @@ pub fn are_fulls_shown(drivers: &[DriverSpec], queues: &FlowTable, lines: &[Full
             return false;
         };
         if !is_full_shown(drivers, place, line) {
+            return false;
+        }
+    }
+    rest.next().is_none()
+}
+
+fn is_hung_shown(drivers: &[DriverSpec], stream: StreamId, line: &HungLine) -> bool
+    requires { stream.driver < length drivers.now }
+    ensures { IsTrue result ↔ (line.now ≡ view_of_hung drivers.now stream) }
+{
+    hung_line(drivers, stream) == *line
+}
+
+/// The same of the streams of a table that have hung up.
+pub fn are_hungs_shown(drivers: &[DriverSpec], streams: &Streams, lines: &[HungLine]) -> bool
+    requires { All (λ s. s.driver < length drivers.now) streams.now.hungs }
+    ensures { IsTrue result ↔ (lines.now ≡ map (view_of_hung drivers.now) streams.now.hungs) }
+{
+    let mut rest = streams.hungs();
+    for line in lines {
+        let Some(stream) = rest.next() else {
+            return false;
+        };
+        if !is_hung_shown(drivers, stream, line) {
             return false;
         }
     }

@@ -7,7 +7,7 @@ ghost use Rattle.smx_types.specs.declared.stream.StreamId.{StreamId};
 ghost use Rattle.smx_model.specs.Configuration.{QueuedMessage};
 ghost use Rattle.smx_model.specs.KnownStreams.{IsKnown};
 ghost use Rattle.smx_model.specs.Removal.{serials, serials_that_left, without_dead_streams, without_links, after_sweep};
-ghost use Rattle.smx_streams.specs.StreamTables.{exists as is_there};
+ghost use Rattle.smx_streams.specs.StreamTables.{LeavesHungs, exists as is_there};
 ghost use Rattle.smx_config.specs.DroppedMessages.{AreDropped};
 ghost use Rattle.smx_config.specs.ExistingStreams.{holds_below, TellsExisting};
 ghost use Rattle.smx_config.specs.ListedLinks.{is_orphaned};
@@ -57,6 +57,7 @@ fn drop_dead(drivers: &[DriverSpec], lists: &mut Lists, seen: &[StreamId], dropp
     ensures drivers { sizes_of lists.new ≡ sizes_of lists.old }
 {
     let _drivers = drivers;
+    lists.streams.is_sound();
     for stream in seen {
         drop_if_dead(lists, *stream, dropped);
     }
@@ -80,8 +81,9 @@ fn drop_orphans(
     requires empty { room.items ≡ [] }
     requires room { length lists.old.links.links ≤ vec_capacity room }
     requires dropped { length dropped.old.items + length lists.old.queues.flow ≤ vec_capacity dropped.old }
-    ensures value { configuration_of lists.new ≡ without_links (configuration_of lists.old)
-        (is_orphaned lists.old.streams.fds lists.old.links.links (length drivers.now)) }
+    ensures value { configuration_of lists.new ≡ record (without_links (configuration_of lists.old)
+        (is_orphaned lists.old.streams.fds lists.old.links.links (length drivers.now))) { hungs = lists.new.streams.hungs } }
+    ensures hungs { LeavesHungs lists.old.streams lists.new.streams }
     ensures seen { (s : StreamId) → is_there_or_touched lists.old.streams touched.items s ≡ true
         → is_there_or_touched lists.new.streams seen.new.items s ≡ true }
     ensures dropped { (old : List QueuedMessage) → AreDropped old lists.old.queues.flow dropped.old.items
@@ -131,6 +133,7 @@ fn sweep(drivers: &[DriverSpec], lists: &mut Lists, room: SweepReserve) -> Vec<u
     ensures kept { KeepsHolds lists.new }
     ensures drivers { sizes_of lists.new ≡ sizes_of lists.old }
 {
+    lists.streams.is_sound();
     let mut dropped = room.dropped;
     if are_there(&lists.streams, &room.touched) {
         sweeping_again_changes_nothing();

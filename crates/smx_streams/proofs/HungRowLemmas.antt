@@ -9,7 +9,7 @@ use Rattle.smx_model.specs.Ordered.{ComesBefore, IsRising}
 use Rattle.smx_streams.specs.HungRows.{flag_at, hung_from, hungs_from}
 use Rattle.smx_streams.proofs.ListLemmas.{comes_both}
 
-abbrev stream : ℕ → ℕ → StreamId
+abbrev pub stream : ℕ → ℕ → StreamId
 stream d m = record { driver = d; minor = m }
 
 hung_both : (xs ys : List StreamId) (s : StreamId) → is_hung (xs ++ ys) s ≡ (is_hung xs s || is_hung ys s)

@@ -8,3 +8,4 @@ pub mod NameLemmas
 pub mod NextLemmas
 pub mod WentLemmas
 pub mod HungLemmas
+pub mod HungNextLemmas

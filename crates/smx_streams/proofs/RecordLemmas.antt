@@ -1,11 +1,13 @@
 -- Records by driver and minor, changed, made and gone.
-use Rattle.std.proofs.Common.{◌≡◌, ◌≢◌, ℕ, ◌+◌, ◌<◌, true, false, List, [], ◌∷◌, map, replicate, Option, Some, None, if◌then◌else◌, refl, sym, ap, ◌∙◌, subst, arith, inl, inr}
+use Rattle.std.proofs.Common.{◌≡◌, ◌≢◌, ℕ, ◌+◌, ◌<◌, ◌≤◌, true, false, List, [], ◌∷◌, length, map, replicate, Option, Some, None, if◌then◌else◌, refl, sym, ap, ◌∙◌, subst, arith, inl, inr}
 use Rattle.std.proofs.lemmas.Bool.{cases_Bool, cases_eq, both_ways, ltb-true, lt-ltb}
 use Rattle.std.specs.Prelude.{IfSome, nat_lt}
 use Rattle.std.specs.List.{AllZip}
 use Rattle.std.specs.Option.{is_some}
 use Rattle.std.proofs.lemmas.Bool.Decides.{nat_tests}
+use Rattle.std.proofs.lemmas.List.{length-map}
 use Rattle.slab.specs.Slab.{Slab, get, IsSlotClone, Updates}
+use Rattle.smx_types.specs.declared.limits.TheConstants.{MAX_DRIVERS}
 use Rattle.smx_types.specs.declared.stream.StreamId.{StreamId}
 use Rattle.smx_model.specs.Configuration.{same_stream}
 use Rattle.smx_streams.specs.declared.records.Record.{Record}
@@ -37,10 +39,17 @@ other_record grid old s x key new_key slot new_grid new h f = ap (record_of_key 
   by None is = refl
   by (Some k) is = h.slots.others k (λ e. both_ways (same_stream x s) f (h.apart x (is ∙ ap Some e)))
 
+-- as many drivers as before
+few_still : (grid new_grid : Grid) → length grid ≤ MAX_DRIVERS → map length new_grid ≡ map length grid → length new_grid ≤ MAX_DRIVERS
+few_still grid new_grid few same =
+    let lengths : Grid → List ℕ = map length in
+    let many : length (lengths new_grid) ≡ length (lengths grid) = ap length same in
+    omega (arith, few, many, length-map grid length, length-map new_grid length)
+
 -- a record that stays, or is new
-is_set_some : (grid : Grid) (old : Slab Record) (key : ℕ) (r : Record) (new_grid : Grid) (new : Slab Record) → AreRecords grid old → 0 < r.opens + r.holds
+is_set_some : (grid : Grid) (old : Slab Record) (key : ℕ) (r : Record) (new_grid : Grid) (new : Slab Record) → AreRecords grid old → length new_grid ≤ MAX_DRIVERS → 0 < r.opens + r.holds
     → IsChange grid old r.stream key (Some key) (Some r) new_grid new → AreRecords new_grid new
-is_set_some grid old key r new_grid new whole used h = record { listed = listed; recorded = recorded } where
+is_set_some grid old key r new_grid new whole few used h = record { few = few; listed = listed; recorded = recorded } where
   listed : (x : StreamId) (k : ℕ) → key_at new_grid x ≡ Some k → (q : Record) × (get new k ≡ Some q) × IsRecord x q
   listed x k is = elim (cases_Bool (same_stream x r.stream)) [
     | inl t ↦
@@ -66,9 +75,9 @@ is_set_some grid old key r new_grid new whole used h = record { listed = listed;
   ]
 
 -- a record that is gone
-is_set_none : (grid : Grid) (old : Slab Record) (s : StreamId) (key : ℕ) (new_grid : Grid) (new : Slab Record) → AreRecords grid old
+is_set_none : (grid : Grid) (old : Slab Record) (s : StreamId) (key : ℕ) (new_grid : Grid) (new : Slab Record) → AreRecords grid old → length new_grid ≤ MAX_DRIVERS
     → IsChange grid old s key None None new_grid new → AreRecords new_grid new
-is_set_none grid old s key new_grid new whole h = record { listed = listed; recorded = recorded } where
+is_set_none grid old s key new_grid new whole few h = record { few = few; listed = listed; recorded = recorded } where
   listed : (x : StreamId) (k : ℕ) → key_at new_grid x ≡ Some k → (q : Record) × (get new k ≡ Some q) × IsRecord x q
   listed x k is = elim (cases_Bool (same_stream x s)) [
     | inl t ↦ let same : ◌≡◌ {A = Option ℕ} None (Some k) = sym (same_keys grid s x None new_grid h.keys t) ∙ is in absurd cc
@@ -142,7 +151,7 @@ put_back_some grid old key r new whole there used slots =
       apart = known_apart grid old r.stream key whole there;
       alone = known_alone grid old r.stream key whole there;
     } in
-    record { whole = is_set_some grid old key r grid new whole used change; set = numbers_set grid old r key (Some key) (Some r) grid new change (ap opens_of slots.changed) (ap holds_of slots.changed) (ap hung_of slots.changed ∙ flag_of_used r used) refl }
+    record { whole = is_set_some grid old key r grid new whole whole.few used change; set = numbers_set grid old r key (Some key) (Some r) grid new change (ap opens_of slots.changed) (ap holds_of slots.changed) (ap hung_of slots.changed ∙ flag_of_used r used) refl }
 
 pub put_back_none : (grid : Grid) (old : Slab Record) (key : ℕ) (r : Record) (new_grid : Grid) (new : Slab Record) → AreRecords grid old → key_at grid r.stream ≡ Some key → r.opens ≡ 0 → r.holds ≡ 0 → Updates old new key None
     → ((x : StreamId) → key_at new_grid x ≡ (if same_stream x r.stream then None else key_at grid x)) → (uses_of new_grid new).minors ≡ (uses_of grid old).minors → IsSet grid old r new_grid new
@@ -153,7 +162,7 @@ put_back_none grid old key r new_grid new whole there opens holds slots keys min
       apart = known_apart grid old r.stream key whole there;
       alone = known_alone grid old r.stream key whole there;
     } in
-    record { whole = is_set_none grid old r.stream key new_grid new whole change; set = numbers_set grid old r key None None new_grid new change (sym opens) (sym holds) (flag_of_none r opens holds) minors }
+    record { whole = is_set_none grid old r.stream key new_grid new whole (few_still grid new_grid whole.few minors) change; set = numbers_set grid old r key None None new_grid new change (sym opens) (sym holds) (flag_of_none r opens holds) minors }
 
 -- where it had none
 
@@ -169,7 +178,7 @@ put_new grid old key r new_grid new whole none vacant used slots keys minors =
         | inr f ↦ f
       ];
     } in
-    record { whole = is_set_some grid old key r new_grid new whole used change; set = numbers_set grid old r key (Some key) (Some r) new_grid new change (ap opens_of slots.changed) (ap holds_of slots.changed) (ap hung_of slots.changed ∙ flag_of_used r used) minors }
+    record { whole = is_set_some grid old key r new_grid new whole (few_still grid new_grid whole.few minors) used change; set = numbers_set grid old r key (Some key) (Some r) new_grid new change (ap opens_of slots.changed) (ap holds_of slots.changed) (ap hung_of slots.changed ∙ flag_of_used r used) minors }
 
 -- a stream that has some descriptor is in range
 pub used_is_in_range : (grid : Grid) (records : Slab Record) (s : StreamId) → 0 < number_at (uses_of grid records).opens s → is_in_range (uses_of grid records).minors s.driver s.minor ≡ true
@@ -178,10 +187,22 @@ used_is_in_range grid records s h = by (key_at grid s) refl where
   by (Some key) is = in_range_of_key grid s key is
   by None is = let none : number_at (uses_of grid records).opens s ≡ 0 = opens_at grid records s ∙ ap (λ o. opens_of (record_of_key records o)) is in absurd (omega (arith, none))
 
+-- and so is one that has hung up
+pub hung_is_in_range : (grid : Grid) (records : Slab Record) (s : StreamId) → flag_at (uses_of grid records).hungs s ≡ true → is_in_range (uses_of grid records).minors s.driver s.minor ≡ true
+hung_is_in_range grid records s h = by (key_at grid s) refl where
+  by : (o : Option ℕ) → key_at grid s ≡ o → is_in_range (uses_of grid records).minors s.driver s.minor ≡ true
+  by (Some key) is = in_range_of_key grid s key is
+  by None is = let none : flag_at (uses_of grid records).hungs s ≡ false = hungs_at grid records s ∙ ap (λ o. hung_of (record_of_key records o)) is in absurd cc
+
+-- there are no more drivers than there may be
+pub few_minors : (grid : Grid) (records : Slab Record) → AreRecords grid records → length (uses_of grid records).minors ≤ MAX_DRIVERS
+few_minors grid records whole = omega (arith, whole.few, length-map grid length)
+
 -- no records
 
-pub none_recorded : (minors : List ℕ) (records : Slab Record) → ((k : ℕ) → get records k ≡ None) → AreRecords (map (λ n. replicate n None) minors) records
-none_recorded minors records none = record {
+pub none_recorded : (minors : List ℕ) (records : Slab Record) → length minors ≤ MAX_DRIVERS → ((k : ℕ) → get records k ≡ None) → AreRecords (map (λ n. replicate n None) minors) records
+none_recorded minors records few none = record {
+  few = let rows : ℕ → List (Option ℕ) = λ n. replicate n None in omega (arith, few, length-map minors rows);
   listed = λ s key is. let no : ◌≡◌ {A = Option ℕ} None (Some key) = sym (no_keys minors s) ∙ is in absurd cc;
   recorded = λ key r is. let no : ◌≡◌ {A = Option Record} None (Some r) = sym (none key) ∙ is in absurd cc;
 }

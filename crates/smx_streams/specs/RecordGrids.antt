@@ -1,6 +1,7 @@
 -- The records of streams, by driver and minor. No public clause needs this.
-use Rattle.std.specs.Prelude.{◌≡◌, ℕ, ◌+◌, ◌<◌, nat_lt, Bool, false, ◌&&◌, List, [], map, length, slice_index_or, slice_set, Option, Some, None, if◌then◌else◌, IfSome}
+use Rattle.std.specs.Prelude.{◌≡◌, ℕ, ◌+◌, ◌<◌, ◌≤◌, nat_lt, Bool, false, ◌&&◌, List, [], map, length, slice_index_or, slice_set, Option, Some, None, if◌then◌else◌, IfSome}
 use Rattle.slab.specs.Slab.{Slab, get}
+use Rattle.smx_types.specs.declared.limits.TheConstants.{MAX_DRIVERS}
 use Rattle.smx_types.specs.declared.stream.StreamId.{StreamId}
 use Rattle.smx_model.specs.Configuration.{same_stream}
 use Rattle.smx_streams.specs.declared.records.Record.{Record}
@@ -77,8 +78,10 @@ pub record IsRecord (s : StreamId) (r : Record) : Type 0 where
   pub stream : r.stream ≡ s
   pub used : 0 < r.opens + r.holds
 
--- each key leads to the record of its stream, and each record has its key there
+-- there are no more drivers than there may be, each key leads to the record of its stream, and each record has its key
+-- there
 pub record AreRecords (grid : Grid) (records : Slab Record) : Type 0 where
+  pub few : length grid ≤ MAX_DRIVERS
   pub listed : (s : StreamId) (key : ℕ) → key_at grid s ≡ Some key
       → (r : Record) × (get records key ≡ Some r) × IsRecord s r
   pub recorded : (key : ℕ) (r : Record) → get records key ≡ Some r → key_at grid r.stream ≡ Some key

@@ -1,5 +1,5 @@
 -- What a contract sees of a table of streams.
-use Rattle.std.specs.Prelude.{◌≡◌, ℕ, ◌+◌, ◌<◌, Bool, true, false, ◌&&◌, ◌||◌, not, ◌==◌, nat_lt, nat_le, List, [], ◌∷◌, length, find, filter, slice_index, slice_index_or}
+use Rattle.std.specs.Prelude.{◌≡◌, ℕ, ◌+◌, ◌<◌, Bool, true, false, ◌||◌, not, ◌==◌, nat_lt, nat_le, List, [], ◌∷◌, length, find, filter, slice_index, slice_index_or}
 use Rattle.std.specs.Prelude.{Option, Some, None, Result, Ok, Err, IsOk, ◌⊎◌, if◌then◌else◌}
 use Rattle.std.specs.List.{list_any, range_with_len}
 use Rattle.std.specs.Option.{option_map, option_map_or}
@@ -7,7 +7,7 @@ use Rattle.smx_types.specs.declared.limits.TheConstants.{MAX_DESCRIPTORS}
 use Rattle.smx_types.specs.declared.stream.Descriptor.{Descriptor}
 use Rattle.smx_types.specs.declared.stream.StreamId.{StreamId}
 use Rattle.smx_model.specs.Configuration.{same_stream, is_fd, fd_before, pair_before, stream_before}
-use Rattle.smx_model.specs.Hangups.{is_hung}
+use Rattle.smx_model.specs.Hangups.{is_hung, with_hung}
 use Rattle.smx_model.specs.Ordered.{IsRising, with_inserted}
 use Rattle.smx_model.specs.Standing.{is_named}
 use Rattle.smx_streams.specs.declared.fault.StreamFault.{StreamFault}
@@ -102,7 +102,7 @@ pub record HasOneMore (old : StreamTable) (process fd : ℕ) (s : StreamId) (new
   pub minors : new.minors ≡ old.minors
   pub fds : new.fds ≡ with_inserted fd_before old.fds (record { process = process; fd = fd; stream = s })
   pub holds : (x : StreamId) → number_at new.holds x ≡ number_at old.holds x
-  pub hungs : (x : StreamId) → is_hung new.hungs x ≡ is_hung old.hungs x
+  pub hungs : new.hungs ≡ old.hungs
 
 -- the refusal that applies, or want of memory where none does
 abbrev pub IsRefused : Answer → StreamFault → Type 0
@@ -110,7 +110,7 @@ IsRefused wanted f = (wanted ≡ Err f) ⊎ ((f ≡ fault.NoMemory) × IsOk want
 
 -- of the streams that have hung up those are left that exist
 abbrev pub LeavesHungs : StreamTable → StreamTable → Type 0
-LeavesHungs old new = (x : StreamId) → is_hung new.hungs x ≡ (exists new x && is_hung old.hungs x)
+LeavesHungs old new = new.hungs ≡ filter (exists new) old.hungs
 
 -- without one descriptor of the process, and else unchanged
 pub record HasOneLess (old : StreamTable) (process fd : ℕ) (new : StreamTable) : Type 0 where
@@ -138,7 +138,7 @@ pub record HasHungUp (old : StreamTable) (s : StreamId) (new : StreamTable) : Ty
   pub minors : new.minors ≡ old.minors
   pub fds : new.fds ≡ old.fds
   pub holds : (x : StreamId) → number_at new.holds x ≡ number_at old.holds x
-  pub hungs : (x : StreamId) → is_hung new.hungs x ≡ (same_stream x s || is_hung old.hungs x)
+  pub hungs : new.hungs ≡ with_hung s old.hungs
 
 -- in order, and each exists
 pub record AreHungsSound (t : StreamTable) : Type 0 where

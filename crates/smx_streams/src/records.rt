@@ -3,6 +3,7 @@
 ghost use Rattle.std.specs.Prelude.{◌≡◌, ◌≢◌, ℕ, ◌+◌, ◌<◌, ◌≤◌, nat_lt, ◌&&◌, true, false, [], None, Some, map, length, replicate};
 ghost use Rattle.std.specs.Prelude.{slice_get, slice_index_or, IfOk, IsOk, OnOk, OnErr};
 ghost use Rattle.slab.specs.Slab.{get, Updates};
+ghost use Rattle.smx_types.specs.declared.limits.TheConstants.{MAX_DRIVERS};
 ghost use Rattle.smx_types.specs.declared.stream.StreamId.{StreamId};
 ghost use Rattle.smx_streams.specs.RecordGrids.{key_at, with_key, is_used_and_hung, AreRecords, AreSet, IsRecordOf, IsSet};
 ghost use Rattle.smx_streams.specs.HungRows.{flag_at};
@@ -135,6 +136,7 @@ fn put(drivers: &mut Vec<Keys>, records: &mut Slab<Record>, added: Record) -> Re
 impl Records {
     /// No records, over drivers with so many minors.
     pub fn new(alloc: Global, minors: &[u8]) -> Result<Records, NoMemory>
+        requires { length minors.now ≤ MAX_DRIVERS }
         ensures minors { IfOk result (λ r. r.minors ≡ minors.now) }
         ensures none { IfOk result (λ r. (s : StreamId) → (number_at r.opens s ≡ 0) × (number_at r.holds s ≡ 0)) }
         ensures hungs { IfOk result (λ r. (s : StreamId) → flag_at r.hungs s ≡ false) }
@@ -279,9 +281,13 @@ impl Records {
         }
     }
 
-    /// What every table of records is: a stream that has some is in range, and one that has hung up has a record.
+    /// What every table of records is: there are no more drivers than there may be, a stream that has descriptors or has
+    /// hung up is in range, and one that has hung up has a record.
     pub fn is_sound(&self)
+        ensures few { length self.now.minors ≤ MAX_DRIVERS }
         ensures range { (s : StreamId) → 0 < number_at self.now.opens s
+            → is_in_range self.now.minors s.driver s.minor ≡ true }
+        ensures flagged { (s : StreamId) → flag_at self.now.hungs s ≡ true
             → is_in_range self.now.minors s.driver s.minor ≡ true }
         ensures hung { (s : StreamId) → flag_at self.now.hungs s ≡ true
             → 0 < number_at self.now.opens s + number_at self.now.holds s }

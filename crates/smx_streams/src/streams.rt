@@ -2,7 +2,7 @@
 
 ghost use Rattle.std.specs.Prelude.{◌≡◌, ℕ, ◌+◌, ◌-◌, ◌<◌, ◌≤◌, not, false, true, [], length, slice_index};
 ghost use Rattle.std.specs.Prelude.{Some, Ok, Err, IfOk, IfErr, IfSome, IfNone, IsOk, OnOk, OnErr};
-ghost use Rattle.smx_types.specs.declared.limits.TheConstants.{MAX_DESCRIPTORS};
+ghost use Rattle.smx_types.specs.declared.limits.TheConstants.{MAX_DESCRIPTORS, MAX_DRIVERS};
 ghost use Rattle.smx_types.specs.declared.stream.StreamId.{StreamId};
 ghost use Rattle.std.specs.Option.{option_map};
 ghost use Rattle.smx_streams.specs.DescriptorRows.{IsListed};
@@ -14,7 +14,9 @@ ghost use Rattle.smx_streams.specs.StreamTables.{HasOneMore, HasOneLess, HasNone
 use crate::closed::Closed;
 use crate::descriptors::Descriptors;
 use crate::fault::StreamFault;
+use crate::hung_streams::HungStreams;
 use crate::records::Records;
+use smx_model::laws_of_hangups::hung_up_streams_make_the_list;
 use smx_types::{Descriptor, MAX_DESCRIPTORS, NoMemory, Process, StreamId};
 use std::alloc::Global;
 use std::marker::Model;
@@ -44,7 +46,7 @@ impl Streams {
     /// No streams, over drivers with so many minors, numbered from 0. It keeps the allocator. Fails only for want of
     /// memory.
     pub fn new(alloc: Global, minors: &[u8]) -> Result<Streams, NoMemory>
-        requires { length minors.now ≤ 128 }
+        requires { length minors.now ≤ MAX_DRIVERS }
         ensures minors { IfOk result (λ t. t.minors ≡ minors.now) }
         ensures fds { IfOk result (λ t. t.fds ≡ []) }
         ensures holds { IfOk result (λ t. (s : StreamId) → number_at t.holds s ≡ 0) }
@@ -79,6 +81,13 @@ impl Streams {
         ensures { result ≡ is_hung self.now.hungs stream }
     {
         self.records.is_hung(stream)
+    }
+
+    /// The streams that have hung up, in order. Takes no memory.
+    pub fn hungs(&self) -> HungStreams<'_>
+        ensures { result ≡ self.now.hungs }
+    {
+        HungStreams::new(&self.records)
     }
 
     /// How many holds the stream has.
@@ -117,6 +126,7 @@ impl Streams {
         ensures err { OnErr result (self.new ≡ self.old) }
         ensures in_place { (n : ℕ) → stream_at self.old.fds process n ≡ Some stream → IsOk result }
     {
+        hung_up_streams_make_the_list();
         self.descriptors.is_sound();
         self.descriptors.make_room(self.alloc, process)?;
         self.records.open(stream)?;
@@ -222,6 +232,7 @@ impl Streams {
         ensures last { IfSome result (λ c. c.last ≡ not (exists self.new c.stream)) }
         ensures unchanged { IfNone result (self.new ≡ self.old) }
     {
+        hung_up_streams_make_the_list();
         self.descriptors.is_sound();
         self.records.is_sound();
         let stream = self.descriptors.take(process, fd)?;
@@ -290,8 +301,10 @@ impl Streams {
     pub fn hold(&mut self, stream: StreamId)
         requires there { exists self.old stream ≡ true }
         requires few { number_at self.old.holds stream < 1024 }
-        ensures { HasHolds self.old stream (number_at self.old.holds stream + 1) self.new }
+        ensures rest { HasHolds self.old stream (number_at self.old.holds stream + 1) self.new }
+        ensures hungs { self.new.hungs ≡ self.old.hungs }
     {
+        hung_up_streams_make_the_list();
         self.records.is_sound();
         let opens = self.records.opens_of(stream);
         let holds = self.records.holds_of(stream);
@@ -305,6 +318,7 @@ impl Streams {
         ensures answer { result ≡ not (exists self.new stream) }
         ensures rest { HasHolds self.old stream (number_at self.old.holds stream - 1) self.new }
     {
+        hung_up_streams_make_the_list();
         self.records.is_sound();
         let opens = self.records.opens_of(stream);
         let holds = self.records.holds_of(stream);
@@ -317,6 +331,7 @@ impl Streams {
         requires { exists self.old stream ≡ true }
         ensures { HasHungUp self.old stream self.new }
     {
+        hung_up_streams_make_the_list();
         self.records.hang(stream);
     }
 

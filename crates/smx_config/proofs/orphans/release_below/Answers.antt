@@ -3,6 +3,7 @@ use Rattle.std.proofs.lemmas.Bool.{and_parts}
 use Rattle.smx_model.specs.Configuration.{same_stream}
 use Rattle.smx_config.specs.ExistingStreams.{is_loose}
 use Rattle.smx_config.specs.TouchedStreams.{is_watched, AreReleased}
+use Rattle.smx_config.proofs.HungLemmas.{left_twice, none_went, there_before}
 use Rattle.smx_config.proofs.OrphanIdLemmas.{one_released}
 use Rattle.smx_config.proofs.ReleaseLemmas.{less_this, loose_held, releases_this}
 use Rattle.smx_config.proofs.TableLemmas.{one_got}
@@ -17,6 +18,9 @@ returns-then-not-may_have_loose-clause-cascade c = record {
   watched = none_by c.args.streams.now c.args.touched.now.items c.args.ctl c.args.links.now.links (sym c.may_have_loose.ensures ∙ c.if-not-may_have_loose.true) c.requires.cascade.watched;
   enough = omega (arith, c.requires.cascade.enough, length-append c.args.touched.now.items (c.args.ctl ∷ []));
 }
+
+pub returns-then-not-may_have_loose-clause-hungs : goal.returns-then-not-may_have_loose-clause-hungs
+returns-then-not-may_have_loose-clause-hungs c = none_went c.args.streams.now c.is_sound-2.ensures
 
 pub release-gone-requires : goal.release-gone-requires
 release-gone-requires c = loose_held c.loop-i.streams c.in-Some.link.now (and_parts (same_stream c.in-Some.link.now.ctl c.args.ctl) (is_loose c.loop-i.streams c.in-Some.link.now) (sym c.is_loose_by.ensures ∙ c.if-is_loose_by.true)).1
@@ -37,6 +41,8 @@ pub loop-i-init : goal.loop-i-init
 loop-i-init c = record {
   fds = refl;
   minors = refl;
+  hungs = none_went c.args.streams.now c.is_sound-2.ensures;
+  there = λ s h. h;
   releasing = c.requires.cascade.releasing;
   all = c.requires.cascade.watched;
   so_far = refl;
@@ -57,6 +63,9 @@ loop-i-preserved c = elim c.match-get.branch [
       rw (w.streams-is, w.touched-is, w.gone-is) (record {
         fds = w.release-gone.ensures.rest.fds ∙ c.loop-i.invariant.fds;
         minors = w.release-gone.ensures.rest.minors ∙ c.loop-i.invariant.minors;
+        hungs = left_twice c.args.streams.now c.loop-i.streams w.release-gone.new.self c.loop-i.invariant.hungs w.release-gone.ensures.rest.hungs
+            (λ x. there_before c.loop-i.streams w.release-gone.new.self w.in-Some.link.now.lower x _ w.release-gone.ensures.rest (omega arith));
+        there = λ x h. c.loop-i.invariant.there x (there_before c.loop-i.streams w.release-gone.new.self w.in-Some.link.now.lower x _ w.release-gone.ensures.rest (omega arith) h);
         releasing = λ n. releases_this c.args.links.now.links n c.loop-i.i w.in-Some.link.now c.loop-i.streams w.release-gone.new.self c.is_sound.ensures.sound.lowers (one_got c.args.links.now.links c.links-listed.result.now c.loop-i.i w.in-Some.link.now c.links-listed.ensures (omega arith) w.in-Some.ensures.lookup.1) loose w.release-gone.ensures.rest (c.loop-i.invariant.releasing n);
         all = rw pushed (all_watch_on c.loop-i.streams w.release-gone.new.self w.in-Some.link.now.lower (c.loop-i.touched.items ++ c.args.ctl ∷ []) ((c.loop-i.touched.items ++ w.in-Some.link.now.lower ∷ []) ++ c.args.ctl ∷ []) c.args.links.now.links w.release-gone.ensures.rest
             (λ x. still_listed_before x c.loop-i.touched.items w.in-Some.link.now.lower c.args.ctl)
@@ -76,6 +85,8 @@ loop-i-preserved c = elim c.match-get.branch [
       rw (w.streams-is, w.touched-is, w.gone-is) (record {
         fds = c.loop-i.invariant.fds;
         minors = c.loop-i.invariant.minors;
+        hungs = c.loop-i.invariant.hungs;
+        there = c.loop-i.invariant.there;
         releasing = c.loop-i.invariant.releasing;
         all = c.loop-i.invariant.all;
         so_far = all_more (is_watched c.loop-i.streams c.loop-i.touched.items) c.args.links.now.links c.loop-i.i w.in-Some.link.now (one_got c.args.links.now.links c.links-listed.result.now c.loop-i.i w.in-Some.link.now c.links-listed.ensures (omega arith) w.in-Some.ensures.lookup.1) c.loop-i.invariant.so_far

@@ -2,6 +2,7 @@ use Rattle.std.proofs.Common.{◌≡◌, ℕ, ◌+◌, ◌≤◌, ◌++◌, ◌�
 use Rattle.std.specs.Prelude.{vec_capacity}
 use Rattle.std.specs.List.{list_all}
 use Rattle.smx_types.specs.declared.stream.StreamId.{StreamId}
+use Rattle.smx_streams.specs.StreamTables.{LeavesHungs, exists as is_there}
 use Rattle.smx_config.specs.ExistingStreams.{holds_below, IsReleasing}
 use Rattle.smx_config.specs.TouchedStreams.{is_there_or_touched, is_watched, AreReleased}
 use Rattle.smx_config.proofs.orphans.release_below.Given as goal
@@ -10,6 +11,8 @@ abbrev pub invariant-loop-i : goal.invariant-loop-i
 invariant-loop-i l = record {
   fds : l.streams.fds ≡ l.initial.streams.fds;
   minors : l.streams.minors ≡ l.initial.streams.minors;
+  hungs : LeavesHungs l.initial.streams l.streams;
+  there : (s : StreamId) → is_there l.streams s ≡ true → is_there l.initial.streams s ≡ true;
   releasing : (climbs : ℕ) → IsReleasing l.links.links climbs l.streams;
   all : list_all (is_watched l.streams (l.touched.items ++ l.ctl ∷ [])) l.links.links ≡ true;
   so_far : list_all (is_watched l.streams l.touched.items) (take l.i l.links.links) ≡ true;

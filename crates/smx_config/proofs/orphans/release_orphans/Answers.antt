@@ -1,8 +1,10 @@
-use Rattle.std.proofs.Common.{◌≡◌, List, ℕ, [], ◌∷◌, true, length, length-append, ap, sym, subst, ◌∙◌, arith, rules}
+use Rattle.std.proofs.Common.{◌≡◌, List, ℕ, [], ◌∷◌, true, length, length-append, refl, ap, sym, subst, ◌∙◌, arith, rules}
+use Rattle.std.proofs.lemmas.Bool.{or_left}
 use Rattle.std.specs.List.{list_all}
 use Rattle.std.specs.Prelude.{vec_capacity}
 use Rattle.smx_types.specs.declared.stream.StreamId.{StreamId}
 use Rattle.smx_config.specs.TouchedStreams.{IsCascade, is_watched}
+use Rattle.smx_config.proofs.HungLemmas.{left_twice, none_went}
 use Rattle.smx_config.proofs.TouchLemmas.{all_seen, seen_more}
 use Rattle.smx_config.proofs.WatchLemmas.{none_loose, nothing_left}
 use Rattle.smx_config.proofs.orphans.release_orphans.Goals as goal
@@ -12,6 +14,17 @@ release_below-requires-clause-cascade c =
     subst (λ (ss : List StreamId). IsCascade c.args.links.now.links c.loop-stream.streams ss (vec_capacity c.pop.new.self)) c.in-Some.ensures.items
     (subst (λ (n : ℕ). IsCascade c.args.links.now.links c.loop-stream.streams c.loop-stream.left.items n) (sym c.pop.ensures.capacity) c.loop-stream.invariant.cascade)
 
+pub loop-stream-init : goal.loop-stream-init
+loop-stream-init c = record {
+  fds = refl;
+  minors = refl;
+  hungs = none_went c.args.streams.now c.is_sound.ensures;
+  cascade = c.requires.cascade;
+  room = c.requires.room;
+  seen = λ s h. or_left _ _ h;
+  gone = c.requires.gone;
+}
+
 pub loop-stream-smaller : goal.loop-stream-smaller
 loop-stream-smaller c = omega (arith, c.release_below.ensures.less, ap length c.in-Some.ensures.items, length-append c.pop.new.self.items (c.in-Some.stream ∷ []))
 
@@ -19,6 +32,7 @@ pub loop-stream-preserved : goal.loop-stream-preserved
 loop-stream-preserved c = record {
   fds = c.release_below.ensures.fds ∙ c.loop-stream.invariant.fds;
   minors = c.release_below.ensures.minors ∙ c.loop-stream.invariant.minors;
+  hungs = left_twice c.args.streams.now c.loop-stream.streams c.release_below.new.streams c.loop-stream.invariant.hungs c.release_below.ensures.hungs c.release_below.ensures.there;
   cascade = c.release_below.ensures.cascade;
   room = omega (arith, c.loop-stream.invariant.room, c.release_below.ensures.less, ap length c.in-Some.ensures.items, length-append c.pop.new.self.items (c.in-Some.stream ∷ []), ap length c.push_reserved.ensures.items, length-append c.loop-stream.seen.items (c.in-Some.stream ∷ []), c.push_reserved.ensures.capacity);
   seen = λ s h. rw c.push_reserved.ensures.items (seen_more c.loop-stream.streams c.release_below.new.streams c.loop-stream.left.items c.pop.new.self.items c.release_below.new.touched.items c.loop-stream.seen.items c.in-Some.stream s c.in-Some.ensures.items c.release_below.ensures.touched (c.loop-stream.invariant.seen s h));

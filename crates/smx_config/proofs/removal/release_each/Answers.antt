@@ -2,6 +2,7 @@ use Rattle.std.proofs.Common.{List, ℕ, [], ◌∷◌, ap, length, length-appen
 use Rattle.std.proofs.lemmas.List.{take_more}
 use Rattle.smx_config.specs.ExistingStreams.{AreHeld}
 use Rattle.std.proofs.lemmas.Bool.{or_left}
+use Rattle.smx_config.proofs.HungLemmas.{left_twice, none_went, there_before}
 use Rattle.smx_config.proofs.TouchLemmas.{release_touches}
 use Rattle.smx_config.proofs.ReleasedIdLemmas.{released_at_first, released_more, released_none, without}
 use Rattle.smx_config.proofs.WalkLemmas.{taken_all}
@@ -13,6 +14,7 @@ loop-id-init c = record {
   held = released_at_first c.args.links.now.links c.args.streams.now c.requires.held;
   fds = refl;
   minors = refl;
+  hungs = none_went c.args.streams.now c.is_sound-2.ensures;
   touched = λ s there. or_left _ _ there;
   few = omega arith;
   capacity = refl;
@@ -29,6 +31,8 @@ loop-id-preserved c = elim c.match-get.branch [
             (released_more c.args.links.now.links (take c.loop-id.id-index c.args.gone.now) _ w.in-Some.link.now c.loop-id.streams w.release_held.new.streams c.is_sound.ensures.sound.lowers c.is_sound.ensures.ids.rise (sym w.in-Some.ensures) c.loop-id.invariant.held w.release_held.ensures);
         fds = w.release_held.ensures.fds ∙ c.loop-id.invariant.fds;
         minors = w.release_held.ensures.minors ∙ c.loop-id.invariant.minors;
+        hungs = left_twice c.args.streams.now c.loop-id.streams w.release_held.new.streams c.loop-id.invariant.hungs w.release_held.ensures.hungs
+            (λ x. there_before c.loop-id.streams w.release_held.new.streams w.in-Some.link.now.lower x 0 w.release_held.ensures (omega arith));
         touched = rw pushed (release_touches c.args.streams.now c.loop-id.streams w.release_held.new.streams c.loop-id.touched.items w.in-Some.link.now.lower 0 w.release_held.ensures c.loop-id.invariant.touched);
         few = omega (arith, longer, one_more, c.loop-id.invariant.few);
         capacity = w.push_reserved.ensures.capacity ∙ c.loop-id.invariant.capacity;
@@ -38,6 +42,7 @@ loop-id-preserved c = elim c.match-get.branch [
         (released_none c.args.links.now.links (take c.loop-id.id-index c.args.gone.now) _ c.loop-id.streams (sym w.in_default.ensures) c.loop-id.invariant.held);
     fds = c.loop-id.invariant.fds;
     minors = c.loop-id.invariant.minors;
+    hungs = c.loop-id.invariant.hungs;
     touched = c.loop-id.invariant.touched;
     few = omega (arith, c.loop-id.invariant.few);
     capacity = c.loop-id.invariant.capacity;

@@ -5,7 +5,7 @@ use Rattle.smx_config.proofs.RemovalLemmas.{ids_in_order}
 use Rattle.smx_config.proofs.removal.remove_links.Goals as goal
 
 pub returns-clause-value : goal.returns-clause-value
-returns-clause-value c = λ goes e. c.drop_links.ensures.value goes (ids_in_order goes c.args.lists.now.links.links c.args.gone.now e) ∙ rw c.release_each.ensures.fds refl
+returns-clause-value c = λ goes e. c.drop_links.ensures.value goes (ids_in_order goes c.args.lists.now.links.links c.args.gone.now e) ∙ rw (c.release_each.ensures.fds, c.drop_links.ensures.streams) refl
 
 pub returns-clause-kept : goal.returns-clause-kept
 returns-clause-kept c = record {

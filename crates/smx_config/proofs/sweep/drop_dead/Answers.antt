@@ -38,7 +38,7 @@ returns-clause-value c =
     let seen = taken_all c.args.seen.now c.loop-stream.stream-index (omega arith) in
     c.loop-stream.invariant.value
     ∙ ap (λ (ss : List StreamId). without_streams (configuration_of old) (is_dead old.streams ss)) seen
-    ∙ all_gone c.args.drivers.now (configuration_of old) old.streams c.args.seen.now c.requires.existing c.requires.seen
+    ∙ all_gone c.args.drivers.now (configuration_of old) old.streams c.args.seen.now c.requires.existing c.requires.seen c.is_sound.ensures.exist
 
 pub returns-clause-kept : goal.returns-clause-kept
 returns-clause-kept c = record {

@@ -4,7 +4,7 @@ use Rattle.std.proofs.lemmas.List.Elements.{All-filter}
 use Rattle.smx_types.specs.declared.link.Link.{Link}
 use Rattle.smx_model.specs.KnownStreams.{IsKnown}
 use Rattle.smx_model.specs.Standing.{is_persistent}
-use Rattle.smx_streams.specs.StreamTables.{StreamTable, exists as is_there}
+use Rattle.smx_streams.specs.StreamTables.{StreamTable, LeavesHungs, exists as is_there}
 use Rattle.smx_config.specs.ExistingStreams.{AreHeld, is_held}
 use Rattle.smx_config.specs.ListedLinks.{is_listed, is_orphaned, AreIdsOf}
 use Rattle.smx_config.specs.ModelOfLists.{configuration_of}
@@ -49,7 +49,7 @@ returns-clause-value c =
     let goes = is_orphaned c.args.lists.now.streams.fds links n in
     let alike = released_are_orphaned c.args.drivers.now (configuration_of c.args.lists.now) t c.climbs_suffice.ensures c.reaches_is_path.ensures c.paths_join.ensures c.is_sound.ensures.sound c.requires.known
     c.release_orphans.ensures.fds (c.release_orphans.ensures.releasing n) c.release_orphans.ensures.none in
-    c.drop_links.ensures.value goes (subst (λ (ls : List Link). (id : ℕ) → is_listed c.deref.result.now id ≡ list_any (λ l. eqb l.id id) ls) (kept_alike _ goes links alike) (subst (AreIdsOf (λ l. not (is_held t l)) links) (sym c.deref.ensures.value) c.release_orphans.ensures.gone.same)) ∙ rw c.release_orphans.ensures.fds refl
+    c.drop_links.ensures.value goes (subst (λ (ls : List Link). (id : ℕ) → is_listed c.deref.result.now id ≡ list_any (λ l. eqb l.id id) ls) (kept_alike _ goes links alike) (subst (AreIdsOf (λ l. not (is_held t l)) links) (sym c.deref.ensures.value) c.release_orphans.ensures.gone.same)) ∙ rw (c.release_orphans.ensures.fds, c.drop_links.ensures.streams) refl
 
 pub returns-clause-kept : goal.returns-clause-kept
 returns-clause-kept c =
@@ -64,3 +64,6 @@ returns-clause-kept c =
 
 pub returns-clause-seen : goal.returns-clause-seen
 returns-clause-seen c = λ s h. subst (λ (t : StreamTable). is_there_or_touched t c.release_orphans.new.seen.items s ≡ true) (sym c.drop_links.ensures.streams) (c.release_orphans.ensures.seen s h)
+
+pub returns-clause-hungs : goal.returns-clause-hungs
+returns-clause-hungs c = subst (LeavesHungs c.args.lists.now.streams) (sym c.drop_links.ensures.streams) c.release_orphans.ensures.hungs

@@ -1,6 +1,5 @@
-use Rattle.std.proofs.Common.{◌≡◌, ℕ, ◌<◌, true, false, Some, ◌&&◌, not, filter}
+use Rattle.std.proofs.Common.{◌≡◌, ℕ, ◌<◌, true, false, Some, not, filter}
 use Rattle.smx_types.specs.declared.stream.StreamId.{StreamId}
-use Rattle.smx_model.specs.Hangups.{is_hung}
 use Rattle.smx_streams.specs.StreamTables.{exists, number_at, stream_at}
 use Rattle.smx_streams.proofs.NextLemmas.{is_closed}
 use Rattle.smx_streams.proofs.streams.Streams.close_process.Given as goal
@@ -10,6 +9,6 @@ invariant-loop-fd l = record {
   minors : l.self.minors ≡ l.initial.self.minors;
   fds : l.self.fds ≡ filter (λ d. not (is_closed l.process l.fd d)) l.initial.self.fds;
   holds : (x : StreamId) → number_at l.self.holds x ≡ number_at l.initial.self.holds x;
-  hungs : (x : StreamId) → is_hung l.self.hungs x ≡ (exists l.self x && is_hung l.initial.self.hungs x);
+  hungs : l.self.hungs ≡ filter (exists l.self) l.initial.self.hungs;
   went : (s : StreamId) → exists l.initial.self s ≡ true → exists l.self s ≡ false → (n : ℕ) × (n < l.fd) × (stream_at l.initial.self.fds l.process n ≡ Some s);
 }

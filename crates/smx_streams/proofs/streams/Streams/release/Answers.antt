@@ -10,5 +10,5 @@ returns-clause-rest c = subst (λ (t : StreamTable). HasHolds t c.args.stream (n
   minors = c.set.ensures.minors;
   fds = refl;
   holds = λ x. c.set.ensures.holds_now x ∙ ap (λ (n : ℕ). if same_stream x c.args.stream then n - 1 else number_at c.self.inside.records.holds x) c.holds_of-holds.ensures;
-  hungs = left c.self.inside.records c.set.new.self (table_of c.self.inside) (table_of (record { alloc = c.self.inside.alloc; descriptors = c.self.inside.descriptors; records = c.set.new.self })) c.args.stream _ _ c.set.ensures c.is_sound.ensures.hung (λ x. c.set.ensures.opens_now x ∙ same_number c.self.inside.records.opens x c.args.stream _ c.opens_of-opens.ensures ∙ c.self.invariant x) refl refl refl;
+  hungs = left (record { same = c.hung_up_streams_make_the_list.ensures.same; more = c.hung_up_streams_make_the_list.ensures.more; fewer = c.hung_up_streams_make_the_list.ensures.fewer; each_of_more = c.hung_up_streams_make_the_list.ensures.each_of_more; each_of_fewer = c.hung_up_streams_make_the_list.ensures.each_of_fewer }) c.self.inside.records c.set.new.self (table_of c.self.inside) (table_of (record { alloc = c.self.inside.alloc; descriptors = c.self.inside.descriptors; records = c.set.new.self })) c.args.stream _ _ c.set.ensures c.is_sound.ensures.hung (λ x. c.set.ensures.opens_now x ∙ same_number c.self.inside.records.opens x c.args.stream _ c.opens_of-opens.ensures ∙ c.self.invariant x) refl refl refl;
 })

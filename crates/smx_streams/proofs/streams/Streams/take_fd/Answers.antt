@@ -25,7 +25,7 @@ returns-in_err-stream-clause-rest c = subst (λ (t : StreamTable). HasOneLess t 
   minors = refl;
   fds = c.in_err-stream.ensures.rest;
   holds = λ x. refl;
-  hungs = kept c.self.inside.records (table_of c.self.inside) (table_of (record { alloc = c.self.inside.alloc; descriptors = c.take.new.self; records = c.self.inside.records })) c.is_sound-2.ensures.hung (λ x. rw c.in_err-stream.ensures.unchanged (c.self.invariant x)) refl refl refl;
+  hungs = kept (record { same = c.hung_up_streams_make_the_list.ensures.same; more = c.hung_up_streams_make_the_list.ensures.more; fewer = c.hung_up_streams_make_the_list.ensures.fewer; each_of_more = c.hung_up_streams_make_the_list.ensures.each_of_more; each_of_fewer = c.hung_up_streams_make_the_list.ensures.each_of_fewer }) c.self.inside.records (table_of c.self.inside) (table_of (record { alloc = c.self.inside.alloc; descriptors = c.take.new.self; records = c.self.inside.records })) c.is_sound-2.ensures.hung (λ x. rw c.in_err-stream.ensures.unchanged (c.self.invariant x)) refl refl refl;
 })
 
 pub returns-clause-rest : goal.returns-clause-rest
@@ -33,7 +33,7 @@ returns-clause-rest c = subst (λ (t : StreamTable). HasOneLess t c.args.process
   minors = c.set.ensures.minors;
   fds = c.in_ok-stream.ensures.rest;
   holds = λ x. c.set.ensures.holds_now x ∙ same_number c.self.inside.records.holds x c.in_ok-stream.stream _ c.holds_of-holds.ensures;
-  hungs = left c.self.inside.records c.set.new.self (table_of c.self.inside) (table_of (record { alloc = c.self.inside.alloc; descriptors = c.take.new.self; records = c.set.new.self })) c.in_ok-stream.stream _ _ c.set.ensures c.is_sound-2.ensures.hung (λ s.
+  hungs = left (record { same = c.hung_up_streams_make_the_list.ensures.same; more = c.hung_up_streams_make_the_list.ensures.more; fewer = c.hung_up_streams_make_the_list.ensures.fewer; each_of_more = c.hung_up_streams_make_the_list.ensures.each_of_more; each_of_fewer = c.hung_up_streams_make_the_list.ensures.each_of_fewer }) c.self.inside.records c.set.new.self (table_of c.self.inside) (table_of (record { alloc = c.self.inside.alloc; descriptors = c.take.new.self; records = c.set.new.self })) c.in_ok-stream.stream _ _ c.set.ensures c.is_sound-2.ensures.hung (λ s.
       c.set.ensures.opens_now s
       ∙ rw (c.opens_of-opens.ensures, c.in_ok-stream.ensures.rest) (names_after_take c.self.inside.records.opens s c.in_ok-stream.stream c.args.process c.args.fd c.self.inside.descriptors.fds c.self.invariant c.is_sound.ensures.rise (sym c.in_ok-stream.ensures.stream))) refl refl refl;
 })
