@@ -33,9 +33,9 @@ pub fn free_stream(lists: &Lists, process: Process, fd: u32) -> Result<StreamId,
 pub fn live_stream(lists: &Lists, process: Process, fd: u32) -> Result<StreamId, Fault>
     ensures { result ≡ live_stream (configuration_of lists.now) process fd }
 {
-    let stream = free_stream(lists, process, fd)?;
-    refuse(Fault::HungUp, lists.streams.is_hung(stream))?;
-    Ok(stream)
+    let free = free_stream(lists, process, fd)?;
+    refuse(Fault::HungUp, lists.streams.is_hung(free))?;
+    Ok(free)
 }
 
 pub fn mux_stream(
@@ -92,7 +92,7 @@ pub fn live_leaf(
     requires { StepInvariant drivers.now lists.now }
     ensures { result ≡ live_leaf drivers.now (configuration_of lists.now) name.now minor }
 {
-    let stream = leaf_stream(drivers, lists, name, minor)?;
-    refuse(Fault::HungUp, lists.streams.is_hung(stream))?;
-    Ok(stream)
+    let leaf = leaf_stream(drivers, lists, name, minor)?;
+    refuse(Fault::HungUp, lists.streams.is_hung(leaf))?;
+    Ok(leaf)
 }

@@ -45,27 +45,38 @@ fn of_drivers(alloc: Global, begin: &[u8], count: usize, end: &[u8]) -> Result<V
     Ok(text)
 }
 
-fn programs_of_drivers(rt: &(impl AllocGlobal + Abort), count: usize) -> Result<(), Fail> {
-    let text = of_drivers(
-        rt.alloc(),
-        b"programs 1\n",
-        count,
-        b"process 0\nexit\nend\n",
-    )?;
+fn programs_of_drivers(
+    rt: &(impl AllocGlobal + Abort),
+    begin: &[u8],
+    count: usize,
+) -> Result<(), Fail> {
+    let text = of_drivers(rt.alloc(), begin, count, b"process 0\nexit\nend\n")?;
     programs_stay(rt, text.as_slice())
 }
 
-fn transcript_of_drivers(rt: &(impl AllocGlobal + Abort), count: usize) -> Result<(), Fail> {
-    let end = b"config\nnext 1 1\nend\n";
-    let text = of_drivers(rt.alloc(), b"transcript 1\n", count, end.as_slice())?;
+fn transcript_of_drivers(
+    rt: &(impl AllocGlobal + Abort),
+    begin: &[u8],
+    count: usize,
+) -> Result<(), Fail> {
+    let text = of_drivers(rt.alloc(), begin, count, b"config\nnext 1 1\nend\n")?;
     transcript_stays(rt, text.as_slice())
 }
 
 #[test]
 fn texts_of_every_number_of_drivers(rt: HostRuntime) -> Result<(), Fail> {
     for count in 0..65 {
-        programs_of_drivers(&rt, count)?;
-        transcript_of_drivers(&rt, count)?;
+        programs_of_drivers(&rt, b"programs 1\n", count)?;
+        transcript_of_drivers(&rt, b"transcript 1\n", count)?;
+    }
+    Ok(())
+}
+
+#[test]
+fn texts_of_version_2_of_every_number_of_drivers(rt: HostRuntime) -> Result<(), Fail> {
+    for count in 0..129 {
+        programs_of_drivers(&rt, b"programs 2\n", count)?;
+        transcript_of_drivers(&rt, b"transcript 2\n", count)?;
     }
     Ok(())
 }
