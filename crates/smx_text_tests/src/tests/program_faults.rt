@@ -16,8 +16,8 @@ fn with_line(alloc: Global, line: &[u8]) -> Result<Vec<u8>, Fail> {
     Ok(text)
 }
 
-// The text is no programs, for this cause at this line.
-fn is_refused(rt: &(impl AllocGlobal + Abort), text: &[u8], line: usize, cause: Cause) {
+/// The text is no programs, for this cause at this line.
+pub fn is_refused(rt: &(impl AllocGlobal + Abort), text: &[u8], line: usize, cause: Cause) {
     let fault = read_programs(rt.alloc(), text).err();
     assert_eq!(rt; fault, Some(TextFault { line, cause }));
 }

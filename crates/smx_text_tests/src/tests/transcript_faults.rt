@@ -39,8 +39,8 @@ fn takes_each_reply(rt: HostRuntime) -> Result<(), Fail> {
     Ok(())
 }
 
-// The text is no transcript, for this cause at this line.
-fn is_refused(rt: &(impl AllocGlobal + Abort), text: &[u8], line: usize, cause: Cause) {
+/// The text is no transcript, for this cause at this line.
+pub fn is_refused(rt: &(impl AllocGlobal + Abort), text: &[u8], line: usize, cause: Cause) {
     let fault = read_transcript(rt.alloc(), text).err();
     assert_eq!(rt; fault, Some(TextFault { line, cause }));
 }
