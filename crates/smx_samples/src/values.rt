@@ -91,6 +91,7 @@ pub fn nothing_open(alloc: Global, next_id: u32, next_serial: u32) -> ConfigView
         routes: Items::new(alloc),
         msgs: Items::new(alloc),
         fulls: Items::new(alloc),
+        hungs: Items::new(alloc),
     }
 }
 

@@ -51,6 +51,7 @@ pub fn joined(alloc: Global, next_serial: u32) -> Result<ConfigView, Fail> {
         routes,
         msgs: Items::new(alloc),
         fulls: Items::new(alloc),
+        hungs: Items::new(alloc),
     })
 }
 

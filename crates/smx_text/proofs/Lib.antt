@@ -7,6 +7,8 @@ pub mod GrammarLemmas
 pub mod HasReadingLemmas
 pub mod MemoryLemmas
 pub mod VersionLemmas
+pub mod LeastVersionLemmas
+pub mod ProgramsVersionLemmas
 pub mod ProgramsOrderLemmas
 pub mod ProgramsFollowLemmas
 pub mod ProgramsValueLemmas

@@ -107,5 +107,5 @@ nothing_begun version = (
 )
 
 pub programs_have_reading : (version : Version) → (bytes : List ℕ) → HasReading (programs_grammar version) bytes
-programs_have_reading version bytes = 
+programs_have_reading version bytes =
     has_reading (programs_grammar version) (well_made version) (decides version) (nothing_begun version) bytes

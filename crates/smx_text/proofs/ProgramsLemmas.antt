@@ -1,14 +1,14 @@
 -- What a reader does with a line behind those of some programs.
-use Rattle.std.proofs.Common.{◌≡◌, ◌≢◌, ℕ, ◌+◌, ◌<◌, [], ◌∷◌, ◌++◌, length, sym, ap, subst, arith, List, ◌≤◌, ◌∙◌, map, refl, false, Some}
-use Rattle.std.specs.List.{sum_by, AllByRecursion, list_any}
+use Rattle.std.proofs.Common.{◌≡◌, ◌≢◌, ℕ, ◌+◌, ◌<◌, [], ◌∷◌, ◌++◌, length, sym, ap, subst, arith, ◌≤◌, ◌∙◌, refl, Some}
+use Rattle.std.specs.List.{sum_by, AllByRecursion}
 use Rattle.std.proofs.lemmas.List.{append-nil}
 use Rattle.std.proofs.lemmas.List.Sums.{sum_by-append, sum_by-cons}
-use Rattle.smx_types.specs.ProgramLists.{ProgramLists, AreWithinLimits, program_lists, raised}
-use Rattle.smx_types.specs.declared.limits.TheConstants.{MAX_DRIVERS_OF_VERSION_1, MAX_PROCESSES, MAX_COMMANDS}
+use Rattle.smx_types.specs.ProgramLists.{ProgramLists, program_lists, raised}
+use Rattle.smx_types.specs.declared.limits.TheConstants.{MAX_PROCESSES, MAX_COMMANDS}
 use Rattle.smx_text.specs.Grammar.{IsBegun}
 use Rattle.smx_text.specs.ProgramLines.{Line}
 use Rattle.smx_text.specs.ProgramLines as line
-use Rattle.smx_text.specs.ProgramsText.{FitsLine, program_lines, body, IsAllowed, programs_grammar}
+use Rattle.smx_text.specs.ProgramsText.{FitsLine, body, IsAllowed, programs_grammar}
 use Rattle.smx_text.specs.Reading.{EndsAs, AddsLine, RefusesLine}
 use Rattle.smx_text.specs.declared.fault.Cause.TheVariants as cause
 use Rattle.smx_text.proofs.EachLemmas.{all_push}
@@ -16,12 +16,10 @@ use Rattle.smx_text.proofs.ProgramsOrderLemmas.{a_driver, a_process, a_command, 
 use Rattle.smx_text.proofs.ProgramsFollowLemmas.{MayStand, AreMany, with_line, body_more, may_stand, version_stays}
 use Rattle.smx_text.proofs.ProgramsFollowLemmas.{stand_may, are_full}
 use Rattle.smx_text.proofs.ProgramsValueLemmas.{allowed_of}
+use Rattle.smx_text.proofs.ProgramsVersionLemmas.{least_is_first}
 use Rattle.smx_types.specs.declared.version.Version.{Version}
 use Rattle.smx_types.specs.declared.version.Version.TheVariants.{V1, V2}
-use Rattle.smx_types.specs.Versions.{most_drivers, are_more_drivers, is_hangup, least_of_programs}
-use Rattle.smx_types.specs.declared.command.Command.{Command}
-use Rattle.smx_types.specs.declared.driver.DriverSpec.{DriverSpec}
-use Rattle.std.proofs.lemmas.Bool.{false_from_ne_true, ltb-true}
+use Rattle.smx_types.specs.Versions.{most_drivers}
 
 -- it is not one too many
 abbrev pub HasRoom : Version → ProgramLists → Line → Type 0
@@ -109,50 +107,7 @@ pub too_many : (version : Version) (v : ProgramLists) (k : Line) → MayStand v 
     → RefusesLine (programs_grammar version) (body v) k cause.Many
 too_many version v k may many = (stand_may version v k may, are_full version v k many)
 
--- ---- the version that programs need
-
--- what may stand in the first version is told by it
-told_commands : (cs : List Command) (rest : List Line)
-    → AllByRecursion (FitsLine V1) (map line.Command cs ++ rest)
-    → (list_any is_hangup cs ≡ false) × AllByRecursion (FitsLine V1) rest
-told_commands [] rest h = (refl, h)
-told_commands (c ∷ cs) rest h = let more = told_commands cs rest h.1 in (rw (h.0.1, more.0) refl, more.1)
-
-told_programs : (n : ℕ) (ps : List (List Command)) → AllByRecursion (FitsLine V1) (program_lines n ps)
-    → list_any (list_any is_hangup) ps ≡ false
-told_programs n [] h = refl
-told_programs n (p ∷ ps) h =
-    let own = told_commands p (program_lines (n + 1) ps) h.1 in
-    rw (own.0, told_programs (n + 1) ps own.1) refl
-
-told_behind : (ds : List DriverSpec) (rest : List Line) → AllByRecursion (FitsLine V1) (map line.Driver ds ++ rest)
-    → AllByRecursion (FitsLine V1) rest
-told_behind [] rest h = h
-told_behind (d ∷ ds) rest h = told_behind ds rest h.1
-
-pub least_is_first : (v : ProgramLists) → IsAllowed V1 v → least_of_programs v.drivers v.programs ≡ V1
-least_is_first v allowed =
-    let few : are_more_drivers v.drivers ≡ false =
-    false_from_ne_true (are_more_drivers v.drivers)
-    (λ more. omega (arith, ltb-true MAX_DRIVERS_OF_VERSION_1 (length v.drivers) more, allowed.drivers)) in
-    let none =
-    told_programs 0 v.programs (told_behind v.drivers (program_lines 0 v.programs) allowed.fits) in
-    rw (few, none) refl
-
--- so nothing hinders the end
-pub within_limits : (version : Version) (v : ProgramLists) → IsAllowed version v → AreWithinLimits v
-within_limits V1 v allowed = record {
-  drivers = omega (arith, allowed.drivers);
-  programs = allowed.programs;
-  commands = allowed.commands;
-  version = λ first. least_is_first v allowed;
-}
-within_limits V2 v allowed = record {
-  drivers = allowed.drivers;
-  programs = allowed.programs;
-  commands = allowed.commands;
-  version = λ first. absurd (cc (sym first ∙ allowed.version_is));
-}
+-- ---- the end
 
 -- these programs in their version are those that were read
 same_in : (version : Version) (v w : ProgramLists) → v.version ≡ version → IsAllowed version v

@@ -94,7 +94,8 @@ view_more t (line.Fd x) h l =
       none t.view.binds q.1,
       none t.view.routes r.1,
       none t.view.msgs m.1,
-      none t.view.fulls f.1, none t.view.hungs g.1,
+      none t.view.fulls f.1,
+      none t.view.hungs g.1,
     )
     (ap (λ (ls : List TranscriptLine). line.Config ∷ line.Next t.view.next_id t.view.next_serial ∷ ls)
     (last_more line.Fd t.view.fds x))

@@ -133,7 +133,7 @@ too_many d k may full = (
   (next_of d k, takes_may d.transcript.version d k may),
   λ t allowed goes.
       full_stops d.transcript.version (lines d) (clean d) k t (led d)
-          (full_clean_by d.stage d.transcript k full) allowed goes,
+      (full_clean_by d.stage d.transcript k full) allowed goes,
 )
 
 -- a line that is taken is the last

@@ -1,17 +1,15 @@
 -- What a version can tell of a transcript, as a whole and line by line.
-use Rattle.std.proofs.Common.{◌≡◌, ◌≤◌, Bool, true, false, ◌||◌, nat_lt, List, [], ◌∷◌, length, refl, sym, arith}
+use Rattle.std.proofs.Common.{◌≡◌, ◌≤◌, Bool, true, false, nat_lt, List, [], ◌∷◌, length, refl, arith}
 use Rattle.std.specs.List.{AllByRecursion, list_any}
-use Rattle.std.proofs.lemmas.Bool.{false_from_ne_true, ltb-true}
 use Rattle.std.proofs.lemmas.Bool.Decides.{nat_tests}
-use Rattle.smx_types.specs.Versions.{are_more_drivers, is_of_hangup, least_of_transcript, most_drivers, version_2_where}
+use Rattle.smx_types.specs.Versions.{are_more_drivers, is_of_hangup, least_of_transcript, most_drivers}
 use Rattle.smx_types.specs.declared.command.Entry.{Entry}
-use Rattle.smx_types.specs.declared.driver.DriverSpec.{DriverSpec}
-use Rattle.smx_types.specs.declared.limits.TheConstants.{MAX_DRIVERS_OF_VERSION_1}
 use Rattle.smx_types.specs.declared.transcript.Transcript.{Transcript}
 use Rattle.smx_types.specs.declared.version.Version.{Version}
 use Rattle.smx_types.specs.declared.version.Version.TheVariants.{V1, V2}
 use Rattle.smx_types.specs.declared.view.HungLine.{HungLine}
 use Rattle.smx_words.specs.Spellable.{CanTell}
+use Rattle.smx_text.proofs.LeastVersionLemmas.{few_drivers, is_first, neither}
 
 -- each entry can be told
 abbrev pub AreToldEntries : Version → List Entry → Type 0
@@ -41,14 +39,6 @@ each_hung (h ∷ hs) = (tt, each_hung hs)
 
 -- ---- version 1 can tell what needs no later one
 
-pub neither : (a b : Bool) → (a || b) ≡ false → (a ≡ false) × (b ≡ false)
-neither true b h = absurd cc
-neither false b h = (refl, h)
-
-pub is_first : (b : Bool) → version_2_where b ≡ V1 → b ≡ false
-is_first true h = absurd cc
-is_first false h = refl
-
 none_of_hangup : (es : List Entry) → list_any is_of_hangup es ≡ false → AreToldEntries V1 es
 none_of_hangup [] h = tt
 none_of_hangup (e ∷ es) h =
@@ -74,14 +64,6 @@ told_hungs V1 t told =
 told_hungs V2 t told = each_hung t.view.hungs
 
 -- ---- and what it can tell line by line needs no later one
-
-pub few_drivers : (ds : List DriverSpec) → length ds ≤ most_drivers V1 → are_more_drivers ds ≡ false
-few_drivers ds few =
-    false_from_ne_true (are_more_drivers ds)
-    (λ more. omega (arith, ltb-true MAX_DRIVERS_OF_VERSION_1 (length ds) more, few))
-
-pub not_more : (ds : List DriverSpec) → are_more_drivers ds ≡ false → length ds ≤ most_drivers V1
-not_more ds few = grind (arith, nat_tests)
 
 no_hangup : (es : List Entry) → AreToldEntries V1 es → list_any is_of_hangup es ≡ false
 no_hangup [] h = refl

@@ -3,12 +3,10 @@ use Rattle.std.proofs.Common.{◌≡◌, ◌≤◌, List, [], ◌∷◌, ◌++�
 use Rattle.std.specs.List.{AllByRecursion}
 use Rattle.std.proofs.lemmas.List.{append-nil}
 use Rattle.smx_types.specs.Versions.{is_of_hangup, most_drivers}
-use Rattle.smx_types.specs.declared.command.Entry.{Entry}
 use Rattle.smx_types.specs.declared.limits.TheConstants.{MAX_COMMANDS}
 use Rattle.smx_types.specs.declared.transcript.Transcript.{Transcript}
 use Rattle.smx_types.specs.declared.version.Version.{Version}
 use Rattle.smx_types.specs.declared.view.ConfigView.{ConfigView}
-use Rattle.smx_types.specs.declared.view.HungLine.{HungLine}
 use Rattle.smx_words.specs.Spellable.{CanTell, FitsEntry, FitsHung}
 use Rattle.smx_text.specs.declared.transcript.draft.Stage.{Stage}
 use Rattle.smx_text.specs.declared.transcript.draft.Stage.TheVariants as stage

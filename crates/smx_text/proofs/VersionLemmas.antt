@@ -1,5 +1,5 @@
 -- Readings of a text that may be of any version. For any kind of text whose versions differ in their headers.
-use Rattle.std.proofs.Common.{◌≡◌, ◌≢◌, ℕ, ◌<◌, List, ◌∷◌, ◌++◌, Result, Ok, Err, refl, sym, ap, subst, ◌∙◌, inl, inr}
+use Rattle.std.proofs.Common.{◌≡◌, ◌≢◌, ℕ, ◌<◌, List, ◌∷◌, ◌++◌, Result, Ok, Err, refl, sym, subst, ◌∙◌, inl, inr}
 use Rattle.std.specs.Prelude.{◌⊎◌, [], IfErr, MatchResult}
 use Rattle.smx_types.specs.declared.version.Version.{Version}
 use Rattle.smx_types.specs.declared.version.Version.TheVariants.{V1, V2}
@@ -7,7 +7,7 @@ use Rattle.smx_words.specs.Words.{LINE_FEED}
 use Rattle.smx_text.specs.declared.fault.Cause.{Cause}
 use Rattle.smx_text.specs.declared.fault.Cause.TheVariants as cause
 use Rattle.smx_text.specs.declared.fault.TextFault.{TextFault}
-use Rattle.smx_text.specs.Grammar.{Grammar, header, full_text, Spells, IsFault, Reads, ReadsAny, last_line}
+use Rattle.smx_text.specs.Grammar.{Grammar, header, full_text, IsFault, Reads, ReadsAny, last_line}
 use Rattle.smx_text.proofs.GrammarLemmas.{IsWellMade, texts, Behind, Place, place, one_reading, beginning_and}
 use Rattle.smx_text.proofs.HasReadingLemmas.{HasReading}
 use Rattle.smx_text.proofs.LineLemmas.{one_cut}

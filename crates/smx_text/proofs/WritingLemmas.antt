@@ -1,15 +1,13 @@
 -- What is written group by group, as the lines of a whole.
-use Rattle.std.proofs.Common.{◌≡◌, ℕ, ◌+◌, ◌<◌, ◌≤◌, false, List, [], ◌∷◌, ◌++◌, length, get_or, take, map, refl, sym}
+use Rattle.std.proofs.Common.{◌≡◌, ℕ, ◌+◌, ◌<◌, List, [], ◌∷◌, ◌++◌, length, get_or, take, map, refl, sym}
 use Rattle.std.proofs.Common.{ap, ◌∙◌, append_assoc, arith}
 use Rattle.std.proofs.lemmas.List.{append-nil, length-take-le, map-append, take_more}
 use Rattle.std.proofs.lemmas.Simd.{map-map}
 use Rattle.std.specs.Fmt.{decimal}
-use Rattle.std.specs.List.{AllByRecursion, list_any}
+use Rattle.std.specs.List.{AllByRecursion}
 use Rattle.std.specs.Prelude.{codes}
 use Rattle.smx_types.specs.ProgramLists.{AreWithinLimits, ProgramLists}
-use Rattle.smx_types.specs.Versions.{are_more_drivers, is_hangup, least_of_programs, most_drivers}
 use Rattle.smx_types.specs.declared.command.Command.{Command}
-use Rattle.smx_types.specs.declared.limits.TheConstants.{MAX_DRIVERS}
 use Rattle.smx_types.specs.declared.version.Version.{Version}
 use Rattle.smx_types.specs.declared.version.Version.TheVariants.{V1, V2}
 use Rattle.smx_types.specs.declared.view.ConfigView.{ConfigView}
@@ -27,7 +25,7 @@ use Rattle.smx_words.specs.Words.{LINE_FEED}
 use Rattle.smx_text.proofs.EachLemmas.{all_append, all_map}
 use Rattle.smx_text.proofs.BodyLemmas.{lines_add}
 use Rattle.smx_text.proofs.ReadingLemmas.{texts_append}
-use Rattle.smx_text.proofs.TranscriptVersionLemmas.{is_first, neither, not_more}
+use Rattle.smx_text.proofs.ProgramsVersionLemmas.{drivers_few, programs_fit}
 use Rattle.smx_words.specs.Words.{line_of, text_of}
 
 -- one line more
@@ -73,40 +71,6 @@ body_text v = by_version v.version where
       ++ text_of (map line_words (program_lines 0 v.programs)) ++ codes "end\n"
   by_version V1 = simp (map-append, map-map, texts_append, append_assoc)
   by_version V2 = simp (map-append, map-map, texts_append, append_assoc)
-
--- ---- what is written can be told in its version
-
--- a line of version 2 is one of version 1 where no hangup is told
-first_commands : (cs : List Command) (rest : List Line) → list_any is_hangup cs ≡ false
-    → AllByRecursion (FitsLine V2) (map line.Command cs ++ rest)
-    → (AllByRecursion (FitsLine V2) rest → AllByRecursion (FitsLine V1) rest)
-    → AllByRecursion (FitsLine V1) (map line.Command cs ++ rest)
-first_commands [] rest none h more = more h
-first_commands (c ∷ cs) rest none h more =
-    let both = neither (is_hangup c) (list_any is_hangup cs) none in
-    ((h.0.0, both.0), first_commands cs rest both.1 h.1 more)
-
-first_programs : (n : ℕ) (ps : List (List Command)) → list_any (list_any is_hangup) ps ≡ false
-    → AllByRecursion (FitsLine V2) (program_lines n ps) → AllByRecursion (FitsLine V1) (program_lines n ps)
-first_programs n [] none h = tt
-first_programs n (p ∷ ps) none h =
-    let both = neither (list_any is_hangup p) (list_any (list_any is_hangup) ps) none in
-    (h.0, first_commands p (program_lines (n + 1) ps) both.0 h.1 (first_programs (n + 1) ps both.1))
-
-programs_fit : (version : Version) (v : ProgramLists) → (version ≡ V1 → least_of_programs v.drivers v.programs ≡ V1)
-    → AllByRecursion (FitsLine V2) (program_lines 0 v.programs)
-    → AllByRecursion (FitsLine version) (program_lines 0 v.programs)
-programs_fit V1 v told h =
-    let both = neither (are_more_drivers v.drivers) (list_any (list_any is_hangup) v.programs) (is_first _ (told refl)) in
-    first_programs 0 v.programs both.1 h
-programs_fit V2 v told h = h
-
-drivers_few : (version : Version) (v : ProgramLists) → (version ≡ V1 → least_of_programs v.drivers v.programs ≡ V1)
-    → length v.drivers ≤ MAX_DRIVERS → length v.drivers ≤ most_drivers version
-drivers_few V1 v told few =
-    let both = neither (are_more_drivers v.drivers) (list_any (list_any is_hangup) v.programs) (is_first _ (told refl)) in
-    not_more v.drivers both.0
-drivers_few V2 v told few = few
 
 -- so these programs are allowed
 pub written_allowed : (v : ProgramLists) → AreWithinLimits v → AllByRecursion FitsDriver v.drivers

@@ -26,7 +26,6 @@ use Rattle.smx_text.specs.TranscriptLines as line
 use Rattle.smx_text.specs.TranscriptText.{IsAllowed, transcript_grammar}
 use Rattle.smx_text.specs.WorkedFaults.{AreWrongPrograms, IsWrongTranscript, driver_lines, with_drivers}
 use Rattle.smx_text.proofs.EachLemmas.{all_map, all_append}
-use Rattle.smx_text.proofs.ProgramsFollowLemmas.{AreMany}
 use Rattle.smx_text.proofs.ProgramsGrammarLemmas.{refused_line}
 use Rattle.smx_text.proofs.ProgramsLemmas.{too_many}
 use Rattle.smx_text.proofs.ReadingLemmas.{beginning_more}

@@ -1,4 +1,4 @@
-use Rattle.std.proofs.Common.{rules, ◌≡◌, ◌∷◌, ◌++◌, codes, sym, ◌∙◌, arith, length, ap, List, ℕ}
+use Rattle.std.proofs.Common.{rules, ◌≡◌, ◌∷◌, codes, sym, ◌∙◌, arith, length, ap, ℕ}
 use Rattle.std.proofs.lemmas.List.{length-append}
 use Rattle.std.proofs.lemmas.Result.{err_from_is_err_and}
 use Rattle.smx_words.specs.Words.{LINE_FEED}
@@ -19,8 +19,11 @@ lines-init g c =
     record {
       between = rw is (started (g.D.Draft.grammar c.in_ok-version.version) c.args.bytes.now c.in_ok-version.behind.now
           (g.D.Draft.lines c.begin-draft.result) (c.requires c.in_ok-version.version) c.begin-draft.ensures.none all);
-      room = omega (arith, ap (length {A = ℕ}) all,
-          length-append (header (g.D.Draft.grammar c.in_ok-version.version)) (LINE_FEED ∷ c.in_ok-version.behind.now));
+      room = omega (
+        arith,
+        ap (length {A = ℕ}) all,
+        length-append (header (g.D.Draft.grammar c.in_ok-version.version)) (LINE_FEED ∷ c.in_ok-version.behind.now),
+      );
     }
 
 pub returns-then-eq : goal.returns-then-eq

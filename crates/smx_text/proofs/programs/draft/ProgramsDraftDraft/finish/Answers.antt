@@ -1,6 +1,5 @@
 use Rattle.std.proofs.Common.{◌≡◌, ◌∙◌, ap, rules}
 use Rattle.smx_types.specs.ProgramLists.{ProgramLists, program_lists, raised}
-use Rattle.smx_types.specs.declared.version.Version.TheVariants.{V1, V2}
 use Rattle.smx_text.proofs.ProgramsLemmas.{finished}
 use Rattle.smx_text.proofs.programs.draft.ProgramsDraftDraft.finish.Goals as goal
 
