@@ -38,6 +38,7 @@ pub all_first : {X : Type 0} (P Q : X → Type 0) (xs : List X) → AllByRecursi
 all_first P Q [] h = tt
 all_first P Q (x ∷ xs) h = (h.0.0, all_first P Q xs h.1)
 
-pub all_second : {X : Type 0} (P Q : X → Type 0) (xs : List X) → AllByRecursion (λ x. P x × Q x) xs → AllByRecursion Q xs
+pub all_second : {X : Type 0} (P Q : X → Type 0) (xs : List X) → AllByRecursion (λ x. P x × Q x) xs
+    → AllByRecursion Q xs
 all_second P Q [] h = tt
 all_second P Q (x ∷ xs) h = (h.0.1, all_second P Q xs h.1)

@@ -60,7 +60,8 @@ pub grown : (version : Version) (drivers : List DriverSpec) (before more : List 
     → BeginsTranscript version drivers before old → BeginsTranscript version drivers (before ++ more) new
 grown version drivers before more old new added fits was = record {
   written =
-      added ∙ ap (λ (bytes : List ℕ). bytes ++ text_of (map entry_words more)) (was.written ∙ begun_is version drivers before)
+      added ∙ ap (λ (bytes : List ℕ). bytes ++ text_of (map entry_words more))
+      (was.written ∙ begun_is version drivers before)
       ∙ more_text version drivers before more ∙ sym (begun_is version drivers (before ++ more));
   drivers_fit = was.drivers_fit;
   entries_fit = all_append FitsEntry before more was.entries_fit fits;

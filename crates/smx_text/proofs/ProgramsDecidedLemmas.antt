@@ -43,7 +43,8 @@ told_reading : (version : Version) (text : List ℕ)
     → (o : Option Command) × IsReadAs (FitsCommandIn version) command_words text o
 told_reading version text = let c = command_reading text in told_command version text c.0 c.1
 
-room_or_many : (version : Version) → (v : ProgramLists) (k : Line) → k ≢ line.End → HasRoom version v k ⊎ AreMany version v k
+room_or_many : (version : Version) → (v : ProgramLists) (k : Line) → k ≢ line.End
+    → HasRoom version v k ⊎ AreMany version v k
 room_or_many version v (line.Driver d) other = cases_lt (length v.drivers) (most_drivers version)
 room_or_many version v (line.Process n) other = cases_lt (length v.programs) MAX_PROCESSES
 room_or_many version v (line.Command c) other = cases_lt (sum_by length v.programs) MAX_COMMANDS
@@ -53,13 +54,25 @@ begun_by : (version : Version) → (v : ProgramLists) → IsAllowed version v �
 begun_by version v allowed = (v, [], allowed, sym (append-nil (body v)))
 
 -- a line that was read
-judged : (version : Version) → (v : ProgramLists) → IsAllowed version v → (k : Line) (text : List ℕ) → k ≢ line.End → FitsLine version k
+judged : (version : Version) → (v : ProgramLists) → IsAllowed version v → (k : Line) (text : List ℕ) → k ≢ line.End
+    → FitsLine version k
     → text ≡ line_text (programs_grammar version) k → Decision (programs_grammar version) (body v) text
 judged version v allowed k text other fits is = elim (stands_or_not v k) [
-  | inr misplaced_there ↦ inr (inl (refused_line version (body v) k text fits is cause.Form (misplaced version v k misplaced_there)))
+  | inr misplaced_there ↦ inr (inl (refused_line version (body v) k text fits is cause.Form
+      (misplaced version v k misplaced_there)))
   | inl may ↦ elim (room_or_many version v k other) [
-    | inr many ↦ inr (inr (inl (refused_line version (body v) k text fits is cause.Many (too_many version v k may many))))
-    | inl room ↦ inl (body v ++ k ∷ [], (k, is, refl, longer_begun version v k allowed.version_is (begun_by version v allowed) may room fits))
+    | inr many ↦ inr (inr (inl (refused_line version (body v) k text fits is cause.Many
+        (too_many version v k may many))))
+    | inl room ↦ inl (
+      body v ++ k ∷ [],
+      (
+        k,
+        is,
+        refl,
+        longer_begun version v k allowed.version_is
+            (begun_by version v allowed) may room fits,
+      ),
+    )
   ]
 ]
 
@@ -81,13 +94,15 @@ module _ (version : Version) (v : ProgramLists) (allowed : IsAllowed version v) 
   by_command None none = let d = driver_reading text in by_driver none d.0 d.1
   by_command (Some c) (fits, is) = judged version v allowed (line.Command c) text (λ e. cc) fits is
 
-behind : (version : Version) → (v : ProgramLists) → IsAllowed version v → (text : List ℕ) → Decision (programs_grammar version) (body v) text
+behind : (version : Version) → (v : ProgramLists) → IsAllowed version v → (text : List ℕ)
+    → Decision (programs_grammar version) (body v) text
 behind version v allowed text = elim (same_or_not text (line_text (programs_grammar version) line.End)) [
   | inl end ↦ inr (inr (inr (end, v, allowed, refl)))
   | inr other ↦ let c = told_reading version text in by_command version v allowed text other c.0 c.1
 ]
 
-decides : (version : Version) → (lines : List Line) → IsBegun (programs_grammar version) lines → (text : List ℕ) → Decision (programs_grammar version) lines text
+decides : (version : Version) → (lines : List Line) → IsBegun (programs_grammar version) lines → (text : List ℕ)
+    → Decision (programs_grammar version) lines text
 decides version lines begun text =
     let own = begun_is_body version lines begun in
     subst (λ (ls : List Line). Decision (programs_grammar version) ls text) own.2 (behind version own.0 own.1 text)

@@ -75,7 +75,8 @@ spelling version line.End fits = end_spelled
 
 words_apart : (version : Version) (k l : Line) → FitsLine version k → FitsLine version l → line_words k ≡ line_words l
     → line_text (programs_grammar version) k ≡ line_text (programs_grammar version) l → k ≡ l
-words_apart version (line.Driver d) (line.Driver e) fits also ws same = ap (λ x. line.Driver x) (one_driver d e fits also same)
+words_apart version (line.Driver d) (line.Driver e) fits also ws same =
+    ap (λ x. line.Driver x) (one_driver d e fits also same)
 words_apart version (line.Process n) (line.Process m) fits also ws same =
     ap (λ x. line.Process x) (one_process n m fits also same)
 words_apart version (line.Command c) (line.Command d) fits also ws same =
@@ -103,18 +104,22 @@ tells_apart version k l fits also same =
 -- what is done with a line that was read is done with its text
 pub on_added_line : {A : Type 0} (version : Version) (lines longer : List Line) (k : Line) (text : List ℕ)
     → text ≡ line_text (programs_grammar version) k → (r : Result A Cause)
-    → OnOk r (AddsLine (programs_grammar version) lines k longer) → OnOk r (Continues (programs_grammar version) lines text longer)
+    → OnOk r (AddsLine (programs_grammar version) lines k longer)
+    → OnOk r (Continues (programs_grammar version) lines text longer)
 on_added_line version lines longer k text is r h = on_added (programs_grammar version) lines longer k text is r h
 
-pub on_refused_line : {A : Type 0} (version : Version) (lines : List Line) (k : Line) (text : List ℕ) → FitsLine version k
+pub on_refused_line : {A : Type 0} (version : Version) (lines : List Line) (k : Line) (text : List ℕ)
+    → FitsLine version k
     → text ≡ line_text (programs_grammar version) k → (r : Result A Cause)
     → IfErr r (RefusesLine (programs_grammar version) lines k) → IfErr r (Refuses (programs_grammar version) lines text)
-on_refused_line version lines k text fits is r h = on_refused (programs_grammar version) (tells_apart version) lines k text fits is r h
+on_refused_line version lines k text fits is r h =
+    on_refused (programs_grammar version) (tells_apart version) lines k text fits is r h
 
 pub refused_line : (version : Version) (lines : List Line) (k : Line) (text : List ℕ) → FitsLine version k
     → text ≡ line_text (programs_grammar version) k → (why : Cause) → RefusesLine (programs_grammar version) lines k why
     → Refuses (programs_grammar version) lines text why
-refused_line version lines k text fits is why h = refuses (programs_grammar version) (tells_apart version) lines k text fits is why h
+refused_line version lines k text fits is why h =
+    refuses (programs_grammar version) (tells_apart version) lines k text fits is why h
 
 -- what is none of these is no line
 pub no_line : (version : Version) (lines : List Line) (text : List ℕ)

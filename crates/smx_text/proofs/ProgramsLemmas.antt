@@ -78,7 +78,8 @@ pub adds : (version : Version) (v w : ProgramLists) (k : Line) → v.version ≡
 adds version v w k of_v of_w begun room fits e =
     let own = allowed_of version v of_v begun in
     let few = few_by version v w k own room e in
-    let all = subst (AllByRecursion (FitsLine version)) (sym e) (all_push (FitsLine version) (body v) k own.fits fits) in
+    let all = subst (AllByRecursion (FitsLine version)) (sym e)
+    (all_push (FitsLine version) (body v) k own.fits fits) in
     let kept : IsAllowed version w = record {
       version_is = of_w;
       drivers = few.drivers;

@@ -140,7 +140,8 @@ begun_is_body version lines (w, more, allowed, e) =
     order_before 0 lines more
     (subst (InOrder 0) e (order_before 0 (body w) (line.End ∷ []) (body_in_order w))) in
     let ends = ap (sum_by an_end) e ∙ sum_by-append an_end lines more in
-    let own = lead (record { version = version; drivers = []; programs = [] }) lines order (omega (arith, ends, c.ends)) in
+    let own = lead (record { version = version; drivers = []; programs = [] }) lines order
+    (omega (arith, ends, c.ends)) in
     let v = own.0 in
     let d = counts v in
     let fits = all_left (FitsLine version) lines more (subst (AllByRecursion (FitsLine version)) e allowed.fits) in

@@ -63,13 +63,15 @@ pub programs_fit : (version : Version) (v : ProgramLists) → (version ≡ V1 �
     → AllByRecursion (FitsLine V2) (program_lines 0 v.programs)
     → AllByRecursion (FitsLine version) (program_lines 0 v.programs)
 programs_fit V1 v told h =
-    let both = neither (are_more_drivers v.drivers) (list_any (list_any is_hangup) v.programs) (is_first _ (told refl)) in
+    let both = neither (are_more_drivers v.drivers) (list_any (list_any is_hangup) v.programs)
+    (is_first _ (told refl)) in
     first_programs 0 v.programs both.1 h
 programs_fit V2 v told h = h
 
 pub drivers_few : (version : Version) (v : ProgramLists) → (version ≡ V1 → least_of_programs v.drivers v.programs ≡ V1)
     → length v.drivers ≤ MAX_DRIVERS → length v.drivers ≤ most_drivers version
 drivers_few V1 v told few =
-    let both = neither (are_more_drivers v.drivers) (list_any (list_any is_hangup) v.programs) (is_first _ (told refl)) in
+    let both = neither (are_more_drivers v.drivers) (list_any (list_any is_hangup) v.programs)
+    (is_first _ (told refl)) in
     not_more v.drivers both.0
 drivers_few V2 v told few = few

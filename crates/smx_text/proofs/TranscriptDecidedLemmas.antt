@@ -16,7 +16,7 @@ use Rattle.smx_words.specs.LineReading.{IsReadAs}
 use Rattle.smx_words.specs.Words.{line_of}
 use Rattle.smx_words.specs.Spelling.{driver_words, entry_words, descriptor_words, link_words, bind_words}
 use Rattle.smx_words.specs.Spelling.{route_words, message_words, full_words, hung_words, next_words}
-use Rattle.smx_words.specs.Spellable.{CanTell, FitsDriver, FitsEntryIn, FitsDescriptor, FitsLink, FitsBinding}
+use Rattle.smx_words.specs.Spellable.{FitsDriver, FitsEntryIn, FitsDescriptor, FitsLink, FitsBinding}
 use Rattle.smx_words.specs.Spellable.{FitsRoute, FitsMessage, FitsFull, FitsHung, FitsNext}
 use Rattle.smx_words.proofs.DecidedCommandLemmas.{entry_reading}
 use Rattle.smx_words.proofs.DecidedLineLemmas.{driver_reading, next_reading, descriptor_reading}
@@ -31,16 +31,12 @@ use Rattle.smx_text.specs.Drafts.{grammar_of, lines, is_view}
 use Rattle.smx_text.specs.Grammar.{IsBegun, IsNoLine, line_text}
 use Rattle.smx_text.specs.TranscriptLines.{TranscriptLine}
 use Rattle.smx_text.specs.TranscriptLines as line
-use Rattle.smx_text.specs.TranscriptText.{FitsLine, transcript_grammar}
+use Rattle.smx_text.specs.TranscriptText.{FitsHungIn, FitsLine, transcript_grammar}
 use Rattle.smx_words.proofs.DecidedLemmas.{same_or_not}
 use Rattle.smx_text.proofs.HasReadingLemmas.{Decision, HasReading, has_reading}
 use Rattle.smx_text.proofs.TranscriptDrafts.{takes, is_full}
 use Rattle.smx_text.proofs.TranscriptGrammarLemmas.{refused_line, not_at_end, well_made, no_line}
 use Rattle.smx_text.proofs.TranscriptLemmas.{misplaced, too_many, longer_begun, whole, begun_is_draft, nothing_begun}
-
--- it can be spelled, and told in this version
-abbrev FitsHungIn : Version → HungLine → Type 0
-FitsHungIn version h = FitsHung h × CanTell version true
 
 told_entry_reading : (version : Version) (text : List ℕ)
     → (o : Option Entry) × IsReadAs (FitsEntryIn version) entry_words text o
@@ -61,12 +57,14 @@ judged : (d : TranscriptDraft) → IsBegun (grammar_of d) (lines d) → (k : Tra
     → Decision (grammar_of d) (lines d) text
 judged d begun k text other fits is = by_place (takes d k) refl where
   by_room : takes d k ≡ true → (b : Bool) → is_full d k ≡ b → Decision (grammar_of d) (lines d) text
-  by_room may true full = inr (inr (inl (refused_line d.transcript.version (lines d) k text fits is cause.Many (too_many d k may full))))
+  by_room may true full = inr (inr (inl (refused_line d.transcript.version (lines d) k text fits is cause.Many
+      (too_many d k may full))))
   by_room may false room = inl (lines d ++ k ∷ [], (k, is, refl, longer_begun d k begun may room fits other))
 
   by_place : (b : Bool) → takes d k ≡ b → Decision (grammar_of d) (lines d) text
   by_place true may = by_room may (is_full d k) refl
-  by_place false no_place = inr (inl (refused_line d.transcript.version (lines d) k text fits is cause.Form (misplaced d k no_place)))
+  by_place false no_place = inr (inl (refused_line d.transcript.version (lines d) k text fits is cause.Form
+      (misplaced d k no_place)))
 
 view_of : (s : Stage) → is_view s ≡ true → s ≡ stage.View
 view_of stage.History h = absurd cc
@@ -91,7 +89,8 @@ module _ (d : TranscriptDraft) (begun : IsBegun (grammar_of d) (lines d)) (text 
   abbrev Decided : Type 0
   Decided = Decision (grammar_of d) (lines d) text
 
-  module _ (entries : IsNone (FitsEntryIn d.transcript.version) entry_words) (messages : IsNone FitsMessage message_words)
+  module _ (entries : IsNone (FitsEntryIn d.transcript.version) entry_words)
+      (messages : IsNone FitsMessage message_words)
       (drivers : IsNone FitsDriver driver_words) (config : text ≢ line_text (grammar_of d) line.Config)
       (nexts : IsNone FitsNext next_words) where
     by_hung : IsNone FitsDescriptor descriptor_words → IsNone FitsLink link_words
@@ -129,7 +128,8 @@ module _ (d : TranscriptDraft) (begun : IsBegun (grammar_of d) (lines d)) (text 
     by_descriptor None none = let o = link_reading text in by_link none o.0 o.1
     by_descriptor (Some x) (fits, is) = judged d begun (line.Fd x) text (λ e. cc) fits is
 
-  by_next : IsNone (FitsEntryIn d.transcript.version) entry_words → IsNone FitsMessage message_words → IsNone FitsDriver driver_words
+  by_next : IsNone (FitsEntryIn d.transcript.version) entry_words → IsNone FitsMessage message_words
+      → IsNone FitsDriver driver_words
       → text ≢ line_text (grammar_of d) line.Config → (o : Option (ℕ × ℕ))
       → IsReadAs FitsNext next_words text o → Decided
   by_next entries messages drivers config None none = let o = descriptor_reading text in
@@ -137,13 +137,15 @@ module _ (d : TranscriptDraft) (begun : IsBegun (grammar_of d) (lines d)) (text 
   by_next entries messages drivers config (Some x) (fits, is) =
       judged d begun (line.Next x.0 x.1) text (λ e. cc) fits is
 
-  by_config : IsNone (FitsEntryIn d.transcript.version) entry_words → IsNone FitsMessage message_words → IsNone FitsDriver driver_words → Decided
+  by_config : IsNone (FitsEntryIn d.transcript.version) entry_words → IsNone FitsMessage message_words
+      → IsNone FitsDriver driver_words → Decided
   by_config entries messages drivers = elim (same_or_not text (line_text (grammar_of d) line.Config)) [
     | inl is ↦ judged d begun line.Config text (λ e. cc) tt is
     | inr config ↦ let o = next_reading text in by_next entries messages drivers config o.0 o.1
   ]
 
-  by_driver : IsNone (FitsEntryIn d.transcript.version) entry_words → IsNone FitsMessage message_words → (o : Option DriverSpec)
+  by_driver : IsNone (FitsEntryIn d.transcript.version) entry_words → IsNone FitsMessage message_words
+      → (o : Option DriverSpec)
       → IsReadAs FitsDriver driver_words text o → Decided
   by_driver entries messages None none = by_config entries messages none
   by_driver entries messages (Some x) (fits, is) = judged d begun (line.Driver x) text (λ e. cc) fits is

@@ -105,7 +105,13 @@ view_more t (line.Link x) h l =
     let m = and_parts (takes_msgs (draft stage.View t)) (eqb (length t.view.msgs) 0) r.0 in
     let f = and_parts (takes_fulls (draft stage.View t)) (eqb (length t.view.fulls) 0) m.0 in
     let g = and_parts (takes_hungs (draft stage.View t)) (eqb (length t.view.hungs) 0) f.0 in
-    rw (none t.view.binds q.1, none t.view.routes r.1, none t.view.msgs m.1, none t.view.fulls f.1, none t.view.hungs g.1)
+    rw (
+      none t.view.binds q.1,
+      none t.view.routes r.1,
+      none t.view.msgs m.1,
+      none t.view.fulls f.1,
+      none t.view.hungs g.1,
+    )
     (ap (λ (ls : List TranscriptLine). line.Config ∷ line.Next t.view.next_id t.view.next_serial ∷ ls)
     (through (map line.Fd t.view.fds) _ _ (line.Link x) (last_more line.Link t.view.links x)))
 view_more t (line.Bind x) h l =
@@ -255,20 +261,23 @@ run_lines (k ∷ ks) d e h =
 -- ---- the lines of a transcript give that transcript
 
 abbrev in_history : Version → List DriverSpec → List Entry → TranscriptDraft
-in_history version ds es = draft stage.History (record { version = version; drivers = ds; entries = es; view = new_view 0 0 })
+in_history version ds es =
+    draft stage.History (record { version = version; drivers = ds; entries = es; view = new_view 0 0 })
 
 push_assoc : {A : Type 0} (xs : List A) (y : A) (ys : List A) → (xs ++ y ∷ []) ++ ys ≡ xs ++ y ∷ ys
 push_assoc xs y ys = append_assoc xs (y ∷ []) ys
 
 pub run_drivers : (version : Version) (ds0 ds : List DriverSpec) (rest : List TranscriptLine)
     → run (in_history version ds0 []) (map line.Driver ds ++ rest) ≡ run (in_history version (ds0 ++ ds) []) rest
-run_drivers version ds0 [] rest = ap (λ (ds : List DriverSpec). run (in_history version ds []) rest) (sym (append-nil ds0))
+run_drivers version ds0 [] rest = ap (λ (ds : List DriverSpec). run (in_history version ds []) rest)
+    (sym (append-nil ds0))
 run_drivers version ds0 (d ∷ ds) rest = run_drivers version (ds0 ++ d ∷ []) ds rest
     ∙ ap (λ (es : List DriverSpec). run (in_history version es []) rest) (push_assoc ds0 d ds)
 
 pub run_entries : (version : Version) (ds : List DriverSpec) (es0 es : List Entry) (rest : List TranscriptLine)
     → run (in_history version ds es0) (map line.Entry es ++ rest) ≡ run (in_history version ds (es0 ++ es)) rest
-run_entries version ds es0 [] rest = ap (λ (es : List Entry). run (in_history version ds es) rest) (sym (append-nil es0))
+run_entries version ds es0 [] rest = ap (λ (es : List Entry). run (in_history version ds es) rest)
+    (sym (append-nil es0))
 run_entries version ds es0 (e ∷ es) rest = run_entries version ds (es0 ++ e ∷ []) es rest
     ∙ ap (λ (xs : List Entry). run (in_history version ds xs) rest) (push_assoc es0 e es)
 

@@ -5,7 +5,8 @@ use Rattle.smx_types.specs.declared.view.ConfigView.{ConfigView}
 use Rattle.smx_text.specs.declared.transcript.draft.Stage.{Stage}
 use Rattle.smx_text.specs.declared.transcript.draft.Stage.TheVariants as stage
 use Rattle.smx_text.specs.declared.transcript.draft.TranscriptDraft.{TranscriptDraft}
-use Rattle.smx_text.specs.Drafts.{is_view, takes_fds, takes_links, takes_binds, takes_routes, takes_msgs, takes_fulls, takes_hungs}
+use Rattle.smx_text.specs.Drafts.{is_view, takes_fds, takes_links, takes_binds, takes_routes, takes_msgs, takes_fulls}
+use Rattle.smx_text.specs.Drafts.{takes_hungs}
 use Rattle.smx_text.specs.TranscriptLines.{TranscriptLine}
 use Rattle.smx_text.specs.TranscriptLines as line
 use Rattle.smx_types.specs.Versions.{most_drivers}

@@ -47,9 +47,17 @@ version_stays d line.End = refl
 
 one_grows : (d : TranscriptDraft) (k : TranscriptLine) → Grows d (with_line d k)
 one_grows d (line.Driver x) =
-    record { version = refl; drivers = omega (arith, length-append d.transcript.drivers (x ∷ [])); entries = omega arith }
+    record {
+      version = refl;
+      drivers = omega (arith, length-append d.transcript.drivers (x ∷ []));
+      entries = omega arith;
+    }
 one_grows d (line.Entry x) =
-    record { version = refl; drivers = omega arith; entries = omega (arith, length-append d.transcript.entries (x ∷ [])) }
+    record {
+      version = refl;
+      drivers = omega arith;
+      entries = omega (arith, length-append d.transcript.entries (x ∷ []));
+    }
 one_grows d line.Config = record { version = refl; drivers = omega arith; entries = omega arith }
 one_grows d (line.Next id serial) = record { version = refl; drivers = omega arith; entries = omega arith }
 one_grows d (line.Fd x) = record { version = refl; drivers = omega arith; entries = omega arith }

@@ -24,8 +24,8 @@ use Rattle.smx_types.specs.declared.view.RouteLine.{RouteLine}
 use Rattle.smx_words.specs.Words.{line_of}
 use Rattle.smx_words.specs.Spelling.{driver_words, entry_words, descriptor_words, link_words, bind_words}
 use Rattle.smx_words.specs.Spelling.{route_words, message_words, full_words, hung_words, next_words}
-use Rattle.smx_words.specs.Spellable.{CanTell, FitsDriver, FitsEntryIn, FitsDescriptor, FitsLink, FitsBinding}
-use Rattle.smx_words.specs.Spellable.{FitsRoute, FitsMessage, FitsFull, FitsHung, FitsNext}
+use Rattle.smx_words.specs.Spellable.{FitsDriver, FitsEntryIn, FitsDescriptor, FitsLink, FitsBinding}
+use Rattle.smx_words.specs.Spellable.{FitsRoute, FitsMessage, FitsFull, FitsNext}
 use Rattle.smx_text.specs.declared.fault.Cause.{Cause}
 use Rattle.smx_text.specs.declared.fault.Cause.TheVariants as cause
 use Rattle.smx_text.specs.declared.transcript.draft.Stage.TheVariants as stage
@@ -35,7 +35,7 @@ use Rattle.smx_text.specs.Grammar.{Continues, IsNoLine, IsOneLine, header, line_
 use Rattle.smx_text.specs.Reading.{Refuses, EndsAs, AddsLine, RefusesLine}
 use Rattle.smx_text.specs.TranscriptLines.{TranscriptLine}
 use Rattle.smx_text.specs.TranscriptLines as line
-use Rattle.smx_text.specs.TranscriptText.{line_words, FitsLine, body, transcript_grammar}
+use Rattle.smx_text.specs.TranscriptText.{line_words, FitsHungIn, FitsLine, body, transcript_grammar}
 use Rattle.smx_text.proofs.GrammarLemmas.{IsWellMade}
 use Rattle.smx_text.proofs.ReadingLemmas.{refuses, on_added, on_refused}
 use Rattle.smx_text.proofs.TranscriptDrafts.{new_draft, takes}
@@ -246,7 +246,7 @@ module _ (version : Version) (ls : List TranscriptLine) (text : List ℕ)
     (binds : (x : BindingLine) → FitsBinding x → text ≢ line_of (bind_words x))
     (routes : (x : RouteLine) → FitsRoute x → text ≢ line_of (route_words x))
     (fulls : (x : FullLine) → FitsFull x → text ≢ line_of (full_words x))
-    (hungs : (x : HungLine) → FitsHung x × CanTell version true → text ≢ line_of (hung_words x))
+    (hungs : (x : HungLine) → FitsHungIn version x → text ≢ line_of (hung_words x))
     (end : text ≢ line_text (transcript_grammar version) line.End) where
   pub no_line : IsNoLine (transcript_grammar version) ls text
   no_line (line.Driver x) fits may is = drivers x fits is

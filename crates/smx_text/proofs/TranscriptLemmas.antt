@@ -115,7 +115,8 @@ begun_is_draft version ls (t, more, allowed, e) =
     let u = of_version version t in
     let all = sym (ap (run (new_draft version)) e) ∙ run_body u in
     let d =
-    some_of (run (new_draft version) ls) more (draft stage.View u) (sym (run_append (new_draft version) ls more) ∙ all) in
+    some_of (run (new_draft version) ls) more (draft stage.View u)
+    (sym (run_append (new_draft version) ls more) ∙ all) in
     (d.0, run_lines ls (new_draft version) d.0 d.1, (run_grows ls (new_draft version) d.0 d.1).version)
 
 -- ---- lines that are taken, and those that are not

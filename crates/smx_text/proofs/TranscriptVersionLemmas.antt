@@ -1,5 +1,5 @@
 -- What a version can tell of a transcript, as a whole and line by line.
-use Rattle.std.proofs.Common.{◌≡◌, ◌≤◌, Bool, true, false, nat_lt, List, [], ◌∷◌, length, refl, arith}
+use Rattle.std.proofs.Common.{◌≡◌, ◌≤◌, true, false, nat_lt, List, [], ◌∷◌, length, refl, arith}
 use Rattle.std.specs.List.{AllByRecursion, list_any}
 use Rattle.std.proofs.lemmas.Bool.Decides.{nat_tests}
 use Rattle.smx_types.specs.Versions.{are_more_drivers, is_of_hangup, least_of_transcript, most_drivers}
@@ -19,16 +19,7 @@ AreToldEntries version es = AllByRecursion (λ e. CanTell version (is_of_hangup 
 abbrev pub AreToldHungs : Version → List HungLine → Type 0
 AreToldHungs version hs = AllByRecursion (λ h. CanTell version true) hs
 
--- version 1 can tell of no hangup, and version 2 of each
-pub first_tells_none : (version : Version) → version ≡ V1 → CanTell version true → ⊥
-first_tells_none V1 is h = absurd (cc h)
-first_tells_none V2 is h = absurd (cc is)
-
-pub second_tells : (version : Version) (hangup : Bool) → version ≡ V2 → CanTell version hangup
-second_tells V1 hangup is = absurd (cc is)
-second_tells V2 hangup is = tt
-
--- so it can tell all
+-- version 2 can tell all
 each_entry : (es : List Entry) → AreToldEntries V2 es
 each_entry [] = tt
 each_entry (e ∷ es) = (tt, each_entry es)

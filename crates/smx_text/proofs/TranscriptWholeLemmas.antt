@@ -119,7 +119,8 @@ nothing_fits =
 
 -- what holds of the lines of a view holds of its parts
 module _ (version : Version) (v : ConfigView) (h : AllByRecursion (FitsLine version) (view_body v)) where
-  links_fit : AllByRecursion (FitsLine version) (map line.Link v.links ++ (map line.Bind v.binds ++ (map line.Route v.routes
+  links_fit : AllByRecursion (FitsLine version) (map line.Link v.links
+      ++ (map line.Bind v.binds ++ (map line.Route v.routes
       ++ (map line.Msg v.msgs ++ (map line.Full v.fulls ++ map line.Hung v.hungs)))))
   links_fit = all_right (FitsLine version) (map line.Fd v.fds) _ h.1
 
@@ -138,18 +139,23 @@ module _ (version : Version) (v : ConfigView) (h : AllByRecursion (FitsLine vers
   fulls_fit = all_right (FitsLine version) (map line.Msg v.msgs) _ msgs_fit
 
   hungs_fit : AllByRecursion (λ x. FitsHung x × CanTell version true) v.hungs
-  hungs_fit = of_map (FitsLine version) line.Hung v.hungs (all_right (FitsLine version) (map line.Full v.fulls) _ fulls_fit)
+  hungs_fit = of_map (FitsLine version) line.Hung v.hungs
+      (all_right (FitsLine version) (map line.Full v.fulls) _ fulls_fit)
 
   view_fits : IsSpellableView v
   view_fits = record {
     next_id = h.0.0;
     next_serial = h.0.1;
     fds = of_map (FitsLine version) line.Fd v.fds (all_left (FitsLine version) (map line.Fd v.fds) _ h.1);
-    links = of_map (FitsLine version) line.Link v.links (all_left (FitsLine version) (map line.Link v.links) _ links_fit);
-    binds = of_map (FitsLine version) line.Bind v.binds (all_left (FitsLine version) (map line.Bind v.binds) _ binds_fit);
-    routes = of_map (FitsLine version) line.Route v.routes (all_left (FitsLine version) (map line.Route v.routes) _ routes_fit);
+    links = of_map (FitsLine version) line.Link v.links
+        (all_left (FitsLine version) (map line.Link v.links) _ links_fit);
+    binds = of_map (FitsLine version) line.Bind v.binds
+        (all_left (FitsLine version) (map line.Bind v.binds) _ binds_fit);
+    routes = of_map (FitsLine version) line.Route v.routes
+        (all_left (FitsLine version) (map line.Route v.routes) _ routes_fit);
     msgs = of_map (FitsLine version) line.Msg v.msgs (all_left (FitsLine version) (map line.Msg v.msgs) _ msgs_fit);
-    fulls = of_map (FitsLine version) line.Full v.fulls (all_left (FitsLine version) (map line.Full v.fulls) _ fulls_fit);
+    fulls = of_map (FitsLine version) line.Full v.fulls
+        (all_left (FitsLine version) (map line.Full v.fulls) _ fulls_fit);
     hungs = all_first FitsHung (λ x. CanTell version true) v.hungs hungs_fit;
   }
 

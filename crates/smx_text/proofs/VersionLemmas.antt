@@ -34,7 +34,8 @@ module _ {V K : Type 0} (g : Version → Grammar V K) (are : AreVersions g) wher
   Refused n c = Err (record { line = n; cause = c })
 
   abbrev IsWrongInEach : List ℕ → Result V TextFault → Type 0
-  IsWrongInEach bytes r = IfErr r (λ f. f.cause ≡ cause.Header → (other : Version) → IsFault (g other) bytes f.line cause.Header)
+  IsWrongInEach bytes r = IfErr r (λ f. f.cause ≡ cause.Header → (other : Version)
+      → IsFault (g other) bytes f.line cause.Header)
 
   -- an answer stands behind the header of its version, or is given in each
   moved : (v w : Version) (bytes : List ℕ) (r : Result V TextFault) → IsWrongInEach bytes r
@@ -80,7 +81,8 @@ module _ {V K : Type 0} (g : Version → Grammar V K) (are : AreVersions g) wher
   pub written_is_read : (version : Version) (v : V) (r : Result V TextFault) → (g version).IsAllowed v
       → ReadsAny g (full_text (g version) v) r → MatchResult r (λ w. w ≡ v) (λ f. f.cause ≡ cause.NoMemory)
   written_is_read version v (Ok w) allowed reads =
-      ok_is w v (one_reading_of_all (full_text (g version) v) (Ok w) (Ok v) reads (spelled version v allowed) tt tt) where
+      ok_is w v (one_reading_of_all (full_text (g version) v) (Ok w) (Ok v) reads
+      (spelled version v allowed) tt tt) where
         ok_is : (u t : V) → ◌≡◌ {A = Result V TextFault} (Ok u) (Ok t) → u ≡ t
         ok_is u t e = cc
   written_is_read version v (Err f) allowed reads = by_cause f.cause refl where
@@ -111,7 +113,8 @@ module _ {V K : Type 0} (g : Version → Grammar V K) (are : AreVersions g) wher
       reads ample behind) ample
 
   -- a text that has a reading in each version has one
-  pub has_reading_of_all : (bytes : List ℕ) → ((version : Version) → HasReading (g version) bytes) → HasAnyReading g bytes
+  pub has_reading_of_all : (bytes : List ℕ) → ((version : Version) → HasReading (g version) bytes)
+      → HasAnyReading g bytes
   has_reading_of_all bytes each = by_first (each V1).0 (each V1).1 (each V1).2 where
     stops : (version : Version) (n : ℕ) (c : Cause) → IsFault (g version) bytes n c → c ≢ cause.NoMemory
         → c ≢ cause.Header → HasAnyReading g bytes

@@ -251,7 +251,8 @@ no_word =
 pub hangup : AreWrongPrograms (with_line_4 (codes "hangup ip 0")) 4 cause.Form
 hangup =
     wrong_at_4 (codes "hangup ip 0") (search rules) (no_words ws (search rules, omega arith)
-    (λ c fits e. none c fits (verb_is c verb.Hangup _ e) e) refl refl (differ (codes "hangup ip 0") (codes "end") refl)) where
+    (λ c fits e. none c fits (verb_is c verb.Hangup _ e) e) refl refl
+    (differ (codes "hangup ip 0") (codes "end") refl)) where
       ws : List (List ℕ)
       ws = codes "hangup" ∷ codes "ip" ∷ codes "0" ∷ []
 

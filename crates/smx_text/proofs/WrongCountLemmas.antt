@@ -66,7 +66,8 @@ module _ {V K : Type 0} (g : Grammar V K) (k : K) (is : line_text g k ≡ driver
   text_of_drivers : (n : ℕ) → beginning g (repeated k n) ≡ first ++ driver_lines n
   text_of_drivers zero = refl
   text_of_drivers (suc n) =
-      beginning_more g (repeated k n) k ∙ ap (λ (xs : List ℕ). xs ++ (line_text g k ++ LINE_FEED ∷ [])) (text_of_drivers n)
+      beginning_more g (repeated k n) k ∙ ap (λ (xs : List ℕ). xs ++ (line_text g k ++ LINE_FEED ∷ []))
+      (text_of_drivers n)
       ∙ ap (λ (xs : List ℕ). (first ++ driver_lines n) ++ (xs ++ LINE_FEED ∷ [])) is
       ∙ append_assoc first (driver_lines n) (driver_text ++ LINE_FEED ∷ [])
 
@@ -173,15 +174,22 @@ driver_of_transcript_is : (version : Version) → line_text (transcript_grammar 
 unfolding digits
 driver_of_transcript_is version = refl
 
-too_many_of_transcript : (version : Version) (n : ℕ) → n ≡ most_drivers version → is_full (behind_drivers version n) (line.Driver ip) ≡ true
-    → IsFault (transcript_grammar version) (with_drivers (header (transcript_grammar version) ++ LINE_FEED ∷ []) (suc n))
+too_many_of_transcript : (version : Version) (n : ℕ) → n ≡ most_drivers version
+    → is_full (behind_drivers version n) (line.Driver ip) ≡ true
+    → IsFault (transcript_grammar version) (with_drivers
+    (header (transcript_grammar version) ++ LINE_FEED ∷ []) (suc n))
     (n + 2) cause.Many
 too_many_of_transcript version n most as_many =
-    one_too_many (transcript_grammar version) (line.Driver ip) (driver_of_transcript_is version) n
-    (transcript version n, line.Config ∷ line.Next 1 1 ∷ [], is_allowed version n (omega (arith, most)), begins) full where
+    one_too_many (transcript_grammar version) (line.Driver ip) (driver_of_transcript_is version) n (
+      transcript version n,
+      line.Config ∷ line.Next 1 1 ∷ [],
+      is_allowed version n (omega (arith, most)),
+      begins,
+    ) full where
       begins : map line.Driver (repeated ip n) ++ line.Config ∷ line.Next 1 1 ∷ []
           ≡ repeated (line.Driver ip) n ++ line.Config ∷ line.Next 1 1 ∷ []
-      begins = ap (λ (ls : List line.TranscriptLine). ls ++ line.Config ∷ line.Next 1 1 ∷ []) (map_same line.Driver ip n)
+      begins = ap (λ (ls : List line.TranscriptLine). ls ++ line.Config ∷ line.Next 1 1 ∷ [])
+          (map_same line.Driver ip n)
 
       full : IsOneTooMany (transcript_grammar version) (repeated (line.Driver ip) n) driver_text
       full =

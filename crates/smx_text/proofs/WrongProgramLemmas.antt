@@ -172,7 +172,8 @@ text_of_processes : (n : ℕ) → beginning (programs_grammar V1) (body (process
 unfolding digits
 text_of_processes zero = refl
 text_of_processes (suc n) =
-    ap (beginning (programs_grammar V1)) (body_of n) ∙ beginning_more (programs_grammar V1) (body (processes n)) (line.Process n)
+    ap (beginning (programs_grammar V1)) (body_of n)
+    ∙ beginning_more (programs_grammar V1) (body (processes n)) (line.Process n)
     ∙ ap (λ (xs : List ℕ). xs ++ (codes "process " ++ (decimal n ++ codes "\n"))) (text_of_processes n)
     ∙ append_assoc (codes "programs 1\ndriver ip mux 4 8 3 16\n") (process_lines n) _
 

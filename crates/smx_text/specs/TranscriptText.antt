@@ -8,6 +8,7 @@ use Rattle.smx_types.specs.declared.transcript.Transcript.{Transcript}
 use Rattle.smx_types.specs.declared.version.Version.{Version}
 use Rattle.smx_types.specs.declared.version.Version.TheVariants.{V1}
 use Rattle.smx_types.specs.declared.view.ConfigView.{ConfigView}
+use Rattle.smx_types.specs.declared.view.HungLine.{HungLine}
 use Rattle.smx_words.specs.Spelling.{driver_words, entry_words, descriptor_words, link_words, bind_words}
 use Rattle.smx_words.specs.Spelling.{route_words, message_words, full_words, hung_words}
 use Rattle.smx_words.specs.Spellable.{CanTell, FitsNumber, FitsDriver, FitsEntry, FitsEntryIn, FitsDescriptor}
@@ -32,6 +33,10 @@ line_words (line.Full f) = full_words f
 line_words (line.Hung h) = hung_words h
 line_words line.End = codes "end" ∷ []
 
+-- a hung-up stream can be spelled, and told in this version
+abbrev pub FitsHungIn : Version → HungLine → Type 0
+FitsHungIn version h = FitsHung h × CanTell version true
+
 -- what it says can be spelled, and told in this version
 abbrev pub FitsLine : Version → TranscriptLine → Type 0
 FitsLine version (line.Driver d) = FitsDriver d
@@ -44,7 +49,7 @@ FitsLine version (line.Bind b) = FitsBinding b
 FitsLine version (line.Route r) = FitsRoute r
 FitsLine version (line.Msg m) = FitsMessage m
 FitsLine version (line.Full f) = FitsFull f
-FitsLine version (line.Hung h) = FitsHung h × CanTell version true
+FitsLine version (line.Hung h) = FitsHungIn version h
 FitsLine version line.End = Unit {0}
 
 -- what comes next, and then open descriptors, links, bindings, routes, messages, full places and hung-up streams

@@ -1,17 +1,32 @@
-//! A worker at a door of its own, whose seat owns a system.
+//! Workers at a door of the test's own, whose seats own systems, and what a gate is told of them.
 
-use smx_run::{Job, NoGate, work};
+ghost use Rattle.std.specs.Prelude.{◌≡◌, [], IfSome};
+
+use super::gates::Told::{After, Before};
+use super::gates::{Log, Told, of_process};
+use smx_run::{Job, work};
 use smx_shared::{ApplyFault, Door, Front, System};
 use smx_types::{Command, Commands, DriverKind, DriverSpec, Entry, Name, Process};
 use std::alloc::Global;
+use std::process::Abort;
 use std::sync::Wait;
 use std::sync::atomic::{AtomicU64, Ordering};
 use std::test::Fail;
+use std::thread::{Threads, join};
 
 // Counts the entries that its seats answer.
 #[derive(Drop)]
 struct OwnDoor {
     answered: AtomicU64,
+}
+
+impl OwnDoor {
+    // Nothing was answered yet.
+    fn new() -> OwnDoor {
+        OwnDoor {
+            answered: AtomicU64::new(0),
+        }
+    }
 }
 
 // A system that nobody else has.
@@ -62,9 +77,9 @@ impl Door for OwnDoor {
 }
 
 // The multiplexer `ip`, of four minors.
-fn ip() -> Result<DriverSpec, Fail> {
-    Ok(DriverSpec {
-        name: Name::new("ip").ok_or("a name")?,
+fn ip() -> Option<DriverSpec> {
+    Some(DriverSpec {
+        name: Name::new("ip")?,
         kind: DriverKind::Mux,
         minors: 4,
         high: 8,
@@ -73,27 +88,88 @@ fn ip() -> Result<DriverSpec, Fail> {
     })
 }
 
-// Two opens of `ip`.
-fn two_opens(alloc: Global) -> Result<Commands, Fail> {
-    let driver = Name::new("ip").ok_or("a name")?;
-    let first = Command::OpenClone { driver };
-    let second = Command::OpenClone { driver };
-    Ok(Commands::from_vec(vec![in alloc; first, second]?))
+// Three opens of `ip`.
+fn three_opens(alloc: Global) -> Option<Commands> {
+    let driver = Name::new("ip")?;
+    let mut commands = Commands::new(alloc);
+    for _ in 0..3 {
+        commands.push(Command::OpenClone { driver }).ok()?;
+    }
+    Some(commands)
+}
+
+// The seat of a process, at a system with no entry, and of one at most.
+fn seat_of(alloc: Global, process: u32) -> Option<OwnSeat>
+    ensures { IfSome result (λ s. s.system.history ≡ []) }
+{
+    let process = Process::new(process)?;
+    let Ok(system) = System::new(alloc, &[ip()?], 1) else {
+        return None;
+    };
+    Some(OwnSeat { process, system })
+}
+
+// Why a worker stops that has this process alone, which is to open three streams.
+fn stops<R: Wait>(
+    rt: &R,
+    alloc: Global,
+    door: &OwnDoor,
+    process: u32,
+    log: &Log,
+) -> Option<ApplyFault> {
+    let commands = three_opens(alloc)?;
+    let seat = seat_of(alloc, process)?;
+    let Ok(hand) = vec![in alloc; Job { seat, commands }] else {
+        return None;
+    };
+    work(rt, alloc, door, hand, log).err()
+}
+
+// The log was told of the command of this process that was performed, of the one that was refused, and of no other.
+fn is_told_of_two(rt: &impl Abort, alloc: Global, log: &Log, process: u32) -> Result<(), Fail> {
+    let told = log.told(alloc)?;
+    let own = of_process(alloc, told.as_slice(), process)?;
+    let wanted: [Told; 4] = [
+        Before(process, 0),
+        After(process, 0),
+        Before(process, 1),
+        After(process, 1),
+    ];
+    assert_eq!(rt; own.as_slice(), wanted.as_slice());
+    Ok(())
 }
 
 #[test]
 fn a_worker_stops_at_a_full_history(rt: HostRuntime) -> Result<(), Fail> {
-    let door = OwnDoor {
-        answered: AtomicU64::new(0),
-    };
-    let seat = OwnSeat {
-        process: Process::new(0).ok_or("a process")?,
-        system: System::new(rt.alloc(), &[ip()?], 1)?,
-    };
-    let commands = two_opens(rt.alloc())?;
-    let hand = vec![in rt.alloc(); Job { seat, commands }]?;
-    let fault = work(&rt, rt.alloc(), &door, hand, &NoGate);
-    assert_eq!(rt; fault.err().ok_or("full")?, ApplyFault::HistoryFull);
+    let door = OwnDoor::new();
+    let log = Log::of(rt.alloc(), 8)?;
+    let fault = stops(&rt, rt.alloc(), &door, 0, &log);
+    assert_eq!(rt; fault, Some(ApplyFault::HistoryFull));
     assert_eq!(rt; door.answered.load(Ordering::SeqCst), 1);
-    Ok(())
+    is_told_of_two(&rt, rt.alloc(), &log, 0)
+}
+
+// Why two workers stop, each on a thread of its own.
+fn both_stop<R: Threads + Wait + Sync>(
+    rt: &R,
+    alloc: Global,
+    door: &OwnDoor,
+    log: &Log,
+) -> (Option<ApplyFault>, Option<ApplyFault>) {
+    join(
+        rt,
+        || -> Option<ApplyFault> { stops(rt, alloc, door, 0, log) },
+        || -> Option<ApplyFault> { stops(rt, alloc, door, 1, log) },
+    )
+}
+
+#[test]
+fn two_workers_stop_at_full_histories(rt: HostRuntime) -> Result<(), Fail> {
+    let door = OwnDoor::new();
+    let log = Log::of(rt.alloc(), 16)?;
+    let full = Some(ApplyFault::HistoryFull);
+    assert!(rt; both_stop(&rt, rt.alloc(), &door, &log) == (full, full));
+    assert_eq!(rt; door.answered.load(Ordering::SeqCst), 2);
+    is_told_of_two(&rt, rt.alloc(), &log, 0)?;
+    is_told_of_two(&rt, rt.alloc(), &log, 1)
 }

@@ -9,21 +9,38 @@ use std::thread;
 /// The most turns that a worker waits.
 const TURNS: u32 = 100_000_000;
 
-/// Each process waits before its first command until so many are there.
+// Whether so many are counted, before the turns are used up.
+fn is_reached(count: &AtomicU64, wanted: u64) -> bool {
+    for _ in 0..TURNS {
+        if count.load(Ordering::SeqCst) >= wanted {
+            return true;
+        }
+        thread::yield_now();
+    }
+    false
+}
+
+/// Each process waits before its first command until so many are there, and after its last one until so many have
+/// performed theirs.
 #[derive(Drop)]
 pub struct Meeting {
     wanted: u64,
+    // The number of each last command.
+    last: usize,
     inside: AtomicU64,
     met: AtomicU64,
+    ended: AtomicU64,
 }
 
 impl Meeting {
     /// Nobody is there yet.
-    pub fn of(wanted: u64) -> Meeting {
+    pub fn of(wanted: u64, last: usize) -> Meeting {
         Meeting {
             wanted,
+            last,
             inside: AtomicU64::new(0),
             met: AtomicU64::new(0),
+            ended: AtomicU64::new(0),
         }
     }
 
@@ -31,30 +48,27 @@ impl Meeting {
     pub fn met(&self) -> u64 {
         self.met.load(Ordering::SeqCst)
     }
-
-    // Whether all are inside, before the turns are used up.
-    fn is_met(&self) -> bool {
-        for _ in 0..TURNS {
-            if self.inside.load(Ordering::SeqCst) == self.wanted {
-                return true;
-            }
-            thread::yield_now();
-        }
-        false
-    }
 }
 
 impl Gate for Meeting {
     fn before(&self, _process: Process, number: usize) {
         if number == 0 {
             self.inside.fetch_add(1, Ordering::SeqCst);
-            if self.is_met() {
+            if is_reached(&self.inside, self.wanted) {
                 self.met.fetch_add(1, Ordering::SeqCst);
             }
         }
     }
 
-    fn after(&self, _process: Process, _number: usize) {}
+    // Where they have not met, nobody waits again.
+    fn after(&self, _process: Process, number: usize) {
+        if number == self.last {
+            self.ended.fetch_add(1, Ordering::SeqCst);
+            if self.met() > 0 {
+                is_reached(&self.ended, self.wanted);
+            }
+        }
+    }
 }
 
 /// What a gate is told, of a process and the number of its command.
@@ -62,7 +76,7 @@ impl Gate for Meeting {
 pub enum Told {
     /// The command is performed next.
     Before(u32, usize),
-    /// The command was performed.
+    /// The command was performed, or refused.
     After(u32, usize),
 }
 
@@ -101,6 +115,45 @@ impl Line {
             Told::Before(process, number)
         }
     }
+}
+
+/// What was told of this process.
+pub fn of_process(alloc: Global, told: &[Told], process: u32) -> Result<Vec<Told>, AllocError> {
+    let mut own = Vec::new(alloc);
+    for line in told {
+        if line.process() == process {
+            own.push(*line)?;
+        }
+    }
+    Ok(own)
+}
+
+/// Has processes 0 to 4 of two workers go on one by one: before its first command, each but the first and the last waits
+/// until the next one comes to its own, for which the one before it has ended, on the same worker.
+#[derive(Drop)]
+pub struct OneByOne {
+    come: AtomicU64,
+}
+
+impl OneByOne {
+    /// None has come yet.
+    pub fn new() -> OneByOne {
+        OneByOne {
+            come: AtomicU64::new(0),
+        }
+    }
+}
+
+impl Gate for OneByOne {
+    // The first and the second come at once, and then one at a time.
+    fn before(&self, process: Process, number: usize) {
+        if number == 0 {
+            self.come.fetch_add(1, Ordering::SeqCst);
+            is_reached(&self.come, (process.get() as u64 + 2).min(5));
+        }
+    }
+
+    fn after(&self, _process: Process, _number: usize) {}
 }
 
 /// Writes down all that it is told, in order, while it has lines.

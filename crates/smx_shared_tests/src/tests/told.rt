@@ -12,8 +12,8 @@ use std::sync::Wait;
 use std::test::Fail;
 use std::thread::Threads;
 
-/// Five programs, one of them with no command. Those of processes 0 and 2 have a command that is refused.
-pub const FIVE: &[u8] = b"programs 1
+/// Six programs, one of them with no command. Those of processes 0 and 2 have a command that is refused.
+pub const SIX: &[u8] = b"programs 1
 driver ip mux 4 8 3 16
 process 0
 clone ip
@@ -28,11 +28,17 @@ close 0
 process 4
 clone ip
 exit
+process 5
+clone ip
+dup 0
+close 1
+close 0
+exit
 end
 ";
 
 /// What a gate is told of them on one worker.
-pub const IN_TURN: [Told; 16] = [
+pub const IN_TURN: [Told; 26] = [
     Before(0, 0),
     After(0, 0),
     Before(0, 1),
@@ -49,10 +55,20 @@ pub const IN_TURN: [Told; 16] = [
     After(4, 0),
     Before(4, 1),
     After(4, 1),
+    Before(5, 0),
+    After(5, 0),
+    Before(5, 1),
+    After(5, 1),
+    Before(5, 2),
+    After(5, 2),
+    Before(5, 3),
+    After(5, 3),
+    Before(5, 4),
+    After(5, 4),
 ];
 
 // What it is told by each of three workers: by the first of processes 0 and 3, by the second of 1 and 4, and by the third
-// of process 2.
+// of 2 and 5.
 const BY_EACH: [&[Told]; 3] = [
     &[
         Before(0, 0),
@@ -67,7 +83,20 @@ const BY_EACH: [&[Told]; 3] = [
         After(3, 2),
     ],
     &[Before(4, 0), After(4, 0), Before(4, 1), After(4, 1)],
-    &[Before(2, 0), After(2, 0)],
+    &[
+        Before(2, 0),
+        After(2, 0),
+        Before(5, 0),
+        After(5, 0),
+        Before(5, 1),
+        After(5, 1),
+        Before(5, 2),
+        After(5, 2),
+        Before(5, 3),
+        After(5, 3),
+        Before(5, 4),
+        After(5, 4),
+    ],
 ];
 
 // The programs are run by so many workers, who tell the log.
@@ -79,7 +108,7 @@ fn runs<R: Threads + Wait + Sync>(
 ) -> Result<(), Fail>
     requires { (1 ≤ workers) × (workers ≤ MAX_WORKERS) }
 {
-    let programs = read_programs(alloc, FIVE)?;
+    let programs = read_programs(alloc, SIX)?;
     run_programs(rt, alloc, programs, workers, log)?;
     Ok(())
 }
@@ -108,7 +137,7 @@ fn three_workers_tell_of_their_processes_in_turn(rt: HostRuntime) -> Result<(), 
     let log = Log::of(rt.alloc(), 40)?;
     runs(&rt, rt.alloc(), 3, &log)?;
     let told = log.told(rt.alloc())?;
-    assert_eq!(rt; told.len(), 16);
+    assert_eq!(rt; told.len(), 26);
     for (worker, own) in (0..3u32).zip(BY_EACH) {
         assert_eq!(rt;
             by_worker(rt.alloc(), told.as_slice(), worker)?.as_slice(),

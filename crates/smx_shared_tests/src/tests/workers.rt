@@ -3,9 +3,11 @@
 ghost use Rattle.std.specs.Prelude.{◌≤◌};
 ghost use Rattle.smx_run.specs.declared.run.TheConstants.{MAX_WORKERS};
 
-use super::gates::Meeting;
-use smx_run::{NoGate, Report, run_programs};
+use super::callers::front;
+use super::gates::{Meeting, OneByOne};
+use smx_run::{Gate, NoGate, Report, run_programs};
 use smx_samples::{named, numbered};
+use smx_shared::Front;
 use smx_text::{read_programs, write_transcript};
 use smx_types::{DescriptorLine, Transcript};
 use std::alloc::Global;
@@ -14,10 +16,10 @@ use std::sync::Wait;
 use std::test::Fail;
 use std::thread::Threads;
 
-// So many processes, each of which opens a stream and exits.
+// So many processes, each of which opens two streams and links one below the other.
 fn add_processes(alloc: Global, text: &mut Vec<u8>, count: usize) -> Result<(), Fail> {
     for process in 0..count {
-        let lines = format!(in alloc; "process {process}\nclone ip\nexit\n")?;
+        let lines = format!(in alloc; "process {process}\nclone ip\nclone eth\nlink 0 1\n")?;
         text.extend_from_slice(lines.as_bytes())?;
     }
     Ok(text.extend_from_slice(b"end\n".as_slice())?)
@@ -25,50 +27,85 @@ fn add_processes(alloc: Global, text: &mut Vec<u8>, count: usize) -> Result<(), 
 
 // Their programs.
 fn text_of(alloc: Global, count: usize) -> Result<Vec<u8>, Fail> {
-    let mut text = Vec::from_slice(alloc, b"programs 1\ndriver ip mux 64 8 3 16\n".as_slice())?;
+    let begin = b"programs 1\ndriver ip mux 64 8 3 16\ndriver eth leaf 64 8 3 16\n";
+    let mut text = Vec::from_slice(alloc, begin.as_slice())?;
     add_processes(alloc, &mut text, count)?;
     Ok(text)
 }
 
-// How many entries a run of the programs has, which this text spells.
-fn entries_at<R: Threads + Wait + Sync>(
+// A run of the programs that this text spells, whose gate is told. The report is lent.
+fn gated<R: Threads + Wait + Sync, G: Gate + Sync>(
     rt: &R,
     alloc: Global,
     text: &[u8],
     workers: usize,
-    meeting: &Meeting,
-) -> Result<usize, Fail>
+    gate: &G,
+) -> Result<Report, Fail>
     requires { (1 ≤ workers) × (workers ≤ MAX_WORKERS) }
 {
     let programs = read_programs(alloc, text)?;
-    let report = run_programs(rt, alloc, programs, workers, meeting)?;
-    Ok(report.entries.as_slice().len())
+    Ok(run_programs(rt, alloc, programs, workers, gate)?)
 }
 
-// So many workers are inside at once, and their run has so many entries.
+// So many processes, and each has seen this front.
+fn are_all(rt: &impl Abort, fronts: &[Front], processes: usize, wanted: Front) {
+    assert_eq!(rt; fronts.len(), processes);
+    for front in fronts {
+        assert_eq!(rt; *front, wanted);
+    }
+}
+
+// So many workers are inside at once, and each of as many processes sees at its end what all have done.
 fn all_meet<R: Abort + Threads + Wait + Sync>(
     rt: &R,
     alloc: Global,
     workers: usize,
-    entries: usize,
+    wanted: Front,
 ) -> Result<(), Fail>
     requires { (1 ≤ workers) × (workers ≤ MAX_WORKERS) }
 {
     let text = text_of(alloc, workers)?;
-    let meeting = Meeting::of(workers as u64);
-    assert_eq!(rt;
-        entries_at(rt, alloc, text.as_slice(), workers, &meeting)?,
-        entries
-    );
+    let meeting = Meeting::of(workers as u64, 2);
+    let report = gated(rt, alloc, text.as_slice(), workers, &meeting)?;
     assert_eq!(rt; meeting.met(), workers as u64);
+    are_all(rt, report.fronts.as_slice(), workers, wanted);
     Ok(())
 }
 
+// Workers, and the entries and links at the end of so many processes.
+const AT_THE_END: [(usize, u32, u32); 5] = [
+    (2, 6, 2),
+    (3, 9, 3),
+    (4, 12, 4),
+    (16, 48, 16),
+    (64, 192, 64),
+];
+
 #[test]
 fn as_many_workers_as_asked_for_are_inside_at_once(rt: HostRuntime) -> Result<(), Fail> {
-    for (workers, entries) in [(2, 4), (3, 6), (4, 8), (16, 32), (64, 128)] {
-        all_meet(&rt, rt.alloc(), workers, entries)?;
+    for (workers, entries, links) in AT_THE_END {
+        all_meet(&rt, rt.alloc(), workers, front(entries, links, false))?;
     }
+    Ok(())
+}
+
+// Three of five processes that go on one by one have seen these fronts: no command of a later one stands before them.
+fn are_one_by_one(rt: &impl Abort, fronts: &[Front]) {
+    assert_eq!(rt; fronts.len(), 5);
+    for (front, wanted) in fronts.iter().zip([
+        front(3, 1, false),
+        front(6, 2, false),
+        front(9, 3, false),
+    ]) {
+        assert_eq!(rt; *front, wanted);
+    }
+}
+
+#[test]
+fn a_front_is_seen_before_the_next_program_of_its_worker(rt: HostRuntime) -> Result<(), Fail> {
+    let text = text_of(rt.alloc(), 5)?;
+    let report = gated(&rt, rt.alloc(), text.as_slice(), 2, &OneByOne::new())?;
+    are_one_by_one(&rt, report.fronts.as_slice());
     Ok(())
 }
 
@@ -91,7 +128,7 @@ fn is_refused<R: Abort + Threads + Wait + Sync>(
 
 #[test]
 fn refused_drivers_start_no_worker(rt: HostRuntime) -> Result<(), Fail> {
-    let meeting = Meeting::of(1);
+    let meeting = Meeting::of(1, 0);
     for workers in [1, 2] {
         is_refused(&rt, rt.alloc(), workers, &meeting)?;
     }

@@ -1,11 +1,12 @@
 //! The programs that are being read.
 
-ghost use Rattle.std.specs.Prelude.{◌≡◌, ◌≢◌, ◌<◌, codes, length, OnOk, IfErr};
+ghost use Rattle.std.specs.Prelude.{◌≡◌, ◌≢◌, ◌<◌, codes, length, OnOk, IfOk, IfErr};
 ghost use Rattle.std.specs.List.{sum_by};
 ghost use Rattle.smx_types.specs.ProgramLists.{raised};
 ghost use Rattle.smx_types.specs.declared.limits.TheConstants.{MAX_COMMANDS};
 ghost use Rattle.smx_types.specs.declared.version.Version.TheVariants.{V1, V2};
 ghost use Rattle.smx_types.specs.declared.command.Command.{Command as AnyCommand};
+ghost use Rattle.smx_words.specs.LineReading.{IsLineOf, IsReadAs};
 ghost use Rattle.smx_words.specs.Words.{line_of};
 ghost use Rattle.smx_words.specs.Spelling.{command_words};
 ghost use Rattle.smx_words.specs.Spellable.{FitsNumber, FitsDriver, FitsCommandIn};
@@ -78,7 +79,7 @@ impl Draft for ProgramsDraft {
     }
 
     fn add(&mut self, alloc: Global, text: &[u8]) -> Result<(), Cause> {
-        match command_of(alloc, self.version, text) {
+        match self.read_command(alloc, text) {
             Ok(Some(command)) => self.add_command(command),
             Ok(None) => self.add_other(alloc, text),
             Err(NoMemory) => Err(self.command_unread()),
@@ -106,6 +107,14 @@ fn in_version(version: Version, programs: Programs) -> Programs
 }
 
 impl ProgramsDraft {
+    // The command that a line spells, if this version can tell it.
+    fn read_command(&self, alloc: Global, text: &[u8]) -> Result<Option<Command>, NoMemory>
+        ensures reading { IfOk result (IsReadAs (FitsCommandIn self.now.version) command_words text.now) }
+        ensures wanted { IfErr result (λ _. IsLineOf (FitsCommandIn self.now.version) command_words text.now) }
+    {
+        command_of(alloc, self.version, text)
+    }
+
     // A line that is no command.
     fn add_other(&mut self, alloc: Global, text: &[u8]) -> Result<(), Cause>
         requires begun { IsBegun (programs_grammar self.old.version) (body self.old) }

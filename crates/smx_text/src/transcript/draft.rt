@@ -1,12 +1,14 @@
 //! The transcript that is being read.
 
-ghost use Rattle.std.specs.Prelude.{◌≡◌, ◌≢◌, ◌<◌, ℕ, true, [], length, OnOk, IfErr};
+ghost use Rattle.std.specs.Prelude.{◌≡◌, ◌≢◌, ◌<◌, ℕ, [], length, OnOk, IfOk, IfErr};
 ghost use Rattle.smx_types.specs.declared.command.Entry.{Entry as AnyEntry};
 ghost use Rattle.smx_types.specs.declared.view.MessageLine.{MessageLine as AnyMessage};
+ghost use Rattle.smx_words.specs.LineReading.{IsLineOf, IsReadAs};
 ghost use Rattle.smx_words.specs.Words.{line_of};
-ghost use Rattle.smx_words.specs.Spelling.{entry_words, message_words, driver_words, next_words};
-ghost use Rattle.smx_words.specs.Spellable.{CanTell, FitsDriver, FitsEntryIn, FitsDescriptor, FitsLink, FitsBinding};
-ghost use Rattle.smx_words.specs.Spellable.{FitsRoute, FitsMessage, FitsFull, FitsHung, FitsNext};
+ghost use Rattle.smx_words.specs.Spelling.{entry_words, message_words, driver_words, next_words, hung_words};
+ghost use Rattle.smx_words.specs.Spellable.{FitsDriver, FitsEntryIn, FitsDescriptor, FitsLink, FitsBinding};
+ghost use Rattle.smx_words.specs.Spellable.{FitsRoute, FitsMessage, FitsFull, FitsNext};
+ghost use Rattle.smx_text.specs.TranscriptText.{FitsHungIn};
 ghost use Rattle.smx_text.specs.Grammar.{IsBegun, Continues, line_text};
 ghost use Rattle.smx_text.specs.Reading.{Refuses, AddsLine, RefusesLine};
 ghost use Rattle.smx_text.specs.Drafts.{lines, takes_fds, takes_links, takes_binds, takes_routes, takes_msgs};
@@ -85,7 +87,7 @@ impl Draft for TranscriptDraft {
     }
 
     fn add(&mut self, alloc: Global, text: &[u8]) -> Result<(), Cause> {
-        match entry_of(alloc, self.transcript.version, text) {
+        match self.read_entry(alloc, text) {
             Ok(Some(entry)) => self.add_entry(entry),
             Ok(None) => self.add_other(alloc, text),
             Err(NoMemory) => Err(self.entry_unread()),
@@ -129,6 +131,26 @@ fn new_view(alloc: Global, next_id: u32, next_serial: u32) -> ConfigView
 }
 
 impl TranscriptDraft {
+    // The entry that a line spells, if this version can tell it.
+    fn read_entry(&self, alloc: Global, text: &[u8]) -> Result<Option<Entry>, NoMemory>
+        ensures reading { IfOk result
+            (IsReadAs (FitsEntryIn self.now.transcript.version) entry_words text.now) }
+        ensures wanted { IfErr result
+            (λ _. IsLineOf (FitsEntryIn self.now.transcript.version) entry_words text.now) }
+    {
+        entry_of(alloc, self.transcript.version, text)
+    }
+
+    // The hung-up stream that a line spells, if this version can tell it.
+    fn read_hung(&self, text: &[u8]) -> Option<HungLine>
+        ensures { IsReadAs (FitsHungIn self.now.transcript.version) hung_words text.now result }
+    {
+        match self.transcript.version {
+            Version::V1 => None,
+            Version::V2 => hung_of(text),
+        }
+    }
+
     // A line that is no entry.
     fn add_other(&mut self, alloc: Global, text: &[u8]) -> Result<(), Cause>
         requires begun { IsBegun (grammar_of self.old) (lines self.old) }
@@ -201,12 +223,9 @@ impl TranscriptDraft {
         if let Some(full) = full_of(text) {
             return self.add_full(full);
         }
-        match self.transcript.version {
-            Version::V1 => Err(Cause::Form),
-            Version::V2 => match hung_of(text) {
-                Some(hung) => self.add_hung(hung),
-                None => Err(Cause::Form),
-            },
+        match self.read_hung(text) {
+            Some(hung) => self.add_hung(hung),
+            None => Err(Cause::Form),
         }
     }
 
@@ -408,8 +427,7 @@ impl TranscriptDraft {
 
     fn add_hung(&mut self, hung: HungLine) -> Result<(), Cause>
         requires begun { IsBegun (grammar_of self.old) (lines self.old) }
-        requires fits { FitsHung hung }
-        requires told { CanTell self.old.transcript.version true }
+        requires fits { FitsHungIn self.old.transcript.version hung }
         ensures added { OnOk result
             (AddsLine (grammar_of self.old) (lines self.old) (AnyHung hung) (lines self.new)) }
         ensures version { OnOk result (self.new.transcript.version ≡ self.old.transcript.version) }

@@ -59,9 +59,10 @@ fn refuses_ill_formed_lines(rt: HostRuntime) -> Result<(), Fail> {
     Ok(())
 }
 
-const REFUSED: [(&[u8], usize, Cause); 4] = [
+const REFUSED: [(&[u8], usize, Cause); 5] = [
     (b"", 1, Cause::Cut),
-    (b"programs 2\n", 1, Cause::Header),
+    (b"programs 3\n", 1, Cause::Header),
+    (b"programs 2\n", 2, Cause::Cut),
     (
         b"programs 1\ndriver ip mux 4 8 3 16\nprocess 0\nclone ip\n",
         5,

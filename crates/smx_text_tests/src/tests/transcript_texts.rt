@@ -156,7 +156,7 @@ fn reads_and_writes_again(rt: HostRuntime) -> Result<(), Fail> {
 // The text of a transcript that is written entry by entry, in the room of other bytes.
 fn written_as_it_grows(alloc: Global, transcript: &Transcript) -> Result<Vec<u8>, Fail> {
     let room = Vec::from_slice(alloc, b"no longer wanted")?;
-    let mut writer = TranscriptWriter::begin(room, transcript.drivers.as_slice())?;
+    let mut writer = TranscriptWriter::begin(room, transcript.version, transcript.drivers.as_slice())?;
     for entry in transcript.entries.as_slice() {
         writer.add(slice::from_ref(entry))?;
     }

@@ -10,7 +10,8 @@ use Rattle.smx_text.proofs.reading.read.Goals as goal
 pub returns-in_err-version : goal.returns-in_err-version
 returns-in_err-version g c =
     let p = err_from_is_err_and c.from_residual.result c.from_residual.ensures.1 in
-    rw (p.1, p.2) (any_of_each g.D.Draft.grammar c.args.bytes.now c.in_err-version.field-0.0 c.in_err-version.ensures.err)
+    rw (p.1, p.2) (any_of_each g.D.Draft.grammar c.args.bytes.now c.in_err-version.field-0.0
+    c.in_err-version.ensures.err)
 
 pub lines-init : goal.lines-init
 lines-init g c =

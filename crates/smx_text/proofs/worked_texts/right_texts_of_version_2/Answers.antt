@@ -1,5 +1,6 @@
 use Rattle.std.proofs.Common.{arith, rules, sym}
-use Rattle.smx_text.specs.WorkedTexts.{is_text_of_hangups, is_raised_text, is_transcript_of_hangups, is_shortest_transcript}
+use Rattle.smx_text.specs.WorkedTexts.{is_text_of_hangups, is_raised_text, is_transcript_of_hangups}
+use Rattle.smx_text.specs.WorkedTexts.{is_shortest_transcript}
 use Rattle.smx_text.proofs.worked_texts.right_texts_of_version_2.Goals as goal
 
 pub returns-clause-hangups : goal.returns-clause-hangups

@@ -5,7 +5,8 @@ use Rattle.smx_text.proofs.ProgramsLemmas.{misplaced, too_many, adds, longer_beg
 use Rattle.smx_text.proofs.programs.draft.ProgramsDraft.add_process.Goals as goal
 
 pub returns-then-number-len-clause-refused : goal.returns-then-number-len-clause-refused
-returns-then-number-len-clause-refused c = misplaced c.args.self.now.version c.args.self.now (line.Process c.args.number) (search rules)
+returns-then-number-len-clause-refused c = misplaced c.args.self.now.version c.args.self.now
+    (line.Process c.args.number) (search rules)
 
 pub returns-then-number-ge-MAX_PROCESSES-clause-refused : goal.returns-then-number-ge-MAX_PROCESSES-clause-refused
 returns-then-number-ge-MAX_PROCESSES-clause-refused c =
@@ -14,12 +15,14 @@ returns-then-number-ge-MAX_PROCESSES-clause-refused c =
 pub returns-clause-added : goal.returns-clause-added
 returns-clause-added c =
     let more = added_process c.self.inside.drivers.items c.self.inside.programs.items c.args.number (search rules) in
-    adds c.args.self.now.version c.args.self.now _ (line.Process c.args.number) refl refl c.requires.begun (search rules) c.ranges.number.fits
+    adds c.args.self.now.version c.args.self.now _ (line.Process c.args.number) refl refl c.requires.begun
+    (search rules) c.ranges.number.fits
     (search rules)
 
 pub returns-in_err-push-clause-refused : goal.returns-in_err-push-clause-refused
 returns-in_err-push-clause-refused c =
     let room =
-    longer_begun c.args.self.now.version c.args.self.now (line.Process c.args.number) refl c.requires.begun (search rules)
+    longer_begun c.args.self.now.version c.args.self.now (line.Process c.args.number) refl c.requires.begun
+    (search rules)
     (search rules) c.ranges.number.fits in
     search rules

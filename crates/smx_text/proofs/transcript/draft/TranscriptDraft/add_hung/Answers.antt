@@ -11,11 +11,11 @@ pub returns-clause-added : goal.returns-clause-added
 returns-clause-added c =
     rw c.in_ok-push.ensures.ok
     (group_added c.args.self.now (with_line c.args.self.now (line.Hung c.args.hung)).transcript
-    (line.Hung c.args.hung) c.requires.begun (search rules) refl refl (c.requires.fits, c.requires.told) (λ e. cc) refl)
+    (line.Hung c.args.hung) c.requires.begun (search rules) refl refl c.requires.fits (λ e. cc) refl)
 
 pub returns-in_err-push-clause-refused : goal.returns-in_err-push-clause-refused
 returns-in_err-push-clause-refused c =
     let room =
     longer_begun c.args.self.now (line.Hung c.args.hung) c.requires.begun (search rules) refl
-    (c.requires.fits, c.requires.told) (λ e. cc) in
+    c.requires.fits (λ e. cc) in
     search rules
