@@ -137,6 +137,6 @@ pub kept_all : (programs : ProgramLists) (version : Version) (drivers : List Dri
     × (map call_of entries ≡ calls_from 0 programs.programs) × (length entries ≤ MAX_COMMANDS)
 kept_all programs version drivers entries shown h =
     let v : version ≡ programs.version = ap (λ (k : Version × List DriverSpec × List Entry). k.0) h.was_told in
-    let d : drivers ≡ programs.drivers = ap (λ (k : Version × List DriverSpec × List Entry). k.1.0) h.was_told in
-    let e : entries ≡ h.entries = ap (λ (k : Version × List DriverSpec × List Entry). k.1.1) h.was_told in
+    let d : drivers ≡ programs.drivers = ap (λ (k : Version × List DriverSpec × List Entry). k.1) h.was_told in
+    let e : entries ≡ h.entries = ap (λ (k : Version × List DriverSpec × List Entry). k.2) h.was_told in
     (v, rw (v, d, e) h.promised, rw e h.asked, rw e h.few)
