@@ -17,11 +17,7 @@ pub trait Recorder: Drop {
     ghost told: { AnyVersion → List Driver → List Made → Self → Type 0 };
 
     /// One that was told of this version and these drivers, and of no entry yet. Fails only for want of memory.
-    fn begin(
-        room: Self::Room,
-        version: Version,
-        drivers: &[DriverSpec],
-    ) -> Result<Self, NoMemory>
+    fn begin(room: Self::Room, version: Version, drivers: &[DriverSpec]) -> Result<Self, NoMemory>
         ensures { IfOk result (told version drivers.now []) };
 
     /// Tells it of the next entry. Fails only for want of memory; then it is of no more use.

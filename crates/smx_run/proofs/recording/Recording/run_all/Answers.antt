@@ -1,6 +1,5 @@
-use Rattle.std.proofs.Common.{rules, ◌≡◌, ◌+◌, ◌++◌, ◌∷◌, [], List, ℕ, length, sym, subst, arith, ◌∙◌}
+use Rattle.std.proofs.Common.{rules, ◌≡◌, ◌+◌, ◌∷◌, [], ℕ, length, sym, subst, arith, ◌∙◌}
 use Rattle.std.proofs.lemmas.List.{length-append}
-use Rattle.smx_types.specs.declared.command.Command.{Command}
 use Rattle.smx_run.specs.Desks.{HasRecorded}
 use Rattle.smx_run.proofs.RunLemmas.{calls_more}
 use Rattle.smx_run.proofs.recording.Recording.run_all.Goals as goal
