@@ -13,15 +13,16 @@ use std::test::Fail;
 const DRIVER: &[u8] = b"driver ip mux 4 8 3 16\n";
 
 // The most drivers of versions 1 and 2.
-const MOST: [usize; 2] = [64, 128];
+const MOST: [u8; 2] = [64, 128];
 
 fn programs_have(
     rt: &(impl AllocGlobal + Abort),
     first: &[u8],
     count: usize,
-    most: usize,
+    most: u8,
 ) -> Result<(), Fail> {
     let text = with_lines(rt.alloc(), first, DRIVER, count, b"end\n")?;
+    let most = usize::from(most);
     if count > most {
         program_faults::is_refused(rt, text.as_slice(), most + 2, Cause::Many);
         return Ok(());
@@ -46,9 +47,10 @@ fn transcripts_have(
     rt: &(impl AllocGlobal + Abort),
     first: &[u8],
     count: usize,
-    most: usize,
+    most: u8,
 ) -> Result<(), Fail> {
     let text = with_lines(rt.alloc(), first, DRIVER, count, b"config\nnext 1 1\nend\n")?;
+    let most = usize::from(most);
     if count > most {
         transcript_faults::is_refused(rt, text.as_slice(), most + 2, Cause::Many);
         return Ok(());
