@@ -12,19 +12,14 @@ use std::test::Fail;
 
 const DRIVER: &[u8] = b"driver ip mux 4 8 3 16\n";
 
-// The most drivers of versions 1 and 2.
-const MOST: [u8; 2] = [64, 128];
+// A first line, the most drivers behind it, and the line of one more.
+type Limit = (&'static [u8], usize, usize);
 
-fn programs_have(
-    rt: &(impl AllocGlobal + Abort),
-    first: &[u8],
-    count: usize,
-    most: u8,
-) -> Result<(), Fail> {
+fn programs_have(rt: &(impl AllocGlobal + Abort), limit: Limit, count: usize) -> Result<(), Fail> {
+    let (first, most, line) = limit;
     let text = with_lines(rt.alloc(), first, DRIVER, count, b"end\n")?;
-    let most = usize::from(most);
     if count > most {
-        program_faults::is_refused(rt, text.as_slice(), most + 2, Cause::Many);
+        program_faults::is_refused(rt, text.as_slice(), line, Cause::Many);
         return Ok(());
     }
     is_written(
@@ -37,22 +32,21 @@ fn programs_have(
 #[test]
 fn programs_of_each_count(rt: HostRuntime) -> Result<(), Fail> {
     for count in 0..130usize {
-        programs_have(&rt, PROGRAMS[0], count, MOST[0])?;
-        programs_have(&rt, PROGRAMS[1], count, MOST[1])?;
+        programs_have(&rt, (PROGRAMS[0], 64, 66), count)?;
+        programs_have(&rt, (PROGRAMS[1], 128, 130), count)?;
     }
     Ok(())
 }
 
 fn transcripts_have(
     rt: &(impl AllocGlobal + Abort),
-    first: &[u8],
+    limit: Limit,
     count: usize,
-    most: u8,
 ) -> Result<(), Fail> {
+    let (first, most, line) = limit;
     let text = with_lines(rt.alloc(), first, DRIVER, count, b"config\nnext 1 1\nend\n")?;
-    let most = usize::from(most);
     if count > most {
-        transcript_faults::is_refused(rt, text.as_slice(), most + 2, Cause::Many);
+        transcript_faults::is_refused(rt, text.as_slice(), line, Cause::Many);
         return Ok(());
     }
     is_written(
@@ -65,8 +59,8 @@ fn transcripts_have(
 #[test]
 fn transcripts_of_each_count(rt: HostRuntime) -> Result<(), Fail> {
     for count in 0..130usize {
-        transcripts_have(&rt, TRANSCRIPTS[0], count, MOST[0])?;
-        transcripts_have(&rt, TRANSCRIPTS[1], count, MOST[1])?;
+        transcripts_have(&rt, (TRANSCRIPTS[0], 64, 66), count)?;
+        transcripts_have(&rt, (TRANSCRIPTS[1], 128, 130), count)?;
     }
     Ok(())
 }
