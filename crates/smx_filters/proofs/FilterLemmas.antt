@@ -1,14 +1,24 @@
 -- What a filter says where nothing comes of the bytes that it read.
-use Rattle.std.proofs.Common.{◌≡◌, ◌≢◌, ℕ, List, Option, Some, None, Bool, Result, Ok, Err, Vec, sym, subst, rules, arith, inl}
+use Rattle.std.proofs.Common.{◌≡◌, ◌≢◌, ℕ, List, Option, Some, None, Bool, Result, Ok, Err, String, Vec, sym, subst, rules, arith, inl}
 use Rattle.std.specs.Prelude.{IsErrAnd, IsErrOf}
 use Rattle.std.specs.Global.{Global}
 use Rattle.std.specs.Io.KnownBytes.{Keeps}
+use Rattle.smx_types.specs.declared.driver.DriverSpec.{DriverSpec}
+use Rattle.smx_types.specs.declared.transcript.Transcript.{Transcript}
+use Rattle.smx_text.specs.Grammar.{ReadsAny}
+use Rattle.smx_text.specs.TranscriptText.{transcript_grammar}
 use Rattle.smx_text.specs.declared.fault.TextFault.{TextFault}
+use Rattle.smx_config.specs.DriverFaults.{RefusesDrivers}
+use Rattle.smx_config.specs.declared.fault.ConfigFault.{ConfigFault}
+use Rattle.smx_config.specs.declared.fault.ConfigFault.TheVariants as config
+use Rattle.smx_config.specs.declared.verdict.Verdict.{Verdict}
+use Rattle.smx_run.specs.RunFaults.{RefusesAlone, run_fault_of}
 use Rattle.smx_run.specs.declared.fault.RunFault.{RunFault}
 use Rattle.smx_filters.specs.declared.fault.MainFault.{MainFault}
 use Rattle.smx_filters.specs.declared.fault.MainFault.TheVariants.{Refused, Text, TooLong, ReadFailed, WriteFailed}
 use Rattle.smx_filters.specs.Filters.{Filter, Answers, FiltersText, IsFaultOf, RefusesFor}
 use Rattle.smx_filters.specs.Input.{IsInput, IsWhole}
+use Rattle.smx_filters.specs.CheckText.{checking, judged_of}
 use Rattle.smx_filters.specs.RunText.{items_of, running}
 
 -- known bytes that stay are kept
@@ -61,3 +71,18 @@ pub text_refused : (fronts : Bool) (workers : ℕ) (bytes input : List ℕ) → 
 text_refused fronts workers bytes input same f (Ok v) is a = absurd is
 text_refused fronts workers bytes input same f (Err e) is a =
     subst (λ (x : MainFault). Answers (running fronts workers) input (Err x)) (sym is) (subst (λ (given : List ℕ). IsFaultOf (running fronts workers) given f) same a)
+
+-- drivers that a configuration can't have are refused so, and else memory was wanting
+alone_of : (drivers : List DriverSpec) (f : ConfigFault) → RefusesDrivers drivers f → RefusesAlone drivers (run_fault_of f)
+alone_of drivers config.NoMemory refused = refused
+alone_of drivers config.TooMany refused = (refused, λ is. cc)
+alone_of drivers (config.BadSpec i why) refused = (refused, λ is. cc)
+alone_of drivers (config.SameName i) refused = (refused, λ is. cc)
+
+-- where what was read is not judged, that is the answer of a check
+pub judged_refused : (input : List ℕ) (t : Transcript) → ReadsAny transcript_grammar input (Ok t) → (f : ConfigFault)
+    (answer : Result (Verdict × String Global) MainFault) → IsErrAnd answer (λ e. e ≡ Refused (run_fault_of f)) → RefusesDrivers t.drivers f
+    → Answers checking input (judged_of answer)
+judged_refused input t read f (Ok x) is refused = absurd is
+judged_refused input t read f (Err e) is refused =
+    subst (λ (x : MainFault). Answers checking input (Err x)) (sym is) (read.0, t, read.1, alone_of t.drivers f refused)
