@@ -1,11 +1,12 @@
 //! Many workers, each on a thread of its own.
 
-ghost use Rattle.std.specs.Prelude.{◌≡◌, ◌≤◌, ℕ, List, [], ◌∷◌, ◌++◌, All, length, map, IfOk, IfErr};
+ghost use Rattle.std.specs.Prelude.{◌≡◌, ◌≤◌, ◌⊎◌, ℕ, List, [], ◌∷◌, ◌++◌, All, length, map, Err, IfOk, IfErr};
 ghost use Rattle.std.specs.List.{range_with_len};
 ghost use Rattle.smx_types.specs.declared.limits.TheConstants.{MAX_PROCESSES};
 ghost use Rattle.smx_model.specs.DriverList.{IsDriverList};
 ghost use Rattle.smx_model.specs.Histories.{HoldsPrograms};
 ghost use Rattle.smx_shared.specs.Seats.{SharedId};
+ghost use Rattle.smx_shared.specs.declared.fault.ApplyFault.TheVariants as apply;
 ghost use Rattle.smx_run.specs.Fronts.{AreFrontsFrom};
 ghost use Rattle.smx_run.specs.Hands.{called_hand, given_hand, AreFresh, HaveEnded, IsFresh};
 ghost use Rattle.smx_run.specs.ProgramOrder.{Calls, numbered};
@@ -147,7 +148,7 @@ fn run_from<'s, E, R: Threads + Wait + Sync, G: Gate + Sync>(
     }
 }
 
-// What came of some hands, and of one more. Want of memory precedes a full history.
+// What came of some hands, and of one more. Want of memory precedes a full history, which is told only where a worker met it.
 fn and_then(
     before: Result<Vec<Vec<Done<Seat>>>, ApplyFault>,
     last: Result<Vec<Done<Seat>>, ApplyFault>,
@@ -156,6 +157,8 @@ fn and_then(
         → IfOk before (λ b. map called_hand b.items ≡ all) → IfOk last (λ d. called_hand d ≡ one) → map called_hand v.items ≡ all ++ one ∷ []) }
     ensures ended { IfOk result (λ v. (name : SharedId)
         → IfOk before (λ b. All (HaveEnded name) b.items) → IfOk last (HaveEnded name) → All (HaveEnded name) v.items) }
+    ensures memory_first { (before ≡ Err apply.NoMemory) ⊎ (last ≡ Err apply.NoMemory) → result ≡ Err apply.NoMemory }
+    ensures full { result ≡ Err apply.HistoryFull → (before ≡ Err apply.HistoryFull) ⊎ (last ≡ Err apply.HistoryFull) }
 {
     match (before, last) {
         (Ok(mut all), Ok(done)) => {
