@@ -1,5 +1,5 @@
 use Rattle.std.proofs.Common.{◌≡◌, filter, map, take}
-use Rattle.smx_config.specs.UnlinkTargets.{may_unlink}
+use Rattle.smx_tables.specs.UnlinkTargets.{may_unlink}
 use Rattle.smx_config.proofs.commands_of_links.all_targets.Given as goal
 
 abbrev pub invariant-loop-i : goal.invariant-loop-i

@@ -1,5 +1,5 @@
-use Rattle.smx_config.specs.ModelOfLists.{configuration_of}
-use Rattle.smx_config.proofs.DoneLemmas.{unlink_is}
+use Rattle.smx_tables.specs.ModelOfLists.{configuration_of}
+use Rattle.smx_tables.proofs.DoneLemmas.{unlink_is}
 use Rattle.smx_config.proofs.commands_of_links.unlink.Goals as goal
 
 pub returns-clause-refines : goal.returns-clause-refines

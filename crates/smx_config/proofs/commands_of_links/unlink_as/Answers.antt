@@ -5,11 +5,11 @@ use Rattle.smx_types.specs.declared.link.Link.{Link}
 use Rattle.smx_model.specs.Configuration.{Configuration}
 use Rattle.smx_model.specs.KnownStreams.{IsKnown}
 use Rattle.smx_model.specs.Removal.{after_sweep}
-use Rattle.smx_config.specs.ModelOfLists.{configuration_of}
-use Rattle.smx_config.specs.UnlinkTargets.{is_target}
-use Rattle.smx_config.specs.TouchedStreams.{IsTouched}
-use Rattle.smx_config.proofs.DoneLemmas.{done_is, unlink_does}
-use Rattle.smx_config.proofs.TouchLemmas.{few_ids, touched_by, touched_without}
+use Rattle.smx_tables.specs.ModelOfLists.{configuration_of}
+use Rattle.smx_tables.specs.UnlinkTargets.{is_target}
+use Rattle.smx_tables.specs.TouchedStreams.{IsTouched}
+use Rattle.smx_tables.proofs.DoneLemmas.{done_is, unlink_does}
+use Rattle.smx_tables.proofs.TouchLemmas.{few_ids, touched_by, touched_without}
 use Rattle.smx_config.proofs.commands_of_links.unlink_as.Goals as goal
 
 pub returns-clause-refines : goal.returns-clause-refines

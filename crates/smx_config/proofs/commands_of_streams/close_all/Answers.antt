@@ -1,7 +1,7 @@
 use Rattle.std.proofs.Common.{refl, ◌∙◌, arith}
-use Rattle.smx_config.specs.ModelOfLists.{configuration_of}
-use Rattle.smx_config.proofs.DoneLemmas.{done_is}
-use Rattle.smx_config.proofs.TouchLemmas.{all_closed_touch, touched_by, touched_fds}
+use Rattle.smx_tables.specs.ModelOfLists.{configuration_of}
+use Rattle.smx_tables.proofs.DoneLemmas.{done_is}
+use Rattle.smx_tables.proofs.TouchLemmas.{all_closed_touch, touched_by, touched_fds}
 use Rattle.smx_config.proofs.commands_of_streams.close_all.Goals as goal
 
 pub touch_each-requires : goal.touch_each-requires

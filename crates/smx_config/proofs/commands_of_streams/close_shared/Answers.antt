@@ -1,6 +1,6 @@
 use Rattle.std.proofs.Common.{[], refl, ◌∙◌}
-use Rattle.smx_config.specs.ModelOfLists.{configuration_of}
-use Rattle.smx_config.proofs.TouchLemmas.{closed_stays, closes_shared, linked_still, swept_still, touched_by, touched_fds}
+use Rattle.smx_tables.specs.ModelOfLists.{configuration_of}
+use Rattle.smx_tables.proofs.TouchLemmas.{closed_stays, closes_shared, linked_still, swept_still, touched_by, touched_fds}
 use Rattle.smx_config.proofs.commands_of_streams.close_shared.Goals as goal
 
 pub tells_existing-requires-clause-held : goal.tells_existing-requires-clause-held

@@ -1,9 +1,9 @@
 use Rattle.std.proofs.Common.{List, ap, subst, sym}
 use Rattle.smx_types.specs.declared.driver.DriverSpec.{DriverSpec}
 use Rattle.smx_model.specs.KnownStreams.{IsKnown}
-use Rattle.smx_config.specs.ModelOfLists.{configuration_of}
-use Rattle.smx_config.proofs.MoveLemmas.{drivers_moved}
-use Rattle.smx_config.proofs.NextPlaceLemmas.{open_next}
+use Rattle.smx_tables.specs.ModelOfLists.{configuration_of}
+use Rattle.smx_tables.proofs.MoveLemmas.{drivers_moved}
+use Rattle.smx_tables.proofs.NextPlaceLemmas.{open_next}
 use Rattle.smx_config.proofs.settling.move_on.Goals as goal
 
 pub move_front-requires-clause-known : goal.move_front-requires-clause-known

@@ -1,0 +1,244 @@
+-- Streams that a change touches: which went, and what is left of them.
+use Rattle.std.proofs.Common.{◌≡◌, ℕ, suc, ◌+◌, ◌<◌, ◌≤◌, Bool, true, false, ◌&&◌, ◌||◌, not, List, [], ◌∷◌, ◌++◌, length, map, filter, get_or, Option, Some, None, Ok, refl, sym, ap, subst, ◌∙◌, arith, inl, inr}
+use Rattle.std.specs.Prelude.{nat_lt}
+use Rattle.std.specs.List.{All, list_any, list_all}
+use Rattle.std.proofs.lemmas.Bool.{cases_Bool, cases_lt, and_parts, or_cases, or_left, or_right, false≢true}
+use Rattle.std.proofs.lemmas.List.{length-map}
+use Rattle.smx_types.specs.declared.driver.DriverSpec.{DriverSpec}
+use Rattle.smx_types.specs.declared.limits.TheConstants.{MAX_DESCRIPTORS}
+use Rattle.smx_types.specs.declared.link.Binding.{Binding}
+use Rattle.smx_types.specs.declared.link.Link.{Link}
+use Rattle.smx_types.specs.declared.reply.Fault.TheVariants.{BadDescriptor}
+use Rattle.smx_types.specs.declared.reply.Reply.{Reply}
+use Rattle.smx_types.specs.declared.reply.Reply.TheVariants.{Done}
+use Rattle.smx_types.specs.declared.stream.Descriptor.{Descriptor}
+use Rattle.smx_types.specs.declared.stream.Place.{Place}
+use Rattle.smx_types.specs.declared.stream.StreamId.{StreamId}
+use Rattle.smx_model.specs.Commands.{done_outcome}
+use Rattle.smx_model.specs.Configuration.{Configuration, QueuedMessage, is_fd, same_stream}
+use Rattle.smx_model.specs.Outcomes.{or_fault}
+use Rattle.smx_model.specs.Removal.{without_links, without_queues_at}
+use Rattle.smx_model.specs.Standing.{exists, is_named, is_persistent}
+use Rattle.smx_model.specs.Swept.{IsSwept}
+use Rattle.smx_streams.specs.StreamTables.{StreamTable, HasHolds, HasOneLess, is_last, number_at, stream_at, without_fd, exists as is_there}
+use Rattle.smx_tables.specs.Closing.{closing}
+use Rattle.smx_tables.specs.ExistingStreams.{AreHeld, TellsExisting, holds_below, is_held, is_loose}
+use Rattle.smx_tables.specs.TouchedStreams.{IsCascade, IsTouched, is_there_or_touched, is_watched}
+use Rattle.smx_tables.proofs.AboveLemmas.{stream_is}
+use Rattle.smx_tables.proofs.DoneLemmas.{IdleDropsNone, all_fewer}
+use Rattle.smx_tables.proofs.ExistingLemmas.{all_weaker, held_is_below, holds_few}
+use Rattle.smx_tables.proofs.FoundLinkLemmas.{below_at}
+use Rattle.smx_tables.proofs.PlaceLemmas.{not_more}
+use Rattle.smx_tables.proofs.ReleaseLemmas.{not_true, starts}
+use Rattle.smx_tables.proofs.WatchLemmas.{listed_last, listed_more, still_listed, there_same}
+
+-- ---- where all that were touched are there
+
+touched_there : (t : StreamTable) (ss : List StreamId) (s : StreamId) → list_all (is_there t) ss ≡ true → is_there_or_touched t ss s ≡ true → is_there t s ≡ true
+touched_there t ss s all h = elim (or_cases (is_there t s) (list_any (same_stream s) ss) h) [ inl a ↦ a | inr b ↦ one ss all b ] where
+  one : (vs : List StreamId) → list_all (is_there t) vs ≡ true → list_any (same_stream s) vs ≡ true → is_there t s ≡ true
+  one [] a b = absurd (false≢true b)
+  one (v ∷ vs) a b =
+      let p = and_parts (is_there t v) (list_all (is_there t) vs) a in
+      elim (or_cases (same_stream s v) (list_any (same_stream s) vs) b) [ inl e ↦ ap (is_there t) (stream_is s v e) ∙ p.0 | inr k ↦ one vs p.1 k ]
+
+-- the controlling stream of each ordinary link is there
+pub linked_still : (t : StreamTable) (ss : List StreamId) (c : Configuration) → list_all (is_there t) ss ≡ true → IsTouched t ss c → list_all (λ l. is_persistent l || is_there t l.ctl) c.links ≡ true
+linked_still t ss c all h = all_weaker (λ l. is_persistent l || is_there_or_touched t ss l.ctl) (λ l. is_persistent l || is_there t l.ctl) c.links
+    (λ l e. elim (or_cases (is_persistent l) (is_there_or_touched t ss l.ctl) e) [ inl p ↦ or_left _ _ p | inr o ↦ or_right _ _ (touched_there t ss l.ctl all o) ]) h.links
+
+-- nothing is left to sweep
+pub swept_still : (drivers : List DriverSpec) (c : Configuration) (t : StreamTable) (ss : List StreamId) → TellsExisting drivers c t → list_all (is_there t) ss ≡ true → IsTouched t ss c → IsSwept drivers c
+swept_still drivers c t ss told all h = record {
+  links = all_weaker (λ l. is_persistent l || is_there_or_touched t ss l.ctl) (λ l. is_persistent l || exists drivers c l.ctl) c.links
+      (λ l e. elim (or_cases (is_persistent l) (is_there_or_touched t ss l.ctl) e) [ inl p ↦ or_left _ _ p | inr o ↦ or_right _ _ (there l.ctl o) ]) h.links;
+  binds = all_weaker (λ (b : Binding). is_there_or_touched t ss (record { driver = b.driver; minor = b.minor })) (λ b. exists drivers c (record { driver = b.driver; minor = b.minor })) c.binds (λ b. there (record { driver = b.driver; minor = b.minor })) h.binds;
+  flow = all_weaker (λ (m : QueuedMessage). is_there_or_touched t ss m.place.stream) (λ m. exists drivers c m.place.stream) c.flow (λ m. there m.place.stream) h.flow;
+  fulls = all_weaker (λ (p : Place). is_there_or_touched t ss p.stream) (λ p. exists drivers c p.stream) c.fulls (λ p. there p.stream) h.fulls;
+} where
+  there : (s : StreamId) → is_there_or_touched t ss s ≡ true → exists drivers c s ≡ true
+  there s o = sym (told s) ∙ touched_there t ss s all o
+
+-- ---- what was there is there or touched
+
+pub touched_by : (drivers : List DriverSpec) (c : Configuration) (t u : StreamTable) (ss : List StreamId) → TellsExisting drivers c t → IsSwept drivers c → ((s : StreamId) → is_there t s ≡ true → is_there_or_touched u ss s ≡ true) → IsTouched u ss c
+touched_by drivers c t u ss told h stays = record {
+  links = all_weaker (λ l. is_persistent l || exists drivers c l.ctl) (λ l. is_persistent l || is_there_or_touched u ss l.ctl) c.links
+      (λ l e. elim (or_cases (is_persistent l) (exists drivers c l.ctl) e) [ inl p ↦ or_left _ _ p | inr o ↦ or_right _ _ (now l.ctl o) ]) h.links;
+  binds = all_weaker (λ (b : Binding). exists drivers c (record { driver = b.driver; minor = b.minor })) (λ b. is_there_or_touched u ss (record { driver = b.driver; minor = b.minor })) c.binds (λ b. now (record { driver = b.driver; minor = b.minor })) h.binds;
+  flow = all_weaker (λ (m : QueuedMessage). exists drivers c m.place.stream) (λ m. is_there_or_touched u ss m.place.stream) c.flow (λ m. now m.place.stream) h.flow;
+  fulls = all_weaker (λ (p : Place). exists drivers c p.stream) (λ p. is_there_or_touched u ss p.stream) c.fulls (λ p. now p.stream) h.fulls;
+} where
+  now : (s : StreamId) → exists drivers c s ≡ true → is_there_or_touched u ss s ≡ true
+  now s e = stays s (told s ∙ e)
+
+-- with other descriptors, and without some links
+pub touched_fds : (t : StreamTable) (ss : List StreamId) (c : Configuration) (fds : List Descriptor) → IsTouched t ss c → IsTouched t ss (record c { fds = fds })
+touched_fds t ss c fds h = record { links = h.links; binds = h.binds; flow = h.flow; fulls = h.fulls }
+
+pub touched_without : (t : StreamTable) (ss : List StreamId) (c : Configuration) (goes : Link → Bool) → IsTouched t ss c → IsTouched t ss (without_links c goes)
+touched_without t ss c goes h = record { links = all_fewer _ _ c.links h.links; binds = h.binds; flow = all_fewer _ _ c.flow h.flow; fulls = all_fewer _ _ c.fulls h.fulls }
+
+-- and without the messages of some places
+pub touched_emptied : (t : StreamTable) (ss : List StreamId) (c : Configuration) (goes : Place → Bool) → IsTouched t ss c → IsTouched t ss (without_queues_at c goes)
+touched_emptied t ss c goes h = record { links = h.links; binds = h.binds; flow = all_fewer _ _ c.flow h.flow; fulls = all_fewer _ _ c.fulls h.fulls }
+
+-- what was there or touched still is
+pub touched_on : (t u : StreamTable) (ss vs : List StreamId) (c : Configuration) → IsTouched t ss c → ((s : StreamId) → is_there_or_touched t ss s ≡ true → is_there_or_touched u vs s ≡ true) → IsTouched u vs c
+touched_on t u ss vs c h on = record {
+  links = all_weaker (λ l. is_persistent l || is_there_or_touched t ss l.ctl) (λ l. is_persistent l || is_there_or_touched u vs l.ctl) c.links
+      (λ l e. elim (or_cases (is_persistent l) (is_there_or_touched t ss l.ctl) e) [ inl p ↦ or_left _ _ p | inr o ↦ or_right _ _ (on l.ctl o) ]) h.links;
+  binds = all_weaker (λ (b : Binding). is_there_or_touched t ss (record { driver = b.driver; minor = b.minor })) (λ b. is_there_or_touched u vs (record { driver = b.driver; minor = b.minor })) c.binds (λ b. on (record { driver = b.driver; minor = b.minor })) h.binds;
+  flow = all_weaker (λ (m : QueuedMessage). is_there_or_touched t ss m.place.stream) (λ m. is_there_or_touched u vs m.place.stream) c.flow (λ m. on m.place.stream) h.flow;
+  fulls = all_weaker (λ (p : Place). is_there_or_touched t ss p.stream) (λ p. is_there_or_touched u vs p.stream) c.fulls (λ p. on p.stream) h.fulls;
+}
+
+-- one descriptor is closed, and its stream stays
+pub closed_stays : (t u : StreamTable) (p n : ℕ) → is_last t p n ≡ false → HasOneLess t p n u → ((s : StreamId) → is_there t s ≡ true → is_there u s ≡ false → stream_at t.fds p n ≡ Some s)
+    → (s : StreamId) → is_there t s ≡ true → is_there_or_touched u [] s ≡ true
+closed_stays t u p n stays less went s there = elim (cases_Bool (is_there u s)) [
+  | inl a ↦ or_left _ _ a
+  | inr gone ↦
+      let last : is_last t p n ≡ not (is_there (without_fd t p n) s) = rw (went s there gone) refl in
+      absurd (false≢true (sym stays ∙ last ∙ ap not (sym same ∙ gone)))
+] where
+  same : is_there u s ≡ is_there (without_fd t p n) s
+  same = ap (λ (fds : List Descriptor). is_named fds s || nat_lt 0 (number_at u.holds s)) less.fds ∙ ap (λ (m : ℕ). is_named (filter (λ d. not (is_fd p n d)) t.fds) s || nat_lt 0 m) (less.holds s)
+
+-- or it is touched
+pub closed_touches : (t u : StreamTable) (p n : ℕ) (s : StreamId) (ss : List StreamId) → stream_at t.fds p n ≡ Some s → list_any (same_stream s) ss ≡ true
+    → ((x : StreamId) → is_there t x ≡ true → is_there u x ≡ false → stream_at t.fds p n ≡ Some x) → (x : StreamId) → is_there t x ≡ true → is_there_or_touched u ss x ≡ true
+closed_touches t u p n s ss at one went x there = elim (cases_Bool (is_there u x)) [
+  | inl a ↦ or_left _ _ a
+  | inr gone ↦
+      let both : ◌≡◌ {A = Option StreamId} (Some s) (Some x) = sym at ∙ went x there gone in
+      let same : s ≡ x = cc in
+      or_right _ _ (subst (λ (y : StreamId). list_any (same_stream y) ss ≡ true) same one)
+]
+
+-- all descriptors of a process are closed
+pub all_closed_touch : (t u : StreamTable) (p : ℕ) (ss : List StreamId) → ((n : ℕ) (s : StreamId) → n < MAX_DESCRIPTORS → stream_at t.fds p n ≡ Some s → list_any (same_stream s) ss ≡ true)
+    → ((x : StreamId) → is_there t x ≡ true → is_there u x ≡ false → (n : ℕ) × (n < MAX_DESCRIPTORS) × (stream_at t.fds p n ≡ Some x)) → (x : StreamId) → is_there t x ≡ true → is_there_or_touched u ss x ≡ true
+all_closed_touch t u p ss named went x there = elim (cases_Bool (is_there u x)) [
+  | inl a ↦ or_left _ _ a
+  | inr gone ↦ let at = went x there gone in or_right _ _ (named at.0 x at.1 at.2)
+]
+
+-- a stream is released and touched
+pub release_touches : (t u v : StreamTable) (ss : List StreamId) (s : StreamId) (n : ℕ) → HasHolds u s n v → ((x : StreamId) → is_there t x ≡ true → is_there_or_touched u ss x ≡ true)
+    → (x : StreamId) → is_there t x ≡ true → is_there_or_touched v (ss ++ s ∷ []) x ≡ true
+release_touches t u v ss s n h so_far x there = elim (or_cases (is_there u x) (list_any (same_stream x) ss) (so_far x there)) [
+  | inl still ↦ elim (cases_Bool (same_stream x s)) [
+    | inl it ↦ or_right _ _ (ap (λ (y : StreamId). list_any (same_stream y) (ss ++ s ∷ [])) (stream_is x s it) ∙ listed_last ss s)
+    | inr other ↦ or_left _ _ (there_same u v s x n h other ∙ still)
+  ]
+  | inr earlier ↦ or_right _ _ (still_listed x ss s earlier)
+]
+
+-- the same of what was there or touched, and of one stream more that is put aside
+pub release_touches_on : (t u v : StreamTable) (first ss : List StreamId) (s : StreamId) (n : ℕ) → HasHolds u s n v → ((x : StreamId) → is_there_or_touched t first x ≡ true → is_there_or_touched u ss x ≡ true)
+    → (x : StreamId) → is_there_or_touched t first x ≡ true → is_there_or_touched v (ss ++ s ∷ []) x ≡ true
+release_touches_on t u v first ss s n h so_far x there = elim (or_cases (is_there u x) (list_any (same_stream x) ss) (so_far x there)) [
+  | inl still ↦ elim (cases_Bool (same_stream x s)) [
+    | inl it ↦ or_right _ _ (ap (λ (y : StreamId). list_any (same_stream y) (ss ++ s ∷ [])) (stream_is x s it) ∙ listed_last ss s)
+    | inr other ↦ or_left _ _ (there_same u v s x n h other ∙ still)
+  ]
+  | inr earlier ↦ or_right _ _ (still_listed x ss s earlier)
+]
+
+-- a stream that may have gone is put to those that were seen
+pub seen_more : (u v : StreamTable) (left rest now seen : List StreamId) (s x : StreamId) → left ≡ rest ++ s ∷ [] → ((y : StreamId) → is_there_or_touched u rest y ≡ true → is_there_or_touched v now y ≡ true)
+    → (is_there_or_touched u left x || list_any (same_stream x) seen) ≡ true → (is_there_or_touched v now x || list_any (same_stream x) (seen ++ s ∷ [])) ≡ true
+seen_more u v left rest now seen s x last on h = elim (or_cases (is_there_or_touched u left x) (list_any (same_stream x) seen) h) [
+  | inl a ↦ elim (or_cases (is_there u x) (list_any (same_stream x) left) a) [
+    | inl there ↦ or_left _ _ (on x (or_left _ _ there))
+    | inr one ↦ elim (or_cases (list_any (same_stream x) rest) (same_stream x s) (sym (listed_more x rest s) ∙ (ap (list_any (same_stream x)) (sym last) ∙ one))) [
+      | inl earlier ↦ or_left _ _ (on x (or_right _ _ earlier))
+      | inr it ↦ or_right _ _ (listed_more x seen s ∙ or_right _ _ it)
+    ]
+  ]
+  | inr b ↦ or_right _ _ (still_listed x seen s b)
+]
+
+-- in the end all of them were seen
+pub all_seen : (u : StreamTable) (left seen : List StreamId) (x : StreamId) → left ≡ [] → (is_there_or_touched u left x || list_any (same_stream x) seen) ≡ true → is_there_or_touched u seen x ≡ true
+all_seen u left seen x none h = elim (or_cases (is_there_or_touched u left x) (list_any (same_stream x) seen) h) [
+  | inl a ↦ elim (or_cases (is_there u x) (list_any (same_stream x) left) a) [
+    | inl there ↦ or_left _ _ there
+    | inr one ↦ let bad : list_any (same_stream x) [] ≡ true = ap (list_any (same_stream x)) (sym none) ∙ one in absurd (false≢true bad)
+  ]
+  | inr b ↦ or_right _ _ b
+]
+
+-- ---- the cascade at first
+
+-- where each stream below a link has a hold, there are no more holds than links
+pub few_below : (links : List Link) (t : StreamTable) → AreHeld links t → (ls : List Link) → holds_below ls t ≤ length ls
+few_below links t held [] = omega arith
+few_below links t held (l ∷ ls) = let one = holds_few links l.lower in let here = held l.lower in let rest = few_below links t held ls in omega (arith, one, here, rest)
+
+pub cascade_at_first : (links : List Link) (t : StreamTable) (ss : List StreamId) (room : ℕ) → AreHeld links t → list_all (λ l. is_persistent l || is_there_or_touched t ss l.ctl) links ≡ true → length ss + length links ≤ room → IsCascade links t ss room
+cascade_at_first links t ss room held h enough = record {
+  releasing = λ n. starts links n t held;
+  watched = all_weaker (λ l. is_persistent l || is_there_or_touched t ss l.ctl) (is_watched t ss) links watch h;
+  enough = let few = few_below links t held links in omega (arith, few, enough);
+} where
+  watch : (l : Link) → (is_persistent l || is_there_or_touched t ss l.ctl) ≡ true → is_watched t ss l ≡ true
+  watch l e = elim (cases_Bool (is_loose t l)) [
+    | inr tight ↦ or_left (not (is_loose t l)) (list_any (same_stream l.ctl) ss) (ap not tight)
+    | inl loose ↦
+        let a = and_parts (not (is_persistent l)) (is_held t l && not (is_there t l.ctl)) loose in
+        let gone = not_true _ (and_parts (is_held t l) (not (is_there t l.ctl)) a.1).1 in
+        or_right (not (is_loose t l)) (list_any (same_stream l.ctl) ss) (elim (or_cases (is_persistent l) (is_there_or_touched t ss l.ctl) e) [
+          | inl p ↦ absurd (false≢true (sym (not_true _ a.0) ∙ p))
+          | inr o ↦ elim (or_cases (is_there t l.ctl) (list_any (same_stream l.ctl) ss) o) [ inl there ↦ absurd (false≢true (sym gone ∙ there)) | inr one ↦ one ]
+        ])
+  ]
+
+-- where each stream below a link is held, no link's lower stream is free
+pub none_free : (links : List Link) (t : StreamTable) → AreHeld links t → filter (λ l. not (is_held t l)) links ≡ []
+none_free links t held = none links (λ i d lt. held_is_below links t (get_or links i d).lower held ∙ below_at links i d lt) where
+  none : (ls : List Link) → All (λ l. is_held t l ≡ true) ls → filter (λ l. not (is_held t l)) ls ≡ []
+  none [] h = refl
+  none (l ∷ ls) h = rw (h 0 l (omega arith)) (none ls (λ i d lt. h (suc i) d (omega (arith, lt))))
+
+-- no more ids than links
+pub few_ids : (t : Link → Bool) (ls : List Link) (ids : List ℕ) → ids ≡ map (λ l. l.id) (filter t ls) → length ids ≤ length ls
+few_ids t ls ids e = omega (arith, ap length e, length-map (filter t ls) (λ (l : Link). l.id), not_more t ls (filter t ls) refl)
+
+-- ---- the outcome of a close that sweeps nothing
+
+pub fd_at : (o : Option StreamId) (s : StreamId) → or_fault BadDescriptor o ≡ Ok s → o ≡ Some s
+fd_at None s e = absurd cc
+fd_at (Some x) s e = let same : x ≡ s = cc in ap (λ (y : StreamId). Some y) same
+
+pub closes_shared : (drivers : List DriverSpec) (c : Configuration) (process fd : ℕ) (fds : List Descriptor) (new : Configuration) (r : Reply) → IdleDropsNone drivers → IsSwept drivers (record c { fds = fds })
+    → fds ≡ filter (λ d. not (is_fd process fd d)) c.fds → new ≡ record c { fds = fds } → r ≡ Done [] → closing drivers c process fd ≡ Ok (new, r)
+closes_shared drivers c process fd fds new r idle swept e is none =
+    subst (λ (ds : List Descriptor). done_outcome drivers c (record c { fds = ds }) ≡ Ok (new, r)) e (rw (is, none) (idle c (record c { fds = fds }) swept refl))
+
+-- ---- the streams of a process's descriptors
+
+abbrev pub AreNamed : List Descriptor → ℕ → ℕ → List StreamId → Type 0
+AreNamed fds p k ss = (n : ℕ) (s : StreamId) → n < k → stream_at fds p n ≡ Some s → list_any (same_stream s) ss ≡ true
+
+-- one number more, with a stream
+pub one_named_more : (fds : List Descriptor) (p k : ℕ) (t : StreamId) (ss : List StreamId) → stream_at fds p k ≡ Some t → AreNamed fds p k ss → AreNamed fds p (k + 1) (ss ++ t ∷ [])
+one_named_more fds p k t ss at h = λ n s lt e. elim (cases_lt n k) [
+  | inl earlier ↦ still_listed s ss t (h n s earlier e)
+  | inr here ↦
+      let last : n ≡ k = omega (arith, here, lt) in
+      let both : ◌≡◌ {A = Option StreamId} (Some t) (Some s) = sym at ∙ subst (λ (m : ℕ). stream_at fds p m ≡ Some s) last e in
+      let same : t ≡ s = cc in
+      subst (λ (x : StreamId). list_any (same_stream x) (ss ++ t ∷ []) ≡ true) same (listed_last ss t)
+]
+
+-- and without one
+pub none_named_more : (fds : List Descriptor) (p k : ℕ) (ss : List StreamId) → stream_at fds p k ≡ None → AreNamed fds p k ss → AreNamed fds p (k + 1) ss
+none_named_more fds p k ss at h = λ n s lt e. elim (cases_lt n k) [
+  | inl earlier ↦ h n s earlier e
+  | inr here ↦
+      let last : n ≡ k = omega (arith, here, lt) in
+      let both : ◌≡◌ {A = Option StreamId} None (Some s) = sym at ∙ subst (λ (m : ℕ). stream_at fds p m ≡ Some s) last e in
+      absurd cc
+]

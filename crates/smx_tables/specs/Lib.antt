@@ -1,0 +1,10 @@
+pub mod ModelOfLists
+pub mod ListedLinks
+pub mod ExistingStreams
+pub mod TouchedStreams
+pub mod UnlinkTargets
+pub mod KeptHolds
+pub mod SweepReserves
+pub mod Closing
+pub mod DroppedMessages
+pub mod ShownAddresses
