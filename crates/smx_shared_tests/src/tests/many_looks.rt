@@ -49,6 +49,7 @@ fn looks_on(shared: &Shared, mut seat: Seat, sights: &Sights) -> bool
         if sights.ended.load(Ordering::SeqCst) != 0 {
             return true;
         }
+        thread::yield_now();
     }
     false
 }
