@@ -1,7 +1,7 @@
 -- What a swept change comes to.
 use Rattle.std.proofs.Common.{◌≡◌, ℕ, Bool, true, false, ◌&&◌, ◌||◌, not, eqb, List, [], ◌∷◌, length, filter, find, Option, Some, None, Result, Ok, Err, if◌then◌else◌, refl, sym, ap, ◌∙◌, inl, inr}
 use Rattle.std.specs.Option.{option_map}
-use Rattle.std.proofs.lemmas.Bool.{cases_Bool, and_parts, and_from, or_left, or_right}
+use Rattle.std.proofs.lemmas.Bool.{cases_Bool, and_parts, and_from}
 use Rattle.std.specs.List.{list_any, list_all}
 use Rattle.smx_types.specs.declared.command.Command.TheVariants as command
 use Rattle.smx_types.specs.declared.command.Which.{Which}
@@ -18,17 +18,17 @@ use Rattle.smx_types.specs.declared.driver.DriverSpec.{DriverSpec}
 use Rattle.smx_types.specs.declared.reply.Reply.{Reply}
 use Rattle.smx_types.specs.declared.reply.Reply.TheVariants.{Done}
 use Rattle.smx_model.specs.Commands.{done_outcome, outcome}
-use Rattle.smx_model.specs.Configuration.{Configuration, same_stream, stream_before, is_fd, bind_before, route_before}
+use Rattle.smx_model.specs.Configuration.{Configuration, stream_before, is_fd, bind_before, route_before}
 use Rattle.smx_model.specs.DriverList.{is_mux}
 use Rattle.smx_model.specs.Hangups.{is_hung, with_hung}
 use Rattle.smx_model.specs.Ordered.{with_inserted}
 use Rattle.smx_model.specs.Lookups.{driver_of, leaf_stream, mux_stream}
 use Rattle.smx_model.specs.Outcomes.{◌>>=◌, or_fault, refuse}
 use Rattle.smx_model.specs.Removal.{serials_that_left, after_sweep, without_links}
-use Rattle.smx_model.specs.Standing.{is_named, is_below, exists}
+use Rattle.smx_model.specs.Standing.{is_below, exists}
 use Rattle.smx_model.specs.Swept.{IsSwept}
-use Rattle.smx_config.proofs.ClimbLemmas.{named_stands}
-use Rattle.smx_config.proofs.AboveLemmas.{stream_self}
+use Rattle.smx_tables.proofs.ClimbLemmas.{named_stands}
+use Rattle.smx_tables.proofs.ExistingLemmas.{all_fewer, named_stream}
 use Rattle.smx_config.specs.UnlinkTargets.{is_target, are_there, unlinks}
 
 pub done_is : (drivers : List DriverSpec) (c new d : Configuration) (r : Reply) → d ≡ after_sweep drivers new → r ≡ Done (serials_that_left c.flow d.flow) → done_outcome drivers c new ≡ Ok (d, r)
@@ -41,10 +41,6 @@ pub unlink_does : (drivers : List DriverSpec) (c : Configuration) (process fd : 
 unlink_does drivers c process fd w k s x e there h = rw (e, there) h
 
 -- ---- without a few bindings, or with other routes, nothing is left to sweep
-
-pub all_fewer : {X : Type 0} (t u : X → Bool) (xs : List X) → list_all t xs ≡ true → list_all t (filter u xs) ≡ true
-all_fewer t u [] h = refl
-all_fewer t u (x ∷ xs) h = let p = and_parts (t x) (list_all t xs) h in elim (cases_Bool (u x)) [ inl a ↦ rw a (and_from _ _ p.0 (all_fewer t u xs p.1)) | inr b ↦ rw b (all_fewer t u xs p.1) ]
 
 fewer_binds : (drivers : List DriverSpec) (c : Configuration) (t : Binding → Bool) → IsSwept drivers c → IsSwept drivers (record c { binds = filter t c.binds })
 fewer_binds drivers c t h = record { links = h.links; binds = all_fewer _ t c.binds h.binds; flow = h.flow; fulls = h.fulls; hungs = h.hungs }
@@ -63,14 +59,6 @@ pub route_does : (drivers : List DriverSpec) (c : Configuration) (process fd add
 route_does drivers c process fd addr id s new r idle clean e there is none = rw (e, there, is, none) (idle c rest (other_routes drivers c rest.routes clean) refl) where
   rest : Configuration
   rest = record c { routes = with_inserted route_before (filter (λ x. not (eqb x.driver s.driver && eqb x.addr addr)) c.routes) (record { driver = s.driver; addr = addr; id = id }) }
-
--- the stream of a descriptor exists
-pub named_stream : (process fd : ℕ) (fds : List Descriptor) (s : StreamId) → option_map (λ (d : Descriptor). d.stream) (find (is_fd process fd) fds) ≡ Some s → is_named fds s ≡ true
-named_stream process fd [] s h = absurd cc
-named_stream process fd (d ∷ ds) s h = elim (cases_Bool (is_fd process fd d)) [
-  | inl t ↦ let k : Some d.stream ≡ Some s = rw t at h in let same : d.stream ≡ s = cc in or_left _ _ (ap (λ (x : StreamId). same_stream x s) same ∙ stream_self s)
-  | inr f ↦ or_right _ _ (named_stream process fd ds s (rw f at h))
-]
 
 mux_stream_of : (o : Option StreamId) (below leaf : StreamId → Bool) (s : StreamId)
     → (((or_fault BadDescriptor o >>= (λ x. refuse Below (below x) >>= (λ a. Ok x)))) >>= (λ x. refuse NotMux (leaf x) >>= (λ m. Ok x))) ≡ Ok s → o ≡ Some s

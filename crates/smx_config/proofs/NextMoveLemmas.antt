@@ -21,8 +21,8 @@ use Rattle.smx_config.specs.declared.marks.Marks.{Marks}
 use Rattle.smx_config.specs.declared.settling.Move.{Move}
 use Rattle.smx_config.specs.Marking.{AreMarks, IsNotedFor, marked_configuration}
 use Rattle.smx_config.specs.Moves.{IsLeastMove, if_open}
-use Rattle.smx_config.proofs.DriverListLemmas.{minors_within}
-use Rattle.smx_config.proofs.PlaceLemmas.{place_is}
+use Rattle.smx_tables.proofs.DriverListLemmas.{minors_within}
+use Rattle.smx_tables.proofs.PlaceLemmas.{place_is}
 
 -- what is settled has nothing to move
 none_found : (t : Place → Bool) (flow : List QueuedMessage) → ((p : Place) → t p ≡ false) → find (λ h. t h.place) flow ≡ None

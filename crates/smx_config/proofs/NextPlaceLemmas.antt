@@ -20,14 +20,8 @@ use Rattle.smx_model.specs.KnownStreams.{IsKnown}
 use Rattle.smx_model.specs.Paths.{HasNoCycle}
 use Rattle.smx_model.specs.Queues.{first_message, is_full}
 use Rattle.smx_model.specs.Settling.{◌>>=◌, live_write_side, next_open_place, next_place, place_above, place_below}
-use Rattle.smx_config.proofs.AboveLemmas.{some_with_id, stream_is}
-
-pub bound : {A B : Type 0} (o : Option A) (f : A → Option B) (y : B) → (o >>= f) ≡ Some y → (x : A) × (o ≡ Some x) × (f x ≡ Some y)
-bound None f y e = absurd cc
-bound (Some x) f y e = (x, refl, e)
-
-some_is : {X : Type 0} (x y : X) → Some x ≡ Some y → x ≡ y
-some_is x y e = cc
+use Rattle.smx_tables.proofs.AboveLemmas.{some_with_id, stream_is}
+use Rattle.smx_tables.proofs.FoundLemmas.{bound, found_passes, some_is}
 
 -- what holds of each element holds of the one that is found
 found_has : {X : Type 0} (P : X → Type 0) (test : X → Bool) (xs : List X) (x : X) → AllByRecursion P xs → find test xs ≡ Some x → (test x ≡ true) × P x
@@ -35,13 +29,6 @@ found_has P test [] x h e = absurd cc
 found_has P test (y ∷ ys) x h e = elim (cases_Bool (test y)) [
   | inl t ↦ let f : Some y ≡ Some x = rw t at e in let same = some_is y x f in (subst (λ z. test z ≡ true) same t, subst P same h.0)
   | inr f ↦ found_has P test ys x h.1 (rw f at e)
-]
-
-pub found_passes : {X : Type 0} (test : X → Bool) (xs : List X) (x : X) → find test xs ≡ Some x → test x ≡ true
-found_passes test [] x e = absurd cc
-found_passes test (y ∷ ys) x e = elim (cases_Bool (test y)) [
-  | inl t ↦ let f : Some y ≡ Some x = rw t at e in subst (λ z. test z ≡ true) (some_is y x f) t
-  | inr f ↦ found_passes test ys x (rw f at e)
 ]
 
 -- the two drivers of a link differ

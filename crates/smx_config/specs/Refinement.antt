@@ -10,13 +10,13 @@ use Rattle.smx_model.specs.KeptConfigurations.{AreSerialsSound}
 use Rattle.smx_model.specs.KnownStreams.{AreStreamsKnown}
 use Rattle.smx_model.specs.Outcomes.{Outcome}
 use Rattle.smx_model.specs.Swept.{IsSwept}
-use Rattle.smx_config.specs.declared.lists.Lists.{Lists}
+use Rattle.smx_tables.specs.declared.lists.Lists.{Lists}
 use Rattle.smx_config.specs.declared.step_error.StepError.{StepError}
 use Rattle.smx_config.specs.declared.step_error.StepError.TheVariants as step_error
-use Rattle.smx_config.specs.ExistingStreams.{TellsExisting}
+use Rattle.smx_tables.specs.ExistingStreams.{TellsExisting}
 use Rattle.smx_config.specs.FewMinors.{HaveFewMinors}
-use Rattle.smx_config.specs.KeptHolds.{KeepsHolds}
-use Rattle.smx_config.specs.ModelOfLists.{configuration_of}
+use Rattle.smx_tables.specs.KeptHolds.{KeepsHolds}
+use Rattle.smx_tables.specs.ModelOfLists.{configuration_of}
 
 -- what holds between any two steps
 pub record StepInvariant (drivers : List DriverSpec) (l : Lists) : Type 0 where

@@ -6,11 +6,11 @@ ghost use Rattle.smx_types.specs.declared.command.Command.TheVariants as command
 ghost use Rattle.smx_types.specs.declared.reply.Fault.TheVariants.{AddressInUse, Unbound, NoLink, Unrouted};
 ghost use Rattle.smx_model.specs.Outcomes.{refuse};
 ghost use Rattle.smx_addresses.specs.BindingLists.{is_taken};
-ghost use Rattle.smx_config.specs.ModelOfLists.{sizes_of};
-ghost use Rattle.smx_config.specs.KeptHolds.{KeepsHolds};
+ghost use Rattle.smx_tables.specs.ModelOfLists.{sizes_of};
+ghost use Rattle.smx_tables.specs.KeptHolds.{KeepsHolds};
 ghost use Rattle.smx_config.specs.Refinement.{StepInvariant, Refines, RefinesOrNoMemory};
 
-use crate::lists::Lists;
+use smx_tables::lists::Lists;
 use crate::lookups::mux_stream;
 use crate::refuse::refuse;
 use crate::step_error::StepError;

@@ -12,23 +12,23 @@ ghost use Rattle.smx_model.specs.Views.{view};
 ghost use Rattle.smx_config.specs.DriverFaults.{RefusesDrivers};
 ghost use Rattle.smx_config.specs.Machine.{takes_no_memory};
 
-use crate::copies::{copy_lists, empty_lists};
+use smx_tables::copies::{copy_lists, empty_lists};
 use crate::driver_list::check_drivers;
 use crate::fault::ConfigFault;
 use crate::laws_of_waking::woken_marks_are_enough;
-use crate::lists::Lists;
+use smx_tables::lists::Lists;
 use crate::marks::{Marks, copy_marks, no_marks};
 use crate::perform::perform;
 use crate::second_reply::room_for_reply;
 use crate::settling::finish_step;
-use crate::show::{
+use smx_tables::show::{
     binding_lines, descriptor_lines, full_lines, hung_lines, link_lines, message_lines, route_lines,
 };
-use crate::shown_addresses::{are_bindings_shown, are_routes_shown};
-use crate::shown_lines::{
+use smx_tables::shown_addresses::{are_bindings_shown, are_routes_shown};
+use smx_tables::shown_lines::{
     are_fds_shown, are_fulls_shown, are_hungs_shown, are_links_shown, are_messages_shown,
 };
-use crate::standing::tells_existing;
+use smx_tables::standing::tells_existing;
 use crate::step_error::StepError;
 use crate::wakes::{message_stream, wakes_of};
 use crate::waking::wake;
@@ -76,7 +76,7 @@ impl Config {
     /// The empty configuration over these drivers, which keeps the allocator for all that it makes. Refused where there
     /// are more than 128; or else at the least number of a driver that can't be had, or that has the name of an earlier
     /// one; or else for want of memory.
-    #[tactic(auto, using(crate::proofs::KeptLemmas::tells_again))]
+    #[tactic(auto, using(smx_tables::proofs::KeptLemmas::tells_again))]
     pub fn new(alloc: Global, drivers: &[DriverSpec]) -> Result<Config, ConfigFault>
         ensures drivers { IfOk result (λ c. (c.drivers ≡ drivers.now) × IsDriverList drivers.now) }
         ensures empty { IfOk result (λ c. c.configuration ≡ empty) }
@@ -106,7 +106,7 @@ impl Config {
     /// Does a command of a process: its reply and the new configuration are those of the command table. A fault for a
     /// reply changes nothing, and neither does want of memory. `dup`, `unbind`, `unroute`, `read`, `transmit`, `hangup`
     /// and every refusal take no memory, so they are always answered.
-    #[tactic(auto, using(crate::proofs::KeptLemmas::table_stays, crate::proofs::KeptLemmas::minors_stay, crate::proofs::KeptLemmas::queues_stay, crate::proofs::KeptLemmas::tells_again))]
+    #[tactic(auto, using(smx_tables::proofs::KeptLemmas::table_stays, smx_tables::proofs::KeptLemmas::minors_stay, smx_tables::proofs::KeptLemmas::queues_stay, smx_tables::proofs::KeptLemmas::tells_again))]
     pub fn step(&mut self, process: Process, command: &Command) -> Result<Reply, NoMemory>
         // What it does.
         ensures drivers { self.new.drivers ≡ self.old.drivers }
@@ -242,7 +242,7 @@ impl Config {
     }
 
     /// The same configuration again, by the allocator that this one has. Fails only for want of memory.
-    #[tactic(auto, using(crate::proofs::KeptLemmas::tells_again))]
+    #[tactic(auto, using(smx_tables::proofs::KeptLemmas::tells_again))]
     pub fn copy(&self) -> Result<Config, NoMemory>
         ensures { IfOk result (λ c. c ≡ self.now) }
     {

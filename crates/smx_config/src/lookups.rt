@@ -3,12 +3,12 @@
 ghost use Rattle.std.specs.Prelude.{◌≡◌};
 ghost use Rattle.smx_model.specs.Lookups.{stream_of, free_stream, live_stream, mux_stream, leaf_stream, live_leaf};
 ghost use Rattle.smx_model.specs.Standing.{exists};
-ghost use Rattle.smx_config.specs.ExistingStreams.{TellsExisting};
-ghost use Rattle.smx_config.specs.ModelOfLists.{configuration_of};
+ghost use Rattle.smx_tables.specs.ExistingStreams.{TellsExisting};
+ghost use Rattle.smx_tables.specs.ModelOfLists.{configuration_of};
 ghost use Rattle.smx_config.specs.Refinement.{StepInvariant};
 
-use crate::driver_specs::{driver_of, is_mux, minors_of};
-use crate::lists::Lists;
+use smx_tables::driver_specs::{driver_of, is_mux, minors_of};
+use smx_tables::lists::Lists;
 use crate::refuse::refuse;
 use smx_types::{DriverSpec, Fault, Name, Process, StreamId};
 

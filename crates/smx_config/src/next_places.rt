@@ -3,10 +3,10 @@
 ghost use Rattle.std.specs.Prelude.{◌≡◌};
 ghost use Rattle.smx_model.specs.RunMarks.{next_of_first};
 ghost use Rattle.smx_model.specs.Settling.{live_write_side, place_below, place_above, next_place};
-ghost use Rattle.smx_config.specs.ModelOfLists.{configuration_of};
+ghost use Rattle.smx_tables.specs.ModelOfLists.{configuration_of};
 
-use crate::driver_specs::is_mux;
-use crate::lists::Lists;
+use smx_tables::driver_specs::is_mux;
+use smx_tables::lists::Lists;
 use smx_addresses::Bindings;
 use smx_links::LinkTable;
 use smx_streams::Streams;

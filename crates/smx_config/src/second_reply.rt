@@ -7,14 +7,14 @@ ghost use Rattle.smx_model.specs.Commands.{after_outcome, outcome, read_outcome,
 ghost use Rattle.smx_model.specs.LawfulHistories.{delivered_by};
 ghost use Rattle.smx_config.specs.declared.step_error.StepError.TheVariants as step_error;
 ghost use Rattle.smx_config.specs.Machine.{takes_no_memory};
-ghost use Rattle.smx_config.specs.ModelOfLists.{configuration_of};
+ghost use Rattle.smx_tables.specs.ModelOfLists.{configuration_of};
 ghost use Rattle.smx_config.specs.Refinement.{StepInvariant};
 ghost use Rattle.smx_config.specs.SecondReplies.{HasRoomFor, HasRoomForReply, MakesRoom};
 ghost use Rattle.smx_config.specs.UnlinkTargets.{unlinks};
 
 use crate::commands_of_links::check_targets;
 use crate::commands_of_messages::is_at_end;
-use crate::lists::Lists;
+use smx_tables::lists::Lists;
 use crate::lookups::{free_stream, live_leaf, live_stream, mux_stream, stream_of};
 use crate::step_error::StepError;
 use smx_model::laws_of_steps::other_commands_drop_none;

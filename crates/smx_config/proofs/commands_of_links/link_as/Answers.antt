@@ -1,6 +1,6 @@
 use Rattle.std.proofs.Common.{arith, sym, ◌∙◌}
-use Rattle.smx_config.specs.ModelOfLists.{configuration_of}
-use Rattle.smx_config.proofs.ExistingLemmas.{fd_is_there, held_by_one_more, holds_few, not_below_yet}
+use Rattle.smx_tables.specs.ModelOfLists.{configuration_of}
+use Rattle.smx_tables.proofs.ExistingLemmas.{fd_is_there, held_by_one_more, holds_few, not_below_yet}
 use Rattle.smx_config.proofs.KnownLemmas.{driver_known}
 use Rattle.smx_config.proofs.commands_of_links.link_as.Goals as goal
 

@@ -5,13 +5,13 @@ use Rattle.smx_types.specs.declared.link.Link.{Link}
 use Rattle.smx_model.specs.Configuration.{Configuration}
 use Rattle.smx_model.specs.KnownStreams.{IsKnown}
 use Rattle.smx_model.specs.Removal.{after_sweep, without_links}
-use Rattle.smx_config.specs.ExistingStreams.{AreHeld}
-use Rattle.smx_config.specs.ModelOfLists.{configuration_of}
+use Rattle.smx_tables.specs.ExistingStreams.{AreHeld}
+use Rattle.smx_tables.specs.ModelOfLists.{configuration_of}
 use Rattle.smx_config.specs.UnlinkTargets.{is_target}
-use Rattle.smx_config.specs.TouchedStreams.{IsTouched}
+use Rattle.smx_tables.specs.TouchedStreams.{IsTouched}
 use Rattle.smx_config.proofs.DoneLemmas.{done_is, unlink_does}
-use Rattle.smx_config.proofs.HungSweepLemmas.{sweep_of_left}
-use Rattle.smx_config.proofs.TouchLemmas.{few_ids, touched_by, touched_hungs, touched_without}
+use Rattle.smx_tables.proofs.HungSweepLemmas.{sweep_of_left}
+use Rattle.smx_tables.proofs.TouchLemmas.{few_ids, touched_by, touched_hungs, touched_without}
 use Rattle.smx_config.proofs.commands_of_links.unlink_as.Goals as goal
 
 pub returns-clause-refines : goal.returns-clause-refines

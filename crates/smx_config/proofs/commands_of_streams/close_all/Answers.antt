@@ -1,8 +1,9 @@
 use Rattle.std.proofs.Common.{refl, ◌∙◌, arith}
-use Rattle.smx_config.specs.ModelOfLists.{configuration_of}
+use Rattle.smx_tables.specs.ModelOfLists.{configuration_of}
 use Rattle.smx_config.proofs.DoneLemmas.{done_is}
-use Rattle.smx_config.proofs.HungSweepLemmas.{sweep_of_left}
-use Rattle.smx_config.proofs.TouchLemmas.{all_closed_touch, touched_by, touched_fds, touched_hungs}
+use Rattle.smx_tables.proofs.HungSweepLemmas.{sweep_of_left}
+use Rattle.smx_config.proofs.ClosingLemmas.{all_closed_touch}
+use Rattle.smx_tables.proofs.TouchLemmas.{touched_by, touched_fds, touched_hungs}
 use Rattle.smx_config.proofs.commands_of_streams.close_all.Goals as goal
 
 pub touch_each-requires : goal.touch_each-requires

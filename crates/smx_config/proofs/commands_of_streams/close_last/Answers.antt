@@ -2,11 +2,12 @@ use Rattle.std.proofs.Common.{[], ◌∷◌, ap, length, length-append, refl, �
 use Rattle.smx_types.specs.declared.stream.StreamId.{StreamId}
 use Rattle.std.specs.List.{list_any}
 use Rattle.smx_model.specs.Configuration.{same_stream}
-use Rattle.smx_config.specs.ModelOfLists.{configuration_of}
+use Rattle.smx_tables.specs.ModelOfLists.{configuration_of}
 use Rattle.smx_config.proofs.DoneLemmas.{done_is}
-use Rattle.smx_config.proofs.HungSweepLemmas.{sweep_of_left}
-use Rattle.smx_config.proofs.TouchLemmas.{closed_touches, touched_by, touched_fds, touched_hungs}
-use Rattle.smx_config.proofs.WatchLemmas.{listed_last}
+use Rattle.smx_tables.proofs.HungSweepLemmas.{sweep_of_left}
+use Rattle.smx_config.proofs.ClosingLemmas.{closed_touches}
+use Rattle.smx_tables.proofs.TouchLemmas.{touched_by, touched_fds, touched_hungs}
+use Rattle.smx_tables.proofs.WatchLemmas.{listed_last}
 use Rattle.smx_config.proofs.commands_of_streams.close_last.Goals as goal
 
 pub push_reserved-requires : goal.push_reserved-requires

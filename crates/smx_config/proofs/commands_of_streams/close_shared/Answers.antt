@@ -1,9 +1,10 @@
 use Rattle.std.proofs.Common.{[], List, refl, sym, ap, ◌∙◌}
 use Rattle.smx_types.specs.declared.stream.StreamId.{StreamId}
 use Rattle.smx_streams.specs.StreamTables.{exists as is_there}
-use Rattle.smx_config.specs.ModelOfLists.{configuration_of}
-use Rattle.smx_config.proofs.HungLemmas.{all_pass}
-use Rattle.smx_config.proofs.TouchLemmas.{all_stay, closed_stays, closes_shared, linked_still, swept_still, touched_by, touched_fds}
+use Rattle.smx_tables.specs.ModelOfLists.{configuration_of}
+use Rattle.smx_tables.proofs.HungLemmas.{all_pass}
+use Rattle.smx_config.proofs.ClosingLemmas.{all_stay, closed_stays, closes_shared}
+use Rattle.smx_tables.proofs.TouchLemmas.{linked_still, swept_still, touched_by, touched_fds}
 use Rattle.smx_config.proofs.commands_of_streams.close_shared.Goals as goal
 
 pub tells_existing-requires-clause-held : goal.tells_existing-requires-clause-held

@@ -4,8 +4,8 @@ use Rattle.smx_types.specs.declared.command.Command.TheVariants as command
 use Rattle.smx_model.specs.Commands.{outcome}
 use Rattle.smx_streams.specs.StreamTables.{StreamTable, dup_answer}
 use Rattle.smx_config.specs.declared.step_error.StepError.TheVariants as step_error
-use Rattle.smx_config.specs.declared.lists.Lists.{Lists}
-use Rattle.smx_config.specs.ModelOfLists.{configuration_of}
+use Rattle.smx_tables.specs.declared.lists.Lists.{Lists}
+use Rattle.smx_tables.specs.ModelOfLists.{configuration_of}
 use Rattle.smx_config.proofs.DescriptorLemmas.{agrees_err, agrees_ok, dup_agrees, dup_refused_in_place, refused_by}
 use Rattle.smx_config.proofs.commands_of_streams.dup.Goals as goal
 

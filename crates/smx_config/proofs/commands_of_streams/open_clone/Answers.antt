@@ -3,8 +3,8 @@ use Rattle.std.proofs.lemmas.Result.{err_from_is_err_and}
 use Rattle.smx_types.specs.declared.command.Command.TheVariants as command
 use Rattle.smx_model.specs.Commands.{outcome}
 use Rattle.smx_streams.specs.StreamTables.{StreamTable, clone_answer}
-use Rattle.smx_config.specs.declared.lists.Lists.{Lists}
-use Rattle.smx_config.specs.ModelOfLists.{configuration_of}
+use Rattle.smx_tables.specs.declared.lists.Lists.{Lists}
+use Rattle.smx_tables.specs.ModelOfLists.{configuration_of}
 use Rattle.smx_config.proofs.DescriptorLemmas.{agrees_err, agrees_ok, clone_agrees, refused_by}
 use Rattle.smx_config.proofs.commands_of_streams.open_clone.Goals as goal
 

@@ -6,8 +6,8 @@ use Rattle.smx_model.specs.Commands.{outcome}
 use Rattle.smx_model.specs.DriverList.{minors_of}
 use Rattle.smx_model.specs.Standing.{is_below}
 use Rattle.smx_streams.specs.StreamTables.{StreamTable, minor_answer}
-use Rattle.smx_config.specs.declared.lists.Lists.{Lists}
-use Rattle.smx_config.specs.ModelOfLists.{configuration_of}
+use Rattle.smx_tables.specs.declared.lists.Lists.{Lists}
+use Rattle.smx_tables.specs.ModelOfLists.{configuration_of}
 use Rattle.smx_config.proofs.DescriptorLemmas.{agrees_err, agrees_ok, minor_agrees, refused_by}
 use Rattle.smx_config.proofs.LookupLemmas.{not_refused}
 use Rattle.smx_config.proofs.commands_of_streams.open_minor.Goals as goal

@@ -1,5 +1,5 @@
 use Rattle.std.proofs.Common.{◌≡◌, true, rules, sym, ◌∙◌}
-use Rattle.smx_config.specs.ModelOfLists.{configuration_of}
+use Rattle.smx_tables.specs.ModelOfLists.{configuration_of}
 use Rattle.smx_config.proofs.ReplyLemmas.{carries_nothing, nothing_fits}
 use Rattle.smx_config.proofs.second_reply.room_for_reply.Goals as goal
 

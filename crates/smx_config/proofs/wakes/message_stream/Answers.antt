@@ -1,5 +1,5 @@
 use Rattle.std.proofs.Common.{sym, ◌∙◌}
-use Rattle.smx_config.specs.ModelOfLists.{configuration_of}
+use Rattle.smx_tables.specs.ModelOfLists.{configuration_of}
 use Rattle.smx_config.proofs.SendLemmas.{answers_known, free_known, live_known, live_leaf_known}
 use Rattle.smx_config.proofs.wakes.message_stream.Goals as goal
 
