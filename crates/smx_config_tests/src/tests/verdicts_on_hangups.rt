@@ -150,7 +150,7 @@ hung eth 0
 ];
 
 // It is routed to: what goes there waits, holds up what is behind it, and goes on by another route.
-const ROUTED: [Case; 3] = [
+const ROUTED: [Case; 4] = [
     (
         "0 clone ip = fd 0 0
 0 clone eth = fd 1 0
@@ -200,6 +200,37 @@ route ip 5 2
 msg eth 0 w 1 5 0102030405060708
 full eth 0 w
 hung eth 0
+",
+    ),
+    // Settling comes to it behind the first of three messages.
+    (
+        "0 clone ip = fd 0 0
+0 clone eth = fd 1 0
+0 clone eth = fd 2 1
+0 link 0 1 = id 1
+0 link 0 2 = id 2
+0 write 0 5 aa = took 1
+0 write 0 6 bb = took 2
+0 write 0 5 cc = took 3
+0 hangup eth 1 = done
+0 hangup ip 0 = ENXIO driver
+0 route 0 6 2 = done
+0 route 0 5 1 = done
+0 transmit eth 0 = got 1 5 aa
+0 transmit eth 0 = EAGAIN empty
+0 route 0 6 1 = done
+0 transmit eth 0 = got 2 6 bb
+",
+        "next 3 4
+fd 0 0 ip 0
+fd 0 1 eth 0
+fd 0 2 eth 1
+link 1 ip 0 eth 0 link
+link 2 ip 0 eth 1 link
+route ip 5 1
+route ip 6 1
+msg eth 0 w 3 5 cc
+hung eth 1
 ",
     ),
     // What came in from it still moves up.

@@ -32,6 +32,8 @@ history = opened_ip_eth_eth
     ∷ 0 does Read 3 gets Eof
     ∷ 0 does Plink 0 3 gets Id 3
     ∷ 0 does Link 1 0 gets Fault Below
+    ∷ 0 does Write 1 5 (187 ∷ []) gets Fault Below
+    ∷ 0 does Flush 3 R gets Fault Below
     ∷ 0 does Unlink 2 which.All gets Fault NotMux
     ∷ []
 
