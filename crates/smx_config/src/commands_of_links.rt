@@ -10,16 +10,16 @@ ghost use Rattle.smx_tables.specs.ModelOfLists.{configuration_of, sizes_of};
 ghost use Rattle.smx_config.specs.UnlinkTargets.{may_have_links, may_unlink, is_target, are_there, unlinks};
 ghost use Rattle.smx_config.specs.Refinement.{StepInvariant, RefinesOrNoMemory, HasOutcomeOrNoMemory};
 
-use smx_tables::driver_specs::is_mux;
-use smx_tables::lists::Lists;
 use crate::lookups::{mux_stream, stream_of};
 use crate::refuse::refuse;
+use crate::step_error::StepError;
+use smx_links::LinkTable;
+use smx_tables::driver_specs::is_mux;
+use smx_tables::lists::Lists;
 use smx_tables::removal::remove_links;
 use smx_tables::standing::is_persistent;
-use crate::step_error::StepError;
 use smx_tables::streams::same_stream;
 use smx_tables::sweep::{reserve_for_sweep, sweep_and_reply};
-use smx_links::LinkTable;
 use smx_types::{DriverSpec, Fault, Link, LinkKind, Process, Reply, StreamId, Which};
 use std::alloc::{AllocError, Global};
 

@@ -14,15 +14,15 @@ ghost use Rattle.smx_tables.specs.ModelOfLists.{configuration_of, sizes_of};
 ghost use Rattle.smx_config.specs.Refinement.{StepInvariant, Refines, RefinesOrNoMemory, HasOutcomeOrNoMemory};
 ghost use Rattle.smx_tables.specs.KeptHolds.{KeepsHolds};
 
-use smx_tables::driver_specs::{driver_of, minors_of};
-use smx_tables::lists::Lists;
 use crate::lookups::{leaf_stream, stream_of};
 use crate::refuse::refuse;
-use smx_tables::standing::tells_existing;
 use crate::step_error::StepError;
-use smx_tables::sweep::{reserve_for_sweep, sweep_and_reply};
 use smx_model::laws_of_steps::idle_changes_drop_none;
 use smx_streams::Streams;
+use smx_tables::driver_specs::{driver_of, minors_of};
+use smx_tables::lists::Lists;
+use smx_tables::standing::tells_existing;
+use smx_tables::sweep::{reserve_for_sweep, sweep_and_reply};
 use smx_types::{DriverSpec, Fault, MAX_DESCRIPTORS, Name, Process, Reply, Serials, StreamId};
 use std::alloc::Global;
 

@@ -12,15 +12,22 @@ ghost use Rattle.smx_model.specs.Views.{view};
 ghost use Rattle.smx_config.specs.DriverFaults.{RefusesDrivers};
 ghost use Rattle.smx_config.specs.Machine.{takes_no_memory};
 
-use smx_tables::copies::{copy_lists, empty_lists};
 use crate::driver_list::check_drivers;
 use crate::fault::ConfigFault;
 use crate::laws_of_waking::woken_marks_are_enough;
-use smx_tables::lists::Lists;
 use crate::marks::{Marks, copy_marks, no_marks};
 use crate::perform::perform;
 use crate::second_reply::room_for_reply;
 use crate::settling::finish_step;
+use crate::step_error::StepError;
+use crate::wakes::{message_stream, wakes_of};
+use crate::waking::wake;
+use smx_model::laws_of_marked_commands::empty_needs_no_mark;
+use smx_model::laws_of_steps::{
+    commands_keep, empty_is_kept, outcomes_are_sound, refusals_change_nothing,
+};
+use smx_tables::copies::{copy_lists, empty_lists};
+use smx_tables::lists::Lists;
 use smx_tables::show::{
     binding_lines, descriptor_lines, full_lines, hung_lines, link_lines, message_lines, route_lines,
 };
@@ -29,13 +36,6 @@ use smx_tables::shown_lines::{
     are_fds_shown, are_fulls_shown, are_hungs_shown, are_links_shown, are_messages_shown,
 };
 use smx_tables::standing::tells_existing;
-use crate::step_error::StepError;
-use crate::wakes::{message_stream, wakes_of};
-use crate::waking::wake;
-use smx_model::laws_of_marked_commands::empty_needs_no_mark;
-use smx_model::laws_of_steps::{
-    commands_keep, empty_is_kept, outcomes_are_sound, refusals_change_nothing,
-};
 use smx_types::{
     BindingLines, Command, ConfigView, DescriptorLines, DriverSpec, FullLines, HungLines,
     LinkLines, MessageLines, NoMemory, Process, Reply, RouteLines,

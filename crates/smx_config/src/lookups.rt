@@ -7,9 +7,9 @@ ghost use Rattle.smx_tables.specs.ExistingStreams.{TellsExisting};
 ghost use Rattle.smx_tables.specs.ModelOfLists.{configuration_of};
 ghost use Rattle.smx_config.specs.Refinement.{StepInvariant};
 
+use crate::refuse::refuse;
 use smx_tables::driver_specs::{driver_of, is_mux, minors_of};
 use smx_tables::lists::Lists;
-use crate::refuse::refuse;
 use smx_types::{DriverSpec, Fault, Name, Process, StreamId};
 
 pub fn stream_of(lists: &Lists, process: Process, fd: u32) -> Result<StreamId, Fault>

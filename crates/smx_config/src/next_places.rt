@@ -5,11 +5,11 @@ ghost use Rattle.smx_model.specs.RunMarks.{next_of_first};
 ghost use Rattle.smx_model.specs.Settling.{live_write_side, place_below, place_above, next_place};
 ghost use Rattle.smx_tables.specs.ModelOfLists.{configuration_of};
 
-use smx_tables::driver_specs::is_mux;
-use smx_tables::lists::Lists;
 use smx_addresses::Bindings;
 use smx_links::LinkTable;
 use smx_streams::Streams;
+use smx_tables::driver_specs::is_mux;
+use smx_tables::lists::Lists;
 use smx_types::{DriverSpec, Place, Side, StreamId};
 
 // The write side of the stream, unless its device has hung up.

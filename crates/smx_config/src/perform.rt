@@ -13,8 +13,8 @@ use crate::commands_of_addresses::{bind, route, unbind, unroute};
 use crate::commands_of_links::{link, plink, punlink, unlink};
 use crate::commands_of_messages::{flush, read, receive, send};
 use crate::commands_of_streams::{close, close_all, dup, hangup, open_clone, open_minor};
-use smx_tables::lists::Lists;
 use crate::step_error::StepError;
+use smx_tables::lists::Lists;
 use smx_types::{Command, DriverSpec, Fault, Process, Reply, Side, StreamId};
 use std::alloc::Global;
 

@@ -14,10 +14,10 @@ ghost use Rattle.smx_config.specs.UnlinkTargets.{unlinks};
 
 use crate::commands_of_links::check_targets;
 use crate::commands_of_messages::is_at_end;
-use smx_tables::lists::Lists;
 use crate::lookups::{free_stream, live_leaf, live_stream, mux_stream, stream_of};
 use crate::step_error::StepError;
 use smx_model::laws_of_steps::other_commands_drop_none;
+use smx_tables::lists::Lists;
 use smx_types::{
     Bytes, Command, DriverSpec, Fault, LinkKind, Place, Process, Reply, Serials, Side, StreamId,
     Which,

@@ -9,8 +9,8 @@ ghost use Rattle.smx_config.specs.Refinement.{StepInvariant};
 ghost use Rattle.smx_config.specs.Wakes.{on_stream, wakes_of};
 ghost use Rattle.smx_config.specs.declared.wakes.Wakes.TheVariants as wakes;
 
-use smx_tables::lists::Lists;
 use crate::lookups::{free_stream, live_leaf, live_stream, mux_stream, stream_of};
+use smx_tables::lists::Lists;
 use smx_types::{Command, DriverSpec, Fault, Place, Process, Side, StreamId};
 
 /// What a command may wake, if it is accepted.
