@@ -26,12 +26,12 @@ def strange_bytes(line):
     return [line.replace("BYTE", chr(number)) for number in range(256)]
 
 
-def programs_text(lines):
-    return "".join(f"{line}\n" for line in ["programs 1", *lines, "end"])
+def programs_text(lines, version=1):
+    return "".join(f"{line}\n" for line in [f"programs {version}", *lines, "end"])
 
 
-def transcript_text(lines, view):
-    return "".join(f"{line}\n" for line in ["transcript 1", *lines, "config", *view, "end"])
+def transcript_text(lines, view, version=1):
+    return "".join(f"{line}\n" for line in [f"transcript {version}", *lines, "config", *view, "end"])
 
 
 def cut_in(text, number):
@@ -64,6 +64,12 @@ def driver_lists():
     return lists
 
 
+def longer_driver_lists():
+    """More drivers than version 1 may have: as many as version 2 may have, and more."""
+    lists = [drivers(count) for count in [64, 65, 66, 127, 128, 129, 130]] + [drivers(127) + ["driver d0 leaf 1 1 0 1"]]
+    return lists + [drivers(128) + [line] for line in ["driver d0 leaf 1 1 0 1", "driver x leaf 1 1 0", "exit", "x"]]
+
+
 def many(line):
     """As many of these lines as may be, one more and two more; and with another one behind the last that may be."""
     most = [line] * 100_000
@@ -91,12 +97,25 @@ def programs():
     lists += [[IP, "process 0", line] for line in strange_bytes("clone iBYTE") + strange_bytes("closeBYTE0")]
     texts = [programs_text(lines) for lines in lists] + ["programs 1\n", "programs 1", "programs 1\nend"]
     texts += [cut_in(programs_text(lines), 1 + len(lines)) for lines in [drivers(65), processes(65), many("exit")[1]]]
+    texts += programs_of_both_versions() + ["programs 2\n", "programs 2", "programs 2\nend"]
     return dict.fromkeys(texts + headers(programs_text([])), "a text made by hand")
+
+
+def programs_of_both_versions():
+    """What version 2 has and version 1 has not, and a little of what both have, under each header."""
+    lists = longer_driver_lists() + [drivers(128) + processes(64), drivers(129) + processes(65), processes(65)]
+    lists += [[IP, "process 0", line] for line in filled("hangup NAME 0", "hangup ip NUM") + [
+        "hangup", "hangup ip", "hangup ip 0 0", "Hangup ip 0", "hang ip 0", "hung ip 0", "eof", "ENXIO hangup", "exit",
+        "write 0 5 AA"]]
+    lists += [[IP, "hangup ip 0"], ["hangup ip 0"]]
+    texts = [programs_text(lines, version) for lines in lists for version in [1, 2]]
+    texts += [programs_text(["process 0", *commands], 2) for commands in many("exit")]
+    return texts + [cut_in(programs_text(lines, 2), 1 + len(lines)) for lines in [drivers(65), drivers(129)]]
 
 
 def headers(text):
     """The text with other numbers in its header."""
-    return [text.replace("1", number, 1) for number in NUMBERS]
+    return [text.replace("1", number, 1) for number in NUMBERS + "2 3 02 2. 11 12 21 22".split(" ") + ["2 ", " 2"]]
 
 
 # A transcript that a check finds legal.
@@ -107,7 +126,25 @@ def transcripts():
     texts = [transcript_text(lines, ["next 1 1"]) for lines in histories()]
     texts += [transcript_text([IP, "0 clone ip = fd 0 0"], view) for view in views()]
     texts += [cut_in(transcript_text(lines, []), 1 + len(lines)) for lines in [drivers(65), many("0 exit = done")[1]]]
+    texts += transcripts_of_both_versions()
     return dict.fromkeys(texts + headers(LEGAL), "a text made by hand")
+
+
+def transcripts_of_both_versions():
+    """What version 2 has and version 1 has not, and a little of what both have, under each header."""
+    lists = longer_driver_lists() + [[IP, entry] for entry in filled("0 hangup NAME 0 = done", "0 hangup ip NUM = done") + [
+        "0 exit = eof", "0 exit = eof 1", "0 exit = EOF", "0 exit = ENXIO hangup", "0 exit = EAGAIN hangup",
+        "0 exit = ENXIO hangup 1", "0 exit = hangup", "0 hangup ip 0 = eof", "64 exit = eof", "0 hangup ip = done",
+        "0 exit = done"]]
+    texts = [transcript_text(lines, ["next 1 1"], version) for lines in lists for version in [1, 2]]
+    below = filled("hung NAME 0", "hung ip NUM") + ["hung", "hung ip", "hung ip 0 w", "hangup ip 0", "Hung ip 0", "full ip 0"]
+    groups = ["next 1 1", "fd 0 0 ip 0", "link 1 ip 0 ip 1 link", "bind ip 1 1", "route ip 1 1", "msg ip 0 w 1 1 aa",
+              "full ip 0 w", "hung ip 0"]
+    pairs = [pair for one in groups for pair in [[one, "hung ip 0"], ["hung ip 0", one]]]
+    views = [["next 1 1", *lines] for lines in [[line] for line in below] + pairs] + [["hung ip 0"]]
+    texts += [transcript_text([IP, "0 clone ip = fd 0 0"], view, version) for view in views for version in [1, 2]]
+    texts += [transcript_text(lines, ["next 1 1"], 2) for lines in many("0 exit = done")]
+    return texts + [cut_in(transcript_text(lines, [], 2), 1 + len(lines)) for lines in [drivers(65), drivers(129)]]
 
 
 def histories():

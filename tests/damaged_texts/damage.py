@@ -36,6 +36,9 @@ def damaged(text, chance):
         add(f"line {number} exchanged with the next", "".join(before + after[:1] + [line] + after[1:]))
     for changed in spaced(text):
         add("other spaces and line ends", changed)
+    for version in "123":
+        header, rest = lines[0].rstrip("\n"), "".join(lines[1:])
+        add(f"its header of version {version}", f"{header[:-1]}{version}\n{rest}")
     return texts
 
 

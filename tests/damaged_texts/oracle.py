@@ -1,11 +1,12 @@
 """What muxsim has to answer to any bytes, by docs/FORMATS.md, docs/MUXSIM.md and docs/COMMANDS.md alone
 
 It shares nothing with the program. A line is compared with the forms of FORMATS.md, which are spelled here as they are
-there, and each kind of text says which lines may come next. A text is a string with a character for each byte."""
+there, and each kind of text says which lines may come next. The header of a text says of which version it is, and so which
+forms and how many drivers it may have. A text is a string with a character for each byte."""
 import functools
 import re
 
-DRIVERS, PROCESSES, COMMANDS = 64, 64, 100_000
+DRIVERS, PROCESSES, COMMANDS = {1: 64, 2: 128}, 64, 100_000
 
 
 def fits(pattern):
@@ -29,13 +30,14 @@ WORDS |= dict.fromkeys("NUM FD ARG MINOR ADDR ID SERIAL MINORS HIGH LOW MAX".spl
 DRIVER = "driver NAME KIND MINORS HIGH LOW MAX"
 ASKED = ("clone NAME, open NAME MINOR, dup FD, close FD, exit, link FD ARG, plink FD ARG, unlink FD WHICH,"
          " punlink FD WHICH, bind FD ADDR, unbind FD, route FD ADDR ID, unroute FD ADDR, write FD ADDR HEX, read FD,"
-         " flush FD SIDES, inject NAME MINOR ADDR HEX, transmit NAME MINOR").split(", ")
+         " flush FD SIDES, inject NAME MINOR ADDR HEX, transmit NAME MINOR, hangup NAME MINOR").split(", ")
 REPLIES = ("fd FD MINOR, id ID, took SERIAL, got SERIAL ADDR HEX, done, EBADF fd, EINVAL below, EINVAL notmux,"
            " EINVAL already, EINVAL cycle, EAGAIN links, EINVAL id, ENXIO driver, ENXIO minor, EMFILE, EADDRINUSE,"
-           " EINVAL unbound, EINVAL unrouted, EAGAIN full, EAGAIN empty, ERANGE").split(", ")
+           " EINVAL unbound, EINVAL unrouted, EAGAIN full, EAGAIN empty, ERANGE, eof, ENXIO hangup").split(", ")
 GROUPS = [["next ID SERIAL"], ["fd PROC FD NAME MINOR"],
           ["link ID NAME MINOR NAME MINOR link", "link ID NAME MINOR NAME MINOR plink"], ["bind NAME ADDR MINOR"],
-          ["route NAME ADDR ID"], ["msg NAME MINOR SIDE SERIAL ADDR HEX"], ["full NAME MINOR SIDE"]]
+          ["route NAME ADDR ID"], ["msg NAME MINOR SIDE SERIAL ADDR HEX"], ["full NAME MINOR SIDE"], ["hung NAME MINOR"]]
+OF_VERSION_2 = ["hangup NAME MINOR", "eof", "ENXIO hangup", "hung NAME MINOR"]
 
 
 def is_word(word, wanted):
@@ -48,51 +50,56 @@ def has_form(line, form):
     return len(words) == len(wanted) and all(map(is_word, words, wanted))
 
 
+def has_one_of(line, forms, version):
+    """Whether it has one of these forms, in a text of this version."""
+    return any(has_form(line, form) for form in forms if version == 2 or form not in OF_VERSION_2)
+
+
 @functools.cache
 def is_driver(line):
     return has_form(line, DRIVER)
 
 
 @functools.cache
-def is_command(line):
-    return any(has_form(line, form) for form in ASKED)
+def is_command(line, version):
+    return has_one_of(line, ASKED, version)
 
 
 @functools.cache
-def is_reply(line):
+def is_reply(line, version):
     first, *serials = line.split(" ")
-    return any(has_form(line, form) for form in REPLIES) or first == "done" and all(map(is_num, serials))
+    return has_one_of(line, REPLIES, version) or first == "done" and all(map(is_num, serials))
 
 
 @functools.cache
-def is_entry(line):
+def is_entry(line, version):
     asked, between, reply = line.partition(" = ")
     process, _, command = asked.partition(" ")
-    return between != "" and is_word(process, "PROC") and is_command(command) and is_reply(reply)
+    return between != "" and is_word(process, "PROC") and is_command(command, version) and is_reply(reply, version)
 
 
 @functools.cache
-def group_of(line):
+def group_of(line, version):
     """The number of the group that the line below 'config' belongs to, or nothing."""
-    return next((number for number, forms in enumerate(GROUPS) if any(has_form(line, form) for form in forms)), None)
+    return next((number for number, forms in enumerate(GROUPS) if has_one_of(line, forms, version)), None)
 
 
 class Programs:
     """A programs text up to some line."""
-    HEADER = "programs 1"
+    HEADERS = {"programs 1": 1, "programs 2": 2}
 
     def __init__(self):
-        self.drivers, self.programs, self.commands = [], [], 0
+        self.version, self.drivers, self.programs, self.commands = None, [], [], 0
 
     def take(self, line):
         """Takes one more line, or tells what is wrong with it."""
         if is_driver(line) and not self.programs:
             self.drivers.append(line)
-            return "many" if len(self.drivers) > DRIVERS else None
+            return "many" if len(self.drivers) > DRIVERS[self.version] else None
         if line == f"process {len(self.programs)}":
             self.programs.append([])
             return "many" if len(self.programs) > PROCESSES else None
-        if is_command(line) and self.programs:
+        if is_command(line, self.version) and self.programs:
             self.programs[-1].append(line)
             self.commands += 1
             return "many" if self.commands > COMMANDS else None
@@ -104,10 +111,10 @@ class Programs:
 
 class Transcript:
     """A transcript text up to some line; 'view' has the lines below 'config'."""
-    HEADER = "transcript 1"
+    HEADERS = {"transcript 1": 1, "transcript 2": 2}
 
     def __init__(self):
-        self.drivers, self.entries, self.view = [], [], None
+        self.version, self.drivers, self.entries, self.view = None, [], [], None
 
     def take(self, line):
         """Takes one more line, or tells what is wrong with it."""
@@ -115,8 +122,8 @@ class Transcript:
             return self.take_below(line)
         if is_driver(line) and not self.entries:
             self.drivers.append(line)
-            return "many" if len(self.drivers) > DRIVERS else None
-        if is_entry(line):
+            return "many" if len(self.drivers) > DRIVERS[self.version] else None
+        if is_entry(line, self.version):
             self.entries.append(line)
             return "many" if len(self.entries) > COMMANDS else None
         if line == "config":
@@ -126,8 +133,8 @@ class Transcript:
 
     def take_below(self, line):
         """The groups come in their order, and 'next' first and once."""
-        group = group_of(line)
-        allowed = range(max(1, group_of(self.view[-1])), len(GROUPS)) if self.view else [0]
+        group = group_of(line, self.version)
+        allowed = range(max(1, group_of(self.view[-1], self.version)), len(GROUPS)) if self.view else [0]
         if group not in allowed:
             return "form"
         self.view.append(line)
@@ -143,7 +150,8 @@ def read(text, kind):
     value = kind()
     for number, line in enumerate(whole, 1):
         if number == 1:
-            cause = None if line == kind.HEADER else "header"
+            value.version = kind.HEADERS.get(line)
+            cause = None if value.version else "header"
         elif line == "end" and value.may_end():
             return value, ((number + 1, "trailing") if rest or number < len(whole) else None)
         else:
@@ -182,9 +190,10 @@ def refusal(text, kind):
 
 
 def holds(transcript, programs):
-    """Whether a run on one worker may write this: the drivers, and each program's commands, one after the other."""
+    """Whether a run on one worker may write this: the version, the drivers, and each program's commands, in turn."""
     asked = [f"{process} {command}" for process, commands in enumerate(programs.programs) for command in commands]
-    return transcript.drivers == programs.drivers and list(map(question, transcript.entries)) == asked
+    same = (transcript.version, transcript.drivers) == (programs.version, programs.drivers)
+    return same and list(map(question, transcript.entries)) == asked
 
 
 def question(entry):

@@ -6,7 +6,7 @@ import tempfile
 
 ROOT = os.path.realpath(f"{os.path.dirname(os.path.realpath(__file__))}/../..")
 MUXSIM = f"{ROOT}/crates/muxsim/out/muxsim"
-EXAMPLE = "examples/opens_and_closes"
+EXAMPLE, OF_VERSION_2 = "examples/opens_and_closes", "examples/lost_carrier"
 READ, WRITE = "muxsim: read failed\n", "muxsim: write failed\n"
 SECONDS = 30
 
@@ -19,6 +19,7 @@ def contents(name):
 
 
 PROGRAMS, TRANSCRIPT = contents(f"{EXAMPLE}.mux"), contents(f"{EXAMPLE}.transcript")
+PROGRAMS_2, TRANSCRIPT_2 = contents(f"{OF_VERSION_2}.mux"), contents(f"{OF_VERSION_2}.transcript")
 
 
 def is_so(name, right, what=""):

@@ -5,8 +5,8 @@ import signal
 import subprocess
 import time
 
-from ends import (MUXSIM, PROGRAMS, READ, SECONDS, TRANSCRIPT, WRITE, is_so, long_programs, long_transcript, outcome,
-                  start)
+from ends import (MUXSIM, PROGRAMS, PROGRAMS_2, READ, SECONDS, TRANSCRIPT, TRANSCRIPT_2, WRITE, is_so, long_programs,
+                  long_transcript, outcome, start)
 
 
 def pieces(name, words, given, sizes, pause, wanted):
@@ -25,16 +25,18 @@ def pieces(name, words, given, sizes, pause, wanted):
 
 def inputs():
     for words, given, wanted in [(["run"], PROGRAMS, TRANSCRIPT), (["check"], TRANSCRIPT, b"legal 4\n"),
+                                 (["run"], PROGRAMS_2, TRANSCRIPT_2), (["check"], TRANSCRIPT_2, b"legal 28\n"),
                                  (["run", "--workers", "1", "--fronts"], PROGRAMS, b"fronts 1\nfront 0 4 0\nend\n")]:
         pieces("byte by byte", words, given, [1] * len(given), 0.001, wanted)
         pieces("in pieces", words, given, [0, 11, 20, 3, 2], 0.05, wanted)
-    for where in range(0, len(PROGRAMS), 9):
-        process = start(["run"])
-        process.stdin.write(PROGRAMS[:where])
-        process.stdin.close()
-        line = "muxsim: line %d: cut\n" % (PROGRAMS[:where].count(b"\n") + 1)
-        got = outcome(process, process.stdout.read())
-        is_so(f"a pipe that is closed after {where} bytes of input", got == (3, b"", line.encode()), got)
+    for programs in [PROGRAMS, PROGRAMS_2]:
+        for where in range(0, len(programs), 9):
+            process = start(["run"])
+            process.stdin.write(programs[:where])
+            process.stdin.close()
+            line = "muxsim: line %d: cut\n" % (programs[:where].count(b"\n") + 1)
+            got = outcome(process, process.stdout.read())
+            is_so(f"a pipe that is closed after {where} bytes of input", got == (3, b"", line.encode()), got)
 
 
 def outputs():

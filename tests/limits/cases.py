@@ -14,16 +14,17 @@ def text_of(lines):
     return "".join(f"{line}\n" for line in lines)
 
 
-def programs_text(drivers, programs):
+def programs_text(drivers, programs, version=1):
     """The programs of processes, each of which is its list of commands."""
-    lines = ["programs 1", *(f"driver {driver}" for driver in drivers)]
+    lines = [f"programs {version}", *(f"driver {driver}" for driver in drivers)]
     for number, commands in enumerate(programs):
         lines += [f"process {number}", *commands]
     return text_of(lines + ["end"])
 
 
-def transcript_text(drivers, entries, shown):
-    return text_of(["transcript 1", *(f"driver {driver}" for driver in drivers), *entries, "config", *shown, "end"])
+def transcript_text(drivers, entries, shown, version=1):
+    drivers = [f"driver {driver}" for driver in drivers]
+    return text_of([f"transcript {version}", *drivers, *entries, "config", *shown, "end"])
 
 
 def is_so(name, right, what=""):
@@ -59,13 +60,13 @@ def judges(name, given, verdict):
     gives(f"check, {name}", ["check"], given, 0 if verdict.startswith("legal") else 4, f"{verdict}\n")
 
 
-def row(name, drivers, programs, shown):
+def row(name, drivers, programs, shown, version=1):
     """Each line of a program is a command with its reply. A run on one worker writes them under these lines below
     'config', and a check of that finds it legal. Answers the transcript."""
     commands = [[line.partition(" = ")[0] for line in program] for program in programs]
     entries = [f"{process} {line}" for process, program in enumerate(programs) for line in program]
-    transcript = transcript_text(drivers, entries, shown)
-    gives(f"run, {name}", ["run"], programs_text(drivers, commands), 0, transcript)
+    transcript = transcript_text(drivers, entries, shown, version)
+    gives(f"run, {name}", ["run"], programs_text(drivers, commands, version), 0, transcript)
     if len(transcript) > LONGEST:
         refuses_check(name, transcript, "input too long")
     else:

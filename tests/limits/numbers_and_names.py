@@ -43,6 +43,9 @@ unroute 0 N = done
 unroute 0 N = EINVAL unrouted
 write 0 N dd = took 4""".splitlines()
 
+# The same of the command that version 2 has alone.
+HANGUPS = ["clone eth = fd 0 0", "hangup eth N = ENXIO minor", "hangup eth 0 = done", "read 0 = eof"]
+
 SHOWN = ["next 2 5", "fd 0 0 ip 0", "fd 0 1 eth 0", "link 1 ip 0 eth 0 link", "bind ip N 0", "msg ip 0 w 4 N dd",
          "msg eth 0 w 3 N cc"]
 
@@ -56,6 +59,10 @@ def numbers():
     """The greatest number at each place of each command; what is greater, or no number, is ill-formed there."""
     row("the greatest number in each command", JOINED, [[with_greatest(line) for line in ENTRIES]],
         [with_greatest(line) for line in SHOWN])
+    row("the greatest number in a hangup", JOINED, [[with_greatest(line) for line in HANGUPS]],
+        ["next 1 1", "fd 0 0 eth 0", "hung eth 0"], 2)
+    for number in NO_NUMBERS:
+        refuses_run(f"hangup of {number}", programs_text(JOINED, [[f"hangup eth {number}"]], 2), "line 5: form")
     commands = {line.partition(" = ")[0] for line in ENTRIES}
     for command in sorted(command for command in commands if "N" in command):
         for number in NO_NUMBERS:
@@ -93,6 +100,8 @@ def transcripts():
                 judges(f"{group} of {number}", text, "config differs")
             else:
                 refuses_check(f"{group} of {number}", text, f"line {line}: form")
+    judges("hung of the greatest", transcript_text(JOINED, [], ["next 1 1", f"hung eth {GREATEST}"], 2), "config differs")
+    refuses_check("hung of more", transcript_text(JOINED, [], ["next 1 1", "hung eth 4294967296"], 2), "line 6: form")
 
 
 def names():
@@ -109,4 +118,6 @@ def names():
         refuses_check(f"driver {name}", transcript_text([f"{name} mux 4 8 3 16"], [], ["next 1 1"]), "line 2: form")
         for command in ["clone NAME", "open NAME 0", "inject NAME 0 5 aa", "transmit NAME 0"]:
             refuses_run(f"{command} of {name}", programs_text(JOINED, [[command.replace("NAME", name)]]), "line 5: form")
+        refuses_run(f"hangup of {name}", programs_text(JOINED, [[f"hangup {name} 0"]], 2), "line 5: form")
+        refuses_check(f"hung of {name}", transcript_text(JOINED, [], ["next 1 1", f"hung {name} 0"], 2), "line 6: form")
         refuses_check(f"fd of {name}", transcript_text(JOINED, [], ["next 1 1", f"fd 0 0 {name} 0"]), "line 6: form")

@@ -18,7 +18,8 @@ const VERSION: &str = "0.1.0";
 const SEE: &str =
     "Exit status: 0 done or legal, 1 refused, 2 wrong words, 3 wrong text, 4 illegal or differing,
 5 input or output failed.
-The texts are in docs/FORMATS.md, commands and replies in docs/COMMANDS.md, and more in docs/MUXSIM.md.";
+The texts, in both versions, are in docs/FORMATS.md, commands and replies in docs/COMMANDS.md,
+and more in docs/MUXSIM.md.";
 
 /// What the words ask for, of which the first is the program's name. Any other words than `run`, with
 /// `--workers` and `--fronts` or without, and `check` are clap's error, and so is a request for help or the version; want

@@ -1,7 +1,7 @@
 -- What a swept change comes to.
-use Rattle.std.proofs.Common.{◌≡◌, ℕ, Bool, true, ◌&&◌, ◌||◌, not, eqb, List, [], ◌∷◌, length, filter, find, Option, Some, None, Ok, refl, ap, ◌∙◌, inl, inr}
+use Rattle.std.proofs.Common.{◌≡◌, ℕ, Bool, true, false, ◌&&◌, ◌||◌, not, eqb, List, [], ◌∷◌, length, filter, find, Option, Some, None, Result, Ok, Err, if◌then◌else◌, refl, sym, ap, ◌∙◌, inl, inr}
 use Rattle.std.specs.Option.{option_map}
-use Rattle.std.proofs.lemmas.Bool.{cases_Bool, and_parts, and_from, or_left, or_right}
+use Rattle.std.proofs.lemmas.Bool.{cases_Bool, and_parts, and_from}
 use Rattle.std.specs.List.{list_any, list_all}
 use Rattle.smx_types.specs.declared.command.Command.TheVariants as command
 use Rattle.smx_types.specs.declared.command.Which.{Which}
@@ -10,23 +10,25 @@ use Rattle.smx_types.specs.declared.link.Binding.{Binding}
 use Rattle.smx_types.specs.declared.link.LinkKind.{LinkKind}
 use Rattle.smx_types.specs.declared.link.LinkKind.TheVariants as kind
 use Rattle.smx_types.specs.declared.link.Route.{Route}
-use Rattle.smx_types.specs.declared.reply.Fault.TheVariants.{AddressInUse, BadDescriptor, Below, NoLink, NotMux, Unbound, Unrouted}
+use Rattle.smx_types.specs.declared.reply.Fault.{Fault}
+use Rattle.smx_types.specs.declared.reply.Fault.TheVariants.{AddressInUse, BadDescriptor, Below, NoDriver, NoLink, NoMinor, NotMux, Unbound, Unrouted}
 use Rattle.smx_types.specs.declared.stream.Descriptor.{Descriptor}
 use Rattle.smx_types.specs.declared.stream.StreamId.{StreamId}
 use Rattle.smx_types.specs.declared.driver.DriverSpec.{DriverSpec}
 use Rattle.smx_types.specs.declared.reply.Reply.{Reply}
 use Rattle.smx_types.specs.declared.reply.Reply.TheVariants.{Done}
 use Rattle.smx_model.specs.Commands.{done_outcome, outcome}
-use Rattle.smx_model.specs.Configuration.{Configuration, same_stream, is_fd, bind_before, route_before}
+use Rattle.smx_model.specs.Configuration.{Configuration, stream_before, is_fd, bind_before, route_before}
 use Rattle.smx_model.specs.DriverList.{is_mux}
+use Rattle.smx_model.specs.Hangups.{is_hung, with_hung}
 use Rattle.smx_model.specs.Ordered.{with_inserted}
-use Rattle.smx_model.specs.Lookups.{mux_stream}
+use Rattle.smx_model.specs.Lookups.{driver_of, leaf_stream, mux_stream}
 use Rattle.smx_model.specs.Outcomes.{◌>>=◌, or_fault, refuse}
 use Rattle.smx_model.specs.Removal.{serials_that_left, after_sweep, without_links}
-use Rattle.smx_model.specs.Standing.{is_named, is_below, exists}
+use Rattle.smx_model.specs.Standing.{is_below, exists}
 use Rattle.smx_model.specs.Swept.{IsSwept}
-use Rattle.smx_config.proofs.ClimbLemmas.{named_stands}
-use Rattle.smx_config.proofs.AboveLemmas.{stream_self}
+use Rattle.smx_tables.proofs.ClimbLemmas.{named_stands}
+use Rattle.smx_tables.proofs.ExistingLemmas.{all_fewer, named_stream}
 use Rattle.smx_config.specs.UnlinkTargets.{is_target, are_there, unlinks}
 
 pub done_is : (drivers : List DriverSpec) (c new d : Configuration) (r : Reply) → d ≡ after_sweep drivers new → r ≡ Done (serials_that_left c.flow d.flow) → done_outcome drivers c new ≡ Ok (d, r)
@@ -40,15 +42,11 @@ unlink_does drivers c process fd w k s x e there h = rw (e, there) h
 
 -- ---- without a few bindings, or with other routes, nothing is left to sweep
 
-pub all_fewer : {X : Type 0} (t u : X → Bool) (xs : List X) → list_all t xs ≡ true → list_all t (filter u xs) ≡ true
-all_fewer t u [] h = refl
-all_fewer t u (x ∷ xs) h = let p = and_parts (t x) (list_all t xs) h in elim (cases_Bool (u x)) [ inl a ↦ rw a (and_from _ _ p.0 (all_fewer t u xs p.1)) | inr b ↦ rw b (all_fewer t u xs p.1) ]
-
 fewer_binds : (drivers : List DriverSpec) (c : Configuration) (t : Binding → Bool) → IsSwept drivers c → IsSwept drivers (record c { binds = filter t c.binds })
-fewer_binds drivers c t h = record { links = h.links; binds = all_fewer _ t c.binds h.binds; flow = h.flow; fulls = h.fulls }
+fewer_binds drivers c t h = record { links = h.links; binds = all_fewer _ t c.binds h.binds; flow = h.flow; fulls = h.fulls; hungs = h.hungs }
 
 other_routes : (drivers : List DriverSpec) (c : Configuration) (routes : List Route) → IsSwept drivers c → IsSwept drivers (record c { routes = routes })
-other_routes drivers c routes h = record { links = h.links; binds = h.binds; flow = h.flow; fulls = h.fulls }
+other_routes drivers c routes h = record { links = h.links; binds = h.binds; flow = h.flow; fulls = h.fulls; hungs = h.hungs }
 
 -- what the law of the model says: then no message is dropped
 abbrev pub IdleDropsNone : List DriverSpec → Type 0
@@ -61,14 +59,6 @@ pub route_does : (drivers : List DriverSpec) (c : Configuration) (process fd add
 route_does drivers c process fd addr id s new r idle clean e there is none = rw (e, there, is, none) (idle c rest (other_routes drivers c rest.routes clean) refl) where
   rest : Configuration
   rest = record c { routes = with_inserted route_before (filter (λ x. not (eqb x.driver s.driver && eqb x.addr addr)) c.routes) (record { driver = s.driver; addr = addr; id = id }) }
-
--- the stream of a descriptor exists
-pub named_stream : (process fd : ℕ) (fds : List Descriptor) (s : StreamId) → option_map (λ (d : Descriptor). d.stream) (find (is_fd process fd) fds) ≡ Some s → is_named fds s ≡ true
-named_stream process fd [] s h = absurd cc
-named_stream process fd (d ∷ ds) s h = elim (cases_Bool (is_fd process fd d)) [
-  | inl t ↦ let k : Some d.stream ≡ Some s = rw t at h in let same : d.stream ≡ s = cc in or_left _ _ (ap (λ (x : StreamId). same_stream x s) same ∙ stream_self s)
-  | inr f ↦ or_right _ _ (named_stream process fd ds s (rw f at h))
-]
 
 mux_stream_of : (o : Option StreamId) (below leaf : StreamId → Bool) (s : StreamId)
     → (((or_fault BadDescriptor o >>= (λ x. refuse Below (below x) >>= (λ a. Ok x)))) >>= (λ x. refuse NotMux (leaf x) >>= (λ m. Ok x))) ≡ Ok s → o ≡ Some s
@@ -88,7 +78,7 @@ all_inserted before t [] x h all = and_from _ _ h refl
 all_inserted before t (y ∷ ys) x h all = let p = and_parts (t y) (list_all t ys) all in elim (cases_Bool (before x y)) [ inl a ↦ rw a (and_from _ _ h all) | inr b ↦ rw b (and_from _ _ p.0 (all_inserted before t ys x h p.1)) ]
 
 one_more_bind : (drivers : List DriverSpec) (c : Configuration) (b : Binding) → exists drivers c (record { driver = b.driver; minor = b.minor }) ≡ true → IsSwept drivers c → IsSwept drivers (record c { binds = with_inserted bind_before c.binds b })
-one_more_bind drivers c b there h = record { links = h.links; binds = all_inserted bind_before _ c.binds b there h.binds; flow = h.flow; fulls = h.fulls }
+one_more_bind drivers c b there h = record { links = h.links; binds = all_inserted bind_before _ c.binds b there h.binds; flow = h.flow; fulls = h.fulls; hungs = h.hungs }
 
 pub bind_does : (drivers : List DriverSpec) (c : Configuration) (process fd addr : ℕ) (s : StreamId) (new : Configuration) (r : Reply) → IdleDropsNone drivers → IsSwept drivers c → mux_stream drivers c process fd ≡ Ok s
     → refuse AddressInUse (list_any (λ b. eqb b.driver s.driver && (eqb b.addr addr || eqb b.minor s.minor)) c.binds) ≡ Ok tt
@@ -114,6 +104,31 @@ pub unroute_does : (drivers : List DriverSpec) (c : Configuration) (process fd a
 unroute_does drivers c process fd addr s new r idle clean e there is none = rw (e, there, is, none) (idle c rest (other_routes drivers c rest.routes clean) refl) where
   rest : Configuration
   rest = record c { routes = filter (λ x. not (eqb x.driver s.driver && eqb x.addr addr)) c.routes }
+
+-- ---- a hangup
+
+-- the stream that a device's command names exists
+pub leaf_exists : (drivers : List DriverSpec) (c : Configuration) (name : List ℕ) (minor : ℕ) (s : StreamId) → leaf_stream drivers c name minor ≡ Ok s → exists drivers c s ≡ true
+leaf_exists drivers c name minor s h = named (driver_of drivers name) h where
+  named : (o : Result ℕ Fault) → (o >>= (λ n. refuse NoDriver (is_mux drivers n) >>= (λ leaf. refuse NoMinor (not (exists drivers c (record { driver = n; minor = minor }))) >>= (λ there. Ok (record { driver = n; minor = minor }))))) ≡ Ok s → exists drivers c s ≡ true
+  named (Err f) e = absurd cc
+  named (Ok n) e = elim (cases_Bool (is_mux drivers n)) [
+    | inl t ↦ let k : Err NoDriver ≡ Ok s = rw t at e in absurd cc
+    | inr f ↦ elim (cases_Bool (exists drivers c (record { driver = n; minor = minor }))) [
+      | inl t ↦ let k : Ok (record { driver = n; minor = minor }) ≡ Ok s = rw (f, t) at e in let same : ◌≡◌ {A = StreamId} (record { driver = n; minor = minor }) s = cc in ap (exists drivers c) (sym same) ∙ t
+      | inr g ↦ let k : Err NoMinor ≡ Ok s = rw (f, g) at e in absurd cc
+    ]
+  ]
+
+one_more_hung : (drivers : List DriverSpec) (c : Configuration) (s : StreamId) → exists drivers c s ≡ true → IsSwept drivers c → IsSwept drivers (record c { hungs = with_hung s c.hungs })
+one_more_hung drivers c s there h = record { links = h.links; binds = h.binds; flow = h.flow; fulls = h.fulls; hungs = all_hung (is_hung c.hungs s) } where
+  all_hung : (b : Bool) → list_all (exists drivers c) (if b then c.hungs else with_inserted stream_before c.hungs s) ≡ true
+  all_hung true = h.hungs
+  all_hung false = all_inserted stream_before (exists drivers c) c.hungs s there h.hungs
+
+pub hangup_does : (drivers : List DriverSpec) (c : Configuration) (process : ℕ) (name : List ℕ) (minor : ℕ) (s : StreamId) (new : Configuration) (r : Reply) → IdleDropsNone drivers → IsSwept drivers c → leaf_stream drivers c name minor ≡ Ok s
+    → new ≡ record c { hungs = with_hung s c.hungs } → r ≡ Done [] → outcome drivers c process (command.Hangup name minor) ≡ Ok (new, r)
+hangup_does drivers c process name minor s new r idle clean e is none = rw (e, is, none) (idle c (record c { hungs = with_hung s c.hungs }) (one_more_hung drivers c s (leaf_exists drivers c name minor s e) clean) refl)
 
 -- ---- both kinds of links at once
 

@@ -12,7 +12,7 @@ use Rattle.smx_model.specs.DriverList.{IsDriverList}
 use Rattle.smx_config.specs.DriverFaults.{IsFirstBad, RefusesDrivers}
 use Rattle.smx_config.specs.declared.fault.ConfigFault.{ConfigFault}
 use Rattle.smx_config.specs.declared.fault.ConfigFault.TheVariants.{BadSpec, SameName, TooMany, NoMemory}
-use Rattle.smx_config.proofs.DriverListLemmas.{taken_name}
+use Rattle.smx_tables.proofs.DriverListLemmas.{taken_name}
 
 -- an earlier driver has the name of this one
 abbrev HasSameName : List DriverSpec → ℕ → DriverSpec → Type 0

@@ -15,7 +15,7 @@ use Rattle.smx_model.specs.KnownStreams.{IsKnown, AreStreamsKnown}
 use Rattle.smx_model.specs.Lookups.{stream_of}
 use Rattle.smx_model.specs.Outcomes.{or_fault}
 use Rattle.smx_model.specs.Standing.{is_persistent, is_named, stands_within, exists}
-use Rattle.smx_config.proofs.AboveLemmas.{stream_is}
+use Rattle.smx_tables.proofs.AboveLemmas.{stream_is}
 
 -- the stream that a passing element has is known
 any_known : {X : Type 0} (drivers : List DriverSpec) (stream : X → StreamId) (t : X → Bool) (s : StreamId) (xs : List X) → ((x : X) → t x ≡ true → stream x ≡ s)

@@ -1,5 +1,5 @@
 -- The least place with a run mark, and what is left of the marks where it can't be moved from.
-use Rattle.std.proofs.Common.{◌≡◌, ℕ, zero, suc, ◌≤◌, Bool, true, false, ◌&&◌, cond, List, [], ◌∷◌, find, Option, Some, None, refl, sym, ap, ◌∙◌, subst, arith, inl, inr}
+use Rattle.std.proofs.Common.{◌≡◌, ℕ, zero, suc, ◌≤◌, Bool, true, false, cond, List, [], ◌∷◌, find, Option, Some, None, refl, sym, ap, ◌∙◌, subst, arith, inl, inr}
 use Rattle.std.specs.Prelude.{◌≢◌, ◌⊎◌, IfNone}
 use Rattle.std.specs.List.{AllByRecursion, list_any}
 use Rattle.std.specs.Option.{is_some, option_map}
@@ -21,8 +21,8 @@ use Rattle.smx_config.specs.declared.marks.Marks.{Marks}
 use Rattle.smx_config.specs.declared.settling.Move.{Move}
 use Rattle.smx_config.specs.Marking.{AreMarks, IsNotedFor, marked_configuration}
 use Rattle.smx_config.specs.Moves.{IsLeastMove, if_open}
-use Rattle.smx_config.proofs.DriverListLemmas.{minors_within}
-use Rattle.smx_config.proofs.PlaceLemmas.{place_is}
+use Rattle.smx_tables.proofs.DriverListLemmas.{minors_within}
+use Rattle.smx_tables.proofs.PlaceLemmas.{place_is}
 
 -- what is settled has nothing to move
 none_found : (t : Place → Bool) (flow : List QueuedMessage) → ((p : Place) → t p ≡ false) → find (λ h. t h.place) flow ≡ None

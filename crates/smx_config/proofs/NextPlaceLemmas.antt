@@ -14,19 +14,14 @@ use Rattle.smx_types.specs.declared.stream.Side.TheVariants as side
 use Rattle.smx_types.specs.declared.stream.StreamId.{StreamId}
 use Rattle.smx_model.specs.Configuration.{Configuration, same_place, same_stream}
 use Rattle.smx_model.specs.DriverList.{is_mux}
+use Rattle.smx_model.specs.Hangups.{is_hung}
 use Rattle.smx_model.specs.KeptConfigurations.{IsSound}
 use Rattle.smx_model.specs.KnownStreams.{IsKnown}
 use Rattle.smx_model.specs.Paths.{HasNoCycle}
 use Rattle.smx_model.specs.Queues.{first_message, is_full}
-use Rattle.smx_model.specs.Settling.{◌>>=◌, next_open_place, next_place, place_above, place_below}
-use Rattle.smx_config.proofs.AboveLemmas.{some_with_id, stream_is}
-
-pub bound : {A B : Type 0} (o : Option A) (f : A → Option B) (y : B) → (o >>= f) ≡ Some y → (x : A) × (o ≡ Some x) × (f x ≡ Some y)
-bound None f y e = absurd cc
-bound (Some x) f y e = (x, refl, e)
-
-some_is : {X : Type 0} (x y : X) → Some x ≡ Some y → x ≡ y
-some_is x y e = cc
+use Rattle.smx_model.specs.Settling.{◌>>=◌, live_write_side, next_open_place, next_place, place_above, place_below}
+use Rattle.smx_tables.proofs.AboveLemmas.{some_with_id, stream_is}
+use Rattle.smx_tables.proofs.FoundLemmas.{bound, found_passes, some_is}
 
 -- what holds of each element holds of the one that is found
 found_has : {X : Type 0} (P : X → Type 0) (test : X → Bool) (xs : List X) (x : X) → AllByRecursion P xs → find test xs ≡ Some x → (test x ≡ true) × P x
@@ -34,13 +29,6 @@ found_has P test [] x h e = absurd cc
 found_has P test (y ∷ ys) x h e = elim (cases_Bool (test y)) [
   | inl t ↦ let f : Some y ≡ Some x = rw t at e in let same = some_is y x f in (subst (λ z. test z ≡ true) same t, subst P same h.0)
   | inr f ↦ found_has P test ys x h.1 (rw f at e)
-]
-
-pub found_passes : {X : Type 0} (test : X → Bool) (xs : List X) (x : X) → find test xs ≡ Some x → test x ≡ true
-found_passes test [] x e = absurd cc
-found_passes test (y ∷ ys) x e = elim (cases_Bool (test y)) [
-  | inl t ↦ let f : Some y ≡ Some x = rw t at e in subst (λ z. test z ≡ true) (some_is y x f) t
-  | inr f ↦ found_passes test ys x (rw f at e)
 ]
 
 -- the two drivers of a link differ
@@ -58,14 +46,19 @@ pub record IsNext (drivers : List DriverSpec) (p q : Place) : Type 0 where
   pub known : IsKnown drivers q.stream
   pub differ : p.stream.driver ≢ q.stream.driver
 
-next_below : (drivers : List DriverSpec) (c : Configuration) (p : Place) (addr : ℕ) (q : Place) → IsSound drivers c → place_below c.links c.routes p.stream.driver addr ≡ Some q → IsNext drivers p q
+-- a place that is not barred
+open_is : (b : Bool) (p q : Place) → cond b None (Some p) ≡ Some q → (b ≡ false) × (p ≡ q)
+open_is true p q e = absurd cc
+open_is false p q e = (refl, some_is p q e)
+
+next_below : (drivers : List DriverSpec) (c : Configuration) (p : Place) (addr : ℕ) (q : Place) → IsSound drivers c → place_below c.links c.routes c.hungs p.stream.driver addr ≡ Some q → IsNext drivers p q
 next_below drivers c p addr q h e =
-    let r = bound (find (λ r. eqb r.driver p.stream.driver && eqb r.addr addr) c.routes) (λ r. find (λ k. eqb k.id r.id) c.links >>= (λ k. Some (record { stream = k.lower; side = side.Write }))) q e in
-    let l = bound (find (λ k. eqb k.id r.0.id) c.links) (λ k. Some (record { stream = k.lower; side = side.Write })) q r.2 in
+    let r = bound (find (λ r. eqb r.driver p.stream.driver && eqb r.addr addr) c.routes) (λ r. find (λ k. eqb k.id r.id) c.links >>= (λ k. live_write_side c.hungs k.lower)) q e in
+    let l = bound (find (λ k. eqb k.id r.0.id) c.links) (λ k. live_write_side c.hungs k.lower) q r.2 in
     let at = found_has (λ (x : Route). list_any (λ k. eqb k.id x.id && eqb k.ctl.driver x.driver) c.links ≡ true) (λ x. eqb x.driver p.stream.driver && eqb x.addr addr) c.routes r.0 (recursion_from_All (λ (x : Route). list_any (λ k. eqb k.id x.id && eqb k.ctl.driver x.driver) c.links ≡ true) c.routes h.routes.lead) r.1 in
     let own = eqb-true r.0.driver p.stream.driver (and_parts _ _ at.0).0 in
     let upper = eqb-true l.0.ctl.driver r.0.driver (some_with_id (λ k. eqb k.ctl.driver r.0.driver) r.0.id c.links l.0 h.ids.rise (sym l.1) ∙ at.1) in
-    let here : record { stream = l.0.lower; side = side.Write } ≡ q = some_is (record { stream = l.0.lower; side = side.Write }) q l.2 in
+    let here = (open_is (is_hung c.hungs l.0.lower) (record { stream = l.0.lower; side = side.Write }) q l.2).1 in
     let apart = drivers_differ c.links (λ k. eqb k.id r.0.id) l.0 h.links.no_cycle l.1 in
     let low = found_has (λ (k : Link). IsKnown drivers k.lower) (λ k. eqb k.id r.0.id) c.links l.0 (recursion_from_All (λ (k : Link). IsKnown drivers k.lower) c.links h.known.lowers) l.1 in
     subst (λ (x : Place). IsNext drivers p x) here (record { known = low.1; differ = λ same. apart (sym same ∙ sym (upper ∙ own)) })
@@ -86,7 +79,7 @@ only_if true o x e = e
 only_if false o x e = absurd cc
 
 next_by : (drivers : List DriverSpec) (c : Configuration) (stream : StreamId) (s : Side) (addr : ℕ) (q : Place) → IsSound drivers c → next_place drivers c (record { stream = stream; side = s }) addr ≡ Some q → IsNext drivers (record { stream = stream; side = s }) q
-next_by drivers c stream side.Write addr q h e = next_below drivers c (record { stream = stream; side = side.Write }) addr q h (only_if (is_mux drivers stream.driver) (place_below c.links c.routes stream.driver addr) q e)
+next_by drivers c stream side.Write addr q h e = next_below drivers c (record { stream = stream; side = side.Write }) addr q h (only_if (is_mux drivers stream.driver) (place_below c.links c.routes c.hungs stream.driver addr) q e)
 next_by drivers c stream side.Read addr q h e = next_above drivers c (record { stream = stream; side = side.Read }) addr q h e
 
 -- where a message may go on to
@@ -96,15 +89,11 @@ pub record IsOpenNext (drivers : List DriverSpec) (c : Configuration) (p q : Pla
   pub differ : same_place p q ≡ false
   pub free : is_full c q ≡ false
 
-not_full : (b : Bool) (p q : Place) → cond b None (Some p) ≡ Some q → (b ≡ false) × (p ≡ q)
-not_full true p q e = absurd cc
-not_full false p q e = (refl, some_is p q e)
-
 pub open_next : (drivers : List DriverSpec) (c : Configuration) (p q : Place) → IsSound drivers c → next_open_place drivers c p ≡ Some q → IsOpenNext drivers c p q
 open_next drivers c p q h e =
     let m = bound (first_message c.flow p) (λ m. next_place drivers c p m.addr >>= (λ r. cond (is_full c r) None (Some r))) q e in
     let n = bound (next_place drivers c p m.0.addr) (λ r. cond (is_full c r) None (Some r)) q m.2 in
-    let o = not_full (is_full c n.0) n.0 q n.2 in
+    let o = open_is (is_full c n.0) n.0 q n.2 in
     let next = subst (λ (x : Place). IsNext drivers p x) o.1 (next_by drivers c p.stream p.side m.0.addr n.0 h n.1) in
     record {
       some = rw m.1 refl;

@@ -3,7 +3,7 @@ use Rattle.std.proofs.Common.{◌≡◌, Result, Ok, Err}
 use Rattle.std.specs.Prelude.{◌≢◌}
 use Rattle.smx_types.specs.declared.reply.Fault.{Fault}
 use Rattle.smx_types.specs.declared.reply.Reply.{Reply}
-use Rattle.smx_config.specs.declared.lists.Lists.{Lists}
+use Rattle.smx_tables.specs.declared.lists.Lists.{Lists}
 use Rattle.smx_model.specs.Outcomes.{Outcome}
 use Rattle.smx_config.specs.declared.step_error.StepError.{StepError}
 use Rattle.smx_config.specs.declared.step_error.StepError.TheVariants as step_error

@@ -10,15 +10,16 @@ use Rattle.smx_types.specs.declared.limits.TheConstants.{MAX_LINKS, NUMBER_END}
 use Rattle.smx_types.specs.declared.link.LinkKind.{LinkKind}
 use Rattle.smx_types.specs.declared.link.LinkKind.TheVariants as kind
 use Rattle.smx_types.specs.declared.reply.Fault.{Fault}
-use Rattle.smx_types.specs.declared.reply.Fault.TheVariants.{AddressInUse, AlreadyBelow, BadSize, Below, Cycle, Full, NoLink, NoMinor, NotMux, TooManyLinks, Unbound, Unrouted}
+use Rattle.smx_types.specs.declared.reply.Fault.TheVariants.{AddressInUse, AlreadyBelow, BadSize, Below, Cycle, Full, HungUp, NoLink, NoMinor, NotMux, TooManyLinks, Unbound, Unrouted}
 use Rattle.smx_types.specs.declared.reply.Reply.{Reply}
 use Rattle.smx_types.specs.declared.stream.Place.{Place}
 use Rattle.smx_types.specs.declared.stream.Side.TheVariants as side
 use Rattle.smx_model.specs.Commands.{after_outcome, link_outcome, outcome, send_outcome, step}
 use Rattle.smx_model.specs.Configuration.{Configuration}
 use Rattle.smx_model.specs.DriverList.{is_mux, max_of, minors_of}
+use Rattle.smx_model.specs.Hangups.{is_hung}
 use Rattle.smx_model.specs.LawfulHistories.{dropped_by, may_drop}
-use Rattle.smx_model.specs.Lookups.{driver_of, free_fd, free_minor, free_stream, leaf_stream, mux_stream, stream_of}
+use Rattle.smx_model.specs.Lookups.{driver_of, free_fd, free_minor, leaf_stream, live_leaf, live_stream, mux_stream, stream_of}
 use Rattle.smx_model.specs.Outcomes.{Outcome, ◌>>=◌, refuse}
 use Rattle.smx_model.specs.Paths.{reaches}
 use Rattle.smx_model.specs.Queues.{is_full}
@@ -46,6 +47,7 @@ carries_nothing (command.Read fd) = false
 carries_nothing (command.Flush fd sides) = false
 carries_nothing (command.Inject name minor addr bytes) = true
 carries_nothing (command.Transmit name minor) = false
+carries_nothing (command.Hangup name minor) = true
 
 -- the reply to an outcome carries no bytes
 record HasNoBytes (drivers : List DriverSpec) (c : Configuration) (o : Outcome) : Type 0 where
@@ -61,9 +63,9 @@ behind drivers c (Err g) f h = record { none = refl }
 
 link_no_bytes : (drivers : List DriverSpec) (c : Configuration) (process fd arg : ℕ) (k : LinkKind) → HasNoBytes drivers c (link_outcome drivers c process fd arg k)
 link_no_bytes drivers c process fd arg k =
-    behind drivers c (stream_of c process fd) _ (λ u. behind drivers c (stream_of c process arg) _ (λ l. behind drivers c (refuse Below (is_below c.links u)) _ (λ a. behind drivers c (refuse NotMux (not (is_mux drivers u.driver))) _
+    behind drivers c (stream_of c process fd) _ (λ u. behind drivers c (stream_of c process arg) _ (λ l. behind drivers c (refuse Below (is_below c.links u)) _ (λ a. behind drivers c (refuse HungUp (is_hung c.hungs u)) _ (λ g. behind drivers c (refuse NotMux (not (is_mux drivers u.driver))) _
     (λ m. behind drivers c (refuse AlreadyBelow (is_below c.links l)) _ (λ b. behind drivers c (refuse Cycle (eqb l.driver u.driver || reaches c.links l.driver u.driver)) _
-    (λ y. behind drivers c (refuse TooManyLinks (nat_le MAX_LINKS (length c.links) || nat_le NUMBER_END c.next_id)) _ (λ r. nothing drivers c _ refl)))))))
+    (λ y. behind drivers c (refuse TooManyLinks (nat_le MAX_LINKS (length c.links) || nat_le NUMBER_END c.next_id)) _ (λ r. nothing drivers c _ refl))))))))
 
 send_no_bytes : (drivers : List DriverSpec) (c : Configuration) (p : Place) (addr : ℕ) (bytes : List ℕ) → HasNoBytes drivers c (send_outcome drivers c p addr bytes)
 send_no_bytes drivers c p addr bytes =
@@ -89,11 +91,12 @@ no_bytes drivers c process (command.Route fd addr id) h =
     behind drivers c (mux_stream drivers c process fd) _ (λ s. behind drivers c (refuse NoLink (not (list_any (λ l. eqb l.id id && eqb l.ctl.driver s.driver) c.links))) _ (λ f. nothing drivers c _ refl))
 no_bytes drivers c process (command.Unroute fd addr) h =
     behind drivers c (mux_stream drivers c process fd) _ (λ s. behind drivers c (refuse Unrouted (not (list_any (λ r. eqb r.driver s.driver && eqb r.addr addr) c.routes))) _ (λ f. nothing drivers c _ refl))
-no_bytes drivers c process (command.Write fd addr bytes) h = behind drivers c (free_stream c process fd) _ (λ s. send_no_bytes drivers c (record { stream = s; side = side.Write }) addr bytes)
+no_bytes drivers c process (command.Write fd addr bytes) h = behind drivers c (live_stream c process fd) _ (λ s. send_no_bytes drivers c (record { stream = s; side = side.Write }) addr bytes)
 no_bytes drivers c process (command.Read fd) h = absurd cc
 no_bytes drivers c process (command.Flush fd w) h = absurd cc
-no_bytes drivers c process (command.Inject name minor addr bytes) h = behind drivers c (leaf_stream drivers c name minor) _ (λ s. send_no_bytes drivers c (record { stream = s; side = side.Read }) addr bytes)
+no_bytes drivers c process (command.Inject name minor addr bytes) h = behind drivers c (live_leaf drivers c name minor) _ (λ s. send_no_bytes drivers c (record { stream = s; side = side.Read }) addr bytes)
 no_bytes drivers c process (command.Transmit name minor) h = absurd cc
+no_bytes drivers c process (command.Hangup name minor) h = behind drivers c (leaf_stream drivers c name minor) _ (λ s. nothing drivers c _ refl)
 
 drops_none : (k : Command) → carries_nothing k ≡ true → may_drop k ≡ false
 drops_none (command.OpenClone name) h = refl
@@ -114,6 +117,7 @@ drops_none (command.Read fd) h = absurd cc
 drops_none (command.Flush fd w) h = absurd cc
 drops_none (command.Inject name minor addr bytes) h = refl
 drops_none (command.Transmit name minor) h = absurd cc
+drops_none (command.Hangup name minor) h = refl
 
 not_some : (ns : List ℕ) → ((ns ≡ [] → ⊥) → ⊥) → ns ≡ []
 not_some [] h = refl

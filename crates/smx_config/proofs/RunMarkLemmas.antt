@@ -18,8 +18,8 @@ use Rattle.smx_model.specs.Queues.{first_message}
 use Rattle.smx_model.specs.RunMarks.{both}
 use Rattle.smx_queues.specs.PlaceMarks.{MarkList, has_mark}
 use Rattle.smx_config.specs.Marking.{IsMarkedWhere, is_read_below_driver, is_write_of}
-use Rattle.smx_config.proofs.AboveLemmas.{any_once, eqb_swap, once_below}
-use Rattle.smx_config.proofs.PlaceLemmas.{place_is}
+use Rattle.smx_tables.proofs.AboveLemmas.{any_once, eqb_swap, once_below}
+use Rattle.smx_tables.proofs.PlaceLemmas.{place_is}
 
 or_from_left : (a b : Bool) → a ≡ true → (a || b) ≡ true
 or_from_left a b h = rw h refl

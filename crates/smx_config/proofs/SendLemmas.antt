@@ -5,13 +5,14 @@ use Rattle.std.proofs.lemmas.Bool.{or_parts, false≢true}
 use Rattle.smx_types.specs.declared.driver.DriverSpec.{DriverSpec}
 use Rattle.smx_types.specs.declared.limits.TheConstants.{NUMBER_END}
 use Rattle.smx_types.specs.declared.reply.Fault.{Fault}
-use Rattle.smx_types.specs.declared.reply.Fault.TheVariants.{BadSize, Below, Full, NoDriver, NoMinor}
+use Rattle.smx_types.specs.declared.reply.Fault.TheVariants.{BadSize, Below, Full, HungUp, NoDriver, NoMinor}
 use Rattle.smx_types.specs.declared.stream.Place.{Place}
 use Rattle.smx_types.specs.declared.stream.StreamId.{StreamId}
 use Rattle.smx_model.specs.Configuration.{Configuration}
 use Rattle.smx_model.specs.DriverList.{is_mux, max_of}
+use Rattle.smx_model.specs.Hangups.{is_hung}
 use Rattle.smx_model.specs.KnownStreams.{AreStreamsKnown, IsKnown}
-use Rattle.smx_model.specs.Lookups.{driver_of, free_stream, leaf_stream, stream_of}
+use Rattle.smx_model.specs.Lookups.{driver_of, free_stream, leaf_stream, live_leaf, live_stream, stream_of}
 use Rattle.smx_model.specs.Outcomes.{◌>>=◌, refuse}
 use Rattle.smx_model.specs.Queues.{is_full}
 use Rattle.smx_model.specs.Standing.{exists, is_below}
@@ -61,6 +62,19 @@ leaf_known drivers c name minor s k e =
       is_true : (b : Bool) → not b ≡ false → b ≡ true
       is_true true h = refl
       is_true false h = absurd cc
+
+-- and so are those whose device has not hung up
+pub live_known : (drivers : List DriverSpec) (c : Configuration) (process fd : ℕ) (s : StreamId) → AreStreamsKnown drivers c → live_stream c process fd ≡ Ok s → IsKnown drivers s
+live_known drivers c process fd s k e =
+    let there = bound (free_stream c process fd) (λ x. refuse HungUp (is_hung c.hungs x) >>= (λ h. Ok x)) s e in
+    let live = bound (refuse HungUp (is_hung c.hungs there.0)) (λ h. Ok there.0) s there.2 in
+    free_known drivers c process fd s k (there.1 ∙ live.2)
+
+pub live_leaf_known : (drivers : List DriverSpec) (c : Configuration) (name : List ℕ) (minor : ℕ) (s : StreamId) → AreStreamsKnown drivers c → live_leaf drivers c name minor ≡ Ok s → IsKnown drivers s
+live_leaf_known drivers c name minor s k e =
+    let there = bound (leaf_stream drivers c name minor) (λ x. refuse HungUp (is_hung c.hungs x) >>= (λ h. Ok x)) s e in
+    let live = bound (refuse HungUp (is_hung c.hungs there.0)) (λ h. Ok there.0) s there.2 in
+    leaf_known drivers c name minor s k (there.1 ∙ live.2)
 
 -- every stream that a look-up answers is known
 pub answers_known : (drivers : List DriverSpec) (named : Result StreamId Fault) → ((s : StreamId) → named ≡ Ok s → IsKnown drivers s) → IfOk named (IsKnown drivers)

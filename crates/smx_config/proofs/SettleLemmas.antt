@@ -1,15 +1,9 @@
 -- Moves, one after another.
 use Rattle.std.proofs.Common.{◌≡◌, ℕ, zero, suc, ◌-◌, ◌<◌, List, Option, Some, None, refl, sym, ap, ◌∙◌, arith}
 use Rattle.smx_types.specs.declared.driver.DriverSpec.{DriverSpec}
-use Rattle.smx_types.specs.declared.message.Message.{Message}
 use Rattle.smx_types.specs.declared.stream.Place.{Place}
 use Rattle.smx_model.specs.Configuration.{Configuration}
-use Rattle.smx_model.specs.Queues.{first_message, after_arrival, after_leaving}
-use Rattle.smx_model.specs.Settling.{next_open_place, least_movable, after_move, after_move_to, after_settling_within}
-
-pub moved_is : (drivers : List DriverSpec) (c mid new : Configuration) (p q : Place) (m : Message) → next_open_place drivers c p ≡ Some q → first_message c.flow p ≡ Some m
-    → mid ≡ after_leaving drivers c p → new ≡ after_arrival drivers mid q m → new ≡ after_move drivers c p
-moved_is drivers c mid new p q m to first gone here = here ∙ (ap (λ (x : Configuration). after_arrival drivers x q m) gone ∙ sym (ap (λ (o : Option Place). after_move_to drivers c p o (first_message c.flow p)) to ∙ ap (after_move_to drivers c p (Some q)) first))
+use Rattle.smx_model.specs.Settling.{least_movable, after_move, after_settling_within}
 
 -- one round, by what the least movable place is
 round : (drivers : List DriverSpec) (n : ℕ) (c : Configuration) (o : Option Place) → least_movable drivers c ≡ o

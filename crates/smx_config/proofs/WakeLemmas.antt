@@ -19,7 +19,7 @@ use Rattle.smx_config.specs.Marking.{AreMarks, AreWaitersMarked, IsMarkedWhere, 
 use Rattle.smx_config.specs.declared.marks.Marks.{Marks}
 use Rattle.smx_config.specs.Wakes.{everywhere}
 use Rattle.smx_config.proofs.NextMoveLemmas.{next_has_message}
-use Rattle.smx_config.proofs.PlaceLemmas.{place_is, place_self}
+use Rattle.smx_tables.proofs.PlaceLemmas.{place_is, place_self}
 
 never : {A : Type 0} (b : Bool) → b ≡ true → b ≡ false → A
 never b t f = absurd (false≢true (sym f ∙ t))

@@ -17,7 +17,7 @@ use Rattle.smx_types.specs.declared.stream.StreamId.{StreamId}
 use Rattle.smx_model.specs.Commands.{done_outcome, outcome}
 use Rattle.smx_model.specs.Configuration.{Configuration, bind_before, same_place, same_side, same_stream}
 use Rattle.smx_model.specs.FreedPlaces.{freed_by}
-use Rattle.smx_model.specs.Lookups.{free_stream, leaf_stream, mux_stream, stream_of}
+use Rattle.smx_model.specs.Lookups.{free_stream, live_leaf, live_stream, mux_stream, stream_of}
 use Rattle.smx_model.specs.Ordered.{with_inserted}
 use Rattle.smx_model.specs.Outcomes.{Outcome, ◌>>=◌, refuse}
 use Rattle.smx_model.specs.Queues.{after_leaving}
@@ -28,11 +28,11 @@ use Rattle.smx_model.specs.SettlingByMarks.{is_first_there, turned_by_move}
 use Rattle.smx_model.specs.Standing.{exists, is_persistent}
 use Rattle.smx_model.specs.Swept.{IsSwept}
 use Rattle.smx_model.specs.TurnedPlaces.{of_stream, turned_by}
-use Rattle.smx_config.specs.declared.lists.Lists.{Lists}
+use Rattle.smx_tables.specs.declared.lists.Lists.{Lists}
 use Rattle.smx_config.specs.declared.marks.Marks.{Marks}
 use Rattle.smx_config.specs.declared.step_error.StepError.{StepError}
 use Rattle.smx_config.specs.Marking.{AreMarks, IsWoken}
-use Rattle.smx_config.specs.ModelOfLists.{configuration_of}
+use Rattle.smx_tables.specs.ModelOfLists.{configuration_of}
 use Rattle.smx_config.specs.Refinement.{RefinesOrNoMemory}
 use Rattle.smx_config.specs.Wakes.{freed_under, on_stream, turned_under, wakes_of}
 use Rattle.smx_config.specs.declared.wakes.Wakes.{Wakes}
@@ -95,11 +95,12 @@ turns drivers c process (command.Bind fd addr) x h e p t =
 turns drivers c process (command.Unbind fd) x h e p t = absurd (false≢true t)
 turns drivers c process (command.Route fd addr id) x h e p t = turned_on (mux_stream drivers c process fd) _ _ x.0 p (λ s u. first_part _ _ u) t
 turns drivers c process (command.Unroute fd addr) x h e p t = absurd (false≢true t)
-turns drivers c process (command.Write fd addr bytes) x h e p t = turned_on (free_stream c process fd) _ _ x.0 p (λ s u. first_part _ _ u) t
+turns drivers c process (command.Write fd addr bytes) x h e p t = turned_on (live_stream c process fd) _ _ x.0 p (λ s u. first_part _ _ u) t
 turns drivers c process (command.Read fd) x h e p t = turned_on (free_stream c process fd) _ _ x.0 p (λ s u. u) t
 turns drivers c process (command.Flush fd w) x h e p t = absurd (false≢true t)
-turns drivers c process (command.Inject name minor addr bytes) x h e p t = turned_on (leaf_stream drivers c name minor) _ _ x.0 p (λ s u. first_part _ _ u) t
-turns drivers c process (command.Transmit name minor) x h e p t = turned_on (leaf_stream drivers c name minor) _ _ x.0 p (λ s u. u) t
+turns drivers c process (command.Inject name minor addr bytes) x h e p t = turned_on (live_leaf drivers c name minor) _ _ x.0 p (λ s u. first_part _ _ u) t
+turns drivers c process (command.Transmit name minor) x h e p t = turned_on (live_leaf drivers c name minor) _ _ x.0 p (λ s u. u) t
+turns drivers c process (command.Hangup name minor) x h e p t = absurd (false≢true t)
 
 -- ---- the freed places
 
@@ -125,7 +126,8 @@ frees drivers c new process (command.Write fd addr bytes) p t = absurd (false≢
 frees drivers c new process (command.Read fd) p t = freed_on (free_stream c process fd) _ _ p (λ s u. u) t
 frees drivers c new process (command.Flush fd w) p t = refl
 frees drivers c new process (command.Inject name minor addr bytes) p t = absurd (false≢true t)
-frees drivers c new process (command.Transmit name minor) p t = freed_on (leaf_stream drivers c name minor) _ _ p (λ s u. u) t
+frees drivers c new process (command.Transmit name minor) p t = freed_on (live_leaf drivers c name minor) _ _ p (λ s u. u) t
+frees drivers c new process (command.Hangup name minor) p t = absurd (false≢true t)
 
 -- ---- both ends of a move
 

@@ -30,3 +30,4 @@ takes_no_memory (command.Read fd) = true
 takes_no_memory (command.Flush fd sides) = false
 takes_no_memory (command.Inject name minor addr bytes) = false
 takes_no_memory (command.Transmit name minor) = true
+takes_no_memory (command.Hangup name minor) = true

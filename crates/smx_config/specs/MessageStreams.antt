@@ -7,7 +7,7 @@ use Rattle.smx_types.specs.declared.reply.Fault.{Fault}
 use Rattle.smx_types.specs.declared.reply.Fault.TheVariants.{BadDescriptor}
 use Rattle.smx_types.specs.declared.stream.StreamId.{StreamId}
 use Rattle.smx_model.specs.Configuration.{Configuration}
-use Rattle.smx_model.specs.Lookups.{free_stream, leaf_stream}
+use Rattle.smx_model.specs.Lookups.{free_stream, live_leaf, live_stream}
 
 -- the stream, or why there is none; other commands have none
 abbrev pub message_stream : List DriverSpec → Configuration → ℕ → Command → Result StreamId Fault
@@ -24,8 +24,9 @@ message_stream drivers c process (command.Bind fd addr) = Err BadDescriptor
 message_stream drivers c process (command.Unbind fd) = Err BadDescriptor
 message_stream drivers c process (command.Route fd addr id) = Err BadDescriptor
 message_stream drivers c process (command.Unroute fd addr) = Err BadDescriptor
-message_stream drivers c process (command.Write fd addr bytes) = free_stream c process fd
+message_stream drivers c process (command.Write fd addr bytes) = live_stream c process fd
 message_stream drivers c process (command.Read fd) = free_stream c process fd
 message_stream drivers c process (command.Flush fd w) = Err BadDescriptor
-message_stream drivers c process (command.Inject name minor addr bytes) = leaf_stream drivers c name minor
-message_stream drivers c process (command.Transmit name minor) = leaf_stream drivers c name minor
+message_stream drivers c process (command.Inject name minor addr bytes) = live_leaf drivers c name minor
+message_stream drivers c process (command.Transmit name minor) = live_leaf drivers c name minor
+message_stream drivers c process (command.Hangup name minor) = Err BadDescriptor

@@ -4,10 +4,10 @@ use Rattle.std.specs.Prelude.{◌≡◌, length, map}
 use Rattle.smx_model.specs.DriverList.{IsDriverList}
 use Rattle.smx_model.specs.KeptConfigurations.{IsKept}
 use Rattle.smx_model.specs.SettlingByMarks.{IsAtRest}
-use Rattle.smx_config.specs.ModelOfLists.{configuration_of}
-use Rattle.smx_config.specs.ExistingStreams.{TellsExisting}
+use Rattle.smx_tables.specs.ModelOfLists.{configuration_of}
+use Rattle.smx_tables.specs.ExistingStreams.{TellsExisting}
 use Rattle.smx_config.specs.Machine.{Machine}
-use Rattle.smx_config.specs.KeptHolds.{KeepsHolds}
+use Rattle.smx_tables.specs.KeptHolds.{KeepsHolds}
 use Rattle.smx_config.specs.Marking.{AreMarks, marked_configuration}
 
 -- the fields as the value that a contract sees

@@ -2,6 +2,7 @@
 use Rattle.std.specs.Prelude.{◌≡◌, ℕ, ◌≤◌, List, length, map, Result, Ok, Err, IsOk}
 use Rattle.smx_types.specs.declared.command.Command.{Command}
 use Rattle.smx_types.specs.declared.driver.DriverSpec.{DriverSpec}
+use Rattle.smx_types.specs.declared.limits.TheConstants.{MAX_DRIVERS}
 use Rattle.smx_types.specs.declared.reply.Fault.{Fault}
 use Rattle.smx_types.specs.declared.reply.Reply.{Reply}
 use Rattle.smx_model.specs.Commands.{outcome}
@@ -9,17 +10,17 @@ use Rattle.smx_model.specs.KeptConfigurations.{AreSerialsSound}
 use Rattle.smx_model.specs.KnownStreams.{AreStreamsKnown}
 use Rattle.smx_model.specs.Outcomes.{Outcome}
 use Rattle.smx_model.specs.Swept.{IsSwept}
-use Rattle.smx_config.specs.declared.lists.Lists.{Lists}
+use Rattle.smx_tables.specs.declared.lists.Lists.{Lists}
 use Rattle.smx_config.specs.declared.step_error.StepError.{StepError}
 use Rattle.smx_config.specs.declared.step_error.StepError.TheVariants as step_error
-use Rattle.smx_config.specs.ExistingStreams.{TellsExisting}
+use Rattle.smx_tables.specs.ExistingStreams.{TellsExisting}
 use Rattle.smx_config.specs.FewMinors.{HaveFewMinors}
-use Rattle.smx_config.specs.KeptHolds.{KeepsHolds}
-use Rattle.smx_config.specs.ModelOfLists.{configuration_of}
+use Rattle.smx_tables.specs.KeptHolds.{KeepsHolds}
+use Rattle.smx_tables.specs.ModelOfLists.{configuration_of}
 
 -- what holds between any two steps
 pub record StepInvariant (drivers : List DriverSpec) (l : Lists) : Type 0 where
-  pub few : length drivers ≤ 64
+  pub few : length drivers ≤ MAX_DRIVERS
   pub minors : HaveFewMinors drivers
   pub table : l.links.drivers ≡ length drivers
   pub streams : l.streams.minors ≡ map (λ d. d.minors) drivers

@@ -18,6 +18,7 @@ bytes_of (reply.Id id) = []
 bytes_of (reply.Took serial) = []
 bytes_of (reply.Got serial addr bytes) = bytes
 bytes_of (reply.Done gone) = []
+bytes_of reply.Eof = []
 bytes_of (reply.Fault fault) = []
 
 -- nothing yet, and room for so many bytes and serials

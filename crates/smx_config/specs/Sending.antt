@@ -1,17 +1,20 @@
 -- Sending and taking a message, once it is known at which stream. No public clause needs this.
-use Rattle.std.specs.Prelude.{ℕ, ◌||◌, ◌==◌, nat_lt, nat_le, List, length, Result}
+use Rattle.std.specs.Prelude.{ℕ, Bool, ◌&&◌, ◌||◌, not, ◌==◌, nat_lt, nat_le, List, length, Result}
+use Rattle.std.specs.Option.{is_some}
 use Rattle.smx_types.specs.declared.driver.DriverSpec.{DriverSpec}
 use Rattle.smx_types.specs.declared.limits.TheConstants.{NUMBER_END}
 use Rattle.smx_types.specs.declared.reply.Fault.{Fault}
 use Rattle.smx_types.specs.declared.reply.Fault.TheVariants.{BadSize, Full}
 use Rattle.smx_types.specs.declared.stream.Place.{Place}
 use Rattle.smx_types.specs.declared.stream.Side.{Side}
+use Rattle.smx_types.specs.declared.stream.Side.TheVariants as side
 use Rattle.smx_types.specs.declared.stream.StreamId.{StreamId}
-use Rattle.smx_model.specs.Commands.{receive_outcome, send_outcome}
+use Rattle.smx_model.specs.Commands.{read_outcome, receive_outcome, send_outcome}
 use Rattle.smx_model.specs.Configuration.{Configuration}
 use Rattle.smx_model.specs.DriverList.{max_of}
+use Rattle.smx_model.specs.Hangups.{is_hung}
 use Rattle.smx_model.specs.Outcomes.{◌>>=◌, refuse, Outcome}
-use Rattle.smx_model.specs.Queues.{is_full}
+use Rattle.smx_model.specs.Queues.{first_message, is_full}
 
 -- once the place is known
 abbrev pub may_send : List DriverSpec → Configuration → Place → List ℕ → Result (Unit {0}) Fault
@@ -30,3 +33,13 @@ abbrev pub received_from : List DriverSpec → Configuration → Result StreamId
 received_from drivers c named on = do
   s ← named
   receive_outcome drivers c (record { stream = s; side = on })
+
+-- and so is one read, or the end of file
+abbrev pub read_from : List DriverSpec → Configuration → Result StreamId Fault → Outcome
+read_from drivers c named = do
+  s ← named
+  read_outcome drivers c s
+
+-- the stream has hung up, and there is nothing to read
+abbrev pub is_at_end : Configuration → StreamId → Bool
+is_at_end c s = is_hung c.hungs s && not (is_some (first_message c.flow (record { stream = s; side = side.Read })))

@@ -8,11 +8,12 @@ use Rattle.smx_types.specs.declared.link.Link.{Link}
 use Rattle.smx_types.specs.declared.link.LinkKind.{LinkKind}
 use Rattle.smx_types.specs.declared.link.LinkKind.TheVariants as kind
 use Rattle.smx_types.specs.declared.reply.Fault.{Fault}
-use Rattle.smx_types.specs.declared.reply.Fault.TheVariants.{Below, NotMux, NoLink}
+use Rattle.smx_types.specs.declared.reply.Fault.TheVariants.{Below, HungUp, NotMux, NoLink}
 use Rattle.smx_types.specs.declared.stream.StreamId.{StreamId}
 use Rattle.smx_model.specs.Commands.{done_outcome}
 use Rattle.smx_model.specs.Configuration.{Configuration, same_stream}
 use Rattle.smx_model.specs.DriverList.{is_mux}
+use Rattle.smx_model.specs.Hangups.{is_hung}
 use Rattle.smx_model.specs.Lookups.{mux_stream}
 use Rattle.smx_model.specs.Removal.{without_links}
 use Rattle.smx_model.specs.Outcomes.{Outcome, ◌>>=◌, refuse}
@@ -22,6 +23,7 @@ use Rattle.smx_model.specs.Standing.{is_persistent, is_below}
 abbrev pub may_have_links : List DriverSpec → Configuration → StreamId → Result (Unit {0}) Fault
 may_have_links drivers c upper = do
   above ← refuse Below (is_below c.links upper)
+  hung ← refuse HungUp (is_hung c.hungs upper)
   refuse NotMux (not (is_mux drivers upper.driver))
 
 -- ordinary links made on this very stream, persistent links of its driver

@@ -7,7 +7,7 @@ use Rattle.smx_types.specs.declared.reply.Fault.{Fault}
 use Rattle.smx_types.specs.declared.stream.Place.{Place}
 use Rattle.smx_types.specs.declared.stream.StreamId.{StreamId}
 use Rattle.smx_model.specs.Configuration.{Configuration, same_place}
-use Rattle.smx_model.specs.Lookups.{free_stream, leaf_stream, mux_stream, stream_of}
+use Rattle.smx_model.specs.Lookups.{free_stream, live_leaf, live_stream, mux_stream, stream_of}
 use Rattle.smx_model.specs.RunMarks.{nowhere}
 use Rattle.smx_model.specs.TurnedPlaces.{read_side, write_side}
 use Rattle.smx_config.specs.Marking.{is_read_below_driver, is_write_of}
@@ -56,8 +56,9 @@ wakes_of drivers c process (command.Bind fd addr) = on_stream (mux_stream driver
 wakes_of drivers c process (command.Unbind fd) = wakes.Nothing
 wakes_of drivers c process (command.Route fd addr id) = on_stream (mux_stream drivers c process fd) (λ s. wakes.TurnsWrites s.driver)
 wakes_of drivers c process (command.Unroute fd addr) = wakes.Nothing
-wakes_of drivers c process (command.Write fd addr bytes) = on_stream (free_stream c process fd) (λ s. wakes.Turns (write_side s))
+wakes_of drivers c process (command.Write fd addr bytes) = on_stream (live_stream c process fd) (λ s. wakes.Turns (write_side s))
 wakes_of drivers c process (command.Read fd) = on_stream (free_stream c process fd) (λ s. wakes.Leaves (read_side s))
 wakes_of drivers c process (command.Flush fd w) = wakes.Frees
-wakes_of drivers c process (command.Inject name minor addr bytes) = on_stream (leaf_stream drivers c name minor) (λ s. wakes.Turns (read_side s))
-wakes_of drivers c process (command.Transmit name minor) = on_stream (leaf_stream drivers c name minor) (λ s. wakes.Leaves (write_side s))
+wakes_of drivers c process (command.Inject name minor addr bytes) = on_stream (live_leaf drivers c name minor) (λ s. wakes.Turns (read_side s))
+wakes_of drivers c process (command.Transmit name minor) = on_stream (live_leaf drivers c name minor) (λ s. wakes.Leaves (write_side s))
+wakes_of drivers c process (command.Hangup name minor) = wakes.Nothing

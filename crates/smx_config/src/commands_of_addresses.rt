@@ -6,16 +6,16 @@ ghost use Rattle.smx_types.specs.declared.command.Command.TheVariants as command
 ghost use Rattle.smx_types.specs.declared.reply.Fault.TheVariants.{AddressInUse, Unbound, NoLink, Unrouted};
 ghost use Rattle.smx_model.specs.Outcomes.{refuse};
 ghost use Rattle.smx_addresses.specs.BindingLists.{is_taken};
-ghost use Rattle.smx_config.specs.ModelOfLists.{sizes_of};
-ghost use Rattle.smx_config.specs.KeptHolds.{KeepsHolds};
+ghost use Rattle.smx_tables.specs.ModelOfLists.{sizes_of};
+ghost use Rattle.smx_tables.specs.KeptHolds.{KeepsHolds};
 ghost use Rattle.smx_config.specs.Refinement.{StepInvariant, Refines, RefinesOrNoMemory};
 
-use crate::lists::Lists;
 use crate::lookups::mux_stream;
 use crate::refuse::refuse;
 use crate::step_error::StepError;
 use smx_links::LinkTable;
 use smx_model::laws_of_steps::idle_changes_drop_none;
+use smx_tables::lists::Lists;
 use smx_types::{DriverSpec, Fault, Process, Reply, Serials, StreamId};
 use std::alloc::Global;
 

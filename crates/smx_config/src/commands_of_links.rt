@@ -5,21 +5,21 @@ ghost use Rattle.std.specs.List.{list_any};
 ghost use Rattle.smx_types.specs.declared.command.Command.TheVariants as command;
 ghost use Rattle.smx_types.specs.declared.command.Which.TheVariants as which;
 ghost use Rattle.smx_model.specs.Commands.{link_outcome};
-ghost use Rattle.smx_config.specs.KeptHolds.{KeepsHolds};
-ghost use Rattle.smx_config.specs.ModelOfLists.{configuration_of, sizes_of};
+ghost use Rattle.smx_tables.specs.KeptHolds.{KeepsHolds};
+ghost use Rattle.smx_tables.specs.ModelOfLists.{configuration_of, sizes_of};
 ghost use Rattle.smx_config.specs.UnlinkTargets.{may_have_links, may_unlink, is_target, are_there, unlinks};
 ghost use Rattle.smx_config.specs.Refinement.{StepInvariant, RefinesOrNoMemory, HasOutcomeOrNoMemory};
 
-use crate::driver_specs::is_mux;
-use crate::lists::Lists;
 use crate::lookups::{mux_stream, stream_of};
 use crate::refuse::refuse;
-use crate::removal::remove_links;
-use crate::standing::is_persistent;
 use crate::step_error::StepError;
-use crate::streams::same_stream;
-use crate::sweep::{reserve_for_sweep, sweep_and_reply};
 use smx_links::LinkTable;
+use smx_tables::driver_specs::is_mux;
+use smx_tables::lists::Lists;
+use smx_tables::removal::remove_links;
+use smx_tables::standing::is_persistent;
+use smx_tables::streams::same_stream;
+use smx_tables::sweep::{reserve_for_sweep, sweep_and_reply};
 use smx_types::{DriverSpec, Fault, Link, LinkKind, Process, Reply, StreamId, Which};
 use std::alloc::{AllocError, Global};
 
@@ -28,6 +28,7 @@ fn check_upper(drivers: &[DriverSpec], lists: &Lists, upper: StreamId) -> Result
     ensures { result ≡ may_have_links drivers.now (configuration_of lists.now) upper }
 {
     refuse(Fault::Below, lists.links.is_below(upper))?;
+    refuse(Fault::HungUp, lists.streams.is_hung(upper))?;
     refuse(Fault::NotMux, !is_mux(drivers, upper.driver as usize))
 }
 

@@ -7,19 +7,19 @@ ghost use Rattle.smx_model.specs.Commands.{send_outcome, receive_outcome};
 ghost use Rattle.smx_model.specs.DriverList.{max_of};
 ghost use Rattle.smx_model.specs.KnownStreams.{IsKnown};
 ghost use Rattle.smx_model.specs.Queues.{is_full};
-ghost use Rattle.smx_config.specs.KeptHolds.{KeepsHolds};
-ghost use Rattle.smx_config.specs.ModelOfLists.{configuration_of, sizes_of};
+ghost use Rattle.smx_tables.specs.KeptHolds.{KeepsHolds};
+ghost use Rattle.smx_tables.specs.ModelOfLists.{configuration_of, sizes_of};
 ghost use Rattle.smx_config.specs.Refinement.{StepInvariant, HasOutcome, HasOutcomeOrNoMemory, RefinesOrNoMemory};
-ghost use Rattle.smx_config.specs.Sending.{may_send, received_from, sent_to};
+ghost use Rattle.smx_config.specs.Sending.{is_at_end, may_send, read_from, received_from, sent_to};
 
-use crate::driver_specs::max_of;
-use crate::dropped_messages::drop_sides;
-use crate::lists::Lists;
-use crate::lookups::free_stream;
-use crate::queues::{arrive, leave};
+use crate::lookups::live_stream;
 use crate::refuse::refuse;
 use crate::step_error::StepError;
-use crate::sweep::{reserve_for_sweep, sweep_and_reply};
+use smx_tables::driver_specs::max_of;
+use smx_tables::dropped_messages::drop_sides;
+use smx_tables::lists::Lists;
+use smx_tables::queues::{arrive, leave};
+use smx_tables::sweep::{reserve_for_sweep, sweep_and_reply};
 use smx_types::{
     Bytes, DriverSpec, Fault, Message, NUMBER_END, Place, Process, Reply, Side, Sides, StreamId,
 };
@@ -119,6 +119,34 @@ fn receive_from(drivers: &[DriverSpec], lists: &mut Lists, place: Place) -> Resu
     }
 }
 
+// Whether the stream has hung up, and there is nothing to read.
+pub fn is_at_end(lists: &Lists, stream: StreamId) -> bool
+    ensures { result ≡ is_at_end (configuration_of lists.now) stream }
+{
+    let side = Side::Read;
+    lists.streams.is_hung(stream) && lists.queues.front(Place { stream, side }).is_none()
+}
+
+/// The first message of the read side of the stream that a command names; the end of file, where that has hung up and
+/// has none.
+pub fn read(
+    drivers: &[DriverSpec],
+    lists: &mut Lists,
+    named: Result<StreamId, Fault>,
+) -> Result<Reply, Fault>
+    requires { StepInvariant drivers.now lists.old }
+    ensures refines { HasOutcome lists.old lists.new (read_from drivers.now (configuration_of lists.old) named) result }
+    ensures kept { KeepsHolds lists.new }
+    ensures drivers { sizes_of lists.new ≡ sizes_of lists.old }
+{
+    let stream = named?;
+    if is_at_end(lists, stream) {
+        return Ok(Reply::Eof);
+    }
+    let side = Side::Read;
+    receive_from(drivers, lists, Place { stream, side })
+}
+
 /// The message that a command takes from a side of the stream that it names.
 pub fn receive(
     drivers: &[DriverSpec],
@@ -149,7 +177,7 @@ pub fn flush(
     ensures kept { KeepsHolds lists.new }
     ensures drivers { sizes_of lists.new ≡ sizes_of lists.old }
 {
-    let stream = free_stream(lists, process, fd)?;
+    let stream = live_stream(lists, process, fd)?;
     let mut room = reserve_for_sweep(alloc, lists, 0)?;
     drop_sides(&mut lists.queues, stream, sides, &mut room.dropped);
     Ok(sweep_and_reply(drivers, lists, room))

@@ -2,7 +2,7 @@
 
 ghost use Rattle.std.specs.Prelude.{◌≡◌, ◌≢◌, ℕ, ◌+◌, ◌<◌, ◌≤◌, false, true, length, vec_capacity, Some, Ok, Err};
 ghost use Rattle.std.specs.List.{list_any};
-ghost use Rattle.smx_types.specs.declared.command.Command.TheVariants.{OpenClone, OpenMinor, Dup, Close, CloseAll};
+ghost use Rattle.smx_types.specs.declared.command.Command.TheVariants.{OpenClone, OpenMinor, Dup, Close, CloseAll, Hangup};
 ghost use Rattle.smx_types.specs.declared.limits.TheConstants.{MAX_DESCRIPTORS};
 ghost use Rattle.smx_types.specs.declared.reply.Reply.TheVariants.{Fd};
 ghost use Rattle.smx_types.specs.declared.stream.StreamId.{StreamId};
@@ -10,19 +10,19 @@ ghost use Rattle.smx_model.specs.Configuration.{same_stream};
 ghost use Rattle.smx_streams.specs.StreamTables.{is_last, stream_at};
 ghost use Rattle.smx_config.specs.Closing.{closing};
 ghost use Rattle.smx_config.specs.declared.step_error.StepError.TheVariants as step_error;
-ghost use Rattle.smx_config.specs.ModelOfLists.{configuration_of, sizes_of};
-ghost use Rattle.smx_config.specs.Refinement.{StepInvariant, RefinesOrNoMemory, HasOutcomeOrNoMemory};
-ghost use Rattle.smx_config.specs.KeptHolds.{KeepsHolds};
+ghost use Rattle.smx_tables.specs.ModelOfLists.{configuration_of, sizes_of};
+ghost use Rattle.smx_config.specs.Refinement.{StepInvariant, Refines, RefinesOrNoMemory, HasOutcomeOrNoMemory};
+ghost use Rattle.smx_tables.specs.KeptHolds.{KeepsHolds};
 
-use crate::driver_specs::{driver_of, minors_of};
-use crate::lists::Lists;
-use crate::lookups::stream_of;
+use crate::lookups::{leaf_stream, stream_of};
 use crate::refuse::refuse;
-use crate::standing::tells_existing;
 use crate::step_error::StepError;
-use crate::sweep::{reserve_for_sweep, sweep_and_reply};
 use smx_model::laws_of_steps::idle_changes_drop_none;
 use smx_streams::Streams;
+use smx_tables::driver_specs::{driver_of, minors_of};
+use smx_tables::lists::Lists;
+use smx_tables::standing::tells_existing;
+use smx_tables::sweep::{reserve_for_sweep, sweep_and_reply};
 use smx_types::{DriverSpec, Fault, MAX_DESCRIPTORS, Name, Process, Reply, Serials, StreamId};
 use std::alloc::Global;
 
@@ -106,6 +106,7 @@ fn close_shared(
     ensures drivers { sizes_of lists.new ≡ sizes_of lists.old }
 {
     idle_changes_drop_none();
+    lists.streams.is_sound();
     let _stays = lists.streams.close_fd(process, fd);
     tells_existing(drivers, lists);
     Reply::Done {
@@ -183,4 +184,27 @@ pub fn close_all(
     touch_each(&lists.streams, process, &mut room.touched);
     lists.streams.close_process(process);
     Ok(sweep_and_reply(drivers, lists, room))
+}
+
+// What is left to sweep stays as it is: the stream exists.
+pub fn hangup(
+    alloc: Global,
+    drivers: &[DriverSpec],
+    lists: &mut Lists,
+    process: Process,
+    name: &Name,
+    minor: u32,
+) -> Result<Reply, Fault>
+    requires { StepInvariant drivers.now lists.old }
+    ensures refines { Refines drivers.now lists.old lists.new process (Hangup name.now minor) result }
+    ensures kept { KeepsHolds lists.new }
+    ensures drivers { sizes_of lists.new ≡ sizes_of lists.old }
+{
+    let _process = process;
+    idle_changes_drop_none();
+    let stream = leaf_stream(drivers, lists, name, minor)?;
+    lists.streams.hang(stream);
+    Ok(Reply::Done {
+        dropped: Serials::new(alloc),
+    })
 }

@@ -12,21 +12,13 @@ ghost use Rattle.smx_model.specs.Views.{view};
 ghost use Rattle.smx_config.specs.DriverFaults.{RefusesDrivers};
 ghost use Rattle.smx_config.specs.Machine.{takes_no_memory};
 
-use crate::copies::{copy_lists, empty_lists};
 use crate::driver_list::check_drivers;
 use crate::fault::ConfigFault;
 use crate::laws_of_waking::woken_marks_are_enough;
-use crate::lists::Lists;
 use crate::marks::{Marks, copy_marks, no_marks};
 use crate::perform::perform;
 use crate::second_reply::room_for_reply;
 use crate::settling::finish_step;
-use crate::show::{
-    binding_lines, descriptor_lines, full_lines, link_lines, message_lines, route_lines,
-};
-use crate::shown_addresses::{are_bindings_shown, are_routes_shown};
-use crate::shown_lines::{are_fds_shown, are_fulls_shown, are_links_shown, are_messages_shown};
-use crate::standing::tells_existing;
 use crate::step_error::StepError;
 use crate::wakes::{message_stream, wakes_of};
 use crate::waking::wake;
@@ -34,9 +26,19 @@ use smx_model::laws_of_marked_commands::empty_needs_no_mark;
 use smx_model::laws_of_steps::{
     commands_keep, empty_is_kept, outcomes_are_sound, refusals_change_nothing,
 };
+use smx_tables::copies::{copy_lists, empty_lists};
+use smx_tables::lists::Lists;
+use smx_tables::show::{
+    binding_lines, descriptor_lines, full_lines, hung_lines, link_lines, message_lines, route_lines,
+};
+use smx_tables::shown_addresses::{are_bindings_shown, are_routes_shown};
+use smx_tables::shown_lines::{
+    are_fds_shown, are_fulls_shown, are_hungs_shown, are_links_shown, are_messages_shown,
+};
+use smx_tables::standing::tells_existing;
 use smx_types::{
-    BindingLines, Command, ConfigView, DescriptorLines, DriverSpec, FullLines, LinkLines,
-    MessageLines, NoMemory, Process, Reply, RouteLines,
+    BindingLines, Command, ConfigView, DescriptorLines, DriverSpec, FullLines, HungLines,
+    LinkLines, MessageLines, NoMemory, Process, Reply, RouteLines,
 };
 use std::alloc::Global;
 use std::marker::Model;
@@ -71,9 +73,10 @@ fn count_links(lists: &Lists) -> u32
 }
 
 impl Config {
-    /// The empty configuration over these drivers, which keeps the allocator for all that it makes. Refused where there are more than 64; or else at the least number
-    /// of a driver that can't be had, or that has the name of an earlier one; or else for want of memory.
-    #[tactic(auto, using(crate::proofs::KeptLemmas::tells_again))]
+    /// The empty configuration over these drivers, which keeps the allocator for all that it makes. Refused where there
+    /// are more than 128; or else at the least number of a driver that can't be had, or that has the name of an earlier
+    /// one; or else for want of memory.
+    #[tactic(auto, using(smx_tables::proofs::KeptLemmas::tells_again))]
     pub fn new(alloc: Global, drivers: &[DriverSpec]) -> Result<Config, ConfigFault>
         ensures drivers { IfOk result (λ c. (c.drivers ≡ drivers.now) × IsDriverList drivers.now) }
         ensures empty { IfOk result (λ c. c.configuration ≡ empty) }
@@ -101,9 +104,9 @@ impl Config {
     }
 
     /// Does a command of a process: its reply and the new configuration are those of the command table. A fault for a
-    /// reply changes nothing, and neither does want of memory. `dup`, `unbind`, `unroute`, `read`, `transmit` and every
-    /// refusal take no memory, so they are always answered.
-    #[tactic(auto, using(crate::proofs::KeptLemmas::table_stays, crate::proofs::KeptLemmas::minors_stay, crate::proofs::KeptLemmas::queues_stay, crate::proofs::KeptLemmas::tells_again))]
+    /// reply changes nothing, and neither does want of memory. `dup`, `unbind`, `unroute`, `read`, `transmit`, `hangup`
+    /// and every refusal take no memory, so they are always answered.
+    #[tactic(auto, using(smx_tables::proofs::KeptLemmas::table_stays, smx_tables::proofs::KeptLemmas::minors_stay, smx_tables::proofs::KeptLemmas::queues_stay, smx_tables::proofs::KeptLemmas::tells_again))]
     pub fn step(&mut self, process: Process, command: &Command) -> Result<Reply, NoMemory>
         // What it does.
         ensures drivers { self.new.drivers ≡ self.old.drivers }
@@ -140,8 +143,8 @@ impl Config {
     }
 
     /// `step` with its reply twice. The memory of the second one is taken before the first change too, so that `read`
-    /// and `transmit` take some, for a message that they deliver. `dup`, `unbind`, `unroute` and every refusal take no
-    /// memory, so they are always answered.
+    /// and `transmit` take some, for a message that they deliver. `dup`, `unbind`, `unroute`, `hangup` and every refusal
+    /// take no memory, so they are always answered.
     pub fn step_twin(
         &mut self,
         process: Process,
@@ -183,6 +186,7 @@ impl Config {
         let routes = route_lines(alloc, drivers, &self.lists.routes)?;
         let msgs = message_lines(alloc, drivers, &self.lists.queues)?;
         let fulls = full_lines(alloc, drivers, &self.lists.queues)?;
+        let hungs = hung_lines(alloc, drivers, &self.lists.streams)?;
         Ok(ConfigView {
             next_id: self.lists.links.next_id(),
             next_serial: self.lists.next_serial,
@@ -192,6 +196,7 @@ impl Config {
             routes: RouteLines::from_vec(routes),
             msgs: MessageLines::from_vec(msgs),
             fulls: FullLines::from_vec(fulls),
+            hungs: HungLines::from_vec(hungs),
         })
     }
 
@@ -208,6 +213,7 @@ impl Config {
             && are_routes_shown(drivers, &self.lists.routes, shown.routes.as_slice())
             && are_messages_shown(drivers, &self.lists.queues, shown.msgs.as_slice())
             && are_fulls_shown(drivers, &self.lists.queues, shown.fulls.as_slice())
+            && are_hungs_shown(drivers, &self.lists.streams, shown.hungs.as_slice())
     }
 
     /// How many links stand. Takes no memory.
@@ -236,7 +242,7 @@ impl Config {
     }
 
     /// The same configuration again, by the allocator that this one has. Fails only for want of memory.
-    #[tactic(auto, using(crate::proofs::KeptLemmas::tells_again))]
+    #[tactic(auto, using(smx_tables::proofs::KeptLemmas::tells_again))]
     pub fn copy(&self) -> Result<Config, NoMemory>
         ensures { IfOk result (λ c. c ≡ self.now) }
     {

@@ -11,7 +11,7 @@ pub enum ConfigFault {
     BadSpec(usize, SpecFault),
     /// The driver of this number has the name of an earlier one.
     SameName(usize),
-    /// There are more than 64 drivers.
+    /// There are more than 128 drivers.
     TooMany,
     /// A growth was refused.
     NoMemory,

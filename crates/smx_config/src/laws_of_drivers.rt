@@ -14,11 +14,12 @@ pub fn drivers_have_one_fault()
         → RefusesDrivers drivers f → RefusesDrivers drivers g → f ≡ g }
 {}
 
-/// These five commands take no memory.
-pub fn five_commands_take_no_memory()
+/// These six commands take no memory.
+pub fn six_commands_take_no_memory()
     ensures dup { (fd : ℕ) → takes_no_memory (command.Dup fd) ≡ true }
     ensures unbind { (fd : ℕ) → takes_no_memory (command.Unbind fd) ≡ true }
     ensures unroute { (fd addr : ℕ) → takes_no_memory (command.Unroute fd addr) ≡ true }
     ensures read { (fd : ℕ) → takes_no_memory (command.Read fd) ≡ true }
     ensures transmit { (name : List ℕ) (minor : ℕ) → takes_no_memory (command.Transmit name minor) ≡ true }
+    ensures hangup { (name : List ℕ) (minor : ℕ) → takes_no_memory (command.Hangup name minor) ≡ true }
 {}

@@ -1,15 +1,15 @@
 //! What the words of a command name in a configuration, and the refusals where they name nothing.
 
 ghost use Rattle.std.specs.Prelude.{◌≡◌};
-ghost use Rattle.smx_model.specs.Lookups.{stream_of, free_stream, mux_stream, leaf_stream};
+ghost use Rattle.smx_model.specs.Lookups.{stream_of, free_stream, live_stream, mux_stream, leaf_stream, live_leaf};
 ghost use Rattle.smx_model.specs.Standing.{exists};
-ghost use Rattle.smx_config.specs.ExistingStreams.{TellsExisting};
-ghost use Rattle.smx_config.specs.ModelOfLists.{configuration_of};
+ghost use Rattle.smx_tables.specs.ExistingStreams.{TellsExisting};
+ghost use Rattle.smx_tables.specs.ModelOfLists.{configuration_of};
 ghost use Rattle.smx_config.specs.Refinement.{StepInvariant};
 
-use crate::driver_specs::{driver_of, is_mux, minors_of};
-use crate::lists::Lists;
 use crate::refuse::refuse;
+use smx_tables::driver_specs::{driver_of, is_mux, minors_of};
+use smx_tables::lists::Lists;
 use smx_types::{DriverSpec, Fault, Name, Process, StreamId};
 
 pub fn stream_of(lists: &Lists, process: Process, fd: u32) -> Result<StreamId, Fault>
@@ -27,6 +27,15 @@ pub fn free_stream(lists: &Lists, process: Process, fd: u32) -> Result<StreamId,
     let stream = stream_of(lists, process, fd)?;
     refuse(Fault::Below, lists.links.is_below(stream))?;
     Ok(stream)
+}
+
+// The same, where its device has not hung up.
+pub fn live_stream(lists: &Lists, process: Process, fd: u32) -> Result<StreamId, Fault>
+    ensures { result ≡ live_stream (configuration_of lists.now) process fd }
+{
+    let free = free_stream(lists, process, fd)?;
+    refuse(Fault::HungUp, lists.streams.is_hung(free))?;
+    Ok(free)
 }
 
 pub fn mux_stream(
@@ -71,4 +80,19 @@ pub fn leaf_stream(
     };
     refuse(Fault::NoMinor, !exists(drivers, lists, stream))?;
     Ok(stream)
+}
+
+// The same, where its device has not hung up.
+pub fn live_leaf(
+    drivers: &[DriverSpec],
+    lists: &Lists,
+    name: &Name,
+    minor: u32,
+) -> Result<StreamId, Fault>
+    requires { StepInvariant drivers.now lists.now }
+    ensures { result ≡ live_leaf drivers.now (configuration_of lists.now) name.now minor }
+{
+    let leaf = leaf_stream(drivers, lists, name, minor)?;
+    refuse(Fault::HungUp, lists.streams.is_hung(leaf))?;
+    Ok(leaf)
 }

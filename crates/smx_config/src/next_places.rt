@@ -2,25 +2,36 @@
 
 ghost use Rattle.std.specs.Prelude.{◌≡◌};
 ghost use Rattle.smx_model.specs.RunMarks.{next_of_first};
-ghost use Rattle.smx_model.specs.Settling.{place_below, place_above, next_place};
-ghost use Rattle.smx_config.specs.ModelOfLists.{configuration_of};
+ghost use Rattle.smx_model.specs.Settling.{live_write_side, place_below, place_above, next_place};
+ghost use Rattle.smx_tables.specs.ModelOfLists.{configuration_of};
 
-use crate::driver_specs::is_mux;
-use crate::lists::Lists;
-use smx_addresses::{Bindings, Routes};
+use smx_addresses::Bindings;
 use smx_links::LinkTable;
+use smx_streams::Streams;
+use smx_tables::driver_specs::is_mux;
+use smx_tables::lists::Lists;
 use smx_types::{DriverSpec, Place, Side, StreamId};
 
-// The write side of the stream below the link of the driver's route.
-fn down(links: &LinkTable, routes: &Routes, driver: u8, addr: u32) -> Option<Place>
-    ensures { result ≡ place_below links.now.links routes.now driver addr }
+// The write side of the stream, unless its device has hung up.
+fn live_write_side(streams: &Streams, stream: StreamId) -> Option<Place>
+    ensures { result ≡ live_write_side streams.now.hungs stream }
 {
-    let route = routes.at(driver, addr)?;
-    let link = links.get(route.id)?;
+    if streams.is_hung(stream) {
+        return None;
+    }
     Some(Place {
-        stream: link.lower,
+        stream,
         side: Side::Write,
     })
+}
+
+// The write side of the stream below the link of the driver's route, unless that has hung up.
+fn down(lists: &Lists, driver: u8, addr: u32) -> Option<Place>
+    ensures { result ≡ place_below lists.now.links.links lists.now.routes lists.now.streams.hungs driver addr }
+{
+    let route = lists.routes.at(driver, addr)?;
+    let link = lists.links.get(route.id)?;
+    live_write_side(&lists.streams, link.lower)
 }
 
 // The read side of the stream that is bound to the address on the upper driver.
@@ -46,7 +57,7 @@ fn next_place(drivers: &[DriverSpec], lists: &Lists, place: Place, addr: u32) ->
     match place.side {
         Side::Write => {
             if is_mux(drivers, stream.driver as usize) {
-                down(&lists.links, &lists.routes, stream.driver, addr)
+                down(lists, stream.driver, addr)
             } else {
                 None
             }

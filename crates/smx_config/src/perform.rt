@@ -6,15 +6,15 @@ ghost use Rattle.smx_config.specs.declared.step_error.StepError.TheVariants as s
 ghost use Rattle.smx_config.specs.Machine.{takes_no_memory};
 ghost use Rattle.smx_config.specs.Refinement.{StepInvariant, RefinesOrNoMemory, as_step_error};
 ghost use Rattle.smx_config.specs.MessageStreams.{message_stream};
-ghost use Rattle.smx_config.specs.ModelOfLists.{configuration_of, sizes_of};
-ghost use Rattle.smx_config.specs.KeptHolds.{KeepsHolds};
+ghost use Rattle.smx_tables.specs.ModelOfLists.{configuration_of, sizes_of};
+ghost use Rattle.smx_tables.specs.KeptHolds.{KeepsHolds};
 
 use crate::commands_of_addresses::{bind, route, unbind, unroute};
 use crate::commands_of_links::{link, plink, punlink, unlink};
-use crate::commands_of_messages::{flush, receive, send};
-use crate::commands_of_streams::{close, close_all, dup, open_clone, open_minor};
-use crate::lists::Lists;
+use crate::commands_of_messages::{flush, read, receive, send};
+use crate::commands_of_streams::{close, close_all, dup, hangup, open_clone, open_minor};
 use crate::step_error::StepError;
+use smx_tables::lists::Lists;
 use smx_types::{Command, DriverSpec, Fault, Process, Reply, Side, StreamId};
 use std::alloc::Global;
 
@@ -67,11 +67,14 @@ pub fn perform(
         Command::Write { addr, bytes, .. } => {
             send(alloc, drivers, lists, named, Side::Write, *addr, bytes)
         }
-        Command::Read { .. } => as_step_error(receive(drivers, lists, named, Side::Read)),
+        Command::Read { .. } => as_step_error(read(drivers, lists, named)),
         Command::Flush { fd, sides } => flush(alloc, drivers, lists, process, *fd, *sides),
         Command::Inject { addr, bytes, .. } => {
             send(alloc, drivers, lists, named, Side::Read, *addr, bytes)
         }
         Command::Transmit { .. } => as_step_error(receive(drivers, lists, named, Side::Write)),
+        Command::Hangup { driver, minor } => {
+            as_step_error(hangup(alloc, drivers, lists, process, driver, *minor))
+        }
     }
 }

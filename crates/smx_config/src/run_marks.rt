@@ -5,12 +5,12 @@ ghost use Rattle.smx_model.specs.Configuration.{Configuration, same_place};
 ghost use Rattle.smx_model.specs.Queues.{first_message};
 ghost use Rattle.smx_config.specs.FewMinors.{HaveFewMinors};
 ghost use Rattle.smx_config.specs.Marking.{is_read_below_driver, is_write_of, IsMarkedWhere, IsWithoutMark};
-ghost use Rattle.smx_config.specs.ModelOfLists.{configuration_of};
+ghost use Rattle.smx_tables.specs.ModelOfLists.{configuration_of};
 
-use crate::driver_specs::minors_of;
-use crate::lists::Lists;
 use smx_links::LinkTable;
 use smx_queues::{FlowTable, PlaceMarks};
+use smx_tables::driver_specs::minors_of;
+use smx_tables::lists::Lists;
 use smx_types::{DriverSpec, Place, Side, StreamId};
 
 // Marks the place, if it has a message.

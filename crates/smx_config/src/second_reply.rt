@@ -3,20 +3,21 @@
 ghost use Rattle.std.specs.Prelude.{◌≡◌, ◌≢◌, ◌≤◌, List, [], length, vec_capacity};
 ghost use Rattle.std.specs.Prelude.{IfOk, IfErr, IsOk, IsTrue, Err};
 ghost use Rattle.smx_types.specs.declared.driver.DriverSpec.{DriverSpec};
-ghost use Rattle.smx_model.specs.Commands.{after_outcome, outcome, receive_outcome, step};
+ghost use Rattle.smx_model.specs.Commands.{after_outcome, outcome, read_outcome, receive_outcome, step};
 ghost use Rattle.smx_model.specs.LawfulHistories.{delivered_by};
 ghost use Rattle.smx_config.specs.declared.step_error.StepError.TheVariants as step_error;
 ghost use Rattle.smx_config.specs.Machine.{takes_no_memory};
-ghost use Rattle.smx_config.specs.ModelOfLists.{configuration_of};
+ghost use Rattle.smx_tables.specs.ModelOfLists.{configuration_of};
 ghost use Rattle.smx_config.specs.Refinement.{StepInvariant};
 ghost use Rattle.smx_config.specs.SecondReplies.{HasRoomFor, HasRoomForReply, MakesRoom};
 ghost use Rattle.smx_config.specs.UnlinkTargets.{unlinks};
 
 use crate::commands_of_links::check_targets;
-use crate::lists::Lists;
-use crate::lookups::{free_stream, leaf_stream, mux_stream, stream_of};
+use crate::commands_of_messages::is_at_end;
+use crate::lookups::{free_stream, live_leaf, live_stream, mux_stream, stream_of};
 use crate::step_error::StepError;
 use smx_model::laws_of_steps::other_commands_drop_none;
+use smx_tables::lists::Lists;
 use smx_types::{
     Bytes, Command, DriverSpec, Fault, LinkKind, Place, Process, Reply, Serials, Side, StreamId,
     Which,
@@ -69,6 +70,21 @@ fn room_for_first(
     Ok(room_for(alloc, message.bytes.as_slice().len(), 0)?)
 }
 
+// The same of what is read from a stream; the end of file needs none.
+fn room_for_read(alloc: Global, lists: &Lists, stream: StreamId) -> Result<ReplyRoom, StepError>
+    ensures makes { (drivers : List DriverSpec) → MakesRoom drivers (configuration_of lists.now)
+        (read_outcome drivers (configuration_of lists.now) stream) result }
+    ensures in_place { (drivers : List DriverSpec)
+        → delivered_by (after_outcome drivers (configuration_of lists.now)
+        (read_outcome drivers (configuration_of lists.now) stream)).1 ≡ []
+        → result ≢ Err step_error.NoMemory }
+{
+    if is_at_end(lists, stream) {
+        return Ok(no_room(alloc));
+    }
+    room_for_first(alloc, lists, stream, Side::Read)
+}
+
 // Room for the serials of all messages.
 fn room_for_all(alloc: Global, lists: &Lists) -> Result<ReplyRoom, StepError>
     ensures ok { IfOk result (HasRoomFor 0 (length lists.now.queues.flow)) }
@@ -114,10 +130,10 @@ pub fn room_for_reply(
     match command {
         Command::Read { fd } => {
             let stream = free_stream(lists, process, *fd)?;
-            room_for_first(alloc, lists, stream, Side::Read)
+            room_for_read(alloc, lists, stream)
         }
         Command::Transmit { driver, minor } => {
-            let stream = leaf_stream(drivers, lists, driver, *minor)?;
+            let stream = live_leaf(drivers, lists, driver, *minor)?;
             room_for_first(alloc, lists, stream, Side::Write)
         }
         Command::Close { fd } => {
@@ -134,7 +150,7 @@ pub fn room_for_reply(
             room_for_all(alloc, lists)
         }
         Command::Flush { fd, .. } => {
-            let _stream = free_stream(lists, process, *fd)?;
+            let _stream = live_stream(lists, process, *fd)?;
             room_for_all(alloc, lists)
         }
         Command::OpenClone { .. }
@@ -147,7 +163,8 @@ pub fn room_for_reply(
         | Command::Route { .. }
         | Command::Unroute { .. }
         | Command::Write { .. }
-        | Command::Inject { .. } => Ok(no_room(alloc)),
+        | Command::Inject { .. }
+        | Command::Hangup { .. } => Ok(no_room(alloc)),
     }
 }
 
@@ -184,6 +201,7 @@ impl ReplyRoom {
             Reply::Done { ref dropped } => Reply::Done {
                 dropped: Serials::from_vec(filled(self.serials, dropped.as_slice())),
             },
+            Reply::Eof => Reply::Eof,
             Reply::Fault(fault) => Reply::Fault(fault),
         }
     }

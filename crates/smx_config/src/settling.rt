@@ -11,18 +11,16 @@ ghost use Rattle.smx_model.specs.Settling.{after_move, after_settling};
 ghost use Rattle.smx_model.specs.SettlingByMarks.{HasNoRunMark, IsLeastMarked};
 ghost use Rattle.smx_queues.specs.PlaceMarks.{has_mark};
 ghost use Rattle.smx_queues.specs.Waiters.{target_of};
-ghost use Rattle.smx_config.specs.ExistingStreams.{TellsExisting};
-ghost use Rattle.smx_config.specs.ModelOfLists.{configuration_of, sizes_of};
+ghost use Rattle.smx_tables.specs.ExistingStreams.{TellsExisting};
+ghost use Rattle.smx_tables.specs.ModelOfLists.{configuration_of, sizes_of};
 ghost use Rattle.smx_config.specs.Moves.{if_open, IsLeastMove};
-ghost use Rattle.smx_config.specs.KeptHolds.{KeepsHolds};
+ghost use Rattle.smx_tables.specs.KeptHolds.{KeepsHolds};
 ghost use Rattle.smx_config.specs.Marking.{AreMarks};
 
 use crate::laws_of_waking::moved_marks_are_enough;
-use crate::lists::Lists;
 use crate::marks::Marks;
 use crate::next_places::next_of_first;
 use crate::run_marks::mark_left;
-use crate::standing::tells_existing;
 use crate::waking::release_if_open;
 use smx_model::laws_of_run_marks::{
     places_are_known, the_least_marked_is_the_least, without_marks_it_is_settled,
@@ -30,6 +28,8 @@ use smx_model::laws_of_run_marks::{
 use smx_model::laws_of_settling_by_marks::clearing_keeps_marks;
 use smx_model::laws_of_steps::{moves_keep_soundness, settling_suffices};
 use smx_queues::{PlaceMarks, Waiters};
+use smx_tables::lists::Lists;
+use smx_tables::standing::tells_existing;
 use smx_types::{DriverSpec, Place};
 
 // A message goes from one place to another.

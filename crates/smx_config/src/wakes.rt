@@ -4,13 +4,13 @@ ghost use Rattle.std.specs.Prelude.{◌≡◌, IfOk};
 ghost use Rattle.smx_types.specs.declared.stream.Place.{Place as PlaceValue};
 ghost use Rattle.smx_model.specs.KnownStreams.{IsKnown};
 ghost use Rattle.smx_config.specs.MessageStreams.{message_stream};
-ghost use Rattle.smx_config.specs.ModelOfLists.{configuration_of};
+ghost use Rattle.smx_tables.specs.ModelOfLists.{configuration_of};
 ghost use Rattle.smx_config.specs.Refinement.{StepInvariant};
 ghost use Rattle.smx_config.specs.Wakes.{on_stream, wakes_of};
 ghost use Rattle.smx_config.specs.declared.wakes.Wakes.TheVariants as wakes;
 
-use crate::lists::Lists;
-use crate::lookups::{free_stream, leaf_stream, mux_stream, stream_of};
+use crate::lookups::{free_stream, live_leaf, live_stream, mux_stream, stream_of};
+use smx_tables::lists::Lists;
 use smx_types::{Command, DriverSpec, Fault, Place, Process, Side, StreamId};
 
 /// What a command may wake, if it is accepted.
@@ -78,9 +78,10 @@ pub fn message_stream(
     ensures known { IfOk result (IsKnown drivers.now) }
 {
     match command {
-        Command::Write { fd, .. } | Command::Read { fd } => free_stream(lists, process, *fd),
+        Command::Write { fd, .. } => live_stream(lists, process, *fd),
+        Command::Read { fd } => free_stream(lists, process, *fd),
         Command::Inject { driver, minor, .. } | Command::Transmit { driver, minor } => {
-            leaf_stream(drivers, lists, driver, *minor)
+            live_leaf(drivers, lists, driver, *minor)
         }
         Command::OpenClone { .. }
         | Command::OpenMinor { .. }
@@ -95,7 +96,8 @@ pub fn message_stream(
         | Command::Unbind { .. }
         | Command::Route { .. }
         | Command::Unroute { .. }
-        | Command::Flush { .. } => Err(Fault::BadDescriptor),
+        | Command::Flush { .. }
+        | Command::Hangup { .. } => Err(Fault::BadDescriptor),
     }
 }
 
@@ -115,7 +117,8 @@ pub fn wakes_of(
         | Command::OpenMinor { .. }
         | Command::Dup { .. }
         | Command::Unbind { .. }
-        | Command::Unroute { .. } => Wakes::Nothing,
+        | Command::Unroute { .. }
+        | Command::Hangup { .. } => Wakes::Nothing,
         Command::Close { .. }
         | Command::CloseAll
         | Command::Unlink { .. }

@@ -7,15 +7,15 @@ ghost use Rattle.smx_model.specs.Queues.{is_full};
 ghost use Rattle.smx_queues.specs.PlaceMarks.{has_mark};
 ghost use Rattle.smx_config.specs.FewMinors.{HaveFewMinors};
 ghost use Rattle.smx_config.specs.Marking.{AreWaitersMarked, IsMarkedWhere, IsReleased, IsWoken};
-ghost use Rattle.smx_config.specs.ModelOfLists.{configuration_of};
+ghost use Rattle.smx_tables.specs.ModelOfLists.{configuration_of};
 ghost use Rattle.smx_config.specs.Wakes.{everywhere, freed_under, turned_under};
 
-use crate::lists::Lists;
 use crate::marks::Marks;
 use crate::run_marks::{mark_reads, mark_waiting, mark_writes};
-use crate::streams::same_place;
 use crate::wakes::Wakes;
 use smx_queues::{PlaceMarks, Waiters};
+use smx_tables::lists::Lists;
+use smx_tables::streams::same_place;
 use smx_types::{DriverSpec, Place};
 
 // Marks those of the waiting places that wait for this one.

@@ -1,6 +1,8 @@
 //! Histories that were typed in, and what comes of them.
 
+mod chains;
 mod configurations_at_limits;
+mod hangups;
 mod histories;
 mod messages_at_limits;
 mod refused_drivers;
@@ -9,4 +11,5 @@ mod text_sweeps;
 mod twins;
 mod verdicts;
 mod verdicts_on_entries;
+mod verdicts_on_hangups;
 mod waiting_streams;

@@ -10,5 +10,6 @@ mod limits;
 mod reading;
 mod runs;
 mod tried_again;
+mod versions;
 mod workers;
 mod writing;

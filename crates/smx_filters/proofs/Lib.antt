@@ -3,3 +3,4 @@ pub mod OutputLemmas
 pub mod FilterLemmas
 pub mod InMemoryLemmas
 pub mod FrontsTextLemmas
+pub mod ToldLemmas

@@ -1,7 +1,8 @@
 -- A filter reads the whole input, and then writes what it makes of it.
 use Rattle.std.specs.Prelude.{◌≡◌, ◌≢◌, ℕ, ◌+◌, ◌<◌, ◌≤◌, ◌↔◌, ◌⊎◌, Bool, true, false, List, length, Option, Result, Ok, Err, IfOk, IfErr, IsErrOf}
 use Rattle.std.specs.Io.KnownBytes.{Consumes, Appends, Keeps}
-use Rattle.smx_text.specs.Grammar.{Grammar, IsFault, Spells}
+use Rattle.smx_types.specs.declared.version.Version.{Version}
+use Rattle.smx_text.specs.Grammar.{Grammar, ReadsAny, Spells}
 use Rattle.smx_text.specs.declared.fault.TextFault.{TextFault}
 use Rattle.smx_run.specs.declared.fault.RunFault.{RunFault}
 use Rattle.smx_run.specs.declared.fault.RunFault.TheVariants as run
@@ -13,26 +14,30 @@ use Rattle.smx_filters.specs.declared.input.TheConstants.{MAX_INPUT}
 
 -- One kind of filter. Its inputs spell values of V in lines of K, and its answers are of T.
 pub record Filter (V K T : Type 0) : Type 1 where
-  -- how an input spells its value
-  pub grammar : Grammar V K
+  -- how an input of each version spells its value
+  pub grammar : Version → Grammar V K
   -- for this value this may be answered and written
   pub Gives : V → T → List ℕ → Type 0
   -- or it may be refused so
   pub Refuses : V → RunFault → Type 0
 
 module _ {V K T : Type 0} (f : Filter V K T) where
-  -- the input spells a value, for which this may be answered and written
+  -- the input spells a value in some version, for which this may be answered and written
   abbrev pub GivesFor : List ℕ → T → List ℕ → Type 0
-  GivesFor input answer output = (v : V) × Spells f.grammar input v × f.Gives v answer output
+  GivesFor input answer output = (version : Version) × (v : V) × Spells (f.grammar version) input v × f.Gives v answer output
 
-  -- the input spells a value, which may be refused so
+  -- the input spells a value in some version, which may be refused so
   abbrev pub RefusesFor : List ℕ → RunFault → Type 0
-  RefusesFor input fault = (v : V) × Spells f.grammar input v × f.Refuses v fault
+  RefusesFor input fault = (version : Version) × (v : V) × Spells (f.grammar version) input v × f.Refuses v fault
+
+  -- the text goes wrong at this line for this cause, as one of some version; its header, as one of each
+  abbrev pub IsFaultOf : List ℕ → TextFault → Type 0
+  IsFaultOf input fault = ReadsAny f.grammar input (Err fault)
 
   -- what is said of an input that was read whole
   abbrev pub Answers : List ℕ → Result (T × List ℕ) MainFault → Type 0
   Answers input (Ok given) = GivesFor input given.0 given.1
-  Answers input (Err (Text fault)) = IsFault f.grammar input fault.line fault.cause
+  Answers input (Err (Text fault)) = IsFaultOf input fault
   Answers input (Err (Refused fault)) = RefusesFor input fault
   Answers input (Err TooLong) = ⊥
   Answers input (Err ReadFailed) = ⊥
@@ -54,7 +59,7 @@ module _ {V K T : Type 0} (f : Filter V K T) where
     -- Where the text is refused, they are the whole input, and the fault is the first one, with its line
     -- and cause.
     pub text : IfErr answer (λ e. (fault : TextFault) → e ≡ Text fault
-        → IsWhole had ended read × IsFault f.grammar read fault.line fault.cause)
+        → IsWhole had ended read × IsFaultOf read fault)
     -- Where what it spells is refused, they are the whole input, and the filter refuses it so; or memory was
     -- wanting before the end was seen.
     pub refused : IfErr answer (λ e. (fault : RunFault) → e ≡ Refused fault

@@ -1,8 +1,7 @@
 -- What a filter says of an input in memory, and where a device fails.
 use Rattle.std.specs.Prelude.{◌≡◌, ℕ, ◌+◌, ◌<◌, ◌≤◌, ◌⊎◌, Bool, true, List, [], length, take, drop, Result, Ok, Err}
-use Rattle.smx_text.specs.Grammar.{IsFault}
 use Rattle.smx_run.specs.declared.fault.RunFault.TheVariants as run
-use Rattle.smx_filters.specs.Filters.{Filter, GivesFor, RefusesFor}
+use Rattle.smx_filters.specs.Filters.{Filter, GivesFor, RefusesFor, IsFaultOf}
 use Rattle.smx_filters.specs.declared.fault.MainFault.{MainFault}
 use Rattle.smx_filters.specs.declared.fault.MainFault.TheVariants.{Refused, Text, TooLong, ReadFailed, WriteFailed}
 use Rattle.smx_filters.specs.declared.input.TheConstants.{MAX_INPUT}
@@ -13,7 +12,7 @@ module _ {V K T : Type 0} (f : Filter V K T) where
   EndsInMemory input left output flushed (Ok answer) =
       (length input ≤ MAX_INPUT) × (left ≡ []) × (flushed ≡ true) × GivesFor f input answer output
   EndsInMemory input left output flushed (Err (Text fault)) =
-      (length input ≤ MAX_INPUT) × (left ≡ []) × (output ≡ []) × IsFault f.grammar input fault.line fault.cause
+      (length input ≤ MAX_INPUT) × (left ≡ []) × (output ≡ []) × IsFaultOf f input fault
   EndsInMemory input left output flushed (Err (Refused fault)) =
       (length input ≤ MAX_INPUT × RefusesFor f input fault ⊎ (fault ≡ run.NoMemory)) × (output ≡ [])
   EndsInMemory input left output flushed (Err TooLong) =

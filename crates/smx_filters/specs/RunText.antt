@@ -3,6 +3,7 @@ use Rattle.std.specs.Prelude.{◌≡◌, ℕ, zero, suc, Bool, true, false, List
 use Rattle.std.specs.Global.{Global}
 use Rattle.smx_types.specs.ProgramLists.{ProgramLists}
 use Rattle.smx_types.specs.declared.transcript.Transcript.{Transcript}
+use Rattle.smx_types.specs.declared.version.Version.{Version}
 use Rattle.smx_model.specs.Headline.{IsReportOf}
 use Rattle.smx_model.specs.Histories.{call_of}
 use Rattle.smx_run.specs.Fronts.{AreFrontsFrom}
@@ -19,11 +20,12 @@ use Rattle.smx_filters.specs.Filters.{Filter, FiltersText}
 use Rattle.smx_filters.specs.FrontsText.{fronts_text}
 use Rattle.smx_filters.specs.declared.fault.MainFault.{MainFault}
 
--- the transcript of a report that is promised for the programs
+-- the transcript of a report that is promised for the programs, in their version
 pub record IsTranscriptFor (programs : ProgramLists) (output : List ℕ) : Type 0 where
-  -- There is a report that is promised for these programs.
+  -- There is a report that is promised for these programs, to be told in their version.
   pub report : Transcript
   pub promised : IsReportOf programs report
+  pub version : report.version ≡ programs.version
   -- The output is its transcript, and nothing else.
   pub written : SpellsTranscript output report
 
@@ -40,9 +42,10 @@ pub record IsFrontsTextFor (programs : ProgramLists) (output : List ℕ) : Type 
 
 -- the transcript of the report in which each program comes whole, by rising number; there is one such report at most
 pub record IsTranscriptInTurn (programs : ProgramLists) (output : List ℕ) : Type 0 where
-  -- There is a report that is promised for these programs, with one program after the other,
+  -- There is a report that is promised for these programs, to be told in their version, with one program after the other,
   pub report : Transcript
   pub promised : IsReportOf programs report
+  pub version : report.version ≡ programs.version
   pub in_turn : map call_of report.entries ≡ calls_from 0 programs.programs
   -- and the output is its transcript, and nothing else.
   pub written : SpellsTranscript output report
@@ -61,10 +64,11 @@ IsRefusedFor false zero programs fault = RefusesRun programs.drivers fault
 IsRefusedFor false (suc zero) programs fault = RefusesAlone programs.drivers fault
 IsRefusedFor false (suc (suc more)) programs fault = RefusesRun programs.drivers fault
 
--- the text of a report: its fronts, or its transcript, each line of which can be spelled
-abbrev pub IsTextOf : Bool → Report → List ℕ → Type 0
-IsTextOf true report text = text ≡ fronts_text report.fronts
-IsTextOf false report text = (text ≡ transcript_text (transcript_of report)) × IsSpellable (transcript_of report)
+-- the text of a report: its fronts, or its transcript in a version, each line of which can be spelled
+abbrev pub IsTextOf : Bool → Version → Report → List ℕ → Type 0
+IsTextOf true version report text = text ≡ fronts_text report.fronts
+IsTextOf false version report text =
+    (text ≡ transcript_text (transcript_of version report)) × IsSpellable (transcript_of version report)
 
 -- a run by so many workers reads programs and writes the fronts or the transcript of a report; that it is done is all
 -- that it answers

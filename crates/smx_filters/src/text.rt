@@ -1,9 +1,12 @@
 //! A run from bytes to bytes.
 
 ghost use Rattle.std.specs.Prelude.{◌≡◌, ◌≤◌, false, IfOk, IfErr, Result};
+ghost use Rattle.smx_types.specs.Versions.{least_of_transcript};
+ghost use Rattle.smx_types.specs.declared.version.Version.TheVariants.{V1};
 ghost use Rattle.smx_filters.specs.Filters.{Answers};
 ghost use Rattle.smx_filters.specs.FrontsText.{fronts_text};
 ghost use Rattle.smx_filters.specs.RunText.{IsRefusedFor, IsTextOf, IsTranscriptInTurn, IsWrittenFor, RunsText, items_of, running};
+ghost use Rattle.smx_run.specs.Reports.{transcript_of};
 ghost use Rattle.smx_run.specs.RunFaults.{RefusesAlone};
 
 use crate::device::{Feed, Sink};
@@ -12,17 +15,18 @@ use crate::fronts_text::fronts_text;
 use crate::input::read_all;
 use crate::output::write_all;
 use crate::text_recorder::TextRecorder;
+use smx_model::laws_of_hangups::reports_need_no_later_version;
 use smx_run::laws_of_runs::refusals_have_few_causes;
 use smx_run::{Gate, Report, RunFault, run_programs, run_recorded};
 use smx_text::{read_programs, write_transcript_into};
-use smx_types::{NoMemory, Programs};
+use smx_types::{NoMemory, Programs, Version};
 use std::alloc::Global;
 use std::sync::Wait;
 use std::thread::Threads;
 
 /// Reads the programs that `feed` has, has them run by so many workers, 1 to 64, and writes the transcript of the run to
-/// `sink`, or with `fronts` how far the history had come when each program had ended. One worker runs one program after
-/// the other, by rising number, so that its transcript is determined. Of several, each has a thread of its own; process p
+/// `sink`, in the version of the programs, or with `fronts` how far the history had come when each program had ended. One
+/// worker runs one program after the other, by rising number, so that its transcript is determined. Of several, each has a thread of its own; process p
 /// is run by worker p modulo `workers`. A worker tells the gate of each command. Neither device has failed before, and no
 /// read has shown the end. Faults are found in this order: reading, text, drivers, run, writing.
 pub fn run_text<R: Threads + Wait + Sync, F: Feed, S: Sink, G: Gate + Sync>(
@@ -80,17 +84,19 @@ fn text_of_run<R: Threads + Wait + Sync, G: Gate + Sync>(
     ensures refused { IfErr result (IsRefusedFor fronts workers programs) }
 {
     refusals_have_few_causes();
+    reports_need_no_later_version();
     let hands = workers.min(programs.programs().len());
     if !fronts && hands < 2 {
         return transcript_of_one(alloc, room, programs, gate);
     }
+    let version = programs.version();
     let report = run_programs(rt, alloc, programs, workers, gate)?;
-    let text = text_of(alloc, room, report, fronts)?;
+    let text = text_of(alloc, room, report, version, fronts)?;
     Ok(text)
 }
 
-// The transcript of a run on this thread alone, in the room that is given. The line of each entry is written once its
-// command was answered.
+// The transcript of a run on this thread alone, in the room that is given and in the version of the programs. The line of
+// each entry is written once its command was answered.
 fn transcript_of_one<G: Gate>(
     alloc: Global,
     room: Vec<u8>,
@@ -100,18 +106,28 @@ fn transcript_of_one<G: Gate>(
     ensures written { IfOk result (λ text. IsTranscriptInTurn programs text.items) }
     ensures refused { IfErr result (RefusesAlone programs.drivers) }
 {
+    reports_need_no_later_version();
+    let _version = programs.version();
     let (TextRecorder { writer }, view) = run_recorded(alloc, programs, room, gate)?;
     Ok(writer.finish(&view)?)
 }
 
-// The text of a report: its fronts, or its transcript in the room that is given. Fails only for want of memory.
-fn text_of(alloc: Global, room: Vec<u8>, report: Report, fronts: bool) -> Result<Vec<u8>, NoMemory>
-    ensures { IfOk result (λ text. IsTextOf fronts report text.items) }
+// The text of a report: its fronts, or its transcript in a version that can tell it, in the room that is given. Fails only
+// for want of memory.
+fn text_of(
+    alloc: Global,
+    room: Vec<u8>,
+    report: Report,
+    version: Version,
+    fronts: bool,
+) -> Result<Vec<u8>, NoMemory>
+    requires { version ≡ V1 → least_of_transcript (transcript_of version report) ≡ V1 }
+    ensures { IfOk result (λ text. IsTextOf fronts version report text.items) }
 {
     if fronts {
         return fronts_of(alloc, &report);
     }
-    write_transcript_into(room, &report.into_transcript())
+    write_transcript_into(room, &report.into_transcript(version))
 }
 
 // The text of its fronts.

@@ -2,7 +2,7 @@
 
 use smx_run::Recorder;
 use smx_text::TranscriptWriter;
-use smx_types::{DriverSpec, Entry, NoMemory};
+use smx_types::{DriverSpec, Entry, NoMemory, Version};
 use std::slice;
 
 /// Writes the lines of the drivers and of the entries that it is told of.
@@ -16,10 +16,14 @@ impl Recorder for TextRecorder {
 
     type Room = Vec<u8>;
 
-    ghost told = { λ drivers entries recorder. BeginsTranscript drivers entries recorder.writer };
+    ghost told = { λ version drivers entries recorder. BeginsTranscript version drivers entries recorder.writer };
 
-    fn begin(room: Vec<u8>, drivers: &[DriverSpec]) -> Result<TextRecorder, NoMemory> {
-        let writer = TranscriptWriter::begin(room, drivers)?;
+    fn begin(
+        room: Vec<u8>,
+        version: Version,
+        drivers: &[DriverSpec],
+    ) -> Result<TextRecorder, NoMemory> {
+        let writer = TranscriptWriter::begin(room, version, drivers)?;
         Ok(TextRecorder { writer })
     }
 

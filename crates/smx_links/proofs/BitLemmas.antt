@@ -6,6 +6,7 @@ use Rattle.std.proofs.lemmas.Bool.{eqb-true, eq-eqb, cases_eq, cases_lt, false_f
 use Rattle.std.proofs.lemmas.List.{get_or_past}
 use Rattle.std.proofs.lemmas.Nat.Bits.{bit_at_and, bit_at_or, bit_at-lt, bit_at-pow_same, bit_at-pow_other, bit_at-zero}
 use Rattle.std.proofs.lemmas.Nat.Bits.{bit_at_above}
+use Rattle.smx_links.specs.declared.masks.TheConstants.{WORD_BITS}
 use Rattle.smx_links.specs.Masks.{is_set, has_bit, AreJoined}
 
 -- a bit is 0 or 1
@@ -35,8 +36,8 @@ pub is_set_zero : (b : ℕ) → is_set 0 b ≡ false
 is_set_zero b = ap (λ x. eqb x 1) (bit_at-zero b)
 
 -- a word has no bit past its last
-pub is_set_past : (w b : ℕ) → w < 2 ^ 64 → 64 ≤ b → false ≡ is_set w b
-is_set_past w b fits past = sym (ap (λ x. eqb x 1) (bit_at_above w 64 b fits past))
+pub is_set_past : (w b : ℕ) → w < 2 ^ WORD_BITS → WORD_BITS ≤ b → false ≡ is_set w b
+is_set_past w b fits past = sym (ap (λ x. eqb x 1) (bit_at_above w WORD_BITS b fits past))
 
 -- word a, with the bits of r where a is u or reaches it
 abbrev pub joined_word : List ℕ → ℕ → ℕ → ℕ → ℕ

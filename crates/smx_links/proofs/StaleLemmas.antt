@@ -87,11 +87,11 @@ clear_of ws lost a old m h =
           rw there at no
 
 -- a word that is not 0 has a bit
-some_bit : (w : ℕ) → w < 2 ^ 64 → eqb w 0 ≡ false → (b : ℕ) × (is_set w b ≡ true)
+some_bit : (w : ℕ) → w < 2 ^ 128 → eqb w 0 ≡ false → (b : ℕ) × (is_set w b ≡ true)
 some_bit w fits h = subst (HasAnyBit (w ∷ []) 0) (ap not h) (has_bits (w ∷ []) 0 w refl fits)
 
 -- where a driver that isn't stale leads, none is stale either
-fresh_led : PathsJoin → (ws : List ℕ) (lost a b : ℕ) (old : List Link) → lost < 2 ^ 64 → AreMasks old ws
+fresh_led : PathsJoin → (ws : List ℕ) (lost a b : ℕ) (old : List Link) → lost < 2 ^ 128 → AreMasks old ws
     → is_stale ws lost a ≡ false → reaches old a b ≡ true → is_stale ws lost b ≡ false
 fresh_led trans ws lost a b old fits m h path =
     let clear = clear_of ws lost a old m h in
@@ -163,7 +163,7 @@ led_nowhere keep ls a b h = none_reached (filter (λ k. keep k.ctl.driver) ls) a
 
 -- ---- the masks, once the words of stale drivers are cleared
 
-pub cleared_masks : PathsJoin → (ws vs : List ℕ) (lost stale : ℕ) (old links : List Link) → lost < 2 ^ 64
+pub cleared_masks : PathsJoin → (ws vs : List ℕ) (lost stale : ℕ) (old links : List Link) → lost < 2 ^ 128
     → AreMasks old ws → LeadAlikeBut lost old links → ((a : ℕ) → is_set stale a ≡ is_stale ws lost a)
     → ((a b : ℕ) → has_bit vs a b ≡ (not (is_set stale a) && has_bit ws a b))
     → AreMasksBefore (is_done stale 0) links 0 0 vs

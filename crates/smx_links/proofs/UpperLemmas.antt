@@ -1,7 +1,7 @@
 -- Drivers with links, by the bits of their words.
 use Rattle.std.proofs.Common.{◌≡◌, ℕ, ◌<◌, ◌^◌, Bool, true, false, not, eqb, List, [], ◌∷◌, get_or, refl, sym, ap, ◌∙◌}
 use Rattle.std.proofs.Common.{arith, inl, inr}
-use Rattle.std.specs.Int.{trailing_zeros, w64}
+use Rattle.std.specs.Int.{trailing_zeros, w128}
 use Rattle.std.proofs.lemmas.Bool.{cases_Bool, eqb-true, eq-eqb, false_from_ne_true, false≢true, or_left, or_parts}
 use Rattle.std.proofs.lemmas.Bool.{or_right}
 use Rattle.std.proofs.lemmas.Bool.Decides.{nat_tests}
@@ -9,6 +9,7 @@ use Rattle.std.proofs.lemmas.Nat.Bits.{bit_at-trailing_zeros}
 use Rattle.smx_types.specs.declared.link.Link.{Link}
 use Rattle.smx_model.specs.Paths.{reaches}
 use Rattle.smx_links.specs.LinkLists.{is_upper}
+use Rattle.smx_links.specs.declared.masks.TheConstants.{WORD_BITS}
 use Rattle.smx_links.specs.Masks.{AreMasks, HasAnyBit, is_set}
 use Rattle.smx_links.proofs.BitLemmas.{is_set_zero}
 
@@ -49,11 +50,11 @@ any_is_upper ls ws a false m h = elim (cases_Bool (is_upper ls a)) [
 ]
 
 -- a word that is not 0 has a bit
-pub has_bits : (ws : List ℕ) (a w : ℕ) → get_or ws a 0 ≡ w → get_or ws a 0 < 2 ^ 64 → HasAnyBit ws a (not (eqb w 0))
+pub has_bits : (ws : List ℕ) (a w : ℕ) → get_or ws a 0 ≡ w → get_or ws a 0 < 2 ^ WORD_BITS → HasAnyBit ws a (not (eqb w 0))
 has_bits ws a w e fits = elim (cases_Bool (eqb w 0)) [
   | inl t ↦ rw t (λ b. ap (λ (x : ℕ). is_set x b) (e ∙ eqb-true w 0 t) ∙ is_set_zero b)
   | inr f ↦
       let some : 0 < get_or ws a 0 = grind (arith, nat_tests) in
-      let low = bit_at-trailing_zeros w64 (get_or ws a 0) some fits in
-      rw f (trailing_zeros w64 (get_or ws a 0), ap (λ (x : ℕ). eqb x 1) low.1)
+      let low = bit_at-trailing_zeros w128 (get_or ws a 0) some fits in
+      rw f (trailing_zeros w128 (get_or ws a 0), ap (λ (x : ℕ). eqb x 1) low.1)
 ]

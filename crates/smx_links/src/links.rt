@@ -3,6 +3,7 @@
 ghost use Rattle.std.specs.Prelude.{◌≡◌, ◌<◌, ◌≤◌, ◌*◌, ◌==◌, ◌++◌, [], ◌∷◌, false, find, filter, length, not, nat_lt, is_some, if◌then◌else◌};
 ghost use Rattle.std.specs.Prelude.{IfNone, OnOk, OnErr, option_copied};
 ghost use Rattle.std.specs.List.{All};
+ghost use Rattle.smx_types.specs.declared.limits.TheConstants.{MAX_DRIVERS};
 ghost use Rattle.smx_model.specs.Configuration.{same_stream};
 ghost use Rattle.smx_model.specs.Ordered.{IsRising};
 ghost use Rattle.smx_model.specs.SoundLinks.{AreLinksSound};
@@ -112,7 +113,7 @@ pub fn take(links: &mut Vec<Link>, ids: &mut Ids, id: u32) -> Option<Link>
 // One link less between its two drivers. The drivers that have lost links, with its upper one where none is left.
 pub fn lose(pairs: &mut [Count], drivers: usize, link: Link, lost: Word) -> Word
     requires within { IsWithin drivers link }
-    requires few { drivers ≤ 64 }
+    requires few { drivers ≤ MAX_DRIVERS }
     requires long { length pairs.old ≡ drivers * drivers }
     requires some { 0 < entry_of drivers pairs.old link }
     ensures rest { pairs.new ≡ with_one_less drivers pairs.old link }
@@ -136,7 +137,7 @@ pub fn take_each(
     requires sound { AreLinksSound links.old.items }
     requires rise { IsRising (λ l k. nat_lt l.id k.id) links.old.items }
     requires ids { HasIds ids.old.entries links.old.items }
-    requires few { drivers ≤ 64 }
+    requires few { drivers ≤ MAX_DRIVERS }
     requires within { All (IsWithin drivers) links.old.items }
     requires pairs { AreCounts drivers links.old.items pairs.old }
     ensures rest { links.new.items ≡ filter (λ l. not (is_one_of gone.now l)) links.old.items }

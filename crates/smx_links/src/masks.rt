@@ -3,6 +3,7 @@
 ghost use Rattle.std.specs.Prelude.{◌≡◌, ℕ, ◌<◌, ◌≤◌, ◌*◌, Bool, ◌&&◌, not, List, length};
 ghost use Rattle.std.specs.List.{All};
 ghost use Rattle.smx_types.specs.declared.link.Link.{Link};
+ghost use Rattle.smx_links.specs.declared.masks.TheConstants.{WORD_BITS};
 ghost use Rattle.smx_links.specs.Masks.{is_set, has_bit, is_stale, with_bit, AreJoined, AreMasks, HasAnyBit, IsWithin, LeadAlikeBut};
 ghost use Rattle.smx_links.specs.Pairs.{AreCounts, AreMasksBefore, IsRow};
 
@@ -10,14 +11,14 @@ use crate::pairs::Count;
 use smx_model::laws_of_links::{one_link_more_joins, paths_join};
 
 /// A bit for each driver.
-pub type Word = u64;
+pub type Word = u128;
 
 /// The bits of a word, and so the most drivers that a table can have.
-pub const WORD_BITS: u8 = 64;
+pub const WORD_BITS: u8 = 128;
 
 // Whether the bit is set.
 fn is_set(word: Word, b: u8) -> bool
-    requires { b < 64 }
+    requires { b < WORD_BITS }
     ensures { result ≡ is_set word b }
 {
     word >> b & 1 == 1
@@ -48,7 +49,7 @@ pub fn has_any_bit(words: &[Word], a: u8) -> bool
 
 // The word with the bit set.
 pub fn with_bit(word: Word, b: u8) -> Word
-    requires { b < 64 }
+    requires { b < WORD_BITS }
     ensures { result ≡ with_bit word b }
 {
     word | 1 << b
@@ -58,7 +59,7 @@ pub fn with_bit(word: Word, b: u8) -> Word
 pub fn join(words: &mut [Word], upper: u8, lower: u8)
     requires upper { upper < length words.old }
     requires lower { lower < length words.old }
-    requires few { length words.old ≤ 64 }
+    requires few { length words.old ≤ WORD_BITS }
     ensures length { length words.new ≡ length words.old }
     ensures joined { AreJoined words.old upper lower words.new }
 {
@@ -74,7 +75,7 @@ pub fn join(words: &mut [Word], upper: u8, lower: u8)
 // drivers that are joined change nothing.
 fn join_row(words: &mut [Word], upper: u8, row: &[Count])
     requires upper { upper < length words.old }
-    requires few { length words.old ≤ 64 }
+    requires few { length words.old ≤ WORD_BITS }
     requires row { length row.now ≡ length words.old }
     ensures length { length words.new ≡ length words.old }
     ensures masks { (links : List Link) (done : ℕ → Bool) → IsRow links upper row.now
@@ -91,7 +92,7 @@ fn join_row(words: &mut [Word], upper: u8, row: &[Count])
 
 // The drivers that are one of these, or lead to one of them: a bit for each.
 fn stale_drivers(words: &[Word], lost: Word) -> Word
-    requires { length words.now ≤ 64 }
+    requires { length words.now ≤ WORD_BITS }
     ensures { (a : ℕ) → is_set result a ≡ is_stale words.now lost a }
 {
     let mut stale = lost;
@@ -105,7 +106,7 @@ fn stale_drivers(words: &[Word], lost: Word) -> Word
 
 // Clears the words of these drivers.
 fn clear(words: &mut [Word], stale: Word)
-    requires { length words.old ≤ 64 }
+    requires { length words.old ≤ WORD_BITS }
     ensures length { length words.new ≡ length words.old }
     ensures cleared { (a b : ℕ) → has_bit words.new a b ≡ (not (is_set stale a) && has_bit words.old a b) }
 {
@@ -119,7 +120,7 @@ fn clear(words: &mut [Word], stale: Word)
 // The masks of the links that are left, where some drivers have lost links: those of the drivers that have lost some, and
 // of those that led to one, are found anew, by how many links there are between each two drivers.
 pub fn renew(words: &mut [Word], pairs: &[Count], lost: Word)
-    requires few { length words.old ≤ 64 }
+    requires few { length words.old ≤ WORD_BITS }
     requires long { length pairs.now ≡ length words.old * length words.old }
     ensures length { length words.new ≡ length words.old }
     ensures masks { (old links : List Link) → AreMasks old words.old → LeadAlikeBut lost old links

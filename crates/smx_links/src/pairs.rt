@@ -1,6 +1,7 @@
 //! How many links there are between each two drivers: a row for each upper driver, with an entry for each lower one.
 
 ghost use Rattle.std.specs.Prelude.{◌≡◌, ◌<◌, ◌≤◌, ◌*◌, ◌+◌, ◌==◌, not, length};
+ghost use Rattle.smx_types.specs.declared.limits.TheConstants.{MAX_DRIVERS};
 ghost use Rattle.smx_links.specs.Masks.{IsWithin};
 ghost use Rattle.smx_links.specs.Pairs.{entry_of, place_of, with_one_less, with_one_more};
 
@@ -12,7 +13,7 @@ pub type Count = u16;
 // Where the entry of the two drivers of a link is, in rows of as many entries as there are drivers.
 fn place_of(drivers: usize, link: Link) -> usize
     requires within { IsWithin drivers link }
-    requires few { drivers ≤ 64 }
+    requires few { drivers ≤ MAX_DRIVERS }
     ensures { result ≡ place_of drivers link }
 {
     link.ctl.driver as usize * drivers + link.lower.driver as usize
@@ -21,7 +22,7 @@ fn place_of(drivers: usize, link: Link) -> usize
 // One link more between its two drivers.
 pub fn count(pairs: &mut [Count], drivers: usize, link: Link)
     requires within { IsWithin drivers link }
-    requires few { drivers ≤ 64 }
+    requires few { drivers ≤ MAX_DRIVERS }
     requires long { length pairs.old ≡ drivers * drivers }
     requires room { entry_of drivers pairs.old link ≤ 1024 }
     ensures { pairs.new ≡ with_one_more drivers pairs.old link }
@@ -32,7 +33,7 @@ pub fn count(pairs: &mut [Count], drivers: usize, link: Link)
 // One link less between its two drivers. True where one is left.
 pub fn uncount(pairs: &mut [Count], drivers: usize, link: Link) -> bool
     requires within { IsWithin drivers link }
-    requires few { drivers ≤ 64 }
+    requires few { drivers ≤ MAX_DRIVERS }
     requires long { length pairs.old ≡ drivers * drivers }
     requires some { 0 < entry_of drivers pairs.old link }
     ensures rest { pairs.new ≡ with_one_less drivers pairs.old link }

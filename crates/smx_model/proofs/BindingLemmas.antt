@@ -25,7 +25,7 @@ use Rattle.smx_model.specs.Standing.{exists}
 use Rattle.smx_model.specs.Swept.{IsSwept}
 use Rattle.smx_model.proofs.DropLemmas.{done_idle}
 use Rattle.smx_model.proofs.MemberLemmas.{all_in, filtered_passes, in_all, in_filtered, in_placed, none_in}
-use Rattle.smx_model.proofs.OutcomeLemmas.{IfAccepted, at_ok, after_ok, after_test, after_some}
+use Rattle.smx_model.proofs.OutcomeLemmas.{IfAccepted, at_ok, after_ok, after_test, after_some, after_choice}
 use Rattle.smx_model.proofs.SettledLemmas.{settled_alone}
 use Rattle.smx_model.proofs.SweptLemmas.{swept_accepted}
 use Rattle.smx_model.proofs.TestLemmas.{all_filter}
@@ -47,7 +47,7 @@ loosed_fewer drivers c goes h = subst (λ (o : Outcome). LosesBindings c (after_
   fewer = record c { binds = filter (λ b. not (goes b)) c.binds }
 
   idle : done_outcome drivers c fewer ≡ Ok (fewer, reply.Done [])
-  idle = done_idle drivers c fewer (record { links = h.links; binds = all_filter _ _ c.binds h.binds; flow = h.flow; fulls = h.fulls }) refl
+  idle = done_idle drivers c fewer (record { links = h.links; binds = all_filter _ _ c.binds h.binds; flow = h.flow; fulls = h.fulls; hungs = h.hungs }) refl
 
 pub unbind_looses : (drivers : List DriverSpec) (c : Configuration) (process fd : ℕ) (s : StreamId) → IsSwept drivers c → mux_stream drivers c process fd ≡ Ok s
     → All (λ b. Contains (step drivers c process (command.Unbind fd)).0.binds b ↔ (not (eqb b.driver s.driver && eqb b.minor s.minor) ≡ true)) c.binds
@@ -106,10 +106,11 @@ bound_accepted drivers c process (command.Unbind fd) never = absurd (never fd re
 bound_accepted drivers c process (command.Route fd addr id) never = search (after_test, after_ok, bound_like, rules) depth 20
 bound_accepted drivers c process (command.Unroute fd addr) never = search (after_test, after_ok, bound_like, rules) depth 20
 bound_accepted drivers c process (command.Write fd addr bytes) never = search (after_ok, bound_sent, rules) depth 20
-bound_accepted drivers c process (command.Read fd) never = search (after_ok, bound_received, rules) depth 20
+bound_accepted drivers c process (command.Read fd) never = search (after_ok, after_choice, at_ok, bound_same, bound_received, rules) depth 20
 bound_accepted drivers c process (command.Flush fd w) never = search (after_ok, bound_like, rules) depth 20
 bound_accepted drivers c process (command.Inject name minor addr bytes) never = search (after_ok, bound_sent, rules) depth 20
 bound_accepted drivers c process (command.Transmit name minor) never = search (after_ok, bound_received, rules) depth 20
+bound_accepted drivers c process (command.Hangup name minor) never = search (after_ok, bound_like, rules) depth 20
 
 -- and no others
 

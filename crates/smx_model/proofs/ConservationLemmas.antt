@@ -24,7 +24,7 @@ use Rattle.smx_model.specs.Queues.{first_message, after_leaving}
 use Rattle.smx_model.specs.Removal.{after_sweep, without_links, without_queues_at, serials}
 use Rattle.smx_model.specs.Settling.{after_settling_within, least_movable, after_move, after_move_to, next_open_place}
 use Rattle.smx_model.proofs.CountLemmas.{times, times_append, times_gone, permuted}
-use Rattle.smx_model.proofs.OutcomeLemmas.{IfAccepted, at_ok, after_ok, after_test, after_some}
+use Rattle.smx_model.proofs.OutcomeLemmas.{IfAccepted, at_ok, after_ok, after_test, after_some, after_choice}
 
 -- serials of a flow
 
@@ -84,6 +84,9 @@ goes_done drivers c d h same fewer = record {
 goes_fd : (c d : Configuration) (fd minor : ℕ) → d.flow ≡ c.flow → d.next_serial ≡ c.next_serial → Goes c d (reply.Fd fd minor)
 goes_fd c d fd minor e same = record { balance = λ n. rw e (omega arith); numbered = refl; next = omega arith }
 
+goes_eof : (c : Configuration) → Goes c c reply.Eof
+goes_eof c = record { balance = λ n. omega arith; numbered = refl; next = omega arith }
+
 goes_id : (c d : Configuration) (id : ℕ) → d.flow ≡ c.flow → d.next_serial ≡ c.next_serial → Goes c d (reply.Id id)
 goes_id c d id e same = record { balance = λ n. rw e (omega arith); numbered = refl; next = omega arith }
 
@@ -123,10 +126,11 @@ goes_accepted drivers c process (command.Unbind fd) h = search (after_test, afte
 goes_accepted drivers c process (command.Route fd addr id) h = search (after_test, after_ok, at_ok, goes_done, fewer_same, rules) depth 20
 goes_accepted drivers c process (command.Unroute fd addr) h = search (after_test, after_ok, at_ok, goes_done, fewer_same, rules) depth 20
 goes_accepted drivers c process (command.Write fd addr bytes) h = search (after_ok, goes_sent, rules) depth 20
-goes_accepted drivers c process (command.Read fd) h = search (after_ok, goes_received, rules) depth 20
+goes_accepted drivers c process (command.Read fd) h = search (after_ok, after_choice, at_ok, goes_eof, goes_received, rules) depth 20
 goes_accepted drivers c process (command.Flush fd w) h = search (after_ok, at_ok, goes_done, fewer_emptied, rules) depth 20
 goes_accepted drivers c process (command.Inject name minor addr bytes) h = search (after_ok, goes_sent, rules) depth 20
 goes_accepted drivers c process (command.Transmit name minor) h = search (after_ok, goes_received, rules) depth 20
+goes_accepted drivers c process (command.Hangup name minor) h = search (after_ok, goes_done, fewer_same, rules) depth 20
 
 -- settling keeps what is queued
 

@@ -28,7 +28,7 @@ use Rattle.smx_model.proofs.ConservationLemmas.{Goes, goes_step, IsNumbered, num
 use Rattle.smx_model.proofs.CountLemmas.{permuted, times_append}
 use Rattle.smx_model.proofs.EachLemmas.{Each, all_of_each, each_filter, each_map, each_placed}
 use Rattle.smx_model.proofs.MemberLemmas.{is_first, is_later}
-use Rattle.smx_model.proofs.OutcomeLemmas.{IfAccepted, at_ok, after_ok, after_test, after_some}
+use Rattle.smx_model.proofs.OutcomeLemmas.{IfAccepted, at_ok, after_ok, after_test, after_some, after_choice}
 
 -- a command that sends these bytes to this address
 abbrev Sends : Command → ℕ → List ℕ → Type 0
@@ -65,6 +65,9 @@ old P k r hs h = each_map _ _ hs (λ x p. inl p) h
 
 carries_fd : (P : Message → Type 0) (k : Command) (d : Configuration) (fd minor : ℕ) → OfEach P d.flow → Carries P k d (reply.Fd fd minor)
 carries_fd P k d fd minor h = record { flow = old P k (reply.Fd fd minor) d.flow h; got = λ m e. cc }
+
+carries_eof : (P : Message → Type 0) (k : Command) (d : Configuration) → OfEach P d.flow → Carries P k d reply.Eof
+carries_eof P k d h = record { flow = old P k reply.Eof d.flow h; got = λ m e. cc }
 
 carries_id : (P : Message → Type 0) (k : Command) (d : Configuration) (id : ℕ) → OfEach P d.flow → Carries P k d (reply.Id id)
 carries_id P k d id h = record { flow = old P k (reply.Id id) d.flow h; got = λ m e. cc }
@@ -127,10 +130,11 @@ carries_accepted P drivers c process (command.Unbind fd) h = search (after_test,
 carries_accepted P drivers c process (command.Route fd addr id) h = search (after_test, after_ok, carries_done, rules) depth 20
 carries_accepted P drivers c process (command.Unroute fd addr) h = search (after_test, after_ok, carries_done, rules) depth 20
 carries_accepted P drivers c process (command.Write fd addr bytes) h = search (after_ok, carries_written, rules) depth 20
-carries_accepted P drivers c process (command.Read fd) h = search (after_ok, carries_received, rules) depth 20
+carries_accepted P drivers c process (command.Read fd) h = search (after_ok, after_choice, at_ok, carries_eof, carries_received, rules) depth 20
 carries_accepted P drivers c process (command.Flush fd w) h = search (after_ok, carries_emptied, rules) depth 20
 carries_accepted P drivers c process (command.Inject name minor addr bytes) h = search (after_ok, carries_injected, rules) depth 20
 carries_accepted P drivers c process (command.Transmit name minor) h = search (after_ok, carries_received, rules) depth 20
+carries_accepted P drivers c process (command.Hangup name minor) h = search (after_ok, carries_done, rules) depth 20
 
 -- moves and settling keep messages
 

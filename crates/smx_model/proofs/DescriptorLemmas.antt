@@ -19,7 +19,7 @@ use Rattle.smx_model.specs.Outcomes.{Outcome, ◌>>=◌, or_fault}
 use Rattle.smx_model.specs.Removal.{after_sweep, without_links}
 use Rattle.smx_model.specs.Settling.{after_settling}
 use Rattle.smx_model.proofs.MemberLemmas.{all_in, filtered_passes, in_filtered, in_placed, none_in}
-use Rattle.smx_model.proofs.OutcomeLemmas.{IfAccepted, at_ok, after_ok, after_test, after_some}
+use Rattle.smx_model.proofs.OutcomeLemmas.{IfAccepted, at_ok, after_ok, after_test, after_some, after_choice}
 use Rattle.smx_model.proofs.SettledLemmas.{settled_alone}
 
 -- what no search found fails the test
@@ -99,10 +99,11 @@ open_accepted drivers c process (command.Unbind fd) no_close no_exit = search (a
 open_accepted drivers c process (command.Route fd addr id) no_close no_exit = search (after_test, after_ok, open_done, rules) depth 20
 open_accepted drivers c process (command.Unroute fd addr) no_close no_exit = search (after_test, after_ok, open_done, rules) depth 20
 open_accepted drivers c process (command.Write fd addr bytes) no_close no_exit = search (after_ok, open_sent, rules) depth 20
-open_accepted drivers c process (command.Read fd) no_close no_exit = search (after_ok, open_received, rules) depth 20
+open_accepted drivers c process (command.Read fd) no_close no_exit = search (after_ok, after_choice, at_ok, open_same, open_received, rules) depth 20
 open_accepted drivers c process (command.Flush fd w) no_close no_exit = search (after_ok, open_done, rules) depth 20
 open_accepted drivers c process (command.Inject name minor addr bytes) no_close no_exit = search (after_ok, open_sent, rules) depth 20
 open_accepted drivers c process (command.Transmit name minor) no_close no_exit = search (after_ok, open_received, rules) depth 20
+open_accepted drivers c process (command.Hangup name minor) no_close no_exit = search (after_ok, open_done, rules) depth 20
 
 open_finished : (drivers : List DriverSpec) (c : Configuration) (o : Outcome) → IfAccepted (λ d r. KeepsDescriptors c d) o → KeepsDescriptors c (after_outcome drivers c o).0
 open_finished drivers c (Ok x) h = record { each = λ d k. rw ((settled_alone drivers _ x.0).fds) (h.holds.each d k) }

@@ -15,7 +15,7 @@ use Rattle.smx_types.specs.declared.reply.Reply.TheVariants.{Done}
 use Rattle.smx_types.specs.declared.stream.Place.{Place}
 use Rattle.smx_types.specs.declared.stream.StreamId.{StreamId}
 use Rattle.smx_model.specs.Commands.{outcome, step, after_outcome, done_outcome, link_outcome, send_outcome, receive_outcome}
-use Rattle.smx_model.specs.Configuration.{Configuration, QueuedMessage, empty, bind_before}
+use Rattle.smx_model.specs.Configuration.{Configuration, QueuedMessage, empty, bind_before, stream_before}
 use Rattle.smx_model.specs.DriverList.{is_mux}
 use Rattle.smx_model.specs.Histories.{IsLegal, IsLegalFrom}
 use Rattle.smx_model.specs.KeptConfigurations.{IsKept}
@@ -29,9 +29,10 @@ use Rattle.smx_model.specs.Swept.{IsSwept}
 use Rattle.smx_model.proofs.EachLemmas.{Each, all_of_each}
 use Rattle.smx_model.proofs.IdleSweepLemmas.{swept_idle}
 use Rattle.smx_model.proofs.KeptLemmas.{empty_kept, step_keeps}
-use Rattle.smx_model.proofs.OutcomeLemmas.{IfAccepted, at_ok, after_ok, after_test, after_some}
-use Rattle.smx_model.proofs.SweptLemmas.{free_exists}
+use Rattle.smx_model.proofs.OutcomeLemmas.{IfAccepted, at_ok, after_ok, after_test, after_some, after_choice}
+use Rattle.smx_model.proofs.SweptLemmas.{free_exists, leaf_exists}
 use Rattle.smx_model.proofs.TestLemmas.{all_filter, all_placed}
+use Rattle.smx_model.specs.Hangups.{is_hung, with_hung}
 
 -- from the same flow no message has gone
 
@@ -80,13 +81,24 @@ mux_exists drivers c process fd s e = by (free_stream c process fd) refl e where
 bind_drops : (drivers : List DriverSpec) (c : Configuration) (s : StreamId) (addr : ℕ) → IsSwept drivers c → exists drivers c s ≡ true
     → DropsNone (done_outcome drivers c (record c { binds = with_inserted bind_before c.binds (record { driver = s.driver; addr = addr; minor = s.minor }) }))
 bind_drops drivers c s addr h e = idle_drops drivers c (record c { binds = with_inserted bind_before c.binds (record { driver = s.driver; addr = addr; minor = s.minor }) })
-    (record { links = h.links; binds = all_placed _ bind_before c.binds _ e h.binds; flow = h.flow; fulls = h.fulls }) refl
+    (record { links = h.links; binds = all_placed _ bind_before c.binds _ e h.binds; flow = h.flow; fulls = h.fulls; hungs = h.hungs }) refl
 
 unbind_drops : (drivers : List DriverSpec) (c : Configuration) (keep : Binding → Bool) → IsSwept drivers c → DropsNone (done_outcome drivers c (record c { binds = filter keep c.binds }))
-unbind_drops drivers c keep h = idle_drops drivers c (record c { binds = filter keep c.binds }) (record { links = h.links; binds = all_filter _ keep c.binds h.binds; flow = h.flow; fulls = h.fulls }) refl
+unbind_drops drivers c keep h = idle_drops drivers c (record c { binds = filter keep c.binds }) (record { links = h.links; binds = all_filter _ keep c.binds h.binds; flow = h.flow; fulls = h.fulls; hungs = h.hungs }) refl
 
 route_drops : (drivers : List DriverSpec) (c : Configuration) (routes : List Route) → IsSwept drivers c → DropsNone (done_outcome drivers c (record c { routes = routes }))
-route_drops drivers c routes h = idle_drops drivers c (record c { routes = routes }) (record { links = h.links; binds = h.binds; flow = h.flow; fulls = h.fulls }) refl
+route_drops drivers c routes h = idle_drops drivers c (record c { routes = routes }) (record { links = h.links; binds = h.binds; flow = h.flow; fulls = h.fulls; hungs = h.hungs }) refl
+
+-- a hung-up stream that exists
+
+pub hung_swept : (drivers : List DriverSpec) (c : Configuration) (s : StreamId) → IsSwept drivers c → exists drivers c s ≡ true → IsSwept drivers (record c { hungs = with_hung s c.hungs })
+hung_swept drivers c s h e = record { links = h.links; binds = h.binds; flow = h.flow; fulls = h.fulls; hungs = by (is_hung c.hungs s) refl } where
+  by : (b : Bool) → is_hung c.hungs s ≡ b → list_all (λ t. exists drivers c t) (with_hung s c.hungs) ≡ true
+  by true t = rw t h.hungs
+  by false f = rw f (all_placed _ stream_before c.hungs s e h.hungs)
+
+hangup_drops : (drivers : List DriverSpec) (c : Configuration) (s : StreamId) → IsSwept drivers c → exists drivers c s ≡ true → DropsNone (done_outcome drivers c (record c { hungs = with_hung s c.hungs }))
+hangup_drops drivers c s h e = idle_drops drivers c (record c { hungs = with_hung s c.hungs }) (hung_swept drivers c s h e) refl
 
 -- what replies no Done
 
@@ -116,10 +128,11 @@ drops_accepted drivers c process (command.Unbind fd) never h = search (after_tes
 drops_accepted drivers c process (command.Route fd addr id) never h = search (after_test, after_ok, route_drops, rules) depth 20
 drops_accepted drivers c process (command.Unroute fd addr) never h = search (after_test, after_ok, route_drops, rules) depth 20
 drops_accepted drivers c process (command.Write fd addr bytes) never h = search (after_ok, sent_drops, rules) depth 20
-drops_accepted drivers c process (command.Read fd) never h = search (after_ok, received_drops, rules) depth 20
+drops_accepted drivers c process (command.Read fd) never h = search (after_ok, after_choice, at_ok, received_drops, rules) depth 20
 drops_accepted drivers c process (command.Flush fd w) never h = absurd (false≢true (sym never))
 drops_accepted drivers c process (command.Inject name minor addr bytes) never h = search (after_ok, sent_drops, rules) depth 20
 drops_accepted drivers c process (command.Transmit name minor) never h = search (after_ok, received_drops, rules) depth 20
+drops_accepted drivers c process (command.Hangup name minor) never h = search (after_ok, hangup_drops, leaf_exists, rules) depth 20
 
 pub step_drops : (drivers : List DriverSpec) (c : Configuration) (process : ℕ) (k : Command) → IsSwept drivers c → (dropped_by (step drivers c process k).1 ≡ [] → ⊥) → may_drop k ≡ true
 step_drops drivers c process k h some = elim (cases_Bool (may_drop k)) [ inl may ↦ may | inr never ↦ absurd (some (by (outcome drivers c process k) (drops_accepted drivers c process k never h))) ] where

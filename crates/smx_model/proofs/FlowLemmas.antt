@@ -16,7 +16,7 @@ use Rattle.smx_model.specs.Queues.{first_message}
 use Rattle.smx_model.specs.Removal.{without_links}
 use Rattle.smx_model.specs.Settling.{after_move, after_move_to, next_open_place}
 use Rattle.smx_model.proofs.OrderLemmas.{order_placed, order_filter, order_without}
-use Rattle.smx_model.proofs.OutcomeLemmas.{IfAccepted, at_ok, after_ok, after_test, after_some}
+use Rattle.smx_model.proofs.OutcomeLemmas.{IfAccepted, at_ok, after_ok, after_test, after_some, after_choice}
 
 order_done : (drivers : List DriverSpec) (c d : Configuration) → IsInOrder d.flow → IfAccepted (λ d r. IsInOrder d.flow) (done_outcome drivers c d)
 order_done drivers c d h = record { holds = order_filter _ _ (order_filter _ d.flow h) }
@@ -49,10 +49,11 @@ order_accepted drivers c process (command.Unbind fd) h = search (after_test, aft
 order_accepted drivers c process (command.Route fd addr id) h = search (after_test, after_ok, order_done, rules) depth 20
 order_accepted drivers c process (command.Unroute fd addr) h = search (after_test, after_ok, order_done, rules) depth 20
 order_accepted drivers c process (command.Write fd addr bytes) h = search (after_test, after_ok, order_sent, rules) depth 20
-order_accepted drivers c process (command.Read fd) h = search (after_ok, order_received, rules) depth 20
+order_accepted drivers c process (command.Read fd) h = search (after_ok, after_choice, at_ok, order_received, rules) depth 20
 order_accepted drivers c process (command.Flush fd w) h = search (after_ok, order_done, order_filter, rules) depth 20
 order_accepted drivers c process (command.Inject name minor addr bytes) h = search (after_test, after_ok, order_sent, rules) depth 20
 order_accepted drivers c process (command.Transmit name minor) h = search (after_ok, order_received, rules) depth 20
+order_accepted drivers c process (command.Hangup name minor) h = search (after_ok, order_done, rules) depth 20
 
 pub order_moved : (drivers : List DriverSpec) (c : Configuration) (p : Place) → IsInOrder c.flow → IsInOrder (after_move drivers c p).flow
 order_moved drivers c p h = by (next_open_place drivers c p) (first_message c.flow p) where

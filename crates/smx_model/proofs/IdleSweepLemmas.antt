@@ -8,6 +8,7 @@ use Rattle.smx_types.specs.declared.stream.Place.{Place}
 use Rattle.smx_types.specs.declared.link.Route.{Route}
 use Rattle.smx_types.specs.declared.stream.Side.{Side}
 use Rattle.smx_types.specs.declared.stream.Side.TheVariants as side
+use Rattle.smx_types.specs.declared.stream.StreamId.{StreamId}
 use Rattle.smx_model.specs.Configuration.{Configuration, QueuedMessage, same_side}
 use Rattle.smx_model.specs.Removal.{after_sweep, without_links, without_queues_at, without_dead_streams, is_read_below}
 use Rattle.smx_model.specs.Standing.{is_persistent, exists}
@@ -45,9 +46,10 @@ removed_none c goes h = by (filter goes c.links) (none_kept goes c.links h) wher
 
 dead_none : (drivers : List DriverSpec) (c : Configuration) → IsSwept drivers c → without_dead_streams drivers c ≡ c
 dead_none drivers c h =
-    ap (λ (x : List Binding). record c { binds = x; flow = filter (λ k. not (not (exists drivers c k.place.stream))) c.flow; fulls = filter (λ p. not (not (exists drivers c p.stream))) c.fulls }) (keep_all _ c.binds h.binds)
+    ap (λ (x : List StreamId). record c { hungs = x; binds = filter (λ b. exists drivers c (record { driver = b.driver; minor = b.minor })) c.binds; flow = filter (λ k. not (not (exists drivers c k.place.stream))) c.flow; fulls = filter (λ p. not (not (exists drivers c p.stream))) c.fulls }) (keep_all _ c.hungs h.hungs)
+    ∙ (ap (λ (x : List Binding). record c { binds = x; flow = filter (λ k. not (not (exists drivers c k.place.stream))) c.flow; fulls = filter (λ p. not (not (exists drivers c p.stream))) c.fulls }) (keep_all _ c.binds h.binds)
     ∙ (ap (λ (x : List QueuedMessage). record c { flow = x; fulls = filter (λ p. not (not (exists drivers c p.stream))) c.fulls }) (keep_all _ c.flow (all_same _ (λ k. exists drivers c k.place.stream) c.flow (λ k. not_not (exists drivers c k.place.stream)) ∙ h.flow))
-    ∙ ap (λ (x : List Place). record c { fulls = x }) (keep_all _ c.fulls (all_same _ (λ p. exists drivers c p.stream) c.fulls (λ p. not_not (exists drivers c p.stream)) ∙ h.fulls)))
+    ∙ ap (λ (x : List Place). record c { fulls = x }) (keep_all _ c.fulls (all_same _ (λ p. exists drivers c p.stream) c.fulls (λ p. not_not (exists drivers c p.stream)) ∙ h.fulls))))
 
 pub swept_idle : (drivers : List DriverSpec) (c : Configuration) → IsSwept drivers c → after_sweep drivers c ≡ c
 swept_idle drivers c h =

@@ -134,7 +134,7 @@ parts_of drivers c h = record {
   links = h.links;
   named = named_of drivers c h.known;
   routed = routed_of drivers c h.ids h.routes;
-  rising = record { fds = h.ordered.fds; binds = h.ordered.binds; routes = h.ordered.routes; fulls = h.ordered.fulls };
+  rising = record { fds = h.ordered.fds; binds = h.ordered.binds; routes = h.ordered.routes; fulls = h.ordered.fulls; hungs = h.ordered.hungs };
   flow = h.ordered.flow;
   numbered = record { once = apart_once (serials c.flow) h.serials.apart; below = none_from (serials c.flow) c.next_serial h.serials.below_next };
   swept_ = h.swept;
@@ -146,7 +146,7 @@ of_parts drivers c h = record {
   ids = rising_ids drivers c h.routed;
   routes = sound_routes drivers c h.routed;
   known = known_of_each drivers c (each_known drivers c h.named h.routed h.swept_);
-  ordered = record { fds = h.rising.fds; binds = h.rising.binds; routes = h.rising.routes; fulls = h.rising.fulls; flow = h.flow };
+  ordered = record { fds = h.rising.fds; binds = h.rising.binds; routes = h.rising.routes; fulls = h.rising.fulls; hungs = h.rising.hungs; flow = h.flow };
   serials = record { apart = once_apart (serials c.flow) h.numbered.once; below_next = all_below (serials c.flow) c.next_serial h.numbered.below };
   swept = h.swept_;
 }
@@ -223,7 +223,7 @@ step_keeps drivers c process k h = finished_kept drivers c (outcome drivers c pr
 
 pub empty_kept : (drivers : List DriverSpec) → IsKept drivers empty
 empty_kept drivers = record {
-  sound = of_parts drivers empty (record { links = sound_empty; named = record { fds = tt; links = tt }; routed = routed_empty drivers; rising = rising_empty; flow = tt; numbered = numbered_empty; swept_ = record { links = refl; binds = refl; flow = refl; fulls = refl } });
+  sound = of_parts drivers empty (record { links = sound_empty; named = record { fds = tt; links = tt }; routed = routed_empty drivers; rising = rising_empty; flow = tt; numbered = numbered_empty; swept_ = record { links = refl; binds = refl; flow = refl; fulls = refl; hungs = refl } });
   settled = λ p. refl;
 }
 

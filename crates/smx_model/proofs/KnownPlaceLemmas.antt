@@ -19,6 +19,7 @@ use Rattle.smx_model.proofs.EachLemmas.{Each, each_of_all, each_find}
 use Rattle.smx_model.proofs.SettlingLemmas.{same_place_is}
 use Rattle.smx_model.specs.RunMarks.{next_of_first, next_of}
 use Rattle.smx_model.proofs.TurningLemmas.{lower_side, down_by, bound_side, up_by}
+use Rattle.smx_model.proofs.HangupLemmas.{live_is_side}
 
 held_by_known : (drivers : List DriverSpec) (hs : List QueuedMessage) (p : Place) → Each (λ h. IsKnown drivers h.place.stream) hs → first_message hs p ≢ None → IsKnown drivers p.stream
 held_by_known drivers [] p k some = absurd (some refl)
@@ -32,15 +33,15 @@ held_known drivers c p k some = held_by_known drivers c.flow p (each_of_all _ c.
 
 pub next_known : (drivers : List DriverSpec) (c : Configuration) (p q : Place) → AreStreamsKnown drivers c → next_of_first drivers c p ≡ Some q → IsKnown drivers q.stream
 next_known drivers c p q k e = by (first_message c.flow p) e where
-  at_lower : (o : Option Link) (links : List Link) (t : Link → Bool) → find t links ≡ o → Each (λ l. IsKnown drivers l.lower) links → lower_side o ≡ Some q → IsKnown drivers q.stream
+  at_lower : (o : Option Link) (links : List Link) (t : Link → Bool) → find t links ≡ o → Each (λ l. IsKnown drivers l.lower) links → lower_side c.hungs o ≡ Some q → IsKnown drivers q.stream
   at_lower None links t f h e = cc
-  at_lower (Some l) links t f h e = let is : record { stream = l.lower; side = side.Write } ≡ q = cc in subst (λ (x : Place). IsKnown drivers x.stream) is (each_find _ t links l f h)
+  at_lower (Some l) links t f h e = let is : record { stream = l.lower; side = side.Write } ≡ q = live_is_side c.hungs l.lower q e in subst (λ (x : Place). IsKnown drivers x.stream) is (each_find _ t links l f h)
 
   at_bound : (o : Option Binding) (binds : List Binding) (t : Binding → Bool) → find t binds ≡ o → Each (λ b. IsKnown drivers (record { driver = b.driver; minor = b.minor })) binds → bound_side o ≡ Some q → IsKnown drivers q.stream
   at_bound None binds t f h e = cc
   at_bound (Some b) binds t f h e = let is : record { stream = record { driver = b.driver; minor = b.minor }; side = side.Read } ≡ q = cc in subst (λ (x : Place). IsKnown drivers x.stream) is (each_find _ t binds b f h)
 
-  down : (o : Option Route) → down_by c.links o ≡ Some q → IsKnown drivers q.stream
+  down : (o : Option Route) → down_by c.links c.hungs o ≡ Some q → IsKnown drivers q.stream
   down None e = cc
   down (Some r) e = at_lower (find (λ l. eqb l.id r.id) c.links) c.links (λ l. eqb l.id r.id) refl (each_of_all _ c.links k.lowers) e
 

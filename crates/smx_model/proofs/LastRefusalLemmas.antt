@@ -7,7 +7,7 @@ use Rattle.smx_types.specs.declared.driver.DriverSpec.{DriverSpec}
 use Rattle.smx_types.specs.declared.limits.TheConstants.{MAX_LINKS, NUMBER_END}
 use Rattle.smx_types.specs.declared.link.LinkKind.{LinkKind}
 use Rattle.smx_types.specs.declared.reply.Fault.{Fault}
-use Rattle.smx_types.specs.declared.reply.Fault.TheVariants.{AlreadyBelow, BadDescriptor, Below, Cycle, NotMux, TooManyLinks}
+use Rattle.smx_types.specs.declared.reply.Fault.TheVariants.{AlreadyBelow, BadDescriptor, Below, Cycle, NotMux, TooManyLinks, HungUp}
 use Rattle.smx_types.specs.declared.reply.Reply.{Reply}
 use Rattle.smx_types.specs.declared.stream.StreamId.{StreamId}
 use Rattle.smx_model.specs.Commands.{link_outcome}
@@ -17,6 +17,7 @@ use Rattle.smx_model.specs.Lookups.{stream_of}
 use Rattle.smx_model.specs.Outcomes.{◌>>=◌, or_fault, refuse, Outcome}
 use Rattle.smx_model.specs.Paths.{reaches}
 use Rattle.smx_model.specs.Standing.{is_below}
+use Rattle.smx_model.specs.Hangups.{is_hung}
 
 -- what refuses with another fault was passed
 past : {A : Type 0} (r : Result A Fault) (f : A → Outcome) → (r ≡ Err TooManyLinks → ⊥) → (r >>= f) ≡ Err TooManyLinks → (x : A) × (f x ≡ Err TooManyLinks)
@@ -41,7 +42,8 @@ links_room drivers c process fd arg k e =
     let upper = past (stream_of c process fd) _ (no_stream c process fd) e in
     let lower = past (stream_of c process arg) _ (no_stream c process arg) upper.1 in
     let above = past (refuse Below (is_below c.links upper.0)) _ (other_refusal Below _ (λ e. absurd cc)) lower.1 in
-    let mux = past (refuse NotMux (not (is_mux drivers upper.0.driver))) _ (other_refusal NotMux _ (λ e. absurd cc)) above.1 in
+    let hung = past (refuse HungUp (is_hung c.hungs upper.0)) _ (other_refusal HungUp _ (λ e. absurd cc)) above.1 in
+    let mux = past (refuse NotMux (not (is_mux drivers upper.0.driver))) _ (other_refusal NotMux _ (λ e. absurd cc)) hung.1 in
     let free = past (refuse AlreadyBelow (is_below c.links lower.0)) _ (other_refusal AlreadyBelow _ (λ e. absurd cc)) mux.1 in
     let no_cycle = past (refuse Cycle ((lower.0.driver == upper.0.driver) || reaches c.links lower.0.driver upper.0.driver)) _ (other_refusal Cycle _ (λ e. absurd cc)) free.1 in
     by _ (nat_le MAX_LINKS (length c.links)) (nat_le NUMBER_END c.next_id) refl refl no_cycle.1 where

@@ -2,6 +2,7 @@ pub mod EachLemmas
 pub mod TestLemmas
 pub mod PathLemmas
 pub mod OutcomeLemmas
+pub mod HangupLemmas
 pub mod SoundLemmas
 pub mod RangeLemmas
 pub mod RouteLemmas
@@ -42,3 +43,6 @@ pub mod MarkedPlaceLemmas
 pub mod FreedPlaceLemmas
 pub mod NearMarkLemmas
 pub mod MarkedCommandLemmas
+pub mod HungStreamLemmas
+pub mod QuietHistoryLemmas
+pub mod HungListLemmas

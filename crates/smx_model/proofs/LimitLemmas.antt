@@ -29,7 +29,7 @@ use Rattle.smx_model.specs.Removal.{without_links}
 use Rattle.smx_model.specs.Settling.{after_move, after_move_to, after_settling_within, least_movable, next_open_place}
 use Rattle.smx_model.proofs.EachLemmas.{Each, each_filter, each_placed}
 use Rattle.smx_model.proofs.KeptLemmas.{always_is_kept}
-use Rattle.smx_model.proofs.OutcomeLemmas.{IfAccepted, at_ok, after_ok, after_test, after_some}
+use Rattle.smx_model.proofs.OutcomeLemmas.{IfAccepted, at_ok, after_ok, after_test, after_some, after_choice}
 
 -- it keeps to the limits
 pub record IsWithin (c : Configuration) : Type 0 where
@@ -125,10 +125,11 @@ within_accepted drivers c process (command.Unbind fd) h = search (after_test, af
 within_accepted drivers c process (command.Route fd addr id) h = search (after_test, after_ok, within_done, within_same, rules) depth 20
 within_accepted drivers c process (command.Unroute fd addr) h = search (after_test, after_ok, within_done, within_same, rules) depth 20
 within_accepted drivers c process (command.Write fd addr bytes) h = search (after_ok, within_sent, rules) depth 20
-within_accepted drivers c process (command.Read fd) h = search (after_ok, within_received, rules) depth 20
+within_accepted drivers c process (command.Read fd) h = search (after_ok, after_choice, at_ok, within_received, rules) depth 20
 within_accepted drivers c process (command.Flush fd w) h = search (after_ok, within_done, within_same, rules) depth 20
 within_accepted drivers c process (command.Inject name minor addr bytes) h = search (after_ok, within_sent, rules) depth 20
 within_accepted drivers c process (command.Transmit name minor) h = search (after_ok, within_received, rules) depth 20
+within_accepted drivers c process (command.Hangup name minor) h = search (after_ok, within_done, within_same, rules) depth 20
 
 -- moves, settling, histories
 

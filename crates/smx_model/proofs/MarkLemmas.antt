@@ -30,7 +30,7 @@ use Rattle.smx_model.specs.Settling.{after_move, after_move_to, after_settling_w
 use Rattle.smx_model.proofs.EachLemmas.{Each, each_of_all}
 use Rattle.smx_model.proofs.KeptLemmas.{always_is_kept}
 use Rattle.smx_model.proofs.OrderLemmas.{same_self}
-use Rattle.smx_model.proofs.OutcomeLemmas.{IfAccepted, at_ok, after_ok, after_test, after_some}
+use Rattle.smx_model.proofs.OutcomeLemmas.{IfAccepted, at_ok, after_ok, after_test, after_some, after_choice}
 use Rattle.smx_model.proofs.QueueLemmas.{emptied_full, emptied_queue, left_queue, marked_full}
 use Rattle.smx_model.proofs.SettlingLemmas.{same_place_is}
 
@@ -201,10 +201,11 @@ marked_accepted drivers p c process (command.Unbind fd) a h = search (after_test
 marked_accepted drivers p c process (command.Route fd addr id) a h = search (after_test, after_ok, marked_like, rules) depth 20
 marked_accepted drivers p c process (command.Unroute fd addr) a h = search (after_test, after_ok, marked_like, rules) depth 20
 marked_accepted drivers p c process (command.Write fd addr bytes) a h = search (after_ok, marked_sent, rules) depth 20
-marked_accepted drivers p c process (command.Read fd) a h = search (after_ok, marked_received, rules) depth 20
+marked_accepted drivers p c process (command.Read fd) a h = search (after_ok, after_choice, at_ok, marked_received, rules) depth 20
 marked_accepted drivers p c process (command.Flush fd w) a h = search (after_ok, marked_done, marked_flushed, rules) depth 20
 marked_accepted drivers p c process (command.Inject name minor addr bytes) a h = search (after_ok, marked_sent, rules) depth 20
 marked_accepted drivers p c process (command.Transmit name minor) a h = search (after_ok, marked_received, rules) depth 20
+marked_accepted drivers p c process (command.Hangup name minor) a h = search (after_ok, marked_like, rules) depth 20
 
 -- moves, settling, histories
 

@@ -1,5 +1,6 @@
 -- What holds of each accepted outcome.
 use Rattle.std.proofs.Common.{◌≡◌, Bool, true, false, Option, Some, None, Result, Ok, Err, refl}
+use Rattle.std.specs.Prelude.{if◌then◌else◌}
 use Rattle.smx_types.specs.declared.reply.Fault.{Fault}
 use Rattle.smx_types.specs.declared.reply.Reply.{Reply}
 use Rattle.smx_model.specs.Configuration.{Configuration}
@@ -27,3 +28,7 @@ after_test P fault false f h = h refl
 pub after_some : {A : Type 0} (P : Configuration → Reply → Type 0) (fault : Fault) (o : Option A) (f : A → Outcome) → ((x : A) → o ≡ Some x → IfAccepted P (f x)) → IfAccepted P (or_fault fault o >>= f)
 after_some P fault (Some x) f h = h x refl
 after_some P fault None f h = record { holds = tt }
+
+pub after_choice : (P : Configuration → Reply → Type 0) (b : Bool) (o p : Outcome) → (b ≡ true → IfAccepted P o) → (b ≡ false → IfAccepted P p) → IfAccepted P (if b then o else p)
+after_choice P true o p h k = h refl
+after_choice P false o p h k = k refl

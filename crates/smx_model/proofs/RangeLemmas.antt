@@ -28,7 +28,7 @@ use Rattle.smx_model.specs.Queues.{first_message}
 use Rattle.smx_model.specs.Removal.{without_links}
 use Rattle.smx_model.specs.Settling.{after_move, after_move_to, next_open_place}
 use Rattle.smx_model.specs.Standing.{exists}
-use Rattle.smx_model.proofs.OutcomeLemmas.{IfAccepted, at_ok, after_ok, after_test, after_some}
+use Rattle.smx_model.proofs.OutcomeLemmas.{IfAccepted, at_ok, after_ok, after_test, after_some, after_choice}
 use Rattle.smx_model.proofs.EachLemmas.{Each, each_filter, each_placed, each_push, each_find}
 
 pub record AreNamed (drivers : List DriverSpec) (c : Configuration) : Type 0 where
@@ -119,10 +119,11 @@ named_accepted drivers c process (command.Unbind fd) h = search (after_test, aft
 named_accepted drivers c process (command.Route fd addr id) h = search (after_test, after_ok, named_done, named_same, rules) depth 20
 named_accepted drivers c process (command.Unroute fd addr) h = search (after_test, after_ok, named_done, named_same, rules) depth 20
 named_accepted drivers c process (command.Write fd addr bytes) h = search (after_test, after_ok, at_ok, named_same, rules) depth 20
-named_accepted drivers c process (command.Read fd) h = search (after_some, after_ok, at_ok, named_same, rules) depth 20
+named_accepted drivers c process (command.Read fd) h = search (after_ok, after_choice, after_some, at_ok, named_same, rules) depth 20
 named_accepted drivers c process (command.Flush fd w) h = search (after_ok, named_done, named_same, rules) depth 20
 named_accepted drivers c process (command.Inject name minor addr bytes) h = search (after_test, after_ok, at_ok, named_same, rules) depth 20
 named_accepted drivers c process (command.Transmit name minor) h = search (after_some, after_ok, at_ok, named_same, rules) depth 20
+named_accepted drivers c process (command.Hangup name minor) h = search (after_ok, named_done, named_same, rules) depth 20
 
 pub named_moved : (drivers : List DriverSpec) (c : Configuration) (p : Place) → AreNamed drivers c → AreNamed drivers (after_move drivers c p)
 named_moved drivers c p h = by (next_open_place drivers c p) (first_message c.flow p) where

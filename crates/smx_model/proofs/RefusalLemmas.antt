@@ -16,7 +16,7 @@ use Rattle.smx_model.specs.Commands.{outcome, step, after_outcome, done_outcome,
 use Rattle.smx_model.specs.Configuration.{Configuration}
 use Rattle.smx_model.specs.Outcomes.{Outcome}
 use Rattle.smx_model.specs.Removal.{without_links}
-use Rattle.smx_model.proofs.OutcomeLemmas.{IfAccepted, at_ok, after_ok, after_test, after_some}
+use Rattle.smx_model.proofs.OutcomeLemmas.{IfAccepted, at_ok, after_ok, after_test, after_some, after_choice}
 
 abbrev is_fault : Reply → Bool
 is_fault (reply.Fd fd minor) = false
@@ -24,6 +24,7 @@ is_fault (reply.Id id) = false
 is_fault (reply.Took serial) = false
 is_fault (reply.Got serial addr bytes) = false
 is_fault (reply.Done gone) = false
+is_fault reply.Eof = false
 is_fault (reply.Fault fault) = true
 
 -- it is accepted with no fault for a reply
@@ -61,10 +62,11 @@ answers_accepted drivers c process (command.Unbind fd) = search (after_test, aft
 answers_accepted drivers c process (command.Route fd addr id) = search (after_test, after_ok, done_answers, rules) depth 20
 answers_accepted drivers c process (command.Unroute fd addr) = search (after_test, after_ok, done_answers, rules) depth 20
 answers_accepted drivers c process (command.Write fd addr bytes) = search (after_ok, sent_answers, rules) depth 20
-answers_accepted drivers c process (command.Read fd) = search (after_ok, received_answers, rules) depth 20
+answers_accepted drivers c process (command.Read fd) = search (after_ok, after_choice, at_ok, received_answers, rules) depth 20
 answers_accepted drivers c process (command.Flush fd w) = search (after_ok, done_answers, rules) depth 20
 answers_accepted drivers c process (command.Inject name minor addr bytes) = search (after_ok, sent_answers, rules) depth 20
 answers_accepted drivers c process (command.Transmit name minor) = search (after_ok, received_answers, rules) depth 20
+answers_accepted drivers c process (command.Hangup name minor) = search (after_ok, done_answers, rules) depth 20
 
 -- so a reply that is a fault is that of a refusal
 

@@ -27,7 +27,7 @@ use Rattle.smx_model.specs.Settling.{after_settling_within}
 use Rattle.smx_model.specs.Standing.{exists, is_named, is_persistent, stands_within}
 use Rattle.smx_model.specs.Swept.{IsSwept}
 use Rattle.smx_model.proofs.MemberLemmas.{all_in, any_filtered, filtered_passes, in_all, in_filtered, none_in, of_filtered}
-use Rattle.smx_model.proofs.OutcomeLemmas.{IfAccepted, at_ok, after_ok, after_test, after_some}
+use Rattle.smx_model.proofs.OutcomeLemmas.{IfAccepted, at_ok, after_ok, after_test, after_some, after_choice}
 use Rattle.smx_model.proofs.SettledLemmas.{settled_alone}
 use Rattle.smx_model.proofs.StandingLemmas.{swept_is}
 use Rattle.smx_model.proofs.TestLemmas.{any_more}
@@ -174,10 +174,11 @@ keeps_accepted drivers c process (command.Unbind fd) other h = search (after_tes
 keeps_accepted drivers c process (command.Route fd addr id) other h = search (after_test, after_ok, keeps_done, rules) depth 20
 keeps_accepted drivers c process (command.Unroute fd addr) other h = search (after_test, after_ok, keeps_done, rules) depth 20
 keeps_accepted drivers c process (command.Write fd addr bytes) other h = search (after_ok, keeps_sent, rules) depth 20
-keeps_accepted drivers c process (command.Read fd) other h = search (after_ok, keeps_received, rules) depth 20
+keeps_accepted drivers c process (command.Read fd) other h = search (after_ok, after_choice, at_ok, keeps_same, keeps_received, rules) depth 20
 keeps_accepted drivers c process (command.Flush fd w) other h = search (after_ok, keeps_done, rules) depth 20
 keeps_accepted drivers c process (command.Inject name minor addr bytes) other h = search (after_ok, keeps_sent, rules) depth 20
 keeps_accepted drivers c process (command.Transmit name minor) other h = search (after_ok, keeps_received, rules) depth 20
+keeps_accepted drivers c process (command.Hangup name minor) other h = search (after_ok, keeps_done, rules) depth 20
 
 keeps_finished : (drivers : List DriverSpec) (c : Configuration) (o : Outcome) → IfAccepted (λ d r. KeepsLinks c d) o → KeepsLinks c (after_outcome drivers c o).0
 keeps_finished drivers c (Ok x) h = record { each = λ l k. rw ((settled_alone drivers _ x.0).links) (h.holds.each l k) }
@@ -266,10 +267,11 @@ came_accepted drivers c process (command.Unbind fd) = search (after_test, after_
 came_accepted drivers c process (command.Route fd addr id) = search (after_test, after_ok, came_like, rules) depth 20
 came_accepted drivers c process (command.Unroute fd addr) = search (after_test, after_ok, came_like, rules) depth 20
 came_accepted drivers c process (command.Write fd addr bytes) = search (after_ok, came_sent, rules) depth 20
-came_accepted drivers c process (command.Read fd) = search (after_ok, came_received, rules) depth 20
+came_accepted drivers c process (command.Read fd) = search (after_ok, after_choice, at_ok, came_same, came_received, rules) depth 20
 came_accepted drivers c process (command.Flush fd w) = search (after_ok, came_like, rules) depth 20
 came_accepted drivers c process (command.Inject name minor addr bytes) = search (after_ok, came_sent, rules) depth 20
 came_accepted drivers c process (command.Transmit name minor) = search (after_ok, came_received, rules) depth 20
+came_accepted drivers c process (command.Hangup name minor) = search (after_ok, came_like, rules) depth 20
 
 came_finished : (drivers : List DriverSpec) (c : Configuration) (o : Outcome) → IfAccepted (HasCome c) o → HasCome c (after_outcome drivers c o).0 (after_outcome drivers c o).1
 came_finished drivers c (Ok x) h = record { each = λ l k. h.holds.each l (subst (λ (ls : List Link). Contains ls l) (settled_alone drivers _ x.0).links k) }

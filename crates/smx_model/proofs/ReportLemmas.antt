@@ -18,18 +18,19 @@ use Rattle.smx_model.specs.Worked.Reports.{another_exited, copied, drivers, exit
 use Rattle.smx_model.proofs.DropLemmas.{few_drop}
 use Rattle.smx_model.proofs.EachLemmas.{all_of_each}
 use Rattle.smx_model.proofs.HistoryLemmas.{determined, lawful_throughout}
+use Rattle.smx_types.specs.declared.version.Version.{Version}
 
-abbrev transcript : List DriverSpec → List Entry → ConfigView → Transcript
-transcript drivers entries v = record { drivers = drivers; entries = entries; view = v }
+abbrev transcript : Version → List DriverSpec → List Entry → ConfigView → Transcript
+transcript version drivers entries v = record { version = version; drivers = drivers; entries = entries; view = v }
 
-transcript_of : (ds ds2 : List DriverSpec) (es es2 : List Entry) (v v2 : ConfigView) → ds ≡ ds2 → es ≡ es2 → v ≡ v2 → transcript ds es v ≡ transcript ds2 es2 v2
-transcript_of ds ds2 es es2 v v2 e f g = cc
+transcript_of : (n : Version) (ds ds2 : List DriverSpec) (es es2 : List Entry) (v v2 : ConfigView) → ds ≡ ds2 → es ≡ es2 → v ≡ v2 → transcript n ds es v ≡ transcript n ds2 es2 v2
+transcript_of n ds ds2 es es2 v v2 e f g = cc
 
 -- the drivers, the history and the view of a report follow from the calls
-pub one_report : (programs : ProgramLists) (r s : Transcript) → IsReportOf programs r → IsReportOf programs s → map call_of r.entries ≡ map call_of s.entries → r ≡ s
+pub one_report : (programs : ProgramLists) (r s : Transcript) → IsReportOf programs r → IsReportOf programs s → map call_of r.entries ≡ map call_of s.entries → r ≡ record s { version = r.version }
 one_report programs r s h k e =
     let same : r.entries ≡ s.entries = determined programs.drivers r.entries s.entries h.legal k.legal e in
-    transcript_of r.drivers s.drivers r.entries s.entries r.view s.view (h.drivers ∙ sym k.drivers) same
+    transcript_of r.version r.drivers s.drivers r.entries s.entries r.view s.view (h.drivers ∙ sym k.drivers) same
     (h.shown ∙ (ap (λ (es : List Entry). view programs.drivers (after programs.drivers es)) same ∙ sym k.shown))
 
 -- what a report needs is enough

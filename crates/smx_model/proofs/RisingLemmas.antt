@@ -1,4 +1,4 @@
--- Descriptors, bindings, routes and full places stay in their order.
+-- Descriptors, bindings, routes, full places and hung-up streams stay in their order.
 use Rattle.std.proofs.Common.{◌≡◌, ℕ, Bool, true, false, ◌&&◌, ◌||◌, not, eqb, List, [], ◌∷◌, filter, find, Option, Some, None, Ok, refl, rules, sym, ap, ◌∙◌, arith, inl, inr}
 use Rattle.std.specs.List.{list_any, range_with_len}
 use Rattle.std.proofs.lemmas.Bool.{cases_Bool, false≢true}
@@ -19,7 +19,8 @@ use Rattle.smx_types.specs.declared.stream.Descriptor.{Descriptor}
 use Rattle.smx_types.specs.declared.stream.Place.{Place}
 use Rattle.smx_types.specs.declared.stream.StreamId.{StreamId}
 use Rattle.smx_model.specs.Commands.{outcome, done_outcome, link_outcome, receive_outcome, send_outcome, unlink_outcome, with_fd}
-use Rattle.smx_model.specs.Configuration.{Configuration, empty, is_fd, fd_before, bind_before, route_before, place_before, pair_before, same_place}
+use Rattle.smx_model.specs.Configuration.{Configuration, empty, is_fd, fd_before, bind_before, route_before, place_before, pair_before, same_place, same_stream, stream_before}
+use Rattle.smx_model.specs.Hangups.{is_hung, with_hung}
 use Rattle.smx_model.specs.Lookups.{free_fd}
 use Rattle.smx_model.specs.Ordered.{with_inserted, ComesBefore, IsRising}
 use Rattle.smx_model.specs.Outcomes.{or_fault}
@@ -27,7 +28,7 @@ use Rattle.smx_model.specs.Queues.{first_message, with_mark, after_arrival, afte
 use Rattle.smx_model.specs.Removal.{without_queues_at, without_links}
 use Rattle.smx_model.specs.Settling.{after_move, after_move_to, next_open_place}
 use Rattle.smx_model.proofs.OrderLemmas.{place_before_trans, place_either}
-use Rattle.smx_model.proofs.OutcomeLemmas.{IfAccepted, after_ok, after_some, after_test, at_ok}
+use Rattle.smx_model.proofs.OutcomeLemmas.{IfAccepted, after_ok, after_some, after_test, at_ok, after_choice}
 use Rattle.smx_model.proofs.EachLemmas.{Each, none_passes, kept_passes}
 use Rattle.smx_model.proofs.TestLemmas.{find_passes}
 
@@ -78,6 +79,9 @@ bind_trans x y z h k = pair_trans x.driver x.addr y.driver y.addr z.driver z.add
 route_trans : IsTransitive route_before
 route_trans x y z h k = pair_trans x.driver x.addr y.driver y.addr z.driver z.addr h k
 
+stream_trans : IsTransitive stream_before
+stream_trans x y z h k = pair_trans x.driver x.minor y.driver y.minor z.driver z.minor h k
+
 not_true : (b : Bool) → not b ≡ true → b ≡ false
 not_true true h = absurd (false≢true h)
 not_true false h = refl
@@ -92,24 +96,25 @@ bind_other a b c d e m h = by (eqb c a) (eqb d b) (eqb e m) h where
 
 -- of each accepted outcome
 
--- descriptors, bindings, routes and full places
+-- descriptors, bindings, routes, full places and hung-up streams
 pub record AreRising (c : Configuration) : Type 0 where
   pub fds : IsRising fd_before c.fds
   pub binds : IsRising bind_before c.binds
   pub routes : IsRising route_before c.routes
   pub fulls : IsRising place_before c.fulls
+  pub hungs : IsRising stream_before c.hungs
 
-rising_same : (c d : Configuration) → AreRising c → d.fds ≡ c.fds → d.binds ≡ c.binds → d.routes ≡ c.routes → d.fulls ≡ c.fulls → AreRising d
-rising_same c d h e f g k = record { fds = rw e h.fds; binds = rw f h.binds; routes = rw g h.routes; fulls = rw k h.fulls }
+rising_same : (c d : Configuration) → AreRising c → d.fds ≡ c.fds → d.binds ≡ c.binds → d.routes ≡ c.routes → d.fulls ≡ c.fulls → d.hungs ≡ c.hungs → AreRising d
+rising_same c d h e f g k u = record { fds = rw e h.fds; binds = rw f h.binds; routes = rw g h.routes; fulls = rw k h.fulls; hungs = rw u h.hungs }
 
 rising_closed : (c : Configuration) (test : Descriptor → Bool) → AreRising c → AreRising (record c { fds = filter test c.fds })
-rising_closed c test h = record { fds = rising_filter fd_before test c.fds h.fds; binds = h.binds; routes = h.routes; fulls = h.fulls }
+rising_closed c test h = record { fds = rising_filter fd_before test c.fds h.fds; binds = h.binds; routes = h.routes; fulls = h.fulls; hungs = h.hungs }
 
 rising_emptied : (c : Configuration) (goes : Place → Bool) → AreRising c → AreRising (without_queues_at c goes)
-rising_emptied c goes h = record { fds = h.fds; binds = h.binds; routes = h.routes; fulls = rising_filter place_before _ c.fulls h.fulls }
+rising_emptied c goes h = record { fds = h.fds; binds = h.binds; routes = h.routes; fulls = rising_filter place_before _ c.fulls h.fulls; hungs = h.hungs }
 
 rising_removed : (c : Configuration) (goes : Link → Bool) → AreRising c → AreRising (without_links c goes)
-rising_removed c goes h = record { fds = h.fds; binds = h.binds; routes = rising_filter route_before _ c.routes h.routes; fulls = rising_filter place_before _ c.fulls h.fulls }
+rising_removed c goes h = record { fds = h.fds; binds = h.binds; routes = rising_filter route_before _ c.routes h.routes; fulls = rising_filter place_before _ c.fulls h.fulls; hungs = h.hungs }
 
 rising_done : (drivers : List DriverSpec) (c d : Configuration) → AreRising d → IfAccepted (λ d r. AreRising d) (done_outcome drivers c d)
 rising_done drivers c d h = record {
@@ -118,6 +123,7 @@ rising_done drivers c d h = record {
     binds = rising_filter bind_before _ d.binds h.binds;
     routes = rising_filter route_before _ d.routes h.routes;
     fulls = rising_filter place_before _ _ (rising_filter place_before _ d.fulls h.fulls);
+    hungs = rising_filter stream_before _ d.hungs h.hungs;
   };
 }
 
@@ -135,6 +141,7 @@ rising_fd c process fd s h e = record {
   binds = h.binds;
   routes = h.routes;
   fulls = h.fulls;
+  hungs = h.hungs;
 }
 
 rising_bind : (c : Configuration) (driver addr minor : ℕ) → AreRising c → list_any (λ b. eqb b.driver driver && (eqb b.addr addr || eqb b.minor minor)) c.binds ≡ false
@@ -145,10 +152,11 @@ rising_bind c driver addr minor h e = record {
       (none_passes (λ b. eqb b.driver driver && (eqb b.addr addr || eqb b.minor minor)) _ c.binds (λ b f k. pair_other driver addr b.driver b.addr (bind_other driver addr b.driver b.addr b.minor minor f) k) e) h.binds;
   routes = h.routes;
   fulls = h.fulls;
+  hungs = h.hungs;
 }
 
 rising_unbind : (c : Configuration) (test : Binding → Bool) → AreRising c → AreRising (record c { binds = filter test c.binds })
-rising_unbind c test h = record { fds = h.fds; binds = rising_filter bind_before test c.binds h.binds; routes = h.routes; fulls = h.fulls }
+rising_unbind c test h = record { fds = h.fds; binds = rising_filter bind_before test c.binds h.binds; routes = h.routes; fulls = h.fulls; hungs = h.hungs }
 
 rising_route : (c : Configuration) (driver addr id : ℕ) → AreRising c
     → AreRising (record c { routes = with_inserted route_before (filter (λ r. not (eqb r.driver driver && eqb r.addr addr)) c.routes) (record { driver = driver; addr = addr; id = id }) })
@@ -158,23 +166,33 @@ rising_route c driver addr id h = record {
   routes = rising_placed route_before route_trans (record { driver = driver; addr = addr; id = id }) _
       (kept_passes (λ r. not (eqb r.driver driver && eqb r.addr addr)) _ c.routes (λ r t k. pair_other driver addr r.driver r.addr (not_true _ t) k)) (rising_filter route_before _ c.routes h.routes);
   fulls = h.fulls;
+  hungs = h.hungs;
 }
 
+pub rising_with_hung : (s : StreamId) (hungs : List StreamId) → IsRising stream_before hungs → IsRising stream_before (with_hung s hungs)
+rising_with_hung s hungs h = by (is_hung hungs s) refl where
+  by : (b : Bool) → is_hung hungs s ≡ b → IsRising stream_before (with_hung s hungs)
+  by true e = rw e h
+  by false e = rw e (rising_placed stream_before stream_trans s hungs (none_passes (λ t. same_stream t s) _ hungs (λ t f k. pair_other s.driver s.minor t.driver t.minor f k) e) h)
+
+rising_hung : (c : Configuration) (s : StreamId) → AreRising c → AreRising (record c { hungs = with_hung s c.hungs })
+rising_hung c s h = record { fds = h.fds; binds = h.binds; routes = h.routes; fulls = h.fulls; hungs = rising_with_hung s c.hungs h.hungs }
+
 rising_unroute : (c : Configuration) (test : Route → Bool) → AreRising c → AreRising (record c { routes = filter test c.routes })
-rising_unroute c test h = record { fds = h.fds; binds = h.binds; routes = rising_filter route_before test c.routes h.routes; fulls = h.fulls }
+rising_unroute c test h = record { fds = h.fds; binds = h.binds; routes = rising_filter route_before test c.routes h.routes; fulls = h.fulls; hungs = h.hungs }
 
 rising_marked : (p : Place) (b : Bool) (ps : List Place) → IsRising place_before ps → IsRising place_before (with_mark p b ps)
 rising_marked p true ps h = rising_placed place_before place_before_trans p _ (kept_passes (λ q. not (same_place p q)) _ ps (λ q t k. place_either p q (not_true _ t) k)) (rising_filter place_before _ ps h)
 rising_marked p false ps h = rising_filter place_before _ ps h
 
 rising_arrived : (drivers : List DriverSpec) (c : Configuration) (p : Place) (m : Message) → AreRising c → AreRising (after_arrival drivers c p m)
-rising_arrived drivers c p m h = record { fds = h.fds; binds = h.binds; routes = h.routes; fulls = rising_marked p _ c.fulls h.fulls }
+rising_arrived drivers c p m h = record { fds = h.fds; binds = h.binds; routes = h.routes; fulls = rising_marked p _ c.fulls h.fulls; hungs = h.hungs }
 
 rising_left : (drivers : List DriverSpec) (c : Configuration) (p : Place) → AreRising c → AreRising (after_leaving drivers c p)
-rising_left drivers c p h = record { fds = h.fds; binds = h.binds; routes = h.routes; fulls = rising_marked p _ c.fulls h.fulls }
+rising_left drivers c p h = record { fds = h.fds; binds = h.binds; routes = h.routes; fulls = rising_marked p _ c.fulls h.fulls; hungs = h.hungs }
 
 rising_took : (drivers : List DriverSpec) (c : Configuration) (p : Place) (m : Message) (n : ℕ) → AreRising c → AreRising (record (after_arrival drivers c p m) { next_serial = n })
-rising_took drivers c p m n h = let a = rising_arrived drivers c p m h in record { fds = a.fds; binds = a.binds; routes = a.routes; fulls = a.fulls }
+rising_took drivers c p m n h = let a = rising_arrived drivers c p m h in record { fds = a.fds; binds = a.binds; routes = a.routes; fulls = a.fulls; hungs = a.hungs }
 
 rising_sent : (drivers : List DriverSpec) (c : Configuration) (p : Place) (addr : ℕ) (bytes : List ℕ) → AreRising c → IfAccepted (λ d r. AreRising d) (send_outcome drivers c p addr bytes)
 rising_sent drivers c p addr bytes h = search (after_test, at_ok, rising_took, rules) depth 12
@@ -204,10 +222,11 @@ rising_accepted drivers c process (command.Unbind fd) h = search (after_test, af
 rising_accepted drivers c process (command.Route fd addr id) h = search (after_test, after_ok, rising_done, rising_route, rules) depth 20
 rising_accepted drivers c process (command.Unroute fd addr) h = search (after_test, after_ok, rising_done, rising_unroute, rules) depth 20
 rising_accepted drivers c process (command.Write fd addr bytes) h = search (after_test, after_ok, rising_sent, rules) depth 20
-rising_accepted drivers c process (command.Read fd) h = search (after_ok, rising_received, rules) depth 20
+rising_accepted drivers c process (command.Read fd) h = search (after_ok, after_choice, at_ok, rising_received, rules) depth 20
 rising_accepted drivers c process (command.Flush fd w) h = search (after_ok, rising_done, rising_emptied, rules) depth 20
 rising_accepted drivers c process (command.Inject name minor addr bytes) h = search (after_test, after_ok, rising_sent, rules) depth 20
 rising_accepted drivers c process (command.Transmit name minor) h = search (after_ok, rising_received, rules) depth 20
+rising_accepted drivers c process (command.Hangup name minor) h = search (after_ok, rising_done, rising_hung, rules) depth 20
 
 pub rising_moved : (drivers : List DriverSpec) (c : Configuration) (p : Place) → AreRising c → AreRising (after_move drivers c p)
 rising_moved drivers c p h = by (next_open_place drivers c p) (first_message c.flow p) where
@@ -217,4 +236,4 @@ rising_moved drivers c p h = by (next_open_place drivers c p) (first_message c.f
   by None m = h
 
 pub rising_empty : AreRising empty
-rising_empty = record { fds = tt; binds = tt; routes = tt; fulls = tt }
+rising_empty = record { fds = tt; binds = tt; routes = tt; fulls = tt; hungs = tt }

@@ -26,7 +26,7 @@ use Rattle.smx_model.specs.Queues.{first_message}
 use Rattle.smx_model.specs.Removal.{without_links}
 use Rattle.smx_model.specs.Settling.{after_move, after_move_to, next_open_place}
 use Rattle.smx_model.specs.SoundLinks.{AreIdsRising, AreRoutesSound}
-use Rattle.smx_model.proofs.OutcomeLemmas.{IfAccepted, after_ok, after_some, after_test, at_ok}
+use Rattle.smx_model.proofs.OutcomeLemmas.{IfAccepted, after_ok, after_some, after_test, at_ok, after_choice}
 use Rattle.smx_model.proofs.EachLemmas.{Each, each_filter, each_placed, each_push, each_map, all_of_each}
 
 -- each id is below those of the later links
@@ -183,10 +183,11 @@ routed_accepted drivers c process (command.Unbind fd) h = search (after_test, af
 routed_accepted drivers c process (command.Route fd addr id) h = search (after_test, after_ok, routed_done, routed_route, mux_is, routed_same, rules) depth 20
 routed_accepted drivers c process (command.Unroute fd addr) h = search (after_test, after_ok, routed_done, routed_fewer, rules) depth 20
 routed_accepted drivers c process (command.Write fd addr bytes) h = search (after_test, after_ok, at_ok, routed_same, rules) depth 20
-routed_accepted drivers c process (command.Read fd) h = search (after_some, after_ok, at_ok, routed_same, rules) depth 20
+routed_accepted drivers c process (command.Read fd) h = search (after_ok, after_choice, after_some, at_ok, routed_same, rules) depth 20
 routed_accepted drivers c process (command.Flush fd w) h = search (after_ok, routed_done, routed_same, rules) depth 20
 routed_accepted drivers c process (command.Inject name minor addr bytes) h = search (after_test, after_ok, at_ok, routed_same, rules) depth 20
 routed_accepted drivers c process (command.Transmit name minor) h = search (after_some, after_ok, at_ok, routed_same, rules) depth 20
+routed_accepted drivers c process (command.Hangup name minor) h = search (after_ok, routed_done, routed_same, rules) depth 20
 
 pub routed_moved : (drivers : List DriverSpec) (c : Configuration) (p : Place) → AreRouted drivers c → AreRouted drivers (after_move drivers c p)
 routed_moved drivers c p h = by (next_open_place drivers c p) (first_message c.flow p) where

@@ -29,7 +29,7 @@ use Rattle.smx_model.specs.Swept.{IsSwept}
 use Rattle.smx_model.proofs.DropLemmas.{done_idle}
 use Rattle.smx_model.proofs.KeptLemmas.{outcome_sound}
 use Rattle.smx_model.proofs.MemberLemmas.{all_in, any_filtered, filtered_passes, in_filtered, in_placed, none_in}
-use Rattle.smx_model.proofs.OutcomeLemmas.{IfAccepted, at_ok, after_ok, after_test, after_some}
+use Rattle.smx_model.proofs.OutcomeLemmas.{IfAccepted, at_ok, after_ok, after_test, after_some, after_choice}
 use Rattle.smx_model.proofs.RisingLemmas.{rising_filter}
 use Rattle.smx_model.proofs.SettledLemmas.{settled_alone}
 use Rattle.smx_model.proofs.TestLemmas.{any_more}
@@ -45,7 +45,7 @@ record LeavesRoutes (c d : Configuration) (goes : Route → Bool) : Type 0 where
   each : (r : Route) → Contains c.routes r → not (goes r) ≡ true → Contains d.routes r
 
 idle : (drivers : List DriverSpec) (c : Configuration) (routes : List Route) → IsSwept drivers c → done_outcome drivers c (record c { routes = routes }) ≡ Ok (record c { routes = routes }, reply.Done [])
-idle drivers c routes h = done_idle drivers c (record c { routes = routes }) (record { links = h.links; binds = h.binds; flow = h.flow; fulls = h.fulls }) refl
+idle drivers c routes h = done_idle drivers c (record c { routes = routes }) (record { links = h.links; binds = h.binds; flow = h.flow; fulls = h.fulls; hungs = h.hungs }) refl
 
 fewer_routes : (drivers : List DriverSpec) (c : Configuration) (goes : Route → Bool) → IsSwept drivers c → LosesRoutes c (after_outcome drivers c (done_outcome drivers c (record c { routes = filter (λ r. not (goes r)) c.routes }))).0 goes
 fewer_routes drivers c goes h = subst (λ (o : Outcome). LosesRoutes c (after_outcome drivers c o).0 goes) (sym (idle drivers c (filter (λ r. not (goes r)) c.routes) h)) (record {
@@ -158,10 +158,11 @@ led_accepted drivers c process (command.Unbind fd) a no_route no_unroute = searc
 led_accepted drivers c process (command.Route fd addr id) a no_route no_unroute = absurd (no_route fd addr id refl)
 led_accepted drivers c process (command.Unroute fd addr) a no_route no_unroute = absurd (no_unroute fd addr refl)
 led_accepted drivers c process (command.Write fd addr bytes) a no_route no_unroute = search (after_ok, led_sent, rules) depth 20
-led_accepted drivers c process (command.Read fd) a no_route no_unroute = search (after_ok, led_received, rules) depth 20
+led_accepted drivers c process (command.Read fd) a no_route no_unroute = search (after_ok, after_choice, at_ok, led_same, led_received, rules) depth 20
 led_accepted drivers c process (command.Flush fd w) a no_route no_unroute = search (after_ok, led_like, rules) depth 20
 led_accepted drivers c process (command.Inject name minor addr bytes) a no_route no_unroute = search (after_ok, led_sent, rules) depth 20
 led_accepted drivers c process (command.Transmit name minor) a no_route no_unroute = search (after_ok, led_received, rules) depth 20
+led_accepted drivers c process (command.Hangup name minor) a no_route no_unroute = search (after_ok, led_like, rules) depth 20
 
 -- and no others
 

@@ -74,7 +74,7 @@ marked_is_least drivers c run wanted p o h l m = by (least_movable drivers c) (l
   ]
 
 -- where none is movable there is no least one
-none_is_least : (drivers : List DriverSpec) (c : Configuration) → IsInOrder c.flow → IsSettled drivers c → least_movable drivers c ≡ None
+pub none_is_least : (drivers : List DriverSpec) (c : Configuration) → IsInOrder c.flow → IsSettled drivers c → least_movable drivers c ≡ None
 none_is_least drivers c o s = by (least_movable drivers c) (least_is drivers c o) where
   by : (w : Option Place) → IsLeastMovable drivers c w → w ≡ None
   by None h = refl

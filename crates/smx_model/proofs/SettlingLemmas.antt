@@ -16,7 +16,8 @@ use Rattle.smx_model.specs.DriverList.{is_mux}
 use Rattle.smx_model.specs.Ordered.{with_inserted, without_first}
 use Rattle.smx_model.specs.Paths.{HasNoCycle, reaches}
 use Rattle.smx_model.specs.Queues.{first_message, after_leaving, is_full}
-use Rattle.smx_model.specs.Settling.{◌>>=◌, after_settling, after_settling_within, least_movable, after_move, after_move_to, next_open_place, is_movable, next_place, place_below, place_above, IsSettled}
+use Rattle.smx_model.specs.Settling.{◌>>=◌, after_settling, after_settling_within, least_movable, after_move, after_move_to, next_open_place, is_movable, next_place, live_write_side, place_below, place_above, IsSettled}
+use Rattle.smx_model.proofs.HangupLemmas.{live_is_side}
 use Rattle.smx_model.specs.SoundLinks.{AreLinksSound}
 use Rattle.smx_model.proofs.PathLemmas.{reaches_path, reaches_trans, reaches_link}
 use Rattle.smx_model.proofs.RangeLemmas.{links_below, AreNamed}
@@ -87,12 +88,12 @@ bound None f y e = cc
 bound (Some x) f y e = (x, refl, e)
 
 -- the link that leads to the place below
-pub below_link : (links : List Link) (routes : List Route) (d addr : ℕ) (q : Place) → place_below links routes d addr ≡ Some q
+pub below_link : (links : List Link) (routes : List Route) (hungs : List StreamId) (d addr : ℕ) (q : Place) → place_below links routes hungs d addr ≡ Some q
     → (r : Route) × (find (λ r. eqb r.driver d && eqb r.addr addr) routes ≡ Some r) × (l : Link) × (find (λ l. eqb l.id r.id) links ≡ Some l) × (record { stream = l.lower; side = side.Write } ≡ q)
-below_link links routes d addr q e =
-    let r = bound (find (λ r. eqb r.driver d && eqb r.addr addr) routes) (λ r. find (λ l. eqb l.id r.id) links >>= (λ l. Some (record { stream = l.lower; side = side.Write }))) q e in
-    let l = bound (find (λ l. eqb l.id r.0.id) links) (λ l. Some (record { stream = l.lower; side = side.Write })) q r.2 in
-    (r.0, r.1, l.0, l.1, cc)
+below_link links routes hungs d addr q e =
+    let r = bound (find (λ r. eqb r.driver d && eqb r.addr addr) routes) (λ r. find (λ l. eqb l.id r.id) links >>= (λ l. live_write_side hungs l.lower)) q e in
+    let l = bound (find (λ l. eqb l.id r.0.id) links) (λ l. live_write_side hungs l.lower) q r.2 in
+    (r.0, r.1, l.0, l.1, live_is_side hungs l.0.lower q l.2)
 
 -- the link and the binding that lead to the place above
 pub above_binding : (links : List Link) (binds : List Binding) (s : StreamId) (addr : ℕ) (q : Place) → place_above links binds s addr ≡ Some q
@@ -103,9 +104,9 @@ above_binding links binds s addr q e =
     let b = bound (find (λ b. eqb b.driver l.0.ctl.driver && eqb b.addr addr) binds) (λ b. Some (record { stream = record { driver = b.driver; minor = b.minor }; side = side.Read })) q l.2 in
     (l.0, l.1, b.0, b.1, cc)
 
-down_falls : (links : List Link) (routes : List Route) (n d addr : ℕ) (q : Place) → HasNoCycle links → AreBelow n links → Each (λ r. Each (λ l. l.id ≡ r.id → l.ctl.driver ≡ r.driver) links) routes
-    → place_below links routes d addr ≡ Some q → rank links n q < rank_by links n d side.Write
-down_falls links routes n d addr q none below leads e = via (below_link links routes d addr q e) where
+down_falls : (links : List Link) (routes : List Route) (hungs : List StreamId) (n d addr : ℕ) (q : Place) → HasNoCycle links → AreBelow n links → Each (λ r. Each (λ l. l.id ≡ r.id → l.ctl.driver ≡ r.driver) links) routes
+    → place_below links routes hungs d addr ≡ Some q → rank links n q < rank_by links n d side.Write
+down_falls links routes hungs n d addr q none below leads e = via (below_link links routes hungs d addr q e) where
   via : (w : (r : Route) × (find (λ r. eqb r.driver d && eqb r.addr addr) routes ≡ Some r) × (l : Link) × (find (λ l. eqb l.id r.id) links ≡ Some l) × (record { stream = l.lower; side = side.Write } ≡ q))
       → rank links n q < rank_by links n d side.Write
   via (r, f, l, g, is) =
@@ -128,7 +129,7 @@ up_falls links binds n addr s q none below e = via (above_binding links binds s 
 
 next_falls : (drivers : List DriverSpec) (c : Configuration) (s : StreamId) (addr : ℕ) (side_ : Side) (q : Place) → CanSettle drivers c → next_place drivers c (record { stream = s; side = side_ }) addr ≡ Some q → rank c.links (length drivers) q < rank_by c.links (length drivers) s.driver side_
 next_falls drivers c s addr side.Write q h e = elim (cases_Bool (is_mux drivers s.driver)) [
-  | inl t ↦ down_falls c.links c.routes (length drivers) s.driver addr q h.none h.below (routes_lead drivers c h.routed) (rw t at e)
+  | inl t ↦ down_falls c.links c.routes c.hungs (length drivers) s.driver addr q h.none h.below (routes_lead drivers c h.routed) (rw t at e)
   | inr f ↦ let k : None ≡ Some q = rw f at e in cc
 ]
 next_falls drivers c s addr side.Read q h e = up_falls c.links c.binds (length drivers) addr s q h.none h.below e

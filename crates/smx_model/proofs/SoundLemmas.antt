@@ -22,7 +22,7 @@ use Rattle.smx_model.specs.Removal.{without_links}
 use Rattle.smx_model.specs.Settling.{after_move, after_move_to, next_open_place}
 use Rattle.smx_model.specs.SoundLinks.{AreLinksSound}
 use Rattle.smx_model.specs.Standing.{is_below}
-use Rattle.smx_model.proofs.OutcomeLemmas.{IfAccepted, at_ok, after_ok, after_test, after_some}
+use Rattle.smx_model.proofs.OutcomeLemmas.{IfAccepted, at_ok, after_ok, after_test, after_some, after_choice}
 use Rattle.smx_model.proofs.PathLemmas.{path_reaches, no_cycle_push, no_cycle_fewer}
 use Rattle.smx_types.specs.declared.message.Message.{Message}
 use Rattle.smx_types.specs.declared.stream.Place.{Place}
@@ -75,10 +75,11 @@ sound_accepted drivers c process (command.Unbind fd) h = search (after_test, aft
 sound_accepted drivers c process (command.Route fd addr id) h = search (after_test, after_ok, at_ok, sound_done, rules) depth 20
 sound_accepted drivers c process (command.Unroute fd addr) h = search (after_test, after_ok, at_ok, sound_done, rules) depth 20
 sound_accepted drivers c process (command.Write fd addr bytes) h = search (after_test, after_ok, at_ok, rules) depth 20
-sound_accepted drivers c process (command.Read fd) h = search (after_some, after_ok, at_ok, rules) depth 20
+sound_accepted drivers c process (command.Read fd) h = search (after_ok, after_choice, after_some, at_ok, rules) depth 20
 sound_accepted drivers c process (command.Flush fd w) h = search (after_ok, at_ok, sound_done, rules) depth 20
 sound_accepted drivers c process (command.Inject name minor addr bytes) h = search (after_test, after_ok, at_ok, rules) depth 20
 sound_accepted drivers c process (command.Transmit name minor) h = search (after_some, after_ok, at_ok, rules) depth 20
+sound_accepted drivers c process (command.Hangup name minor) h = search (after_ok, sound_done, rules) depth 20
 
 pub sound_moved : (drivers : List DriverSpec) (c : Configuration) (p : Place) → AreLinksSound c.links → AreLinksSound (after_move drivers c p).links
 sound_moved drivers c p h = onto (next_open_place drivers c p) (first_message c.flow p) where

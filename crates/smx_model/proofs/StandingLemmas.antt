@@ -53,6 +53,7 @@ swept_is drivers c = record {
   binds = all_passes _ _ c.binds (λ b h. h);
   flow = all_passes _ _ (without_links c (λ l. not (is_persistent l) && not (exists drivers c l.ctl))).flow (λ h k. not_not _ k);
   fulls = all_passes _ _ (without_links c (λ l. not (is_persistent l) && not (exists drivers c l.ctl))).fulls (λ p k. not_not _ k);
+  hungs = all_passes _ _ c.hungs (λ s h. h);
 } where
   not_not : (b : Bool) → not (not b) ≡ true → b ≡ true
   not_not true h = refl

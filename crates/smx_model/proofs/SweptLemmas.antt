@@ -4,7 +4,7 @@ use Rattle.std.specs.Prelude.{Result, IfOk}
 use Rattle.smx_model.specs.Commands.{outcome, done_outcome, link_outcome, unlink_outcome, send_outcome, receive_outcome, with_fd}
 use Rattle.smx_model.specs.Configuration.{Configuration, QueuedMessage, is_at, queued_before, fd_before, same_stream, place_before, is_fd}
 use Rattle.smx_model.specs.DriverList.{is_mux}
-use Rattle.smx_model.specs.Lookups.{driver_of, stream_of, free_stream, leaf_stream}
+use Rattle.smx_model.specs.Lookups.{driver_of, stream_of, free_stream, leaf_stream, live_leaf, live_stream}
 use Rattle.smx_model.specs.Outcomes.{Outcome, or_fault, ◌>>=◌, refuse}
 use Rattle.smx_model.specs.Paths.{HasNoCycle}
 use Rattle.smx_model.specs.Queues.{first_message, after_leaving, after_arrival, with_mark}
@@ -13,7 +13,8 @@ use Rattle.smx_model.specs.Settling.{after_move, after_move_to, next_open_place,
 use Rattle.smx_model.specs.Standing.{is_persistent, is_named, stands_within, exists, is_below, Stands}
 use Rattle.smx_model.specs.Swept.{IsSwept}
 use Rattle.smx_model.proofs.IdleSweepLemmas.{swept_idle}
-use Rattle.smx_model.proofs.OutcomeLemmas.{IfAccepted, at_ok, after_ok, after_test, after_some}
+use Rattle.smx_model.proofs.OutcomeLemmas.{IfAccepted, at_ok, after_choice, after_ok, after_test, after_some}
+use Rattle.smx_model.proofs.HangupLemmas.{live_is, live_leaf_is}
 use Rattle.smx_model.proofs.PathLemmas.{reaches_at}
 use Rattle.smx_model.proofs.RangeLemmas.{AreNamed}
 use Rattle.smx_model.proofs.SettlingLemmas.{same_place_is, below_link, above_binding, open_next}
@@ -57,12 +58,13 @@ stands_grow fds fds2 links links2 f g (suc n) s h = elim (or_cases (stands_withi
 
 -- a configuration in which as many streams stand, and nothing else changed
 grown : (drivers : List DriverSpec) (c d : Configuration) → IsSwept drivers c → ((s : StreamId) → exists drivers c s ≡ true → exists drivers d s ≡ true)
-    → list_all (λ l. is_persistent l || exists drivers d l.ctl) d.links ≡ true → d.binds ≡ c.binds → d.flow ≡ c.flow → d.fulls ≡ c.fulls → IsSwept drivers d
-grown drivers c d h more links b f u = record {
+    → list_all (λ l. is_persistent l || exists drivers d l.ctl) d.links ≡ true → d.binds ≡ c.binds → d.flow ≡ c.flow → d.fulls ≡ c.fulls → d.hungs ≡ c.hungs → IsSwept drivers d
+grown drivers c d h more links b f u g = record {
   links = links;
   binds = rw b (all_more _ _ c.binds (λ x. more (record { driver = x.driver; minor = x.minor })) h.binds);
   flow = rw f (all_more _ _ c.flow (λ x. more x.place.stream) h.flow);
   fulls = rw u (all_more _ _ c.fulls (λ x. more x.stream) h.fulls);
+  hungs = rw g (all_more _ _ c.hungs (λ x. more x) h.hungs);
 }
 
 link_more : (a b d : Bool) → (b ≡ true → d ≡ true) → (a || b) ≡ true → (a || d) ≡ true
@@ -70,13 +72,13 @@ link_more true b d f h = refl
 link_more false b d f h = f h
 
 swept_fd : (drivers : List DriverSpec) (c : Configuration) (process fd : ℕ) (s : StreamId) → IsSwept drivers c → IsSwept drivers (with_fd c process fd s)
-swept_fd drivers c process fd s h = grown drivers c (with_fd c process fd s) h more (all_more _ _ c.links (λ l. link_more (is_persistent l) (exists drivers c l.ctl) (exists drivers (with_fd c process fd s) l.ctl) (more l.ctl)) h.links) refl refl refl where
+swept_fd drivers c process fd s h = grown drivers c (with_fd c process fd s) h more (all_more _ _ c.links (λ l. link_more (is_persistent l) (exists drivers c l.ctl) (exists drivers (with_fd c process fd s) l.ctl) (more l.ctl)) h.links) refl refl refl refl where
   more : (t : StreamId) → exists drivers c t ≡ true → exists drivers (with_fd c process fd s) t ≡ true
   more = stands_grow c.fds _ c.links c.links (λ t e. any_placed t fd_before c.fds _ e) (λ t e. e) (length drivers)
 
 swept_link : (drivers : List DriverSpec) (c : Configuration) (l : Link) (next : ℕ) → IsSwept drivers c → exists drivers c l.ctl ≡ true → IsSwept drivers (record c { links = c.links ++ l ∷ []; next_id = next })
 swept_link drivers c l next h e = grown drivers c (record c { links = c.links ++ l ∷ []; next_id = next }) h more
-    (all_push _ c.links l (or_right _ _ (more l.ctl e)) (all_more _ _ c.links (λ k. link_more (is_persistent k) (exists drivers c k.ctl) _ (more k.ctl)) h.links)) refl refl refl where
+    (all_push _ c.links l (or_right _ _ (more l.ctl e)) (all_more _ _ c.links (λ k. link_more (is_persistent k) (exists drivers c k.ctl) _ (more k.ctl)) h.links)) refl refl refl refl where
       more : (t : StreamId) → exists drivers c t ≡ true → stands_within c.fds (c.links ++ l ∷ []) (length drivers) t ≡ true
       more = stands_grow c.fds c.fds c.links (c.links ++ l ∷ []) (λ t e. e) (λ t e. any_push t c.links l e) (length drivers)
 
@@ -110,7 +112,7 @@ free_exists drivers c process fd s e = by (stream_of c process fd) refl e where
   by (Err f) e k = cc
   by (Ok t) e k = subst (λ (x : StreamId). exists drivers c x ≡ true) (tested t (is_below c.links t) k) (stream_exists drivers c process fd t e)
 
-leaf_exists : (drivers : List DriverSpec) (c : Configuration) (name : List ℕ) (minor : ℕ) (s : StreamId) → leaf_stream drivers c name minor ≡ Ok s → exists drivers c s ≡ true
+pub leaf_exists : (drivers : List DriverSpec) (c : Configuration) (name : List ℕ) (minor : ℕ) (s : StreamId) → leaf_stream drivers c name minor ≡ Ok s → exists drivers c s ≡ true
 leaf_exists drivers c name minor s e = by (driver_of drivers name) e where
   there : (n : ℕ) (b : Bool) → exists drivers c (record { driver = n; minor = minor }) ≡ b → (refuse NoMinor (not b) >>= (λ _. Ok (record { driver = n; minor = minor }))) ≡ Ok s → exists drivers c s ≡ true
   there n true h k = let same : record { driver = n; minor = minor } ≡ s = cc in subst (λ (x : StreamId). exists drivers c x ≡ true) same h
@@ -124,6 +126,12 @@ leaf_exists drivers c name minor s e = by (driver_of drivers name) e where
   by (Err f) k = cc
   by (Ok n) k = leaf n (is_mux drivers n) k
 
+live_exists : (drivers : List DriverSpec) (c : Configuration) (process fd : ℕ) (s : StreamId) → live_stream c process fd ≡ Ok s → exists drivers c s ≡ true
+live_exists drivers c process fd s e = free_exists drivers c process fd s (live_is c process fd s e).0
+
+live_leaf_exists : (drivers : List DriverSpec) (c : Configuration) (name : List ℕ) (minor : ℕ) (s : StreamId) → live_leaf drivers c name minor ≡ Ok s → exists drivers c s ≡ true
+live_leaf_exists drivers c name minor s e = leaf_exists drivers c name minor s (live_leaf_is drivers c name minor s e).0
+
 all_marked : (t : Place → Bool) (p : Place) (b : Bool) (ps : List Place) → t p ≡ true → list_all t ps ≡ true → list_all t (with_mark p b ps) ≡ true
 all_marked t p true ps h e = all_placed t place_before _ p h (all_filter t _ ps e)
 all_marked t p false ps h e = all_filter t _ ps e
@@ -134,13 +142,14 @@ swept_arrived drivers c p m e h = record {
   binds = h.binds;
   flow = all_placed _ queued_before c.flow (record { place = p; message = m }) e h.flow;
   fulls = all_marked _ p _ c.fulls e h.fulls;
+  hungs = h.hungs;
 }
 
 swept_left : (drivers : List DriverSpec) (c : Configuration) (p : Place) → exists drivers c p.stream ≡ true → IsSwept drivers c → IsSwept drivers (after_leaving drivers c p)
-swept_left drivers c p e h = record { links = h.links; binds = h.binds; flow = all_without _ _ c.flow h.flow; fulls = all_marked _ p _ c.fulls e h.fulls }
+swept_left drivers c p e h = record { links = h.links; binds = h.binds; flow = all_without _ _ c.flow h.flow; fulls = all_marked _ p _ c.fulls e h.fulls; hungs = h.hungs }
 
 swept_took : (drivers : List DriverSpec) (c : Configuration) (p : Place) (m : Message) (n : ℕ) → exists drivers c p.stream ≡ true → IsSwept drivers c → IsSwept drivers (record (after_arrival drivers c p m) { next_serial = n })
-swept_took drivers c p m n e h = let a = swept_arrived drivers c p m e h in record { links = a.links; binds = a.binds; flow = a.flow; fulls = a.fulls }
+swept_took drivers c p m n e h = let a = swept_arrived drivers c p m e h in record { links = a.links; binds = a.binds; flow = a.flow; fulls = a.fulls; hungs = a.hungs }
 
 swept_sent : (drivers : List DriverSpec) (c : Configuration) (p : Place) (addr : ℕ) (bytes : List ℕ) → exists drivers c p.stream ≡ true → IsSwept drivers c → IfAccepted (λ d r. IsSwept drivers d) (send_outcome drivers c p addr bytes)
 swept_sent drivers c p addr bytes e h = search (after_test, at_ok, swept_took, rules) depth 12
@@ -172,11 +181,12 @@ swept_accepted drivers c process (command.Bind fd addr) h = search (after_test, 
 swept_accepted drivers c process (command.Unbind fd) h = search (after_test, after_ok, swept_done, rules) depth 20
 swept_accepted drivers c process (command.Route fd addr id) h = search (after_test, after_ok, swept_done, rules) depth 20
 swept_accepted drivers c process (command.Unroute fd addr) h = search (after_test, after_ok, swept_done, rules) depth 20
-swept_accepted drivers c process (command.Write fd addr bytes) h = search (after_test, after_ok, at_ok, swept_sent, free_exists, rules) depth 20
-swept_accepted drivers c process (command.Read fd) h = search (after_ok, at_ok, swept_received, free_exists, rules) depth 20
+swept_accepted drivers c process (command.Write fd addr bytes) h = search (after_test, after_ok, at_ok, swept_sent, live_exists, rules) depth 20
+swept_accepted drivers c process (command.Read fd) h = search (after_ok, after_choice, at_ok, swept_received, free_exists, rules) depth 20
 swept_accepted drivers c process (command.Flush fd w) h = search (after_ok, swept_done, rules) depth 20
-swept_accepted drivers c process (command.Inject name minor addr bytes) h = search (after_test, after_ok, at_ok, swept_sent, free_exists, leaf_exists, rules) depth 20
-swept_accepted drivers c process (command.Transmit name minor) h = search (after_ok, at_ok, swept_received, free_exists, leaf_exists, rules) depth 20
+swept_accepted drivers c process (command.Inject name minor addr bytes) h = search (after_test, after_ok, at_ok, swept_sent, live_leaf_exists, rules) depth 20
+swept_accepted drivers c process (command.Transmit name minor) h = search (after_ok, at_ok, swept_received, live_leaf_exists, rules) depth 20
+swept_accepted drivers c process (command.Hangup name minor) h = search (after_ok, swept_done, rules) depth 20
 
 -- a move goes to a stream that exists
 
@@ -192,24 +202,33 @@ pub record IsWhole (drivers : List DriverSpec) (c : Configuration) : Type 0 wher
   pub named : AreNamed drivers c
   pub swept_ : IsSwept drivers c
 
-same_self : (t : StreamId) → same_stream t t ≡ true
-same_self t = and_from _ _ (eq-eqb t.driver t.driver refl) (eq-eqb t.minor t.minor refl)
+pub stream_self : (t : StreamId) → same_stream t t ≡ true
+stream_self t = and_from _ _ (eq-eqb t.driver t.driver refl) (eq-eqb t.minor t.minor refl)
 
-lower_exists : (drivers : List DriverSpec) (c : Configuration) (test : Link → Bool) (l : Link) → IsWhole drivers c → find test c.links ≡ Some l → exists drivers c l.lower ≡ true
+-- what keeps the lower streams of links
+pub record AreKeepingLowers (drivers : List DriverSpec) (c : Configuration) : Type 0 where
+  pub none : HasNoCycle c.links
+  pub below : Each (λ l. l.ctl.driver < length drivers) c.links
+  pub alive : list_all (λ l. is_persistent l || exists drivers c l.ctl) c.links ≡ true
+
+pub lower_exists : (drivers : List DriverSpec) (c : Configuration) (test : Link → Bool) (l : Link) → AreKeepingLowers drivers c → find test c.links ≡ Some l → exists drivers c l.lower ≡ true
 lower_exists drivers c test l h e = elim (cases_Bool (is_persistent l)) [
-  | inl p ↦ stands_more c.fds c.links 0 (length drivers) l.lower (omega arith) (or_right _ _ (found_any test (λ k. is_persistent k && same_stream k.lower l.lower) c.links l e (and_from _ _ p (same_self l.lower))))
+  | inl p ↦ stands_more c.fds c.links 0 (length drivers) l.lower (omega arith) (or_right _ _ (found_any test (λ k. is_persistent k && same_stream k.lower l.lower) c.links l e (and_from _ _ p (stream_self l.lower))))
   | inr o ↦
-      let a = found_all test (λ k. is_persistent k || exists drivers c k.ctl) c.links l e h.swept_.links in
+      let a = found_all test (λ k. is_persistent k || exists drivers c k.ctl) c.links l e h.alive in
       let up : exists drivers c l.ctl ≡ true = rw o at a in
-      climbs_suffice drivers c.fds c.links (suc (length drivers)) l.lower h.none (links_in drivers c.links (each_map _ _ c.links (λ l p. p.0.0) h.named.links))
+      climbs_suffice drivers c.fds c.links (suc (length drivers)) l.lower h.none (links_in drivers c.links h.below)
       (or_right _ _ (found_any test (λ k. not (is_persistent k) && (same_stream k.lower l.lower && stands_within c.fds c.links (length drivers) k.ctl)) c.links l e
-      (and_from _ _ (rw o refl) (and_from _ _ (same_self l.lower) up))))
+      (and_from _ _ (rw o refl) (and_from _ _ (stream_self l.lower) up))))
 ]
+
+whole_keeps : (drivers : List DriverSpec) (c : Configuration) → IsWhole drivers c → AreKeepingLowers drivers c
+whole_keeps drivers c h = record { none = h.none; below = each_map _ _ c.links (λ l p. p.0.0) h.named.links; alive = h.swept_.links }
 
 next_exists : (drivers : List DriverSpec) (c : Configuration) (s : StreamId) (addr : ℕ) (which_side : Side) (q : Place) → IsWhole drivers c → next_place drivers c (record { stream = s; side = which_side }) addr ≡ Some q → exists drivers c q.stream ≡ true
 next_exists drivers c s addr side.Write q h e = elim (cases_Bool (is_mux drivers s.driver)) [
-  | inl t ↦ let w = below_link c.links c.routes s.driver addr q (rw t at e) in
-      subst (λ (x : Place). exists drivers c x.stream ≡ true) w.4 (lower_exists drivers c _ w.2 h w.3)
+  | inl t ↦ let w = below_link c.links c.routes c.hungs s.driver addr q (rw t at e) in
+      subst (λ (x : Place). exists drivers c x.stream ≡ true) w.4 (lower_exists drivers c _ w.2 (whole_keeps drivers c h) w.3)
   | inr f ↦ let k : None ≡ Some q = rw f at e in cc
 ]
 next_exists drivers c s addr side.Read q h e =

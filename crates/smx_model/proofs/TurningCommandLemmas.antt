@@ -19,18 +19,21 @@ use Rattle.smx_types.specs.declared.stream.Descriptor.{Descriptor}
 use Rattle.smx_types.specs.declared.stream.Place.{Place}
 use Rattle.smx_types.specs.declared.stream.StreamId.{StreamId}
 use Rattle.smx_model.specs.Commands.{outcome, done_outcome, link_outcome, unlink_outcome, send_outcome, receive_outcome, with_fd}
-use Rattle.smx_model.specs.Configuration.{Configuration, same_place, pair_before, bind_before, route_before}
+use Rattle.smx_model.specs.Configuration.{Configuration, same_place, pair_before, bind_before, route_before, same_stream, stream_before}
 use Rattle.smx_model.specs.KeptConfigurations.{IsSound}
-use Rattle.smx_model.specs.Lookups.{stream_of, free_stream, mux_stream, leaf_stream}
+use Rattle.smx_model.specs.Lookups.{stream_of, free_stream, mux_stream, live_stream, live_leaf}
 use Rattle.smx_model.specs.Ordered.{with_inserted, IsRising, ComesBefore}
 use Rattle.smx_model.specs.Outcomes.{Outcome, ◌>>=◌}
 use Rattle.smx_model.specs.Queues.{after_arrival}
 use Rattle.smx_model.specs.Removal.{without_queues_at, without_links, after_sweep}
-use Rattle.smx_model.proofs.EachLemmas.{Each, none_passes, kept_passes}
-use Rattle.smx_model.proofs.OutcomeLemmas.{IfAccepted, at_ok, after_ok, after_test, after_some}
+use Rattle.smx_model.proofs.EachLemmas.{Each, none_passes, kept_passes, each_map, each_of_all}
+use Rattle.smx_model.proofs.OutcomeLemmas.{IfAccepted, at_ok, after_ok, after_test, after_some, after_choice}
 use Rattle.smx_model.specs.RunMarks.{asks_down, asks_up, nowhere, is_first_at, TurnsOnly}
 use Rattle.smx_model.specs.TurnedPlaces.{of_stream, read_side, write_side, turned_by}
-use Rattle.smx_model.proofs.TurningLemmas.{Apart, apart_filter, next_of_others, bound, routed, binds_find, fewer_turns, keyed_removed, routes_find, turns_arrived, turns_bound, turns_emptied, turns_left, turns_linked, turns_removed, turns_routed, turns_swept, turns_then, IsKeyed}
+use Rattle.smx_model.proofs.TurningLemmas.{Apart, apart_filter, next_of_others, bound, routed, binds_find, fewer_turns, keyed_removed, routes_find, turns_arrived, turns_bound, turns_emptied, turns_left, turns_linked, turns_removed, turns_routed, turns_swept, turns_then, IsKeyed, AreRooted, rooted_filter}
+use Rattle.smx_model.specs.Hangups.{is_hung, with_hung}
+use Rattle.smx_model.proofs.TestLemmas.{any_placed}
+use Rattle.smx_model.specs.KnownStreams.{IsKnown}
 
 -- ---- each key is there once
 
@@ -66,6 +69,9 @@ keyed drivers c h = record {
   lowers = apart_pairs _ c.links h.links.lowers;
   binds = apart_rising _ bind_before (λ b e. pair_other b.driver b.addr e.driver e.addr) c.binds h.ordered.binds;
 }
+
+pub rooted : (drivers : List DriverSpec) (c : Configuration) → IsSound drivers c → AreRooted drivers c.links
+rooted drivers c h = record { sound = h.links; below = each_map (λ l. IsKnown drivers l.ctl) _ c.links (λ l p. p.0) (each_of_all _ c.links h.known.controlling) }
 
 apart_placed : {X : Type 0} (R : X → X → Type 0) (before : X → X → Bool) → ((x y : X) → R x y → R y x) → (x : X) (xs : List X) → Each (R x) xs → Apart R xs → Apart R (with_inserted before xs x)
 apart_placed R before s x [] e h = (tt, tt)
@@ -109,12 +115,12 @@ keyed_bound c driver addr minor free h = record {
 
 -- ---- the rows of the command table
 
-turns_done : (drivers : List DriverSpec) (c new : Configuration) (t : Place → Bool) → TurnsOnly drivers c new t → IsKeyed new → IfAccepted (λ d r. TurnsOnly drivers c d t) (done_outcome drivers c new)
-turns_done drivers c new t h k = at_ok _ (after_sweep drivers new) _ (turns_then drivers c new (after_sweep drivers new) t h (turns_swept drivers new k))
+turns_done : (drivers : List DriverSpec) (c new : Configuration) (t : Place → Bool) → TurnsOnly drivers c new t → IsKeyed new → AreRooted drivers new.links → IfAccepted (λ d r. TurnsOnly drivers c d t) (done_outcome drivers c new)
+turns_done drivers c new t h k r = at_ok _ (after_sweep drivers new) _ (turns_then drivers c new (after_sweep drivers new) t h (turns_swept drivers new k r))
 
 arrived_turns : (drivers : List DriverSpec) (c : Configuration) (p : Place) (m : Message) (n : ℕ) → IsSound drivers c → TurnsOnly drivers c (record (after_arrival drivers c p m) { next_serial = n }) (is_first_at c p)
 arrived_turns drivers c p m n h = turns_then drivers c (after_arrival drivers c p m) (record (after_arrival drivers c p m) { next_serial = n }) (is_first_at c p) (turns_arrived drivers c p m h.ordered.flow)
-    (next_of_others drivers (after_arrival drivers c p m) (record (after_arrival drivers c p m) { next_serial = n }) refl refl refl refl)
+    (next_of_others drivers (after_arrival drivers c p m) (record (after_arrival drivers c p m) { next_serial = n }) refl refl refl refl refl)
 
 turns_sent : (drivers : List DriverSpec) (c : Configuration) (p : Place) (addr : ℕ) (bytes : List ℕ) → IsSound drivers c → IfAccepted (λ d r. TurnsOnly drivers c d (is_first_at c p)) (send_outcome drivers c p addr bytes)
 turns_sent drivers c p addr bytes h = search (after_test, at_ok, arrived_turns drivers c p (record { serial = c.next_serial; addr = addr; bytes = bytes }) (c.next_serial + 1) h, rules) depth 12
@@ -123,37 +129,51 @@ turns_received : (drivers : List DriverSpec) (c : Configuration) (p : Place) →
 turns_received drivers c p = search (after_some, at_ok, turns_left, rules) depth 12
 
 turns_with_fd : (drivers : List DriverSpec) (c : Configuration) (process fd : ℕ) (s : StreamId) → TurnsOnly drivers c (with_fd c process fd s) nowhere
-turns_with_fd drivers c process fd s = next_of_others drivers c (with_fd c process fd s) refl refl refl refl
+turns_with_fd drivers c process fd s = next_of_others drivers c (with_fd c process fd s) refl refl refl refl refl
 
-turns_closed : (drivers : List DriverSpec) (c : Configuration) (fds : List Descriptor) → IsKeyed c → IfAccepted (λ d r. TurnsOnly drivers c d nowhere) (done_outcome drivers c (record c { fds = fds }))
-turns_closed drivers c fds k = turns_done drivers c (record c { fds = fds }) nowhere (next_of_others drivers c (record c { fds = fds }) refl refl refl refl) (record { routes = k.routes; ids = k.ids; lowers = k.lowers; binds = k.binds })
+turns_closed : (drivers : List DriverSpec) (c : Configuration) (fds : List Descriptor) → IsKeyed c → AreRooted drivers c.links → IfAccepted (λ d r. TurnsOnly drivers c d nowhere) (done_outcome drivers c (record c { fds = fds }))
+turns_closed drivers c fds k x = turns_done drivers c (record c { fds = fds }) nowhere (next_of_others drivers c (record c { fds = fds }) refl refl refl refl refl) (record { routes = k.routes; ids = k.ids; lowers = k.lowers; binds = k.binds }) x
 
-turns_gone : (drivers : List DriverSpec) (c : Configuration) (mine : Link → Bool) → IsKeyed c → IfAccepted (λ d r. TurnsOnly drivers c d nowhere) (done_outcome drivers c (without_links c mine))
-turns_gone drivers c mine k = turns_done drivers c (without_links c mine) nowhere (turns_removed drivers c mine k) (keyed_removed c mine k)
+turns_gone : (drivers : List DriverSpec) (c : Configuration) (mine : Link → Bool) → IsKeyed c → AreRooted drivers c.links → IfAccepted (λ d r. TurnsOnly drivers c d nowhere) (done_outcome drivers c (without_links c mine))
+turns_gone drivers c mine k x = turns_done drivers c (without_links c mine) nowhere (turns_removed drivers c mine k) (keyed_removed c mine k) (rooted_filter drivers c.links (λ l. not (mine l)) x)
 
-turns_unlinked : (drivers : List DriverSpec) (c : Configuration) (w : Which) (mine : Link → Bool) → IsKeyed c → IfAccepted (λ d r. TurnsOnly drivers c d nowhere) (unlink_outcome drivers c w mine)
-turns_unlinked drivers c which.All mine k = turns_gone drivers c mine k
-turns_unlinked drivers c (which.Id id) mine k = search (after_test, turns_gone drivers c (λ l. eqb l.id id && mine l) k, rules) depth 12
+turns_unlinked : (drivers : List DriverSpec) (c : Configuration) (w : Which) (mine : Link → Bool) → IsKeyed c → AreRooted drivers c.links → IfAccepted (λ d r. TurnsOnly drivers c d nowhere) (unlink_outcome drivers c w mine)
+turns_unlinked drivers c which.All mine k x = turns_gone drivers c mine k x
+turns_unlinked drivers c (which.Id id) mine k x = search (after_test, turns_gone drivers c (λ l. eqb l.id id && mine l) k x, rules) depth 12
 
-turns_unbound : (drivers : List DriverSpec) (c : Configuration) (keep : Binding → Bool) → IsKeyed c → IfAccepted (λ d r. TurnsOnly drivers c d nowhere) (done_outcome drivers c (record c { binds = filter keep c.binds }))
-turns_unbound drivers c keep k = turns_done drivers c (record c { binds = filter keep c.binds }) nowhere
-    (fewer_turns drivers c (record c { binds = filter keep c.binds }) (record { routes = λ d a. inl refl; ids = λ i. inl refl; lowers = λ x. inl refl; binds = λ d a. binds_find keep c d a k }) (λ r. inl refl))
-    (record { routes = k.routes; ids = k.ids; lowers = k.lowers; binds = apart_filter _ keep c.binds k.binds })
+turns_unbound : (drivers : List DriverSpec) (c : Configuration) (keep : Binding → Bool) → IsKeyed c → AreRooted drivers c.links → IfAccepted (λ d r. TurnsOnly drivers c d nowhere) (done_outcome drivers c (record c { binds = filter keep c.binds }))
+turns_unbound drivers c keep k x = turns_done drivers c (record c { binds = filter keep c.binds }) nowhere
+    (fewer_turns drivers c (record c { binds = filter keep c.binds }) (record { routes = λ d a. inl refl; ids = λ i. inl refl; lowers = λ x. inl refl; binds = λ d a. binds_find keep c d a k; hungs = λ i l e h. h }) (λ r. inl refl))
+    (record { routes = k.routes; ids = k.ids; lowers = k.lowers; binds = apart_filter _ keep c.binds k.binds }) x
 
-turns_unrouted : (drivers : List DriverSpec) (c : Configuration) (keep : Route → Bool) → IsKeyed c → IfAccepted (λ d r. TurnsOnly drivers c d nowhere) (done_outcome drivers c (record c { routes = filter keep c.routes }))
-turns_unrouted drivers c keep k = turns_done drivers c (record c { routes = filter keep c.routes }) nowhere
-    (fewer_turns drivers c (record c { routes = filter keep c.routes }) (record { routes = λ d a. routes_find keep c d a k; ids = λ i. inl refl; lowers = λ x. inl refl; binds = λ d a. inl refl }) (λ r. inl refl))
-    (record { routes = apart_filter _ keep c.routes k.routes; ids = k.ids; lowers = k.lowers; binds = k.binds })
+turns_unrouted : (drivers : List DriverSpec) (c : Configuration) (keep : Route → Bool) → IsKeyed c → AreRooted drivers c.links → IfAccepted (λ d r. TurnsOnly drivers c d nowhere) (done_outcome drivers c (record c { routes = filter keep c.routes }))
+turns_unrouted drivers c keep k x = turns_done drivers c (record c { routes = filter keep c.routes }) nowhere
+    (fewer_turns drivers c (record c { routes = filter keep c.routes }) (record { routes = λ d a. routes_find keep c d a k; ids = λ i. inl refl; lowers = λ x. inl refl; binds = λ d a. inl refl; hungs = λ i l e h. h }) (λ r. inl refl))
+    (record { routes = apart_filter _ keep c.routes k.routes; ids = k.ids; lowers = k.lowers; binds = k.binds }) x
 
-turns_flushed : (drivers : List DriverSpec) (c : Configuration) (goes : Place → Bool) → IsKeyed c → IfAccepted (λ d r. TurnsOnly drivers c d nowhere) (done_outcome drivers c (without_queues_at c goes))
-turns_flushed drivers c goes k = turns_done drivers c (without_queues_at c goes) nowhere (turns_emptied drivers c goes) (record { routes = k.routes; ids = k.ids; lowers = k.lowers; binds = k.binds })
+turns_flushed : (drivers : List DriverSpec) (c : Configuration) (goes : Place → Bool) → IsKeyed c → AreRooted drivers c.links → IfAccepted (λ d r. TurnsOnly drivers c d nowhere) (done_outcome drivers c (without_queues_at c goes))
+turns_flushed drivers c goes k x = turns_done drivers c (without_queues_at c goes) nowhere (turns_emptied drivers c goes) (record { routes = k.routes; ids = k.ids; lowers = k.lowers; binds = k.binds }) x
 
-turns_route : (drivers : List DriverSpec) (c : Configuration) (driver addr id : ℕ) → IsKeyed c → IfAccepted (λ d r. TurnsOnly drivers c d (asks_down c driver addr)) (done_outcome drivers c (routed c driver addr id))
-turns_route drivers c driver addr id k = turns_done drivers c (routed c driver addr id) (asks_down c driver addr) (turns_routed drivers c driver addr id) (keyed_routed c driver addr id k)
+turns_route : (drivers : List DriverSpec) (c : Configuration) (driver addr id : ℕ) → IsKeyed c → AreRooted drivers c.links → IfAccepted (λ d r. TurnsOnly drivers c d (asks_down c driver addr)) (done_outcome drivers c (routed c driver addr id))
+turns_route drivers c driver addr id k x = turns_done drivers c (routed c driver addr id) (asks_down c driver addr) (turns_routed drivers c driver addr id) (keyed_routed c driver addr id k) x
 
-turns_bind : (drivers : List DriverSpec) (c : Configuration) (driver addr minor : ℕ) → IsKeyed c → list_any (λ b. eqb b.driver driver && (eqb b.addr addr || eqb b.minor minor)) c.binds ≡ false
+turns_bind : (drivers : List DriverSpec) (c : Configuration) (driver addr minor : ℕ) → IsKeyed c → AreRooted drivers c.links → list_any (λ b. eqb b.driver driver && (eqb b.addr addr || eqb b.minor minor)) c.binds ≡ false
     → IfAccepted (λ d r. TurnsOnly drivers c d (asks_up c driver addr)) (done_outcome drivers c (bound c driver addr minor))
-turns_bind drivers c driver addr minor k free = turns_done drivers c (bound c driver addr minor) (asks_up c driver addr) (turns_bound drivers c driver addr minor) (keyed_bound c driver addr minor free k)
+turns_bind drivers c driver addr minor k x free = turns_done drivers c (bound c driver addr minor) (asks_up c driver addr) (turns_bound drivers c driver addr minor) (keyed_bound c driver addr minor free k) x
+
+pub hung_more : (s t : StreamId) (hungs : List StreamId) → is_hung hungs t ≡ true → is_hung (with_hung s hungs) t ≡ true
+hung_more s t hungs h = elim (cases_Bool (is_hung hungs s)) [ inl y ↦ rw y h | inr n ↦ rw n (any_placed (λ u. same_stream u t) stream_before hungs s h) ]
+
+pub more_hung_turn_none : (drivers : List DriverSpec) (c : Configuration) (s : StreamId) → TurnsOnly drivers c (record c { hungs = with_hung s c.hungs }) nowhere
+more_hung_turn_none drivers c s = fewer_turns drivers c (record c { hungs = with_hung s c.hungs }) (record { routes = λ d a. inl refl; ids = λ i. inl refl; lowers = λ x. inl refl; binds = λ d a. inl refl; hungs = λ i l e h. hung_more s l.lower c.hungs h }) (λ r. inl refl)
+
+turns_hangup : (drivers : List DriverSpec) (c : Configuration) (s : StreamId) → IsKeyed c → AreRooted drivers c.links → IfAccepted (λ d r. TurnsOnly drivers c d nowhere) (done_outcome drivers c (record c { hungs = with_hung s c.hungs }))
+turns_hangup drivers c s k x = turns_done drivers c (record c { hungs = with_hung s c.hungs }) nowhere (more_hung_turn_none drivers c s)
+    (record { routes = k.routes; ids = k.ids; lowers = k.lowers; binds = k.binds }) x
+
+-- what changes nothing turns none
+turns_none : (drivers : List DriverSpec) (c : Configuration) (t : Place → Bool) → TurnsOnly drivers c c t
+turns_none drivers c t r f = inl refl
 
 turns_new_link : (drivers : List DriverSpec) (c : Configuration) (upper lower : StreamId) (k : LinkKind) → IsSound drivers c
     → TurnsOnly drivers c (record c { links = c.links ++ record { id = c.next_id; ctl = upper; lower = lower; kind = k } ∷ []; next_id = c.next_id + 1 }) (same_place (read_side lower))
@@ -172,21 +192,22 @@ pub turns : (drivers : List DriverSpec) (c : Configuration) (process : ℕ) (k :
 turns drivers c process (command.OpenClone name) h = search (after_ok, at_ok, turns_with_fd, rules) depth 20
 turns drivers c process (command.OpenMinor name minor) h = search (after_test, after_ok, at_ok, turns_with_fd, rules) depth 20
 turns drivers c process (command.Dup fd) h = search (after_ok, at_ok, turns_with_fd, rules) depth 20
-turns drivers c process (command.Close fd) h = let k = keyed drivers c h in search (after_ok, turns_closed, rules) depth 20
-turns drivers c process command.CloseAll h = turns_closed drivers c (filter (λ d. not (eqb d.process process)) c.fds) (keyed drivers c h)
+turns drivers c process (command.Close fd) h = let k = keyed drivers c h in let x = rooted drivers c h in search (after_ok, turns_closed, rules) depth 20
+turns drivers c process command.CloseAll h = turns_closed drivers c (filter (λ d. not (eqb d.process process)) c.fds) (keyed drivers c h) (rooted drivers c h)
 turns drivers c process (command.Link fd arg) h = turns_link drivers c process fd arg kind.Ordinary h
 turns drivers c process (command.Plink fd arg) h = turns_link drivers c process fd arg kind.Persistent h
-turns drivers c process (command.Unlink fd w) h = let k = keyed drivers c h in search (after_ok, turns_unlinked, rules) depth 20
-turns drivers c process (command.Punlink fd w) h = let k = keyed drivers c h in search (after_ok, turns_unlinked, rules) depth 20
-turns drivers c process (command.Bind fd addr) h = let k = keyed drivers c h in search (at_stream drivers c (mux_stream drivers c process fd) (λ s. asks_up c s.driver addr), after_test, turns_bind, rules) depth 20
-turns drivers c process (command.Unbind fd) h = let k = keyed drivers c h in search (after_test, after_ok, turns_unbound, rules) depth 20
-turns drivers c process (command.Route fd addr id) h = let k = keyed drivers c h in search (at_stream drivers c (mux_stream drivers c process fd) (λ s. asks_down c s.driver addr), after_test, turns_route, rules) depth 20
-turns drivers c process (command.Unroute fd addr) h = let k = keyed drivers c h in search (after_test, after_ok, turns_unrouted, rules) depth 20
-turns drivers c process (command.Write fd addr bytes) h = search (at_stream drivers c (free_stream c process fd) (λ s. is_first_at c (write_side s)), turns_sent, rules) depth 20
-turns drivers c process (command.Read fd) h = search (at_stream drivers c (free_stream c process fd) (λ s. same_place (read_side s)), turns_received, rules) depth 20
-turns drivers c process (command.Flush fd w) h = let k = keyed drivers c h in search (after_ok, turns_flushed, rules) depth 20
-turns drivers c process (command.Inject name minor addr bytes) h = search (at_stream drivers c (leaf_stream drivers c name minor) (λ s. is_first_at c (read_side s)), turns_sent, rules) depth 20
-turns drivers c process (command.Transmit name minor) h = search (at_stream drivers c (leaf_stream drivers c name minor) (λ s. same_place (write_side s)), turns_received, rules) depth 20
+turns drivers c process (command.Unlink fd w) h = let k = keyed drivers c h in let x = rooted drivers c h in search (after_ok, turns_unlinked, rules) depth 20
+turns drivers c process (command.Punlink fd w) h = let k = keyed drivers c h in let x = rooted drivers c h in search (after_ok, turns_unlinked, rules) depth 20
+turns drivers c process (command.Bind fd addr) h = let k = keyed drivers c h in let x = rooted drivers c h in search (at_stream drivers c (mux_stream drivers c process fd) (λ s. asks_up c s.driver addr), after_test, turns_bind, rules) depth 20
+turns drivers c process (command.Unbind fd) h = let k = keyed drivers c h in let x = rooted drivers c h in search (after_test, after_ok, turns_unbound, rules) depth 20
+turns drivers c process (command.Route fd addr id) h = let k = keyed drivers c h in let x = rooted drivers c h in search (at_stream drivers c (mux_stream drivers c process fd) (λ s. asks_down c s.driver addr), after_test, turns_route, rules) depth 20
+turns drivers c process (command.Unroute fd addr) h = let k = keyed drivers c h in let x = rooted drivers c h in search (after_test, after_ok, turns_unrouted, rules) depth 20
+turns drivers c process (command.Write fd addr bytes) h = search (at_stream drivers c (live_stream c process fd) (λ s. is_first_at c (write_side s)), turns_sent, rules) depth 20
+turns drivers c process (command.Read fd) h = search (at_stream drivers c (free_stream c process fd) (λ s. same_place (read_side s)), after_choice, at_ok, turns_none, turns_received, rules) depth 20
+turns drivers c process (command.Flush fd w) h = let k = keyed drivers c h in let x = rooted drivers c h in search (after_ok, turns_flushed, rules) depth 20
+turns drivers c process (command.Inject name minor addr bytes) h = search (at_stream drivers c (live_leaf drivers c name minor) (λ s. is_first_at c (read_side s)), turns_sent, rules) depth 20
+turns drivers c process (command.Transmit name minor) h = search (at_stream drivers c (live_leaf drivers c name minor) (λ s. same_place (write_side s)), turns_received, rules) depth 20
+turns drivers c process (command.Hangup name minor) h = let k = keyed drivers c h in let x = rooted drivers c h in search (after_ok, turns_hangup, rules) depth 20
 
 pub if_ok : (P : Configuration → Type 0) (o : Outcome) → IfAccepted (λ d r. P d) o → IfOk o (λ x. P x.0)
 if_ok P (Ok x) h = h.holds

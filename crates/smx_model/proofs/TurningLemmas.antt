@@ -1,5 +1,5 @@
 -- Which changes turn which places.
-use Rattle.std.proofs.Common.{◌≡◌, ℕ, Bool, true, false, ◌&&◌, not, eqb, List, [], ◌∷◌, ◌++◌, filter, find, Option, Some, None, refl, sym, ap, ◌∙◌, subst, inl, inr}
+use Rattle.std.proofs.Common.{◌≡◌, ℕ, Bool, true, false, ◌&&◌, not, eqb, List, [], ◌∷◌, ◌++◌, filter, find, Option, Some, None, refl, sym, ap, ◌∙◌, subst, inl, inr, ◌<◌, length}
 use mathlib.Core.Logic.{◌⊎◌}
 use Rattle.std.specs.Prelude.{slice_get}
 use Rattle.std.specs.List.{list_any}
@@ -20,15 +20,19 @@ use Rattle.smx_model.specs.Ordered.{with_inserted}
 use Rattle.smx_model.specs.Queues.{first_message, is_full, after_arrival, after_leaving, queue}
 use Rattle.smx_model.specs.Removal.{without_queues_at, without_links, without_dead_streams, after_sweep}
 use Rattle.smx_model.proofs.OrderLemmas.{order_without}
-use Rattle.smx_model.specs.Settling.{◌>>=◌, after_move, after_move_to, next_open_place, next_place}
+use Rattle.smx_model.specs.Settling.{◌>>=◌, after_move, after_move_to, next_open_place, next_place, live_write_side}
 use Rattle.smx_model.specs.Standing.{is_persistent, exists}
-use Rattle.smx_model.specs.SoundLinks.{AreRoutesSound}
+use Rattle.smx_model.specs.SoundLinks.{AreRoutesSound, AreLinksSound}
 use Rattle.smx_model.proofs.EachLemmas.{Each, each_filter, each_of_all, each_find}
-use Rattle.smx_model.proofs.TestLemmas.{found_any, find_passes, any_more}
+use Rattle.smx_model.proofs.TestLemmas.{found_any, find_passes, any_more, any_filter}
 use Rattle.smx_model.proofs.QueueLemmas.{emptied_queue, front_is, marked_full}
 use Rattle.smx_model.proofs.SettlingLemmas.{open_next, same_place_is}
 use Rattle.smx_model.specs.RunMarks.{AreMarked, next_of_first, next_of, is_one_of, asks_down, asks_up, has_addr, is_first_at, both, feeds, is_freed, can_feed, leads_to, nowhere, wanted_after, woken_by, Stays, TurnsOnly}
 use Rattle.smx_model.proofs.WaitingLemmas.{next_by, next_is, keeps_by, next_of_same, first_left, first_arrived}
+use Rattle.smx_model.specs.Hangups.{is_hung}
+use Rattle.smx_model.proofs.SoundLemmas.{sound_filter}
+use Rattle.smx_model.proofs.StandingLemmas.{swept_is}
+use Rattle.smx_model.proofs.SweptLemmas.{AreKeepingLowers, lower_exists}
 
 -- the one law of changes
 pub wakes : (drivers : List DriverSpec) (c d : Configuration) (run v turned : Place → Bool) → AreMarked drivers c run v → TurnsOnly drivers c d turned → AreMarked drivers d (both run (woken_by drivers c d v turned)) (wanted_after c d v)
@@ -52,13 +56,13 @@ wakes drivers c d run v turned covered h r unmarked =
 
 -- ---- the parts of a next place
 
--- the write side of the lower stream of a link
-abbrev pub lower_side : Option Link → Option Place
-lower_side o = o >>= (λ l. Some (record { stream = l.lower; side = side.Write }))
+-- the write side of the lower stream of a link, unless that has hung up
+abbrev pub lower_side : List StreamId → Option Link → Option Place
+lower_side hungs o = o >>= (λ l. live_write_side hungs l.lower)
 
 -- the place below by a route
-abbrev pub down_by : List Link → Option Route → Option Place
-down_by links o = o >>= (λ r. lower_side (find (λ l. eqb l.id r.id) links))
+abbrev pub down_by : List Link → List StreamId → Option Route → Option Place
+down_by links hungs o = o >>= (λ r. lower_side hungs (find (λ l. eqb l.id r.id) links))
 
 -- the read side of the stream of a binding
 abbrev pub bound_side : Option Binding → Option Place
@@ -108,7 +112,7 @@ finds_kept R t keep (x ∷ xs) f h = elim (cases_Bool (t x)) [
   ]
 ]
 
--- ---- fewer links, routes, bindings and messages
+-- ---- fewer links, routes, bindings and messages, and more streams that have hung up
 
 -- what is found by each key is found as before, or not at all
 pub record Fewer (c d : Configuration) : Type 0 where
@@ -116,17 +120,29 @@ pub record Fewer (c d : Configuration) : Type 0 where
   pub ids : (id : ℕ) → Finds (find (λ l. eqb l.id id) c.links) (find (λ l. eqb l.id id) d.links)
   pub lowers : (s : StreamId) → Finds (find (λ l. same_stream l.lower s) c.links) (find (λ l. same_stream l.lower s) d.links)
   pub binds : (driver addr : ℕ) → Finds (find (λ b. eqb b.driver driver && eqb b.addr addr) c.binds) (find (λ b. eqb b.driver driver && eqb b.addr addr) d.binds)
+  pub hungs : (id : ℕ) (l : Link) → find (λ l. eqb l.id id) d.links ≡ Some l → is_hung c.hungs l.lower ≡ true → is_hung d.hungs l.lower ≡ true
 
 finds_by : {X Y : Type 0} (f : Option X → Option Y) (o n : Option X) → f None ≡ None → Finds o n → Finds (f o) (f n)
 finds_by f o n z (inl e) = inl (ap f e)
 finds_by f o n z (inr e) = inr (ap f e ∙ z)
 
-down_finds : (c d : Configuration) (o n : Option Route) → Fewer c d → Finds o n → Finds (down_by c.links o) (down_by d.links n)
+live_finds : (old new : List StreamId) (s : StreamId) → (is_hung old s ≡ true → is_hung new s ≡ true) → Finds (live_write_side old s) (live_write_side new s)
+live_finds old new s f = elim (cases_Bool (is_hung new s)) [
+  | inl t ↦ rw t (inr refl)
+  | inr n ↦ let o : is_hung old s ≡ false = false_from_ne_true (is_hung old s) (λ t. both_ways (is_hung new s) n (f t)) in rw (o, n) (inl refl)
+]
+
+down_finds : (c d : Configuration) (o n : Option Route) → Fewer c d → Finds o n → Finds (down_by c.links c.hungs o) (down_by d.links d.hungs n)
 down_finds c d o n h (inr e) = rw e (inr refl)
 down_finds c d o n h (inl e) = rw e (by o) where
-  by : (o : Option Route) → Finds (down_by c.links o) (down_by d.links o)
+  over : (id : ℕ) (o n : Option Link) → find (λ l. eqb l.id id) d.links ≡ n → Finds o n → Finds (lower_side c.hungs o) (lower_side d.hungs n)
+  over id o n e (inr z) = rw z (inr refl)
+  over id None n e (inl z) = rw z (inl refl)
+  over id (Some l) n e (inl z) = rw z (live_finds c.hungs d.hungs l.lower (h.hungs id l (e ∙ z)))
+
+  by : (o : Option Route) → Finds (down_by c.links c.hungs o) (down_by d.links d.hungs o)
   by None = inl refl
-  by (Some r) = finds_by lower_side _ _ refl (h.ids r.id)
+  by (Some r) = over r.id (find (λ l. eqb l.id r.id) c.links) (find (λ l. eqb l.id r.id) d.links) refl (h.ids r.id)
 
 up_finds : (c d : Configuration) (addr : ℕ) (o n : Option Link) → Fewer c d → Finds o n → Finds (up_by c.binds addr o) (up_by d.binds addr n)
 up_finds c d addr o n h (inr e) = rw e (inr refl)
@@ -187,13 +203,24 @@ first_emptied flow goes r = elim (cases_Bool (goes r)) [
 ]
 
 pub turns_emptied : (drivers : List DriverSpec) (c : Configuration) (goes : Place → Bool) → TurnsOnly drivers c (without_queues_at c goes) nowhere
-turns_emptied drivers c goes = fewer_turns drivers c (without_queues_at c goes) (record { routes = λ d a. inl refl; ids = λ i. inl refl; lowers = λ s. inl refl; binds = λ d a. inl refl }) (first_emptied c.flow goes)
+turns_emptied drivers c goes = fewer_turns drivers c (without_queues_at c goes) (record { routes = λ d a. inl refl; ids = λ i. inl refl; lowers = λ s. inl refl; binds = λ d a. inl refl; hungs = λ i l e k. k }) (first_emptied c.flow goes)
 
 pub turns_removed : (drivers : List DriverSpec) (c : Configuration) (goes : Link → Bool) → IsKeyed c → TurnsOnly drivers c (without_links c goes) nowhere
-turns_removed drivers c goes h = fewer_turns drivers c (without_links c goes) (record { routes = λ d a. routes_find _ c d a h; ids = λ i. ids_find _ c i h; lowers = λ s. lowers_find _ c s h; binds = λ d a. inl refl }) (first_emptied c.flow _)
+turns_removed drivers c goes h = fewer_turns drivers c (without_links c goes) (record { routes = λ d a. routes_find _ c d a h; ids = λ i. ids_find _ c i h; lowers = λ s. lowers_find _ c s h; binds = λ d a. inl refl; hungs = λ i l e k. k }) (first_emptied c.flow _)
 
-pub turns_dead : (drivers : List DriverSpec) (c : Configuration) → IsKeyed c → TurnsOnly drivers c (without_dead_streams drivers c) nowhere
-turns_dead drivers c h = fewer_turns drivers c (without_dead_streams drivers c) (record { routes = λ d a. inl refl; ids = λ i. inl refl; lowers = λ s. inl refl; binds = λ d a. binds_find _ c d a h }) (first_emptied c.flow _)
+abbrev stream_of_parts : ℕ → ℕ → StreamId
+stream_of_parts driver minor = record { driver = driver; minor = minor }
+
+pub same_stream_is : (s t : StreamId) → same_stream s t ≡ true → s ≡ t
+same_stream_is s t e =
+    let p = and_parts (eqb s.driver t.driver) (eqb s.minor t.minor) e in
+    ap (λ (n : ℕ). stream_of_parts n s.minor) (eqb-true s.driver t.driver p.0) ∙ ap (stream_of_parts t.driver) (eqb-true s.minor t.minor p.1)
+
+-- a hung-up stream goes only where it doesn't exist, and then no link leads there
+pub turns_dead : (drivers : List DriverSpec) (c : Configuration) → IsKeyed c → ((test : Link → Bool) (l : Link) → find test c.links ≡ Some l → exists drivers c l.lower ≡ true) → TurnsOnly drivers c (without_dead_streams drivers c) nowhere
+turns_dead drivers c h lowers = fewer_turns drivers c (without_dead_streams drivers c) (record { routes = λ d a. inl refl; ids = λ i. inl refl; lowers = λ s. inl refl; binds = λ d a. binds_find _ c d a h; hungs = λ i l e k. stays l (lowers (λ l. eqb l.id i) l e) k }) (first_emptied c.flow _) where
+  stays : (l : Link) → exists drivers c l.lower ≡ true → is_hung c.hungs l.lower ≡ true → is_hung (filter (λ s. exists drivers c s) c.hungs) l.lower ≡ true
+  stays l e k = any_filter (λ t. same_stream t l.lower) (λ s. exists drivers c s) c.hungs (λ t s. ap (exists drivers c) (same_stream_is t l.lower s) ∙ e) ∙ k
 
 pub keyed_removed : (c : Configuration) (goes : Link → Bool) → IsKeyed c → IsKeyed (without_links c goes)
 keyed_removed c goes h = record { routes = apart_filter _ _ c.routes h.routes; ids = apart_filter _ _ c.links h.ids; lowers = apart_filter _ _ c.links h.lowers; binds = h.binds }
@@ -205,18 +232,32 @@ turns_then drivers c d e t h k r n = by (h r n) (k r refl) where
   by (inl y) (inl z) = inl (z ∙ y)
   by (inr y) (inl z) = inr (z ∙ y)
 
-pub turns_swept : (drivers : List DriverSpec) (c : Configuration) → IsKeyed c → TurnsOnly drivers c (after_sweep drivers c) nowhere
-turns_swept drivers c h = turns_then drivers c (without_links c loose) (after_sweep drivers c) nowhere (turns_removed drivers c loose h) (turns_dead drivers (without_links c loose) (keyed_removed c loose h)) where
+-- sound links of known streams
+pub record AreRooted (drivers : List DriverSpec) (links : List Link) : Type 0 where
+  pub sound : AreLinksSound links
+  pub below : Each (λ l. l.ctl.driver < length drivers) links
+
+pub rooted_filter : (drivers : List DriverSpec) (links : List Link) (test : Link → Bool) → AreRooted drivers links → AreRooted drivers (filter test links)
+rooted_filter drivers links test h = record { sound = sound_filter test links h.sound; below = each_filter _ test links h.below }
+
+pub turns_swept : (drivers : List DriverSpec) (c : Configuration) → IsKeyed c → AreRooted drivers c.links → TurnsOnly drivers c (after_sweep drivers c) nowhere
+turns_swept drivers c h r = turns_then drivers c (without_links c loose) (after_sweep drivers c) nowhere (turns_removed drivers c loose h) (turns_dead drivers (without_links c loose) (keyed_removed c loose h) (λ test l e. lower_exists drivers (without_links c loose) test l keeps e)) where
   loose : Link → Bool
   loose l = not (is_persistent l) && not (exists drivers c l.ctl)
+
+  rooted : AreRooted drivers (without_links c loose).links
+  rooted = rooted_filter drivers c.links (λ l. not (loose l)) r
+
+  keeps : AreKeepingLowers drivers (without_links c loose)
+  keeps = record { none = rooted.sound.no_cycle; below = rooted.below; alive = (swept_is drivers c).links }
 
 -- ---- a message arrives, the first one leaves
 
 pub turns_left : (drivers : List DriverSpec) (c : Configuration) (p : Place) → TurnsOnly drivers c (after_leaving drivers c p) (same_place p)
-turns_left drivers c p r f = inl (next_of_same drivers c (after_leaving drivers c p) r refl refl refl (first_left c.flow p r f))
+turns_left drivers c p r f = inl (next_of_same drivers c (after_leaving drivers c p) r refl refl refl refl (first_left c.flow p r f))
 
 pub turns_arrived : (drivers : List DriverSpec) (c : Configuration) (q : Place) (m : Message) → IsInOrder c.flow → TurnsOnly drivers c (after_arrival drivers c q m) (is_first_at c q)
-turns_arrived drivers c q m o r f = inl (next_of_same drivers c (after_arrival drivers c q m) r refl refl refl (first_arrived c.flow q r m o f))
+turns_arrived drivers c q m o r f = inl (next_of_same drivers c (after_arrival drivers c q m) r refl refl refl refl (first_arrived c.flow q r m o f))
 
 -- ---- a route
 
@@ -296,9 +337,9 @@ turns_linked drivers c l next sound r f = by (first_message c.flow r) where
   lead : Each (λ r. list_any (λ l. eqb l.id r.id && eqb l.ctl.driver r.driver) c.links ≡ true) c.routes
   lead = each_of_all _ c.routes sound.lead
 
-  down : (a : ℕ) (o : Option Route) → find (λ x. eqb x.driver r.stream.driver && eqb x.addr a) c.routes ≡ o → down_by (c.links ++ l ∷ []) o ≡ down_by c.links o
+  down : (a : ℕ) (o : Option Route) → find (λ x. eqb x.driver r.stream.driver && eqb x.addr a) c.routes ≡ o → down_by (c.links ++ l ∷ []) c.hungs o ≡ down_by c.links c.hungs o
   down a None e = refl
-  down a (Some x) e = ap lower_side (find_push_found (λ k. eqb k.id x.id) c.links l (any_more (λ k. eqb k.id x.id && eqb k.ctl.driver x.driver) (λ k. eqb k.id x.id) c.links (λ k t. (and_parts (eqb k.id x.id) (eqb k.ctl.driver x.driver) t).0) (each_find _ _ c.routes x e lead)))
+  down a (Some x) e = ap (lower_side c.hungs) (find_push_found (λ k. eqb k.id x.id) c.links l (any_more (λ k. eqb k.id x.id && eqb k.ctl.driver x.driver) (λ k. eqb k.id x.id) c.links (λ k t. (and_parts (eqb k.id x.id) (eqb k.ctl.driver x.driver) t).0) (each_find _ _ c.routes x e lead)))
 
   at : (a : ℕ) (x : Side) → (same_stream l.lower r.stream && same_side side.Read x) ≡ false → Stays (next_by drivers c r.stream a x) (next_by drivers (record c { links = c.links ++ l ∷ []; next_id = next }) r.stream a x)
   at a side.Write f = inl (rw (down a (find (λ x. eqb x.driver r.stream.driver && eqb x.addr a) c.routes) refl) refl)
@@ -313,8 +354,8 @@ turns_linked drivers c l next sound r f = by (first_message c.flow r) where
 
 -- ---- what else changes turns none
 
-pub next_of_others : (drivers : List DriverSpec) (c d : Configuration) → d.links ≡ c.links → d.routes ≡ c.routes → d.binds ≡ c.binds → d.flow ≡ c.flow → TurnsOnly drivers c d nowhere
-next_of_others drivers c d l r b f p n = inl (next_of_same drivers c d p l r b (ap (λ (hs : List QueuedMessage). first_message hs p) f))
+pub next_of_others : (drivers : List DriverSpec) (c d : Configuration) → d.links ≡ c.links → d.routes ≡ c.routes → d.binds ≡ c.binds → d.hungs ≡ c.hungs → d.flow ≡ c.flow → TurnsOnly drivers c d nowhere
+next_of_others drivers c d l r b u f p n = inl (next_of_same drivers c d p l r b u (ap (λ (hs : List QueuedMessage). first_message hs p) f))
 
 -- ---- a move
 
@@ -363,16 +404,19 @@ feeders drivers c q r sound keyed h = by (first_message c.flow r) h where
   read side.Write e = absurd (false≢true e)
   read side.Read e = refl
 
-  below : (x : Route) (o : Option Link) → eqb x.driver r.stream.driver ≡ true → list_any (λ l. eqb l.id x.id && eqb l.ctl.driver x.driver) c.links ≡ true → find (λ l. eqb l.id x.id) c.links ≡ o → is_one_of (same_place q) (lower_side o) ≡ true
+  below : (x : Route) (o : Option Link) → eqb x.driver r.stream.driver ≡ true → list_any (λ l. eqb l.id x.id && eqb l.ctl.driver x.driver) c.links ≡ true → find (λ l. eqb l.id x.id) c.links ≡ o → is_one_of (same_place q) (lower_side c.hungs o) ≡ true
       → (same_side q.side side.Write ≡ true) × (list_any (λ l. same_stream l.lower q.stream && eqb l.ctl.driver r.stream.driver) c.links ≡ true)
   below x None d a e t = absurd (false≢true t)
-  below x (Some l) d a e t = let p = and_parts (same_stream q.stream l.lower) (same_side q.side side.Write) t in (
-    p.1,
-    found_any (λ l. eqb l.id x.id) (λ l. same_stream l.lower q.stream && eqb l.ctl.driver r.stream.driver) c.links l e (and_from _ _ (turned q.stream l.lower p.0)
-        (eq-eqb l.ctl.driver r.stream.driver (eqb-true l.ctl.driver x.driver (one_driver c.links x.id x.driver l keyed.ids e a) ∙ eqb-true x.driver r.stream.driver d))),
-  )
+  below x (Some l) d a e t = elim (cases_Bool (is_hung c.hungs l.lower)) [
+    | inl hung ↦ let z : false ≡ true = rw hung at t in absurd (false≢true z)
+    | inr live ↦ let p = and_parts (same_stream q.stream l.lower) (same_side q.side side.Write) (rw live at t) in (
+      p.1,
+      found_any (λ l. eqb l.id x.id) (λ l. same_stream l.lower q.stream && eqb l.ctl.driver r.stream.driver) c.links l e (and_from _ _ (turned q.stream l.lower p.0)
+          (eq-eqb l.ctl.driver r.stream.driver (eqb-true l.ctl.driver x.driver (one_driver c.links x.id x.driver l keyed.ids e a) ∙ eqb-true x.driver r.stream.driver d))),
+    )
+  ]
 
-  down : (a : ℕ) (o : Option Route) → find (λ x. eqb x.driver r.stream.driver && eqb x.addr a) c.routes ≡ o → is_one_of (same_place q) (down_by c.links o) ≡ true
+  down : (a : ℕ) (o : Option Route) → find (λ x. eqb x.driver r.stream.driver && eqb x.addr a) c.routes ≡ o → is_one_of (same_place q) (down_by c.links c.hungs o) ≡ true
       → (same_side q.side side.Write ≡ true) × (list_any (λ l. same_stream l.lower q.stream && eqb l.ctl.driver r.stream.driver) c.links ≡ true)
   down a None e t = absurd (false≢true t)
   down a (Some x) e t = below x (find (λ l. eqb l.id x.id) c.links) (and_parts (eqb x.driver r.stream.driver) (eqb x.addr a) (find_passes (λ x. eqb x.driver r.stream.driver && eqb x.addr a) c.routes x e)).0 (each_find _ _ c.routes x e lead) refl t
@@ -391,7 +435,7 @@ feeders drivers c q r sound keyed h = by (first_message c.flow r) h where
   up a (Some l) e t = let p = bound_at a l (find (λ b. eqb b.driver l.ctl.driver && eqb b.addr a) c.binds) refl t in
       (p.0, found_any (λ l. same_stream l.lower r.stream) (λ l. same_stream l.lower r.stream && eqb l.ctl.driver q.stream.driver) c.links l e (and_from _ _ (find_passes (λ l. same_stream l.lower r.stream) c.links l e) p.1))
 
-  muxed : (a : ℕ) → is_one_of (same_place q) (next_by drivers c r.stream a side.Write) ≡ true → is_one_of (same_place q) (down_by c.links (find (λ x. eqb x.driver r.stream.driver && eqb x.addr a) c.routes)) ≡ true
+  muxed : (a : ℕ) → is_one_of (same_place q) (next_by drivers c r.stream a side.Write) ≡ true → is_one_of (same_place q) (down_by c.links c.hungs (find (λ x. eqb x.driver r.stream.driver && eqb x.addr a) c.routes)) ≡ true
   muxed a t = elim (cases_Bool (is_mux drivers r.stream.driver)) [ inl k ↦ rw k at t | inr k ↦ let u : false ≡ true = rw k at t in absurd cc ]
 
   at : (a : ℕ) (x : Side) → is_one_of (same_place q) (next_by drivers c r.stream a x) ≡ true

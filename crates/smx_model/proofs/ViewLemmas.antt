@@ -19,6 +19,7 @@ use Rattle.smx_types.specs.declared.view.BindingLine.{BindingLine}
 use Rattle.smx_types.specs.declared.view.ConfigView.{ConfigView}
 use Rattle.smx_types.specs.declared.view.DescriptorLine.{DescriptorLine}
 use Rattle.smx_types.specs.declared.view.FullLine.{FullLine}
+use Rattle.smx_types.specs.declared.view.HungLine.{HungLine}
 use Rattle.smx_types.specs.declared.view.LinkLine.{LinkLine}
 use Rattle.smx_types.specs.declared.view.MessageLine.{MessageLine}
 use Rattle.smx_types.specs.declared.view.RouteLine.{RouteLine}
@@ -27,7 +28,7 @@ use Rattle.smx_model.specs.DriverList.{IsDriverList, is_mux, minors_of, name_of}
 use Rattle.smx_model.specs.KnownStreams.{AreStreamsKnown, IsKnown}
 use Rattle.smx_model.specs.Standing.{is_named, is_persistent, stands_within}
 use Rattle.smx_model.specs.Swept.{IsSwept}
-use Rattle.smx_model.specs.Views.{view, view_of_fd, view_of_link, view_of_bind, view_of_route, view_of_message, view_of_full}
+use Rattle.smx_model.specs.Views.{view, view_of_fd, view_of_link, view_of_bind, view_of_route, view_of_message, view_of_full, view_of_hung}
 use Rattle.smx_model.proofs.RangeLemmas.{AreNamed}
 use Rattle.smx_model.proofs.RouteLemmas.{AreRouted}
 use Rattle.smx_model.proofs.EachLemmas.{Each, each_map, all_of_each, each_of_list_all}
@@ -75,6 +76,7 @@ pub record EachKnown (drivers : List DriverSpec) (c : Configuration) : Type 0 wh
   pub routes : Each (λ r. r.driver < length drivers) c.routes
   pub flow : Each (λ h. IsKnown drivers h.place.stream) c.flow
   pub fulls : Each (λ p. IsKnown drivers p.stream) c.fulls
+  pub hungs : Each (λ s. IsKnown drivers s) c.hungs
 
 pub each_known : (drivers : List DriverSpec) (c : Configuration) → AreNamed drivers c → AreRouted drivers c → IsSwept drivers c → EachKnown drivers c
 each_known drivers c named routed swept_ = record {
@@ -84,6 +86,7 @@ each_known drivers c named routed swept_ = record {
   routes = each_map _ _ c.routes (λ r p. mux_below drivers r.driver p.0) routed.routes;
   flow = each_of_list_all _ _ c.flow (λ h e. standing_known drivers c (length drivers) h.place.stream named e) swept_.flow;
   fulls = each_of_list_all _ _ c.fulls (λ p e. standing_known drivers c (length drivers) p.stream named e) swept_.fulls;
+  hungs = each_of_list_all _ _ c.hungs (λ s e. standing_known drivers c (length drivers) s named e) swept_.hungs;
 }
 
 pub known_of_each : (drivers : List DriverSpec) (c : Configuration) → EachKnown drivers c → AreStreamsKnown drivers c
@@ -95,6 +98,7 @@ known_of_each drivers c h = record {
   routes = all_of_each _ c.routes h.routes;
   flow = all_of_each _ c.flow h.flow;
   fulls = all_of_each _ c.fulls h.fulls;
+  hungs = all_of_each _ c.hungs h.hungs;
 }
 
 -- ---- a name is that of one driver
@@ -155,13 +159,13 @@ place_made driver minor s driver2 minor2 s2 e f g = cc
 held_made : (p : Place) (m : Message) (p2 : Place) (m2 : Message) → p ≡ p2 → m ≡ m2 → Same QueuedMessage (record { place = p; message = m }) (record { place = p2; message = m2 })
 held_made p m p2 m2 e f = cc
 
-abbrev configuration : List Descriptor → List Link → ℕ → List Binding → List Route → List QueuedMessage → List Place → ℕ → Configuration
-configuration fds links id binds routes flow fulls serial = record { fds = fds; links = links; next_id = id; binds = binds; routes = routes; flow = flow; fulls = fulls; next_serial = serial }
+abbrev configuration : List Descriptor → List Link → ℕ → List Binding → List Route → List QueuedMessage → List Place → ℕ → List StreamId → Configuration
+configuration fds links id binds routes flow fulls serial hungs = record { fds = fds; links = links; next_id = id; binds = binds; routes = routes; flow = flow; fulls = fulls; next_serial = serial; hungs = hungs }
 
-configuration_made : (fds fds2 : List Descriptor) (links links2 : List Link) (id id2 : ℕ) (binds binds2 : List Binding) (routes routes2 : List Route) (flow flow2 : List QueuedMessage) (fulls fulls2 : List Place) (serial serial2 : ℕ)
-    → fds ≡ fds2 → links ≡ links2 → id ≡ id2 → binds ≡ binds2 → routes ≡ routes2 → flow ≡ flow2 → fulls ≡ fulls2 → serial ≡ serial2
-    → configuration fds links id binds routes flow fulls serial ≡ configuration fds2 links2 id2 binds2 routes2 flow2 fulls2 serial2
-configuration_made fds fds2 links links2 id id2 binds binds2 routes routes2 flow flow2 fulls fulls2 serial serial2 e1 e2 e3 e4 e5 e6 e7 e8 = cc
+configuration_made : (fds fds2 : List Descriptor) (links links2 : List Link) (id id2 : ℕ) (binds binds2 : List Binding) (routes routes2 : List Route) (flow flow2 : List QueuedMessage) (fulls fulls2 : List Place) (serial serial2 : ℕ) (hungs hungs2 : List StreamId)
+    → fds ≡ fds2 → links ≡ links2 → id ≡ id2 → binds ≡ binds2 → routes ≡ routes2 → flow ≡ flow2 → fulls ≡ fulls2 → serial ≡ serial2 → hungs ≡ hungs2
+    → configuration fds links id binds routes flow fulls serial hungs ≡ configuration fds2 links2 id2 binds2 routes2 flow2 fulls2 serial2 hungs2
+configuration_made fds fds2 links links2 id id2 binds binds2 routes routes2 flow flow2 fulls fulls2 serial serial2 hungs hungs2 e1 e2 e3 e4 e5 e6 e7 e8 e9 = cc
 
 one_fd : (drivers : List DriverSpec) → IsDriverList drivers → (d e : Descriptor) → IsKnown drivers d.stream → IsKnown drivers e.stream → view_of_fd drivers d ≡ view_of_fd drivers e → d ≡ e
 one_fd drivers h d e lt lt2 k = fd_made d.process d.fd d.stream.driver d.stream.minor e.process e.fd e.stream.driver e.stream.minor
@@ -188,6 +192,13 @@ one_full : (drivers : List DriverSpec) → IsDriverList drivers → (p q : Place
 one_full drivers h p q lt lt2 k = place_made p.stream.driver p.stream.minor p.side q.stream.driver q.stream.minor q.side
     (one_number drivers p.stream.driver q.stream.driver h lt.0 lt2.0 (ap (λ (l : FullLine). l.driver) k)) (ap (λ (l : FullLine). l.minor) k) (ap (λ (l : FullLine). l.side) k)
 
+stream_made : (driver minor driver2 minor2 : ℕ) → driver ≡ driver2 → minor ≡ minor2 → Same StreamId (record { driver = driver; minor = minor }) (record { driver = driver2; minor = minor2 })
+stream_made driver minor driver2 minor2 e f = cc
+
+one_hung : (drivers : List DriverSpec) → IsDriverList drivers → (s t : StreamId) → IsKnown drivers s → IsKnown drivers t → view_of_hung drivers s ≡ view_of_hung drivers t → s ≡ t
+one_hung drivers h s t lt lt2 k = stream_made s.driver s.minor t.driver t.minor
+    (one_number drivers s.driver t.driver h lt.0 lt2.0 (ap (λ (l : HungLine). l.driver) k)) (ap (λ (l : HungLine). l.minor) k)
+
 one_held : (drivers : List DriverSpec) → IsDriverList drivers → (x y : QueuedMessage) → IsKnown drivers x.place.stream → IsKnown drivers y.place.stream → view_of_message drivers x ≡ view_of_message drivers y → x ≡ y
 one_held drivers h x y lt lt2 k = held_made x.place x.message y.place y.message
     (place_made x.place.stream.driver x.place.stream.minor x.place.side y.place.stream.driver y.place.stream.minor y.place.side
@@ -197,7 +208,7 @@ one_held drivers h x y lt lt2 k = held_made x.place x.message y.place y.message
 -- ---- and the view that of one configuration
 
 pub one_configuration : (drivers : List DriverSpec) (c d : Configuration) → IsDriverList drivers → EachKnown drivers c → EachKnown drivers d → view drivers c ≡ view drivers d → c ≡ d
-one_configuration drivers c d h kc kd e = configuration_made c.fds d.fds c.links d.links c.next_id d.next_id c.binds d.binds c.routes d.routes c.flow d.flow c.fulls d.fulls c.next_serial d.next_serial
+one_configuration drivers c d h kc kd e = configuration_made c.fds d.fds c.links d.links c.next_id d.next_id c.binds d.binds c.routes d.routes c.flow d.flow c.fulls d.fulls c.next_serial d.next_serial c.hungs d.hungs
     (map_one (view_of_fd drivers) (λ x. IsKnown drivers x.stream) c.fds d.fds (one_fd drivers h) kc.fds kd.fds (ap (λ (v : ConfigView). v.fds) e))
     (map_one (view_of_link drivers) (λ x. IsKnown drivers x.ctl × IsKnown drivers x.lower) c.links d.links (one_link drivers h) kc.links kd.links (ap (λ (v : ConfigView). v.links) e))
     (ap (λ (v : ConfigView). v.next_id) e)
@@ -206,3 +217,4 @@ one_configuration drivers c d h kc kd e = configuration_made c.fds d.fds c.links
     (map_one (view_of_message drivers) (λ x. IsKnown drivers x.place.stream) c.flow d.flow (one_held drivers h) kc.flow kd.flow (ap (λ (v : ConfigView). v.msgs) e))
     (map_one (view_of_full drivers) (λ x. IsKnown drivers x.stream) c.fulls d.fulls (one_full drivers h) kc.fulls kd.fulls (ap (λ (v : ConfigView). v.fulls) e))
     (ap (λ (v : ConfigView). v.next_serial) e)
+    (map_one (view_of_hung drivers) (λ x. IsKnown drivers x) c.hungs d.hungs (one_hung drivers h) kc.hungs kd.hungs (ap (λ (v : ConfigView). v.hungs) e))

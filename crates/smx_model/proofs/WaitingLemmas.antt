@@ -23,7 +23,7 @@ use Rattle.smx_model.proofs.SettlingLemmas.{same_place_is}
 
 -- the next place by the stream and the side
 abbrev pub next_by : List DriverSpec → Configuration → StreamId → ℕ → Side → Option Place
-next_by drivers c s addr side.Write = if is_mux drivers s.driver then place_below c.links c.routes s.driver addr else None
+next_by drivers c s addr side.Write = if is_mux drivers s.driver then place_below c.links c.routes c.hungs s.driver addr else None
 next_by drivers c s addr side.Read = place_above c.links c.binds s addr
 
 pub next_is : (drivers : List DriverSpec) (c : Configuration) (p : Place) (addr : ℕ) → next_place drivers c p addr ≡ next_by drivers c p.stream addr p.side
@@ -40,18 +40,18 @@ keeps_by c d v w None n (inr e) f h = rw e refl
 keeps_by c d v w (Some q) n (inl e) f h = rw e (f q refl h)
 keeps_by c d v w (Some q) n (inr e) f h = rw e refl
 
-next_same : (drivers : List DriverSpec) (c d : Configuration) (s : StreamId) (addr : ℕ) (x : Side) → d.links ≡ c.links → d.routes ≡ c.routes → d.binds ≡ c.binds → next_by drivers d s addr x ≡ next_by drivers c s addr x
-next_same drivers c d s addr side.Write l r b = rw (l, r) refl
-next_same drivers c d s addr side.Read l r b = rw (l, b) refl
+next_same : (drivers : List DriverSpec) (c d : Configuration) (s : StreamId) (addr : ℕ) (x : Side) → d.links ≡ c.links → d.routes ≡ c.routes → d.binds ≡ c.binds → d.hungs ≡ c.hungs → next_by drivers d s addr x ≡ next_by drivers c s addr x
+next_same drivers c d s addr side.Write l r b u = rw (l, r, u) refl
+next_same drivers c d s addr side.Read l r b u = rw (l, b) refl
 
--- with the same links, routes and bindings, a first message that stays goes where it went
-pub next_of_same : (drivers : List DriverSpec) (c d : Configuration) (p : Place) → d.links ≡ c.links → d.routes ≡ c.routes → d.binds ≡ c.binds → first_message d.flow p ≡ first_message c.flow p → next_of_first drivers d p ≡ next_of_first drivers c p
-next_of_same drivers c d p l r b f = rw f (by (first_message c.flow p))
+-- with the same links, routes, bindings and hung-up streams, a first message that stays goes where it went
+pub next_of_same : (drivers : List DriverSpec) (c d : Configuration) (p : Place) → d.links ≡ c.links → d.routes ≡ c.routes → d.binds ≡ c.binds → d.hungs ≡ c.hungs → first_message d.flow p ≡ first_message c.flow p → next_of_first drivers d p ≡ next_of_first drivers c p
+next_of_same drivers c d p l r b u f = rw f (by (first_message c.flow p))
   where
     by : (o : Option Message) → next_of drivers d p o ≡ next_of drivers c p o
     by None = refl
     by (Some m) =
-        next_is drivers d p m.addr ∙ next_same drivers c d p.stream m.addr p.side l r b ∙ sym (next_is drivers c p m.addr)
+        next_is drivers d p m.addr ∙ next_same drivers c d p.stream m.addr p.side l r b u ∙ sym (next_is drivers c p m.addr)
 
 -- a place, unless it is full
 abbrev pub if_open : Configuration → Option Place → Option Place

@@ -1,6 +1,7 @@
 -- The command table: for each command its refusals in order, a line each, and what it does if accepted.
-use Rattle.std.specs.Prelude.{ℕ, ◌+◌, Bool, true, ◌&&◌, ◌||◌, not, ◌==◌, nat_lt, nat_le, List, [], ◌∷◌, ◌++◌, length, filter, Ok, Err}
+use Rattle.std.specs.Prelude.{ℕ, ◌+◌, Bool, true, ◌&&◌, ◌||◌, not, ◌==◌, nat_lt, nat_le, if◌then◌else◌, List, [], ◌∷◌, ◌++◌, length, filter, Ok, Err}
 use Rattle.std.specs.List.{list_any}
+use Rattle.std.specs.Option.{is_some}
 use Rattle.smx_types.specs.declared.command.Command.{Command}
 use Rattle.smx_types.specs.declared.command.Command.TheVariants as command
 use Rattle.smx_types.specs.declared.command.Sides.{Sides}
@@ -12,7 +13,7 @@ use Rattle.smx_types.specs.declared.limits.TheConstants.{MAX_LINKS, NUMBER_END}
 use Rattle.smx_types.specs.declared.link.Link.{Link}
 use Rattle.smx_types.specs.declared.link.LinkKind.{LinkKind}
 use Rattle.smx_types.specs.declared.link.LinkKind.TheVariants as kind
-use Rattle.smx_types.specs.declared.reply.Fault.TheVariants.{Below, NotMux, AlreadyBelow, Cycle, TooManyLinks, NoLink, NoMinor, AddressInUse, Unbound, Unrouted, Full, Empty, BadSize}
+use Rattle.smx_types.specs.declared.reply.Fault.TheVariants.{Below, NotMux, AlreadyBelow, Cycle, TooManyLinks, NoLink, NoMinor, AddressInUse, Unbound, Unrouted, Full, Empty, BadSize, HungUp}
 use Rattle.smx_types.specs.declared.reply.Reply.{Reply}
 use Rattle.smx_types.specs.declared.reply.Reply.TheVariants as reply
 use Rattle.smx_types.specs.declared.stream.Place.{Place}
@@ -21,7 +22,8 @@ use Rattle.smx_types.specs.declared.stream.Side.TheVariants as side
 use Rattle.smx_types.specs.declared.stream.StreamId.{StreamId}
 use Rattle.smx_model.specs.Configuration.{Configuration, same_stream, same_side, fd_before, bind_before, route_before, is_fd}
 use Rattle.smx_model.specs.DriverList.{is_mux, minors_of, max_of}
-use Rattle.smx_model.specs.Lookups.{driver_of, stream_of, free_fd, free_minor, free_stream, mux_stream, leaf_stream}
+use Rattle.smx_model.specs.Hangups.{is_hung, with_hung}
+use Rattle.smx_model.specs.Lookups.{driver_of, stream_of, free_fd, free_minor, free_stream, live_stream, mux_stream, leaf_stream, live_leaf}
 use Rattle.smx_model.specs.Ordered.{with_inserted}
 use Rattle.smx_model.specs.Outcomes.{Outcome, ◌>>=◌, or_fault, refuse}
 use Rattle.smx_model.specs.Paths.{reaches}
@@ -46,6 +48,7 @@ link_outcome drivers c process fd arg k = do
   upper ← stream_of c process fd
   lower ← stream_of c process arg
   above ← refuse Below (is_below c.links upper)
+  hung ← refuse HungUp (is_hung c.hungs upper)
   mux ← refuse NotMux (not (is_mux drivers upper.driver))
   free ← refuse AlreadyBelow (is_below c.links lower)
   no_cycle ← refuse Cycle ((lower.driver == upper.driver) || reaches c.links lower.driver upper.driver)
@@ -71,6 +74,13 @@ abbrev pub receive_outcome : List DriverSpec → Configuration → Place → Out
 receive_outcome drivers c p = do
   m ← or_fault Empty (first_message c.flow p)
   Ok (after_leaving drivers c p, reply.Got m.serial m.addr m.bytes)
+
+-- the first message of a stream's read side is delivered; with none it is the end of file once the device has hung up
+-- (STREAMS guide, M_HANGUP; read(2))
+abbrev pub read_outcome : List DriverSpec → Configuration → StreamId → Outcome
+read_outcome drivers c s = at (record { stream = s; side = side.Read }) where
+  at : Place → Outcome
+  at p = if is_hung c.hungs s && not (is_some (first_message c.flow p)) then Ok (c, reply.Eof) else receive_outcome drivers c p
 
 -- one of the sides that are named (streamio(7), I_FLUSH)
 abbrev pub is_side : Sides → Side → Bool
@@ -124,20 +134,23 @@ outcome drivers c process (command.Unroute fd addr) = do
   there ← refuse Unrouted (not (list_any (λ r. (r.driver == s.driver) && (r.addr == addr)) c.routes))
   done_outcome drivers c (record c { routes = filter (λ r. not ((r.driver == s.driver) && (r.addr == addr))) c.routes })
 outcome drivers c process (command.Write fd addr bytes) = do
-  s ← free_stream c process fd
+  s ← live_stream c process fd
   send_outcome drivers c (record { stream = s; side = side.Write }) addr bytes
 outcome drivers c process (command.Read fd) = do
   s ← free_stream c process fd
-  receive_outcome drivers c (record { stream = s; side = side.Read })
+  read_outcome drivers c s
 outcome drivers c process (command.Flush fd w) = do
-  s ← free_stream c process fd
+  s ← live_stream c process fd
   done_outcome drivers c (without_queues_at c (λ p. same_stream p.stream s && is_side w p.side))
 outcome drivers c process (command.Inject name minor addr bytes) = do
-  s ← leaf_stream drivers c name minor
+  s ← live_leaf drivers c name minor
   send_outcome drivers c (record { stream = s; side = side.Read }) addr bytes
 outcome drivers c process (command.Transmit name minor) = do
-  s ← leaf_stream drivers c name minor
+  s ← live_leaf drivers c name minor
   receive_outcome drivers c (record { stream = s; side = side.Write })
+outcome drivers c process (command.Hangup name minor) = do
+  s ← leaf_stream drivers c name minor
+  done_outcome drivers c (record c { hungs = with_hung s c.hungs })
 
 -- an accepted outcome is settled; a refusal changes nothing
 abbrev pub after_outcome : List DriverSpec → Configuration → Outcome → Configuration × Reply

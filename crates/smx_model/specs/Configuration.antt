@@ -15,8 +15,8 @@ pub record QueuedMessage : Type 0 where
   pub place : Place
   pub message : Message
 
--- descriptors, links, bindings and routes in the order in which they are shown; the flow is all queued
--- messages, by rising place, and in order of arrival within a place (this project's own)
+-- descriptors, links, bindings, routes and hung-up streams in the order in which they are shown; the flow is all
+-- queued messages, by rising place, and in order of arrival within a place (this project's own)
 pub record Configuration : Type 0 where
   pub fds : List Descriptor
   pub links : List Link
@@ -26,10 +26,21 @@ pub record Configuration : Type 0 where
   pub flow : List QueuedMessage
   pub fulls : List Place
   pub next_serial : ℕ
+  pub hungs : List StreamId
 
 -- nothing is open, and both numbers start from 1
 abbrev pub empty : Configuration
-empty = record { fds = []; links = []; next_id = 1; binds = []; routes = []; flow = []; fulls = []; next_serial = 1 }
+empty = record {
+  fds = [];
+  links = [];
+  next_id = 1;
+  binds = [];
+  routes = [];
+  flow = [];
+  fulls = [];
+  next_serial = 1;
+  hungs = [];
+}
 
 -- the same driver and minor
 abbrev pub same_stream : StreamId → StreamId → Bool
@@ -77,9 +88,13 @@ side_before side.Write side.Read = true
 side_before side.Read side.Write = false
 side_before side.Read side.Read = false
 
+-- by driver and minor
+abbrev pub stream_before : StreamId → StreamId → Bool
+stream_before s t = pair_before s.driver s.minor t.driver t.minor
+
 -- by stream, and the write side before the read side
 abbrev pub place_before : Place → Place → Bool
-place_before p q = pair_before p.stream.driver p.stream.minor q.stream.driver q.stream.minor || (same_stream p.stream q.stream && side_before p.side q.side)
+place_before p q = stream_before p.stream q.stream || (same_stream p.stream q.stream && side_before p.side q.side)
 
 -- by place
 abbrev pub queued_before : QueuedMessage → QueuedMessage → Bool

@@ -37,7 +37,7 @@ max_of drivers n = option_map_or (λ d. d.max) (slice_get drivers n) 0
 abbrev pub name_of : List DriverSpec → ℕ → List ℕ
 name_of drivers n = option_map_or (λ d. d.name) (slice_get drivers n) []
 
--- at most 64, each of which can be had, no two of one name; they are numbered from 0 (this project's own limits)
+-- at most 128, each of which can be had, no two of one name; they are numbered from 0 (this project's own limits)
 pub record IsDriverList (drivers : List DriverSpec) : Type 0 where
   pub few : length drivers ≤ MAX_DRIVERS
   pub each : All (λ d. spec_check d ≡ Ok tt) drivers

@@ -9,7 +9,7 @@ use Rattle.smx_types.specs.declared.stream.Place.{Place}
 use Rattle.smx_types.specs.declared.stream.StreamId.{StreamId}
 use Rattle.smx_model.specs.Commands.{is_side}
 use Rattle.smx_model.specs.Configuration.{Configuration, same_place, same_stream}
-use Rattle.smx_model.specs.Lookups.{free_stream, leaf_stream}
+use Rattle.smx_model.specs.Lookups.{free_stream, live_stream, live_leaf}
 use Rattle.smx_model.specs.Queues.{first_message}
 use Rattle.smx_model.specs.RunMarks.{is_freed, nowhere}
 use Rattle.smx_model.specs.TurnedPlaces.{of_stream, read_side, write_side}
@@ -43,7 +43,8 @@ freed_by drivers c process (command.Route fd addr id) new = nowhere
 freed_by drivers c process (command.Unroute fd addr) new = nowhere
 freed_by drivers c process (command.Write fd addr bytes) new = nowhere
 freed_by drivers c process (command.Read fd) new = of_stream (free_stream c process fd) (λ s. same_place (read_side s))
-freed_by drivers c process (command.Flush fd w) new = of_stream (free_stream c process fd) (λ s. is_side_of s w)
+freed_by drivers c process (command.Flush fd w) new = of_stream (live_stream c process fd) (λ s. is_side_of s w)
 freed_by drivers c process (command.Inject name minor addr bytes) new = nowhere
 freed_by drivers c process (command.Transmit name minor) new =
-    of_stream (leaf_stream drivers c name minor) (λ s. same_place (write_side s))
+    of_stream (live_leaf drivers c name minor) (λ s. same_place (write_side s))
+freed_by drivers c process (command.Hangup name minor) new = nowhere

@@ -19,3 +19,4 @@ pub record AreStreamsKnown (drivers : List DriverSpec) (c : Configuration) : Typ
   pub routes : All (λ r. r.driver < length drivers) c.routes
   pub flow : All (λ h. IsKnown drivers h.place.stream) c.flow
   pub fulls : All (λ p. IsKnown drivers p.stream) c.fulls
+  pub hungs : All (λ s. IsKnown drivers s) c.hungs

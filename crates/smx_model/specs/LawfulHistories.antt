@@ -19,6 +19,7 @@ taken_by (reply.Id id) = []
 taken_by (reply.Took serial) = serial ∷ []
 taken_by (reply.Got serial addr bytes) = []
 taken_by (reply.Done gone) = []
+taken_by reply.Eof = []
 taken_by (reply.Fault fault) = []
 
 -- the serial of the message that was delivered, if one was
@@ -28,6 +29,7 @@ delivered_by (reply.Id id) = []
 delivered_by (reply.Took serial) = []
 delivered_by (reply.Got serial addr bytes) = serial ∷ []
 delivered_by (reply.Done gone) = []
+delivered_by reply.Eof = []
 delivered_by (reply.Fault fault) = []
 
 -- the serials of the messages that were dropped
@@ -37,6 +39,7 @@ dropped_by (reply.Id id) = []
 dropped_by (reply.Took serial) = []
 dropped_by (reply.Got serial addr bytes) = []
 dropped_by (reply.Done gone) = gone
+dropped_by reply.Eof = []
 dropped_by (reply.Fault fault) = []
 
 -- unlink, punlink, close, exit and flush may drop messages: they remove links, close streams or empty queues
@@ -59,6 +62,7 @@ may_drop (command.Read fd) = false
 may_drop (command.Flush fd w) = true
 may_drop (command.Inject name minor addr bytes) = false
 may_drop (command.Transmit name minor) = false
+may_drop (command.Hangup name minor) = false
 
 -- only commands that may drop messages name dropped ones
 abbrev pub AreDropsAllowed : List Entry → Type 0

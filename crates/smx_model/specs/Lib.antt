@@ -1,6 +1,7 @@
 pub mod Ordered
 pub mod DriverList
 pub mod Configuration
+pub mod Hangups
 pub mod Paths
 pub mod SoundLinks
 pub mod Standing

@@ -6,10 +6,11 @@ use Rattle.std.specs.Str.{bytes_eq}
 use Rattle.smx_types.specs.declared.driver.DriverSpec.{DriverSpec}
 use Rattle.smx_types.specs.declared.limits.TheConstants.{MAX_DESCRIPTORS}
 use Rattle.smx_types.specs.declared.reply.Fault.{Fault}
-use Rattle.smx_types.specs.declared.reply.Fault.TheVariants.{BadDescriptor, Below, NotMux, NoDriver, NoMinor, TooManyDescriptors}
+use Rattle.smx_types.specs.declared.reply.Fault.TheVariants.{BadDescriptor, Below, NotMux, NoDriver, NoMinor, TooManyDescriptors, HungUp}
 use Rattle.smx_types.specs.declared.stream.StreamId.{StreamId}
 use Rattle.smx_model.specs.Configuration.{Configuration, is_fd}
 use Rattle.smx_model.specs.DriverList.{is_mux, minors_of}
+use Rattle.smx_model.specs.Hangups.{is_hung}
 use Rattle.smx_model.specs.Outcomes.{◌>>=◌, or_fault, refuse}
 use Rattle.smx_model.specs.Standing.{is_below, exists}
 
@@ -36,7 +37,14 @@ free_stream c process fd = do
   above ← refuse Below (is_below c.links s)
   Ok s
 
--- the same, where its driver is a multiplexing one
+-- the same, where its device has not hung up
+abbrev pub live_stream : Configuration → ℕ → ℕ → Result StreamId Fault
+live_stream c process fd = do
+  s ← free_stream c process fd
+  hung ← refuse HungUp (is_hung c.hungs s)
+  Ok s
+
+-- the stream of the process's descriptor, where it is not linked below and its driver is a multiplexing one
 abbrev pub mux_stream : List DriverSpec → Configuration → ℕ → ℕ → Result StreamId Fault
 mux_stream drivers c process fd = do
   s ← free_stream c process fd
@@ -50,3 +58,10 @@ leaf_stream drivers c name minor = do
   leaf ← refuse NoDriver (is_mux drivers n)
   there ← refuse NoMinor (not (exists drivers c (record { driver = n; minor = minor })))
   Ok (record { driver = n; minor = minor })
+
+-- the same, where its device has not hung up
+abbrev pub live_leaf : List DriverSpec → Configuration → List ℕ → ℕ → Result StreamId Fault
+live_leaf drivers c name minor = do
+  s ← leaf_stream drivers c name minor
+  hung ← refuse HungUp (is_hung c.hungs s)
+  Ok s

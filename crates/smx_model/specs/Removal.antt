@@ -23,9 +23,9 @@ without_links c goes = without_queues_at (record c { links = filter (λ l. not (
   gone : List Link
   gone = filter goes c.links
 
--- without the messages, full marks and bindings of streams that don't exist
+-- without the messages, full marks, bindings and hangups of streams that don't exist
 abbrev pub without_dead_streams : List DriverSpec → Configuration → Configuration
-without_dead_streams drivers c = without_queues_at (record c { binds = filter (λ b. exists drivers c (record { driver = b.driver; minor = b.minor })) c.binds }) (λ p. not (exists drivers c p.stream))
+without_dead_streams drivers c = without_queues_at (record c { binds = filter (λ b. exists drivers c (record { driver = b.driver; minor = b.minor })) c.binds; hungs = filter (λ s. exists drivers c s) c.hungs }) (λ p. not (exists drivers c p.stream))
 
 -- the sweep: without the ordinary links whose controlling stream doesn't exist, and then without what dead streams
 -- hold (streamio(7), I_LINK: the last close)

@@ -12,6 +12,7 @@ use Rattle.smx_types.specs.declared.stream.Side.TheVariants as side
 use Rattle.smx_types.specs.declared.stream.StreamId.{StreamId}
 use Rattle.smx_model.specs.Configuration.{Configuration, same_stream}
 use Rattle.smx_model.specs.DriverList.{is_mux}
+use Rattle.smx_model.specs.Hangups.{is_hung}
 use Rattle.smx_model.specs.Queues.{is_full, first_message, after_arrival, after_leaving}
 
 -- with what is there, as long as something is
@@ -20,12 +21,16 @@ abbrev pub ◌>>=◌ : {A B : Type 0} → Option A → (A → Option B) → Opti
 None >>= f = None
 (Some x) >>= f = f x
 
--- down by the driver's route for the address: the write side of the lower stream of the link that the route names
-abbrev pub place_below : List Link → List Route → ℕ → ℕ → Option Place
-place_below links routes driver addr = do
+-- the write side of a stream, unless its device has hung up
+abbrev pub live_write_side : List StreamId → StreamId → Option Place
+live_write_side hungs s = if is_hung hungs s then None else Some (record { stream = s; side = side.Write })
+
+-- down by the driver's route for the address: to the lower stream of the link that the route names
+abbrev pub place_below : List Link → List Route → List StreamId → ℕ → ℕ → Option Place
+place_below links routes hungs driver addr = do
   r ← find (λ r. (r.driver == driver) && (r.addr == addr)) routes
   l ← find (λ l. l.id == r.id) links
-  Some (record { stream = l.lower; side = side.Write })
+  live_write_side hungs l.lower
 
 -- up by a binding: the read side of the stream that is bound to the address on the upper driver of the link above
 abbrev pub place_above : List Link → List Binding → StreamId → ℕ → Option Place
@@ -39,7 +44,7 @@ place_above links binds s addr = do
 abbrev pub next_place : List DriverSpec → Configuration → Place → ℕ → Option Place
 next_place drivers c p addr = toward p.side where
   toward : Side → Option Place
-  toward side.Write = if is_mux drivers p.stream.driver then place_below c.links c.routes p.stream.driver addr else None
+  toward side.Write = if is_mux drivers p.stream.driver then place_below c.links c.routes c.hungs p.stream.driver addr else None
   toward side.Read = place_above c.links c.binds p.stream addr
 
 -- where the first message of a place may go on to: its next place, unless that is full (STREAMS guide, canput)

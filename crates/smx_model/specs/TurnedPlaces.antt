@@ -8,7 +8,7 @@ use Rattle.smx_types.specs.declared.stream.Place.{Place}
 use Rattle.smx_types.specs.declared.stream.Side.TheVariants as side
 use Rattle.smx_types.specs.declared.stream.StreamId.{StreamId}
 use Rattle.smx_model.specs.Configuration.{Configuration, same_place}
-use Rattle.smx_model.specs.Lookups.{stream_of, free_stream, mux_stream, leaf_stream}
+use Rattle.smx_model.specs.Lookups.{stream_of, free_stream, live_stream, mux_stream, live_leaf}
 use Rattle.smx_model.specs.RunMarks.{nowhere, is_first_at, asks_up, asks_down}
 
 -- the write side of a stream
@@ -45,11 +45,12 @@ turned_by drivers c process (command.Route fd addr id) =
     of_stream (mux_stream drivers c process fd) (λ s. asks_down c s.driver addr)
 turned_by drivers c process (command.Unroute fd addr) = nowhere
 turned_by drivers c process (command.Write fd addr bytes) =
-    of_stream (free_stream c process fd) (λ s. is_first_at c (write_side s))
+    of_stream (live_stream c process fd) (λ s. is_first_at c (write_side s))
 turned_by drivers c process (command.Read fd) =
     of_stream (free_stream c process fd) (λ s. same_place (read_side s))
 turned_by drivers c process (command.Flush fd w) = nowhere
 turned_by drivers c process (command.Inject name minor addr bytes) =
-    of_stream (leaf_stream drivers c name minor) (λ s. is_first_at c (read_side s))
+    of_stream (live_leaf drivers c name minor) (λ s. is_first_at c (read_side s))
 turned_by drivers c process (command.Transmit name minor) =
-    of_stream (leaf_stream drivers c name minor) (λ s. same_place (write_side s))
+    of_stream (live_leaf drivers c name minor) (λ s. same_place (write_side s))
+turned_by drivers c process (command.Hangup name minor) = nowhere

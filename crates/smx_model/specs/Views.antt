@@ -6,10 +6,12 @@ use Rattle.smx_types.specs.declared.link.Link.{Link}
 use Rattle.smx_types.specs.declared.link.Route.{Route}
 use Rattle.smx_types.specs.declared.stream.Descriptor.{Descriptor}
 use Rattle.smx_types.specs.declared.stream.Place.{Place}
+use Rattle.smx_types.specs.declared.stream.StreamId.{StreamId}
 use Rattle.smx_types.specs.declared.view.BindingLine.{BindingLine}
 use Rattle.smx_types.specs.declared.view.ConfigView.{ConfigView}
 use Rattle.smx_types.specs.declared.view.DescriptorLine.{DescriptorLine}
 use Rattle.smx_types.specs.declared.view.FullLine.{FullLine}
+use Rattle.smx_types.specs.declared.view.HungLine.{HungLine}
 use Rattle.smx_types.specs.declared.view.LinkLine.{LinkLine}
 use Rattle.smx_types.specs.declared.view.MessageLine.{MessageLine}
 use Rattle.smx_types.specs.declared.view.RouteLine.{RouteLine}
@@ -40,6 +42,10 @@ view_of_message drivers h = record { driver = name_of drivers h.place.stream.dri
 abbrev pub view_of_full : List DriverSpec → Place → FullLine
 view_of_full drivers p = record { driver = name_of drivers p.stream.driver; minor = p.stream.minor; side = p.side }
 
+-- a hung-up stream, with its driver by name
+abbrev pub view_of_hung : List DriverSpec → StreamId → HungLine
+view_of_hung drivers s = record { driver = name_of drivers s.driver; minor = s.minor }
+
 -- both numbers, and a line for each element of each list; configurations are compared by it
 abbrev pub view : List DriverSpec → Configuration → ConfigView
 view drivers c = record {
@@ -51,4 +57,5 @@ view drivers c = record {
   routes = map (view_of_route drivers) c.routes;
   msgs = map (view_of_message drivers) c.flow;
   fulls = map (view_of_full drivers) c.fulls;
+  hungs = map (view_of_hung drivers) c.hungs;
 }

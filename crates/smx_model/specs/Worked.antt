@@ -38,3 +38,7 @@ pub mod TurnedFreedAndMoved
 pub mod CommandsThatDrop
 pub mod Reports
 pub mod SecondIsIllegal
+pub mod HangupRefusals
+pub mod EndOfFile
+pub mod AHungUpStreamIsPassedBy
+pub mod HungUpStreamsInOrder

@@ -3,6 +3,7 @@
 
 pub mod laws;
 pub mod laws_of_deliveries;
+pub mod laws_of_hangups;
 pub mod laws_of_illegal_entries;
 pub mod laws_of_limits;
 pub mod laws_of_links;

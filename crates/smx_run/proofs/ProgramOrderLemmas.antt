@@ -9,6 +9,7 @@ use Rattle.smx_types.specs.declared.command.Entry.{Entry}
 use Rattle.smx_model.specs.Histories.{call_of, commands_of, HoldsPrograms}
 use Rattle.smx_model.specs.LawfulHistories.{AreDropsAllowed}
 use Rattle.smx_types.specs.ProgramLists.{ProgramLists}
+use Rattle.smx_types.specs.declared.version.Version.{Version}
 use Rattle.smx_run.specs.declared.report.Report.{Report}
 use Rattle.smx_model.specs.Headline.{IsReportOf}
 use Rattle.smx_shared.specs.Recorded.{Recorded}
@@ -65,8 +66,9 @@ holds es programs e p =
 
 -- ---- the report of a system that was asked all of it
 
-pub report_of : (programs : ProgramLists) (s : Recorded) (t : Report) → Reports s t → AreDropsAllowed s.history → s.drivers ≡ programs.drivers → HoldsPrograms s.history programs.programs → IsReportOf programs (transcript_of t)
-report_of programs s t h drops same holds = record {
+pub report_of : (programs : ProgramLists) (s : Recorded) (version : Version) (t : Report) → Reports s t → AreDropsAllowed s.history → s.drivers ≡ programs.drivers → HoldsPrograms s.history programs.programs
+    → IsReportOf programs (transcript_of version t)
+report_of programs s version t h drops same holds = record {
   drivers = h.drivers ∙ same;
   can_be_had = rw (← same) h.sound.can_be_had;
   legal = rw (← same, h.entries) h.sound.legal;

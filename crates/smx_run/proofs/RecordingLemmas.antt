@@ -10,6 +10,7 @@ use Rattle.smx_types.specs.declared.command.Entry.{Entry}
 use Rattle.smx_types.specs.declared.driver.DriverSpec.{DriverSpec}
 use Rattle.smx_types.specs.declared.limits.TheConstants.{MAX_COMMANDS}
 use Rattle.smx_types.specs.declared.reply.Reply.{Reply}
+use Rattle.smx_types.specs.declared.version.Version.{Version}
 use Rattle.smx_types.specs.declared.view.ConfigView.{ConfigView}
 use Rattle.smx_model.specs.Commands.{step}
 use Rattle.smx_model.specs.Configuration.{Configuration, empty}
@@ -108,14 +109,14 @@ alone_refuses drivers run.HistoryFull h = absurd h
 alone_refuses drivers run.Held h = absurd h
 
 -- what was told once all programs were asked, with the view at the end
-pub record_of : {K : Type 0} (told : List DriverSpec → List Entry → K → Type 0) → LegalIsLawful → FewDrop → (programs : ProgramLists) (recorder : K) (m : Machine) (shown : ConfigView)
-    → AreWithinLimits programs → IsDriverList programs.drivers → m.drivers ≡ programs.drivers → HasRecorded told recorder m (calls_from 0 programs.programs) → shown ≡ view m.drivers m.configuration
+pub record_of : {K : Type 0} (told : Version → List DriverSpec → List Entry → K → Type 0) → LegalIsLawful → FewDrop → (programs : ProgramLists) (recorder : K) (m : Machine) (shown : ConfigView)
+    → AreWithinLimits programs → IsDriverList programs.drivers → m.drivers ≡ programs.drivers → HasRecorded (told programs.version) recorder m (calls_from 0 programs.programs) → shown ≡ view m.drivers m.configuration
     → IsRecordOf programs told recorder shown
 record_of told lawful drops programs recorder m shown few can same h is =
     let legal : IsLegal programs.drivers h.entries = subst (λ (ds : List DriverSpec). IsLegal ds h.entries) same h.legal in
     record {
       entries = h.entries;
-      was_told = subst (λ (ds : List DriverSpec). told ds h.entries recorder) same h.was_told;
+      was_told = subst (λ (ds : List DriverSpec). told programs.version ds h.entries recorder) same h.was_told;
       promised = record {
         drivers = refl;
         can_be_had = can;
@@ -130,10 +131,12 @@ record_of told lawful drops programs recorder m shown few can same h is =
     }
 
 -- a recorder that keeps all that it is told has the report
-pub kept_all : (programs : ProgramLists) (drivers : List DriverSpec) (entries : List Entry) (shown : ConfigView)
-    → IsRecordOf programs (λ (ds : List DriverSpec) (es : List Entry) (k : List DriverSpec × List Entry). k ≡ (ds, es)) (drivers, entries) shown
-    → IsReportOf programs (record { drivers = drivers; entries = entries; view = shown }) × (map call_of entries ≡ calls_from 0 programs.programs) × (length entries ≤ MAX_COMMANDS)
-kept_all programs drivers entries shown h =
-    let d : drivers ≡ programs.drivers = ap (λ (k : List DriverSpec × List Entry). k.0) h.was_told in
-    let e : entries ≡ h.entries = ap (λ (k : List DriverSpec × List Entry). k.1) h.was_told in
-    (rw (d, e) h.promised, rw e h.asked, rw e h.few)
+pub kept_all : (programs : ProgramLists) (version : Version) (drivers : List DriverSpec) (entries : List Entry) (shown : ConfigView)
+    → IsRecordOf programs (λ (v : Version) (ds : List DriverSpec) (es : List Entry) (k : Version × List DriverSpec × List Entry). k ≡ (v, ds, es)) (version, drivers, entries) shown
+    → (version ≡ programs.version) × IsReportOf programs (record { version = version; drivers = drivers; entries = entries; view = shown })
+    × (map call_of entries ≡ calls_from 0 programs.programs) × (length entries ≤ MAX_COMMANDS)
+kept_all programs version drivers entries shown h =
+    let v : version ≡ programs.version = ap (λ (k : Version × List DriverSpec × List Entry). k.0) h.was_told in
+    let d : drivers ≡ programs.drivers = ap (λ (k : Version × List DriverSpec × List Entry). k.1) h.was_told in
+    let e : entries ≡ h.entries = ap (λ (k : Version × List DriverSpec × List Entry). k.2) h.was_told in
+    (v, rw (v, d, e) h.promised, rw e h.asked, rw e h.few)

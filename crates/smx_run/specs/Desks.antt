@@ -3,6 +3,7 @@ use Rattle.std.specs.Prelude.{◌≡◌, ℕ, List, ◌++◌, map}
 use Rattle.smx_types.specs.declared.command.Command.{Command}
 use Rattle.smx_types.specs.declared.command.Entry.{Entry}
 use Rattle.smx_types.specs.declared.driver.DriverSpec.{DriverSpec}
+use Rattle.smx_types.specs.declared.version.Version.{Version}
 use Rattle.smx_model.specs.Histories.{after, call_of, IsLegal}
 use Rattle.smx_config.specs.Machine.{Machine}
 use Rattle.smx_shared.specs.Seats.{Known, IsBeginningOf}
@@ -26,11 +27,12 @@ pub record HasRecorded {K : Type 0} (told : List DriverSpec → List Entry → K
   pub now : m.configuration ≡ after m.drivers entries
   pub calls : map call_of entries ≡ asked
 
--- whatever was recorded, these commands of the process are now recorded more, and the drivers are the same
-pub record PerformedRecording {K : Type 0} (told : List DriverSpec → List Entry → K → Type 0) (a : Recording K) (commands : List Command) (b : Recording K) : Type 0 where
+-- whatever was recorded, in whichever version, these commands of the process are now recorded more, and the drivers are the same
+pub record PerformedRecording {K : Type 0} (told : Version → List DriverSpec → List Entry → K → Type 0) (a : Recording K) (commands : List Command) (b : Recording K) : Type 0 where
   pub process : b.process ≡ a.process
   pub drivers : b.config.drivers ≡ a.config.drivers
-  pub more : (asked : List (ℕ × Command)) → HasRecorded told a.recorder a.config asked → HasRecorded told b.recorder b.config (asked ++ calls_of a.process commands)
+  pub more : (version : Version) (asked : List (ℕ × Command)) → HasRecorded (told version) a.recorder a.config asked
+      → HasRecorded (told version) b.recorder b.config (asked ++ calls_of a.process commands)
 
 -- these commands of the process were made here more, at the same door
 pub record PerformedSeated {D S : Type 0} (known : S → Known) (a : Seated D S) (commands : List Command) (b : Seated D S) : Type 0 where

@@ -5,6 +5,7 @@ ghost use Rattle.smx_types.specs.ProgramLists.{ProgramLists};
 ghost use Rattle.smx_types.specs.declared.command.Entry.{Entry};
 ghost use Rattle.smx_types.specs.declared.driver.DriverSpec.{DriverSpec};
 ghost use Rattle.smx_types.specs.declared.limits.TheConstants.{MAX_COMMANDS};
+ghost use Rattle.smx_types.specs.declared.version.Version.{Version};
 ghost use Rattle.smx_types.specs.declared.view.ConfigView.{ConfigView};
 ghost use Rattle.smx_model.specs.Headline.{IsReportOf};
 ghost use Rattle.smx_model.specs.Histories.{call_of};
@@ -58,11 +59,12 @@ pub fn strange_processes_of_an_example()
     ensures not_later { IsLeastStrange (opened ∷ exited ∷ copied ∷ []) ((opened ∷ []) ∷ []) 1 → ⊥ }
 {}
 
-/// A recorder that keeps all that it is told has the drivers and the entries of a report, process by process, and what
-/// comes back with it is the view of that report.
+/// A recorder that keeps all that it is told has the version of the programs, and the drivers and the entries of a report,
+/// process by process; and what comes back with it is the view of that report.
 pub fn what_is_recorded()
-    ensures { (programs : ProgramLists) (drivers : List DriverSpec) (entries : List Entry) (view : ConfigView)
-        → IsRecordOf programs (λ (ds : List DriverSpec) (es : List Entry) (k : List DriverSpec × List Entry). k ≡ (ds, es)) (drivers, entries) view
-        → IsReportOf programs (record { drivers = drivers; entries = entries; view = view })
+    ensures { (programs : ProgramLists) (version : Version) (drivers : List DriverSpec) (entries : List Entry) (view : ConfigView)
+        → IsRecordOf programs (λ (v : Version) (ds : List DriverSpec) (es : List Entry) (k : Version × List DriverSpec × List Entry). k ≡ (v, ds, es)) (version, drivers, entries) view
+        → (version ≡ programs.version)
+        × IsReportOf programs (record { version = version; drivers = drivers; entries = entries; view = view })
         × (map call_of entries ≡ calls_from 0 programs.programs) × (length entries ≤ MAX_COMMANDS) }
 {}

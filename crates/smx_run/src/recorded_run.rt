@@ -28,8 +28,9 @@ pub fn run_recorded<K: Recorder, G: Gate>(
 {
     lawful_after_each_entry();
     few_commands_drop();
+    let version = programs.version();
     let (drivers, programs) = programs.into_parts();
-    let mut recording = Recording::begin(alloc, drivers.as_slice(), room)?;
+    let mut recording = Recording::begin(alloc, version, drivers.as_slice(), room)?;
     recording.run_all(programs, gate)?;
     Ok(recording.finish()?)
 }

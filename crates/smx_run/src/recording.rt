@@ -2,6 +2,7 @@
 
 ghost use Rattle.std.specs.Prelude.{◌≡◌, ◌≤◌, [], ◌∷◌, length, IfErr, IfOk, OnOk};
 ghost use Rattle.smx_types.specs.declared.limits.TheConstants.{MAX_PROCESSES};
+ghost use Rattle.smx_types.specs.declared.version.Version.{Version as AnyVersion};
 ghost use Rattle.smx_model.specs.DriverList.{IsDriverList};
 ghost use Rattle.smx_model.specs.Views.{view};
 ghost use Rattle.smx_run.specs.Desks.{HasRecorded, PerformedRecording};
@@ -13,7 +14,9 @@ use crate::gate::Gate;
 use crate::recorder::Recorder;
 use smx_config::Config;
 use smx_model::laws::one_entry_more;
-use smx_types::{Command, Commands, ConfigView, DriverSpec, Entry, NoMemory, Process, ProgramList};
+use smx_types::{
+    Command, Commands, ConfigView, DriverSpec, Entry, NoMemory, Process, ProgramList, Version,
+};
 use std::alloc::Global;
 
 /// Where the commands of one process after the other are performed. The recorder is told of each entry, which is then
@@ -27,19 +30,20 @@ pub struct Recording<K: Drop> {
 }
 
 impl<K: Recorder> Recording<K> {
-    /// The empty configuration over these drivers, and a recorder that begins in the room. Refused for drivers that a
-    /// configuration can't have, before there is a recorder; or for want of memory.
+    /// The empty configuration over these drivers, and a recorder that begins in the room, for programs of this version.
+    /// Refused for drivers that a configuration can't have, before there is a recorder; or for want of memory.
     pub fn begin(
         alloc: Global,
+        version: Version,
         drivers: &[DriverSpec],
         room: K::Room,
     ) -> Result<Recording<K>, RunFault>
         ensures drivers { IfOk result (λ a. (a.config.drivers ≡ drivers.now) × IsDriverList drivers.now) }
-        ensures none { IfOk result (λ a. HasRecorded K.told a.recorder a.config []) }
+        ensures none { IfOk result (λ a. HasRecorded (K.told version) a.recorder a.config []) }
         ensures refused { IfErr result (RefusesAlone drivers.now) }
     {
         let config = Config::new(alloc, drivers)?;
-        let recorder = K::begin(room, drivers)?;
+        let recorder = K::begin(room, version, drivers)?;
         Ok(Recording {
             process: Process::new(0).unwrap(),
             config,
@@ -49,10 +53,10 @@ impl<K: Recorder> Recording<K> {
 
     /// Has each program performed to its end, in turn, from process 0 on. Fails only for want of memory.
     pub fn run_all<G: Gate>(&mut self, programs: ProgramList, gate: &G) -> Result<(), NoMemory>
-        requires none { HasRecorded K.told self.old.recorder self.old.config [] }
         requires processes { length programs ≤ MAX_PROCESSES }
         ensures drivers { OnOk result (self.new.config.drivers ≡ self.old.config.drivers) }
-        ensures calls { OnOk result (HasRecorded K.told self.new.recorder self.new.config (calls_from 0 programs)) }
+        ensures calls { OnOk result ((version : AnyVersion) → HasRecorded (K.told version) self.old.recorder self.old.config []
+            → HasRecorded (K.told version) self.new.recorder self.new.config (calls_from 0 programs)) }
     {
         let mut number = 0;
         for commands in programs.into_vec() {

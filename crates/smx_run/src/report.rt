@@ -4,7 +4,7 @@ ghost use Rattle.std.specs.Prelude.{◌≡◌, IfOk};
 ghost use Rattle.smx_run.specs.Reports.{transcript_of};
 
 use smx_shared::Fronts;
-use smx_types::{ConfigView, Drivers, Entries, NoMemory, Transcript};
+use smx_types::{ConfigView, Drivers, Entries, NoMemory, Transcript, Version};
 use std::alloc::Global;
 
 /// The drivers of a run, its history, and the configuration at its end.
@@ -34,11 +34,12 @@ impl Report {
         })
     }
 
-    /// Its transcript: all but the fronts. Takes no memory.
-    pub fn into_transcript(self) -> Transcript
-        ensures { result ≡ transcript_of self }
+    /// Its transcript, for a text of this version: all but the fronts. Takes no memory.
+    pub fn into_transcript(self, version: Version) -> Transcript
+        ensures { result ≡ transcript_of version self }
     {
         Transcript {
+            version,
             drivers: self.drivers,
             entries: self.entries,
             view: self.view,

@@ -42,7 +42,7 @@ pub fn run_programs<R: Threads + Wait + Sync, G: Gate + Sync>(
     gate: &G,
 ) -> Result<Report, RunFault>
     requires { (1 ≤ workers) × (workers ≤ MAX_WORKERS) }
-    ensures report { IfOk result (λ r. IsReportOf programs (transcript_of r)) }
+    ensures report { IfOk result (λ r. IsReportOf programs (transcript_of programs.version r)) }
     ensures few { IfOk result (λ r. length r.entries ≤ MAX_COMMANDS) }
     ensures fronts { IfOk result (λ r. AreFrontsFrom r.drivers r.entries 0 programs.programs r.fronts) }
     ensures refused { IfErr result (RefusesRun programs.drivers) }

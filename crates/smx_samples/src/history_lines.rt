@@ -27,6 +27,7 @@ pub enum Call<'a> {
     Flush(u32, Sides),
     Inject(&'a str, u32, u32, &'a [u8]),
     Transmit(&'a str, u32),
+    Hangup(&'a str, u32),
 }
 
 /// What it is answered, with the words of the transcript's text in their order.
@@ -37,6 +38,7 @@ pub enum Answer<'a> {
     Took(u32),
     Got(u32, u32, &'a [u8]),
     Done(&'a [u32]),
+    Eof,
     Refused(Fault),
 }
 
@@ -81,6 +83,10 @@ pub fn command_of(alloc: Global, call: Call) -> Result<Command, Fail> {
             driver: named(driver)?,
             minor,
         },
+        Call::Hangup(driver, minor) => Command::Hangup {
+            driver: named(driver)?,
+            minor,
+        },
     })
 }
 
@@ -98,6 +104,7 @@ pub fn reply_of(alloc: Global, answer: Answer) -> Result<Reply, Fail> {
         Answer::Done(dropped) => Reply::Done {
             dropped: items(alloc, dropped)?,
         },
+        Answer::Eof => Reply::Eof,
         Answer::Refused(fault) => Reply::Fault(fault),
     })
 }

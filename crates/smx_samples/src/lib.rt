@@ -18,7 +18,7 @@ pub use most::{
     most_programs, most_serials, most_shown, queued, sixty_four_programs,
 };
 pub use values::{
-    driver, eth, eth0, ip, ip_and_eth, items, made_over, named, nothing_open, numbered, open_on_ip,
-    opening, shown,
+    driver, eth, eth0, hung_up, ip, ip_and_eth, items, made_over, named, nothing_open, numbered,
+    open_on, open_on_ip, opening, shown,
 };
 pub use views::{first_stream, held_above, joined};

@@ -4,7 +4,7 @@ use crate::values::{items, named, nothing_open, numbered};
 use smx_types::{
     Bytes, Command, Commands, ConfigView, DriverKind, DriverSpec, Drivers, Entries, Entry, Items,
     LinkKind, LinkLine, LinkLines, Message, MessageLine, MessageLines, Name, ProgramList, Programs,
-    Reply, Serials, Side, Transcript,
+    Reply, Serials, Side, Transcript, Version,
 };
 use std::alloc::Global;
 use std::test::Fail;
@@ -50,9 +50,9 @@ pub fn sixty_four_programs(alloc: Global, first: usize) -> Result<ProgramList, F
     Ok(programs)
 }
 
-/// 64 drivers, 64 programs, and 100,000 commands in all of them.
+/// 128 drivers, 64 programs, and 100,000 commands in all of them.
 pub fn most_programs(alloc: Global) -> Result<Programs, Fail> {
-    let drivers = leaves(alloc, 64)?;
+    let drivers = leaves(alloc, 128)?;
     let programs = sixty_four_programs(alloc, 99_937)?;
     Ok(Programs::new(drivers, programs)?)
 }
@@ -134,12 +134,13 @@ pub fn most_shown(alloc: Global) -> Result<ConfigView, Fail> {
     Ok(view)
 }
 
-/// A transcript of 64 drivers, 100,000 entries, 1,024 links and 4,096 messages.
+/// A transcript of 128 drivers, 100,000 entries, 1,024 links and 4,096 messages.
 pub fn longest_transcript(alloc: Global) -> Result<Transcript, Fail> {
-    let drivers = leaves(alloc, 64)?;
+    let drivers = leaves(alloc, 128)?;
     let entries = most_entries(alloc)?;
     let view = most_shown(alloc)?;
     Ok(Transcript {
+        version: Version::V2,
         drivers,
         entries,
         view,

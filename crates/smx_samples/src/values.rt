@@ -2,7 +2,8 @@
 
 use smx_config::Config;
 use smx_types::{
-    Command, ConfigView, DescriptorLine, DriverKind, DriverSpec, Entry, Items, Name, Process, Reply,
+    Command, ConfigView, DescriptorLine, DriverKind, DriverSpec, Entry, HungLine, Items, Name,
+    Process, Reply,
 };
 use std::alloc::Global;
 use std::test::Fail;
@@ -59,12 +60,25 @@ pub fn items<T: Copy>(alloc: Global, values: &[T]) -> Result<Items<T>, Fail> {
     Ok(Items::from_vec(Vec::from_slice(alloc, values)?))
 }
 
-/// A descriptor of process 0 for a stream of `ip`.
-pub fn open_on_ip(fd: u32, minor: u32) -> Result<DescriptorLine, Fail> {
+/// A descriptor of process 0 for a stream.
+pub fn open_on(fd: u32, driver: &str, minor: u32) -> Result<DescriptorLine, Fail> {
     Ok(DescriptorLine {
         process: numbered(0)?,
         fd,
-        driver: named("ip")?,
+        driver: named(driver)?,
+        minor,
+    })
+}
+
+/// A descriptor of process 0 for a stream of `ip`.
+pub fn open_on_ip(fd: u32, minor: u32) -> Result<DescriptorLine, Fail> {
+    open_on(fd, "ip", minor)
+}
+
+/// The stream has hung up.
+pub fn hung_up(driver: &str, minor: u32) -> Result<HungLine, Fail> {
+    Ok(HungLine {
+        driver: named(driver)?,
         minor,
     })
 }
@@ -91,6 +105,7 @@ pub fn nothing_open(alloc: Global, next_id: u32, next_serial: u32) -> ConfigView
         routes: Items::new(alloc),
         msgs: Items::new(alloc),
         fulls: Items::new(alloc),
+        hungs: Items::new(alloc),
     }
 }
 

@@ -1,22 +1,12 @@
 //! What is shown at the end of a worked history.
 
-use crate::values::{items, named, nothing_open, numbered};
+use crate::values::{items, named, nothing_open, open_on};
 use smx_types::{
-    ConfigView, DescriptorLine, FullLine, Items, LinkKind, LinkLine, Message, MessageLine,
+    ConfigView, FullLine, Items, LinkKind, LinkLine, Message, MessageLine,
     MessageLines, RouteLine, Side,
 };
 use std::alloc::Global;
 use std::test::Fail;
-
-// A descriptor of process 0, whose stream has minor 0.
-fn descriptor(fd: u32, driver: &str) -> Result<DescriptorLine, Fail> {
-    Ok(DescriptorLine {
-        process: numbered(0)?,
-        fd,
-        driver: named(driver)?,
-        minor: 0,
-    })
-}
 
 fn the_link() -> Result<LinkLine, Fail> {
     Ok(LinkLine {
@@ -39,7 +29,7 @@ fn the_route() -> Result<RouteLine, Fail> {
 
 /// The join of `ip` and `eth` stands, and no message is queued.
 pub fn joined(alloc: Global, next_serial: u32) -> Result<ConfigView, Fail> {
-    let fds = items(alloc, &[descriptor(0, "ip")?, descriptor(1, "eth")?])?;
+    let fds = items(alloc, &[open_on(0, "ip", 0)?, open_on(1, "eth", 0)?])?;
     let links = items(alloc, &[the_link()?])?;
     let routes = items(alloc, &[the_route()?])?;
     Ok(ConfigView {
@@ -51,6 +41,7 @@ pub fn joined(alloc: Global, next_serial: u32) -> Result<ConfigView, Fail> {
         routes,
         msgs: Items::new(alloc),
         fulls: Items::new(alloc),
+        hungs: Items::new(alloc),
     })
 }
 
@@ -109,7 +100,7 @@ pub fn held_above(alloc: Global) -> Result<ConfigView, Fail> {
 
 /// One stream of `ip` is open.
 pub fn first_stream(alloc: Global) -> Result<ConfigView, Fail> {
-    let fds = items(alloc, &[descriptor(0, "ip")?])?;
+    let fds = items(alloc, &[open_on(0, "ip", 0)?])?;
     let mut view = nothing_open(alloc, 1, 1);
     view.fds = fds;
     Ok(view)

@@ -5,6 +5,7 @@ mod doors;
 mod fault_words;
 mod gates;
 mod gathered;
+mod hangups;
 mod holds;
 mod looks;
 mod many_looks;

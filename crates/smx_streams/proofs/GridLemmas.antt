@@ -1,15 +1,16 @@
 -- Numbers and keys by driver and minor.
-use Rattle.std.proofs.Common.{◌≡◌, ℕ, zero, suc, ◌<◌, ◌≤◌, Bool, true, false, ◌&&◌, eqb, List, [], ◌∷◌, length, map, get_or, set, replicate, Option, Some, None, if◌then◌else◌, refl, sym, ap, ◌∙◌, arith, inl, inr, cond}
+use Rattle.std.proofs.Common.{◌≡◌, ℕ, zero, suc, ◌<◌, Bool, true, false, eqb, List, [], ◌∷◌, length, map, get_or, set, replicate, Option, Some, None, if◌then◌else◌, refl, sym, ap, ◌∙◌, inl, inr}
 use Rattle.std.specs.Prelude.{nat_lt}
 use Rattle.std.proofs.Math.ListN.{get_or-map}
-use Rattle.std.proofs.lemmas.Bool.{cases_Bool, cases_eq, cases_lt, eq-eqb, eqb-true, false_from_ne_true, and_parts, lt-ltb}
+use Rattle.std.proofs.lemmas.Bool.{cases_eq, cases_lt, eq-eqb, eqb-true, false_from_ne_true, and_parts, lt-ltb}
 use Rattle.std.proofs.lemmas.List.{get_or-set_same, get_or-set_other, get_or_past, length-set, length-replicate}
-use Rattle.slab.specs.Slab.{Slab, get}
+use Rattle.slab.specs.Slab.{Slab}
 use Rattle.smx_types.specs.declared.stream.StreamId.{StreamId}
 use Rattle.smx_model.specs.Configuration.{same_stream}
 use Rattle.smx_streams.specs.declared.records.Record.{Record}
-use Rattle.smx_streams.specs.RecordGrids.{Grid, key_at, with_key, record_of_key, opens_of, holds_of}
+use Rattle.smx_streams.specs.RecordGrids.{Grid, key_at, with_key, record_of_key, opens_of, holds_of, hung_of}
 use Rattle.smx_streams.specs.StreamTables.{number_at, is_in_range}
+use Rattle.smx_streams.specs.HungRows.{flag_at}
 
 pub same_is : (s t : StreamId) → same_stream s t ≡ true → s ≡ t
 same_is s t h =
@@ -34,6 +35,11 @@ pub holds_at : (grid : Grid) (records : Slab Record) (s : StreamId) → number_a
 holds_at grid records s =
     let f : Option ℕ → ℕ = λ key. holds_of (record_of_key records key) in
     ap (λ (row : List ℕ). get_or row s.minor 0) (get_or-map (map f) grid s.driver []) ∙ get_or-map f (get_or grid s.driver []) s.minor None
+
+pub hungs_at : (grid : Grid) (records : Slab Record) (s : StreamId) → flag_at (map (map (λ key. hung_of (record_of_key records key))) grid) s ≡ hung_of (record_of_key records (key_at grid s))
+hungs_at grid records s =
+    let f : Option ℕ → Bool = λ key. hung_of (record_of_key records key) in
+    ap (λ (row : List Bool). get_or row s.minor false) (get_or-map (map f) grid s.driver []) ∙ get_or-map f (get_or grid s.driver []) s.minor None
 
 -- a key that is set
 

@@ -2,7 +2,10 @@ pub mod ListLemmas
 pub mod RowLemmas
 pub mod RowOrderLemmas
 pub mod GridLemmas
+pub mod HungRowLemmas
 pub mod RecordLemmas
 pub mod NameLemmas
 pub mod NextLemmas
 pub mod WentLemmas
+pub mod HungLemmas
+pub mod HungNextLemmas

@@ -1,17 +1,20 @@
 -- Records by driver and minor, changed, made and gone.
-use Rattle.std.proofs.Common.{◌≡◌, ◌≢◌, ℕ, zero, ◌+◌, ◌<◌, Bool, true, false, List, [], ◌∷◌, length, map, get_or, replicate, Option, Some, None, if◌then◌else◌, refl, sym, ap, ◌∙◌, subst, arith, inl, inr}
-use Rattle.std.proofs.lemmas.Bool.{cases_Bool, cases_eq, both_ways, ltb-true}
+use Rattle.std.proofs.Common.{◌≡◌, ◌≢◌, ℕ, ◌+◌, ◌<◌, ◌≤◌, true, false, List, [], ◌∷◌, length, map, replicate, Option, Some, None, if◌then◌else◌, refl, sym, ap, ◌∙◌, subst, arith, inl, inr}
+use Rattle.std.proofs.lemmas.Bool.{cases_Bool, cases_eq, both_ways, ltb-true, lt-ltb}
 use Rattle.std.specs.Prelude.{IfSome, nat_lt}
 use Rattle.std.specs.List.{AllZip}
 use Rattle.std.specs.Option.{is_some}
 use Rattle.std.proofs.lemmas.Bool.Decides.{nat_tests}
+use Rattle.std.proofs.lemmas.List.{length-map}
 use Rattle.slab.specs.Slab.{Slab, get, IsSlotClone, Updates}
+use Rattle.smx_types.specs.declared.limits.TheConstants.{MAX_DRIVERS}
 use Rattle.smx_types.specs.declared.stream.StreamId.{StreamId}
 use Rattle.smx_model.specs.Configuration.{same_stream}
 use Rattle.smx_streams.specs.declared.records.Record.{Record}
-use Rattle.smx_streams.specs.RecordGrids.{Grid, key_at, with_key, record_of_key, opens_of, holds_of, uses_of, AreSet, AreRecords, IsRecord, IsRecordOf, IsSet}
+use Rattle.smx_streams.specs.RecordGrids.{Grid, key_at, record_of_key, opens_of, holds_of, uses_of, AreSet, AreRecords, IsRecord, IsRecordOf, IsSet, hung_of, is_used_and_hung}
 use Rattle.smx_streams.specs.StreamTables.{number_at, is_in_range}
-use Rattle.smx_streams.proofs.GridLemmas.{same_is, same_self, opens_at, holds_at, in_range_of_key, no_keys}
+use Rattle.smx_streams.proofs.GridLemmas.{same_is, same_self, opens_at, holds_at, in_range_of_key, no_keys, hungs_at}
+use Rattle.smx_streams.specs.HungRows.{flag_at}
 
 -- what a change leaves: the slot of one key, and the key of one stream
 record IsChange (grid : Grid) (old : Slab Record) (s : StreamId) (key : ℕ) (new_key : Option ℕ) (slot : Option Record) (new_grid : Grid) (new : Slab Record) : Type 0 where
@@ -36,10 +39,17 @@ other_record grid old s x key new_key slot new_grid new h f = ap (record_of_key 
   by None is = refl
   by (Some k) is = h.slots.others k (λ e. both_ways (same_stream x s) f (h.apart x (is ∙ ap Some e)))
 
+-- as many drivers as before
+few_still : (grid new_grid : Grid) → length grid ≤ MAX_DRIVERS → map length new_grid ≡ map length grid → length new_grid ≤ MAX_DRIVERS
+few_still grid new_grid few same =
+    let lengths : Grid → List ℕ = map length in
+    let many : length (lengths new_grid) ≡ length (lengths grid) = ap length same in
+    omega (arith, few, many, length-map grid length, length-map new_grid length)
+
 -- a record that stays, or is new
-is_set_some : (grid : Grid) (old : Slab Record) (key : ℕ) (r : Record) (new_grid : Grid) (new : Slab Record) → AreRecords grid old → 0 < r.opens + r.holds
+is_set_some : (grid : Grid) (old : Slab Record) (key : ℕ) (r : Record) (new_grid : Grid) (new : Slab Record) → AreRecords grid old → length new_grid ≤ MAX_DRIVERS → 0 < r.opens + r.holds
     → IsChange grid old r.stream key (Some key) (Some r) new_grid new → AreRecords new_grid new
-is_set_some grid old key r new_grid new whole used h = record { listed = listed; recorded = recorded } where
+is_set_some grid old key r new_grid new whole few used h = record { few = few; listed = listed; recorded = recorded } where
   listed : (x : StreamId) (k : ℕ) → key_at new_grid x ≡ Some k → (q : Record) × (get new k ≡ Some q) × IsRecord x q
   listed x k is = elim (cases_Bool (same_stream x r.stream)) [
     | inl t ↦
@@ -65,9 +75,9 @@ is_set_some grid old key r new_grid new whole used h = record { listed = listed;
   ]
 
 -- a record that is gone
-is_set_none : (grid : Grid) (old : Slab Record) (s : StreamId) (key : ℕ) (new_grid : Grid) (new : Slab Record) → AreRecords grid old
+is_set_none : (grid : Grid) (old : Slab Record) (s : StreamId) (key : ℕ) (new_grid : Grid) (new : Slab Record) → AreRecords grid old → length new_grid ≤ MAX_DRIVERS
     → IsChange grid old s key None None new_grid new → AreRecords new_grid new
-is_set_none grid old s key new_grid new whole h = record { listed = listed; recorded = recorded } where
+is_set_none grid old s key new_grid new whole few h = record { few = few; listed = listed; recorded = recorded } where
   listed : (x : StreamId) (k : ℕ) → key_at new_grid x ≡ Some k → (q : Record) × (get new k ≡ Some q) × IsRecord x q
   listed x k is = elim (cases_Bool (same_stream x s)) [
     | inl t ↦ let same : ◌≡◌ {A = Option ℕ} None (Some k) = sym (same_keys grid s x None new_grid h.keys t) ∙ is in absurd cc
@@ -88,9 +98,9 @@ is_set_none grid old s key new_grid new whole h = record { listed = listed; reco
 
 -- the numbers that are then read
 numbers_set : (grid : Grid) (old : Slab Record) (r : Record) (key : ℕ) (new_key : Option ℕ) (slot : Option Record) (new_grid : Grid) (new : Slab Record) → IsChange grid old r.stream key new_key slot new_grid new
-    → opens_of (record_of_key new new_key) ≡ r.opens → holds_of (record_of_key new new_key) ≡ r.holds → (uses_of new_grid new).minors ≡ (uses_of grid old).minors
-    → AreSet (uses_of grid old) r.stream r.opens r.holds (uses_of new_grid new)
-numbers_set grid old r key new_key slot new_grid new h opens holds minors = record {
+    → opens_of (record_of_key new new_key) ≡ r.opens → holds_of (record_of_key new new_key) ≡ r.holds → hung_of (record_of_key new new_key) ≡ is_used_and_hung r → (uses_of new_grid new).minors ≡ (uses_of grid old).minors
+    → AreSet (uses_of grid old) r.stream r.opens r.holds (is_used_and_hung r) (uses_of new_grid new)
+numbers_set grid old r key new_key slot new_grid new h opens holds hung minors = record {
   minors = minors;
   opens_now = λ x. opens_at new_grid new x ∙ elim (cases_Bool (same_stream x r.stream)) [
     | inl t ↦ rw t (ap (λ o. opens_of (record_of_key new o)) (same_keys grid r.stream x new_key new_grid h.keys t) ∙ opens)
@@ -100,7 +110,18 @@ numbers_set grid old r key new_key slot new_grid new h opens holds minors = reco
     | inl t ↦ rw t (ap (λ o. holds_of (record_of_key new o)) (same_keys grid r.stream x new_key new_grid h.keys t) ∙ holds)
     | inr f ↦ rw f (ap holds_of (other_record grid old r.stream x key new_key slot new_grid new h f) ∙ sym (holds_at grid old x))
   ];
+  hungs_now = λ x. hungs_at new_grid new x ∙ elim (cases_Bool (same_stream x r.stream)) [
+    | inl t ↦ rw t (ap (λ o. hung_of (record_of_key new o)) (same_keys grid r.stream x new_key new_grid h.keys t) ∙ hung)
+    | inr f ↦ rw f (ap hung_of (other_record grid old r.stream x key new_key slot new_grid new h f) ∙ sym (hungs_at grid old x))
+  ];
 }
+
+-- the flag of a record that counts some, and of one that counts nothing
+flag_of_used : (r : Record) → 0 < r.opens + r.holds → r.hung ≡ is_used_and_hung r
+flag_of_used r used = rw (lt-ltb 0 (r.opens + r.holds) used) refl
+
+flag_of_none : (r : Record) → r.opens ≡ 0 → r.holds ≡ 0 → false ≡ is_used_and_hung r
+flag_of_none r opens holds = rw (opens, holds) refl
 
 -- where the stream had the key
 
@@ -130,7 +151,7 @@ put_back_some grid old key r new whole there used slots =
       apart = known_apart grid old r.stream key whole there;
       alone = known_alone grid old r.stream key whole there;
     } in
-    record { whole = is_set_some grid old key r grid new whole used change; set = numbers_set grid old r key (Some key) (Some r) grid new change (ap opens_of slots.changed) (ap holds_of slots.changed) refl }
+    record { whole = is_set_some grid old key r grid new whole whole.few used change; set = numbers_set grid old r key (Some key) (Some r) grid new change (ap opens_of slots.changed) (ap holds_of slots.changed) (ap hung_of slots.changed ∙ flag_of_used r used) refl }
 
 pub put_back_none : (grid : Grid) (old : Slab Record) (key : ℕ) (r : Record) (new_grid : Grid) (new : Slab Record) → AreRecords grid old → key_at grid r.stream ≡ Some key → r.opens ≡ 0 → r.holds ≡ 0 → Updates old new key None
     → ((x : StreamId) → key_at new_grid x ≡ (if same_stream x r.stream then None else key_at grid x)) → (uses_of new_grid new).minors ≡ (uses_of grid old).minors → IsSet grid old r new_grid new
@@ -141,7 +162,7 @@ put_back_none grid old key r new_grid new whole there opens holds slots keys min
       apart = known_apart grid old r.stream key whole there;
       alone = known_alone grid old r.stream key whole there;
     } in
-    record { whole = is_set_none grid old r.stream key new_grid new whole change; set = numbers_set grid old r key None None new_grid new change (sym opens) (sym holds) minors }
+    record { whole = is_set_none grid old r.stream key new_grid new whole (few_still grid new_grid whole.few minors) change; set = numbers_set grid old r key None None new_grid new change (sym opens) (sym holds) (flag_of_none r opens holds) minors }
 
 -- where it had none
 
@@ -157,7 +178,7 @@ put_new grid old key r new_grid new whole none vacant used slots keys minors =
         | inr f ↦ f
       ];
     } in
-    record { whole = is_set_some grid old key r new_grid new whole used change; set = numbers_set grid old r key (Some key) (Some r) new_grid new change (ap opens_of slots.changed) (ap holds_of slots.changed) minors }
+    record { whole = is_set_some grid old key r new_grid new whole (few_still grid new_grid whole.few minors) used change; set = numbers_set grid old r key (Some key) (Some r) new_grid new change (ap opens_of slots.changed) (ap holds_of slots.changed) (ap hung_of slots.changed ∙ flag_of_used r used) minors }
 
 -- a stream that has some descriptor is in range
 pub used_is_in_range : (grid : Grid) (records : Slab Record) (s : StreamId) → 0 < number_at (uses_of grid records).opens s → is_in_range (uses_of grid records).minors s.driver s.minor ≡ true
@@ -166,10 +187,22 @@ used_is_in_range grid records s h = by (key_at grid s) refl where
   by (Some key) is = in_range_of_key grid s key is
   by None is = let none : number_at (uses_of grid records).opens s ≡ 0 = opens_at grid records s ∙ ap (λ o. opens_of (record_of_key records o)) is in absurd (omega (arith, none))
 
+-- and so is one that has hung up
+pub hung_is_in_range : (grid : Grid) (records : Slab Record) (s : StreamId) → flag_at (uses_of grid records).hungs s ≡ true → is_in_range (uses_of grid records).minors s.driver s.minor ≡ true
+hung_is_in_range grid records s h = by (key_at grid s) refl where
+  by : (o : Option ℕ) → key_at grid s ≡ o → is_in_range (uses_of grid records).minors s.driver s.minor ≡ true
+  by (Some key) is = in_range_of_key grid s key is
+  by None is = let none : flag_at (uses_of grid records).hungs s ≡ false = hungs_at grid records s ∙ ap (λ o. hung_of (record_of_key records o)) is in absurd cc
+
+-- there are no more drivers than there may be
+pub few_minors : (grid : Grid) (records : Slab Record) → AreRecords grid records → length (uses_of grid records).minors ≤ MAX_DRIVERS
+few_minors grid records whole = omega (arith, whole.few, length-map grid length)
+
 -- no records
 
-pub none_recorded : (minors : List ℕ) (records : Slab Record) → ((k : ℕ) → get records k ≡ None) → AreRecords (map (λ n. replicate n None) minors) records
-none_recorded minors records none = record {
+pub none_recorded : (minors : List ℕ) (records : Slab Record) → length minors ≤ MAX_DRIVERS → ((k : ℕ) → get records k ≡ None) → AreRecords (map (λ n. replicate n None) minors) records
+none_recorded minors records few none = record {
+  few = let rows : ℕ → List (Option ℕ) = λ n. replicate n None in omega (arith, few, length-map minors rows);
   listed = λ s key is. let no : ◌≡◌ {A = Option ℕ} None (Some key) = sym (no_keys minors s) ∙ is in absurd cc;
   recorded = λ key r is. let no : ◌≡◌ {A = Option Record} None (Some r) = sym (none key) ∙ is in absurd cc;
 }
@@ -180,10 +213,20 @@ no_opens minors records s = opens_at (map (λ n. replicate n None) minors) recor
 pub no_holds : (minors : List ℕ) (records : Slab Record) (s : StreamId) → number_at (uses_of (map (λ n. replicate n None) minors) records).holds s ≡ 0
 no_holds minors records s = holds_at (map (λ n. replicate n None) minors) records s ∙ ap (λ o. holds_of (record_of_key records o)) (no_keys minors s)
 
+pub no_hungs : (minors : List ℕ) (records : Slab Record) (s : StreamId) → flag_at (uses_of (map (λ n. replicate n None) minors) records).hungs s ≡ false
+no_hungs minors records s = hungs_at (map (λ n. replicate n None) minors) records s ∙ ap (λ o. hung_of (record_of_key records o)) (no_keys minors s)
+
+-- a stream that has hung up counts some descriptor or hold
+pub hung_is_used : (grid : Grid) (records : Slab Record) (s : StreamId) → AreRecords grid records → flag_at (uses_of grid records).hungs s ≡ true → 0 < number_at (uses_of grid records).opens s + number_at (uses_of grid records).holds s
+hung_is_used grid records s whole h = rw (opens_at grid records s, holds_at grid records s) (by (key_at grid s) refl (sym (hungs_at grid records s) ∙ h)) where
+  by : (o : Option ℕ) → key_at grid s ≡ o → hung_of (record_of_key records o) ≡ true → 0 < opens_of (record_of_key records o) + holds_of (record_of_key records o)
+  by None e t = absurd cc
+  by (Some key) e t = let there = whole.listed s key e in rw there.1 there.2.used
+
 -- the numbers of a stream are those of its record
 
 pub record_read : (grid : Grid) (records : Slab Record) (s : StreamId) (r : Option Record) → AreRecords grid records → r ≡ record_of_key records (key_at grid s) → IsRecordOf (uses_of grid records) s r
-record_read grid records s r whole is = record { opens = ap opens_of is ∙ sym (opens_at grid records s); holds = ap holds_of is ∙ sym (holds_at grid records s); used = subst (λ o. IfSome o (λ x. 0 < x.opens + x.holds)) (sym is) (by (key_at grid s) refl) } where
+record_read grid records s r whole is = record { opens = ap opens_of is ∙ sym (opens_at grid records s); holds = ap holds_of is ∙ sym (holds_at grid records s); hung = ap hung_of is ∙ sym (hungs_at grid records s); used = subst (λ o. IfSome o (λ x. 0 < x.opens + x.holds)) (sym is) (by (key_at grid s) refl) } where
   by : (o : Option ℕ) → key_at grid s ≡ o → IfSome (record_of_key records o) (λ x. 0 < x.opens + x.holds)
   by None e = tt
   by (Some key) e = let there = whole.listed s key e in rw there.1 there.2.used

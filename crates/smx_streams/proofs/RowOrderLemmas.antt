@@ -1,17 +1,17 @@
 -- Descriptors as rows of streams by number: their order, how many there are, and the room for them.
-use Rattle.std.proofs.Common.{◌≡◌, ℕ, zero, suc, ◌+◌, ◌*◌, ◌<◌, ◌≤◌, true, List, [], ◌∷◌, ◌++◌, length, map, get_or, set, replicate, Option, Some, None, refl, sym, ap, ◌∙◌, arith, inl, inr, length-append}
+use Rattle.std.proofs.Common.{◌≡◌, ℕ, zero, suc, ◌+◌, ◌*◌, ◌<◌, ◌≤◌, true, List, [], ◌∷◌, ◌++◌, length, map, get_or, set, replicate, Option, Some, None, refl, sym, ap, ◌∙◌, arith, length-append}
 use Rattle.std.specs.List.{All, list_any}
 use Rattle.std.specs.Option.{is_some}
-use Rattle.std.proofs.lemmas.List.{get_or-set_same, length-set, get_or_past, length-replicate}
+use Rattle.std.proofs.lemmas.List.{get_or-set_same, length-set, length-replicate}
 use Rattle.std.proofs.lemmas.List.Elements.{All-nil, All-cons, All-append, All-set}
 use Rattle.std.proofs.Math.ListN.{get_or-map}
 use Rattle.std.proofs.lemmas.Bool.Decides.{nat_tests}
 use Rattle.smx_types.specs.declared.limits.TheConstants.{MAX_DESCRIPTORS, MAX_PROCESSES}
 use Rattle.smx_types.specs.declared.stream.Descriptor.{Descriptor}
 use Rattle.smx_types.specs.declared.stream.StreamId.{StreamId}
-use Rattle.smx_model.specs.Configuration.{is_fd, fd_before, pair_before}
+use Rattle.smx_model.specs.Configuration.{is_fd, fd_before}
 use Rattle.smx_model.specs.Ordered.{ComesBefore, IsRising}
-use Rattle.smx_streams.specs.DescriptorRows.{Rows, AreRows, IsListed, cell_at, with_cell, row_from, rows_from}
+use Rattle.smx_streams.specs.DescriptorRows.{Rows, AreRows, IsListed, with_cell, row_from, rows_from}
 use Rattle.smx_streams.specs.Numbers.{AreAllOrNone, with_room}
 use Rattle.smx_streams.proofs.ListLemmas.{comes_both}
 use Rattle.smx_streams.proofs.RowLemmas.{fd_of, later_row, later_rows, any_is_cell}

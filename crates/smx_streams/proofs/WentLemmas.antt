@@ -1,5 +1,5 @@
 -- What goes when descriptors are closed.
-use Rattle.std.proofs.Common.{◌≡◌, ℕ, ◌+◌, ◌<◌, Bool, true, false, ◌&&◌, ◌||◌, not, eqb, List, [], ◌∷◌, find, filter, Option, Some, None, refl, sym, ap, subst, ◌∙◌, arith, inl, inr}
+use Rattle.std.proofs.Common.{◌≡◌, ℕ, ◌+◌, Bool, true, false, ◌&&◌, ◌||◌, not, eqb, List, [], ◌∷◌, find, filter, Option, Some, None, refl, sym, ap, ◌∙◌, arith, inl, inr}
 use Rattle.std.specs.Prelude.{nat_lt}
 use Rattle.std.specs.Option.{option_map}
 use Rattle.std.proofs.lemmas.Bool.{cases_Bool, eq-eqb, eqb-true, false_from_ne_true, false≢true}
@@ -8,12 +8,11 @@ use Rattle.smx_types.specs.declared.stream.Descriptor.{Descriptor}
 use Rattle.smx_types.specs.declared.stream.StreamId.{StreamId}
 use Rattle.smx_model.specs.Configuration.{same_stream, is_fd, fd_before}
 use Rattle.smx_model.specs.Ordered.{IsRising}
-use Rattle.smx_model.specs.Standing.{is_named}
 use Rattle.smx_streams.specs.StreamTables.{StreamTable, HasOneLess, exists, is_last, number_at, stream_at}
 use Rattle.smx_streams.specs.TableFields.{names_of}
 use Rattle.smx_streams.proofs.GridLemmas.{same_is, same_self}
 use Rattle.smx_streams.proofs.ListLemmas.{none_goes}
-use Rattle.smx_streams.proofs.NameLemmas.{named_is_some, names_taken, one_if}
+use Rattle.smx_streams.proofs.NameLemmas.{named_is_some, names_taken}
 use Rattle.smx_streams.proofs.NextLemmas.{is_closed}
 
 none_mapped : (o : Option Descriptor) → option_map (λ d. d.stream) o ≡ None → o ≡ None

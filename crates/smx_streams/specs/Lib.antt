@@ -1,5 +1,6 @@
 pub mod Numbers
 pub mod DescriptorRows
 pub mod StreamTables
+pub mod HungRows
 pub mod RecordGrids
 pub mod TableFields

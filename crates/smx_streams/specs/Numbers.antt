@@ -1,5 +1,5 @@
 -- The descriptors of one process, by their numbers. No public clause needs this.
-use Rattle.std.specs.Prelude.{◌≡◌, ℕ, ◌<◌, List, [], ◌∷◌, length, replicate, Option, None}
+use Rattle.std.specs.Prelude.{◌≡◌, ◌<◌, List, [], ◌∷◌, length, replicate, Option, None}
 use Rattle.smx_types.specs.declared.limits.TheConstants.{MAX_DESCRIPTORS}
 use Rattle.smx_types.specs.declared.stream.StreamId.{StreamId}
 

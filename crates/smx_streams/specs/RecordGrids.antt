@@ -1,9 +1,11 @@
 -- The records of streams, by driver and minor. No public clause needs this.
-use Rattle.std.specs.Prelude.{◌≡◌, ℕ, ◌+◌, ◌<◌, List, [], map, length, slice_index_or, slice_set, Option, Some, None, if◌then◌else◌, IfSome}
+use Rattle.std.specs.Prelude.{◌≡◌, ℕ, ◌+◌, ◌<◌, ◌≤◌, nat_lt, Bool, false, ◌&&◌, List, [], map, length, slice_index_or, slice_set, Option, Some, None, if◌then◌else◌, IfSome}
 use Rattle.slab.specs.Slab.{Slab, get}
+use Rattle.smx_types.specs.declared.limits.TheConstants.{MAX_DRIVERS}
 use Rattle.smx_types.specs.declared.stream.StreamId.{StreamId}
 use Rattle.smx_model.specs.Configuration.{same_stream}
 use Rattle.smx_streams.specs.declared.records.Record.{Record}
+use Rattle.smx_streams.specs.HungRows.{flag_at}
 use Rattle.smx_streams.specs.StreamTables.{number_at}
 
 -- for each driver a key or none for each minor
@@ -37,29 +39,38 @@ abbrev pub holds_of : Option Record → ℕ
 holds_of None = 0
 holds_of (Some r) = r.holds
 
--- the minors of each driver, and descriptors and holds for each of them
+-- whether it has hung up, which no stream without a record has
+abbrev pub hung_of : Option Record → Bool
+hung_of None = false
+hung_of (Some r) = r.hung
+
+-- the minors of each driver, and descriptors, holds and a flag for each of them
 pub record Uses : Type 0 where
   pub minors : List ℕ
   pub opens : List (List ℕ)
   pub holds : List (List ℕ)
+  pub hungs : List (List Bool)
 
 abbrev pub uses_of : Grid → Slab Record → Uses
 uses_of grid records = record {
   minors = map length grid;
   opens = map (map (λ key. opens_of (record_of_key records key))) grid;
   holds = map (map (λ key. holds_of (record_of_key records key))) grid;
+  hungs = map (map (λ key. hung_of (record_of_key records key))) grid;
 }
 
--- the numbers of one stream are these, and no others changed
-pub record AreSet (old : Uses) (s : StreamId) (opens holds : ℕ) (new : Uses) : Type 0 where
+-- the numbers and the flag of one stream are these, and no others changed
+pub record AreSet (old : Uses) (s : StreamId) (opens holds : ℕ) (hung : Bool) (new : Uses) : Type 0 where
   pub minors : new.minors ≡ old.minors
   pub opens_now : (x : StreamId) → number_at new.opens x ≡ (if same_stream x s then opens else number_at old.opens x)
   pub holds_now : (x : StreamId) → number_at new.holds x ≡ (if same_stream x s then holds else number_at old.holds x)
+  pub hungs_now : (x : StreamId) → flag_at new.hungs x ≡ (if same_stream x s then hung else flag_at old.hungs x)
 
 -- the numbers are those of the stream's record
 pub record IsRecordOf (u : Uses) (s : StreamId) (r : Option Record) : Type 0 where
   pub opens : opens_of r ≡ number_at u.opens s
   pub holds : holds_of r ≡ number_at u.holds s
+  pub hung : hung_of r ≡ flag_at u.hungs s
   pub used : IfSome r (λ x. 0 < x.opens + x.holds)
 
 -- the stream's record, which counts some descriptor or hold
@@ -67,13 +78,19 @@ pub record IsRecord (s : StreamId) (r : Record) : Type 0 where
   pub stream : r.stream ≡ s
   pub used : 0 < r.opens + r.holds
 
--- each key leads to the record of its stream, and each record has its key there
+-- there are no more drivers than there may be, each key leads to the record of its stream, and each record has its key
+-- there
 pub record AreRecords (grid : Grid) (records : Slab Record) : Type 0 where
+  pub few : length grid ≤ MAX_DRIVERS
   pub listed : (s : StreamId) (key : ℕ) → key_at grid s ≡ Some key
       → (r : Record) × (get records key ≡ Some r) × IsRecord s r
   pub recorded : (key : ℕ) (r : Record) → get records key ≡ Some r → key_at grid r.stream ≡ Some key
 
--- a record's numbers are those of its stream, and no others changed
+-- it counts some descriptor or hold, and has hung up
+abbrev pub is_used_and_hung : Record → Bool
+is_used_and_hung r = nat_lt 0 (r.opens + r.holds) && r.hung
+
+-- a record's numbers and flag are those of its stream, and no others changed
 pub record IsSet (grid : Grid) (records : Slab Record) (r : Record) (new_grid : Grid) (new : Slab Record) : Type 0 where
   pub whole : AreRecords new_grid new
-  pub set : AreSet (uses_of grid records) r.stream r.opens r.holds (uses_of new_grid new)
+  pub set : AreSet (uses_of grid records) r.stream r.opens r.holds (is_used_and_hung r) (uses_of new_grid new)

@@ -1,22 +1,25 @@
 -- What a contract sees of a table of streams.
-use Rattle.std.specs.Prelude.{◌≡◌, ℕ, ◌+◌, ◌<◌, Bool, false, ◌||◌, not, ◌==◌, nat_lt, nat_le, List, [], ◌∷◌, length, find, filter, slice_index, slice_index_or}
+use Rattle.std.specs.Prelude.{◌≡◌, ℕ, ◌+◌, ◌<◌, Bool, true, false, ◌||◌, not, ◌==◌, nat_lt, nat_le, List, [], ◌∷◌, length, find, filter, slice_index, slice_index_or}
 use Rattle.std.specs.Prelude.{Option, Some, None, Result, Ok, Err, IsOk, ◌⊎◌, if◌then◌else◌}
 use Rattle.std.specs.List.{list_any, range_with_len}
 use Rattle.std.specs.Option.{option_map, option_map_or}
 use Rattle.smx_types.specs.declared.limits.TheConstants.{MAX_DESCRIPTORS}
 use Rattle.smx_types.specs.declared.stream.Descriptor.{Descriptor}
 use Rattle.smx_types.specs.declared.stream.StreamId.{StreamId}
-use Rattle.smx_model.specs.Configuration.{same_stream, is_fd, fd_before, pair_before}
-use Rattle.smx_model.specs.Ordered.{with_inserted}
+use Rattle.smx_model.specs.Configuration.{same_stream, is_fd, fd_before, pair_before, stream_before}
+use Rattle.smx_model.specs.Hangups.{is_hung, with_hung}
+use Rattle.smx_model.specs.Ordered.{IsRising, with_inserted}
 use Rattle.smx_model.specs.Standing.{is_named}
 use Rattle.smx_streams.specs.declared.fault.StreamFault.{StreamFault}
 use Rattle.smx_streams.specs.declared.fault.StreamFault.TheVariants as fault
 
--- the minors of each driver, the descriptors in order, and for each minor of each driver a number of holds
+-- the minors of each driver, the descriptors in order, for each minor of each driver a number of holds, and the streams
+-- that have hung up, in order
 pub record StreamTable : Type 0 where
   pub minors : List ℕ
   pub fds : List Descriptor
   pub holds : List (List ℕ)
+  pub hungs : List StreamId
 
 -- a stream's number
 abbrev pub number_at : List (List ℕ) → StreamId → ℕ
@@ -99,25 +102,45 @@ pub record HasOneMore (old : StreamTable) (process fd : ℕ) (s : StreamId) (new
   pub minors : new.minors ≡ old.minors
   pub fds : new.fds ≡ with_inserted fd_before old.fds (record { process = process; fd = fd; stream = s })
   pub holds : (x : StreamId) → number_at new.holds x ≡ number_at old.holds x
+  pub hungs : new.hungs ≡ old.hungs
 
 -- the refusal that applies, or want of memory where none does
 abbrev pub IsRefused : Answer → StreamFault → Type 0
 IsRefused wanted f = (wanted ≡ Err f) ⊎ ((f ≡ fault.NoMemory) × IsOk wanted)
+
+-- of the streams that have hung up those are left that exist
+abbrev pub LeavesHungs : StreamTable → StreamTable → Type 0
+LeavesHungs old new = new.hungs ≡ filter (exists new) old.hungs
 
 -- without one descriptor of the process, and else unchanged
 pub record HasOneLess (old : StreamTable) (process fd : ℕ) (new : StreamTable) : Type 0 where
   pub minors : new.minors ≡ old.minors
   pub fds : new.fds ≡ filter (λ d. not (is_fd process fd d)) old.fds
   pub holds : (x : StreamId) → number_at new.holds x ≡ number_at old.holds x
+  pub hungs : LeavesHungs old new
 
 -- without all descriptors of the process, and else unchanged
 pub record HasNoneOf (old : StreamTable) (process : ℕ) (new : StreamTable) : Type 0 where
   pub minors : new.minors ≡ old.minors
   pub fds : new.fds ≡ filter (λ d. not (d.process == process)) old.fds
   pub holds : (x : StreamId) → number_at new.holds x ≡ number_at old.holds x
+  pub hungs : LeavesHungs old new
 
 -- the stream has this number of holds, and else nothing has changed
 pub record HasHolds (old : StreamTable) (s : StreamId) (n : ℕ) (new : StreamTable) : Type 0 where
   pub minors : new.minors ≡ old.minors
   pub fds : new.fds ≡ old.fds
   pub holds : (x : StreamId) → number_at new.holds x ≡ (if same_stream x s then n else number_at old.holds x)
+  pub hungs : LeavesHungs old new
+
+-- the stream has hung up, and else nothing has changed
+pub record HasHungUp (old : StreamTable) (s : StreamId) (new : StreamTable) : Type 0 where
+  pub minors : new.minors ≡ old.minors
+  pub fds : new.fds ≡ old.fds
+  pub holds : (x : StreamId) → number_at new.holds x ≡ number_at old.holds x
+  pub hungs : new.hungs ≡ with_hung s old.hungs
+
+-- in order, and each exists
+pub record AreHungsSound (t : StreamTable) : Type 0 where
+  pub rise : IsRising stream_before t.hungs
+  pub exist : (x : StreamId) → is_hung t.hungs x ≡ true → exists t x ≡ true

@@ -4,6 +4,7 @@ use Rattle.smx_types.specs.declared.stream.Descriptor.{Descriptor}
 use Rattle.smx_types.specs.declared.stream.StreamId.{StreamId}
 use Rattle.smx_model.specs.Configuration.{same_stream}
 use Rattle.smx_streams.specs.declared.streams.Streams.TheInside.{Inside}
+use Rattle.smx_streams.specs.HungRows.{hungs_from}
 use Rattle.smx_streams.specs.StreamTables.{StreamTable, number_at}
 
 -- how many descriptors name the stream
@@ -13,7 +14,7 @@ names_of s (d ∷ ds) = (if same_stream d.stream s then 1 else 0) + names_of s d
 
 -- the fields as the value that a contract sees
 abbrev pub table_of : Inside → StreamTable
-table_of t = record { minors = t.records.minors; fds = t.descriptors.fds; holds = t.records.holds }
+table_of t = record { minors = t.records.minors; fds = t.descriptors.fds; holds = t.records.holds; hungs = hungs_from 0 t.records.hungs }
 
 -- a stream's record has the number of its descriptors
 abbrev pub IsWhole : Inside → Type 0

@@ -4,6 +4,7 @@
 mod closed;
 mod descriptors;
 mod fault;
+mod hung_streams;
 mod keys;
 mod numbers;
 mod records;
@@ -11,4 +12,5 @@ mod streams;
 
 pub use closed::Closed;
 pub use fault::StreamFault;
+pub use hung_streams::HungStreams;
 pub use streams::Streams;

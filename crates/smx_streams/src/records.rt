@@ -1,10 +1,12 @@
 //! The records of streams, found by driver and minor.
 
-ghost use Rattle.std.specs.Prelude.{◌≡◌, ◌≢◌, ℕ, ◌+◌, ◌<◌, ◌≤◌, nat_lt, true, [], None, Some, map, length, replicate};
+ghost use Rattle.std.specs.Prelude.{◌≡◌, ◌≢◌, ℕ, ◌+◌, ◌<◌, ◌≤◌, nat_lt, ◌&&◌, true, false, [], None, Some, map, length, replicate};
 ghost use Rattle.std.specs.Prelude.{slice_get, slice_index_or, IfOk, IsOk, OnOk, OnErr};
 ghost use Rattle.slab.specs.Slab.{get, Updates};
+ghost use Rattle.smx_types.specs.declared.limits.TheConstants.{MAX_DRIVERS};
 ghost use Rattle.smx_types.specs.declared.stream.StreamId.{StreamId};
-ghost use Rattle.smx_streams.specs.RecordGrids.{key_at, with_key, AreRecords, AreSet, IsRecordOf, IsSet};
+ghost use Rattle.smx_streams.specs.RecordGrids.{key_at, with_key, is_used_and_hung, AreRecords, AreSet, IsRecordOf, IsSet};
+ghost use Rattle.smx_streams.specs.HungRows.{flag_at};
 ghost use Rattle.smx_streams.specs.StreamTables.{is_in_range, number_at};
 
 use crate::keys::Keys;
@@ -13,16 +15,17 @@ use smx_types::{NoMemory, StreamId};
 use std::alloc::Global;
 use std::marker::Model;
 
-/// How many descriptors and how many holds a stream has, of which there is one at least.
+/// How many descriptors and how many holds a stream has, of which there is one at least, and whether it has hung up.
 #[derive(Clone, Copy, Debug)]
 pub struct Record {
     pub stream: StreamId,
     pub opens: u32,
     pub holds: u32,
+    pub hung: bool,
 }
 
 /// The records in one slab, and for each driver the keys of its streams' records. A contract sees the minors of each
-/// driver, and two numbers for each of them.
+/// driver, and two numbers and a flag for each of them.
 #[derive(Debug, Drop)]
 pub struct Records {
     drivers: Vec<Keys>,
@@ -133,8 +136,10 @@ fn put(drivers: &mut Vec<Keys>, records: &mut Slab<Record>, added: Record) -> Re
 impl Records {
     /// No records, over drivers with so many minors.
     pub fn new(alloc: Global, minors: &[u8]) -> Result<Records, NoMemory>
+        requires { length minors.now ≤ MAX_DRIVERS }
         ensures minors { IfOk result (λ r. r.minors ≡ minors.now) }
         ensures none { IfOk result (λ r. (s : StreamId) → (number_at r.opens s ≡ 0) × (number_at r.holds s ≡ 0)) }
+        ensures hungs { IfOk result (λ r. (s : StreamId) → flag_at r.hungs s ≡ false) }
     {
         Ok(Records {
             drivers: new_keys(alloc, minors)?,
@@ -180,6 +185,16 @@ impl Records {
         }
     }
 
+    /// Whether the stream has hung up.
+    pub fn is_hung(&self, stream: StreamId) -> bool
+        ensures { result ≡ flag_at self.now.hungs stream }
+    {
+        match self.record_of(stream) {
+            Some(record) => record.hung,
+            None => false,
+        }
+    }
+
     /// Whether the stream has a record.
     pub fn has(&self, stream: StreamId) -> bool
         ensures { result ≡ nat_lt 0 (number_at self.now.opens stream + number_at self.now.holds stream) }
@@ -192,7 +207,7 @@ impl Records {
         requires range { is_in_range self.old.minors stream.driver stream.minor ≡ true }
         requires few { number_at self.old.opens stream ≤ 1024 }
         ensures ok { OnOk result (AreSet self.old stream (number_at self.old.opens stream + 1)
-            (number_at self.old.holds stream) self.new) }
+            (number_at self.old.holds stream) (flag_at self.old.hungs stream) self.new) }
         ensures err { OnErr result (self.new ≡ self.old) }
         ensures in_place { 0 < number_at self.old.opens stream → IsOk result }
     {
@@ -212,13 +227,14 @@ impl Records {
     fn add(&mut self, stream: StreamId) -> Result<(), NoMemory>
         requires range { is_in_range self.old.minors stream.driver stream.minor ≡ true }
         requires none { number_at self.old.opens stream + number_at self.old.holds stream ≡ 0 }
-        ensures ok { OnOk result (AreSet self.old stream 1 0 self.new) }
+        ensures ok { OnOk result (AreSet self.old stream 1 0 false self.new) }
         ensures err { OnErr result (self.new ≡ self.old) }
     {
         let record = Record {
             stream,
             opens: 1,
             holds: 0,
+            hung: false,
         };
         put(&mut self.drivers, &mut self.records, record)?;
         Ok(())
@@ -227,22 +243,54 @@ impl Records {
     /// Other numbers for a stream that has a record; where both are 0 the record goes.
     pub fn set(&mut self, stream: StreamId, opens: u32, holds: u32)
         requires { 0 < number_at self.old.opens stream + number_at self.old.holds stream }
-        ensures { AreSet self.old stream opens holds self.new }
+        ensures { AreSet self.old stream opens holds
+            (nat_lt 0 (opens + holds) && flag_at self.old.hungs stream) self.new }
     {
-        let record = Record {
+        let hung = self.is_hung(stream);
+        self.change(Record {
             stream,
             opens,
             holds,
-        };
-        if let Some(key) = key_of(&self.drivers, stream) {
-            put_back(&mut self.drivers, &mut self.records, key, record);
+            hung,
+        });
+    }
+
+    /// The flag of a stream that has a record.
+    pub fn hang(&mut self, stream: StreamId)
+        requires { 0 < number_at self.old.opens stream + number_at self.old.holds stream }
+        ensures { AreSet self.old stream (number_at self.old.opens stream) (number_at self.old.holds stream) true
+            self.new }
+    {
+        let opens = self.opens_of(stream);
+        let holds = self.holds_of(stream);
+        self.change(Record {
+            stream,
+            opens,
+            holds,
+            hung: true,
+        });
+    }
+
+    // Another record for a stream that has one; where it counts nothing it goes.
+    fn change(&mut self, changed: Record)
+        requires { 0 < number_at self.old.opens changed.stream + number_at self.old.holds changed.stream }
+        ensures { AreSet self.old changed.stream changed.opens changed.holds (is_used_and_hung changed) self.new }
+    {
+        if let Some(key) = key_of(&self.drivers, changed.stream) {
+            put_back(&mut self.drivers, &mut self.records, key, changed);
         }
     }
 
-    /// What every table of records is: a stream that has some is in range.
+    /// What every table of records is: there are no more drivers than there may be, a stream that has descriptors or has
+    /// hung up is in range, and one that has hung up has a record.
     pub fn is_sound(&self)
-        ensures { (s : StreamId) → 0 < number_at self.now.opens s
+        ensures few { length self.now.minors ≤ MAX_DRIVERS }
+        ensures range { (s : StreamId) → 0 < number_at self.now.opens s
             → is_in_range self.now.minors s.driver s.minor ≡ true }
+        ensures flagged { (s : StreamId) → flag_at self.now.hungs s ≡ true
+            → is_in_range self.now.minors s.driver s.minor ≡ true }
+        ensures hung { (s : StreamId) → flag_at self.now.hungs s ≡ true
+            → 0 < number_at self.now.opens s + number_at self.now.holds s }
     {
         let _records = &self.records;
     }

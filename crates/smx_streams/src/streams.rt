@@ -2,24 +2,27 @@
 
 ghost use Rattle.std.specs.Prelude.{◌≡◌, ℕ, ◌+◌, ◌-◌, ◌<◌, ◌≤◌, not, false, true, [], length, slice_index};
 ghost use Rattle.std.specs.Prelude.{Some, Ok, Err, IfOk, IfErr, IfSome, IfNone, IsOk, OnOk, OnErr};
-ghost use Rattle.smx_types.specs.declared.limits.TheConstants.{MAX_DESCRIPTORS};
+ghost use Rattle.smx_types.specs.declared.limits.TheConstants.{MAX_DESCRIPTORS, MAX_DRIVERS};
 ghost use Rattle.smx_types.specs.declared.stream.StreamId.{StreamId};
 ghost use Rattle.std.specs.Option.{option_map};
 ghost use Rattle.smx_streams.specs.DescriptorRows.{IsListed};
 ghost use Rattle.smx_streams.specs.StreamTables.{number_at, is_in_range, exists, stream_at, is_last, least_fd, least_minor, numbered};
-ghost use Rattle.smx_streams.specs.StreamTables.{clone_answer, minor_answer, dup_answer};
-ghost use Rattle.smx_streams.specs.StreamTables.{HasOneMore, HasOneLess, HasNoneOf, HasHolds, IsNext, IsRefused};
+ghost use Rattle.smx_streams.specs.StreamTables.{clone_answer, minor_answer, dup_answer, IsNext, IsRefused};
+ghost use Rattle.smx_model.specs.Hangups.{is_hung};
+ghost use Rattle.smx_streams.specs.StreamTables.{HasOneMore, HasOneLess, HasNoneOf, HasHolds, HasHungUp, AreHungsSound};
 
 use crate::closed::Closed;
 use crate::descriptors::Descriptors;
 use crate::fault::StreamFault;
+use crate::hung_streams::HungStreams;
 use crate::records::Records;
+use smx_model::laws_of_hangups::hung_up_streams_make_the_list;
 use smx_types::{Descriptor, MAX_DESCRIPTORS, NoMemory, Process, StreamId};
 use std::alloc::Global;
 use std::marker::Model;
 
-/// The descriptors of all processes, and how many holds each stream has. A contract sees the minors of each driver,
-/// the list of descriptors, and the holds.
+/// The descriptors of all processes, how many holds each stream has, and which have hung up. A contract sees the
+/// minors of each driver, the list of descriptors, the holds, and the list of hung-up streams.
 #[derive(Debug, Drop)]
 pub struct Streams {
     alloc: Global,
@@ -43,10 +46,11 @@ impl Streams {
     /// No streams, over drivers with so many minors, numbered from 0. It keeps the allocator. Fails only for want of
     /// memory.
     pub fn new(alloc: Global, minors: &[u8]) -> Result<Streams, NoMemory>
-        requires { length minors.now ≤ 128 }
+        requires { length minors.now ≤ MAX_DRIVERS }
         ensures minors { IfOk result (λ t. t.minors ≡ minors.now) }
         ensures fds { IfOk result (λ t. t.fds ≡ []) }
         ensures holds { IfOk result (λ t. (s : StreamId) → number_at t.holds s ≡ 0) }
+        ensures hungs { IfOk result (λ t. t.hungs ≡ []) }
     {
         Ok(Streams {
             alloc,
@@ -70,6 +74,20 @@ impl Streams {
         ensures { result ≡ exists self.now stream }
     {
         self.records.has(stream)
+    }
+
+    /// Whether the stream has hung up.
+    pub fn is_hung(&self, stream: StreamId) -> bool
+        ensures { result ≡ is_hung self.now.hungs stream }
+    {
+        self.records.is_hung(stream)
+    }
+
+    /// The streams that have hung up, in order. Takes no memory.
+    pub fn hungs(&self) -> HungStreams<'_>
+        ensures { result ≡ self.now.hungs }
+    {
+        HungStreams::new(&self.records)
     }
 
     /// How many holds the stream has.
@@ -108,6 +126,7 @@ impl Streams {
         ensures err { OnErr result (self.new ≡ self.old) }
         ensures in_place { (n : ℕ) → stream_at self.old.fds process n ≡ Some stream → IsOk result }
     {
+        hung_up_streams_make_the_list();
         self.descriptors.is_sound();
         self.descriptors.make_room(self.alloc, process)?;
         self.records.open(stream)?;
@@ -213,7 +232,9 @@ impl Streams {
         ensures last { IfSome result (λ c. c.last ≡ not (exists self.new c.stream)) }
         ensures unchanged { IfNone result (self.new ≡ self.old) }
     {
+        hung_up_streams_make_the_list();
         self.descriptors.is_sound();
+        self.records.is_sound();
         let stream = self.descriptors.take(process, fd)?;
         let opens = self.records.opens_of(stream);
         let holds = self.records.holds_of(stream);
@@ -246,6 +267,7 @@ impl Streams {
             → (n : ℕ) × (n < MAX_DESCRIPTORS) × (stream_at self.old.fds process n ≡ Some s) }
     {
         self.is_listed();
+        self.is_sound();
         for fd in 0..MAX_DESCRIPTORS {
             let _closed = self.close_fd(process, fd);
         }
@@ -279,8 +301,11 @@ impl Streams {
     pub fn hold(&mut self, stream: StreamId)
         requires there { exists self.old stream ≡ true }
         requires few { number_at self.old.holds stream < 1024 }
-        ensures { HasHolds self.old stream (number_at self.old.holds stream + 1) self.new }
+        ensures rest { HasHolds self.old stream (number_at self.old.holds stream + 1) self.new }
+        ensures hungs { self.new.hungs ≡ self.old.hungs }
     {
+        hung_up_streams_make_the_list();
+        self.records.is_sound();
         let opens = self.records.opens_of(stream);
         let holds = self.records.holds_of(stream);
         self.records.set(stream, opens, holds + 1);
@@ -293,10 +318,29 @@ impl Streams {
         ensures answer { result ≡ not (exists self.new stream) }
         ensures rest { HasHolds self.old stream (number_at self.old.holds stream - 1) self.new }
     {
+        hung_up_streams_make_the_list();
+        self.records.is_sound();
         let opens = self.records.opens_of(stream);
         let holds = self.records.holds_of(stream);
         self.records.set(stream, opens, holds - 1);
         !self.exists(stream)
+    }
+
+    /// A stream that exists hangs up. It stays so as long as it exists. Takes no memory.
+    pub fn hang(&mut self, stream: StreamId)
+        requires { exists self.old stream ≡ true }
+        ensures { HasHungUp self.old stream self.new }
+    {
+        hung_up_streams_make_the_list();
+        self.records.hang(stream);
+    }
+
+    /// What the streams that have hung up always are: they are in order, and each exists. It does nothing: a caller who
+    /// needs these facts calls it.
+    pub fn is_sound(&self)
+        ensures { AreHungsSound self.now }
+    {
+        self.records.is_sound();
     }
 
     /// The same table again, by the allocator that this one has. Fails only for want of memory.

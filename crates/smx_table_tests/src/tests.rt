@@ -2,6 +2,7 @@
 
 mod bindings;
 mod flow_tables;
+mod hung_streams;
 mod link_tables;
 mod link_tables_at_limits;
 mod place_marks;

@@ -28,3 +28,17 @@ pub of_map : {X Y : Type 0} (P : Y → Type 0) (f : X → Y) (xs : List X) → A
     → AllByRecursion (λ x. P (f x)) xs
 of_map P f [] h = tt
 of_map P f (x ∷ xs) h = (h.0, of_map P f xs h.1)
+
+pub all_both : {X : Type 0} (P Q : X → Type 0) (xs : List X) → AllByRecursion P xs → AllByRecursion Q xs
+    → AllByRecursion (λ x. P x × Q x) xs
+all_both P Q [] h k = tt
+all_both P Q (x ∷ xs) h k = ((h.0, k.0), all_both P Q xs h.1 k.1)
+
+pub all_first : {X : Type 0} (P Q : X → Type 0) (xs : List X) → AllByRecursion (λ x. P x × Q x) xs → AllByRecursion P xs
+all_first P Q [] h = tt
+all_first P Q (x ∷ xs) h = (h.0.0, all_first P Q xs h.1)
+
+pub all_second : {X : Type 0} (P Q : X → Type 0) (xs : List X) → AllByRecursion (λ x. P x × Q x) xs
+    → AllByRecursion Q xs
+all_second P Q [] h = tt
+all_second P Q (x ∷ xs) h = (h.0.1, all_second P Q xs h.1)

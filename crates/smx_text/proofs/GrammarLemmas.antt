@@ -2,7 +2,7 @@
 use Rattle.std.proofs.Common.{◌≡◌, ◌≢◌, ℕ, ◌+◌, List, [], ◌∷◌, ◌++◌, length, map, Result, Ok, Err, refl, sym}
 use Rattle.std.proofs.Common.{ap, subst, ◌∙◌, append_assoc, inl, inr}
 use Rattle.std.specs.List.{AllByRecursion}
-use Rattle.std.specs.Prelude.{◌⊎◌, MatchResult, IfErr}
+use Rattle.std.specs.Prelude.{◌⊎◌, IfErr}
 use Rattle.std.proofs.lemmas.List.{append-nil}
 use Rattle.smx_words.specs.Words.{LINE_FEED, text_of}
 use Rattle.smx_text.specs.declared.fault.Cause.{Cause}
@@ -22,7 +22,7 @@ pub record IsWellMade {V K : Type 0} (g : Grammar V K) : Type 0 where
   pub fits : (v : V) → g.IsAllowed v → AllByRecursion g.FitsLine (g.body v)
   pub fits_end : g.FitsLine g.end
   pub end_is_last : (v : V) (lines more : List K) → g.body v ≡ lines ++ g.end ∷ more → ⊥
-  pub one_value : (v w : V) → g.body v ≡ g.body w → v ≡ w
+  pub one_value : (v w : V) → g.IsAllowed v → g.IsAllowed w → g.body v ≡ g.body w → v ≡ w
 
 same_fault : (f h : TextFault) → f.line ≡ h.line → f.cause ≡ h.cause → f ≡ h
 same_fault f h e k = ap (λ (n : ℕ). record { line = n; cause = f.cause }) e
@@ -142,7 +142,7 @@ module _ {V K : Type 0} (g : Grammar V K) (made : IsWellMade g) where
   one_answer : (lines : List K) (text after : List ℕ) (r s : Result V TextFault) → Answers lines text after r
       → Answers lines text after s → r ≡ s
   one_answer lines text after (Ok v) (Ok w) (allowed, e, _, _) (also, k, _, _) =
-      ap (λ (x : V). Ok x) (made.one_value v w (e ∙ sym k))
+      ap (λ (x : V). Ok x) (made.one_value v w allowed also (e ∙ sym k))
   one_answer lines text after (Ok v) (Err f) a b = absurd (no_value v lines text after f.line f.cause a b)
   one_answer lines text after (Err f) (Ok w) a b = absurd (no_value w lines text after f.line f.cause b a)
   one_answer lines text after (Err f) (Err h) a b =
@@ -342,27 +342,3 @@ module _ {V K : Type 0} (g : Grammar V K) (made : IsWellMade g) where
       → IfErr r (λ f. f.cause ≢ cause.NoMemory) → IfErr s (λ f. f.cause ≢ cause.NoMemory) → r ≡ s
   one_reading bytes r s reads again ample plenty =
       one_place bytes r s (place bytes r reads ample) (place bytes s again plenty)
-
-  pub written_is_read : (v : V) (r : Result V TextFault) → g.IsAllowed v → Reads g (full_text g v) r
-      → MatchResult r (λ w. w ≡ v) (λ f. f.cause ≡ cause.NoMemory)
-  written_is_read v (Ok w) allowed reads =
-      ok_is w v (one_reading (full_text g v) (Ok w) (Ok v) reads
-      (record { allowed = allowed; text = refl }) tt tt) where
-        ok_is : (u t : V) → ◌≡◌ {A = Result V TextFault} (Ok u) (Ok t) → u ≡ t
-        ok_is u t e = cc
-  written_is_read v (Err f) allowed reads = by_cause f.cause refl where
-    differ : Err f ≡ Ok v → ⊥
-    differ e = cc
-
-    other : (c : Cause) → f.cause ≡ c → c ≢ cause.NoMemory → f.cause ≡ cause.NoMemory
-    other c is not_memory =
-        absurd (differ (one_reading (full_text g v) (Err f) (Ok v) reads
-        (record { allowed = allowed; text = refl }) (λ memory. not_memory (sym is ∙ memory)) tt))
-
-    by_cause : (c : Cause) → f.cause ≡ c → f.cause ≡ cause.NoMemory
-    by_cause cause.NoMemory is = is
-    by_cause cause.Header is = other cause.Header is (λ e. cc)
-    by_cause cause.Form is = other cause.Form is (λ e. cc)
-    by_cause cause.Many is = other cause.Many is (λ e. cc)
-    by_cause cause.Cut is = other cause.Cut is (λ e. cc)
-    by_cause cause.Trailing is = other cause.Trailing is (λ e. cc)

@@ -6,6 +6,9 @@ pub mod LineLemmas
 pub mod GrammarLemmas
 pub mod HasReadingLemmas
 pub mod MemoryLemmas
+pub mod VersionLemmas
+pub mod LeastVersionLemmas
+pub mod ProgramsVersionLemmas
 pub mod ProgramsOrderLemmas
 pub mod ProgramsFollowLemmas
 pub mod ProgramsValueLemmas
@@ -14,6 +17,7 @@ pub mod ProgramsGrammarLemmas
 pub mod ProgramsDecidedLemmas
 pub mod TranscriptDrafts
 pub mod TranscriptDraftLemmas
+pub mod TranscriptVersionLemmas
 pub mod TranscriptWholeLemmas
 pub mod TranscriptFollowLemmas
 pub mod TranscriptLemmas
@@ -25,3 +29,4 @@ pub mod WorkedFaultLemmas
 pub mod WrongCommandLemmas
 pub mod WrongProgramLemmas
 pub mod WrongTranscriptLemmas
+pub mod WrongCountLemmas

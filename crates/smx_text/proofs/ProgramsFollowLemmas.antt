@@ -8,7 +8,7 @@ use Rattle.std.proofs.lemmas.List.Sums.{sum_by-append, sum_by-cons}
 use Rattle.smx_types.specs.ProgramLists.{ProgramLists, program_lists}
 use Rattle.smx_types.specs.declared.command.Command.{Command}
 use Rattle.smx_types.specs.declared.driver.DriverSpec.{DriverSpec}
-use Rattle.smx_types.specs.declared.limits.TheConstants.{MAX_DRIVERS, MAX_PROCESSES, MAX_COMMANDS}
+use Rattle.smx_types.specs.declared.limits.TheConstants.{MAX_PROCESSES, MAX_COMMANDS}
 use Rattle.smx_text.specs.Grammar.{GoesOn, MayFollow, IsFull}
 use Rattle.smx_text.specs.ProgramLines.{Line}
 use Rattle.smx_text.specs.ProgramLines as line
@@ -16,6 +16,8 @@ use Rattle.smx_text.specs.ProgramsText.{program_lines, body, programs_grammar}
 use Rattle.smx_text.proofs.BodyLemmas.{added_process, lines_more}
 use Rattle.smx_text.proofs.ProgramsOrderLemmas.{a_driver, a_process, a_command, counts, InOrder}
 use Rattle.smx_text.proofs.ProgramsOrderLemmas.{body_in_order, order_behind}
+use Rattle.smx_types.specs.Versions.{most_drivers}
+use Rattle.smx_types.specs.declared.version.Version.{Version}
 
 -- ---- what may stand behind the lines of these programs, and of what there are as many as may be
 
@@ -25,11 +27,11 @@ MayStand v (line.Process number) = number ≡ length v.programs
 MayStand v (line.Command c) = 0 < length v.programs
 MayStand v line.End = Unit {0}
 
-abbrev pub AreMany : ProgramLists → Line → Type 0
-AreMany v (line.Driver d) = MAX_DRIVERS ≤ length v.drivers
-AreMany v (line.Process number) = MAX_PROCESSES ≤ length v.programs
-AreMany v (line.Command c) = MAX_COMMANDS ≤ sum_by length v.programs
-AreMany v line.End = ⊥
+abbrev pub AreMany : Version → ProgramLists → Line → Type 0
+AreMany version v (line.Driver d) = most_drivers version ≤ length v.drivers
+AreMany version v (line.Process number) = MAX_PROCESSES ≤ length v.programs
+AreMany version v (line.Command c) = MAX_COMMANDS ≤ sum_by length v.programs
+AreMany version v line.End = ⊥
 
 pub stands : (v : ProgramLists) (n : ℕ) (k : Line) (more : List Line) → n ≡ length v.programs
     → InOrder n (k ∷ more) → MayStand v k
@@ -38,8 +40,9 @@ stands v n (line.Process m) more e h = h.0 ∙ e
 stands v n (line.Command c) more e h = omega (arith, e, h.0)
 stands v n line.End more e h = tt
 
-pub may_stand : (v : ProgramLists) (k : Line) → MayFollow programs_grammar (body v) k → MayStand v k
-may_stand v k (w, (more, e)) =
+pub may_stand : (version : Version) (v : ProgramLists) (k : Line) → MayFollow (programs_grammar version) (body v) k
+    → MayStand v k
+may_stand version v k (w, (more, e)) =
     let c = counts v in
     stands v (0 + sum_by a_process (body v)) k more (omega (arith, c.processes))
     (order_behind 0 (body v) (k ∷ more) (subst (InOrder 0) e (body_in_order w)))
@@ -57,38 +60,47 @@ longer w v u k more e =
       sum_by-cons w k more,
     )
 
-pub are_full : (v : ProgramLists) (k : Line) → AreMany v k → IsFull programs_grammar (body v) k
-are_full v (line.Driver d) h w allowed (more, e) = let a = counts v in let b = counts w in
-    omega (arith, longer a_driver w v (line.Driver d) more e, a.drivers, b.drivers, allowed.within.drivers, h)
-are_full v (line.Process n) h w allowed (more, e) = let a = counts v in let b = counts w in
+pub are_full : (version : Version) (v : ProgramLists) (k : Line) → AreMany version v k
+    → IsFull (programs_grammar version) (body v) k
+are_full version v (line.Driver d) h w allowed (more, e) = let a = counts v in let b = counts w in
+    omega (arith, longer a_driver w v (line.Driver d) more e, a.drivers, b.drivers, allowed.drivers, h)
+are_full version v (line.Process n) h w allowed (more, e) = let a = counts v in let b = counts w in
     omega (
       arith,
       longer a_process w v (line.Process n) more e,
       a.processes,
       b.processes,
-      allowed.within.programs,
+      allowed.programs,
       h,
     )
-are_full v (line.Command c) h w allowed (more, e) = let a = counts v in let b = counts w in
+are_full version v (line.Command c) h w allowed (more, e) = let a = counts v in let b = counts w in
     omega (
       arith,
       longer a_command w v (line.Command c) more e,
       a.commands,
       b.commands,
-      allowed.within.commands,
+      allowed.commands,
       h,
     )
-are_full v line.End h w allowed goes = absurd h
+are_full version v line.End h w allowed goes = absurd h
 
 -- ---- one line more
 
 abbrev pub with_line : ProgramLists → Line → ProgramLists
-with_line v (line.Driver d) = program_lists (v.drivers ++ d ∷ []) v.programs
-with_line v (line.Process number) = program_lists v.drivers (v.programs ++ [] ∷ [])
+with_line v (line.Driver d) = record v { drivers = v.drivers ++ d ∷ [] }
+with_line v (line.Process number) = record v { programs = v.programs ++ [] ∷ [] }
 with_line v (line.Command c) =
-    program_lists v.drivers (set v.programs (length v.programs - 1)
-    (get_or v.programs (length v.programs - 1) [] ++ c ∷ []))
+    record v {
+      programs = set v.programs (length v.programs - 1) (get_or v.programs (length v.programs - 1) [] ++ c ∷ []);
+    }
 with_line v line.End = v
+
+-- the version stays
+pub version_stays : (v : ProgramLists) (k : Line) → (with_line v k).version ≡ v.version
+version_stays v (line.Driver d) = refl
+version_stays v (line.Process n) = refl
+version_stays v (line.Command c) = refl
+version_stays v line.End = refl
 
 pub with_driver : (ds : List DriverSpec) (ps : List (List Command)) (d : DriverSpec) → length ps ≡ 0
     → body (program_lists (ds ++ d ∷ []) ps) ≡ body (program_lists ds ps) ++ line.Driver d ∷ []
@@ -104,27 +116,28 @@ body_more v (line.Command c) h other =
     ∙ sym (append_assoc (map line.Driver v.drivers) (program_lines 0 v.programs) (line.Command c ∷ []))
 body_more v line.End h other = absurd (other refl)
 
-goes_on : (w : ProgramLists) (lines : List Line) (k : Line) → body w ≡ lines ++ k ∷ []
-    → GoesOn programs_grammar w lines k
-goes_on w lines k e = (
+goes_on : (version : Version) (w : ProgramLists) (lines : List Line) (k : Line) → body w ≡ lines ++ k ∷ []
+    → GoesOn (programs_grammar version) w lines k
+goes_on version w lines k e = (
   line.End ∷ [],
   ap (λ (ls : List Line). ls ++ line.End ∷ []) e ∙ append_assoc lines (k ∷ []) (line.End ∷ []),
 )
 
-pub stand_may : (v : ProgramLists) (k : Line) → MayStand v k → MayFollow programs_grammar (body v) k
-stand_may v (line.Driver d) h = (
+pub stand_may : (version : Version) (v : ProgramLists) (k : Line) → MayStand v k
+    → MayFollow (programs_grammar version) (body v) k
+stand_may version v (line.Driver d) h = (
   with_line v (line.Driver d),
-  goes_on (with_line v (line.Driver d)) (body v) (line.Driver d)
+  goes_on version (with_line v (line.Driver d)) (body v) (line.Driver d)
       (body_more v (line.Driver d) h (λ e. cc)),
 )
-stand_may v (line.Process n) h = (
+stand_may version v (line.Process n) h = (
   with_line v (line.Process n),
-  goes_on (with_line v (line.Process n)) (body v) (line.Process n)
+  goes_on version (with_line v (line.Process n)) (body v) (line.Process n)
       (body_more v (line.Process n) h (λ e. cc)),
 )
-stand_may v (line.Command c) h = (
+stand_may version v (line.Command c) h = (
   with_line v (line.Command c),
-  goes_on (with_line v (line.Command c)) (body v) (line.Command c)
+  goes_on version (with_line v (line.Command c)) (body v) (line.Command c)
       (body_more v (line.Command c) h (λ e. cc)),
 )
-stand_may v line.End h = (v, ([], refl))
+stand_may version v line.End h = (v, ([], refl))

@@ -1,5 +1,5 @@
 -- The lines of a programs text can be told apart.
-use Rattle.std.proofs.Common.{◌≡◌, ◌≢◌, ℕ, Result, Bool, true, false, ◌||◌, List, refl, sym, ap, rules}
+use Rattle.std.proofs.Common.{◌≡◌, ◌≢◌, ℕ, Result, Bool, true, false, ◌||◌, List, refl, sym, ap, ◌∙◌, rules}
 use Rattle.std.specs.Prelude.{codes, OnOk, IfErr}
 use Rattle.std.specs.Str.{bytes_eq}
 use Rattle.smx_types.specs.declared.command.Command.{Command}
@@ -7,11 +7,11 @@ use Rattle.smx_types.specs.declared.command.Command.TheVariants as command
 use Rattle.smx_types.specs.declared.driver.DriverSpec.{DriverSpec}
 use Rattle.smx_words.specs.Words.{line_of}
 use Rattle.smx_words.specs.Spelling.{command_words, driver_words, process_words}
-use Rattle.smx_words.specs.Spellable.{FitsNumber, FitsDriver, FitsCommand}
+use Rattle.smx_words.specs.Spellable.{FitsNumber, FitsDriver, FitsCommandIn}
 use Rattle.smx_text.specs.declared.fault.Cause.{Cause}
 use Rattle.smx_text.specs.Reading.{Refuses, AddsLine, RefusesLine}
 use Rattle.smx_text.proofs.ReadingLemmas.{refuses, on_added, on_refused}
-use Rattle.smx_text.specs.Grammar.{Continues, IsNoLine, line_text}
+use Rattle.smx_text.specs.Grammar.{Continues, IsNoLine, IsOneLine, header, line_text}
 use Rattle.smx_text.specs.ProgramLines.{Line}
 use Rattle.smx_text.specs.ProgramLines as line
 use Rattle.smx_text.specs.ProgramsText.{line_words, FitsLine, programs_grammar}
@@ -21,7 +21,10 @@ use Rattle.smx_text.proofs.ProgramsValueLemmas.{one_value}
 use Rattle.smx_words.specs.Words.{AreWords}
 use Rattle.smx_words.proofs.LawLemmas.{command_spelled, driver_spelled, process_spelled, one_command}
 use Rattle.smx_words.proofs.LawLemmas.{one_driver, one_process}
-use Rattle.smx_text.proofs.WordLemmas.{one_spelling, first_word, end_spelled, one_line_of}
+use Rattle.smx_text.proofs.VersionLemmas.{AreVersions}
+use Rattle.smx_text.proofs.WordLemmas.{one_spelling, first_word, end_spelled, one_line_of, differ}
+use Rattle.smx_types.specs.declared.version.Version.{Version}
+use Rattle.smx_types.specs.declared.version.Version.TheVariants.{V1, V2}
 
 -- ---- the first word of a command
 
@@ -34,6 +37,7 @@ is_verb w =
     || bytes_eq w (codes "unbind") || bytes_eq w (codes "route") || bytes_eq w (codes
     "unroute") || bytes_eq w (codes "write") || bytes_eq w (codes "read")
     || bytes_eq w (codes "flush") || bytes_eq w (codes "inject") || bytes_eq w (codes "transmit")
+    || bytes_eq w (codes "hangup")
 
 verb_first : (c : Command) → is_verb (first_word (command_words c)) ≡ true
 verb_first (command.OpenClone driver) = refl
@@ -54,6 +58,7 @@ verb_first (command.Read fd) = refl
 verb_first (command.Flush fd sides) = refl
 verb_first (command.Inject driver minor addr bytes) = refl
 verb_first (command.Transmit driver minor) = refl
+verb_first (command.Hangup driver minor) = refl
 
 -- words that begin with no verb are no command's
 pub not_verb : (c : Command) (ws : List (List ℕ)) → command_words c ≡ ws → is_verb (first_word ws) ≡ false → ⊥
@@ -62,73 +67,85 @@ not_verb c ws e h = let t = verb_first c in
 
 -- ---- lines
 
-spelling : (k : Line) → FitsLine k → AreWords (line_words k)
-spelling (line.Driver d) fits = driver_spelled d fits
-spelling (line.Process n) fits = process_spelled n fits
-spelling (line.Command c) fits = command_spelled c fits
-spelling line.End fits = end_spelled
+spelling : (version : Version) (k : Line) → FitsLine version k → AreWords (line_words k)
+spelling version (line.Driver d) fits = driver_spelled d fits
+spelling version (line.Process n) fits = process_spelled n fits
+spelling version (line.Command c) fits = command_spelled c fits.0
+spelling version line.End fits = end_spelled
 
-words_apart : (k l : Line) → FitsLine k → FitsLine l → line_words k ≡ line_words l
-    → line_text programs_grammar k ≡ line_text programs_grammar l → k ≡ l
-words_apart (line.Driver d) (line.Driver e) fits also ws same = ap (λ x. line.Driver x) (one_driver d e fits also same)
-words_apart (line.Process n) (line.Process m) fits also ws same =
+words_apart : (version : Version) (k l : Line) → FitsLine version k → FitsLine version l → line_words k ≡ line_words l
+    → line_text (programs_grammar version) k ≡ line_text (programs_grammar version) l → k ≡ l
+words_apart version (line.Driver d) (line.Driver e) fits also ws same =
+    ap (λ x. line.Driver x) (one_driver d e fits also same)
+words_apart version (line.Process n) (line.Process m) fits also ws same =
     ap (λ x. line.Process x) (one_process n m fits also same)
-words_apart (line.Command c) (line.Command d) fits also ws same =
-    ap (λ x. line.Command x) (one_command c d fits also same)
-words_apart line.End line.End fits also ws same = refl
-words_apart (line.Command c) (line.Driver d) fits also ws same = absurd (not_verb c _ ws refl)
-words_apart (line.Command c) (line.Process n) fits also ws same = absurd (not_verb c _ ws refl)
-words_apart (line.Command c) line.End fits also ws same = absurd (not_verb c _ ws refl)
-words_apart (line.Driver d) (line.Command c) fits also ws same = absurd (not_verb c _ (sym ws) refl)
-words_apart (line.Process n) (line.Command c) fits also ws same = absurd (not_verb c _ (sym ws) refl)
-words_apart line.End (line.Command c) fits also ws same = absurd (not_verb c _ (sym ws) refl)
-words_apart (line.Driver d) (line.Process n) fits also ws same = absurd cc
-words_apart (line.Driver d) line.End fits also ws same = absurd cc
-words_apart (line.Process n) (line.Driver d) fits also ws same = absurd cc
-words_apart (line.Process n) line.End fits also ws same = absurd cc
-words_apart line.End (line.Driver d) fits also ws same = absurd cc
-words_apart line.End (line.Process n) fits also ws same = absurd cc
+words_apart version (line.Command c) (line.Command d) fits also ws same =
+    ap (λ x. line.Command x) (one_command c d fits.0 also.0 same)
+words_apart version line.End line.End fits also ws same = refl
+words_apart version (line.Command c) (line.Driver d) fits also ws same = absurd (not_verb c _ ws refl)
+words_apart version (line.Command c) (line.Process n) fits also ws same = absurd (not_verb c _ ws refl)
+words_apart version (line.Command c) line.End fits also ws same = absurd (not_verb c _ ws refl)
+words_apart version (line.Driver d) (line.Command c) fits also ws same = absurd (not_verb c _ (sym ws) refl)
+words_apart version (line.Process n) (line.Command c) fits also ws same = absurd (not_verb c _ (sym ws) refl)
+words_apart version line.End (line.Command c) fits also ws same = absurd (not_verb c _ (sym ws) refl)
+words_apart version (line.Driver d) (line.Process n) fits also ws same = absurd cc
+words_apart version (line.Driver d) line.End fits also ws same = absurd cc
+words_apart version (line.Process n) (line.Driver d) fits also ws same = absurd cc
+words_apart version (line.Process n) line.End fits also ws same = absurd cc
+words_apart version line.End (line.Driver d) fits also ws same = absurd cc
+words_apart version line.End (line.Process n) fits also ws same = absurd cc
 
-pub tells_apart : (k l : Line) → FitsLine k → FitsLine l
-    → line_text programs_grammar k ≡ line_text programs_grammar l → k ≡ l
-tells_apart k l fits also same =
-    words_apart k l fits also (one_spelling (line_words k) (line_words l) (spelling k fits)
-    (spelling l also) same) same
+pub tells_apart : (version : Version) (k l : Line) → FitsLine version k → FitsLine version l
+    → line_text (programs_grammar version) k ≡ line_text (programs_grammar version) l → k ≡ l
+tells_apart version k l fits also same =
+    words_apart version k l fits also (one_spelling (line_words k) (line_words l) (spelling version k fits)
+    (spelling version l also) same) same
 
 -- what is done with a line that was read is done with its text
-pub on_added_line : {A : Type 0} (lines longer : List Line) (k : Line) (text : List ℕ)
-    → text ≡ line_text programs_grammar k → (r : Result A Cause)
-    → OnOk r (AddsLine programs_grammar lines k longer) → OnOk r (Continues programs_grammar lines text longer)
-on_added_line lines longer k text is r h = on_added programs_grammar lines longer k text is r h
+pub on_added_line : {A : Type 0} (version : Version) (lines longer : List Line) (k : Line) (text : List ℕ)
+    → text ≡ line_text (programs_grammar version) k → (r : Result A Cause)
+    → OnOk r (AddsLine (programs_grammar version) lines k longer)
+    → OnOk r (Continues (programs_grammar version) lines text longer)
+on_added_line version lines longer k text is r h = on_added (programs_grammar version) lines longer k text is r h
 
-pub on_refused_line : {A : Type 0} (lines : List Line) (k : Line) (text : List ℕ) → FitsLine k
-    → text ≡ line_text programs_grammar k → (r : Result A Cause)
-    → IfErr r (RefusesLine programs_grammar lines k) → IfErr r (Refuses programs_grammar lines text)
-on_refused_line lines k text fits is r h = on_refused programs_grammar tells_apart lines k text fits is r h
+pub on_refused_line : {A : Type 0} (version : Version) (lines : List Line) (k : Line) (text : List ℕ)
+    → FitsLine version k
+    → text ≡ line_text (programs_grammar version) k → (r : Result A Cause)
+    → IfErr r (RefusesLine (programs_grammar version) lines k) → IfErr r (Refuses (programs_grammar version) lines text)
+on_refused_line version lines k text fits is r h =
+    on_refused (programs_grammar version) (tells_apart version) lines k text fits is r h
 
-pub refused_line : (lines : List Line) (k : Line) (text : List ℕ) → FitsLine k
-    → text ≡ line_text programs_grammar k → (why : Cause) → RefusesLine programs_grammar lines k why
-    → Refuses programs_grammar lines text why
-refused_line lines k text fits is why h = refuses programs_grammar tells_apart lines k text fits is why h
+pub refused_line : (version : Version) (lines : List Line) (k : Line) (text : List ℕ) → FitsLine version k
+    → text ≡ line_text (programs_grammar version) k → (why : Cause) → RefusesLine (programs_grammar version) lines k why
+    → Refuses (programs_grammar version) lines text why
+refused_line version lines k text fits is why h =
+    refuses (programs_grammar version) (tells_apart version) lines k text fits is why h
 
 -- what is none of these is no line
-pub no_line : (lines : List Line) (text : List ℕ)
-    → ((c : Command) → FitsCommand c → text ≢ line_of (command_words c))
+pub no_line : (version : Version) (lines : List Line) (text : List ℕ)
+    → ((c : Command) → FitsCommandIn version c → text ≢ line_of (command_words c))
     → ((d : DriverSpec) → FitsDriver d → text ≢ line_of (driver_words d))
-    → ((n : ℕ) → FitsNumber n → text ≢ line_of (process_words n)) → text ≢ line_text programs_grammar line.End
-    → IsNoLine programs_grammar lines text
-no_line lines text commands drivers processes end (line.Command c) fits may is = commands c fits is
-no_line lines text commands drivers processes end (line.Driver d) fits may is = drivers d fits is
-no_line lines text commands drivers processes end (line.Process n) fits may is = processes n fits is
-no_line lines text commands drivers processes end line.End fits may is = end is
+    → ((n : ℕ) → FitsNumber n → text ≢ line_of (process_words n)) → text ≢ line_text (programs_grammar version) line.End
+    → IsNoLine (programs_grammar version) lines text
+no_line version lines text commands drivers processes end (line.Command c) fits may is = commands c fits is
+no_line version lines text commands drivers processes end (line.Driver d) fits may is = drivers d fits is
+no_line version lines text commands drivers processes end (line.Process n) fits may is = processes n fits is
+no_line version lines text commands drivers processes end line.End fits may is = end is
 
-pub well_made : IsWellMade programs_grammar
-well_made = record {
-  header_line = search rules;
-  one_line = λ k fits. one_line_of (line_words k) (spelling k fits);
-  tells_apart = tells_apart;
+header_is_line : (version : Version) → IsOneLine (header (programs_grammar version))
+header_is_line V1 = search rules
+header_is_line V2 = search rules
+
+pub well_made : (version : Version) → IsWellMade (programs_grammar version)
+well_made version = record {
+  header_line = header_is_line version;
+  one_line = λ k fits. one_line_of (line_words k) (spelling version k fits);
+  tells_apart = tells_apart version;
   fits = λ v allowed. allowed.fits;
   fits_end = tt;
   end_is_last = end_is_last;
-  one_value = one_value;
+  one_value = λ v w allowed also e. one_value v w (allowed.version_is ∙ sym also.version_is) e;
 }
+
+pub versions : AreVersions programs_grammar
+versions = record { made = well_made; differ = differ (codes "programs 1") (codes "programs 2") refl }

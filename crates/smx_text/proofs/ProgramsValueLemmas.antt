@@ -4,7 +4,7 @@ use Rattle.std.proofs.Common.{subst, ◌∙◌, append_assoc, arith}
 use Rattle.std.specs.List.{sum_by, AllByRecursion}
 use Rattle.std.proofs.lemmas.List.{append-nil, length-append, length-set}
 use Rattle.std.proofs.lemmas.List.Sums.{sum_by-append, sum_by-cons}
-use Rattle.smx_types.specs.ProgramLists.{ProgramLists, AreWithinLimits, program_lists}
+use Rattle.smx_types.specs.ProgramLists.{ProgramLists}
 use Rattle.smx_types.specs.declared.command.Command.{Command}
 use Rattle.smx_types.specs.declared.driver.DriverSpec.{DriverSpec}
 use Rattle.smx_text.specs.Grammar.{IsBegun}
@@ -14,7 +14,8 @@ use Rattle.smx_text.specs.ProgramsText.{FitsLine, program_lines, body, IsAllowed
 use Rattle.smx_text.proofs.EachLemmas.{all_left}
 use Rattle.smx_text.proofs.ProgramsOrderLemmas.{a_driver, a_process, a_command, an_end, counts, InOrder}
 use Rattle.smx_text.proofs.ProgramsOrderLemmas.{body_in_order, order_before}
-use Rattle.smx_text.proofs.ProgramsFollowLemmas.{stands, with_line, body_more}
+use Rattle.smx_text.proofs.ProgramsFollowLemmas.{stands, with_line, body_more, version_stays}
+use Rattle.smx_types.specs.declared.version.Version.{Version}
 
 -- ---- the lines tell the programs
 
@@ -82,7 +83,11 @@ programs_again n (p ∷ ps) =
       append-nil,
     ) refl
 
-pub told : (v : ProgramLists) → program_lists (drivers_of (body v)) (programs_of (body v)) ≡ v
+-- what lines tell, as programs of a version
+abbrev told_of : Version → List Line → ProgramLists
+told_of version ls = record { version = version; drivers = drivers_of ls; programs = programs_of ls }
+
+pub told : (v : ProgramLists) → told_of v.version (body v) ≡ v
 told v = rw (
   drivers_again v.drivers (program_lines 0 v.programs),
   no_drivers 0 v.programs,
@@ -91,8 +96,9 @@ told v = rw (
   programs_again 0 v.programs,
 ) refl
 
-pub one_value : (v w : ProgramLists) → body v ≡ body w → v ≡ w
-one_value v w e = sym (told v) ∙ ap (λ (ls : List Line). program_lists (drivers_of ls) (programs_of ls)) e ∙ told w
+pub one_value : (v w : ProgramLists) → v.version ≡ w.version → body v ≡ body w → v ≡ w
+one_value v w same e = sym (told v) ∙ ap (told_of v.version) e
+    ∙ ap (λ (n : Version). told_of n (body w)) same ∙ told w
 
 -- ---- lines that some programs begin with are those of some programs
 
@@ -111,8 +117,8 @@ order_next v n (line.Command c) more e other h =
 order_next v n line.End more e other h = absurd (other refl)
 
 lead : (v : ProgramLists) (ks : List Line) → InOrder (length v.programs) ks → sum_by an_end ks ≡ 0
-    → (w : ProgramLists) × (body w ≡ body v ++ ks)
-lead v [] order none = (v, sym (append-nil (body v)))
+    → (w : ProgramLists) × (w.version ≡ v.version) × (body w ≡ body v ++ ks)
+lead v [] order none = (v, refl, sym (append-nil (body v)))
 lead v (k ∷ ks) order none =
     let sum = sum_by-cons an_end k ks in
     let other = same_end k (omega (arith, sum, none)) in
@@ -120,57 +126,64 @@ lead v (k ∷ ks) order none =
     lead (with_line v k) ks (order_next v (length v.programs) k ks refl other order)
     (omega (arith, sum, none)) in (
       more.0,
-      more.1 ∙ ap (λ (ls : List Line). ls ++ ks)
+      more.1 ∙ version_stays v k,
+      more.2 ∙ ap (λ (ls : List Line). ls ++ ks)
           (body_more v k (stands v (length v.programs) k ks refl order) other)
           ∙ append_assoc (body v) (k ∷ []) ks,
     )
 
-pub begun_is_body : (lines : List Line) → IsBegun programs_grammar lines
-    → (v : ProgramLists) × IsAllowed v × (body v ≡ lines)
-begun_is_body lines (w, more, allowed, e) =
+pub begun_is_body : (version : Version) (lines : List Line) → IsBegun (programs_grammar version) lines
+    → (v : ProgramLists) × IsAllowed version v × (body v ≡ lines)
+begun_is_body version lines (w, more, allowed, e) =
     let c = counts w in
     let order =
     order_before 0 lines more
     (subst (InOrder 0) e (order_before 0 (body w) (line.End ∷ []) (body_in_order w))) in
     let ends = ap (sum_by an_end) e ∙ sum_by-append an_end lines more in
-    let own = lead (program_lists [] []) lines order (omega (arith, ends, c.ends)) in
+    let own = lead (record { version = version; drivers = []; programs = [] }) lines order
+    (omega (arith, ends, c.ends)) in
     let v = own.0 in
     let d = counts v in
-    let within : AreWithinLimits v = record {
+    let fits = all_left (FitsLine version) lines more (subst (AllByRecursion (FitsLine version)) e allowed.fits) in
+    let kept : IsAllowed version v = record {
+      version_is = own.1;
       drivers =
           omega (
             arith,
             ap (sum_by a_driver) e,
             sum_by-append a_driver lines more,
-            ap (sum_by a_driver) own.1,
+            ap (sum_by a_driver) own.2,
             c.drivers,
             d.drivers,
-            allowed.within.drivers,
+            allowed.drivers,
           );
       programs =
           omega (
             arith,
             ap (sum_by a_process) e,
             sum_by-append a_process lines more,
-            ap (sum_by a_process) own.1,
+            ap (sum_by a_process) own.2,
             c.processes,
             d.processes,
-            allowed.within.programs,
+            allowed.programs,
           );
       commands =
           omega (
             arith,
             ap (sum_by a_command) e,
             sum_by-append a_command lines more,
-            ap (sum_by a_command) own.1,
+            ap (sum_by a_command) own.2,
             c.commands,
             d.commands,
-            allowed.within.commands,
+            allowed.commands,
           );
+      fits = subst (AllByRecursion (FitsLine version)) (sym own.2) fits;
     } in
-    let fits = all_left FitsLine lines more (subst (AllByRecursion FitsLine) e allowed.fits) in
-    (v, record { within = within; fits = subst (AllByRecursion FitsLine) (sym own.1) fits }, own.1)
+    (v, kept, own.2)
 
 -- so where their lines begin an allowed value, they are allowed
-pub allowed_of : (v : ProgramLists) → IsBegun programs_grammar (body v) → IsAllowed v
-allowed_of v begun = let own = begun_is_body (body v) begun in subst IsAllowed (one_value own.0 v own.2) own.1
+pub allowed_of : (version : Version) (v : ProgramLists) → v.version ≡ version
+    → IsBegun (programs_grammar version) (body v) → IsAllowed version v
+allowed_of version v is begun =
+    let own = begun_is_body version (body v) begun in
+    subst (IsAllowed version) (one_value own.0 v (own.1.version_is ∙ sym is) own.2) own.1

@@ -1,15 +1,17 @@
 -- Where a reader stands between two lines, and what it may answer there. For any kind of text.
-use Rattle.std.proofs.Common.{◌≡◌, ℕ, ◌+◌, ◌<◌, List, [], ◌∷◌, ◌++◌, length, map, Result, Ok, Err, refl, sym}
+use Rattle.std.proofs.Common.{◌≡◌, ◌≢◌, ℕ, ◌+◌, ◌<◌, List, [], ◌∷◌, ◌++◌, length, map, Result, Ok, Err, refl, sym}
 use Rattle.std.proofs.Common.{ap, subst, ◌∙◌, append_assoc, arith, inl, inr}
 use Rattle.std.specs.Prelude.{OnOk, IfErr}
 use Rattle.std.proofs.lemmas.List.{append-nil, map-append, length-append, nil_from_length}
 use Rattle.std.proofs.lemmas.List.Concat.{flat_map-append}
+use Rattle.smx_types.specs.declared.version.Version.{Version}
+use Rattle.smx_types.specs.declared.version.Version.TheVariants.{V1}
 use Rattle.smx_words.specs.Words.{LINE_FEED, line_of, text_of}
 use Rattle.smx_text.specs.declared.fault.Cause.{Cause}
 use Rattle.smx_text.specs.declared.fault.Cause.TheVariants as cause
 use Rattle.smx_text.specs.declared.fault.TextFault.{TextFault}
 use Rattle.smx_text.specs.Grammar.{Grammar, IsOneLine, header, line_text, beginning, full_text, IsBegun}
-use Rattle.smx_text.specs.Grammar.{Continues, IsNoLine, MayFollow, Reaches, IsFault, Reads}
+use Rattle.smx_text.specs.Grammar.{Continues, IsNoLine, MayFollow, Reaches, IsFault, Reads, ReadsAny}
 use Rattle.smx_text.specs.Reading.{Refuses, AddsLine, RefusesLine, EndsText}
 
 -- a text of some lines and of others
@@ -157,3 +159,36 @@ module _ {V K : Type 0} (g : Grammar V K) where
       → IfErr r (Refuses g lines text)
   on_refused tells_apart lines k text fits is (Ok x) h = tt
   on_refused tells_apart lines k text fits is (Err e) h = refuses tells_apart lines k text fits is e h
+
+  -- behind the header nothing is wrong with it
+  pub refused_behind : (lines : List K) (text : List ℕ) (why : Cause) → Refuses g lines text why → why ≢ cause.Header
+  refused_behind lines text cause.Header h e = absurd h
+  refused_behind lines text cause.Form h e = cc
+  refused_behind lines text cause.Many h e = cc
+  refused_behind lines text cause.NoMemory h e = cc
+  refused_behind lines text cause.Cut h e = absurd h
+  refused_behind lines text cause.Trailing h e = absurd h
+
+  pub ends_behind : (lines : List K) (after : List ℕ) (number : ℕ) (r : Result V TextFault)
+      → EndsText g lines after number r → IfErr r (λ f. f.cause ≢ cause.Header)
+  ends_behind lines after number (Ok v) h = tt
+  ends_behind lines after number (Err f) (inl (never, is)) = λ e. cc
+  ends_behind lines after number (Err f) (inr (v, allowed, same, some, is)) = λ e. cc
+
+-- ---- texts of several versions
+
+module _ {V K : Type 0} (g : Version → Grammar V K) (bytes : List ℕ) where
+  -- an answer of one version that says nothing of the header
+  pub any_of : (version : Version) (r : Result V TextFault) → Reads (g version) bytes r
+      → IfErr r (λ f. f.cause ≢ cause.Header) → ReadsAny g bytes r
+  any_of version (Ok v) reads behind = (version, reads, tt)
+  any_of version (Err f) reads behind = (version, reads, λ header. absurd (behind header))
+
+  -- an answer of each version
+  pub any_of_each : (f : TextFault) → ((version : Version) → IsFault (g version) bytes f.line f.cause)
+      → ReadsAny g bytes (Err f)
+  any_of_each f each = (
+    V1,
+    each V1,
+    λ header other. subst (λ (why : Cause). IsFault (g other) bytes f.line why) header (each other),
+  )

@@ -22,7 +22,9 @@ use Rattle.smx_text.proofs.TranscriptDrafts.{◌>>=◌}
 use Rattle.smx_text.specs.TranscriptText.{view_body, body}
 use Rattle.smx_text.specs.Drafts.{shown, lines}
 use Rattle.smx_text.proofs.TranscriptDrafts.{new_view, new_draft, takes, with_line}
-use Rattle.smx_text.specs.Drafts.{takes_links, takes_binds, takes_routes, takes_msgs, takes_fulls}
+use Rattle.smx_text.specs.Drafts.{takes_links, takes_binds, takes_routes, takes_msgs, takes_fulls, takes_hungs}
+use Rattle.smx_types.specs.declared.version.Version.{Version}
+use Rattle.smx_types.specs.declared.view.HungLine.{HungLine}
 
 -- ---- the lines so far
 
@@ -40,6 +42,7 @@ is_line (line.Bind x) = true
 is_line (line.Route x) = true
 is_line (line.Msg x) = true
 is_line (line.Full x) = true
+is_line (line.Hung x) = true
 is_line line.End = false
 
 pub not_end : (k : TranscriptLine) → k ≢ line.End → is_line k ≡ true
@@ -53,6 +56,7 @@ not_end (line.Bind x) h = refl
 not_end (line.Route x) h = refl
 not_end (line.Msg x) h = refl
 not_end (line.Full x) h = refl
+not_end (line.Hung x) h = refl
 not_end line.End h = absurd (h refl)
 
 -- one more behind the history
@@ -84,12 +88,14 @@ view_more t (line.Fd x) h l =
     let r = and_parts (takes_routes (draft stage.View t)) (eqb (length t.view.routes) 0) q.0 in
     let m = and_parts (takes_msgs (draft stage.View t)) (eqb (length t.view.msgs) 0) r.0 in
     let f = and_parts (takes_fulls (draft stage.View t)) (eqb (length t.view.fulls) 0) m.0 in
+    let g = and_parts (takes_hungs (draft stage.View t)) (eqb (length t.view.hungs) 0) f.0 in
     rw (
       none t.view.links p.1,
       none t.view.binds q.1,
       none t.view.routes r.1,
       none t.view.msgs m.1,
       none t.view.fulls f.1,
+      none t.view.hungs g.1,
     )
     (ap (λ (ls : List TranscriptLine). line.Config ∷ line.Next t.view.next_id t.view.next_serial ∷ ls)
     (last_more line.Fd t.view.fds x))
@@ -98,40 +104,60 @@ view_more t (line.Link x) h l =
     let r = and_parts (takes_routes (draft stage.View t)) (eqb (length t.view.routes) 0) q.0 in
     let m = and_parts (takes_msgs (draft stage.View t)) (eqb (length t.view.msgs) 0) r.0 in
     let f = and_parts (takes_fulls (draft stage.View t)) (eqb (length t.view.fulls) 0) m.0 in
-    rw (none t.view.binds q.1, none t.view.routes r.1, none t.view.msgs m.1, none t.view.fulls f.1)
+    let g = and_parts (takes_hungs (draft stage.View t)) (eqb (length t.view.hungs) 0) f.0 in
+    rw (
+      none t.view.binds q.1,
+      none t.view.routes r.1,
+      none t.view.msgs m.1,
+      none t.view.fulls f.1,
+      none t.view.hungs g.1,
+    )
     (ap (λ (ls : List TranscriptLine). line.Config ∷ line.Next t.view.next_id t.view.next_serial ∷ ls)
     (through (map line.Fd t.view.fds) _ _ (line.Link x) (last_more line.Link t.view.links x)))
 view_more t (line.Bind x) h l =
     let r = and_parts (takes_routes (draft stage.View t)) (eqb (length t.view.routes) 0) h in
     let m = and_parts (takes_msgs (draft stage.View t)) (eqb (length t.view.msgs) 0) r.0 in
     let f = and_parts (takes_fulls (draft stage.View t)) (eqb (length t.view.fulls) 0) m.0 in
-    rw (none t.view.routes r.1, none t.view.msgs m.1, none t.view.fulls f.1)
+    let g = and_parts (takes_hungs (draft stage.View t)) (eqb (length t.view.hungs) 0) f.0 in
+    rw (none t.view.routes r.1, none t.view.msgs m.1, none t.view.fulls f.1, none t.view.hungs g.1)
     (ap (λ (ls : List TranscriptLine). line.Config ∷ line.Next t.view.next_id t.view.next_serial ∷ ls)
     (through (map line.Fd t.view.fds) _ _ (line.Bind x)
     (through (map line.Link t.view.links) _ _ (line.Bind x) (last_more line.Bind t.view.binds x))))
 view_more t (line.Route x) h l =
     let m = and_parts (takes_msgs (draft stage.View t)) (eqb (length t.view.msgs) 0) h in
     let f = and_parts (takes_fulls (draft stage.View t)) (eqb (length t.view.fulls) 0) m.0 in
-    rw (none t.view.msgs m.1, none t.view.fulls f.1)
+    let g = and_parts (takes_hungs (draft stage.View t)) (eqb (length t.view.hungs) 0) f.0 in
+    rw (none t.view.msgs m.1, none t.view.fulls f.1, none t.view.hungs g.1)
     (ap (λ (ls : List TranscriptLine). line.Config ∷ line.Next t.view.next_id t.view.next_serial ∷ ls)
     (through (map line.Fd t.view.fds) _ _ (line.Route x)
     (through (map line.Link t.view.links) _ _ (line.Route x)
     (through (map line.Bind t.view.binds) _ _ (line.Route x) (last_more line.Route t.view.routes x)))))
 view_more t (line.Msg x) h l =
     let f = and_parts (takes_fulls (draft stage.View t)) (eqb (length t.view.fulls) 0) h in
-    rw (none t.view.fulls f.1)
+    let g = and_parts (takes_hungs (draft stage.View t)) (eqb (length t.view.hungs) 0) f.0 in
+    rw (none t.view.fulls f.1, none t.view.hungs g.1)
     (ap (λ (ls : List TranscriptLine). line.Config ∷ line.Next t.view.next_id t.view.next_serial ∷ ls)
     (through (map line.Fd t.view.fds) _ _ (line.Msg x)
     (through (map line.Link t.view.links) _ _ (line.Msg x)
     (through (map line.Bind t.view.binds) _ _ (line.Msg x)
     (through (map line.Route t.view.routes) _ _ (line.Msg x) (last_more line.Msg t.view.msgs x))))))
 view_more t (line.Full x) h l =
-    ap (λ (ls : List TranscriptLine). line.Config ∷ line.Next t.view.next_id t.view.next_serial ∷ ls)
+    let g = and_parts (takes_hungs (draft stage.View t)) (eqb (length t.view.hungs) 0) h in
+    rw (none t.view.hungs g.1)
+    (ap (λ (ls : List TranscriptLine). line.Config ∷ line.Next t.view.next_id t.view.next_serial ∷ ls)
     (through (map line.Fd t.view.fds) _ _ (line.Full x)
     (through (map line.Link t.view.links) _ _ (line.Full x)
     (through (map line.Bind t.view.binds) _ _ (line.Full x)
     (through (map line.Route t.view.routes) _ _ (line.Full x)
-    (through (map line.Msg t.view.msgs) _ _ (line.Full x) (map_push line.Full t.view.fulls x))))))
+    (through (map line.Msg t.view.msgs) _ _ (line.Full x) (last_more line.Full t.view.fulls x)))))))
+view_more t (line.Hung x) h l =
+    ap (λ (ls : List TranscriptLine). line.Config ∷ line.Next t.view.next_id t.view.next_serial ∷ ls)
+    (through (map line.Fd t.view.fds) _ _ (line.Hung x)
+    (through (map line.Link t.view.links) _ _ (line.Hung x)
+    (through (map line.Bind t.view.binds) _ _ (line.Hung x)
+    (through (map line.Route t.view.routes) _ _ (line.Hung x)
+    (through (map line.Msg t.view.msgs) _ _ (line.Hung x)
+    (through (map line.Full t.view.fulls) _ _ (line.Hung x) (map_push line.Hung t.view.hungs x)))))))
 view_more t line.End h l = absurd cc
 
 -- a line that is taken is the last
@@ -150,6 +176,7 @@ more_by stage.History t (line.Bind x) h l = absurd cc
 more_by stage.History t (line.Route x) h l = absurd cc
 more_by stage.History t (line.Msg x) h l = absurd cc
 more_by stage.History t (line.Full x) h l = absurd cc
+more_by stage.History t (line.Hung x) h l = absurd cc
 more_by stage.History t line.End h l = absurd cc
 more_by stage.Config t (line.Driver x) h l = absurd cc
 more_by stage.Config t (line.Entry x) h l = absurd cc
@@ -163,6 +190,7 @@ more_by stage.Config t (line.Bind x) h l = absurd cc
 more_by stage.Config t (line.Route x) h l = absurd cc
 more_by stage.Config t (line.Msg x) h l = absurd cc
 more_by stage.Config t (line.Full x) h l = absurd cc
+more_by stage.Config t (line.Hung x) h l = absurd cc
 more_by stage.Config t line.End h l = absurd cc
 more_by stage.View t (line.Driver x) h l = absurd cc
 more_by stage.View t (line.Entry x) h l = absurd cc
@@ -186,6 +214,9 @@ more_by stage.View t (line.Msg x) h l =
 more_by stage.View t (line.Full x) h l =
     behind (map line.Driver t.drivers) (map line.Entry t.entries) (shown stage.View t.view) _ (line.Full x)
     (view_more t (line.Full x) h l)
+more_by stage.View t (line.Hung x) h l =
+    behind (map line.Driver t.drivers) (map line.Entry t.entries) (shown stage.View t.view) _ (line.Hung x)
+    (view_more t (line.Hung x) h l)
 more_by stage.View t line.End h l = absurd cc
 
 pub lines_more : (d : TranscriptDraft) (k : TranscriptLine) → takes d k ≡ true → is_line k ≡ true
@@ -229,30 +260,34 @@ run_lines (k ∷ ks) d e h =
 
 -- ---- the lines of a transcript give that transcript
 
-abbrev in_history : List DriverSpec → List Entry → TranscriptDraft
-in_history ds es = draft stage.History (record { drivers = ds; entries = es; view = new_view 0 0 })
+abbrev in_history : Version → List DriverSpec → List Entry → TranscriptDraft
+in_history version ds es =
+    draft stage.History (record { version = version; drivers = ds; entries = es; view = new_view 0 0 })
 
 push_assoc : {A : Type 0} (xs : List A) (y : A) (ys : List A) → (xs ++ y ∷ []) ++ ys ≡ xs ++ y ∷ ys
 push_assoc xs y ys = append_assoc xs (y ∷ []) ys
 
-pub run_drivers : (ds0 ds : List DriverSpec) (rest : List TranscriptLine)
-    → run (in_history ds0 []) (map line.Driver ds ++ rest) ≡ run (in_history (ds0 ++ ds) []) rest
-run_drivers ds0 [] rest = ap (λ (ds : List DriverSpec). run (in_history ds []) rest) (sym (append-nil ds0))
-run_drivers ds0 (d ∷ ds) rest = run_drivers (ds0 ++ d ∷ []) ds rest
-    ∙ ap (λ (es : List DriverSpec). run (in_history es []) rest) (push_assoc ds0 d ds)
+pub run_drivers : (version : Version) (ds0 ds : List DriverSpec) (rest : List TranscriptLine)
+    → run (in_history version ds0 []) (map line.Driver ds ++ rest) ≡ run (in_history version (ds0 ++ ds) []) rest
+run_drivers version ds0 [] rest = ap (λ (ds : List DriverSpec). run (in_history version ds []) rest)
+    (sym (append-nil ds0))
+run_drivers version ds0 (d ∷ ds) rest = run_drivers version (ds0 ++ d ∷ []) ds rest
+    ∙ ap (λ (es : List DriverSpec). run (in_history version es []) rest) (push_assoc ds0 d ds)
 
-pub run_entries : (ds : List DriverSpec) (es0 es : List Entry) (rest : List TranscriptLine)
-    → run (in_history ds es0) (map line.Entry es ++ rest) ≡ run (in_history ds (es0 ++ es)) rest
-run_entries ds es0 [] rest = ap (λ (es : List Entry). run (in_history ds es) rest) (sym (append-nil es0))
-run_entries ds es0 (e ∷ es) rest = run_entries ds (es0 ++ e ∷ []) es rest
-    ∙ ap (λ (xs : List Entry). run (in_history ds xs) rest) (push_assoc es0 e es)
+pub run_entries : (version : Version) (ds : List DriverSpec) (es0 es : List Entry) (rest : List TranscriptLine)
+    → run (in_history version ds es0) (map line.Entry es ++ rest) ≡ run (in_history version ds (es0 ++ es)) rest
+run_entries version ds es0 [] rest = ap (λ (es : List Entry). run (in_history version ds es) rest)
+    (sym (append-nil es0))
+run_entries version ds es0 (e ∷ es) rest = run_entries version ds (es0 ++ e ∷ []) es rest
+    ∙ ap (λ (xs : List Entry). run (in_history version ds xs) rest) (push_assoc es0 e es)
 
-module _ (ds : List DriverSpec) (es : List Entry) (id serial : ℕ) where
+module _ (version : Version) (ds : List DriverSpec) (es : List Entry) (id serial : ℕ) where
   abbrev in_view : List DescriptorLine → List LinkLine → List BindingLine → List RouteLine → List MessageLine
-      → List FullLine → TranscriptDraft
-  in_view fds links binds routes msgs fulls =
+      → List FullLine → List HungLine → TranscriptDraft
+  in_view fds links binds routes msgs fulls hungs =
       draft stage.View
       (record {
+        version = version;
         drivers = ds;
         entries = es;
         view = record {
@@ -264,74 +299,88 @@ module _ (ds : List DriverSpec) (es : List Entry) (id serial : ℕ) where
           routes = routes;
           msgs = msgs;
           fulls = fulls;
+          hungs = hungs;
         };
       })
 
   run_fds : (xs ys : List DescriptorLine) (rest : List TranscriptLine)
-      → run (in_view xs [] [] [] [] []) (map line.Fd ys ++ rest)
-      ≡ run (in_view (xs ++ ys) [] [] [] [] []) rest
-  run_fds xs [] rest = ap (λ (zs : List DescriptorLine). run (in_view zs [] [] [] [] []) rest) (sym (append-nil xs))
+      → run (in_view xs [] [] [] [] [] []) (map line.Fd ys ++ rest)
+      ≡ run (in_view (xs ++ ys) [] [] [] [] [] []) rest
+  run_fds xs [] rest = ap (λ (zs : List DescriptorLine). run (in_view zs [] [] [] [] [] []) rest) (sym (append-nil xs))
   run_fds xs (y ∷ ys) rest = run_fds (xs ++ y ∷ []) ys rest
-      ∙ ap (λ (zs : List DescriptorLine). run (in_view zs [] [] [] [] []) rest) (push_assoc xs y ys)
+      ∙ ap (λ (zs : List DescriptorLine). run (in_view zs [] [] [] [] [] []) rest) (push_assoc xs y ys)
 
   run_links : (fds : List DescriptorLine) (xs ys : List LinkLine) (rest : List TranscriptLine)
-      → run (in_view fds xs [] [] [] []) (map line.Link ys ++ rest)
-      ≡ run (in_view fds (xs ++ ys) [] [] [] []) rest
-  run_links fds xs [] rest = ap (λ (zs : List LinkLine). run (in_view fds zs [] [] [] []) rest) (sym (append-nil xs))
+      → run (in_view fds xs [] [] [] [] []) (map line.Link ys ++ rest)
+      ≡ run (in_view fds (xs ++ ys) [] [] [] [] []) rest
+  run_links fds xs [] rest = ap (λ (zs : List LinkLine). run (in_view fds zs [] [] [] [] []) rest) (sym (append-nil xs))
   run_links fds xs (y ∷ ys) rest = run_links fds (xs ++ y ∷ []) ys rest
-      ∙ ap (λ (zs : List LinkLine). run (in_view fds zs [] [] [] []) rest) (push_assoc xs y ys)
+      ∙ ap (λ (zs : List LinkLine). run (in_view fds zs [] [] [] [] []) rest) (push_assoc xs y ys)
 
   run_binds : (fds : List DescriptorLine) (links : List LinkLine) (xs ys : List BindingLine)
-      (rest : List TranscriptLine) → run (in_view fds links xs [] [] []) (map line.Bind ys ++ rest)
-      ≡ run (in_view fds links (xs ++ ys) [] [] []) rest
+      (rest : List TranscriptLine) → run (in_view fds links xs [] [] [] []) (map line.Bind ys ++ rest)
+      ≡ run (in_view fds links (xs ++ ys) [] [] [] []) rest
   run_binds fds links xs [] rest =
-      ap (λ (zs : List BindingLine). run (in_view fds links zs [] [] []) rest) (sym (append-nil xs))
+      ap (λ (zs : List BindingLine). run (in_view fds links zs [] [] [] []) rest) (sym (append-nil xs))
   run_binds fds links xs (y ∷ ys) rest = run_binds fds links (xs ++ y ∷ []) ys rest
-      ∙ ap (λ (zs : List BindingLine). run (in_view fds links zs [] [] []) rest) (push_assoc xs y ys)
+      ∙ ap (λ (zs : List BindingLine). run (in_view fds links zs [] [] [] []) rest) (push_assoc xs y ys)
 
   run_routes : (fds : List DescriptorLine) (links : List LinkLine) (binds : List BindingLine)
       (xs ys : List RouteLine) (rest : List TranscriptLine)
-      → run (in_view fds links binds xs [] []) (map line.Route ys ++ rest)
-      ≡ run (in_view fds links binds (xs ++ ys) [] []) rest
+      → run (in_view fds links binds xs [] [] []) (map line.Route ys ++ rest)
+      ≡ run (in_view fds links binds (xs ++ ys) [] [] []) rest
   run_routes fds links binds xs [] rest =
-      ap (λ (zs : List RouteLine). run (in_view fds links binds zs [] []) rest) (sym (append-nil xs))
+      ap (λ (zs : List RouteLine). run (in_view fds links binds zs [] [] []) rest) (sym (append-nil xs))
   run_routes fds links binds xs (y ∷ ys) rest = run_routes fds links binds (xs ++ y ∷ []) ys rest
-      ∙ ap (λ (zs : List RouteLine). run (in_view fds links binds zs [] []) rest) (push_assoc xs y ys)
+      ∙ ap (λ (zs : List RouteLine). run (in_view fds links binds zs [] [] []) rest) (push_assoc xs y ys)
 
   run_msgs : (fds : List DescriptorLine) (links : List LinkLine) (binds : List BindingLine)
       (routes : List RouteLine) (xs ys : List MessageLine) (rest : List TranscriptLine)
-      → run (in_view fds links binds routes xs []) (map line.Msg ys ++ rest)
-      ≡ run (in_view fds links binds routes (xs ++ ys) []) rest
+      → run (in_view fds links binds routes xs [] []) (map line.Msg ys ++ rest)
+      ≡ run (in_view fds links binds routes (xs ++ ys) [] []) rest
   run_msgs fds links binds routes xs [] rest =
-      ap (λ (zs : List MessageLine). run (in_view fds links binds routes zs []) rest) (sym (append-nil xs))
+      ap (λ (zs : List MessageLine). run (in_view fds links binds routes zs [] []) rest) (sym (append-nil xs))
   run_msgs fds links binds routes xs (y ∷ ys) rest = run_msgs fds links binds routes (xs ++ y ∷ []) ys rest
-      ∙ ap (λ (zs : List MessageLine). run (in_view fds links binds routes zs []) rest) (push_assoc xs y ys)
+      ∙ ap (λ (zs : List MessageLine). run (in_view fds links binds routes zs [] []) rest) (push_assoc xs y ys)
 
   run_fulls : (fds : List DescriptorLine) (links : List LinkLine) (binds : List BindingLine)
       (routes : List RouteLine) (msgs : List MessageLine) (xs ys : List FullLine) (rest : List TranscriptLine)
-      → run (in_view fds links binds routes msgs xs) (map line.Full ys ++ rest)
-      ≡ run (in_view fds links binds routes msgs (xs ++ ys)) rest
+      → run (in_view fds links binds routes msgs xs []) (map line.Full ys ++ rest)
+      ≡ run (in_view fds links binds routes msgs (xs ++ ys) []) rest
   run_fulls fds links binds routes msgs xs [] rest =
-      ap (λ (zs : List FullLine). run (in_view fds links binds routes msgs zs) rest) (sym (append-nil xs))
+      ap (λ (zs : List FullLine). run (in_view fds links binds routes msgs zs []) rest) (sym (append-nil xs))
   run_fulls fds links binds routes msgs xs (y ∷ ys) rest =
       run_fulls fds links binds routes msgs (xs ++ y ∷ []) ys rest
-      ∙ ap (λ (zs : List FullLine). run (in_view fds links binds routes msgs zs) rest) (push_assoc xs y ys)
+      ∙ ap (λ (zs : List FullLine). run (in_view fds links binds routes msgs zs []) rest) (push_assoc xs y ys)
+
+  run_hungs : (fds : List DescriptorLine) (links : List LinkLine) (binds : List BindingLine)
+      (routes : List RouteLine) (msgs : List MessageLine) (fulls : List FullLine) (xs ys : List HungLine)
+      (rest : List TranscriptLine)
+      → run (in_view fds links binds routes msgs fulls xs) (map line.Hung ys ++ rest)
+      ≡ run (in_view fds links binds routes msgs fulls (xs ++ ys)) rest
+  run_hungs fds links binds routes msgs fulls xs [] rest =
+      ap (λ (zs : List HungLine). run (in_view fds links binds routes msgs fulls zs) rest) (sym (append-nil xs))
+  run_hungs fds links binds routes msgs fulls xs (y ∷ ys) rest =
+      run_hungs fds links binds routes msgs fulls (xs ++ y ∷ []) ys rest
+      ∙ ap (λ (zs : List HungLine). run (in_view fds links binds routes msgs fulls zs) rest) (push_assoc xs y ys)
 
   run_view : (fds : List DescriptorLine) (links : List LinkLine) (binds : List BindingLine)
-      (routes : List RouteLine) (msgs : List MessageLine) (fulls : List FullLine)
-      → run (in_view [] [] [] [] [] []) (map line.Fd fds
+      (routes : List RouteLine) (msgs : List MessageLine) (fulls : List FullLine) (hungs : List HungLine)
+      → run (in_view [] [] [] [] [] [] []) (map line.Fd fds
       ++ (map line.Link links
-      ++ (map line.Bind binds ++ (map line.Route routes ++ (map line.Msg msgs ++ map line.Full fulls)))))
-      ≡ Some (in_view fds links binds routes msgs fulls)
-  run_view fds links binds routes msgs fulls =
+      ++ (map line.Bind binds ++ (map line.Route routes ++ (map line.Msg msgs
+      ++ (map line.Full fulls ++ map line.Hung hungs))))))
+      ≡ Some (in_view fds links binds routes msgs fulls hungs)
+  run_view fds links binds routes msgs fulls hungs =
       run_fds [] fds _ ∙ run_links fds [] links _ ∙ run_binds fds links [] binds _
       ∙ run_routes fds links binds [] routes _ ∙ run_msgs fds links binds routes [] msgs _
-      ∙ ap (run (in_view fds links binds routes msgs [])) (sym (append-nil (map line.Full fulls)))
-      ∙ run_fulls fds links binds routes msgs [] fulls []
+      ∙ run_fulls fds links binds routes msgs [] fulls _
+      ∙ ap (run (in_view fds links binds routes msgs fulls [])) (sym (append-nil (map line.Hung hungs)))
+      ∙ run_hungs fds links binds routes msgs fulls [] hungs []
 
-pub run_body : (t : Transcript) → run new_draft (body t) ≡ Some (draft stage.View t)
+pub run_body : (t : Transcript) → run (new_draft t.version) (body t) ≡ Some (draft stage.View t)
 run_body t =
-    run_drivers [] t.drivers (map line.Entry t.entries ++ line.Config ∷ view_body t.view)
-    ∙ run_entries t.drivers [] t.entries (line.Config ∷ view_body t.view)
-    ∙ run_view t.drivers t.entries t.view.next_id t.view.next_serial t.view.fds t.view.links t.view.binds
-    t.view.routes t.view.msgs t.view.fulls
+    run_drivers t.version [] t.drivers (map line.Entry t.entries ++ line.Config ∷ view_body t.view)
+    ∙ run_entries t.version t.drivers [] t.entries (line.Config ∷ view_body t.view)
+    ∙ run_view t.version t.drivers t.entries t.view.next_id t.view.next_serial t.view.fds t.view.links t.view.binds
+    t.view.routes t.view.msgs t.view.fulls t.view.hungs

@@ -1,13 +1,16 @@
 -- A transcript that is being read, as a machine that takes line after line.
 use Rattle.std.specs.Prelude.{ℕ, Bool, true, false, ◌&&◌, ◌==◌, nat_le, [], ◌∷◌, ◌++◌, length, Option, Some, None}
-use Rattle.smx_types.specs.declared.limits.TheConstants.{MAX_DRIVERS, MAX_COMMANDS}
+use Rattle.smx_types.specs.declared.limits.TheConstants.{MAX_COMMANDS}
 use Rattle.smx_types.specs.declared.view.ConfigView.{ConfigView}
 use Rattle.smx_text.specs.declared.transcript.draft.Stage.{Stage}
 use Rattle.smx_text.specs.declared.transcript.draft.Stage.TheVariants as stage
 use Rattle.smx_text.specs.declared.transcript.draft.TranscriptDraft.{TranscriptDraft}
 use Rattle.smx_text.specs.Drafts.{is_view, takes_fds, takes_links, takes_binds, takes_routes, takes_msgs, takes_fulls}
+use Rattle.smx_text.specs.Drafts.{takes_hungs}
 use Rattle.smx_text.specs.TranscriptLines.{TranscriptLine}
 use Rattle.smx_text.specs.TranscriptLines as line
+use Rattle.smx_types.specs.Versions.{most_drivers}
+use Rattle.smx_types.specs.declared.version.Version.{Version}
 
 -- a view with nothing in it yet
 abbrev pub new_view : ℕ → ℕ → ConfigView
@@ -21,11 +24,16 @@ new_view id serial =
       routes = [];
       msgs = [];
       fulls = [];
+      hungs = [];
     }
 
--- nothing read yet
-abbrev pub new_draft : TranscriptDraft
-new_draft = record { stage = stage.History; transcript = record { drivers = []; entries = []; view = new_view 0 0 } }
+-- nothing read yet of a text of this version
+abbrev pub new_draft : Version → TranscriptDraft
+new_draft version =
+    record {
+      stage = stage.History;
+      transcript = record { version = version; drivers = []; entries = []; view = new_view 0 0 };
+    }
 
 -- ---- stages
 
@@ -55,11 +63,12 @@ takes d (line.Bind x) = takes_binds d
 takes d (line.Route x) = takes_routes d
 takes d (line.Msg x) = takes_msgs d
 takes d (line.Full x) = takes_fulls d
+takes d (line.Hung x) = takes_hungs d
 takes d line.End = is_view d.stage
 
 -- as many as there may be of it
 abbrev pub is_full : TranscriptDraft → TranscriptLine → Bool
-is_full d (line.Driver x) = nat_le MAX_DRIVERS (length d.transcript.drivers)
+is_full d (line.Driver x) = nat_le (most_drivers d.transcript.version) (length d.transcript.drivers)
 is_full d (line.Entry x) = nat_le MAX_COMMANDS (length d.transcript.entries)
 is_full d line.Config = false
 is_full d (line.Next id serial) = false
@@ -69,6 +78,7 @@ is_full d (line.Bind x) = false
 is_full d (line.Route x) = false
 is_full d (line.Msg x) = false
 is_full d (line.Full x) = false
+is_full d (line.Hung x) = false
 is_full d line.End = false
 
 -- what may follow, if this is there
@@ -83,6 +93,7 @@ with_view d v =
     record {
       stage = stage.View;
       transcript = record {
+        version = d.transcript.version;
         drivers = d.transcript.drivers;
         entries = d.transcript.entries;
         view = v;
@@ -101,4 +112,5 @@ with_line d (line.Bind x) = with_view d (record d.transcript.view { binds = d.tr
 with_line d (line.Route x) = with_view d (record d.transcript.view { routes = d.transcript.view.routes ++ x ∷ [] })
 with_line d (line.Msg x) = with_view d (record d.transcript.view { msgs = d.transcript.view.msgs ++ x ∷ [] })
 with_line d (line.Full x) = with_view d (record d.transcript.view { fulls = d.transcript.view.fulls ++ x ∷ [] })
+with_line d (line.Hung x) = with_view d (record d.transcript.view { hungs = d.transcript.view.hungs ++ x ∷ [] })
 with_line d line.End = d

@@ -5,7 +5,9 @@ use Rattle.std.specs.List.{AllByRecursion}
 use Rattle.std.specs.Prelude.{◌⊎◌}
 use Rattle.std.proofs.lemmas.Bool.Decides.{nat_tests}
 use Rattle.std.proofs.lemmas.List.{length-append}
+use Rattle.smx_types.specs.Versions.{most_drivers}
 use Rattle.smx_types.specs.declared.transcript.Transcript.{Transcript}
+use Rattle.smx_types.specs.declared.version.Version.{Version}
 use Rattle.smx_text.specs.declared.transcript.draft.Stage.{Stage}
 use Rattle.smx_text.specs.declared.transcript.draft.Stage.TheVariants as stage
 use Rattle.smx_text.specs.declared.transcript.draft.TranscriptDraft.{TranscriptDraft}
@@ -21,38 +23,69 @@ use Rattle.smx_text.proofs.EachLemmas.{all_push}
 use Rattle.smx_text.proofs.TranscriptDraftLemmas.{draft, is_line, lines_more, run, run_append, run_body, taken}
 use Rattle.smx_text.proofs.TranscriptWholeLemmas.{ended, completed, completes, still, IsWithin, allowed}
 
--- there are as many or more
+-- of the same version there are as many or more
 pub record Grows (d e : TranscriptDraft) : Type 0 where
+  pub version : e.transcript.version ≡ d.transcript.version
   pub drivers : length d.transcript.drivers ≤ length e.transcript.drivers
   pub entries : length d.transcript.entries ≤ length e.transcript.entries
 
+-- a line doesn't change the version
+pub version_stays : (d : TranscriptDraft) (k : TranscriptLine)
+    → (with_line d k).transcript.version ≡ d.transcript.version
+version_stays d (line.Driver x) = refl
+version_stays d (line.Entry x) = refl
+version_stays d line.Config = refl
+version_stays d (line.Next id serial) = refl
+version_stays d (line.Fd x) = refl
+version_stays d (line.Link x) = refl
+version_stays d (line.Bind x) = refl
+version_stays d (line.Route x) = refl
+version_stays d (line.Msg x) = refl
+version_stays d (line.Full x) = refl
+version_stays d (line.Hung x) = refl
+version_stays d line.End = refl
+
 one_grows : (d : TranscriptDraft) (k : TranscriptLine) → Grows d (with_line d k)
 one_grows d (line.Driver x) =
-    record { drivers = omega (arith, length-append d.transcript.drivers (x ∷ [])); entries = omega arith }
+    record {
+      version = refl;
+      drivers = omega (arith, length-append d.transcript.drivers (x ∷ []));
+      entries = omega arith;
+    }
 one_grows d (line.Entry x) =
-    record { drivers = omega arith; entries = omega (arith, length-append d.transcript.entries (x ∷ [])) }
-one_grows d line.Config = record { drivers = omega arith; entries = omega arith }
-one_grows d (line.Next id serial) = record { drivers = omega arith; entries = omega arith }
-one_grows d (line.Fd x) = record { drivers = omega arith; entries = omega arith }
-one_grows d (line.Link x) = record { drivers = omega arith; entries = omega arith }
-one_grows d (line.Bind x) = record { drivers = omega arith; entries = omega arith }
-one_grows d (line.Route x) = record { drivers = omega arith; entries = omega arith }
-one_grows d (line.Msg x) = record { drivers = omega arith; entries = omega arith }
-one_grows d (line.Full x) = record { drivers = omega arith; entries = omega arith }
-one_grows d line.End = record { drivers = omega arith; entries = omega arith }
+    record {
+      version = refl;
+      drivers = omega arith;
+      entries = omega (arith, length-append d.transcript.entries (x ∷ []));
+    }
+one_grows d line.Config = record { version = refl; drivers = omega arith; entries = omega arith }
+one_grows d (line.Next id serial) = record { version = refl; drivers = omega arith; entries = omega arith }
+one_grows d (line.Fd x) = record { version = refl; drivers = omega arith; entries = omega arith }
+one_grows d (line.Link x) = record { version = refl; drivers = omega arith; entries = omega arith }
+one_grows d (line.Bind x) = record { version = refl; drivers = omega arith; entries = omega arith }
+one_grows d (line.Route x) = record { version = refl; drivers = omega arith; entries = omega arith }
+one_grows d (line.Msg x) = record { version = refl; drivers = omega arith; entries = omega arith }
+one_grows d (line.Full x) = record { version = refl; drivers = omega arith; entries = omega arith }
+one_grows d (line.Hung x) = record { version = refl; drivers = omega arith; entries = omega arith }
+one_grows d line.End = record { version = refl; drivers = omega arith; entries = omega arith }
 
 pub run_grows : (ks : List TranscriptLine) (d e : TranscriptDraft) → run d ks ≡ Some e → Grows d e
-run_grows [] d e h = let same : d ≡ e = cc h in rw same (record { drivers = omega arith; entries = omega arith })
+run_grows [] d e h =
+    let same : d ≡ e = cc h in rw same (record { version = refl; drivers = omega arith; entries = omega arith })
 run_grows (k ∷ ks) d e h =
     let t = taken d e k ks h in
     let one = one_grows d k in
     let more = run_grows ks (with_line d k) e t.2 in
-    record { drivers = omega (arith, one.drivers, more.drivers); entries = omega (arith, one.entries, more.entries) }
+    record {
+      version = more.version ∙ one.version;
+      drivers = omega (arith, one.drivers, more.drivers);
+      entries = omega (arith, one.entries, more.entries);
+    }
 
 pub within_before : (d e : TranscriptDraft) → Grows d e → IsWithin e → IsWithin d
 within_before d e grows within =
     record {
-      drivers = omega (arith, grows.drivers, within.drivers);
+      drivers = omega (arith, grows.drivers, within.drivers, ap most_drivers grows.version);
       entries = omega (arith, grows.entries, within.entries);
     }
 
@@ -70,6 +103,7 @@ not_full d (line.Bind x) within = refl
 not_full d (line.Route x) within = refl
 not_full d (line.Msg x) within = refl
 not_full d (line.Full x) within = refl
+not_full d (line.Hung x) within = refl
 not_full d line.End within = refl
 
 -- and what is not one too many is within the limits
@@ -87,6 +121,7 @@ still_within d (line.Bind x) within h = record { drivers = within.drivers; entri
 still_within d (line.Route x) within h = record { drivers = within.drivers; entries = within.entries }
 still_within d (line.Msg x) within h = record { drivers = within.drivers; entries = within.entries }
 still_within d (line.Full x) within h = record { drivers = within.drivers; entries = within.entries }
+still_within d (line.Hung x) within h = record { drivers = within.drivers; entries = within.entries }
 still_within d line.End within h = record { drivers = within.drivers; entries = within.entries }
 
 -- the line behind some lines of a whole is the end, or one of the whole
@@ -117,35 +152,46 @@ bind_some f o x y e h = rw e at h
 some_is : {A : Type 0} (x y : A) → Some x ≡ Some y → x ≡ y
 some_is x y e = cc e
 
+-- the same in another version, whose lines are the same
+abbrev pub of_version : Version → Transcript → Transcript
+of_version version t = record t { version = version }
+
 -- from where some lines lead, the rest of a transcript leads to it
-pub rest_leads : (t : Transcript) (ls rest : List TranscriptLine) (d : TranscriptDraft)
-    → run new_draft ls ≡ Some d → body t ≡ ls ++ rest → run d rest ≡ Some (draft stage.View t)
-rest_leads t ls rest d led e =
-    bind_some (λ (c : TranscriptDraft). run c rest) (run new_draft ls) d (draft stage.View t) led
-    (sym (run_append new_draft ls rest) ∙ sym (ap (run new_draft) e) ∙ run_body t)
+pub rest_leads : (version : Version) (t : Transcript) (ls rest : List TranscriptLine) (d : TranscriptDraft)
+    → run (new_draft version) ls ≡ Some d → body t ≡ ls ++ rest
+    → run d rest ≡ Some (draft stage.View (of_version version t))
+rest_leads version t ls rest d led e =
+    bind_some (λ (c : TranscriptDraft). run c rest) (run (new_draft version) ls) d
+    (draft stage.View (of_version version t)) led
+    (sym (run_append (new_draft version) ls rest) ∙ sym (ap (run (new_draft version)) e)
+    ∙ run_body (of_version version t))
 
 -- what may follow is taken
-pub may_takes : (ls : List TranscriptLine) (d : TranscriptDraft) (k : TranscriptLine) (t : Transcript)
-    → run new_draft ls ≡ Some d → GoesOn transcript_grammar t ls k → takes d k ≡ true
-may_takes ls d k t led (more, e) =
+pub may_takes : (version : Version) (ls : List TranscriptLine) (d : TranscriptDraft) (k : TranscriptLine)
+    (t : Transcript) → run (new_draft version) ls ≡ Some d → GoesOn (transcript_grammar version) t ls k
+    → takes d k ≡ true
+may_takes version ls d k t led (more, e) =
+    let u = of_version version t in
     elim (split_end (body t) ls more k e) [
-      | inl (is, all) ↦ let same =
-          some_is d (draft stage.View t) (sym led ∙ ap (run new_draft) all ∙ run_body t) in rw (is, same) refl
-      | inr (rest, all) ↦ (taken d (draft stage.View t) k rest (rest_leads t ls (k ∷ rest) d led all)).0
+      | inl (is, all) ↦ let same : d ≡ draft stage.View u =
+          some_is d (draft stage.View u) (sym led ∙ ap (run (new_draft version)) all ∙ run_body u) in rw (is, same) refl
+      | inr (rest, all) ↦ (taken d (draft stage.View u) k rest (rest_leads version t ls (k ∷ rest) d led all)).0
     ]
 
 -- where there are as many as may be, no transcript within the limits goes on so
-pub full_stops : (ls : List TranscriptLine) (d : TranscriptDraft) (k : TranscriptLine) (t : Transcript)
-    → run new_draft ls ≡ Some d → is_full d k ≡ true → IsAllowed t → GoesOn transcript_grammar t ls k → ⊥
-full_stops ls d k t led full allowed (more, e) =
+pub full_stops : (version : Version) (ls : List TranscriptLine) (d : TranscriptDraft) (k : TranscriptLine)
+    (t : Transcript) → run (new_draft version) ls ≡ Some d → is_full d k ≡ true → IsAllowed version t
+    → GoesOn (transcript_grammar version) t ls k → ⊥
+full_stops version ls d k t led full allowed (more, e) =
+    let u = of_version version t in
     elim (split_end (body t) ls more k e) [
       | inl (is, all) ↦ let never : is_full d line.End ≡ true =
           subst (λ (x : TranscriptLine). is_full d x ≡ true) is full in absurd cc
       | inr (rest, all) ↦
-          let goes = taken d (draft stage.View t) k rest (rest_leads t ls (k ∷ rest) d led all) in
-          let grows = run_grows rest (with_line d k) (draft stage.View t) goes.2 in
+          let goes = taken d (draft stage.View u) k rest (rest_leads version t ls (k ∷ rest) d led all) in
+          let grows = run_grows rest (with_line d k) (draft stage.View u) goes.2 in
           let room =
-          not_full d k (within_before (with_line d k) (draft stage.View t) grows
+          not_full d k (within_before (with_line d k) (draft stage.View u) grows
           (record { drivers = allowed.drivers; entries = allowed.entries })) in
           absurd (cc (full, room))
     ]
@@ -154,17 +200,17 @@ full_stops ls d k t led full allowed (more, e) =
 abbrev pub next_of : TranscriptDraft → TranscriptLine → Transcript
 next_of d k = completed (with_line d k)
 
-pub takes_may : (d : TranscriptDraft) (k : TranscriptLine) → takes d k ≡ true
-    → GoesOn transcript_grammar (next_of d k) (lines d) k
-takes_may d k h = by_kind (is_line k) refl where
+pub takes_may : (version : Version) (d : TranscriptDraft) (k : TranscriptLine) → takes d k ≡ true
+    → GoesOn (transcript_grammar version) (next_of d k) (lines d) k
+takes_may version d k h = by_kind (is_line k) refl where
   at_end : (s : Stage) (t : Transcript) → is_view s ≡ true
-      → GoesOn transcript_grammar (ended s t) (lines (draft s t)) line.End
+      → GoesOn (transcript_grammar version) (ended s t) (lines (draft s t)) line.End
   at_end stage.History t h = absurd cc
   at_end stage.Config t h = absurd cc
   at_end stage.View t h = ([], refl)
 
   is_end : (d : TranscriptDraft) (k : TranscriptLine) → is_line k ≡ false → takes d k ≡ true
-      → GoesOn transcript_grammar (next_of d k) (lines d) k
+      → GoesOn (transcript_grammar version) (next_of d k) (lines d) k
   is_end d (line.Driver x) off h = absurd cc
   is_end d (line.Entry x) off h = absurd cc
   is_end d line.Config off h = absurd cc
@@ -175,13 +221,14 @@ takes_may d k h = by_kind (is_line k) refl where
   is_end d (line.Route x) off h = absurd cc
   is_end d (line.Msg x) off h = absurd cc
   is_end d (line.Full x) off h = absurd cc
+  is_end d (line.Hung x) off h = absurd cc
   is_end d line.End off h = at_end d.stage d.transcript h
 
   regroup : (ls : List TranscriptLine) (k : TranscriptLine) (rest : List TranscriptLine)
       → ((ls ++ k ∷ []) ++ rest) ++ line.End ∷ [] ≡ ls ++ k ∷ (rest ++ line.End ∷ [])
   regroup ls k rest = simp append_assoc
 
-  by_kind : (b : Bool) → is_line k ≡ b → GoesOn transcript_grammar (next_of d k) (lines d) k
+  by_kind : (b : Bool) → is_line k ≡ b → GoesOn (transcript_grammar version) (next_of d k) (lines d) k
   by_kind true l =
       let e = completes (with_line d k) in
       let more = lines_more d k h l in
@@ -194,14 +241,16 @@ takes_may d k h = by_kind (is_line k) refl where
 
 -- and it is allowed where these lines and this one are
 pub next_allowed : (d : TranscriptDraft) (k : TranscriptLine) → takes d k ≡ true → is_full d k ≡ false
-    → IsWithin d → AllByRecursion FitsLine (lines d) → FitsLine k → IsAllowed (next_of d k)
+    → IsWithin d → AllByRecursion (FitsLine d.transcript.version) (lines d) → FitsLine d.transcript.version k
+    → IsAllowed d.transcript.version (next_of d k)
 next_allowed d k h room within fits one =
-    allowed (with_line d k) (still_within d k within room) (fits_next k (is_line k) refl h one) where
-      fits_next : (k : TranscriptLine) (b : Bool) → is_line k ≡ b → takes d k ≡ true → FitsLine k
-          → AllByRecursion FitsLine (lines (with_line d k))
+    allowed d.transcript.version (with_line d k) (version_stays d k) (still_within d k within room)
+    (fits_next k (is_line k) refl h one) where
+      fits_next : (k : TranscriptLine) (b : Bool) → is_line k ≡ b → takes d k ≡ true
+          → FitsLine d.transcript.version k → AllByRecursion (FitsLine d.transcript.version) (lines (with_line d k))
       fits_next k true l h one =
-          subst (λ (ls : List TranscriptLine). AllByRecursion FitsLine ls) (sym (lines_more d k h l))
-          (all_push FitsLine (lines d) k fits one)
+          subst (AllByRecursion (FitsLine d.transcript.version)) (sym (lines_more d k h l))
+          (all_push (FitsLine d.transcript.version) (lines d) k fits one)
       fits_next (line.Driver x) false l h one = absurd cc
       fits_next (line.Entry x) false l h one = absurd cc
       fits_next line.Config false l h one = absurd cc
@@ -212,4 +261,5 @@ next_allowed d k h room within fits one =
       fits_next (line.Route x) false l h one = absurd cc
       fits_next (line.Msg x) false l h one = absurd cc
       fits_next (line.Full x) false l h one = absurd cc
+      fits_next (line.Hung x) false l h one = absurd cc
       fits_next line.End false l h one = fits

@@ -14,38 +14,42 @@ use Rattle.smx_types.specs.declared.driver.DriverSpec.{DriverSpec}
 use Rattle.smx_types.specs.declared.transcript.Transcript.{Transcript}
 use Rattle.smx_types.specs.declared.view.BindingLine.{BindingLine}
 use Rattle.smx_types.specs.declared.view.DescriptorLine.{DescriptorLine}
+use Rattle.smx_types.specs.declared.version.Version.{Version}
+use Rattle.smx_types.specs.declared.version.Version.TheVariants.{V1, V2}
 use Rattle.smx_types.specs.declared.view.FullLine.{FullLine}
+use Rattle.smx_types.specs.declared.view.HungLine.{HungLine}
 use Rattle.smx_types.specs.declared.view.LinkLine.{LinkLine}
 use Rattle.smx_types.specs.declared.view.MessageLine.{MessageLine}
 use Rattle.smx_types.specs.declared.view.RouteLine.{RouteLine}
 use Rattle.smx_words.specs.Words.{line_of}
 use Rattle.smx_words.specs.Spelling.{driver_words, entry_words, descriptor_words, link_words, bind_words}
-use Rattle.smx_words.specs.Spelling.{route_words, message_words, full_words, next_words}
-use Rattle.smx_words.specs.Spellable.{FitsDriver, FitsEntry, FitsDescriptor, FitsLink, FitsBinding}
+use Rattle.smx_words.specs.Spelling.{route_words, message_words, full_words, hung_words, next_words}
+use Rattle.smx_words.specs.Spellable.{FitsDriver, FitsEntryIn, FitsDescriptor, FitsLink, FitsBinding}
 use Rattle.smx_words.specs.Spellable.{FitsRoute, FitsMessage, FitsFull, FitsNext}
 use Rattle.smx_text.specs.declared.fault.Cause.{Cause}
 use Rattle.smx_text.specs.declared.fault.Cause.TheVariants as cause
 use Rattle.smx_text.specs.declared.transcript.draft.Stage.TheVariants as stage
 use Rattle.smx_text.specs.declared.transcript.draft.TranscriptDraft.{TranscriptDraft}
-use Rattle.smx_text.specs.Drafts.{lines}
-use Rattle.smx_text.specs.Grammar.{Continues, IsNoLine, line_text}
+use Rattle.smx_text.specs.Drafts.{grammar_of, lines}
+use Rattle.smx_text.specs.Grammar.{Continues, IsNoLine, IsOneLine, header, line_text}
 use Rattle.smx_text.specs.Reading.{Refuses, EndsAs, AddsLine, RefusesLine}
 use Rattle.smx_text.specs.TranscriptLines.{TranscriptLine}
 use Rattle.smx_text.specs.TranscriptLines as line
-use Rattle.smx_text.specs.TranscriptText.{line_words, FitsLine, body, transcript_grammar}
+use Rattle.smx_text.specs.TranscriptText.{line_words, FitsHungIn, FitsLine, body, transcript_grammar}
 use Rattle.smx_text.proofs.GrammarLemmas.{IsWellMade}
 use Rattle.smx_text.proofs.ReadingLemmas.{refuses, on_added, on_refused}
 use Rattle.smx_text.proofs.TranscriptDrafts.{new_draft, takes}
 use Rattle.smx_text.proofs.TranscriptDraftLemmas.{draft, run, run_append, run_body, taken}
 use Rattle.smx_text.proofs.TranscriptLemmas.{misplaced, some_of}
 use Rattle.smx_text.proofs.TranscriptWholeLemmas.{fits_body}
-use Rattle.smx_text.proofs.WordLemmas.{one_spelling, first_word, end_spelled, config_spelled, one_line_of}
+use Rattle.smx_text.proofs.VersionLemmas.{AreVersions}
+use Rattle.smx_text.proofs.WordLemmas.{one_spelling, first_word, end_spelled, config_spelled, one_line_of, differ}
 use Rattle.smx_words.specs.Words.{AreWords}
 use Rattle.smx_words.proofs.LawLemmas.{driver_spelled, entry_spelled, next_spelled, descriptor_spelled}
 use Rattle.smx_words.proofs.LawLemmas.{link_spelled, bind_spelled, route_spelled, message_spelled}
-use Rattle.smx_words.proofs.LawLemmas.{full_spelled}
+use Rattle.smx_words.proofs.LawLemmas.{full_spelled, hung_spelled}
 use Rattle.smx_words.proofs.LawLemmas.{one_driver, one_entry, one_next, one_descriptor, one_link, one_bind}
-use Rattle.smx_words.proofs.LawLemmas.{one_route, one_message, one_full}
+use Rattle.smx_words.proofs.LawLemmas.{one_route, one_message, one_full, one_hung}
 
 -- ---- kinds of lines, by their first words
 
@@ -57,7 +61,7 @@ kind_at w =
     (codes "bind") then 6
     else if bytes_eq w (codes "route") then 7 else if bytes_eq w (codes "msg") then 8 else if bytes_eq w
     (codes "full") then 9
-    else if bytes_eq w (codes "end") then 10 else 0
+    else if bytes_eq w (codes "hung") then 10 else if bytes_eq w (codes "end") then 11 else 0
 
 abbrev pub kind_of : TranscriptLine → ℕ
 kind_of (line.Driver d) = 1
@@ -70,7 +74,8 @@ kind_of (line.Bind b) = 6
 kind_of (line.Route r) = 7
 kind_of (line.Msg m) = 8
 kind_of (line.Full f) = 9
-kind_of line.End = 10
+kind_of (line.Hung h) = 10
+kind_of line.End = 11
 
 own : IsNumeralModel (λ ds. all_ascii_digits ds ≡ true) (digits_value 10)
 own = numerals_by_value _ tells_all_ascii_digits
@@ -101,141 +106,158 @@ number_kind n small =
       no_digits (decimal n) 114 _ digits (omega arith),
       no_digits (decimal n) 109 _ digits (omega arith),
       no_digits (decimal n) 102 _ digits (omega arith),
+      no_digits (decimal n) 104 _ digits (omega arith),
       no_digits (decimal n) 101 _ digits (omega arith),
     ) refl
 
-pub kind_first : (k : TranscriptLine) → FitsLine k → kind_at (first_word (line_words k)) ≡ kind_of k
-kind_first (line.Driver d) fits = refl
-kind_first (line.Entry e) fits = number_kind e.process (omega (arith, fits.process))
-kind_first line.Config fits = refl
-kind_first (line.Next id serial) fits = refl
-kind_first (line.Fd d) fits = refl
-kind_first (line.Link l) fits = refl
-kind_first (line.Bind b) fits = refl
-kind_first (line.Route r) fits = refl
-kind_first (line.Msg m) fits = refl
-kind_first (line.Full f) fits = refl
-kind_first line.End fits = refl
+pub kind_first : (version : Version) (k : TranscriptLine) → FitsLine version k
+    → kind_at (first_word (line_words k)) ≡ kind_of k
+kind_first version (line.Driver d) fits = refl
+kind_first version (line.Entry e) fits = number_kind e.process (omega (arith, fits.0.process))
+kind_first version line.Config fits = refl
+kind_first version (line.Next id serial) fits = refl
+kind_first version (line.Fd d) fits = refl
+kind_first version (line.Link l) fits = refl
+kind_first version (line.Bind b) fits = refl
+kind_first version (line.Route r) fits = refl
+kind_first version (line.Msg m) fits = refl
+kind_first version (line.Full f) fits = refl
+kind_first version (line.Hung h) fits = refl
+kind_first version line.End fits = refl
 
 -- ---- lines
 
-pub spelling : (k : TranscriptLine) → FitsLine k → AreWords (line_words k)
-spelling (line.Driver d) fits = driver_spelled d fits
-spelling (line.Entry e) fits = entry_spelled e fits
-spelling line.Config fits = config_spelled
-spelling (line.Next id serial) fits = next_spelled (id, serial) fits
-spelling (line.Fd d) fits = descriptor_spelled d fits
-spelling (line.Link l) fits = link_spelled l fits
-spelling (line.Bind b) fits = bind_spelled b fits
-spelling (line.Route r) fits = route_spelled r fits
-spelling (line.Msg m) fits = message_spelled m fits
-spelling (line.Full f) fits = full_spelled f fits
-spelling line.End fits = end_spelled
+pub spelling : (version : Version) (k : TranscriptLine) → FitsLine version k → AreWords (line_words k)
+spelling version (line.Driver d) fits = driver_spelled d fits
+spelling version (line.Entry e) fits = entry_spelled e fits.0
+spelling version line.Config fits = config_spelled
+spelling version (line.Next id serial) fits = next_spelled (id, serial) fits
+spelling version (line.Fd d) fits = descriptor_spelled d fits
+spelling version (line.Link l) fits = link_spelled l fits
+spelling version (line.Bind b) fits = bind_spelled b fits
+spelling version (line.Route r) fits = route_spelled r fits
+spelling version (line.Msg m) fits = message_spelled m fits
+spelling version (line.Full f) fits = full_spelled f fits
+spelling version (line.Hung h) fits = hung_spelled h fits.0
+spelling version line.End fits = end_spelled
 
-kinds_apart : (k l : TranscriptLine) → FitsLine k → FitsLine l → kind_of k ≡ kind_of l
-    → line_text transcript_grammar k ≡ line_text transcript_grammar l → k ≡ l
-kinds_apart (line.Driver d) (line.Driver e) fits also kinds same =
-    ap (λ x. line.Driver x) (one_driver d e fits also same)
-kinds_apart (line.Entry d) (line.Entry e) fits also kinds same = ap (λ x. line.Entry x) (one_entry d e fits also same)
-kinds_apart line.Config line.Config fits also kinds same = refl
-kinds_apart (line.Next id serial) (line.Next jd terial) fits also kinds same =
-    let pair = one_next (id, serial) (jd, terial) fits also same in ap (λ (p : ℕ × ℕ). line.Next p.0 p.1) pair
-kinds_apart (line.Fd d) (line.Fd e) fits also kinds same = ap (λ x. line.Fd x) (one_descriptor d e fits also same)
-kinds_apart (line.Link d) (line.Link e) fits also kinds same = ap (λ x. line.Link x) (one_link d e fits also same)
-kinds_apart (line.Bind d) (line.Bind e) fits also kinds same = ap (λ x. line.Bind x) (one_bind d e fits also same)
-kinds_apart (line.Route d) (line.Route e) fits also kinds same = ap (λ x. line.Route x) (one_route d e fits also same)
-kinds_apart (line.Msg d) (line.Msg e) fits also kinds same = ap (λ x. line.Msg x) (one_message d e fits also same)
-kinds_apart (line.Full d) (line.Full e) fits also kinds same = ap (λ x. line.Full x) (one_full d e fits also same)
-kinds_apart line.End line.End fits also kinds same = refl
-kinds_apart k l fits also kinds same = absurd cc
+module _ (version : Version) where
+  kinds_apart : (k l : TranscriptLine) → FitsLine version k → FitsLine version l → kind_of k ≡ kind_of l
+      → line_text (transcript_grammar version) k ≡ line_text (transcript_grammar version) l → k ≡ l
+  kinds_apart (line.Driver d) (line.Driver e) fits also kinds same =
+      ap (λ x. line.Driver x) (one_driver d e fits also same)
+  kinds_apart (line.Entry d) (line.Entry e) fits also kinds same =
+      ap (λ x. line.Entry x) (one_entry d e fits.0 also.0 same)
+  kinds_apart line.Config line.Config fits also kinds same = refl
+  kinds_apart (line.Next id serial) (line.Next jd terial) fits also kinds same =
+      let pair = one_next (id, serial) (jd, terial) fits also same in ap (λ (p : ℕ × ℕ). line.Next p.0 p.1) pair
+  kinds_apart (line.Fd d) (line.Fd e) fits also kinds same = ap (λ x. line.Fd x) (one_descriptor d e fits also same)
+  kinds_apart (line.Link d) (line.Link e) fits also kinds same = ap (λ x. line.Link x) (one_link d e fits also same)
+  kinds_apart (line.Bind d) (line.Bind e) fits also kinds same = ap (λ x. line.Bind x) (one_bind d e fits also same)
+  kinds_apart (line.Route d) (line.Route e) fits also kinds same =
+      ap (λ x. line.Route x) (one_route d e fits also same)
+  kinds_apart (line.Msg d) (line.Msg e) fits also kinds same = ap (λ x. line.Msg x) (one_message d e fits also same)
+  kinds_apart (line.Full d) (line.Full e) fits also kinds same = ap (λ x. line.Full x) (one_full d e fits also same)
+  kinds_apart (line.Hung d) (line.Hung e) fits also kinds same =
+      ap (λ x. line.Hung x) (one_hung d e fits.0 also.0 same)
+  kinds_apart line.End line.End fits also kinds same = refl
+  kinds_apart k l fits also kinds same = absurd cc
 
-pub tells_apart : (k l : TranscriptLine) → FitsLine k → FitsLine l
-    → line_text transcript_grammar k ≡ line_text transcript_grammar l → k ≡ l
-tells_apart k l fits also same =
-    let ws = one_spelling (line_words k) (line_words l) (spelling k fits) (spelling l also) same in
-    kinds_apart k l fits also (sym (kind_first k fits)
-    ∙ ap (λ (vs : List (List ℕ)). kind_at (first_word vs)) ws ∙ kind_first l also) same
+  pub tells_apart : (k l : TranscriptLine) → FitsLine version k → FitsLine version l
+      → line_text (transcript_grammar version) k ≡ line_text (transcript_grammar version) l → k ≡ l
+  tells_apart k l fits also same =
+      let ws =
+      one_spelling (line_words k) (line_words l) (spelling version k fits) (spelling version l also) same in
+      kinds_apart k l fits also (sym (kind_first version k fits)
+      ∙ ap (λ (vs : List (List ℕ)). kind_at (first_word vs)) ws ∙ kind_first version l also) same
 
 -- ---- the whole
 
 end_is_last : (t : Transcript) (ls more : List TranscriptLine) → body t ≡ ls ++ line.End ∷ more → ⊥
 end_is_last t ls more e =
-    let all = sym (ap (run new_draft) e) ∙ run_body t in
-    let d = some_of (run new_draft ls) (line.End ∷ more) (draft stage.View t)
-    (sym (run_append new_draft ls (line.End ∷ more)) ∙ all) in
+    let start = new_draft t.version in
+    let all = sym (ap (run start) e) ∙ run_body t in
+    let d = some_of (run start ls) (line.End ∷ more) (draft stage.View t)
+    (sym (run_append start ls (line.End ∷ more)) ∙ all) in
     let last = taken d.0 (draft stage.View t) line.End more d.2 in
     absurd (cc last.1)
 
-one_value : (t u : Transcript) → body t ≡ body u → t ≡ u
-one_value t u e = same_value (sym (run_body t) ∙ ap (run new_draft) e ∙ run_body u) where
-  same_value : Some (draft stage.View t) ≡ Some (draft stage.View u) → t ≡ u
-  same_value e = let same : draft stage.View t ≡ draft stage.View u = cc e in
-      ap (λ (d : TranscriptDraft). d.transcript) same
+one_value : (t u : Transcript) → t.version ≡ u.version → body t ≡ body u → t ≡ u
+one_value t u version e =
+    same_value (sym (run_body t) ∙ ap (run (new_draft t.version)) e
+    ∙ ap (λ (v : Version). run (new_draft v) (body u)) version ∙ run_body u) where
+      same_value : Some (draft stage.View t) ≡ Some (draft stage.View u) → t ≡ u
+      same_value e = let same : draft stage.View t ≡ draft stage.View u = cc e in
+          ap (λ (d : TranscriptDraft). d.transcript) same
 
-pub well_made : IsWellMade transcript_grammar
-well_made = record {
-  header_line = search rules;
-  one_line = λ k fits. one_line_of (line_words k) (spelling k fits);
-  tells_apart = tells_apart;
-  fits = λ t allowed. fits_body t allowed.spellable;
+header_is_line : (version : Version) → IsOneLine (header (transcript_grammar version))
+header_is_line V1 = search rules
+header_is_line V2 = search rules
+
+pub well_made : (version : Version) → IsWellMade (transcript_grammar version)
+well_made version = record {
+  header_line = header_is_line version;
+  one_line = λ k fits. one_line_of (line_words k) (spelling version k fits);
+  tells_apart = tells_apart version;
+  fits = fits_body version;
   fits_end = tt;
   end_is_last = end_is_last;
-  one_value = one_value;
+  one_value = λ t u allowed also e. one_value t u (allowed.version_is ∙ sym also.version_is) e;
 }
+
+pub versions : AreVersions transcript_grammar
+versions = record { made = well_made; differ = differ (codes "transcript 1") (codes "transcript 2") refl }
 
 -- ---- what is done with a line that was read is done with its text
 
-pub on_added_line : {A : Type 0} (ls longer : List TranscriptLine) (k : TranscriptLine) (text : List ℕ)
-    → text ≡ line_text transcript_grammar k → (r : Result A Cause)
-    → OnOk r (AddsLine transcript_grammar ls k longer) → OnOk r (Continues transcript_grammar ls text longer)
-on_added_line ls longer k text is r h = on_added transcript_grammar ls longer k text is r h
+pub on_added_line : {A : Type 0} (version : Version) (ls longer : List TranscriptLine) (k : TranscriptLine)
+    (text : List ℕ) → text ≡ line_text (transcript_grammar version) k → (r : Result A Cause)
+    → OnOk r (AddsLine (transcript_grammar version) ls k longer)
+    → OnOk r (Continues (transcript_grammar version) ls text longer)
+on_added_line version ls longer k text is r h = on_added (transcript_grammar version) ls longer k text is r h
 
-pub on_refused_line : {A : Type 0} (ls : List TranscriptLine) (k : TranscriptLine) (text : List ℕ)
-    → FitsLine k → text ≡ line_text transcript_grammar k → (r : Result A Cause)
-    → IfErr r (RefusesLine transcript_grammar ls k) → IfErr r (Refuses transcript_grammar ls text)
-on_refused_line ls k text fits is r h = on_refused transcript_grammar tells_apart ls k text fits is r h
+pub on_refused_line : {A : Type 0} (version : Version) (ls : List TranscriptLine) (k : TranscriptLine) (text : List ℕ)
+    → FitsLine version k → text ≡ line_text (transcript_grammar version) k → (r : Result A Cause)
+    → IfErr r (RefusesLine (transcript_grammar version) ls k)
+    → IfErr r (Refuses (transcript_grammar version) ls text)
+on_refused_line version ls k text fits is r h =
+    on_refused (transcript_grammar version) (tells_apart version) ls k text fits is r h
 
-pub refused_line : (ls : List TranscriptLine) (k : TranscriptLine) (text : List ℕ) → FitsLine k
-    → text ≡ line_text transcript_grammar k → (why : Cause)
-    → RefusesLine transcript_grammar ls k why → Refuses transcript_grammar ls text why
-refused_line ls k text fits is why h = refuses transcript_grammar tells_apart ls k text fits is why h
+pub refused_line : (version : Version) (ls : List TranscriptLine) (k : TranscriptLine) (text : List ℕ)
+    → FitsLine version k → text ≡ line_text (transcript_grammar version) k → (why : Cause)
+    → RefusesLine (transcript_grammar version) ls k why → Refuses (transcript_grammar version) ls text why
+refused_line version ls k text fits is why h =
+    refuses (transcript_grammar version) (tells_apart version) ls k text fits is why h
 
-pub not_at_end : (d : TranscriptDraft) → takes d line.End ≡ false → EndsAs transcript_grammar (lines d) None
+pub not_at_end : (d : TranscriptDraft) → takes d line.End ≡ false → EndsAs (grammar_of d) (lines d) None
 not_at_end d h =
-    refused_line (lines d) line.End (line_text transcript_grammar line.End) tt refl cause.Form
+    refused_line d.transcript.version (lines d) line.End (line_text (grammar_of d) line.End) tt refl cause.Form
     (misplaced d line.End h)
 
 -- what is none of these is no line
-pub no_line : (ls : List TranscriptLine) (text : List ℕ)
-    → ((x : Entry) → FitsEntry x → text ≢ line_of (entry_words x))
-    → ((x : MessageLine) → FitsMessage x → text ≢ line_of (message_words x))
-    → ((x : DriverSpec) → FitsDriver x → text ≢ line_of (driver_words x))
-    → text ≢ line_text transcript_grammar line.Config
-    → ((x : ℕ × ℕ) → FitsNext x → text ≢ line_of (next_words x))
-    → ((x : DescriptorLine) → FitsDescriptor x → text ≢ line_of (descriptor_words x))
-    → ((x : LinkLine) → FitsLink x → text ≢ line_of (link_words x))
-    → ((x : BindingLine) → FitsBinding x → text ≢ line_of (bind_words x))
-    → ((x : RouteLine) → FitsRoute x → text ≢ line_of (route_words x))
-    → ((x : FullLine) → FitsFull x → text ≢ line_of (full_words x))
-    → text ≢ line_text transcript_grammar line.End → IsNoLine transcript_grammar ls text
-no_line ls text entries messages drivers config nexts fds links binds routes fulls end (line.Driver x) fits
-    may is = drivers x fits is
-no_line ls text entries messages drivers config nexts fds links binds routes fulls end (line.Entry x) fits may
-    is = entries x fits is
-no_line ls text entries messages drivers config nexts fds links binds routes fulls end line.Config fits may
-    is = config is
-no_line ls text entries messages drivers config nexts fds links binds routes fulls end (line.Next id serial)
-    fits may is = nexts (id, serial) fits is
-no_line ls text entries messages drivers config nexts fds links binds routes fulls end (line.Fd x) fits may
-    is = fds x fits is
-no_line ls text entries messages drivers config nexts fds links binds routes fulls end (line.Link x) fits may
-    is = links x fits is
-no_line ls text entries messages drivers config nexts fds links binds routes fulls end (line.Bind x) fits may
-    is = binds x fits is
-no_line ls text entries messages drivers config nexts fds links binds routes fulls end (line.Route x) fits may
-    is = routes x fits is
-no_line ls text entries messages drivers config nexts fds links binds routes fulls end (line.Msg x) fits may
-    is = messages x fits is
-no_line ls text entries messages drivers config nexts fds links binds routes fulls end (line.Full x) fits may
-    is = fulls x fits is
-no_line ls text entries messages drivers config nexts fds links binds routes fulls end line.End fits may is = end is
+module _ (version : Version) (ls : List TranscriptLine) (text : List ℕ)
+    (entries : (x : Entry) → FitsEntryIn version x → text ≢ line_of (entry_words x))
+    (messages : (x : MessageLine) → FitsMessage x → text ≢ line_of (message_words x))
+    (drivers : (x : DriverSpec) → FitsDriver x → text ≢ line_of (driver_words x))
+    (config : text ≢ line_text (transcript_grammar version) line.Config)
+    (nexts : (x : ℕ × ℕ) → FitsNext x → text ≢ line_of (next_words x))
+    (fds : (x : DescriptorLine) → FitsDescriptor x → text ≢ line_of (descriptor_words x))
+    (links : (x : LinkLine) → FitsLink x → text ≢ line_of (link_words x))
+    (binds : (x : BindingLine) → FitsBinding x → text ≢ line_of (bind_words x))
+    (routes : (x : RouteLine) → FitsRoute x → text ≢ line_of (route_words x))
+    (fulls : (x : FullLine) → FitsFull x → text ≢ line_of (full_words x))
+    (hungs : (x : HungLine) → FitsHungIn version x → text ≢ line_of (hung_words x))
+    (end : text ≢ line_text (transcript_grammar version) line.End) where
+  pub no_line : IsNoLine (transcript_grammar version) ls text
+  no_line (line.Driver x) fits may is = drivers x fits is
+  no_line (line.Entry x) fits may is = entries x fits is
+  no_line line.Config fits may is = config is
+  no_line (line.Next id serial) fits may is = nexts (id, serial) fits is
+  no_line (line.Fd x) fits may is = fds x fits is
+  no_line (line.Link x) fits may is = links x fits is
+  no_line (line.Bind x) fits may is = binds x fits is
+  no_line (line.Route x) fits may is = routes x fits is
+  no_line (line.Msg x) fits may is = messages x fits is
+  no_line (line.Full x) fits may is = fulls x fits is
+  no_line (line.Hung x) fits may is = hungs x fits is
+  no_line line.End fits may is = end is

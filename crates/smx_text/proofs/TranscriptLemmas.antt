@@ -3,11 +3,12 @@ use Rattle.std.proofs.Common.{◌≡◌, ◌≢◌, Bool, true, false, List, [],
 use Rattle.std.proofs.Common.{refl, sym, ap, subst, ◌∙◌, arith}
 use Rattle.std.specs.List.{AllByRecursion}
 use Rattle.smx_types.specs.declared.transcript.Transcript.{Transcript}
+use Rattle.smx_types.specs.declared.version.Version.{Version}
 use Rattle.smx_text.specs.declared.fault.Cause.TheVariants as cause
 use Rattle.smx_text.specs.declared.transcript.draft.Stage.{Stage}
 use Rattle.smx_text.specs.declared.transcript.draft.Stage.TheVariants as stage
 use Rattle.smx_text.specs.declared.transcript.draft.TranscriptDraft.{TranscriptDraft}
-use Rattle.smx_text.specs.Drafts.{lines}
+use Rattle.smx_text.specs.Drafts.{grammar_of, lines}
 use Rattle.smx_text.specs.Grammar.{IsBegun}
 use Rattle.smx_text.specs.Reading.{AddsLine, RefusesLine}
 use Rattle.smx_text.specs.TranscriptLines.{TranscriptLine}
@@ -18,7 +19,7 @@ use Rattle.smx_text.proofs.TranscriptDrafts.{◌>>=◌, new_view, new_draft, tak
 use Rattle.smx_text.proofs.TranscriptDraftLemmas.{draft, not_end, lines_more, run, run_append, run_lines}
 use Rattle.smx_text.proofs.TranscriptDraftLemmas.{run_drivers, run_entries, run_body}
 use Rattle.smx_text.proofs.TranscriptWholeLemmas.{completes, still, IsWithin, fits_body, allowed}
-use Rattle.smx_text.proofs.TranscriptFollowLemmas.{run_grows, within_before, rest_leads, may_takes}
+use Rattle.smx_text.proofs.TranscriptFollowLemmas.{run_grows, within_before, of_version, rest_leads, may_takes}
 use Rattle.smx_text.proofs.TranscriptFollowLemmas.{full_stops, next_of, takes_may, next_allowed}
 
 -- ---- a draft, and what its lines lead to
@@ -32,14 +33,14 @@ clean_by stage.View t = draft stage.View t
 abbrev clean : TranscriptDraft → TranscriptDraft
 clean d = clean_by d.stage d.transcript
 
-led_by : (s : Stage) (t : Transcript) → run new_draft (lines (draft s t)) ≡ Some (clean_by s t)
-led_by stage.History t = run_drivers [] t.drivers (map line.Entry t.entries ++ [])
-    ∙ run_entries t.drivers [] t.entries []
-led_by stage.Config t = run_drivers [] t.drivers (map line.Entry t.entries ++ line.Config ∷ [])
-    ∙ run_entries t.drivers [] t.entries (line.Config ∷ [])
+led_by : (s : Stage) (t : Transcript) → run (new_draft t.version) (lines (draft s t)) ≡ Some (clean_by s t)
+led_by stage.History t = run_drivers t.version [] t.drivers (map line.Entry t.entries ++ [])
+    ∙ run_entries t.version t.drivers [] t.entries []
+led_by stage.Config t = run_drivers t.version [] t.drivers (map line.Entry t.entries ++ line.Config ∷ [])
+    ∙ run_entries t.version t.drivers [] t.entries (line.Config ∷ [])
 led_by stage.View t = run_body t
 
-led : (d : TranscriptDraft) → run new_draft (lines d) ≡ Some (clean d)
+led : (d : TranscriptDraft) → run (new_draft d.transcript.version) (lines d) ≡ Some (clean d)
 led d = led_by d.stage d.transcript
 
 takes_clean_by : (s : Stage) (t : Transcript) (k : TranscriptLine) → takes (clean_by s t) k ≡ takes (draft s t) k
@@ -53,6 +54,7 @@ takes_clean_by stage.History t (line.Bind x) = refl
 takes_clean_by stage.History t (line.Route x) = refl
 takes_clean_by stage.History t (line.Msg x) = refl
 takes_clean_by stage.History t (line.Full x) = refl
+takes_clean_by stage.History t (line.Hung x) = refl
 takes_clean_by stage.History t line.End = refl
 takes_clean_by stage.Config t (line.Driver x) = refl
 takes_clean_by stage.Config t (line.Entry x) = refl
@@ -64,6 +66,7 @@ takes_clean_by stage.Config t (line.Bind x) = refl
 takes_clean_by stage.Config t (line.Route x) = refl
 takes_clean_by stage.Config t (line.Msg x) = refl
 takes_clean_by stage.Config t (line.Full x) = refl
+takes_clean_by stage.Config t (line.Hung x) = refl
 takes_clean_by stage.Config t line.End = refl
 takes_clean_by stage.View t k = refl
 
@@ -83,18 +86,22 @@ within_clean_by stage.View t h = h
 
 -- ---- what holds of lines that some allowed transcript begins with
 
-pub fits_of : (lines : List TranscriptLine) → IsBegun transcript_grammar lines → AllByRecursion FitsLine lines
-fits_of lines (t, more, allowed, e) =
-    all_left FitsLine lines more (subst (AllByRecursion FitsLine) e (fits_body t allowed.spellable))
+pub fits_of : (version : Version) (lines : List TranscriptLine) → IsBegun (transcript_grammar version) lines
+    → AllByRecursion (FitsLine version) lines
+fits_of version lines (t, more, allowed, e) =
+    all_left (FitsLine version) lines more (subst (AllByRecursion (FitsLine version)) e (fits_body version t allowed))
 
-within_of : (ls : List TranscriptLine) (d : TranscriptDraft) → run new_draft ls ≡ Some d
-    → IsBegun transcript_grammar ls → IsWithin d
-within_of ls d to (t, more, allowed, e) =
-    within_before d (draft stage.View t) (run_grows more d (draft stage.View t) (rest_leads t ls more d to e))
+within_of : (version : Version) (ls : List TranscriptLine) (d : TranscriptDraft) → run (new_draft version) ls ≡ Some d
+    → IsBegun (transcript_grammar version) ls → IsWithin d
+within_of version ls d to (t, more, allowed, e) =
+    let u = of_version version t in
+    within_before d (draft stage.View u)
+    (run_grows more d (draft stage.View u) (rest_leads version t ls more d to e))
     (record { drivers = allowed.drivers; entries = allowed.entries })
 
-pub draft_within : (d : TranscriptDraft) → IsBegun transcript_grammar (lines d) → IsWithin d
-draft_within d begun = within_clean_by d.stage d.transcript (within_of (lines d) (clean d) (led d) begun)
+pub draft_within : (d : TranscriptDraft) → IsBegun (grammar_of d) (lines d) → IsWithin d
+draft_within d begun =
+    within_clean_by d.stage d.transcript (within_of d.transcript.version (lines d) (clean d) (led d) begun)
 
 pub some_of : (o : Option TranscriptDraft) (ks : List TranscriptLine) (e : TranscriptDraft)
     → o >>= (λ d. run d ks) ≡ Some e → (d : TranscriptDraft) × (o ≡ Some d) × (run d ks ≡ Some e)
@@ -102,36 +109,41 @@ some_of (Some d) ks e h = (d, refl, h)
 some_of None ks e h = absurd cc
 
 -- they are those of some draft
-pub begun_is_draft : (ls : List TranscriptLine) → IsBegun transcript_grammar ls → (d : TranscriptDraft) × (lines d ≡ ls)
-begun_is_draft ls (t, more, allowed, e) =
-    let all = sym (ap (run new_draft) e) ∙ run_body t in
-    let d = some_of (run new_draft ls) more (draft stage.View t) (sym (run_append new_draft ls more) ∙ all) in
-    (d.0, run_lines ls new_draft d.0 d.1)
+pub begun_is_draft : (version : Version) (ls : List TranscriptLine) → IsBegun (transcript_grammar version) ls
+    → (d : TranscriptDraft) × (lines d ≡ ls) × (d.transcript.version ≡ version)
+begun_is_draft version ls (t, more, allowed, e) =
+    let u = of_version version t in
+    let all = sym (ap (run (new_draft version)) e) ∙ run_body u in
+    let d =
+    some_of (run (new_draft version) ls) more (draft stage.View u)
+    (sym (run_append (new_draft version) ls more) ∙ all) in
+    (d.0, run_lines ls (new_draft version) d.0 d.1, (run_grows ls (new_draft version) d.0 d.1).version)
 
 -- ---- lines that are taken, and those that are not
 
 pub misplaced : (d : TranscriptDraft) (k : TranscriptLine) → takes d k ≡ false
-    → RefusesLine transcript_grammar (lines d) k cause.Form
+    → RefusesLine (grammar_of d) (lines d) k cause.Form
 misplaced d k h (t, goes) =
-    let may = may_takes (lines d) (clean d) k t (led d) goes in
+    let may = may_takes d.transcript.version (lines d) (clean d) k t (led d) goes in
     let same = takes_clean_by d.stage d.transcript k in
     absurd (cc (h, may, same))
 
 pub too_many : (d : TranscriptDraft) (k : TranscriptLine) → takes d k ≡ true → is_full d k ≡ true
-    → RefusesLine transcript_grammar (lines d) k cause.Many
+    → RefusesLine (grammar_of d) (lines d) k cause.Many
 too_many d k may full = (
-  (next_of d k, takes_may d k may),
+  (next_of d k, takes_may d.transcript.version d k may),
   λ t allowed goes.
-      full_stops (lines d) (clean d) k t (led d) (full_clean_by d.stage d.transcript k full) allowed goes,
+      full_stops d.transcript.version (lines d) (clean d) k t (led d)
+      (full_clean_by d.stage d.transcript k full) allowed goes,
 )
 
 -- a line that is taken is the last
-pub adds : (d e : TranscriptDraft) (k : TranscriptLine) → IsBegun transcript_grammar (lines d)
-    → takes d k ≡ true → is_full d k ≡ false → FitsLine k → k ≢ line.End → lines e ≡ lines (with_line d k)
-    → AddsLine transcript_grammar (lines d) k (lines e)
+pub adds : (d e : TranscriptDraft) (k : TranscriptLine) → IsBegun (grammar_of d) (lines d)
+    → takes d k ≡ true → is_full d k ≡ false → FitsLine d.transcript.version k → k ≢ line.End
+    → lines e ≡ lines (with_line d k) → AddsLine (grammar_of d) (lines d) k (lines e)
 adds d e k begun may room fits other same =
     let more = lines_more d k may (not_end k other) in
-    let next = next_allowed d k may room (draft_within d begun) (fits_of (lines d) begun) fits in (
+    let next = next_allowed d k may room (draft_within d begun) (fits_of d.transcript.version (lines d) begun) fits in (
       same ∙ more,
       (
         next_of d k,
@@ -143,21 +155,22 @@ adds d e k begun may room fits other same =
     )
 
 -- its lines and this one begin some transcript
-pub longer_begun : (d : TranscriptDraft) (k : TranscriptLine) → IsBegun transcript_grammar (lines d)
-    → takes d k ≡ true → is_full d k ≡ false → FitsLine k → k ≢ line.End
-    → IsBegun transcript_grammar (lines d ++ k ∷ [])
+pub longer_begun : (d : TranscriptDraft) (k : TranscriptLine) → IsBegun (grammar_of d) (lines d)
+    → takes d k ≡ true → is_full d k ≡ false → FitsLine d.transcript.version k → k ≢ line.End
+    → IsBegun (grammar_of d) (lines d ++ k ∷ [])
 longer_begun d k begun may room fits other =
-    subst (IsBegun transcript_grammar) (lines_more d k may (not_end k other))
+    subst (IsBegun (grammar_of d)) (lines_more d k may (not_end k other))
     (adds d (with_line d k) k begun may room fits other refl).1
 
 -- the end
-pub whole : (d : TranscriptDraft) → IsBegun transcript_grammar (lines d) → d.stage ≡ stage.View
-    → IsAllowed d.transcript × (body d.transcript ≡ lines d)
+pub whole : (d : TranscriptDraft) → IsBegun (grammar_of d) (lines d) → d.stage ≡ stage.View
+    → IsAllowed d.transcript.version d.transcript × (body d.transcript ≡ lines d)
 whole d begun view =
     let same : d ≡ draft stage.View d.transcript = ap (λ (s : Stage). draft s d.transcript) view in
     let is : body d.transcript ≡ lines d = sym (ap lines same) in (
-      allowed (draft stage.View d.transcript) (subst IsWithin same (draft_within d begun))
-          (subst (λ (e : TranscriptDraft). AllByRecursion FitsLine (lines e)) same (fits_of (lines d) begun)),
+      allowed d.transcript.version (draft stage.View d.transcript) refl (subst IsWithin same (draft_within d begun))
+          (subst (AllByRecursion (FitsLine d.transcript.version)) (ap lines same)
+          (fits_of d.transcript.version (lines d) begun)),
       is,
     )
 
@@ -174,6 +187,7 @@ is_group (line.Bind x) = true
 is_group (line.Route x) = true
 is_group (line.Msg x) = true
 is_group (line.Full x) = true
+is_group (line.Hung x) = true
 is_group line.End = false
 
 in_view_by : (s : Stage) (t : Transcript) (k : TranscriptLine) → is_group k ≡ true
@@ -189,6 +203,7 @@ in_view_by stage.History t (line.Bind x) group may = absurd cc
 in_view_by stage.History t (line.Route x) group may = absurd cc
 in_view_by stage.History t (line.Msg x) group may = absurd cc
 in_view_by stage.History t (line.Full x) group may = absurd cc
+in_view_by stage.History t (line.Hung x) group may = absurd cc
 in_view_by stage.History t line.End group may = absurd cc
 in_view_by stage.Config t (line.Driver x) group may = absurd cc
 in_view_by stage.Config t (line.Entry x) group may = absurd cc
@@ -200,22 +215,24 @@ in_view_by stage.Config t (line.Bind x) group may = absurd cc
 in_view_by stage.Config t (line.Route x) group may = absurd cc
 in_view_by stage.Config t (line.Msg x) group may = absurd cc
 in_view_by stage.Config t (line.Full x) group may = absurd cc
+in_view_by stage.Config t (line.Hung x) group may = absurd cc
 in_view_by stage.Config t line.End group may = absurd cc
 
 pub group_added : (d : TranscriptDraft) (t : Transcript) (k : TranscriptLine)
-    → IsBegun transcript_grammar (lines d) → takes d k ≡ true → is_group k ≡ true → is_full d k ≡ false
-    → FitsLine k → k ≢ line.End
-    → with_line d k ≡ draft stage.View t → AddsLine transcript_grammar (lines d) k (lines (draft d.stage t))
+    → IsBegun (grammar_of d) (lines d) → takes d k ≡ true → is_group k ≡ true → is_full d k ≡ false
+    → FitsLine d.transcript.version k → k ≢ line.End
+    → with_line d k ≡ draft stage.View t → AddsLine (grammar_of d) (lines d) k (lines (draft d.stage t))
 group_added d t k begun may group room fits other is =
     let view = in_view_by d.stage d.transcript k group may in
     adds d (draft d.stage t) k begun may room fits other (ap (λ (s : Stage). lines (draft s t)) view
     ∙ sym (ap lines is))
 
-pub nothing_begun : IsBegun transcript_grammar []
-nothing_begun = (
-  record { drivers = []; entries = []; view = new_view 0 0 },
+pub nothing_begun : (version : Version) → IsBegun (transcript_grammar version) []
+nothing_begun version = (
+  record { version = version; drivers = []; entries = []; view = new_view 0 0 },
   line.Config ∷ line.Next 0 0 ∷ [],
   record {
+    version_is = refl;
     drivers = omega arith;
     entries = omega arith;
     spellable =
@@ -231,8 +248,10 @@ nothing_begun = (
             routes = tt;
             msgs = tt;
             fulls = tt;
+            hungs = tt;
           };
         };
+    told = λ first. refl;
   },
   refl,
 )

@@ -1,6 +1,8 @@
 -- What the texts take from the words of lines.
-use Rattle.std.proofs.Common.{◌≡◌, ℕ, List, [], ◌∷◌, arith, rules}
+use Rattle.std.proofs.Common.{◌≡◌, ◌≢◌, ℕ, true, false, List, [], ◌∷◌, sym, ◌∙◌, arith, rules}
 use Rattle.std.specs.Prelude.{codes}
+use Rattle.std.specs.Str.{bytes_eq}
+use Rattle.std.proofs.lemmas.Slice.Eq.{bytes_eq-Decides}
 use Rattle.smx_words.specs.Words.{AreWords, LINE_FEED, line_of}
 use Rattle.smx_words.proofs.LineLemmas.{line_free, same_words, words_free}
 use Rattle.smx_text.specs.Grammar.{IsOneLine}
@@ -21,3 +23,10 @@ end_spelled = (search rules, omega arith)
 -- a line of words has no line feed in it
 pub one_line_of : (ws : List (List ℕ)) → AreWords ws → IsOneLine (line_of ws)
 one_line_of ws h = line_free LINE_FEED (λ e. cc) ws (words_free LINE_FEED (omega arith) ws h.0)
+
+-- bytes that a test tells apart
+pub differ : (w v : List ℕ) → bytes_eq w v ≡ false → w ≢ v
+differ w v other e =
+    let same = (bytes_eq-Decides w v).1 e in
+    let bad : true ≡ false = sym same ∙ other in
+    absurd (cc bad)

@@ -6,20 +6,26 @@ use Rattle.std.proofs.lemmas.Simd.{map-map}
 use Rattle.std.specs.Fmt.{decimal}
 use Rattle.std.specs.List.{AllByRecursion}
 use Rattle.std.specs.Prelude.{codes}
-use Rattle.smx_types.specs.ProgramLists.{ProgramLists}
+use Rattle.smx_types.specs.ProgramLists.{AreWithinLimits, ProgramLists}
 use Rattle.smx_types.specs.declared.command.Command.{Command}
+use Rattle.smx_types.specs.declared.version.Version.{Version}
+use Rattle.smx_types.specs.declared.version.Version.TheVariants.{V1, V2}
 use Rattle.smx_types.specs.declared.view.ConfigView.{ConfigView}
+use Rattle.smx_text.specs.ProgramLines.{Line}
 use Rattle.smx_text.specs.ProgramLines as line
-use Rattle.smx_text.specs.ProgramsText.{line_words, program_lines, body, programs_text, FitsLine}
+use Rattle.smx_text.specs.ProgramsText.{line_words, program_lines, programs_grammar, programs_text, FitsLine}
+use Rattle.smx_text.specs.ProgramsText.{IsAllowed, body}
 use Rattle.smx_words.specs.Spelling.{bind_words, command_words, descriptor_words, driver_words}
-use Rattle.smx_words.specs.Spelling.{full_words, link_words, message_words, next_words, route_words}
-use Rattle.smx_words.specs.Spellable.{FitsCommand, FitsDriver}
+use Rattle.smx_words.specs.Spelling.{full_words, hung_words, link_words, message_words, next_words, route_words}
+use Rattle.smx_words.specs.Spellable.{FitsCommand, FitsCommandIn, FitsDriver, FitsNumber}
+use Rattle.smx_text.specs.Grammar.{header}
 use Rattle.smx_text.specs.TranscriptText.{view_body}
 use Rattle.smx_text.specs.TranscriptText.{line_words as transcript_words}
 use Rattle.smx_words.specs.Words.{LINE_FEED}
 use Rattle.smx_text.proofs.EachLemmas.{all_append, all_map}
 use Rattle.smx_text.proofs.BodyLemmas.{lines_add}
 use Rattle.smx_text.proofs.ReadingLemmas.{texts_append}
+use Rattle.smx_text.proofs.ProgramsVersionLemmas.{drivers_few, programs_fit}
 use Rattle.smx_words.specs.Words.{line_of, text_of}
 
 -- one line more
@@ -45,34 +51,53 @@ program_text ps i cs lt e =
     rw (one_more ps i cs lt e, map-append, texts_append, map-map line_words line.Command cs) refl
 
 pub program_fits : (ps : List (List Command)) (i : ℕ) (cs : List Command) → i < length ps
-    → cs ≡ get_or ps i cs → FitsLine (line.Process i)
-    → AllByRecursion FitsLine (program_lines 0 (take i ps)) → AllByRecursion FitsCommand cs
-    → AllByRecursion FitsLine (program_lines 0 (take (i + 1) ps))
+    → cs ≡ get_or ps i cs → FitsNumber i → AllByRecursion (FitsLine V2) (program_lines 0 (take i ps))
+    → AllByRecursion FitsCommand cs → AllByRecursion (FitsLine V2) (program_lines 0 (take (i + 1) ps))
 program_fits ps i cs lt e number before commands =
-    rw (one_more ps i cs lt e) (all_append FitsLine (program_lines 0 (take i ps))
-    (line.Process i ∷ map line.Command cs) before (number, all_map FitsLine line.Command cs commands))
+    rw (one_more ps i cs lt e) (all_append (FitsLine V2) (program_lines 0 (take i ps))
+    (line.Process i ∷ map line.Command cs) before
+    (number, all_map (FitsLine V2) line.Command cs (in_version_2 cs commands))) where
+      in_version_2 : (cs : List Command) → AllByRecursion FitsCommand cs → AllByRecursion (FitsCommandIn V2) cs
+      in_version_2 [] h = tt
+      in_version_2 (c ∷ cs) h = ((h.0, tt), in_version_2 cs h.1)
 
 pub body_text : (v : ProgramLists) → programs_text v
-    ≡ codes "programs 1\n" ++ text_of (map driver_words v.drivers)
+    ≡ (header (programs_grammar v.version) ++ LINE_FEED ∷ []) ++ text_of (map driver_words v.drivers)
     ++ text_of (map line_words (program_lines 0 v.programs)) ++ codes "end\n"
-body_text v = simp (map-append, map-map, texts_append, append_assoc)
+body_text v = by_version v.version where
+  by_version : (version : Version)
+      → text_of ((programs_grammar version).header_words ∷ map line_words (body v) ++ (codes "end" ∷ []) ∷ [])
+      ≡ (header (programs_grammar version) ++ LINE_FEED ∷ []) ++ text_of (map driver_words v.drivers)
+      ++ text_of (map line_words (program_lines 0 v.programs)) ++ codes "end\n"
+  by_version V1 = simp (map-append, map-map, texts_append, append_assoc)
+  by_version V2 = simp (map-append, map-map, texts_append, append_assoc)
 
-pub body_fits : (v : ProgramLists) → AllByRecursion FitsDriver v.drivers
-    → AllByRecursion FitsLine (program_lines 0 v.programs) → AllByRecursion FitsLine (body v)
-body_fits v drivers programs =
-    all_append FitsLine (map line.Driver v.drivers) (program_lines 0 v.programs)
-    (all_map FitsLine line.Driver v.drivers drivers) programs
+-- so these programs are allowed
+pub written_allowed : (v : ProgramLists) → AreWithinLimits v → AllByRecursion FitsDriver v.drivers
+    → AllByRecursion (FitsLine V2) (program_lines 0 v.programs) → IsAllowed v.version v
+written_allowed v within drivers programs = record {
+  version_is = refl;
+  drivers = drivers_few v.version v within.version within.drivers;
+  programs = within.programs;
+  commands = within.commands;
+  fits = all_append (FitsLine v.version) (map line.Driver v.drivers) (program_lines 0 v.programs)
+      (all_map (FitsLine v.version) line.Driver v.drivers drivers)
+      (programs_fit v.version v within.version programs);
+}
 
-seven_groups : (x : List (List ℕ)) (a b c d e f : List (List (List ℕ)))
-    → text_of (x ∷ (a ++ (b ++ (c ++ (d ++ (e ++ f))))))
-    ≡ text_of (x ∷ []) ++ text_of a ++ text_of b ++ text_of c ++ text_of d ++ text_of e ++ text_of f
-seven_groups x a b c d e f =
-    texts_append (x ∷ []) (a ++ (b ++ (c ++ (d ++ (e ++ f))))) ∙ rw (
-      texts_append a (b ++ (c ++ (d ++ (e ++ f)))),
-      texts_append b (c ++ (d ++ (e ++ f))),
-      texts_append c (d ++ (e ++ f)),
-      texts_append d (e ++ f),
-      texts_append e f,
+-- ---- the groups of a view
+
+eight_groups : (x : List (List ℕ)) (a b c d e f g : List (List (List ℕ)))
+    → text_of (x ∷ (a ++ (b ++ (c ++ (d ++ (e ++ (f ++ g)))))))
+    ≡ text_of (x ∷ []) ++ text_of a ++ text_of b ++ text_of c ++ text_of d ++ text_of e ++ text_of f ++ text_of g
+eight_groups x a b c d e f g =
+    texts_append (x ∷ []) (a ++ (b ++ (c ++ (d ++ (e ++ (f ++ g)))))) ∙ rw (
+      texts_append a (b ++ (c ++ (d ++ (e ++ (f ++ g))))),
+      texts_append b (c ++ (d ++ (e ++ (f ++ g)))),
+      texts_append c (d ++ (e ++ (f ++ g))),
+      texts_append d (e ++ (f ++ g)),
+      texts_append e (f ++ g),
+      texts_append f g,
     ) (simp append_assoc)
 
 -- the lines of a view, by the groups of its values
@@ -81,31 +106,33 @@ view_lines v =
     next_words (v.next_id, v.next_serial) ∷ (map descriptor_words v.fds
     ++ (map link_words v.links
     ++ (map bind_words v.binds
-    ++ (map route_words v.routes ++ (map message_words v.msgs ++ map full_words v.fulls)))))
+    ++ (map route_words v.routes ++ (map message_words v.msgs
+    ++ (map full_words v.fulls ++ map hung_words v.hungs))))))
 
 view_is : (v : ConfigView) → map transcript_words (view_body v) ≡ view_lines v
 view_is v = simp (map-append, map-map)
 
 -- the groups of a view, one after the other
-pub view_written : (v : ConfigView) (start next fds links binds routes msgs fulls : List ℕ)
+pub view_written : (v : ConfigView) (start next fds links binds routes msgs fulls hungs : List ℕ)
     → next ≡ start ++ text_of (next_words (v.next_id, v.next_serial) ∷ [])
     → fds ≡ next ++ text_of (map descriptor_words v.fds)
     → links ≡ fds ++ text_of (map link_words v.links) → binds ≡ links ++ text_of (map bind_words v.binds)
     → routes ≡ binds ++ text_of (map route_words v.routes)
     → msgs ≡ routes ++ text_of (map message_words v.msgs) → fulls ≡ msgs ++ text_of (map full_words v.fulls)
-    → fulls ≡ start ++ text_of (map transcript_words (view_body v))
-view_written v start next fds links binds routes msgs fulls a b c d e f g =
-    g ∙ rw (f, e, d, c, b, a) (regroup start (text_of (next_words (v.next_id, v.next_serial) ∷ [])) _ _ _ _ _
-    _) ∙ ap (λ (more : List ℕ). start ++ more) (sym (ap text_of (view_is v) ∙ groups)) where
+    → hungs ≡ fulls ++ text_of (map hung_words v.hungs)
+    → hungs ≡ start ++ text_of (map transcript_words (view_body v))
+view_written v start next fds links binds routes msgs fulls hungs a b c d e f g h =
+    h ∙ rw (g, f, e, d, c, b, a) (regroup start (text_of (next_words (v.next_id, v.next_serial) ∷ [])) _ _ _ _ _
+    _ _) ∙ ap (λ (more : List ℕ). start ++ more) (sym (ap text_of (view_is v) ∙ groups)) where
       groups : text_of (view_lines v) ≡ text_of (next_words (v.next_id, v.next_serial) ∷ [])
           ++ text_of (map descriptor_words v.fds) ++ text_of (map link_words v.links)
           ++ text_of (map bind_words v.binds)
           ++ text_of (map route_words v.routes) ++ text_of (map message_words v.msgs)
-          ++ text_of (map full_words v.fulls)
-      groups = seven_groups (next_words (v.next_id, v.next_serial)) (map descriptor_words v.fds)
+          ++ text_of (map full_words v.fulls) ++ text_of (map hung_words v.hungs)
+      groups = eight_groups (next_words (v.next_id, v.next_serial)) (map descriptor_words v.fds)
           (map link_words v.links) (map bind_words v.binds) (map route_words v.routes)
-          (map message_words v.msgs) (map full_words v.fulls)
+          (map message_words v.msgs) (map full_words v.fulls) (map hung_words v.hungs)
 
-      regroup : (s n a b c d e f : List ℕ) → (s ++ n) ++ a ++ b ++ c ++ d ++ e ++ f
-          ≡ s ++ (n ++ a ++ b ++ c ++ d ++ e ++ f)
-      regroup s n a b c d e f = simp append_assoc
+      regroup : (s n a b c d e f g : List ℕ) → (s ++ n) ++ a ++ b ++ c ++ d ++ e ++ f ++ g
+          ≡ s ++ (n ++ a ++ b ++ c ++ d ++ e ++ f ++ g)
+      regroup s n a b c d e f g = simp append_assoc

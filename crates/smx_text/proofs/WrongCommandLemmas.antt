@@ -16,9 +16,10 @@ use Rattle.smx_types.specs.declared.command.Sides.TheVariants as sides
 use Rattle.smx_types.specs.declared.command.Which.{Which}
 use Rattle.smx_types.specs.declared.command.Which.TheVariants as which
 use Rattle.smx_types.specs.declared.driver.DriverKind.TheVariants as kind
+use Rattle.smx_types.specs.declared.version.Version.TheVariants.{V1}
 use Rattle.smx_words.specs.HexWords.{hex_word}
 use Rattle.smx_words.specs.declared.reading.verb.Verb.TheVariants as verb
-use Rattle.smx_words.specs.Spellable.{FitsBytes, FitsCommand, FitsName, FitsNumber, FitsWhich}
+use Rattle.smx_words.specs.Spellable.{FitsBytes, FitsCommand, FitsCommandIn, FitsName, FitsNumber, FitsWhich}
 use Rattle.smx_words.specs.Spelling.{command_words, driver_words, process_words, sides_word, which_word}
 use Rattle.smx_words.specs.Words.{IsFree, SPACE, line_of}
 use Rattle.smx_words.proofs.HexLemmas.{by_digits}
@@ -28,10 +29,10 @@ use Rattle.smx_words.proofs.SameCommandLemmas.{verb_is, verb_of}
 use Rattle.smx_text.specs.declared.fault.Cause.TheVariants as cause
 use Rattle.smx_text.specs.Grammar.{IsNoLine, IsOneLine, Reaches}
 use Rattle.smx_text.specs.ProgramsText.{IsAllowed, body, programs_grammar}
-use Rattle.smx_text.specs.WorkedFaults.{with_line_4}
-use Rattle.smx_text.proofs.ProgramsGrammarLemmas.{no_line, not_verb, well_made}
-use Rattle.smx_text.proofs.WordLemmas.{first_word}
-use Rattle.smx_text.proofs.WorkedFaultLemmas.{IsWrongAt, differ, told, wrong}
+use Rattle.smx_text.specs.WorkedFaults.{AreWrongPrograms, with_line_4}
+use Rattle.smx_text.proofs.ProgramsGrammarLemmas.{no_line, not_verb}
+use Rattle.smx_text.proofs.WordLemmas.{first_word, differ}
+use Rattle.smx_text.proofs.WorkedFaultLemmas.{told, wrong_programs}
 
 -- ---- line 4 of a text
 
@@ -40,18 +41,18 @@ abbrev pub before : ProgramLists
 before = program_lists (record { name = codes "ip"; kind = kind.Mux; minors = 4; high = 8; low = 3; max = 16 }
     ∷ []) ([] ∷ [])
 
-pub before_allowed : IsAllowed before
+pub before_allowed : IsAllowed V1 before
 before_allowed = search (rules, arith)
 
-reaches : (text : List ℕ) → IsOneLine text → Reaches programs_grammar (with_line_4 text) (body before) text 4
+reaches : (text : List ℕ) → IsOneLine text → Reaches (programs_grammar V1) (with_line_4 text) (body before) text 4
 unfolding digits
 reaches text one =
     record { begun = (before, [], before_allowed, refl); next = (codes "end\n", one, refl); numbered = refl }
 
-pub wrong_at_4 : (text : List ℕ) → IsOneLine text → IsNoLine programs_grammar (body before) text
-    → IsWrongAt programs_grammar (with_line_4 text) 4 cause.Form
+pub wrong_at_4 : (text : List ℕ) → IsOneLine text → IsNoLine (programs_grammar V1) (body before) text
+    → AreWrongPrograms (with_line_4 text) 4 cause.Form
 wrong_at_4 text one none =
-    wrong programs_grammar well_made (with_line_4 text) 4 cause.Form (λ e. cc) (
+    wrong_programs V1 (with_line_4 text) 4 cause.Form (λ e. cc) (λ e. cc) (
       body before,
       text,
       reaches text one,
@@ -60,12 +61,12 @@ wrong_at_4 text one none =
 
 -- words that are no command's, no driver's and no process'
 no_words : (ws : List (List ℕ)) → AllByRecursion (IsFree SPACE) ws × (0 < length ws)
-    → ((c : Command) → FitsCommand c → ws ≢ command_words c)
+    → ((c : Command) → FitsCommandIn V1 c → ws ≢ command_words c)
     → bytes_eq (first_word ws) (codes "driver") ≡ false → bytes_eq (first_word ws) (codes "process") ≡ false
-    → line_of ws ≢ codes "end" → IsNoLine programs_grammar (body before) (line_of ws)
+    → line_of ws ≢ codes "end" → IsNoLine (programs_grammar V1) (body before) (line_of ws)
 no_words ws free none driver process end =
-    no_line (body before) (line_of ws) (λ c fits e.
-    none c fits (told ws (command_words c) free (command_spelled c fits) e))
+    no_line V1 (body before) (line_of ws) (λ c fits e.
+    none c fits (told ws (command_words c) free (command_spelled c fits.0) e))
     (λ d fits e.
     wrong_first (ap (λ (vs : List (List ℕ)). bytes_eq (first_word vs) (codes "driver"))
     (told ws (driver_words d) free (driver_spelled d fits) e)) driver)
@@ -122,11 +123,12 @@ wrong_words : (ws : List (List ℕ)) → AllByRecursion (IsFree SPACE) ws × (0 
     → IsOneLine (line_of ws) → ((c : Command) → FitsCommand c → ws ≢ command_words c)
     → bytes_eq (first_word ws) (codes "driver") ≡ false → bytes_eq (first_word ws) (codes "process") ≡ false
     → bytes_eq (line_of ws) (codes "end") ≡ false
-    → IsWrongAt programs_grammar (with_line_4 (line_of ws)) 4 cause.Form
+    → AreWrongPrograms (with_line_4 (line_of ws)) 4 cause.Form
 wrong_words ws free one none driver process end =
-    wrong_at_4 (line_of ws) one (no_words ws free none driver process (differ (line_of ws) (codes "end") end))
+    wrong_at_4 (line_of ws) one
+    (no_words ws free (λ c fits. none c fits.0) driver process (differ (line_of ws) (codes "end") end))
 
-pub two_zeros : IsWrongAt programs_grammar (with_line_4 (codes "dup 00")) 4 cause.Form
+pub two_zeros : AreWrongPrograms (with_line_4 (codes "dup 00")) 4 cause.Form
 two_zeros =
     wrong_words (codes "dup" ∷ codes "00" ∷ []) (search rules, omega arith) (search rules)
     (λ c fits e. none c fits (verb_is c verb.Dup _ e) e) refl refl refl where
@@ -134,14 +136,14 @@ two_zeros =
       none (command.Dup n) fits v e = zeros n fits (cc e)
       none c fits v e = absurd (cc v)
 
-pub a_sign : IsWrongAt programs_grammar (with_line_4 (codes "dup +1")) 4 cause.Form
+pub a_sign : AreWrongPrograms (with_line_4 (codes "dup +1")) 4 cause.Form
 a_sign = wrong_words (codes "dup" ∷ codes "+1" ∷ []) (search rules, omega arith) (search rules)
     (λ c fits e. none c fits (verb_is c verb.Dup _ e) e) refl refl refl where
       none : (c : Command) → FitsCommand c → verb_of c ≡ verb.Dup → codes "dup" ∷ codes "+1" ∷ [] ≢ command_words c
       none (command.Dup n) fits v e = signed n fits (cc e)
       none c fits v e = absurd (cc v)
 
-pub two_spaces : IsWrongAt programs_grammar (with_line_4 (codes "close  0")) 4 cause.Form
+pub two_spaces : AreWrongPrograms (with_line_4 (codes "close  0")) 4 cause.Form
 two_spaces =
     wrong_words (codes "close" ∷ [] ∷ codes "0" ∷ []) (search rules, omega arith) (search rules)
     (λ c fits e. none c fits (verb_is c verb.Close _ e) e) refl refl refl where
@@ -150,7 +152,7 @@ two_spaces =
       none (command.Close n) fits v e = omega (arith, ap (length {A = List ℕ}) e)
       none c fits v e = absurd (cc v)
 
-pub a_last_space : IsWrongAt programs_grammar (with_line_4 (codes "close 0 ")) 4 cause.Form
+pub a_last_space : AreWrongPrograms (with_line_4 (codes "close 0 ")) 4 cause.Form
 a_last_space =
     wrong_words (codes "close" ∷ codes "0" ∷ [] ∷ []) (search rules, omega arith) (search rules)
     (λ c fits e. none c fits (verb_is c verb.Close _ e) e) refl refl refl where
@@ -159,7 +161,7 @@ a_last_space =
       none (command.Close n) fits v e = omega (arith, ap (length {A = List ℕ}) e)
       none c fits v e = absurd (cc v)
 
-pub large_number : IsWrongAt programs_grammar (with_line_4 (codes "open ip 4294967296")) 4 cause.Form
+pub large_number : AreWrongPrograms (with_line_4 (codes "open ip 4294967296")) 4 cause.Form
 large_number =
     wrong_words (codes "open" ∷ codes "ip" ∷ codes "4294967296" ∷ []) (search rules, omega arith)
     (search rules) (λ c fits e. none c fits (verb_is c verb.Open _ e) e) refl refl refl where
@@ -168,7 +170,7 @@ large_number =
       none (command.OpenMinor d n) fits v e = too_large n fits.1 (cc e)
       none c fits v e = absurd (cc v)
 
-pub digit_first : IsWrongAt programs_grammar (with_line_4 (codes "open 9a 0")) 4 cause.Form
+pub digit_first : AreWrongPrograms (with_line_4 (codes "open 9a 0")) 4 cause.Form
 digit_first =
     wrong_words (codes "open" ∷ codes "9a" ∷ codes "0" ∷ []) (search rules, omega arith) (search rules)
     (λ c fits e. none c fits (verb_is c verb.Open _ e) e) refl refl refl where
@@ -177,7 +179,7 @@ digit_first =
       none (command.OpenMinor d n) fits v e = no_digit_first d fits.0 (cc e)
       none c fits v e = absurd (cc v)
 
-pub nine_letters : IsWrongAt programs_grammar (with_line_4 (codes "clone ninelette")) 4 cause.Form
+pub nine_letters : AreWrongPrograms (with_line_4 (codes "clone ninelette")) 4 cause.Form
 nine_letters =
     wrong_words (codes "clone" ∷ codes "ninelette" ∷ []) (search rules, omega arith) (search rules)
     (λ c fits e. none c fits (verb_is c verb.Clone _ e) e) refl refl refl where
@@ -186,7 +188,7 @@ nine_letters =
       none (command.OpenClone d) fits v e = no_nine_letters d fits (cc e)
       none c fits v e = absurd (cc v)
 
-pub word_wanting : IsWrongAt programs_grammar (with_line_4 (codes "link 0")) 4 cause.Form
+pub word_wanting : AreWrongPrograms (with_line_4 (codes "link 0")) 4 cause.Form
 word_wanting =
     wrong_words (codes "link" ∷ codes "0" ∷ []) (search rules, omega arith) (search rules)
     (λ c fits e. none c fits (verb_is c verb.Link _ e) e) refl refl refl where
@@ -194,7 +196,7 @@ word_wanting =
       none (command.Link n m) fits v e = omega (arith, ap (length {A = List ℕ}) e)
       none c fits v e = absurd (cc v)
 
-pub capitals : IsWrongAt programs_grammar (with_line_4 (codes "unlink 0 ALL")) 4 cause.Form
+pub capitals : AreWrongPrograms (with_line_4 (codes "unlink 0 ALL")) 4 cause.Form
 capitals =
     wrong_words (codes "unlink" ∷ codes "0" ∷ codes "ALL" ∷ []) (search rules, omega arith) (search rules)
     (λ c fits e. none c fits (verb_is c verb.Unlink _ e) e) refl refl refl where
@@ -203,7 +205,7 @@ capitals =
       none (command.Unlink n x) fits v e = no_capitals x fits.1 (cc e)
       none c fits v e = absurd (cc v)
 
-pub sides_turned : IsWrongAt programs_grammar (with_line_4 (codes "flush 0 wr")) 4 cause.Form
+pub sides_turned : AreWrongPrograms (with_line_4 (codes "flush 0 wr")) 4 cause.Form
 sides_turned =
     wrong_words (codes "flush" ∷ codes "0" ∷ codes "wr" ∷ []) (search rules, omega arith) (search rules)
     (λ c fits e. none c fits (verb_is c verb.Flush _ e) e) refl refl refl where
@@ -212,7 +214,7 @@ sides_turned =
       none (command.Flush n s) fits v e = turned s (cc e)
       none c fits v e = absurd (cc v)
 
-pub capital_digits : IsWrongAt programs_grammar (with_line_4 (codes "write 0 5 AA")) 4 cause.Form
+pub capital_digits : AreWrongPrograms (with_line_4 (codes "write 0 5 AA")) 4 cause.Form
 capital_digits =
     wrong_words (codes "write" ∷ codes "0" ∷ codes "5" ∷ codes "AA" ∷ []) (search rules, omega arith)
     (search rules) (λ c fits e. none c fits (verb_is c verb.Write _ e) e) refl refl refl where
@@ -221,7 +223,7 @@ capital_digits =
       none (command.Write n m bs) fits v e = no_capital_digits bs fits.2 (cc e)
       none c fits v e = absurd (cc v)
 
-pub odd_digits : IsWrongAt programs_grammar (with_line_4 (codes "write 0 5 aab")) 4 cause.Form
+pub odd_digits : AreWrongPrograms (with_line_4 (codes "write 0 5 aab")) 4 cause.Form
 odd_digits =
     wrong_words (codes "write" ∷ codes "0" ∷ codes "5" ∷ codes "aab" ∷ []) (search rules, omega arith)
     (search rules) (λ c fits e. none c fits (verb_is c verb.Write _ e) e) refl refl refl where
@@ -230,7 +232,7 @@ odd_digits =
       none (command.Write n m bs) fits v e = no_odd_digits bs fits.2 (cc e)
       none c fits v e = absurd (cc v)
 
-pub bytes_wanting : IsWrongAt programs_grammar (with_line_4 (codes "write 0 5")) 4 cause.Form
+pub bytes_wanting : AreWrongPrograms (with_line_4 (codes "write 0 5")) 4 cause.Form
 bytes_wanting =
     wrong_words (codes "write" ∷ codes "0" ∷ codes "5" ∷ []) (search rules, omega arith) (search rules)
     (λ c fits e. none c fits (verb_is c verb.Write _ e) e) refl refl refl where
@@ -239,7 +241,22 @@ bytes_wanting =
       none (command.Write n m bs) fits v e = omega (arith, ap (length {A = List ℕ}) e)
       none c fits v e = absurd (cc v)
 
-pub no_word : IsWrongAt programs_grammar (with_line_4 []) 4 cause.Form
+pub no_word : AreWrongPrograms (with_line_4 []) 4 cause.Form
 no_word =
     wrong_words ([] ∷ []) (search rules, omega arith) (search rules)
     (λ c fits e. not_verb c ([] ∷ []) (sym e) refl) refl refl refl
+
+-- ---- and one that is of version 2 alone
+
+pub hangup : AreWrongPrograms (with_line_4 (codes "hangup ip 0")) 4 cause.Form
+hangup =
+    wrong_at_4 (codes "hangup ip 0") (search rules) (no_words ws (search rules, omega arith)
+    (λ c fits e. none c fits (verb_is c verb.Hangup _ e) e) refl refl
+    (differ (codes "hangup ip 0") (codes "end") refl)) where
+      ws : List (List ℕ)
+      ws = codes "hangup" ∷ codes "ip" ∷ codes "0" ∷ []
+
+      none : (c : Command) → FitsCommandIn V1 c → verb_of c ≡ verb.Hangup
+          → codes "hangup" ∷ codes "ip" ∷ codes "0" ∷ [] ≢ command_words c
+      none (command.Hangup d n) fits v e = absurd (cc fits.1)
+      none c fits v e = absurd (cc v)

@@ -1,5 +1,5 @@
 -- Programs texts with a line out of its place, or without a line that they need.
-use Rattle.std.proofs.Common.{◌≡◌, ℕ, zero, suc, ◌+◌, ◌≤◌, List, [], ◌∷◌, ◌++◌, length, refl, sym, ap, subst}
+use Rattle.std.proofs.Common.{◌≡◌, ◌≢◌, ℕ, zero, suc, ◌+◌, ◌≤◌, List, [], ◌∷◌, ◌++◌, length, refl, sym, ap, subst}
 use Rattle.std.proofs.Common.{◌∙◌, append_assoc, arith, rules, inl, inr}
 use Rattle.std.specs.Fmt.{decimal}
 use Rattle.std.proofs.lemmas.List.{length-append}
@@ -11,28 +11,31 @@ use Rattle.smx_types.specs.ProgramLists.{ProgramLists, program_lists}
 use Rattle.smx_types.specs.declared.command.Command.TheVariants as command
 use Rattle.smx_types.specs.declared.driver.DriverKind.TheVariants as kind
 use Rattle.smx_types.specs.declared.driver.DriverSpec.{DriverSpec}
+use Rattle.smx_types.specs.declared.version.Version.{Version}
+use Rattle.smx_types.specs.declared.version.Version.TheVariants.{V1, V2}
 use Rattle.smx_text.specs.declared.fault.Cause.TheVariants as cause
-use Rattle.smx_text.specs.Grammar.{IsBegun, beginning}
+use Rattle.smx_text.specs.Grammar.{IsBegun, beginning, header}
 use Rattle.smx_text.specs.ProgramLines.{Line}
 use Rattle.smx_text.specs.ProgramLines as line
 use Rattle.smx_text.specs.ProgramsText.{IsAllowed, body, programs_grammar}
-use Rattle.smx_text.specs.WorkedFaults.{process_lines, with_line_4, with_processes}
+use Rattle.smx_text.specs.WorkedFaults.{AreWrongPrograms, process_lines, with_line_4, with_processes}
 use Rattle.smx_text.proofs.ProgramsDecidedLemmas.{nothing_begun}
-use Rattle.smx_text.proofs.ProgramsGrammarLemmas.{refused_line, well_made}
+use Rattle.smx_text.proofs.ProgramsGrammarLemmas.{refused_line}
 use Rattle.smx_text.proofs.ProgramsLemmas.{longer_begun, misplaced, too_many}
 use Rattle.smx_text.proofs.BodyLemmas.{added_process}
 use Rattle.smx_text.proofs.ReadingLemmas.{beginning_more}
-use Rattle.smx_text.proofs.WorkedFaultLemmas.{IsWrongAt, differ, wrong}
+use Rattle.smx_text.proofs.WordLemmas.{differ}
+use Rattle.smx_text.proofs.WorkedFaultLemmas.{wrong_programs, wrong_in_each}
 use Rattle.smx_text.proofs.WrongCommandLemmas.{before, before_allowed, wrong_at_4}
 
 -- ---- the header, and nothing behind it
 
-pub nothing : IsWrongAt programs_grammar [] 1 cause.Cut
-nothing = wrong programs_grammar well_made [] 1 cause.Cut (λ e. cc) ([], [], inl (refl, refl), tt, refl)
+pub nothing : AreWrongPrograms [] 1 cause.Cut
+nothing = wrong_programs V1 [] 1 cause.Cut (λ e. cc) (λ e. cc) ([], [], inl (refl, refl), tt, refl)
 
-pub cut_header : IsWrongAt programs_grammar (codes "programs 1") 1 cause.Cut
+pub cut_header : AreWrongPrograms (codes "programs 1") 1 cause.Cut
 cut_header =
-    wrong programs_grammar well_made (codes "programs 1") 1 cause.Cut (λ e. cc) (
+    wrong_programs V1 (codes "programs 1") 1 cause.Cut (λ e. cc) (λ e. cc) (
       [],
       codes "programs 1",
       inl (refl, refl),
@@ -40,17 +43,31 @@ cut_header =
       refl,
     )
 
-pub version_2 : IsWrongAt programs_grammar (codes "programs 2\n") 1 cause.Header
-version_2 =
-    wrong programs_grammar well_made (codes "programs 2\n") 1 cause.Header (λ e. cc)
-    (codes "programs 2", ([], search rules, refl), differ (codes "programs 2") (codes "programs 1") refl, refl)
+other_number : (version : Version) → codes "programs 3" ≢ header (programs_grammar version)
+other_number V1 = differ (codes "programs 3") (codes "programs 1") refl
+other_number V2 = differ (codes "programs 3") (codes "programs 2") refl
 
-pub header_alone : IsWrongAt programs_grammar (codes "programs 1\n") 2 cause.Cut
+pub version_3 : AreWrongPrograms (codes "programs 3\n") 1 cause.Header
+version_3 =
+    wrong_in_each (codes "programs 3\n") 1 cause.Header (λ e. cc)
+    (λ version. (codes "programs 3", ([], search rules, refl), other_number version, refl))
+
+pub header_alone : AreWrongPrograms (codes "programs 1\n") 2 cause.Cut
 header_alone =
-    wrong programs_grammar well_made (codes "programs 1\n") 2 cause.Cut (λ e. cc) (
+    wrong_programs V1 (codes "programs 1\n") 2 cause.Cut (λ e. cc) (λ e. cc) (
       codes "programs 1\n",
       [],
-      inr ([], nothing_begun, refl, refl),
+      inr ([], nothing_begun V1, refl, refl),
+      tt,
+      refl,
+    )
+
+pub version_2_alone : AreWrongPrograms (codes "programs 2\n") 2 cause.Cut
+version_2_alone =
+    wrong_programs V2 (codes "programs 2\n") 2 cause.Cut (λ e. cc) (λ e. cc) (
+      codes "programs 2\n",
+      [],
+      inr ([], nothing_begun V2, refl, refl),
       tt,
       refl,
     )
@@ -60,31 +77,31 @@ header_alone =
 abbrev eth : DriverSpec
 eth = record { name = codes "eth"; kind = kind.Leaf; minors = 2; high = 8; low = 3; max = 16 }
 
-pub out_of_turn : IsWrongAt programs_grammar (with_line_4 (codes "process 2")) 4 cause.Form
+pub out_of_turn : AreWrongPrograms (with_line_4 (codes "process 2")) 4 cause.Form
 unfolding digits
 out_of_turn =
     wrong_at_4 (codes "process 2") (search rules)
-    (refused_line (body before) (line.Process 2) (codes "process 2") (omega arith) refl cause.Form
-    (misplaced before (line.Process 2) (λ e. omega (arith, e))))
+    (refused_line V1 (body before) (line.Process 2) (codes "process 2") (omega arith) refl cause.Form
+    (misplaced V1 before (line.Process 2) (λ e. omega (arith, e))))
 
-pub late_driver : IsWrongAt programs_grammar (with_line_4 (codes "driver eth leaf 2 8 3 16")) 4 cause.Form
+pub late_driver : AreWrongPrograms (with_line_4 (codes "driver eth leaf 2 8 3 16")) 4 cause.Form
 unfolding digits
 late_driver =
     wrong_at_4 (codes "driver eth leaf 2 8 3 16") (search rules)
-    (refused_line (body before) (line.Driver eth) (codes "driver eth leaf 2 8 3 16") (search rules) refl
-    cause.Form (misplaced before (line.Driver eth) (λ e. omega (arith, e))))
+    (refused_line V1 (body before) (line.Driver eth) (codes "driver eth leaf 2 8 3 16") (search rules) refl
+    cause.Form (misplaced V1 before (line.Driver eth) (λ e. omega (arith, e))))
 
 abbrev clone : Line
 clone = line.Command (command.OpenClone (codes "ip"))
 
-pub no_process : IsWrongAt programs_grammar (codes "programs 1\nclone ip\nend\n") 2 cause.Form
+pub no_process : AreWrongPrograms (codes "programs 1\nclone ip\nend\n") 2 cause.Form
 no_process =
-    wrong programs_grammar well_made (codes "programs 1\nclone ip\nend\n") 2 cause.Form (λ e. cc) (
+    wrong_programs V1 (codes "programs 1\nclone ip\nend\n") 2 cause.Form (λ e. cc) (λ e. cc) (
       [],
       codes "clone ip",
-      record { begun = nothing_begun; next = (codes "end\n", search rules, refl); numbered = refl },
-      refused_line [] clone (codes "clone ip") (search rules) refl cause.Form
-          (misplaced (program_lists [] []) clone (λ e. omega (arith, e))),
+      record { begun = nothing_begun V1; next = (codes "end\n", search rules, refl); numbered = refl },
+      refused_line V1 [] clone (codes "clone ip") (search rules) refl cause.Form
+          (misplaced V1 (program_lists [] []) clone (λ e. omega (arith, e))),
     )
 
 -- ---- the end
@@ -97,17 +114,17 @@ one_command = program_lists before.drivers ((command.OpenClone (codes "ip") ∷ 
 abbrev no_command : ProgramLists
 no_command = program_lists [] ([] ∷ [])
 
-allowed_none : IsAllowed no_command
+allowed_none : IsAllowed V1 no_command
 allowed_none = search (rules, arith)
 
-allowed_one : IsAllowed one_command
+allowed_one : IsAllowed V1 one_command
 allowed_one = search (rules, arith)
 
-pub no_end : IsWrongAt programs_grammar (codes "programs 1\ndriver ip mux 4 8 3 16\nprocess 0\nclone ip\n") 5 cause.Cut
+pub no_end : AreWrongPrograms (codes "programs 1\ndriver ip mux 4 8 3 16\nprocess 0\nclone ip\n") 5 cause.Cut
 unfolding digits
 no_end =
-    wrong programs_grammar well_made (codes "programs 1\ndriver ip mux 4 8 3 16\nprocess 0\nclone ip\n") 5
-    cause.Cut (λ e. cc) (
+    wrong_programs V1 (codes "programs 1\ndriver ip mux 4 8 3 16\nprocess 0\nclone ip\n") 5
+    cause.Cut (λ e. cc) (λ e. cc) (
       codes "programs 1\ndriver ip mux 4 8 3 16\nprocess 0\nclone ip\n",
       [],
       inr (body one_command, (one_command, [], allowed_one, refl), refl, refl),
@@ -115,11 +132,11 @@ no_end =
       refl,
     )
 
-pub cut_line : IsWrongAt programs_grammar (codes "programs 1\ndriver ip mux 4 8 3 16\nprocess 0\nclone ip") 4 cause.Cut
+pub cut_line : AreWrongPrograms (codes "programs 1\ndriver ip mux 4 8 3 16\nprocess 0\nclone ip") 4 cause.Cut
 unfolding digits
 cut_line =
-    wrong programs_grammar well_made (codes "programs 1\ndriver ip mux 4 8 3 16\nprocess 0\nclone ip") 4
-    cause.Cut (λ e. cc) (
+    wrong_programs V1 (codes "programs 1\ndriver ip mux 4 8 3 16\nprocess 0\nclone ip") 4
+    cause.Cut (λ e. cc) (λ e. cc) (
       codes "programs 1\ndriver ip mux 4 8 3 16\nprocess 0\n",
       codes "clone ip",
       inr (body before, (before, [], before_allowed, refl), refl, refl),
@@ -127,10 +144,10 @@ cut_line =
       refl,
     )
 
-pub a_space_behind : IsWrongAt programs_grammar (codes "programs 1\nprocess 0\nend\n ") 4 cause.Trailing
+pub a_space_behind : AreWrongPrograms (codes "programs 1\nprocess 0\nend\n ") 4 cause.Trailing
 unfolding digits
 a_space_behind =
-    wrong programs_grammar well_made (codes "programs 1\nprocess 0\nend\n ") 4 cause.Trailing (λ e. cc)
+    wrong_programs V1 (codes "programs 1\nprocess 0\nend\n ") 4 cause.Trailing (λ e. cc) (λ e. cc)
     (no_command, 32, [], allowed_none, refl, refl)
 
 -- ---- one process too many
@@ -144,27 +161,28 @@ many zero = refl
 many (suc n) = omega (arith, length-append (none_each n) ([] ∷ []), many n)
 
 abbrev processes : ℕ → ProgramLists
-processes n = program_lists before.drivers (none_each n)
+processes n = record { version = V1; drivers = before.drivers; programs = none_each n }
 
 -- their lines, one more at a time
 body_of : (n : ℕ) → body (processes (suc n)) ≡ body (processes n) ++ line.Process n ∷ []
 body_of n = added_process before.drivers (none_each n) n (sym (many n))
 
-text_of_processes : (n : ℕ) → beginning programs_grammar (body (processes n))
+text_of_processes : (n : ℕ) → beginning (programs_grammar V1) (body (processes n))
     ≡ codes "programs 1\ndriver ip mux 4 8 3 16\n" ++ process_lines n
 unfolding digits
 text_of_processes zero = refl
 text_of_processes (suc n) =
-    ap (beginning programs_grammar) (body_of n) ∙ beginning_more programs_grammar (body (processes n)) (line.Process n)
+    ap (beginning (programs_grammar V1)) (body_of n)
+    ∙ beginning_more (programs_grammar V1) (body (processes n)) (line.Process n)
     ∙ ap (λ (xs : List ℕ). xs ++ (codes "process " ++ (decimal n ++ codes "\n"))) (text_of_processes n)
     ∙ append_assoc (codes "programs 1\ndriver ip mux 4 8 3 16\n") (process_lines n) _
 
-begun_by : (n : ℕ) → n ≤ 64 → IsBegun programs_grammar (body (processes n))
+begun_by : (n : ℕ) → n ≤ 64 → IsBegun (programs_grammar V1) (body (processes n))
 begun_by zero most = (before, line.Process 0 ∷ [], before_allowed, refl)
 begun_by (suc n) most =
     let long = many n in
-    subst (IsBegun programs_grammar) (sym (body_of n))
-    (longer_begun (processes n) (line.Process n) (begun_by n (omega (arith, most))) (sym long)
+    subst (IsBegun (programs_grammar V1)) (sym (body_of n))
+    (longer_begun V1 (processes n) (line.Process n) refl (begun_by n (omega (arith, most))) (sym long)
     (omega (arith, long, most)) (omega (arith, most)))
 
 body_long : (n : ℕ) → length (body (processes n)) ≡ n + 1
@@ -177,7 +195,7 @@ body_long (suc n) =
       body_long n,
     )
 
-process_65_is : with_processes 65 ≡ beginning programs_grammar (body (processes 64))
+process_65_is : with_processes 65 ≡ beginning (programs_grammar V1) (body (processes 64))
     ++ (codes "process 64" ++ LINE_FEED ∷ codes "end\n")
 unfolding digits
 process_65_is =
@@ -186,11 +204,11 @@ process_65_is =
     ∙ sym (append_assoc (codes "programs 1\ndriver ip mux 4 8 3 16\n") (process_lines 64) (codes "process 64\nend\n"))
     ∙ ap (λ (xs : List ℕ). xs ++ codes "process 64\nend\n") (sym (text_of_processes 64))
 
-pub process_65 : IsWrongAt programs_grammar (with_processes 65) 67 cause.Many
+pub process_65 : AreWrongPrograms (with_processes 65) 67 cause.Many
 unfolding digits
 process_65 =
     let long = many 64 in
-    wrong programs_grammar well_made (with_processes 65) 67 cause.Many (λ e. cc) (
+    wrong_programs V1 (with_processes 65) 67 cause.Many (λ e. cc) (λ e. cc) (
       body (processes 64),
       codes "process 64",
       record {
@@ -198,6 +216,6 @@ process_65 =
         next = (codes "end\n", search rules, process_65_is);
         numbered = omega (arith, body_long 64);
       },
-      refused_line (body (processes 64)) (line.Process 64) (codes "process 64") (omega arith) refl cause.Many
-          (too_many (processes 64) (line.Process 64) (sym long) (omega (arith, long))),
+      refused_line V1 (body (processes 64)) (line.Process 64) (codes "process 64") (omega arith) refl cause.Many
+          (too_many V1 (processes 64) (line.Process 64) (sym long) (omega (arith, long))),
     )

@@ -1,5 +1,5 @@
 -- Transcripts with a line out of its place, one that is no line, or without one that they need.
-use Rattle.std.proofs.Common.{◌≡◌, ◌≢◌, ℕ, ◌<◌, false, List, [], ◌∷◌, ◌++◌, length, refl, sym}
+use Rattle.std.proofs.Common.{◌≡◌, ◌≢◌, ℕ, ◌<◌, true, false, List, [], ◌∷◌, ◌++◌, length, refl, sym}
 use Rattle.std.proofs.Common.{ap, ◌∙◌, arith, rules, inr, None, Some}
 use Rattle.std.specs.List.{AllByRecursion}
 use Rattle.std.specs.Fmt.{decimal, digits}
@@ -12,11 +12,16 @@ use Rattle.smx_types.specs.declared.command.Entry.{Entry as AnyEntry}
 use Rattle.smx_types.specs.declared.driver.DriverKind.TheVariants as kind
 use Rattle.smx_types.specs.declared.link.LinkKind.TheVariants as link
 use Rattle.smx_types.specs.declared.reply.Fault.{Fault}
+use Rattle.smx_types.specs.declared.reply.Fault.TheVariants as fault
 use Rattle.smx_types.specs.declared.reply.Reply.{Reply}
 use Rattle.smx_types.specs.declared.reply.Reply.TheVariants as reply
+use Rattle.smx_types.specs.Versions.{is_of_hangup}
+use Rattle.smx_types.specs.declared.stream.Side.TheVariants as side
 use Rattle.smx_types.specs.declared.transcript.Transcript.{Transcript}
+use Rattle.smx_types.specs.declared.version.Version.{Version}
+use Rattle.smx_types.specs.declared.version.Version.TheVariants.{V1, V2}
 use Rattle.smx_words.specs.declared.reading.verb.Verb.TheVariants as verb
-use Rattle.smx_words.specs.Spellable.{FitsEntry}
+use Rattle.smx_words.specs.Spellable.{FitsEntry, FitsEntryIn}
 use Rattle.smx_words.specs.Spelling.{command_words, entry_words, fault_words, reply_words}
 use Rattle.smx_words.specs.Words.{IsFree, SPACE, line_of}
 use Rattle.smx_words.proofs.NumberLemmas.{own}
@@ -27,24 +32,25 @@ use Rattle.smx_text.specs.declared.fault.Cause.TheVariants as cause
 use Rattle.smx_text.specs.declared.transcript.draft.Stage.TheVariants as stage
 use Rattle.smx_text.specs.declared.transcript.draft.TranscriptDraft.{TranscriptDraft}
 use Rattle.smx_text.specs.Drafts.{lines}
-use Rattle.smx_text.specs.Grammar.{IsNoLine, IsOneLine, line_text}
+use Rattle.smx_text.specs.Grammar.{IsNoLine, IsOneLine, header, line_text}
 use Rattle.smx_text.specs.TranscriptLines.{TranscriptLine}
 use Rattle.smx_text.specs.TranscriptLines as line
 use Rattle.smx_text.specs.TranscriptText.{FitsLine, IsAllowed, line_words, transcript_grammar}
-use Rattle.smx_text.specs.WorkedFaults.{with_line_3, with_line_5}
+use Rattle.smx_text.specs.WorkedFaults.{IsWrongTranscript, with_line_3, with_line_5}
 use Rattle.smx_text.proofs.TranscriptDraftLemmas.{draft}
 use Rattle.smx_text.proofs.TranscriptDrafts.{new_view, takes}
 use Rattle.smx_text.proofs.TranscriptGrammarLemmas.{kind_at, kind_first, kind_of, not_at_end, refused_line}
-use Rattle.smx_text.proofs.TranscriptGrammarLemmas.{spelling, well_made}
-use Rattle.smx_text.proofs.TranscriptLemmas.{misplaced}
-use Rattle.smx_text.proofs.WordLemmas.{first_word}
-use Rattle.smx_text.proofs.WorkedFaultLemmas.{IsWrongAt, differ, told, wrong}
+use Rattle.smx_text.proofs.TranscriptGrammarLemmas.{spelling}
+use Rattle.smx_text.proofs.TranscriptLemmas.{misplaced, nothing_begun}
+use Rattle.smx_text.proofs.WordLemmas.{first_word, differ}
+use Rattle.smx_text.proofs.WorkedFaultLemmas.{told, wrong_transcript, wrong_transcript_in_each}
+use Rattle.smx_words.proofs.ToldLemmas.{no_told_entry}
 
 -- ---- what stands before
 
 -- no driver, no entry and an empty view
 abbrev nothing : Transcript
-nothing = record { drivers = []; entries = []; view = new_view 1 1 }
+nothing = record { version = V1; drivers = []; entries = []; view = new_view 1 1 }
 
 -- the same with a driver
 abbrev one_driver : Transcript
@@ -75,23 +81,23 @@ one_link = record nothing {
   };
 }
 
-nothing_allowed : IsAllowed nothing
+nothing_allowed : IsAllowed V1 nothing
 nothing_allowed = search (rules, arith)
 
-one_driver_allowed : IsAllowed one_driver
+one_driver_allowed : IsAllowed V1 one_driver
 one_driver_allowed = search (rules, arith)
 
-one_link_allowed : IsAllowed one_link
+one_link_allowed : IsAllowed V1 one_link
 one_link_allowed = search (rules, arith)
 
 -- below `config`
 abbrev below_config : TranscriptDraft
 below_config = draft stage.Config nothing
 
-wrong_below_config : (text rest : List ℕ) → IsOneLine text → IsNoLine transcript_grammar (lines below_config) text
-    → IsWrongAt transcript_grammar (codes "transcript 1\nconfig\n" ++ (text ++ 10 ∷ rest)) 3 cause.Form
+wrong_below_config : (text rest : List ℕ) → IsOneLine text → IsNoLine (transcript_grammar V1) (lines below_config) text
+    → IsWrongTranscript (codes "transcript 1\nconfig\n" ++ (text ++ 10 ∷ rest)) 3 cause.Form
 wrong_below_config text rest one none =
-    wrong transcript_grammar well_made (codes "transcript 1\nconfig\n" ++ (text ++ 10 ∷ rest)) 3 cause.Form (λ e. cc) (
+    wrong_transcript V1 (codes "transcript 1\nconfig\n" ++ (text ++ 10 ∷ rest)) 3 cause.Form (λ e. cc) (λ e. cc) (
       lines below_config,
       text,
       record {
@@ -106,11 +112,11 @@ wrong_below_config text rest one none =
 abbrev behind_driver : TranscriptDraft
 behind_driver = draft stage.History one_driver
 
-wrong_at_3 : (text : List ℕ) → IsOneLine text → IsNoLine transcript_grammar (lines behind_driver) text
-    → IsWrongAt transcript_grammar (with_line_3 text) 3 cause.Form
+wrong_at_3 : (text : List ℕ) → IsOneLine text → IsNoLine (transcript_grammar V1) (lines behind_driver) text
+    → IsWrongTranscript (with_line_3 text) 3 cause.Form
 unfolding digits
 wrong_at_3 text one none =
-    wrong transcript_grammar well_made (with_line_3 text) 3 cause.Form (λ e. cc) (
+    wrong_transcript V1 (with_line_3 text) 3 cause.Form (λ e. cc) (λ e. cc) (
       lines behind_driver,
       text,
       record {
@@ -125,61 +131,85 @@ wrong_at_3 text one none =
 abbrev behind_link : TranscriptDraft
 behind_link = draft stage.View one_link
 
-wrong_at_5 : (text : List ℕ) → IsOneLine text → (k : TranscriptLine) → FitsLine k
-    → text ≡ line_text transcript_grammar k → takes behind_link k ≡ false
-    → IsWrongAt transcript_grammar (with_line_5 text) 5 cause.Form
+wrong_at_5 : (text : List ℕ) → IsOneLine text → IsNoLine (transcript_grammar V1) (lines behind_link) text
+    → IsWrongTranscript (with_line_5 text) 5 cause.Form
 unfolding digits
-wrong_at_5 text one k fits is never =
-    wrong transcript_grammar well_made (with_line_5 text) 5 cause.Form (λ e. cc) (
+wrong_at_5 text one none =
+    wrong_transcript V1 (with_line_5 text) 5 cause.Form (λ e. cc) (λ e. cc) (
       lines behind_link,
       text,
       record { begun = (one_link, [], one_link_allowed, refl); next = (codes "end\n", one, refl); numbered = refl },
-      refused_line (lines behind_link) k text fits is cause.Form (misplaced behind_link k never),
+      none,
     )
+
+misplaced_at_5 : (text : List ℕ) → IsOneLine text → (k : TranscriptLine) → FitsLine V1 k
+    → text ≡ line_text (transcript_grammar V1) k → takes behind_link k ≡ false
+    → IsWrongTranscript (with_line_5 text) 5 cause.Form
+misplaced_at_5 text one k fits is never =
+    wrong_at_5 text one (refused_line V1 (lines behind_link) k text fits is cause.Form (misplaced behind_link k never))
 
 -- ---- lines out of their places
 
-pub other_header : IsWrongAt transcript_grammar (codes "programs 1\nend\n") 1 cause.Header
+no_header : (version : Version) → codes "programs 1" ≢ header (transcript_grammar version)
+no_header V1 = differ (codes "programs 1") (codes "transcript 1") refl
+no_header V2 = differ (codes "programs 1") (codes "transcript 2") refl
+
+pub other_header : IsWrongTranscript (codes "programs 1\nend\n") 1 cause.Header
 other_header =
-    wrong transcript_grammar well_made (codes "programs 1\nend\n") 1 cause.Header (λ e. cc) (
-      codes "programs 1",
-      (codes "end\n", search rules, refl),
-      differ (codes "programs 1") (codes "transcript 1") refl,
+    wrong_transcript_in_each (codes "programs 1\nend\n") 1 cause.Header (λ e. cc)
+    (λ version. (codes "programs 1", (codes "end\n", search rules, refl), no_header version, refl))
+
+other_number : (version : Version) → codes "transcript 3" ≢ header (transcript_grammar version)
+other_number V1 = differ (codes "transcript 3") (codes "transcript 1") refl
+other_number V2 = differ (codes "transcript 3") (codes "transcript 2") refl
+
+pub version_3 : IsWrongTranscript (codes "transcript 3\n") 1 cause.Header
+version_3 =
+    wrong_transcript_in_each (codes "transcript 3\n") 1 cause.Header (λ e. cc)
+    (λ version. (codes "transcript 3", ([], search rules, refl), other_number version, refl))
+
+pub version_2_alone : IsWrongTranscript (codes "transcript 2\n") 2 cause.Cut
+version_2_alone =
+    wrong_transcript V2 (codes "transcript 2\n") 2 cause.Cut (λ e. cc) (λ e. cc) (
+      codes "transcript 2\n",
+      [],
+      inr ([], nothing_begun V2, refl, refl),
+      tt,
       refl,
     )
 
 abbrev descriptor : TranscriptLine
 descriptor = line.Fd (record { process = 0; fd = 0; driver = codes "ip"; minor = 0 })
 
-pub next_wanting : IsWrongAt transcript_grammar (codes "transcript 1\nconfig\nfd 0 0 ip 0\nend\n") 3 cause.Form
+pub next_wanting : IsWrongTranscript (codes "transcript 1\nconfig\nfd 0 0 ip 0\nend\n") 3 cause.Form
 unfolding digits
 next_wanting =
     wrong_below_config (codes "fd 0 0 ip 0") (codes "end\n") (search rules)
-    (refused_line (lines below_config) descriptor (codes "fd 0 0 ip 0") (search (rules, arith)) refl
+    (refused_line V1 (lines below_config) descriptor (codes "fd 0 0 ip 0") (search (rules, arith)) refl
     cause.Form (misplaced below_config descriptor refl))
 
-pub end_too_early : IsWrongAt transcript_grammar (codes "transcript 1\nconfig\nend\n") 3 cause.Form
+pub end_too_early : IsWrongTranscript (codes "transcript 1\nconfig\nend\n") 3 cause.Form
 end_too_early = wrong_below_config (codes "end") [] (search rules) (not_at_end below_config refl)
 
-pub two_nexts : IsWrongAt transcript_grammar (with_line_5 (codes "next 2 1")) 5 cause.Form
+pub two_nexts : IsWrongTranscript (with_line_5 (codes "next 2 1")) 5 cause.Form
 unfolding digits
-two_nexts = wrong_at_5 (codes "next 2 1") (search rules) (line.Next 2 1) (search (rules, arith)) refl refl
+two_nexts = misplaced_at_5 (codes "next 2 1") (search rules) (line.Next 2 1) (search (rules, arith)) refl refl
 
-pub late_entry : IsWrongAt transcript_grammar (with_line_5 (codes "0 exit = done")) 5 cause.Form
+pub late_entry : IsWrongTranscript (with_line_5 (codes "0 exit = done")) 5 cause.Form
 unfolding digits
 late_entry =
-    wrong_at_5 (codes "0 exit = done") (search rules)
+    misplaced_at_5 (codes "0 exit = done") (search rules)
     (line.Entry (record { process = 0; command = command.CloseAll; reply = reply.Done [] }))
     (search (rules, arith)) refl refl
 
-pub late_descriptor : IsWrongAt transcript_grammar (with_line_5 (codes "fd 0 0 ip 0")) 5 cause.Form
+pub late_descriptor : IsWrongTranscript (with_line_5 (codes "fd 0 0 ip 0")) 5 cause.Form
 unfolding digits
-late_descriptor = wrong_at_5 (codes "fd 0 0 ip 0") (search rules) descriptor (search (rules, arith)) refl refl
+late_descriptor = misplaced_at_5 (codes "fd 0 0 ip 0") (search rules) descriptor (search (rules, arith)) refl refl
 
-pub no_end : IsWrongAt transcript_grammar (codes "transcript 1\nconfig\nnext 1 1\n") 4 cause.Cut
+pub no_end : IsWrongTranscript (codes "transcript 1\nconfig\nnext 1 1\n") 4 cause.Cut
 unfolding digits
 no_end =
-    wrong transcript_grammar well_made (codes "transcript 1\nconfig\nnext 1 1\n") 4 cause.Cut (λ e. cc) (
+    wrong_transcript V1 (codes "transcript 1\nconfig\nnext 1 1\n") 4 cause.Cut (λ e. cc) (λ e. cc) (
       codes "transcript 1\nconfig\nnext 1 1\n",
       [],
       inr (line.Config ∷ line.Next 1 1 ∷ [], (nothing, [], nothing_allowed, refl), refl, refl),
@@ -187,18 +217,59 @@ no_end =
       refl,
     )
 
--- ---- lines that begin with a number, and are no entry
+-- a hung-up stream, and nothing else
+abbrev one_hung : Transcript
+one_hung = record {
+  version = V2;
+  drivers = [];
+  entries = [];
+  view = record (new_view 1 1) { hungs = record { driver = codes "eth"; minor = 0 } ∷ [] };
+}
+
+one_hung_allowed : IsAllowed V2 one_hung
+one_hung_allowed = search (rules, arith)
+
+abbrev behind_hung : TranscriptDraft
+behind_hung = draft stage.View one_hung
+
+abbrev full_place : TranscriptLine
+full_place = line.Full (record { driver = codes "eth"; minor = 0; side = side.Read })
+
+pub late_full_place : IsWrongTranscript
+    (codes "transcript 2\nconfig\nnext 1 1\nhung eth 0\nfull eth 0 r\nend\n") 5 cause.Form
+unfolding digits
+late_full_place =
+    wrong_transcript V2 (codes "transcript 2\nconfig\nnext 1 1\nhung eth 0\nfull eth 0 r\nend\n") 5 cause.Form
+    (λ e. cc) (λ e. cc) (
+      lines behind_hung,
+      codes "full eth 0 r",
+      record {
+        begun = (one_hung, [], one_hung_allowed, refl);
+        next = (codes "end\n", search rules, refl);
+        numbered = refl;
+      },
+      refused_line V2 (lines behind_hung) full_place (codes "full eth 0 r") (search (rules, arith)) refl cause.Form
+          (misplaced behind_hung full_place refl),
+    )
+
+-- ---- lines of one kind that are none
+
+no_kind : (ls : List TranscriptLine) (n : ℕ) (ws : List (List ℕ)) → AllByRecursion (IsFree SPACE) ws × (0 < length ws)
+    → kind_at (first_word ws) ≡ n
+    → ((k : TranscriptLine) → FitsLine V1 k → ws ≡ line_words k → kind_of k ≡ n → ⊥)
+    → IsNoLine (transcript_grammar V1) ls (line_of ws)
+no_kind ls n ws free is none k fits may e =
+    let same = told ws (line_words k) free (spelling V1 k fits) e in
+    none k fits same (sym (kind_first V1 k fits)
+    ∙ ap (λ (vs : List (List ℕ)). kind_at (first_word vs)) (sym same) ∙ is)
 
 no_entry : (ws : List (List ℕ)) → AllByRecursion (IsFree SPACE) ws × (0 < length ws)
-    → kind_at (first_word ws) ≡ 0 → ((e : AnyEntry) → FitsEntry e → ws ≢ entry_words e)
-    → IsNoLine transcript_grammar (lines behind_driver) (line_of ws)
-no_entry ws free digit none k fits may e =
-    let same = told ws (line_words k) free (spelling k fits) e in
-    by_kind k fits same (sym (kind_first k fits)
-    ∙ ap (λ (vs : List (List ℕ)). kind_at (first_word vs)) (sym same) ∙ digit) where
-      by_kind : (k : TranscriptLine) → FitsLine k → ws ≡ line_words k → kind_of k ≡ 0 → ⊥
-      by_kind (line.Entry x) fits same entry = none x fits same
-      by_kind k fits same entry = absurd (cc entry)
+    → kind_at (first_word ws) ≡ 0 → ((e : AnyEntry) → FitsEntryIn V1 e → ws ≢ entry_words e)
+    → IsNoLine (transcript_grammar V1) (lines behind_driver) (line_of ws)
+no_entry ws free digit none = no_kind (lines behind_driver) 0 ws free digit by_kind where
+  by_kind : (k : TranscriptLine) → FitsLine V1 k → ws ≡ line_words k → kind_of k ≡ 0 → ⊥
+  by_kind (line.Entry x) fits same entry = none x fits same
+  by_kind k fits same entry = absurd (cc entry)
 
 process_wrong : (e : AnyEntry) → FitsEntry e → codes "64" ≢ decimal e.process
 process_wrong e fits is =
@@ -206,11 +277,11 @@ process_wrong e fits is =
     ∙ digits_value-decimal own e.process (omega (arith, fits.process)) in
     omega (arith, value, fits.process)
 
-pub process_64 : IsWrongAt transcript_grammar (with_line_3 (codes "64 clone ip = fd 0 0")) 3 cause.Form
+pub process_64 : IsWrongTranscript (with_line_3 (codes "64 clone ip = fd 0 0")) 3 cause.Form
 process_64 =
     wrong_at_3 (codes "64 clone ip = fd 0 0") (search rules)
     (no_entry (codes "64" ∷ codes "clone" ∷ codes "ip" ∷ codes "=" ∷ codes "fd" ∷ codes "0" ∷ codes "0" ∷ [])
-    (search rules, omega arith) refl (λ e fits is. process_wrong e fits (cc is)))
+    (search rules, omega arith) refl (λ e fits is. process_wrong e fits.0 (cc is)))
 
 -- a fault of one word is none of two
 no_fault : (f : Fault) → codes "EINVAL" ∷ [] ≢ fault_words f
@@ -233,8 +304,52 @@ half_reply c r e = by_kind c (verb_first c verb.Clone _ _ e) e where
   by_kind (command.OpenClone d) v e = no_reply r (cc e)
   by_kind c v e = absurd (cc v)
 
-pub half_a_fault : IsWrongAt transcript_grammar (with_line_3 (codes "0 clone ip = EINVAL")) 3 cause.Form
+pub half_a_fault : IsWrongTranscript (with_line_3 (codes "0 clone ip = EINVAL")) 3 cause.Form
 half_a_fault =
     wrong_at_3 (codes "0 clone ip = EINVAL") (search rules)
     (no_entry (codes "0" ∷ codes "clone" ∷ codes "ip" ∷ codes "=" ∷ codes "EINVAL" ∷ [])
     (search rules, omega arith) refl (λ e fits is. half_reply e.command e.reply (cc is)))
+
+-- ---- lines that are of version 2 alone
+
+no_told : (x : AnyEntry) → FitsEntry x → is_of_hangup x ≡ true → (ws : List (List ℕ)) → ws ≡ entry_words x
+    → (e : AnyEntry) → FitsEntryIn V1 e → ws ≢ entry_words e
+no_told x fits hangup ws is e told same =
+    no_told_entry V1 (line_of ws) x fits (ap line_of is) (λ can. absurd (cc (can, hangup))) e told (ap line_of same)
+
+pub told_hangup : IsWrongTranscript (with_line_3 (codes "0 hangup ip 0 = done")) 3 cause.Form
+unfolding digits
+told_hangup =
+    wrong_at_3 (codes "0 hangup ip 0 = done") (search rules)
+    (no_entry (codes "0" ∷ codes "hangup" ∷ codes "ip" ∷ codes "0" ∷ codes "=" ∷ codes "done" ∷ [])
+    (search rules, omega arith) refl
+    (no_told (record { process = 0; command = command.Hangup (codes "ip") 0; reply = reply.Done [] })
+    (search (rules, arith)) refl _ refl))
+
+pub end_of_file : IsWrongTranscript (with_line_3 (codes "0 read 0 = eof")) 3 cause.Form
+unfolding digits
+end_of_file =
+    wrong_at_3 (codes "0 read 0 = eof") (search rules)
+    (no_entry (codes "0" ∷ codes "read" ∷ codes "0" ∷ codes "=" ∷ codes "eof" ∷ [])
+    (search rules, omega arith) refl
+    (no_told (record { process = 0; command = command.Read 0; reply = reply.Eof })
+    (search (rules, arith)) refl _ refl))
+
+pub refusal : IsWrongTranscript (with_line_3 (codes "0 read 0 = ENXIO hangup")) 3 cause.Form
+unfolding digits
+refusal =
+    wrong_at_3 (codes "0 read 0 = ENXIO hangup") (search rules)
+    (no_entry (codes "0" ∷ codes "read" ∷ codes "0" ∷ codes "=" ∷ codes "ENXIO" ∷ codes "hangup" ∷ [])
+    (search rules, omega arith) refl
+    (no_told (record { process = 0; command = command.Read 0; reply = reply.Fault fault.HungUp })
+    (search (rules, arith)) refl _ refl))
+
+pub hung_up_stream : IsWrongTranscript (with_line_5 (codes "hung eth 0")) 5 cause.Form
+hung_up_stream =
+    wrong_at_5 (codes "hung eth 0") (search rules)
+    (no_kind (lines behind_link) 10 (codes "hung" ∷ codes "eth" ∷ codes "0" ∷ []) (search rules, omega arith) refl
+    by_kind) where
+      by_kind : (k : TranscriptLine) → FitsLine V1 k → codes "hung" ∷ codes "eth" ∷ codes "0" ∷ [] ≡ line_words k
+          → kind_of k ≡ 10 → ⊥
+      by_kind (line.Hung h) fits same hung = absurd (cc fits.1)
+      by_kind k fits same hung = absurd (cc hung)

@@ -1,19 +1,24 @@
 -- What was read so far, and what holds of it. No public clause needs this.
-use Rattle.std.specs.Prelude.{◌≡◌, Bool, true, false, ◌&&◌, ◌==◌, List, [], ◌∷◌, ◌++◌, length, map}
+use Rattle.std.specs.Prelude.{◌≡◌, ◌≤◌, Bool, true, false, ◌&&◌, ◌==◌, List, [], ◌∷◌, ◌++◌, length, map}
 use Rattle.std.specs.List.{sum_by}
-use Rattle.smx_types.specs.ProgramLists.{AreWithinLimits, program_lists}
+use Rattle.smx_types.specs.Versions.{most_drivers}
+use Rattle.smx_types.specs.declared.limits.TheConstants.{MAX_COMMANDS, MAX_PROCESSES}
+use Rattle.smx_types.specs.declared.transcript.Transcript.{Transcript}
 use Rattle.smx_types.specs.declared.view.ConfigView.{ConfigView}
 use Rattle.smx_text.specs.declared.programs.draft.ProgramsDraft.TheInside.{Inside}
 use Rattle.smx_text.specs.declared.transcript.draft.Stage.{Stage}
 use Rattle.smx_text.specs.declared.transcript.draft.Stage.TheVariants as stage
 use Rattle.smx_text.specs.declared.transcript.draft.TranscriptDraft.{TranscriptDraft}
+use Rattle.smx_text.specs.Grammar.{Grammar}
 use Rattle.smx_text.specs.TranscriptLines.{TranscriptLine}
 use Rattle.smx_text.specs.TranscriptLines as line
-use Rattle.smx_text.specs.TranscriptText.{view_body}
+use Rattle.smx_text.specs.TranscriptText.{transcript_grammar, view_body}
 
--- programs within the limits, whose commands are counted
+-- programs within the limits of their version, whose commands are counted
 pub record IsCounted (d : Inside) : Type 0 where
-  pub within : AreWithinLimits (program_lists d.drivers.items d.programs.items)
+  pub drivers : length d.drivers.items ≤ most_drivers d.version
+  pub programs : length d.programs.items ≤ MAX_PROCESSES
+  pub commands : sum_by length d.programs.items ≤ MAX_COMMANDS
   pub count : d.count ≡ sum_by length d.programs.items
 
 -- the lines of a transcript behind its entries, as far as they were read
@@ -28,15 +33,23 @@ lines d =
     map line.Driver d.transcript.drivers ++ (map line.Entry d.transcript.entries
     ++ shown d.stage d.transcript.view)
 
+-- how a text of its version is spelled
+abbrev pub grammar_of : TranscriptDraft → Grammar Transcript TranscriptLine
+grammar_of d = transcript_grammar d.transcript.version
+
 -- groups are read
 abbrev pub is_view : Stage → Bool
 is_view stage.History = false
 is_view stage.Config = false
 is_view stage.View = true
 
--- a full place may come: it is of the last group
+-- a hung-up stream may come: it is of the last group
+abbrev pub takes_hungs : TranscriptDraft → Bool
+takes_hungs d = is_view d.stage
+
+-- a full place may come: no line of a later group came
 abbrev pub takes_fulls : TranscriptDraft → Bool
-takes_fulls d = is_view d.stage
+takes_fulls d = takes_hungs d && (length d.transcript.view.hungs == 0)
 
 -- a message may come: no line of a later group came
 abbrev pub takes_msgs : TranscriptDraft → Bool

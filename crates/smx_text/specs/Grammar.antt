@@ -1,5 +1,6 @@
 -- A kind of text: the one text of each value, and the first line at which a text goes wrong. No reader is named.
-use Rattle.std.specs.Prelude.{◌≡◌, ◌≢◌, ℕ, ◌+◌, List, [], ◌∷◌, ◌++◌, length, map, ◌⊎◌, Result, Ok, Err}
+use Rattle.std.specs.Prelude.{◌≡◌, ◌≢◌, ℕ, ◌+◌, List, [], ◌∷◌, ◌++◌, length, map, ◌⊎◌, Result, Ok, Err, IfErr}
+use Rattle.smx_types.specs.declared.version.Version.{Version}
 use Rattle.smx_words.specs.Words.{LINE_FEED, IsFree, line_of, text_of}
 use Rattle.smx_text.specs.declared.fault.Cause.{Cause}
 use Rattle.smx_text.specs.declared.fault.Cause.TheVariants as cause
@@ -128,3 +129,11 @@ module _ {V K : Type 0} (g : Grammar V K) where
   abbrev pub last_line : Result V TextFault → ℕ
   last_line (Ok v) = length (g.body v) + 2
   last_line (Err f) = f.line
+
+-- ---- texts of several versions
+
+-- What a reader of all versions may answer: what one of some version may, and that the header is wrong only where it
+-- is so in each version. So its header says of which version a text is.
+abbrev pub ReadsAny : {V K : Type 0} → (Version → Grammar V K) → List ℕ → Result V TextFault → Type 0
+ReadsAny {V} {K} g bytes r = (version : Version) × Reads (g version) bytes r
+    × IfErr r (λ f. f.cause ≡ cause.Header → (other : Version) → IsFault (g other) bytes f.line cause.Header)

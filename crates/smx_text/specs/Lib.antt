@@ -1,3 +1,4 @@
+pub mod TextVersions
 pub mod FaultWords
 pub mod Grammar
 pub mod Reading

@@ -5,6 +5,7 @@ use Rattle.smx_types.specs.declared.driver.DriverSpec.{DriverSpec}
 use Rattle.smx_types.specs.declared.view.BindingLine.{BindingLine}
 use Rattle.smx_types.specs.declared.view.DescriptorLine.{DescriptorLine}
 use Rattle.smx_types.specs.declared.view.FullLine.{FullLine}
+use Rattle.smx_types.specs.declared.view.HungLine.{HungLine}
 use Rattle.smx_types.specs.declared.view.LinkLine.{LinkLine}
 use Rattle.smx_types.specs.declared.view.MessageLine.{MessageLine}
 use Rattle.smx_types.specs.declared.view.RouteLine.{RouteLine}
@@ -22,4 +23,5 @@ pub data TranscriptLine : Type 0 where
   Route : RouteLine → TranscriptLine
   Msg : MessageLine → TranscriptLine
   Full : FullLine → TranscriptLine
+  Hung : HungLine → TranscriptLine
   End : TranscriptLine

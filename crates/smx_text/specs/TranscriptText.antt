@@ -1,15 +1,20 @@
 -- The transcript text: drivers, history, and the configuration at its end.
-use Rattle.std.specs.Prelude.{◌≤◌, ℕ, List, [], ◌∷◌, ◌++◌, length, map, codes}
+use Rattle.std.specs.Prelude.{◌≡◌, ◌≤◌, ℕ, true, List, [], ◌∷◌, ◌++◌, length, map, codes}
 use Rattle.std.specs.List.{AllByRecursion}
 use Rattle.std.specs.Fmt.{decimal}
-use Rattle.smx_types.specs.declared.limits.TheConstants.{MAX_DRIVERS, MAX_COMMANDS}
+use Rattle.smx_types.specs.Versions.{least_of_transcript, most_drivers}
+use Rattle.smx_types.specs.declared.limits.TheConstants.{MAX_COMMANDS}
 use Rattle.smx_types.specs.declared.transcript.Transcript.{Transcript}
+use Rattle.smx_types.specs.declared.version.Version.{Version}
+use Rattle.smx_types.specs.declared.version.Version.TheVariants.{V1}
 use Rattle.smx_types.specs.declared.view.ConfigView.{ConfigView}
+use Rattle.smx_types.specs.declared.view.HungLine.{HungLine}
 use Rattle.smx_words.specs.Spelling.{driver_words, entry_words, descriptor_words, link_words, bind_words}
-use Rattle.smx_words.specs.Spelling.{route_words, message_words, full_words}
-use Rattle.smx_words.specs.Spellable.{FitsNumber, FitsDriver, FitsEntry, FitsDescriptor, FitsLink}
-use Rattle.smx_words.specs.Spellable.{FitsBinding, FitsRoute, FitsMessage, FitsFull}
+use Rattle.smx_words.specs.Spelling.{route_words, message_words, full_words, hung_words}
+use Rattle.smx_words.specs.Spellable.{CanTell, FitsNumber, FitsDriver, FitsEntry, FitsEntryIn, FitsDescriptor}
+use Rattle.smx_words.specs.Spellable.{FitsLink, FitsBinding, FitsRoute, FitsMessage, FitsFull, FitsHung}
 use Rattle.smx_text.specs.Grammar.{Grammar, full_text, Spells}
+use Rattle.smx_text.specs.TextVersions.{version_word}
 use Rattle.smx_text.specs.TranscriptLines.{TranscriptLine}
 use Rattle.smx_text.specs.TranscriptLines as line
 
@@ -25,28 +30,34 @@ line_words (line.Bind b) = bind_words b
 line_words (line.Route r) = route_words r
 line_words (line.Msg m) = message_words m
 line_words (line.Full f) = full_words f
+line_words (line.Hung h) = hung_words h
 line_words line.End = codes "end" ∷ []
 
--- what it says can be spelled
-abbrev pub FitsLine : TranscriptLine → Type 0
-FitsLine (line.Driver d) = FitsDriver d
-FitsLine (line.Entry e) = FitsEntry e
-FitsLine line.Config = Unit {0}
-FitsLine (line.Next id serial) = FitsNumber id × FitsNumber serial
-FitsLine (line.Fd d) = FitsDescriptor d
-FitsLine (line.Link l) = FitsLink l
-FitsLine (line.Bind b) = FitsBinding b
-FitsLine (line.Route r) = FitsRoute r
-FitsLine (line.Msg m) = FitsMessage m
-FitsLine (line.Full f) = FitsFull f
-FitsLine line.End = Unit {0}
+-- a hung-up stream can be spelled, and told in this version
+abbrev pub FitsHungIn : Version → HungLine → Type 0
+FitsHungIn version h = FitsHung h × CanTell version true
 
--- what comes next, and then open descriptors, links, bindings, routes, messages and full places
+-- what it says can be spelled, and told in this version
+abbrev pub FitsLine : Version → TranscriptLine → Type 0
+FitsLine version (line.Driver d) = FitsDriver d
+FitsLine version (line.Entry e) = FitsEntryIn version e
+FitsLine version line.Config = Unit {0}
+FitsLine version (line.Next id serial) = FitsNumber id × FitsNumber serial
+FitsLine version (line.Fd d) = FitsDescriptor d
+FitsLine version (line.Link l) = FitsLink l
+FitsLine version (line.Bind b) = FitsBinding b
+FitsLine version (line.Route r) = FitsRoute r
+FitsLine version (line.Msg m) = FitsMessage m
+FitsLine version (line.Full f) = FitsFull f
+FitsLine version (line.Hung h) = FitsHungIn version h
+FitsLine version line.End = Unit {0}
+
+-- what comes next, and then open descriptors, links, bindings, routes, messages, full places and hung-up streams
 abbrev pub view_body : ConfigView → List TranscriptLine
 view_body v =
     line.Next v.next_id v.next_serial ∷ (map line.Fd v.fds
     ++ (map line.Link v.links ++ (map line.Bind v.binds ++ (map line.Route v.routes
-    ++ (map line.Msg v.msgs ++ map line.Full v.fulls)))))
+    ++ (map line.Msg v.msgs ++ (map line.Full v.fulls ++ map line.Hung v.hungs))))))
 
 -- the lines between the header and the end: drivers, entries, `config`, the view
 abbrev pub body : Transcript → List TranscriptLine
@@ -62,6 +73,7 @@ pub record IsSpellableView (v : ConfigView) : Type 0 where
   pub routes : AllByRecursion FitsRoute v.routes
   pub msgs : AllByRecursion FitsMessage v.msgs
   pub fulls : AllByRecursion FitsFull v.fulls
+  pub hungs : AllByRecursion FitsHung v.hungs
 
 -- each line can be spelled
 pub record IsSpellable (t : Transcript) : Type 0 where
@@ -69,27 +81,29 @@ pub record IsSpellable (t : Transcript) : Type 0 where
   pub entries : AllByRecursion FitsEntry t.entries
   pub view : IsSpellableView t.view
 
--- within the limits, and each line can be spelled
-pub record IsAllowed (t : Transcript) : Type 0 where
-  pub drivers : length t.drivers ≤ MAX_DRIVERS
+-- of this version, which can tell it, and within its limits, and each line can be spelled
+pub record IsAllowed (version : Version) (t : Transcript) : Type 0 where
+  pub version_is : t.version ≡ version
+  pub drivers : length t.drivers ≤ most_drivers version
   pub entries : length t.entries ≤ MAX_COMMANDS
   pub spellable : IsSpellable t
+  pub told : version ≡ V1 → least_of_transcript t ≡ V1
 
--- the grammar of this text
-abbrev pub transcript_grammar : Grammar Transcript TranscriptLine
-transcript_grammar = record {
-  header_words = codes "transcript" ∷ codes "1" ∷ [];
+-- the grammar of this text in a version
+abbrev pub transcript_grammar : Version → Grammar Transcript TranscriptLine
+transcript_grammar version = record {
+  header_words = codes "transcript" ∷ version_word version ∷ [];
   line_words = line_words;
-  FitsLine = FitsLine;
+  FitsLine = FitsLine version;
   body = body;
   end = line.End;
-  IsAllowed = IsAllowed;
+  IsAllowed = IsAllowed version;
 }
 
 -- the one text of this transcript
 abbrev pub transcript_text : Transcript → List ℕ
-transcript_text t = full_text transcript_grammar t
+transcript_text t = full_text (transcript_grammar t.version) t
 
 -- these bytes spell this transcript
 abbrev pub SpellsTranscript : List ℕ → Transcript → Type 0
-SpellsTranscript bytes t = Spells transcript_grammar bytes t
+SpellsTranscript bytes t = Spells (transcript_grammar t.version) bytes t

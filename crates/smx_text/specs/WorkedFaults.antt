@@ -1,22 +1,24 @@
 -- Worked faults: texts that no value has, and where they go wrong.
-use Rattle.std.specs.Prelude.{ℕ, zero, suc, List, [], ◌++◌, codes}
+use Rattle.std.specs.Prelude.{ℕ, zero, suc, List, [], ◌++◌, codes, Err}
 use Rattle.std.specs.Fmt.{decimal}
 use Rattle.smx_types.specs.ProgramLists.{ProgramLists}
 use Rattle.smx_types.specs.declared.transcript.Transcript.{Transcript}
 use Rattle.smx_text.specs.declared.fault.Cause.{Cause}
-use Rattle.smx_text.specs.Grammar.{IsFault}
+use Rattle.smx_text.specs.Grammar.{ReadsAny}
 use Rattle.smx_text.specs.ProgramsText.{SpellsPrograms, programs_grammar}
 use Rattle.smx_text.specs.TranscriptText.{SpellsTranscript, transcript_grammar}
 
 -- they go wrong at this line for this cause, and spell no programs
 abbrev pub AreWrongPrograms : List ℕ → ℕ → Cause → Type 0
 AreWrongPrograms bytes line why =
-    IsFault programs_grammar bytes line why × ((v : ProgramLists) → SpellsPrograms bytes v → ⊥)
+    ReadsAny programs_grammar bytes (Err (record { line = line; cause = why }))
+    × ((v : ProgramLists) → SpellsPrograms bytes v → ⊥)
 
 -- they go wrong at this line for this cause, and spell no transcript
 abbrev pub IsWrongTranscript : List ℕ → ℕ → Cause → Type 0
 IsWrongTranscript bytes line why =
-    IsFault transcript_grammar bytes line why × ((t : Transcript) → SpellsTranscript bytes t → ⊥)
+    ReadsAny transcript_grammar bytes (Err (record { line = line; cause = why }))
+    × ((t : Transcript) → SpellsTranscript bytes t → ⊥)
 
 -- one driver and one process, and this as line 4
 abbrev pub with_line_4 : List ℕ → List ℕ
@@ -38,3 +40,12 @@ process_lines (suc n) = process_lines n ++ (codes "process " ++ (decimal n ++ co
 -- one driver, and this many processes
 abbrev pub with_processes : ℕ → List ℕ
 with_processes n = codes "programs 1\ndriver ip mux 4 8 3 16\n" ++ (process_lines n ++ codes "end\n")
+
+-- the lines of this many drivers, all the same
+abbrev pub driver_lines : ℕ → List ℕ
+driver_lines zero = []
+driver_lines (suc n) = driver_lines n ++ codes "driver ip mux 4 8 3 16\n"
+
+-- this header, and this many drivers
+abbrev pub with_drivers : List ℕ → ℕ → List ℕ
+with_drivers first n = first ++ (driver_lines n ++ codes "end\n")

@@ -2,7 +2,7 @@
 use Rattle.std.specs.Prelude.{◌≡◌, ℕ, [], ◌∷◌, ◌++◌, List, Ok, Err, refl, codes}
 use Rattle.std.specs.Fmt.{digits}
 use Rattle.hex.specs.Hex.{encode_with}
-use Rattle.smx_types.specs.ProgramLists.{ProgramLists, program_lists}
+use Rattle.smx_types.specs.ProgramLists.{ProgramLists, program_lists, raised}
 use Rattle.smx_types.specs.declared.command.Command.TheVariants as command
 use Rattle.smx_types.specs.declared.command.Entry.{Entry}
 use Rattle.smx_types.specs.declared.command.Sides.TheVariants as sides
@@ -14,6 +14,7 @@ use Rattle.smx_types.specs.declared.reply.Fault.TheVariants as fault
 use Rattle.smx_types.specs.declared.reply.Reply.TheVariants as reply
 use Rattle.smx_types.specs.declared.stream.Side.TheVariants as side
 use Rattle.smx_types.specs.declared.transcript.Transcript.{Transcript}
+use Rattle.smx_types.specs.declared.version.Version.TheVariants.{V1, V2}
 use Rattle.smx_types.specs.declared.view.ConfigView.{ConfigView}
 use Rattle.smx_text.specs.declared.fault.Cause.TheVariants as cause
 use Rattle.smx_text.specs.Grammar.{last_line}
@@ -74,16 +75,34 @@ unfolding digits encode_with
 is_text = refl
 
 -- the line `end` of it
-pub ends_at : last_line programs_grammar (Ok programs) ≡ 30
+pub ends_at : last_line (programs_grammar V1) (Ok programs) ≡ 30
 ends_at = refl
 
 -- and of a fault, its line
-pub stops_at : last_line programs_grammar (Err (record { line = 4; cause = cause.Form })) ≡ 4
+pub stops_at : last_line (programs_grammar V1) (Err (record { line = 4; cause = cause.Form })) ≡ 4
 stops_at = refl
 
 -- no driver and no process
 pub is_shortest_text : programs_text (program_lists [] []) ≡ codes "programs 1\nend\n"
 is_shortest_text = refl
+
+-- hangups, which version 2 alone can tell
+abbrev pub hangups : ProgramLists
+hangups = program_lists drivers ((command.Hangup (codes "eth") 1 ∷ command.Hangup (codes "ip") 4294967295 ∷ []) ∷ [])
+
+-- their text
+abbrev pub hangups_bytes : List ℕ
+hangups_bytes =
+    codes "programs 2\ndriver ip mux 4 8 3 16\ndriver eth leaf 0 4294967295 10 100\n"
+    ++ codes "process 0\nhangup eth 1\nhangup ip 4294967295\nend\n"
+
+pub is_text_of_hangups : programs_text hangups ≡ hangups_bytes
+unfolding digits
+is_text_of_hangups = refl
+
+-- what version 1 can tell, in version 2
+pub is_raised_text : programs_text (raised (program_lists [] [])) ≡ codes "programs 2\nend\n"
+is_raised_text = refl
 
 -- ---- a transcript
 
@@ -150,11 +169,12 @@ view = record {
       }
       ∷ [];
   fulls = record { driver = codes "eth"; minor = 1; side = side.Read } ∷ [];
+  hungs = [];
 }
 
 -- the drivers, the history and the view
 abbrev pub transcript : Transcript
-transcript = record { drivers = drivers; entries = entries; view = view }
+transcript = record { version = V1; drivers = drivers; entries = entries; view = view }
 
 -- its text
 abbrev pub transcript_bytes : List ℕ
@@ -176,5 +196,64 @@ unfolding digits encode_with
 is_transcript = refl
 
 -- the line `end` of it
-pub transcript_ends_at : last_line transcript_grammar (Ok transcript) ≡ 36
+pub transcript_ends_at : last_line (transcript_grammar V1) (Ok transcript) ≡ 36
 transcript_ends_at = refl
+
+-- a hangup, and each reply that tells of one
+abbrev pub entries_of_hangups : List Entry
+entries_of_hangups =
+    record { process = 0; command = command.Hangup (codes "eth") 1; reply = reply.Done [] }
+    ∷ record { process = 0; command = command.Hangup (codes "eth") 9; reply = reply.Fault fault.NoMinor }
+    ∷ record { process = 63; command = command.Read 15; reply = reply.Eof }
+    ∷ record { process = 0; command = command.Transmit (codes "eth") 1; reply = reply.Fault fault.HungUp }
+    ∷ []
+
+-- the drivers, such a history, and a view with hung-up streams, which version 2 alone can tell
+abbrev pub transcript_of_hangups : Transcript
+transcript_of_hangups = record {
+  version = V2;
+  drivers = drivers;
+  entries = entries_of_hangups;
+  view =
+      record view {
+        hungs = record { driver = codes "eth"; minor = 1 } ∷ record { driver = codes "ip"; minor = 4294967295 } ∷ [];
+      };
+}
+
+-- its text
+abbrev pub transcript_of_hangups_bytes : List ℕ
+transcript_of_hangups_bytes =
+    codes "transcript 2\ndriver ip mux 4 8 3 16\ndriver eth leaf 0 4294967295 10 100\n"
+    ++ codes "0 hangup eth 1 = done\n0 hangup eth 9 = ENXIO minor\n"
+    ++ codes "63 read 15 = eof\n0 transmit eth 1 = ENXIO hangup\n"
+    ++ codes "config\nnext 2 6\nfd 0 1 eth 2\nfd 63 15 ip 3\nlink 1 ip 0 eth 3 plink\nlink 4 ip 2 eth 1 link\n"
+    ++ codes "bind ip 9 0\nroute ip 5 1\nmsg ip 0 w 5 7 0005\nfull eth 1 r\n"
+    ++ codes "hung eth 1\nhung ip 4294967295\nend\n"
+
+pub is_transcript_of_hangups : transcript_text transcript_of_hangups ≡ transcript_of_hangups_bytes
+unfolding digits encode_with
+is_transcript_of_hangups = refl
+
+-- what version 1 can tell, in version 2
+abbrev pub shortest_transcript : Transcript
+shortest_transcript = record {
+  version = V2;
+  drivers = [];
+  entries = [];
+  view =
+      record {
+        next_id = 1;
+        next_serial = 1;
+        fds = [];
+        links = [];
+        binds = [];
+        routes = [];
+        msgs = [];
+        fulls = [];
+        hungs = [];
+      };
+}
+
+pub is_shortest_transcript : transcript_text shortest_transcript ≡ codes "transcript 2\nconfig\nnext 1 1\nend\n"
+unfolding digits
+is_shortest_transcript = refl

@@ -1,79 +1,80 @@
-//! Laws of the texts.
+//! Laws of the texts, in each version.
 
 ghost use Rattle.std.specs.Prelude.{◌≡◌, ◌≢◌, ◌<◌, List, ℕ, Result, Ok, MatchResult, IfErr};
 ghost use Rattle.smx_types.specs.ProgramLists.{ProgramLists};
 ghost use Rattle.smx_text.specs.declared.fault.TextFault.{TextFault};
 ghost use Rattle.smx_text.specs.declared.fault.Cause.TheVariants.{NoMemory};
 ghost use Rattle.smx_types.specs.declared.transcript.Transcript.{Transcript};
+ghost use Rattle.smx_types.specs.declared.version.Version.{Version};
 ghost use Rattle.smx_text.specs.TranscriptText.{transcript_grammar, transcript_text};
 ghost use Rattle.smx_text.specs.TranscriptText.{IsAllowed as TranscriptIsAllowed};
-ghost use Rattle.smx_text.specs.Grammar.{IsFault, Reads, last_line};
+ghost use Rattle.smx_text.specs.Grammar.{IsFault, ReadsAny, last_line};
 ghost use Rattle.smx_text.specs.ProgramsText.{IsAllowed, programs_grammar, programs_text};
 
 /// What is written of programs is read as those programs, unless memory runs out.
 pub fn written_is_read()
     ensures { (v : ProgramLists) (r : Result ProgramLists TextFault)
-        → IsAllowed v → Reads programs_grammar (programs_text v) r
+        → IsAllowed v.version v → ReadsAny programs_grammar (programs_text v) r
         → MatchResult r (λ w. w ≡ v) (λ f. f.cause ≡ NoMemory) }
 {}
 
 /// A text that is read is the one that is written of what was read.
 pub fn read_is_written()
     ensures { (bytes : List ℕ) (v : ProgramLists)
-        → Reads programs_grammar bytes (Ok v) → bytes ≡ programs_text v }
+        → ReadsAny programs_grammar bytes (Ok v) → bytes ≡ programs_text v }
 {}
 
 /// Two readings of one text are the same, faults and their lines among them, unless memory runs out.
 pub fn one_text_has_one_reading()
     ensures { (bytes : List ℕ) (r s : Result ProgramLists TextFault)
-        → Reads programs_grammar bytes r → Reads programs_grammar bytes s
+        → ReadsAny programs_grammar bytes r → ReadsAny programs_grammar bytes s
         → IfErr r (λ f. f.cause ≢ NoMemory) → IfErr s (λ f. f.cause ≢ NoMemory) → r ≡ s }
 {}
 
 /// Any bytes have a reading, so that want of memory is never the only answer.
 pub fn each_text_has_a_reading()
     ensures { (bytes : List ℕ) → (r : Result ProgramLists TextFault)
-        × Reads programs_grammar bytes r × IfErr r (λ f. f.cause ≢ NoMemory) }
+        × ReadsAny programs_grammar bytes r × IfErr r (λ f. f.cause ≢ NoMemory) }
 {}
 
 /// Want of memory is told only at a line before that at which any other reading ends: before the fault,
 /// or before the line `end` of a text that spells some programs. So no fault hides behind it.
 pub fn want_of_memory_comes_before()
-    ensures { (bytes : List ℕ) (line : ℕ) (r : Result ProgramLists TextFault)
-        → IsFault programs_grammar bytes line NoMemory → Reads programs_grammar bytes r
-        → IfErr r (λ f. f.cause ≢ NoMemory) → line < last_line programs_grammar r }
+    ensures { (version : Version) (bytes : List ℕ) (line : ℕ) (r : Result ProgramLists TextFault)
+        → IsFault (programs_grammar version) bytes line NoMemory → ReadsAny programs_grammar bytes r
+        → IfErr r (λ f. f.cause ≢ NoMemory) → line < last_line (programs_grammar version) r }
 {}
 
 /// What is written of a transcript within the limits is read as that transcript, unless memory runs out.
 pub fn transcript_written_is_read()
     ensures { (t : Transcript) (r : Result Transcript TextFault)
-        → TranscriptIsAllowed t → Reads transcript_grammar (transcript_text t) r
+        → TranscriptIsAllowed t.version t → ReadsAny transcript_grammar (transcript_text t) r
         → MatchResult r (λ u. u ≡ t) (λ f. f.cause ≡ NoMemory) }
 {}
 
 /// A text that is read is the one that is written of what was read.
 pub fn transcript_read_is_written()
     ensures { (bytes : List ℕ) (t : Transcript)
-        → Reads transcript_grammar bytes (Ok t) → bytes ≡ transcript_text t }
+        → ReadsAny transcript_grammar bytes (Ok t) → bytes ≡ transcript_text t }
 {}
 
 /// Two readings of one text are the same, faults and their lines among them, unless memory runs out.
 pub fn one_transcript_has_one_reading()
     ensures { (bytes : List ℕ) (r s : Result Transcript TextFault)
-        → Reads transcript_grammar bytes r → Reads transcript_grammar bytes s
+        → ReadsAny transcript_grammar bytes r → ReadsAny transcript_grammar bytes s
         → IfErr r (λ f. f.cause ≢ NoMemory) → IfErr s (λ f. f.cause ≢ NoMemory) → r ≡ s }
 {}
 
 /// Any bytes have a reading, so that want of memory is never the only answer.
 pub fn each_transcript_has_a_reading()
     ensures { (bytes : List ℕ) → (r : Result Transcript TextFault)
-        × Reads transcript_grammar bytes r × IfErr r (λ f. f.cause ≢ NoMemory) }
+        × ReadsAny transcript_grammar bytes r × IfErr r (λ f. f.cause ≢ NoMemory) }
 {}
 
 /// Want of memory is told only at a line before that at which any other reading ends: before the fault,
 /// or before the line `end` of a text that spells a transcript. So no fault hides behind it.
 pub fn transcript_want_of_memory_comes_before()
-    ensures { (bytes : List ℕ) (line : ℕ) (r : Result Transcript TextFault)
-        → IsFault transcript_grammar bytes line NoMemory → Reads transcript_grammar bytes r
-        → IfErr r (λ f. f.cause ≢ NoMemory) → line < last_line transcript_grammar r }
+    ensures { (version : Version) (bytes : List ℕ) (line : ℕ) (r : Result Transcript TextFault)
+        → IsFault (transcript_grammar version) bytes line NoMemory → ReadsAny transcript_grammar bytes r
+        → IfErr r (λ f. f.cause ≢ NoMemory) → line < last_line (transcript_grammar version) r }
 {}

@@ -15,11 +15,11 @@ pub use programs::read_programs;
 pub use smx_types::{
     Binding, BindingLine, BindingLines, Bytes, Command, Commands, ConfigView, Copied, Descriptor,
     DescriptorLine, DescriptorLines, DriverKind, DriverSpec, Drivers, Entries, Entry, Fault,
-    FullLine, FullLines, Items, Link, LinkKind, LinkLine, LinkLines, MAX_COMMANDS, MAX_DESCRIPTORS,
-    MAX_DRIVERS, MAX_HIGH, MAX_LINKS, MAX_MESSAGE, MAX_MINORS, MAX_PROCESSES, Many, Message,
-    MessageLine, MessageLines, Messages, NUMBER_END, Name, NoMemory, Place, Process, ProgramList,
-    Programs, Reply, Route, RouteLine, RouteLines, Serials, Side, Sides, SpecFault, StreamId,
-    Transcript, Which,
+    FullLine, FullLines, HungLine, HungLines, Items, Link, LinkKind, LinkLine, LinkLines,
+    MAX_COMMANDS, MAX_DESCRIPTORS, MAX_DRIVERS, MAX_HIGH, MAX_LINKS, MAX_MESSAGE, MAX_MINORS,
+    MAX_PROCESSES, Many, Message, MessageLine, MessageLines, Messages, NUMBER_END, Name, NoMemory,
+    Place, Process, ProgramList, Programs, Reply, Route, RouteLine, RouteLines, Serials, Side,
+    Sides, SpecFault, StreamId, Transcript, Version, Which,
 };
 pub use transcript::read_transcript;
 pub use transcript_writer::TranscriptWriter;

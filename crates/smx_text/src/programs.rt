@@ -1,6 +1,6 @@
 //! The programs text, read.
 
-ghost use Rattle.smx_text.specs.Grammar.{Reads};
+ghost use Rattle.smx_text.specs.Grammar.{ReadsAny};
 ghost use Rattle.smx_text.specs.ProgramsText.{programs_grammar};
 
 mod draft;
@@ -14,7 +14,7 @@ use std::alloc::Global;
 /// The programs that a text spells, or the first line at which it goes wrong. `Cause` says when each
 /// refusal comes.
 pub fn read_programs(alloc: Global, bytes: &[u8]) -> Result<Programs, TextFault>
-    ensures { Reads programs_grammar bytes.now result }
+    ensures { ReadsAny programs_grammar bytes.now result }
 {
-    read(alloc, ProgramsDraft::new(alloc), bytes)
+    read::<ProgramsDraft>(alloc, bytes)
 }

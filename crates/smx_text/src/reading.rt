@@ -2,12 +2,15 @@
 
 ghost use Rattle.std.specs.Prelude.{◌≡◌, ◌≢◌, ◌<◌, ◌-◌, ◌^◌, ◌∷◌, ◌++◌, [], List, length, codes, MatchOption};
 ghost use Rattle.std.specs.Prelude.{IfOk, IfErr, OnOk};
-ghost use Rattle.smx_text.specs.Grammar.{Grammar, IsBegun, IsOneLine, IsFault, Reads, Continues, header, line_text};
+ghost use Rattle.smx_types.specs.declared.version.Version.{Version as AnyVersion};
+ghost use Rattle.smx_text.specs.Grammar.{Grammar, IsBegun, IsOneLine, IsFault, ReadsAny, Continues, header};
+ghost use Rattle.smx_text.specs.Grammar.{line_text};
 ghost use Rattle.smx_words.specs.Words.{LINE_FEED};
 ghost use Rattle.smx_text.specs.Reading.{Refuses, EndsAs, EndsText};
 
 use crate::fault::{Cause, TextFault};
 use memchr::memchr;
+use smx_types::Version;
 use std::alloc::Global;
 
 // What the lines of a text say, as far as they were read.
@@ -17,28 +20,39 @@ pub trait Draft: Drop {
 
     ghost Line: { Type 0 };
 
-    ghost grammar: { Grammar Self.Whole Line };
+    // How a text of each version is spelled.
+    ghost grammar: { AnyVersion → Grammar Self.Whole Line };
+
+    // The version of the text.
+    ghost version_of: { Self → AnyVersion };
 
     // The lines that were taken in.
     ghost lines: { Self → List Line };
 
-    // The first line of each text.
-    fn header() -> &'static [u8]
-        ensures { result.now ≡ header grammar };
+    // The first line of each text of a version.
+    fn header(version: Version) -> &'static [u8]
+        ensures { result.now ≡ header (grammar version) };
+
+    // Nothing of a text of this version.
+    fn begin(alloc: Global, version: Version) -> Self
+        ensures none { lines result ≡ [] }
+        ensures version { version_of result ≡ version };
 
     // Takes in a line, or tells why it can't; then the draft is of no more use.
     fn add(&mut self, alloc: Global, text: &[u8]) -> Result<(), Cause>
-        requires begun { IsBegun grammar (lines self.old) }
-        requires other { text.now ≢ line_text grammar grammar.end }
-        ensures added { OnOk result (Continues grammar (lines self.old) text.now (lines self.new)) }
-        ensures refused { IfErr result (Refuses grammar (lines self.old) text.now) };
+        requires begun { IsBegun (grammar (version_of self.old)) (lines self.old) }
+        requires other { text.now ≢ codes "end" }
+        ensures added { OnOk result
+            (Continues (grammar (version_of self.old)) (lines self.old) text.now (lines self.new)) }
+        ensures version { OnOk result (version_of self.new ≡ version_of self.old) }
+        ensures refused { IfErr result (Refuses (grammar (version_of self.old)) (lines self.old) text.now) };
 
     // What the lines say, if a text may end behind them.
     fn finish(self) -> Option<Self::Whole>
-        requires begun { IsBegun grammar (lines self) }
-        ensures { EndsAs grammar (lines self) result };
+        requires begun { IsBegun (grammar (version_of self)) (lines self) }
+        ensures { EndsAs (grammar (version_of self)) (lines self) result };
 
-    ghost end_is: { line_text grammar grammar.end ≡ codes "end" };
+    ghost end_is: { (v : AnyVersion) → line_text (grammar v) (grammar v).end ≡ codes "end" };
 }
 
 // The first line, and what follows it; nothing where no line is whole.
@@ -50,14 +64,14 @@ fn next_line(bytes: &[u8]) -> Option<(&[u8], &[u8])>
     Some((&bytes[..at], &bytes[at + 1..]))
 }
 
-// What a text says, or the first line at which it goes wrong.
-pub fn read<D: Draft>(alloc: Global, draft: D, bytes: &[u8]) -> Result<D::Whole, TextFault>
-    requires none { D.lines draft ≡ [] }
-    requires begun { IsBegun D.grammar [] }
-    ensures { Reads D.grammar bytes.now result }
+// What a text says, or the first line at which it goes wrong. Its header says of which version it is.
+pub fn read<D: Draft>(alloc: Global, bytes: &[u8]) -> Result<D::Whole, TextFault>
+    requires { (v : AnyVersion) → IsBegun (D.grammar v) [] }
+    ensures { ReadsAny D.grammar bytes.now result }
 {
-    let mut draft = draft;
-    let mut rest = after_header::<D>(bytes)?;
+    let (version, behind) = after_header::<D>(bytes)?;
+    let mut draft = D::begin(alloc, version);
+    let mut rest = behind;
     let mut number = 2usize;
     'lines: loop {
         let Some((text, after)) = next_line(rest) else {
@@ -74,25 +88,28 @@ pub fn read<D: Draft>(alloc: Global, draft: D, bytes: &[u8]) -> Result<D::Whole,
     }
 }
 
-// What follows the header.
-fn after_header<D: Draft>(bytes: &[u8]) -> Result<&[u8], TextFault>
-    ensures ok { IfOk result (λ rest. bytes.now ≡ header D.grammar ++ LINE_FEED ∷ rest.now) }
-    ensures err { IfErr result (λ f. IsFault D.grammar bytes.now f.line f.cause) }
+// The version that the header names, and what follows it.
+fn after_header<D: Draft>(bytes: &[u8]) -> Result<(Version, &[u8]), TextFault>
+    ensures ok { IfOk result (λ x. bytes.now ≡ header (D.grammar x.0) ++ LINE_FEED ∷ x.1.now) }
+    ensures err { IfErr result (λ f. (v : AnyVersion) → IsFault (D.grammar v) bytes.now f.line f.cause) }
 {
     let Some((first, rest)) = next_line(bytes) else {
         return Err(Cause::Cut.at(1));
     };
-    if first != D::header() {
-        return Err(Cause::Header.at(1));
+    if first == D::header(Version::V1) {
+        return Ok((Version::V1, rest));
     }
-    Ok(rest)
+    if first == D::header(Version::V2) {
+        return Ok((Version::V2, rest));
+    }
+    Err(Cause::Header.at(1))
 }
 
 // What the text says, if it may end at this line and no byte follows.
 fn ended<D: Draft>(draft: D, after: &[u8], number: usize) -> Result<D::Whole, TextFault>
-    requires begun { IsBegun D.grammar (D.lines draft) }
+    requires begun { IsBegun (D.grammar (D.version_of draft)) (D.lines draft) }
     requires room { number < 2 ^ 64 - 1 }
-    ensures { EndsText D.grammar (D.lines draft) after.now number result }
+    ensures { EndsText (D.grammar (D.version_of draft)) (D.lines draft) after.now number result }
 {
     let Some(whole) = draft.finish() else {
         return Err(Cause::Form.at(number));

@@ -1,6 +1,6 @@
 //! The transcript text, read.
 
-ghost use Rattle.smx_text.specs.Grammar.{Reads};
+ghost use Rattle.smx_text.specs.Grammar.{ReadsAny};
 ghost use Rattle.smx_text.specs.TranscriptText.{transcript_grammar};
 
 mod draft;
@@ -14,7 +14,7 @@ use std::alloc::Global;
 /// The transcript that a text spells, or the first line at which it goes wrong. `Cause` says when
 /// each refusal comes.
 pub fn read_transcript(alloc: Global, bytes: &[u8]) -> Result<Transcript, TextFault>
-    ensures { Reads transcript_grammar bytes.now result }
+    ensures { ReadsAny transcript_grammar bytes.now result }
 {
-    read(alloc, TranscriptDraft::new(alloc), bytes)
+    read::<TranscriptDraft>(alloc, bytes)
 }

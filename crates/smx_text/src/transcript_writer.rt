@@ -1,19 +1,22 @@
 //! A transcript that is written while its history grows, so that no entry is kept for it.
 
-ghost use Rattle.std.specs.Prelude.{◌≡◌, ◌++◌, [], List, map, IfOk, OnOk};
+ghost use Rattle.std.specs.Prelude.{◌≡◌, ◌∷◌, ◌++◌, [], List, map, IfOk, OnOk};
 ghost use Rattle.smx_types.specs.declared.command.Entry.{Entry as AnyEntry};
 ghost use Rattle.smx_types.specs.declared.driver.DriverSpec.{DriverSpec as AnyDriver};
+ghost use Rattle.smx_types.specs.declared.version.Version.{Version as AnyVersion};
+ghost use Rattle.smx_text.specs.Grammar.{header};
 ghost use Rattle.smx_text.specs.GrowingTranscripts.{transcript_with, BeginsTranscript};
-ghost use Rattle.smx_text.specs.TranscriptText.{transcript_text, view_body, IsSpellable, IsSpellableView};
+ghost use Rattle.smx_text.specs.TranscriptText.{transcript_grammar, transcript_text, view_body};
+ghost use Rattle.smx_text.specs.TranscriptText.{IsSpellable, IsSpellableView};
 ghost use Rattle.smx_text.specs.TranscriptText.{line_words as view_words};
-ghost use Rattle.smx_words.specs.Words.{text_of};
+ghost use Rattle.smx_words.specs.Words.{LINE_FEED, text_of};
 
-use smx_types::{ConfigView, DriverSpec, Entry, NoMemory};
+use smx_types::{ConfigView, DriverSpec, Entry, NoMemory, Version};
 use smx_words::{write_lines, write_next};
 use std::marker::Model;
 
-/// A transcript as far as it is written: its drivers, and the entries so far. Contracts see its bytes. Once a call has
-/// met want of memory it is of no more use.
+/// A transcript as far as it is written: its drivers, and the entries so far. Contracts see its bytes. Once a call
+/// has met want of memory it is of no more use.
 #[derive(Debug, Drop)]
 pub struct TranscriptWriter {
     text: Vec<u8>,
@@ -28,22 +31,27 @@ impl Model for TranscriptWriter {
 }
 
 impl TranscriptWriter {
-    /// These drivers and no entry yet, in the room of a vector whose bytes are no longer wanted. Fails only for want of
-    /// memory.
-    pub fn begin(room: Vec<u8>, drivers: &[DriverSpec]) -> Result<TranscriptWriter, NoMemory>
-        ensures { IfOk result (BeginsTranscript drivers.now []) }
+    /// A text of this version, of these drivers and no entry yet, in the room of a vector whose bytes are no longer
+    /// wanted. Fails only for want of memory.
+    pub fn begin(
+        room: Vec<u8>,
+        version: Version,
+        drivers: &[DriverSpec],
+    ) -> Result<TranscriptWriter, NoMemory>
+        ensures { IfOk result (BeginsTranscript version drivers.now []) }
     {
         let mut text = room;
         text.clear();
-        text.extend_from_slice(b"transcript 1\n")?;
+        text.extend_from_slice(first_line(version))?;
         write_lines(&mut text, drivers)?;
         Ok(TranscriptWriter { text })
     }
 
     /// These entries more, behind those so far. Fails only for want of memory.
     pub fn add(&mut self, entries: &[Entry]) -> Result<(), NoMemory>
-        ensures { OnOk result ((drivers : List AnyDriver) (before : List AnyEntry)
-            → BeginsTranscript drivers before self.old → BeginsTranscript drivers (before ++ entries.now) self.new) }
+        ensures { OnOk result ((version : AnyVersion) (drivers : List AnyDriver) (before : List AnyEntry)
+            → BeginsTranscript version drivers before self.old
+            → BeginsTranscript version drivers (before ++ entries.now) self.new) }
     {
         write_lines(&mut self.text, entries)?;
         Ok(())
@@ -51,17 +59,29 @@ impl TranscriptWriter {
 
     /// The one text of the transcript, whose configuration at its end is shown so. Fails only for want of memory.
     pub fn finish(self, view: &ConfigView) -> Result<Vec<u8>, NoMemory>
-        ensures written { IfOk result (λ v. (drivers : List AnyDriver) (entries : List AnyEntry)
-            → BeginsTranscript drivers entries self → v.items ≡ transcript_text (transcript_with drivers entries view.now)) }
-        // So what is written is read again, where the transcript is within the limits.
-        ensures spellable { OnOk result ((drivers : List AnyDriver) (entries : List AnyEntry)
-            → BeginsTranscript drivers entries self → IsSpellable (transcript_with drivers entries view.now)) }
+        ensures written { IfOk result (λ v. (version : AnyVersion) (drivers : List AnyDriver) (entries : List AnyEntry)
+            → BeginsTranscript version drivers entries self
+            → v.items ≡ transcript_text (transcript_with version drivers entries view.now)) }
+        // So what is written is read again, where the transcript is within the limits and its version can tell it.
+        ensures spellable { OnOk result ((version : AnyVersion) (drivers : List AnyDriver) (entries : List AnyEntry)
+            → BeginsTranscript version drivers entries self
+            → IsSpellable (transcript_with version drivers entries view.now)) }
     {
         let mut text = self.text;
         text.extend_from_slice(b"config\n")?;
         write_view(&mut text, view)?;
         text.extend_from_slice(b"end\n")?;
         Ok(text)
+    }
+}
+
+// The header, with its line feed.
+fn first_line(version: Version) -> &'static [u8]
+    ensures { result.now ≡ header (transcript_grammar version) ++ LINE_FEED ∷ [] }
+{
+    match version {
+        Version::V1 => b"transcript 1\n",
+        Version::V2 => b"transcript 2\n",
     }
 }
 
@@ -77,5 +97,6 @@ fn write_view(out: &mut Vec<u8>, view: &ConfigView) -> Result<(), NoMemory>
     write_lines(out, view.routes.as_slice())?;
     write_lines(out, view.msgs.as_slice())?;
     write_lines(out, view.fulls.as_slice())?;
+    write_lines(out, view.hungs.as_slice())?;
     Ok(())
 }

@@ -4,16 +4,27 @@ ghost use Rattle.std.specs.Prelude.{◌++◌, [], codes};
 ghost use Rattle.smx_text.specs.declared.fault.Cause.TheVariants.{Header, Form, Many, Cut, Trailing};
 ghost use Rattle.smx_text.specs.ProgramsText.{SpellsPrograms};
 ghost use Rattle.smx_text.specs.TranscriptText.{SpellsTranscript};
-ghost use Rattle.smx_types.specs.ProgramLists.{program_lists};
+ghost use Rattle.smx_types.specs.ProgramLists.{program_lists, raised};
 ghost use Rattle.smx_text.specs.WorkedTexts.{programs, programs_bytes, transcript, transcript_bytes};
+ghost use Rattle.smx_text.specs.WorkedTexts.{hangups, hangups_bytes, transcript_of_hangups};
+ghost use Rattle.smx_text.specs.WorkedTexts.{transcript_of_hangups_bytes, shortest_transcript};
 ghost use Rattle.smx_text.specs.WorkedFaults.{AreWrongPrograms, IsWrongTranscript, with_line_3, with_line_4};
-ghost use Rattle.smx_text.specs.WorkedFaults.{with_line_5, with_processes};
+ghost use Rattle.smx_text.specs.WorkedFaults.{with_line_5, with_processes, with_drivers};
 
-/// Texts with each kind of line, command and reply, and the shortest of programs.
+/// Texts with each kind of line, command and reply of version 1, and the shortest of programs.
 pub fn right_texts()
     ensures each_command { SpellsPrograms programs_bytes programs }
     ensures shortest { SpellsPrograms (codes "programs 1\nend\n") (program_lists [] []) }
     ensures each_reply { SpellsTranscript transcript_bytes transcript }
+{}
+
+/// Texts of version 2, with each kind of line, command and reply that it alone has, and without any.
+pub fn right_texts_of_version_2()
+    ensures hangups { SpellsPrograms hangups_bytes hangups }
+    ensures shortest { SpellsPrograms (codes "programs 2\nend\n") (raised (program_lists [] [])) }
+    ensures told_hangups { SpellsTranscript transcript_of_hangups_bytes transcript_of_hangups }
+    ensures shortest_transcript { SpellsTranscript
+        (codes "transcript 2\nconfig\nnext 1 1\nend\n") shortest_transcript }
 {}
 
 /// A number has no leading zero, no sign and 32 bits; a name begins with a letter and is not too long; bytes
@@ -39,8 +50,9 @@ pub fn wrong_commands()
 pub fn wrong_programs()
     ensures nothing { AreWrongPrograms [] 1 Cut }
     ensures cut_header { AreWrongPrograms (codes "programs 1") 1 Cut }
-    ensures version_2 { AreWrongPrograms (codes "programs 2\n") 1 Header }
+    ensures version_3 { AreWrongPrograms (codes "programs 3\n") 1 Header }
     ensures header_alone { AreWrongPrograms (codes "programs 1\n") 2 Cut }
+    ensures version_2_alone { AreWrongPrograms (codes "programs 2\n") 2 Cut }
     ensures out_of_turn { AreWrongPrograms (with_line_4 (codes "process 2")) 4 Form }
     ensures late_driver { AreWrongPrograms (with_line_4 (codes "driver eth leaf 2 8 3 16")) 4 Form }
     ensures no_process { AreWrongPrograms (codes "programs 1\nclone ip\nend\n") 2 Form }
@@ -55,6 +67,8 @@ pub fn wrong_programs()
 /// A process is below 64, a reply is one; entries stand above the configuration, and groups in their order.
 pub fn wrong_transcripts()
     ensures other_header { IsWrongTranscript (codes "programs 1\nend\n") 1 Header }
+    ensures version_3 { IsWrongTranscript (codes "transcript 3\n") 1 Header }
+    ensures version_2_alone { IsWrongTranscript (codes "transcript 2\n") 2 Cut }
     ensures process_64 { IsWrongTranscript (with_line_3 (codes "64 clone ip = fd 0 0")) 3 Form }
     ensures half_a_fault { IsWrongTranscript (with_line_3 (codes "0 clone ip = EINVAL")) 3 Form }
     ensures next_wanting { IsWrongTranscript (codes "transcript 1\nconfig\nfd 0 0 ip 0\nend\n") 3 Form }
@@ -62,5 +76,20 @@ pub fn wrong_transcripts()
     ensures two_nexts { IsWrongTranscript (with_line_5 (codes "next 2 1")) 5 Form }
     ensures late_entry { IsWrongTranscript (with_line_5 (codes "0 exit = done")) 5 Form }
     ensures late_descriptor { IsWrongTranscript (with_line_5 (codes "fd 0 0 ip 0")) 5 Form }
+    ensures late_full_place { IsWrongTranscript
+        (codes "transcript 2\nconfig\nnext 1 1\nhung eth 0\nfull eth 0 r\nend\n") 5 Form }
     ensures no_end { IsWrongTranscript (codes "transcript 1\nconfig\nnext 1 1\n") 4 Cut }
+{}
+
+/// No text of version 1 tells of a hangup, and none has a 65th driver. In version 2 the 129th is one too many.
+pub fn wrong_for_their_version()
+    ensures hangup { AreWrongPrograms (with_line_4 (codes "hangup ip 0")) 4 Form }
+    ensures told_hangup { IsWrongTranscript (with_line_3 (codes "0 hangup ip 0 = done")) 3 Form }
+    ensures end_of_file { IsWrongTranscript (with_line_3 (codes "0 read 0 = eof")) 3 Form }
+    ensures refusal { IsWrongTranscript (with_line_3 (codes "0 read 0 = ENXIO hangup")) 3 Form }
+    ensures hung_up_stream { IsWrongTranscript (with_line_5 (codes "hung eth 0")) 5 Form }
+    ensures driver_65 { AreWrongPrograms (with_drivers (codes "programs 1\n") 65) 66 Many }
+    ensures driver_65_of_a_transcript { IsWrongTranscript (with_drivers (codes "transcript 1\n") 65) 66 Many }
+    ensures driver_129 { AreWrongPrograms (with_drivers (codes "programs 2\n") 129) 130 Many }
+    ensures driver_129_of_a_transcript { IsWrongTranscript (with_drivers (codes "transcript 2\n") 129) 130 Many }
 {}

@@ -1,32 +1,46 @@
 //! Writing texts.
 
-ghost use Rattle.std.specs.Prelude.{◌≡◌, ◌<◌, ◌^◌, ◌++◌, length, map, IfOk, OnOk};
+ghost use Rattle.std.specs.Prelude.{◌≡◌, ◌<◌, ◌^◌, ◌∷◌, ◌++◌, [], length, map, IfOk, OnOk};
 ghost use Rattle.std.specs.List.{AllByRecursion};
-ghost use Rattle.smx_text.specs.ProgramsText.{line_words, program_lines, programs_text, FitsLine, IsAllowed};
+ghost use Rattle.smx_types.specs.Versions.{least_of_transcript};
+ghost use Rattle.smx_types.specs.declared.version.Version.TheVariants.{V1, V2};
+ghost use Rattle.smx_text.specs.Grammar.{header};
+ghost use Rattle.smx_text.specs.ProgramsText.{line_words, program_lines, programs_grammar, programs_text};
+ghost use Rattle.smx_text.specs.ProgramsText.{FitsLine, IsAllowed};
 ghost use Rattle.smx_text.specs.TranscriptText.{transcript_text, IsSpellable};
-ghost use Rattle.smx_words.specs.Words.{text_of};
+ghost use Rattle.smx_words.specs.Words.{LINE_FEED, text_of};
 
 use crate::transcript_writer::TranscriptWriter;
-use smx_types::{Commands, NoMemory, Programs, Transcript};
+use smx_types::{Commands, NoMemory, Programs, Transcript, Version};
 use smx_words::{write_lines, write_process};
 use std::alloc::Global;
 
 /// The one text of these programs. Fails only for want of memory.
-#[tactic(auto, using(crate::proofs::WritingLemmas::body_fits))]
 pub fn write_programs(alloc: Global, programs: &Programs) -> Result<Vec<u8>, NoMemory>
     ensures written { IfOk result (λ v. v.items ≡ programs_text programs.now) }
     // So what is written is read again, whatever these programs are.
-    ensures allowed { OnOk result (IsAllowed programs.now) }
+    ensures allowed { OnOk result (IsAllowed programs.now.version programs.now) }
 {
-    let mut out = Vec::from_slice(alloc, b"programs 1\n")?;
+    let mut out = Vec::from_slice(alloc, first_line(programs.version()))?;
     write_lines(&mut out, programs.drivers())?;
     write_each(&mut out, programs.programs())?;
     out.extend_from_slice(b"end\n")?;
     Ok(out)
 }
 
-/// The one text of this transcript. Fails only for want of memory.
+// The header, with its line feed.
+fn first_line(version: Version) -> &'static [u8]
+    ensures { result.now ≡ header (programs_grammar version) ++ LINE_FEED ∷ [] }
+{
+    match version {
+        Version::V1 => b"programs 1\n",
+        Version::V2 => b"programs 2\n",
+    }
+}
+
+/// The one text of this transcript, which its version can tell. Fails only for want of memory.
 pub fn write_transcript(alloc: Global, transcript: &Transcript) -> Result<Vec<u8>, NoMemory>
+    requires { transcript.now.version ≡ V1 → least_of_transcript transcript.now ≡ V1 }
     ensures written { IfOk result (λ v. v.items ≡ transcript_text transcript.now) }
     // So what is written is read again, where the transcript is within the limits.
     ensures spellable { OnOk result (IsSpellable transcript.now) }
@@ -34,14 +48,19 @@ pub fn write_transcript(alloc: Global, transcript: &Transcript) -> Result<Vec<u8
     write_transcript_into(Vec::new(alloc), transcript)
 }
 
-/// The one text of this transcript, in the room of a vector whose bytes are no longer wanted. Fails only
-/// for want of memory.
+/// The one text of this transcript, which its version can tell, in the room of a vector whose bytes are no longer
+/// wanted. Fails only for want of memory.
 pub fn write_transcript_into(room: Vec<u8>, transcript: &Transcript) -> Result<Vec<u8>, NoMemory>
+    requires { transcript.now.version ≡ V1 → least_of_transcript transcript.now ≡ V1 }
     ensures written { IfOk result (λ v. v.items ≡ transcript_text transcript.now) }
     // So what is written is read again, where the transcript is within the limits.
     ensures spellable { OnOk result (IsSpellable transcript.now) }
 {
-    let mut writer = TranscriptWriter::begin(room, transcript.drivers.as_slice())?;
+    let mut writer = TranscriptWriter::begin(
+        room,
+        transcript.version,
+        transcript.drivers.as_slice(),
+    )?;
     writer.add(transcript.entries.as_slice())?;
     let text = writer.finish(&transcript.view)?;
     Ok(text)
@@ -52,7 +71,7 @@ fn write_each(out: &mut Vec<u8>, programs: &[Commands]) -> Result<(), NoMemory>
     requires { length programs.now < 2 ^ 32 }
     ensures written { OnOk result (out.new.items
         ≡ out.old.items ++ text_of (map line_words (program_lines 0 programs.now))) }
-    ensures fits { OnOk result (AllByRecursion FitsLine (program_lines 0 programs.now)) }
+    ensures fits { OnOk result (AllByRecursion (FitsLine V2) (program_lines 0 programs.now)) }
 {
     for (i, commands) in programs.iter().enumerate() {
         write_process(out, i as u32)?;

@@ -8,17 +8,20 @@ use Rattle.smx_types.specs.declared.command.Command.{Command}
 use Rattle.smx_types.specs.declared.command.Command.TheVariants as command
 use Rattle.smx_types.specs.declared.driver.DriverSpec.{DriverSpec}
 use Rattle.smx_types.specs.declared.programs.Many.{Many}
-use Rattle.smx_types.specs.ProgramLists.{ProgramLists, program_lists}
+use Rattle.smx_types.specs.declared.version.Version.{Version}
+use Rattle.smx_types.specs.ProgramLists.{ProgramLists}
 use Rattle.smx_types.specs.contracts.command.CommandPartialEq.TheImpl as of_command
 use Rattle.smx_types.specs.contracts.command.EntryPartialEq.TheImpl as of_entry
 use Rattle.smx_types.specs.contracts.driver.DriverSpecPartialEq.TheImpl as of_driver
 use Rattle.smx_types.specs.contracts.programs.ManyPartialEq.TheImpl as of_many
 use Rattle.smx_types.specs.contracts.programs.ProgramsPartialEq.TheImpl as of_programs
 use Rattle.smx_types.specs.contracts.reply.ReplyPartialEq.TheImpl as of_reply
+use Rattle.smx_types.specs.contracts.version.VersionPartialEq.TheImpl as of_version
 use Rattle.smx_types.specs.contracts.view.BindingLinePartialEq.TheImpl as of_binding_line
 use Rattle.smx_types.specs.contracts.view.ConfigViewPartialEq.TheImpl as of_view
 use Rattle.smx_types.specs.contracts.view.DescriptorLinePartialEq.TheImpl as of_descriptor_line
 use Rattle.smx_types.specs.contracts.view.FullLinePartialEq.TheImpl as of_full_line
+use Rattle.smx_types.specs.contracts.view.HungLinePartialEq.TheImpl as of_hung_line
 use Rattle.smx_types.specs.contracts.view.LinkLinePartialEq.TheImpl as of_link_line
 use Rattle.smx_types.specs.contracts.view.MessageLinePartialEq.TheImpl as of_message_line
 use Rattle.smx_types.specs.contracts.view.RouteLinePartialEq.TheImpl as of_route_line
@@ -47,6 +50,7 @@ command_tells (command.Read f) b = search rules
 command_tells (command.Flush f s) b = search rules
 command_tells (command.Inject d m a bytes) b = search rules
 command_tells (command.Transmit d m) b = search rules
+command_tells (command.Hangup d m) b = search rules
 
 pub reply_tells : Tells of_reply.ghosts.eq
 reply_tells a b = search rules
@@ -73,11 +77,18 @@ many_tells a b =
       λ h. both.1 (ap (λ (m : Many). m.drivers) h, ap (λ (m : Many). m.programs) h),
     )
 
+version_tells : Tells of_version.ghosts.eq
+version_tells a b = search rules
+
+abbrev lists_of : Version → List DriverSpec → List (List Command) → ProgramLists
+lists_of version drivers programs = record { version = version; drivers = drivers; programs = programs }
+
 pub programs_tell : Tells of_programs.ghosts.eq
 programs_tell a b =
-    let both = Decides-and _ _ (drivers_tell a.drivers b.drivers) (program_lists_tell a.programs b.programs) in (
-      λ h. ap (λ ds. program_lists ds a.programs) (both.0 h).0 ∙ ap (program_lists b.drivers) (both.0 h).1,
-      λ h. both.1 (ap (λ (p : ProgramLists). p.drivers) h, ap (λ (p : ProgramLists). p.programs) h),
+    let both = Decides-and _ _ (drivers_tell a.drivers b.drivers) (program_lists_tell a.programs b.programs) in
+    let all = Decides-and _ _ (version_tells a.version b.version) both in (
+      λ h. let k = all.0 h in ap (λ v. lists_of v a.drivers a.programs) k.0 ∙ (ap (λ ds. lists_of b.version ds a.programs) k.1.0 ∙ ap (lists_of b.version b.drivers) k.1.1),
+      λ h. all.1 (ap (λ (p : ProgramLists). p.version) h, (ap (λ (p : ProgramLists). p.drivers) h, ap (λ (p : ProgramLists). p.programs) h)),
     )
 
 descriptors_tell : Tells (pointwise of_descriptor_line.ghosts.eq)
@@ -98,5 +109,8 @@ messages_tell = pointwise_decides (λ a b. search rules)
 fulls_tell : Tells (pointwise of_full_line.ghosts.eq)
 fulls_tell = pointwise_decides (λ a b. search rules)
 
+hungs_tell : Tells (pointwise of_hung_line.ghosts.eq)
+hungs_tell = pointwise_decides (λ a b. search rules)
+
 pub view_tells : Tells of_view.ghosts.eq
-view_tells a b = search (rules, descriptors_tell, links_tell, bindings_tell, routes_tell, messages_tell, fulls_tell)
+view_tells a b = search (rules, descriptors_tell, links_tell, bindings_tell, routes_tell, messages_tell, fulls_tell, hungs_tell)

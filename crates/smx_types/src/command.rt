@@ -1,6 +1,7 @@
 //! Commands, and the entries that they leave in a history.
 
 ghost use Rattle.std.specs.Prelude.{◌≡◌, IfOk};
+ghost use Rattle.smx_types.specs.Versions.{is_hangup, is_of_hangup};
 
 use crate::items::{Copied, Items};
 use crate::memory::NoMemory;
@@ -122,6 +123,12 @@ pub enum Command {
         driver: Name,
         minor: u32,
     },
+    /// The device of a leaf stream hangs up: nothing goes out to it any longer, and what came in can still be read
+    /// (STREAMS guide, M_HANGUP).
+    Hangup {
+        driver: Name,
+        minor: u32,
+    },
 }
 
 /// The commands of a process, in order.
@@ -139,6 +146,13 @@ pub struct Entry {
 pub type Entries = Items<Entry>;
 
 impl Command {
+    /// Whether it is a hangup. Takes no memory.
+    pub fn is_hangup(&self) -> bool
+        ensures { result ≡ is_hangup self.now }
+    {
+        matches!(self, Command::Hangup { .. })
+    }
+
     /// The same command again. Fails only for want of memory.
     pub fn copy(&self, alloc: Global) -> Result<Command, NoMemory>
         ensures { IfOk result (λ c. c ≡ self.now) }
@@ -180,6 +194,7 @@ impl Command {
                 bytes: bytes.copy(alloc)?,
             },
             Command::Transmit { driver, minor } => Command::Transmit { driver, minor },
+            Command::Hangup { driver, minor } => Command::Hangup { driver, minor },
         })
     }
 }
@@ -191,6 +206,13 @@ impl Copied for Command {
 }
 
 impl Entry {
+    /// Whether it is of a hangup, or its reply tells of one. Takes no memory.
+    pub fn is_of_hangup(&self) -> bool
+        ensures { result ≡ is_of_hangup self.now }
+    {
+        self.command.is_hangup() || self.reply.tells_of_hangup()
+    }
+
     /// The same entry again. Fails only for want of memory.
     pub fn copy(&self, alloc: Global) -> Result<Entry, NoMemory>
         ensures { IfOk result (λ c. c ≡ self.now) }

@@ -15,14 +15,15 @@ mod reply;
 mod same;
 mod stream;
 mod transcript;
+mod version;
 mod view;
 
 pub use command::{Command, Commands, Entries, Entry, Sides, Which};
 pub use driver::{DriverKind, DriverSpec, Drivers, SpecFault};
 pub use items::{Copied, Items};
 pub use limits::{
-    MAX_COMMANDS, MAX_DESCRIPTORS, MAX_DRIVERS, MAX_HIGH, MAX_LINKS, MAX_MESSAGE, MAX_MINORS,
-    MAX_PROCESSES, NUMBER_END,
+    MAX_COMMANDS, MAX_DESCRIPTORS, MAX_DRIVERS, MAX_DRIVERS_OF_VERSION_1, MAX_HIGH, MAX_LINKS,
+    MAX_MESSAGE, MAX_MINORS, MAX_PROCESSES, NUMBER_END,
 };
 pub use link::{Binding, Link, LinkKind, Route};
 pub use memory::NoMemory;
@@ -34,7 +35,8 @@ pub use reply::{Fault, Reply};
 pub use same::Same;
 pub use stream::{Descriptor, Place, Side, StreamId};
 pub use transcript::Transcript;
+pub use version::Version;
 pub use view::{
     BindingLine, BindingLines, ConfigView, DescriptorLine, DescriptorLines, FullLine, FullLines,
-    LinkLine, LinkLines, MessageLine, MessageLines, RouteLine, RouteLines,
+    HungLine, HungLines, LinkLine, LinkLines, MessageLine, MessageLines, RouteLine, RouteLines,
 };

@@ -1,7 +1,10 @@
 //! The limits of a configuration, all of them this project's own.
 
 /// The most drivers that a configuration has.
-pub const MAX_DRIVERS: usize = 64;
+pub const MAX_DRIVERS: usize = 128;
+
+/// The most drivers that a text of version 1 has.
+pub const MAX_DRIVERS_OF_VERSION_1: usize = 64;
 
 /// The most minors, and so streams, that a driver has.
 pub const MAX_MINORS: u32 = 64;

@@ -23,7 +23,7 @@ pub struct Link {
     pub kind: LinkKind,
 }
 
-/// An address that is bound to a stream of a driver: messages for it go up there. Driver and minor are 0 to 63.
+/// An address that is bound to a stream of a driver: messages for it go up there. The driver is 0 to 127, the minor 0 to 63.
 #[derive(Clone, Copy, Debug, PartialEq, Eq)]
 pub struct Binding {
     pub driver: u8,
@@ -31,7 +31,7 @@ pub struct Binding {
     pub minor: u8,
 }
 
-/// The link down which a driver sends the messages for an address, by its id. The driver is 0 to 63.
+/// The link down which a driver sends the messages for an address, by its id. The driver is 0 to 127.
 #[derive(Clone, Copy, Debug, PartialEq, Eq)]
 pub struct Route {
     pub driver: u8,

@@ -1,15 +1,17 @@
 //! Drivers, and a program of commands for each process.
 
 ghost use Rattle.std.specs.Prelude.{◌≡◌, ◌≤◌, ◌<◌, ◌↔◌, length, IfOk, IfErr, IsOk, IsTrue};
-ghost use Rattle.std.specs.List.{sum_by};
+ghost use Rattle.std.specs.List.{list_any, sum_by};
 ghost use Rattle.smx_types.specs.declared.limits.TheConstants.{MAX_COMMANDS};
-ghost use Rattle.smx_types.specs.ProgramLists.{program_lists, AreWithinLimits};
+ghost use Rattle.smx_types.specs.ProgramLists.{program_lists, raised, AreWithinLimits};
+ghost use Rattle.smx_types.specs.Versions.{is_hangup, least_of_programs};
 
-use crate::command::Commands;
+use crate::command::{Command, Commands};
 use crate::driver::{DriverSpec, Drivers};
 use crate::items::Items;
 use crate::limits::{MAX_COMMANDS, MAX_DRIVERS, MAX_PROCESSES};
 use crate::memory::NoMemory;
+use crate::version::{Version, are_more_drivers, version_2_where};
 use std::alloc::Global;
 use std::fmt;
 use std::marker::Model;
@@ -49,9 +51,11 @@ impl fmt::Display for Many {
 
 impl std::error::Error for Many {}
 
-/// At most 64 drivers, at most 64 programs, and at most 100,000 commands in all of them.
+/// At most 128 drivers, at most 64 programs, and at most 100,000 commands in all of them, for a text of some version
+/// that can tell them.
 #[derive(Debug, Drop, PartialEq)]
 pub struct Programs {
+    version: Version,
     drivers: Drivers,
     programs: ProgramList,
 }
@@ -61,16 +65,18 @@ impl Model for Programs {
 
     ghost Value = { ProgramLists };
 
-    ghost view = { λ p. record { drivers = p.drivers; programs = p.programs } };
+    ghost view = { λ p. record { version = p.version; drivers = p.drivers; programs = p.programs } };
 
-    ghost invariant = { λ p. AreWithinLimits (record { drivers = p.drivers; programs = p.programs }) };
+    ghost invariant = { λ p.
+        AreWithinLimits (record { version = p.version; drivers = p.drivers; programs = p.programs }) };
 
-    ghost inverse = { λ lists. record { drivers = lists.drivers; programs = lists.programs } };
+    ghost inverse = { λ lists.
+        record { version = lists.version; drivers = lists.drivers; programs = lists.programs } };
 }
 
 impl Programs {
-    /// These drivers and programs, unless they are too many: `Many` hands both lists back, and comes
-    /// exactly where there are over 64 drivers, 64 programs or 100,000 commands. Takes no memory.
+    /// These drivers and programs, in the first version that can tell them, unless they are too many: `Many` hands both
+    /// lists back, and comes exactly where there are over 128 drivers, 64 programs or 100,000 commands. Takes no memory.
     pub fn new(drivers: Drivers, programs: ProgramList) -> Result<Programs, Many>
         ensures taken { IfOk result (λ p. p ≡ program_lists drivers programs) }
         ensures given_back { IfErr result (λ m. m ≡ record { drivers = drivers; programs = programs }) }
@@ -82,7 +88,39 @@ impl Programs {
         {
             return Err(Many { drivers, programs });
         }
-        Ok(Programs { drivers, programs })
+        let version = least_of(drivers.as_slice(), programs.as_slice());
+        Ok(Programs {
+            version,
+            drivers,
+            programs,
+        })
+    }
+
+    /// The same in version 2. Takes no memory.
+    pub fn raised(self) -> Programs
+        ensures { result ≡ raised self }
+    {
+        Programs {
+            version: Version::V2,
+            drivers: self.drivers,
+            programs: self.programs,
+        }
+    }
+
+    /// The version of their text. Takes no memory.
+    pub fn version(&self) -> Version
+        ensures version { result ≡ self.now.version }
+        ensures within { AreWithinLimits self.now }
+    {
+        self.version
+    }
+
+    /// The first version that can tell them: the second exactly where there are over 64 drivers or a hangup. Takes no
+    /// memory.
+    pub fn least(&self) -> Version
+        ensures { result ≡ least_of_programs self.now.drivers self.now.programs }
+    {
+        least_of(self.drivers.as_slice(), self.programs.as_slice())
     }
 
     /// The drivers. Takes no memory.
@@ -116,7 +154,11 @@ impl Programs {
     {
         let drivers = self.drivers.copy(alloc)?;
         let programs = self.programs.copy(alloc)?;
-        Ok(Programs { drivers, programs })
+        Ok(Programs {
+            version: self.version,
+            drivers,
+            programs,
+        })
     }
 }
 
@@ -133,4 +175,25 @@ fn are_few(programs: &[Commands]) -> bool
         room -= count;
     }
     true
+}
+
+// The first version that can tell them.
+fn least_of(drivers: &[DriverSpec], programs: &[Commands]) -> Version
+    ensures { result ≡ least_of_programs drivers.now programs.now }
+{
+    version_2_where(are_more_drivers(drivers) || hang_up(programs))
+}
+
+// Whether a command of some program is a hangup.
+fn hang_up(programs: &[Commands]) -> bool
+    ensures { result ≡ list_any (list_any is_hangup) programs.now }
+{
+    programs.iter().any(|commands| has_hangup(commands.as_slice()))
+}
+
+// Whether one of the commands is a hangup.
+fn has_hangup(commands: &[Command]) -> bool
+    ensures { result ≡ list_any is_hangup commands.now }
+{
+    commands.iter().any(|command| command.is_hangup())
 }

@@ -1,6 +1,7 @@
 //! Replies, and the faults with which commands are refused.
 
 ghost use Rattle.std.specs.Prelude.{◌≡◌, IfOk};
+ghost use Rattle.smx_types.specs.Versions.{tells_of_hangup};
 
 use crate::items::Copied;
 use crate::memory::NoMemory;
@@ -42,6 +43,8 @@ pub enum Fault {
     Empty,
     /// `ERANGE`: no bytes, or more than the driver's longest message has.
     BadSize,
+    /// `ENXIO hangup`: the stream's device has hung up.
+    HungUp,
 }
 
 /// What a command is answered.
@@ -68,11 +71,20 @@ pub enum Reply {
     Done {
         dropped: Serials,
     },
+    /// End of file: the device has hung up, and all that came in was read.
+    Eof,
     /// It was refused.
     Fault(Fault),
 }
 
 impl Reply {
+    /// Whether it tells of a device that has hung up: end of file, or that refusal. Takes no memory.
+    pub fn tells_of_hangup(&self) -> bool
+        ensures { result ≡ tells_of_hangup self.now }
+    {
+        matches!(self, Reply::Eof | Reply::Fault(Fault::HungUp))
+    }
+
     /// The same reply again. Fails only for want of memory.
     pub fn copy(&self, alloc: Global) -> Result<Reply, NoMemory>
         ensures { IfOk result (λ c. c ≡ self.now) }
@@ -93,6 +105,7 @@ impl Reply {
             Reply::Done { ref dropped } => Reply::Done {
                 dropped: dropped.copy(alloc)?,
             },
+            Reply::Eof => Reply::Eof,
             Reply::Fault(fault) => Reply::Fault(fault),
         })
     }

@@ -12,8 +12,9 @@ use crate::programs::{Many, Programs};
 use crate::reply::{Fault, Reply};
 use crate::stream::{Descriptor, Place, Side, StreamId};
 use crate::transcript::Transcript;
+use crate::version::Version;
 use crate::view::{
-    BindingLine, ConfigView, DescriptorLine, FullLine, LinkLine, MessageLine, RouteLine,
+    BindingLine, ConfigView, DescriptorLine, FullLine, HungLine, LinkLine, MessageLine, RouteLine,
 };
 
 /// What is equal exactly where it is the same, so that `==` leaves nothing out.
@@ -169,6 +170,18 @@ impl Same for BindingLine {
 }
 
 impl Same for RouteLine {
+    ghost use Rattle.std.proofs.Common.{rules};
+
+    ghost tells = { Prim.search rules };
+}
+
+impl Same for HungLine {
+    ghost use Rattle.std.proofs.Common.{rules};
+
+    ghost tells = { Prim.search rules };
+}
+
+impl Same for Version {
     ghost use Rattle.std.proofs.Common.{rules};
 
     ghost tells = { Prim.search rules };

@@ -64,6 +64,13 @@ pub struct FullLine {
     pub side: Side,
 }
 
+/// A stream whose device has hung up.
+#[derive(Clone, Copy, Debug, PartialEq, Eq)]
+pub struct HungLine {
+    pub driver: Name,
+    pub minor: u32,
+}
+
 /// Descriptors as they are shown, by rising process and number.
 pub type DescriptorLines = Items<DescriptorLine>;
 
@@ -82,6 +89,9 @@ pub type MessageLines = Items<MessageLine>;
 /// Full places as they are shown, rising.
 pub type FullLines = Items<FullLine>;
 
+/// Hung-up streams as they are shown, rising.
+pub type HungLines = Items<HungLine>;
+
 /// A configuration as it is shown.
 #[derive(Debug, Drop, PartialEq)]
 pub struct ConfigView {
@@ -95,6 +105,7 @@ pub struct ConfigView {
     pub routes: RouteLines,
     pub msgs: MessageLines,
     pub fulls: FullLines,
+    pub hungs: HungLines,
 }
 
 impl MessageLine {
@@ -123,6 +134,7 @@ impl ConfigView {
         let routes = self.routes.copy(alloc)?;
         let msgs = self.msgs.copy(alloc)?;
         let fulls = self.fulls.copy(alloc)?;
+        let hungs = self.hungs.copy(alloc)?;
         Ok(ConfigView {
             next_id: self.next_id,
             next_serial: self.next_serial,
@@ -132,6 +144,7 @@ impl ConfigView {
             routes,
             msgs,
             fulls,
+            hungs,
         })
     }
 }
@@ -188,6 +201,16 @@ impl Copied for FullLine {
     }
 
     fn copies(alloc: Global, items: &[FullLine]) -> Result<Vec<FullLine>, NoMemory> {
+        Ok(Vec::from_slice(alloc, items)?)
+    }
+}
+
+impl Copied for HungLine {
+    fn copied(&self, _alloc: Global) -> Result<HungLine, NoMemory> {
+        Ok(*self)
+    }
+
+    fn copies(alloc: Global, items: &[HungLine]) -> Result<Vec<HungLine>, NoMemory> {
         Ok(Vec::from_slice(alloc, items)?)
     }
 }

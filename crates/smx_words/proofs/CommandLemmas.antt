@@ -31,4 +31,5 @@ no_verb line none alone (command.Read n) fits e = none verb.Read _ tt e
 no_verb line none alone (command.Flush n s) fits e = none verb.Flush _ tt e
 no_verb line none alone (command.Inject d n m bs) fits e = none verb.Inject _ tt e
 no_verb line none alone (command.Transmit d n) fits e = none verb.Transmit _ tt e
+no_verb line none alone (command.Hangup d n) fits e = none verb.Hangup _ tt e
 no_verb line none alone command.CloseAll fits e = alone e

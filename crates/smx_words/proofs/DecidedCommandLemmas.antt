@@ -48,6 +48,8 @@ command_answer ws =
     (λ no_inject.
     or_else (after (codes "transmit") (first name (last number))) (λ p. command.Transmit p.0 p.1) (λ p h. h)
     (λ p. refl) (λ no_transmit.
+    or_else (after (codes "hangup") (first name (last number))) (λ p. command.Hangup p.0 p.1) (λ p h. h)
+    (λ p. refl) (λ no_hangup.
     inr (λ x. (elim x as (λ x. FitsCommand x → ws ≢ command_words x) [
       | command.OpenClone d ↦ no_clone d
       | command.OpenMinor d n ↦ no_open (d, n)
@@ -67,7 +69,8 @@ command_answer ws =
       | command.Flush n s ↦ λ h. no_flush (n, s) (h, tt)
       | command.Inject d n m bs ↦ λ h. no_inject (d, (n, (m, bs))) (h.0, (h.1, (h.2, h.3)))
       | command.Transmit d n ↦ no_transmit (d, n)
-    ]))))))))))))))))))))
+      | command.Hangup d n ↦ no_hangup (d, n)
+    ])))))))))))))))))))))
 
 command_decided : IsDecided FitsCommand command_words
 command_decided = record { answer = command_answer }
@@ -79,7 +82,7 @@ fault_decided = record { answer = answer } where
       fault.BadDescriptor ∷ fault.Below ∷ fault.NotMux ∷ fault.AlreadyBelow ∷ fault.Cycle
       ∷ fault.TooManyLinks ∷ fault.NoLink ∷ fault.NoDriver ∷
       fault.NoMinor ∷ fault.TooManyDescriptors ∷ fault.AddressInUse ∷ fault.Unbound ∷ fault.Unrouted
-      ∷ fault.Full ∷ fault.Empty ∷ fault.BadSize ∷ []
+      ∷ fault.Full ∷ fault.Empty ∷ fault.BadSize ∷ fault.HungUp ∷ []
 
   answer : (ws : List (List ℕ)) → Answer FitsAlways fault_words ws
   answer ws =
@@ -102,6 +105,7 @@ fault_decided = record { answer = answer } where
           | fault.Full ↦ none.1.1.1.1.1.1.1.1.1.1.1.1.1.0
           | fault.Empty ↦ none.1.1.1.1.1.1.1.1.1.1.1.1.1.1.0
           | fault.BadSize ↦ none.1.1.1.1.1.1.1.1.1.1.1.1.1.1.1.0
+          | fault.HungUp ↦ none.1.1.1.1.1.1.1.1.1.1.1.1.1.1.1.1.0
         ]))
       ]
 
@@ -113,6 +117,7 @@ reply_answer ws =
     or_else (after (codes "got") (first number (first number (last bytes)))) (λ p. reply.Got p.0 p.1.0 p.1.1)
     (λ p h. (h.0, h.1.0, h.1.1)) (λ p. refl) (λ no_got.
     or_else (after (codes "done") (each number)) reply.Done (λ p h. h) (λ p. refl) (λ no_done.
+    or_else (exactly (codes "eof" ∷ [])) (λ p. reply.Eof) (λ p h. h) (λ p. refl) (λ no_eof.
     or_else fault_decided reply.Fault (λ f h. tt) (λ f. refl) (λ no_fault.
     inr (λ x. (elim x as (λ x. FitsReply x → ws ≢ reply_words x) [
       | reply.Fd n m ↦ no_fd (n, m)
@@ -120,8 +125,9 @@ reply_answer ws =
       | reply.Took n ↦ no_took n
       | reply.Got n m bs ↦ λ h. no_got (n, (m, bs)) (h.0, (h.1, h.2))
       | reply.Done ns ↦ no_done ns
+      | reply.Eof ↦ no_eof tt
       | reply.Fault f ↦ no_fault f
-    ]))))))))
+    ])))))))))
 
 reply_decided : IsDecided FitsReply reply_words
 reply_decided = record { answer = reply_answer }

@@ -9,15 +9,16 @@ use Rattle.smx_types.specs.declared.view.LinkLine.{LinkLine}
 use Rattle.smx_types.specs.declared.view.MessageLine.{MessageLine}
 use Rattle.smx_types.specs.declared.view.RouteLine.{RouteLine}
 use Rattle.smx_words.specs.LineReading.{IsReadAs}
-use Rattle.smx_words.specs.Spellable.{FitsBinding, FitsDescriptor, FitsDriver, FitsFull, FitsLink}
+use Rattle.smx_words.specs.Spellable.{FitsBinding, FitsDescriptor, FitsDriver, FitsFull, FitsLink, FitsHung}
 use Rattle.smx_words.specs.Spellable.{FitsMessage, FitsNext, FitsNumber, FitsRoute}
-use Rattle.smx_words.specs.Spelling.{bind_words, descriptor_words, driver_words, full_words, link_words}
+use Rattle.smx_words.specs.Spelling.{bind_words, descriptor_words, driver_words, full_words, link_words, hung_words}
 use Rattle.smx_words.specs.Spelling.{message_words, next_words, process_words, route_words}
 use Rattle.smx_words.proofs.DecidedLemmas.{IsDecided, after, first, last, reading, via}
 use Rattle.smx_words.proofs.DecidedWordLemmas.{bytes, driver_kind, link_kind, name, number, process, stream_side}
-use Rattle.smx_words.proofs.LawLemmas.{bind_spelled, descriptor_spelled, driver_spelled, full_spelled}
+use Rattle.smx_words.proofs.LawLemmas.{bind_spelled, descriptor_spelled, driver_spelled, full_spelled, hung_spelled}
 use Rattle.smx_words.proofs.LawLemmas.{link_spelled, message_spelled, next_spelled, process_spelled}
 use Rattle.smx_words.proofs.LawLemmas.{route_spelled}
+use Rattle.smx_types.specs.declared.view.HungLine.{HungLine}
 
 process_decided : IsDecided FitsNumber process_words
 process_decided = after (codes "process") (last number)
@@ -97,6 +98,14 @@ message_decided =
     (λ m h. (h.driver, (h.minor, (tt, (h.serial, (h.addr, h.bytes))))))
     (λ p. refl) (λ m. refl)
 
+hung_decided : IsDecided FitsHung hung_words
+hung_decided = via (after (codes "hung") (first name (last number)))
+    (λ p. record { driver = p.0; minor = p.1 })
+    (λ s. (s.driver, s.minor))
+    (λ p h. record { driver = h.0; minor = h.1 })
+    (λ s h. (h.driver, h.minor))
+    (λ p. refl) (λ s. refl)
+
 full_decided : IsDecided FitsFull full_words
 full_decided = via (after (codes "full") (first name (first number (last stream_side))))
     (λ p. record { driver = p.0; minor = p.1.0; side = p.1.1 })
@@ -133,3 +142,6 @@ message_reading = reading message_decided message_spelled
 
 pub full_reading : (line : List ℕ) → (o : Option FullLine) × IsReadAs FitsFull full_words line o
 full_reading = reading full_decided full_spelled
+
+pub hung_reading : (line : List ℕ) → (o : Option HungLine) × IsReadAs FitsHung hung_words line o
+hung_reading = reading hung_decided hung_spelled

@@ -20,10 +20,10 @@ use Rattle.smx_types.specs.declared.view.LinkLine.{LinkLine}
 use Rattle.smx_types.specs.declared.view.MessageLine.{MessageLine}
 use Rattle.smx_types.specs.declared.view.RouteLine.{RouteLine}
 use Rattle.smx_words.specs.HexWords.{hex_word}
-use Rattle.smx_words.specs.Spellable.{FitsBinding, FitsBytes, FitsCommand, FitsDescriptor, FitsDriver}
+use Rattle.smx_words.specs.Spellable.{FitsBinding, FitsBytes, FitsCommand, FitsDescriptor, FitsDriver, FitsHung}
 use Rattle.smx_words.specs.Spellable.{FitsEntry, FitsFull, FitsLink, FitsMessage, FitsName, FitsNext}
 use Rattle.smx_words.specs.Spellable.{FitsNumber, FitsProcess, FitsReply, FitsRoute}
-use Rattle.smx_words.specs.Spelling.{bind_words, command_words, descriptor_words, driver_words, entry_words}
+use Rattle.smx_words.specs.Spelling.{bind_words, command_words, descriptor_words, driver_words, entry_words, hung_words}
 use Rattle.smx_words.specs.Spelling.{full_words, kind_word, link_kind_word, link_words, message_words}
 use Rattle.smx_words.specs.Spelling.{next_words, process_words, reply_words, route_words, side_word}
 use Rattle.smx_words.specs.Words.{AreWords, IsWord, line_of}
@@ -35,6 +35,7 @@ use Rattle.smx_words.proofs.SameWordLemmas.{same_bytes, same_kind, same_link_kin
 use Rattle.smx_words.proofs.SameCommandLemmas.{same_command}
 use Rattle.smx_words.proofs.SameReplyLemmas.{same_reply}
 use Rattle.smx_words.proofs.NumberLemmas.{same_number}
+use Rattle.smx_types.specs.declared.view.HungLine.{HungLine}
 
 -- ---- spellings are words
 
@@ -181,6 +182,12 @@ message_spelled m fits = (
   omega arith,
 )
 
+pub hung_spelled : (h : HungLine) → FitsHung h → AreWords (hung_words h)
+hung_spelled h fits = (
+  (search rules, (name_word h.driver fits.driver, (number_word h.minor fits.minor, tt))),
+  omega arith,
+)
+
 pub full_spelled : (f : FullLine) → FitsFull f → AreWords (full_words f)
 full_spelled f fits = (
   (
@@ -198,7 +205,7 @@ one_command c d h k e =
     same_command c d h k (same_words (command_words c) (command_words d) (command_spelled c h).0
     (command_spelled d k).0 e)
 
-one_reply : (r s : Reply) → FitsReply r → FitsReply s → line_of (reply_words r) ≡ line_of (reply_words s) → r ≡ s
+pub one_reply : (r s : Reply) → FitsReply r → FitsReply s → line_of (reply_words r) ≡ line_of (reply_words s) → r ≡ s
 one_reply r s h k e =
     same_reply r s h k (same_words (reply_words r) (reply_words s) (reply_spelled r h).0
     (reply_spelled s k).0 e)
@@ -362,6 +369,16 @@ one_full f f' h k e =
     let e_side = same_side f.side f'.side w_side in
     let whole : ◌≡◌ {A = FullLine} (record { driver = f.driver; minor = f.minor; side = f.side })
     (record { driver = f'.driver; minor = f'.minor; side = f'.side }) = cc (e_driver, e_minor, e_side) in
+    whole
+
+pub one_hung : (s t : HungLine) → FitsHung s → FitsHung t → line_of (hung_words s) ≡ line_of (hung_words t) → s ≡ t
+one_hung s t h k e =
+    let all = same_words (hung_words s) (hung_words t) (hung_spelled s h).0 (hung_spelled t k).0 e in
+    let e_driver : s.driver ≡ t.driver = cc all in
+    let w_minor : decimal s.minor ≡ decimal t.minor = cc all in
+    let e_minor = same_number s.minor t.minor h.minor k.minor w_minor in
+    let whole : ◌≡◌ {A = HungLine} (record { driver = s.driver; minor = s.minor })
+    (record { driver = t.driver; minor = t.minor }) = cc (e_driver, e_minor) in
     whole
 
 pub one_message : (m m' : MessageLine) → FitsMessage m → FitsMessage m'

@@ -12,6 +12,7 @@ pub mod SameWordLemmas
 pub mod SameCommandLemmas
 pub mod SameReplyLemmas
 pub mod LawLemmas
+pub mod ToldLemmas
 pub mod DecidedLemmas
 pub mod DecidedWordLemmas
 pub mod DecidedLineLemmas

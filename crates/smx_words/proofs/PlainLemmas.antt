@@ -117,6 +117,7 @@ command_plain (command.Inject d n m bs) fits = (
   (name_plain d fits.0, (number_plain n fits.1, (number_plain m fits.2, (hex_plain bs fits.3, tt)))),
 )
 command_plain (command.Transmit d n) fits = (search rules, (name_plain d fits.0, (number_plain n fits.1, tt)))
+command_plain (command.Hangup d n) fits = (search rules, (name_plain d fits.0, (number_plain n fits.1, tt)))
 
 pub some_command : (c : Command) → 0 < length (command_words c)
 some_command (command.OpenClone d) = omega arith
@@ -137,6 +138,7 @@ some_command (command.Read n) = omega arith
 some_command (command.Flush n s) = omega arith
 some_command (command.Inject d n m bs) = omega arith
 some_command (command.Transmit d n) = omega arith
+some_command (command.Hangup d n) = omega arith
 
 fault_plain : (f : Fault) → (0 < length (fault_words f)) × AllByRecursion IsPlain (fault_words f)
 fault_plain fault.BadDescriptor = search rules
@@ -155,6 +157,7 @@ fault_plain fault.Unrouted = search rules
 fault_plain fault.Full = search rules
 fault_plain fault.Empty = search rules
 fault_plain fault.BadSize = search rules
+fault_plain fault.HungUp = search rules
 
 numbers_plain : (ns : List ℕ) → AllByRecursion FitsNumber ns → AllByRecursion IsPlain (map decimal ns)
 numbers_plain [] h = tt
@@ -167,6 +170,7 @@ reply_plain (reply.Took n) fits = (search rules, (number_plain n fits, tt))
 reply_plain (reply.Got n m bs) fits =
     (search rules, (number_plain n fits.0, (number_plain m fits.1, (hex_plain bs fits.2, tt))))
 reply_plain (reply.Done ns) fits = (search rules, numbers_plain ns fits)
+reply_plain reply.Eof fits = (search rules, tt)
 reply_plain (reply.Fault f) fits = (fault_plain f).1
 
 pub some_reply : (r : Reply) → 0 < length (reply_words r)
@@ -175,6 +179,7 @@ some_reply (reply.Id n) = omega arith
 some_reply (reply.Took n) = omega arith
 some_reply (reply.Got n m bs) = omega arith
 some_reply (reply.Done ns) = omega arith
+some_reply reply.Eof = omega arith
 some_reply (reply.Fault f) = (fault_plain f).0
 
 -- ---- so they are words, and no equals sign stands in their lines

@@ -10,12 +10,13 @@ use Rattle.smx_types.specs.declared.reply.Reply.TheVariants as reply
 use Rattle.smx_words.specs.declared.reading.verb.ReplyVerb.{ReplyVerb}
 use Rattle.smx_words.specs.declared.reading.verb.ReplyVerb.TheVariants as reply_verb
 use Rattle.smx_words.specs.LineReading.{IsFoundIn, IsLineOf, IsReadAs}
-use Rattle.smx_words.specs.Spellable.{FitsAlways, FitsNumber, FitsReply, FitsSerials}
+use Rattle.smx_words.specs.Spellable.{FitsAlways, FitsNumber, FitsReply, FitsSerials, FitsReplyIn}
 use Rattle.smx_words.specs.Spelling.{fault_words, reply_words}
 use Rattle.smx_words.specs.Verbs.{reply_verb_word}
 use Rattle.smx_words.specs.Words.{SPACE, line_of}
 use Rattle.smx_words.proofs.CutLemmas.{apart, no_space_in}
 use Rattle.smx_words.proofs.NumberLemmas.{number_free, same_number}
+use Rattle.smx_types.specs.declared.version.Version.TheVariants.{V1}
 
 -- the words of these serials, one or more
 abbrev pub Spell : List ℕ → List ℕ → Type 0
@@ -117,18 +118,18 @@ tells_last line before rest None r test h alone found =
 
 -- a reply of dropped serials
 pub done_line : (rest : List ℕ) → IsLineOf FitsSerials (map decimal) rest
-    → IsLineOf FitsReply reply_words (line_of (codes "done" ∷ rest ∷ []))
+    → IsLineOf (FitsReplyIn V1) reply_words (line_of (codes "done" ∷ rest ∷ []))
 done_line rest h = by_serials h.0 h.1 h.2 where
   by_serials : (ns : List ℕ) → FitsSerials ns → rest ≡ line_of (map decimal ns)
-      → IsLineOf FitsReply reply_words (line_of (codes "done" ∷ rest ∷ []))
+      → IsLineOf (FitsReplyIn V1) reply_words (line_of (codes "done" ∷ rest ∷ []))
   by_serials [] fits e = absurd (omega (arith, fits.0))
-  by_serials (n ∷ ns) fits e = (reply.Done (n ∷ ns), fits.1, ap (λ (x : List ℕ). codes "done" ++ SPACE ∷ x) e)
+  by_serials (n ∷ ns) fits e = (reply.Done (n ∷ ns), (fits.1, refl), ap (λ (x : List ℕ). codes "done" ++ SPACE ∷ x) e)
 
 -- ---- a reply that stands alone
 
 pub standing_alone : (line : List ℕ) (r : Option Reply)
     → ((v : ReplyVerb) (after : List ℕ) → FitsAlways v → line ≢ reply_verb_word v ++ SPACE ∷ after)
-    → MatchOption r ((line ≢ codes "done") × ((f : Fault) → line ≢ line_of (fault_words f)))
+    → MatchOption r ((line ≢ codes "done") × (line ≢ codes "eof") × ((f : Fault) → line ≢ line_of (fault_words f)))
     (λ x. FitsReply x × (line ≡ line_of (reply_words x)))
     → IsReadAs FitsReply reply_words line r
 standing_alone line (Some x) none found = found
@@ -140,7 +141,8 @@ standing_alone line None none found = nothing where
   nothing (reply.Got serial addr bytes) fits e = none reply_verb.Got _ tt e
   nothing (reply.Done []) fits e = found.0 e
   nothing (reply.Done (n ∷ ns)) fits e = none reply_verb.Done _ tt e
-  nothing (reply.Fault f) fits e = found.1 f e
+  nothing reply.Eof fits e = found.1 e
+  nothing (reply.Fault f) fits e = found.2 f e
 
 pub last_wanted : {A E : Type 0} (line before rest : List ℕ) (r : Result A E) → AreThen line before rest
     → IfErr r (λ _. (n : ℕ) × FitsNumber n × (rest ≡ decimal n))

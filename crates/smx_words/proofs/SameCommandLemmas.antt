@@ -33,6 +33,7 @@ verb_of (command.Read n) = verb.Read
 verb_of (command.Flush n s) = verb.Flush
 verb_of (command.Inject d n m bs) = verb.Inject
 verb_of (command.Transmit d n) = verb.Transmit
+verb_of (command.Hangup d n) = verb.Hangup
 
 first_word : (c : Command) → (ws : List (List ℕ)) × (command_words c ≡ verb_word (verb_of c) ∷ ws)
 first_word (command.OpenClone d) = (_, refl)
@@ -53,6 +54,7 @@ first_word (command.Read n) = (_, refl)
 first_word (command.Flush n s) = (_, refl)
 first_word (command.Inject d n m bs) = (_, refl)
 first_word (command.Transmit d n) = (_, refl)
+first_word (command.Hangup d n) = (_, refl)
 
 one_verb : (c d : Command) → command_words c ≡ command_words d → verb_of c ≡ verb_of d
 one_verb c d e =
@@ -190,6 +192,12 @@ by_verb (command.Transmit d n) (command.Transmit d' n') h k v e =
     let e_n = same_number n n' h.1 k.1 w_n in
     cc (e_d, e_n)
 by_verb (command.Transmit d n) d' h k v e = absurd (cc v)
+by_verb (command.Hangup d n) (command.Hangup d' n') h k v e =
+    let e_d : d ≡ d' = cc e in
+    let w_n : decimal n ≡ decimal n' = cc e in
+    let e_n = same_number n n' h.1 k.1 w_n in
+    cc (e_d, e_n)
+by_verb (command.Hangup d n) d' h k v e = absurd (cc v)
 
 -- a command is told by its words
 pub same_command : (c d : Command) → FitsCommand c → FitsCommand d → command_words c ≡ command_words d → c ≡ d

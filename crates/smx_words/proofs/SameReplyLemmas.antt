@@ -1,5 +1,5 @@
 -- Replies are told apart by their words.
-use Rattle.std.proofs.Common.{◌≡◌, ℕ, List, [], ◌∷◌, map, Option, Some, None, refl, sym, ap, ◌∙◌}
+use Rattle.std.proofs.Common.{◌≡◌, ◌≢◌, codes, ℕ, List, [], ◌∷◌, map, Option, Some, None, refl, sym, ap, ◌∙◌}
 use Rattle.std.specs.List.{AllByRecursion}
 use Rattle.std.specs.Fmt.{decimal}
 use Rattle.smx_types.specs.declared.reply.Fault.{Fault}
@@ -14,7 +14,7 @@ use Rattle.smx_words.specs.Spelling.{fault_words, reply_words}
 use Rattle.smx_words.specs.Verbs.{reply_verb_word}
 use Rattle.smx_words.specs.Words.{line_of}
 use Rattle.smx_words.proofs.NumberLemmas.{same_number}
-use Rattle.smx_words.proofs.SameWordLemmas.{first_of_these, same_bytes, same_fault}
+use Rattle.smx_words.proofs.SameWordLemmas.{first_of_these, same_bytes, same_fault, all_fault, fault_line, found_fault}
 
 -- what a reply tells, if it is no fault
 abbrev pub reply_verb_of : Reply → Option ReplyVerb
@@ -23,6 +23,7 @@ reply_verb_of (reply.Id n) = Some reply_verb.Id
 reply_verb_of (reply.Took n) = Some reply_verb.Took
 reply_verb_of (reply.Got n m bs) = Some reply_verb.Got
 reply_verb_of (reply.Done ns) = Some reply_verb.Done
+reply_verb_of reply.Eof = None
 reply_verb_of (reply.Fault f) = None
 
 -- the verb of a reply's first word
@@ -49,6 +50,7 @@ fault_verb fault.Unrouted = refl
 fault_verb fault.Full = refl
 fault_verb fault.Empty = refl
 fault_verb fault.BadSize = refl
+fault_verb fault.HungUp = refl
 
 pub verb_again : (r : Reply) → verb_at (reply_words r) ≡ reply_verb_of r
 verb_again (reply.Fd n m) = refl
@@ -56,6 +58,7 @@ verb_again (reply.Id n) = refl
 verb_again (reply.Took n) = refl
 verb_again (reply.Got n m bs) = refl
 verb_again (reply.Done ns) = refl
+verb_again reply.Eof = refl
 verb_again (reply.Fault f) = fault_verb f
 
 same_numbers : (ns ms : List ℕ) → AllByRecursion FitsNumber ns → AllByRecursion FitsNumber ms
@@ -68,6 +71,12 @@ same_numbers (n ∷ ns) (m ∷ ms) h k e =
     let one = same_number n m h.0 k.0 first in
     let more = same_numbers ns ms h.1 k.1 (cc e) in
     cc (one, more)
+
+-- no fault is the end of file
+no_end : (f : Fault) → fault_words f ≢ codes "eof" ∷ []
+no_end f e =
+    let none : ◌≡◌ {A = Option Fault} (Some f) None = sym (found_fault f) ∙ ap (first_of_these fault_line all_fault) (ap line_of e) in
+    absurd (cc none)
 
 by_reply_verb : (r s : Reply) → FitsReply r → FitsReply s → reply_verb_of r ≡ reply_verb_of s
     → reply_words r ≡ reply_words s → r ≡ s
@@ -95,6 +104,10 @@ by_reply_verb (reply.Got n m bs) (reply.Got n' m' bs') h k v e =
 by_reply_verb (reply.Got n m bs) s h k v e = absurd (cc v)
 by_reply_verb (reply.Done ns) (reply.Done ms) h k v e = ap reply.Done (same_numbers ns ms h k (cc e))
 by_reply_verb (reply.Done ns) s h k v e = absurd (cc v)
+by_reply_verb reply.Eof reply.Eof h k v e = refl
+by_reply_verb reply.Eof (reply.Fault f) h k v e = absurd (no_end f (sym e))
+by_reply_verb reply.Eof s h k v e = absurd (cc v)
+by_reply_verb (reply.Fault f) reply.Eof h k v e = absurd (no_end f e)
 by_reply_verb (reply.Fault f) (reply.Fault g) h k v e = ap reply.Fault (same_fault f g (ap line_of e))
 by_reply_verb (reply.Fault f) s h k v e = absurd (cc v)
 

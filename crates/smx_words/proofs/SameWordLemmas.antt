@@ -86,7 +86,7 @@ abbrev all_verb : List Verb
 all_verb =
     verb.Clone ∷ verb.Open ∷ verb.Dup ∷ verb.Close ∷ verb.Exit ∷ verb.Link ∷ verb.Plink ∷ verb.Unlink
     ∷ verb.Punlink ∷ verb.Bind ∷ verb.Unbind ∷ verb.Route ∷ verb.Unroute ∷ verb.Write ∷ verb.Read
-    ∷ verb.Flush ∷ verb.Inject ∷ verb.Transmit ∷ []
+    ∷ verb.Flush ∷ verb.Inject ∷ verb.Transmit ∷ verb.Hangup ∷ []
 
 found_verb : (v : Verb) → first_of_these verb_word all_verb (verb_word v) ≡ Some v
 found_verb verb.Clone = refl
@@ -107,6 +107,7 @@ found_verb verb.Read = refl
 found_verb verb.Flush = refl
 found_verb verb.Inject = refl
 found_verb verb.Transmit = refl
+found_verb verb.Hangup = refl
 
 pub same_verb : (x y : Verb) → verb_word x ≡ verb_word y → x ≡ y
 same_verb = told verb_word all_verb found_verb
@@ -119,7 +120,7 @@ all_fault =
     fault.BadDescriptor ∷ fault.Below ∷ fault.NotMux ∷ fault.AlreadyBelow ∷ fault.Cycle
     ∷ fault.TooManyLinks ∷ fault.NoLink ∷ fault.NoDriver ∷ fault.NoMinor ∷ fault.TooManyDescriptors
     ∷ fault.AddressInUse ∷ fault.Unbound ∷ fault.Unrouted ∷ fault.Full ∷ fault.Empty
-    ∷ fault.BadSize ∷ []
+    ∷ fault.BadSize ∷ fault.HungUp ∷ []
 
 pub found_fault : (f : Fault) → first_of_these fault_line all_fault (fault_line f) ≡ Some f
 found_fault fault.BadDescriptor = refl
@@ -138,6 +139,7 @@ found_fault fault.Unrouted = refl
 found_fault fault.Full = refl
 found_fault fault.Empty = refl
 found_fault fault.BadSize = refl
+found_fault fault.HungUp = refl
 
 pub same_fault : (x y : Fault) → fault_line x ≡ fault_line y → x ≡ y
 same_fault = told fault_line all_fault found_fault

@@ -53,6 +53,7 @@ verb_free verb.Read fits = search rules
 verb_free verb.Flush fits = search rules
 verb_free verb.Inject fits = search rules
 verb_free verb.Transmit fits = search rules
+verb_free verb.Hangup fits = search rules
 
 -- the name before the first space, and no other
 pub first_name_is : (text word rest name : List ℕ) → IsFree SPACE word → text ≡ word ++ SPACE ∷ rest

@@ -1,7 +1,8 @@
 -- Which values can be spelled: names are names, and numbers and bytes are in range. The types keep this.
-use Rattle.std.specs.Prelude.{◌≡◌, ℕ, ◌<◌, ◌^◌, true, List, length}
+use Rattle.std.specs.Prelude.{◌≡◌, ℕ, ◌<◌, ◌^◌, Bool, true, false, List, length}
 use Rattle.std.specs.List.{AllByRecursion}
 use Rattle.smx_types.specs.Names.{is_name}
+use Rattle.smx_types.specs.Versions.{is_hangup, is_of_hangup, tells_of_hangup}
 use Rattle.smx_types.specs.declared.command.Command.{Command}
 use Rattle.smx_types.specs.declared.command.Command.TheVariants as command
 use Rattle.smx_types.specs.declared.command.Entry.{Entry}
@@ -11,9 +12,12 @@ use Rattle.smx_types.specs.declared.driver.DriverSpec.{DriverSpec}
 use Rattle.smx_types.specs.declared.limits.TheConstants.{MAX_PROCESSES}
 use Rattle.smx_types.specs.declared.reply.Reply.{Reply}
 use Rattle.smx_types.specs.declared.reply.Reply.TheVariants as reply
+use Rattle.smx_types.specs.declared.version.Version.{Version}
+use Rattle.smx_types.specs.declared.version.Version.TheVariants.{V1, V2}
 use Rattle.smx_types.specs.declared.view.BindingLine.{BindingLine}
 use Rattle.smx_types.specs.declared.view.DescriptorLine.{DescriptorLine}
 use Rattle.smx_types.specs.declared.view.FullLine.{FullLine}
+use Rattle.smx_types.specs.declared.view.HungLine.{HungLine}
 use Rattle.smx_types.specs.declared.view.LinkLine.{LinkLine}
 use Rattle.smx_types.specs.declared.view.MessageLine.{MessageLine}
 use Rattle.smx_types.specs.declared.view.RouteLine.{RouteLine}
@@ -76,6 +80,7 @@ FitsCommand (command.Flush fd sides) = FitsNumber fd
 FitsCommand (command.Inject driver minor addr bytes) =
     FitsName driver × FitsNumber minor × FitsNumber addr × FitsBytes bytes
 FitsCommand (command.Transmit driver minor) = FitsName driver × FitsNumber minor
+FitsCommand (command.Hangup driver minor) = FitsName driver × FitsNumber minor
 
 -- serials of which there is one or more
 abbrev pub FitsSerials : List ℕ → Type 0
@@ -88,13 +93,31 @@ FitsReply (reply.Id id) = FitsNumber id
 FitsReply (reply.Took serial) = FitsNumber serial
 FitsReply (reply.Got serial addr bytes) = FitsNumber serial × FitsNumber addr × FitsBytes bytes
 FitsReply (reply.Done dropped) = AllByRecursion FitsNumber dropped
+FitsReply reply.Eof = Unit {0}
 FitsReply (reply.Fault f) = Unit {0}
+
+-- a version can tell it: what tells of a hangup is of the second one alone
+abbrev pub CanTell : Version → Bool → Type 0
+CanTell V1 hangup = hangup ≡ false
+CanTell V2 hangup = Unit {0}
+
+-- it can be spelled, and told in this version
+abbrev pub FitsCommandIn : Version → Command → Type 0
+FitsCommandIn version c = FitsCommand c × CanTell version (is_hangup c)
+
+-- the same of a reply
+abbrev pub FitsReplyIn : Version → Reply → Type 0
+FitsReplyIn version r = FitsReply r × CanTell version (tells_of_hangup r)
 
 -- there is such a process, and its command and reply can be spelled
 pub record FitsEntry (e : Entry) : Type 0 where
   pub process : e.process < MAX_PROCESSES
   pub command : FitsCommand e.command
   pub reply : FitsReply e.reply
+
+-- the same, and both can be told in this version
+abbrev pub FitsEntryIn : Version → Entry → Type 0
+FitsEntryIn version e = FitsEntry e × CanTell version (is_of_hangup e)
 
 -- an open descriptor that can be shown
 pub record FitsDescriptor (d : DescriptorLine) : Type 0 where
@@ -135,3 +158,8 @@ pub record FitsMessage (m : MessageLine) : Type 0 where
 pub record FitsFull (f : FullLine) : Type 0 where
   pub driver : FitsName f.driver
   pub minor : FitsNumber f.minor
+
+-- a hung-up stream that can be shown
+pub record FitsHung (h : HungLine) : Type 0 where
+  pub driver : FitsName h.driver
+  pub minor : FitsNumber h.minor

@@ -22,6 +22,7 @@ use Rattle.smx_types.specs.declared.stream.Side.TheVariants as side
 use Rattle.smx_types.specs.declared.view.BindingLine.{BindingLine}
 use Rattle.smx_types.specs.declared.view.DescriptorLine.{DescriptorLine}
 use Rattle.smx_types.specs.declared.view.FullLine.{FullLine}
+use Rattle.smx_types.specs.declared.view.HungLine.{HungLine}
 use Rattle.smx_types.specs.declared.view.LinkLine.{LinkLine}
 use Rattle.smx_types.specs.declared.view.MessageLine.{MessageLine}
 use Rattle.smx_types.specs.declared.view.RouteLine.{RouteLine}
@@ -80,6 +81,7 @@ command_words (command.Flush fd sides) = codes "flush" ∷ decimal fd ∷ sides_
 command_words (command.Inject driver minor addr bytes) =
     codes "inject" ∷ driver ∷ decimal minor ∷ decimal addr ∷ hex_word bytes ∷ []
 command_words (command.Transmit driver minor) = codes "transmit" ∷ driver ∷ decimal minor ∷ []
+command_words (command.Hangup driver minor) = codes "hangup" ∷ driver ∷ decimal minor ∷ []
 
 -- an error of errno(3), and a word that tells its causes apart
 abbrev pub fault_words : Fault → List (List ℕ)
@@ -99,6 +101,7 @@ fault_words fault.Unrouted = codes "EINVAL" ∷ codes "unrouted" ∷ []
 fault_words fault.Full = codes "EAGAIN" ∷ codes "full" ∷ []
 fault_words fault.Empty = codes "EAGAIN" ∷ codes "empty" ∷ []
 fault_words fault.BadSize = codes "ERANGE" ∷ []
+fault_words fault.HungUp = codes "ENXIO" ∷ codes "hangup" ∷ []
 
 -- the words of a reply
 abbrev pub reply_words : Reply → List (List ℕ)
@@ -107,6 +110,7 @@ reply_words (reply.Id id) = codes "id" ∷ decimal id ∷ []
 reply_words (reply.Took serial) = codes "took" ∷ decimal serial ∷ []
 reply_words (reply.Got serial addr bytes) = codes "got" ∷ decimal serial ∷ decimal addr ∷ hex_word bytes ∷ []
 reply_words (reply.Done dropped) = codes "done" ∷ map decimal dropped
+reply_words reply.Eof = codes "eof" ∷ []
 reply_words (reply.Fault f) = fault_words f
 
 -- the process, the command, and behind an equals sign the reply
@@ -148,3 +152,7 @@ message_words m =
 -- a full place
 abbrev pub full_words : FullLine → List (List ℕ)
 full_words f = codes "full" ∷ f.driver ∷ decimal f.minor ∷ side_word f.side ∷ []
+
+-- a hung-up stream
+abbrev pub hung_words : HungLine → List (List ℕ)
+hung_words h = codes "hung" ∷ h.driver ∷ decimal h.minor ∷ []

@@ -25,6 +25,7 @@ verb_word verb.Read = codes "read"
 verb_word verb.Flush = codes "flush"
 verb_word verb.Inject = codes "inject"
 verb_word verb.Transmit = codes "transmit"
+verb_word verb.Hangup = codes "hangup"
 
 -- the word that each reply but a fault begins with
 abbrev pub reply_verb_word : ReplyVerb → List ℕ

@@ -8,14 +8,16 @@ ghost use Rattle.smx_types.specs.declared.driver.DriverSpec.{DriverSpec};
 ghost use Rattle.smx_types.specs.declared.view.BindingLine.{BindingLine};
 ghost use Rattle.smx_types.specs.declared.view.DescriptorLine.{DescriptorLine};
 ghost use Rattle.smx_types.specs.declared.view.FullLine.{FullLine};
+ghost use Rattle.smx_types.specs.declared.view.HungLine.{HungLine};
 ghost use Rattle.smx_types.specs.declared.view.LinkLine.{LinkLine};
 ghost use Rattle.smx_types.specs.declared.view.MessageLine.{MessageLine};
 ghost use Rattle.smx_types.specs.declared.view.RouteLine.{RouteLine};
 ghost use Rattle.smx_words.specs.Spellable.{FitsDriver, FitsNumber, FitsCommand, FitsEntry, FitsNext};
 ghost use Rattle.smx_words.specs.Spellable.{FitsDescriptor, FitsLink, FitsBinding, FitsRoute, FitsMessage, FitsFull};
+ghost use Rattle.smx_words.specs.Spellable.{FitsHung};
 ghost use Rattle.smx_words.specs.Spelling.{driver_words, process_words, command_words, entry_words, next_words};
 ghost use Rattle.smx_words.specs.Spelling.{descriptor_words, link_words, bind_words, route_words};
-ghost use Rattle.smx_words.specs.Spelling.{message_words, full_words};
+ghost use Rattle.smx_words.specs.Spelling.{message_words, full_words, hung_words};
 ghost use Rattle.smx_words.specs.Words.{AreWords, IsWord, line_of};
 
 /// Each value that can be spelled is spelled by words, one or more.
@@ -31,6 +33,7 @@ pub fn spellings_are_words()
     ensures route { (x : RouteLine) → FitsRoute x → AreWords (route_words x) }
     ensures message { (x : MessageLine) → FitsMessage x → AreWords (message_words x) }
     ensures full { (x : FullLine) → FitsFull x → AreWords (full_words x) }
+    ensures hung { (x : HungLine) → FitsHung x → AreWords (hung_words x) }
 {}
 
 /// Words that make the same line are the same words.
@@ -63,6 +66,8 @@ pub fn one_value_each()
         → line_of (message_words x) ≡ line_of (message_words y) → x ≡ y }
     ensures full { (x y : FullLine) → FitsFull x → FitsFull y
         → line_of (full_words x) ≡ line_of (full_words y) → x ≡ y }
+    ensures hung { (x y : HungLine) → FitsHung x → FitsHung y
+        → line_of (hung_words x) ≡ line_of (hung_words y) → x ≡ y }
 {}
 
 /// A word is one byte or more, each from `!` to `~`, and a line is one word or more.

@@ -7,7 +7,7 @@ mod reading;
 mod writing;
 
 pub use reading::{
-    bind_of, command_of, descriptor_of, driver_of, entry_of, full_of, link_of, message_of, next_of,
-    process_of, route_of,
+    bind_of, command_of, descriptor_of, driver_of, entry_of, full_of, hung_of, link_of, message_of,
+    next_of, process_of, route_of,
 };
 pub use writing::{Spell, write_lines, write_next, write_process};

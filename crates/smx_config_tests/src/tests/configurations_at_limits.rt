@@ -27,7 +27,7 @@ fn makes_and_copies(rt: &(impl AllocGlobal + Abort), drivers: &[DriverSpec]) -> 
 
 #[test]
 fn the_most_drivers(rt: HostRuntime) -> Result<(), Fail> {
-    let drivers = leaves(rt.alloc(), 64)?;
+    let drivers = leaves(rt.alloc(), 128)?;
     makes_and_copies(&rt, drivers.as_slice())
 }
 

@@ -1,8 +1,8 @@
-//! Drivers that can't be had.
+//! Drivers that can't be had: one too many, whichever the others are.
 
 use smx_config::{Config, ConfigFault};
-use smx_samples::driver;
-use smx_types::{DriverKind, DriverSpec};
+use smx_samples::{driver, leaves};
+use smx_types::{DriverKind, DriverSpec, SpecFault};
 use std::alloc::Global;
 use std::process::Abort;
 use std::test::Fail;
@@ -11,15 +11,46 @@ fn fault_of(alloc: Global, drivers: &[DriverSpec]) -> Result<ConfigFault, Fail> 
     Ok(Config::new(alloc, drivers).err().ok_or("refused")?)
 }
 
-fn are_too_many(rt: &(impl AllocGlobal + Abort), drivers: &[DriverSpec]) -> Result<(), Fail> {
+fn are_refused(
+    rt: &(impl AllocGlobal + Abort),
+    drivers: &[DriverSpec],
+    want: ConfigFault,
+) -> Result<(), Fail> {
     let fault = fault_of(rt.alloc(), drivers)?;
-    assert_eq!(rt; fault, ConfigFault::TooMany);
+    assert_eq!(rt; fault, want);
     Ok(())
 }
 
+// This driver so often.
+fn so_many(alloc: Global, one: DriverSpec, count: usize) -> Result<Vec<DriverSpec>, Fail> {
+    Ok(Vec::from_elem(alloc, one, count)?)
+}
+
+// One more than 128 is too many before the others are looked at.
+fn are_too_many(
+    rt: &(impl AllocGlobal + Abort),
+    one: DriverSpec,
+    fault: ConfigFault,
+) -> Result<(), Fail> {
+    let many = so_many(rt.alloc(), one, 129)?;
+    are_refused(rt, &many, ConfigFault::TooMany)?;
+    are_refused(rt, &many[..128], fault)
+}
+
 #[test]
-fn too_many_drivers(rt: HostRuntime) -> Result<(), Fail> {
+fn too_many_of_one_name(rt: HostRuntime) -> Result<(), Fail> {
     let ip = driver("ip", DriverKind::Mux, 4)?;
-    let many = Vec::from_elem(rt.alloc(), ip, 65)?;
-    are_too_many(&rt, &many)
+    are_too_many(&rt, ip, ConfigFault::SameName(1))
+}
+
+#[test]
+fn too_many_that_are_bad(rt: HostRuntime) -> Result<(), Fail> {
+    let none = driver("ip", DriverKind::Mux, 0)?;
+    are_too_many(&rt, none, ConfigFault::BadSpec(0, SpecFault::BadMinors))
+}
+
+#[test]
+fn one_too_many_of_different_names(rt: HostRuntime) -> Result<(), Fail> {
+    let many = leaves(rt.alloc(), 129)?;
+    are_refused(&rt, many.as_slice(), ConfigFault::TooMany)
 }

@@ -51,7 +51,7 @@ fn makes_so_many(rt: &(impl AllocGlobal + Abort), count: usize) -> Result<(), Fa
 
 #[test]
 fn every_number_of_drivers(rt: HostRuntime) -> Result<(), Fail> {
-    for count in 0..65 {
+    for count in 0..129 {
         makes_so_many(&rt, count)?;
     }
     Ok(())

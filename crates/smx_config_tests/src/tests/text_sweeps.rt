@@ -1,8 +1,7 @@
-//! Texts of every number of drivers and of programs, of every size of a message, and of many addresses: each is written
-//! as it was read, and no call wants memory at some of them alone.
+//! Texts of every number of programs, of every size of a message, and of many addresses: each is written as it was read,
+//! and no call wants memory at some of them alone.
 
 use super::sweeps::{ADDRESSES, payload};
-use smx_samples::add_leaves;
 use smx_text::{read_programs, read_transcript, write_programs, write_transcript};
 use smx_types::Transcript;
 use std::alloc::Global;
@@ -34,39 +33,6 @@ fn transcript_again(alloc: Global, text: &[u8]) -> Result<Vec<u8>, Fail> {
 fn transcript_stays(rt: &(impl AllocGlobal + Abort), text: &[u8]) -> Result<(), Fail> {
     let again = transcript_again(rt.alloc(), text)?;
     assert!(rt; again.as_slice() == text);
-    Ok(())
-}
-
-// A text of this many drivers alone, between these lines.
-fn of_drivers(alloc: Global, begin: &[u8], count: usize, end: &[u8]) -> Result<Vec<u8>, Fail> {
-    let mut text = Vec::from_slice(alloc, begin)?;
-    add_leaves(alloc, &mut text, count)?;
-    text.extend_from_slice(end)?;
-    Ok(text)
-}
-
-fn programs_of_drivers(rt: &(impl AllocGlobal + Abort), count: usize) -> Result<(), Fail> {
-    let text = of_drivers(
-        rt.alloc(),
-        b"programs 1\n",
-        count,
-        b"process 0\nexit\nend\n",
-    )?;
-    programs_stay(rt, text.as_slice())
-}
-
-fn transcript_of_drivers(rt: &(impl AllocGlobal + Abort), count: usize) -> Result<(), Fail> {
-    let end = b"config\nnext 1 1\nend\n";
-    let text = of_drivers(rt.alloc(), b"transcript 1\n", count, end.as_slice())?;
-    transcript_stays(rt, text.as_slice())
-}
-
-#[test]
-fn texts_of_every_number_of_drivers(rt: HostRuntime) -> Result<(), Fail> {
-    for count in 0..65 {
-        programs_of_drivers(&rt, count)?;
-        transcript_of_drivers(&rt, count)?;
-    }
     Ok(())
 }
 

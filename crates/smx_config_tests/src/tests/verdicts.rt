@@ -8,9 +8,9 @@ use std::process::Abort;
 use std::test::Fail;
 
 // The text of a transcript of these entries and this view, under two drivers.
-fn text_of(alloc: Global, entries: &str, view: &str) -> Result<String, Fail> {
+fn text_of(alloc: Global, version: u32, entries: &str, view: &str) -> Result<String, Fail> {
     let drivers = "driver ip mux 4 8 3 16\ndriver eth leaf 2 8 3 16";
-    Ok(format!(in alloc; "transcript 1\n{drivers}\n{entries}config\n{view}end\n")?)
+    Ok(format!(in alloc; "transcript {version}\n{drivers}\n{entries}config\n{view}end\n")?)
 }
 
 fn verdict_on(alloc: Global, t: &Transcript) -> Result<Verdict, Fail> {
@@ -23,20 +23,33 @@ fn verdict_on_text(alloc: Global, text: &[u8]) -> Result<Verdict, Fail> {
     verdict_on(alloc, &transcript)
 }
 
-fn judged(alloc: Global, entries: &str, view: &str) -> Result<Verdict, Fail> {
-    let text = text_of(alloc, entries, view)?;
+fn judged(alloc: Global, version: u32, entries: &str, view: &str) -> Result<Verdict, Fail> {
+    let text = text_of(alloc, version, entries, view)?;
     verdict_on_text(alloc, text.as_bytes())
 }
 
+/// What is said of these entries and this view, in a text of the second version.
+pub fn are_judged_in_version_2(
+    rt: &(impl AllocGlobal + Abort),
+    entries: &str,
+    view: &str,
+    want: Verdict,
+) -> Result<(), Fail> {
+    let verdict = judged(rt.alloc(), 2, entries, view)?;
+    assert_eq!(rt; verdict, want);
+    Ok(())
+}
+
+// In a text of the first version the same is said.
 fn are_judged(
     rt: &(impl AllocGlobal + Abort),
     entries: &str,
     view: &str,
     want: Verdict,
 ) -> Result<(), Fail> {
-    let verdict = judged(rt.alloc(), entries, view)?;
+    let verdict = judged(rt.alloc(), 1, entries, view)?;
     assert_eq!(rt; verdict, want);
-    Ok(())
+    are_judged_in_version_2(rt, entries, view, want)
 }
 
 const CASES: [(&str, &str, Verdict); 12] = [
@@ -173,8 +186,8 @@ const CLAIMS: [(&str, &str); 36] = [
     ("full eth 0 w", "full ip 0 w\nfull eth 0 w"),
 ];
 
-// The view with this in the place of that.
-fn claimed(alloc: Global, view: &str, stands: &str, claim: &str) -> Result<String, Fail> {
+/// The view with this in the place of that.
+pub fn claimed(alloc: Global, view: &str, stands: &str, claim: &str) -> Result<String, Fail> {
     let (before, behind) = view.split_once(stands).ok_or("not there")?;
     Ok(format!(in alloc; "{before}{claim}{behind}")?)
 }

@@ -109,7 +109,7 @@ fn none_on_drivers_that_are_refused(rt: HostRuntime) -> Result<(), Fail> {
     let none = driver("ip", DriverKind::Mux, 0)?;
     are_refused(&rt, &[none], ConfigFault::BadSpec(0, SpecFault::BadMinors))?;
     are_refused(&rt, &[ip()?, ip()?], ConfigFault::SameName(1))?;
-    let many = Vec::from_elem(rt.alloc(), ip()?, 65)?;
+    let many = Vec::from_elem(rt.alloc(), ip()?, 129)?;
     are_refused(&rt, many.as_slice(), ConfigFault::TooMany)
 }
 

@@ -6,9 +6,10 @@ use std::sync::Wait;
 use std::test::Fail;
 use std::thread::Threads;
 
-const WRONG: [(&[u8], &str); 6] = [
+const WRONG: [(&[u8], &str); 7] = [
     (b"", "line 1: cut"),
-    (b"programs 2\n", "line 1: header"),
+    (b"programs 3\n", "line 1: header"),
+    (b"programs 2\n", "line 2: cut"),
     (
         b"programs 1\ndriver ip mux 4 8 3 16\nprocess 0\nclone ip\n",
         "line 5: cut",
@@ -28,7 +29,8 @@ fn names_the_first_wrong_line(rt: HostRuntime) {
     }
 }
 
-const NO_COMMANDS: [&str; 25] = [
+const NO_COMMANDS: [&str; 26] = [
+    "hangup ip 0",
     "dup 00",
     "close  0",
     "close 0 ",

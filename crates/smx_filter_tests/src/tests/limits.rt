@@ -11,8 +11,8 @@ use std::sync::Wait;
 use std::test::Fail;
 use std::thread::Threads;
 
-fn with_drivers(alloc: Global, count: usize) -> Result<Vec<u8>, Fail> {
-    let mut input = Vec::from_slice(alloc, b"programs 1\n".as_slice())?;
+fn with_drivers(alloc: Global, header: &[u8], count: usize) -> Result<Vec<u8>, Fail> {
+    let mut input = Vec::from_slice(alloc, header)?;
     add_leaves(alloc, &mut input, count)?;
     input.extend_from_slice(b"end\n")?;
     Ok(input)
@@ -57,8 +57,15 @@ fn with_entries(alloc: Global, count: usize) -> Result<Vec<u8>, Fail> {
 
 #[test]
 fn refuses_one_driver_more(rt: HostRuntime) -> Result<(), Fail> {
-    let input = with_drivers(rt.alloc(), 65)?;
+    let input = with_drivers(rt.alloc(), b"programs 1\n", 65)?;
     run_is_refused(&rt, input.as_slice(), "line 66: many", 3);
+    Ok(())
+}
+
+#[test]
+fn refuses_one_driver_more_in_version_2(rt: HostRuntime) -> Result<(), Fail> {
+    let input = with_drivers(rt.alloc(), b"programs 2\n", 129)?;
+    run_is_refused(&rt, input.as_slice(), "line 130: many", 3);
     Ok(())
 }
 
@@ -92,7 +99,16 @@ fn runs<R: AllocGlobal + Abort + Threads + Wait + Sync>(rt: &R, input: &[u8]) {
 #[test]
 fn runs_with_every_number_of_drivers(rt: HostRuntime) -> Result<(), Fail> {
     for count in 0..65 {
-        let input = with_drivers(rt.alloc(), count)?;
+        let input = with_drivers(rt.alloc(), b"programs 1\n", count)?;
+        runs(&rt, input.as_slice());
+    }
+    Ok(())
+}
+
+#[test]
+fn runs_with_every_number_of_drivers_in_version_2(rt: HostRuntime) -> Result<(), Fail> {
+    for count in 0..129 {
+        let input = with_drivers(rt.alloc(), b"programs 2\n", count)?;
         runs(&rt, input.as_slice());
     }
     Ok(())

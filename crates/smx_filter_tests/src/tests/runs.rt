@@ -89,8 +89,8 @@ const WRITTEN: [(&[u8], &[u8]); 4] = [
     ),
 ];
 
-// A run of this input writes this output, and succeeds.
-fn writes<R: AllocGlobal + Abort + Threads + Wait + Sync>(rt: &R, input: &[u8], output: &[u8]) {
+/// A run of this input writes this output, and succeeds.
+pub fn writes<R: AllocGlobal + Abort + Threads + Wait + Sync>(rt: &R, input: &[u8], output: &[u8]) {
     let ran = run_bytes(rt, rt.alloc(), input);
     assert_eq!(rt; ran.output.as_slice(), output);
     assert_eq!(rt; ran.status, 0);

@@ -3,7 +3,7 @@
 
 ghost use Rattle.std.specs.Prelude.{◌≤◌};
 
-use super::checks::{MARKS_ACROSS_THE_JOIN, TWO_PROCESSES};
+use super::checks::{HANGUP_END_OF_FILE, MARKS_ACROSS_THE_JOIN, TWO_PROCESSES};
 use smx_config::Verdict;
 use smx_filters::{MainFault, Source, Target, check_text, run_text};
 use smx_run::{NoGate, RunFault};
@@ -58,6 +58,11 @@ fn two_processes(rt: HostRuntime) {
 #[test]
 fn marks_across_the_join(rt: HostRuntime) {
     judges(&rt, MARKS_ACROSS_THE_JOIN, b"legal 13\n");
+}
+
+#[test]
+fn hangup_end_of_file(rt: HostRuntime) {
+    judges(&rt, HANGUP_END_OF_FILE, b"legal 9\n");
 }
 
 // The first of two processes has three commands, and the second has none.

@@ -1,12 +1,12 @@
 -- What the worked histories share: the words in which they are written, drivers, and openings.
 use Rattle.std.specs.Prelude.{◌≡◌, ℕ, List, [], ◌∷◌, map, codes}
-pub use Rattle.smx_types.specs.declared.command.Command.TheVariants.{OpenClone, OpenMinor, Dup, Close, CloseAll, Link, Plink, Unlink, Punlink, Bind, Unbind, Route, Unroute, Write, Read, Flush, Inject, Transmit}
+pub use Rattle.smx_types.specs.declared.command.Command.TheVariants.{OpenClone, OpenMinor, Dup, Close, CloseAll, Link, Plink, Unlink, Punlink, Bind, Unbind, Route, Unroute, Write, Read, Flush, Inject, Transmit, Hangup}
 pub use Rattle.smx_types.specs.declared.command.Entry.{Entry}
 pub use Rattle.smx_types.specs.declared.command.Sides.TheVariants.{R, W, RW}
 pub use Rattle.smx_types.specs.declared.driver.DriverSpec.{DriverSpec}
 pub use Rattle.smx_types.specs.declared.link.LinkKind.TheVariants.{Ordinary, Persistent}
-pub use Rattle.smx_types.specs.declared.reply.Fault.TheVariants.{BadDescriptor, Below, NotMux, NoDriver, NoMinor, TooManyDescriptors, AlreadyBelow, Cycle, TooManyLinks, NoLink, AddressInUse, Unbound, Unrouted, Full, Empty, BadSize}
-pub use Rattle.smx_types.specs.declared.reply.Reply.TheVariants.{Fd, Id, Took, Got, Done, Fault}
+pub use Rattle.smx_types.specs.declared.reply.Fault.TheVariants.{BadDescriptor, Below, NotMux, NoDriver, NoMinor, TooManyDescriptors, AlreadyBelow, Cycle, TooManyLinks, NoLink, AddressInUse, Unbound, Unrouted, Full, Empty, BadSize, HungUp}
+pub use Rattle.smx_types.specs.declared.reply.Reply.TheVariants.{Fd, Id, Took, Got, Done, Eof, Fault}
 pub use Rattle.smx_types.specs.declared.view.ConfigView.{ConfigView}
 pub use Rattle.smx_types.specs.declared.view.MessageLine.{MessageLine}
 pub use Rattle.smx_model.specs.Histories.{IsLegal, IsLegalFrom, after}
@@ -19,6 +19,7 @@ use Rattle.smx_types.specs.declared.stream.Side.{Side}
 use Rattle.smx_types.specs.declared.view.BindingLine.{BindingLine}
 use Rattle.smx_types.specs.declared.view.DescriptorLine.{DescriptorLine}
 use Rattle.smx_types.specs.declared.view.FullLine.{FullLine}
+use Rattle.smx_types.specs.declared.view.HungLine.{HungLine}
 use Rattle.smx_types.specs.declared.view.LinkLine.{LinkLine}
 use Rattle.smx_types.specs.declared.view.RouteLine.{RouteLine}
 use Rattle.smx_model.specs.Commands.{step}
@@ -121,6 +122,9 @@ message_at driver minor side serial addr bytes = record {
 abbrev pub full_at : List ℕ → ℕ → Side → FullLine
 full_at driver minor side = record { driver = driver; minor = minor; side = side }
 
+abbrev pub hung_of : List ℕ → ℕ → HungLine
+hung_of driver minor = record { driver = driver; minor = minor }
+
 -- a view with the next id, the next serial, and no lines
 abbrev pub no_lines : ℕ → ℕ → ConfigView
 no_lines next_id next_serial = record {
@@ -132,6 +136,7 @@ no_lines next_id next_serial = record {
   routes = [];
   msgs = [];
   fulls = [];
+  hungs = [];
 }
 
 -- process 0 opens streams of these drivers, one after the other; and their descriptors

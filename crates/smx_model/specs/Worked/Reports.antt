@@ -2,6 +2,7 @@
 use Rattle.std.specs.Prelude.{List, [], ◌∷◌}
 use Rattle.smx_types.specs.ProgramLists.{ProgramLists}
 use Rattle.smx_types.specs.declared.transcript.Transcript.{Transcript}
+use Rattle.smx_types.specs.declared.version.Version.TheVariants.{V1}
 use Rattle.smx_model.specs.Worked.Common.{OpenClone, Dup, CloseAll, Fd, Done, Fault, BadDescriptor, Entry, ConfigView, DriverSpec, ◌does◌gets◌, ip, mux, no_lines, fd_of}
 
 abbrev pub drivers : List DriverSpec
@@ -9,7 +10,7 @@ drivers = mux ip 4 ∷ []
 
 -- process 0 opens a stream and copies its descriptor; process 1 exits
 abbrev pub programs : ProgramLists
-programs = record { drivers = drivers; programs = (OpenClone ip ∷ Dup 0 ∷ []) ∷ (CloseAll ∷ []) ∷ [] }
+programs = record { version = V1; drivers = drivers; programs = (OpenClone ip ∷ Dup 0 ∷ []) ∷ (CloseAll ∷ []) ∷ [] }
 
 abbrev pub opened : Entry
 opened = 0 does OpenClone ip gets Fd 0 0
@@ -42,4 +43,4 @@ abbrev pub three : ConfigView
 three = record (no_lines 1 1) { fds = fd_of 0 0 ip 0 ∷ fd_of 0 1 ip 0 ∷ fd_of 0 2 ip 0 ∷ [] }
 
 abbrev pub report_with : List Entry → ConfigView → Transcript
-report_with entries v = record { drivers = drivers; entries = entries; view = v }
+report_with entries v = record { version = V1; drivers = drivers; entries = entries; view = v }

@@ -5,10 +5,11 @@ use super::fault_words::prints;
 use super::gates::Told::{After, Before};
 use super::gates::{Log, Told};
 use super::told::{IN_TURN, SIX};
+use super::workers::written;
 use smx_run::{Gate, NoGate, Recorder, RunFault, run_recorded};
-use smx_text::{read_programs, write_transcript};
+use smx_text::read_programs;
 use smx_types::{
-    ConfigView, Copied, DriverSpec, Drivers, Entries, Entry, NoMemory, Process, Transcript,
+    ConfigView, Copied, DriverSpec, Drivers, Entries, Entry, NoMemory, Process, Transcript, Version,
 };
 use std::alloc::Global;
 use std::process::Abort;
@@ -20,6 +21,7 @@ use std::test::Fail;
 struct Kept {
     alloc: Global,
     most: usize,
+    version: Version,
     drivers: Drivers,
     entries: Entries,
 }
@@ -29,14 +31,20 @@ impl Recorder for Kept {
 
     type Room = (Global, usize);
 
-    ghost told = { λ drivers entries kept. (kept.drivers ≡ drivers) × (kept.entries ≡ entries) };
+    ghost told = { λ version drivers entries kept.
+        (kept.version ≡ version) × (kept.drivers ≡ drivers) × (kept.entries ≡ entries) };
 
-    fn begin(room: (Global, usize), drivers: &[DriverSpec]) -> Result<Kept, NoMemory> {
+    fn begin(
+        room: (Global, usize),
+        version: Version,
+        drivers: &[DriverSpec],
+    ) -> Result<Kept, NoMemory> {
         let (alloc, most) = room;
         let drivers = Drivers::from_vec(DriverSpec::copies(alloc, drivers)?);
         Ok(Kept {
             alloc,
             most,
+            version,
             drivers,
             entries: Entries::new(alloc),
         })
@@ -64,11 +72,12 @@ fn recorded(
 // What was told, as a text.
 fn told(alloc: Global, kept: Kept, view: ConfigView) -> Result<Vec<u8>, Fail> {
     let transcript = Transcript {
+        version: kept.version,
         drivers: kept.drivers,
         entries: kept.entries,
         view,
     };
-    Ok(write_transcript(alloc, &transcript)?)
+    written(alloc, &transcript)
 }
 
 const TWO_PROCESSES: &[u8] = b"programs 1
@@ -197,9 +206,13 @@ struct Counting<'a> {
 impl<'a> Recorder for Counting<'a> {
     type Room = &'a AtomicUsize;
 
-    ghost told = { λ _ _ _. Unit {0} };
+    ghost told = { λ _ _ _ _. Unit {0} };
 
-    fn begin(room: &'a AtomicUsize, _drivers: &[DriverSpec]) -> Result<Counting<'a>, NoMemory> {
+    fn begin(
+        room: &'a AtomicUsize,
+        _version: Version,
+        _drivers: &[DriverSpec],
+    ) -> Result<Counting<'a>, NoMemory> {
         room.fetch_add(1, Ordering::SeqCst);
         Ok(Counting { told: room })
     }

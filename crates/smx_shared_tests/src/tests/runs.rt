@@ -68,7 +68,7 @@ fn reports_two_processes(rt: HostRuntime) -> Result<(), Fail> {
 }
 
 fn is_of_the_most(rt: &impl Abort, report: &Report) {
-    assert_eq!(rt; report.drivers.as_slice().len(), 64);
+    assert_eq!(rt; report.drivers.as_slice().len(), 128);
     let entries = report.entries.as_slice();
     assert_eq!(rt; entries.len(), 100_000);
     assert!(rt; entries[99_999].reply == Reply::Fault(Fault::BadDescriptor));
@@ -93,20 +93,25 @@ const EXIT: &[u8] = b"process 0\nexit\nend\n";
 
 const OF_EXIT: &[u8] = b"0 exit = done\nconfig\nnext 1 1\nend\n";
 
+// Runs so many drivers in a version, by the headers of its texts.
 fn runs_with_drivers<R: Abort + Threads + Wait + Sync>(
     rt: &R,
     alloc: Global,
+    headers: (&[u8], &[u8]),
     count: usize,
 ) -> Result<(), Fail> {
-    let input = of_drivers(alloc, b"programs 1\n", count, EXIT)?;
-    let output = of_drivers(alloc, b"transcript 1\n", count, OF_EXIT)?;
+    let input = of_drivers(alloc, headers.0, count, EXIT)?;
+    let output = of_drivers(alloc, headers.1, count, OF_EXIT)?;
     gives(rt, alloc, input.as_slice(), output.as_slice())
 }
 
 #[test]
 fn runs_with_every_number_of_drivers(rt: HostRuntime) -> Result<(), Fail> {
     for count in 0..65 {
-        runs_with_drivers(&rt, rt.alloc(), count)?;
+        runs_with_drivers(&rt, rt.alloc(), (b"programs 1\n", b"transcript 1\n"), count)?;
+    }
+    for count in 0..129 {
+        runs_with_drivers(&rt, rt.alloc(), (b"programs 2\n", b"transcript 2\n"), count)?;
     }
     Ok(())
 }

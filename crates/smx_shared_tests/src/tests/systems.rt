@@ -180,7 +180,7 @@ fn are_too_many(rt: &impl Abort, alloc: Global, drivers: &[DriverSpec]) -> Resul
 fn drivers_that_are_refused(rt: HostRuntime) -> Result<(), Fail> {
     let fault = fault_of(rt.alloc(), &[driver("ip", DriverKind::Mux, 65)?])?;
     prints(&rt, rt.alloc(), &fault, "driver 0 minors")?;
-    let many = leaves(rt.alloc(), 65)?;
+    let many = leaves(rt.alloc(), 129)?;
     are_too_many(&rt, rt.alloc(), many.as_slice())
 }
 

@@ -9,7 +9,7 @@ use smx_run::{Gate, NoGate, Report, run_programs};
 use smx_samples::{named, numbered};
 use smx_shared::Front;
 use smx_text::{read_programs, write_transcript};
-use smx_types::{DescriptorLine, Transcript};
+use smx_types::{DescriptorLine, Transcript, Version};
 use std::alloc::Global;
 use std::process::Abort;
 use std::sync::Wait;
@@ -149,11 +149,15 @@ pub fn reported<R: Threads + Wait + Sync>(
     Ok(run_programs(rt, alloc, programs, workers, &NoGate)?)
 }
 
-fn written(alloc: Global, transcript: &Transcript) -> Result<Vec<u8>, Fail> {
+/// Its text, if its version can tell it.
+pub fn written(alloc: Global, transcript: &Transcript) -> Result<Vec<u8>, Fail> {
+    if transcript.version == Version::V1 && transcript.least() == Version::V2 {
+        return Err(Fail::new("version 1 can't tell it"));
+    }
     Ok(write_transcript(alloc, transcript)?)
 }
 
-/// The transcript of a run of the programs that this text spells.
+/// The transcript of a run of the programs that this text spells, in their version.
 pub fn ran<R: Threads + Wait + Sync>(
     rt: &R,
     alloc: Global,
@@ -162,7 +166,8 @@ pub fn ran<R: Threads + Wait + Sync>(
 ) -> Result<Vec<u8>, Fail>
     requires { (1 ≤ workers) × (workers ≤ MAX_WORKERS) }
 {
-    let transcript = reported(rt, alloc, text, workers)?.into_transcript();
+    let version = read_programs(alloc, text)?.version();
+    let transcript = reported(rt, alloc, text, workers)?.into_transcript(version);
     written(alloc, &transcript)
 }
 

@@ -22,6 +22,15 @@ pub enum Act {
     Of(u32, u32, Option<(u8, u8)>),
     InRange(u8, u32, bool),
     Exists((u8, u8), bool),
+    /// A stream that exists hangs up.
+    Hang((u8, u8)),
+    Hung((u8, u8), bool),
+    /// The first hold of a stream that exists.
+    Hold((u8, u8)),
+    /// The last hold; whether nothing is left of the stream.
+    Release((u8, u8), bool),
+    /// All descriptors of a process are closed.
+    Exit(u32),
 }
 
 fn stream(at: (u8, u8)) -> StreamId {
@@ -74,6 +83,21 @@ fn is_of(rt: &impl Abort, answer: Option<StreamId>, wanted: Option<(u8, u8)>) {
     assert!(rt; of(answer) == wanted);
 }
 
+fn hangs(rt: &impl Abort, table: &mut Streams, stream: StreamId) {
+    assert!(rt; table.exists(stream));
+    table.hang(stream);
+}
+
+fn holds(rt: &impl Abort, table: &mut Streams, stream: StreamId) {
+    assert!(rt; table.exists(stream) && table.holds_of(stream) == 0);
+    table.hold(stream);
+}
+
+fn releases(rt: &impl Abort, table: &mut Streams, stream: StreamId, wanted: bool) {
+    assert!(rt; table.holds_of(stream) == 1);
+    assert!(rt; table.release(stream) == wanted);
+}
+
 fn do_act(rt: &impl Abort, table: &mut Streams, act: Act) {
     match act {
         Act::Clone(p, driver, wanted) => {
@@ -89,6 +113,11 @@ fn do_act(rt: &impl Abort, table: &mut Streams, act: Act) {
             assert!(rt; table.in_range(driver, minor) == wanted);
         }
         Act::Exists(at, wanted) => assert!(rt; table.exists(stream(at)) == wanted),
+        Act::Hang(at) => hangs(rt, table, stream(at)),
+        Act::Hung(at, wanted) => assert!(rt; table.is_hung(stream(at)) == wanted),
+        Act::Hold(at) => holds(rt, table, stream(at)),
+        Act::Release(at, wanted) => releases(rt, table, stream(at), wanted),
+        Act::Exit(p) => table.close_process(process(rt, p)),
     }
 }
 

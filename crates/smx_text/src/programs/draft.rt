@@ -1,13 +1,15 @@
 //! The programs that are being read.
 
-ghost use Rattle.std.specs.Prelude.{◌≡◌, ◌≢◌, ◌<◌, ◌∷◌, [], length, OnOk, IfErr};
+ghost use Rattle.std.specs.Prelude.{◌≡◌, ◌≢◌, ◌<◌, codes, length, OnOk, IfOk, IfErr};
 ghost use Rattle.std.specs.List.{sum_by};
+ghost use Rattle.smx_types.specs.ProgramLists.{raised};
 ghost use Rattle.smx_types.specs.declared.limits.TheConstants.{MAX_COMMANDS};
-ghost use Rattle.smx_types.specs.ProgramLists.{program_lists};
+ghost use Rattle.smx_types.specs.declared.version.Version.TheVariants.{V1, V2};
 ghost use Rattle.smx_types.specs.declared.command.Command.{Command as AnyCommand};
+ghost use Rattle.smx_words.specs.LineReading.{IsLineOf, IsReadAs};
 ghost use Rattle.smx_words.specs.Words.{line_of};
 ghost use Rattle.smx_words.specs.Spelling.{command_words};
-ghost use Rattle.smx_words.specs.Spellable.{FitsNumber, FitsDriver, FitsCommand};
+ghost use Rattle.smx_words.specs.Spellable.{FitsNumber, FitsDriver, FitsCommandIn};
 ghost use Rattle.smx_text.specs.Grammar.{IsBegun, Continues, line_text};
 ghost use Rattle.smx_text.specs.Reading.{Refuses, AddsLine, RefusesLine, EndsAs};
 ghost use Rattle.smx_text.specs.ProgramLines.{Driver as DriverLine, Process as ProcessLine};
@@ -17,8 +19,8 @@ ghost use Rattle.smx_text.specs.ProgramsText.{body, programs_grammar};
 use crate::fault::Cause;
 use crate::reading::Draft;
 use smx_types::{
-    Command, Commands, DriverSpec, Drivers, MAX_COMMANDS, MAX_DRIVERS, MAX_PROCESSES, NoMemory,
-    ProgramList, Programs,
+    Command, Commands, DriverSpec, Drivers, MAX_COMMANDS, MAX_PROCESSES, NoMemory, ProgramList,
+    Programs, Version,
 };
 use smx_words::{command_of, driver_of, process_of};
 use std::alloc::Global;
@@ -27,18 +29,20 @@ use std::marker::Model;
 // The drivers and programs of the lines so far.
 #[derive(Debug, Drop)]
 pub struct ProgramsDraft {
+    version: Version,
     drivers: Vec<DriverSpec>,
     programs: Vec<Commands>,
     count: usize,
 }
 
 impl Model for ProgramsDraft {
-    ghost use Rattle.smx_types.specs.ProgramLists.{ProgramLists, program_lists};
+    ghost use Rattle.smx_types.specs.ProgramLists.{ProgramLists};
     ghost use Rattle.smx_text.specs.Drafts.{IsCounted};
 
     ghost Value = { ProgramLists };
 
-    ghost view = { λ d. program_lists d.drivers.items d.programs.items };
+    ghost view = { λ d.
+        record { version = d.version; drivers = d.drivers.items; programs = d.programs.items } };
 
     ghost invariant = { IsCounted };
 }
@@ -54,14 +58,28 @@ impl Draft for ProgramsDraft {
 
     ghost grammar = { programs_grammar };
 
+    ghost version_of = { λ d. d.version };
+
     ghost lines = { body };
 
-    fn header() -> &'static [u8] {
-        b"programs 1"
+    fn header(version: Version) -> &'static [u8] {
+        match version {
+            Version::V1 => b"programs 1",
+            Version::V2 => b"programs 2",
+        }
+    }
+
+    fn begin(alloc: Global, version: Version) -> ProgramsDraft {
+        ProgramsDraft {
+            version,
+            drivers: Vec::new(alloc),
+            programs: Vec::new(alloc),
+            count: 0,
+        }
     }
 
     fn add(&mut self, alloc: Global, text: &[u8]) -> Result<(), Cause> {
-        match command_of(alloc, text) {
+        match self.read_command(alloc, text) {
             Ok(Some(command)) => self.add_command(command),
             Ok(None) => self.add_other(alloc, text),
             Err(NoMemory) => Err(self.command_unread()),
@@ -69,35 +87,44 @@ impl Draft for ProgramsDraft {
     }
 
     fn finish(self) -> Option<Programs> {
-        Programs::new(
-            Drivers::from_vec(self.drivers),
-            ProgramList::from_vec(self.programs),
-        )
-        .ok()
+        let drivers = Drivers::from_vec(self.drivers);
+        let programs = Programs::new(drivers, ProgramList::from_vec(self.programs)).ok()?;
+        Some(in_version(self.version, programs))
     }
 
-    ghost end_is = { refl };
+    ghost end_is = { λ v. refl };
+}
+
+// The programs in this version, where it can tell them.
+fn in_version(version: Version, programs: Programs) -> Programs
+    ensures first { version ≡ V1 → result ≡ programs }
+    ensures second { version ≡ V2 → result ≡ raised programs }
+{
+    match version {
+        Version::V1 => programs,
+        Version::V2 => programs.raised(),
+    }
 }
 
 impl ProgramsDraft {
-    // None yet.
-    pub fn new(alloc: Global) -> ProgramsDraft
-        ensures { result ≡ program_lists [] [] }
+    // The command that a line spells, if this version can tell it.
+    fn read_command(&self, alloc: Global, text: &[u8]) -> Result<Option<Command>, NoMemory>
+        ensures reading { IfOk result (IsReadAs (FitsCommandIn self.now.version) command_words text.now) }
+        ensures wanted { IfErr result (λ _. IsLineOf (FitsCommandIn self.now.version) command_words text.now) }
     {
-        ProgramsDraft {
-            drivers: Vec::new(alloc),
-            programs: Vec::new(alloc),
-            count: 0,
-        }
+        command_of(alloc, self.version, text)
     }
 
     // A line that is no command.
     fn add_other(&mut self, alloc: Global, text: &[u8]) -> Result<(), Cause>
-        requires begun { IsBegun programs_grammar (body self.old) }
-        requires no_command { (c : AnyCommand) → FitsCommand c → text.now ≢ line_of (command_words c) }
-        requires no_end { text.now ≢ line_text programs_grammar End }
-        ensures added { OnOk result (Continues programs_grammar (body self.old) text.now (body self.new)) }
-        ensures refused { IfErr result (Refuses programs_grammar (body self.old) text.now) }
+        requires begun { IsBegun (programs_grammar self.old.version) (body self.old) }
+        requires no_command { (c : AnyCommand) → FitsCommandIn self.old.version c
+            → text.now ≢ line_of (command_words c) }
+        requires no_end { text.now ≢ codes "end" }
+        ensures added { OnOk result
+            (Continues (programs_grammar self.old.version) (body self.old) text.now (body self.new)) }
+        ensures version { OnOk result (self.new.version ≡ self.old.version) }
+        ensures refused { IfErr result (Refuses (programs_grammar self.old.version) (body self.old) text.now) }
     {
         if let Some(driver) = driver_of(text) {
             return self.add_driver(driver);
@@ -110,15 +137,18 @@ impl ProgramsDraft {
 
     // Drivers come before all processes.
     fn add_driver(&mut self, driver: DriverSpec) -> Result<(), Cause>
-        requires begun { IsBegun programs_grammar (body self.old) }
+        requires begun { IsBegun (programs_grammar self.old.version) (body self.old) }
         requires fits { FitsDriver driver }
-        ensures added { OnOk result (AddsLine programs_grammar (body self.old) (DriverLine driver) (body self.new)) }
-        ensures refused { IfErr result (RefusesLine programs_grammar (body self.old) (DriverLine driver)) }
+        ensures added { OnOk result
+            (AddsLine (programs_grammar self.old.version) (body self.old) (DriverLine driver) (body self.new)) }
+        ensures version { OnOk result (self.new.version ≡ self.old.version) }
+        ensures refused { IfErr result
+            (RefusesLine (programs_grammar self.old.version) (body self.old) (DriverLine driver)) }
     {
         if !self.programs.is_empty() {
             return Err(Cause::Form);
         }
-        if self.drivers.len() >= MAX_DRIVERS {
+        if self.drivers.len() >= self.version.max_drivers() {
             return Err(Cause::Many);
         }
         self.drivers.push(driver)?;
@@ -127,9 +157,12 @@ impl ProgramsDraft {
 
     // Processes are numbered from 0 on, in order.
     fn add_process(&mut self, alloc: Global, number: u32) -> Result<(), Cause>
-        requires begun { IsBegun programs_grammar (body self.old) }
-        ensures added { OnOk result (AddsLine programs_grammar (body self.old) (ProcessLine number) (body self.new)) }
-        ensures refused { IfErr result (RefusesLine programs_grammar (body self.old) (ProcessLine number)) }
+        requires begun { IsBegun (programs_grammar self.old.version) (body self.old) }
+        ensures added { OnOk result
+            (AddsLine (programs_grammar self.old.version) (body self.old) (ProcessLine number) (body self.new)) }
+        ensures version { OnOk result (self.new.version ≡ self.old.version) }
+        ensures refused { IfErr result
+            (RefusesLine (programs_grammar self.old.version) (body self.old) (ProcessLine number)) }
     {
         if number as usize != self.programs.len() {
             return Err(Cause::Form);
@@ -143,10 +176,13 @@ impl ProgramsDraft {
 
     // A command is of the process whose line came last.
     fn add_command(&mut self, command: Command) -> Result<(), Cause>
-        requires begun { IsBegun programs_grammar (body self.old) }
-        requires fits { FitsCommand command }
-        ensures added { OnOk result (AddsLine programs_grammar (body self.old) (CommandLine command) (body self.new)) }
-        ensures refused { IfErr result (RefusesLine programs_grammar (body self.old) (CommandLine command)) }
+        requires begun { IsBegun (programs_grammar self.old.version) (body self.old) }
+        requires fits { FitsCommandIn self.old.version command }
+        ensures added { OnOk result
+            (AddsLine (programs_grammar self.old.version) (body self.old) (CommandLine command) (body self.new)) }
+        ensures version { OnOk result (self.new.version ≡ self.old.version) }
+        ensures refused { IfErr result
+            (RefusesLine (programs_grammar self.old.version) (body self.old) (CommandLine command)) }
     {
         self.room_for_command()?;
         let last = self.programs.len() - 1;
@@ -157,9 +193,9 @@ impl ProgramsDraft {
 
     // Why a command is refused for which there is no memory.
     fn command_unread(&self) -> Cause
-        requires begun { IsBegun programs_grammar (body self.now) }
-        ensures { (c : AnyCommand) → FitsCommand c
-            → RefusesLine programs_grammar (body self.now) (CommandLine c) result }
+        requires begun { IsBegun (programs_grammar self.now.version) (body self.now) }
+        ensures { (c : AnyCommand) → FitsCommandIn self.now.version c
+            → RefusesLine (programs_grammar self.now.version) (body self.now) (CommandLine c) result }
     {
         match self.room_for_command() {
             Ok(()) => Cause::NoMemory,
@@ -172,7 +208,7 @@ impl ProgramsDraft {
         ensures some { OnOk result (0 < length self.now.programs) }
         ensures few { OnOk result (sum_by length self.now.programs < MAX_COMMANDS) }
         ensures refused { IfErr result (λ why. (c : AnyCommand)
-            → RefusesLine programs_grammar (body self.now) (CommandLine c) why) }
+            → RefusesLine (programs_grammar self.now.version) (body self.now) (CommandLine c) why) }
     {
         if self.programs.is_empty() {
             return Err(Cause::Form);

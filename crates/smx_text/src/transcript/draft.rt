@@ -1,32 +1,35 @@
 //! The transcript that is being read.
 
-ghost use Rattle.std.specs.Prelude.{◌≡◌, ◌≢◌, ◌<◌, ℕ, [], length, OnOk, IfErr};
+ghost use Rattle.std.specs.Prelude.{◌≡◌, ◌≢◌, ◌<◌, ℕ, [], length, OnOk, IfOk, IfErr};
 ghost use Rattle.smx_types.specs.declared.command.Entry.{Entry as AnyEntry};
 ghost use Rattle.smx_types.specs.declared.view.MessageLine.{MessageLine as AnyMessage};
+ghost use Rattle.smx_words.specs.LineReading.{IsLineOf, IsReadAs};
 ghost use Rattle.smx_words.specs.Words.{line_of};
-ghost use Rattle.smx_words.specs.Spelling.{entry_words, message_words, driver_words, next_words};
-ghost use Rattle.smx_words.specs.Spellable.{FitsDriver, FitsEntry, FitsDescriptor, FitsLink, FitsBinding};
+ghost use Rattle.smx_words.specs.Spelling.{entry_words, message_words, driver_words, next_words, hung_words};
+ghost use Rattle.smx_words.specs.Spellable.{FitsDriver, FitsEntryIn, FitsDescriptor, FitsLink, FitsBinding};
 ghost use Rattle.smx_words.specs.Spellable.{FitsRoute, FitsMessage, FitsFull, FitsNext};
+ghost use Rattle.smx_text.specs.TranscriptText.{FitsHungIn};
 ghost use Rattle.smx_text.specs.Grammar.{IsBegun, Continues, line_text};
 ghost use Rattle.smx_text.specs.Reading.{Refuses, AddsLine, RefusesLine};
 ghost use Rattle.smx_text.specs.Drafts.{lines, takes_fds, takes_links, takes_binds, takes_routes, takes_msgs};
-ghost use Rattle.smx_text.specs.Drafts.{takes_fulls};
+ghost use Rattle.smx_text.specs.Drafts.{takes_fulls, takes_hungs, grammar_of};
 ghost use Rattle.smx_text.specs.declared.transcript.draft.Stage.TheVariants.{History};
 ghost use Rattle.smx_types.specs.declared.limits.TheConstants.{MAX_COMMANDS};
 ghost use Rattle.smx_types.specs.declared.driver.DriverSpec.{DriverSpec as AnyDriver};
 ghost use Rattle.smx_text.specs.TranscriptLines.{Driver as DriverLine, Entry as EntryLine, Config as ConfigLine};
 ghost use Rattle.smx_text.specs.TranscriptLines.{Next as NextLine, Fd as FdLine, Link as AnyLink, Bind as BindLine};
-ghost use Rattle.smx_text.specs.TranscriptLines.{Route as AnyRoute, Msg as MsgLine, Full as AnyFull, End};
-ghost use Rattle.smx_text.specs.TranscriptText.{transcript_grammar};
+ghost use Rattle.smx_text.specs.TranscriptLines.{Route as AnyRoute, Msg as MsgLine, Full as AnyFull};
+ghost use Rattle.smx_text.specs.TranscriptLines.{Hung as AnyHung, End};
 
 use crate::fault::Cause;
 use crate::reading::Draft;
 use smx_types::{
-    BindingLine, ConfigView, DescriptorLine, DriverSpec, Entry, FullLine, Items, LinkLine,
-    MAX_COMMANDS, MAX_DRIVERS, MessageLine, NoMemory, RouteLine, Transcript,
+    BindingLine, ConfigView, DescriptorLine, DriverSpec, Entry, FullLine, HungLine, Items,
+    LinkLine, MAX_COMMANDS, MessageLine, NoMemory, RouteLine, Transcript, Version,
 };
 use smx_words::{
-    bind_of, descriptor_of, driver_of, entry_of, full_of, link_of, message_of, next_of, route_of,
+    bind_of, descriptor_of, driver_of, entry_of, full_of, hung_of, link_of, message_of, next_of,
+    route_of,
 };
 use std::alloc::Global;
 
@@ -60,14 +63,31 @@ impl Draft for TranscriptDraft {
 
     ghost grammar = { transcript_grammar };
 
+    ghost version_of = { λ d. d.transcript.version };
+
     ghost lines = { lines };
 
-    fn header() -> &'static [u8] {
-        b"transcript 1"
+    fn header(version: Version) -> &'static [u8] {
+        match version {
+            Version::V1 => b"transcript 1",
+            Version::V2 => b"transcript 2",
+        }
+    }
+
+    fn begin(alloc: Global, version: Version) -> TranscriptDraft {
+        TranscriptDraft {
+            stage: Stage::History,
+            transcript: Transcript {
+                version,
+                drivers: Items::new(alloc),
+                entries: Items::new(alloc),
+                view: new_view(alloc, 0, 0),
+            },
+        }
     }
 
     fn add(&mut self, alloc: Global, text: &[u8]) -> Result<(), Cause> {
-        match entry_of(alloc, text) {
+        match self.read_entry(alloc, text) {
             Ok(Some(entry)) => self.add_entry(entry),
             Ok(None) => self.add_other(alloc, text),
             Err(NoMemory) => Err(self.entry_unread()),
@@ -81,7 +101,7 @@ impl Draft for TranscriptDraft {
         Some(self.transcript)
     }
 
-    ghost end_is = { refl };
+    ghost end_is = { λ v. refl };
 }
 
 fn new_view(alloc: Global, next_id: u32, next_serial: u32) -> ConfigView
@@ -94,6 +114,7 @@ fn new_view(alloc: Global, next_id: u32, next_serial: u32) -> ConfigView
       routes = [];
       msgs = [];
       fulls = [];
+      hungs = [];
     } }
 {
     ConfigView {
@@ -105,31 +126,41 @@ fn new_view(alloc: Global, next_id: u32, next_serial: u32) -> ConfigView
         routes: Items::new(alloc),
         msgs: Items::new(alloc),
         fulls: Items::new(alloc),
+        hungs: Items::new(alloc),
     }
 }
 
 impl TranscriptDraft {
-    // Nothing yet.
-    pub fn new(alloc: Global) -> TranscriptDraft
-        ensures { lines result ≡ [] }
+    // The entry that a line spells, if this version can tell it.
+    fn read_entry(&self, alloc: Global, text: &[u8]) -> Result<Option<Entry>, NoMemory>
+        ensures reading { IfOk result
+            (IsReadAs (FitsEntryIn self.now.transcript.version) entry_words text.now) }
+        ensures wanted { IfErr result
+            (λ _. IsLineOf (FitsEntryIn self.now.transcript.version) entry_words text.now) }
     {
-        TranscriptDraft {
-            stage: Stage::History,
-            transcript: Transcript {
-                drivers: Items::new(alloc),
-                entries: Items::new(alloc),
-                view: new_view(alloc, 0, 0),
-            },
+        entry_of(alloc, self.transcript.version, text)
+    }
+
+    // The hung-up stream that a line spells, if this version can tell it.
+    fn read_hung(&self, text: &[u8]) -> Option<HungLine>
+        ensures { IsReadAs (FitsHungIn self.now.transcript.version) hung_words text.now result }
+    {
+        match self.transcript.version {
+            Version::V1 => None,
+            Version::V2 => hung_of(text),
         }
     }
 
     // A line that is no entry.
     fn add_other(&mut self, alloc: Global, text: &[u8]) -> Result<(), Cause>
-        requires begun { IsBegun transcript_grammar (lines self.old) }
-        requires no_entry { (e : AnyEntry) → FitsEntry e → text.now ≢ line_of (entry_words e) }
-        requires no_end { text.now ≢ line_text transcript_grammar End }
-        ensures added { OnOk result (Continues transcript_grammar (lines self.old) text.now (lines self.new)) }
-        ensures refused { IfErr result (Refuses transcript_grammar (lines self.old) text.now) }
+        requires begun { IsBegun (grammar_of self.old) (lines self.old) }
+        requires no_entry { (e : AnyEntry) → FitsEntryIn self.old.transcript.version e
+            → text.now ≢ line_of (entry_words e) }
+        requires no_end { text.now ≢ line_text (grammar_of self.old) End }
+        ensures added { OnOk result
+            (Continues (grammar_of self.old) (lines self.old) text.now (lines self.new)) }
+        ensures version { OnOk result (self.new.transcript.version ≡ self.old.transcript.version) }
+        ensures refused { IfErr result (Refuses (grammar_of self.old) (lines self.old) text.now) }
     {
         match message_of(alloc, text) {
             Ok(Some(message)) => self.add_message(message),
@@ -140,12 +171,15 @@ impl TranscriptDraft {
 
     // A line of one of the kinds that are short.
     fn add_plain(&mut self, alloc: Global, text: &[u8]) -> Result<(), Cause>
-        requires begun { IsBegun transcript_grammar (lines self.old) }
-        requires no_entry { (e : AnyEntry) → FitsEntry e → text.now ≢ line_of (entry_words e) }
+        requires begun { IsBegun (grammar_of self.old) (lines self.old) }
+        requires no_entry { (e : AnyEntry) → FitsEntryIn self.old.transcript.version e
+            → text.now ≢ line_of (entry_words e) }
         requires no_message { (m : AnyMessage) → FitsMessage m → text.now ≢ line_of (message_words m) }
-        requires no_end { text.now ≢ line_text transcript_grammar End }
-        ensures added { OnOk result (Continues transcript_grammar (lines self.old) text.now (lines self.new)) }
-        ensures refused { IfErr result (Refuses transcript_grammar (lines self.old) text.now) }
+        requires no_end { text.now ≢ line_text (grammar_of self.old) End }
+        ensures added { OnOk result
+            (Continues (grammar_of self.old) (lines self.old) text.now (lines self.new)) }
+        ensures version { OnOk result (self.new.transcript.version ≡ self.old.transcript.version) }
+        ensures refused { IfErr result (Refuses (grammar_of self.old) (lines self.old) text.now) }
     {
         if let Some(driver) = driver_of(text) {
             return self.add_driver(driver);
@@ -161,15 +195,18 @@ impl TranscriptDraft {
 
     // A line of a group of the view.
     fn add_to_group(&mut self, text: &[u8]) -> Result<(), Cause>
-        requires begun { IsBegun transcript_grammar (lines self.old) }
-        requires no_entry { (e : AnyEntry) → FitsEntry e → text.now ≢ line_of (entry_words e) }
+        requires begun { IsBegun (grammar_of self.old) (lines self.old) }
+        requires no_entry { (e : AnyEntry) → FitsEntryIn self.old.transcript.version e
+            → text.now ≢ line_of (entry_words e) }
         requires no_message { (m : AnyMessage) → FitsMessage m → text.now ≢ line_of (message_words m) }
         requires no_driver { (d : AnyDriver) → FitsDriver d → text.now ≢ line_of (driver_words d) }
-        requires no_config { text.now ≢ line_text transcript_grammar ConfigLine }
+        requires no_config { text.now ≢ line_text (grammar_of self.old) ConfigLine }
         requires no_next { (n : ℕ × ℕ) → FitsNext n → text.now ≢ line_of (next_words n) }
-        requires no_end { text.now ≢ line_text transcript_grammar End }
-        ensures added { OnOk result (Continues transcript_grammar (lines self.old) text.now (lines self.new)) }
-        ensures refused { IfErr result (Refuses transcript_grammar (lines self.old) text.now) }
+        requires no_end { text.now ≢ line_text (grammar_of self.old) End }
+        ensures added { OnOk result
+            (Continues (grammar_of self.old) (lines self.old) text.now (lines self.new)) }
+        ensures version { OnOk result (self.new.transcript.version ≡ self.old.transcript.version) }
+        ensures refused { IfErr result (Refuses (grammar_of self.old) (lines self.old) text.now) }
     {
         if let Some(fd) = descriptor_of(text) {
             return self.add_fd(fd);
@@ -183,24 +220,29 @@ impl TranscriptDraft {
         if let Some(route) = route_of(text) {
             return self.add_route(route);
         }
-        match full_of(text) {
-            Some(full) => self.add_full(full),
+        if let Some(full) = full_of(text) {
+            return self.add_full(full);
+        }
+        match self.read_hung(text) {
+            Some(hung) => self.add_hung(hung),
             None => Err(Cause::Form),
         }
     }
 
     // Drivers come before all entries.
     fn add_driver(&mut self, driver: DriverSpec) -> Result<(), Cause>
-        requires begun { IsBegun transcript_grammar (lines self.old) }
+        requires begun { IsBegun (grammar_of self.old) (lines self.old) }
         requires fits { FitsDriver driver }
         ensures added { OnOk result
-            (AddsLine transcript_grammar (lines self.old) (DriverLine driver) (lines self.new)) }
-        ensures refused { IfErr result (RefusesLine transcript_grammar (lines self.old) (DriverLine driver)) }
+            (AddsLine (grammar_of self.old) (lines self.old) (DriverLine driver) (lines self.new)) }
+        ensures version { OnOk result (self.new.transcript.version ≡ self.old.transcript.version) }
+        ensures refused { IfErr result
+            (RefusesLine (grammar_of self.old) (lines self.old) (DriverLine driver)) }
     {
         if self.stage != Stage::History || !self.transcript.entries.as_slice().is_empty() {
             return Err(Cause::Form);
         }
-        if self.transcript.drivers.as_slice().len() >= MAX_DRIVERS {
+        if self.transcript.drivers.as_slice().len() >= self.transcript.version.max_drivers() {
             return Err(Cause::Many);
         }
         self.transcript.drivers.push(driver)?;
@@ -208,10 +250,12 @@ impl TranscriptDraft {
     }
 
     fn add_entry(&mut self, entry: Entry) -> Result<(), Cause>
-        requires begun { IsBegun transcript_grammar (lines self.old) }
-        requires fits { FitsEntry entry }
-        ensures added { OnOk result (AddsLine transcript_grammar (lines self.old) (EntryLine entry) (lines self.new)) }
-        ensures refused { IfErr result (RefusesLine transcript_grammar (lines self.old) (EntryLine entry)) }
+        requires begun { IsBegun (grammar_of self.old) (lines self.old) }
+        requires fits { FitsEntryIn self.old.transcript.version entry }
+        ensures added { OnOk result
+            (AddsLine (grammar_of self.old) (lines self.old) (EntryLine entry) (lines self.new)) }
+        ensures version { OnOk result (self.new.transcript.version ≡ self.old.transcript.version) }
+        ensures refused { IfErr result (RefusesLine (grammar_of self.old) (lines self.old) (EntryLine entry)) }
     {
         self.room_for_entry()?;
         self.transcript.entries.push(entry)?;
@@ -220,8 +264,9 @@ impl TranscriptDraft {
 
     // Why an entry is refused for which there is no memory.
     fn entry_unread(&self) -> Cause
-        requires begun { IsBegun transcript_grammar (lines self.now) }
-        ensures { (e : AnyEntry) → FitsEntry e → RefusesLine transcript_grammar (lines self.now) (EntryLine e) result }
+        requires begun { IsBegun (grammar_of self.now) (lines self.now) }
+        ensures { (e : AnyEntry) → FitsEntryIn self.now.transcript.version e
+            → RefusesLine (grammar_of self.now) (lines self.now) (EntryLine e) result }
     {
         match self.room_for_entry() {
             Ok(()) => Cause::NoMemory,
@@ -234,7 +279,7 @@ impl TranscriptDraft {
         ensures history { OnOk result (self.now.stage ≡ History) }
         ensures few { OnOk result (length self.now.transcript.entries < MAX_COMMANDS) }
         ensures refused { IfErr result (λ why. (e : AnyEntry)
-            → RefusesLine transcript_grammar (lines self.now) (EntryLine e) why) }
+            → RefusesLine (grammar_of self.now) (lines self.now) (EntryLine e) why) }
     {
         if self.stage != Stage::History {
             return Err(Cause::Form);
@@ -247,9 +292,11 @@ impl TranscriptDraft {
 
     // The configuration comes behind the entries.
     fn add_config(&mut self) -> Result<(), Cause>
-        requires begun { IsBegun transcript_grammar (lines self.old) }
-        ensures added { OnOk result (AddsLine transcript_grammar (lines self.old) ConfigLine (lines self.new)) }
-        ensures refused { IfErr result (RefusesLine transcript_grammar (lines self.old) ConfigLine) }
+        requires begun { IsBegun (grammar_of self.old) (lines self.old) }
+        ensures added { OnOk result
+            (AddsLine (grammar_of self.old) (lines self.old) ConfigLine (lines self.new)) }
+        ensures version { OnOk result (self.new.transcript.version ≡ self.old.transcript.version) }
+        ensures refused { IfErr result (RefusesLine (grammar_of self.old) (lines self.old) ConfigLine) }
     {
         if self.stage != Stage::History {
             return Err(Cause::Form);
@@ -260,11 +307,12 @@ impl TranscriptDraft {
 
     // The view begins with what comes next.
     fn add_next(&mut self, alloc: Global, next_id: u32, next_serial: u32) -> Result<(), Cause>
-        requires begun { IsBegun transcript_grammar (lines self.old) }
+        requires begun { IsBegun (grammar_of self.old) (lines self.old) }
         ensures added { OnOk result
-            (AddsLine transcript_grammar (lines self.old) (NextLine next_id next_serial) (lines self.new)) }
+            (AddsLine (grammar_of self.old) (lines self.old) (NextLine next_id next_serial) (lines self.new)) }
+        ensures version { OnOk result (self.new.transcript.version ≡ self.old.transcript.version) }
         ensures refused { IfErr result
-            (RefusesLine transcript_grammar (lines self.old) (NextLine next_id next_serial)) }
+            (RefusesLine (grammar_of self.old) (lines self.old) (NextLine next_id next_serial)) }
     {
         if self.stage != Stage::Config {
             return Err(Cause::Form);
@@ -275,10 +323,12 @@ impl TranscriptDraft {
     }
 
     fn add_fd(&mut self, fd: DescriptorLine) -> Result<(), Cause>
-        requires begun { IsBegun transcript_grammar (lines self.old) }
+        requires begun { IsBegun (grammar_of self.old) (lines self.old) }
         requires fits { FitsDescriptor fd }
-        ensures added { OnOk result (AddsLine transcript_grammar (lines self.old) (FdLine fd) (lines self.new)) }
-        ensures refused { IfErr result (RefusesLine transcript_grammar (lines self.old) (FdLine fd)) }
+        ensures added { OnOk result
+            (AddsLine (grammar_of self.old) (lines self.old) (FdLine fd) (lines self.new)) }
+        ensures version { OnOk result (self.new.transcript.version ≡ self.old.transcript.version) }
+        ensures refused { IfErr result (RefusesLine (grammar_of self.old) (lines self.old) (FdLine fd)) }
     {
         if !self.takes_fds() {
             return Err(Cause::Form);
@@ -288,10 +338,12 @@ impl TranscriptDraft {
     }
 
     fn add_link(&mut self, link: LinkLine) -> Result<(), Cause>
-        requires begun { IsBegun transcript_grammar (lines self.old) }
+        requires begun { IsBegun (grammar_of self.old) (lines self.old) }
         requires fits { FitsLink link }
-        ensures added { OnOk result (AddsLine transcript_grammar (lines self.old) (AnyLink link) (lines self.new)) }
-        ensures refused { IfErr result (RefusesLine transcript_grammar (lines self.old) (AnyLink link)) }
+        ensures added { OnOk result
+            (AddsLine (grammar_of self.old) (lines self.old) (AnyLink link) (lines self.new)) }
+        ensures version { OnOk result (self.new.transcript.version ≡ self.old.transcript.version) }
+        ensures refused { IfErr result (RefusesLine (grammar_of self.old) (lines self.old) (AnyLink link)) }
     {
         if !self.takes_links() {
             return Err(Cause::Form);
@@ -301,10 +353,12 @@ impl TranscriptDraft {
     }
 
     fn add_bind(&mut self, bind: BindingLine) -> Result<(), Cause>
-        requires begun { IsBegun transcript_grammar (lines self.old) }
+        requires begun { IsBegun (grammar_of self.old) (lines self.old) }
         requires fits { FitsBinding bind }
-        ensures added { OnOk result (AddsLine transcript_grammar (lines self.old) (BindLine bind) (lines self.new)) }
-        ensures refused { IfErr result (RefusesLine transcript_grammar (lines self.old) (BindLine bind)) }
+        ensures added { OnOk result
+            (AddsLine (grammar_of self.old) (lines self.old) (BindLine bind) (lines self.new)) }
+        ensures version { OnOk result (self.new.transcript.version ≡ self.old.transcript.version) }
+        ensures refused { IfErr result (RefusesLine (grammar_of self.old) (lines self.old) (BindLine bind)) }
     {
         if !self.takes_binds() {
             return Err(Cause::Form);
@@ -314,10 +368,12 @@ impl TranscriptDraft {
     }
 
     fn add_route(&mut self, route: RouteLine) -> Result<(), Cause>
-        requires begun { IsBegun transcript_grammar (lines self.old) }
+        requires begun { IsBegun (grammar_of self.old) (lines self.old) }
         requires fits { FitsRoute route }
-        ensures added { OnOk result (AddsLine transcript_grammar (lines self.old) (AnyRoute route) (lines self.new)) }
-        ensures refused { IfErr result (RefusesLine transcript_grammar (lines self.old) (AnyRoute route)) }
+        ensures added { OnOk result
+            (AddsLine (grammar_of self.old) (lines self.old) (AnyRoute route) (lines self.new)) }
+        ensures version { OnOk result (self.new.transcript.version ≡ self.old.transcript.version) }
+        ensures refused { IfErr result (RefusesLine (grammar_of self.old) (lines self.old) (AnyRoute route)) }
     {
         if !self.takes_routes() {
             return Err(Cause::Form);
@@ -327,10 +383,12 @@ impl TranscriptDraft {
     }
 
     fn add_message(&mut self, message: MessageLine) -> Result<(), Cause>
-        requires begun { IsBegun transcript_grammar (lines self.old) }
+        requires begun { IsBegun (grammar_of self.old) (lines self.old) }
         requires fits { FitsMessage message }
-        ensures added { OnOk result (AddsLine transcript_grammar (lines self.old) (MsgLine message) (lines self.new)) }
-        ensures refused { IfErr result (RefusesLine transcript_grammar (lines self.old) (MsgLine message)) }
+        ensures added { OnOk result
+            (AddsLine (grammar_of self.old) (lines self.old) (MsgLine message) (lines self.new)) }
+        ensures version { OnOk result (self.new.transcript.version ≡ self.old.transcript.version) }
+        ensures refused { IfErr result (RefusesLine (grammar_of self.old) (lines self.old) (MsgLine message)) }
     {
         if !self.takes_msgs() {
             return Err(Cause::Form);
@@ -341,9 +399,9 @@ impl TranscriptDraft {
 
     // Why a message is refused for which there is no memory.
     fn message_unread(&self) -> Cause
-        requires begun { IsBegun transcript_grammar (lines self.now) }
+        requires begun { IsBegun (grammar_of self.now) (lines self.now) }
         ensures { (m : AnyMessage) → FitsMessage m
-            → RefusesLine transcript_grammar (lines self.now) (MsgLine m) result }
+            → RefusesLine (grammar_of self.now) (lines self.now) (MsgLine m) result }
     {
         if self.takes_msgs() {
             Cause::NoMemory
@@ -353,10 +411,12 @@ impl TranscriptDraft {
     }
 
     fn add_full(&mut self, full: FullLine) -> Result<(), Cause>
-        requires begun { IsBegun transcript_grammar (lines self.old) }
+        requires begun { IsBegun (grammar_of self.old) (lines self.old) }
         requires fits { FitsFull full }
-        ensures added { OnOk result (AddsLine transcript_grammar (lines self.old) (AnyFull full) (lines self.new)) }
-        ensures refused { IfErr result (RefusesLine transcript_grammar (lines self.old) (AnyFull full)) }
+        ensures added { OnOk result
+            (AddsLine (grammar_of self.old) (lines self.old) (AnyFull full) (lines self.new)) }
+        ensures version { OnOk result (self.new.transcript.version ≡ self.old.transcript.version) }
+        ensures refused { IfErr result (RefusesLine (grammar_of self.old) (lines self.old) (AnyFull full)) }
     {
         if !self.takes_fulls() {
             return Err(Cause::Form);
@@ -365,11 +425,33 @@ impl TranscriptDraft {
         Ok(())
     }
 
-    // Whether a full place may come: the last group.
+    fn add_hung(&mut self, hung: HungLine) -> Result<(), Cause>
+        requires begun { IsBegun (grammar_of self.old) (lines self.old) }
+        requires fits { FitsHungIn self.old.transcript.version hung }
+        ensures added { OnOk result
+            (AddsLine (grammar_of self.old) (lines self.old) (AnyHung hung) (lines self.new)) }
+        ensures version { OnOk result (self.new.transcript.version ≡ self.old.transcript.version) }
+        ensures refused { IfErr result (RefusesLine (grammar_of self.old) (lines self.old) (AnyHung hung)) }
+    {
+        if !self.takes_hungs() {
+            return Err(Cause::Form);
+        }
+        self.transcript.view.hungs.push(hung)?;
+        Ok(())
+    }
+
+    // Whether a hung-up stream may come: the last group.
+    fn takes_hungs(&self) -> bool
+        ensures { result ≡ takes_hungs self.now }
+    {
+        self.stage == Stage::View
+    }
+
+    // Whether one of the full places may come: nothing of a later group has.
     fn takes_fulls(&self) -> bool
         ensures { result ≡ takes_fulls self.now }
     {
-        self.stage == Stage::View
+        self.takes_hungs() && self.transcript.view.hungs.as_slice().is_empty()
     }
 
     // Whether one of the messages may come: nothing of a later group has.

@@ -50,8 +50,8 @@ fn with_line(alloc: Global, line: &[u8]) -> Result<Vec<u8>, Fail> {
     Ok(text)
 }
 
-// The program of one command.
-fn of_one(alloc: Global, call: Call) -> Result<Programs, Fail> {
+/// The program of one command.
+pub fn of_one(alloc: Global, call: Call) -> Result<Programs, Fail> {
     let command = command_of(alloc, call)?;
     let commands = alone(alloc, command)?;
     let programs = alone(alloc, commands)?;

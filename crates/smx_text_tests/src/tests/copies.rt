@@ -1,6 +1,7 @@
 //! Each copy, with ample memory, is equal to what it was made of.
 
 use super::copying::{is_copied, list_is_copied};
+use super::hangup_lines::with_hungs;
 use super::lists::alone;
 use smx_samples::{Answer, Call, command_of, entry_of, held_above, items, named, reply_of};
 use smx_types::{BindingLine, Command, ConfigView, Message, Same};
@@ -84,6 +85,11 @@ fn shown(alloc: Global, next_serial: u32) -> Result<ConfigView, Fail> {
 #[test]
 fn a_view_is_copied(rt: HostRuntime) -> Result<(), Fail> {
     is_copied(&rt, shown(rt.alloc(), 6))
+}
+
+#[test]
+fn hung_up_streams_are_copied(rt: HostRuntime) -> Result<(), Fail> {
+    is_copied(&rt, with_hungs(rt.alloc()))
 }
 
 #[test]

@@ -10,9 +10,9 @@ use std::alloc::Global;
 use std::process::Abort;
 use std::test::Fail;
 
-// 64 drivers and 64 programs.
-fn are_sixty_four(rt: &impl Abort, programs: &Programs) {
-    assert_eq!(rt; programs.drivers().len(), 64);
+// 128 drivers and 64 programs.
+fn are_as_many(rt: &impl Abort, programs: &Programs) {
+    assert_eq!(rt; programs.drivers().len(), 128);
     assert_eq!(rt; programs.programs().len(), 64);
 }
 
@@ -22,9 +22,9 @@ fn the_most_programs(rt: HostRuntime) -> Result<(), Fail> {
 }
 
 #[test]
-fn the_most_programs_are_64(rt: HostRuntime) -> Result<(), Fail> {
+fn the_most_programs_are_as_many(rt: HostRuntime) -> Result<(), Fail> {
     let programs = most_programs(rt.alloc())?;
-    are_sixty_four(&rt, &programs);
+    are_as_many(&rt, &programs);
     Ok(())
 }
 
@@ -37,12 +37,12 @@ fn too_many(alloc: Global, drivers: usize, first: usize) -> Result<Many, Fail> {
 
 #[test]
 fn one_more_driver(rt: HostRuntime) -> Result<(), Fail> {
-    is_copied(&rt, too_many(rt.alloc(), 65, 1))
+    is_copied(&rt, too_many(rt.alloc(), 129, 1))
 }
 
 #[test]
 fn one_more_command(rt: HostRuntime) -> Result<(), Fail> {
-    is_copied(&rt, too_many(rt.alloc(), 64, 99_938))
+    is_copied(&rt, too_many(rt.alloc(), 128, 99_938))
 }
 
 #[test]

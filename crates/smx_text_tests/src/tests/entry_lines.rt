@@ -3,7 +3,7 @@
 use super::lists::alone;
 use super::spelling::is_written;
 use smx_samples::{Answer, Call, command_of, nothing_open, numbered, reply_of};
-use smx_types::{Entry, Fault, Items, Transcript};
+use smx_types::{Entry, Fault, Items, Transcript, Version};
 use std::alloc::Global;
 use std::process::Abort;
 use std::test::Fail;
@@ -69,6 +69,7 @@ const FAULTS: [(Fault, &[u8]); 16] = [
 pub fn of_one(alloc: Global, entry: Entry) -> Result<Transcript, Fail> {
     let entries = alone(alloc, entry)?;
     Ok(Transcript {
+        version: Version::V1,
         drivers: Items::new(alloc),
         entries,
         view: nothing_open(alloc, 1, 1),

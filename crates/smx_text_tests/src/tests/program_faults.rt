@@ -16,8 +16,8 @@ fn with_line(alloc: Global, line: &[u8]) -> Result<Vec<u8>, Fail> {
     Ok(text)
 }
 
-// The text is no programs, for this cause at this line.
-fn is_refused(rt: &(impl AllocGlobal + Abort), text: &[u8], line: usize, cause: Cause) {
+/// The text is no programs, for this cause at this line.
+pub fn is_refused(rt: &(impl AllocGlobal + Abort), text: &[u8], line: usize, cause: Cause) {
     let fault = read_programs(rt.alloc(), text).err();
     assert_eq!(rt; fault, Some(TextFault { line, cause }));
 }
@@ -59,9 +59,10 @@ fn refuses_ill_formed_lines(rt: HostRuntime) -> Result<(), Fail> {
     Ok(())
 }
 
-const REFUSED: [(&[u8], usize, Cause); 4] = [
+const REFUSED: [(&[u8], usize, Cause); 5] = [
     (b"", 1, Cause::Cut),
-    (b"programs 2\n", 1, Cause::Header),
+    (b"programs 3\n", 1, Cause::Header),
+    (b"programs 2\n", 2, Cause::Cut),
     (
         b"programs 1\ndriver ip mux 4 8 3 16\nprocess 0\nclone ip\n",
         5,

@@ -7,7 +7,8 @@ use smx_types::{Command, Commands, Items, Programs};
 use std::alloc::Global;
 use std::test::Fail;
 
-const OPENS_AND_CLOSES: &[u8] =
+/// Streams that are opened and closed.
+pub const OPENS_AND_CLOSES: &[u8] =
     b"programs 1\ndriver ip mux 4 8 3 16\nprocess 0\nclone ip\nclone ip\nclose 0\nclone ip\nend\n";
 
 fn opening_and_closing(alloc: Global) -> Result<Commands, Fail> {
@@ -20,8 +21,8 @@ fn opening_and_closing(alloc: Global) -> Result<Commands, Fail> {
     Ok(commands)
 }
 
-// What that text spells.
-fn opens_and_closes(alloc: Global) -> Result<Programs, Fail> {
+/// What that text spells.
+pub fn opens_and_closes(alloc: Global) -> Result<Programs, Fail> {
     let driver = ip()?;
     let commands = opening_and_closing(alloc)?;
     one_program(alloc, driver, commands)

@@ -1,7 +1,7 @@
 //! How a text is compared with what it spells.
 
 use smx_text::{read_programs, read_transcript, write_programs, write_transcript};
-use smx_types::{Programs, Transcript};
+use smx_types::{Programs, Transcript, Version};
 use std::alloc::Global;
 use std::process::Abort;
 use std::test::Fail;
@@ -29,6 +29,9 @@ impl Spelled for Programs {
 
 impl Spelled for Transcript {
     fn written(&self, alloc: Global) -> Result<Vec<u8>, Fail> {
+        if self.version == Version::V1 && self.least() == Version::V2 {
+            return Err(Fail::new("version 1 can't tell it"));
+        }
         Ok(write_transcript(alloc, self)?)
     }
 

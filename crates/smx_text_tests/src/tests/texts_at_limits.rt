@@ -20,7 +20,7 @@ fn add_programs_of_one(alloc: Global, text: &mut Vec<u8>) -> Result<(), Fail> {
 }
 
 fn add_most_programs(alloc: Global, text: &mut Vec<u8>) -> Result<(), Fail> {
-    add_leaves(alloc, text, 64)?;
+    add_leaves(alloc, text, 128)?;
     text.extend_from_slice(b"process 0\n")?;
     add_lines(text, b"close 0\n", 99_937)?;
     add_programs_of_one(alloc, text)?;
@@ -29,7 +29,7 @@ fn add_most_programs(alloc: Global, text: &mut Vec<u8>) -> Result<(), Fail> {
 
 // The text of the most programs.
 fn text_of_most(alloc: Global) -> Result<Vec<u8>, Fail> {
-    let mut text = Vec::from_slice(alloc, b"programs 1\n".as_slice())?;
+    let mut text = Vec::from_slice(alloc, b"programs 2\n".as_slice())?;
     add_most_programs(alloc, &mut text)?;
     Ok(text)
 }
@@ -57,7 +57,7 @@ fn add_messages(alloc: Global, text: &mut Vec<u8>) -> Result<(), Fail> {
 }
 
 fn add_longest(alloc: Global, text: &mut Vec<u8>) -> Result<(), Fail> {
-    add_leaves(alloc, text, 64)?;
+    add_leaves(alloc, text, 128)?;
     add_lines(text, b"0 close 0 = id 7\n", 100_000)?;
     text.extend_from_slice(b"config\nnext 1025 4097\n")?;
     add_links(alloc, text)?;
@@ -67,7 +67,7 @@ fn add_longest(alloc: Global, text: &mut Vec<u8>) -> Result<(), Fail> {
 
 // The text of the longest transcript.
 fn text_of_longest(alloc: Global) -> Result<Vec<u8>, Fail> {
-    let mut text = Vec::from_slice(alloc, b"transcript 1\n".as_slice())?;
+    let mut text = Vec::from_slice(alloc, b"transcript 2\n".as_slice())?;
     add_longest(alloc, &mut text)?;
     Ok(text)
 }

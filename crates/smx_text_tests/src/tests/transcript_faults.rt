@@ -1,6 +1,5 @@
 //! Lines of transcripts, and texts that are none.
 
-use smx_samples::with_lines;
 use smx_text::{Cause, TextFault, read_transcript};
 use std::alloc::Global;
 use std::process::Abort;
@@ -40,8 +39,8 @@ fn takes_each_reply(rt: HostRuntime) -> Result<(), Fail> {
     Ok(())
 }
 
-// The text is no transcript, for this cause at this line.
-fn is_refused(rt: &(impl AllocGlobal + Abort), text: &[u8], line: usize, cause: Cause) {
+/// The text is no transcript, for this cause at this line.
+pub fn is_refused(rt: &(impl AllocGlobal + Abort), text: &[u8], line: usize, cause: Cause) {
     let fault = read_transcript(rt.alloc(), text).err();
     assert_eq!(rt; fault, Some(TextFault { line, cause }));
 }
@@ -85,9 +84,11 @@ fn refuses_ill_formed_entries(rt: HostRuntime) -> Result<(), Fail> {
     Ok(())
 }
 
-const REFUSED: [(&[u8], usize, Cause); 8] = [
+const REFUSED: [(&[u8], usize, Cause); 10] = [
     (b"", 1, Cause::Cut),
     (b"programs 1\n", 1, Cause::Header),
+    (b"transcript 3\n", 1, Cause::Header),
+    (b"transcript 2\n", 2, Cause::Cut),
     (
         b"transcript 1\ndriver ip mux 4 8 3 16\n0 clone ip = fd 0 0\n1 clone",
         4,
@@ -117,17 +118,4 @@ fn names_the_line_at_fault(rt: HostRuntime) {
     for (text, line, cause) in &REFUSED {
         is_refused(&rt, *text, *line, *cause);
     }
-}
-
-#[test]
-fn refuses_the_65th_driver(rt: HostRuntime) -> Result<(), Fail> {
-    let text = with_lines(
-        rt.alloc(),
-        b"transcript 1\n",
-        b"driver ip mux 4 8 3 16\n",
-        65,
-        b"config\nnext 1 1\nend\n",
-    )?;
-    is_refused(&rt, text.as_slice(), 66, Cause::Many);
-    Ok(())
 }

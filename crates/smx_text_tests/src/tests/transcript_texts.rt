@@ -137,12 +137,25 @@ link 2 a 0 eth 0 plink
 end
 ";
 
-const TEXTS: [&[u8]; 5] = [
+const A_HANGUP: &[u8] = b"transcript 2
+driver eth leaf 2 8 3 16
+0 clone eth = fd 0 0
+0 hangup eth 0 = done
+0 read 0 = eof
+config
+next 1 1
+fd 0 0 eth 0
+hung eth 0
+end
+";
+
+const TEXTS: [&[u8]; 6] = [
     OPENS_AND_CLOSES,
     MARKS_ACROSS_THE_JOIN,
     WAYS_BY_ROUTE_AND_BINDING,
     SIZES_AND_ENDS,
     ORDER_OF_REFUSALS,
+    A_HANGUP,
 ];
 
 #[test]
@@ -156,7 +169,11 @@ fn reads_and_writes_again(rt: HostRuntime) -> Result<(), Fail> {
 // The text of a transcript that is written entry by entry, in the room of other bytes.
 fn written_as_it_grows(alloc: Global, transcript: &Transcript) -> Result<Vec<u8>, Fail> {
     let room = Vec::from_slice(alloc, b"no longer wanted")?;
-    let mut writer = TranscriptWriter::begin(room, transcript.drivers.as_slice())?;
+    let mut writer = TranscriptWriter::begin(
+        room,
+        transcript.version,
+        transcript.drivers.as_slice(),
+    )?;
     for entry in transcript.entries.as_slice() {
         writer.add(slice::from_ref(entry))?;
     }

@@ -4,7 +4,7 @@ use super::spelling::is_written;
 use smx_samples::{items, named, nothing_open, open_on_ip};
 use smx_types::{
     BindingLine, ConfigView, FullLine, Items, LinkKind, LinkLine, Message, MessageLine, RouteLine,
-    Side, Transcript,
+    Side, Transcript, Version,
 };
 use std::alloc::Global;
 use std::test::Fail;
@@ -95,6 +95,7 @@ fn with_groups(alloc: Global) -> Result<Transcript, Fail> {
     let mut view = nothing_open(alloc, 3, 6);
     add_groups(alloc, &mut view)?;
     Ok(Transcript {
+        version: Version::V1,
         drivers: Items::new(alloc),
         entries: Items::new(alloc),
         view,

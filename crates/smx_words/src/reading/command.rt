@@ -1,8 +1,10 @@
 //! The words of a command.
 
-ghost use Rattle.std.specs.Prelude.{◌≡◌, ◌∷◌, [], codes, IfOk, IfErr};
+ghost use Rattle.std.specs.Prelude.{◌≡◌, ◌∷◌, [], codes, IfOk, IfErr, MatchOption};
+ghost use Rattle.smx_types.specs.Versions.{is_hangup};
+ghost use Rattle.smx_types.specs.declared.version.Version.TheVariants.{V1};
 ghost use Rattle.smx_words.specs.LineReading.{IsReadAs, IsLineOf};
-ghost use Rattle.smx_words.specs.Spellable.{FitsCommand};
+ghost use Rattle.smx_words.specs.Spellable.{CanTell, FitsCommand, FitsCommandIn};
 ghost use Rattle.smx_words.specs.Spelling.{command_words};
 ghost use Rattle.smx_words.specs.Verbs.{verb_word};
 ghost use Rattle.smx_words.specs.Words.{line_of};
@@ -11,14 +13,37 @@ use crate::reading::hex_word::bytes_of;
 use crate::reading::number::{first_number, number};
 use crate::reading::verb::{Verb, first_verb};
 use crate::reading::word::{first_name, name, sides, which};
-use smx_types::{Command, NoMemory};
+use smx_types::{Command, NoMemory, Version};
 use std::alloc::Global;
 
-/// The command whose words a line is, if it is one's. Fails only for want of memory, and then the line
-/// is some command's.
-pub fn command_of(alloc: Global, line: &[u8]) -> Result<Option<Command>, NoMemory>
+/// The command whose words a line is, if it is one's that a version can tell. Fails only for want of memory, and then
+/// the line is such a command's.
+pub fn command_of(alloc: Global, version: Version, line: &[u8]) -> Result<Option<Command>, NoMemory>
+    ensures reading { IfOk result (IsReadAs (FitsCommandIn version) command_words line.now) }
+    ensures wanted { IfErr result (λ _. IsLineOf (FitsCommandIn version) command_words line.now) }
+{
+    match any_command_of(alloc, line) {
+        Ok(Some(command)) => Ok(told(version, command)),
+        Ok(None) => Ok(None),
+        Err(error) => Err(error),
+    }
+}
+
+// The command, if the version can tell it.
+fn told(version: Version, command: Command) -> Option<Command>
+    ensures { MatchOption result (CanTell version (is_hangup command) → ⊥)
+        (λ c. (c ≡ command) × CanTell version (is_hangup command)) }
+{
+    match version {
+        Version::V1 if command.is_hangup() => None,
+        Version::V1 | Version::V2 => Some(command),
+    }
+}
+
+// The command whose words a line is, if it is one's. A command for which memory may be wanting is no hangup.
+fn any_command_of(alloc: Global, line: &[u8]) -> Result<Option<Command>, NoMemory>
     ensures reading { IfOk result (IsReadAs FitsCommand command_words line.now) }
-    ensures wanted { IfErr result (λ _. IsLineOf FitsCommand command_words line.now) }
+    ensures wanted { IfErr result (λ _. IsLineOf (FitsCommandIn V1) command_words line.now) }
 {
     match first_verb(line) {
         Some((verb, rest)) => command_after(alloc, verb, rest),
@@ -30,7 +55,7 @@ pub fn command_of(alloc: Global, line: &[u8]) -> Result<Option<Command>, NoMemor
 // The command of a verb and what stands behind it.
 fn command_after(alloc: Global, verb: Verb, rest: &[u8]) -> Result<Option<Command>, NoMemory>
     ensures reading { IfOk result (IsReadAs FitsCommand command_words (line_of (verb_word verb ∷ rest.now ∷ []))) }
-    ensures wanted { IfErr result (λ _. IsLineOf FitsCommand command_words (line_of (verb_word verb ∷ rest.now ∷ []))) }
+    ensures wanted { IfErr result (λ _. IsLineOf (FitsCommandIn V1) command_words (line_of (verb_word verb ∷ rest.now ∷ []))) }
 {
     match verb {
         Verb::Write => write(alloc, rest),
@@ -51,6 +76,7 @@ fn command_after(alloc: Global, verb: Verb, rest: &[u8]) -> Result<Option<Comman
         Verb::Read => Ok(read(rest)),
         Verb::Flush => Ok(flush(rest)),
         Verb::Transmit => Ok(transmit(rest)),
+        Verb::Hangup => Ok(hangup(rest)),
     }
 }
 
@@ -174,9 +200,19 @@ fn transmit(rest: &[u8]) -> Option<Command>
     Some(Command::Transmit { driver, minor })
 }
 
+fn hangup(rest: &[u8]) -> Option<Command>
+    ensures { IsReadAs FitsCommand command_words (line_of (codes "hangup" ∷ rest.now ∷ [])) result }
+{
+    let Some((driver, rest)) = first_name(rest) else {
+        return None;
+    };
+    let minor = number(rest)?;
+    Some(Command::Hangup { driver, minor })
+}
+
 fn write(alloc: Global, rest: &[u8]) -> Result<Option<Command>, NoMemory>
     ensures reading { IfOk result (IsReadAs FitsCommand command_words (line_of (codes "write" ∷ rest.now ∷ []))) }
-    ensures wanted { IfErr result (λ _. IsLineOf FitsCommand command_words (line_of (codes "write" ∷ rest.now ∷ []))) }
+    ensures wanted { IfErr result (λ _. IsLineOf (FitsCommandIn V1) command_words (line_of (codes "write" ∷ rest.now ∷ []))) }
 {
     let Some((fd, rest)) = first_number(rest) else {
         return Ok(None);
@@ -194,7 +230,7 @@ fn write(alloc: Global, rest: &[u8]) -> Result<Option<Command>, NoMemory>
 
 fn inject(alloc: Global, rest: &[u8]) -> Result<Option<Command>, NoMemory>
     ensures reading { IfOk result (IsReadAs FitsCommand command_words (line_of (codes "inject" ∷ rest.now ∷ []))) }
-    ensures wanted { IfErr result (λ _. IsLineOf FitsCommand command_words (line_of (codes "inject" ∷ rest.now ∷ []))) }
+    ensures wanted { IfErr result (λ _. IsLineOf (FitsCommandIn V1) command_words (line_of (codes "inject" ∷ rest.now ∷ []))) }
 {
     let Some((driver, rest)) = first_name(rest) else {
         return Ok(None);

@@ -2,7 +2,7 @@
 
 ghost use Rattle.std.specs.Prelude.{◌≡◌, ◌≢◌, ◌++◌, ◌∷◌, List, ℕ, codes, MatchOption, IfOk, IfErr};
 ghost use Rattle.smx_words.specs.LineReading.{IsReadAs, IsLineOf};
-ghost use Rattle.smx_words.specs.Spellable.{FitsCommand, FitsEntry, FitsReply};
+ghost use Rattle.smx_words.specs.Spellable.{FitsCommandIn, FitsEntryIn, FitsReplyIn};
 ghost use Rattle.smx_words.specs.Spelling.{command_words, entry_words, reply_words};
 ghost use Rattle.smx_words.specs.Words.{EQUALS, IsFree, line_of};
 
@@ -10,13 +10,14 @@ use crate::reading::command::command_of;
 use crate::reading::cutting::{after, before, cut};
 use crate::reading::number::first_number;
 use crate::reading::reply::reply_of;
-use smx_types::{Command, Entry, NoMemory, Process, Reply};
+use smx_types::{Command, Entry, NoMemory, Process, Reply, Version};
 use std::alloc::Global;
 
-/// The entry whose words a line is, if it is one's. Fails only for want of memory, and then the line is some entry's.
-pub fn entry_of(alloc: Global, line: &[u8]) -> Result<Option<Entry>, NoMemory>
-    ensures reading { IfOk result (IsReadAs FitsEntry entry_words line.now) }
-    ensures wanted { IfErr result (λ _. IsLineOf FitsEntry entry_words line.now) }
+/// The entry whose words a line is, if it is one's that a version can tell. Fails only for want of memory, and then the
+/// line is such an entry's.
+pub fn entry_of(alloc: Global, version: Version, line: &[u8]) -> Result<Option<Entry>, NoMemory>
+    ensures reading { IfOk result (IsReadAs (FitsEntryIn version) entry_words line.now) }
+    ensures wanted { IfErr result (λ _. IsLineOf (FitsEntryIn version) entry_words line.now) }
 {
     let Some((number, rest)) = first_number(line) else {
         return Ok(None);
@@ -27,7 +28,7 @@ pub fn entry_of(alloc: Global, line: &[u8]) -> Result<Option<Entry>, NoMemory>
     let Some((command, reply)) = sides(rest) else {
         return Ok(None);
     };
-    match both(alloc, command, reply) {
+    match both(alloc, version, command, reply) {
         Ok(Some((command, reply))) => Ok(Some(Entry {
             process,
             command,
@@ -39,25 +40,31 @@ pub fn entry_of(alloc: Global, line: &[u8]) -> Result<Option<Entry>, NoMemory>
 }
 
 // A command and a reply. Where memory is wanting for the command, the reply is still read, and has to be one.
-fn both(alloc: Global, command: &[u8], reply: &[u8]) -> Result<Option<(Command, Reply)>, NoMemory>
+fn both(
+    alloc: Global,
+    version: Version,
+    command: &[u8],
+    reply: &[u8],
+) -> Result<Option<(Command, Reply)>, NoMemory>
     ensures reading { IfOk result (λ o. MatchOption o
-        ((c : _) (r : _) → FitsCommand c → FitsReply r → command.now ≡ line_of (command_words c)
+        ((c : _) (r : _) → FitsCommandIn version c → FitsReplyIn version r → command.now ≡ line_of (command_words c)
         → reply.now ≢ line_of (reply_words r))
-        (λ p. FitsCommand p.0 × FitsReply p.1 × (command.now ≡ line_of (command_words p.0))
+        (λ p. FitsCommandIn version p.0 × FitsReplyIn version p.1 × (command.now ≡ line_of (command_words p.0))
         × (reply.now ≡ line_of (reply_words p.1)))) }
-    ensures wanted { IfErr result (λ _. IsLineOf FitsCommand command_words command.now
-        × IsLineOf FitsReply reply_words reply.now) }
+    ensures wanted { IfErr result (λ _. IsLineOf (FitsCommandIn version) command_words command.now
+        × IsLineOf (FitsReplyIn version) reply_words reply.now) }
 {
-    match command_of(alloc, command) {
-        Ok(Some(command)) => match reply_of(alloc, reply) {
+    match command_of(alloc, version, command) {
+        Ok(Some(command)) => match reply_of(alloc, version, reply) {
             Ok(Some(reply)) => Ok(Some((command, reply))),
             Ok(None) => Ok(None),
             Err(error) => Err(error),
         },
         Ok(None) => Ok(None),
-        Err(error) => match reply_of(alloc, reply) {
+        Err(error) => match reply_of(alloc, version, reply) {
             Ok(None) => Ok(None),
-            Ok(Some(_)) | Err(_) => Err(error),
+            Ok(Some(_)) => Err(error),
+            Err(error) => Err(error),
         },
     }
 }

@@ -3,8 +3,10 @@
 ghost use Rattle.std.specs.Prelude.{◌≡◌, ◌≢◌, ◌∷◌, ◌++◌, [], ℕ, List, codes, None, map, MatchBool, MatchOption};
 ghost use Rattle.std.specs.Prelude.{MatchResult, IfOk, IfErr};
 ghost use Rattle.std.specs.Fmt.{decimal};
+ghost use Rattle.smx_types.specs.Versions.{tells_of_hangup};
+ghost use Rattle.smx_types.specs.declared.version.Version.TheVariants.{V1};
 ghost use Rattle.smx_words.specs.LineReading.{IsReadAs, IsLineOf};
-ghost use Rattle.smx_words.specs.Spellable.{FitsAlways, FitsNumber, FitsReply, FitsSerials};
+ghost use Rattle.smx_words.specs.Spellable.{CanTell, FitsAlways, FitsNumber, FitsReply, FitsReplyIn, FitsSerials};
 ghost use Rattle.smx_words.specs.Spelling.{fault_words, reply_words};
 ghost use Rattle.smx_words.specs.Verbs.{reply_verb_word};
 ghost use Rattle.smx_words.specs.Words.{line_of};
@@ -13,13 +15,36 @@ use crate::reading::cutting::after;
 use crate::reading::hex_word::bytes_of;
 use crate::reading::number::{first_number, number};
 use crate::reading::verb::{ReplyVerb, first_reply_verb};
-use smx_types::{Fault, NoMemory, Reply, Serials};
+use smx_types::{Fault, NoMemory, Reply, Serials, Version};
 use std::alloc::Global;
 
-// The reply whose words a line is, if it is one's. Fails only for want of memory.
-pub fn reply_of(alloc: Global, line: &[u8]) -> Result<Option<Reply>, NoMemory>
+// The reply whose words a line is, if it is one's that a version can tell. Fails only for want of memory.
+pub fn reply_of(alloc: Global, version: Version, line: &[u8]) -> Result<Option<Reply>, NoMemory>
+    ensures reading { IfOk result (IsReadAs (FitsReplyIn version) reply_words line.now) }
+    ensures wanted { IfErr result (λ _. IsLineOf (FitsReplyIn version) reply_words line.now) }
+{
+    match any_reply_of(alloc, line) {
+        Ok(Some(reply)) => Ok(told(version, reply)),
+        Ok(None) => Ok(None),
+        Err(error) => Err(error),
+    }
+}
+
+// The reply, if the version can tell it.
+fn told(version: Version, reply: Reply) -> Option<Reply>
+    ensures { MatchOption result (CanTell version (tells_of_hangup reply) → ⊥)
+        (λ r. (r ≡ reply) × CanTell version (tells_of_hangup reply)) }
+{
+    match version {
+        Version::V1 if reply.tells_of_hangup() => None,
+        Version::V1 | Version::V2 => Some(reply),
+    }
+}
+
+// The reply whose words a line is, if it is one's. A reply for which memory may be wanting tells of no hangup.
+fn any_reply_of(alloc: Global, line: &[u8]) -> Result<Option<Reply>, NoMemory>
     ensures reading { IfOk result (IsReadAs FitsReply reply_words line.now) }
-    ensures wanted { IfErr result (λ _. IsLineOf FitsReply reply_words line.now) }
+    ensures wanted { IfErr result (λ _. IsLineOf (FitsReplyIn V1) reply_words line.now) }
 {
     match first_reply_verb(line) {
         Some((verb, rest)) => reply_after(alloc, verb, rest),
@@ -31,7 +56,7 @@ pub fn reply_of(alloc: Global, line: &[u8]) -> Result<Option<Reply>, NoMemory>
 fn reply_after(alloc: Global, verb: ReplyVerb, rest: &[u8]) -> Result<Option<Reply>, NoMemory>
     ensures reading { IfOk result (IsReadAs FitsReply reply_words (line_of (reply_verb_word verb ∷ rest.now ∷ []))) }
     ensures wanted { IfErr result (λ _.
-        IsLineOf FitsReply reply_words (line_of (reply_verb_word verb ∷ rest.now ∷ []))) }
+        IsLineOf (FitsReplyIn V1) reply_words (line_of (reply_verb_word verb ∷ rest.now ∷ []))) }
 {
     match verb {
         ReplyVerb::Fd => Ok(fd(rest)),
@@ -66,7 +91,7 @@ fn took(rest: &[u8]) -> Option<Reply>
 
 fn got(alloc: Global, rest: &[u8]) -> Result<Option<Reply>, NoMemory>
     ensures reading { IfOk result (IsReadAs FitsReply reply_words (line_of (codes "got" ∷ rest.now ∷ []))) }
-    ensures wanted { IfErr result (λ _. IsLineOf FitsReply reply_words (line_of (codes "got" ∷ rest.now ∷ []))) }
+    ensures wanted { IfErr result (λ _. IsLineOf (FitsReplyIn V1) reply_words (line_of (codes "got" ∷ rest.now ∷ []))) }
 {
     let Some((serial, rest)) = first_number(rest) else {
         return Ok(None);
@@ -88,7 +113,7 @@ fn got(alloc: Global, rest: &[u8]) -> Result<Option<Reply>, NoMemory>
 
 fn done(alloc: Global, rest: &[u8]) -> Result<Option<Reply>, NoMemory>
     ensures reading { IfOk result (IsReadAs FitsReply reply_words (line_of (codes "done" ∷ rest.now ∷ []))) }
-    ensures wanted { IfErr result (λ _. IsLineOf FitsReply reply_words (line_of (codes "done" ∷ rest.now ∷ []))) }
+    ensures wanted { IfErr result (λ _. IsLineOf (FitsReplyIn V1) reply_words (line_of (codes "done" ∷ rest.now ∷ []))) }
 {
     match serials(alloc, rest) {
         Ok(Some(dropped)) => Ok(Some(Reply::Done { dropped })),
@@ -155,15 +180,19 @@ fn last_serial(mut serials: Serials, word: &[u8]) -> Result<Option<Serials>, NoM
     }
 }
 
-// The reply that stands alone: nothing dropped, or a fault.
+// The reply that stands alone: nothing dropped, end of file, or a fault.
 fn lone_reply(alloc: Global, line: &[u8]) -> Option<Reply>
-    ensures { MatchOption result ((line.now ≢ codes "done") × ((f : _) → line.now ≢ line_of (fault_words f)))
+    ensures { MatchOption result ((line.now ≢ codes "done") × (line.now ≢ codes "eof")
+        × ((f : _) → line.now ≢ line_of (fault_words f)))
         (λ r. FitsReply r × (line.now ≡ line_of (reply_words r))) }
 {
     if line == b"done".as_slice() {
         return Some(Reply::Done {
             dropped: Serials::new(alloc),
         });
+    }
+    if line == b"eof".as_slice() {
+        return Some(Reply::Eof);
     }
     let fault = fault_of(line)?;
     Some(Reply::Fault(fault))
@@ -211,6 +240,7 @@ fn valid(line: &[u8]) -> Option<Fault>
         b"EMFILE" => Some(Fault::TooManyDescriptors),
         b"EADDRINUSE" => Some(Fault::AddressInUse),
         b"ERANGE" => Some(Fault::BadSize),
+        b"ENXIO hangup" => Some(Fault::HungUp),
         _ => None,
     }
 }

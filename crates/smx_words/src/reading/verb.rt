@@ -27,6 +27,7 @@ pub enum Verb {
     Flush,
     Inject,
     Transmit,
+    Hangup,
 }
 
 /// What a reply that is no fault tells, by its first word.
@@ -62,6 +63,7 @@ fn verb_of(word: &[u8]) -> Option<Verb>
         b"flush" => Some(Verb::Flush),
         b"inject" => Some(Verb::Inject),
         b"transmit" => Some(Verb::Transmit),
+        b"hangup" => Some(Verb::Hangup),
         _ => None,
     }
 }

@@ -2,7 +2,7 @@
 
 ghost use Rattle.std.specs.Prelude.{◌≡◌, IfOk, IfErr};
 ghost use Rattle.smx_words.specs.LineReading.{IsReadAs, IsLineOf};
-ghost use Rattle.smx_words.specs.Spellable.{FitsDescriptor, FitsLink, FitsBinding, FitsRoute, FitsMessage, FitsFull};
+ghost use Rattle.smx_words.specs.Spellable.{FitsDescriptor, FitsLink, FitsBinding, FitsRoute, FitsMessage, FitsFull, FitsHung};
 ghost use Rattle.smx_words.specs.Spelling.{
   descriptor_words,
   link_words,
@@ -10,6 +10,7 @@ ghost use Rattle.smx_words.specs.Spelling.{
   route_words,
   message_words,
   full_words,
+  hung_words,
 };
 
 use crate::reading::cutting::after;
@@ -17,7 +18,8 @@ use crate::reading::hex_word::bytes_of;
 use crate::reading::number::{first_number, first_process, number};
 use crate::reading::word::{first_name, first_side, link_kind, side};
 use smx_types::{
-    BindingLine, DescriptorLine, FullLine, LinkLine, Message, MessageLine, NoMemory, RouteLine,
+    BindingLine, DescriptorLine, FullLine, HungLine, LinkLine, Message, MessageLine, NoMemory,
+    RouteLine,
 };
 use std::alloc::Global;
 
@@ -124,6 +126,20 @@ pub fn full_of(line: &[u8]) -> Option<FullLine>
         minor,
         side,
     })
+}
+
+/// The hung-up stream whose words a line is, if it is one's.
+pub fn hung_of(line: &[u8]) -> Option<HungLine>
+    ensures { IsReadAs FitsHung hung_words line.now result }
+{
+    let Some(rest) = after(line, b"hung ".as_slice()) else {
+        return None;
+    };
+    let Some((driver, rest)) = first_name(rest) else {
+        return None;
+    };
+    let minor = number(rest)?;
+    Some(HungLine { driver, minor })
 }
 
 /// The queued message whose words a line is, if it is one's. Fails only for want of memory, and then the line is some

@@ -61,6 +61,7 @@ pub(super) fn put_command(out: &mut Vec<u8>, command: &Command) -> Result<(), No
             bytes,
         } => put_inject(out, driver, *minor, *addr, bytes.as_slice()),
         Command::Transmit { driver, minor } => put_stream(out, b"transmit", driver, *minor),
+        Command::Hangup { driver, minor } => put_stream(out, b"hangup", driver, *minor),
     }
 }
 

@@ -29,6 +29,7 @@ pub(super) fn put_reply(out: &mut Vec<u8>, reply: &Reply) -> Result<(), NoMemory
             bytes,
         } => put_got(out, *serial, *addr, bytes.as_slice()),
         Reply::Done { dropped } => put_done(out, dropped.as_slice()),
+        Reply::Eof => put_text(out, b" = eof\n"),
         Reply::Fault(fault) => put_fault(out, *fault),
     }
 }
@@ -116,5 +117,6 @@ fn put_fault(out: &mut Vec<u8>, fault: Fault) -> Result<(), NoMemory>
         Fault::Full => put_text(out, b" = EAGAIN full\n"),
         Fault::Empty => put_text(out, b" = EAGAIN empty\n"),
         Fault::BadSize => put_text(out, b" = ERANGE\n"),
+        Fault::HungUp => put_text(out, b" = ENXIO hangup\n"),
     }
 }

@@ -2,9 +2,9 @@
 
 ghost use Rattle.std.specs.Prelude.{◌≡◌, ◌∷◌, ◌++◌, [], OnOk};
 ghost use Rattle.std.specs.Fmt.{decimal};
-ghost use Rattle.smx_words.specs.Spellable.{FitsBinding, FitsDescriptor, FitsFull, FitsLink, FitsMessage};
+ghost use Rattle.smx_words.specs.Spellable.{FitsBinding, FitsDescriptor, FitsFull, FitsHung, FitsLink, FitsMessage};
 ghost use Rattle.smx_words.specs.Spellable.{FitsName, FitsNumber, FitsRoute};
-ghost use Rattle.smx_words.specs.Spelling.{bind_words, descriptor_words, full_words, link_words};
+ghost use Rattle.smx_words.specs.Spelling.{bind_words, descriptor_words, full_words, hung_words, link_words};
 ghost use Rattle.smx_words.specs.Spelling.{link_kind_word, message_words, route_words, side_word};
 ghost use Rattle.smx_words.specs.Words.{LINE_FEED, SPACE, line_of};
 
@@ -13,8 +13,8 @@ use super::bytes::put_message;
 use super::number::{put_last, put_spaced};
 use super::word::{put_name, put_side};
 use smx_types::{
-    BindingLine, DescriptorLine, FullLine, LinkKind, LinkLine, MessageLine, Name, NoMemory,
-    RouteLine, Side,
+    BindingLine, DescriptorLine, FullLine, HungLine, LinkKind, LinkLine, MessageLine, Name,
+    NoMemory, RouteLine, Side,
 };
 
 impl Spell for DescriptorLine {
@@ -108,6 +108,18 @@ impl Spell for FullLine {
         put_place(out, &self.driver, self.minor, self.side)?;
         out.push(b'\n')?;
         Ok(())
+    }
+}
+
+impl Spell for HungLine {
+    ghost words = { hung_words };
+
+    ghost Fits = { FitsHung };
+
+    fn write_line(&self, out: &mut Vec<u8>) -> Result<(), NoMemory> {
+        out.extend_from_slice(b"hung")?;
+        put_name(out, &self.driver)?;
+        put_last(out, self.minor)
     }
 }
 

@@ -1,5 +1,5 @@
 use Rattle.std.proofs.Common.{refl, sym, ◌∙◌}
-use Rattle.smx_config.specs.ModelOfLists.{configuration_of}
+use Rattle.smx_tables.specs.ModelOfLists.{configuration_of}
 use Rattle.smx_config.proofs.DoneLemmas.{bind_does}
 use Rattle.smx_config.proofs.LookupLemmas.{not_refused}
 use Rattle.smx_config.proofs.commands_of_addresses.bind.Goals as goal

@@ -1,5 +1,5 @@
 use Rattle.std.proofs.Common.{eqb}
-use Rattle.smx_config.proofs.AboveLemmas.{some_with_id, none_with_id}
+use Rattle.smx_tables.proofs.AboveLemmas.{some_with_id, none_with_id}
 use Rattle.smx_config.proofs.commands_of_addresses.has_link.Goals as goal
 
 pub returns-in-Some : goal.returns-in-Some

@@ -1,6 +1,6 @@
 use Rattle.std.proofs.Common.{◌∙◌}
 use Rattle.smx_config.specs.UnlinkTargets.{may_unlink}
-use Rattle.smx_config.proofs.AboveLemmas.{some_with_id, none_with_id}
+use Rattle.smx_tables.proofs.AboveLemmas.{some_with_id, none_with_id}
 use Rattle.smx_config.proofs.commands_of_links.has_target.Goals as goal
 
 pub returns-in-Some : goal.returns-in-Some

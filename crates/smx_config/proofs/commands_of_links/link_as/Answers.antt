@@ -1,6 +1,6 @@
 use Rattle.std.proofs.Common.{arith, sym, ◌∙◌}
-use Rattle.smx_config.specs.ModelOfLists.{configuration_of}
-use Rattle.smx_config.proofs.ExistingLemmas.{fd_is_there, held_by_one_more, holds_few, not_below_yet}
+use Rattle.smx_tables.specs.ModelOfLists.{configuration_of}
+use Rattle.smx_tables.proofs.ExistingLemmas.{fd_is_there, held_by_one_more, holds_few, not_below_yet}
 use Rattle.smx_config.proofs.KnownLemmas.{driver_known}
 use Rattle.smx_config.proofs.commands_of_links.link_as.Goals as goal
 
@@ -21,5 +21,5 @@ hold-requires-clause-few c = omega (arith, c.requires.kept.held c.in_ok-lower.lo
 pub returns-clause-kept : goal.returns-clause-kept
 returns-clause-kept c = record {
   held = held_by_one_more c.args.lists.now.links c.try_link.new.self c.in_ok-upper.upper c.in_ok-lower.lower c.args.kind c.args.lists.now.streams c.hold.new.self
-      (not_below_yet c.args.lists.now.links c.in_ok-upper.upper c.in_ok-lower.lower c.in_ok-id.id c.in_ok-id.ensures.answer) c.in_ok-id.ensures.ok c.requires.kept.held c.hold.ensures;
+      (not_below_yet c.args.lists.now.links c.in_ok-upper.upper c.in_ok-lower.lower c.in_ok-id.id c.in_ok-id.ensures.answer) c.in_ok-id.ensures.ok c.requires.kept.held c.hold.ensures.rest;
 }

@@ -5,7 +5,7 @@ use Rattle.smx_types.specs.declared.command.Which.{Which}
 use Rattle.smx_types.specs.declared.reply.Fault.TheVariants.{NoLink}
 use Rattle.smx_model.specs.Outcomes.{refuse}
 use Rattle.smx_config.specs.UnlinkTargets.{are_there, may_unlink}
-use Rattle.smx_config.proofs.AboveLemmas.{target_of_id}
+use Rattle.smx_tables.proofs.AboveLemmas.{target_of_id}
 use Rattle.smx_config.proofs.commands_of_links.targets.Goals as goal
 
 not_refused : (b : Bool) → refuse NoLink (not b) ≡ Ok tt → b ≡ true

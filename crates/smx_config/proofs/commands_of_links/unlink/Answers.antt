@@ -1,4 +1,4 @@
-use Rattle.smx_config.specs.ModelOfLists.{configuration_of}
+use Rattle.smx_tables.specs.ModelOfLists.{configuration_of}
 use Rattle.smx_config.proofs.DoneLemmas.{unlink_is}
 use Rattle.smx_config.proofs.commands_of_links.unlink.Goals as goal
 

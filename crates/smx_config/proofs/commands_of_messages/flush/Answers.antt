@@ -3,8 +3,8 @@ use Rattle.std.proofs.lemmas.Bool.{or_left}
 use Rattle.smx_types.specs.declared.stream.Place.{Place}
 use Rattle.smx_model.specs.Commands.{is_side}
 use Rattle.smx_model.specs.Configuration.{same_stream}
-use Rattle.smx_config.specs.ModelOfLists.{configuration_of}
-use Rattle.smx_config.proofs.TouchLemmas.{touched_by, touched_emptied}
+use Rattle.smx_tables.specs.ModelOfLists.{configuration_of}
+use Rattle.smx_tables.proofs.TouchLemmas.{touched_by, touched_emptied}
 use Rattle.smx_config.proofs.commands_of_messages.flush.Goals as goal
 
 pub sweep_and_reply-requires-clause-kept : goal.sweep_and_reply-requires-clause-kept

@@ -1,6 +1,6 @@
 use Rattle.std.proofs.Common.{sym, ◌∙◌}
 use Rattle.smx_streams.specs.StreamTables.{stream_at}
-use Rattle.smx_config.proofs.TouchLemmas.{fd_at}
+use Rattle.smx_config.proofs.ClosingLemmas.{fd_at}
 use Rattle.smx_config.proofs.commands_of_streams.close.Goals as goal
 
 pub close_last-requires-clause-there : goal.close_last-requires-clause-there

@@ -1,7 +1,9 @@
 use Rattle.std.proofs.Common.{refl, ◌∙◌, arith}
-use Rattle.smx_config.specs.ModelOfLists.{configuration_of}
+use Rattle.smx_tables.specs.ModelOfLists.{configuration_of}
 use Rattle.smx_config.proofs.DoneLemmas.{done_is}
-use Rattle.smx_config.proofs.TouchLemmas.{all_closed_touch, touched_by, touched_fds}
+use Rattle.smx_tables.proofs.HungSweepLemmas.{sweep_of_left}
+use Rattle.smx_config.proofs.ClosingLemmas.{all_closed_touch}
+use Rattle.smx_tables.proofs.TouchLemmas.{touched_by, touched_fds, touched_hungs}
 use Rattle.smx_config.proofs.commands_of_streams.close_all.Goals as goal
 
 pub touch_each-requires : goal.touch_each-requires
@@ -21,8 +23,8 @@ sweep_and_reply-requires-clause-touched c =
     let t = c.args.lists.now.streams in
     let u = c.close_process.new.self in
     let ss = c.touch_each.new.touched.items in
-    touched_fds u ss old u.fds (touched_by c.args.drivers.now old t u ss c.requires.existing c.requires.swept_already
-    (all_closed_touch t u c.args.process ss c.touch_each.ensures.named c.close_process.ensures.went))
+    touched_hungs u ss (record old { fds = u.fds }) u.hungs (touched_fds u ss old u.fds (touched_by c.args.drivers.now old t u ss c.requires.existing c.requires.swept_already
+    (all_closed_touch t u c.args.process ss c.touch_each.ensures.named c.close_process.ensures.went)))
 
 pub sweep_and_reply-requires-clause-room : goal.sweep_and_reply-requires-clause-room
 sweep_and_reply-requires-clause-room c = record {
@@ -36,5 +38,8 @@ sweep_and_reply-requires-clause-room c = record {
 
 pub returns-clause-refines : goal.returns-clause-refines
 returns-clause-refines c =
-    done_is c.args.drivers.now (configuration_of c.args.lists.now) _ (configuration_of c.sweep_and_reply.new.lists) c.sweep_and_reply.result (c.sweep_and_reply.ensures.value ∙ rw c.close_process.ensures.rest.fds refl)
+    let old = configuration_of c.args.lists.now in
+    let u = c.close_process.new.self in
+    let left = sweep_of_left c.args.drivers.now (record old { fds = u.fds; hungs = u.hungs }) u old.hungs (λ s. c.close_process.ensures.rest.holds s ∙ c.requires.kept.held s) refl c.close_process.ensures.rest.hungs in
+    done_is c.args.drivers.now old _ (configuration_of c.sweep_and_reply.new.lists) c.sweep_and_reply.result (c.sweep_and_reply.ensures.value ∙ left ∙ rw c.close_process.ensures.rest.fds refl)
     (c.sweep_and_reply.ensures.reply c.args.lists.now.queues.flow c.requires.serials.apart c.in_ok-room.ensures.none)

@@ -4,8 +4,8 @@ use Rattle.smx_types.specs.declared.command.Command.TheVariants as command
 use Rattle.smx_model.specs.Commands.{outcome}
 use Rattle.smx_streams.specs.StreamTables.{StreamTable, dup_answer}
 use Rattle.smx_config.specs.declared.step_error.StepError.TheVariants as step_error
-use Rattle.smx_config.specs.declared.lists.Lists.{Lists}
-use Rattle.smx_config.specs.ModelOfLists.{configuration_of}
+use Rattle.smx_tables.specs.declared.lists.Lists.{Lists}
+use Rattle.smx_tables.specs.ModelOfLists.{configuration_of}
 use Rattle.smx_config.proofs.DescriptorLemmas.{agrees_err, agrees_ok, dup_agrees, dup_refused_in_place, refused_by}
 use Rattle.smx_config.proofs.commands_of_streams.dup.Goals as goal
 
@@ -27,7 +27,7 @@ returns-in_err-opened-clause-in_place c = λ none.
 pub returns-clause-refines : goal.returns-clause-refines
 returns-clause-refines c =
     rw c.fd_reply.ensures (agrees_ok (configuration_of c.args.lists.now) c.args.process (dup_answer c.args.lists.now.streams c.args.process c.args.fd) _ c.in_ok-opened.opened (dup_agrees c.args.drivers.now (configuration_of c.args.lists.now) c.args.lists.now.streams c.args.process c.args.fd refl) (sym c.in_ok-opened.ensures.answer)
-    ∙ rw c.in_ok-opened.ensures.ok.fds refl)
+    ∙ rw (c.in_ok-opened.ensures.ok.fds, c.in_ok-opened.ensures.ok.hungs) refl)
 
 pub returns-clause-kept : goal.returns-clause-kept
 returns-clause-kept c = record { held = λ s. c.in_ok-opened.ensures.ok.holds s ∙ c.requires.kept.held s }

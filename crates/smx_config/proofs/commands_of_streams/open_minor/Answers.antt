@@ -6,8 +6,8 @@ use Rattle.smx_model.specs.Commands.{outcome}
 use Rattle.smx_model.specs.DriverList.{minors_of}
 use Rattle.smx_model.specs.Standing.{is_below}
 use Rattle.smx_streams.specs.StreamTables.{StreamTable, minor_answer}
-use Rattle.smx_config.specs.declared.lists.Lists.{Lists}
-use Rattle.smx_config.specs.ModelOfLists.{configuration_of}
+use Rattle.smx_tables.specs.declared.lists.Lists.{Lists}
+use Rattle.smx_tables.specs.ModelOfLists.{configuration_of}
 use Rattle.smx_config.proofs.DescriptorLemmas.{agrees_err, agrees_ok, minor_agrees, refused_by}
 use Rattle.smx_config.proofs.LookupLemmas.{not_refused}
 use Rattle.smx_config.proofs.commands_of_streams.open_minor.Goals as goal
@@ -32,7 +32,7 @@ returns-clause-refines c =
     let free : is_below c.args.lists.now.links.links (record { driver = n; minor = c.args.minor }) ≡ false = sym c.is_below.ensures ∙ not_refused _ _ (sym c.refuse-2.ensures ∙ c.in_ok-refuse-2.was) in
     let agrees = minor_agrees c.args.drivers.now (configuration_of c.args.lists.now) c.args.lists.now.streams c.args.process n c.args.minor c.args.name.now c.requires.streams refl (sym c.driver_of.ensures.found ∙ c.in_ok-driver.was) c.in_ok-driver.ensures.in_range few free in
     rw c.fd_reply.ensures (agrees_ok (configuration_of c.args.lists.now) c.args.process (minor_answer c.args.lists.now.streams c.args.process n c.args.minor) _ c.in_ok-opened.opened agrees c.in_ok-opened.ensures.ok.0
-    ∙ rw c.in_ok-opened.ensures.ok.1.fds refl)
+    ∙ rw (c.in_ok-opened.ensures.ok.1.fds, c.in_ok-opened.ensures.ok.1.hungs) refl)
 
 pub returns-clause-kept : goal.returns-clause-kept
 returns-clause-kept c = record { held = λ s. c.in_ok-opened.ensures.ok.1.holds s ∙ c.requires.kept.held s }

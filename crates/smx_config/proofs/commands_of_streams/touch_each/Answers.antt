@@ -1,5 +1,5 @@
 use Rattle.std.proofs.Common.{[], ◌∷◌, ap, length, length-append, sym, ◌∙◌, arith}
-use Rattle.smx_config.proofs.TouchLemmas.{none_named_more, one_named_more}
+use Rattle.smx_config.proofs.ClosingLemmas.{none_named_more, one_named_more}
 use Rattle.smx_config.proofs.commands_of_streams.touch_each.Goals as goal
 use Rattle.smx_config.proofs.commands_of_streams.touch_each.Goals.{in-Some, in_default}
 

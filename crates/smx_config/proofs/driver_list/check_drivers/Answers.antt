@@ -1,6 +1,6 @@
 use Rattle.std.proofs.Common.{refl, sym, ◌∙◌, arith}
 use Rattle.std.proofs.lemmas.Option.{slice_get_read}
-use Rattle.smx_config.proofs.DriverListLemmas.{next_driver, taken_name}
+use Rattle.smx_tables.proofs.DriverListLemmas.{next_driver, taken_name}
 use Rattle.smx_config.proofs.driver_list.check_drivers.Goals as goal
 
 pub returns-then-has_name-clause-accepted : goal.returns-then-has_name-clause-accepted

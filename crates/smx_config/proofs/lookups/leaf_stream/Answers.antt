@@ -1,5 +1,5 @@
 use Rattle.std.proofs.Common.{sym, ◌∙◌, arith}
-use Rattle.smx_config.specs.ModelOfLists.{configuration_of}
+use Rattle.smx_tables.specs.ModelOfLists.{configuration_of}
 use Rattle.smx_config.proofs.KnownLemmas.{unknown_is_not}
 use Rattle.smx_config.proofs.LookupLemmas.{no_leaf, not_refused}
 use Rattle.smx_config.proofs.lookups.leaf_stream.Goals as goal

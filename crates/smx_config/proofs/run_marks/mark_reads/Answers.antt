@@ -1,5 +1,5 @@
 use Rattle.std.proofs.Common.{refl, sym, ◌∙◌}
-use Rattle.smx_config.specs.ModelOfLists.{configuration_of}
+use Rattle.smx_tables.specs.ModelOfLists.{configuration_of}
 use Rattle.smx_config.proofs.RunMarkLemmas.{one_left, one_passed}
 use Rattle.smx_config.proofs.run_marks.mark_reads.Goals as goal
 

@@ -1,6 +1,6 @@
 use Rattle.std.proofs.Common.{length}
 use Rattle.smx_config.specs.Marking.{is_read_below_driver}
-use Rattle.smx_config.specs.ModelOfLists.{configuration_of}
+use Rattle.smx_tables.specs.ModelOfLists.{configuration_of}
 use Rattle.smx_config.proofs.RunMarkLemmas.{ArePassed}
 use Rattle.smx_config.proofs.run_marks.mark_reads.Given as goal
 

@@ -3,7 +3,7 @@ use Rattle.smx_types.specs.declared.driver.DriverSpec.{DriverSpec}
 use Rattle.smx_model.specs.KnownStreams.{IsKnown}
 use Rattle.smx_config.specs.declared.marks.Marks.{Marks}
 use Rattle.smx_config.specs.Marking.{marked_configuration}
-use Rattle.smx_config.specs.ModelOfLists.{configuration_of}
+use Rattle.smx_tables.specs.ModelOfLists.{configuration_of}
 use Rattle.smx_config.proofs.NextMoveLemmas.{cleared_marks, is_cleared, next_has_message, noted}
 use Rattle.smx_config.proofs.settling.clear_mark.Goals as goal
 

@@ -1,8 +1,8 @@
 use Rattle.std.proofs.Common.{refl, subst, sym}
 use Rattle.smx_model.specs.Configuration.{Configuration}
 use Rattle.smx_model.specs.KeptConfigurations.{IsKept}
-use Rattle.smx_config.specs.ModelOfLists.{configuration_of}
-use Rattle.smx_config.proofs.ExistingLemmas.{swept_is_linked}
+use Rattle.smx_tables.specs.ModelOfLists.{configuration_of}
+use Rattle.smx_tables.proofs.ExistingLemmas.{swept_is_linked}
 use Rattle.smx_config.proofs.settling.finish_step.Goals as goal
 
 pub tells_existing-requires-clause-known : goal.tells_existing-requires-clause-known

@@ -9,10 +9,10 @@ use Rattle.smx_model.specs.RunMarks.{both}
 use Rattle.smx_queues.specs.PlaceMarks.{MarkList}
 use Rattle.smx_config.specs.declared.marks.Marks.{Marks}
 use Rattle.smx_config.specs.Marking.{AreMarks, IsMarkedWhere, IsWoken}
-use Rattle.smx_config.specs.ModelOfLists.{configuration_of}
+use Rattle.smx_tables.specs.ModelOfLists.{configuration_of}
 use Rattle.smx_config.proofs.RunMarkLemmas.{both_marked, left_empty, one_marked, swapped}
 use Rattle.smx_config.proofs.NextMoveLemmas.{emptied_marks, forgotten, open_has_message}
-use Rattle.smx_config.proofs.PlaceLemmas.{place_is, place_self}
+use Rattle.smx_tables.proofs.PlaceLemmas.{place_is, place_self}
 use Rattle.smx_config.proofs.WakeLemmas.{woken}
 use Rattle.smx_config.proofs.settling.move_marked.Goals as goal
 

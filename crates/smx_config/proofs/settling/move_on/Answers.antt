@@ -1,7 +1,7 @@
 use Rattle.std.proofs.Common.{List, ap, subst, sym}
 use Rattle.smx_types.specs.declared.driver.DriverSpec.{DriverSpec}
 use Rattle.smx_model.specs.KnownStreams.{IsKnown}
-use Rattle.smx_config.specs.ModelOfLists.{configuration_of}
+use Rattle.smx_tables.specs.ModelOfLists.{configuration_of}
 use Rattle.smx_config.proofs.MoveLemmas.{drivers_moved}
 use Rattle.smx_config.proofs.NextPlaceLemmas.{open_next}
 use Rattle.smx_config.proofs.settling.move_on.Goals as goal

@@ -1,5 +1,5 @@
 use Rattle.smx_queues.specs.PlaceMarks.{has_mark}
-use Rattle.smx_config.specs.ModelOfLists.{configuration_of}
+use Rattle.smx_tables.specs.ModelOfLists.{configuration_of}
 use Rattle.smx_config.proofs.NextMoveLemmas.{least_none, movable_to, moves_to}
 use Rattle.smx_config.proofs.settling.next_move.Goals as goal
 

@@ -2,8 +2,8 @@ use Rattle.std.proofs.Common.{◌∙◌, arith, subst, sym}
 use Rattle.smx_model.specs.Settling.{IsSettled, after_settling}
 use Rattle.smx_model.specs.SettlingByMarks.{HasNoRunMark}
 use Rattle.smx_queues.specs.PlaceMarks.{has_mark}
-use Rattle.smx_config.specs.ModelOfLists.{configuration_of}
-use Rattle.smx_config.proofs.KeptLemmas.{queues_stay}
+use Rattle.smx_tables.specs.ModelOfLists.{configuration_of}
+use Rattle.smx_tables.proofs.KeptLemmas.{queues_stay}
 use Rattle.smx_config.proofs.SettleLemmas.{settled_one, within_zero}
 use Rattle.smx_config.proofs.NextMoveLemmas.{none_left}
 use Rattle.smx_config.proofs.settling.settle.Goals as goal

@@ -1,9 +1,9 @@
 use Rattle.std.proofs.Common.{◌≡◌}
 use Rattle.smx_model.specs.KeptConfigurations.{IsSound}
 use Rattle.smx_model.specs.Settling.{after_settling, after_settling_within}
-use Rattle.smx_config.specs.KeptHolds.{KeepsHolds}
+use Rattle.smx_tables.specs.KeptHolds.{KeepsHolds}
 use Rattle.smx_config.specs.Marking.{AreMarks}
-use Rattle.smx_config.specs.ModelOfLists.{configuration_of, sizes_of}
+use Rattle.smx_tables.specs.ModelOfLists.{configuration_of, sizes_of}
 use Rattle.smx_config.proofs.settling.settle.Given as goal
 
 abbrev pub decreases-loop-left : goal.decreases-loop-left

@@ -4,7 +4,7 @@ use Rattle.smx_types.specs.declared.stream.Place.{Place}
 use Rattle.smx_model.specs.Configuration.{same_place}
 use Rattle.smx_model.specs.Queues.{is_full}
 use Rattle.smx_queues.specs.PlaceMarks.{has_mark}
-use Rattle.smx_config.specs.ModelOfLists.{configuration_of}
+use Rattle.smx_tables.specs.ModelOfLists.{configuration_of}
 use Rattle.smx_config.proofs.waking.first_open.Given as goal
 
 abbrev pub decreases-loop-place : goal.decreases-loop-place

@@ -1,6 +1,6 @@
 use Rattle.std.proofs.Common.{length}
 use Rattle.smx_config.specs.Marking.{IsReleased}
-use Rattle.smx_config.specs.ModelOfLists.{configuration_of}
+use Rattle.smx_tables.specs.ModelOfLists.{configuration_of}
 use Rattle.smx_config.proofs.WakeLemmas.{unwanted}
 use Rattle.smx_config.proofs.waking.release_all.Given as goal
 

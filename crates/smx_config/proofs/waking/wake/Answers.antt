@@ -1,4 +1,4 @@
-use Rattle.smx_config.specs.ModelOfLists.{configuration_of}
+use Rattle.smx_tables.specs.ModelOfLists.{configuration_of}
 use Rattle.smx_config.proofs.WakeLemmas.{woken}
 use Rattle.smx_config.proofs.waking.wake.Goals as goal
 

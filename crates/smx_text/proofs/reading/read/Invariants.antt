@@ -4,7 +4,8 @@ use Rattle.smx_text.proofs.reading.read.Given as goal
 
 abbrev pub invariant-lines : goal.invariant-lines
 invariant-lines g l = record {
-  between : IsBetween g.D.Draft.grammar l.bytes l.rest (g.D.Draft.lines l.draft) l.number;
+  between : IsBetween (g.D.Draft.grammar (g.D.Draft.version_of l.draft)) l.bytes l.rest
+      (g.D.Draft.lines l.draft) l.number;
   room : l.number + length l.rest ≤ length l.bytes + 2;
 }
 

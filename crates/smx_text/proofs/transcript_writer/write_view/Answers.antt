@@ -16,4 +16,5 @@ returns-clause-written c =
     let routes = rw c.as_slice-4.ensures at c.in_ok-write_lines-4.ensures.written in
     let msgs = rw c.as_slice-5.ensures at c.in_ok-write_lines-5.ensures.written in
     let fulls = rw c.as_slice-6.ensures at c.in_ok-write_lines-6.ensures.written in
-    view_written c.args.view.now c.args.out.now.items _ _ _ _ _ _ _ next fds links binds routes msgs fulls
+    let hungs = rw c.as_slice-7.ensures at c.in_ok-write_lines-7.ensures.written in
+    view_written c.args.view.now c.args.out.now.items _ _ _ _ _ _ _ _ next fds links binds routes msgs fulls hungs

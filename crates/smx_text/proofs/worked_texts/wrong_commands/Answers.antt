@@ -1,4 +1,6 @@
-use Rattle.smx_text.proofs.WrongCommandLemmas.{two_zeros, a_sign, two_spaces, a_last_space, large_number, digit_first, nine_letters, word_wanting, capitals, sides_turned, capital_digits, odd_digits, bytes_wanting, no_word}
+use Rattle.smx_text.proofs.WrongCommandLemmas.{two_zeros, a_sign, two_spaces, a_last_space, large_number}
+use Rattle.smx_text.proofs.WrongCommandLemmas.{digit_first, nine_letters, word_wanting, capitals, sides_turned}
+use Rattle.smx_text.proofs.WrongCommandLemmas.{capital_digits, odd_digits, bytes_wanting, no_word}
 use Rattle.smx_text.proofs.worked_texts.wrong_commands.Goals as goal
 
 pub returns-clause-two_zeros : goal.returns-clause-two_zeros

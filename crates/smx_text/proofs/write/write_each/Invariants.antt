@@ -1,11 +1,12 @@
 use Rattle.std.proofs.Common.{◌≡◌, ◌++◌, map, take}
 use Rattle.std.specs.List.{AllByRecursion}
 use Rattle.smx_text.specs.ProgramsText.{line_words, program_lines, FitsLine}
+use Rattle.smx_types.specs.declared.version.Version.TheVariants.{V2}
 use Rattle.smx_words.specs.Words.{text_of}
 use Rattle.smx_text.proofs.write.write_each.Given as goal
 
 abbrev pub invariant-loop-i : goal.invariant-loop-i
 invariant-loop-i l = record {
   written : l.out.items ≡ l.initial.out.items ++ text_of (map line_words (program_lines 0 (take l.i l.programs)));
-  fits : AllByRecursion FitsLine (program_lines 0 (take l.i l.programs));
+  fits : AllByRecursion (FitsLine V2) (program_lines 0 (take l.i l.programs));
 }

@@ -1,4 +1,4 @@
-use Rattle.smx_words.proofs.LawLemmas.{one_bind, one_command, one_descriptor, one_driver, one_entry}
+use Rattle.smx_words.proofs.LawLemmas.{one_bind, one_command, one_descriptor, one_driver, one_entry, one_hung}
 use Rattle.smx_words.proofs.LawLemmas.{one_full, one_link, one_message, one_next, one_process, one_route}
 use Rattle.smx_words.proofs.laws.one_value_each.Goals as goal
 
@@ -34,3 +34,6 @@ returns-clause-message c = one_message
 
 pub returns-clause-full : goal.returns-clause-full
 returns-clause-full c = one_full
+
+pub returns-clause-hung : goal.returns-clause-hung
+returns-clause-hung c = one_hung

@@ -1,4 +1,4 @@
-use Rattle.smx_words.proofs.LawLemmas.{bind_spelled, command_spelled, descriptor_spelled, driver_spelled}
+use Rattle.smx_words.proofs.LawLemmas.{bind_spelled, command_spelled, descriptor_spelled, driver_spelled, hung_spelled}
 use Rattle.smx_words.proofs.LawLemmas.{entry_spelled, full_spelled, link_spelled, message_spelled}
 use Rattle.smx_words.proofs.LawLemmas.{next_spelled, process_spelled, route_spelled}
 use Rattle.smx_words.proofs.laws.spellings_are_words.Goals as goal
@@ -35,3 +35,6 @@ returns-clause-message c = message_spelled
 
 pub returns-clause-full : goal.returns-clause-full
 returns-clause-full c = full_spelled
+
+pub returns-clause-hung : goal.returns-clause-hung
+returns-clause-hung c = hung_spelled

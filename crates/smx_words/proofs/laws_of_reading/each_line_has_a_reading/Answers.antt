@@ -1,7 +1,8 @@
 use Rattle.smx_words.proofs.DecidedCommandLemmas.{command_reading, entry_reading}
-use Rattle.smx_words.proofs.DecidedLineLemmas.{bind_reading, descriptor_reading, driver_reading}
+use Rattle.smx_words.proofs.DecidedLineLemmas.{bind_reading, descriptor_reading, driver_reading, hung_reading}
 use Rattle.smx_words.proofs.DecidedLineLemmas.{full_reading, link_reading, message_reading, next_reading}
 use Rattle.smx_words.proofs.DecidedLineLemmas.{process_reading, route_reading}
+use Rattle.smx_words.proofs.ToldLemmas.{told_command, told_entry}
 use Rattle.smx_words.proofs.laws_of_reading.each_line_has_a_reading.Goals as goal
 
 pub returns-clause-driver : goal.returns-clause-driver
@@ -36,3 +37,12 @@ returns-clause-command c = command_reading
 
 pub returns-clause-entry : goal.returns-clause-entry
 returns-clause-entry c = entry_reading
+
+pub returns-clause-hung : goal.returns-clause-hung
+returns-clause-hung c = hung_reading
+
+pub returns-clause-told_command : goal.returns-clause-told_command
+returns-clause-told_command c = λ v line. let o = command_reading line in told_command v line o.0 o.1
+
+pub returns-clause-told_entry : goal.returns-clause-told_entry
+returns-clause-told_entry c = λ v line. let o = entry_reading line in told_entry v line o.0 o.1

@@ -1,8 +1,8 @@
 use Rattle.std.proofs.Common.{◌≡◌, ◌∙◌, ap, sym}
 use Rattle.smx_links.specs.LinkLists.{LinkList}
 use Rattle.smx_streams.specs.StreamTables.{StreamTable}
-use Rattle.smx_config.specs.ModelOfLists.{configuration_of}
-use Rattle.smx_config.proofs.KeptLemmas.{tells_again}
+use Rattle.smx_tables.specs.ModelOfLists.{configuration_of}
+use Rattle.smx_tables.proofs.KeptLemmas.{tells_again}
 use Rattle.smx_config.proofs.config.Config.copy.Goals as goal
 
 pub invariant_of-result : goal.invariant_of-result

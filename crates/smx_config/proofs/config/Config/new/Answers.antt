@@ -3,7 +3,7 @@ use Rattle.std.proofs.lemmas.List.Elements.{All-nil}
 use Rattle.smx_model.specs.Configuration.{Configuration}
 use Rattle.smx_model.specs.SettlingByMarks.{IsAtRest}
 use Rattle.smx_config.specs.Marking.{AreMarks, marked_configuration}
-use Rattle.smx_config.specs.ModelOfLists.{configuration_of}
+use Rattle.smx_tables.specs.ModelOfLists.{configuration_of}
 use Rattle.smx_config.proofs.NextMoveLemmas.{marks_at_first}
 use Rattle.smx_config.proofs.config.Config.new.Goals as goal
 

@@ -1,6 +1,5 @@
-use Rattle.std.proofs.Common.{rules, ◌≡◌, ◌+◌, ◌++◌, ◌∷◌, [], List, ℕ, length, sym, subst, arith, ◌∙◌}
+use Rattle.std.proofs.Common.{rules, ◌≡◌, ◌+◌, ◌∷◌, [], ℕ, length, sym, subst, arith, ◌∙◌}
 use Rattle.std.proofs.lemmas.List.{length-append}
-use Rattle.smx_types.specs.declared.command.Command.{Command}
 use Rattle.smx_run.specs.Desks.{HasRecorded}
 use Rattle.smx_run.proofs.RunLemmas.{calls_more}
 use Rattle.smx_run.proofs.recording.Recording.run_all.Goals as goal
@@ -17,5 +16,5 @@ loop-commands-preserved g c =
       counted = search rules;
       within = search rules;
       number = omega (arith, before.number, length-append c.loop-commands.yielded (commands ∷ []));
-      calls = subst (HasRecorded g.K.Recorder.told _ _) (sym (calls_more 0 p c.loop-commands.yielded commands number)) (did.more _ before.calls);
+      calls = λ version none. subst (HasRecorded (g.K.Recorder.told version) _ _) (sym (calls_more 0 p c.loop-commands.yielded commands number)) (did.more version _ (before.calls version none));
     }

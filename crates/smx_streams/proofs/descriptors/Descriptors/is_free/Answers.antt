@@ -1,9 +1,7 @@
-use Rattle.std.proofs.Common.{◌≡◌, ◌<◌, not, true, false, ap, sym, subst, ◌∙◌, arith, get_or, filter}
+use Rattle.std.proofs.Common.{not, ap, sym, ◌∙◌}
 use Rattle.std.specs.List.{list_any}
-use Rattle.smx_model.specs.Configuration.{is_fd, fd_before}
-use Rattle.smx_model.specs.Ordered.{with_inserted}
+use Rattle.smx_model.specs.Configuration.{is_fd}
 use Rattle.smx_streams.specs.DescriptorRows.{Listed}
-use Rattle.smx_streams.specs.StreamTables.{stream_at}
 use Rattle.smx_streams.proofs.RowLemmas.{any_is_cell}
 use Rattle.smx_streams.proofs.descriptors.Descriptors.is_free.Goals as goal
 

@@ -1,10 +1,8 @@
-use Rattle.std.proofs.Common.{◌≡◌, ◌<◌, not, true, false, ap, sym, subst, ◌∙◌, arith, get_or, filter}
+use Rattle.std.proofs.Common.{◌≡◌, true, ap, sym, subst, ◌∙◌, arith}
 use Rattle.std.specs.List.{list_any}
 use Rattle.std.proofs.lemmas.Bool.{false≢true}
-use Rattle.smx_model.specs.Configuration.{is_fd, fd_before}
-use Rattle.smx_model.specs.Ordered.{with_inserted}
+use Rattle.smx_model.specs.Configuration.{is_fd}
 use Rattle.smx_streams.specs.DescriptorRows.{Listed}
-use Rattle.smx_streams.specs.StreamTables.{stream_at}
 use Rattle.smx_streams.proofs.RowOrderLemmas.{has_cells, room_shows_the_same, rows_with_room, there_is_room}
 use Rattle.smx_streams.proofs.descriptors.Descriptors.make_room.Goals as goal
 

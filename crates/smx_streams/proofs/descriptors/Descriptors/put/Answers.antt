@@ -1,9 +1,8 @@
-use Rattle.std.proofs.Common.{◌≡◌, ◌<◌, not, true, false, ap, sym, subst, ◌∙◌, arith, get_or, filter}
+use Rattle.std.proofs.Common.{◌≡◌, ◌<◌, false, ap, sym, subst, ◌∙◌, arith, get_or}
 use Rattle.std.specs.List.{list_any}
 use Rattle.smx_model.specs.Configuration.{is_fd, fd_before}
 use Rattle.smx_model.specs.Ordered.{with_inserted}
 use Rattle.smx_streams.specs.DescriptorRows.{Listed}
-use Rattle.smx_streams.specs.StreamTables.{stream_at}
 use Rattle.std.proofs.Common.{map, length}
 use Rattle.smx_streams.proofs.RowLemmas.{put_cell}
 use Rattle.smx_streams.proofs.RowOrderLemmas.{row_length, rows_with_cell}

@@ -1,7 +1,5 @@
-use Rattle.std.proofs.Common.{◌≡◌, ◌<◌, not, true, false, ap, sym, subst, ◌∙◌, arith, get_or, filter}
-use Rattle.std.specs.List.{list_any}
-use Rattle.smx_model.specs.Configuration.{is_fd, fd_before}
-use Rattle.smx_model.specs.Ordered.{with_inserted}
+use Rattle.std.proofs.Common.{◌≡◌, not, ap, sym, subst, ◌∙◌, filter}
+use Rattle.smx_model.specs.Configuration.{is_fd}
 use Rattle.smx_streams.specs.DescriptorRows.{Listed}
 use Rattle.smx_streams.specs.StreamTables.{stream_at}
 use Rattle.smx_streams.proofs.RowLemmas.{stream_is_cell, take_cell, take_none}

@@ -1,9 +1,5 @@
-use Rattle.std.proofs.Common.{◌≡◌, ◌≢◌, ◌+◌, ◌<◌, ◌≤◌, true, false, Bool, ℕ, List, Some, length, get_or, ap, sym, subst, refl, ◌∙◌, arith, inl, inr, if◌then◌else◌}
-use Rattle.std.specs.Prelude.{nat_lt}
-use Rattle.smx_types.specs.declared.stream.StreamId.{StreamId}
-use Rattle.smx_model.specs.Configuration.{same_stream}
-use Rattle.smx_streams.specs.StreamTables.{StreamTable, exists, is_in_range, number_at, stream_at}
-use Rattle.smx_streams.specs.TableFields.{names_of}
+use Rattle.std.proofs.Common.{◌≡◌, true, sym, subst, arith}
+use Rattle.smx_streams.specs.StreamTables.{StreamTable, is_in_range}
 use Rattle.smx_streams.proofs.NameLemmas.{names_some}
 use Rattle.smx_streams.proofs.streams.Streams.dup.Goals as goal
 
@@ -11,4 +7,4 @@ pub give-requires : goal.give-requires
 give-requires c =
     let some = names_some c.in-Some.stream c.args.process c.args.fd c.self.inside.descriptors.fds (sym c.in-Some.ensures) in
     let same = c.self.invariant c.in-Some.stream in
-    record { range = subst (λ (t : StreamTable). is_in_range t.minors c.in-Some.stream.driver c.in-Some.stream.minor ≡ true) c.self.view_is (c.is_sound.ensures c.in-Some.stream (omega (arith, some, same))) }
+    record { range = subst (λ (t : StreamTable). is_in_range t.minors c.in-Some.stream.driver c.in-Some.stream.minor ≡ true) c.self.view_is (c.is_sound.ensures.range c.in-Some.stream (omega (arith, some, same))) }

@@ -1,11 +1,9 @@
-use Rattle.std.proofs.Common.{◌≡◌, ◌≢◌, ◌+◌, ◌<◌, ◌≤◌, true, false, Bool, ℕ, List, Some, length, get_or, ap, sym, subst, refl, ◌∙◌, arith, inl, inr, if◌then◌else◌}
-use Rattle.std.specs.Prelude.{nat_lt}
-use Rattle.smx_types.specs.declared.stream.StreamId.{StreamId}
-use Rattle.smx_model.specs.Configuration.{same_stream}
-use Rattle.smx_streams.specs.StreamTables.{StreamTable, exists, is_in_range, number_at, stream_at}
-use Rattle.smx_streams.specs.TableFields.{names_of, table_of}
+use Rattle.std.proofs.Common.{◌≡◌, Some, sym, subst, refl, ◌∙◌, arith}
+use Rattle.smx_streams.specs.StreamTables.{StreamTable, HasOneMore, stream_at}
+use Rattle.smx_streams.specs.TableFields.{table_of}
 use Rattle.std.proofs.lemmas.Bool.{false≢true}
 use Rattle.smx_streams.proofs.NameLemmas.{named_any, names_after_put, names_few, names_some}
+use Rattle.smx_streams.proofs.HungLemmas.{hung_same, same_number}
 use Rattle.smx_streams.proofs.streams.Streams.open.Goals as goal
 
 pub returns-in_err-make_room-clause-in_place : goal.returns-in_err-make_room-clause-in_place
@@ -24,3 +22,11 @@ pub invariant_of-self-2 : goal.invariant_of-self-2
 invariant_of-self-2 c = λ s.
     c.in_ok-open.ensures.ok.opens_now s
     ∙ rw (c.put.ensures, c.in_ok-make_room.ensures.fds) (names_after_put c.self.inside.records.opens s c.args.stream c.args.process c.args.fd c.self.inside.descriptors.fds c.self.invariant)
+
+pub returns-clause-ok : goal.returns-clause-ok
+returns-clause-ok c = subst (λ (t : StreamTable). HasOneMore t c.args.process c.args.fd c.args.stream (table_of (record { alloc = c.self.inside.alloc; descriptors = c.put.new.self; records = c.open.new.self }))) c.self.view_is (record {
+  minors = c.in_ok-open.ensures.ok.minors;
+  fds = rw (c.put.ensures, c.in_ok-make_room.ensures.fds) refl;
+  holds = λ x. c.in_ok-open.ensures.ok.holds_now x ∙ same_number c.self.inside.records.holds x c.args.stream _ refl;
+  hungs = hung_same (record { same = c.hung_up_streams_make_the_list.ensures.same; more = c.hung_up_streams_make_the_list.ensures.more; fewer = c.hung_up_streams_make_the_list.ensures.fewer; each_of_more = c.hung_up_streams_make_the_list.ensures.each_of_more; each_of_fewer = c.hung_up_streams_make_the_list.ensures.each_of_fewer }) c.self.inside.records c.open.new.self c.args.stream _ _ c.in_ok-open.ensures.ok;
+})

@@ -1,9 +1,4 @@
-use Rattle.std.proofs.Common.{◌≡◌, ◌≢◌, ◌+◌, ◌<◌, ◌≤◌, true, false, Bool, ℕ, List, Some, length, get_or, ap, sym, subst, refl, ◌∙◌, arith, inl, inr, if◌then◌else◌}
-use Rattle.std.specs.Prelude.{nat_lt}
-use Rattle.smx_types.specs.declared.stream.StreamId.{StreamId}
-use Rattle.smx_model.specs.Configuration.{same_stream}
-use Rattle.smx_streams.specs.StreamTables.{StreamTable, exists, is_in_range, number_at, stream_at}
-use Rattle.smx_streams.specs.TableFields.{names_of, table_of}
+use Rattle.std.proofs.Common.{get_or, sym, arith}
 use Rattle.std.proofs.lemmas.Bool.{lt-ltb}
 use Rattle.smx_streams.proofs.NameLemmas.{find_below, minors_at}
 use Rattle.smx_streams.proofs.streams.Streams.open_clone.Goals as goal

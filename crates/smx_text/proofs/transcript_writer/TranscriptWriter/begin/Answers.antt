@@ -4,4 +4,5 @@ use Rattle.smx_text.proofs.transcript_writer.TranscriptWriter.begin.Goals as goa
 pub returns : goal.returns
 returns c =
     let lines = c.in_ok-write_lines.ensures in
-    begun c.args.drivers.now _ _ _ c.clear.ensures.items c.in_ok-extend_from_slice.ensures.items lines.written lines.fits
+    begun c.args.version c.args.drivers.now _ _ _ c.clear.ensures.items
+    (rw c.first_line.ensures at c.in_ok-extend_from_slice.ensures.items) lines.written lines.fits

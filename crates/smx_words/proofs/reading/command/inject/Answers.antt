@@ -1,4 +1,4 @@
-use Rattle.std.proofs.Common.{arith}
+use Rattle.std.proofs.Common.{arith, refl}
 use Rattle.std.proofs.lemmas.Grind.{common_steps}
 use Rattle.smx_types.specs.declared.command.Command.TheVariants as command
 use Rattle.smx_words.proofs.reading.command.inject.Goals as goal
@@ -7,6 +7,6 @@ pub returns-in-Err-clause-wanted : goal.returns-in-Err-clause-wanted
 returns-in-Err-clause-wanted c =
     let bytes = c.in-Err.ensures.wanted in (
       command.Inject c.in-Some.driver c.in-Some-first_number.minor c.in-Some-first_number-2.addr bytes.0,
-      (c.in-Some.ensures.0, c.in-Some-first_number.ensures.0, c.in-Some-first_number-2.ensures.0, bytes.1),
+      ((c.in-Some.ensures.0, c.in-Some-first_number.ensures.0, c.in-Some-first_number-2.ensures.0, bytes.1), refl),
       grind (arith, common_steps),
     )

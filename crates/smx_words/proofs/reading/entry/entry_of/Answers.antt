@@ -1,43 +1,44 @@
 use Rattle.std.proofs.Common.{ℕ, ◌∷◌, ◌++◌, refl, sym, ◌∙◌, ap, arith}
 use Rattle.std.specs.Fmt.{decimal}
 use Rattle.smx_words.specs.Words.{SPACE}
-use Rattle.smx_words.proofs.EntryLemmas.{each_side, entry_is, entry_line, entry_spelled, free_command, sides_of}
+use Rattle.smx_words.proofs.EntryLemmas.{each_side, entry_line, free_command, sides_of}
 use Rattle.smx_words.proofs.reading.entry.entry_of.Goals as goal
+use Rattle.smx_words.proofs.ToldLemmas.{command_fits, reply_fits, told_entry_is, told_entry_spelled}
 
 pub returns-in_default-clause-reading : goal.returns-in_default-clause-reading
 returns-in_default-clause-reading c = λ x fits e.
-    c.in_default.ensures x.process _ (omega (arith, fits.process)) (e ∙ entry_line x)
+    c.in_default.ensures x.process _ (omega (arith, fits.0.process)) (e ∙ entry_line x)
 
 pub returns-in_default-new-clause-reading : goal.returns-in_default-new-clause-reading
 returns-in_default-new-clause-reading c = λ x fits e.
     let both =
-    sides_of c.args.line.now c.in-Some.rest.now c.in-Some.number x fits c.in-Some.ensures.0
+    sides_of c.args.line.now c.in-Some.rest.now c.in-Some.number x fits.0 c.in-Some.ensures.0
     c.in-Some.ensures.1 e in
-    let some = c.in_default-new.ensures.valid.1 (omega (arith, both.0, fits.process)) in
+    let some = c.in_default-new.ensures.valid.1 (omega (arith, both.0, fits.0.process)) in
     cc some
 
 pub returns-in_default-sides-clause-reading : goal.returns-in_default-sides-clause-reading
 returns-in_default-sides-clause-reading c = λ x fits e.
     let both =
-    sides_of c.args.line.now c.in-Some.rest.now c.in-Some.number x fits c.in-Some.ensures.0
+    sides_of c.args.line.now c.in-Some.rest.now c.in-Some.number x fits.0 c.in-Some.ensures.0
     c.in-Some.ensures.1 e in
-    c.in_default-sides.ensures _ _ (free_command x.command fits.command) both.1
+    c.in_default-sides.ensures _ _ (free_command x.command fits.0.command) both.1
 
 pub returns-in-Ok-None-clause-reading : goal.returns-in-Ok-None-clause-reading
 returns-in-Ok-None-clause-reading c = λ x fits e.
     let both =
-    sides_of c.args.line.now c.in-Some.rest.now c.in-Some.number x fits c.in-Some.ensures.0
+    sides_of c.args.line.now c.in-Some.rest.now c.in-Some.number x fits.0 c.in-Some.ensures.0
     c.in-Some.ensures.1 e in
     let each =
-    each_side c.in-Some.rest.now c.in-Some-sides.command.now c.in-Some-sides.reply.now x fits
+    each_side c.in-Some.rest.now c.in-Some-sides.command.now c.in-Some-sides.reply.now x fits.0
     c.in-Some-sides.ensures.0 c.in-Some-sides.ensures.1 both.1 in
     let none = rw c.in-Ok-None.field-0-is at c.in-Ok-None.ensures.reading in
-    none x.command x.reply fits.command fits.reply each.0 each.1
+    none x.command x.reply (command_fits c.args.version x fits) (reply_fits c.args.version x fits) each.0 each.1
 
 pub returns-in-Err-clause-wanted : goal.returns-in-Err-clause-wanted
 returns-in-Err-clause-wanted c =
     let process = c.in-Some-new.ensures.value in
-    entry_spelled c.args.line.now c.in-Some.rest.now c.in-Some-sides.command.now c.in-Some-sides.reply.now
+    told_entry_spelled c.args.version c.args.line.now c.in-Some.rest.now c.in-Some-sides.command.now c.in-Some-sides.reply.now
     c.in-Some-new.process
     (omega (arith, process, c.in-Some-new.ensures.valid.0 refl)) (c.in-Some.ensures.1
     ∙ ap (λ (n : ℕ). decimal n ++ SPACE ∷ c.in-Some.rest.now) (sym process)) c.in-Some-sides.ensures.1
@@ -47,7 +48,7 @@ pub returns-in-Ok-Some-clause-reading : goal.returns-in-Ok-Some-clause-reading
 returns-in-Ok-Some-clause-reading c =
     let process = c.in-Some-new.ensures.value in
     let read = rw c.in-Ok-Some.field-0-is at c.in-Ok-Some.ensures.reading in
-    entry_is c.args.line.now c.in-Some.rest.now c.in-Some-sides.command.now c.in-Some-sides.reply.now
+    told_entry_is c.args.version c.args.line.now c.in-Some.rest.now c.in-Some-sides.command.now c.in-Some-sides.reply.now
     c.in-Some-new.process c.in-Ok-Some.command c.in-Ok-Some.reply
     (omega (arith, process, c.in-Some-new.ensures.valid.0 refl)) (c.in-Some.ensures.1
     ∙ ap (λ (n : ℕ). decimal n ++ SPACE ∷ c.in-Some.rest.now) (sym process)) c.in-Some-sides.ensures.1

@@ -4,8 +4,9 @@ use Rattle.smx_text.specs.ProgramLines as line
 use Rattle.smx_text.proofs.programs.draft.ProgramsDraft.room_for_command.Goals as goal
 
 pub returns-then-is_empty-clause-refused : goal.returns-then-is_empty-clause-refused
-returns-then-is_empty-clause-refused c = λ x. misplaced c.args.self.now (line.Command x) (search rules)
+returns-then-is_empty-clause-refused c = λ x. misplaced c.args.self.now.version c.args.self.now (line.Command x)
+    (search rules)
 
 pub returns-then-self-ge-MAX_COMMANDS-clause-refused : goal.returns-then-self-ge-MAX_COMMANDS-clause-refused
 returns-then-self-ge-MAX_COMMANDS-clause-refused c =
-    λ x. too_many c.args.self.now (line.Command x) (search rules) (search rules)
+    λ x. too_many c.args.self.now.version c.args.self.now (line.Command x) (search rules) (search rules)

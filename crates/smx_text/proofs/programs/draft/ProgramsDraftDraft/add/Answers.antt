@@ -1,6 +1,6 @@
 use Rattle.std.proofs.Common.{subst}
 use Rattle.smx_words.specs.LineReading.{IsReadAs}
-use Rattle.smx_words.specs.Spellable.{FitsCommand}
+use Rattle.smx_words.specs.Spellable.{FitsCommandIn}
 use Rattle.smx_words.specs.Spelling.{command_words}
 use Rattle.smx_text.specs.ProgramLines as line
 use Rattle.smx_text.specs.ProgramsText.{body}
@@ -9,13 +9,13 @@ use Rattle.smx_text.proofs.programs.draft.ProgramsDraftDraft.add.Goals as goal
 
 pub returns-in-Ok-Some-clause-refused : goal.returns-in-Ok-Some-clause-refused
 returns-in-Ok-Some-clause-refused c =
-    let is = subst (IsReadAs FitsCommand command_words c.args.text.now) c.in-Ok-Some.field-0-is
-    c.in-Ok-Some.ensures.reading in
-    on_refused_line (body c.args.self.now) (line.Command c.in-Ok-Some.command) c.args.text.now is.0 is.1
-    c.add_command.result c.add_command.ensures.refused
+    let is = subst (IsReadAs (FitsCommandIn c.args.self.now.version) command_words c.args.text.now)
+    c.in-Ok-Some.field-0-is c.in-Ok-Some.ensures.reading in
+    on_refused_line c.args.self.now.version (body c.args.self.now) (line.Command c.in-Ok-Some.command)
+    c.args.text.now is.0 is.1 c.add_command.result c.add_command.ensures.refused
 
 pub returns-in-Err-clause-refused : goal.returns-in-Err-clause-refused
 returns-in-Err-clause-refused c =
     let some = c.in-Err.ensures.wanted in
-    refused_line (body c.args.self.now) (line.Command some.0) c.args.text.now some.1 some.2
-    c.command_unread.result (c.command_unread.ensures some.0 some.1)
+    refused_line c.args.self.now.version (body c.args.self.now) (line.Command some.0) c.args.text.now some.1
+    some.2 c.command_unread.result (c.command_unread.ensures some.0 some.1)

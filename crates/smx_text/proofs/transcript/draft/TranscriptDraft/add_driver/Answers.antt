@@ -7,8 +7,8 @@ use Rattle.smx_text.proofs.transcript.draft.TranscriptDraft.add_driver.Goals as 
 pub returns-then-ne-clause-refused : goal.returns-then-ne-clause-refused
 returns-then-ne-clause-refused c = misplaced c.args.self.now (line.Driver c.args.driver) (search rules)
 
-pub returns-then-as_slice-ge-MAX_DRIVERS-clause-refused : goal.returns-then-as_slice-ge-MAX_DRIVERS-clause-refused
-returns-then-as_slice-ge-MAX_DRIVERS-clause-refused c =
+pub returns-then-as_slice-max_drivers-clause-refused : goal.returns-then-as_slice-max_drivers-clause-refused
+returns-then-as_slice-max_drivers-clause-refused c =
     too_many c.args.self.now (line.Driver c.args.driver) (search rules) (search rules)
 
 pub returns-clause-added : goal.returns-clause-added

@@ -11,11 +11,13 @@ pub returns-in-Ok-Some-clause-refused : goal.returns-in-Ok-Some-clause-refused
 returns-in-Ok-Some-clause-refused c =
     let is = subst (IsReadAs FitsMessage message_words c.args.text.now) c.in-Ok-Some.field-0-is
     c.in-Ok-Some.ensures.reading in
-    on_refused_line (lines c.args.self.now) (line.Msg c.in-Ok-Some.message) c.args.text.now is.0 is.1
+    on_refused_line c.args.self.now.transcript.version (lines c.args.self.now) (line.Msg c.in-Ok-Some.message)
+    c.args.text.now is.0 is.1
     c.add_message.result c.add_message.ensures.refused
 
 pub returns-in-Err-clause-refused : goal.returns-in-Err-clause-refused
 returns-in-Err-clause-refused c =
     let some = c.in-Err.ensures.wanted in
-    refused_line (lines c.args.self.now) (line.Msg some.0) c.args.text.now some.1 some.2
+    refused_line c.args.self.now.transcript.version (lines c.args.self.now) (line.Msg some.0) c.args.text.now
+    some.1 some.2
     c.message_unread.result (c.message_unread.ensures some.0 some.1)

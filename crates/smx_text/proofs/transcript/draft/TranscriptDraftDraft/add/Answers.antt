@@ -1,6 +1,6 @@
 use Rattle.std.proofs.Common.{subst}
 use Rattle.smx_words.specs.LineReading.{IsReadAs}
-use Rattle.smx_words.specs.Spellable.{FitsEntry}
+use Rattle.smx_words.specs.Spellable.{FitsEntryIn}
 use Rattle.smx_words.specs.Spelling.{entry_words}
 use Rattle.smx_text.specs.Drafts.{lines}
 use Rattle.smx_text.specs.TranscriptLines as line
@@ -9,13 +9,16 @@ use Rattle.smx_text.proofs.transcript.draft.TranscriptDraftDraft.add.Goals as go
 
 pub returns-in-Ok-Some-clause-refused : goal.returns-in-Ok-Some-clause-refused
 returns-in-Ok-Some-clause-refused c =
-    let is = subst (IsReadAs FitsEntry entry_words c.args.text.now) c.in-Ok-Some.field-0-is
+    let is = subst (IsReadAs (FitsEntryIn c.args.self.now.transcript.version) entry_words c.args.text.now)
+    c.in-Ok-Some.field-0-is
     c.in-Ok-Some.ensures.reading in
-    on_refused_line (lines c.args.self.now) (line.Entry c.in-Ok-Some.entry) c.args.text.now is.0 is.1
+    on_refused_line c.args.self.now.transcript.version (lines c.args.self.now) (line.Entry c.in-Ok-Some.entry)
+    c.args.text.now is.0 is.1
     c.add_entry.result c.add_entry.ensures.refused
 
 pub returns-in-Err-clause-refused : goal.returns-in-Err-clause-refused
 returns-in-Err-clause-refused c =
     let some = c.in-Err.ensures.wanted in
-    refused_line (lines c.args.self.now) (line.Entry some.0) c.args.text.now some.1 some.2
+    refused_line c.args.self.now.transcript.version (lines c.args.self.now) (line.Entry some.0) c.args.text.now
+    some.1 some.2
     c.entry_unread.result (c.entry_unread.ensures some.0 some.1)

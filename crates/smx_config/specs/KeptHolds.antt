@@ -1,7 +1,0 @@
--- What the lists of a configuration keep between any two changes. No public clause needs this.
-use Rattle.smx_config.specs.declared.lists.Lists.{Lists}
-use Rattle.smx_config.specs.ExistingStreams.{AreHeld}
-
--- each stream that is below a link has a hold
-pub record KeepsHolds (l : Lists) : Type 0 where
-  pub held : AreHeld l.links.links l.streams

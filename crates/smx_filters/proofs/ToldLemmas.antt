@@ -1,0 +1,75 @@
+-- A report of programs can be told in their version.
+use Rattle.std.proofs.Common.{◌≡◌, ℕ, zero, suc, ◌≤◌, Bool, true, false, ◌||◌, List, length, refl, sym, subst, ◌∙◌, arith, rules}
+use Rattle.smx_types.specs.ProgramLists.{ProgramLists, AreWithinLimits}
+use Rattle.smx_types.specs.Versions.{are_more_drivers, least_of_programs, least_of_transcript, most_drivers, version_2_where}
+use Rattle.smx_types.specs.declared.driver.DriverSpec.{DriverSpec}
+use Rattle.smx_types.specs.declared.limits.TheConstants.{MAX_COMMANDS, MAX_DRIVERS}
+use Rattle.smx_types.specs.declared.transcript.Transcript.{Transcript}
+use Rattle.smx_types.specs.declared.version.Version.{Version}
+use Rattle.smx_types.specs.declared.version.Version.TheVariants.{V1, V2}
+use Rattle.smx_model.specs.Headline.{IsReportOf}
+use Rattle.smx_run.specs.Fronts.{AreFrontsFrom}
+use Rattle.smx_run.specs.Reports.{transcript_of}
+use Rattle.smx_run.specs.declared.report.Report.{Report}
+use Rattle.smx_text.specs.TranscriptText.{IsAllowed, IsSpellable, SpellsTranscript, transcript_text}
+use Rattle.smx_filters.specs.RunText.{IsTextOf, IsWrittenFor}
+
+-- what the model says of reports: version 1 can tell them where it can tell their programs
+abbrev pub NeedNoLaterVersion : Type 0
+NeedNoLaterVersion = (programs : ProgramLists) (report : Transcript) → IsReportOf programs report
+    → least_of_programs programs.drivers programs.programs ≡ V1 → least_of_transcript report ≡ V1
+
+-- where version 1 can tell it, there are no more drivers than it has
+not_more : (more other : Bool) → version_2_where (more || other) ≡ V1 → more ≡ false
+not_more true other is = absurd cc
+not_more false other is = refl
+
+-- so there are no more than the version has
+few_drivers : (version : Version) (drivers : List DriverSpec) → length drivers ≤ MAX_DRIVERS
+    → (version ≡ V1 → are_more_drivers drivers ≡ false) → length drivers ≤ most_drivers version
+few_drivers V1 drivers few fits = let is = fits refl in search rules
+few_drivers V2 drivers few fits = few
+
+-- what the limits of programs say of a report in their version
+pub told : NeedNoLaterVersion → (p : ProgramLists) (r : Transcript) → AreWithinLimits p → IsReportOf p r
+    → r.version ≡ p.version → r.version ≡ V1 → least_of_transcript r ≡ V1
+told need p r within report same is = need p r report (within.version (sym same ∙ is))
+
+-- the transcript of such a report is within the limits of its version
+pub can_be_told : NeedNoLaterVersion → (p : ProgramLists) (r : Transcript) → AreWithinLimits p → IsReportOf p r
+    → r.version ≡ p.version → length r.entries ≤ MAX_COMMANDS → IsSpellable r → IsAllowed r.version r
+can_be_told need p r within report same few spellable = record {
+  version_is = refl;
+  drivers = few_drivers r.version r.drivers (subst (λ (ds : List DriverSpec). length ds ≤ MAX_DRIVERS) (sym report.drivers) within.drivers)
+      (λ is. not_more _ _ (told need p r within report same is));
+  entries = few;
+  spellable = spellable;
+  told = told need p r within report same;
+}
+
+-- and what is its one text spells it
+pub spelled : NeedNoLaterVersion → (p : ProgramLists) (r : Transcript) → AreWithinLimits p → IsReportOf p r
+    → r.version ≡ p.version → length r.entries ≤ MAX_COMMANDS → IsSpellable r → (bytes : List ℕ) → bytes ≡ transcript_text r
+    → SpellsTranscript bytes r
+spelled need p r within report same few spellable bytes is = record {
+  allowed = can_be_told need p r within report same few spellable;
+  text = is;
+}
+
+-- the text of a report in the version of its programs is what so many workers write, where it is the fronts or several wrote it
+pub written_for : NeedNoLaterVersion → (fronts : Bool) (workers : ℕ) (p : ProgramLists) (version : Version) (report : Report) (text : List ℕ)
+    → AreWithinLimits p → IsReportOf p (transcript_of p.version report) → length report.entries ≤ MAX_COMMANDS
+    → AreFrontsFrom report.drivers report.entries 0 p.programs report.fronts → (fronts ≡ false → 2 ≤ workers)
+    → version ≡ p.version → IsTextOf fronts version report text → IsWrittenFor fronts workers p text
+written_for need true workers p version report text within promised few seen several same is =
+    record { report = transcript_of p.version report; promised = promised; fronts = report.fronts; seen = seen; written = is }
+written_for need false zero p version report text within promised few seen several same is = absurd (omega (arith, several refl))
+written_for need false (suc zero) p version report text within promised few seen several same is = absurd (omega (arith, several refl))
+written_for need false (suc (suc more)) p version report text within promised few seen several same is =
+    let told : IsTextOf false p.version report text = subst (λ (v : Version). IsTextOf false v report text) same is in
+    record {
+      report = transcript_of p.version report;
+      promised = promised;
+      version = refl;
+      written = spelled need p (transcript_of p.version report) within promised refl few told.1 text told.0;
+    }

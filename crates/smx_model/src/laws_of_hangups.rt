@@ -1,0 +1,83 @@
+//! Laws of devices that hang up, each the contract of a function that does nothing.
+
+ghost use Rattle.std.specs.Prelude.{◌≡◌, ℕ, Bool, true, false, ◌&&◌, ◌||◌, List, [], filter, Ok};
+ghost use Rattle.std.specs.List.{list_any};
+ghost use Rattle.smx_types.specs.ProgramLists.{ProgramLists};
+ghost use Rattle.smx_types.specs.Versions.{is_hangup, is_of_hangup, least_of_programs, least_of_transcript};
+ghost use Rattle.smx_types.specs.declared.command.Command.{Command};
+ghost use Rattle.smx_types.specs.declared.command.Command.TheVariants as command;
+ghost use Rattle.smx_types.specs.declared.command.Entry.{Entry};
+ghost use Rattle.smx_types.specs.declared.driver.DriverSpec.{DriverSpec};
+ghost use Rattle.smx_types.specs.declared.reply.Reply.TheVariants as reply;
+ghost use Rattle.smx_types.specs.declared.stream.StreamId.{StreamId};
+ghost use Rattle.smx_types.specs.declared.transcript.Transcript.{Transcript};
+ghost use Rattle.smx_types.specs.declared.version.Version.TheVariants.{V1};
+ghost use Rattle.smx_model.specs.Commands.{step};
+ghost use Rattle.smx_model.specs.Configuration.{Configuration, same_stream, stream_before};
+ghost use Rattle.smx_model.specs.Hangups.{is_hung, with_hung};
+ghost use Rattle.smx_model.specs.Headline.{IsReportOf};
+ghost use Rattle.smx_model.specs.Histories.{after, IsLegal};
+ghost use Rattle.smx_model.specs.KeptConfigurations.{IsKept};
+ghost use Rattle.smx_model.specs.Lookups.{leaf_stream};
+ghost use Rattle.smx_model.specs.Ordered.{IsRising};
+ghost use Rattle.smx_model.specs.Standing.{exists};
+
+/// A hangup drops nothing and moves nothing: its stream has hung up then, and all else is as it was. A second one
+/// changes nothing at all.
+pub fn hangups_change_nothing_else()
+    ensures first { (drivers : List DriverSpec) (c : Configuration) (process : ℕ) (name : List ℕ) (minor : ℕ) (s : StreamId)
+        → IsKept drivers c → leaf_stream drivers c name minor ≡ Ok s
+        → step drivers c process (command.Hangup name minor)
+        ≡ (record c { hungs = with_hung s c.hungs }, reply.Done []) }
+    ensures second { (drivers : List DriverSpec) (c : Configuration) (process : ℕ) (name : List ℕ) (minor : ℕ) (s : StreamId)
+        → IsKept drivers c → leaf_stream drivers c name minor ≡ Ok s → is_hung c.hungs s ≡ true
+        → step drivers c process (command.Hangup name minor) ≡ (c, reply.Done []) }
+{}
+
+/// No other command hangs a stream up, and of those that have hung up it leaves just those that still exist.
+pub fn hung_up_streams_go_with_their_end()
+    ensures { (drivers : List DriverSpec) (c : Configuration) (process : ℕ) (k : Command) → IsKept drivers c
+        → is_hangup k ≡ false → (step drivers c process k).0.hungs
+        ≡ filter (λ s. exists drivers (step drivers c process k).0 s) c.hungs }
+{}
+
+/// So a stream that has hung up stays so as long as it exists, whatever the command; and one that didn't exist before
+/// it, as a stream that is opened anew, has not hung up.
+pub fn hung_up_streams_stay_so()
+    ensures stays { (drivers : List DriverSpec) (c : Configuration) (process : ℕ) (k : Command) (s : StreamId)
+        → IsKept drivers c → is_hung c.hungs s ≡ true → exists drivers (step drivers c process k).0 s ≡ true
+        → is_hung (step drivers c process k).0.hungs s ≡ true }
+    ensures anew { (drivers : List DriverSpec) (c : Configuration) (process : ℕ) (k : Command) (s : StreamId)
+        → IsKept drivers c → exists drivers c s ≡ false
+        → is_hung (step drivers c process k).0.hungs s ≡ false }
+{}
+
+/// A history without a hangup tells of none: it has no end of file and no refusal for a hangup, and no stream has hung
+/// up at its end.
+pub fn without_a_hangup_none_is_told()
+    ensures replies { (drivers : List DriverSpec) (history : List Entry) → IsLegal drivers history
+        → list_any (λ e. is_hangup e.command) history ≡ false → list_any is_of_hangup history ≡ false }
+    ensures streams { (drivers : List DriverSpec) (history : List Entry)
+        → list_any (λ e. is_hangup e.command) history ≡ false → (after drivers history).hungs ≡ [] }
+{}
+
+/// So a report can be told in version 1 where its programs can.
+pub fn reports_need_no_later_version()
+    ensures { (programs : ProgramLists) (report : Transcript) → IsReportOf programs report
+        → least_of_programs programs.drivers programs.programs ≡ V1 → least_of_transcript report ≡ V1 }
+{}
+
+/// Lists of hung-up streams in their order are the same where the same streams are in them. One more, or fewer, keep
+/// the order, and hold that one more, or those that are kept.
+pub fn hung_up_streams_make_the_list()
+    ensures same { (xs ys : List StreamId) → IsRising stream_before xs → IsRising stream_before ys
+        → ((s : StreamId) → is_hung xs s ≡ is_hung ys s) → xs ≡ ys }
+    ensures more { (s : StreamId) (hungs : List StreamId) → IsRising stream_before hungs
+        → IsRising stream_before (with_hung s hungs) }
+    ensures fewer { (keep : StreamId → Bool) (hungs : List StreamId) → IsRising stream_before hungs
+        → IsRising stream_before (filter keep hungs) }
+    ensures each_of_more { (s t : StreamId) (hungs : List StreamId)
+        → is_hung (with_hung s hungs) t ≡ (same_stream s t || is_hung hungs t) }
+    ensures each_of_fewer { (keep : StreamId → Bool) (s : StreamId) (hungs : List StreamId)
+        → is_hung (filter keep hungs) s ≡ (keep s && is_hung hungs s) }
+{}

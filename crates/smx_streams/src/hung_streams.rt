@@ -1,0 +1,76 @@
+//! The streams that have hung up.
+
+ghost use Rattle.std.specs.Prelude.{◌≡◌};
+ghost use Rattle.std.specs.Iterator.{YieldsFirstBy};
+ghost use Rattle.smx_streams.specs.HungRows.{hungs_from, IsNextOf};
+
+use crate::records::Records;
+use smx_types::StreamId;
+use std::marker::Model;
+
+/// The streams that have hung up, in order, seen as the list of those that are left. Takes no memory.
+#[derive(Drop)]
+pub struct HungStreams<'a> {
+    records: &'a Records,
+    // The next stream to look at.
+    driver: u8,
+    minor: u8,
+}
+
+impl<'a> Model for HungStreams<'a> {
+    ghost use Rattle.std.specs.Prelude.{List};
+    ghost use Rattle.smx_types.specs.declared.stream.StreamId.{StreamId};
+    ghost use Rattle.smx_streams.specs.HungRows.{hungs_from, streams_from};
+
+    ghost Value = { List StreamId };
+
+    ghost view = { λ it. streams_from it.driver it.minor (hungs_from 0 it.records.now.hungs) };
+}
+
+// The first stream from a minor of a driver on that has hung up.
+fn first_from(records: &Records, driver: u8, minor: u8) -> Option<StreamId>
+    ensures { IsNextOf (hungs_from 0 records.now.hungs) driver minor result }
+{
+    records.is_sound();
+    let mut at = driver;
+    let mut number = minor;
+    while let Some(minors) = records.minors_of(at) {
+        let stream = StreamId {
+            driver: at,
+            minor: number,
+        };
+        if number >= minors {
+            at += 1;
+            number = 0;
+        } else if records.is_hung(stream) {
+            return Some(stream);
+        } else {
+            number += 1;
+        }
+    }
+    None
+}
+
+impl<'a> HungStreams<'a> {
+    pub(crate) fn new(records: &'a Records) -> HungStreams<'a>
+        ensures { result ≡ hungs_from 0 records.now.hungs }
+    {
+        HungStreams {
+            records,
+            driver: 0,
+            minor: 0,
+        }
+    }
+}
+
+impl<'a> HungStreams<'a> {
+    /// The next one, if any is left. Takes no memory.
+    pub fn next(&mut self) -> Option<StreamId>
+        ensures { YieldsFirstBy (λ item. item) (λ rest. rest) self.old result self.new }
+    {
+        let stream = first_from(self.records, self.driver, self.minor)?;
+        self.driver = stream.driver;
+        self.minor = stream.minor + 1;
+        Some(stream)
+    }
+}

@@ -1,0 +1,106 @@
+-- What dead streams hold goes with them, stream by stream.
+use Rattle.std.proofs.Common.{◌≡◌, ℕ, ◌+◌, Bool, true, false, ◌&&◌, not, eqb, List, [], ◌∷◌, ◌++◌, filter, take, refl, sym, ap, ◌∙◌, inl, inr}
+use Rattle.std.proofs.lemmas.Bool.{cases_Bool}
+use Rattle.smx_types.specs.declared.driver.DriverSpec.{DriverSpec}
+use Rattle.smx_types.specs.declared.link.Binding.{Binding}
+use Rattle.smx_types.specs.declared.stream.Place.{Place}
+use Rattle.smx_types.specs.declared.stream.StreamId.{StreamId}
+use Rattle.smx_model.specs.Configuration.{Configuration, QueuedMessage, same_stream}
+use Rattle.smx_model.specs.Hangups.{is_hung}
+use Rattle.smx_model.specs.Removal.{without_dead_streams}
+use Rattle.smx_model.specs.Standing.{exists}
+use Rattle.smx_streams.specs.StreamTables.{StreamTable, exists as is_there}
+use Rattle.smx_tables.specs.ExistingStreams.{TellsExisting}
+use Rattle.smx_tables.specs.TouchedStreams.{is_dead, without_streams, IsTouched}
+use Rattle.smx_tables.proofs.DeadLemmas.{dead_are_gone, none_dead, none_of_one, one_dead, stream_less}
+use Rattle.smx_tables.proofs.HungLemmas.{all_pass}
+
+-- tests that agree keep the same
+filter_alike : {X : Type 0} (f g : X → Bool) (xs : List X) → ((x : X) → f x ≡ g x) → filter f xs ≡ filter g xs
+filter_alike {X = X} f g [] h = refl
+filter_alike {X = X} f g (x ∷ xs) h = elim (cases_Bool (g x)) [
+  | inl t ↦ rw (h x, t) (ap (λ (zs : List X). x ∷ zs) (filter_alike f g xs h))
+  | inr n ↦ rw (h x, n) (filter_alike f g xs h)
+]
+
+-- ---- the streams of each list
+
+abbrev bound : Binding → StreamId
+bound b = record { driver = b.driver; minor = b.minor }
+
+abbrev queued : QueuedMessage → StreamId
+queued h = h.place.stream
+
+abbrev marked : Place → StreamId
+marked p = p.stream
+
+-- ---- three lists of a configuration
+
+abbrev parts : Configuration → List Binding → List QueuedMessage → List Place → Configuration
+parts c binds flow fulls = record c { binds = binds; flow = flow; fulls = fulls }
+
+-- equal parts make equal configurations
+same_parts : (c : Configuration) (xs bs : List Binding) (hs gs : List QueuedMessage) (ps qs : List Place)
+    → xs ≡ bs → hs ≡ gs → ps ≡ qs → parts c xs hs ps ≡ parts c bs gs qs
+same_parts c xs bs hs gs ps qs a b d = cc
+
+and_true : (b : Bool) → (b && true) ≡ b
+and_true true = refl
+and_true false = refl
+
+-- a stream that is not there goes, with its binding and both its sides
+pub one_gone : (c : Configuration) (t : StreamTable) (s : StreamId)
+    (binds : List Binding) (flow : List QueuedMessage) (fulls : List Place)
+    → is_there t s ≡ false → binds ≡ filter (λ b. not (eqb b.driver s.driver && eqb b.minor s.minor)) c.binds
+    → flow ≡ filter (λ h. not (same_stream h.place.stream s && true)) c.flow
+    → fulls ≡ filter (λ p. not (same_stream p.stream s && true)) c.fulls
+    → parts c binds flow fulls ≡ without_streams c (is_dead t (s ∷ []))
+one_gone c t s binds flow fulls gone no_bind no_message no_mark = same_parts c _ _ _ _ _ _
+    (one_dead bound (λ b. same_stream (bound b) s) t s c.binds binds gone (λ b. refl) no_bind)
+    (one_dead queued (λ h. same_stream (queued h) s && true) t s c.flow flow gone
+    (λ h. and_true (same_stream (queued h) s)) no_message)
+    (one_dead marked (λ p. same_stream (marked p) s && true) t s c.fulls fulls gone
+    (λ p. and_true (same_stream (marked p) s)) no_mark)
+
+-- one that is there stays, with all that it has
+pub none_gone : (c : Configuration) (t : StreamTable) (s : StreamId) → is_there t s ≡ true
+    → c ≡ without_streams c (is_dead t (s ∷ []))
+none_gone c t s there = same_parts c c.binds _ c.flow _ c.fulls _
+    (none_of_one bound t s c.binds there) (none_of_one queued t s c.flow there) (none_of_one marked t s c.fulls there)
+
+-- none goes at first
+pub none_gone_yet : (c : Configuration) (t : StreamTable) → c ≡ without_streams c (is_dead t [])
+none_gone_yet c t = same_parts c c.binds _ c.flow _ c.fulls _
+    (none_dead bound t c.binds) (none_dead queued t c.flow) (none_dead marked t c.fulls)
+
+-- one stream more
+pub one_more_gone : (old c new : Configuration) (t u : StreamTable) (seen : List StreamId) (i : ℕ) (s : StreamId)
+    → u ≡ t → take (i + 1) seen ≡ take i seen ++ s ∷ [] → c ≡ without_streams old (is_dead t (take i seen))
+    → new ≡ without_streams c (is_dead u (s ∷ [])) → new ≡ without_streams old (is_dead t (take (i + 1) seen))
+one_more_gone old c new t u seen i s here taken_one e f =
+    f ∙ ap (λ (x : StreamTable). without_streams c (is_dead x (s ∷ []))) here
+    ∙ ap (λ (x : Configuration). without_streams x (is_dead t (s ∷ []))) e ∙ same_parts old _ _ _ _ _ _
+    (stream_less bound t seen i s old.binds _ _ taken_one refl refl)
+    (stream_less queued t seen i s old.flow _ _ taken_one refl refl)
+    (stream_less marked t seen i s old.fulls _ _ taken_one refl refl)
+
+not_not : (b : Bool) → not (not b) ≡ b
+not_not true = refl
+not_not false = refl
+
+-- where all that went were seen, what is not there goes with what does not exist
+pub all_gone : (drivers : List DriverSpec) (c : Configuration) (t : StreamTable) (seen : List StreamId)
+    → TellsExisting drivers c t → IsTouched t seen c → ((x : StreamId) → is_hung c.hungs x ≡ true → is_there t x ≡ true)
+    → without_streams c (is_dead t seen) ≡ without_dead_streams drivers c
+all_gone drivers c t seen told touched hung = same_parts c _ _ _ _ _ _
+    (dead_are_gone bound t seen c.binds touched.binds
+    ∙ filter_alike (λ b. not (not (is_there t (bound b)))) (λ b. exists drivers c (bound b)) c.binds
+    (λ b. not_not _ ∙ told (bound b)))
+    (dead_are_gone queued t seen c.flow touched.flow
+    ∙ filter_alike (λ h. not (not (is_there t (queued h)))) (λ h. not (not (exists drivers c (queued h)))) c.flow
+    (λ h. ap (λ (b : Bool). not (not b)) (told (queued h))))
+    (dead_are_gone marked t seen c.fulls touched.fulls
+    ∙ filter_alike (λ p. not (not (is_there t (marked p)))) (λ p. not (not (exists drivers c (marked p)))) c.fulls
+    (λ p. ap (λ (b : Bool). not (not b)) (told (marked p))))
+    ∙ ap (λ (hs : List StreamId). record (without_dead_streams drivers c) { hungs = hs })
+    (all_pass (exists drivers c) c.hungs (λ x up. sym (told x) ∙ hung x up))

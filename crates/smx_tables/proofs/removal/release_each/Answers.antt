@@ -1,0 +1,56 @@
+use Rattle.std.proofs.Common.{List, ℕ, [], ◌∷◌, ap, length, length-append, take, refl, sym, subst, ◌∙◌, arith}
+use Rattle.std.proofs.lemmas.List.{take_more}
+use Rattle.smx_tables.specs.ExistingStreams.{AreHeld}
+use Rattle.std.proofs.lemmas.Bool.{or_left}
+use Rattle.smx_tables.proofs.HungLemmas.{left_twice, none_went, there_before}
+use Rattle.smx_tables.proofs.TouchLemmas.{release_touches}
+use Rattle.smx_tables.proofs.ReleasedIdLemmas.{released_at_first, released_more, released_none, without}
+use Rattle.smx_tables.proofs.WalkLemmas.{taken_all}
+use Rattle.smx_tables.proofs.removal.release_each.Goals as goal
+use Rattle.smx_tables.proofs.removal.release_each.Goals.{in-Some, in_default}
+
+pub loop-id-init : goal.loop-id-init
+loop-id-init c = record {
+  held = released_at_first c.args.links.now.links c.args.streams.now c.requires.held;
+  fds = refl;
+  minors = refl;
+  hungs = none_went c.args.streams.now c.is_sound-2.ensures;
+  touched = λ s there. or_left _ _ there;
+  few = omega arith;
+  capacity = refl;
+}
+
+pub loop-id-preserved : goal.loop-id-preserved
+loop-id-preserved c = elim c.match-get.branch [
+  | in-Some w ↦
+      let pushed = w.push_reserved.ensures.items in
+      let longer = ap length pushed in
+      let one_more = length-append c.loop-id.touched.items (w.in-Some.link.now.lower ∷ []) in
+      rw (w.streams-is, w.touched-is) (record {
+        held = subst (λ (ids : List ℕ). AreHeld (without ids c.args.links.now.links) w.release_held.new.streams) (sym (take_more c.args.gone.now c.loop-id.id-index 0 (omega arith)))
+            (released_more c.args.links.now.links (take c.loop-id.id-index c.args.gone.now) _ w.in-Some.link.now c.loop-id.streams w.release_held.new.streams c.is_sound.ensures.sound.lowers c.is_sound.ensures.ids.rise (sym w.in-Some.ensures) c.loop-id.invariant.held w.release_held.ensures);
+        fds = w.release_held.ensures.fds ∙ c.loop-id.invariant.fds;
+        minors = w.release_held.ensures.minors ∙ c.loop-id.invariant.minors;
+        hungs = left_twice c.args.streams.now c.loop-id.streams w.release_held.new.streams c.loop-id.invariant.hungs w.release_held.ensures.hungs
+            (λ x. there_before c.loop-id.streams w.release_held.new.streams w.in-Some.link.now.lower x 0 w.release_held.ensures (omega arith));
+        touched = rw pushed (release_touches c.args.streams.now c.loop-id.streams w.release_held.new.streams c.loop-id.touched.items w.in-Some.link.now.lower 0 w.release_held.ensures c.loop-id.invariant.touched);
+        few = omega (arith, longer, one_more, c.loop-id.invariant.few);
+        capacity = w.push_reserved.ensures.capacity ∙ c.loop-id.invariant.capacity;
+      })
+  | in_default w ↦ rw (w.streams-is, w.touched-is) (record {
+    held = subst (λ (ids : List ℕ). AreHeld (without ids c.args.links.now.links) c.loop-id.streams) (sym (take_more c.args.gone.now c.loop-id.id-index 0 (omega arith)))
+        (released_none c.args.links.now.links (take c.loop-id.id-index c.args.gone.now) _ c.loop-id.streams (sym w.in_default.ensures) c.loop-id.invariant.held);
+    fds = c.loop-id.invariant.fds;
+    minors = c.loop-id.invariant.minors;
+    hungs = c.loop-id.invariant.hungs;
+    touched = c.loop-id.invariant.touched;
+    few = omega (arith, c.loop-id.invariant.few);
+    capacity = c.loop-id.invariant.capacity;
+  })
+]
+
+pub push_reserved-requires : goal.push_reserved-requires
+push_reserved-requires c = omega (arith, c.loop-id.invariant.few, c.loop-id.invariant.capacity, c.requires.room)
+
+pub returns-clause-held : goal.returns-clause-held
+returns-clause-held c = subst (λ (ids : List ℕ). AreHeld (without ids c.args.links.now.links) c.loop-id.streams) (taken_all c.args.gone.now c.loop-id.id-index (omega arith)) c.loop-id.invariant.held

@@ -1,0 +1,16 @@
+use Rattle.std.proofs.Common.{◌∙◌, refl, arith, not}
+use Rattle.smx_links.specs.LinkLists.{is_one_of}
+use Rattle.smx_tables.proofs.PlaceLemmas.{not_more}
+use Rattle.smx_tables.proofs.RemovalLemmas.{ids_in_order}
+use Rattle.smx_tables.proofs.removal.remove_links.Goals as goal
+
+pub returns-clause-value : goal.returns-clause-value
+returns-clause-value c = λ goes e. c.drop_links.ensures.value goes (ids_in_order goes c.args.lists.now.links.links c.args.gone.now e) ∙ rw (c.release_each.ensures.fds, c.drop_links.ensures.streams) refl
+
+pub returns-clause-kept : goal.returns-clause-kept
+returns-clause-kept c = record {
+  held = rw (c.drop_links.ensures.links, c.drop_links.ensures.streams) c.release_each.ensures.held;
+}
+
+pub returns-clause-fewer : goal.returns-clause-fewer
+returns-clause-fewer c = omega (arith, not_more (λ l. not (is_one_of c.args.gone.now l)) c.args.lists.now.links.links c.drop_links.new.lists.links.links c.drop_links.ensures.links)

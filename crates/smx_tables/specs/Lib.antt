@@ -1,0 +1,8 @@
+pub mod ModelOfLists
+pub mod ListedLinks
+pub mod ExistingStreams
+pub mod TouchedStreams
+pub mod KeptHolds
+pub mod SweepReserves
+pub mod DroppedMessages
+pub mod ShownAddresses

@@ -1,0 +1,84 @@
+//! What drivers are like, by their numbers.
+
+ghost use Rattle.std.specs.Prelude.{◌≡◌, ◌<◌, position, length, IfOk};
+ghost use Rattle.std.specs.Str.{bytes_eq};
+ghost use Rattle.smx_model.specs.DriverList.{kind_is_mux, is_mux, minors_of, high_of, low_of, max_of};
+ghost use Rattle.smx_model.specs.Lookups.{driver_of};
+
+use smx_types::{DriverKind, DriverSpec, Fault, Name};
+
+fn position_of(drivers: &[DriverSpec], name: &Name) -> Option<usize>
+    ensures { result ≡ position (λ d. bytes_eq d.name name.now) drivers.now }
+{
+    drivers.iter().position(|d| d.name == *name)
+}
+
+/// The number of the driver of this name.
+pub fn driver_of(drivers: &[DriverSpec], name: &Name) -> Result<usize, Fault>
+    ensures found { result ≡ driver_of drivers.now name.now }
+    ensures in_range { IfOk result (λ n. n < length drivers.now) }
+{
+    match position_of(drivers, name) {
+        Some(n) => Ok(n),
+        None => Err(Fault::NoDriver),
+    }
+}
+
+fn kind_is_mux(kind: DriverKind) -> bool
+    ensures { result ≡ kind_is_mux kind }
+{
+    match kind {
+        DriverKind::Mux => true,
+        DriverKind::Leaf => false,
+    }
+}
+
+/// Whether the driver of this number is a multiplexing driver.
+pub fn is_mux(drivers: &[DriverSpec], driver: usize) -> bool
+    ensures { result ≡ is_mux drivers.now driver }
+{
+    match drivers.get(driver) {
+        Some(d) => kind_is_mux(d.kind),
+        None => false,
+    }
+}
+
+/// How many minors the driver has; 0 where there is no such driver.
+pub fn minors_of(drivers: &[DriverSpec], driver: usize) -> u32
+    ensures { result ≡ minors_of drivers.now driver }
+{
+    match drivers.get(driver) {
+        Some(d) => d.minors,
+        None => 0,
+    }
+}
+
+/// The high water mark of the driver's queues, in bytes; 0 where there is no such driver.
+pub fn high_of(drivers: &[DriverSpec], driver: usize) -> u32
+    ensures { result ≡ high_of drivers.now driver }
+{
+    match drivers.get(driver) {
+        Some(d) => d.high,
+        None => 0,
+    }
+}
+
+/// The low water mark of the driver's queues, in bytes; 0 where there is no such driver.
+pub fn low_of(drivers: &[DriverSpec], driver: usize) -> u32
+    ensures { result ≡ low_of drivers.now driver }
+{
+    match drivers.get(driver) {
+        Some(d) => d.low,
+        None => 0,
+    }
+}
+
+/// The bytes of the driver's longest message; 0 where there is no such driver.
+pub fn max_of(drivers: &[DriverSpec], driver: usize) -> u32
+    ensures { result ≡ max_of drivers.now driver }
+{
+    match drivers.get(driver) {
+        Some(d) => d.max,
+        None => 0,
+    }
+}

@@ -1,0 +1,83 @@
+//! Messages that a change drops, and their serials.
+
+ghost use Rattle.std.specs.Prelude.{◌≡◌, ◌≢◌, ◌+◌, ◌≤◌, ◌&&◌, not, filter, length, vec_capacity, List};
+ghost use Rattle.std.specs.List.{AllPairs};
+ghost use Rattle.smx_model.specs.Commands.{is_side};
+ghost use Rattle.smx_model.specs.Configuration.{QueuedMessage, same_place, same_stream};
+ghost use Rattle.smx_model.specs.Removal.{serials, serials_that_left};
+ghost use Rattle.smx_tables.specs.DroppedMessages.{AreDropped, is_flushed_at};
+
+use crate::streams::same_side;
+use smx_model::laws_of_queues::dropped_are_not_kept;
+use smx_queues::FlowTable;
+use smx_types::{Place, Side, Sides, StreamId};
+
+/// Drops the messages at a place, and its full mark. Their serials come to a list that has room for those of all.
+pub fn drop_at(queues: &mut FlowTable, place: Place, dropped: &mut Vec<u32>)
+    requires { length dropped.old.items + length queues.old.flow ≤ vec_capacity dropped.old }
+    ensures flow { queues.new.flow ≡ filter (λ h. not (same_place h.place place)) queues.old.flow }
+    ensures fulls { queues.new.fulls ≡ filter (λ p. not (same_place p place)) queues.old.fulls }
+    ensures drivers { queues.new.drivers ≡ queues.old.drivers }
+    ensures dropped { (old : List QueuedMessage) → AreDropped old queues.old.flow dropped.old.items
+        → AreDropped old queues.new.flow dropped.new.items }
+    ensures room { length dropped.new.items + length queues.new.flow ≤ vec_capacity dropped.new }
+{
+    queues.drop_at(place, dropped);
+}
+
+fn is_side(sides: Sides, side: Side) -> bool
+    ensures { result ≡ is_side sides side }
+{
+    match sides {
+        Sides::R => same_side(side, Side::Read),
+        Sides::W => same_side(side, Side::Write),
+        Sides::RW => true,
+    }
+}
+
+// Drops the messages on one side of a stream, where that side is named.
+fn drop_side(
+    queues: &mut FlowTable,
+    stream: StreamId,
+    sides: Sides,
+    side: Side,
+    dropped: &mut Vec<u32>,
+)
+    requires { length dropped.old.items + length queues.old.flow ≤ vec_capacity dropped.old }
+    ensures flow { queues.new.flow ≡ filter (λ h. not (is_flushed_at stream sides side h.place)) queues.old.flow }
+    ensures fulls { queues.new.fulls ≡ filter (λ p. not (is_flushed_at stream sides side p)) queues.old.fulls }
+    ensures drivers { queues.new.drivers ≡ queues.old.drivers }
+    ensures dropped { (old : List QueuedMessage) → AreDropped old queues.old.flow dropped.old.items
+        → AreDropped old queues.new.flow dropped.new.items }
+    ensures room { length dropped.new.items + length queues.new.flow ≤ vec_capacity dropped.new }
+{
+    if is_side(sides, side) {
+        drop_at(queues, Place { stream, side }, dropped);
+    }
+}
+
+/// Drops the messages on the sides of a stream that are named.
+pub fn drop_sides(queues: &mut FlowTable, stream: StreamId, sides: Sides, dropped: &mut Vec<u32>)
+    requires { length dropped.old.items + length queues.old.flow ≤ vec_capacity dropped.old }
+    ensures flow { queues.new.flow ≡ filter (λ h. not (same_stream h.place.stream stream && is_side sides h.place.side)) queues.old.flow }
+    ensures fulls { queues.new.fulls ≡ filter (λ p. not (same_stream p.stream stream && is_side sides p.side)) queues.old.fulls }
+    ensures drivers { queues.new.drivers ≡ queues.old.drivers }
+    ensures dropped { (old : List QueuedMessage) → AreDropped old queues.old.flow dropped.old.items
+        → AreDropped old queues.new.flow dropped.new.items }
+    ensures room { length dropped.new.items + length queues.new.flow ≤ vec_capacity dropped.new }
+{
+    drop_side(queues, stream, sides, Side::Write, dropped);
+    drop_side(queues, stream, sides, Side::Read, dropped);
+}
+
+/// The serials of dropped messages, rising.
+pub fn rising(dropped: Vec<u32>) -> Vec<u32>
+    ensures { (old new : List QueuedMessage) → AllPairs (λ m n. m ≢ n) (serials old)
+        → AreDropped old new dropped.items → result.items ≡ serials_that_left old new }
+{
+    dropped_are_not_kept();
+    let mut sorted = dropped;
+    sorted.sort_unstable();
+    sorted.shrink_to_fit();
+    sorted
+}

@@ -1,0 +1,110 @@
+//! Links whose controlling stream is gone: their lower streams are released, until no more go.
+
+ghost use Rattle.std.specs.Prelude.{◌≡◌, ℕ, ◌+◌, ◌≤◌, ◌++◌, ◌∷◌, [], ◌&&◌, not, false, true, length, vec_capacity};
+ghost use Rattle.std.specs.List.{list_any};
+ghost use Rattle.smx_types.specs.declared.stream.StreamId.{StreamId};
+ghost use Rattle.smx_model.specs.Configuration.{same_stream};
+ghost use Rattle.smx_streams.specs.StreamTables.{LeavesHungs, exists as is_there};
+ghost use Rattle.smx_links.specs.LinkLists.{is_upper};
+ghost use Rattle.smx_tables.specs.ExistingStreams.{is_held, is_loose, holds_below, IsReleasing};
+ghost use Rattle.smx_tables.specs.TouchedStreams.{is_there_or_touched, AreReleased, IsCascade};
+
+use crate::standing::is_persistent;
+use crate::streams::same_stream;
+use smx_links::LinkTable;
+use smx_streams::Streams;
+use smx_types::{Link, StreamId};
+
+fn is_held(streams: &Streams, link: &Link) -> bool
+    ensures { result ≡ is_held streams.now link.now }
+{
+    streams.holds_of(link.lower) > 0
+}
+
+fn is_loose(streams: &Streams, link: &Link) -> bool
+    ensures { result ≡ is_loose streams.now link.now }
+{
+    !is_persistent(link) && is_held(streams, link) && !streams.exists(link.ctl)
+}
+
+// Whether it is loose, by this controlling stream.
+fn is_loose_by(streams: &Streams, ctl: StreamId, link: &Link) -> bool
+    ensures { result ≡ (same_stream link.now.ctl ctl && is_loose streams.now link.now) }
+{
+    same_stream(link.ctl, ctl) && is_loose(streams, link)
+}
+
+// Whether a link may be loose by this controlling stream: it is gone, and its driver has links.
+fn may_have_loose(streams: &Streams, links: &LinkTable, ctl: StreamId) -> bool
+    ensures { result ≡ (not (is_there streams.now ctl) && is_upper links.now.links ctl.driver) }
+{
+    !streams.exists(ctl) && links.is_upper(ctl.driver)
+}
+
+// Releases the lower streams of the links that are loose by this controlling stream, and puts them to those that may
+// have gone, and the links' ids to those that were released.
+fn release_below(
+    streams: &mut Streams,
+    links: &LinkTable,
+    ctl: StreamId,
+    touched: &mut Vec<StreamId>,
+    gone: &mut Vec<u32>,
+)
+    requires cascade { IsCascade links.now.links streams.old (touched.old.items ++ ctl ∷ []) (vec_capacity touched.old) }
+    requires gone { AreReleased links.now.links streams.old gone.old.items (vec_capacity gone.old) }
+    ensures fds { streams.new.fds ≡ streams.old.fds }
+    ensures minors { streams.new.minors ≡ streams.old.minors }
+    ensures hungs { LeavesHungs streams.old streams.new }
+    ensures there { (s : StreamId) → is_there streams.new s ≡ true → is_there streams.old s ≡ true }
+    ensures cascade { IsCascade links.now.links streams.new touched.new.items (vec_capacity touched.new) }
+    ensures less { length touched.new.items + holds_below links.now.links streams.new
+        ≤ length touched.old.items + holds_below links.now.links streams.old }
+    ensures touched { (s : StreamId) → is_there_or_touched streams.old touched.old.items s ≡ true
+        → is_there_or_touched streams.new touched.new.items s ≡ true }
+    ensures gone { AreReleased links.now.links streams.new gone.new.items (vec_capacity gone.new) }
+{
+    links.is_sound();
+    streams.is_sound();
+    if !may_have_loose(streams, links, ctl) {
+        return;
+    }
+    let listed = links.links();
+    for i in 0..listed.len() {
+        if let Some(link) = listed.get(i) {
+            if is_loose_by(streams, ctl, link) {
+                let _gone = streams.release(link.lower);
+                touched.push_reserved(link.lower);
+                gone.push_reserved(link.id);
+            }
+        }
+    }
+}
+
+// The same for each stream that may have gone, until no link is loose. Those are put to a list that has room for them.
+pub fn release_orphans(
+    streams: &mut Streams,
+    links: &LinkTable,
+    touched: Vec<StreamId>,
+    seen: &mut Vec<StreamId>,
+    gone: &mut Vec<u32>,
+)
+    requires cascade { IsCascade links.now.links streams.old touched.items (vec_capacity touched) }
+    requires room { length seen.old.items + (length touched.items + holds_below links.now.links streams.old)
+        ≤ vec_capacity seen.old }
+    requires gone { AreReleased links.now.links streams.old gone.old.items (vec_capacity gone.old) }
+    ensures fds { streams.new.fds ≡ streams.old.fds }
+    ensures minors { streams.new.minors ≡ streams.old.minors }
+    ensures hungs { LeavesHungs streams.old streams.new }
+    ensures releasing { (climbs : ℕ) → IsReleasing links.now.links climbs streams.new }
+    ensures none { list_any (is_loose streams.new) links.now.links ≡ false }
+    ensures seen { (s : StreamId) → is_there_or_touched streams.old touched.items s ≡ true
+        → is_there_or_touched streams.new seen.new.items s ≡ true }
+    ensures gone { AreReleased links.now.links streams.new gone.new.items (vec_capacity gone.new) }
+{
+    streams.is_sound();
+    let mut left = touched;
+    while let Some(stream) = left.pop() {
+        seen.push_reserved(stream);
+        release_below(streams, links, stream, &mut left, gone);
+    }
+}

@@ -1,0 +1,129 @@
+//! Links that are removed, and what goes with them.
+
+ghost use Rattle.std.specs.Prelude.{◌≡◌, ◌+◌, ◌≤◌, Bool, true, not, map, filter, length, vec_capacity, List};
+ghost use Rattle.smx_types.specs.declared.link.Link.{Link};
+ghost use Rattle.smx_types.specs.declared.stream.StreamId.{StreamId};
+ghost use Rattle.smx_model.specs.Configuration.{QueuedMessage};
+ghost use Rattle.smx_model.specs.Removal.{without_links};
+ghost use Rattle.smx_links.specs.LinkLists.{is_one_of};
+ghost use Rattle.smx_streams.specs.StreamTables.{HasHolds, LeavesHungs, exists as is_there, number_at};
+ghost use Rattle.smx_tables.specs.DroppedMessages.{AreDropped};
+ghost use Rattle.smx_tables.specs.ExistingStreams.{AreHeld};
+ghost use Rattle.smx_tables.specs.KeptHolds.{KeepsHolds};
+ghost use Rattle.smx_tables.specs.ModelOfLists.{configuration_of, sizes_of};
+ghost use Rattle.smx_tables.specs.ListedLinks.{is_read_below_listed, AreIdsOf};
+ghost use Rattle.smx_tables.specs.TouchedStreams.{is_there_or_touched};
+
+use crate::dropped_messages::drop_at;
+use crate::lists::Lists;
+use smx_links::LinkTable;
+use smx_queues::FlowTable;
+use smx_streams::Streams;
+use smx_types::{Place, Side, StreamId};
+
+// Drops what the read sides of the streams below the links with these ids hold.
+fn drop_below(queues: &mut FlowTable, links: &LinkTable, gone: &[u32], dropped: &mut Vec<u32>)
+    requires { length dropped.old.items + length queues.old.flow ≤ vec_capacity dropped.old }
+    ensures flow { queues.new.flow ≡ filter (λ h. not (is_read_below_listed links.now.links gone.now h.place)) queues.old.flow }
+    ensures fulls { queues.new.fulls ≡ filter (λ p. not (is_read_below_listed links.now.links gone.now p)) queues.old.fulls }
+    ensures drivers { queues.new.drivers ≡ queues.old.drivers }
+    ensures dropped { (old : List QueuedMessage) → AreDropped old queues.old.flow dropped.old.items
+        → AreDropped old queues.new.flow dropped.new.items }
+    ensures room { length dropped.new.items + length queues.new.flow ≤ vec_capacity dropped.new }
+{
+    links.is_sound();
+    for id in gone {
+        if let Some(link) = links.get(*id) {
+            let place = Place {
+                stream: link.lower,
+                side: Side::Read,
+            };
+            drop_at(queues, place, dropped);
+        }
+    }
+}
+
+// Releases the stream, where it is held.
+fn release_held(streams: &mut Streams, stream: StreamId)
+    requires { number_at streams.old.holds stream ≤ 1 }
+    ensures { HasHolds streams.old stream 0 streams.new }
+{
+    streams.is_sound();
+    if streams.holds_of(stream) > 0 {
+        let _gone = streams.release(stream);
+    }
+}
+
+// Releases the lower streams of the links with these ids, and puts them to those that may have gone.
+fn release_each(streams: &mut Streams, links: &LinkTable, gone: &[u32], touched: &mut Vec<StreamId>)
+    requires held { AreHeld links.now.links streams.old }
+    requires room { length touched.old.items + length gone.now ≤ vec_capacity touched.old }
+    ensures held { AreHeld (filter (λ l. not (is_one_of gone.now l)) links.now.links) streams.new }
+    ensures fds { streams.new.fds ≡ streams.old.fds }
+    ensures minors { streams.new.minors ≡ streams.old.minors }
+    ensures hungs { LeavesHungs streams.old streams.new }
+    ensures touched { (s : StreamId) → is_there streams.old s ≡ true
+        → is_there_or_touched streams.new touched.new.items s ≡ true }
+    ensures few { length touched.new.items ≤ length touched.old.items + length gone.now }
+    ensures capacity { vec_capacity touched.new ≡ vec_capacity touched.old }
+{
+    links.is_sound();
+    streams.is_sound();
+    for id in gone {
+        if let Some(link) = links.get(*id) {
+            release_held(streams, link.lower);
+            touched.push_reserved(link.lower);
+        }
+    }
+}
+
+/// Removes the links with these ids, the routes to them, and what their lower streams' read sides hold, once those are
+/// released.
+pub fn drop_links(lists: &mut Lists, gone: &[u32], dropped: &mut Vec<u32>)
+    requires { length dropped.old.items + length lists.old.queues.flow ≤ vec_capacity dropped.old }
+    ensures value { (goes : Link → Bool) → AreIdsOf goes lists.old.links.links gone.now
+        → configuration_of lists.new ≡ without_links (configuration_of lists.old) goes }
+    ensures links { lists.new.links.links ≡ filter (λ l. not (is_one_of gone.now l)) lists.old.links.links }
+    ensures streams { lists.new.streams ≡ lists.old.streams }
+    ensures dropped { (old : List QueuedMessage) → AreDropped old lists.old.queues.flow dropped.old.items
+        → AreDropped old lists.new.queues.flow dropped.new.items }
+    ensures room { length dropped.new.items + length lists.new.queues.flow ≤ vec_capacity dropped.new }
+    ensures drivers { sizes_of lists.new ≡ sizes_of lists.old }
+{
+    if gone.is_empty() {
+        return;
+    }
+    lists.links.is_sound();
+    lists.routes.unroute_links(gone);
+    drop_below(&mut lists.queues, &lists.links, gone, dropped);
+    lists.links.remove_each(gone);
+}
+
+/// Removes the links with these ids, and releases their lower streams, which are put to those that may have gone.
+pub fn remove_links(
+    lists: &mut Lists,
+    gone: &[u32],
+    touched: &mut Vec<StreamId>,
+    dropped: &mut Vec<u32>,
+)
+    requires kept { KeepsHolds lists.old }
+    requires room { length touched.old.items + length gone.now ≤ vec_capacity touched.old }
+    requires dropped { length dropped.old.items + length lists.old.queues.flow ≤ vec_capacity dropped.old }
+    ensures value { (goes : Link → Bool) → gone.now ≡ map (λ l. l.id) (filter goes lists.old.links.links)
+        → configuration_of lists.new
+        ≡ record (without_links (configuration_of lists.old) goes) { hungs = lists.new.streams.hungs } }
+    ensures hungs { LeavesHungs lists.old.streams lists.new.streams }
+    ensures dropped { (old : List QueuedMessage) → AreDropped old lists.old.queues.flow dropped.old.items
+        → AreDropped old lists.new.queues.flow dropped.new.items }
+    ensures room { length dropped.new.items + length lists.new.queues.flow ≤ vec_capacity dropped.new }
+    ensures kept { KeepsHolds lists.new }
+    ensures drivers { sizes_of lists.new ≡ sizes_of lists.old }
+    ensures fewer { length lists.new.links.links ≤ length lists.old.links.links }
+    ensures touched { (s : StreamId) → is_there lists.old.streams s ≡ true
+        → is_there_or_touched lists.new.streams touched.new.items s ≡ true }
+    ensures few { length touched.new.items ≤ length touched.old.items + length gone.now }
+    ensures capacity { vec_capacity touched.new ≡ vec_capacity touched.old }
+{
+    release_each(&mut lists.streams, &lists.links, gone, touched);
+    drop_links(lists, gone, dropped);
+}

@@ -1,0 +1,243 @@
+//! A configuration as it is shown.
+
+ghost use Rattle.std.specs.Prelude.{◌≡◌, ◌<◌, length, map, IfOk};
+ghost use Rattle.std.specs.List.{All};
+ghost use Rattle.smx_model.specs.DriverList.{name_of};
+ghost use Rattle.smx_model.specs.Views.{view_of_fd, view_of_link, view_of_bind, view_of_route};
+ghost use Rattle.smx_model.specs.Views.{view_of_message, view_of_full, view_of_hung};
+
+use smx_addresses::{Bindings, Routes};
+use smx_links::LinkTable;
+use smx_queues::{FlowTable, Queued};
+use smx_streams::Streams;
+use smx_types::{
+    Binding, BindingLine, Descriptor, DescriptorLine, DriverSpec, FullLine, HungLine, Link,
+    LinkLine, MessageLine, Name, NoMemory, Place, Route, RouteLine, StreamId,
+};
+use std::alloc::Global;
+
+/// The name of a driver.
+pub fn name_of(drivers: &[DriverSpec], driver: u8) -> Name
+    requires { driver < length drivers.now }
+    ensures { result ≡ name_of drivers.now driver }
+{
+    drivers[driver as usize].name
+}
+
+/// The line of a descriptor.
+pub fn descriptor_line(drivers: &[DriverSpec], d: &Descriptor) -> DescriptorLine
+    requires { d.now.stream.driver < length drivers.now }
+    ensures { result ≡ view_of_fd drivers.now d.now }
+{
+    DescriptorLine {
+        process: d.process,
+        fd: d.fd,
+        driver: name_of(drivers, d.stream.driver),
+        minor: u32::from(d.stream.minor),
+    }
+}
+
+/// The line of a link.
+pub fn link_line(drivers: &[DriverSpec], l: &Link) -> LinkLine
+    requires ctl { l.now.ctl.driver < length drivers.now }
+    requires lower { l.now.lower.driver < length drivers.now }
+    ensures { result ≡ view_of_link drivers.now l.now }
+{
+    LinkLine {
+        id: l.id,
+        ctl_driver: name_of(drivers, l.ctl.driver),
+        ctl_minor: u32::from(l.ctl.minor),
+        lower_driver: name_of(drivers, l.lower.driver),
+        lower_minor: u32::from(l.lower.minor),
+        kind: l.kind,
+    }
+}
+
+/// The line of a binding.
+pub fn binding_line(drivers: &[DriverSpec], b: &Binding) -> BindingLine
+    requires { b.now.driver < length drivers.now }
+    ensures { result ≡ view_of_bind drivers.now b.now }
+{
+    BindingLine {
+        driver: name_of(drivers, b.driver),
+        addr: b.addr,
+        minor: u32::from(b.minor),
+    }
+}
+
+/// The line of a route.
+pub fn route_line(drivers: &[DriverSpec], r: &Route) -> RouteLine
+    requires { r.now.driver < length drivers.now }
+    ensures { result ≡ view_of_route drivers.now r.now }
+{
+    RouteLine {
+        driver: name_of(drivers, r.driver),
+        addr: r.addr,
+        id: r.id,
+    }
+}
+
+fn message_line(
+    alloc: Global,
+    drivers: &[DriverSpec],
+    queued: Queued<'_>,
+) -> Result<MessageLine, NoMemory>
+    requires { queued.place.stream.driver < length drivers.now }
+    ensures { IfOk result (λ l. l ≡ view_of_message drivers.now
+        (record { place = queued.entry.place; message = queued.entry.message.now })) }
+{
+    let place = queued.place;
+    let message = queued.message.copy(alloc)?;
+    Ok(MessageLine {
+        driver: name_of(drivers, place.stream.driver),
+        minor: u32::from(place.stream.minor),
+        side: place.side,
+        message,
+    })
+}
+
+/// The line of a full place.
+pub fn full_line(drivers: &[DriverSpec], p: &Place) -> FullLine
+    requires { p.now.stream.driver < length drivers.now }
+    ensures { result ≡ view_of_full drivers.now p.now }
+{
+    FullLine {
+        driver: name_of(drivers, p.stream.driver),
+        minor: u32::from(p.stream.minor),
+        side: p.side,
+    }
+}
+
+/// The line of a stream that has hung up.
+pub fn hung_line(drivers: &[DriverSpec], stream: StreamId) -> HungLine
+    requires { stream.driver < length drivers.now }
+    ensures { result ≡ view_of_hung drivers.now stream }
+{
+    HungLine {
+        driver: name_of(drivers, stream.driver),
+        minor: u32::from(stream.minor),
+    }
+}
+
+/// The lines of all descriptors, by rising process and number. Fails only for want of memory.
+#[tactic(auto, using(crate::proofs::WalkLemmas::all_left, crate::proofs::WalkLemmas::left_all, crate::proofs::WalkLemmas::numbered, crate::proofs::WalkLemmas::lines_more, crate::proofs::WalkLemmas::fewer_left))]
+pub fn descriptor_lines(
+    alloc: Global,
+    drivers: &[DriverSpec],
+    streams: &Streams,
+) -> Result<Vec<DescriptorLine>, NoMemory>
+    requires { All (λ d. d.stream.driver < length drivers.now) streams.now.fds }
+    ensures { IfOk result (λ v. v.items ≡ map (view_of_fd drivers.now) streams.now.fds) }
+{
+    let mut lines = Vec::new(alloc);
+    let mut next = streams.first_fd();
+    while let Some(d) = next {
+        lines.push(descriptor_line(drivers, &d))?;
+        next = streams.next_fd(d.process, d.fd + 1);
+    }
+    Ok(lines)
+}
+
+/// The lines of all links, by rising id. Fails only for want of memory.
+pub fn link_lines(
+    alloc: Global,
+    drivers: &[DriverSpec],
+    links: &LinkTable,
+) -> Result<Vec<LinkLine>, NoMemory>
+    requires ctl { All (λ l. l.ctl.driver < length drivers.now) links.now.links }
+    requires lower { All (λ l. l.lower.driver < length drivers.now) links.now.links }
+    ensures { IfOk result (λ v. v.items ≡ map (view_of_link drivers.now) links.now.links) }
+{
+    let mut lines = Vec::with_capacity(alloc, links.len())?;
+    for i in 0..links.len() {
+        if let Some(l) = links.at(i) {
+            lines.push(link_line(drivers, l))?;
+        }
+    }
+    Ok(lines)
+}
+
+/// The lines of all bindings, by rising driver and address. Fails only for want of memory.
+pub fn binding_lines(
+    alloc: Global,
+    drivers: &[DriverSpec],
+    binds: &Bindings,
+) -> Result<Vec<BindingLine>, NoMemory>
+    requires { All (λ b. b.driver < length drivers.now) binds.now }
+    ensures { IfOk result (λ v. v.items ≡ map (view_of_bind drivers.now) binds.now) }
+{
+    let list = binds.list(alloc)?;
+    let mut lines = Vec::with_capacity(alloc, list.len())?;
+    for b in &list {
+        lines.push(binding_line(drivers, b))?;
+    }
+    Ok(lines)
+}
+
+/// The lines of all routes, by rising driver and address. Fails only for want of memory.
+pub fn route_lines(
+    alloc: Global,
+    drivers: &[DriverSpec],
+    routes: &Routes,
+) -> Result<Vec<RouteLine>, NoMemory>
+    requires { All (λ r. r.driver < length drivers.now) routes.now }
+    ensures { IfOk result (λ v. v.items ≡ map (view_of_route drivers.now) routes.now) }
+{
+    let list = routes.list(alloc)?;
+    let mut lines = Vec::with_capacity(alloc, list.len())?;
+    for r in &list {
+        lines.push(route_line(drivers, r))?;
+    }
+    Ok(lines)
+}
+
+/// The lines of all queued messages, by rising place and in order of arrival. Fails only for want of memory.
+pub fn message_lines(
+    alloc: Global,
+    drivers: &[DriverSpec],
+    queues: &FlowTable,
+) -> Result<Vec<MessageLine>, NoMemory>
+    requires { All (λ h. h.place.stream.driver < length drivers.now) queues.now.flow }
+    ensures { IfOk result (λ v. v.items ≡ map (view_of_message drivers.now) queues.now.flow) }
+{
+    let mut lines = Vec::with_capacity(alloc, queues.len())?;
+    let mut rest = queues.messages();
+    while let Some(queued) = rest.next() {
+        lines.push(message_line(alloc, drivers, queued)?)?;
+    }
+    Ok(lines)
+}
+
+/// The lines of all full places, by rising place. Fails only for want of memory.
+pub fn full_lines(
+    alloc: Global,
+    drivers: &[DriverSpec],
+    queues: &FlowTable,
+) -> Result<Vec<FullLine>, NoMemory>
+    requires { All (λ p. p.stream.driver < length drivers.now) queues.now.fulls }
+    ensures { IfOk result (λ v. v.items ≡ map (view_of_full drivers.now) queues.now.fulls) }
+{
+    let mut lines = Vec::new(alloc);
+    let mut rest = queues.fulls();
+    while let Some(place) = rest.next() {
+        lines.push(full_line(drivers, &place))?;
+    }
+    Ok(lines)
+}
+
+/// The lines of all streams that have hung up, by rising stream. Fails only for want of memory.
+pub fn hung_lines(
+    alloc: Global,
+    drivers: &[DriverSpec],
+    streams: &Streams,
+) -> Result<Vec<HungLine>, NoMemory>
+    requires { All (λ s. s.driver < length drivers.now) streams.now.hungs }
+    ensures { IfOk result (λ v. v.items ≡ map (view_of_hung drivers.now) streams.now.hungs) }
+{
+    let mut lines = Vec::new(alloc);
+    let mut rest = streams.hungs();
+    while let Some(stream) = rest.next() {
+        lines.push(hung_line(drivers, stream))?;
+    }
+    Ok(lines)
+}

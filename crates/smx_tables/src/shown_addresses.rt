@@ -1,0 +1,116 @@
+//! Whether lines show the bindings and the routes of tables. Each line is looked up, so that it takes no memory.
+
+ghost use Rattle.std.specs.Prelude.{◌≡◌, ◌↔◌, ◌<◌, ◌≤◌, true, length, map, IsTrue};
+ghost use Rattle.std.specs.List.{All};
+ghost use Rattle.std.specs.Option.{option_map_or};
+ghost use Rattle.smx_types.specs.declared.limits.TheConstants.{MAX_DRIVERS};
+ghost use Rattle.smx_model.specs.Configuration.{bind_before, route_before};
+ghost use Rattle.smx_model.specs.DriverList.{IsDriverList};
+ghost use Rattle.smx_model.specs.Views.{view_of_bind, view_of_route};
+ghost use Rattle.smx_tables.specs.ShownAddresses.{shown_binding, shown_route};
+
+use crate::driver_specs::driver_of;
+use crate::streams::{bind_before, route_before};
+use smx_addresses::laws::{look_ups_tell_bindings, look_ups_tell_routes};
+use smx_addresses::{Bindings, Routes};
+use smx_types::{Binding, BindingLine, DriverSpec, Route, RouteLine};
+
+// The binding that the line shows, where there is one.
+fn shown_binding(drivers: &[DriverSpec], binds: &Bindings, line: &BindingLine) -> Option<Binding>
+    requires { length drivers.now ≤ MAX_DRIVERS }
+    ensures { result ≡ shown_binding drivers.now binds.now line.now }
+{
+    let Ok(driver) = driver_of(drivers, &line.driver) else {
+        return None;
+    };
+    let binding = binds.at(driver as u8, line.addr)?;
+    if u32::from(binding.minor) == line.minor {
+        Some(binding)
+    } else {
+        None
+    }
+}
+
+// Whether it comes after the last one, where there is one.
+fn comes_after_binding(last: Option<Binding>, binding: &Binding) -> bool
+    ensures { result ≡ option_map_or (λ b. bind_before b binding.now) last true }
+{
+    match last {
+        Some(before) => bind_before(&before, binding),
+        None => true,
+    }
+}
+
+/// Whether there is a line for each binding of a table, in order, and no other.
+pub fn are_bindings_shown(drivers: &[DriverSpec], binds: &Bindings, lines: &[BindingLine]) -> bool
+    requires drivers { IsDriverList drivers.now }
+    requires known { All (λ b. b.driver < length drivers.now) binds.now }
+    ensures { IsTrue result ↔ (lines.now ≡ map (view_of_bind drivers.now) binds.now) }
+{
+    look_ups_tell_bindings();
+    binds.is_sound();
+    if binds.len() != lines.len() {
+        return false;
+    }
+    let mut last = None;
+    for line in lines {
+        let Some(binding) = shown_binding(drivers, binds, line) else {
+            return false;
+        };
+        if !comes_after_binding(last, &binding) {
+            return false;
+        }
+        last = Some(binding);
+    }
+    true
+}
+
+// The route that the line shows, where there is one.
+fn shown_route(drivers: &[DriverSpec], routes: &Routes, line: &RouteLine) -> Option<Route>
+    requires { length drivers.now ≤ MAX_DRIVERS }
+    ensures { result ≡ shown_route drivers.now routes.now line.now }
+{
+    let Ok(driver) = driver_of(drivers, &line.driver) else {
+        return None;
+    };
+    let route = routes.at(driver as u8, line.addr)?;
+    if route.id == line.id {
+        Some(route)
+    } else {
+        None
+    }
+}
+
+// Whether it comes after the last one, where there is one.
+fn comes_after_route(last: Option<Route>, route: &Route) -> bool
+    ensures { result ≡ option_map_or (λ r. route_before r route.now) last true }
+{
+    match last {
+        Some(before) => route_before(&before, route),
+        None => true,
+    }
+}
+
+/// The same of the routes of a table.
+pub fn are_routes_shown(drivers: &[DriverSpec], routes: &Routes, lines: &[RouteLine]) -> bool
+    requires drivers { IsDriverList drivers.now }
+    requires known { All (λ r. r.driver < length drivers.now) routes.now }
+    ensures { IsTrue result ↔ (lines.now ≡ map (view_of_route drivers.now) routes.now) }
+{
+    look_ups_tell_routes();
+    routes.is_sound();
+    if routes.len() != lines.len() {
+        return false;
+    }
+    let mut last = None;
+    for line in lines {
+        let Some(route) = shown_route(drivers, routes, line) else {
+            return false;
+        };
+        if !comes_after_route(last, &route) {
+            return false;
+        }
+        last = Some(route);
+    }
+    true
+}

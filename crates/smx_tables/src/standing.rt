@@ -1,0 +1,38 @@
+//! Which streams exist.
+
+ghost use Rattle.std.specs.Prelude.{◌≡◌, true, ◌||◌};
+ghost use Rattle.std.specs.List.{All, list_all};
+ghost use Rattle.smx_model.specs.KnownStreams.{IsKnown};
+ghost use Rattle.smx_model.specs.Standing.{is_persistent};
+ghost use Rattle.smx_streams.specs.StreamTables.{exists as is_there};
+ghost use Rattle.smx_tables.specs.ExistingStreams.{AreHeld, TellsExisting};
+ghost use Rattle.smx_tables.specs.ModelOfLists.{configuration_of};
+
+use crate::lists::Lists;
+use smx_model::laws_of_links::{paths_join, reaches_is_path};
+use smx_model::laws_of_streams::climbs_suffice;
+use smx_types::{DriverSpec, Link, LinkKind};
+
+/// Whether the link outlives the stream that made it.
+pub fn is_persistent(link: &Link) -> bool
+    ensures { result ≡ is_persistent link.now }
+{
+    match link.kind {
+        LinkKind::Persistent => true,
+        LinkKind::Ordinary => false,
+    }
+}
+
+/// The table of streams has a stream exactly where it exists, once each ordinary link's controlling stream is there. It
+/// does nothing: a caller who needs this calls it.
+pub fn tells_existing(drivers: &[DriverSpec], lists: &Lists)
+    requires held { AreHeld lists.now.links.links lists.now.streams }
+    requires known { All (λ l. IsKnown drivers.now l.ctl) lists.now.links.links }
+    requires linked { list_all (λ l. is_persistent l || is_there lists.now.streams l.ctl) lists.now.links.links ≡ true }
+    ensures { TellsExisting drivers.now (configuration_of lists.now) lists.now.streams }
+{
+    climbs_suffice();
+    reaches_is_path();
+    paths_join();
+    lists.links.is_sound();
+}

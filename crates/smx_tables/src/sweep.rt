@@ -1,0 +1,193 @@
+//! The sweep: what goes with streams that don't exist any longer, and the reply that names it.
+
+ghost use Rattle.std.specs.Prelude.{◌≡◌, ◌≢◌, ◌+◌, ◌≤◌, true, length, vec_capacity, IfOk, [], ◌∷◌, List};
+ghost use Rattle.std.specs.List.{All, AllPairs, list_all};
+ghost use Rattle.smx_types.specs.declared.reply.Reply.TheVariants.{Done};
+ghost use Rattle.smx_types.specs.declared.stream.StreamId.{StreamId};
+ghost use Rattle.smx_model.specs.Configuration.{QueuedMessage};
+ghost use Rattle.smx_model.specs.KnownStreams.{IsKnown};
+ghost use Rattle.smx_model.specs.Removal.{serials, serials_that_left, without_dead_streams, without_links, after_sweep};
+ghost use Rattle.smx_streams.specs.StreamTables.{LeavesHungs, exists as is_there};
+ghost use Rattle.smx_tables.specs.DroppedMessages.{AreDropped};
+ghost use Rattle.smx_tables.specs.ExistingStreams.{holds_below, TellsExisting};
+ghost use Rattle.smx_tables.specs.ListedLinks.{is_orphaned};
+ghost use Rattle.smx_tables.specs.ModelOfLists.{configuration_of, sizes_of};
+ghost use Rattle.smx_tables.specs.KeptHolds.{KeepsHolds};
+ghost use Rattle.smx_tables.specs.SweepReserves.{IsReserveFor};
+ghost use Rattle.smx_tables.specs.TouchedStreams.{is_dead, is_there_or_touched, without_streams, IsCascade, IsTouched};
+
+use crate::dropped_messages::{drop_sides, rising};
+use crate::lists::Lists;
+use crate::orphans::release_orphans;
+use crate::removal::drop_links;
+use crate::standing::tells_existing;
+use smx_model::laws_of_links::{paths_join, reaches_is_path};
+use smx_model::laws_of_streams::{climbs_suffice, sweeping_again_changes_nothing};
+use smx_streams::Streams;
+use smx_types::{DriverSpec, Reply, Serials, Sides, StreamId};
+use std::alloc::{AllocError, Global};
+
+// Takes away the binding, the messages and the full marks of the stream, unless it exists.
+fn drop_if_dead(lists: &mut Lists, stream: StreamId, dropped: &mut Vec<u32>)
+    requires { length dropped.old.items + length lists.old.queues.flow ≤ vec_capacity dropped.old }
+    ensures value { configuration_of lists.new
+        ≡ without_streams (configuration_of lists.old) (is_dead lists.old.streams (stream ∷ [])) }
+    ensures streams { lists.new.streams ≡ lists.old.streams }
+    ensures drivers { sizes_of lists.new ≡ sizes_of lists.old }
+    ensures dropped { (old : List QueuedMessage) → AreDropped old lists.old.queues.flow dropped.old.items
+        → AreDropped old lists.new.queues.flow dropped.new.items }
+    ensures room { length dropped.new.items + length lists.new.queues.flow ≤ vec_capacity dropped.new }
+{
+    if !lists.streams.exists(stream) {
+        let _binding = lists.binds.unbind(stream);
+        drop_sides(&mut lists.queues, stream, Sides::RW, dropped);
+    }
+}
+
+// Takes away the bindings, messages and full marks of streams that don't exist, all of which are among these.
+fn drop_dead(drivers: &[DriverSpec], lists: &mut Lists, seen: &[StreamId], dropped: &mut Vec<u32>)
+    requires kept { KeepsHolds lists.old }
+    requires existing { TellsExisting drivers.now (configuration_of lists.old) lists.old.streams }
+    requires seen { IsTouched lists.old.streams seen.now (configuration_of lists.old) }
+    requires room { length dropped.old.items + length lists.old.queues.flow ≤ vec_capacity dropped.old }
+    ensures value { configuration_of lists.new ≡ without_dead_streams drivers.now (configuration_of lists.old) }
+    ensures dropped { (old : List QueuedMessage) → AreDropped old lists.old.queues.flow dropped.old.items
+        → AreDropped old lists.new.queues.flow dropped.new.items }
+    ensures kept { KeepsHolds lists.new }
+    ensures drivers { sizes_of lists.new ≡ sizes_of lists.old }
+{
+    let _drivers = drivers;
+    lists.streams.is_sound();
+    for stream in seen {
+        drop_if_dead(lists, *stream, dropped);
+    }
+}
+
+// Removes the ordinary links whose controlling stream doesn't exist, which is one of those that were touched. What may
+// have gone is put to those that were seen. The last list but one has room for all ids.
+fn drop_orphans(
+    drivers: &[DriverSpec],
+    lists: &mut Lists,
+    touched: Vec<StreamId>,
+    seen: &mut Vec<StreamId>,
+    room: Vec<u32>,
+    dropped: &mut Vec<u32>,
+)
+    requires kept { KeepsHolds lists.old }
+    requires known { All (λ l. IsKnown drivers.now l.ctl) lists.old.links.links }
+    requires cascade { IsCascade lists.old.links.links lists.old.streams touched.items (vec_capacity touched) }
+    requires seen { length seen.old.items + (length touched.items + holds_below lists.old.links.links lists.old.streams)
+        ≤ vec_capacity seen.old }
+    requires empty { room.items ≡ [] }
+    requires room { length lists.old.links.links ≤ vec_capacity room }
+    requires dropped { length dropped.old.items + length lists.old.queues.flow ≤ vec_capacity dropped.old }
+    ensures value { configuration_of lists.new ≡ record (without_links (configuration_of lists.old)
+        (is_orphaned lists.old.streams.fds lists.old.links.links (length drivers.now))) { hungs = lists.new.streams.hungs } }
+    ensures hungs { LeavesHungs lists.old.streams lists.new.streams }
+    ensures seen { (s : StreamId) → is_there_or_touched lists.old.streams touched.items s ≡ true
+        → is_there_or_touched lists.new.streams seen.new.items s ≡ true }
+    ensures dropped { (old : List QueuedMessage) → AreDropped old lists.old.queues.flow dropped.old.items
+        → AreDropped old lists.new.queues.flow dropped.new.items }
+    ensures room { length dropped.new.items + length lists.new.queues.flow ≤ vec_capacity dropped.new }
+    ensures kept { KeepsHolds lists.new }
+    ensures existing { TellsExisting drivers.now (configuration_of lists.new) lists.new.streams }
+    ensures drivers { sizes_of lists.new ≡ sizes_of lists.old }
+{
+    lists.links.is_sound();
+    climbs_suffice();
+    reaches_is_path();
+    paths_join();
+    let mut gone = room;
+    release_orphans(&mut lists.streams, &lists.links, touched, seen, &mut gone);
+    drop_links(lists, &gone, dropped);
+    tells_existing(drivers, lists);
+}
+
+// Whether each of the streams is there.
+fn are_there(streams: &Streams, touched: &[StreamId]) -> bool
+    ensures { result ≡ list_all (is_there streams.now) touched.now }
+{
+    touched.iter().all(|s| streams.exists(*s))
+}
+
+/// The streams that a change touches, in a list with room for all that may go with them; a list with room for all of
+/// them again; one with room for the ids of all links; and the serials of dropped messages, with room for those of all.
+#[derive(Debug, Drop)]
+pub struct SweepReserve {
+    pub touched: Vec<StreamId>,
+    pub seen: Vec<StreamId>,
+    pub orphaned: Vec<u32>,
+    pub dropped: Vec<u32>,
+}
+
+// Removes the ordinary links whose controlling stream doesn't exist, and then what dead streams hold. Only streams that
+// were touched may have gone. The serials of what was dropped since room was made.
+fn sweep(drivers: &[DriverSpec], lists: &mut Lists, room: SweepReserve) -> Vec<u32>
+    requires kept { KeepsHolds lists.old }
+    requires known { All (λ l. IsKnown drivers.now l.ctl) lists.old.links.links }
+    requires touched { IsTouched lists.old.streams room.touched.items (configuration_of lists.old) }
+    requires room { IsReserveFor 0 lists.old.links.links lists.old.queues.flow room }
+    ensures value { configuration_of lists.new ≡ after_sweep drivers.now (configuration_of lists.old) }
+    ensures dropped { (old : List QueuedMessage) → AreDropped old lists.old.queues.flow room.dropped.items
+        → AreDropped old lists.new.queues.flow result.items }
+    ensures kept { KeepsHolds lists.new }
+    ensures drivers { sizes_of lists.new ≡ sizes_of lists.old }
+{
+    lists.streams.is_sound();
+    let mut dropped = room.dropped;
+    if are_there(&lists.streams, &room.touched) {
+        sweeping_again_changes_nothing();
+        tells_existing(drivers, lists);
+        return dropped;
+    }
+    let mut seen = room.seen;
+    drop_orphans(
+        drivers,
+        lists,
+        room.touched,
+        &mut seen,
+        room.orphaned,
+        &mut dropped,
+    );
+    drop_dead(drivers, lists, &seen, &mut dropped);
+    dropped
+}
+
+/// Room for the sweep after a change that touches so many streams. Fails only for want of memory.
+#[tactic(auto, using(crate::proofs::DropLemmas::none_dropped))]
+pub fn reserve_for_sweep(
+    alloc: Global,
+    lists: &Lists,
+    streams: usize,
+) -> Result<SweepReserve, AllocError>
+    requires { streams ≤ 1024 }
+    ensures room { IfOk result (λ r. IsReserveFor streams lists.now.links.links lists.now.queues.flow r) }
+    ensures none { IfOk result (λ r. AreDropped lists.now.queues.flow lists.now.queues.flow r.dropped.items) }
+{
+    lists.links.is_sound();
+    Ok(SweepReserve {
+        touched: Vec::with_capacity(alloc, streams + lists.links.len())?,
+        seen: Vec::with_capacity(alloc, streams + lists.links.len())?,
+        orphaned: Vec::with_capacity(alloc, lists.links.len())?,
+        dropped: Vec::with_capacity(alloc, lists.queues.len())?,
+    })
+}
+
+/// Sweeps after a change, and names the messages that were dropped since room was made.
+pub fn sweep_and_reply(drivers: &[DriverSpec], lists: &mut Lists, room: SweepReserve) -> Reply
+    requires kept { KeepsHolds lists.old }
+    requires known { All (λ l. IsKnown drivers.now l.ctl) lists.old.links.links }
+    requires touched { IsTouched lists.old.streams room.touched.items (configuration_of lists.old) }
+    requires room { IsReserveFor 0 lists.old.links.links lists.old.queues.flow room }
+    ensures value { configuration_of lists.new ≡ after_sweep drivers.now (configuration_of lists.old) }
+    ensures reply { (old : List QueuedMessage) → AllPairs (λ m n. m ≢ n) (serials old)
+        → AreDropped old lists.old.queues.flow room.dropped.items
+        → result ≡ Done (serials_that_left old lists.new.queues.flow) }
+    ensures kept { KeepsHolds lists.new }
+    ensures drivers { sizes_of lists.new ≡ sizes_of lists.old }
+{
+    let dropped = sweep(drivers, lists, room);
+    Reply::Done {
+        dropped: Serials::from_vec(rising(dropped)),
+    }
+}

@@ -1,0 +1,26 @@
+-- Which version is the first that can tell something.
+use Rattle.std.proofs.Common.{◌≡◌, ◌≤◌, Bool, true, false, ◌||◌, List, length, refl, arith}
+use Rattle.std.proofs.lemmas.Bool.{false_from_ne_true, ltb-true}
+use Rattle.std.proofs.lemmas.Bool.Decides.{nat_tests}
+use Rattle.smx_types.specs.Versions.{are_more_drivers, most_drivers, version_2_where}
+use Rattle.smx_types.specs.declared.driver.DriverSpec.{DriverSpec}
+use Rattle.smx_types.specs.declared.limits.TheConstants.{MAX_DRIVERS_OF_VERSION_1}
+use Rattle.smx_types.specs.declared.version.Version.TheVariants.{V1}
+
+-- version 1 can where no reason for version 2 holds
+pub neither : (a b : Bool) → (a || b) ≡ false → (a ≡ false) × (b ≡ false)
+neither true b h = absurd cc
+neither false b h = (refl, h)
+
+pub is_first : (b : Bool) → version_2_where b ≡ V1 → b ≡ false
+is_first true h = absurd cc
+is_first false h = refl
+
+-- as many drivers as version 1 has, or more
+pub few_drivers : (ds : List DriverSpec) → length ds ≤ most_drivers V1 → are_more_drivers ds ≡ false
+few_drivers ds few =
+    false_from_ne_true (are_more_drivers ds)
+    (λ more. omega (arith, ltb-true MAX_DRIVERS_OF_VERSION_1 (length ds) more, few))
+
+pub not_more : (ds : List DriverSpec) → are_more_drivers ds ≡ false → length ds ≤ most_drivers V1
+not_more ds few = grind (arith, nat_tests)

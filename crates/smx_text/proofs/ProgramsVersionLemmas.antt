@@ -1,0 +1,77 @@
+-- What a version can tell of programs, as a whole and line by line.
+use Rattle.std.proofs.Common.{◌≡◌, ℕ, ◌+◌, ◌≤◌, false, List, [], ◌∷◌, ◌++◌, length, map, refl}
+use Rattle.std.specs.List.{AllByRecursion, list_any}
+use Rattle.smx_types.specs.ProgramLists.{ProgramLists}
+use Rattle.smx_types.specs.Versions.{are_more_drivers, is_hangup, least_of_programs, most_drivers}
+use Rattle.smx_types.specs.declared.command.Command.{Command}
+use Rattle.smx_types.specs.declared.driver.DriverSpec.{DriverSpec}
+use Rattle.smx_types.specs.declared.limits.TheConstants.{MAX_DRIVERS}
+use Rattle.smx_types.specs.declared.version.Version.{Version}
+use Rattle.smx_types.specs.declared.version.Version.TheVariants.{V1, V2}
+use Rattle.smx_text.specs.ProgramLines.{Line}
+use Rattle.smx_text.specs.ProgramLines as line
+use Rattle.smx_text.specs.ProgramsText.{FitsLine, IsAllowed, program_lines}
+use Rattle.smx_text.proofs.LeastVersionLemmas.{few_drivers, is_first, neither, not_more}
+
+-- ---- what version 1 tells line by line needs no later one
+
+told_commands : (cs : List Command) (rest : List Line)
+    → AllByRecursion (FitsLine V1) (map line.Command cs ++ rest)
+    → (list_any is_hangup cs ≡ false) × AllByRecursion (FitsLine V1) rest
+told_commands [] rest h = (refl, h)
+told_commands (c ∷ cs) rest h = let more = told_commands cs rest h.1 in (rw (h.0.1, more.0) refl, more.1)
+
+told_programs : (n : ℕ) (ps : List (List Command)) → AllByRecursion (FitsLine V1) (program_lines n ps)
+    → list_any (list_any is_hangup) ps ≡ false
+told_programs n [] h = refl
+told_programs n (p ∷ ps) h =
+    let own = told_commands p (program_lines (n + 1) ps) h.1 in
+    rw (own.0, told_programs (n + 1) ps own.1) refl
+
+told_behind : (ds : List DriverSpec) (rest : List Line) → AllByRecursion (FitsLine V1) (map line.Driver ds ++ rest)
+    → AllByRecursion (FitsLine V1) rest
+told_behind [] rest h = h
+told_behind (d ∷ ds) rest h = told_behind ds rest h.1
+
+pub least_is_first : (v : ProgramLists) → IsAllowed V1 v → least_of_programs v.drivers v.programs ≡ V1
+least_is_first v allowed =
+    let few = few_drivers v.drivers allowed.drivers in
+    let none =
+    told_programs 0 v.programs (told_behind v.drivers (program_lines 0 v.programs) allowed.fits) in
+    rw (few, none) refl
+
+-- ---- and what needs no later version, version 1 tells line by line
+
+-- a line of version 2 is one of version 1 where no hangup is told
+first_commands : (cs : List Command) (rest : List Line) → list_any is_hangup cs ≡ false
+    → AllByRecursion (FitsLine V2) (map line.Command cs ++ rest)
+    → (AllByRecursion (FitsLine V2) rest → AllByRecursion (FitsLine V1) rest)
+    → AllByRecursion (FitsLine V1) (map line.Command cs ++ rest)
+first_commands [] rest none h more = more h
+first_commands (c ∷ cs) rest none h more =
+    let both = neither (is_hangup c) (list_any is_hangup cs) none in
+    ((h.0.0, both.0), first_commands cs rest both.1 h.1 more)
+
+first_programs : (n : ℕ) (ps : List (List Command)) → list_any (list_any is_hangup) ps ≡ false
+    → AllByRecursion (FitsLine V2) (program_lines n ps) → AllByRecursion (FitsLine V1) (program_lines n ps)
+first_programs n [] none h = tt
+first_programs n (p ∷ ps) none h =
+    let both = neither (list_any is_hangup p) (list_any (list_any is_hangup) ps) none in
+    (h.0, first_commands p (program_lines (n + 1) ps) both.0 h.1 (first_programs (n + 1) ps both.1))
+
+pub programs_fit : (version : Version) (v : ProgramLists) → (version ≡ V1 → least_of_programs v.drivers v.programs ≡ V1)
+    → AllByRecursion (FitsLine V2) (program_lines 0 v.programs)
+    → AllByRecursion (FitsLine version) (program_lines 0 v.programs)
+programs_fit V1 v told h =
+    let both = neither (are_more_drivers v.drivers) (list_any (list_any is_hangup) v.programs)
+    (is_first _ (told refl)) in
+    first_programs 0 v.programs both.1 h
+programs_fit V2 v told h = h
+
+pub drivers_few : (version : Version) (v : ProgramLists) → (version ≡ V1 → least_of_programs v.drivers v.programs ≡ V1)
+    → length v.drivers ≤ MAX_DRIVERS → length v.drivers ≤ most_drivers version
+drivers_few V1 v told few =
+    let both = neither (are_more_drivers v.drivers) (list_any (list_any is_hangup) v.programs)
+    (is_first _ (told refl)) in
+    not_more v.drivers both.0
+drivers_few V2 v told few = few

@@ -1,0 +1,72 @@
+-- What a version can tell of a transcript, as a whole and line by line.
+use Rattle.std.proofs.Common.{◌≡◌, ◌≤◌, true, false, nat_lt, List, [], ◌∷◌, length, refl, arith}
+use Rattle.std.specs.List.{AllByRecursion, list_any}
+use Rattle.std.proofs.lemmas.Bool.Decides.{nat_tests}
+use Rattle.smx_types.specs.Versions.{are_more_drivers, is_of_hangup, least_of_transcript, most_drivers}
+use Rattle.smx_types.specs.declared.command.Entry.{Entry}
+use Rattle.smx_types.specs.declared.transcript.Transcript.{Transcript}
+use Rattle.smx_types.specs.declared.version.Version.{Version}
+use Rattle.smx_types.specs.declared.version.Version.TheVariants.{V1, V2}
+use Rattle.smx_types.specs.declared.view.HungLine.{HungLine}
+use Rattle.smx_words.specs.Spellable.{CanTell}
+use Rattle.smx_text.proofs.LeastVersionLemmas.{few_drivers, is_first, neither}
+
+-- each entry can be told
+abbrev pub AreToldEntries : Version → List Entry → Type 0
+AreToldEntries version es = AllByRecursion (λ e. CanTell version (is_of_hangup e)) es
+
+-- each hung-up stream can be told
+abbrev pub AreToldHungs : Version → List HungLine → Type 0
+AreToldHungs version hs = AllByRecursion (λ h. CanTell version true) hs
+
+-- version 2 can tell all
+each_entry : (es : List Entry) → AreToldEntries V2 es
+each_entry [] = tt
+each_entry (e ∷ es) = (tt, each_entry es)
+
+each_hung : (hs : List HungLine) → AreToldHungs V2 hs
+each_hung [] = tt
+each_hung (h ∷ hs) = (tt, each_hung hs)
+
+-- ---- version 1 can tell what needs no later one
+
+none_of_hangup : (es : List Entry) → list_any is_of_hangup es ≡ false → AreToldEntries V1 es
+none_of_hangup [] h = tt
+none_of_hangup (e ∷ es) h =
+    let both = neither (is_of_hangup e) (list_any is_of_hangup es) h in
+    (both.0, none_of_hangup es both.1)
+
+none_hung : (hs : List HungLine) → nat_lt 0 (length hs) ≡ false → AreToldHungs V1 hs
+none_hung [] h = tt
+none_hung (x ∷ hs) h = let some : nat_lt 0 (length (x ∷ hs)) ≡ true = grind (arith, nat_tests) in absurd cc
+
+pub told_entries : (version : Version) (t : Transcript) → (version ≡ V1 → least_of_transcript t ≡ V1)
+    → AreToldEntries version t.entries
+told_entries V1 t told =
+    let two = neither (are_more_drivers t.drivers) _ (is_first _ (told refl)) in
+    none_of_hangup t.entries (neither (list_any is_of_hangup t.entries) _ two.1).0
+told_entries V2 t told = each_entry t.entries
+
+pub told_hungs : (version : Version) (t : Transcript) → (version ≡ V1 → least_of_transcript t ≡ V1)
+    → AreToldHungs version t.view.hungs
+told_hungs V1 t told =
+    let two = neither (are_more_drivers t.drivers) _ (is_first _ (told refl)) in
+    none_hung t.view.hungs (neither (list_any is_of_hangup t.entries) _ two.1).1
+told_hungs V2 t told = each_hung t.view.hungs
+
+-- ---- and what it can tell line by line needs no later one
+
+no_hangup : (es : List Entry) → AreToldEntries V1 es → list_any is_of_hangup es ≡ false
+no_hangup [] h = refl
+no_hangup (e ∷ es) h = rw (h.0, no_hangup es h.1) refl
+
+no_hung : (hs : List HungLine) → AreToldHungs V1 hs → nat_lt 0 (length hs) ≡ false
+no_hung [] h = refl
+no_hung (x ∷ hs) h = absurd (cc h.0)
+
+pub needs_no_later : (version : Version) (t : Transcript) → length t.drivers ≤ most_drivers version
+    → AreToldEntries version t.entries → AreToldHungs version t.view.hungs
+    → version ≡ V1 → least_of_transcript t ≡ V1
+needs_no_later V1 t few entries hungs is =
+    rw (few_drivers t.drivers few, no_hangup t.entries entries, no_hung t.view.hungs hungs) refl
+needs_no_later V2 t few entries hungs is = absurd (cc is)

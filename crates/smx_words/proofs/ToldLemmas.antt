@@ -1,0 +1,111 @@
+-- What a version can tell.
+use Rattle.std.proofs.Common.{◌≡◌, ◌≢◌, Bool, true, false, ◌||◌, ℕ, List, Option, Some, None, ◌++◌, ◌∷◌, codes, refl, sym, ◌∙◌}
+use Rattle.std.specs.Fmt.{decimal}
+use Rattle.smx_types.specs.Versions.{is_hangup, is_of_hangup, tells_of_hangup}
+use Rattle.smx_types.specs.declared.command.Command.{Command}
+use Rattle.smx_types.specs.declared.command.Entry.{Entry}
+use Rattle.smx_types.specs.declared.reply.Reply.{Reply}
+use Rattle.smx_types.specs.declared.version.Version.{Version}
+use Rattle.smx_types.specs.declared.version.Version.TheVariants.{V1, V2}
+use Rattle.smx_words.specs.LineReading.{IsLineOf, IsReadAs}
+use Rattle.smx_words.specs.Spellable.{CanTell, FitsCommand, FitsCommandIn, FitsEntry, FitsEntryIn, FitsProcess, FitsReply, FitsReplyIn}
+use Rattle.smx_words.specs.Spelling.{command_words, entry_words, reply_words}
+use Rattle.smx_words.specs.Words.{SPACE, line_of}
+use Rattle.smx_words.proofs.EntryLemmas.{entry_is}
+use Rattle.smx_words.proofs.LawLemmas.{one_command, one_entry, one_reply}
+
+-- what the first version can tell, each can
+pub in_each : (v : Version) (hangup : Bool) → CanTell V1 hangup → CanTell v hangup
+in_each V1 hangup can = can
+in_each V2 hangup can = tt
+
+pub command_in_each : (v : Version) (line : List ℕ) → IsLineOf (FitsCommandIn V1) command_words line
+    → IsLineOf (FitsCommandIn v) command_words line
+command_in_each v line l = (l.0, (l.1.0, in_each v (is_hangup l.0) l.1.1), l.2)
+
+pub reply_in_each : (v : Version) (line : List ℕ) → IsLineOf (FitsReplyIn V1) reply_words line
+    → IsLineOf (FitsReplyIn v) reply_words line
+reply_in_each v line l = (l.0, (l.1.0, in_each v (tells_of_hangup l.0) l.1.1), l.2)
+
+-- a line whose command can't be told is no told command's
+pub no_told_command : (v : Version) (line : List ℕ) (c : Command) → FitsCommand c → line ≡ line_of (command_words c)
+    → (CanTell v (is_hangup c) → ⊥) → (x : Command) → FitsCommandIn v x → line ≢ line_of (command_words x)
+no_told_command v line c fits is cannot x told e =
+    let same : c ≡ x = one_command c x fits told.0 (sym is ∙ e) in
+    cannot (rw same told.1)
+
+pub no_told_reply : (v : Version) (line : List ℕ) (r : Reply) → FitsReply r → line ≡ line_of (reply_words r)
+    → (CanTell v (tells_of_hangup r) → ⊥) → (x : Reply) → FitsReplyIn v x → line ≢ line_of (reply_words x)
+no_told_reply v line r fits is cannot x told e =
+    let same : r ≡ x = one_reply r x fits told.0 (sym is ∙ e) in
+    cannot (rw same told.1)
+
+pub no_told_entry : (v : Version) (line : List ℕ) (n : Entry) → FitsEntry n → line ≡ line_of (entry_words n)
+    → (CanTell v (is_of_hangup n) → ⊥) → (x : Entry) → FitsEntryIn v x → line ≢ line_of (entry_words x)
+no_told_entry v line n fits is cannot x told e =
+    let same : n ≡ x = one_entry n x fits told.0 (sym is ∙ e) in
+    cannot (rw same told.1)
+
+-- an entry can be told where its command and its reply can
+pub can_tell_both : (v : Version) (h k : Bool) → CanTell v h → CanTell v k → CanTell v (h || k)
+can_tell_both V1 true k a b = absurd (cc a)
+can_tell_both V1 false k a b = b
+can_tell_both V2 h k a b = tt
+
+pub can_tell_each : (v : Version) (h k : Bool) → CanTell v (h || k) → CanTell v h × CanTell v k
+can_tell_each V1 true k a = absurd (cc a)
+can_tell_each V1 false k a = (refl, a)
+can_tell_each V2 h k a = (tt, tt)
+
+pub command_fits : (v : Version) (e : Entry) → FitsEntryIn v e → FitsCommandIn v e.command
+command_fits v e fits = (fits.0.command, (can_tell_each v (is_hangup e.command) (tells_of_hangup e.reply) fits.1).0)
+
+pub reply_fits : (v : Version) (e : Entry) → FitsEntryIn v e → FitsReplyIn v e.reply
+reply_fits v e fits = (fits.0.reply, (can_tell_each v (is_hangup e.command) (tells_of_hangup e.reply) fits.1).1)
+
+-- the entry of a process, a command and a reply
+pub told_entry_is : (v : Version) (line rest command reply : List ℕ) (p : ℕ) (c : Command) (r : Reply) → FitsProcess p
+    → line ≡ decimal p ++ SPACE ∷ rest → rest ≡ command ++ codes " = " ++ reply
+    → FitsCommandIn v c × (command ≡ line_of (command_words c)) → FitsReplyIn v r × (reply ≡ line_of (reply_words r))
+    → (e : Entry) → e ≡ record { process = p; command = c; reply = r }
+    → FitsEntryIn v e × (line ≡ line_of (entry_words e))
+told_entry_is v line rest command reply p c r process is sides asked answered e made =
+    let both =
+    entry_is line rest command reply p c r process is sides (asked.0.0, asked.1) (answered.0.0, answered.1) e made in
+    let can : CanTell v (is_of_hangup e) =
+    rw made (can_tell_both v (is_hangup c) (tells_of_hangup r) asked.0.1 answered.0.1) in
+    ((both.0, can), both.1)
+
+-- a process, a command's line and a reply's line are an entry's
+pub told_entry_spelled : (v : Version) (line rest command reply : List ℕ) (p : ℕ) → FitsProcess p
+    → line ≡ decimal p ++ SPACE ∷ rest → rest ≡ command ++ codes " = " ++ reply
+    → IsLineOf (FitsCommandIn v) command_words command → IsLineOf (FitsReplyIn v) reply_words reply
+    → IsLineOf (FitsEntryIn v) entry_words line
+told_entry_spelled v line rest command reply p process is sides c r =
+    let entry : Entry = record { process = p; command = c.0; reply = r.0 } in
+    let all =
+    told_entry_is v line rest command reply p c.0 r.0 process is sides (c.1, c.2) (r.1, r.2) entry refl in
+    (entry, all.0, all.1)
+
+-- ---- whether a line is a told command's or entry's is decided
+
+can_tell_or : (v : Version) (hangup : Bool) → Dec (CanTell v hangup)
+can_tell_or V1 true = no (λ e. cc e)
+can_tell_or V1 false = yes refl
+can_tell_or V2 hangup = yes tt
+
+pub told_command : (v : Version) (line : List ℕ) (o : Option Command) → IsReadAs FitsCommand command_words line o
+    → (t : Option Command) × IsReadAs (FitsCommandIn v) command_words line t
+told_command v line None none = (None, λ x told e. none x told.0 e)
+told_command v line (Some c) found = elim (can_tell_or v (is_hangup c)) [
+  | yes can ↦ (Some c, ((found.0, can), found.1))
+  | no cannot ↦ (None, no_told_command v line c found.0 found.1 cannot)
+]
+
+pub told_entry : (v : Version) (line : List ℕ) (o : Option Entry) → IsReadAs FitsEntry entry_words line o
+    → (t : Option Entry) × IsReadAs (FitsEntryIn v) entry_words line t
+told_entry v line None none = (None, λ x told e. none x told.0 e)
+told_entry v line (Some x) found = elim (can_tell_or v (is_of_hangup x)) [
+  | yes can ↦ (Some x, ((found.0, can), found.1))
+  | no cannot ↦ (None, no_told_entry v line x found.0 found.1 cannot)
+]
