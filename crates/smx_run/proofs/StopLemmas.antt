@@ -1,5 +1,6 @@
 -- Where a run on one thread stops: there is room for all commands, so it is want of memory alone that stops it.
-use Rattle.std.proofs.Common.{◌≡◌, ◌≢◌, ℕ, ◌+◌, ◌<◌, ◌≤◌, List, [], ◌∷◌, ◌++◌, length, map, refl, sym, ap, ◌∙◌, arith, append_assoc}
+use Rattle.std.proofs.Common.{◌≡◌, ◌≢◌, ℕ, ◌+◌, ◌<◌, ◌≤◌, List, [], ◌∷◌, ◌++◌, length, map, refl, sym, ap, ◌∙◌, arith, append_assoc, Result, Ok, Err}
+use Rattle.std.specs.Prelude.{OnErr}
 use Rattle.std.proofs.lemmas.List.{append-nil, length-append, length-map, map-append}
 use Rattle.std.specs.List.{sum_by}
 use Rattle.smx_types.specs.declared.command.Command.{Command}
@@ -9,6 +10,11 @@ use Rattle.smx_shared.specs.declared.fault.ApplyFault.{ApplyFault}
 use Rattle.smx_shared.specs.declared.fault.ApplyFault.TheVariants as apply
 use Rattle.smx_run.specs.ProgramOrder.{BeginsCalls, calls_of, calls_from}
 use Rattle.smx_run.proofs.RecordingLemmas.{counted}
+
+-- what is so is so where a fault is answered
+pub on_err : {T E : Type 0} (result : Result T E) (P : Type 0) → P → OnErr result P
+on_err (Ok value) P h = tt
+on_err (Err fault) P h = h
 
 -- what is asked by some programs, and then by those behind them
 calls_apart : (n : ℕ) (programs later : List (List Command)) → calls_from n (programs ++ later) ≡ calls_from n programs ++ calls_from (n + length programs) later
@@ -24,11 +30,11 @@ pub left_of : (asked : List (ℕ × Command)) (p : ℕ) (programs before later :
     → (rest : List (ℕ × Command)) × (asked ++ (p, next) ∷ rest ≡ calls_from 0 programs)
 left_of asked p programs before later commands done left next all some number is =
     let rest : List (ℕ × Command) = calls_of p left ++ calls_from (p + 1) later in
-    let here : calls_of p commands ≡ calls_of p done ++ (p, next) ∷ calls_of p left =
+    let here : calls_of p commands ≡ calls_of p done ++ ((p, next) ∷ calls_of p left) =
     ap (calls_of p) (sym some) ∙ map-append (λ (c : Command). (p, c)) done (next ∷ left) in
-    let whole : calls_from 0 programs ≡ calls_from 0 before ++ calls_of p commands ++ calls_from (p + 1) later =
+    let whole : calls_from 0 programs ≡ calls_from 0 before ++ (calls_of p commands ++ calls_from (p + 1) later) =
     ap (calls_from 0) (sym all) ∙ calls_apart 0 before (commands ∷ later) ∙ rw number refl in
-    let split : calls_of p commands ++ calls_from (p + 1) later ≡ calls_of p done ++ (p, next) ∷ rest =
+    let split : calls_of p commands ++ calls_from (p + 1) later ≡ calls_of p done ++ ((p, next) ∷ rest) =
     ap (λ (l : List (ℕ × Command)). l ++ calls_from (p + 1) later) here ∙ append_assoc (calls_of p done) ((p, next) ∷ calls_of p left) (calls_from (p + 1) later) in
     (rest, ap (λ (l : List (ℕ × Command)). l ++ (p, next) ∷ rest) is ∙ append_assoc (calls_from 0 before) (calls_of p done) ((p, next) ∷ rest)
       ∙ ap (λ (l : List (ℕ × Command)). calls_from 0 before ++ l) (sym split) ∙ sym whole)

@@ -18,7 +18,7 @@ pub record StopsAmong {S : Type 0} (performed : S → List Command → S → Typ
   pub next : Command
   pub left : List Command
   pub all : done ++ next ∷ left ≡ commands
-  pub performed : performed a done b
+  pub came : performed a done b
 
 -- as far as the history was seen, it has as many entries as it may
 abbrev pub KnowsItFull : Known → Type 0
