@@ -1,14 +1,14 @@
 -- Where a run on one thread stops: there is room for all commands, so it is want of memory alone that stops it.
-use Rattle.std.proofs.Common.{◌≡◌, ◌≢◌, ℕ, ◌+◌, ◌<◌, ◌≤◌, List, [], ◌∷◌, ◌++◌, length, map, refl, sym, ap, ◌∙◌, arith, append_assoc, Result, Ok, Err}
+use Rattle.std.proofs.Common.{◌≡◌, ◌≢◌, ℕ, ◌+◌, ◌<◌, List, [], ◌∷◌, ◌++◌, length, map, refl, sym, ap, ◌∙◌, arith, append_assoc, Result, Ok, Err}
 use Rattle.std.specs.Prelude.{OnErr}
-use Rattle.std.proofs.lemmas.List.{append-nil, length-append, length-map, map-append}
+use Rattle.std.proofs.lemmas.List.{length-append, length-map, map-append}
 use Rattle.std.specs.List.{sum_by}
 use Rattle.smx_types.specs.declared.command.Command.{Command}
 use Rattle.smx_types.specs.declared.command.Entry.{Entry}
 use Rattle.smx_model.specs.Histories.{call_of}
 use Rattle.smx_shared.specs.declared.fault.ApplyFault.{ApplyFault}
 use Rattle.smx_shared.specs.declared.fault.ApplyFault.TheVariants as apply
-use Rattle.smx_run.specs.ProgramOrder.{BeginsCalls, calls_of, calls_from}
+use Rattle.smx_run.specs.ProgramOrder.{calls_of, calls_from}
 use Rattle.smx_run.proofs.RecordingLemmas.{counted}
 
 -- what is so is so where a fault is answered
@@ -35,9 +35,11 @@ left_of asked p programs before later commands done left next all some number is
     let whole : calls_from 0 programs ≡ calls_from 0 before ++ (calls_of p commands ++ calls_from (p + 1) later) =
     ap (calls_from 0) (sym all) ∙ calls_apart 0 before (commands ∷ later) ∙ rw number refl in
     let split : calls_of p commands ++ calls_from (p + 1) later ≡ calls_of p done ++ ((p, next) ∷ rest) =
-    ap (λ (l : List (ℕ × Command)). l ++ calls_from (p + 1) later) here ∙ append_assoc (calls_of p done) ((p, next) ∷ calls_of p left) (calls_from (p + 1) later) in
-    (rest, ap (λ (l : List (ℕ × Command)). l ++ (p, next) ∷ rest) is ∙ append_assoc (calls_from 0 before) (calls_of p done) ((p, next) ∷ rest)
-      ∙ ap (λ (l : List (ℕ × Command)). calls_from 0 before ++ l) (sym split) ∙ sym whole)
+    ap (λ (l : List (ℕ × Command)). l ++ calls_from (p + 1) later) here ∙ append_assoc (calls_of p done) ((p, next) ∷ calls_of p left) (calls_from (p + 1) later) in (
+      rest,
+      ap (λ (l : List (ℕ × Command)). l ++ (p, next) ∷ rest) is ∙ append_assoc (calls_from 0 before) (calls_of p done) ((p, next) ∷ rest)
+          ∙ ap (λ (l : List (ℕ × Command)). calls_from 0 before ++ l) (sym split) ∙ sym whole,
+    )
 
 -- where a command is left, there are fewer entries than commands
 pub room_left : (es : List Entry) (programs : List (List Command)) (next : ℕ × Command) (rest : List (ℕ × Command))

@@ -1,4 +1,4 @@
-use Rattle.std.proofs.Common.{rules, ◌≡◌, ◌∷◌, ◌++◌, [], List, length, ap, sym, subst, ◌∙◌, arith}
+use Rattle.std.proofs.Common.{rules, ◌∷◌, ◌++◌, [], List, ap, sym, subst, ◌∙◌, arith}
 use Rattle.std.specs.Vec.Iter.{into_iter_items}
 use Rattle.std.proofs.lemmas.List.{append-nil, length-append}
 use Rattle.smx_types.specs.declared.command.Command.{Command}
@@ -18,7 +18,7 @@ returns-in_err-outcome-clause-stops g c =
       left = into_iter_items c.next.new.self;
       all = ap (λ (cs : List Command). done ++ cs) (sym c.in-Some.ensures.steps.0) ∙ before.all;
       came = subst (λ (cs : List Command). g.K.Desk.performed c.args.desk.now cs c.perform-outcome.new.self) (append-nil done)
-      (g.met.K.Desk.performed_more _ _ _ _ _ before.performed c.in_err-outcome.ensures.none);
+          (g.met.K.Desk.performed_more _ _ _ _ _ before.performed c.in_err-outcome.ensures.none);
     } in
     on_err _ _ stops
 
