@@ -8,6 +8,7 @@ mod fault;
 mod fronts_text;
 mod input;
 pub mod laws_of_filters;
+pub mod laws_of_replays;
 mod output;
 mod replay;
 mod text;

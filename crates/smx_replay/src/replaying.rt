@@ -11,6 +11,7 @@ ghost use Rattle.smx_replay.specs.Replays.{IsReplayText};
 ghost use Rattle.smx_text.specs.GrowingTranscripts.{BeginsTranscript};
 
 use smx_config::{Config, ConfigFault};
+use smx_model::laws::one_entry_more;
 use smx_text::TranscriptWriter;
 use smx_types::{Entry, NoMemory, Transcript};
 use std::alloc::Global;
@@ -24,6 +25,7 @@ pub fn replay(alloc: Global, transcript: Transcript, room: Vec<u8>) -> Result<Ve
     ensures written { IfOk result (λ text. IsReplayText transcript text.items) }
     ensures refused { IfErr result (RefusesDrivers transcript.drivers) }
 {
+    one_entry_more();
     let Transcript {
         version,
         drivers,
@@ -49,11 +51,13 @@ fn perform_again(
     ensures next { OnOk result (config.new.configuration
         ≡ (step config.old.drivers config.old.configuration entry.process entry.command).0) }
     ensures written { OnOk result ((version : AnyVersion) (drivers : List AnyDriver) (before : List AnyEntry)
-        → BeginsTranscript version drivers before writer.old
-        → BeginsTranscript version drivers (before ++ answered config.old.drivers config.old.configuration entry ∷ []) writer.new) }
+        → BeginsTranscript version drivers before writer.old → BeginsTranscript version drivers
+        (before ++ answered config.old.drivers config.old.configuration entry ∷ []) writer.new) }
 {
     let Entry {
-        process, command, ..
+        process,
+        command,
+        ..
     } = entry;
     let reply = config.step(process, &command)?;
     let answered = Entry {
