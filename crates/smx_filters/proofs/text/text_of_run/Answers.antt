@@ -1,4 +1,4 @@
-use Rattle.std.proofs.Common.{◌≡◌, ◌≤◌, false, sym, subst, arith, rules}
+use Rattle.std.proofs.Common.{◌≡◌, ◌≤◌, false, sym, subst, rules}
 use Rattle.smx_model.specs.Headline.{IsReportOf}
 use Rattle.smx_run.specs.Reports.{transcript_of}
 use Rattle.smx_filters.proofs.ToldLemmas.{told, written_for}
