@@ -1,7 +1,8 @@
 -- What a replay says of the input that was read whole, and the laws of replays over bytes.
-use Rattle.std.proofs.Common.{◌≡◌, ◌≢◌, ℕ, List, length, Vec, Result, Ok, Err, refl, sym, ap, subst, ◌∙◌}
-use Rattle.std.specs.Prelude.{IfErr, IsErrAnd}
+use Rattle.std.proofs.Common.{◌≡◌, ◌≢◌, ℕ, Bool, true, List, length, Option, Vec, Result, Ok, Err, refl, sym, ap, subst, ◌∙◌, arith}
+use Rattle.std.specs.Prelude.{IfErr, IsErrAnd, OnErr, OnOk}
 use Rattle.std.specs.Global.{Global}
+use Rattle.std.specs.Io.KnownBytes.{Appends}
 use Rattle.smx_types.specs.declared.transcript.Transcript.{Transcript}
 use Rattle.smx_types.specs.declared.version.Version.{Version}
 use Rattle.smx_model.specs.DriverList.{IsDriverList}
@@ -16,11 +17,13 @@ use Rattle.smx_config.specs.declared.verdict.Verdict.TheVariants.{Legal}
 use Rattle.smx_replay.specs.Replays.{IsReplayOf, IsReplayText}
 use Rattle.smx_run.specs.RunFaults.{run_fault_of}
 use Rattle.smx_filters.specs.CheckText.{checking, verdict_line}
-use Rattle.smx_filters.specs.Filters.{Answers, GivesFor, IsFaultOf}
+use Rattle.smx_filters.specs.Filters.{Answers, FiltersText, GivesFor, IsFaultOf}
+use Rattle.smx_filters.specs.Input.{IsInput, IsWhole}
+use Rattle.smx_filters.specs.Output.{AppendsBeginning}
 use Rattle.smx_filters.specs.ReplayText.{IsReplayed, replaying}
 use Rattle.smx_filters.specs.RunText.{items_of}
 use Rattle.smx_filters.specs.declared.fault.MainFault.{MainFault}
-use Rattle.smx_filters.specs.declared.fault.MainFault.TheVariants.{Refused, Text}
+use Rattle.smx_filters.specs.declared.fault.MainFault.TheVariants.{Refused, Text, TooLong, ReadFailed, WriteFailed}
 use Rattle.smx_filters.proofs.FilterLemmas.{alone_of}
 
 -- ---- what other crates' laws say
@@ -76,6 +79,56 @@ replay_refused bytes input same t read f (Ok v) is refused = absurd is
 replay_refused bytes input same t read f (Err e) is refused =
     subst (λ (x : MainFault). Answers replaying input (Err x)) (sym is)
     (read.0, t, subst (λ (bs : List ℕ). Spells (transcript_grammar read.0) bs t) same read.1, alone_of t.drivers f refused)
+
+-- ---- writing
+
+module _ (had left : Option (List ℕ)) (ended : Bool) (failures : ℕ) (before after : Option (List ℕ)) (flushed : Bool) (written : ℕ) (v : Vec ℕ Global) (read : List ℕ)
+    (h : IsInput had left ended failures (Ok v) read) (bytes : List ℕ) (given : GivesFor replaying v.items tt bytes) where
+  whole : IsWhole had ended read
+  whole = h.whole
+
+  abbrev ok : Result (Vec ℕ Global) MainFault
+  ok = Ok v
+
+  gives_read : GivesFor replaying read tt bytes
+  gives_read = subst (λ (input : List ℕ). GivesFor replaying input tt bytes) h.answered given
+
+  -- what was given was written, or writing failed
+  pub written_out : (answer : Result (Unit {0}) MainFault) → OnOk answer (Appends before after bytes) → OnOk answer (flushed ≡ true) → OnOk answer (written ≡ 0)
+      → OnErr answer (AppendsBeginning before after bytes) → IfErr answer (λ fault. fault ≡ WriteFailed) → OnErr answer (written ≡ 1)
+      → FiltersText replaying had left ended failures before after flushed written answer
+  written_out (Ok done) appended out fine beginning fault failed = record {
+    read = read;
+    consumed = h.consumed;
+    few = h.few;
+    done = (whole, out, bytes, gives_read, appended);
+    text = tt;
+    refused = tt;
+    too_long = (λ is. absurd cc, λ long. let over : ok ≡ Err TooLong = h.too_long.1 long in absurd cc);
+    read_failed = (λ is. absurd cc, λ broken. let over : ok ≡ Err ReadFailed = h.read_failed.1 broken in absurd cc);
+    write_failed = (λ is. absurd cc, λ broken. absurd (omega (arith, fine, broken)));
+    cut_short = tt;
+    unwritten = tt;
+  }
+  written_out (Err e) appended out fine beginning fault failed = record {
+    read = read;
+    consumed = h.consumed;
+    few = h.few;
+    done = tt;
+    text = λ f is. let other : WriteFailed ≡ Text f = sym fault ∙ is in absurd cc;
+    refused = λ f is. let other : WriteFailed ≡ Refused f = sym fault ∙ is in absurd cc;
+    too_long = (
+      λ is. let same : Err e ≡ Err TooLong = is in let other : WriteFailed ≡ TooLong = sym fault ∙ cc in absurd cc,
+      λ long. let over : ok ≡ Err TooLong = h.too_long.1 long in absurd cc,
+    );
+    read_failed = (
+      λ is. let same : Err e ≡ Err ReadFailed = is in let other : WriteFailed ≡ ReadFailed = sym fault ∙ cc in absurd cc,
+      λ broken. let over : ok ≡ Err ReadFailed = h.read_failed.1 broken in absurd cc,
+    );
+    write_failed = (λ is. failed, λ broken. ap Err fault);
+    cut_short = λ is. (whole, tt, bytes, gives_read, beginning);
+    unwritten = λ differs. absurd (differs fault);
+  }
 
 -- ---- laws
 
