@@ -64,7 +64,7 @@ fn program<'a>(alloc: Global) -> Result<Command<'a>, AllocError> {
     let replay = subcommand(
         alloc,
         "replay",
-        "Perform the commands of the transcript on standard input and write the transcript that they give",
+        "Replay the transcript on standard input and write the transcript that its commands give",
     );
     Command::new(alloc, "muxsim")
         .version(VERSION)

@@ -165,9 +165,14 @@ pub judged_legal : IsJudgedLegal → (input output : List ℕ) (done : Unit {0})
     → (line : List ℕ) × GivesFor checking output Legal line
 judged_legal legal input output done (v, t, spells, h) = (
   verdict_line (length h.replay.entries) Legal,
-  (h.replay.version, h.replay, h.written, record {
-    can_be_had = rw h.replays.drivers h.replays.can_be_had;
-    judged = legal t h.replay h.replays;
-    written = refl;
-  }),
+  (
+    h.replay.version,
+    h.replay,
+    h.written,
+    record {
+      can_be_had = rw h.replays.drivers h.replays.can_be_had;
+      judged = legal t h.replay h.replays;
+      written = refl;
+    },
+  ),
 )
