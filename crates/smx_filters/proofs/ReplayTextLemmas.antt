@@ -20,7 +20,7 @@ use Rattle.smx_filters.specs.CheckText.{checking, verdict_line}
 use Rattle.smx_filters.specs.Filters.{Answers, FiltersText, GivesFor, IsFaultOf}
 use Rattle.smx_filters.specs.Input.{IsInput, IsWhole}
 use Rattle.smx_filters.specs.Output.{AppendsBeginning}
-use Rattle.smx_filters.specs.ReplayText.{IsReplayed, replaying}
+use Rattle.smx_filters.specs.ReplayText.{replaying}
 use Rattle.smx_filters.specs.RunText.{items_of}
 use Rattle.smx_filters.specs.declared.fault.MainFault.{MainFault}
 use Rattle.smx_filters.specs.declared.fault.MainFault.TheVariants.{Refused, Text, TooLong, ReadFailed, WriteFailed}
