@@ -49,7 +49,7 @@ def by_strace():
     if not is_there():
         print("no strace that can trace: no read and no write was made to fail by it")
         return
-    for words, given in [(["run"], f"{EXAMPLE}.mux"), (["check"], f"{EXAMPLE}.transcript"),
+    for words, given in [(["run"], f"{EXAMPLE}.mux"), (["check"], f"{EXAMPLE}.transcript"), (["replay"], f"{EXAMPLE}.transcript"),
                          (["run", "--workers", "3"], "examples/shared_multiplexer.mux")]:
         refused("read", [f"error={error}" for error in ON_READS], words, given)
         refused("write", [f"error={error}" for error in ON_WRITES] + ["retval=0"], words, given)

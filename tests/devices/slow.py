@@ -26,6 +26,7 @@ def pieces(name, words, given, sizes, pause, wanted):
 def inputs():
     for words, given, wanted in [(["run"], PROGRAMS, TRANSCRIPT), (["check"], TRANSCRIPT, b"legal 4\n"),
                                  (["run"], PROGRAMS_2, TRANSCRIPT_2), (["check"], TRANSCRIPT_2, b"legal 28\n"),
+                                 (["replay"], TRANSCRIPT, TRANSCRIPT), (["replay"], TRANSCRIPT_2, TRANSCRIPT_2),
                                  (["run", "--workers", "1", "--fronts"], PROGRAMS, b"fronts 1\nfront 0 4 0\nend\n")]:
         pieces("byte by byte", words, given, [1] * len(given), 0.001, wanted)
         pieces("in pieces", words, given, [0, 11, 20, 3, 2], 0.05, wanted)

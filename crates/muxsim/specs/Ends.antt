@@ -4,18 +4,19 @@ use Rattle.std.specs.Process.{exit_status}
 use Rattle.std.specs.declared.process.ExitCode.{ExitCode}
 use Rattle.smx_config.specs.declared.verdict.Verdict.{Verdict}
 use Rattle.smx_filters.specs.CheckText.{ChecksText}
+use Rattle.smx_filters.specs.ReplayText.{ReplaysText}
 use Rattle.smx_filters.specs.RunText.{RunsText}
 use Rattle.smx_filters.specs.Statuses.{status_of_outcome}
 use Rattle.smx_filters.specs.declared.done.Done.{Done}
 use Rattle.smx_filters.specs.declared.done.Done.TheVariants.{Finished, Judged}
 use Rattle.smx_filters.specs.declared.fault.MainFault.{MainFault}
 use Rattle.muxsim.specs.declared.jobs.Job.{Job}
-use Rattle.muxsim.specs.declared.jobs.Job.TheVariants.{Run, Check}
+use Rattle.muxsim.specs.declared.jobs.Job.TheVariants.{Run, Check, Replay}
 
--- a run that was done is finished
-abbrev pub outcome_of_run : Result (Unit {0}) MainFault → Result Done MainFault
-outcome_of_run (Ok done) = Ok Finished
-outcome_of_run (Err fault) = Err fault
+-- a run or a replay that was done is finished
+abbrev pub outcome_of_writing : Result (Unit {0}) MainFault → Result Done MainFault
+outcome_of_writing (Ok done) = Ok Finished
+outcome_of_writing (Err fault) = Err fault
 
 -- a check that was done has judged
 abbrev pub outcome_of_check : Result Verdict MainFault → Result Done MainFault
@@ -37,7 +38,7 @@ pub record Devices : Type 0 where
 pub record EndsRun (fronts : Bool) (workers : ℕ) (d : Devices) (code : ExitCode) : Type 0 where
   pub answer : Result (Unit {0}) MainFault
   pub ran : RunsText fronts workers d.had d.left d.ended d.read_failures d.before d.after d.flushed d.write_failures answer
-  pub status : exit_status code ≡ status_of_outcome (outcome_of_run answer)
+  pub status : exit_status code ≡ status_of_outcome (outcome_of_writing answer)
 
 -- the transcript was judged, and the status is that of what came of it
 pub record EndsCheck (d : Devices) (code : ExitCode) : Type 0 where
@@ -45,7 +46,14 @@ pub record EndsCheck (d : Devices) (code : ExitCode) : Type 0 where
   pub judged : ChecksText d.had d.left d.ended d.read_failures d.before d.after d.flushed d.write_failures answer
   pub status : exit_status code ≡ status_of_outcome (outcome_of_check answer)
 
+-- the transcript was replayed, and the status is that of what came of it
+pub record EndsReplay (d : Devices) (code : ExitCode) : Type 0 where
+  pub answer : Result (Unit {0}) MainFault
+  pub replayed : ReplaysText d.had d.left d.ended d.read_failures d.before d.after d.flushed d.write_failures answer
+  pub status : exit_status code ≡ status_of_outcome (outcome_of_writing answer)
+
 -- the job was done, and the status is that of what came of it
 abbrev pub EndsJob : Job → Devices → ExitCode → Type 0
 EndsJob (Run workers fronts) d code = EndsRun fronts workers d code
 EndsJob Check d code = EndsCheck d code
+EndsJob Replay d code = EndsReplay d code

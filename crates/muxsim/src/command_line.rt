@@ -22,18 +22,19 @@ The texts, in both versions, are in docs/FORMATS.md, commands and replies in doc
 and more in docs/MUXSIM.md.";
 
 /// What the words ask for, of which the first is the program's name. Any other words than `run`, with
-/// `--workers` and `--fronts` or without, and `check` are clap's error, and so is a request for help or the version; want
-/// of memory is its kind `OutOfMemory`.
+/// `--workers` and `--fronts` or without, `check` and `replay` are clap's error, and so is a request for help or the
+/// version; want of memory is its kind `OutOfMemory`.
 pub fn job<'a, S: AsStr>(alloc: Global, words: &'a [S]) -> Result<Job, Error>
     ensures { IfOk result CanRun }
 {
     let matches = program(alloc)?.try_get_matches_from(words)?;
-    match matches.subcommand_matches("run") {
-        Some(run) => Ok(Job::Run {
+    match matches.subcommand() {
+        Some(("run", run)) => Ok(Job::Run {
             workers: workers_of(run),
             fronts: run.get_flag("fronts"),
         }),
-        None => Ok(Job::Check),
+        Some(("replay", _)) => Ok(Job::Replay),
+        Some(_) | None => Ok(Job::Check),
     }
 }
 
@@ -60,13 +61,19 @@ fn program<'a>(alloc: Global) -> Result<Command<'a>, AllocError> {
         "check",
         "Judge the transcript on standard input and write the verdict to standard output",
     );
+    let replay = subcommand(
+        alloc,
+        "replay",
+        "Replay the transcript on standard input and write the transcript that its commands give",
+    );
     Command::new(alloc, "muxsim")
         .version(VERSION)
         .about("Simulate a STREAMS multiplexer configuration with persistent links")
         .after_help(SEE)
         .subcommand_required(true)
         .subcommand(run.arg(workers(alloc))?.arg(fronts(alloc))?)?
-        .subcommand(check)
+        .subcommand(check)?
+        .subcommand(replay)
 }
 
 // A subcommand without options.

@@ -12,4 +12,6 @@ pub enum Job {
     },
     /// To judge the transcript of the input and to write the verdict.
     Check,
+    /// To perform the commands of the transcript of the input and to write the transcript that they give.
+    Replay,
 }

@@ -2,12 +2,14 @@
 
 mod broken;
 mod broken_checks;
+mod broken_replays;
 mod checks;
 mod damaged;
 mod devices;
 mod faults;
 mod limits;
 mod reading;
+mod replays;
 mod runs;
 mod tried_again;
 mod versions;

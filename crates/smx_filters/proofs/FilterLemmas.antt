@@ -73,7 +73,7 @@ text_refused fronts workers bytes input same f (Err e) is a =
     subst (λ (x : MainFault). Answers (running fronts workers) input (Err x)) (sym is) (subst (λ (given : List ℕ). IsFaultOf (running fronts workers) given f) same a)
 
 -- drivers that a configuration can't have are refused so, and else memory was wanting
-alone_of : (drivers : List DriverSpec) (f : ConfigFault) → RefusesDrivers drivers f → RefusesAlone drivers (run_fault_of f)
+pub alone_of : (drivers : List DriverSpec) (f : ConfigFault) → RefusesDrivers drivers f → RefusesAlone drivers (run_fault_of f)
 alone_of drivers config.NoMemory refused = refused
 alone_of drivers config.TooMany refused = (refused, λ is. cc)
 alone_of drivers (config.BadSpec i why) refused = (refused, λ is. cc)

@@ -4,3 +4,4 @@ pub mod FilterLemmas
 pub mod InMemoryLemmas
 pub mod FrontsTextLemmas
 pub mod ToldLemmas
+pub mod ReplayTextLemmas

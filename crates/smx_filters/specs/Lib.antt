@@ -5,5 +5,6 @@ pub mod Filters
 pub mod FrontsText
 pub mod RunText
 pub mod CheckText
+pub mod ReplayText
 pub mod WorkedVerdicts
 pub mod InMemory

@@ -1,10 +1,11 @@
-//! Laws of runs and checks over memory, each the contract of a function that does nothing.
+//! Laws of runs, checks and replays over memory, each the contract of a function that does nothing.
 
 ghost use Rattle.std.specs.Prelude.{◌≡◌, ℕ, Bool, false, List, [], Result, Some, Err};
 ghost use Rattle.smx_types.specs.ProgramLists.{ProgramLists};
 ghost use Rattle.smx_config.specs.declared.verdict.Verdict.{Verdict};
 ghost use Rattle.smx_filters.specs.CheckText.{ChecksText, checking};
 ghost use Rattle.smx_filters.specs.InMemory.{EndsInMemory, IsCutShort};
+ghost use Rattle.smx_filters.specs.ReplayText.{ReplaysText, replaying};
 ghost use Rattle.smx_filters.specs.RunText.{IsWrittenFor, RunsText, running};
 ghost use Rattle.smx_filters.specs.declared.fault.MainFault.{MainFault};
 ghost use Rattle.smx_filters.specs.declared.fault.MainFault.TheVariants.{ReadFailed};
@@ -44,4 +45,17 @@ pub fn checks_end_in_memory()
     ensures cut_short { (input left output : List ℕ) (ended flushed : Bool) (answer : Result Verdict MainFault)
         → ChecksText (Some input) (Some left) ended 0 (Some []) (Some output) flushed 1 answer
         → IsCutShort checking input output answer }
+{}
+
+/// The same of a replay, which answers that it is done.
+pub fn replays_end_in_memory()
+    ensures ends { (input left output : List ℕ) (ended flushed : Bool) (answer : Result (Unit {0}) MainFault)
+        → ReplaysText (Some input) (Some left) ended 0 (Some []) (Some output) flushed 0 answer
+        → EndsInMemory replaying input left output flushed answer }
+    ensures unread { (input left output : List ℕ) (ended flushed : Bool) (answer : Result (Unit {0}) MainFault)
+        → ReplaysText (Some input) (Some left) ended 1 (Some []) (Some output) flushed 0 answer
+        → (answer ≡ Err ReadFailed) × (output ≡ []) }
+    ensures cut_short { (input left output : List ℕ) (ended flushed : Bool) (answer : Result (Unit {0}) MainFault)
+        → ReplaysText (Some input) (Some left) ended 0 (Some []) (Some output) flushed 1 answer
+        → IsCutShort replaying input output answer }
 {}

@@ -1,4 +1,4 @@
-//! Filters: what runs programs, and what judges a transcript, from bytes to bytes.
+//! Filters: what runs programs, what judges a transcript, and what replays one, from bytes to bytes.
 #![tactic(auto)]
 
 mod check;
@@ -8,7 +8,9 @@ mod fault;
 mod fronts_text;
 mod input;
 pub mod laws_of_filters;
+pub mod laws_of_replays;
 mod output;
+mod replay;
 mod text;
 mod text_recorder;
 
@@ -18,4 +20,5 @@ pub use done::Done;
 pub use fault::MainFault;
 pub use input::{MAX_INPUT, read_all};
 pub use output::write_all;
+pub use replay::replay_text;
 pub use text::run_text;

@@ -4,3 +4,4 @@ pub mod HandLemmas
 pub mod ProgramOrderLemmas
 pub mod RecordingLemmas
 pub mod RunLemmas
+pub mod StopLemmas

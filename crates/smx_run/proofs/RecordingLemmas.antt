@@ -79,7 +79,7 @@ module _ {K : Type 0} (told : List DriverSpec → List Entry → K → Type 0) w
 -- ---- the whole
 
 -- as many calls as there are commands
-counted : (n : ℕ) (programs : List (List Command)) → length (calls_from n programs) ≡ sum_by length programs
+pub counted : (n : ℕ) (programs : List (List Command)) → length (calls_from n programs) ≡ sum_by length programs
 counted n [] = refl
 counted n (cs ∷ programs) = omega (
   arith,

@@ -24,13 +24,14 @@ calls_then before between after p q xs ys same first second =
 
 -- no command changes nothing
 pub alone_none : (a : Alone) → PerformedAlone a [] a
-alone_none a = record { process = refl; drivers = refl; begins = ([], append-nil a.system.history); calls = sym (append-nil (map call_of a.system.history)) }
+alone_none a = record { process = refl; drivers = refl; limit = refl; begins = ([], append-nil a.system.history); calls = sym (append-nil (map call_of a.system.history)) }
 
 -- these commands, and then those
 pub alone_more : (a b c : Alone) (xs ys : List Command) → PerformedAlone a xs b → PerformedAlone b ys c → PerformedAlone a (xs ++ ys) c
 alone_more a b c xs ys p q = record {
   process = q.process ∙ p.process;
   drivers = q.drivers ∙ p.drivers;
+  limit = q.limit ∙ p.limit;
   begins = (p.begins.0 ++ q.begins.0, sym (append_assoc a.system.history p.begins.0 q.begins.0) ∙ ap (λ (es : List Entry). es ++ q.begins.0) p.begins.1 ∙ q.begins.1);
   calls = calls_then (map call_of a.system.history) (map call_of b.system.history) (map call_of c.system.history) a.process b.process xs ys p.process p.calls q.calls;
 }

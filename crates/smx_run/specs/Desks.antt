@@ -1,5 +1,5 @@
 -- What becomes of the commands of a process.
-use Rattle.std.specs.Prelude.{◌≡◌, ℕ, List, ◌++◌, map}
+use Rattle.std.specs.Prelude.{◌≡◌, ℕ, List, ◌∷◌, ◌++◌, length, map}
 use Rattle.smx_types.specs.declared.command.Command.{Command}
 use Rattle.smx_types.specs.declared.command.Entry.{Entry}
 use Rattle.smx_types.specs.declared.driver.DriverSpec.{DriverSpec}
@@ -12,10 +12,23 @@ use Rattle.smx_run.specs.declared.desk.Alone.{Alone}
 use Rattle.smx_run.specs.declared.recording.Recording.{Recording}
 use Rattle.smx_run.specs.declared.desk.Seated.{Seated}
 
--- the history has these commands of the process more, and the drivers are the same
+-- some of these commands were performed, from the first on, and the next one was not, nor any behind it
+pub record StopsAmong {S : Type 0} (performed : S → List Command → S → Type 0) (a : S) (commands : List Command) (b : S) : Type 0 where
+  pub done : List Command
+  pub next : Command
+  pub left : List Command
+  pub all : done ++ next ∷ left ≡ commands
+  pub came : performed a done b
+
+-- as far as the history was seen, it has as many entries as it may
+abbrev pub KnowsItFull : Known → Type 0
+KnowsItFull k = length k.seen ≡ k.limit
+
+-- the history has these commands of the process more, and the drivers and the limit are the same
 pub record PerformedAlone (a : Alone) (commands : List Command) (b : Alone) : Type 0 where
   pub process : b.process ≡ a.process
   pub drivers : b.system.drivers ≡ a.system.drivers
+  pub limit : b.system.limit ≡ a.system.limit
   pub begins : IsBeginningOf a.system.history b.system.history
   pub calls : map call_of b.system.history ≡ map call_of a.system.history ++ calls_of a.process commands
 

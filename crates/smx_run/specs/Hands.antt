@@ -7,6 +7,7 @@ use Rattle.smx_model.specs.Histories.{call_of}
 use Rattle.smx_shared.specs.Fronts.{IsFrontOf}
 use Rattle.smx_shared.specs.Seats.{Known, Seated, SharedId, entries_of}
 use Rattle.smx_shared.specs.declared.front.Front.{Front}
+use Rattle.smx_run.specs.Desks.{KnowsItFull}
 use Rattle.smx_run.specs.ProgramOrder.{Calls, calls_of}
 use Rattle.smx_run.specs.declared.worker.Job.{Job}
 use Rattle.smx_run.specs.declared.worker.Done.{Done}
@@ -48,6 +49,10 @@ IsFresh name seat = (seat.shared ≡ name) × (seat.known.own ≡ [])
 -- all seats of a hand are such
 abbrev pub AreFresh : {A : Type 0} → SharedId → Vec (Job Seated) A → Type 0
 AreFresh name hand = All (λ job. IsFresh name job.seat) hand.items
+
+-- a seat of this shared system has seen its history full
+abbrev pub IsSeenFull : SharedId → Type 0
+IsSeenFull name = (seat : Seated) × (seat.shared ≡ name) × KnowsItFull seat.known
 
 -- a process has ended, at this shared system
 abbrev pub EndsAt : SharedId → Done Seated → Type 0

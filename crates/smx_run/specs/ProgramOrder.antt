@@ -1,5 +1,5 @@
 -- What the programs of all processes ask, process by process.
-use Rattle.std.specs.Prelude.{ℕ, ◌+◌, List, [], ◌∷◌, ◌++◌, map}
+use Rattle.std.specs.Prelude.{◌≡◌, ℕ, ◌+◌, List, [], ◌∷◌, ◌++◌, map}
 use Rattle.smx_types.specs.declared.command.Command.{Command}
 
 -- a process, and commands of its own
@@ -14,6 +14,10 @@ calls_of process commands = map (λ command. (process, command)) commands
 abbrev pub calls_from : ℕ → List (List Command) → List (ℕ × Command)
 calls_from n [] = []
 calls_from n (commands ∷ programs) = calls_of n commands ++ calls_from (n + 1) programs
+
+-- these are the first of them, or all
+abbrev pub BeginsCalls : List (ℕ × Command) → ℕ → List (List Command) → Type 0
+BeginsCalls calls n programs = (left : List (ℕ × Command)) × (calls ++ left ≡ calls_from n programs)
 
 -- process n with its calls, then the next with its own, and so on
 abbrev pub numbered : ℕ → List (List Command) → List Calls

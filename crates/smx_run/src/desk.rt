@@ -7,8 +7,9 @@ use std::sync::Wait;
 
 /// Performs the commands of one process.
 pub trait Desk {
-    ghost use Rattle.std.specs.Prelude.{◌≡◌, ℕ, List, [], ◌∷◌, ◌++◌, OnOk};
+    ghost use Rattle.std.specs.Prelude.{◌≡◌, ℕ, List, [], ◌∷◌, ◌++◌, OnOk, OnErr, IsErrOf};
     ghost use Rattle.smx_types.specs.declared.command.Command.{Command as Asked};
+    ghost use Rattle.smx_shared.specs.declared.fault.ApplyFault.TheVariants as apply;
 
     // The process that it is of.
     ghost whose: { Self → ℕ };
@@ -19,16 +20,24 @@ pub trait Desk {
     // From one state to another by these commands of the process, in order, and no others.
     ghost performed: { Self → List Asked → Self → Type 0 };
 
+    // Whether the history has as many entries as it may, as far as it is known here.
+    ghost is_full: { Self → Type 0 };
+
     /// The process that it is of.
     fn process(&self) -> Process
         ensures { result ≡ whose self.now };
 
-    /// Performs the next command of its process, which is given up.
+    /// Performs the next command of its process, which is given up; or none, where the history is full or memory is
+    /// wanting.
     fn perform<R: Wait>(&mut self, rt: &R, command: Command) -> Result<(), ApplyFault>
         requires { ready self.old }
+        // Either way.
         ensures whose { whose self.new ≡ whose self.old }
-        ensures ready { OnOk result (ready self.new) }
-        ensures performed { OnOk result (performed self.old (command ∷ []) self.new) };
+        ensures ready { ready self.new }
+        // What was performed.
+        ensures performed { OnOk result (performed self.old (command ∷ []) self.new) }
+        ensures none { OnErr result (performed self.old [] self.new) }
+        ensures full { IsErrOf result apply.HistoryFull → is_full self.new };
 
     ghost performed_none: { (a : Self) → performed a [] a };
 
@@ -43,6 +52,7 @@ pub struct Alone {
 }
 
 impl Desk for Alone {
+    ghost use Rattle.std.specs.Prelude.{◌≡◌, length};
     ghost use Rattle.smx_run.specs.Desks.{PerformedAlone};
     ghost use Rattle.smx_run.specs.DeskLemmas.{alone_none, alone_more};
 
@@ -51,6 +61,8 @@ impl Desk for Alone {
     ghost ready = { λ _. Unit {0} };
 
     ghost performed = { PerformedAlone };
+
+    ghost is_full = { λ a. length a.system.history ≡ a.system.limit };
 
     fn process(&self) -> Process {
         self.process
@@ -80,7 +92,7 @@ impl<'a, D: Door> Desk for Seated<'a, D>
 where
     D::Seat: Drop,
 {
-    ghost use Rattle.smx_run.specs.Desks.{PerformedSeated};
+    ghost use Rattle.smx_run.specs.Desks.{KnowsItFull, PerformedSeated};
     ghost use Rattle.smx_run.specs.DeskLemmas.{seated_none, seated_more};
 
     ghost whose = { λ a. (D.known a.seat).process };
@@ -88,6 +100,8 @@ where
     ghost ready = { λ a. D.is_seat a.door.now a.seat };
 
     ghost performed = { PerformedSeated D.known };
+
+    ghost is_full = { λ a. KnowsItFull (D.known a.seat) };
 
     fn process(&self) -> Process {
         D::process(&self.seat)

@@ -1,15 +1,17 @@
 //! A run: the programs of all processes, by so many workers.
 
-ghost use Rattle.std.specs.Prelude.{◌≡◌, ◌≤◌, ◌++◌, [], length, map, IfOk, IfErr, OnOk};
+ghost use Rattle.std.specs.Prelude.{◌≡◌, ◌≤◌, ◌<◌, ◌⊎◌, ◌++◌, [], length, map, IfOk, IfErr, OnOk, OnErr};
+ghost use Rattle.std.specs.List.{sum_by};
 ghost use Rattle.smx_model.specs.Headline.{IsReportOf};
 ghost use Rattle.smx_model.specs.DriverList.{IsDriverList};
 ghost use Rattle.smx_model.specs.Histories.{call_of, HoldsPrograms};
 ghost use Rattle.smx_types.specs.declared.limits.TheConstants.{MAX_COMMANDS, MAX_PROCESSES};
 ghost use Rattle.smx_shared.specs.Fronts.{IsFrontOf};
+ghost use Rattle.smx_shared.specs.declared.fault.ApplyFault.TheVariants as apply;
 ghost use Rattle.smx_run.specs.Fronts.{AreFrontsFrom};
-ghost use Rattle.smx_run.specs.ProgramOrder.{calls_from};
+ghost use Rattle.smx_run.specs.ProgramOrder.{calls_from, BeginsCalls};
 ghost use Rattle.smx_run.specs.Reports.{transcript_of};
-ghost use Rattle.smx_run.specs.RunFaults.{RefusesRun};
+ghost use Rattle.smx_run.specs.RunFaults.{RefusesAlone, RefusesRun};
 ghost use Rattle.smx_run.specs.declared.run.TheConstants.{MAX_WORKERS};
 
 use crate::desk::Alone;
@@ -32,8 +34,8 @@ pub const MAX_WORKERS: usize = 64;
 /// Has the programs run by so many workers, 1 to 64, and reports the one history that they make. Process p is run by
 /// worker p modulo `workers`; a worker runs its processes by rising number, each to its end, and tells the gate. With one
 /// worker, or one process, no thread is started. Refused for drivers that a configuration can't have, before any command
-/// is run; or for want of memory, also where a worker can't be started. The report has the front that was seen when each
-/// program had ended.
+/// is run; or for want of memory, also where a worker can't be started; on one thread for nothing else. The report has the
+/// front that was seen when each program had ended.
 pub fn run_programs<R: Threads + Wait + Sync, G: Gate + Sync>(
     rt: &R,
     alloc: Global,
@@ -46,6 +48,7 @@ pub fn run_programs<R: Threads + Wait + Sync, G: Gate + Sync>(
     ensures few { IfOk result (λ r. length r.entries ≤ MAX_COMMANDS) }
     ensures fronts { IfOk result (λ r. AreFrontsFrom r.drivers r.entries 0 programs.programs r.fronts) }
     ensures refused { IfErr result (RefusesRun programs.drivers) }
+    ensures alone { (workers ≤ 1) ⊎ (length programs.programs ≤ 1) → IfErr result (RefusesAlone programs.drivers) }
 {
     few_commands_drop();
     let (drivers, programs) = programs.into_parts();
@@ -63,7 +66,7 @@ fn new_system(alloc: Global, drivers: &[DriverSpec], entries: usize) -> Result<S
     ensures drivers { IfOk result (λ s. (s.drivers ≡ drivers.now) × IsDriverList drivers.now) }
     ensures empty { IfOk result (λ s. s.history ≡ []) }
     ensures limit { IfOk result (λ s. s.limit ≡ MAX_COMMANDS) }
-    ensures refused { IfErr result (RefusesRun drivers.now) }
+    ensures refused { IfErr result (RefusesAlone drivers.now) }
 {
     let mut system = System::new(alloc, drivers, MAX_COMMANDS)?;
     system.reserve(entries)?;
@@ -81,10 +84,12 @@ fn run_all<R: Threads + Wait + Sync, G: Gate + Sync>(
 ) -> Result<(System, Fronts), RunFault>
     requires system { (system.history ≡ []) × IsDriverList system.drivers }
     requires processes { length programs ≤ MAX_PROCESSES }
+    requires room { sum_by length programs ≤ system.limit }
     ensures drivers { IfOk result (λ r. r.0.drivers ≡ system.drivers) }
     ensures holds { IfOk result (λ r. HoldsPrograms r.0.history programs) }
     ensures fronts { IfOk result (λ r. AreFrontsFrom r.0.drivers r.0.history 0 programs r.1) }
     ensures refused { IfErr result (RefusesRun system.drivers) }
+    ensures alone { (workers ≤ 1) ⊎ (length programs ≤ 1) → IfErr result (RefusesAlone system.drivers) }
 {
     let hands = workers.min(programs.as_slice().len());
     if hands < 2 {
@@ -116,7 +121,8 @@ fn front_of(system: &System) -> Front
     }
 }
 
-// Each program in turn, on this thread, and the front after each.
+// Each program in turn, on this thread, and the front after each. There is room for all commands, so it fails only for
+// want of memory; no command behind that is performed.
 fn run_alone<G: Gate, R: Wait>(
     rt: &R,
     alloc: Global,
@@ -126,9 +132,12 @@ fn run_alone<G: Gate, R: Wait>(
 ) -> Result<Fronts, ApplyFault>
     requires empty { desk.old.system.history ≡ [] }
     requires processes { length programs ≤ MAX_PROCESSES }
+    requires room { sum_by length programs ≤ desk.old.system.limit }
     ensures drivers { OnOk result (desk.new.system.drivers ≡ desk.old.system.drivers) }
     ensures calls { OnOk result (map call_of desk.new.system.history ≡ calls_from 0 programs) }
     ensures fronts { IfOk result (AreFrontsFrom desk.new.system.drivers desk.new.system.history 0 programs) }
+    ensures stops { OnErr result (BeginsCalls (map call_of desk.new.system.history) 0 programs) }
+    ensures refused { IfErr result (λ f. f ≡ apply.NoMemory) }
 {
     let mut fronts = Vec::with_capacity(alloc, programs.as_slice().len())?;
     let mut number = 0;

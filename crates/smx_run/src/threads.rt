@@ -1,6 +1,6 @@
 //! Many workers, each on a thread of its own.
 
-ghost use Rattle.std.specs.Prelude.{◌≡◌, ◌≤◌, ◌⊎◌, ℕ, List, [], ◌∷◌, ◌++◌, All, length, map, Err, IfOk, IfErr};
+ghost use Rattle.std.specs.Prelude.{◌≡◌, ◌≢◌, ◌≤◌, ◌⊎◌, ℕ, List, [], ◌∷◌, ◌++◌, All, length, map, Err, IfOk, IfErr, IsErrOf};
 ghost use Rattle.std.specs.List.{range_with_len};
 ghost use Rattle.smx_types.specs.declared.limits.TheConstants.{MAX_PROCESSES};
 ghost use Rattle.smx_model.specs.DriverList.{IsDriverList};
@@ -8,7 +8,7 @@ ghost use Rattle.smx_model.specs.Histories.{HoldsPrograms};
 ghost use Rattle.smx_shared.specs.Seats.{SharedId};
 ghost use Rattle.smx_shared.specs.declared.fault.ApplyFault.TheVariants as apply;
 ghost use Rattle.smx_run.specs.Fronts.{AreFrontsFrom};
-ghost use Rattle.smx_run.specs.Hands.{called_hand, given_hand, AreFresh, HaveEnded, IsFresh};
+ghost use Rattle.smx_run.specs.Hands.{called_hand, given_hand, AreFresh, HaveEnded, IsFresh, IsSeenFull};
 ghost use Rattle.smx_run.specs.ProgramOrder.{Calls, numbered};
 ghost use Rattle.smx_run.specs.RunFaults.{RefusesRun};
 
@@ -65,6 +65,7 @@ fn run_seats<R: Threads + Wait + Sync, G: Gate + Sync>(
     requires workers { 1 ≤ workers }
     ensures ended { IfOk result (HaveEnded shared.now.name) }
     ensures called { IfOk result (λ v. called_hand v ≡ numbered 0 programs) }
+    ensures full { IsErrOf result apply.HistoryFull → IsSeenFull shared.now.name }
 {
     let processes = programs.as_slice().len();
     let asked = Snapshot::of(&programs);
@@ -73,15 +74,17 @@ fn run_seats<R: Threads + Wait + Sync, G: Gate + Sync>(
     Ok(collect(alloc, hands, processes, asked)?)
 }
 
-// What a worker makes of its hand, at a shared system.
+// What a worker makes of its hand, at a shared system, or why it stops.
 #[derive(Drop)]
 struct Runs(Snapshot<Vec<Job<Seat>>>, Snapshot<Shared>);
 
 impl Promise<Result<Vec<Done<Seat>>, ApplyFault>> for Runs {
-    ghost use Rattle.std.specs.Prelude.{◌≡◌, IfOk};
-    ghost use Rattle.smx_run.specs.Hands.{given_hand, called_hand, HaveEnded};
+    ghost use Rattle.std.specs.Prelude.{◌≡◌, IfOk, IsErrOf};
+    ghost use Rattle.smx_shared.specs.declared.fault.ApplyFault.TheVariants as apply;
+    ghost use Rattle.smx_run.specs.Hands.{given_hand, called_hand, HaveEnded, IsSeenFull};
 
-    ghost kept_by = { λ runs result. IfOk result (λ v. (called_hand v ≡ given_hand runs.0.value) × HaveEnded runs.1.value.name v) };
+    ghost kept_by = { λ runs result. IfOk result (λ v. (called_hand v ≡ given_hand runs.0.value) × HaveEnded runs.1.value.name v)
+        × (IsErrOf result apply.HistoryFull → IsSeenFull runs.1.value.name) };
 }
 
 // Each hand on a thread of its own, the first on this one.
@@ -95,6 +98,7 @@ fn run_hands<R: Threads + Wait + Sync, G: Gate + Sync>(
     requires { All (AreFresh shared.now.name) hands.items }
     ensures called { IfOk result (λ v. map called_hand v.items ≡ map given_hand hands.items) }
     ensures ended { IfOk result (λ v. All (HaveEnded shared.now.name) v.items) }
+    ensures full { IsErrOf result apply.HistoryFull → IsSeenFull shared.now.name }
 {
     thread::scope(
         thread::scope_env(),
@@ -103,11 +107,13 @@ fn run_hands<R: Threads + Wait + Sync, G: Gate + Sync>(
             requires { All (AreFresh shared.now.name) hands.items }
             ensures called { IfOk result (λ v. map called_hand v.items ≡ map given_hand hands.items) }
             ensures ended { IfOk result (λ v. All (HaveEnded shared.entry.now.name) v.items) }
+            ensures full { IsErrOf result apply.HistoryFull → IsSeenFull shared.entry.now.name }
         { run_from(scope, rt, alloc, shared, hands, gate) },
     )
 }
 
-// The last hand on a thread of its own, and those before it likewise.
+// The last hand on a thread of its own, and those before it likewise. Where a thread can't be started, that is want of
+// memory.
 fn run_from<'s, E, R: Threads + Wait + Sync, G: Gate + Sync>(
     scope: &'s Scope<'s, E>,
     rt: &'s R,
@@ -119,6 +125,7 @@ fn run_from<'s, E, R: Threads + Wait + Sync, G: Gate + Sync>(
     requires { All (AreFresh shared.now.name) hands.items }
     ensures called { IfOk result (λ v. map called_hand v.items ≡ map given_hand hands.items) }
     ensures ended { IfOk result (λ v. All (HaveEnded shared.now.name) v.items) }
+    ensures full { IsErrOf result apply.HistoryFull → IsSeenFull shared.now.name }
 {
     let Some(hand) = hands.pop() else {
         return Ok(Vec::new(alloc));
@@ -134,6 +141,7 @@ fn run_from<'s, E, R: Threads + Wait + Sync, G: Gate + Sync>(
             requires { AreFresh shared.now.name hand }
             ensures called { IfOk result (λ v. called_hand v ≡ given_hand hand) }
             ensures ended { IfOk result (HaveEnded shared.entry.now.name) }
+            ensures full { IsErrOf result apply.HistoryFull → IsSeenFull shared.entry.now.name }
         { work(rt, alloc, shared, hand, gate) },
     );
     match worker {
@@ -148,8 +156,8 @@ fn run_from<'s, E, R: Threads + Wait + Sync, G: Gate + Sync>(
     }
 }
 
-// What came of some hands, and of one more. Want of memory precedes a full history, which is answered only where one of
-// them met it.
+// What came of some hands, and of one more. Want of memory precedes a full history, which is answered where one of them
+// met it and the other wanted no memory, and nowhere else.
 fn and_then(
     before: Result<Vec<Vec<Done<Seat>>>, ApplyFault>,
     last: Result<Vec<Done<Seat>>, ApplyFault>,
@@ -160,6 +168,8 @@ fn and_then(
         → IfOk before (λ b. All (HaveEnded name) b.items) → IfOk last (HaveEnded name) → All (HaveEnded name) v.items) }
     ensures memory_first { (before ≡ Err apply.NoMemory) ⊎ (last ≡ Err apply.NoMemory) → result ≡ Err apply.NoMemory }
     ensures full { result ≡ Err apply.HistoryFull → (before ≡ Err apply.HistoryFull) ⊎ (last ≡ Err apply.HistoryFull) }
+    ensures full_next { (before ≡ Err apply.HistoryFull) ⊎ (last ≡ Err apply.HistoryFull)
+        → before ≢ Err apply.NoMemory → last ≢ Err apply.NoMemory → result ≡ Err apply.HistoryFull }
 {
     match (before, last) {
         (Ok(mut all), Ok(done)) => {

@@ -1,6 +1,8 @@
 //! A worker: the processes that one thread runs.
 
-ghost use Rattle.std.specs.Prelude.{◌≡◌, [], All, map, IfOk, OnOk};
+ghost use Rattle.std.specs.Prelude.{◌≡◌, [], All, map, IfOk, OnOk, OnErr, IsErrOf};
+ghost use Rattle.smx_shared.specs.declared.fault.ApplyFault.TheVariants as apply;
+ghost use Rattle.smx_run.specs.Desks.{KnowsItFull, StopsAmong};
 ghost use Rattle.smx_run.specs.Hands.{given, called, HasEnded};
 
 use crate::desk::{Desk, Seated};
@@ -24,8 +26,8 @@ pub struct Done<S: Drop> {
     pub front: Front,
 }
 
-/// Runs each process to its end, in turn, or to the first fault. The door is any that keeps its promises, as a
-/// `Shared` system does.
+/// Runs each process to its end, in turn, or to the first fault. A full history is answered only where one of its seats
+/// has seen it full. The door is any that keeps its promises, as a `Shared` system does.
 pub fn work<D: Door, G: Gate, R: Wait>(
     rt: &R,
     alloc: Global,
@@ -38,6 +40,7 @@ where
     requires { All (λ j. D.is_seat door.now j.seat × ((D.known j.seat).own ≡ [])) hand.items }
     ensures called { IfOk result (λ v. map (called D.known) v.items ≡ map (given D.known) hand.items) }
     ensures ended { IfOk result (λ v. All (λ d. D.is_seat door.now d.seat × HasEnded (D.known d.seat) d.front) v.items) }
+    ensures full { IsErrOf result apply.HistoryFull → (s : D.Seat) × D.is_seat door.now s × KnowsItFull (D.known s) }
 {
     let mut done = Vec::with_capacity(alloc, hand.len())?;
     for job in hand {
@@ -59,6 +62,7 @@ where
     requires { D.is_seat door.now job.seat × ((D.known job.seat).own ≡ []) }
     ensures called { IfOk result (λ d. called D.known d ≡ given D.known job) }
     ensures ended { IfOk result (λ d. D.is_seat door.now d.seat × HasEnded (D.known d.seat) d.front) }
+    ensures full { IsErrOf result apply.HistoryFull → (s : D.Seat) × D.is_seat door.now s × KnowsItFull (D.known s) }
 {
     let Job { seat, commands } = job;
     let mut desk = Seated { alloc, door, seat };
@@ -80,8 +84,10 @@ pub fn run_program<K: Desk, G: Gate, R: Wait>(
 ) -> Result<(), ApplyFault>
     requires { K.ready desk.old }
     ensures whose { K.whose desk.new ≡ K.whose desk.old }
-    ensures ready { OnOk result (K.ready desk.new) }
+    ensures ready { K.ready desk.new }
     ensures performed { OnOk result (K.performed desk.old commands desk.new) }
+    ensures stops { OnErr result (StopsAmong K.performed desk.old commands desk.new) }
+    ensures full { IsErrOf result apply.HistoryFull → K.is_full desk.new }
 {
     let process = desk.process();
     let mut number = 0;

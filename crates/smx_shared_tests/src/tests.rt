@@ -2,7 +2,6 @@
 
 mod callers;
 mod doors;
-mod fault_words;
 mod gates;
 mod gathered;
 mod hangups;
@@ -12,7 +11,6 @@ mod many_looks;
 mod many_tries;
 mod recorded;
 mod runs;
-mod seats;
 mod shared;
 mod shared_use;
 mod system_lines;

@@ -103,7 +103,8 @@ pub fn check_is_refused(rt: &(impl AllocGlobal + Abort), input: &[u8], line: &st
     has_refused(rt, &checked, line, status);
 }
 
-const NO_TRANSCRIPTS: [(&[u8], &str); 8] = [
+/// What is no transcript, and the line that says so.
+pub const NO_TRANSCRIPTS: [(&[u8], &str); 8] = [
     (b"", "line 1: cut"),
     (b"programs 1\nend\n", "line 1: header"),
     (
@@ -136,7 +137,8 @@ fn refuses_what_is_no_transcript(rt: HostRuntime) {
     }
 }
 
-const NO_DRIVERS: [(&[u8], &str); 2] = [
+/// Transcripts over drivers that can't be had, and the line that says which.
+pub const NO_DRIVERS: [(&[u8], &str); 2] = [
     (
         b"transcript 1\ndriver ip mux 4 8 8 16\n0 exit = EMFILE\nconfig\nnext 9 9\nend\n",
         "refused: driver 0 marks",

@@ -1,11 +1,12 @@
-//! Checks, and runs with fronts, that pass with any one growth refused too: tests/refused_growths runs them so. What is
+//! Checks, replays, and runs with fronts, that pass with any one growth refused too: tests/refused_growths runs them so. What is
 //! written goes to the stack, so that no growth is a device's.
 
 ghost use Rattle.std.specs.Prelude.{◌≤◌};
 
 use super::checks::{HANGUP_END_OF_FILE, MARKS_ACROSS_THE_JOIN, TWO_PROCESSES};
+use super::replays::{IN_TURN, IN_TURN_REPLAYED};
 use smx_config::Verdict;
-use smx_filters::{MainFault, Source, Target, check_text, run_text};
+use smx_filters::{MainFault, Source, Target, check_text, replay_text, run_text};
 use smx_run::{NoGate, RunFault};
 use smx_text::{Cause, TextFault};
 use std::process::Abort;
@@ -63,6 +64,32 @@ fn marks_across_the_join(rt: HostRuntime) {
 #[test]
 fn hangup_end_of_file(rt: HostRuntime) {
     judges(&rt, HANGUP_END_OF_FILE, b"legal 9\n");
+}
+
+// Whether a replay is answered, by the whole transcript; else it wanted memory, and has written nothing.
+fn is_replay_answered(rt: &(impl AllocGlobal + Abort)) -> bool {
+    let mut buffer = [0u8; 512];
+    let mut sink = Target::new(buffer.as_mut_slice());
+    match replay_text(rt.alloc(), &mut Source::new(IN_TURN), &mut sink) {
+        Ok(()) => {
+            assert!(rt; buffer.starts_with(IN_TURN_REPLAYED));
+            true
+        }
+        Err(fault) => {
+            assert!(rt; is_want_of_memory(&fault));
+            assert_eq!(rt; buffer, [0u8; 512]);
+            false
+        }
+    }
+}
+
+// A replay that wanted memory, tried again, is answered.
+#[test]
+fn a_replay(rt: HostRuntime) {
+    if !is_replay_answered(&rt) {
+        let _ = println!(rt; "a replay wanted memory");
+        assert!(rt; is_replay_answered(&rt));
+    }
 }
 
 // The first of two processes has three commands, and the second has none.

@@ -1,9 +1,9 @@
 //! Workers at a door of the test's own, whose seats own systems, and what a gate is told of them.
 
-ghost use Rattle.std.specs.Prelude.{◌≡◌, [], IfSome};
+ghost use Rattle.std.specs.Prelude.{◌≡◌, [], All, IfSome};
 
 use super::gates::Told::{After, Before};
-use super::gates::{Log, Told, of_process};
+use super::gates::{Log, Told, by_worker};
 use smx_run::{Job, work};
 use smx_shared::{ApplyFault, Door, Front, System};
 use smx_types::{Command, Commands, DriverKind, DriverSpec, Entry, Name, Process};
@@ -109,44 +109,33 @@ fn seat_of(alloc: Global, process: u32) -> Option<OwnSeat>
     Some(OwnSeat { process, system })
 }
 
-// Why a worker stops that has this process alone, which is to open three streams.
+// Three opens for a process, with a seat of its own.
+fn job_of(alloc: Global, process: u32) -> Option<Job<OwnSeat>>
+    ensures { IfSome result (λ j. j.seat.system.history ≡ []) }
+{
+    let commands = three_opens(alloc)?;
+    let seat = seat_of(alloc, process)?;
+    Some(Job { seat, commands })
+}
+
+// The hand of a worker who has these two processes.
+fn hand_of(alloc: Global, processes: [u32; 2]) -> Option<Vec<Job<OwnSeat>>>
+    ensures { IfSome result (λ v. All (λ j. j.seat.system.history ≡ []) v.items) }
+{
+    let [earlier, later] = processes;
+    vec![in alloc; job_of(alloc, earlier)?, job_of(alloc, later)?].ok()
+}
+
+// Why a worker stops who has this hand.
 fn stops<R: Wait>(
     rt: &R,
     alloc: Global,
     door: &OwnDoor,
-    process: u32,
+    processes: [u32; 2],
     log: &Log,
 ) -> Option<ApplyFault> {
-    let commands = three_opens(alloc)?;
-    let seat = seat_of(alloc, process)?;
-    let Ok(hand) = vec![in alloc; Job { seat, commands }] else {
-        return None;
-    };
+    let hand = hand_of(alloc, processes)?;
     work(rt, alloc, door, hand, log).err()
-}
-
-// The log was told of the command of this process that was performed, of the one that was refused, and of no other.
-fn is_told_of_two(rt: &impl Abort, alloc: Global, log: &Log, process: u32) -> Result<(), Fail> {
-    let told = log.told(alloc)?;
-    let own = of_process(alloc, told.as_slice(), process)?;
-    let wanted: [Told; 4] = [
-        Before(process, 0),
-        After(process, 0),
-        Before(process, 1),
-        After(process, 1),
-    ];
-    assert_eq!(rt; own.as_slice(), wanted.as_slice());
-    Ok(())
-}
-
-#[test]
-fn a_worker_stops_at_a_full_history(rt: HostRuntime) -> Result<(), Fail> {
-    let door = OwnDoor::new();
-    let log = Log::of(rt.alloc(), 8)?;
-    let fault = stops(&rt, rt.alloc(), &door, 0, &log);
-    assert_eq!(rt; fault, Some(ApplyFault::HistoryFull));
-    assert_eq!(rt; door.answered.load(Ordering::SeqCst), 1);
-    is_told_of_two(&rt, rt.alloc(), &log, 0)
 }
 
 // Why two workers stop, each on a thread of its own.
@@ -158,15 +147,32 @@ fn both_stop<R: Threads + Wait + Sync>(
 ) -> (Option<ApplyFault>, Option<ApplyFault>) {
     join(
         rt,
-        || -> Option<ApplyFault> { stops(rt, alloc, door, 0, log) },
-        || -> Option<ApplyFault> { stops(rt, alloc, door, 1, log) },
+        || -> Option<ApplyFault> { stops(rt, alloc, door, [0, 2], log) },
+        || -> Option<ApplyFault> { stops(rt, alloc, door, [1, 3], log) },
     )
+}
+
+// The log was told by this worker of the command of its first process that was performed, of the one that was refused,
+// and of no other.
+fn is_told_of_two(rt: &impl Abort, alloc: Global, log: &Log, worker: u32) -> Result<(), Fail> {
+    let wanted: [Told; 4] = [
+        Before(worker, 0),
+        After(worker, 0),
+        Before(worker, 1),
+        After(worker, 1),
+    ];
+    let told = log.told(alloc)?;
+    assert_eq!(rt;
+        by_worker(alloc, told.as_slice(), worker, 2)?.as_slice(),
+        wanted.as_slice()
+    );
+    Ok(())
 }
 
 #[test]
 fn two_workers_stop_at_full_histories(rt: HostRuntime) -> Result<(), Fail> {
     let door = OwnDoor::new();
-    let log = Log::of(rt.alloc(), 16)?;
+    let log = Log::of(rt.alloc(), 24)?;
     let full = Some(ApplyFault::HistoryFull);
     assert!(rt; both_stop(&rt, rt.alloc(), &door, &log) == (full, full));
     assert_eq!(rt; door.answered.load(Ordering::SeqCst), 2);

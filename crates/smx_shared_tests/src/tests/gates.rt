@@ -1,5 +1,7 @@
 //! Gates of tests: one at which workers wait for one another, and one that writes down what it is told.
 
+ghost use Rattle.std.specs.Prelude.{◌≤◌};
+
 use smx_run::Gate;
 use smx_types::Process;
 use std::alloc::{AllocError, Global};
@@ -117,11 +119,18 @@ impl Line {
     }
 }
 
-/// What was told of this process.
-pub fn of_process(alloc: Global, told: &[Told], process: u32) -> Result<Vec<Told>, AllocError> {
+/// What was told by this worker of so many.
+pub fn by_worker(
+    alloc: Global,
+    told: &[Told],
+    worker: u32,
+    workers: u32,
+) -> Result<Vec<Told>, AllocError>
+    requires { 1 ≤ workers }
+{
     let mut own = Vec::new(alloc);
     for line in told {
-        if line.process() == process {
+        if line.process() % workers == worker {
             own.push(*line)?;
         }
     }

@@ -179,25 +179,6 @@ fn three_entries_are_reported(rt: HostRuntime) -> Result<(), Fail> {
     is_copied(&rt, &report)
 }
 
-fn has_three(rt: &(impl AllocGlobal + Abort + Print), transcripts: &[Entries]) -> Result<(), Fail>
-    requires { length transcripts.now ≤ MAX_PROCESSES }
-{
-    let report = gathered(rt, transcripts)?;
-    assert_eq!(rt; report.entries.as_slice().len(), 3);
-    Ok(())
-}
-
-#[test]
-fn a_fourth_process_has_no_entry(rt: HostRuntime) -> Result<(), Fail> {
-    let transcripts = [
-        transcript(rt.alloc(), 0, 0)?,
-        transcript(rt.alloc(), 1, 2)?,
-        transcript(rt.alloc(), 2, 1)?,
-        Entries::new(rt.alloc()),
-    ];
-    has_three(&rt, &transcripts)
-}
-
 // The entries of this process in the history are not its transcript.
 fn is_strange(
     rt: &impl Abort,

@@ -1,12 +1,11 @@
 //! Runs of which a recorder is told: all of it, drivers that are refused, and a recorder that wants memory. And what a
 //! gate is told of such a run.
 
-use super::fault_words::prints;
 use super::gates::Told::{After, Before};
 use super::gates::{Log, Told};
 use super::told::{IN_TURN, SIX};
 use super::workers::written;
-use smx_run::{Gate, NoGate, Recorder, RunFault, run_recorded};
+use smx_run::{Gate, NoGate, Recorder, run_recorded};
 use smx_text::read_programs;
 use smx_types::{
     ConfigView, Copied, DriverSpec, Drivers, Entries, Entry, NoMemory, Process, Transcript, Version,
@@ -16,11 +15,10 @@ use std::process::Abort;
 use std::sync::atomic::{AtomicUsize, Ordering};
 use std::test::Fail;
 
-// Keeps a copy of all that it is told, up to so many entries.
+// Keeps a copy of all that it is told.
 #[derive(Drop)]
 struct Kept {
     alloc: Global,
-    most: usize,
     version: Version,
     drivers: Drivers,
     entries: Entries,
@@ -29,44 +27,25 @@ struct Kept {
 impl Recorder for Kept {
     ghost use Rattle.std.specs.Prelude.{◌≡◌};
 
-    type Room = (Global, usize);
+    type Room = Global;
 
     ghost told = { λ version drivers entries kept.
         (kept.version ≡ version) × (kept.drivers ≡ drivers) × (kept.entries ≡ entries) };
 
-    fn begin(
-        room: (Global, usize),
-        version: Version,
-        drivers: &[DriverSpec],
-    ) -> Result<Kept, NoMemory> {
-        let (alloc, most) = room;
-        let drivers = Drivers::from_vec(DriverSpec::copies(alloc, drivers)?);
+    fn begin(room: Global, version: Version, drivers: &[DriverSpec]) -> Result<Kept, NoMemory> {
+        let drivers = Drivers::from_vec(DriverSpec::copies(room, drivers)?);
         Ok(Kept {
-            alloc,
-            most,
+            alloc: room,
             version,
             drivers,
-            entries: Entries::new(alloc),
+            entries: Entries::new(room),
         })
     }
 
     fn add(&mut self, entry: &Entry) -> Result<(), NoMemory> {
-        if self.entries.as_slice().len() >= self.most {
-            return Err(NoMemory);
-        }
         let entry = entry.copy(self.alloc)?;
         self.entries.push(entry)
     }
-}
-
-// What a recorder of so many entries was told of a run of the programs that this text spells, and the view at the end.
-fn recorded(
-    alloc: Global,
-    text: &[u8],
-    most: usize,
-) -> Result<Result<(Kept, ConfigView), RunFault>, Fail> {
-    let programs = read_programs(alloc, text)?;
-    Ok(run_recorded(alloc, programs, (alloc, most), &NoGate))
 }
 
 // What was told, as a text.
@@ -78,6 +57,13 @@ fn told(alloc: Global, kept: Kept, view: ConfigView) -> Result<Vec<u8>, Fail> {
         view,
     };
     written(alloc, &transcript)
+}
+
+// What a recorder was told of a run of the programs that this text spells, with the view at the end, as a text.
+fn recorded(alloc: Global, text: &[u8]) -> Result<Vec<u8>, Fail> {
+    let programs = read_programs(alloc, text)?;
+    let (kept, view) = run_recorded(alloc, programs, alloc, &NoGate)?;
+    told(alloc, kept, view)
 }
 
 const TWO_PROCESSES: &[u8] = b"programs 1
@@ -114,45 +100,53 @@ end
 
 #[test]
 fn a_recorder_is_told_of_all(rt: HostRuntime) -> Result<(), Fail> {
-    let (kept, view) = recorded(rt.alloc(), TWO_PROCESSES, 6)??;
-    let written = told(rt.alloc(), kept, view)?;
+    let written = recorded(rt.alloc(), TWO_PROCESSES)?;
     assert_eq!(rt; written.as_slice(), OF_TWO_PROCESSES);
     Ok(())
 }
 
-// The run is refused in these words.
-fn is_refused<R: Abort>(
-    rt: &R,
+// Counts how often it is told, of the drivers and of each entry, and wants memory from some time on.
+#[derive(Drop)]
+struct Counting<'a> {
+    told: &'a AtomicUsize,
+    // How often it may be told.
+    most: usize,
+}
+
+impl<'a> Recorder for Counting<'a> {
+    type Room = (&'a AtomicUsize, usize);
+
+    ghost told = { λ _ _ _ _. Unit {0} };
+
+    fn begin(
+        room: (&'a AtomicUsize, usize),
+        _version: Version,
+        _drivers: &[DriverSpec],
+    ) -> Result<Counting<'a>, NoMemory> {
+        let (told, most) = room;
+        told.fetch_add(1, Ordering::SeqCst);
+        Ok(Counting { told, most })
+    }
+
+    fn add(&mut self, _entry: &Entry) -> Result<(), NoMemory> {
+        if self.told.fetch_add(1, Ordering::SeqCst) < self.most {
+            Ok(())
+        } else {
+            Err(NoMemory)
+        }
+    }
+}
+
+// Whether a run of the programs that this text spells ends well, of which this is told, and a recorder, which may be told
+// so often.
+fn counts<G: Gate>(
     alloc: Global,
     text: &[u8],
-    most: usize,
-    words: &str,
-) -> Result<(), Fail> {
-    let fault = recorded(alloc, text, most)?.err().ok_or("refused")?;
-    prints(rt, alloc, &fault, words)
-}
-
-#[test]
-fn a_recorder_wants_memory(rt: HostRuntime) -> Result<(), Fail> {
-    for most in 0..6 {
-        is_refused(&rt, rt.alloc(), TWO_PROCESSES, most, "no memory")?;
-    }
-    Ok(())
-}
-
-// The log is told of a run of the programs that this text spells, with a recorder of so many entries. Whether that was
-// enough.
-fn logs(alloc: Global, text: &[u8], most: usize, log: &Log) -> Result<bool, Fail> {
+    recorder: (&AtomicUsize, usize),
+    gate: &G,
+) -> Result<bool, Fail> {
     let programs = read_programs(alloc, text)?;
-    Ok(run_recorded::<Kept, _>(alloc, programs, (alloc, most), log).is_ok())
-}
-
-#[test]
-fn a_recorded_run_tells_of_each_command_in_turn(rt: HostRuntime) -> Result<(), Fail> {
-    let log = Log::of(rt.alloc(), 40)?;
-    assert!(rt; logs(rt.alloc(), SIX, 13, &log)?);
-    assert_eq!(rt; log.told(rt.alloc())?.as_slice(), IN_TURN.as_slice());
-    Ok(())
+    Ok(run_recorded::<Counting, _>(alloc, programs, recorder, gate).is_ok())
 }
 
 // What a gate is told of the six commands of the two processes.
@@ -171,62 +165,24 @@ const OF_SIX_COMMANDS: [Told; 12] = [
     After(2, 3),
 ];
 
-// A recorder of so many entries stops the run at the next command, and of the last one the log is told too.
-fn logs_one_more(
-    rt: &impl Abort,
-    alloc: Global,
-    entries: usize,
-    told: &[Told],
-) -> Result<(), Fail> {
+// A recorder that may be told of so many entries stops the run at the next one: of this it is told, and so is the log.
+// Neither is told of anything behind it.
+fn stops_behind(rt: &impl Abort, alloc: Global, entries: usize, told: &[Told]) -> Result<(), Fail> {
+    let count = AtomicUsize::new(0);
     let log = Log::of(alloc, 16)?;
-    assert!(rt; !logs(alloc, TWO_PROCESSES, entries, &log)?);
+    assert!(rt; !counts(alloc, TWO_PROCESSES, (&count, entries + 1), &log)?);
+    assert_eq!(rt; count.load(Ordering::SeqCst), entries + 2);
     assert_eq!(rt; log.told(alloc)?.as_slice(), told);
     Ok(())
 }
 
 #[test]
-fn a_recorded_run_tells_also_of_the_command_at_which_it_stops(rt: HostRuntime) -> Result<(), Fail> {
+fn a_recorded_run_stops_where_its_recorder_does(rt: HostRuntime) -> Result<(), Fail> {
     for entries in 0..6 {
-        logs_one_more(
-            &rt,
-            rt.alloc(),
-            entries,
-            &OF_SIX_COMMANDS[..2 * entries + 2],
-        )?;
+        let told = &OF_SIX_COMMANDS[..2 * entries + 2];
+        stops_behind(&rt, rt.alloc(), entries, told)?;
     }
     Ok(())
-}
-
-// Counts how often it is told: of the drivers, and of each entry.
-#[derive(Drop)]
-struct Counting<'a> {
-    told: &'a AtomicUsize,
-}
-
-impl<'a> Recorder for Counting<'a> {
-    type Room = &'a AtomicUsize;
-
-    ghost told = { λ _ _ _ _. Unit {0} };
-
-    fn begin(
-        room: &'a AtomicUsize,
-        _version: Version,
-        _drivers: &[DriverSpec],
-    ) -> Result<Counting<'a>, NoMemory> {
-        room.fetch_add(1, Ordering::SeqCst);
-        Ok(Counting { told: room })
-    }
-
-    fn add(&mut self, _entry: &Entry) -> Result<(), NoMemory> {
-        self.told.fetch_add(1, Ordering::SeqCst);
-        Ok(())
-    }
-}
-
-// Whether a run of the programs that this text spells ends well, of which a recorder counts what it is told.
-fn counts<G: Gate>(alloc: Global, text: &[u8], told: &AtomicUsize, gate: &G) -> Result<bool, Fail> {
-    let programs = read_programs(alloc, text)?;
-    Ok(run_recorded::<Counting, _>(alloc, programs, told, gate).is_ok())
 }
 
 const SAME_NAME: &[u8] =
@@ -234,9 +190,8 @@ const SAME_NAME: &[u8] =
 
 #[test]
 fn drivers_come_before_the_recorder(rt: HostRuntime) -> Result<(), Fail> {
-    is_refused(&rt, rt.alloc(), SAME_NAME, 0, "driver 1 same name")?;
     let told = AtomicUsize::new(0);
-    assert!(rt; !counts(rt.alloc(), SAME_NAME, &told, &NoGate)?);
+    assert!(rt; !counts(rt.alloc(), SAME_NAME, (&told, 9), &NoGate)?);
     assert_eq!(rt; told.load(Ordering::SeqCst), 0);
     Ok(())
 }
@@ -280,10 +235,19 @@ impl<'a> Gate for InTime<'a> {
 }
 
 #[test]
+fn a_recorded_run_tells_of_each_command_in_turn(rt: HostRuntime) -> Result<(), Fail> {
+    let told = AtomicUsize::new(0);
+    let log = Log::of(rt.alloc(), 40)?;
+    assert!(rt; counts(rt.alloc(), SIX, (&told, 14), &log)?);
+    assert_eq!(rt; log.told(rt.alloc())?.as_slice(), IN_TURN.as_slice());
+    Ok(())
+}
+
+#[test]
 fn a_recorded_run_tells_right_before_and_right_after(rt: HostRuntime) -> Result<(), Fail> {
     let told = AtomicUsize::new(0);
     let gate = InTime::of(&told);
-    assert!(rt; counts(rt.alloc(), SIX, &told, &gate)?);
+    assert!(rt; counts(rt.alloc(), SIX, (&told, 14), &gate)?);
     assert_eq!(rt; told.load(Ordering::SeqCst), 14);
     assert_eq!(rt; gate.in_time.load(Ordering::SeqCst), 26);
     Ok(())

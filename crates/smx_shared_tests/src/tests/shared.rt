@@ -6,12 +6,11 @@ use super::callers::{
     Flags, closes_with, front, holding, is_opened, last_of, last_two, no_flags, opened, opens,
     seen, sees, wait_for,
 };
-use super::fault_words::prints;
 use super::system_lines::system_over;
 use super::workers::reported;
 use smx_run::Report;
 use smx_samples::{Call, command_of, ip};
-use smx_shared::{ApplyFault, CloseFault, Door, Front, Seat, Shared, System, TryFault};
+use smx_shared::{ApplyFault, Door, Front, Seat, Shared, System, TryFault};
 use smx_types::{Command, Entry, Reply};
 use std::alloc::Global;
 use std::process::Abort;
@@ -253,15 +252,6 @@ fn says_when_the_history_is_full(rt: HostRuntime) -> Result<(), Fail> {
     closes_with(&rt, shared, zero, 1)
 }
 
-#[test]
-fn says_why_a_try_is_refused(rt: HostRuntime) -> Result<(), Fail> {
-    let held = front(2, 1, true);
-    prints(&rt, rt.alloc(), &TryFault::Busy(held), "turn held")?;
-    prints(&rt, rt.alloc(), &TryFault::HistoryFull, "history full")?;
-    prints(&rt, rt.alloc(), &TryFault::NoMemory, "no memory")?;
-    prints(&rt, rt.alloc(), &CloseFault::Held(held), "turn held")
-}
-
 const THREE_PROGRAMS: &[u8] = b"programs 1
 driver ip mux 4 8 3 16
 process 0
@@ -278,17 +268,8 @@ fn has_fronts_of_one_worker(rt: &impl Abort, report: &Report) {
     assert_eq!(rt; report.fronts.as_slice(), fronts.as_slice());
 }
 
-fn has_fronts_of_three_workers(rt: &impl Abort, report: &Report) {
-    assert_eq!(rt; report.entries.as_slice().len(), 3);
-    assert_eq!(rt; report.fronts.as_slice().len(), 3);
-    for (front, least) in report.fronts.as_slice().iter().zip([2, 0, 1]) {
-        assert!(rt; least <= front.entries && front.entries <= 3 && front.links == 0);
-    }
-}
-
 #[test]
 fn fronts_of_three_programs(rt: HostRuntime) -> Result<(), Fail> {
     has_fronts_of_one_worker(&rt, &reported(&rt, rt.alloc(), THREE_PROGRAMS, 1)?);
-    has_fronts_of_three_workers(&rt, &reported(&rt, rt.alloc(), THREE_PROGRAMS, 3)?);
     Ok(())
 }

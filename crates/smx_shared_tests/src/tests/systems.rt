@@ -1,11 +1,9 @@
 //! Systems: their limit, their entries, and their copies.
 
-use super::fault_words::prints;
 use super::system_lines::{are_same, copied, play, system_of_twenty, system_over};
-use smx_config::ConfigFault;
-use smx_samples::{Answer, Call, JOIN, Line, command_of, driver, ip, leaves, numbered};
+use smx_samples::{Answer, Call, JOIN, Line, command_of, ip, numbered};
 use smx_shared::{ApplyFault, System};
-use smx_types::{Command, DriverKind, DriverSpec, Entry, Fault, Process, Reply};
+use smx_types::{Command, Fault, Process, Reply};
 use std::alloc::Global;
 use std::process::Abort;
 use std::test::Fail;
@@ -70,72 +68,6 @@ fn three_entries_at_most(rt: HostRuntime) -> Result<(), Fail> {
     three_fill_it(&rt, &mut system)
 }
 
-// The history that a system leaves has so many entries.
-fn leaves_entries(rt: &impl Abort, system: System, count: usize) {
-    let entries = system.into_entries();
-    assert_eq!(rt; entries.as_slice().len(), count);
-}
-
-#[test]
-fn no_entry_at_all(rt: HostRuntime) -> Result<(), Fail> {
-    let mut system = system_over(rt.alloc(), &[ip()?], 0)?;
-    is_full(&rt, rt.alloc(), &mut system)?;
-    leaves_entries(&rt, system, 0);
-    Ok(())
-}
-
-// The entry is of this process and command, and its stream has this minor.
-fn is_opening(
-    rt: &impl Abort,
-    entry: &Entry,
-    process: Process,
-    command: &Command,
-    minor: u32,
-) -> Result<(), Fail> {
-    if entry.process != process || entry.command != *command {
-        return Err(Fail::new("the entry is of another process or command"));
-    }
-    assert!(rt; entry.reply == Reply::Fd { fd: 0, minor });
-    Ok(())
-}
-
-// A process opens a stream of `ip`, and gets this minor.
-fn opens(
-    rt: &impl Abort,
-    system: &mut System,
-    process: Process,
-    command: &Command,
-    minor: u32,
-) -> Result<(), Fail> {
-    let entry = system.apply(process, command)?;
-    is_opening(rt, &entry, process, command, minor)
-}
-
-fn is_copied(rt: &impl Abort, system: &System) -> Result<(), Fail> {
-    let again = system.copy()?;
-    are_same(rt, &again, system)
-}
-
-fn three_open(rt: &impl Abort, system: &mut System, command: &Command) -> Result<(), Fail> {
-    for (process, minor) in [(0u32, 0u32), (2, 1), (1, 2)] {
-        opens(rt, system, numbered(process)?, command, minor)?;
-    }
-    is_copied(rt, system)
-}
-
-fn three_leave_entries(rt: &(impl Abort + AllocGlobal), command: &Command) -> Result<(), Fail> {
-    let mut system = system_over(rt.alloc(), &[ip()?], 10)?;
-    three_open(rt, &mut system, command)?;
-    leaves_entries(rt, system, 3);
-    Ok(())
-}
-
-#[test]
-fn three_processes(rt: HostRuntime) -> Result<(), Fail> {
-    let command = command_of(rt.alloc(), Call::Clone("ip"))?;
-    three_leave_entries(&rt, &command)
-}
-
 // The same commands, given up.
 fn append_all(alloc: Global, system: &mut System, lines: &[Line]) -> Result<(), Fail> {
     for (call, _) in lines {
@@ -164,24 +96,6 @@ fn is_given_up(rt: &(impl Abort + AllocGlobal + Print), system: &mut System) -> 
 fn commands_that_are_given_up(rt: HostRuntime) -> Result<(), Fail> {
     let mut system = system_of_twenty(rt.alloc())?;
     is_given_up(&rt, &mut system)
-}
-
-// Why there is no system over these drivers.
-fn fault_of(alloc: Global, drivers: &[DriverSpec]) -> Result<ConfigFault, Fail> {
-    Ok(System::new(alloc, drivers, 3).err().ok_or("refused")?)
-}
-
-fn are_too_many(rt: &impl Abort, alloc: Global, drivers: &[DriverSpec]) -> Result<(), Fail> {
-    assert_eq!(rt; fault_of(alloc, drivers)?, ConfigFault::TooMany);
-    Ok(())
-}
-
-#[test]
-fn drivers_that_are_refused(rt: HostRuntime) -> Result<(), Fail> {
-    let fault = fault_of(rt.alloc(), &[driver("ip", DriverKind::Mux, 65)?])?;
-    prints(&rt, rt.alloc(), &fault, "driver 0 minors")?;
-    let many = leaves(rt.alloc(), 129)?;
-    are_too_many(&rt, rt.alloc(), many.as_slice())
 }
 
 fn close_often(system: &mut System, process: Process, count: usize) -> Result<(), Fail> {

@@ -4,10 +4,10 @@ ghost use Rattle.std.specs.Prelude.{◌≤◌};
 ghost use Rattle.smx_run.specs.declared.run.TheConstants.{MAX_WORKERS};
 
 use super::gates::Told::{After, Before};
-use super::gates::{Log, Told};
+use super::gates::{Log, Told, by_worker};
 use smx_run::run_programs;
 use smx_text::read_programs;
-use std::alloc::{AllocError, Global};
+use std::alloc::Global;
 use std::sync::Wait;
 use std::test::Fail;
 use std::thread::Threads;
@@ -121,17 +121,6 @@ fn one_worker_tells_of_each_command_in_turn(rt: HostRuntime) -> Result<(), Fail>
     Ok(())
 }
 
-// What was told by this worker of three.
-fn by_worker(alloc: Global, told: &[Told], worker: u32) -> Result<Vec<Told>, AllocError> {
-    let mut own = Vec::new(alloc);
-    for line in told {
-        if line.process() % 3 == worker {
-            own.push(*line)?;
-        }
-    }
-    Ok(own)
-}
-
 #[test]
 fn three_workers_tell_of_their_processes_in_turn(rt: HostRuntime) -> Result<(), Fail> {
     let log = Log::of(rt.alloc(), 40)?;
@@ -140,7 +129,7 @@ fn three_workers_tell_of_their_processes_in_turn(rt: HostRuntime) -> Result<(), 
     assert_eq!(rt; told.len(), 26);
     for (worker, own) in (0..3u32).zip(BY_EACH) {
         assert_eq!(rt;
-            by_worker(rt.alloc(), told.as_slice(), worker)?.as_slice(),
+            by_worker(rt.alloc(), told.as_slice(), worker, 3)?.as_slice(),
             own
         );
     }

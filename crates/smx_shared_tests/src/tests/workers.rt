@@ -1,4 +1,4 @@
-//! Runs by several workers: all at once, more than there is work for, and of programs that leave much undone.
+//! Runs by several workers: all at once, one by one, and more than there is work for.
 
 ghost use Rattle.std.specs.Prelude.{◌≤◌};
 ghost use Rattle.smx_run.specs.declared.run.TheConstants.{MAX_WORKERS};
@@ -6,10 +6,9 @@ ghost use Rattle.smx_run.specs.declared.run.TheConstants.{MAX_WORKERS};
 use super::callers::front;
 use super::gates::{Meeting, OneByOne};
 use smx_run::{Gate, NoGate, Report, run_programs};
-use smx_samples::{named, numbered};
 use smx_shared::Front;
 use smx_text::{read_programs, write_transcript};
-use smx_types::{DescriptorLine, Transcript, Version};
+use smx_types::{Transcript, Version};
 use std::alloc::Global;
 use std::process::Abort;
 use std::sync::Wait;
@@ -194,35 +193,6 @@ fn writes_the_one_history(rt: HostRuntime) -> Result<(), Fail> {
             let written = ran(&rt, rt.alloc(), input, workers)?;
             assert_eq!(rt; written.as_slice(), output);
         }
-    }
-    Ok(())
-}
-
-const LEFT_OPEN: &[u8] =
-    b"programs 1\ndriver ip mux 4 8 3 16\ndriver eth leaf 2 8 3 16\nprocess 0\nclone ip\nprocess 1\nclone eth\nend\n";
-
-// The first descriptor of a process, for the first stream of a driver.
-fn first(process: u32, driver: &str) -> Result<DescriptorLine, Fail> {
-    Ok(DescriptorLine {
-        process: numbered(process)?,
-        fd: 0,
-        driver: named(driver)?,
-        minor: 0,
-    })
-}
-
-fn are_left_open(rt: &impl Abort, report: &Report) -> Result<(), Fail> {
-    assert_eq!(rt; report.entries.as_slice().len(), 2);
-    let fds = [first(0, "ip")?, first(1, "eth")?];
-    assert!(rt; report.view.fds.as_slice() == fds.as_slice());
-    Ok(())
-}
-
-#[test]
-fn leaves_descriptors_open(rt: HostRuntime) -> Result<(), Fail> {
-    for workers in [1, 2, 64] {
-        let report = reported(&rt, rt.alloc(), LEFT_OPEN, workers)?;
-        are_left_open(&rt, &report)?;
     }
     Ok(())
 }

@@ -1,10 +1,15 @@
-use Rattle.std.proofs.Common.{rules, ◌≡◌, ◌+◌, ◌++◌, ◌∷◌, [], List, ℕ, length, ap, sym, subst, arith, ◌∙◌}
+use Rattle.std.proofs.Common.{rules, ◌≡◌, ◌≢◌, ◌+◌, ◌++◌, ◌∷◌, [], List, ℕ, length, map, ap, sym, subst, arith, ◌∙◌, Err}
+use Rattle.std.specs.Vec.Iter.{into_iter_items}
 use Rattle.std.proofs.lemmas.List.{length-append}
 use Rattle.smx_types.specs.declared.driver.DriverSpec.{DriverSpec}
 use Rattle.smx_types.specs.declared.command.Command.{Command}
+use Rattle.smx_types.specs.declared.command.Entry.{Entry}
+use Rattle.smx_model.specs.Histories.{call_of}
+use Rattle.smx_shared.specs.declared.fault.ApplyFault.TheVariants as apply
 use Rattle.smx_run.specs.Fronts.{AreFrontsFrom}
-use Rattle.smx_run.specs.ProgramOrder.{calls_of}
-use Rattle.smx_run.proofs.RunLemmas.{calls_more, front_next}
+use Rattle.smx_run.specs.ProgramOrder.{BeginsCalls, calls_of, calls_from}
+use Rattle.smx_run.proofs.StopLemmas.{left_of, memory_left, on_err, room_left}
+use Rattle.smx_run.proofs.RunLemmas.{calls_more, front_next, next_taken}
 use Rattle.smx_run.proofs.run.run_alone.Goals as goal
 
 pub loop-commands-preserved : goal.loop-commands-preserved
@@ -18,6 +23,8 @@ loop-commands-preserved g c =
     let was = subst (λ (ds : List DriverSpec). AreFrontsFrom ds c.loop-commands.desk.system.history 0 c.loop-commands.yielded c.loop-commands.fronts.items) (sym did.drivers) before.fronts in
     record {
       drivers = did.drivers ∙ before.drivers;
+      limit = did.limit ∙ before.limit;
+      all = next_taken _ _ _ _ commands before.all c.in-Some.ensures.steps.0;
       counted = search rules;
       within = search rules;
       number = omega (arith, before.number, length-append c.loop-commands.yielded (commands ∷ []));
@@ -26,3 +33,39 @@ loop-commands-preserved g c =
       calls = calls;
       fronts = rw c.push_reserved.ensures.items (front_next _ _ _ _ _ commands _ did.begins calls c.front_of.ensures was);
     }
+
+pub returns-in_err-fronts-clause-stops : goal.returns-in_err-fronts-clause-stops
+returns-in_err-fronts-clause-stops g c =
+    let asked = calls_from 0 c.args.programs in
+    let none : BeginsCalls (map call_of c.args.desk.now.system.history) 0 c.args.programs =
+    (asked, ap (λ (es : List Entry). map call_of es ++ asked) c.requires.empty) in
+    on_err _ _ none
+
+pub returns-in_err-run_program-clause-stops : goal.returns-in_err-run_program-clause-stops
+returns-in_err-run_program-clause-stops g c =
+    let before = c.loop-commands.invariant in
+    let yielded = c.loop-commands.yielded in
+    let did = c.in_err-run_program.ensures.stops in
+    let p : ℕ = c.unwrap-desk.result in
+    let number : p ≡ 0 + length yielded = search rules in
+    let all = ap (λ (programs : List (List Command)). yielded ++ programs) (sym c.in-Some.ensures.steps.0) ∙ before.all in
+    let calls = did.came.calls ∙ ap (λ (cs : List (ℕ × Command)). cs ++ calls_of p did.done) before.calls in
+    let left = left_of (map call_of c.run_program.new.desk.system.history) p c.args.programs yielded (into_iter_items c.next.new.self) c.in-Some.commands did.done did.left did.next all did.all number calls in
+    let begins : BeginsCalls (map call_of c.run_program.new.desk.system.history) 0 c.args.programs = ((p, did.next) ∷ left.0, left.1) in
+    on_err _ _ begins
+
+pub returns-in_err-run_program-clause-refused : goal.returns-in_err-run_program-clause-refused
+returns-in_err-run_program-clause-refused g c =
+    let before = c.loop-commands.invariant in
+    let yielded = c.loop-commands.yielded in
+    let did = c.in_err-run_program.ensures.stops in
+    let p : ℕ = c.unwrap-desk.result in
+    let number : p ≡ 0 + length yielded = search rules in
+    let all = ap (λ (programs : List (List Command)). yielded ++ programs) (sym c.in-Some.ensures.steps.0) ∙ before.all in
+    let calls = did.came.calls ∙ ap (λ (cs : List (ℕ × Command)). cs ++ calls_of p did.done) before.calls in
+    let left = left_of (map call_of c.run_program.new.desk.system.history) p c.args.programs yielded (into_iter_items c.next.new.self) c.in-Some.commands did.done did.left did.next all did.all number calls in
+    let fewer = room_left c.run_program.new.desk.system.history c.args.programs (p, did.next) left.0 left.1 in
+    let room : c.run_program.new.desk.system.limit ≡ c.args.desk.now.system.limit = did.came.limit ∙ before.limit in
+    let other : c.in_err-run_program.field-0.0 ≢ apply.HistoryFull = λ is. omega (arith, fewer, room, c.requires.room, c.in_err-run_program.ensures.full (ap Err is)) in
+    let fault = memory_left c.in_err-run_program.field-0.0 other in
+    search rules

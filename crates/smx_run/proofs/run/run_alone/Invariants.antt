@@ -1,4 +1,4 @@
-use Rattle.std.proofs.Common.{◌≡◌, ◌≤◌, ◌+◌, map, length, vec_len}
+use Rattle.std.proofs.Common.{◌≡◌, ◌≤◌, ◌+◌, ◌++◌, map, length, vec_len}
 use Rattle.std.specs.Prelude.{vec_capacity}
 use Rattle.std.specs.Vec.Iter.{into_iter_items, into_iter_len}
 use Rattle.smx_model.specs.Histories.{call_of}
@@ -10,6 +10,8 @@ use Rattle.smx_run.proofs.run.run_alone.Given as goal
 abbrev pub invariant-loop-commands : goal.invariant-loop-commands
 invariant-loop-commands g l = record {
   drivers : l.desk.system.drivers ≡ l.fn.desk.system.drivers;
+  limit : l.desk.system.limit ≡ l.fn.desk.system.limit;
+  all : l.yielded ++ into_iter_items l.commands-iterator ≡ l.fn.programs;
   counted : into_iter_len l.commands-iterator ≡ length (into_iter_items l.commands-iterator);
   within : l.number + length (into_iter_items l.commands-iterator) ≤ MAX_PROCESSES;
   number : l.number ≡ length l.yielded;

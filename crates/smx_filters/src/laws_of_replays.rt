@@ -1,0 +1,32 @@
+//! Laws of replays over bytes, each the contract of a function that does nothing.
+
+ghost use Rattle.std.specs.Prelude.{◌≡◌, ℕ, List};
+ghost use Rattle.smx_config.specs.declared.verdict.Verdict.TheVariants.{Legal};
+ghost use Rattle.smx_filters.specs.CheckText.{checking};
+ghost use Rattle.smx_filters.specs.Filters.{GivesFor};
+ghost use Rattle.smx_filters.specs.ReplayText.{replaying};
+
+use smx_replay::laws_of_replays::{a_transcript_has_one_replay, replays_are_the_legal_transcripts};
+use smx_text::laws::one_transcript_has_one_reading;
+
+/// What a check judges legal a replay gives back, to the byte.
+pub fn a_legal_transcript_is_given_back()
+    ensures { (input line output : List ℕ) (done : Unit {0}) → GivesFor checking input Legal line
+        → GivesFor replaying input done output → output ≡ input }
+{
+    one_transcript_has_one_reading();
+    a_transcript_has_one_replay();
+    replays_are_the_legal_transcripts();
+}
+
+/// What a replay gives a check judges legal, and for each input that is one text.
+pub fn a_replay_is_one_legal_transcript()
+    ensures legal { (input output : List ℕ) (done : Unit {0}) → GivesFor replaying input done output
+        → (line : List ℕ) × GivesFor checking output Legal line }
+    ensures one { (input one other : List ℕ) (done : Unit {0}) → GivesFor replaying input done one
+        → GivesFor replaying input done other → one ≡ other }
+{
+    one_transcript_has_one_reading();
+    a_transcript_has_one_replay();
+    replays_are_the_legal_transcripts();
+}

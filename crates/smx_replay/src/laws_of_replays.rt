@@ -1,0 +1,59 @@
+//! Laws of replays, each the contract of a function that does nothing.
+
+ghost use Rattle.std.specs.Prelude.{◌≡◌, map};
+ghost use Rattle.smx_types.specs.declared.transcript.Transcript.{Transcript};
+ghost use Rattle.smx_model.specs.DriverList.{IsDriverList};
+ghost use Rattle.smx_model.specs.Histories.{call_of};
+ghost use Rattle.smx_model.specs.LawfulHistories.{AreDropsAllowed, IsLawfulThroughout};
+ghost use Rattle.smx_config.specs.Verdicts.{IsVerdict};
+ghost use Rattle.smx_config.specs.declared.verdict.Verdict.TheVariants.{Legal};
+ghost use Rattle.smx_replay.specs.Replays.{IsReplayOf};
+ghost use Rattle.smx_replay.specs.WorkedReplays.{claimed, exchanged, left_out, put_right};
+ghost use Rattle.smx_text.specs.TranscriptText.{IsAllowed, IsSpellable};
+
+use smx_model::laws::{histories_are_determined, lawful_after_each_entry};
+use smx_model::laws_of_hangups::without_a_hangup_none_is_told;
+use smx_model::laws_of_messages::few_commands_drop;
+
+/// Over drivers that can be had a transcript has one replay. Transcripts with the same calls have the same one, whatever
+/// their replies and their views.
+pub fn a_transcript_has_one_replay()
+    ensures always { (t : Transcript) → IsDriverList t.drivers → (r : Transcript) × IsReplayOf t r }
+    ensures one { (t r s : Transcript) → IsReplayOf t r → IsReplayOf t s → r ≡ s }
+    ensures calls_alone { (t u r : Transcript) → u.version ≡ t.version → u.drivers ≡ t.drivers
+        → map call_of u.entries ≡ map call_of t.entries → IsReplayOf t r → IsReplayOf u r }
+{
+    histories_are_determined();
+}
+
+/// A transcript that is judged legal is its own replay, and every replay is judged so.
+pub fn replays_are_the_legal_transcripts()
+    ensures own { (t : Transcript) → IsDriverList t.drivers → IsVerdict t.drivers t.entries t.view Legal → IsReplayOf t t }
+    ensures legal { (t r : Transcript) → IsReplayOf t r → IsVerdict r.drivers r.entries r.view Legal }
+{}
+
+/// So a replay is lawful after each entry, and few commands of it drop messages.
+pub fn replays_are_lawful()
+    ensures lawful { (t r : Transcript) → IsReplayOf t r → IsLawfulThroughout r.drivers r.entries }
+    ensures drops { (t r : Transcript) → IsReplayOf t r → AreDropsAllowed r.entries }
+{
+    lawful_after_each_entry();
+    few_commands_drop();
+}
+
+/// A replay is within the limits of its transcript, and needs no later version: where no device hangs up, none of its
+/// replies and no line of its view tells of a hangup.
+pub fn replays_can_be_told()
+    ensures { (t r : Transcript) → IsAllowed t.version t → IsReplayOf t r → IsSpellable r → IsAllowed r.version r }
+{
+    without_a_hangup_none_is_told();
+}
+
+/// The worked history whose second entry is illegal is put right from there on. It is no replay of itself, and neither is
+/// what leaves an entry out, or takes two of them in another order.
+pub fn the_second_is_put_right()
+    ensures right { IsReplayOf claimed put_right }
+    ensures not_itself { IsReplayOf claimed claimed → ⊥ }
+    ensures not_left_out { IsReplayOf claimed left_out → ⊥ }
+    ensures not_exchanged { IsReplayOf claimed exchanged → ⊥ }
+{}
