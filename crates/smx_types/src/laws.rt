@@ -1,4 +1,4 @@
-//! A law of versions, the contract of a function that does nothing.
+//! What version 1 can tell, as the contract of a function that does nothing.
 
 ghost use Rattle.std.specs.Prelude.{◌≡◌, ◌≤◌, false, length};
 ghost use Rattle.std.specs.List.{list_any};
