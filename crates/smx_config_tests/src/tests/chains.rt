@@ -27,11 +27,11 @@ fn made(alloc: Global) -> Result<Config, Fail> {
 }
 
 // The link of this id: a driver over the next one, which both have one stream more now.
-fn add_link(
+fn add_link<'a>(
     rt: &(impl AllocGlobal + Print),
     config: &mut Config,
-    upper: &str,
-    lower: &str,
+    upper: &'a str,
+    lower: &'a str,
     (minor, id): (u32, u32),
 ) -> Result<(), Fail> {
     let lines = [

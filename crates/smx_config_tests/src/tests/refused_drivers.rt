@@ -21,32 +21,37 @@ fn are_refused(
     Ok(())
 }
 
-// This driver so often.
-fn so_many(alloc: Global, one: DriverSpec, count: usize) -> Result<Vec<DriverSpec>, Fail> {
-    Ok(Vec::from_elem(alloc, one, count)?)
+// This driver, so often.
+fn so_many_are_refused(
+    rt: &(impl AllocGlobal + Abort),
+    one: &DriverSpec,
+    count: usize,
+    want: ConfigFault,
+) -> Result<(), Fail> {
+    let many = Vec::from_elem(rt.alloc(), *one, count)?;
+    are_refused(rt, many.as_slice(), want)
 }
 
 // One more than 128 is too many before the others are looked at.
 fn are_too_many(
     rt: &(impl AllocGlobal + Abort),
-    one: DriverSpec,
+    one: &DriverSpec,
     fault: ConfigFault,
 ) -> Result<(), Fail> {
-    let many = so_many(rt.alloc(), one, 129)?;
-    are_refused(rt, &many, ConfigFault::TooMany)?;
-    are_refused(rt, &many[..128], fault)
+    so_many_are_refused(rt, one, 129, ConfigFault::TooMany)?;
+    so_many_are_refused(rt, one, 128, fault)
 }
 
 #[test]
 fn too_many_of_one_name(rt: HostRuntime) -> Result<(), Fail> {
     let ip = driver("ip", DriverKind::Mux, 4)?;
-    are_too_many(&rt, ip, ConfigFault::SameName(1))
+    are_too_many(&rt, &ip, ConfigFault::SameName(1))
 }
 
 #[test]
 fn too_many_that_are_bad(rt: HostRuntime) -> Result<(), Fail> {
     let none = driver("ip", DriverKind::Mux, 0)?;
-    are_too_many(&rt, none, ConfigFault::BadSpec(0, SpecFault::BadMinors))
+    are_too_many(&rt, &none, ConfigFault::BadSpec(0, SpecFault::BadMinors))
 }
 
 #[test]

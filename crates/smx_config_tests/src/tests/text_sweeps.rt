@@ -3,7 +3,7 @@
 
 use super::sweeps::{ADDRESSES, payload};
 use smx_text::{read_programs, read_transcript, write_programs, write_transcript};
-use smx_types::Transcript;
+use smx_types::{Transcript, Version};
 use std::alloc::Global;
 use std::process::Abort;
 use std::test::Fail;
@@ -21,6 +21,9 @@ fn programs_stay(rt: &(impl AllocGlobal + Abort), text: &[u8]) -> Result<(), Fai
 }
 
 fn written(alloc: Global, transcript: &Transcript) -> Result<Vec<u8>, Fail> {
+    if transcript.version == Version::V1 && transcript.least() == Version::V2 {
+        return Err(Fail::new("version 1 can't tell it"));
+    }
     Ok(write_transcript(alloc, transcript)?)
 }
 

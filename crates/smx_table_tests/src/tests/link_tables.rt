@@ -143,7 +143,7 @@ const OF_THREE_DRIVERS: [Act; 17] = [
 ];
 
 fn table_over(alloc: Global, drivers: usize) -> Result<LinkTable, Fail>
-    requires { drivers ≤ 64 }
+    requires { drivers ≤ 128 }
     ensures { IfOk result (λ t. t.drivers ≡ drivers) }
 {
     Ok(LinkTable::new(alloc, drivers).ok().ok_or("memory")?)
