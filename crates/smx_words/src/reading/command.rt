@@ -1,10 +1,10 @@
 //! The words of a command.
 
-ghost use Rattle.std.specs.Prelude.{◌≡◌, ◌∷◌, [], codes, IfOk, IfErr, MatchOption};
+ghost use Rattle.std.specs.Prelude.{◌≡◌, ◌∷◌, [], codes, IfOk, IfErr};
 ghost use Rattle.smx_types.specs.Versions.{is_hangup};
 ghost use Rattle.smx_types.specs.declared.version.Version.TheVariants.{V1};
-ghost use Rattle.smx_words.specs.LineReading.{IsReadAs, IsLineOf};
-ghost use Rattle.smx_words.specs.Spellable.{CanTell, FitsCommand, FitsCommandIn};
+ghost use Rattle.smx_words.specs.LineReading.{IsReadAs, IsLineOf, is_true_of_read};
+ghost use Rattle.smx_words.specs.Spellable.{FitsCommand, FitsCommandIn};
 ghost use Rattle.smx_words.specs.Spelling.{command_words};
 ghost use Rattle.smx_words.specs.Verbs.{verb_word};
 ghost use Rattle.smx_words.specs.Words.{line_of};
@@ -22,21 +22,20 @@ pub fn command_of(alloc: Global, version: Version, line: &[u8]) -> Result<Option
     ensures reading { IfOk result (IsReadAs (FitsCommandIn version) command_words line.now) }
     ensures wanted { IfErr result (λ _. IsLineOf (FitsCommandIn version) command_words line.now) }
 {
-    match any_command_of(alloc, line) {
-        Ok(Some(command)) => Ok(told(version, command)),
-        Ok(None) => Ok(None),
-        Err(error) => Err(error),
+    let read = any_command_of(alloc, line);
+    match version {
+        Version::V1 if reads_hangup(&read) => Ok(None),
+        Version::V1 | Version::V2 => read,
     }
 }
 
-// The command, if the version can tell it.
-fn told(version: Version, command: Command) -> Option<Command>
-    ensures { MatchOption result (CanTell version (is_hangup command) → ⊥)
-        (λ c. (c ≡ command) × CanTell version (is_hangup command)) }
+// Whether a hangup was read.
+fn reads_hangup(read: &Result<Option<Command>, NoMemory>) -> bool
+    ensures { result ≡ is_true_of_read is_hangup read.now }
 {
-    match version {
-        Version::V1 if command.is_hangup() => None,
-        Version::V1 | Version::V2 => Some(command),
+    match read {
+        Ok(Some(command)) => command.is_hangup(),
+        Ok(None) | Err(_) => false,
     }
 }
 
