@@ -1,5 +1,5 @@
 -- What a reader may answer. No reader is named.
-use Rattle.std.specs.Prelude.{◌≡◌, ◌≢◌, ℕ, Bool, false, List, ◌++◌, ◌∷◌, Option, Some, None, MatchOption, Result, Ok, Err}
+use Rattle.std.specs.Prelude.{◌≡◌, ◌≢◌, ℕ, List, ◌++◌, ◌∷◌, Option, Some, None, MatchOption}
 use denote.Ref.{Bor}
 use Rattle.smx_words.specs.Words.{SPACE, line_of}
 
@@ -27,9 +27,3 @@ IsSpelled {X} Fits spelling bytes = (x : X) × Fits x × (bytes ≡ spelling x)
 -- the line is the words of some value that fits
 abbrev pub IsLineOf : {X : Type 0} → (X → Type 0) → (X → List (List ℕ)) → List ℕ → Type 0
 IsLineOf {X} Fits words_of line = IsSpelled Fits (λ x. line_of (words_of x)) line
-
--- whether a value was read, and the test is true of it
-abbrev pub is_true_of_read : {X E : Type 0} → (X → Bool) → Result (Option X) E → Bool
-is_true_of_read {X} {E} test (Ok (Some x)) = test x
-is_true_of_read {X} {E} test (Ok None) = false
-is_true_of_read {X} {E} test (Err e) = false

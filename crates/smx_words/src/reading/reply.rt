@@ -5,8 +5,8 @@ ghost use Rattle.std.specs.Prelude.{MatchResult, IfOk, IfErr};
 ghost use Rattle.std.specs.Fmt.{decimal};
 ghost use Rattle.smx_types.specs.Versions.{tells_of_hangup};
 ghost use Rattle.smx_types.specs.declared.version.Version.TheVariants.{V1};
-ghost use Rattle.smx_words.specs.LineReading.{IsReadAs, IsLineOf, is_true_of_read};
-ghost use Rattle.smx_words.specs.Spellable.{FitsAlways, FitsNumber, FitsReply, FitsReplyIn, FitsSerials};
+ghost use Rattle.smx_words.specs.LineReading.{IsReadAs, IsLineOf};
+ghost use Rattle.smx_words.specs.Spellable.{CanTell, FitsAlways, FitsNumber, FitsReply, FitsReplyIn, FitsSerials};
 ghost use Rattle.smx_words.specs.Spelling.{fault_words, reply_words};
 ghost use Rattle.smx_words.specs.Verbs.{reply_verb_word};
 ghost use Rattle.smx_words.specs.Words.{line_of};
@@ -23,20 +23,21 @@ pub fn reply_of(alloc: Global, version: Version, line: &[u8]) -> Result<Option<R
     ensures reading { IfOk result (IsReadAs (FitsReplyIn version) reply_words line.now) }
     ensures wanted { IfErr result (λ _. IsLineOf (FitsReplyIn version) reply_words line.now) }
 {
-    let read = any_reply_of(alloc, line);
-    match version {
-        Version::V1 if reads_hangup(&read) => Ok(None),
-        Version::V1 | Version::V2 => read,
+    match any_reply_of(alloc, line) {
+        Ok(Some(reply)) => Ok(told(version, reply)),
+        Ok(None) => Ok(None),
+        Err(error) => Err(error),
     }
 }
 
-// Whether a reply was read that tells of a hangup.
-fn reads_hangup(read: &Result<Option<Reply>, NoMemory>) -> bool
-    ensures { result ≡ is_true_of_read tells_of_hangup read.now }
+// The reply, if the version can tell it.
+fn told(version: Version, reply: Reply) -> Option<Reply>
+    ensures { MatchOption result (CanTell version (tells_of_hangup reply) → ⊥)
+        (λ r. (r ≡ reply) × CanTell version (tells_of_hangup reply)) }
 {
-    match read {
-        Ok(Some(reply)) => reply.tells_of_hangup(),
-        Ok(None) | Err(_) => false,
+    match version {
+        Version::V1 if reply.tells_of_hangup() => None,
+        Version::V1 | Version::V2 => Some(reply),
     }
 }
 
