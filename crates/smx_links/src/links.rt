@@ -65,17 +65,21 @@ pub fn get(links: &[Link], id: u32) -> Option<&Link>
     Some(&links[i])
 }
 
-// Where the link with the id is. As long as no link has gone from between, it is as far behind the first as its id
-// is. So that place is looked at before there is a search.
+// Where the link with the id is. As long as no link has gone from between, it is as far behind the first as its id is,
+// or as far before the last. So those places are looked at before there is a search.
 fn place(links: &[Link], id: u32) -> Option<usize>
     requires { IsRising (λ l k. nat_lt l.id k.id) links.now }
     ensures { IsPlace links.now id result }
 {
     let first = links.first()?;
-    let far = id.saturating_sub(first.id) as usize;
-    let guess = far.min(links.len() - 1);
-    if links[guess].id == id {
-        return Some(guess);
+    let last = links.len() - 1;
+    let behind = (id.saturating_sub(first.id) as usize).min(last);
+    if links[behind].id == id {
+        return Some(behind);
+    }
+    let before = last - (links[last].id.saturating_sub(id) as usize).min(last);
+    if links[before].id == id {
+        return Some(before);
     }
     links.binary_search_by_key(&id, |link| link.id).ok()
 }
