@@ -1,5 +1,5 @@
 -- Places that are marked, one after another.
-use Rattle.std.proofs.Common.{◌≡◌, ℕ, ◌+◌, ◌<◌, Bool, true, false, ◌&&◌, ◌||◌, eqb, ltb, List, [], ◌∷◌, length, find, Option, Some, None, refl, sym, ap, ◌∙◌, subst, arith, inl, inr}
+use Rattle.std.proofs.Common.{◌≡◌, ℕ, ◌+◌, ◌<◌, Bool, true, false, ◌&&◌, ◌||◌, eqb, ltb, List, [], ◌∷◌, find, Option, Some, None, refl, sym, ap, ◌∙◌, subst, arith, inl, inr}
 use Rattle.std.specs.Prelude.{◌≢◌, ◌⊎◌}
 use Rattle.std.specs.List.{list_any}
 use Rattle.std.specs.Option.{option_map_or}
@@ -83,11 +83,6 @@ write_at driver minor = record { stream = record { driver = driver; minor = mino
 -- none is below 0
 pub no_writes : (flow : List QueuedMessage) (driver : ℕ) (m : MarkList) → IsMarkedWhere flow (writes_below driver 0) m m
 no_writes flow driver m = none_marked flow (writes_below driver 0) m (λ p t. let lt : p.stream.minor < 0 = ltb-true p.stream.minor 0 (and_parts (is_write_of driver p) _ t).1 in absurd (omega arith))
-
--- where there is no message, none needs a mark
-pub nothing_waits : (flow : List QueuedMessage) (test : Place → Bool) (m : MarkList) → length flow ≡ 0 → IsMarkedWhere flow test m m
-nothing_waits [] test m none = record { kept = λ p h. h; marked = λ p known some t. absurd (some refl); drivers = refl }
-nothing_waits (h ∷ hs) test m none = absurd (omega (arith, none))
 
 -- one minor more
 pub writes_more : (flow : List QueuedMessage) (driver n : ℕ) (old mid new : MarkList) → IsMarkedWhere flow (writes_below driver n) old mid → IsMarkedWhere flow (same_place (write_at driver n)) mid new

@@ -18,12 +18,15 @@ one_got {X = X} xs ys i x same lt is = ap Some is ∙ sym (slice_get-get_or ys i
 pub among_all : {X : Type 0} (t : X → Bool) (xs : List X) (i : ℕ) (x : X) → Some x ≡ slice_get (filter t xs) i → (j : ℕ) × (Some x ≡ slice_get xs j)
 among_all t [] i x e = (i, e)
 among_all {X = X} t (y ∷ ys) i x e = elim (cases_Bool (t y)) [
-  | inl a ↦ first i (rw a at e)
-  | inr b ↦ let r = among_all t ys i x (rw b at e) in (suc r.0, r.1)
+  | inl a ↦ first (λ k f. among_all t ys k x f) i (rw a at e)
+  | inr b ↦ later (among_all t ys i x (rw b at e))
 ] where
-  first : (k : ℕ) → Some x ≡ slice_get (y ∷ filter t ys) k → (j : ℕ) × (Some x ≡ slice_get (y ∷ ys) j)
-  first zero f = (0, f)
-  first (suc k) f = let r = among_all t ys k x f in (suc r.0, r.1)
+  later : (j : ℕ) × (Some x ≡ slice_get ys j) → (j : ℕ) × (Some x ≡ slice_get (y ∷ ys) j)
+  later r = (suc r.0, r.1)
+
+  first : ((k : ℕ) → Some x ≡ slice_get (filter t ys) k → (j : ℕ) × (Some x ≡ slice_get ys j)) → (k : ℕ) → Some x ≡ slice_get (y ∷ filter t ys) k → (j : ℕ) × (Some x ≡ slice_get (y ∷ ys) j)
+  first earlier zero f = (0, f)
+  first earlier (suc k) f = later (earlier k f)
 
 -- one more
 pub take_one_more : {X : Type 0} (xs : List X) (i : ℕ) (x : X) → Some x ≡ slice_get xs i → take (i + 1) xs ≡ take i xs ++ x ∷ []

@@ -1,5 +1,5 @@
-use Rattle.std.proofs.Common.{◌≡◌, sym, ◌∙◌, arith}
-use Rattle.smx_config.proofs.RunMarkLemmas.{no_writes, nothing_waits, writes_all, writes_more}
+use Rattle.std.proofs.Common.{◌≡◌, ◌∙◌, arith}
+use Rattle.smx_config.proofs.RunMarkLemmas.{no_writes, writes_all, writes_more}
 use Rattle.smx_config.proofs.run_marks.mark_writes.Goals as goal
 
 pub loop-minor-init : goal.loop-minor-init
@@ -7,9 +7,6 @@ loop-minor-init c = no_writes _ _ _
 
 pub loop-minor-preserved : goal.loop-minor-preserved
 loop-minor-preserved c = writes_more _ _ _ _ _ _ c.loop-minor.invariant c.mark_waiting.ensures
-
-pub returns-then-len : goal.returns-then-len
-returns-then-len c = nothing_waits _ _ _ (sym c.len.ensures ∙ c.if-len.true)
 
 pub returns : goal.returns
 returns c =
