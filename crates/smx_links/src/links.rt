@@ -131,12 +131,7 @@ fn take_one(links: &mut Vec<Link>, id: u32) -> Option<Link>
 }
 
 // Takes out the link with the id.
-pub fn take(
-    links: &mut Vec<Link>,
-    ordinary: &mut Vec<Link>,
-    ids: &mut Ids,
-    id: u32,
-) -> Option<Link>
+pub fn take(links: &mut Vec<Link>, ordinary: &mut Vec<Link>, ids: &mut Ids, id: u32) -> Option<Link>
     requires sound { AreLinksSound links.old.items }
     requires rise { IsRising (λ l k. nat_lt l.id k.id) links.old.items }
     requires ordinary { ordinary.old.items ≡ ordinary_of links.old.items }
