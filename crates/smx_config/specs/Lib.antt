@@ -1,4 +1,5 @@
 pub mod Machine
+pub mod CommandsInPlace
 pub mod DriverFaults
 pub mod FaultWords
 pub mod Moves

@@ -4,6 +4,7 @@ ghost use Rattle.std.specs.Prelude.{◌≡◌, map, filter, IfOk, Ok};
 ghost use Rattle.std.specs.List.{list_any};
 ghost use Rattle.smx_types.specs.declared.command.Command.TheVariants as command;
 ghost use Rattle.smx_types.specs.declared.command.Which.TheVariants as which;
+ghost use Rattle.smx_types.specs.declared.stream.StreamId.{StreamId as StreamValue};
 ghost use Rattle.smx_model.specs.Commands.{link_outcome};
 ghost use Rattle.smx_tables.specs.KeptHolds.{KeepsHolds};
 ghost use Rattle.smx_tables.specs.ModelOfLists.{configuration_of, sizes_of};
@@ -93,6 +94,16 @@ fn may_unlink(kind: LinkKind, stream: StreamId, link: &Link) -> bool
     }
 }
 
+// The links among which those are that a command for links of this kind may be for.
+fn links_of(links: &LinkTable, kind: LinkKind) -> &[Link]
+    ensures { (s : StreamValue) → filter (may_unlink kind s) result.now ≡ filter (may_unlink kind s) links.now.links }
+{
+    match kind {
+        LinkKind::Ordinary => links.ordinary(),
+        LinkKind::Persistent => links.links(),
+    }
+}
+
 // The ids of all links that such a command may be for.
 fn all_targets(
     alloc: Global,
@@ -103,7 +114,7 @@ fn all_targets(
     ensures { IfOk result (λ v. v.items ≡ map (λ l. l.id) (filter (may_unlink kind stream) links.now.links)) }
 {
     let mut ids = Vec::new(alloc);
-    let listed = links.links();
+    let listed = links_of(links, kind);
     for i in 0..listed.len() {
         if let Some(link) = listed.get(i) {
             if may_unlink(kind, stream, link) {

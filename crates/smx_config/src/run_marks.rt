@@ -33,12 +33,15 @@ pub fn mark_left(queues: &FlowTable, run: &mut PlaceMarks, place: Place)
     }
 }
 
-// Marks the write sides of the driver's streams that have a message.
+// Marks the write sides of the driver's streams that have a message, if there is any message.
 pub fn mark_writes(drivers: &[DriverSpec], queues: &FlowTable, run: &mut PlaceMarks, driver: u8)
     requires few { HaveFewMinors drivers.now }
     requires same { run.old.drivers ≡ drivers.now }
     ensures { IsMarkedWhere queues.now.flow (is_write_of driver) run.old run.new }
 {
+    if queues.len() == 0 {
+        return;
+    }
     let minors = minors_of(drivers, driver as usize) as u8;
     for minor in 0..minors {
         let stream = StreamId { driver, minor };

@@ -57,12 +57,11 @@ IsWrittenFor false zero programs output = IsTranscriptFor programs output
 IsWrittenFor false (suc zero) programs output = IsTranscriptInTurn programs output
 IsWrittenFor false (suc (suc more)) programs output = IsTranscriptFor programs output
 
--- what so many workers may refuse: one alone, who writes the transcript, refuses for nothing that workers share
-abbrev pub IsRefusedFor : Bool → ℕ → ProgramLists → RunFault → Type 0
-IsRefusedFor true workers programs fault = RefusesRun programs.drivers fault
-IsRefusedFor false zero programs fault = RefusesRun programs.drivers fault
-IsRefusedFor false (suc zero) programs fault = RefusesAlone programs.drivers fault
-IsRefusedFor false (suc (suc more)) programs fault = RefusesRun programs.drivers fault
+-- what so many workers may refuse: one alone refuses for nothing that workers share
+abbrev pub IsRefusedFor : ℕ → ProgramLists → RunFault → Type 0
+IsRefusedFor zero programs fault = RefusesRun programs.drivers fault
+IsRefusedFor (suc zero) programs fault = RefusesAlone programs.drivers fault
+IsRefusedFor (suc (suc more)) programs fault = RefusesRun programs.drivers fault
 
 -- the text of a report: its fronts, or its transcript in a version, each line of which can be spelled
 abbrev pub IsTextOf : Bool → Version → Report → List ℕ → Type 0
@@ -76,7 +75,7 @@ abbrev pub running : Bool → ℕ → Filter ProgramLists Line (Unit {0})
 running fronts workers = record {
   grammar = programs_grammar;
   Gives = λ programs done output. IsWrittenFor fronts workers programs output;
-  Refuses = IsRefusedFor fronts workers;
+  Refuses = IsRefusedFor workers;
 }
 
 -- an answer of the text alone, with the vector as the list of its bytes

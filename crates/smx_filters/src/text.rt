@@ -81,7 +81,7 @@ fn text_of_run<R: Threads + Wait + Sync, G: Gate + Sync>(
 ) -> Result<Vec<u8>, RunFault>
     requires { (1 ≤ workers) × (workers ≤ 64) }
     ensures written { IfOk result (λ text. IsWrittenFor fronts workers programs text.items) }
-    ensures refused { IfErr result (IsRefusedFor fronts workers programs) }
+    ensures refused { IfErr result (IsRefusedFor workers programs) }
 {
     refusals_have_few_causes();
     reports_need_no_later_version();

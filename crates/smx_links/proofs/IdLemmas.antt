@@ -19,6 +19,20 @@ before l k = nat_lt l.id k.id
 
 -- one less
 
+-- two tests may come in either order
+pub filters_swap : (p q : Link → Bool) (ls : List Link) → filter p (filter q ls) ≡ filter q (filter p ls)
+filters_swap p q [] = refl
+filters_swap p q (l ∷ ls) = elim (cases_Bool (p l)) [
+  | inl t ↦ elim (cases_Bool (q l)) [
+    | inl u ↦ rw (t, u) (rw t (ap (λ x. l ∷ x) (filters_swap p q ls)))
+    | inr n ↦ rw (t, n) (filters_swap p q ls)
+  ]
+  | inr f ↦ elim (cases_Bool (q l)) [
+    | inl u ↦ rw (f, u) (rw f (filters_swap p q ls))
+    | inr n ↦ rw (f, n) (filters_swap p q ls)
+  ]
+]
+
 -- where no link has the id, all stay
 pub none_goes : (ls : List Link) (id : ℕ) → find (λ l. eqb l.id id) ls ≡ None → filter (λ l. not (eqb l.id id)) ls ≡ ls
 none_goes [] id h = refl

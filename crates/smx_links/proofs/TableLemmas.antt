@@ -15,7 +15,7 @@ use Rattle.smx_model.specs.Standing.{is_below}
 use Rattle.smx_links.specs.declared.fault.LinkFault.{LinkFault}
 use Rattle.smx_links.specs.declared.links.Lower.{Lower}
 use Rattle.smx_links.specs.Ids.{HasIds}
-use Rattle.smx_links.specs.LinkLists.{LinkList, refusal}
+use Rattle.smx_links.specs.LinkLists.{LinkList, ordinary_of, refusal}
 use Rattle.smx_links.specs.Masks.{AreJoined, AreMasks, IsWithin, LeadAlikeBut}
 use Rattle.smx_links.specs.Pairs.{AreCounts, with_one_more}
 use Rattle.smx_links.specs.TableFields.{AreParts, list_of_parts}
@@ -56,16 +56,17 @@ is_free t ctl lower h =
 -- one link more
 
 -- the fields of a table with one link more
-pub parts_push : Joins → (ws vs : List ℕ) (ls : List Link) (es fs : List (Lower × ℕ)) (ps : List ℕ) (n : ℕ)
-    (ctl lower : StreamId) (kind : LinkKind) → AreParts ws ls es ps n → IsFree (list_of_parts ws ls n) ctl lower
+pub parts_push : Joins → (ws vs : List ℕ) (ls os ks : List Link) (es fs : List (Lower × ℕ)) (ps : List ℕ) (n : ℕ)
+    (ctl lower : StreamId) (kind : LinkKind) → AreParts ws ls os es ps n → IsFree (list_of_parts ws ls n) ctl lower
     → ctl.driver < length ws → lower.driver < length ws
     → AreLinksSound (ls ++ record { id = n; ctl = ctl; lower = lower; kind = kind } ∷ [])
     → AreIdsRising (ls ++ record { id = n; ctl = ctl; lower = lower; kind = kind } ∷ []) (n + 1)
     → HasIds fs (ls ++ record { id = n; ctl = ctl; lower = lower; kind = kind } ∷ [])
+    → ks ≡ ordinary_of (ls ++ record { id = n; ctl = ctl; lower = lower; kind = kind } ∷ [])
     → length vs ≡ length ws → AreJoined ws ctl.driver lower.driver vs
-    → AreParts vs (ls ++ record { id = n; ctl = ctl; lower = lower; kind = kind } ∷ []) fs
+    → AreParts vs (ls ++ record { id = n; ctl = ctl; lower = lower; kind = kind } ∷ []) ks fs
     (with_one_more (length ws) ps (record { id = n; ctl = ctl; lower = lower; kind = kind })) (n + 1)
-parts_push joins ws vs ls es fs ps n ctl lower kind h free up low sound ids more long joined = record {
+parts_push joins ws vs ls os ks es fs ps n ctl lower kind h free up low sound ids more same long joined = record {
   list = record {
     sound = sound;
     ids = ids;
@@ -76,6 +77,7 @@ parts_push joins ws vs ls es fs ps n ctl lower kind h free up low sound ids more
   within = rw long (All-push (IsWithin (length ws)) ls _ h.within (up, low));
   few = rw long h.few;
   masks = masks_push joins ls _ ws vs h.masks joined;
+  ordinary = same;
   ids = more;
   pairs = rw long (counts_more (length ws) ls ps _ h.pairs (up, low));
 }
@@ -88,11 +90,12 @@ Renews ws vs qs lost = (old links : List Link) → AreMasks old ws → LeadAlike
     → All (IsWithin (length ws)) links → AreCounts (length ws) links qs → AreMasks links vs
 
 -- the fields of a table with some links less
-pub parts_less : (ws vs : List ℕ) (ls ks : List Link) (es fs : List (Lower × ℕ)) (ps qs : List ℕ) (n : ℕ)
-    (stays : Link → Bool) (lost : ℕ) → AreParts ws ls es ps n → ks ≡ filter stays ls → HasIds fs ks
+pub parts_less : (ws vs : List ℕ) (ls ks os js : List Link) (es fs : List (Lower × ℕ)) (ps qs : List ℕ) (n : ℕ)
+    (stays : Link → Bool) (lost : ℕ) → AreParts ws ls os es ps n → ks ≡ filter stays ls
+    → js ≡ ordinary_of ks → HasIds fs ks
     → AreLinksSound (filter stays ls) → AreIdsRising (filter stays ls) n → length vs ≡ length ws
-    → AreCounts (length ws) ks qs → LeadAlikeBut lost ls ks → Renews ws vs qs lost → AreParts vs ks fs qs n
-parts_less ws vs ls ks es fs ps qs n stays lost h is kept sound ids long counts alike renews =
+    → AreCounts (length ws) ks qs → LeadAlikeBut lost ls ks → Renews ws vs qs lost → AreParts vs ks js fs qs n
+parts_less ws vs ls ks os js es fs ps qs n stays lost h is same kept sound ids long counts alike renews =
     let within : All (IsWithin (length ws)) ks = rw is (All-filter stays (IsWithin (length ws)) ls h.within) in record {
       list = record {
         sound = rw is sound;
@@ -103,6 +106,7 @@ parts_less ws vs ls ks es fs ps qs n stays lost h is kept sound ids long counts 
       within = rw long within;
       few = rw long h.few;
       masks = renews ls ks h.masks alike within counts;
+      ordinary = same;
       ids = kept;
       pairs = rw long counts;
     }

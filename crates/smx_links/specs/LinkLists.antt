@@ -7,7 +7,7 @@ use Rattle.smx_types.specs.declared.link.Link.{Link}
 use Rattle.smx_types.specs.declared.link.LinkKind.{LinkKind}
 use Rattle.smx_types.specs.declared.stream.StreamId.{StreamId}
 use Rattle.smx_model.specs.Paths.{reaches}
-use Rattle.smx_model.specs.Standing.{is_below}
+use Rattle.smx_model.specs.Standing.{is_below, is_persistent}
 use Rattle.smx_model.specs.SoundLinks.{AreLinksSound, AreIdsRising}
 use Rattle.smx_links.specs.declared.fault.LinkFault.{LinkFault}
 use Rattle.smx_links.specs.declared.fault.LinkFault.TheVariants as fault
@@ -28,6 +28,10 @@ pub record IsLinkList (t : LinkList) : Type 0 where
 -- the driver is the upper one of a link
 abbrev pub is_upper : List Link → ℕ → Bool
 is_upper links driver = list_any (λ l. l.ctl.driver == driver) links
+
+-- those links that are ordinary
+abbrev pub ordinary_of : List Link → List Link
+ordinary_of links = filter (λ l. not (is_persistent l)) links
 
 -- why a link may not be made, the first refusal that applies
 abbrev pub refusal : LinkList → StreamId → StreamId → Option LinkFault

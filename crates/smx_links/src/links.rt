@@ -1,7 +1,7 @@
 //! Links by rising id, and the id of the link that a stream is below.
 
 ghost use Rattle.std.specs.Prelude.{◌≡◌, ◌<◌, ◌≤◌, ◌*◌, ◌==◌, ◌++◌, [], ◌∷◌, false, find, filter, length, not, nat_lt, is_some, if◌then◌else◌};
-ghost use Rattle.std.specs.Prelude.{IfNone, OnOk, OnErr, option_copied};
+ghost use Rattle.std.specs.Prelude.{IfNone, OnOk, OnErr, option_copied, vec_capacity};
 ghost use Rattle.std.specs.List.{All};
 ghost use Rattle.smx_types.specs.declared.limits.TheConstants.{MAX_DRIVERS};
 ghost use Rattle.smx_model.specs.Configuration.{same_stream};
@@ -9,7 +9,7 @@ ghost use Rattle.smx_model.specs.Ordered.{IsRising};
 ghost use Rattle.smx_model.specs.SoundLinks.{AreLinksSound};
 ghost use Rattle.smx_model.specs.Standing.{is_below};
 ghost use Rattle.smx_links.specs.Ids.{key_of, id_at, HasIds, IsPlace};
-ghost use Rattle.smx_links.specs.LinkLists.{is_one_of};
+ghost use Rattle.smx_links.specs.LinkLists.{is_one_of, ordinary_of};
 ghost use Rattle.smx_links.specs.Masks.{with_bit, IsWithin, LeadAlikeBut};
 ghost use Rattle.smx_links.specs.Pairs.{entry_of, with_one_less, AreCounts};
 
@@ -17,7 +17,7 @@ use crate::masks::{Word, with_bit};
 use crate::pairs::{Count, uncount};
 use indexmap::IndexMap;
 use smx_model::laws_of_links::{fewer_links_stay_sound, one_link_more_joins, paths_join};
-use smx_types::{Link, NoMemory, StreamId};
+use smx_types::{Link, LinkKind, NoMemory, StreamId};
 
 /// A stream that is below, as a key.
 #[derive(Clone, Copy, Debug, PartialEq, Eq, Hash)]
@@ -65,47 +65,86 @@ pub fn get(links: &[Link], id: u32) -> Option<&Link>
     Some(&links[i])
 }
 
-// Where the link with the id is. As long as no link has gone from between, it is as far behind the first as its id
-// is. So that place is looked at before there is a search.
+// Where the link with the id is. As long as no link has gone from between, it is as far behind the first as its id is,
+// or as far before the last. So those places are looked at before there is a search.
 fn place(links: &[Link], id: u32) -> Option<usize>
     requires { IsRising (λ l k. nat_lt l.id k.id) links.now }
     ensures { IsPlace links.now id result }
 {
     let first = links.first()?;
-    let far = id.saturating_sub(first.id) as usize;
-    let guess = far.min(links.len() - 1);
-    if links[guess].id == id {
-        return Some(guess);
+    let last = links.len() - 1;
+    let behind = (id.saturating_sub(first.id) as usize).min(last);
+    if links[behind].id == id {
+        return Some(behind);
+    }
+    let before = last - (links[last].id.saturating_sub(id) as usize).min(last);
+    if links[before].id == id {
+        return Some(before);
     }
     links.binary_search_by_key(&id, |link| link.id).ok()
 }
 
+// The link comes behind other ordinary ones, for which there is room, if it is ordinary.
+fn put_ordinary(ordinary: &mut Vec<Link>, link: Link)
+    requires { length ordinary.old.items < vec_capacity ordinary.old }
+    ensures { ordinary.new.items ≡ ordinary.old.items ++ ordinary_of (link ∷ []) }
+{
+    match link.kind {
+        LinkKind::Ordinary => ordinary.push_reserved(link),
+        LinkKind::Persistent => {}
+    }
+}
+
 // One link more, behind all others, whose lower stream is below none. There is room before anything changes.
-pub fn put(links: &mut Vec<Link>, ids: &mut Ids, link: Link) -> Result<(), NoMemory>
+pub fn put(
+    links: &mut Vec<Link>,
+    ordinary: &mut Vec<Link>,
+    ids: &mut Ids,
+    link: Link,
+) -> Result<(), NoMemory>
+    requires ordinary { ordinary.old.items ≡ ordinary_of links.old.items }
     requires ids { HasIds ids.old.entries links.old.items }
     requires free { is_below links.old.items link.lower ≡ false }
     ensures ok { OnOk result (links.new.items ≡ links.old.items ++ link ∷ []) }
     ensures err { OnErr result (links.new.items ≡ links.old.items) }
+    ensures ordinary { ordinary.new.items ≡ ordinary_of links.new.items }
     ensures ids { HasIds ids.new.entries links.new.items }
 {
     links.reserve(1)?;
+    ordinary.reserve(1)?;
     ids.insert(key_of(link.lower), link.id)?;
     links.push_reserved(link);
+    put_ordinary(ordinary, link);
     Ok(())
 }
 
-// Takes out the link with the id.
-pub fn take(links: &mut Vec<Link>, ids: &mut Ids, id: u32) -> Option<Link>
-    requires sound { AreLinksSound links.old.items }
-    requires rise { IsRising (λ l k. nat_lt l.id k.id) links.old.items }
-    requires ids { HasIds ids.old.entries links.old.items }
+// Takes the link with the id out of these.
+fn take_one(links: &mut Vec<Link>, id: u32) -> Option<Link>
+    requires { IsRising (λ l k. nat_lt l.id k.id) links.old.items }
     ensures link { result ≡ find (λ l. l.id == id) links.old.items }
     ensures rest { links.new.items ≡ filter (λ l. not (l.id == id)) links.old.items }
-    ensures ids { HasIds ids.new.entries links.new.items }
     ensures unchanged { IfNone result (links.new.items ≡ links.old.items) }
 {
     let i = place(links, id)?;
     let link = links.remove(i);
+    Some(link)
+}
+
+// Takes out the link with the id.
+pub fn take(links: &mut Vec<Link>, ordinary: &mut Vec<Link>, ids: &mut Ids, id: u32) -> Option<Link>
+    requires sound { AreLinksSound links.old.items }
+    requires rise { IsRising (λ l k. nat_lt l.id k.id) links.old.items }
+    requires ordinary { ordinary.old.items ≡ ordinary_of links.old.items }
+    requires ids { HasIds ids.old.entries links.old.items }
+    ensures link { result ≡ find (λ l. l.id == id) links.old.items }
+    ensures rest { links.new.items ≡ filter (λ l. not (l.id == id)) links.old.items }
+    ensures ordinary { ordinary.new.items ≡ ordinary_of links.new.items }
+    ensures ids { HasIds ids.new.entries links.new.items }
+    ensures unchanged { IfNone result (links.new.items ≡ links.old.items) }
+{
+    fewer_links_stay_sound();
+    let link = take_one(links, id)?;
+    let _ordinary = take_one(ordinary, id);
     let _id = ids.swap_remove(&key_of(link.lower));
     Some(link)
 }
@@ -129,6 +168,7 @@ pub fn lose(pairs: &mut [Count], drivers: usize, link: Link, lost: Word) -> Word
 // Takes out the links with these ids. The drivers that were left with no link to some driver: a bit for each.
 pub fn take_each(
     links: &mut Vec<Link>,
+    ordinary: &mut Vec<Link>,
     ids: &mut Ids,
     pairs: &mut [Count],
     drivers: usize,
@@ -136,11 +176,13 @@ pub fn take_each(
 ) -> Word
     requires sound { AreLinksSound links.old.items }
     requires rise { IsRising (λ l k. nat_lt l.id k.id) links.old.items }
+    requires ordinary { ordinary.old.items ≡ ordinary_of links.old.items }
     requires ids { HasIds ids.old.entries links.old.items }
     requires few { drivers ≤ MAX_DRIVERS }
     requires within { All (IsWithin drivers) links.old.items }
     requires pairs { AreCounts drivers links.old.items pairs.old }
     ensures rest { links.new.items ≡ filter (λ l. not (is_one_of gone.now l)) links.old.items }
+    ensures ordinary { ordinary.new.items ≡ ordinary_of links.new.items }
     ensures ids { HasIds ids.new.entries links.new.items }
     ensures pairs { AreCounts drivers links.new.items pairs.new }
     ensures same { LeadAlikeBut result links.old.items links.new.items }
@@ -150,7 +192,7 @@ pub fn take_each(
     paths_join();
     let mut lost: Word = 0;
     for id in gone {
-        if let Some(link) = take(links, ids, *id) {
+        if let Some(link) = take(links, ordinary, ids, *id) {
             lost = lose(pairs, drivers, link, lost);
         }
     }

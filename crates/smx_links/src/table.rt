@@ -6,7 +6,7 @@ ghost use Rattle.smx_types.specs.declared.limits.TheConstants.{MAX_DRIVERS, MAX_
 ghost use Rattle.smx_model.specs.Configuration.{same_stream};
 ghost use Rattle.smx_model.specs.Paths.{reaches};
 ghost use Rattle.smx_model.specs.Standing.{is_below};
-ghost use Rattle.smx_links.specs.LinkLists.{IsLinkList, IsLinked, is_upper, refusal};
+ghost use Rattle.smx_links.specs.LinkLists.{IsLinkList, IsLinked, is_upper, ordinary_of, refusal};
 ghost use Rattle.smx_links.specs.LinkLists.{with_link, without_id, without_ids};
 
 use crate::fault::LinkFault;
@@ -28,6 +28,8 @@ pub struct LinkTable {
     masks: Vec<Word>,
     // By rising id.
     links: Vec<Link>,
+    // Those of them that are ordinary, in the same order.
+    ordinary: Vec<Link>,
     ids: Ids,
     // A row for each upper driver, with an entry for each lower one.
     pairs: Vec<Count>,
@@ -56,6 +58,7 @@ impl LinkTable {
         Ok(LinkTable {
             masks: vec![in alloc; 0; drivers]?,
             links: Vec::new(alloc),
+            ordinary: Vec::new(alloc),
             ids: Ids::new(alloc),
             pairs: vec![in alloc; 0; drivers * drivers]?,
             next_id: 1,
@@ -92,7 +95,7 @@ impl LinkTable {
             lower,
             kind,
         };
-        put(&mut self.links, &mut self.ids, link)?;
+        put(&mut self.links, &mut self.ordinary, &mut self.ids, link)?;
         count(&mut self.pairs, self.masks.len(), link);
         join(&mut self.masks, ctl.driver, lower.driver);
         self.next_id = id + 1;
@@ -137,7 +140,7 @@ impl LinkTable {
         fewer_links_stay_sound();
         one_link_more_joins();
         paths_join();
-        let link = take(&mut self.links, &mut self.ids, id)?;
+        let link = take(&mut self.links, &mut self.ordinary, &mut self.ids, id)?;
         let lost = lose(&mut self.pairs, self.masks.len(), link, 0);
         renew(&mut self.masks, &self.pairs, lost);
         Some(link)
@@ -153,6 +156,7 @@ impl LinkTable {
         let drivers = self.masks.len();
         let lost = take_each(
             &mut self.links,
+            &mut self.ordinary,
             &mut self.ids,
             &mut self.pairs,
             drivers,
@@ -187,6 +191,13 @@ impl LinkTable {
         ensures { result.now ≡ self.now.links }
     {
         self.links.as_slice()
+    }
+
+    /// The ordinary links, by rising id. Takes no memory.
+    pub fn ordinary(&self) -> &[Link]
+        ensures { result.now ≡ ordinary_of self.now.links }
+    {
+        self.ordinary.as_slice()
     }
 
     /// The link at a place, from 0, by rising id.
@@ -246,6 +257,7 @@ impl LinkTable {
         Ok(LinkTable {
             masks: self.masks.clone()?,
             links: self.links.clone()?,
+            ordinary: self.ordinary.clone()?,
             ids: self.ids.clone()?,
             pairs: self.pairs.clone()?,
             next_id: self.next_id,

@@ -50,9 +50,9 @@ one_list (x ∷ xs) (y ∷ ys) h k same = elim (cases_Bool (stream_before x y)) 
     | inr g ↦
         let e : x ≡ y = same_stream_is x y (either_way x.driver x.minor y.driver y.minor f g) in
         let tails : xs ≡ ys = one_list xs ys h.1 k.1 (λ s. without (same_stream x s) (is_hung xs s) (is_hung ys s)
-            (same s ∙ ap (λ (z : StreamId). same_stream z s || is_hung ys s) (sym e))
-            (λ t. ap (is_hung xs) (sym (same_stream_is x s t)) ∙ before_none x xs h.0)
-            (λ t. ap (is_hung ys) (sym (same_stream_is x s t)) ∙ ap (is_hung ys) e ∙ before_none y ys k.0)) in
+        (same s ∙ ap (λ (z : StreamId). same_stream z s || is_hung ys s) (sym e))
+        (λ t. ap (is_hung xs) (sym (same_stream_is x s t)) ∙ before_none x xs h.0)
+        (λ t. ap (is_hung ys) (sym (same_stream_is x s t)) ∙ ap (is_hung ys) e ∙ before_none y ys k.0)) in
         ap (λ (z : StreamId). z ∷ xs) e ∙ ap (λ (zs : List StreamId). y ∷ zs) tails
   ]
 ]

@@ -15,8 +15,8 @@ use smx_model::laws::{histories_are_determined, lawful_after_each_entry};
 use smx_model::laws_of_hangups::without_a_hangup_none_is_told;
 use smx_model::laws_of_messages::few_commands_drop;
 
-/// Over drivers that can be had a transcript has one replay. Transcripts with the same calls have the same one, whatever
-/// their replies and their views.
+/// Over drivers that can be had a transcript has one replay. Transcripts with the same calls have the same one,
+/// whatever their replies and their views.
 pub fn a_transcript_has_one_replay()
     ensures always { (t : Transcript) → IsDriverList t.drivers → (r : Transcript) × IsReplayOf t r }
     ensures one { (t r s : Transcript) → IsReplayOf t r → IsReplayOf t s → r ≡ s }
@@ -28,7 +28,8 @@ pub fn a_transcript_has_one_replay()
 
 /// A transcript that is judged legal is its own replay, and every replay is judged so.
 pub fn replays_are_the_legal_transcripts()
-    ensures own { (t : Transcript) → IsDriverList t.drivers → IsVerdict t.drivers t.entries t.view Legal → IsReplayOf t t }
+    ensures own { (t : Transcript) → IsDriverList t.drivers → IsVerdict t.drivers t.entries t.view Legal
+        → IsReplayOf t t }
     ensures legal { (t r : Transcript) → IsReplayOf t r → IsVerdict r.drivers r.entries r.view Legal }
 {}
 
@@ -49,8 +50,8 @@ pub fn replays_can_be_told()
     without_a_hangup_none_is_told();
 }
 
-/// The worked history whose second entry is illegal is put right from there on. It is no replay of itself, and neither is
-/// what leaves an entry out, or takes two of them in another order.
+/// The worked history whose second entry is illegal is put right from there on. It is no replay of itself, and neither
+/// is what leaves an entry out, or takes two of them in another order.
 pub fn the_second_is_put_right()
     ensures right { IsReplayOf claimed put_right }
     ensures not_itself { IsReplayOf claimed claimed → ⊥ }

@@ -18,9 +18,10 @@ use std::alloc::Global;
 use std::slice;
 
 /// Performs the commands of a transcript, each for its process, in its order and from the empty configuration on. What
-/// replies it had and which configuration it shows plays no part. The text of the transcript that they give, in the same
-/// version, is made in the room of a vector whose bytes are no longer wanted: the line of each entry once its command was
-/// answered, and then the entry is given up. Refused for drivers that a configuration can't have, or for want of memory.
+/// replies it had and which configuration it shows plays no part. The text of the transcript that they give, in the
+/// same version, is made in the room of a vector whose bytes are no longer wanted: the line of each entry once its
+/// command was answered, and then the entry is given up. Refused for drivers that a configuration can't have, or for
+/// want of memory.
 pub fn replay(alloc: Global, transcript: Transcript, room: Vec<u8>) -> Result<Vec<u8>, ConfigFault>
     ensures written { IfOk result (λ text. IsReplayText transcript text.items) }
     ensures refused { IfErr result (RefusesDrivers transcript.drivers) }
@@ -41,7 +42,8 @@ pub fn replay(alloc: Global, transcript: Transcript, room: Vec<u8>) -> Result<Ve
     Ok(writer.finish(&view)?)
 }
 
-// Performs the command of an entry again, and writes the entry with the reply that it gets. Fails only for want of memory.
+// Performs the command of an entry again, and writes the entry with the reply that it gets. Fails only for want of
+// memory.
 fn perform_again(
     config: &mut Config,
     writer: &mut TranscriptWriter,

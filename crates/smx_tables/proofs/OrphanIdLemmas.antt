@@ -1,5 +1,5 @@
 -- The ids of links are collected while the links' lower streams are released.
-use Rattle.std.proofs.Common.{◌≡◌, ℕ, ◌-◌, ◌≤◌, Bool, true, false, ◌&&◌, ◌||◌, not, eqb, List, [], ◌∷◌, ◌++◌, length, length-append, find, Some, if◌then◌else◌, refl, sym, ap, subst, ◌∙◌, arith}
+use Rattle.std.proofs.Common.{◌≡◌, ℕ, ◌-◌, ◌<◌, ◌≤◌, Bool, true, false, ◌&&◌, ◌||◌, not, eqb, List, [], ◌∷◌, ◌++◌, length, length-append, find, Some, if◌then◌else◌, refl, sym, ap, subst, ◌∙◌, arith}
 use Rattle.std.specs.Prelude.{nat_lt, slice_get}
 use Rattle.std.specs.List.{list_any}
 use Rattle.std.proofs.lemmas.Option.{slice_get_within}
@@ -7,24 +7,25 @@ use Rattle.smx_types.specs.declared.link.Link.{Link}
 use Rattle.smx_types.specs.declared.stream.StreamId.{StreamId}
 use Rattle.smx_model.specs.Configuration.{same_stream}
 use Rattle.smx_model.specs.Paths.{AreLowersApart}
+use Rattle.smx_links.specs.LinkLists.{ordinary_of}
 use Rattle.smx_streams.specs.StreamTables.{StreamTable, HasHolds, number_at}
-use Rattle.smx_tables.specs.ExistingStreams.{AreHeld, IsReleasing, is_held, is_loose}
+use Rattle.smx_tables.specs.ExistingStreams.{AreHeld, IsReleasing, holds_below, is_held, is_loose}
 use Rattle.smx_tables.specs.ListedLinks.{is_listed, AreIdsOf}
 use Rattle.smx_tables.specs.TouchedStreams.{AreReleased}
 use Rattle.smx_tables.proofs.AboveLemmas.{any_once, eqb_swap, once_below, stream_self}
 use Rattle.smx_tables.proofs.ExistingLemmas.{holds_few}
 use Rattle.smx_tables.proofs.FoundLinkLemmas.{found_itself}
-use Rattle.smx_tables.proofs.ReleaseLemmas.{less_this, loose_held, this_one}
+use Rattle.smx_tables.proofs.ReleaseLemmas.{loose_held, this_one}
 use Rattle.smx_tables.proofs.ReleasedIdLemmas.{listed_one_more, released_once}
 use Rattle.smx_tables.proofs.RemovalLemmas.{any_kept}
 use Rattle.smx_tables.proofs.TouchLemmas.{few_below, none_free}
 
 -- ---- at first, where each stream below a link is held
 
-pub none_released_yet : (links : List Link) (t : StreamTable) (ids : List ℕ) (room : ℕ) → AreHeld links t → ids ≡ [] → length links ≤ room → AreReleased links t ids room
+pub none_released_yet : (links : List Link) (t : StreamTable) (ids : List ℕ) (room : ℕ) → AreHeld links t → ids ≡ [] → length (ordinary_of links) ≤ room → AreReleased links t ids room
 none_released_yet links t ids room held none enough = record {
   same = λ id. ap (λ (xs : List ℕ). is_listed xs id) none ∙ sym (ap (list_any (λ (l : Link). eqb l.id id)) (none_free links t held));
-  enough = omega (arith, ap length none, few_below links t held links, enough);
+  enough = omega (arith, ap length none, few_below links t held (ordinary_of links), enough);
 }
 
 -- ---- one more
@@ -86,11 +87,11 @@ id_more links t new ids i l apart at h was id =
 
 -- a loose link more, whose lower stream is released
 pub one_released : (links : List Link) (i room : ℕ) (l : Link) (t new : StreamTable) (ids more : List ℕ) → AreLowersApart links → Some l ≡ slice_get links i → is_loose t l ≡ true
-    → IsReleasing links 0 t → HasHolds t l.lower (number_at t.holds l.lower - 1) new → more ≡ ids ++ l.id ∷ [] → AreReleased links t ids room → AreReleased links new more room
-one_released links i room l t new ids more apart at loose releasing h longer was =
+    → IsReleasing links 0 t → HasHolds t l.lower (number_at t.holds l.lower - 1) new → more ≡ ids ++ l.id ∷ []
+    → holds_below (ordinary_of links) new < holds_below (ordinary_of links) t → AreReleased links t ids room → AreReleased links new more room
+one_released links i room l t new ids more apart at loose releasing h longer less was =
     let few : number_at t.holds l.lower ≤ 1 = omega (arith, releasing.once l.lower, holds_few links l.lower) in
     let none = released_once t new l.lower few (loose_held t l loose) h in
-    let less = less_this links i l t new at loose h in
     record {
       same = subst (AreIdsOf (λ k. not (is_held new k)) links) (sym longer) (id_more links t new ids i l apart at none was.same);
       enough = omega (arith, less, ap length longer, length-append ids (l.id ∷ []), was.enough);

@@ -1,5 +1,5 @@
 -- Removing links by their ids removes those that pass the test by which the ids were listed.
-use Rattle.std.proofs.Common.{◌≡◌, ℕ, ◌<◌, Bool, true, false, ◌&&◌, not, eqb, List, [], ◌∷◌, length, map, filter, find, refl, sym, ap, subst, ◌∙◌, arith, inl, inr}
+use Rattle.std.proofs.Common.{◌≡◌, ℕ, ◌<◌, ◌≤◌, Bool, true, false, ◌&&◌, not, eqb, List, [], ◌∷◌, length, map, filter, find, refl, sym, ap, subst, ◌∙◌, arith, inl, inr}
 use Rattle.std.specs.Prelude.{nat_lt}
 use Rattle.std.specs.List.{list_any, AllByRecursion}
 use Rattle.std.specs.Option.{option_map_or}
@@ -146,6 +146,31 @@ all_stay goes (l ∷ ls) h = elim (cases_Bool (goes l)) [ inl t ↦ let k = rw t
 none_passes : {X : Type 0} (t : X → Bool) (xs : List X) → ((x : X) → t x ≡ false) → filter (λ x. not (t x)) xs ≡ xs
 none_passes {X = X} t [] h = refl
 none_passes {X = X} t (x ∷ xs) h = rw (h x) (ap (λ (zs : List X). x ∷ zs) (none_passes t xs h))
+
+-- some less are no more of those that pass a test
+pub few_kept : {X : Type 0} (t u : X → Bool) (xs : List X) → length (filter t (filter u xs)) ≤ length (filter t xs)
+few_kept {X = X} t u [] = omega arith
+few_kept {X = X} t u (x ∷ xs) = elim (cases_Bool (u x)) [
+  | inl k ↦ elim (cases_Bool (t x)) [
+    | inl y ↦ rw k (rw y (omega (arith, few_kept t u xs)))
+    | inr n ↦ rw k (rw n (few_kept t u xs))
+  ]
+  | inr g ↦ elim (cases_Bool (t x)) [
+    | inl y ↦ rw g (rw y (omega (arith, few_kept t u xs)))
+    | inr n ↦ rw g (rw n (few_kept t u xs))
+  ]
+]
+
+-- those that pass a test are among those that pass a wider one
+pub kept_among : {X : Type 0} (t u : X → Bool) (xs : List X) → ((x : X) → u x ≡ false → t x ≡ false) → filter t (filter u xs) ≡ filter t xs
+kept_among {X = X} t u [] h = refl
+kept_among {X = X} t u (x ∷ xs) h = elim (cases_Bool (u x)) [
+  | inl k ↦ elim (cases_Bool (t x)) [
+    | inl y ↦ rw k (rw y (ap (λ (zs : List X). x ∷ zs) (kept_among t u xs h)))
+    | inr n ↦ rw k (rw n (kept_among t u xs h))
+  ]
+  | inr g ↦ rw (g, h x g) (kept_among t u xs h)
+]
 
 -- no ids list no link
 pub none_listed : (ids : List ℕ) (ls : List Link) → ids ≡ [] → ls ≡ filter (λ l. not (is_one_of ids l)) ls

@@ -1,5 +1,5 @@
 -- Going over the links of a table, from the first on.
-use Rattle.std.proofs.Common.{◌≡◌, ℕ, ◌+◌, ◌<◌, Bool, true, false, List, [], ◌∷◌, ◌++◌, length, map, filter, take, get_or, Some, None, refl, sym, ap, ◌∙◌, arith, inl, inr}
+use Rattle.std.proofs.Common.{◌≡◌, ℕ, zero, suc, ◌+◌, ◌<◌, Bool, true, false, List, [], ◌∷◌, ◌++◌, length, map, filter, take, get_or, Some, None, refl, sym, ap, ◌∙◌, arith, inl, inr}
 use Rattle.std.specs.Prelude.{slice_get}
 use Rattle.std.proofs.lemmas.Bool.{cases_Bool}
 use Rattle.std.proofs.lemmas.List.{map-append, take_more}
@@ -13,6 +13,20 @@ none_past (x ∷ xs) i e lt = let k = e ∙ slice_get-get_or (x ∷ xs) i x lt i
 -- and one that was got out of the same items elsewhere
 pub one_got : {X : Type 0} (xs ys : List X) (i : ℕ) (x : X) → ys ≡ xs → i < length ys → x ≡ get_or ys i x → Some x ≡ slice_get xs i
 one_got {X = X} xs ys i x same lt is = ap Some is ∙ sym (slice_get-get_or ys i x lt) ∙ ap (λ (zs : List X). slice_get zs i) same
+
+-- one of those that pass a test is one of all
+pub among_all : {X : Type 0} (t : X → Bool) (xs : List X) (i : ℕ) (x : X) → Some x ≡ slice_get (filter t xs) i → (j : ℕ) × (Some x ≡ slice_get xs j)
+among_all t [] i x e = (i, e)
+among_all {X = X} t (y ∷ ys) i x e = elim (cases_Bool (t y)) [
+  | inl a ↦ first (λ k f. among_all t ys k x f) i (rw a at e)
+  | inr b ↦ later (among_all t ys i x (rw b at e))
+] where
+  later : (j : ℕ) × (Some x ≡ slice_get ys j) → (j : ℕ) × (Some x ≡ slice_get (y ∷ ys) j)
+  later r = (suc r.0, r.1)
+
+  first : ((k : ℕ) → Some x ≡ slice_get (filter t ys) k → (j : ℕ) × (Some x ≡ slice_get ys j)) → (k : ℕ) → Some x ≡ slice_get (y ∷ filter t ys) k → (j : ℕ) × (Some x ≡ slice_get (y ∷ ys) j)
+  first earlier zero f = (0, f)
+  first earlier (suc k) f = later (earlier k f)
 
 -- one more
 pub take_one_more : {X : Type 0} (xs : List X) (i : ℕ) (x : X) → Some x ≡ slice_get xs i → take (i + 1) xs ≡ take i xs ++ x ∷ []

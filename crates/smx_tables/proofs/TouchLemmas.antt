@@ -14,6 +14,7 @@ use Rattle.smx_model.specs.Hangups.{is_hung}
 use Rattle.smx_model.specs.Removal.{without_links, without_queues_at}
 use Rattle.smx_model.specs.Standing.{exists, is_persistent}
 use Rattle.smx_model.specs.Swept.{IsSwept}
+use Rattle.smx_links.specs.LinkLists.{ordinary_of}
 use Rattle.smx_streams.specs.StreamTables.{StreamTable, HasHolds, exists as is_there}
 use Rattle.smx_tables.specs.ExistingStreams.{AreHeld, TellsExisting, holds_below, is_held, is_loose}
 use Rattle.smx_tables.specs.TouchedStreams.{IsCascade, IsTouched, is_there_or_touched, is_watched}
@@ -144,11 +145,11 @@ pub few_below : (links : List Link) (t : StreamTable) → AreHeld links t → (l
 few_below links t held [] = omega arith
 few_below links t held (l ∷ ls) = let one = holds_few links l.lower in let here = held l.lower in let rest = few_below links t held ls in omega (arith, one, here, rest)
 
-pub cascade_at_first : (links : List Link) (t : StreamTable) (ss : List StreamId) (room : ℕ) → AreHeld links t → list_all (λ l. is_persistent l || is_there_or_touched t ss l.ctl) links ≡ true → length ss + length links ≤ room → IsCascade links t ss room
+pub cascade_at_first : (links : List Link) (t : StreamTable) (ss : List StreamId) (room : ℕ) → AreHeld links t → list_all (λ l. is_persistent l || is_there_or_touched t ss l.ctl) links ≡ true → length ss + length (ordinary_of links) ≤ room → IsCascade links t ss room
 cascade_at_first links t ss room held h enough = record {
   releasing = λ n. starts links n t held;
   watched = all_weaker (λ l. is_persistent l || is_there_or_touched t ss l.ctl) (is_watched t ss) links watch h;
-  enough = let few = few_below links t held links in omega (arith, few, enough);
+  enough = let few = few_below links t held (ordinary_of links) in omega (arith, few, enough);
 } where
   watch : (l : Link) → (is_persistent l || is_there_or_touched t ss l.ctl) ≡ true → is_watched t ss l ≡ true
   watch l e = elim (cases_Bool (is_loose t l)) [

@@ -10,7 +10,7 @@ use Rattle.smx_types.specs.declared.stream.Descriptor.{Descriptor}
 use Rattle.smx_types.specs.declared.stream.StreamId.{StreamId}
 use Rattle.smx_model.specs.Configuration.{same_stream}
 use Rattle.smx_model.specs.Standing.{is_named, is_persistent}
-use Rattle.smx_links.specs.LinkLists.{is_upper}
+use Rattle.smx_links.specs.LinkLists.{is_upper, ordinary_of}
 use Rattle.smx_streams.specs.StreamTables.{StreamTable, HasHolds, number_at, exists as is_there}
 use Rattle.smx_tables.specs.ExistingStreams.{holds_of, is_held, is_loose}
 use Rattle.smx_tables.specs.TouchedStreams.{is_watched}
@@ -161,6 +161,16 @@ none_by t ss ctl (l ∷ ls) none h =
           absurd (false≢true (sym none ∙ and_from _ _ gone (or_left _ _ upper)))
       not_by true false a b = refl
       not_by false loose a b = refl
+
+-- where each ordinary link is watched, each link is
+pub watched_in_all : (t : StreamTable) (ss : List StreamId) (ls : List Link) → list_all (is_watched t ss) (ordinary_of ls) ≡ true → list_all (is_watched t ss) ls ≡ true
+watched_in_all t ss [] h = refl
+watched_in_all t ss (l ∷ ls) h = elim (cases_Bool (is_persistent l)) [
+  | inl p ↦ and_from _ _ (by_kind p) (watched_in_all t ss ls (rw p at h))
+  | inr o ↦ let b = and_parts (is_watched t ss l) (list_all (is_watched t ss) (ordinary_of ls)) (rw o at h) in and_from _ _ b.0 (watched_in_all t ss ls b.1)
+] where
+  by_kind : is_persistent l ≡ true → is_watched t ss l ≡ true
+  by_kind p = rw p refl
 
 -- none is loose once no stream may have gone
 pub none_loose : (t : StreamTable) (ls : List Link) → list_all (is_watched t []) ls ≡ true → list_any (is_loose t) ls ≡ false

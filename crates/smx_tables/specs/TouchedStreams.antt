@@ -6,6 +6,7 @@ use Rattle.smx_types.specs.declared.stream.StreamId.{StreamId}
 use Rattle.smx_model.specs.Configuration.{Configuration, same_stream}
 use Rattle.smx_model.specs.Removal.{without_queues_at}
 use Rattle.smx_model.specs.Standing.{is_persistent}
+use Rattle.smx_links.specs.LinkLists.{ordinary_of}
 use Rattle.smx_streams.specs.StreamTables.{StreamTable, exists as is_there}
 use Rattle.smx_tables.specs.ExistingStreams.{is_held, is_loose, holds_below, IsReleasing}
 use Rattle.smx_tables.specs.ListedLinks.{AreIdsOf}
@@ -41,10 +42,10 @@ pub record IsCascade (links : List Link) (t : StreamTable) (touched : List Strea
   pub releasing : (climbs : ℕ) → IsReleasing links climbs t
   -- a loose link is so by one of these streams
   pub watched : list_all (is_watched t touched) links ≡ true
-  -- there is room for them, and for those that are still held
-  pub enough : length touched + holds_below links t ≤ room
+  -- there is room for them, and for those below ordinary links that are still held
+  pub enough : length touched + holds_below (ordinary_of links) t ≤ room
 
--- the ids of the links whose lower streams are held no more, with room for those of the others
+-- the ids of the links whose lower streams are held no more, with room for those of the other ordinary ones
 pub record AreReleased (links : List Link) (t : StreamTable) (ids : List ℕ) (room : ℕ) : Type 0 where
   pub same : AreIdsOf (λ l. not (is_held t l)) links ids
-  pub enough : length ids + holds_below links t ≤ room
+  pub enough : length ids + holds_below (ordinary_of links) t ≤ room

@@ -5,7 +5,7 @@ ghost use Rattle.std.specs.List.{list_any};
 ghost use Rattle.smx_types.specs.declared.stream.StreamId.{StreamId};
 ghost use Rattle.smx_model.specs.Configuration.{same_stream};
 ghost use Rattle.smx_streams.specs.StreamTables.{LeavesHungs, exists as is_there};
-ghost use Rattle.smx_links.specs.LinkLists.{is_upper};
+ghost use Rattle.smx_links.specs.LinkLists.{is_upper, ordinary_of};
 ghost use Rattle.smx_tables.specs.ExistingStreams.{is_held, is_loose, holds_below, IsReleasing};
 ghost use Rattle.smx_tables.specs.TouchedStreams.{is_there_or_touched, AreReleased, IsCascade};
 
@@ -57,8 +57,8 @@ fn release_below(
     ensures hungs { LeavesHungs streams.old streams.new }
     ensures there { (s : StreamId) → is_there streams.new s ≡ true → is_there streams.old s ≡ true }
     ensures cascade { IsCascade links.now.links streams.new touched.new.items (vec_capacity touched.new) }
-    ensures less { length touched.new.items + holds_below links.now.links streams.new
-        ≤ length touched.old.items + holds_below links.now.links streams.old }
+    ensures less { length touched.new.items + holds_below (ordinary_of links.now.links) streams.new
+        ≤ length touched.old.items + holds_below (ordinary_of links.now.links) streams.old }
     ensures touched { (s : StreamId) → is_there_or_touched streams.old touched.old.items s ≡ true
         → is_there_or_touched streams.new touched.new.items s ≡ true }
     ensures gone { AreReleased links.now.links streams.new gone.new.items (vec_capacity gone.new) }
@@ -68,7 +68,7 @@ fn release_below(
     if !may_have_loose(streams, links, ctl) {
         return;
     }
-    let listed = links.links();
+    let listed = links.ordinary();
     for i in 0..listed.len() {
         if let Some(link) = listed.get(i) {
             if is_loose_by(streams, ctl, link) {
@@ -89,7 +89,7 @@ pub fn release_orphans(
     gone: &mut Vec<u32>,
 )
     requires cascade { IsCascade links.now.links streams.old touched.items (vec_capacity touched) }
-    requires room { length seen.old.items + (length touched.items + holds_below links.now.links streams.old)
+    requires room { length seen.old.items + (length touched.items + holds_below (ordinary_of links.now.links) streams.old)
         ≤ vec_capacity seen.old }
     requires gone { AreReleased links.now.links streams.old gone.old.items (vec_capacity gone.old) }
     ensures fds { streams.new.fds ≡ streams.old.fds }

@@ -5,7 +5,7 @@ ghost use Rattle.smx_types.specs.declared.link.Link.{Link};
 ghost use Rattle.smx_types.specs.declared.stream.StreamId.{StreamId};
 ghost use Rattle.smx_model.specs.Configuration.{QueuedMessage};
 ghost use Rattle.smx_model.specs.Removal.{without_links};
-ghost use Rattle.smx_links.specs.LinkLists.{is_one_of};
+ghost use Rattle.smx_links.specs.LinkLists.{is_one_of, ordinary_of};
 ghost use Rattle.smx_streams.specs.StreamTables.{HasHolds, LeavesHungs, exists as is_there, number_at};
 ghost use Rattle.smx_tables.specs.DroppedMessages.{AreDropped};
 ghost use Rattle.smx_tables.specs.ExistingStreams.{AreHeld};
@@ -118,7 +118,7 @@ pub fn remove_links(
     ensures room { length dropped.new.items + length lists.new.queues.flow ≤ vec_capacity dropped.new }
     ensures kept { KeepsHolds lists.new }
     ensures drivers { sizes_of lists.new ≡ sizes_of lists.old }
-    ensures fewer { length lists.new.links.links ≤ length lists.old.links.links }
+    ensures fewer { length (ordinary_of lists.new.links.links) ≤ length (ordinary_of lists.old.links.links) }
     ensures touched { (s : StreamId) → is_there lists.old.streams s ≡ true
         → is_there_or_touched lists.new.streams touched.new.items s ≡ true }
     ensures few { length touched.new.items ≤ length touched.old.items + length gone.now }

@@ -148,11 +148,10 @@ pub fn link_lines(
     requires lower { All (λ l. l.lower.driver < length drivers.now) links.now.links }
     ensures { IfOk result (λ v. v.items ≡ map (view_of_link drivers.now) links.now.links) }
 {
-    let mut lines = Vec::with_capacity(alloc, links.len())?;
-    for i in 0..links.len() {
-        if let Some(l) = links.at(i) {
-            lines.push(link_line(drivers, l))?;
-        }
+    let listed = links.links();
+    let mut lines = Vec::with_capacity(alloc, listed.len())?;
+    for l in listed {
+        lines.push(link_line(drivers, l))?;
     }
     Ok(lines)
 }

@@ -8,6 +8,7 @@ ghost use Rattle.smx_model.specs.Configuration.{QueuedMessage};
 ghost use Rattle.smx_model.specs.KnownStreams.{IsKnown};
 ghost use Rattle.smx_model.specs.Removal.{serials, serials_that_left, without_dead_streams, without_links, after_sweep};
 ghost use Rattle.smx_streams.specs.StreamTables.{LeavesHungs, exists as is_there};
+ghost use Rattle.smx_links.specs.LinkLists.{ordinary_of};
 ghost use Rattle.smx_tables.specs.DroppedMessages.{AreDropped};
 ghost use Rattle.smx_tables.specs.ExistingStreams.{holds_below, TellsExisting};
 ghost use Rattle.smx_tables.specs.ListedLinks.{is_orphaned};
@@ -64,7 +65,7 @@ fn drop_dead(drivers: &[DriverSpec], lists: &mut Lists, seen: &[StreamId], dropp
 }
 
 // Removes the ordinary links whose controlling stream doesn't exist, which is one of those that were touched. What may
-// have gone is put to those that were seen. The last list but one has room for all ids.
+// have gone is put to those that were seen. The last list but one has room for the ids of all ordinary links.
 fn drop_orphans(
     drivers: &[DriverSpec],
     lists: &mut Lists,
@@ -76,10 +77,10 @@ fn drop_orphans(
     requires kept { KeepsHolds lists.old }
     requires known { All (λ l. IsKnown drivers.now l.ctl) lists.old.links.links }
     requires cascade { IsCascade lists.old.links.links lists.old.streams touched.items (vec_capacity touched) }
-    requires seen { length seen.old.items + (length touched.items + holds_below lists.old.links.links lists.old.streams)
+    requires seen { length seen.old.items + (length touched.items + holds_below (ordinary_of lists.old.links.links) lists.old.streams)
         ≤ vec_capacity seen.old }
     requires empty { room.items ≡ [] }
-    requires room { length lists.old.links.links ≤ vec_capacity room }
+    requires room { length (ordinary_of lists.old.links.links) ≤ vec_capacity room }
     requires dropped { length dropped.old.items + length lists.old.queues.flow ≤ vec_capacity dropped.old }
     ensures value { configuration_of lists.new ≡ record (without_links (configuration_of lists.old)
         (is_orphaned lists.old.streams.fds lists.old.links.links (length drivers.now))) { hungs = lists.new.streams.hungs } }
@@ -111,7 +112,7 @@ fn are_there(streams: &Streams, touched: &[StreamId]) -> bool
 }
 
 /// The streams that a change touches, in a list with room for all that may go with them; a list with room for all of
-/// them again; one with room for the ids of all links; and the serials of dropped messages, with room for those of all.
+/// them again; one with room for the ids of all ordinary links; and the serials of dropped messages, with room for those of all.
 #[derive(Debug, Drop)]
 pub struct SweepReserve {
     pub touched: Vec<StreamId>,
@@ -165,10 +166,11 @@ pub fn reserve_for_sweep(
     ensures none { IfOk result (λ r. AreDropped lists.now.queues.flow lists.now.queues.flow r.dropped.items) }
 {
     lists.links.is_sound();
+    let ordinary = lists.links.ordinary().len();
     Ok(SweepReserve {
-        touched: Vec::with_capacity(alloc, streams + lists.links.len())?,
-        seen: Vec::with_capacity(alloc, streams + lists.links.len())?,
-        orphaned: Vec::with_capacity(alloc, lists.links.len())?,
+        touched: Vec::with_capacity(alloc, streams + ordinary)?,
+        seen: Vec::with_capacity(alloc, streams + ordinary)?,
+        orphaned: Vec::with_capacity(alloc, ordinary)?,
         dropped: Vec::with_capacity(alloc, lists.queues.len())?,
     })
 }

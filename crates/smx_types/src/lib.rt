@@ -4,6 +4,7 @@
 mod command;
 mod driver;
 mod items;
+pub mod laws;
 mod limits;
 mod link;
 mod memory;

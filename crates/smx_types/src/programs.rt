@@ -188,7 +188,9 @@ fn least_of(drivers: &[DriverSpec], programs: &[Commands]) -> Version
 fn hang_up(programs: &[Commands]) -> bool
     ensures { result ≡ list_any (list_any is_hangup) programs.now }
 {
-    programs.iter().any(|commands| has_hangup(commands.as_slice()))
+    programs
+        .iter()
+        .any(|commands| has_hangup(commands.as_slice()))
 }
 
 // Whether one of the commands is a hangup.

@@ -353,10 +353,7 @@ const CLAIMS: [(&str, &str); 6] = [
     ("hung eth 1", "hung eth 2"),
 ];
 
-fn differs(
-    rt: &(impl AllocGlobal + Abort),
-    (stands, claim): (&str, &str),
-) -> Result<(), Fail> {
+fn differs(rt: &(impl AllocGlobal + Abort), (stands, claim): (&str, &str)) -> Result<(), Fail> {
     let view = claimed(rt.alloc(), AFTER_BOTH, stands, claim)?;
     are_judged_in_version_2(rt, BOTH, view.as_str(), Verdict::ConfigDiffers)
 }
@@ -384,7 +381,12 @@ const ILLEGAL: [&str; 8] = [
 
 fn is_illegal(rt: &(impl AllocGlobal + Abort), last: &str) -> Result<(), Fail> {
     let entries = format!(in rt.alloc(); "{BOTH}{last}")?;
-    are_judged_in_version_2(rt, entries.as_str(), AFTER_BOTH, Verdict::Illegal { entry: 5 })
+    are_judged_in_version_2(
+        rt,
+        entries.as_str(),
+        AFTER_BOTH,
+        Verdict::Illegal { entry: 5 },
+    )
 }
 
 #[test]

@@ -20,7 +20,12 @@ fn add(rt: &impl Abort, table: &mut LinkTable, k: u32, upper: u8, lower: (u8, u8
     ensures { table.new.drivers ≡ 128 }
 {
     assert!(rt; k < 1_024);
-    do_acts(rt, table, 128, &[Act::Plink((upper, 255), lower, Ok(k + 1))]);
+    do_acts(
+        rt,
+        table,
+        128,
+        &[Act::Plink((upper, 255), lower, Ok(k + 1))],
+    );
 }
 
 // No link more, but Already and Cycle are told first; and where one has gone there is one more.

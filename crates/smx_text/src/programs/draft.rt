@@ -79,7 +79,7 @@ impl Draft for ProgramsDraft {
     }
 
     fn add(&mut self, alloc: Global, text: &[u8]) -> Result<(), Cause> {
-        match self.read_command(alloc, text) {
+        match command_of(alloc, self.version, text) {
             Ok(Some(command)) => self.add_command(command),
             Ok(None) => self.add_other(alloc, text),
             Err(NoMemory) => Err(self.command_unread()),
@@ -107,14 +107,6 @@ fn in_version(version: Version, programs: Programs) -> Programs
 }
 
 impl ProgramsDraft {
-    // The command that a line spells, if this version can tell it.
-    fn read_command(&self, alloc: Global, text: &[u8]) -> Result<Option<Command>, NoMemory>
-        ensures reading { IfOk result (IsReadAs (FitsCommandIn self.now.version) command_words text.now) }
-        ensures wanted { IfErr result (λ _. IsLineOf (FitsCommandIn self.now.version) command_words text.now) }
-    {
-        command_of(alloc, self.version, text)
-    }
-
     // A line that is no command.
     fn add_other(&mut self, alloc: Global, text: &[u8]) -> Result<(), Cause>
         requires begun { IsBegun (programs_grammar self.old.version) (body self.old) }

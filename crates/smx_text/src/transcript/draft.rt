@@ -87,7 +87,7 @@ impl Draft for TranscriptDraft {
     }
 
     fn add(&mut self, alloc: Global, text: &[u8]) -> Result<(), Cause> {
-        match self.read_entry(alloc, text) {
+        match entry_of(alloc, self.transcript.version, text) {
             Ok(Some(entry)) => self.add_entry(entry),
             Ok(None) => self.add_other(alloc, text),
             Err(NoMemory) => Err(self.entry_unread()),
@@ -131,16 +131,6 @@ fn new_view(alloc: Global, next_id: u32, next_serial: u32) -> ConfigView
 }
 
 impl TranscriptDraft {
-    // The entry that a line spells, if this version can tell it.
-    fn read_entry(&self, alloc: Global, text: &[u8]) -> Result<Option<Entry>, NoMemory>
-        ensures reading { IfOk result
-            (IsReadAs (FitsEntryIn self.now.transcript.version) entry_words text.now) }
-        ensures wanted { IfErr result
-            (λ _. IsLineOf (FitsEntryIn self.now.transcript.version) entry_words text.now) }
-    {
-        entry_of(alloc, self.transcript.version, text)
-    }
-
     // The hung-up stream that a line spells, if this version can tell it.
     fn read_hung(&self, text: &[u8]) -> Option<HungLine>
         ensures { IsReadAs (FitsHungIn self.now.transcript.version) hung_words text.now result }

@@ -1,13 +1,15 @@
 //! The words of a command.
 
-ghost use Rattle.std.specs.Prelude.{◌≡◌, ◌∷◌, [], codes, IfOk, IfErr, MatchOption};
-ghost use Rattle.smx_types.specs.Versions.{is_hangup};
+ghost use Rattle.std.specs.Prelude.{◌≡◌, ◌≢◌, ◌∷◌, ◌++◌, [], ℕ, List, codes, IsTrue, ◌↔◌, IfOk, IfErr};
+ghost use Rattle.smx_types.specs.declared.version.Version.{Version as AnyVersion};
 ghost use Rattle.smx_types.specs.declared.version.Version.TheVariants.{V1};
 ghost use Rattle.smx_words.specs.LineReading.{IsReadAs, IsLineOf};
-ghost use Rattle.smx_words.specs.Spellable.{CanTell, FitsCommand, FitsCommandIn};
+ghost use Rattle.smx_words.specs.Spellable.{FitsAlways, FitsCommand, FitsCommandIn};
 ghost use Rattle.smx_words.specs.Spelling.{command_words};
 ghost use Rattle.smx_words.specs.Verbs.{verb_word};
-ghost use Rattle.smx_words.specs.Words.{line_of};
+ghost use Rattle.smx_words.specs.Words.{SPACE, line_of};
+ghost use Rattle.smx_words.specs.declared.reading.verb.Verb.{Verb as AnyVerb};
+ghost use Rattle.smx_words.specs.declared.reading.verb.Verb.TheVariants.{Hangup as HangupVerb};
 
 use crate::reading::hex_word::bytes_of;
 use crate::reading::number::{first_number, number};
@@ -22,34 +24,34 @@ pub fn command_of(alloc: Global, version: Version, line: &[u8]) -> Result<Option
     ensures reading { IfOk result (IsReadAs (FitsCommandIn version) command_words line.now) }
     ensures wanted { IfErr result (λ _. IsLineOf (FitsCommandIn version) command_words line.now) }
 {
-    match any_command_of(alloc, line) {
-        Ok(Some(command)) => Ok(told(version, command)),
-        Ok(None) => Ok(None),
-        Err(error) => Err(error),
+    let Some((verb, rest)) = first_verb(line) else {
+        return Ok(lone_command(line));
+    };
+    if lacks(version, verb) {
+        return Ok(None);
+    }
+    command_after(alloc, verb, rest)
+}
+
+// Whether a version has no command of a verb.
+fn lacks(version: Version, verb: Verb) -> bool
+    ensures { IsTrue result ↔ ((version ≡ V1) × (verb ≡ HangupVerb)) }
+{
+    match (version, verb) {
+        (Version::V1, Verb::Hangup) => true,
+        (Version::V1 | Version::V2, _) => false,
     }
 }
 
-// The command, if the version can tell it.
-fn told(version: Version, command: Command) -> Option<Command>
-    ensures { MatchOption result (CanTell version (is_hangup command) → ⊥)
-        (λ c. (c ≡ command) × CanTell version (is_hangup command)) }
+// The command of a line that begins with no verb: one has one word alone.
+fn lone_command(line: &[u8]) -> Option<Command>
+    requires { (v : AnyVerb) (after : List ℕ) → FitsAlways v → line.now ≢ verb_word v ++ SPACE ∷ after }
+    ensures { (v : AnyVersion) → IsReadAs (FitsCommandIn v) command_words line.now result }
 {
-    match version {
-        Version::V1 if command.is_hangup() => None,
-        Version::V1 | Version::V2 => Some(command),
+    if line == b"exit".as_slice() {
+        return Some(Command::CloseAll);
     }
-}
-
-// The command whose words a line is, if it is one's. A command for which memory may be wanting is no hangup.
-fn any_command_of(alloc: Global, line: &[u8]) -> Result<Option<Command>, NoMemory>
-    ensures reading { IfOk result (IsReadAs FitsCommand command_words line.now) }
-    ensures wanted { IfErr result (λ _. IsLineOf (FitsCommandIn V1) command_words line.now) }
-{
-    match first_verb(line) {
-        Some((verb, rest)) => command_after(alloc, verb, rest),
-        None if line == b"exit".as_slice() => Ok(Some(Command::CloseAll)),
-        None => Ok(None),
-    }
+    None
 }
 
 // The command of a verb and what stands behind it.

@@ -23,10 +23,12 @@ pub fn reply_of(alloc: Global, version: Version, line: &[u8]) -> Result<Option<R
     ensures reading { IfOk result (IsReadAs (FitsReplyIn version) reply_words line.now) }
     ensures wanted { IfErr result (λ _. IsLineOf (FitsReplyIn version) reply_words line.now) }
 {
-    match any_reply_of(alloc, line) {
-        Ok(Some(reply)) => Ok(told(version, reply)),
-        Ok(None) => Ok(None),
-        Err(error) => Err(error),
+    match first_reply_verb(line) {
+        Some((verb, rest)) => reply_after(alloc, verb, rest),
+        None => match lone_reply(alloc, line) {
+            Some(reply) => Ok(told(version, reply)),
+            None => Ok(None),
+        },
     }
 }
 
@@ -38,17 +40,6 @@ fn told(version: Version, reply: Reply) -> Option<Reply>
     match version {
         Version::V1 if reply.tells_of_hangup() => None,
         Version::V1 | Version::V2 => Some(reply),
-    }
-}
-
-// The reply whose words a line is, if it is one's. A reply for which memory may be wanting tells of no hangup.
-fn any_reply_of(alloc: Global, line: &[u8]) -> Result<Option<Reply>, NoMemory>
-    ensures reading { IfOk result (IsReadAs FitsReply reply_words line.now) }
-    ensures wanted { IfErr result (λ _. IsLineOf (FitsReplyIn V1) reply_words line.now) }
-{
-    match first_reply_verb(line) {
-        Some((verb, rest)) => reply_after(alloc, verb, rest),
-        None => Ok(lone_reply(alloc, line)),
     }
 }
 

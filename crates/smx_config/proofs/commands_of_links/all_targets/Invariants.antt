@@ -3,4 +3,4 @@ use Rattle.smx_config.specs.UnlinkTargets.{may_unlink}
 use Rattle.smx_config.proofs.commands_of_links.all_targets.Given as goal
 
 abbrev pub invariant-loop-i : goal.invariant-loop-i
-invariant-loop-i l = l.ids.items ≡ map (λ k. k.id) (filter (may_unlink l.kind l.stream) (take l.i l.links.links))
+invariant-loop-i l = l.ids.items ≡ map (λ k. k.id) (filter (may_unlink l.kind l.stream) (take l.i l.listed))

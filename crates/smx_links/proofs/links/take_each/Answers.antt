@@ -17,6 +17,7 @@ use Rattle.smx_links.proofs.links.take_each.Goals.{in-Some, in_default}
 pub loop-id-init : goal.loop-id-init
 loop-id-init c = record {
   rest = sym (none_of_none c.args.links.now.items);
+  ordinary = c.requires.ordinary;
   ids = c.requires.ids;
   pairs = c.requires.pairs;
   same = none_lost c.args.links.now.items;
@@ -62,6 +63,7 @@ loop-id-preserved c =
           rw w.lose-lost.ensures.rest (counts_less c.args.drivers earlier c.take.new.links.items c.loop-id.pairs
           w.in-Some.link _ rise found c.take.ensures.rest c.loop-id.invariant.pairs own) in record {
             rest = rest;
+            ordinary = c.take.ensures.ordinary;
             ids = c.take.ensures.ids;
             pairs = rw w.pairs-is counts;
             same = rw (w.lost-is, w.lose-lost.ensures.lost) (lost_more c.one_link_more_joins.ensures c.paths_join.ensures
@@ -71,6 +73,7 @@ loop-id-preserved c =
       | in_default w ↦
           let all = c.take.ensures.rest ∙ none_goes earlier _ (sym c.take.ensures.link ∙ w.in_default.is) in record {
             rest = rest;
+            ordinary = c.take.ensures.ordinary;
             ids = c.take.ensures.ids;
             pairs = rw (w.pairs-is, all) c.loop-id.invariant.pairs;
             same = rw (w.lost-is, all) c.loop-id.invariant.same;
