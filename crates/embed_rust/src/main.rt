@@ -13,7 +13,14 @@ use std::thread::{Threads, join};
 
 // A driver of three minors, with queues of 8 bytes.
 fn driver(name: &str, kind: DriverKind) -> Option<DriverSpec> {
-    Some(DriverSpec { name: Name::new(name)?, kind, minors: 3, high: 8, low: 3, max: 16 })
+    Some(DriverSpec {
+        name: Name::new(name)?,
+        kind,
+        minors: 3,
+        high: 8,
+        low: 3,
+        max: 16,
+    })
 }
 
 // What each process does: it links a stream of the device below one of the multiplexer, and the link stays.
@@ -21,13 +28,44 @@ fn link_for_good<R: Wait>(rt: &R, shared: &Shared, mut seat: Seat, alloc: Global
     requires { seat.shared ≡ shared.now.name }
     ensures { IfSome result (λ s. s.shared ≡ shared.now.name) }
 {
-    let open_ip = Command::OpenClone { driver: Name::new("ip")? };
-    let open_eth = Command::OpenClone { driver: Name::new("eth")? };
+    let open_ip = Command::OpenClone {
+        driver: Name::new("ip")?,
+    };
+    let open_eth = Command::OpenClone {
+        driver: Name::new("eth")?,
+    };
     shared.call(rt, alloc, &mut seat, &open_ip).ok()?;
     shared.call(rt, alloc, &mut seat, &open_eth).ok()?;
-    shared.call(rt, alloc, &mut seat, &Command::Plink { fd: 0, arg: 1 }).ok()?;
+    shared
+        .call(rt, alloc, &mut seat, &Command::Plink { fd: 0, arg: 1 })
+        .ok()?;
     shared.call(rt, alloc, &mut seat, &Command::CloseAll).ok()?;
     Some(seat)
+}
+
+// Two processes do so, each on a thread.
+fn on_two_threads<R: Threads + Wait + Sync>(
+    rt: &R,
+    shared: &Shared,
+    one: Seat,
+    two: Seat,
+    alloc: Global,
+) -> Option<Seat>
+    requires { (one.shared ≡ shared.now.name) × (two.shared ≡ shared.now.name) }
+    ensures { IfSome result (λ s. s.shared ≡ shared.now.name) }
+{
+    let (first, second) = join(
+        rt,
+        || -> Option<Seat>
+            requires { one.shared ≡ shared.now.name }
+        { link_for_good(rt, shared, one, alloc) },
+        || -> Option<Seat>
+            requires { two.shared ≡ shared.now.name }
+            ensures { IfSome result (λ s. s.shared ≡ shared.entry.now.name) }
+        { link_for_good(rt, shared, two, alloc) },
+    );
+    first?;
+    second
 }
 
 // Three processes do so, each on a thread, in whatever order they come to their turns.
@@ -41,16 +79,29 @@ fn on_three_threads<R: Threads + Wait + Sync>(
     ensures { IfSome result (λ s. s.shared ≡ shared.now.name) }
 {
     let (three, two, one) = (seats.pop()?, seats.pop()?, seats.pop()?);
-    let one_ends = || link_for_good(rt, shared, one, alloc);
-    let two_ends = || link_for_good(rt, shared, two, alloc);
-    let three_ends = || link_for_good(rt, shared, three, alloc);
-    let (_, (_, last)) = join(rt, one_ends, || join(rt, two_ends, three_ends));
-    last
+    let (first, others) = join(
+        rt,
+        || -> Option<Seat>
+            requires { one.shared ≡ shared.now.name }
+        { link_for_good(rt, shared, one, alloc) },
+        || -> Option<Seat>
+            requires { (two.shared ≡ shared.now.name) × (three.shared ≡ shared.now.name) }
+            ensures { IfSome result (λ s. s.shared ≡ shared.entry.now.name) }
+        { on_two_threads(rt, shared, two, three, alloc) },
+    );
+    first?;
+    others
 }
 
 // The history of all three, as one line that says what came of it.
-fn history_of_three<R: Threads + Wait + Sync + Print>(rt: &R, alloc: Global) -> Option<io::Result<()>> {
-    let drivers = [driver("ip", DriverKind::Mux)?, driver("eth", DriverKind::Leaf)?];
+fn history_of_three<R: Threads + Wait + Sync + Print>(
+    rt: &R,
+    alloc: Global,
+) -> Option<io::Result<()>> {
+    let drivers = [
+        driver("ip", DriverKind::Mux)?,
+        driver("eth", DriverKind::Leaf)?,
+    ];
     let system = System::new(alloc, &drivers, 100).ok()?;
     let (shared, seats) = Shared::start(alloc, system, 3).ok()?;
     let last = on_three_threads(rt, &shared, seats, alloc)?;
