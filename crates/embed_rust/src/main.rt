@@ -23,24 +23,33 @@ fn driver(name: &str, kind: DriverKind) -> Option<DriverSpec> {
     })
 }
 
-// What each process does: it links a stream of the device below one of the multiplexer, and the link stays.
-fn link_for_good<R: Wait>(rt: &R, shared: &Shared, mut seat: Seat, alloc: Global) -> Option<Seat>
+// Has one command of a process performed, once it is its turn.
+fn call<R: Wait>(
+    rt: &R,
+    shared: &Shared,
+    mut seat: Seat,
+    alloc: Global,
+    command: Command,
+) -> Option<Seat>
     requires { seat.shared ≡ shared.now.name }
     ensures { IfSome result (λ s. s.shared ≡ shared.now.name) }
 {
-    let open_ip = Command::OpenClone {
-        driver: Name::new("ip")?,
-    };
-    let open_eth = Command::OpenClone {
-        driver: Name::new("eth")?,
-    };
-    shared.call(rt, alloc, &mut seat, &open_ip).ok()?;
-    shared.call(rt, alloc, &mut seat, &open_eth).ok()?;
-    shared
-        .call(rt, alloc, &mut seat, &Command::Plink { fd: 0, arg: 1 })
-        .ok()?;
-    shared.call(rt, alloc, &mut seat, &Command::CloseAll).ok()?;
-    Some(seat)
+    match shared.call(rt, alloc, &mut seat, &command) {
+        Ok(_) => Some(seat),
+        Err(_) => None,
+    }
+}
+
+// What each process does: it links a stream of the device below one of the multiplexer, and the link stays.
+fn link_for_good<R: Wait>(rt: &R, shared: &Shared, seat: Seat, alloc: Global) -> Option<Seat>
+    requires { seat.shared ≡ shared.now.name }
+    ensures { IfSome result (λ s. s.shared ≡ shared.now.name) }
+{
+    let (ip, eth) = (Name::new("ip")?, Name::new("eth")?);
+    let seat = call(rt, shared, seat, alloc, Command::OpenClone { driver: ip })?;
+    let seat = call(rt, shared, seat, alloc, Command::OpenClone { driver: eth })?;
+    let seat = call(rt, shared, seat, alloc, Command::Plink { fd: 0, arg: 1 })?;
+    call(rt, shared, seat, alloc, Command::CloseAll)
 }
 
 // Two processes do so, each on a thread.
