@@ -1,7 +1,7 @@
 //! Three threads share one configuration, each with a process of its own: muxsim as a library.
 #![tactic(auto)]
 
-ghost use Rattle.std.specs.Prelude.{◌≡◌, All, IfSome};
+ghost use Rattle.std.specs.Prelude.{◌≡◌};
 
 use smx_config::check_history;
 use smx_shared::{Door, Seat, Shared, System};
@@ -9,116 +9,68 @@ use smx_types::{Command, DriverKind, DriverSpec, Name};
 use std::alloc::Global;
 use std::io;
 use std::sync::Wait;
-use std::thread::{Threads, join};
+use std::thread::{Threads, map_vec};
 
 // A driver of three minors, with queues of 8 bytes.
-fn driver(name: &str, kind: DriverKind) -> Option<DriverSpec> {
-    Some(DriverSpec {
-        name: Name::new(name)?,
+fn driver(name: Name, kind: DriverKind) -> DriverSpec {
+    DriverSpec {
+        name,
         kind,
         minors: 3,
         high: 8,
         low: 3,
         max: 16,
-    })
+    }
 }
 
-// Has one command of a process performed, once it is its turn.
-fn call<R: Wait>(
+// What each process does: it links a stream of eth below one of ip, and the link stays. Whether all of it was done.
+fn links_for_good<R: Wait>(
     rt: &R,
     shared: &Shared,
     mut seat: Seat,
     alloc: Global,
-    command: Command,
-) -> Option<Seat>
+    ip: Name,
+    eth: Name,
+) -> bool
     requires { seat.shared ≡ shared.now.name }
-    ensures { IfSome result (λ s. s.shared ≡ shared.now.name) }
 {
-    match shared.call(rt, alloc, &mut seat, &command) {
-        Ok(_) => Some(seat),
-        Err(_) => None,
-    }
-}
-
-// What each process does: it links a stream of the device below one of the multiplexer, and the link stays.
-fn link_for_good<R: Wait>(rt: &R, shared: &Shared, seat: Seat, alloc: Global) -> Option<Seat>
-    requires { seat.shared ≡ shared.now.name }
-    ensures { IfSome result (λ s. s.shared ≡ shared.now.name) }
-{
-    let (ip, eth) = (Name::new("ip")?, Name::new("eth")?);
-    let seat = call(rt, shared, seat, alloc, Command::OpenClone { driver: ip })?;
-    let seat = call(rt, shared, seat, alloc, Command::OpenClone { driver: eth })?;
-    let seat = call(rt, shared, seat, alloc, Command::Plink { fd: 0, arg: 1 })?;
-    call(rt, shared, seat, alloc, Command::CloseAll)
-}
-
-// Two processes do so, each on a thread.
-fn on_two_threads<R: Threads + Wait + Sync>(
-    rt: &R,
-    shared: &Shared,
-    one: Seat,
-    two: Seat,
-    alloc: Global,
-) -> Option<Seat>
-    requires { (one.shared ≡ shared.now.name) × (two.shared ≡ shared.now.name) }
-    ensures { IfSome result (λ s. s.shared ≡ shared.now.name) }
-{
-    let (first, second) = join(
-        rt,
-        || -> Option<Seat>
-            requires { one.shared ≡ shared.now.name }
-        { link_for_good(rt, shared, one, alloc) },
-        || -> Option<Seat>
-            requires { two.shared ≡ shared.now.name }
-            ensures { IfSome result (λ s. s.shared ≡ shared.entry.now.name) }
-        { link_for_good(rt, shared, two, alloc) },
+    let (open_ip, open_eth) = (
+        Command::OpenClone { driver: ip },
+        Command::OpenClone { driver: eth },
     );
-    first?;
-    second
+    shared.call(rt, alloc, &mut seat, &open_ip).is_ok()
+        && shared.call(rt, alloc, &mut seat, &open_eth).is_ok()
+        && shared
+            .call(rt, alloc, &mut seat, &Command::Plink { fd: 0, arg: 1 })
+            .is_ok()
+        && shared
+            .call(rt, alloc, &mut seat, &Command::CloseAll)
+            .is_ok()
 }
 
-// Three processes do so, each on a thread, in whatever order they come to their turns.
-fn on_three_threads<R: Threads + Wait + Sync>(
-    rt: &R,
-    shared: &Shared,
-    mut seats: Vec<Seat>,
-    alloc: Global,
-) -> Option<Seat>
-    requires { All (λ s. s.shared ≡ shared.now.name) seats.items }
-    ensures { IfSome result (λ s. s.shared ≡ shared.now.name) }
-{
-    let (three, two, one) = (seats.pop()?, seats.pop()?, seats.pop()?);
-    let (first, others) = join(
-        rt,
-        || -> Option<Seat>
-            requires { one.shared ≡ shared.now.name }
-        { link_for_good(rt, shared, one, alloc) },
-        || -> Option<Seat>
-            requires { (two.shared ≡ shared.now.name) × (three.shared ≡ shared.now.name) }
-            ensures { IfSome result (λ s. s.shared ≡ shared.entry.now.name) }
-        { on_two_threads(rt, shared, two, three, alloc) },
-    );
-    first?;
-    others
-}
-
-// The history of all three, as one line that says what came of it.
+// Has three processes do so, each on a thread, in whatever order they come to their turns. The line says what came of it.
 fn history_of_three<R: Threads + Wait + Sync + Print>(
     rt: &R,
     alloc: Global,
 ) -> Option<io::Result<()>> {
-    let drivers = [
-        driver("ip", DriverKind::Mux)?,
-        driver("eth", DriverKind::Leaf)?,
-    ];
+    let (ip, eth) = (Name::new("ip")?, Name::new("eth")?);
+    let drivers = [driver(ip, DriverKind::Mux), driver(eth, DriverKind::Leaf)];
     let system = System::new(alloc, &drivers, 100).ok()?;
-    let (shared, seats) = Shared::start(alloc, system, 3).ok()?;
-    let last = on_three_threads(rt, &shared, seats, alloc)?;
+    let (shared, mut seats) = Shared::start(alloc, system, 4).ok()?;
+    let last = seats.pop()?;
+    let done = map_vec(
+        rt,
+        seats,
+        &|seat: Seat| -> bool
+            requires { seat.shared ≡ shared.name }
+        { links_for_good(rt, &shared, seat, alloc, ip, eth) },
+    );
+    let all = done.ok()?.iter().all(|done| *done);
     let system = shared.close(last).ok()?;
     let view = system.config().show().ok()?;
     let verdict = check_history(alloc, &drivers, system.entries(), &view).ok()?;
     let (entries, links) = (system.entries().len(), system.config().link_count());
-    Some(println!(rt; "{entries} entries, {links} links: {verdict:?}"))
+    Some(println!(rt; "{all}: {entries} entries, {links} links, {verdict:?}"))
 }
 
 fn main(rt: HostRuntime) -> io::Result<()> {
