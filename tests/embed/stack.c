@@ -1,7 +1,8 @@
-// usage: stack PROGRAMS   performs the commands of a programs text by the library, and writes their transcript
+// usage: stack PROGRAMS [leave]   performs the commands of a programs text by the library, and writes their transcript
 //
 // Before that, each call is made where it has to answer another code than 0. Two threads share the session: each performs
-// every other command, under a lock. The status is 1 where a call answers what it shouldn't.
+// every other command, under a lock. With `leave` the session is not closed. The status is 1 where a call answers what it
+// shouldn't.
 #include <pthread.h>
 #include <stdio.h>
 #include <stdlib.h>
@@ -54,6 +55,7 @@ static void other_codes(void) {
 
 struct shared {
     pthread_mutex_t lock;
+    pthread_cond_t performed;
     struct muxsim session;
     char *lines[4096];
     size_t count, next;
@@ -68,19 +70,19 @@ struct worker {
 static void *perform(void *data) {
     struct worker *worker = data;
     struct shared *shared = worker->shared;
-    for (;;) {
-        pthread_mutex_lock(&shared->lock);
-        size_t next = shared->next;
-        if (next < shared->count && next % 2 == worker->number) {
-            size_t len;
-            wants(muxsim_perform(&shared->session, shared->lines[next], strlen(shared->lines[next])), MUXSIM_DONE, "perform");
-            wants(muxsim_entry(&shared->session, text, sizeof text, &len), MUXSIM_DONE, "entry");
-            fwrite(text, 1, len, stdout);
-            shared->next = next + 1;
-        }
-        pthread_mutex_unlock(&shared->lock);
-        if (next >= shared->count) return NULL;
+    size_t len;
+    pthread_mutex_lock(&shared->lock);
+    for (size_t number = worker->number; number < shared->count; number += 2) {
+        while (shared->next != number) pthread_cond_wait(&shared->performed, &shared->lock);
+        const char *line = shared->lines[number];
+        wants(muxsim_perform(&shared->session, line, strlen(line)), MUXSIM_DONE, "perform");
+        wants(muxsim_entry(&shared->session, text, sizeof text, &len), MUXSIM_DONE, "entry");
+        fwrite(text, 1, len, stdout);
+        shared->next = number + 1;
+        pthread_cond_broadcast(&shared->performed);
     }
+    pthread_mutex_unlock(&shared->lock);
+    return NULL;
 }
 
 // The lines `PROCESS COMMAND` of a programs text, whose header and driver lines are written as those of a transcript.
@@ -101,13 +103,14 @@ static void read_lines(struct shared *shared, char *programs) {
 }
 
 int main(int argc, char **argv) {
-    FILE *file = argc == 2 ? fopen(argv[1], "rb") : NULL;
+    FILE *file = argc == 2 || argc == 3 ? fopen(argv[1], "rb") : NULL;
     if (file == NULL) return 2;
     size_t len = fread(input, 1, sizeof input - 1, file);
     fclose(file);
     other_codes();
     static struct shared shared;
     pthread_mutex_init(&shared.lock, NULL);
+    pthread_cond_init(&shared.performed, NULL);
     wants(muxsim_open(&shared.session, input, len), MUXSIM_DONE, "open");
     read_lines(&shared, input);
     struct worker workers[2] = {{&shared, 0}, {&shared, 1}};
@@ -116,7 +119,8 @@ int main(int argc, char **argv) {
     for (int i = 0; i < 2; i++) pthread_join(threads[i], NULL);
     wants(muxsim_show(&shared.session, text, sizeof text, &len), MUXSIM_DONE, "show");
     printf("config\n%.*send\n", (int)len, text);
-    wants(muxsim_close(&shared.session), MUXSIM_DONE, "close");
+    if (argc == 2) wants(muxsim_close(&shared.session), MUXSIM_DONE, "close");
+    shared.session.at = NULL;
     for (size_t i = 0; i < shared.count; i++) free(shared.lines[i]);
     return 0;
 }
