@@ -7,7 +7,8 @@
  *         muxsim_close(&session);
  *     }
  *
- * No call aborts, and each answers a code. Link libmuxsim.a, and nothing else but the C library.
+ * No call aborts, and each answers a code. Link libmuxsim_c.a, which `rt lib` makes in crates/muxsim_c/out, and the kit's
+ * c/liblibc_c.a; crates/muxsim_c/README.md has the line.
  *
  * A session is used by one call at a time, on whichever thread: threads that share one take a lock of their own around
  * each call. Sessions don't know of one another. It is moved where it is copied: the copy that was made last is the one
