@@ -1,9 +1,10 @@
 //! A configuration, with the version of its texts and the entry that was made last.
 
-ghost use Rattle.std.specs.Prelude.{◌≡◌, ◌++◌, None, IfOk, OnOk, OnErr};
+ghost use Rattle.std.specs.Prelude.{◌≡◌, ◌∷◌, ◌++◌, [], None, IfOk, IfSome, OnOk, OnErr};
 ghost use Rattle.smx_model.specs.Configuration.{empty};
 ghost use Rattle.smx_model.specs.DriverList.{IsDriverList};
-ghost use Rattle.smx_words.specs.Words.{line_of};
+ghost use Rattle.smx_model.specs.Views.{view};
+ghost use Rattle.smx_words.specs.Words.{LINE_FEED, line_of};
 ghost use Rattle.smx_words.specs.Spelling.{entry_words};
 ghost use Rattle.muxsim_c.specs.Sessions.{Performs, done_behind};
 
@@ -76,7 +77,9 @@ impl Session {
     }
 
     /// The line of the entry that was made last, with its line feed.
-    pub fn entry(&self, alloc: Global) -> Result<Vec<u8>, Trouble> {
+    pub fn entry(&self, alloc: Global) -> Result<Vec<u8>, Trouble>
+        ensures { IfOk result (λ v. IfSome self.now.last (λ e. v.items ≡ line_of (entry_words e) ++ LINE_FEED ∷ [])) }
+    {
         let Some(entry) = &self.last else {
             return Err(Trouble::NoEntry);
         };
@@ -86,7 +89,9 @@ impl Session {
     }
 
     /// The configuration.
-    pub fn show(&self) -> Result<ConfigView, Trouble> {
+    pub fn show(&self) -> Result<ConfigView, Trouble>
+        ensures { IfOk result (λ v. v ≡ view self.now.config.drivers self.now.config.configuration) }
+    {
         Ok(self.config.show()?)
     }
 }
