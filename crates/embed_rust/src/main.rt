@@ -1,7 +1,7 @@
 //! Three threads share one configuration, each with a process of its own: muxsim as a library.
 #![tactic(auto)]
 
-ghost use Rattle.std.specs.Prelude.{◌≡◌};
+ghost use Rattle.std.specs.Prelude.{◌≡◌, All, IfSome};
 
 use smx_config::check_history;
 use smx_shared::{Door, Seat, Shared, System};
@@ -48,7 +48,42 @@ fn links_for_good<R: Wait>(
             .is_ok()
 }
 
-// Has three processes do so, each on a thread, in whatever order they come to their turns. The line says what came of it.
+// The last seat, and those before it.
+fn last_of(shared: &Shared, mut seats: Vec<Seat>) -> Option<(Vec<Seat>, Seat)>
+    requires { All (λ s. s.shared ≡ shared.now.name) seats.items }
+    ensures { IfSome result (λ r. All (λ s. s.shared ≡ shared.now.name) r.0.items × (r.1.shared ≡ shared.now.name)) }
+{
+    let Some(last) = seats.pop() else {
+        return None;
+    };
+    Some((seats, last))
+}
+
+// Has each process do so, on a thread of its own, in whatever order they come to their turns. Whether all did.
+fn all_link<R: Threads + Wait + Sync>(
+    rt: &R,
+    shared: &Shared,
+    seats: Vec<Seat>,
+    alloc: Global,
+    ip: Name,
+    eth: Name,
+) -> bool
+    requires { All (λ s. s.shared ≡ shared.now.name) seats.items }
+{
+    let done = map_vec(
+        rt,
+        seats,
+        &|seat: Seat| -> bool
+            requires { seat.shared ≡ shared.now.name }
+        { links_for_good(rt, shared, seat, alloc, ip, eth) },
+    );
+    match done {
+        Ok(done) => done.iter().all(|done| *done),
+        Err(_) => false,
+    }
+}
+
+// What three processes made of it on three threads, as one line. The seat of a fourth gets the system back.
 fn history_of_three<R: Threads + Wait + Sync + Print>(
     rt: &R,
     alloc: Global,
@@ -56,16 +91,11 @@ fn history_of_three<R: Threads + Wait + Sync + Print>(
     let (ip, eth) = (Name::new("ip")?, Name::new("eth")?);
     let drivers = [driver(ip, DriverKind::Mux), driver(eth, DriverKind::Leaf)];
     let system = System::new(alloc, &drivers, 100).ok()?;
-    let (shared, mut seats) = Shared::start(alloc, system, 4).ok()?;
-    let last = seats.pop()?;
-    let done = map_vec(
-        rt,
-        seats,
-        &|seat: Seat| -> bool
-            requires { seat.shared ≡ shared.name }
-        { links_for_good(rt, &shared, seat, alloc, ip, eth) },
-    );
-    let all = done.ok()?.iter().all(|done| *done);
+    let Ok((shared, seats)) = Shared::start(alloc, system, 4) else {
+        return None;
+    };
+    let (seats, last) = last_of(&shared, seats)?;
+    let all = all_link(rt, &shared, seats, alloc, ip, eth);
     let system = shared.close(last).ok()?;
     let view = system.config().show().ok()?;
     let verdict = check_history(alloc, &drivers, system.entries(), &view).ok()?;
