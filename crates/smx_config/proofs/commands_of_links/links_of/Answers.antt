@@ -3,7 +3,7 @@ use Rattle.smx_types.specs.declared.link.LinkKind.TheVariants as kind
 use Rattle.smx_model.specs.Configuration.{same_stream}
 use Rattle.smx_model.specs.Standing.{is_persistent}
 use Rattle.smx_config.specs.UnlinkTargets.{may_unlink}
-use Rattle.smx_config.proofs.RemovalLemmas.{kept_among}
+use Rattle.smx_tables.proofs.RemovalLemmas.{kept_among}
 use Rattle.smx_config.proofs.commands_of_links.links_of.Goals as goal
 
 -- a test that comes after one that fails
