@@ -2,8 +2,8 @@
 
 use crate::values::{items, named, nothing_open, open_on};
 use smx_types::{
-    ConfigView, FullLine, Items, LinkKind, LinkLine, Message, MessageLine,
-    MessageLines, RouteLine, Side,
+    ConfigView, FullLine, Items, LinkKind, LinkLine, Message, MessageLine, MessageLines, RouteLine,
+    Side,
 };
 use std::alloc::Global;
 use std::test::Fail;
