@@ -3,7 +3,9 @@
 ghost use Rattle.std.specs.Prelude.{◌≤◌, IfOk};
 ghost use Rattle.muxsim.specs.Jobs.{CanRun};
 
+use crate::command_list::COMMANDS;
 use crate::jobs::Job;
+use clap::error::ErrorKind;
 use clap::{Arg, ArgAction, ArgMatches, Command, Error, value_parser};
 use std::alloc::{AllocError, Global};
 use std::convert::AsStr;
@@ -19,7 +21,7 @@ const SEE: &str =
     "Exit status: 0 done or legal, 1 refused, 2 wrong words, 3 wrong text, 4 illegal or differing,
 5 input or output failed.
 The texts, in both versions, are in docs/FORMATS.md, commands and replies in docs/COMMANDS.md,
-and more in docs/MUXSIM.md.";
+and more in docs/MUXSIM.md. 'muxsim help commands' lists the commands of a program.";
 
 /// What the words ask for, of which the first is the program's name. Any other words than `run`, with
 /// `--workers` and `--fronts` or without, `check` and `replay` are clap's error, and so is a request for help or the
@@ -28,6 +30,9 @@ pub fn job<'a, S: AsStr>(alloc: Global, words: &'a [S]) -> Result<Job, Error>
     ensures { IfOk result CanRun }
 {
     let matches = program(alloc)?.try_get_matches_from(words)?;
+    if matches.subcommand_matches("commands").is_some() {
+        return Err(no_job_of_its_own(alloc)?);
+    }
     match matches.subcommand() {
         Some(("run", run)) => Ok(Job::Run {
             workers: workers_of(run),
@@ -49,31 +54,45 @@ fn workers_of(run: &ArgMatches) -> usize
     }
 }
 
-// The program with its subcommands.
+// The page of help that lists the commands is asked for by `help commands`.
+fn no_job_of_its_own(alloc: Global) -> Result<Error, AllocError> {
+    let message = "'commands' is a page of the help, which 'muxsim help commands' prints";
+    program(alloc)?.error(ErrorKind::InvalidSubcommand, message)
+}
+
+// The program with its subcommands. Its usage names it so, whatever the file is called.
 fn program<'a>(alloc: Global) -> Result<Command<'a>, AllocError> {
     let run = subcommand(
         alloc,
         "run",
         "Run the programs on standard input and write the transcript to standard output",
-    );
+    )
+    .override_usage("muxsim run [--workers N] [--fronts] < PROGRAMS");
     let check = subcommand(
         alloc,
         "check",
         "Judge the transcript on standard input and write the verdict to standard output",
-    );
+    )
+    .override_usage("muxsim check < TRANSCRIPT");
     let replay = subcommand(
         alloc,
         "replay",
         "Replay the transcript on standard input and write the transcript that its commands give",
-    );
+    )
+    .override_usage("muxsim replay < TRANSCRIPT");
+    let commands = Command::new(alloc, "commands")
+        .override_help(COMMANDS)
+        .hide(true);
     Command::new(alloc, "muxsim")
+        .bin_name("muxsim")?
         .version(VERSION)
         .about("Simulate a STREAMS multiplexer configuration with persistent links")
         .after_help(SEE)
         .subcommand_required(true)
         .subcommand(run.arg(workers(alloc))?.arg(fronts(alloc))?)?
         .subcommand(check)?
-        .subcommand(replay)
+        .subcommand(replay)?
+        .subcommand(commands)
 }
 
 // A subcommand without options.

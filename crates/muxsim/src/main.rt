@@ -2,6 +2,7 @@
 #![tactic(auto)]
 
 mod command_line;
+mod command_list;
 mod doing;
 mod jobs;
 

@@ -1,0 +1,26 @@
+# Completion of muxsim for bash: its subcommands and their options. Behind < and > files are completed.
+
+_muxsim() {
+    local word=${COMP_WORDS[COMP_CWORD]} before=${COMP_WORDS[COMP_CWORD - 1]} words=
+    COMPREPLY=()
+    case $before in
+        '<' | '>' | '>>')
+            mapfile -t COMPREPLY < <(compgen -f -- "$word")
+            compopt -o filenames 2>/dev/null
+            return
+            ;;
+        --workers) return ;;
+    esac
+    if ((COMP_CWORD == 1)); then
+        words='run check replay help --help --version'
+    else
+        case ${COMP_WORDS[1]} in
+            run) words='--workers --fronts --help' ;;
+            check | replay) words='--help' ;;
+            help) words='run check replay commands' ;;
+        esac
+    fi
+    mapfile -t COMPREPLY < <(compgen -W "$words" -- "$word")
+}
+
+complete -F _muxsim muxsim
