@@ -60,7 +60,7 @@ def numbers():
     row("the greatest number in each command", JOINED, [[with_greatest(line) for line in ENTRIES]],
         [with_greatest(line) for line in SHOWN])
     row("the greatest number in a hangup", JOINED, [[with_greatest(line) for line in HANGUPS]],
-        ["next 1 1", "fd 0 0 eth 0", "hung eth 0"], 2)
+        ["next 1 1", "fd 0 0 eth 0", "hung eth 0"], [2])
     for number in NO_NUMBERS:
         refuses_run(f"hangup of {number}", programs_text(JOINED, [[f"hangup eth {number}"]], 2), "line 5: form")
     commands = {line.partition(" = ")[0] for line in ENTRIES}
