@@ -104,6 +104,17 @@ def transcripts():
     refuses_check("hung of more", transcript_text(JOINED, [], ["next 1 1", "hung eth 4294967296"], 2), "line 6: form")
 
 
+def judged():
+    """An entry with the greatest numbers, and checks of texts that are wrong by one number or word beside it."""
+    entry = with_greatest("0 unlink N N = EBADF fd")
+    judges("an entry with the greatest numbers", transcript_text([], [entry], ["next 1 1"]), "legal 1")
+    judges("another next serial", transcript_text([], [entry], ["next 1 2"]), "config differs")
+    judges("another next id", transcript_text([], [entry], ["next 2 1"]), "config differs")
+    judges("a reply of another command", transcript_text([], ["0 close 0 = id 5"], ["next 1 1"]), "illegal 1")
+    transcript = transcript_text(["ip mux 0 8 3 16"], [entry], ["next 1 1"])
+    refuses_check("a driver that can't be had, before an entry", transcript, "refused: driver 0 minors", 1)
+
+
 def names():
     """Names of 1 and of 8 letters and digits, in each place; of nine, and with a digit first, ill-formed there."""
     longest = ["abcdefgh mux 4 8 3 16", "z9999999 leaf 2 8 3 16", "a leaf 1 1 0 1"]
