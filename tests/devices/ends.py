@@ -45,17 +45,17 @@ def ends(name, words, devices, status, output, errors):
     is_so(name, ended == (status, output, errors), ended)
 
 
-def long_programs():
+def long_programs(version=1):
     """Four processes with 12,000 commands, of which none is refused; the transcript has some 300,000 bytes."""
-    lines = ["programs 1", "driver ip mux 64 8 3 16"]
+    lines = [f"programs {version}", "driver ip mux 64 8 3 16"]
     for process in range(4):
         lines += [f"process {process}"] + ["clone ip", "dup 0", "exit"] * 1000
     return "".join(f"{line}\n" for line in lines + ["end"]).encode()
 
 
-def long_transcript():
+def long_transcript(version=1):
     """What a run of them on one worker writes into a pipe that is read at once."""
-    return subprocess.run([MUXSIM, "run"], input=long_programs(), capture_output=True, timeout=SECONDS).stdout
+    return subprocess.run([MUXSIM, "run"], input=long_programs(version), capture_output=True, timeout=SECONDS).stdout
 
 
 def start(words, given=None, pipe_size=None):

@@ -4,7 +4,7 @@ import shutil
 import subprocess
 import tempfile
 
-from ends import EXAMPLE, MUXSIM, READ, ROOT, WRITE, is_so
+from ends import EXAMPLE, MUXSIM, OF_VERSION_2, READ, ROOT, WRITE, is_so
 
 ON_READS = ["EINTR", "EIO", "EAGAIN", "EBADF", "ECONNRESET"]
 ON_WRITES = ["EINTR", "EIO", "EAGAIN", "ENOSPC", "EPIPE", "EDQUOT", "EFBIG"]
@@ -49,8 +49,11 @@ def by_strace():
     if not is_there():
         print("no strace that can trace: no read and no write was made to fail by it")
         return
-    for words, given in [(["run"], f"{EXAMPLE}.mux"), (["check"], f"{EXAMPLE}.transcript"), (["replay"], f"{EXAMPLE}.transcript"),
-                         (["run", "--workers", "3"], "examples/shared_multiplexer.mux")]:
+    jobs = [(["run", "--workers", "3"], "examples/shared_multiplexer.mux")]
+    for text in [EXAMPLE, OF_VERSION_2]:
+        jobs += [(["run"], f"{text}.mux"), (["check"], f"{text}.transcript"), (["replay"], f"{text}.transcript"),
+                 (["run", "--workers", "2"], f"{text}.mux"), (["run", "--fronts"], f"{text}.mux")]
+    for words, given in jobs:
         refused("read", [f"error={error}" for error in ON_READS], words, given)
         refused("write", [f"error={error}" for error in ON_WRITES] + ["retval=0"], words, given)
     for words in [["--help"], ["--version"]]:

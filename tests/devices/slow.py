@@ -42,9 +42,8 @@ def inputs():
 
 def outputs():
     """An output of some 300,000 bytes, read in small pieces through a pipe that holds 4,096 bytes."""
-    text = long_programs()
-    whole = long_transcript()
-    for words in [["run"], ["run", "--workers", "1"]]:
+    for version, words in [(1, ["run"]), (1, ["run", "--workers", "1"]), (2, ["run"])]:
+        text, whole = long_programs(version), long_transcript(version)
         for piece in [1, 1000]:
             process = start(words, text, pipe_size=4096)
             written = bytearray()

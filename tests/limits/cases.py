@@ -48,27 +48,49 @@ def gives(name, words, given, status, output, errors=""):
     is_so(name, right, f": status {ran.returncode}, {shortened(ran.stderr.strip())} {shortened(ran.stdout.strip())}")
 
 
+def in_both_versions(text):
+    """A text of version 1, and the same of version 2; any other text is the only one."""
+    kind, _, rest = text.partition(" 1\n")
+    return [text, f"{kind} 2\n{rest}"] if kind in ["programs", "transcript"] else [text]
+
+
+class OfOneVersion(str):
+    """A text of which another version would be answered otherwise."""
+
+
+def refuses(word, name, given, line, status):
+    for text in [given] if isinstance(given, OfOneVersion) else in_both_versions(given):
+        gives(f"{word}, {name}", [word], text, status, "", f"muxsim: {line}\n")
+
+
 def refuses_run(name, given, line, status=3):
-    gives(f"run, {name}", ["run"], given, status, "", f"muxsim: {line}\n")
+    refuses("run", name, given, line, status)
 
 
 def refuses_check(name, given, line, status=3):
-    gives(f"check, {name}", ["check"], given, status, "", f"muxsim: {line}\n")
+    refuses("check", name, given, line, status)
 
 
 def judges(name, given, verdict):
-    gives(f"check, {name}", ["check"], given, 0 if verdict.startswith("legal") else 4, f"{verdict}\n")
+    for text in in_both_versions(given):
+        gives(f"check, {name}", ["check"], text, 0 if verdict.startswith("legal") else 4, f"{verdict}\n")
 
 
-def row(name, drivers, programs, shown, version=1):
+def row(name, drivers, programs, shown, versions=(1, 2)):
     """Each line of a program is a command with its reply. A run on one worker writes them under these lines below
-    'config', and a check of that finds it legal. Answers the transcript."""
+    'config', and a check of that finds it legal: in each of the versions. Answers the last transcript."""
+    for version in versions:
+        transcript = row_of(name, drivers, programs, shown, version)
+    return transcript
+
+
+def row_of(name, drivers, programs, shown, version):
     commands = [[line.partition(" = ")[0] for line in program] for program in programs]
     entries = [f"{process} {line}" for process, program in enumerate(programs) for line in program]
     transcript = transcript_text(drivers, entries, shown, version)
-    gives(f"run, {name}", ["run"], programs_text(drivers, commands, version), 0, transcript)
+    gives(f"run, {name}, version {version}", ["run"], programs_text(drivers, commands, version), 0, transcript)
     if len(transcript) > LONGEST:
-        refuses_check(name, transcript, "input too long")
+        refuses_check(name, OfOneVersion(transcript), "input too long")
     else:
-        judges(name, transcript, f"legal {len(entries)}")
+        gives(f"check, {name}, version {version}", ["check"], transcript, 0, f"legal {len(entries)}\n")
     return transcript

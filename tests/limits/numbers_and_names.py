@@ -60,7 +60,7 @@ def numbers():
     row("the greatest number in each command", JOINED, [[with_greatest(line) for line in ENTRIES]],
         [with_greatest(line) for line in SHOWN])
     row("the greatest number in a hangup", JOINED, [[with_greatest(line) for line in HANGUPS]],
-        ["next 1 1", "fd 0 0 eth 0", "hung eth 0"], 2)
+        ["next 1 1", "fd 0 0 eth 0", "hung eth 0"], [2])
     for number in NO_NUMBERS:
         refuses_run(f"hangup of {number}", programs_text(JOINED, [[f"hangup eth {number}"]], 2), "line 5: form")
     commands = {line.partition(" = ")[0] for line in ENTRIES}
@@ -102,6 +102,17 @@ def transcripts():
                 refuses_check(f"{group} of {number}", text, f"line {line}: form")
     judges("hung of the greatest", transcript_text(JOINED, [], ["next 1 1", f"hung eth {GREATEST}"], 2), "config differs")
     refuses_check("hung of more", transcript_text(JOINED, [], ["next 1 1", "hung eth 4294967296"], 2), "line 6: form")
+
+
+def judged():
+    """An entry with the greatest numbers, and checks of texts that are wrong by one number or word beside it."""
+    entry = with_greatest("0 unlink N N = EBADF fd")
+    judges("an entry with the greatest numbers", transcript_text([], [entry], ["next 1 1"]), "legal 1")
+    judges("another next serial", transcript_text([], [entry], ["next 1 2"]), "config differs")
+    judges("another next id", transcript_text([], [entry], ["next 2 1"]), "config differs")
+    judges("a reply of another command", transcript_text([], ["0 close 0 = id 5"], ["next 1 1"]), "illegal 1")
+    transcript = transcript_text(["ip mux 0 8 3 16"], [entry], ["next 1 1"])
+    refuses_check("a driver that can't be had, before an entry", transcript, "refused: driver 0 minors", 1)
 
 
 def names():

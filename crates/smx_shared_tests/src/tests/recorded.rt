@@ -1,6 +1,8 @@
 //! Runs of which a recorder is told: all of it, drivers that are refused, and a recorder that wants memory. And what a
 //! gate is told of such a run.
 
+ghost use Rattle.std.specs.Prelude.{◌<◌};
+
 use super::gates::Told::{After, Before};
 use super::gates::{Log, Told};
 use super::told::{IN_TURN, SIX};
@@ -167,7 +169,9 @@ const OF_SIX_COMMANDS: [Told; 12] = [
 
 // A recorder that may be told of so many entries stops the run at the next one: of this it is told, and so is the log.
 // Neither is told of anything behind it.
-fn stops_behind(rt: &impl Abort, alloc: Global, entries: usize, told: &[Told]) -> Result<(), Fail> {
+fn stops_behind(rt: &impl Abort, alloc: Global, entries: usize, told: &[Told]) -> Result<(), Fail>
+    requires { entries < 6 }
+{
     let count = AtomicUsize::new(0);
     let log = Log::of(alloc, 16)?;
     assert!(rt; !counts(alloc, TWO_PROCESSES, (&count, entries + 1), &log)?);
