@@ -62,7 +62,7 @@ def judges(name, given, verdict):
 
 def row(name, drivers, programs, shown, version=1):
     """Each line of a program is a command with its reply. A run on one worker writes them under these lines below
-    'config', and a check of that finds it legal. Answers the transcript."""
+    'config'; a check of that finds it legal, and a replay gives it back. Answers the transcript."""
     commands = [[line.partition(" = ")[0] for line in program] for program in programs]
     entries = [f"{process} {line}" for process, program in enumerate(programs) for line in program]
     transcript = transcript_text(drivers, entries, shown, version)
@@ -71,4 +71,5 @@ def row(name, drivers, programs, shown, version=1):
         refuses_check(name, transcript, "input too long")
     else:
         judges(name, transcript, f"legal {len(entries)}")
+        gives(f"replay, {name}", ["replay"], transcript, 0, transcript)
     return transcript
