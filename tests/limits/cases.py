@@ -78,7 +78,7 @@ def judges(name, given, verdict):
 
 def row(name, drivers, programs, shown, versions=(1, 2)):
     """Each line of a program is a command with its reply. A run on one worker writes them under these lines below
-    'config', and a check of that finds it legal: in each of the versions. Answers the last transcript."""
+    'config', a check of that finds it legal, and a replay gives it back: in each of the versions. Answers the last transcript."""
     for version in versions:
         transcript = row_of(name, drivers, programs, shown, version)
     return transcript
@@ -93,4 +93,5 @@ def row_of(name, drivers, programs, shown, version):
         refuses_check(name, OfOneVersion(transcript), "input too long")
     else:
         gives(f"check, {name}, version {version}", ["check"], transcript, 0, f"legal {len(entries)}\n")
+        gives(f"replay, {name}, version {version}", ["replay"], transcript, 0, transcript)
     return transcript
