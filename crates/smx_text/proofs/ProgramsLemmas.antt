@@ -122,6 +122,7 @@ same_in V2 v w is allowed first second =
     second refl
     ∙ ap (λ (n : Version). record { version = n; drivers = v.drivers; programs = v.programs }) (sym is)
 
+-- lines so far that begin allowed programs end as the programs in their version
 pub finished : (v w : ProgramLists) → IsBegun (programs_grammar v.version) (body v)
     → (v.version ≡ V1 → w ≡ program_lists v.drivers v.programs)
     → (v.version ≡ V2 → w ≡ raised (program_lists v.drivers v.programs))

@@ -7,16 +7,20 @@ use Rattle.smx_words.specs.Words.{AreWords, LINE_FEED, line_of}
 use Rattle.smx_words.proofs.LineLemmas.{line_free, same_words, words_free}
 use Rattle.smx_text.specs.Grammar.{IsOneLine}
 
+-- the first of some words, and no bytes where there is none
 abbrev pub first_word : List (List ℕ) → List ℕ
 first_word [] = []
 first_word (w ∷ ws) = w
 
+-- words that make the same line are the same words
 pub one_spelling : (ws vs : List (List ℕ)) → AreWords ws → AreWords vs → line_of ws ≡ line_of vs → ws ≡ vs
 one_spelling ws vs h k e = same_words ws vs h.0 k.0 e
 
+-- `config` is a word
 pub config_spelled : AreWords (codes "config" ∷ [])
 config_spelled = (search rules, omega arith)
 
+-- `end` is a word
 pub end_spelled : AreWords (codes "end" ∷ [])
 end_spelled = (search rules, omega arith)
 

@@ -34,6 +34,7 @@ wrong_programs version bytes line why other behind fault =
     let reads = any_of programs_grammar bytes version (Err f) fault behind in
     (reads, λ v. spells_none programs_grammar versions bytes f other reads v.version v)
 
+-- bytes that go wrong in each version, at one line for one cause, spell no programs
 pub wrong_in_each : (bytes : List ℕ) (line : ℕ) (why : Cause) → why ≢ cause.NoMemory
     → ((version : Version) → IsFault (programs_grammar version) bytes line why) → AreWrongPrograms bytes line why
 wrong_in_each bytes line why other each =
@@ -49,6 +50,7 @@ wrong_transcript version bytes line why other behind fault =
     let reads = any_of transcript_grammar bytes version (Err f) fault behind in
     (reads, λ t. spells_none transcript_grammar transcript_versions bytes f other reads t.version t)
 
+-- bytes that go wrong in each version, at one line for one cause, spell no transcript
 pub wrong_transcript_in_each : (bytes : List ℕ) (line : ℕ) (why : Cause) → why ≢ cause.NoMemory
     → ((version : Version) → IsFault (transcript_grammar version) bytes line why) → IsWrongTranscript bytes line why
 wrong_transcript_in_each bytes line why other each =
