@@ -52,6 +52,7 @@ fault_verb fault.Empty = refl
 fault_verb fault.BadSize = refl
 fault_verb fault.HungUp = refl
 
+-- the verb that is found in the words of a reply is its own, and none is found where it has none
 pub verb_again : (r : Reply) → verb_at (reply_words r) ≡ reply_verb_of r
 verb_again (reply.Fd n m) = refl
 verb_again (reply.Id n) = refl
