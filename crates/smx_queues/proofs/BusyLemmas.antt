@@ -15,6 +15,7 @@ place_below queues p there = elim (cases_lt p (length queues)) [
   | inr past ↦ let bad = subst (λ (o : Option Queue). IsSome o) (get_or_past queues p None past) there in absurd cc
 ]
 
+-- a place that is there has one of the bytes
 pub byte_below : (queues : List (Option Queue)) (busy : List ℕ) (p : ℕ) → busy ≡ map busy_byte queues → IsPlace queues p → p < length busy
 byte_below queues busy p is there = omega (arith, place_below queues p there, ap length is, length-map queues busy_byte)
 
@@ -34,6 +35,7 @@ busy_again old new busy more p q is lt changed more_is =
 
 -- ---- two places with other queues
 
+-- two places have other queues, and nothing else has changed
 pub record AreMoved (old new : List (Option Queue)) (i j : ℕ) : Type 0 where
   pub first : Queue
   pub second : Queue
@@ -55,12 +57,15 @@ at_second : (old new : List (Option Queue)) (i j : ℕ) → IsPlace old j → (h
 at_second old new i j there h =
     ap (λ (qs : List (Option Queue)). get_or qs j None) h.is ∙ get_or-set_same (set old i (Some h.first)) j (Some h.second) None (omega (arith, place_below old j there, length-set old i (Some h.first)))
 
+-- the first of two places that have other queues is still there
 pub first_there : (old new : List (Option Queue)) (i j : ℕ) → i ≢ j → IsPlace old i → AreMoved old new i j → IsPlace new i
 first_there old new i j differ there h = subst (λ (o : Option Queue). IsSome o) (sym (at_first old new i j differ there h)) refl
 
+-- the second of two places that have other queues is still there
 pub second_there : (old new : List (Option Queue)) (i j : ℕ) → IsPlace old j → AreMoved old new i j → IsPlace new j
 second_there old new i j there h = subst (λ (o : Option Queue). IsSome o) (sym (at_second old new i j there h)) refl
 
+-- where the bytes of both places are set anew, the bytes tell again which places have messages
 pub busy_moved : (old new : List (Option Queue)) (busy mid more : List ℕ) (i j : ℕ) → i ≢ j → IsPlace old i → IsPlace old j → busy ≡ map busy_byte old → (h : AreMoved old new i j) → mid ≡ set busy i (busy_byte (get_or new i None)) → more ≡ set mid j (busy_byte (get_or new j None)) → more ≡ map busy_byte new
 busy_moved old new busy mid more i j differ from to is h mid_is more_is =
     rw (more_is, mid_is, at_first old new i j differ from h, at_second old new i j to h, is, h.is)
@@ -68,6 +73,7 @@ busy_moved old new busy mid more i j differ from to is h mid_is more_is =
 
 -- ---- a place more, without messages
 
+-- with a byte 0 more, the bytes tell so of the queues with an empty one more
 pub busy_more : (old new : List (Option Queue)) (busy more : List ℕ) (high low : ℕ) → busy ≡ map busy_byte old → new ≡ old ++ Some (empty_queue high low) ∷ [] → more ≡ busy ++ 0 ∷ [] → more ≡ map busy_byte new
 busy_more old new busy more high low is longer more_is = rw (more_is, is, longer) (sym (map-append busy_byte old (Some (empty_queue high low) ∷ [])))
 
@@ -90,6 +96,7 @@ byte_at queues busy start k is = ap (λ (n : ℕ). eqb n 1) (get_or-drop start b
 pub none_past : (queues : List (Option Queue)) (busy : List ℕ) (start : ℕ) → busy ≡ map busy_byte queues → length busy ≤ start → IsLeastFrom has_messages queues start None
 none_past queues busy start is past = λ k le. rw (get_or_past queues k None (omega (arith, past, le, ap length is, length-map queues busy_byte))) refl
 
+-- where no byte from a number on is 1, no place from there on has messages
 pub none_found : (queues : List (Option Queue)) (busy : List ℕ) (start : ℕ) → busy ≡ map busy_byte queues → IsFirstByte (is_byte 1) (drop start busy) None → IsLeastFrom has_messages queues start None
 none_found queues busy start is none = λ k le. elim (cases_lt k (length busy)) [
   | inl lt ↦ elim (cases_Bool (has_messages (get_or queues k None))) [
@@ -101,6 +108,7 @@ none_found queues busy start is none = λ k le. elim (cases_lt k (length busy)) 
   at : (k : ℕ) → start ≤ k → eqb (get_or (drop start busy) (k - start) 0) 1 ≡ has_messages (get_or queues k None)
   at k le = byte_at queues busy start (k - start) is ∙ ap (λ (n : ℕ). has_messages (get_or queues n None)) (omega arith)
 
+-- the first byte from a number on that is 1 is that of the least place from there on that has messages
 pub one_found : (queues : List (Option Queue)) (busy : List ℕ) (start i : ℕ) → busy ≡ map busy_byte queues → IsFirstByte (is_byte 1) (drop start busy) (Some i) → IsLeastFrom has_messages queues start (Some (start + i))
 one_found queues busy start i is found = (
   omega arith,

@@ -10,9 +10,11 @@ use Rattle.smx_queues.specs.Chains.{IsChain, walk}
 abbrev pub owned : (ℕ → ℕ × ℕ) → ℕ → ℕ × ℕ → ℕ → ℕ × ℕ
 owned own key mark x = cond (nat_eq x key) mark (own x)
 
+-- a key that was given an owner has this one
 pub owned-same : (own : ℕ → ℕ × ℕ) (key : ℕ) (mark : ℕ × ℕ) → owned own key mark key ≡ mark
 owned-same own key mark = grind (arith, nat_tests)
 
+-- each other key keeps its owner
 pub owned-other : (own : ℕ → ℕ × ℕ) (key : ℕ) (mark : ℕ × ℕ) (x : ℕ) → x ≢ key → owned own key mark x ≡ own x
 owned-other own key mark x differs = grind (arith, nat_tests)
 

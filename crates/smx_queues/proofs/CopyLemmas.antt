@@ -19,6 +19,7 @@ pub record IsCopying (old new : List (Option Queue)) (to : ℕ) (all rest : List
 same_messages : (q : Queue) (ms : List Message) → q.messages ≡ ms → record q { messages = ms } ≡ q
 same_messages q ms e = rw (← e) refl
 
+-- before the first message is copied to an empty place, all are to come
 pub copying_starts : (queues : List (Option Queue)) (to : ℕ) (all : List Message) → IsPlace queues to → (queue_at queues to).messages ≡ [] → IsCopying queues queues to all all
 copying_starts queues to all there none =
     record {
@@ -27,10 +28,12 @@ copying_starts queues to all there none =
       queues = sym (set_itself queues to there) ∙ ap (λ (q : Queue). set queues to (Some q)) (sym (same_messages (queue_at queues to) [] none));
     }
 
+-- a place that is copied to has the messages that have come, and else what it had
 pub copying_at : (old new : List (Option Queue)) (to : ℕ) (all rest : List Message) (c : IsCopying old new to all rest) → IsPlace old to → queue_at new to ≡ record (queue_at old to) { messages = c.done }
 copying_at old new to all rest c there =
     ap (λ qs. queue_at qs to) c.queues ∙ set_at old to _ (place_below old to there)
 
+-- a place that is copied to is still there
 pub copying_there : (old new : List (Option Queue)) (to : ℕ) (all rest : List Message) → IsCopying old new to all rest → IsPlace old to → IsPlace new to
 copying_there old new to all rest c there = rw c.queues (set_there old to _ (place_below old to there))
 
@@ -57,6 +60,7 @@ one_has : (done : List Message) (m : Message) (later : List Message) → HaveByt
 one_has [] m later have = (have.0, have.1)
 one_has (x ∷ done) m later have = one_has done m later have.2
 
+-- the message has bytes, so few that they can be added to those of the place without overflow
 pub record HasRoom (queues : List (Option Queue)) (to : ℕ) (m : Message) : Type 0 where
   pub some : 0 < size m
   pub few : size m < 2 ^ 63
@@ -79,6 +83,7 @@ pub set_last : (queues : List (Option Queue)) (a b : Option Queue) (n : ℕ) →
 set_last [] a b n e = rw e refl
 set_last (x ∷ queues) a b n e = rw e (ap (λ rest. x ∷ rest) (set_last queues a b (length queues) refl))
 
+-- what was added behind all queues stands at the number of how many there were
 pub last_is : (queues : List (Option Queue)) (a : Option Queue) (n : ℕ) → n ≡ length queues → get_or (queues ++ a ∷ []) n None ≡ a
 last_is [] a n e = rw e refl
 last_is (x ∷ queues) a n e = rw e (last_is queues a (length queues) refl)
@@ -89,6 +94,7 @@ pub record IsCopied (old new : List (Option Queue)) (to : ℕ) (q : Queue) : Typ
   pub at : queue_at new to ≡ q
   pub marked : (full : Bool) → set new to (Some (record (queue_at new to) { full = full })) ≡ old ++ Some (record q { full = full }) ∷ []
 
+-- a place that came behind all others, and then got these messages, was copied with them
 pub copied_is : (old mid new : List (Option Queue)) (to : ℕ) (q : Queue) (all : List Message) → to ≡ length old → mid ≡ old ++ Some q ∷ [] → new ≡ set mid to (Some (record (queue_at mid to) { messages = all })) → IsCopied old new to (record q { messages = all })
 copied_is old mid new to q all last pushed copied =
     let here : queue_at mid to ≡ q = ap (λ qs. queue_at qs to) pushed ∙ queue_last old q to last in

@@ -43,6 +43,7 @@ pub record IsSlot (view : List (Option Queue)) (p : ℕ) (chain : Chain) : Type 
   pub count : chain.count ≡ length (messages_in (get_or view p None))
   pub mark : (chain.there && chain.full) ≡ is_marked (get_or view p None)
 
+-- the chain that was read at a number has as many nodes as the queue there has messages, and its full mark
 pub slot_at : (s : Slab Node) (chains : List Chain) (sound : IsSound s chains) (view : List (Option Queue)) → map (slot_of s) chains ≡ view → (p : ℕ) (chain : Chain) → p < length chains → chain ≡ get_or chains p chain → IsSlot view p chain
 slot_at s chains sound view is p chain below read =
     let e : chain ≡ get_or chains p no_chain = read ∙ get_or_default chains p chain no_chain below in
@@ -53,6 +54,7 @@ slot_at s chains sound view is p chain below read =
       mark = rw (e, at) (mark_in _ _ _ _ _ l);
     }
 
+-- there are as many chains as numbers that a contract sees
 pub view_length : (s : Slab Node) (chains : List Chain) (sound : IsSound s chains) (view : List (Option Queue)) → map (slot_of s) chains ≡ view → length view ≡ length chains
 view_length s chains sound view is = ap (λ (v : List (Option Queue)). length v) (view_slots s chains sound view is) ∙ slots_length chains sound.queues sound.store.as_many
 
@@ -83,6 +85,7 @@ none_up_to passes view start p before here k le lt = elim (cases_lt k p) [
   | inr more ↦ let e : k ≡ p = omega arith in subst (λ (j : ℕ). passes (get_or view j None) ≡ false) (sym e) here
 ]
 
+-- the store has as many nodes as all places have messages
 pub total_is : (s : Slab Node) (chains : List Chain) (sound : IsSound s chains) (view : List (Option Queue)) → map (slot_of s) chains ≡ view → slab_len s ≡ message_total view
 total_is s chains sound view is =
     let all = sums_same chains sound.queues sound.store.as_many (λ p lt. count_in _ _ _ _ _ (sound.store.each p lt)) in

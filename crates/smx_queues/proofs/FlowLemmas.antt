@@ -49,6 +49,7 @@ one_more : (p : Place) (m : Message) (ms : List Message) (rest : List QueuedMess
 one_more p m [] rest = refl
 one_more p m (x ∷ ms) rest = ap (λ (xs : List QueuedMessage). placed p x ∷ xs) (one_more p m ms rest)
 
+-- with a message more at the end of one queue, the flow has it inserted in its order
 pub flow_arrived : (p : Place) (m : Message) (places : List Place) (queues : Queues) (i : ℕ) (q : Queue) → IsRising place_before places → slice_get places i ≡ Some p → i < length queues
     → q.messages ≡ messages_in (get_or queues i None) ++ m ∷ [] → flow_of places (set queues i (Some q)) ≡ with_inserted queued_before (flow_of places queues) (placed p m)
 flow_arrived p m [] queues i q rise at below is = absurd cc
@@ -70,6 +71,7 @@ skip_without : (p r : Place) (ms : List Message) (rest : List QueuedMessage) →
 skip_without p r [] rest h = refl
 skip_without p r (x ∷ ms) rest h = rw h (ap (λ (xs : List QueuedMessage). placed r x ∷ xs) (skip_without p r ms rest h))
 
+-- without the front of one queue, the flow is without the first message at its place
 pub flow_left : (p : Place) (m : Message) (places : List Place) (queues : Queues) (i : ℕ) (q : Queue) → IsRising place_before places → slice_get places i ≡ Some p → i < length queues
     → messages_in (get_or queues i None) ≡ m ∷ q.messages → flow_of places (set queues i (Some q)) ≡ without_first (is_at p) (flow_of places queues)
 flow_left p m [] queues i q rise at below is = absurd cc
@@ -83,13 +85,16 @@ flow_left p m (r ∷ places) (old ∷ queues) (suc i) q rise at below is =
 
 -- ---- a place is emptied
 
+-- the message is queued at another place
 abbrev pub not_at : Place → QueuedMessage → Bool
 not_at p h = not (is_at p h)
 
+-- of a place's messages and others, those at other places are among the others
 pub drop_same : (p : Place) (ms : List Message) (rest : List QueuedMessage) → filter (not_at p) (messages_at p ms ++ rest) ≡ filter (not_at p) rest
 drop_same p [] rest = refl
 drop_same p (x ∷ ms) rest = rw (place_self p) (drop_same p ms rest)
 
+-- the messages of one place are kept where those of another are left out
 pub keep_other : (p r : Place) (ms : List Message) (rest : List QueuedMessage) → same_place r p ≡ false → filter (not_at p) (messages_at r ms ++ rest) ≡ messages_at r ms ++ filter (not_at p) rest
 keep_other p r [] rest h = refl
 keep_other p r (x ∷ ms) rest h = rw h (ap (λ (xs : List QueuedMessage). placed r x ∷ xs) (keep_other p r ms rest h))
@@ -100,6 +105,7 @@ keep_behind p (r ∷ places) [] h = refl
 keep_behind p (r ∷ places) (q ∷ queues) h =
     keep_other p r (messages_in q) (flow_of places queues) (behind p r h.0) ∙ ap (λ (xs : List QueuedMessage). messages_at r (messages_in q) ++ xs) (keep_behind p places queues h.1)
 
+-- with one queue emptied, the flow is without the messages at its place
 pub flow_emptied : (p : Place) (places : List Place) (queues : Queues) (i : ℕ) (q : Queue) → IsRising place_before places → slice_get places i ≡ Some p → i < length queues
     → q.messages ≡ [] → flow_of places (set queues i (Some q)) ≡ filter (not_at p) (flow_of places queues)
 flow_emptied p [] queues i q rise at below is = absurd cc
@@ -131,6 +137,7 @@ append_nil : {X : Type 0} (xs : List X) → xs ++ [] ≡ xs
 append_nil [] = refl
 append_nil (x ∷ xs) = ap (λ (ys : List _). x ∷ ys) (append_nil xs)
 
+-- what the flow has at a place is the messages of the queue at its number
 pub queue_found : (p : Place) (places : List Place) (queues : Queues) (i : ℕ) → IsRising place_before places → slice_get places i ≡ Some p → queue (flow_of places queues) p ≡ messages_in (get_or queues i None)
 queue_found p [] queues i rise at = absurd cc
 queue_found p (r ∷ places) [] i rise at = refl
@@ -141,6 +148,7 @@ queue_found p (r ∷ places) (q ∷ queues) zero rise at =
 queue_found p (r ∷ places) (q ∷ queues) (suc i) rise at =
     at_other p r (messages_in q) (flow_of places queues) (apart r p (first_before r p places i rise.0 at)) ∙ queue_found p places queues i rise.1 at
 
+-- at a place that is none of these the flow has nothing
 pub queue_none : (p : Place) (places : List Place) (queues : Queues) → list_any (same_place p) places ≡ false → queue (flow_of places queues) p ≡ []
 queue_none p [] queues h = refl
 queue_none p (r ∷ places) [] h = refl

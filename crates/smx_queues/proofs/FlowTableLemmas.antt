@@ -30,6 +30,7 @@ pub record IsFound (drivers : List DriverSpec) (queues : List (Option Queue)) (p
 some_is : {X : Type 0} (x y : X) → Some x ≡ Some y → x ≡ y
 some_is x y e = cc
 
+-- the number of a place has a queue, with the water marks of the place's driver
 pub found : (drivers : List DriverSpec) (places : List Place) (queues : List (Option Queue)) (p : Place) (i : ℕ) → AreQueuesOf drivers places queues → slice_get places i ≡ Some p → IsFound drivers queues p i
 found drivers [] queues p i h at = absurd cc
 found drivers (r ∷ places) [] p i h at = absurd h
@@ -47,9 +48,11 @@ found drivers (r ∷ places) (Some q ∷ queues) p (suc i) h at =
     let f = found drivers places queues p i h.2 at in
     record { q = f.q; slot = f.slot; below = omega (arith, f.below); high = f.high; low = f.low }
 
+-- the queue that was found at a number is the one there
 pub found_at : (drivers : List DriverSpec) (queues : List (Option Queue)) (p : Place) (i : ℕ) (f : IsFound drivers queues p i) → queue_at queues i ≡ f.q
 found_at drivers queues p i f = rw f.slot refl
 
+-- the number of a place is that of a queue
 pub is_place : (drivers : List DriverSpec) (places : List Place) (queues : List (Option Queue)) (p : Place) (i : ℕ) → AreQueuesOf drivers places queues → slice_get places i ≡ Some p → IsPlace queues i
 is_place drivers places queues p i h at = let f = found drivers places queues p i h at in rw f.slot refl
 
@@ -73,6 +76,7 @@ pub record IsNow (p : PlaceList) (all : List (Option Queue)) (t : FlowLists) : T
   pub flow : flow_of p.places all ≡ t.flow
   pub fulls : fulls_of p.places all ≡ t.fulls
 
+-- queues that are seen as these lists make them, with their room
 pub seen_now : (p : PlaceList) (all : List (Option Queue)) (t : FlowLists) (n : ℕ) → IsNow p all t → lists_of p all n ≡ record t { spare = n }
 seen_now p all t n h = rw (h.drivers, h.flow, h.fulls) refl
 
@@ -83,6 +87,7 @@ first_is (x ∷ ms) m e = ap (λ (y : Message). y ∷ ms) (some_is x m e)
 new_slot : (queues : List (Option Queue)) (i : ℕ) (q : Queue) → i < length queues → messages_in (get_or (set queues i (Some q)) i None) ≡ q.messages
 new_slot queues i q below = rw (get_or-set_same queues i (Some q) None below) refl
 
+-- where the front left the queue of a place's number, the lists are those without its first message
 pub left_now : (p : PlaceList) (all : List (Option Queue)) (n : ℕ) (place : Place) (i : ℕ) (m : Message) → IsFlow p all → slice_get p.places i ≡ Some place → slice_get (queue_at all i).messages 0 ≡ Some m
     → IsNow p (with_queue all i (without_front (queue_at all i))) (after_leaving (lists_of p all n) place)
 left_now p all n place i m h at first =
@@ -103,6 +108,7 @@ left_now p all n place i m h at first =
                 ∙ ap (λ (b : Bool). with_mark place b (fulls_of p.places all)) (rw (mark, ← flow, bytes, ← f.low) refl);
           }
 
+-- where a message came to the queue of a place's number, the lists are those with it
 pub arrived_now : (p : PlaceList) (all : List (Option Queue)) (n : ℕ) (place : Place) (i : ℕ) (m : Message) → IsFlow p all → slice_get p.places i ≡ Some place
     → IsNow p (with_queue all i (with_arrival (queue_at all i) m)) (after_arrival (lists_of p all n) place m)
 arrived_now p all n place i m h at =
@@ -122,6 +128,7 @@ arrived_now p all n place i m h at =
                 ∙ ap (λ (b : Bool). with_mark place b (fulls_of p.places all)) (rw (mark, ← flow, bytes, ← f.high) refl);
           }
 
+-- where the queue of a place's number was emptied, the lists are those without the place
 pub emptied_now : (p : PlaceList) (all : List (Option Queue)) (n : ℕ) (place : Place) (i : ℕ) → IsFlow p all → slice_get p.places i ≡ Some place
     → IsNow p (with_queue all i (emptied (queue_at all i))) (without_place (lists_of p all n) place)
 emptied_now p all n place i h at =
@@ -148,6 +155,7 @@ numbers_differ places p q i j at there differ same =
     let k : same_place p p ≡ false = subst (λ (x : Place). same_place p x ≡ false) (sym (some_is p q e)) differ in
     false≢true (sym k ∙ place_self p)
 
+-- where a front went from the queue of one number to another's, the lists are those after both
 pub moved_now : (p : PlaceList) (all : List (Option Queue)) (n : ℕ) (from to : Place) (i j : ℕ) (m : Message) → IsFlow p all → slice_get p.places i ≡ Some from → slice_get p.places j ≡ Some to
     → same_place from to ≡ false → slice_get (queue_at all i).messages 0 ≡ Some m
     → IsNow p (with_queue (with_queue all i (without_front (queue_at all i))) j (with_arrival (queue_at all j) m)) (after_arrival (after_leaving (lists_of p all n) from) to m)
@@ -161,20 +169,24 @@ moved_now p all n from to i j m h at there differ first =
 
 -- ---- at first
 
+-- new queues make a flow without messages
 pub none_yet : (drivers : List DriverSpec) (places : List Place) → flow_of places (new_queues drivers places) ≡ []
 none_yet drivers [] = refl
 none_yet drivers (p ∷ places) = none_yet drivers places
 
+-- new queues make no place full
 pub open_yet : (drivers : List DriverSpec) (places : List Place) → fulls_of places (new_queues drivers places) ≡ []
 open_yet drivers [] = refl
 open_yet drivers (p ∷ places) = open_yet drivers places
 
+-- new queues are one for each place, with the water marks of its driver
 pub queues_yet : (drivers : List DriverSpec) (places : List Place) → AreQueuesOf drivers places (new_queues drivers places)
 queues_yet drivers [] = tt
 queues_yet drivers (p ∷ places) = (refl, refl, queues_yet drivers places)
 
 -- ---- a place that is none of them
 
+-- the flow has nothing at a place that is none of these, so nothing to leave out
 pub flow_without : (p : Place) (places : List Place) (queues : List (Option Queue)) → list_any (same_place p) places ≡ false → flow_of places queues ≡ filter (not_at p) (flow_of places queues)
 flow_without p [] queues h = refl
 flow_without p (r ∷ places) [] h = refl
@@ -183,6 +195,7 @@ flow_without p (r ∷ places) (q ∷ queues) h =
     ap (λ (xs : List QueuedMessage). messages_at r (messages_in q) ++ xs) (flow_without p places queues b.1)
     ∙ sym (keep_other p r (messages_in q) (flow_of places queues) (same_turned r p ∙ b.0))
 
+-- a place that is none of these is not full, so nothing to leave out
 pub fulls_without : (p : Place) (places : List Place) (queues : List (Option Queue)) → list_any (same_place p) places ≡ false → fulls_of places queues ≡ filter (λ q. not (same_place q p)) (fulls_of places queues)
 fulls_without p [] queues h = refl
 fulls_without p (r ∷ places) [] h = refl
@@ -194,5 +207,6 @@ fulls_without p (r ∷ places) (q ∷ queues) h =
       | inr f ↦ rw f (fulls_without p places queues b.1)
     ]
 
+-- queues are seen as the lists without a place that the drivers don't have
 pub nothing_now : (p : PlaceList) (all : List (Option Queue)) (n : ℕ) (place : Place) → IsFlow p all → list_any (same_place place) p.places ≡ false → IsNow p all (without_place (lists_of p all n) place)
 nothing_now p all n place h none = record { sound = h; drivers = refl; flow = flow_without place p.places all none; fulls = fulls_without place p.places all none }

@@ -11,6 +11,7 @@ use Rattle.smx_queues.specs.QueueTable.{Queue}
 use Rattle.smx_queues.specs.Chains.{IsChain, IsQueue, with_follower}
 use Rattle.smx_queues.proofs.ChainLemmas.{last_owner}
 
+-- a node with this message, behind which the one of this key stands
 abbrev pub node_from : Message → ℕ → Node
 node_from m key = record { message = m; next = key }
 
@@ -69,6 +70,7 @@ follower_capacity own s p chain q key l = by q.messages l.nodes l.count
         let t = last_owner own s p l.rank _ m rest _ c in
         ap (λ (t : Slab Node). t.capacity) (follows_last s chain key t.2.0 (omega (arith, count)) t.2.1)
 
+-- where a node follows the last one of a chain, the store has as much room as before
 pub follower_spare : (own : ℕ → ℕ × ℕ) (s s2 : Slab Node) (p : ℕ) (chain : Chain) (q : Queue) (key : ℕ) → IsQueue own s p chain q → s2 ≡ with_follower s chain key → s2.capacity - slab_len s2 ≡ s.capacity - slab_len s
 follower_spare own s s2 p chain q key l is =
     rw is (omega (arith, follower_capacity own s p chain q key l, follower_counted own s p chain q key l))

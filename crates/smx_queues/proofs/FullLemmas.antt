@@ -61,6 +61,7 @@ marked_later : (p r : Place) (was full : Bool) (fulls : List Place) → place_be
 marked_later p r true full fulls h = mark_later p r full fulls h
 marked_later p r false full fulls h = refl
 
+-- with another queue at one number, its place is marked as that queue is, and others as before
 pub fulls_marked : (p : Place) (places : List Place) (queues : Queues) (i : ℕ) (q : Queue) → IsRising place_before places → slice_get places i ≡ Some p → i < length queues
     → fulls_of places (set queues i (Some q)) ≡ with_mark p q.full (fulls_of places queues)
 fulls_marked p [] queues i q rise at below = absurd cc
@@ -75,6 +76,7 @@ fulls_marked p (r ∷ places) (old ∷ queues) (suc i) q rise at below =
 
 -- ---- whether a place is marked
 
+-- a place that is none of these is not full
 pub mark_none : (p : Place) (places : List Place) (queues : Queues) → list_any (same_place p) places ≡ false → list_any (same_place p) (fulls_of places queues) ≡ false
 mark_none p [] queues h = refl
 mark_none p (r ∷ places) [] h = refl
@@ -91,6 +93,7 @@ elsewhere : (p r : Place) (was : Bool) (fulls : List Place) → same_place p r �
 elsewhere p r true fulls h = rw h refl
 elsewhere p r false fulls h = refl
 
+-- a place is full exactly where the queue at its number is
 pub mark_found : (p : Place) (places : List Place) (queues : Queues) (i : ℕ) → IsRising place_before places → slice_get places i ≡ Some p → list_any (same_place p) (fulls_of places queues) ≡ is_marked (get_or queues i None)
 mark_found p [] queues i rise at = absurd cc
 mark_found p (r ∷ places) [] i rise at = refl

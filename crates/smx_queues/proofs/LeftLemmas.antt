@@ -68,6 +68,7 @@ none_of (m ∷ ms) e = absurd (some_messages (length ms) e)
 no_messages : (q : Option Queue) → has_messages q ≡ false → messages_in q ≡ []
 no_messages q h = none_of (messages_in q) h
 
+-- there are as many queues as places
 pub many_queues : (drivers : List DriverSpec) (places : List Place) (queues : List (Option Queue)) → AreQueuesOf drivers places queues → length queues ≡ length places
 many_queues drivers [] [] h = refl
 many_queues drivers [] (q ∷ queues) h = absurd h
@@ -80,9 +81,11 @@ many_queues drivers (p ∷ places) (Some q ∷ queues) h = omega (arith, many_qu
 flow_skips : Skips flow_of has_messages
 flow_skips p places q queues h = rw (no_messages q h) refl
 
+-- where no place from a number on has messages, nothing of the flow is left there
 pub flow_ends : (places : List Place) (queues : List (Option Queue)) (n : ℕ) → length queues ≡ length places → IsLeastFrom has_messages queues n None → flow_of (drop n places) (drop n queues) ≡ []
 flow_ends places queues n many none = skip_rest flow_of has_messages places queues n flow_skips refl many none
 
+-- from a number on, the flow begins with the messages of the least place there that has any
 pub flow_next : (places : List Place) (queues : List (Option Queue)) (n i : ℕ) (p : Place) → length queues ≡ length places → IsLeastFrom has_messages queues n (Some i) → slice_get places i ≡ Some p
     → flow_of (drop n places) (drop n queues) ≡ messages_at p (messages_in (get_or queues i None)) ++ flow_of (drop (i + 1) places) (drop (i + 1) queues)
 flow_next places queues n i p many least at =
@@ -93,9 +96,11 @@ flow_next places queues n i p many least at =
 fronts_skip : Skips fronts_of has_messages
 fronts_skip p places q queues h = rw (no_messages q h) refl
 
+-- where no place from a number on has messages, no first message is left there
 pub fronts_end : (places : List Place) (queues : List (Option Queue)) (n : ℕ) → length queues ≡ length places → IsLeastFrom has_messages queues n None → fronts_of (drop n places) (drop n queues) ≡ []
 fronts_end places queues n many none = skip_rest fronts_of has_messages places queues n fronts_skip refl many none
 
+-- from a number on, the first messages begin with that of the least place there that has any
 pub fronts_next : (places : List Place) (queues : List (Option Queue)) (n i : ℕ) (p : Place) → length queues ≡ length places → IsLeastFrom has_messages queues n (Some i) → slice_get places i ≡ Some p
     → fronts_of (drop n places) (drop n queues) ≡ first_at p (messages_in (get_or queues i None)) ++ fronts_of (drop (i + 1) places) (drop (i + 1) queues)
 fronts_next places queues n i p many least at =
@@ -106,9 +111,11 @@ fronts_next places queues n i p many least at =
 fulls_skip : Skips fulls_of is_marked
 fulls_skip p places q queues h = rw h refl
 
+-- where no place from a number on is full, none of the full places is left there
 pub fulls_end : (places : List Place) (queues : List (Option Queue)) (n : ℕ) → length queues ≡ length places → IsLeastFrom is_marked queues n None → fulls_of (drop n places) (drop n queues) ≡ []
 fulls_end places queues n many none = skip_rest fulls_of is_marked places queues n fulls_skip refl many none
 
+-- from a number on, the full places begin with the least one there
 pub fulls_next : (places : List Place) (queues : List (Option Queue)) (n i : ℕ) (p : Place) → length queues ≡ length places → IsLeastFrom is_marked queues n (Some i) → slice_get places i ≡ Some p
     → fulls_of (drop n places) (drop n queues) ≡ p ∷ fulls_of (drop (i + 1) places) (drop (i + 1) queues)
 fulls_next places queues n i p many least at =
@@ -136,6 +143,7 @@ none_before : (places : List Place) → list_any (is_same None) places ≡ false
 none_before [] = refl
 none_before (p ∷ places) = none_before places
 
+-- the first messages of all queues are those that the flow has for each place
 pub fronts_found : (places : List Place) (queues : List (Option Queue)) → IsRising place_before places → fronts_of places queues ≡ fronts (flow_of places queues)
 fronts_found places queues rise = fronts_are None places queues rise (none_before places)
 
@@ -162,6 +170,7 @@ fronts_behind p (r ∷ places) (q ∷ queues) h = by (messages_in q) (fronts_beh
   by [] rest = rest
   by (m ∷ ms) rest = (apart p r h.0, rest)
 
+-- each first message of a queue is the model's first message of its place
 pub fronts_first : (places : List Place) (queues : List (Option Queue)) → IsRising place_before places → AreFirst (flow_of places queues) (fronts_of places queues)
 fronts_first [] queues rise = tt
 fronts_first (p ∷ places) [] rise = tt
@@ -195,6 +204,7 @@ at_length : (p : Place) (ms : List Message) → length (messages_at p ms) ≡ le
 at_length p [] = refl
 at_length p (m ∷ ms) = omega (arith, at_length p ms)
 
+-- the flow has as many messages as all queues together
 pub flow_length : (places : List Place) (queues : List (Option Queue)) → length queues ≡ length places → length (flow_of places queues) ≡ message_total queues
 flow_length [] [] many = refl
 flow_length [] (q ∷ queues) many = absurd (omega arith)
@@ -206,6 +216,7 @@ flow_length (p ∷ places) (q ∷ queues) many =
 
 -- ---- what an iterator's step yields
 
+-- with a first message in its queue, a place shows that message before the rest
 pub head_front : (p : Place) (q : Option Queue) (m : Message) (rest : List QueuedMessage) → slice_get (messages_in q) 0 ≡ Some m → first_at p (messages_in q) ++ rest ≡ record { place = p; message = m } ∷ rest
 head_front p q m rest e = by (messages_in q) e where
   by : (ms : List Message) → slice_get ms 0 ≡ Some m → first_at p ms ++ rest ≡ record { place = p; message = m } ∷ rest

@@ -81,14 +81,17 @@ looks : (p : Place) (places : List Place) (bytes : List ℕ) (i b : ℕ) (t : Ma
 looks p places bytes i b t q law rise at many seen =
     ap (list_any (same_place q)) (marked_set p places bytes i b rise at (omega (arith, many, slice_get_within places i p at)) ∙ ap (with_mark p (eqb b 1)) seen) ∙ law p q (eqb b 1) t.marked
 
+-- a place whose byte is set to 1 is marked
 pub marked_here : (p : Place) (places : List Place) (bytes : List ℕ) (i : ℕ) (t : MarkList) → AreOfOnePlace → IsRising place_before places → slice_get places i ≡ Some p → length bytes ≡ length places
     → marked_of places bytes ≡ t.marked → list_any (same_place p) (marked_of places (set bytes i 1)) ≡ true
 marked_here p places bytes i t law rise at many seen = looks p places bytes i 1 t p law rise at many seen ∙ rw (place_self p) refl
 
+-- where a byte is set to 1, each other place is marked as before
 pub marked_others : (p : Place) (places : List Place) (bytes : List ℕ) (i : ℕ) (t : MarkList) (q : Place) → AreOfOnePlace → IsRising place_before places → slice_get places i ≡ Some p → length bytes ≡ length places
     → marked_of places bytes ≡ t.marked → same_place p q ≡ false → list_any (same_place q) (marked_of places (set bytes i 1)) ≡ has_mark t q
 marked_others p places bytes i t q law rise at many seen apart = looks p places bytes i 1 t q law rise at many seen ∙ ap (λ (s : Bool). cond s true (has_mark t q)) apart
 
+-- where a byte is set to 1, each place that was marked still is
 pub marked_still : (p : Place) (places : List Place) (bytes : List ℕ) (i : ℕ) (t : MarkList) (q : Place) → AreOfOnePlace → IsRising place_before places → slice_get places i ≡ Some p → length bytes ≡ length places
     → marked_of places bytes ≡ t.marked → has_mark t q ≡ true → list_any (same_place q) (marked_of places (set bytes i 1)) ≡ true
 marked_still p places bytes i t q law rise at many seen h = looks p places bytes i 1 t q law rise at many seen ∙ (ap (cond (same_place p q) true) h ∙ either (same_place p q)) where
@@ -96,6 +99,7 @@ marked_still p places bytes i t q law rise at many seen h = looks p places bytes
   either true = refl
   either false = refl
 
+-- where a byte is set to 0, all marks but that of its place are there
 pub cleared_at : (p : Place) (places : List Place) (bytes : List ℕ) (i : ℕ) (t : MarkList) (q : Place) → AreOfOnePlace → IsRising place_before places → slice_get places i ≡ Some p → length bytes ≡ length places
     → marked_of places bytes ≡ t.marked → list_any (same_place q) (marked_of places (set bytes i 0)) ≡ all_but (has_mark t) p q
 cleared_at p places bytes i t q law rise at many seen = looks p places bytes i 0 t q law rise at many seen ∙ but (same_place p q) (has_mark t q) where
@@ -126,6 +130,7 @@ left_many p (x ∷ xs) = elim (cases_Bool (same_place p x)) [
   | inr f ↦ rw f (omega (arith, left_many p xs))
 ]
 
+-- places without one of them are fewer
 pub left_fewer : (p : Place) (xs : List Place) → list_any (same_place p) xs ≡ true → length (filter (λ q. not (same_place p q)) xs) < length xs
 left_fewer p [] h = absurd (false≢true h)
 left_fewer p (x ∷ xs) h = elim (cases_Bool (same_place p x)) [
@@ -133,6 +138,7 @@ left_fewer p (x ∷ xs) h = elim (cases_Bool (same_place p x)) [
   | inr f ↦ let k : list_any (same_place p) xs ≡ true = rw f at h in rw f (omega (arith, left_fewer p xs k))
 ]
 
+-- without the mark of a place that had one there are fewer marks
 pub fewer_marks : (p : Place) (places : List Place) (bytes : List ℕ) (i : ℕ) (t : MarkList) → IsRising place_before places → slice_get places i ≡ Some p → length bytes ≡ length places → marked_of places bytes ≡ t.marked
     → has_mark t p ≡ true → length (marked_of places (set bytes i 0)) < length t.marked
 fewer_marks p places bytes i t rise at many seen h =
@@ -141,12 +147,15 @@ fewer_marks p places bytes i t rise at many seen h =
 
 -- ---- a mark is read
 
+-- a place that the drivers don't have is not marked
 pub no_mark_there : (p : Place) (places : List Place) (bytes : List ℕ) (t : MarkList) → list_any (same_place p) places ≡ false → marked_of places bytes ≡ t.marked → false ≡ has_mark t p
 no_mark_there p places bytes t none seen = sym (ap (list_any (same_place p)) (sym seen) ∙ marked_none p places bytes none)
 
+-- a place that the drivers don't have is not marked, so whatever would follow from its mark holds
 pub none_fewer : (p : Place) (places : List Place) (bytes : List ℕ) (t : MarkList) → list_any (same_place p) places ≡ false → marked_of places bytes ≡ t.marked → has_mark t p ≡ true → length t.marked < length t.marked
 none_fewer p places bytes t none seen h = absurd (false≢true (no_mark_there p places bytes t none seen ∙ h))
 
+-- the byte that was read of a place is 1 exactly where the place is marked
 pub byte_read : (p : Place) (places : List Place) (bytes : List ℕ) (i b : ℕ) (t : MarkList) → IsRising place_before places → slice_get places i ≡ Some p → length bytes ≡ length places → marked_of places bytes ≡ t.marked
     → b ≡ get_or bytes i b → eqb b 1 ≡ has_mark t p
 byte_read p places bytes i b t rise at many seen is =
@@ -159,10 +168,12 @@ least_slot : (bytes : List ℕ) (start : ℕ) (r : Option ℕ) → IsFirstOne by
 least_slot bytes start None none = λ k le. byte_slot bytes k ∙ none k le
 least_slot bytes start (Some p) one = (one.0, omega (arith, one.1, length-map bytes slot), byte_slot bytes p ∙ one.2, λ k le lt. byte_slot bytes k ∙ one.3 k le lt)
 
+-- where no byte from a number on is 1, no marked place is left there
 pub marks_end : (places : List Place) (bytes : List ℕ) (n : ℕ) (now : List Place) → length bytes ≡ length places → marked_of (drop n places) (drop n bytes) ≡ now → IsFirstOne bytes n None → now ≡ []
 marks_end places bytes n now many seen none =
     sym seen ∙ (marked_left places bytes n ∙ fulls_end places (map slot bytes) n (length-map bytes slot ∙ many) (least_slot bytes n None none))
 
+-- from a number on, the marked places begin with that of the first byte there that is 1
 pub marks_step : (places : List Place) (bytes : List ℕ) (n i : ℕ) (p : Place) (now : List Place) → length bytes ≡ length places → marked_of (drop n places) (drop n bytes) ≡ now → IsFirstOne bytes n (Some i) → slice_get places i ≡ Some p
     → now ≡ p ∷ marked_of (drop (i + 1) places) (drop (i + 1) bytes)
 marks_step places bytes n i p now many seen one at =
@@ -184,6 +195,7 @@ byte_here bytes start k le = ap (λ (b : ℕ). eqb b 1) (byte_from bytes start (
 past_all : (bytes : List ℕ) (k : ℕ) → length bytes ≤ k → eqb (get_or bytes k 0) 1 ≡ false
 past_all bytes k past = ap (λ (b : ℕ). eqb b 1) (get_or_past bytes k 0 past)
 
+-- at the end of the marks or behind it, no byte is 1
 pub none_past : (bytes : List ℕ) (start end : ℕ) → AreWithin 0 end bytes → end ≤ start → IsFirstOne bytes start None
 none_past bytes start end w past = λ k le. w.none_behind k (omega (arith, past, le))
 
@@ -194,6 +206,7 @@ byte_between bytes start end k le lt = ap (λ (b : ℕ). eqb b 1) (get_or-take (
 many_between : (bytes : List ℕ) (start end : ℕ) → start ≤ end → end ≤ length bytes → length (take (end - start) (drop start bytes)) ≡ end - start
 many_between bytes start end le within = omega (arith, length-take (end - start) (drop start bytes), length-drop start bytes)
 
+-- where no byte from a number up to the end of the marks is 1, none behind it is either
 pub none_from : (bytes : List ℕ) (start end : ℕ) → AreWithin 0 end bytes → start < end → IsFirstByte (is_byte 1) (take (end - start) (drop start bytes)) None → IsFirstOne bytes start None
 none_from bytes start end w less none = λ k le. elim (cases_lt k end) [
   | inl lt ↦ elim (cases_Bool (eqb (get_or bytes k 0) 1)) [
@@ -203,6 +216,7 @@ none_from bytes start end w less none = λ k le. elim (cases_lt k end) [
   | inr past ↦ w.none_behind k past
 ]
 
+-- the first byte from a number up to the end of the marks that is 1 is the first one at all
 pub one_from : (bytes : List ℕ) (start end i : ℕ) → AreWithin 0 end bytes → start < end → IsFirstByte (is_byte 1) (take (end - start) (drop start bytes)) (Some i) → IsFirstOne bytes start (Some (start + i))
 one_from bytes start end i w less found =
     let low : i < end - start = omega (arith, found.0.high, many_between bytes start end (omega arith) w.end_in) in (
@@ -240,6 +254,7 @@ lies_within first end bytes k w one = (
   elim (cases_lt k end) [ inl lt ↦ lt | inr le ↦ absurd (false≢true (sym (w.none_behind k le) ∙ one)) ],
 )
 
+-- with a byte set to 1, the marks lie within wider bounds that hold it and the old ones
 pub marked_within : (first end low high : ℕ) (bytes : List ℕ) (i : ℕ) → AreWithin first end bytes → i < length bytes → low ≤ i → i < high → ((k : ℕ) → first ≤ k → k < end → (low ≤ k) × (k < high)) → high ≤ length bytes
     → AreWithin low high (set bytes i 1)
 marked_within first end low high bytes i w there le lt kept few = record {
@@ -253,6 +268,7 @@ marked_within first end low high bytes i w there le lt kept few = record {
     | inr f ↦ other_byte bytes i 1 k differ ∙ f
   ]
 
+-- with a byte set to 0, the marks lie within the bounds that they had
 pub cleared_within : (first end : ℕ) (bytes : List ℕ) (i : ℕ) → AreWithin first end bytes → i < length bytes → AreWithin first end (set bytes i 0)
 cleared_within first end bytes i w there = record {
   end_in = omega (arith, w.end_in, length-set bytes i 0);
@@ -284,6 +300,7 @@ behind_marked p (r ∷ places) (b ∷ bytes) h = elim (cases_Bool (eqb b 1)) [
   | inr f ↦ rw f (behind_marked p places bytes h.1)
 ]
 
+-- where the places rise, the marked ones do
 pub marked_rise : (places : List Place) (bytes : List ℕ) → IsRising place_before places → IsRising place_before (marked_of places bytes)
 marked_rise [] bytes h = tt
 marked_rise (p ∷ places) [] h = tt
@@ -292,6 +309,7 @@ marked_rise (p ∷ places) (b ∷ bytes) h = elim (cases_Bool (eqb b 1)) [
   | inr f ↦ rw f (marked_rise places bytes h.1)
 ]
 
+-- of marked places that rise, the first is the least
 pub least_first : (p : Place) (rest : List Place) → IsRising place_before (p ∷ rest) → IsLeastMarked (λ q. list_any (same_place q) (p ∷ rest)) p
 least_first p rest h = record { marked = rw (place_self p) refl; none_before = λ q before. or_from _ _ (apart q p before) (before_all p q rest h.0 before) }
 

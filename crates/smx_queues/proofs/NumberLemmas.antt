@@ -23,16 +23,19 @@ place_at driver minor s = record { stream = record { driver = driver; minor = mi
 
 -- ---- elements of two lists
 
+-- what stands in a list stands at the same index with another list behind it
 pub get_left : {X : Type 0} (xs ys : List X) (i : ℕ) (x : X) → slice_get xs i ≡ Some x → slice_get (xs ++ ys) i ≡ Some x
 get_left [] ys i x at = absurd cc
 get_left (y ∷ xs) ys zero x at = at
 get_left (y ∷ xs) ys (suc i) x at = get_left xs ys i x at
 
+-- what stands behind a list stands so many places past the list's end
 pub get_right : {X : Type 0} (xs ys : List X) (n k : ℕ) → n ≡ length xs + k → slice_get (xs ++ ys) n ≡ slice_get ys k
 get_right [] ys n k e = ap (slice_get ys) (omega arith)
 get_right (x ∷ xs) ys zero k e = absurd (omega arith)
 get_right (x ∷ xs) ys (suc n) k e = get_right xs ys n k (omega arith)
 
+-- at an index within a list stands the same with another list behind it
 pub left_only : {X : Type 0} (xs ys : List X) (i : ℕ) → i < length xs → slice_get (xs ++ ys) i ≡ slice_get xs i
 left_only [] ys i lt = absurd (omega arith)
 left_only (x ∷ xs) ys zero lt = refl
@@ -154,6 +157,7 @@ minors_last ds d n e = ap (λ (o : Option DriverSpec). option_map_or (λ x. x.mi
 minors_past : (ds : List DriverSpec) (n : ℕ) → length ds ≤ n → minors_of ds n ≡ 0
 minors_past ds n le = ap (λ (o : Option DriverSpec). option_map_or (λ x. x.minors) o 0) (slice_get_past ds n le)
 
+-- with one driver more, the places are those before and both sides of each of its minors
 pub one_driver_more : (ds : List DriverSpec) (firsts : List ℕ) (places : List Place) (d : DriverSpec) → ArePlaces ds firsts places
     → ArePlaces (ds ++ d ∷ []) (firsts ++ length places ∷ []) (places ++ sides_of (length ds) d.minors)
 one_driver_more ds firsts places d h = record {
@@ -190,19 +194,23 @@ one_driver_more ds firsts places d h = record {
         ]))
   ]
 
+-- no drivers have no places
 pub no_drivers : ArePlaces [] [] []
 no_drivers = record { one_each = refl; rising = tt; numbered = λ p lt. absurd (omega arith); none_else = λ p le. refl; drivers_below = tt }
 
 -- ---- what a place says where its driver has its minor
 
+-- a place whose driver has its minor is of one of the drivers that are numbered
 pub driver_there : (ds : List DriverSpec) (firsts : List ℕ) (places : List Place) (p : Place) → ArePlaces ds firsts places → p.stream.minor < minors_of ds p.stream.driver → p.stream.driver < length firsts
 driver_there ds firsts places p h lt = elim (cases_lt p.stream.driver (length ds)) [
   | inl before ↦ omega (arith, h.one_each)
   | inr past ↦ absurd (omega (arith, minors_past ds p.stream.driver past))
 ]
 
+-- a place whose driver has its minor has a number below how many places there are
 pub number_below : (ds : List DriverSpec) (firsts : List ℕ) (places : List Place) (p : Place) → ArePlaces ds firsts places → p.stream.minor < minors_of ds p.stream.driver → number_of firsts p < length places
 number_below ds firsts places p h lt = slice_get_within places (number_of firsts p) p (h.numbered p lt)
 
+-- the number that was read for a driver within the list is the one there
 pub first_is : (firsts given : List ℕ) (d x : ℕ) → given ≡ firsts → d < length firsts → x ≡ get_or given d x → x ≡ get_or firsts d 0
 first_is firsts given d x e lt is = is ∙ (ap (λ (ns : List ℕ). get_or ns d x) e ∙ get_or_default firsts d x 0 lt)

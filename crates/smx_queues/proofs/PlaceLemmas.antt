@@ -69,6 +69,7 @@ apart3 a b c x y z h = grind (arith, nat_tests)
 behind3 : (a b c x y z : ℕ) → before3 a b c x y z ≡ true → same3 x y z a b c ≡ false
 behind3 a b c x y z h = grind (arith, nat_tests)
 
+-- each place is the same as itself
 pub place_self : (p : Place) → same_place p p ≡ true
 place_self p = same_is p p ∙ self3 p.stream.driver p.stream.minor (side_number p.side)
 
@@ -76,6 +77,7 @@ place_self p = same_is p p ∙ self3 p.stream.driver p.stream.minor (side_number
 pub not_before : (p : Place) → place_before p p ≡ false
 not_before p = before_is p p ∙ never3 p.stream.driver p.stream.minor (side_number p.side)
 
+-- of two places, not each comes before the other
 pub not_after : (p q : Place) → place_before p q ≡ true → place_before q p ≡ false
 not_after p q h = before_is q p ∙ after3 p.stream.driver p.stream.minor (side_number p.side) q.stream.driver q.stream.minor (side_number q.side) (sym (before_is p q) ∙ h)
 
@@ -83,9 +85,11 @@ not_after p q h = before_is q p ∙ after3 p.stream.driver p.stream.minor (side_
 pub apart : (p q : Place) → place_before p q ≡ true → same_place p q ≡ false
 apart p q h = same_is p q ∙ apart3 p.stream.driver p.stream.minor (side_number p.side) q.stream.driver q.stream.minor (side_number q.side) (sym (before_is p q) ∙ h)
 
+-- a place behind another is not that one
 pub behind : (p q : Place) → place_before p q ≡ true → same_place q p ≡ false
 behind p q h = same_is q p ∙ behind3 p.stream.driver p.stream.minor (side_number p.side) q.stream.driver q.stream.minor (side_number q.side) (sym (before_is p q) ∙ h)
 
+-- whether two places are the same is told in either order
 pub same_turned : (p q : Place) → same_place p q ≡ same_place q p
 same_turned p q = same_is p q ∙ (turned3 p.stream.driver p.stream.minor (side_number p.side) q.stream.driver q.stream.minor (side_number q.side) ∙ sym (same_is q p)) where
   eqb_turned : (a b : ℕ) → eqb a b ≡ eqb b a
@@ -109,8 +113,10 @@ by_driver a b c x y z h = grind (arith, nat_tests)
 by_minor : (a b c y z : ℕ) → ltb b y ≡ true → before3 a b c a y z ≡ true
 by_minor a b c y z h = grind (arith, nat_tests)
 
+-- a place of a lower driver comes first
 pub lower_driver : (p q : Place) → ltb p.stream.driver q.stream.driver ≡ true → place_before p q ≡ true
 lower_driver p q h = before_is p q ∙ by_driver p.stream.driver p.stream.minor (side_number p.side) q.stream.driver q.stream.minor (side_number q.side) h
 
+-- of places of one driver, that of a lower minor comes first
 pub lower_minor : (driver m n : ℕ) (s t : Side) → ltb m n ≡ true → place_before (place_at driver m s) (place_at driver n t) ≡ true
 lower_minor driver m n s t h = before_is (place_at driver m s) (place_at driver n t) ∙ by_minor driver m (side_number s) n (side_number t) h

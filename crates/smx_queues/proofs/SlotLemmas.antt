@@ -22,6 +22,7 @@ slots (chain ∷ chains) (q ∷ queues) = slot chain q ∷ slots chains queues
 abbrev queue_from : List Message → Bool → ℕ → ℕ → Queue
 queue_from ms marked above below = record { messages = ms; full = marked; high = above; low = below }
 
+-- queues with the same messages, full mark and water marks are the same
 pub same_queue : (a b : Queue) → a.messages ≡ b.messages → a.full ≡ b.full → a.high ≡ b.high → a.low ≡ b.low → a ≡ b
 same_queue a b m f h l =
     let made : queue_from a.messages a.full a.high a.low ≡ queue_from b.messages b.full b.high b.low = cc in
@@ -45,6 +46,7 @@ pub store_slots : (own : ℕ → ℕ × ℕ) (s : Slab Node) (chains : List Chai
 store_slots own s chains queues loose st =
     slots_map s chains ∙ ap (slots chains) (store_queues own s chains queues loose st)
 
+-- with another chain and queue at a number, a contract sees that queue there
 pub slots-set : (chains : List Chain) (queues : List Queue) (p : ℕ) (after : Chain) (q : Queue) → p < length chains → length queues ≡ length chains → slots (set chains p after) (set queues p q) ≡ set (slots chains queues) p (slot after q)
 slots-set [] queues p after q within many = absurd (omega (arith, within))
 slots-set (chain ∷ chains) [] p after q within many = absurd (omega (arith, many))
@@ -52,6 +54,7 @@ slots-set (chain ∷ chains) (x ∷ queues) zero after q within many = refl
 slots-set (chain ∷ chains) (x ∷ queues) (suc p) after q within many =
     ap (λ rest. slot chain x ∷ rest) (slots-set chains queues p after q (omega (arith, within)) (omega (arith, many)))
 
+-- with a chain and a queue more at the end, a contract sees that queue at the end
 pub slots-push : (chains : List Chain) (queues : List Queue) (after : Chain) (q : Queue) → length queues ≡ length chains → slots (chains ++ after ∷ []) (queues ++ q ∷ []) ≡ slots chains queues ++ slot after q ∷ []
 slots-push [] [] after q many = refl
 slots-push [] (x ∷ queues) after q many = absurd (omega (arith, many))
@@ -72,6 +75,7 @@ slot_there chain q some = by chain.there some
     by true some = refl
     by false some = absurd (cc)
 
+-- a place that a contract sees has a chain that is there, and its queue
 pub place_there : (chains : List Chain) (queues : List Queue) (p : ℕ) → IsPlace (slots chains queues) p → IsThere chains queues p
 place_there [] queues p is = absurd (cc)
 place_there (chain ∷ chains) [] p is = absurd (cc)

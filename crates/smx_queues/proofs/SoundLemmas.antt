@@ -15,12 +15,15 @@ use Rattle.smx_queues.proofs.FollowLemmas.{node_from}
 use Rattle.smx_queues.proofs.SlotLemmas.{slot, slots, same_queue, store_slots, slots-set, slots-push, IsThere, place_there, there_shown}
 use Rattle.smx_queues.proofs.StoreLemmas.{size, left_with, detached_queue, store_insert, store_remove, store_detach, store_attach, bare_queue, IsBare, store_reset, store_push, store_grown, store_marked}
 
+-- the queues of a table
 abbrev pub queues_of : QueueTable → List (Option Queue)
 queues_of t = t.queues
 
+-- how many messages can arrive at a table without memory
 abbrev pub spare_of : QueueTable → ℕ
 spare_of t = t.spare
 
+-- the slots of a store, by key
 abbrev pub slots_of : Slab Node → List (Option Node)
 slots_of s = s.slots
 
@@ -29,6 +32,7 @@ pub record IsSeen (s : Slab Node) (chains : List Chain) (view : List (Option Que
   pub sound : IsSound s chains
   pub is : map (slot_of s) chains ≡ view
 
+-- fields that are the same as others are seen as the same
 pub seen_same : (s s' : Slab Node) (chains chains' : List Chain) (view view' : List (Option Queue)) → s ≡ s' → chains ≡ chains' → view ≡ view' → IsSeen s' chains' view' → IsSeen s chains view
 seen_same s s' chains chains' view view' e f g seen = rw (e, f, g) seen
 
@@ -59,6 +63,7 @@ pub record IsAt (own : ℕ → ℕ × ℕ) (s : Slab Node) (chains : List Chain)
   pub read : chain ≡ get_or chains p no_chain
   pub queue : IsQueue own s p chain (queue_at view p)
 
+-- the chain that was read at a place's number is there, and is the queue that a contract sees
 pub place_at : (s : Slab Node) (chains : List Chain) (sound : IsSound s chains) (view : List (Option Queue)) → map (slot_of s) chains ≡ view → (p : ℕ) → IsPlace view p → (chain : Chain) → chain ≡ get_or chains p chain → IsAt sound.own s chains view p chain
 place_at s chains sound view is p there chain read =
     let same : view ≡ slots chains sound.queues = sym is ∙ store_slots _ _ _ _ _ sound.store in
@@ -99,6 +104,7 @@ pub record IsFirst (s : Slab Node) (chain : Chain) (q : Queue) : Type 0 where
   pub some : 0 < size message
   pub few : size message < 2 ^ 63
 
+-- a chain that has nodes has a first one, with the first message of its queue
 pub first_of : (own : ℕ → ℕ × ℕ) (s : Slab Node) (p : ℕ) (chain : Chain) (q : Queue) → IsQueue own s p chain q → 0 < chain.count → IsFirst s chain q
 first_of own s p chain q l some = by q.messages refl
   where
@@ -119,6 +125,7 @@ first_of own s p chain q l some = by q.messages refl
           few = have.1;
         }
 
+-- where the same node is found twice, both are one
 pub some_is : (x y : Node) → Some x ≡ Some y → x ≡ y
 some_is x y e = cc
 
@@ -126,18 +133,22 @@ some_is x y e = cc
 pub first_is : (s : Slab Node) (chain : Chain) (q : Queue) (node : Node) (f : IsFirst s chain q) → get s chain.first ≡ Some node → node_from f.message f.next ≡ node
 first_is s chain q node f found = some_is _ _ (sym f.found ∙ found)
 
+-- the bytes of the first message are no more than those of its chain
 pub first_within : (s : Slab Node) (chain : Chain) (q : Queue) (node : Node) (bytes : List ℕ) → IsFirst s chain q → get s chain.first ≡ Some node → bytes ≡ node.message.bytes → length bytes ≤ chain.bytes
 first_within s chain q node bytes f found are =
     omega (arith, f.within, ap (λ (x : Node). size x.message) (first_is s chain q node f found), ap (λ (b : List ℕ). length b) are)
 
+-- the first message has fewer bytes than 2 to the 63rd
 pub first_few : (s : Slab Node) (chain : Chain) (q : Queue) (node : Node) (bytes : List ℕ) → IsFirst s chain q → get s chain.first ≡ Some node → bytes ≡ node.message.bytes → length bytes < 2 ^ 63
 first_few s chain q node bytes f found are =
     omega (arith, f.few, ap (λ (x : Node). size x.message) (first_is s chain q node f found), ap (λ (b : List ℕ). length b) are)
 
+-- the message of a chain's first node is the first of the queue
 pub first_message_is : (s : Slab Node) (chain : Chain) (q : Queue) (node : Node) (f : IsFirst s chain q) → get s chain.first ≡ Some node → Some node.message ≡ slice_get q.messages 0
 first_message_is s chain q node f found =
     rw f.was (ap (λ (x : Node). Some x.message) (sym (first_is s chain q node f found)))
 
+-- where a queue has messages, its chain has nodes
 pub filled : (own : ℕ → ℕ × ℕ) (s : Slab Node) (p : ℕ) (chain : Chain) (q : Queue) → IsQueue own s p chain q → 0 < length q.messages → 0 < chain.count
 filled own s p chain q l some = omega (arith, l.count)
 
@@ -145,6 +156,7 @@ filled own s p chain q l some = omega (arith, l.count)
 pub front_gone : (q : Queue) (m : Message) (rest : List Message) → q.messages ≡ m ∷ rest → left_with q rest ≡ without_front q
 front_gone q m rest was = ap (left_with q) (ap (drop 1) (sym was))
 
+-- where one chain changes, another is read as it was
 pub read_other : (chains : List Chain) (p q : ℕ) (after chain : Chain) → p ≢ q → chain ≡ get_or (set chains p after) q chain → chain ≡ get_or chains q chain
 read_other chains p q after chain differ read =
     read ∙ get_or-set_other chains p q after chain (λ e. differ (sym e))
@@ -255,6 +267,7 @@ seen_move s s2 chains sound view is from to from_there to_there differ source af
     moved_chains : (chains : List Chain) (from to : ℕ) (after left last last' : Chain) → after ≡ left → last ≡ last' → set (set chains from after) to last ≡ set (set chains from left) to last'
     moved_chains chains from to after left last last' e f = rw (e, f) refl
 
+-- where the same message is found twice, both are one
 pub message_is : (x y : Message) → Some x ≡ Some y → x ≡ y
 message_is x y e = cc
 
@@ -316,9 +329,11 @@ seen_again s chains sound view is p below gone after bare =
     let seen = seen_store _ s _ _ (store_reset _ s chains sound.queues 0 p after sound.store below none bare) in
     seen_same s s _ _ _ _ refl refl (rw same (sym (slots-set chains sound.queues p after _ below sound.store.as_many))) seen
 
+-- what a contract sees is the queues of those chains that are there
 pub view_slots : (s : Slab Node) (chains : List Chain) (sound : IsSound s chains) (view : List (Option Queue)) → map (slot_of s) chains ≡ view → view ≡ slots chains sound.queues
 view_slots s chains sound view is = sym is ∙ store_slots _ _ _ _ _ sound.store
 
+-- a new chain has no nodes, where its high water mark is at most 4,096 and its low one is below that
 pub new_is_bare : (above below : ℕ) → above ≤ 4096 → below < above → IsBare (new_chain above below)
 new_is_bare above below high low =
     record {
@@ -384,6 +399,7 @@ pub record IsOriginal (view : List (Option Queue)) (p : ℕ) (chain : Chain) : T
   pub same : (messages : List Message) → messages ≡ (queue_at view p).messages → record (bare_queue (emptied_chain chain)) { messages = messages; full = chain.full } ≡ queue_at view p
   pub few : chain.full ≡ false → bytes_of (queue_at view p).messages < chain.high
 
+-- the chain of a place that is there is one that can be copied, with its messages and its marks
 pub original : (s : Slab Node) (chains : List Chain) (sound : IsSound s chains) (view : List (Option Queue)) → map (slot_of s) chains ≡ view → (p : ℕ) → IsPlace view p → (chain : Chain) → chain ≡ get_or chains p chain → IsOriginal view p chain
 original s chains sound view is p there chain read =
     let a = place_at s chains sound view is p there chain read in

@@ -19,6 +19,7 @@ pub record IsGood (d : DriverSpec) : Type 0 where
   pub bounded : d.high ≤ 4096
   pub apart : d.low < d.high
 
+-- a driver that can be had has at most 64 minors, a high water mark up to 4,096, and a low one below it
 pub good : (d : DriverSpec) → spec_check d ≡ Ok tt → IsGood d
 good d can = elim (cases_Bool (ltb d.minors 1 || ltb MAX_MINORS d.minors)) [
   | inl t ↦ let bad = rw t at can in absurd cc
@@ -36,6 +37,7 @@ good d can = elim (cases_Bool (ltb d.minors 1 || ltb MAX_MINORS d.minors)) [
   apart : (ltb MAX_HIGH d.high || leb d.high d.low) ≡ false → d.low < d.high
   apart g = grind (arith, nat_tests)
 
+-- each driver of a list that can be had has so few minors and such water marks
 pub good_at : (drivers : List DriverSpec) (i : ℕ) (d : DriverSpec) → IsDriverList drivers → i < length drivers → d ≡ get_or drivers i d → IsGood d
 good_at drivers i d h lt is = subst IsGood (sym is) (good (get_or drivers i d) (h.each i d lt))
 
@@ -43,9 +45,11 @@ good_at drivers i d h lt is = subst IsGood (sym is) (good (get_or drivers i d) (
 pub minors_at : (drivers : List DriverSpec) (i : ℕ) (d : DriverSpec) → i < length drivers → d ≡ get_or drivers i d → d.minors ≡ minors_of drivers i
 minors_at drivers i d lt is = ap (λ (x : DriverSpec). x.minors) is ∙ ap (λ (o : Option DriverSpec). option_map_or (λ x. x.minors) o 0) (sym (slice_get-get_or drivers i d lt))
 
+-- the high water mark that was read of a driver is that of its number
 pub high_at : (drivers : List DriverSpec) (i : ℕ) (d : DriverSpec) → i < length drivers → d ≡ get_or drivers i d → d.high ≡ high_of drivers i
 high_at drivers i d lt is = ap (λ (x : DriverSpec). x.high) is ∙ ap (λ (o : Option DriverSpec). option_map_or (λ x. x.high) o 0) (sym (slice_get-get_or drivers i d lt))
 
+-- the low water mark that was read of a driver is that of its number
 pub low_at : (drivers : List DriverSpec) (i : ℕ) (d : DriverSpec) → i < length drivers → d ≡ get_or drivers i d → d.low ≡ low_of drivers i
 low_at drivers i d lt is = ap (λ (x : DriverSpec). x.low) is ∙ ap (λ (o : Option DriverSpec). option_map_or (λ x. x.low) o 0) (sym (slice_get-get_or drivers i d lt))
 

@@ -23,9 +23,11 @@ below p all i h lt = omega (arith, many p all h)
 
 -- ---- the first messages
 
+-- where no place from a number on has messages, the walk meets no first message any more
 pub front_ends : (p : PlaceList) (all : List (Option Queue)) (n : ℕ) (now : List QueuedMessage) → IsFlow p all → fronts_of (drop n p.places) (drop n all) ≡ now → IsLeastFrom has_messages all n None → now ≡ []
 front_ends p all n now h seen none = sym seen ∙ fronts_end p.places all n (many p all h) none
 
+-- the walk meets next the first message of the least place from its number on that has any
 pub front_steps : (p : PlaceList) (all : List (Option Queue)) (n i : ℕ) (place : Place) (m : Message) (now : List QueuedMessage) → IsFlow p all → fronts_of (drop n p.places) (drop n all) ≡ now
     → IsLeastFrom has_messages all n (Some i) → slice_get p.places i ≡ Some place → Some m ≡ slice_get (queue_at all i).messages 0
     → now ≡ record { place = place; message = m } ∷ fronts_of (drop (i + 1) p.places) (drop (i + 1) all)
@@ -36,15 +38,18 @@ front_steps p all n i place m now h seen least at first =
 
 -- ---- the full places
 
+-- where no place from a number on is full, the walk meets no full place any more
 pub full_ends : (p : PlaceList) (all : List (Option Queue)) (n : ℕ) (now : List Place) → IsFlow p all → fulls_of (drop n p.places) (drop n all) ≡ now → IsLeastFrom is_marked all n None → now ≡ []
 full_ends p all n now h seen none = sym seen ∙ fulls_end p.places all n (many p all h) none
 
+-- the walk meets next the least full place from its number on
 pub full_steps : (p : PlaceList) (all : List (Option Queue)) (n i : ℕ) (place : Place) (now : List Place) → IsFlow p all → fulls_of (drop n p.places) (drop n all) ≡ now → IsLeastFrom is_marked all n (Some i) → slice_get p.places i ≡ Some place
     → now ≡ place ∷ fulls_of (drop (i + 1) p.places) (drop (i + 1) all)
 full_steps p all n i place now h seen least at = sym seen ∙ fulls_next p.places all n i place (many p all h) least at
 
 -- ---- the first of each place is the first at its place
 
+-- each first message that the flow has for a place is the model's first message of that place
 pub first_fronts : (p : PlaceList) (all : List (Option Queue)) (n : ℕ) (t : FlowLists) → IsFlow p all → lists_of p all n ≡ t → All (λ h. first_message t.flow h.place ≡ Some h.message) (fronts t.flow)
 first_fronts p all n t h seen =
     let first = subst (AreFirst (flow_of p.places all)) (fronts_found p.places all h.rising) (fronts_first p.places all h.rising) in
@@ -53,6 +58,7 @@ first_fronts p all n t h seen =
 
 -- ---- nothing at a place that is none of them
 
+-- the serials of no messages, behind others, add none
 pub nothing_added : (xs : List ℕ) (ms : List Message) → [] ≡ ms → xs ≡ xs ++ map (λ m. m.serial) ms
 nothing_added xs ms e = subst (λ (ns : List Message). xs ≡ xs ++ map (λ m. m.serial) ns) e (sym (append_nil xs)) where
   append_nil : (ys : List ℕ) → ys ++ [] ≡ ys
@@ -80,16 +86,19 @@ first_there : (ms : List Message) (o : Option Message) → has_some ms ≡ true 
 first_there [] o some e none = cc
 first_there (m ∷ ms) o some e none = cc
 
+-- a number that was found to have messages has a first one
 pub front_some : (all : List (Option Queue)) (n i : ℕ) (o : Option Message) → IsLeastFrom has_messages all n (Some i) → o ≡ slice_get (queue_at all i).messages 0 → o ≡ None → ⊥
 front_some all n i o least e none = first_there (queue_at all i).messages o (subst (λ (ms : List Message). has_some ms ≡ true) (slot_messages all i) least.2) e none
 
 -- ---- all messages
 
+-- where a place has none left and no later one has any, the walk meets no message any more
 pub messages_end : (p : PlaceList) (all : List (Option Queue)) (n : ℕ) (place : Place) (left : List Message) (now : List QueuedMessage) → IsFlow p all → messages_at place left ++ flow_of (drop n p.places) (drop n all) ≡ now → left ≡ []
     → IsLeastFrom has_messages all n None → now ≡ []
 messages_end p all n place left now h seen none least =
     sym seen ∙ (ap (λ (ms : List Message). messages_at place ms ++ flow_of (drop n p.places) (drop n all)) none ∙ flow_ends p.places all n (many p all h) least)
 
+-- where a place has none left, the walk meets next the first message of the least later one that has any
 pub messages_step : (p : PlaceList) (all : List (Option Queue)) (n i : ℕ) (was place : Place) (left : List Message) (now : List QueuedMessage) (m : Message) (rest : List Message) → IsFlow p all
     → messages_at was left ++ flow_of (drop n p.places) (drop n all) ≡ now → left ≡ [] → IsLeastFrom has_messages all n (Some i) → slice_get p.places i ≡ Some place → (queue_at all i).messages ≡ m ∷ rest
     → now ≡ record { place = place; message = m } ∷ (messages_at place rest ++ flow_of (drop (i + 1) p.places) (drop (i + 1) all))

@@ -105,6 +105,7 @@ detached_queue own own' s p chain q m rest are l kept =
     by (m2 ∷ rest) are c have =
         (c.0, c.1, c.2, queue_with (m2 ∷ rest) c.0 are (suc l.rank) (frame own own' s s p (suc l.rank) c.0 (m2 ∷ rest) _ (λ x node found of above. (refl, kept x (λ e. let r = ap (λ y. (own y).1) e in absurd (omega (arith, r, c.3, above))))) c.4) have.2)
 
+-- where the first node of a chain leaves it and stays in the store, one node more is in no chain
 pub store_detach : (own : ℕ → ℕ × ℕ) (s : Slab Node) (chains : List Chain) (queues : List Queue) (loose p : ℕ) (m : Message) (rest : List Message) → IsStore own s chains queues loose → p < length chains → (get_or queues p no_queue).messages ≡ m ∷ rest → (next : ℕ) × (get s (get_or chains p no_chain).first ≡ Some (record { message = m; next = next })) × IsStore (owned own (get_or chains p no_chain).first (length chains, 0)) s (set chains p (chain_without_first (get_or chains p no_chain) next (size m))) (set queues p (left_with (get_or queues p no_queue) rest)) (loose + 1)
 store_detach own s chains queues loose p m rest st within are =
     let key = (get_or chains p no_chain).first in
@@ -194,6 +195,7 @@ pub record IsBare (chain : Chain) : Type 0 where
   pub high_bounded : chain.high ≤ 4096
   pub low_below : chain.low < chain.high
 
+-- a chain without nodes is the queue without messages, with its marks
 pub bare_is : (own : ℕ → ℕ × ℕ) (s : Slab Node) (p : ℕ) (chain : Chain) → IsBare chain → IsQueue own s p chain (bare_queue chain)
 bare_is own s p chain bare =
     record {

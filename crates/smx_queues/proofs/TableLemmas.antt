@@ -22,9 +22,11 @@ place_below (x ∷ queues) (suc p) is = omega (arith, place_below queues p is)
 pub set_there : (queues : List (Option Queue)) (p : ℕ) (q : Queue) → p < length queues → IsPlace (set queues p (Some q)) p
 set_there queues p q below = rw (get_or-set_same queues p (Some q) None below) refl
 
+-- the queue that was set at a number is the one there
 pub set_at : (queues : List (Option Queue)) (p : ℕ) (q : Queue) → p < length queues → queue_at (set queues p (Some q)) p ≡ q
 set_at queues p q below = rw (get_or-set_same queues p (Some q) None below) refl
 
+-- where a place gets the queue that it has, nothing changes
 pub set_itself : (queues : List (Option Queue)) (p : ℕ) → IsPlace queues p → set queues p (Some (queue_at queues p)) ≡ queues
 set_itself [] p is = absurd (cc)
 set_itself (Some q ∷ queues) zero is = refl
@@ -38,6 +40,7 @@ pub record IsClearing (old new : QueueTable) (p : ℕ) : Type 0 where
   pub queues : new.queues ≡ set old.queues p (Some (record (queue_at old.queues p) { messages = messages; full = full }))
   pub spare : new.spare + length messages ≡ old.spare + length (queue_at old.queues p).messages
 
+-- before the first message leaves, a place that is cleared has all its messages and its mark
 pub clearing_starts : (q : QueueTable) (p : ℕ) → IsPlace q.queues p → IsClearing q q p
 clearing_starts q p is =
     record {
@@ -58,6 +61,7 @@ first_none : (ms : List Message) → None ≡ slice_get ms 0 → ms ≡ []
 first_none [] e = refl
 first_none (x ∷ ms) e = absurd (cc)
 
+-- the same queue set at the same number of the same queues gives the same
 pub same_set : (queues queues' : List (Option Queue)) (p : ℕ) (q q' : Queue) → queues ≡ queues' → q ≡ q' → set queues p (Some q) ≡ set queues' p (Some q')
 same_set queues queues' p q q' e f = rw (e, f) refl
 
@@ -83,6 +87,7 @@ pub record IsVacant (chains : List Chain) (queues : List Queue) (p : ℕ) : Type
   pub least : p ≡ least_vacant (slots chains queues)
   pub added : (q : Queue) → set (slots chains queues) p (Some q) ≡ with_place (slots chains queues) q
 
+-- a number whose place is gone, while each lower one is there, is the least without a queue
 pub vacant_at : (chains : List Chain) (queues : List Queue) (p : ℕ) → length queues ≡ length chains → p < length chains → (get_or chains p no_chain).there ≡ false → ((k : ℕ) → k < p → (get_or chains k no_chain).there ≡ true) → IsVacant chains queues p
 vacant_at [] queues p many below gone others = absurd (omega (arith, below))
 vacant_at (chain ∷ chains) [] p many below gone others = absurd (omega (arith, many))
@@ -105,6 +110,7 @@ pub record IsFull (chains : List Chain) (queues : List Queue) : Type 0 where
   pub least : length chains ≡ least_vacant (slots chains queues)
   pub added : (q : Queue) → slots chains queues ++ Some q ∷ [] ≡ with_place (slots chains queues) q
 
+-- where the place of each chain is there, the next number is the least without a queue
 pub none_vacant : (chains : List Chain) (queues : List Queue) → length queues ≡ length chains → ((k : ℕ) → k < length chains → (get_or chains k no_chain).there ≡ true) → IsFull chains queues
 none_vacant [] queues many there = record { least = refl; added = λ q. refl }
 none_vacant (chain ∷ chains) [] many there = absurd (omega (arith, many))
@@ -128,15 +134,18 @@ still_there : (b : Bool) → not b ≡ false → b ≡ true
 still_there true e = refl
 still_there false e = absurd (cc)
 
+-- the place of the chain is gone
 abbrev pub goes : Chain → Bool
 goes chain = not chain.there
 
+-- where a first chain was found whose place is gone, its number is the least without a queue
 pub vacant_found : (chains : List Chain) (queues : List Queue) (p : ℕ) → length queues ≡ length chains → Some p ≡ position goes chains → (p < length chains) × ((get_or chains p no_chain).there ≡ false) × IsVacant chains queues p
 vacant_found chains queues p many found =
     let f = position-Some goes chains p no_chain (sym found) in
     let gone = is_gone _ f.1 in
     (f.0, gone, vacant_at chains queues p many f.0 gone (λ k less. still_there _ (f.2 k less)))
 
+-- where no chain was found whose place is gone, the next number is the least without a queue
 pub vacant_not_found : (chains : List Chain) (queues : List Queue) → length queues ≡ length chains → None ≡ position goes chains → IsFull chains queues
 vacant_not_found chains queues many none =
     none_vacant chains queues many (λ k less. is_there _ (prefix_len_passes (λ (c : Chain). not (goes c)) chains k no_chain (omega (arith, less, far (nat_lt (position_or_len goes chains) (length chains)) refl none))))
@@ -145,6 +154,7 @@ vacant_not_found chains queues many none =
     far true is none = absurd (cc)
     far false is none = grind (arith, nat_tests)
 
+-- a place from which all messages have left, and then its mark is taken, is emptied
 pub cleared_queues : (old mid : QueueTable) (p : ℕ) → IsPlace old.queues p → IsClearing old mid p → None ≡ slice_get (queue_at mid.queues p).messages 0 → set mid.queues p (Some (emptied (queue_at mid.queues p))) ≡ set old.queues p (Some (emptied (queue_at old.queues p)))
 cleared_queues old mid p there c none = clearing_ends old mid p (place_below old.queues p there) c none
 

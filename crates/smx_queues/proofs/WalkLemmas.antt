@@ -17,6 +17,7 @@ pub walk_all : (own : ℕ → ℕ × ℕ) (s : Slab Node) (p : ℕ) (chain : Cha
 walk_all own s p chain q l =
     ap (λ n. walk s n chain.first) l.count ∙ walk_chain own s p l.rank _ _ _ l.nodes
 
+-- a walk along a chain meets as many messages as the chain counts
 pub walk_len : (own : ℕ → ℕ × ℕ) (s : Slab Node) (p : ℕ) (chain : Chain) (q : Queue) → IsQueue own s p chain q → length (walk s chain.count chain.first) ≡ chain.count
 walk_len own s p chain q l = ap (λ (ms : List Message). length ms) (walk_all own s p chain q l) ∙ sym l.count
 
@@ -31,6 +32,7 @@ pub record Step (s : Slab Node) (key k : ℕ) (ms : List Message) : Type 0 where
   pub is : slice_get ms k ≡ Some node.message
   pub later : walk s (length ms - (k + 1)) node.next ≡ drop (k + 1) ms
 
+-- where a walk has met k messages and there are more, it is at a node with the next one
 pub walk_step : (s : Slab Node) (key k : ℕ) (ms : List Message) (count : ℕ) → count ≡ length ms → k < count → walk s (count - k) key ≡ drop k ms → Step s key k ms
 walk_step s key k ms count many more walked = by (get s key) refl
   where
@@ -55,15 +57,18 @@ walk_step s key k ms count many more walked = by (get s key) refl
               later = same.1;
             }
 
+-- a walk begins at the first node, with all messages to come
 pub walk_start : (own : ℕ → ℕ × ℕ) (s : Slab Node) (p : ℕ) (chain : Chain) (q : Queue) → IsQueue own s p chain q → walk s (length q.messages - 0) chain.first ≡ drop 0 q.messages
 walk_start own s p chain q l =
     let same : length q.messages - 0 ≡ length q.messages = omega arith in
     ap (λ n. walk s n chain.first) same ∙ walk_chain own s p l.rank _ _ _ l.nodes
 
+-- behind the node that a walk is at, the walk meets the later messages
 pub step_next : (s : Slab Node) (key k : ℕ) (ms : List Message) (node : Node) → Step s key k ms → get s key ≡ Some node → walk s (length ms - (k + 1)) node.next ≡ drop (k + 1) ms
 step_next s key k ms node step found =
     ap (λ (x : Node). walk s (length ms - (k + 1)) x.next) (some_is _ _ (sym found ∙ step.found)) ∙ step.later
 
+-- the message of the node that a walk is at is the next of the queue
 pub step_is : (s : Slab Node) (key k i : ℕ) (ms : List Message) (node : Node) → Step s key k ms → get s key ≡ Some node → k ≡ i → Some node.message ≡ slice_get ms i
 step_is s key k i ms node step found same =
     ap (λ (x : Node). Some x.message) (some_is _ _ (sym found ∙ step.found)) ∙ sym step.is ∙ ap (slice_get ms) same
