@@ -10,14 +10,17 @@ use Rattle.smx_model.specs.Configuration.{same_stream}
 use Rattle.smx_model.specs.Ordered.{ComesBefore, IsRising}
 use Rattle.smx_model.specs.Paths.{AreLowersApart}
 
+-- streams that pass as the same are one
 pub stream_is : (s t : StreamId) → same_stream s t ≡ true → s ≡ t
 stream_is s t h =
     let b = and_parts _ _ h in
     ap (λ (x : ℕ). record { driver = x; minor = s.minor }) (eqb-true s.driver t.driver b.0) ∙ ap (λ (x : ℕ). record { driver = t.driver; minor = x }) (eqb-true s.minor t.minor b.1)
 
+-- each stream is the same as itself
 pub stream_self : (s : StreamId) → same_stream s s ≡ true
 stream_self s = and_from _ _ (eq-eqb s.driver s.driver refl) (eq-eqb s.minor s.minor refl)
 
+-- whether two numbers are equal is told in either order
 pub eqb_swap : (x y : ℕ) → eqb x y ≡ eqb y x
 eqb_swap x y = elim (cases_eq x y) [
   | inl same ↦ eq-eqb x y same ∙ sym (eq-eqb y x (sym same))
@@ -55,6 +58,7 @@ none_below : (s : StreamId) (ls : List Link) → ((j : ℕ) (d : Link) → j < l
 none_below s [] h = refl
 none_below s (l ∷ ls) h = rw (other_lower s l.lower (h 0 l (omega arith))) (none_below s ls (λ j d lt. h (suc j) d (omega arith)))
 
+-- where no stream is below two links, at most one link is above a stream
 pub once_below : (s : StreamId) (ls : List Link) → AreLowersApart ls → IsOnce (λ l. same_stream l.lower s) ls
 once_below s [] h = tt
 once_below s (l ∷ ls) h = (
@@ -70,6 +74,7 @@ none_later l (k ∷ ls) h =
     let f : eqb k.id l.id ≡ false = false_from_ne_true (eqb k.id l.id) (λ t. let same = eqb-true k.id l.id t in absurd (omega arith)) in
     rw f (none_later l ls h.1)
 
+-- where the ids of links rise, at most one link has an id
 pub once_id : (id : ℕ) (ls : List Link) → IsRising (λ l k. nat_lt l.id k.id) ls → IsOnce (λ l. eqb l.id id) ls
 once_id id [] h = tt
 once_id id (l ∷ ls) h = ((λ k. ap (λ (x : ℕ). list_any (λ m. eqb m.id x) ls) (sym (eqb-true l.id id k)) ∙ none_later l ls h.0), once_id id ls h.1)
@@ -78,9 +83,11 @@ once_id id (l ∷ ls) h = ((λ k. ap (λ (x : ℕ). list_any (λ m. eqb m.id x) 
 pub any_with_id : (t : Link → Bool) (id : ℕ) (ls : List Link) → IsRising (λ l k. nat_lt l.id k.id) ls → list_any (λ l. eqb l.id id && t l) ls ≡ option_map_or t (find (λ l. eqb l.id id) ls) false
 any_with_id t id ls h = any_once (λ l. eqb l.id id) t (λ l. eqb l.id id && t l) ls (once_id id ls h) (λ l. refl)
 
+-- the link that is found by an id passes a test exactly where some link with the id does
 pub some_with_id : (t : Link → Bool) (id : ℕ) (ls : List Link) (l : Link) → IsRising (λ l k. nat_lt l.id k.id) ls → Some l ≡ find (λ l. eqb l.id id) ls → t l ≡ list_any (λ l. eqb l.id id && t l) ls
 some_with_id t id ls l h e = sym (any_with_id t id ls h ∙ rw (sym e) refl)
 
+-- where no link has an id, none with that id passes a test
 pub none_with_id : (t : Link → Bool) (id : ℕ) (ls : List Link) → IsRising (λ l k. nat_lt l.id k.id) ls → None ≡ find (λ l. eqb l.id id) ls → false ≡ list_any (λ l. eqb l.id id && t l) ls
 none_with_id t id ls h e = sym (any_with_id t id ls h ∙ rw (sym e) refl)
 
@@ -103,5 +110,6 @@ ids_of_one t id (l ∷ ls) o h = elim (cases_Bool (eqb l.id id)) [
   | inr k ↦ rw k (ids_of_one t id ls o.1 (rw k at h))
 ]
 
+-- where a link with an id passes a test, the ids of all links with both are this one alone
 pub target_of_id : (t : Link → Bool) (id : ℕ) (ls : List Link) → IsRising (λ l k. nat_lt l.id k.id) ls → list_any (λ l. eqb l.id id && t l) ls ≡ true → map (λ l. l.id) (filter (λ l. eqb l.id id && t l) ls) ≡ id ∷ []
 target_of_id t id ls rise h = ids_of_one t id ls (once_id id ls rise) h

@@ -120,5 +120,6 @@ pub one_less : {X : Type 0} (place : X → Place) (goes more : Place → Bool) (
     → ys ≡ filter (λ x. not (goes (place x))) xs → zs ≡ filter (λ x. not (same_place (place x) p)) ys → zs ≡ filter (λ x. not (more (place x))) xs
 one_less place goes more p xs ys zs h e f = tests_less (λ x. goes (place x)) (λ x. same_place (place x) p) (λ x. more (place x)) xs ys zs (λ x. h (place x)) e f
 
+-- two tests that take the same places leave the same
 pub none_less : {X : Type 0} (place : X → Place) (goes more : Place → Bool) (xs ys : List X) → ((q : Place) → more q ≡ goes q) → ys ≡ filter (λ x. not (goes (place x))) xs → ys ≡ filter (λ x. not (more (place x))) xs
 none_less place goes more xs ys h e = e ∙ filter_agree (λ x. not (goes (place x))) (λ x. not (more (place x))) (λ x. ap not (sym (h (place x)))) xs

@@ -58,6 +58,7 @@ by_held : (fds : List Descriptor) (links : List Link) (o : Option Link) → opti
 by_held fds links None = refl
 by_held fds links (Some l) = refl
 
+-- a stream stands within some climbs where a descriptor names it, or by the one link above it
 pub stands_is : (fds : List Descriptor) (links : List Link) (n : ℕ) (s : StreamId) → AreLowersApart links → stands_within fds links n s ≡ (is_named fds s || stands_by fds links n (find (λ l. same_stream l.lower s) links))
 stands_is fds links zero s h =
     rw (

@@ -73,6 +73,7 @@ dead_is_gone t seen s h = table (is_there t s) (list_any (same_stream s) seen) h
   table true listed e = refl
   table false listed e = e
 
+-- where each stream is there or was seen, leaving out the dead ones seen leaves out all that are not there
 pub dead_are_gone : {X : Type 0} (stream : X → StreamId) (t : StreamTable) (seen : List StreamId) (xs : List X) → list_all (λ x. is_there_or_touched t seen (stream x)) xs ≡ true
     → filter (λ x. not (is_dead t seen (stream x))) xs ≡ filter (λ x. not (not (is_there t (stream x)))) xs
 dead_are_gone stream t seen [] h = refl

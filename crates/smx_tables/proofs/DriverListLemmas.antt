@@ -24,6 +24,7 @@ one_more ds d few h can new = record {
   names = all_pairs_push (λ e f. e.name ≢ f.name) ds d h.names (λ k e lt same. new (k, get_or ds k e, lt, get_or_default ds k (get_or ds k e) e lt, same));
 }
 
+-- the first drivers of a list can be had with the next one, if it can be had and its name is new among them
 pub next_driver : (ds : List DriverSpec) (i : ℕ) (d : DriverSpec) → i < length ds → length ds ≤ MAX_DRIVERS → d ≡ get_or ds i d
     → IsDriverList (take i ds) → spec_check d ≡ Ok tt → (Any (λ e. e.name ≡ d.name) (take i ds) → ⊥) → IsDriverList (take (i + 1) ds)
 next_driver ds i d lt few here h can new =
@@ -50,5 +51,6 @@ all_few : (ds : List DriverSpec) → AllByRecursion (λ d. spec_check d ≡ Ok t
 all_few [] h = tt
 all_few (d ∷ ds) h = (few_minors d h.0, all_few ds h.1)
 
+-- no driver of a list that can be had has more minors than a driver may
 pub minors_within : (ds : List DriverSpec) → IsDriverList ds → AllByRecursion (λ d. d.minors ≤ MAX_MINORS) ds
 minors_within ds h = all_few ds (recursion_from_All (λ d. spec_check d ≡ Ok tt) ds h.each)

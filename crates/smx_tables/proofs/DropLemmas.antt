@@ -45,6 +45,7 @@ serials_at : (flow : List QueuedMessage) (p : Place) → serials (filter (is_at 
 serials_at [] p = refl
 serials_at (h ∷ hs) p = elim (cases_Bool (is_at p h)) [ inl t ↦ rw t (ap (λ (ns : List ℕ). h.message.serial ∷ ns) (serials_at hs p)) | inr f ↦ rw f (serials_at hs p) ]
 
+-- where one more place is emptied, the serials of its messages are dropped too
 pub dropped_more : (old flow new : List QueuedMessage) (p : Place) (dropped more : List ℕ) → new ≡ filter (λ h. not (is_at p h)) flow → more ≡ dropped ++ map (λ m. m.serial) (queue flow p)
     → AreDropped old flow dropped → AreDropped old new more
 dropped_more old flow new p dropped more fewer longer h =
@@ -78,6 +79,7 @@ none_dropped flow dropped none = record {
 
 -- ---- how many messages are left, and at a place
 
+-- the messages at a place and those at other places are as many as the flow has
 pub place_and_rest : (flow : List QueuedMessage) (p : Place) → length (queue flow p) + length (filter (λ h. not (is_at p h)) flow) ≡ length flow
 place_and_rest [] p = refl
 place_and_rest (h ∷ hs) p = elim (cases_Bool (is_at p h)) [ inl t ↦ rw t (omega (arith, place_and_rest hs p)) | inr f ↦ rw f (omega (arith, place_and_rest hs p)) ]
@@ -186,6 +188,7 @@ from_sorted (n ∷ ns) h = (all_from n ns (λ j d lt. let e = h 0 (suc j) d (ome
   all_from k [] f = tt
   all_from k (m ∷ ms) f = (f 0 m (omega arith), all_from k ms (λ j d lt. f (suc j) d (omega arith)))
 
+-- the same numbers in another order that doesn't fall are those numbers in rising order
 pub sorted_is : (ns ms out : List ℕ) → IsPermutation ns ms → IsPermutation ms out → IsNonDecreasing out → out ≡ in_rising_order ns
 sorted_is ns ms out h k up = one_up out (in_rising_order ns) (from_sorted out up) (rising_up ns) (λ n. times_permuted n ms out k ∙ (times_permuted n ns ms h ∙ sym (times_rising n ns)))
 
@@ -193,6 +196,7 @@ sorted_is ns ms out h k up = one_up out (in_rising_order ns) (from_sorted out up
 abbrev pub DroppedAreNotKept : Type 0
 DroppedAreNotKept = (flow : List QueuedMessage) (keep : QueuedMessage → Bool) → AllPairs (λ m n. m ≢ n) (serials flow) → serials_that_left flow (filter keep flow) ≡ in_rising_order (serials (filter (λ h. not (keep h)) flow))
 
+-- serials that were dropped, once they are in order, are those that left the flow
 pub left_in_order : (old new : List QueuedMessage) (dropped out : List ℕ) → DroppedAreNotKept → AllPairs (λ m n. m ≢ n) (serials old) → AreDropped old new dropped → IsPermutation dropped out → IsNonDecreasing out
     → out ≡ serials_that_left old new
 left_in_order old new dropped out law apart h sorted up =

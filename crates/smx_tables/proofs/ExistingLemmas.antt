@@ -26,10 +26,12 @@ use Rattle.smx_tables.proofs.ClimbLemmas.{named_stands}
 
 -- ---- tests
 
+-- where one passes a test, one passes any test that follows from it
 pub any_weaker : {X : Type 0} (t u : X → Bool) (xs : List X) → ((x : X) → t x ≡ true → u x ≡ true) → list_any t xs ≡ true → list_any u xs ≡ true
 any_weaker {X = X} t u [] f h = h
 any_weaker {X = X} t u (x ∷ xs) f h = elim (or_cases (t x) (list_any t xs) h) [ inl a ↦ or_left _ _ (f x a) | inr b ↦ or_right _ _ (any_weaker t u xs f b) ]
 
+-- where all pass a test, all pass any test that follows from it
 pub all_weaker : {X : Type 0} (t u : X → Bool) (xs : List X) → ((x : X) → t x ≡ true → u x ≡ true) → list_all t xs ≡ true → list_all u xs ≡ true
 all_weaker {X = X} t u [] f h = h
 all_weaker {X = X} t u (x ∷ xs) f h = let p = and_parts (t x) (list_all t xs) h in and_from _ _ (f x p.0) (all_weaker t u xs f p.1)
@@ -55,6 +57,7 @@ named_stream process fd (d ∷ ds) s h = elim (cases_Bool (is_fd process fd d)) 
   | inr f ↦ or_right _ _ (named_stream process fd ds s (rw f at h))
 ]
 
+-- a stream that stands is named by a descriptor, or is below a link
 pub stands_there : (fds : List Descriptor) (links : List Link) (n : ℕ) (s : StreamId) → stands_within fds links n s ≡ true → (is_named fds s || is_below links s) ≡ true
 stands_there fds links zero s h = elim (or_cases (is_named fds s) (list_any (λ l. is_persistent l && same_stream l.lower s) links) h) [
   | inl a ↦ or_left _ _ a
@@ -93,6 +96,7 @@ fewer_at f g (l ∷ ls) (suc i) d h lt a b =
 abbrev pub IsReachPath : Type 0
 IsReachPath = (links : List Link) (a b : ℕ) → IsTrue (reaches links a b) ↔ Path links a b
 
+-- what a law of the model says: where a driver reaches another, it reaches what that one reaches
 abbrev pub DoPathsJoin : Type 0
 DoPathsJoin = (links : List Link) (a b c : ℕ) → IsTrue (reaches links a b) → IsTrue (reaches links b c) → IsTrue (reaches links a c)
 
@@ -101,9 +105,11 @@ one_step : (links : List Link) (i : ℕ) (d : Link) → IsReachPath → i < leng
 one_step links i d path lt =
     (path links (get_or links i d).ctl.driver (get_or links i d).lower.driver).1 (record { path = get_or links i d ∷ []; some = omega arith; leads = (Contains-get_or links i d lt, refl, refl) })
 
+-- fewer links lead to the upper driver of this link than to its lower one
 abbrev pub ClimbsToFewer : List Link → Link → Type 0
 ClimbsToFewer links l = links_to links l.ctl.driver < links_to links l.lower.driver
 
+-- where there is no cycle, fewer links lead to each link's upper driver than to its lower one
 pub climbs_to_fewer : (links : List Link) → IsReachPath → DoPathsJoin → HasNoCycle links → All (ClimbsToFewer links) links
 climbs_to_fewer links path join no_cycle = λ i d lt.
     fewer_at (λ l. reaches links l.ctl.driver (get_or links i d).ctl.driver) (λ l. reaches links l.ctl.driver (get_or links i d).lower.driver) links i d
@@ -213,6 +219,7 @@ held_is_below links t s h = rw (h s) (one (is_below links s)) where
   one true = refl
   one false = refl
 
+-- where each stream below a link has a hold, a stream is there if a descriptor names it or a link is above it
 pub there_is : (links : List Link) (t : StreamTable) (s : StreamId) → AreHeld links t → is_there t s ≡ (is_named t.fds s || is_below links s)
 there_is links t s h = ap (λ (b : Bool). is_named t.fds s || b) (held_is_below links t s h)
 

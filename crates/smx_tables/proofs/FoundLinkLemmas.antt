@@ -30,6 +30,7 @@ found_has P test (k ∷ ks) l h e = elim (cases_Bool (test k)) [
   | inr f ↦ found_has P test ks l h.1 (rw f at e)
 ]
 
+-- the lower stream of each link is below a link
 pub below_at : (ls : List Link) (i : ℕ) (d : Link) → i < length ls → is_below ls (get_or ls i d).lower ≡ true
 below_at ls i d lt = any_at (λ l. same_stream l.lower (get_or ls i d).lower) ls i d lt (stream_self (get_or ls i d).lower)
 

@@ -35,6 +35,7 @@ pub all_pass : (p : StreamId → Bool) (xs : List StreamId) → ((x : StreamId) 
 all_pass p [] h = refl
 all_pass p (x ∷ xs) h = rw (h x (or_left _ _ (stream_self x))) (ap (λ (ys : List StreamId). x ∷ ys) (all_pass p xs (λ y t. h y (or_right (same_stream x y) _ t))))
 
+-- where each stream that has hung up passes a test, the whole list does
 pub pass_all : (p : StreamId → Bool) (xs : List StreamId) → ((x : StreamId) → is_hung xs x ≡ true → p x ≡ true) → list_all p xs ≡ true
 pass_all p [] h = refl
 pass_all p (x ∷ xs) h = and_from _ _ (h x (or_left _ _ (stream_self x))) (pass_all p xs (λ y t. h y (or_right (same_stream x y) _ t)))

@@ -26,8 +26,10 @@ tells_again drivers given c d t u h e f g =
 pub table_stays : (old new : Lists) (n : ℕ) → sizes_of new ≡ sizes_of old → old.links.drivers ≡ n → new.links.drivers ≡ n
 table_stays old new n e h = ap (λ (x : ℕ × List ℕ × List DriverSpec). x.0) e ∙ h
 
+-- where the sizes stay, the table of streams has the minors that it had
 pub minors_stay : (old new : Lists) (minors : List ℕ) → sizes_of new ≡ sizes_of old → old.streams.minors ≡ minors → new.streams.minors ≡ minors
 minors_stay old new minors e h = ap (λ (x : ℕ × List ℕ × List DriverSpec). x.1) e ∙ h
 
+-- where the sizes stay, the table of queues is over the drivers that it was over
 pub queues_stay : (old new : Lists) (drivers : List DriverSpec) → sizes_of new ≡ sizes_of old → old.queues.drivers ≡ drivers → new.queues.drivers ≡ drivers
 queues_stay old new drivers e h = ap (λ (x : ℕ × List ℕ × List DriverSpec). x.2) e ∙ h

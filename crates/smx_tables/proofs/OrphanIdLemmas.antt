@@ -22,6 +22,7 @@ use Rattle.smx_tables.proofs.TouchLemmas.{few_below, none_free}
 
 -- ---- at first, where each stream below a link is held
 
+-- where each stream below a link has a hold, no stream was released, and no id is collected
 pub none_released_yet : (links : List Link) (t : StreamTable) (ids : List ℕ) (room : ℕ) → AreHeld links t → ids ≡ [] → length (ordinary_of links) ≤ room → AreReleased links t ids room
 none_released_yet links t ids room held none enough = record {
   same = λ id. ap (λ (xs : List ℕ). is_listed xs id) none ∙ sym (ap (list_any (λ (l : Link). eqb l.id id)) (none_free links t held));

@@ -21,6 +21,7 @@ use Rattle.smx_tables.proofs.FoundLinkLemmas.{below_at, found_has, one_link}
 
 -- ---- at first, where each stream below a link is held
 
+-- where each stream below a link has its hold, streams may begin to be released
 pub starts : (links : List Link) (climbs : ℕ) (t : StreamTable) → AreHeld links t → IsReleasing links climbs t
 starts links climbs t h = record {
   once = λ s. omega (arith, h s);
@@ -68,9 +69,11 @@ less_held false x y z e same = let as_many : z ≡ y = e in omega (arith, as_man
 pub not_more_held : (t new : StreamTable) (s x : StreamId) → HasHolds t s (number_at t.holds s - 1) new → number_at new.holds x ≤ number_at t.holds x
 not_more_held t new s x h = less_held (same_stream x s) (number_at t.holds s) (number_at t.holds x) (number_at new.holds x) (h.holds x) (λ same. ap (number_at t.holds) (sym (stream_is x s same)))
 
+-- where one stream is released, each other has the holds that it had
 pub other_held : (t new : StreamTable) (s x : StreamId) → HasHolds t s (number_at t.holds s - 1) new → same_stream x s ≡ false → number_at new.holds x ≡ number_at t.holds x
 other_held t new s x h other = h.holds x ∙ rw other refl
 
+-- releasing the lower stream of a loose link keeps what is so while streams are released
 pub releases_one : (links : List Link) (n i : ℕ) (d : Link) (t new : StreamTable) → AreLowersApart links → i < length links → is_loose t (get_or links i d) ≡ true
     → HasHolds t (get_or links i d).lower (number_at t.holds (get_or links i d).lower - 1) new → IsReleasing links n t → IsReleasing links n new
 releases_one links n i d t new apart lt loose h was =
@@ -108,6 +111,7 @@ loose_held t l loose =
     let up : nat_lt 0 (number_at t.holds l.lower) ≡ true = b.0 in
     grind (arith, nat_tests)
 
+-- where the lower stream of a loose link is released, the streams below the links have fewer holds
 pub less_below : (ls : List Link) (i : ℕ) (d : Link) (t new : StreamTable) → i < length ls → is_loose t (get_or ls i d) ≡ true
     → HasHolds t (get_or ls i d).lower (number_at t.holds (get_or ls i d).lower - 1) new → holds_below ls new < holds_below ls t
 less_below ls i d t new lt loose h =
@@ -116,6 +120,7 @@ less_below ls i d t new lt loose h =
     let here : number_at new.holds l.lower ≡ number_at t.holds l.lower - 1 = h.holds l.lower ∙ rw (stream_self l.lower) refl in
     less_at ls i d t new (λ x. not_more_held t new l.lower x h) lt (omega (arith, up, here))
 
+-- the link that was got at an index is the one there
 pub this_one : (ls : List Link) (i : ℕ) (l : Link) → Some l ≡ slice_get ls i → get_or ls i l ≡ l
 this_one ls i l e = get_or_from_slice_get ls i l l (sym e)
 
@@ -126,6 +131,7 @@ releases_this links n i l t new apart at loose h was =
     let e = this_one links i l at in
     releases_one links n i l t new apart (slice_get_within links i l (sym at)) (subst (λ (k : Link). is_loose t k ≡ true) (sym e) loose) (subst (λ (k : Link). HasHolds t k.lower (number_at t.holds k.lower - 1) new) (sym e) h) was
 
+-- where the lower stream of the loose link at an index is released, those below the links have fewer holds
 pub less_this : (links : List Link) (i : ℕ) (l : Link) (t new : StreamTable) → Some l ≡ slice_get links i → is_loose t l ≡ true
     → HasHolds t l.lower (number_at t.holds l.lower - 1) new → holds_below links new < holds_below links t
 less_this links i l t new at loose h =

@@ -20,9 +20,11 @@ use Rattle.smx_tables.proofs.FoundLinkLemmas.{found_has, found_itself}
 
 -- ---- a stream that is held once at most is released
 
+-- a stream with one hold has none once it is released
 pub released_once : (t new : StreamTable) (s : StreamId) → number_at t.holds s ≤ 1 → 0 < number_at t.holds s → HasHolds t s (number_at t.holds s - 1) new → HasHolds t s 0 new
 released_once t new s few some h = let none : number_at t.holds s - 1 ≡ 0 = omega (arith, few, some) in subst (λ (n : ℕ). HasHolds t s n new) none h
 
+-- a stream without a hold has none, and need not be released
 pub released_already : (t : StreamTable) (s : StreamId) → AreHungsSound t → number_at t.holds s ≤ 0 → HasHolds t s 0 t
 released_already t s sound none = record { minors = refl; fds = refl; holds = λ x. by x (same_stream x s) refl; hungs = none_went t sound } where
   none_there : number_at t.holds s ≡ 0
@@ -34,6 +36,7 @@ released_already t s sound none = record { minors = refl; fds = refl; holds = λ
 
 -- ---- the lower streams of links by their ids
 
+-- with one id more, just that one is listed beside those that were
 pub listed_one_more : (ids : List ℕ) (id x : ℕ) → is_listed (ids ++ id ∷ []) x ≡ (is_listed ids x || eqb x id)
 listed_one_more [] id x = or_none (eqb x id) where
   or_none : (b : Bool) → (b || false) ≡ b

@@ -18,9 +18,11 @@ use Rattle.smx_links.specs.LinkLists.{is_one_of}
 use Rattle.smx_tables.specs.ListedLinks.{is_listed, is_read_below_listed, AreIdsOf}
 use Rattle.smx_tables.proofs.AboveLemmas.{any_once, eqb_swap, once_below}
 
+-- the ids of those links that go
 abbrev pub ids_of : (Link → Bool) → List Link → List ℕ
 ids_of goes ls = map (λ l. l.id) (filter goes ls)
 
+-- the ids of the links rise
 abbrev pub IsIdsRising : List Link → Type 0
 IsIdsRising ls = IsRising (λ l k. nat_lt l.id k.id) ls
 
@@ -49,6 +51,7 @@ goes_first goes l ls h = rw h refl
 stays_first : (goes : Link → Bool) (l : Link) (ls : List Link) → goes l ≡ false → ids_of goes (l ∷ ls) ≡ ids_of goes ls
 stays_first goes l ls h = rw h refl
 
+-- where ids rise, the ids of those links that go list these links and no others
 pub listed : (goes : Link → Bool) (ls : List Link) → IsIdsRising ls → IsListOf goes (ids_of goes ls) ls
 listed goes [] h = tt
 listed goes (l ∷ ls) h = elim (cases_Bool (goes l)) [
@@ -56,6 +59,7 @@ listed goes (l ∷ ls) h = elim (cases_Bool (goes l)) [
   | inr f ↦ (rw f (not_later goes l ls h.0), subst (λ (ids : List ℕ). IsListOf goes ids ls) (sym (stays_first goes l ls f)) (listed goes ls h.1))
 ]
 
+-- where two tests tell of each link the same, the same links stay by both
 pub links_stay : (f g : Link → Bool) (ls : List Link) → AllByRecursion (λ l. f l ≡ g l) ls → filter (λ l. not (f l)) ls ≡ filter (λ l. not (g l)) ls
 links_stay f g [] h = refl
 links_stay f g (l ∷ ls) h = elim (cases_Bool (g l)) [
@@ -73,6 +77,7 @@ found_same : (f g key : Link → Bool) (ls : List Link) → AllByRecursion (λ l
 found_same f g key [] h = refl
 found_same f g key (l ∷ ls) h = elim (cases_Bool (key l)) [ inl t ↦ rw t (h.0) | inr n ↦ rw n (found_same f g key ls h.1) ]
 
+-- some link that is kept passes a test exactly where some link is kept and passes it
 pub any_kept : (key goes : Link → Bool) (ls : List Link) → list_any key (filter goes ls) ≡ list_any (λ l. key l && goes l) ls
 any_kept key goes [] = refl
 any_kept key goes (l ∷ ls) = elim (cases_Bool (goes l)) [
@@ -118,6 +123,7 @@ parts c links routes flow fulls = record c { links = links; routes = routes; flo
 same_parts : (c : Configuration) (ls ks : List Link) (rs ss : List Route) (hs gs : List QueuedMessage) (ps qs : List Place) → ls ≡ ks → rs ≡ ss → hs ≡ gs → ps ≡ qs → parts c ls rs hs ps ≡ parts c ks ss gs qs
 same_parts c ls ks rs ss hs gs ps qs a b d e = cc
 
+-- removing links by a list of their ids is removing those that go
 pub removed_is : (c : Configuration) (ids : List ℕ) → AreLowersApart c.links → IsIdsRising c.links → (goes : Link → Bool) → AreIdsOf goes c.links ids → without_listed c ids ≡ without_links c goes
 removed_is c ids apart rise goes h =
     let gone = filter goes c.links in
@@ -179,6 +185,7 @@ none_listed ids ls none = sym (none_passes (is_one_of ids) ls (λ l. ap (λ (xs 
 no_read : (p : Place) → is_read_below [] p ≡ false
 no_read p = elim (cases_Bool (same_side p.side side.Read)) [ inl t ↦ rw t refl | inr f ↦ rw f refl ]
 
+-- where the list of ids is empty, removing those that go changes nothing
 pub nothing_removed : (c : Configuration) (ids : List ℕ) → ids ≡ [] → (goes : Link → Bool) → AreIdsOf goes c.links ids → c ≡ without_links c goes
 nothing_removed c ids none goes h =
     let gone = filter goes c.links in

@@ -32,6 +32,7 @@ among_all {X = X} t (y ∷ ys) i x e = elim (cases_Bool (t y)) [
 pub take_one_more : {X : Type 0} (xs : List X) (i : ℕ) (x : X) → Some x ≡ slice_get xs i → take (i + 1) xs ≡ take i xs ++ x ∷ []
 take_one_more {X = X} xs i x e = take_more xs i x (slice_get_within xs i x (sym e)) ∙ ap (λ (y : X). take i xs ++ y ∷ []) (get_or_from_slice_get xs i x x (sym e))
 
+-- the images of one item more are those before and its own
 pub mapped_more : {X Y : Type 0} (f : X → Y) (xs : List X) (i : ℕ) (x : X) → Some x ≡ slice_get xs i → map f (take (i + 1) xs) ≡ map f (take i xs) ++ f x ∷ []
 mapped_more f xs i x e = ap (map f) (take_one_more xs i x e) ∙ map-append f (take i xs) (x ∷ [])
 
@@ -47,6 +48,7 @@ left_last {X = X} t (y ∷ ys) x h = elim (cases_Bool (t y)) [ inl a ↦ rw a (a
 pub kept_more : {X Y : Type 0} (f : X → Y) (t : X → Bool) (xs : List X) (i : ℕ) (x : X) → Some x ≡ slice_get xs i → t x ≡ true → map f (filter t (take (i + 1) xs)) ≡ map f (filter t (take i xs)) ++ f x ∷ []
 kept_more {X = X} f t xs i x e h = ap (λ (ys : List X). map f (filter t ys)) (take_one_more xs i x e) ∙ ap (map f) (kept_last t (take i xs) x h) ∙ map-append f (filter t (take i xs)) (x ∷ [])
 
+-- with one item more that doesn't pass the test, the images of those that pass are the same
 pub left_more : {X Y : Type 0} (f : X → Y) (t : X → Bool) (xs : List X) (i : ℕ) (x : X) → Some x ≡ slice_get xs i → t x ≡ false → map f (filter t (take (i + 1) xs)) ≡ map f (filter t (take i xs))
 left_more {X = X} f t xs i x e h = ap (λ (ys : List X). map f (filter t ys)) (take_one_more xs i x e) ∙ ap (map f) (left_last t (take i xs) x h)
 

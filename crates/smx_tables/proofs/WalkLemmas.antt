@@ -20,10 +20,12 @@ abbrev pub IsNumbered : Option Descriptor → Type 0
 IsNumbered None = Unit {0}
 IsNumbered (Some d) = d.fd < MAX_DESCRIPTORS
 
+-- what is left of a walk at its next descriptor is all from the number on at which it looked
 pub left_is : (fds : List Descriptor) (process fd : ℕ) (next : Option Descriptor) → IsNext fds process fd next → left_of fds next ≡ fds_from process fd fds
 left_is fds process fd None h = sym h
 left_is fds process fd (Some d) h = sym h.0
 
+-- the next descriptor of a walk has a number below the most that a process has
 pub numbered : (fds : List Descriptor) (process fd : ℕ) (next : Option Descriptor) → IsNext fds process fd next → IsNumbered next
 numbered fds process fd None h = tt
 numbered fds process fd (Some d) h = h.1
@@ -35,6 +37,7 @@ from_first (d ∷ ds) =
     let first : not (pair_before d.process d.fd 0 0) ≡ true = grind (arith, nat_tests) in
     rw first (ap (λ (es : List Descriptor). d ∷ es) (from_first ds))
 
+-- at its first descriptor, a walk has all left
 pub all_left : (fds : List Descriptor) (next : Option Descriptor) → IsNext fds 0 0 next → left_of fds next ≡ fds
 all_left fds next h = left_is fds 0 0 next h ∙ from_first fds
 

@@ -21,6 +21,7 @@ use Rattle.smx_tables.proofs.TableLemmas.{take_one_more}
 
 -- ---- streams in a list
 
+-- with one stream more, just that one is listed beside those that were
 pub listed_more : (x : StreamId) (ss : List StreamId) (s : StreamId) → list_any (same_stream x) (ss ++ s ∷ []) ≡ (list_any (same_stream x) ss || same_stream x s)
 listed_more x [] s = or_none (same_stream x s) where
   or_none : (b : Bool) → (b || false) ≡ b
@@ -28,6 +29,7 @@ listed_more x [] s = or_none (same_stream x s) where
   or_none false = refl
 listed_more x (y ∷ ys) s = elim (cases_Bool (same_stream x y)) [ inl t ↦ rw t refl | inr f ↦ rw f (listed_more x ys s) ]
 
+-- with one stream more, each that was listed still is
 pub still_listed : (x : StreamId) (ss : List StreamId) (s : StreamId) → list_any (same_stream x) ss ≡ true → list_any (same_stream x) (ss ++ s ∷ []) ≡ true
 still_listed x ss s h = listed_more x ss s ∙ or_left _ _ h
 
@@ -38,6 +40,7 @@ still_listed_before x ss s last h = listed_more x (ss ++ s ∷ []) last ∙ elim
   | inr b ↦ or_right _ _ b
 ]
 
+-- the last stream of a list is listed
 pub listed_last : (ss : List StreamId) (s : StreamId) → list_any (same_stream s) (ss ++ s ∷ []) ≡ true
 listed_last ss s = listed_more s ss s ∙ or_right _ _ (stream_self s)
 
@@ -48,6 +51,7 @@ all_get test [] i d lt h = absurd (omega arith)
 all_get test (l ∷ ls) zero d lt h = (and_parts (test l) (list_all test ls) h).0
 all_get test (l ∷ ls) (suc i) d lt h = all_get test ls i d (omega arith) (and_parts (test l) (list_all test ls) h).1
 
+-- where all links pass a test, the one at an index does
 pub all_at : (test : Link → Bool) (ls : List Link) (i : ℕ) (l : Link) → Some l ≡ slice_get ls i → list_all test ls ≡ true → test l ≡ true
 all_at test ls i l at h = subst (λ (k : Link). test k ≡ true) (this_one ls i l at) (all_get test ls i l (slice_get_within ls i l (sym at)) h)
 
@@ -55,9 +59,11 @@ all_last : (test : Link → Bool) (ls : List Link) (l : Link) → list_all test 
 all_last test [] l h t = and_from _ _ t refl
 all_last test (k ∷ ks) l h t = let p = and_parts (test k) (list_all test ks) h in and_from _ _ p.0 (all_last test ks l p.1 t)
 
+-- where the links before an index pass a test, and the one there does, all up to it do
 pub all_more : (test : Link → Bool) (ls : List Link) (i : ℕ) (l : Link) → Some l ≡ slice_get ls i → list_all test (take i ls) ≡ true → test l ≡ true → list_all test (take (i + 1) ls) ≡ true
 all_more test ls i l at h t = ap (list_all test) (take_one_more ls i l at) ∙ all_last test (take i ls) l h t
 
+-- where the links before an index pass a test, and no link is behind it, all links do
 pub all_in_all : (test : Link → Bool) (ls : List Link) (i : ℕ) → length ls ≤ i → list_all test (take i ls) ≡ true → list_all test ls ≡ true
 all_in_all test ls i past h = ap (list_all test) (sym (take_past ls i past)) ∙ h where
   take_past : (ks : List Link) (j : ℕ) → length ks ≤ j → take j ks ≡ ks
@@ -108,6 +114,7 @@ watch_on t u s ss vs l h further last was = elim (cases_Bool (is_loose u l)) [ i
         | inr one ↦ further l.ctl one
       ]
 
+-- where a stream is released that is among those that may have gone, each link is watched as before
 pub all_watch_on : (t u : StreamTable) (s : StreamId) (ss vs : List StreamId) (ls : List Link) → HasHolds t s (number_at t.holds s - 1) u
     → ((x : StreamId) → list_any (same_stream x) ss ≡ true → list_any (same_stream x) vs ≡ true) → list_any (same_stream s) vs ≡ true
     → list_all (is_watched t ss) ls ≡ true → list_all (is_watched u vs) ls ≡ true
@@ -180,6 +187,7 @@ none_loose t (l ∷ ls) h =
     let tight : is_loose t l ≡ false = elim (or_cases (not (is_loose t l)) false p.0) [ inl a ↦ not_true _ a | inr b ↦ absurd (false≢true b) ] in
     rw tight (none_loose t ls p.1)
 
+-- where no stream is left of those that may have gone, the list is empty
 pub nothing_left : (ss : List StreamId) → length ss ≡ 0 → ss ≡ []
 nothing_left [] h = refl
 nothing_left (s ∷ ss) h = absurd (omega (arith, h))
