@@ -18,6 +18,7 @@ use Rattle.smx_addresses.proofs.TableLemmas.{Stands, in_order_stands, computed_i
 
 -- the list of a table
 
+-- the table of addresses holds these bindings, in order
 abbrev pub HasList : Entries → List Binding → Type 0
 HasList = Stands address_of (λ b. b.minor)
 
@@ -25,12 +26,15 @@ HasList = Stands address_of (λ b. b.minor)
 pub binding_exact : (x y : Binding) → address_of x ≡ address_of y → x.minor ≡ y.minor → x ≡ y
 binding_exact x y e f i = record { driver = (e i).0; addr = (e i).1; minor = f i }
 
+-- where no address comes twice, a table of addresses holds its own bindings
 pub has_list : (es : Entries) → IsDistinct is_key (keys_of es) → HasList es (bindings_of es)
 has_list es u = in_order_stands address_of (λ b. b.minor) binding_exact binding_of (λ e. refl) (λ e. refl) es u
 
+-- bindings that the table of addresses holds are its own, in order
 pub list_is : (es : Entries) (bs : List Binding) → IsDistinct is_key (keys_of es) → HasList es bs → bindings_of es ≡ bs
 list_is es bs u h = computed_is address_of (λ b. b.minor) binding_exact binding_of (λ e. refl) (λ e. refl) es bs u h
 
+-- the bindings of the two tables are a list in which no address and no stream comes twice
 pub bindings_sound : (xs ys : Entries) → AreBindings xs ys → IsBindingList (bindings_of xs)
 bindings_sound xs ys h = record { rise = (has_list xs h.unique).rises; streams = h.streams }
 

@@ -10,12 +10,15 @@ use Rattle.smx_addresses.specs.Keys.{Key, is_key, found, AreApart}
 
 -- equal keys
 
+-- whether two keys are equal is told in either order
 pub is_key_sym : (p q : Key) → is_key p q ≡ is_key q p
 is_key_sym p q = grind (arith, nat_tests)
 
+-- each key is equal to itself
 pub is_key_refl : (p : Key) → is_key p p ≡ true
 is_key_refl p = grind (arith, nat_tests)
 
+-- keys that are equal to a third are equal to one another
 pub is_key_trans : (p q r : Key) → is_key p q ≡ true → is_key q r ≡ true → is_key p r ≡ true
 is_key_trans p q r h k = grind (arith, nat_tests)
 
@@ -27,6 +30,7 @@ is_key_congr p q r h = grind (arith, nat_tests)
 pub key_same : (p q : Key) → is_key p q ≡ true → p ≡ q
 key_same p q h = let a : p.0 ≡ q.0 = grind (arith, nat_tests) in let b : p.1 ≡ q.1 = grind (arith, nat_tests) in (λ i. (a i, b i))
 
+-- equality of keys is an equivalence, as the look-ups in maps need it
 pub keys_equal : IsEquivalence is_key
 keys_equal = record { refl = is_key_refl; symm = is_key_sym; congr = λ p q r h. is_key_congr p q r h }
 

@@ -19,6 +19,7 @@ use Rattle.smx_addresses.proofs.TableLemmas.{Stands, in_order_stands, computed_i
 
 -- the list of a table
 
+-- the table of routes holds these routes, in order
 abbrev pub HasList : Entries → List Route → Type 0
 HasList = Stands target_of (λ r. r.id)
 
@@ -26,14 +27,17 @@ HasList = Stands target_of (λ r. r.id)
 pub route_exact : (x y : Route) → target_of x ≡ target_of y → x.id ≡ y.id → x ≡ y
 route_exact x y e f i = record { driver = (e i).0; addr = (e i).1; id = f i }
 
+-- where no address comes twice, a table of routes holds its own routes
 pub has_list : (es : Entries) → IsDistinct is_key (keys_of es) → HasList es (routes_of es)
 has_list es u = in_order_stands target_of (λ r. r.id) route_exact route_of (λ e. refl) (λ e. refl) es u
 
+-- routes that the table holds are its own, in order
 pub list_is : (es : Entries) (rs : List Route) → IsDistinct is_key (keys_of es) → HasList es rs → routes_of es ≡ rs
 list_is es rs u h = computed_is target_of (λ r. r.id) route_exact route_of (λ e. refl) (λ e. refl) es rs u h
 
 -- look-ups
 
+-- the search for a driver's address in the list finds the route that the table has there
 pub find_route : (es : Entries) (rs : List Route) (d a : ℕ) (r : Option ℕ) → routes_of es ≡ rs → IsDistinct is_key (keys_of es) → r ≡ lookup (is_key (d, a)) es
     → find (λ r. (r.driver == d) && (r.addr == a)) rs ≡ option_map (λ (id : ℕ). record { driver = d; addr = a; id = id }) r
 find_route es rs d a r e u at =
@@ -41,6 +45,7 @@ find_route es rs d a r e u at =
     ∙ found_find target_of (λ r. r.id) (λ k id. record { driver = k.0; addr = k.1; id = id }) (λ r. refl) (routes_of es) (d, a)
     ∙ ap (option_map (λ (id : ℕ). record { driver = d; addr = a; id = id })) (sym ((has_list es u).finds (d, a)) ∙ sym at)
 
+-- the list has a route for a driver's address exactly where the table has one
 pub any_route : (es : Entries) (rs : List Route) (d a : ℕ) → routes_of es ≡ rs → IsDistinct is_key (keys_of es)
     → list_any (λ r. (r.driver == d) && (r.addr == a)) rs ≡ is_some (lookup (is_key (d, a)) es)
 any_route es rs d a e u =
@@ -49,6 +54,7 @@ any_route es rs d a e u =
 
 -- one more, in place of what was there, and one less
 
+-- with another route for an address, the list is without the old one and has the new one in order
 pub routed : (xs us : Entries) (d a id : ℕ) → IsDistinct is_key (keys_of xs) → IsDistinct is_key (keys_of us) → Sets xs us (d, a) (Some id)
     → routes_of us ≡ with_inserted route_before (filter (λ r. not ((r.driver == d) && (r.addr == a))) (routes_of xs)) (record { driver = d; addr = a; id = id })
 routed xs us d a id u v s =
@@ -56,6 +62,7 @@ routed xs us d a id u v s =
     let k = has_list xs u in
     list_is us _ v (record { rises = rises_replaced target_of (λ r. r.id) (routes_of xs) x k.rises; finds = finds_replaced target_of (λ r. r.id) (routes_of xs) xs us x k.finds s })
 
+-- without the route for an address, the list is without just that one
 pub unrouted : (xs us : Entries) (d a : ℕ) → IsDistinct is_key (keys_of xs) → IsDistinct is_key (keys_of us) → Sets xs us (d, a) None
     → routes_of us ≡ filter (λ r. not ((r.driver == d) && (r.addr == a))) (routes_of xs)
 unrouted xs us d a u v s =
@@ -68,6 +75,7 @@ unrouted xs us d a u v s =
 abbrev pub Unlinks : Entries → Entries → ℕ → Type 0
 Unlinks xs us id = (q : Key) → lookup (is_key q) us ≡ option_filter (λ n. not (n == id)) (lookup (is_key q) xs)
 
+-- without the routes to a link, the list is without those of its id
 pub unlinked : (xs us : Entries) (id : ℕ) → IsDistinct is_key (keys_of xs) → IsDistinct is_key (keys_of us) → Unlinks xs us id → routes_of us ≡ filter (λ r. not (r.id == id)) (routes_of xs)
 unlinked xs us id u v s =
     let k = has_list xs u in
@@ -93,10 +101,12 @@ unlinked_more (r ∷ rs) ids id = elim (cases_Bool (list_any (λ i. r.id == i) i
   ]
 ]
 
+-- without the routes to some links, and then those to the next one, is without those to one link more
 pub unlinked_next : (rs : List Route) (ids : List ℕ) (i : ℕ) → i < length ids
     → filter (λ r. not (r.id == get_or ids i 0)) (filter (λ r. not (list_any (λ i. r.id == i) (take i ids))) rs) ≡ filter (λ r. not (list_any (λ i. r.id == i) (take (i + 1) ids))) rs
 unlinked_next rs ids i lt = rw (take_more ids i 0 lt) (unlinked_more rs (take i ids) (get_or ids i 0))
 
+-- without the routes to no links, the list is as it was
 pub unlinked_none : (rs : List Route) → filter (λ r. not (list_any (λ i. r.id == i) [])) rs ≡ rs
 unlinked_none [] = refl
 unlinked_none (r ∷ rs) = ap (λ x. r ∷ x) (unlinked_none rs)

@@ -28,12 +28,14 @@ any_more : (ks : List Key) (k q : Key) → list_any (is_key q) (ks ++ k ∷ []) 
 any_more [] k q = rw (is_key_sym q k) (elim (cases_Bool (is_key k q)) [ inl t ↦ rw t refl | inr f ↦ rw f refl ])
 any_more (x ∷ ks) k q = elim (cases_Bool (is_key q x)) [ inl t ↦ rw t refl | inr f ↦ rw f (any_more ks k q) ]
 
+-- taking one key more out, after some, is taking out these keys with that one behind
 pub left_more : (ks : List Key) (k q : Key) (r : Option ℕ) → cond (is_key k q) None (left_of ks q r) ≡ left_of (ks ++ k ∷ []) q r
 left_more ks k q r = rw (any_more ks k q) (elim (cases_Bool (is_key k q)) [
   | inl t ↦ elim (cases_Bool (list_any (is_key q) ks)) [ inl a ↦ rw (t, a) refl | inr a ↦ rw (t, a) refl ]
   | inr f ↦ elim (cases_Bool (list_any (is_key q) ks)) [ inl a ↦ rw (f, a) refl | inr a ↦ rw (f, a) refl ]
 ])
 
+-- taking the key at an index out, after those before it, is taking out all up to it
 pub left_next : (ks : List Key) (i : ℕ) (d q : Key) (r : Option ℕ) → i < length ks → cond (is_key (get_or ks i d) q) None (left_of (take i ks) q r) ≡ left_of (take (i + 1) ks) q r
 left_next ks i d q r lt = rw (take_more ks i d lt) (left_more (take i ks) (get_or ks i d) q r)
 
@@ -61,6 +63,7 @@ pub on_err : {X E : Type 0} (r : Result X E) (P : Type 0) → P → OnErr r P
 on_err (Ok x) P p = tt
 on_err (Err e) P p = p
 
+-- whether a test is true is the test itself
 pub when_true : (b : Bool) → cond b true false ≡ b
 when_true true = refl
 when_true false = refl
