@@ -163,6 +163,7 @@ led_nowhere keep ls a b h = none_reached (filter (λ k. keep k.ctl.driver) ls) a
 
 -- ---- the masks, once the words of stale drivers are cleared
 
+-- once the words of stale drivers are cleared, the words are the masks of the links with no stale upper driver
 pub cleared_masks : PathsJoin → (ws vs : List ℕ) (lost stale : ℕ) (old links : List Link) → lost < 2 ^ 128
     → AreMasks old ws → LeadAlikeBut lost old links → ((a : ℕ) → is_set stale a ≡ is_stale ws lost a)
     → ((a b : ℕ) → has_bit vs a b ≡ (not (is_set stale a) && has_bit ws a b))
@@ -197,6 +198,7 @@ cleared_masks trans ws vs lost stale old links fits m alike which cleared a b =
 
 -- ---- links that go
 
+-- where no link goes, each driver leads where it led
 pub none_lost : (ls : List Link) → LeadAlikeBut 0 ls ls
 none_lost ls = record { fewer = λ a b h. h; same = λ a clear b. refl }
 
