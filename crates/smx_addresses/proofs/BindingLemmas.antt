@@ -97,6 +97,7 @@ module _ (xs ys us vs : Entries) (d a m : ℕ) (h : AreBindings xs ys) (free : l
   free_stream : list_any (λ b. is_key (stream_of b) (d, m)) (bindings_of xs) ≡ false
   free_stream = none_of _ _ (taken_stream d a m) (bindings_of xs) free
 
+  -- with an address of a stream bound where both were free, the list has the binding inserted in its order
   pub bound : bindings_of us ≡ with_inserted bind_before (bindings_of xs) (record { driver = d; addr = a; minor = m })
   unfolding added
   bound =
@@ -106,6 +107,7 @@ module _ (xs ys us vs : Entries) (d a m : ℕ) (h : AreBindings xs ys) (free : l
         finds = finds_inserted address_of (λ b. b.minor) (bindings_of xs) bind_before xs us added k.finds free_address s;
       })
 
+  -- where the other table finds the stream's address too, both tables are those of the bindings
   pub bound_whole : Sets ys vs (d, m) (Some a) → AreBindings us vs
   unfolding added
   bound_whole t = record {
@@ -164,6 +166,7 @@ module _ (xs ys us vs : Entries) (d a m : ℕ) (h : AreBindings xs ys) (at : loo
       list_is us _ unique (record { rises = rising_filter bind_before _ (bindings_of xs) k.rises; finds = finds_filter address_of (λ b. b.minor) (bindings_of xs) xs us (d, a) k.finds s })
       ∙ sym (same_taken (bindings_of xs) d a m (apart_rising address_of (bindings_of xs) k.rises) h.streams (sym (h.addresses (d, m)) ∙ at))
 
+  -- where the other table finds no address for the stream either, both tables are those of the bindings
   pub unbound_whole : Sets ys vs (d, m) None → AreBindings us vs
   unbound_whole t = record {
     unique = unique;

@@ -41,6 +41,7 @@ module _ {X : Type 0} (key : X → Key) (value : X → ℕ) (xs : List X) where
       ∙ ap (cond (is_key (key x) q) (Some (value x))) (sym (found_filter key value xs (key x) q))
       ∙ sym (found_inserted key value (by_key key) _ x q (any_gone key (key x) xs))
 
+  -- a list that rises still does with an element in place of the one that had its key
   pub rises_replaced : (x : X) → IsRising (by_key key) xs → IsRising (by_key key) (with_inserted (by_key key) (filter (λ y. not (is_key (key y) (key x))) xs) x)
   rises_replaced x h = rising_inserted key x _ (any_gone key (key x) xs) (rising_filter (by_key key) _ xs h)
 

@@ -34,6 +34,7 @@ less_before : (p q : Key) → key_cmp p q ≡ Less → by_key (λ (k : Key). k) 
 less_before p q h = grind (arith, nat_tests)
 
 module _ {X : Type 0} (key : X → Key) (value : X → ℕ) where
+  -- an element as an entry of a table: its key and its value
   abbrev pub pair : X → Key × ℕ
   pair x = (key x, value x)
 

@@ -33,6 +33,7 @@ module _ {X : Type 0} (before : X → X → Bool) (keep : X → Bool) where
   before_filter x [] h = tt
   before_filter x (y ∷ ys) h = elim (cases_Bool (keep y)) [ inl t ↦ rw t (h.0, before_filter x ys h.1) | inr f ↦ rw f (before_filter x ys h.1) ]
 
+  -- a list that rises still does where only those that pass a test are kept
   pub rising_filter : (xs : List X) → IsRising before xs → IsRising before (filter keep xs)
   rising_filter [] h = tt
   rising_filter (x ∷ xs) h = elim (cases_Bool (keep x)) [ inl t ↦ rw t (before_filter x xs h.0, rising_filter xs h.1) | inr f ↦ rw f (rising_filter xs h.1) ]
@@ -88,6 +89,7 @@ module _ {X : Type 0} (key : X → Key) (value : X → ℕ) where
       let none : Some (value x) ≡ None = sym a ∙ e ∙ b in cc
 
   module _ (exact : (x y : X) → key x ≡ key y → value x ≡ value y → x ≡ y) where
+    -- two lists that rise, in which the same is found under each key, are the same
     pub rising_same : (xs ys : List X) → IsRising (by_key key) xs → IsRising (by_key key) ys → ((k : Key) → found key value xs k ≡ found key value ys k) → xs ≡ ys
     rising_same [] [] r s h = refl
     rising_same [] (y ∷ ys) r s h =
@@ -158,6 +160,7 @@ module _ {X : Type 0} (key : X → Key) (value : X → ℕ) where
       | inr past ↦ omega (arith, found_few (x ∷ xs) ys r s.1 (past_first y ys (x ∷ xs) past h))
     ]
 
+    -- two lists that rise are the same where all of the first is found in the second, and that is no longer
     pub found_all : (xs ys : List X) → IsRising (by_key key) xs → IsRising (by_key key) ys → length ys ≤ length xs → AreFound ys xs → xs ≡ ys
     found_all [] [] r s e h = refl
     found_all [] (y ∷ ys) r s e h = absurd (omega (arith, e))

@@ -31,6 +31,7 @@ module _ {X : Type 0} (key : X → Key) (value : X → ℕ) where
     pub finds : Finds key value xs es
 
   module _ (exact : (x y : X) → key x ≡ key y → value x ≡ value y → x ≡ y) (make : Key × ℕ → X) (keyed : (e : Key × ℕ) → key (make e) ≡ e.0) (valued : (e : Key × ℕ) → value (make e) ≡ e.1) where
+    -- where no key comes twice, the elements of a table in order rise, and the table finds what they have
     pub in_order_stands : (es : Entries) → IsDistinct is_key (keys_of es) → Stands es (in_order (by_key key) make es)
     in_order_stands [] h = record { rises = tt; finds = λ k. refl }
     in_order_stands (e ∷ es) h =

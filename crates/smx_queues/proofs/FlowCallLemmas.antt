@@ -101,7 +101,7 @@ pub drop_is : (p : PlaceList) (all new : List (Option Queue)) (n : ℕ) (t : Flo
 drop_is p all new n t place i h seen at is =
     after_now p all new n t (λ x. without_place x place) seen (subst (λ (qs : List (Option Queue)). IsNow p qs (without_place (lists_of p all n) place)) (sym is) (emptied_now p all n place i h at))
 
--- queues without a place are seen as lists without it
+-- queues of drivers that don't have a place are seen as the lists without it
 pub drop_is_none : (p : PlaceList) (all : List (Option Queue)) (n : ℕ) (t : FlowLists) (place : Place) → IsFlow p all → lists_of p all n ≡ t → list_any (same_place place) p.places ≡ false
     → IsAfter p all (without_place t place)
 drop_is_none p all n t place h seen none = after_now p all all n t (λ x. without_place x place) seen (nothing_now p all n place h none)
@@ -131,7 +131,7 @@ taken_by p old new t place i (Some m) h seen at first left none =
 
 -- ---- a place that is none of them
 
--- lists without such a place are as they were
+-- without a place that the drivers don't have, the lists are as they were
 pub drop_none_is : (p : PlaceList) (all : List (Option Queue)) (n : ℕ) (t : FlowLists) (place : Place) → IsFlow p all → lists_of p all n ≡ t → list_any (same_place place) p.places ≡ false
     → t ≡ record (without_place t place) { spare = t.spare }
 drop_none_is p all n t place h seen none =

@@ -195,7 +195,7 @@ byte_here bytes start k le = ap (λ (b : ℕ). eqb b 1) (byte_from bytes start (
 past_all : (bytes : List ℕ) (k : ℕ) → length bytes ≤ k → eqb (get_or bytes k 0) 1 ≡ false
 past_all bytes k past = ap (λ (b : ℕ). eqb b 1) (get_or_past bytes k 0 past)
 
--- at the end of the marks or behind it, no byte is 1
+-- from the end of the marks on, no byte is 1
 pub none_past : (bytes : List ℕ) (start end : ℕ) → AreWithin 0 end bytes → end ≤ start → IsFirstOne bytes start None
 none_past bytes start end w past = λ k le. w.none_behind k (omega (arith, past, le))
 

@@ -46,7 +46,7 @@ pub store_slots : (own : ℕ → ℕ × ℕ) (s : Slab Node) (chains : List Chai
 store_slots own s chains queues loose st =
     slots_map s chains ∙ ap (slots chains) (store_queues own s chains queues loose st)
 
--- with another chain and queue at a number, a contract sees that queue there
+-- with another chain and queue at a number, what a contract sees changes at that number alone
 pub slots-set : (chains : List Chain) (queues : List Queue) (p : ℕ) (after : Chain) (q : Queue) → p < length chains → length queues ≡ length chains → slots (set chains p after) (set queues p q) ≡ set (slots chains queues) p (slot after q)
 slots-set [] queues p after q within many = absurd (omega (arith, within))
 slots-set (chain ∷ chains) [] p after q within many = absurd (omega (arith, many))
@@ -54,7 +54,7 @@ slots-set (chain ∷ chains) (x ∷ queues) zero after q within many = refl
 slots-set (chain ∷ chains) (x ∷ queues) (suc p) after q within many =
     ap (λ rest. slot chain x ∷ rest) (slots-set chains queues p after q (omega (arith, within)) (omega (arith, many)))
 
--- with a chain and a queue more at the end, a contract sees that queue at the end
+-- with a chain and a queue more at the end, a contract sees what they make behind the rest
 pub slots-push : (chains : List Chain) (queues : List Queue) (after : Chain) (q : Queue) → length queues ≡ length chains → slots (chains ++ after ∷ []) (queues ++ q ∷ []) ≡ slots chains queues ++ slot after q ∷ []
 slots-push [] [] after q many = refl
 slots-push [] (x ∷ queues) after q many = absurd (omega (arith, many))

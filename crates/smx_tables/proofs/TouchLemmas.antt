@@ -57,7 +57,7 @@ swept_still drivers c t ss told all h hung = record {
 
 -- ---- what was there is there or touched
 
--- where what was there is there or touched now, whatever belongs to streams of a swept configuration does so
+-- where each stream that was there is there or touched, so is each that a swept configuration has something of
 pub touched_by : (drivers : List DriverSpec) (c : Configuration) (t u : StreamTable) (ss : List StreamId) → TellsExisting drivers c t → IsSwept drivers c → ((s : StreamId) → is_there t s ≡ true → is_there_or_touched u ss s ≡ true) → IsTouched u ss c
 touched_by drivers c t u ss told h stays = record {
   links = all_weaker (λ l. is_persistent l || exists drivers c l.ctl) (λ l. is_persistent l || is_there_or_touched u ss l.ctl) c.links
@@ -148,7 +148,7 @@ pub few_below : (links : List Link) (t : StreamTable) → AreHeld links t → (l
 few_below links t held [] = omega arith
 few_below links t held (l ∷ ls) = let one = holds_few links l.lower in let here = held l.lower in let rest = few_below links t held ls in omega (arith, one, here, rest)
 
--- where nothing was released yet, and there is room for streams and links, the cascade may begin
+-- where each ordinary link's controlling stream is there or touched, and there is room, a cascade may begin
 pub cascade_at_first : (links : List Link) (t : StreamTable) (ss : List StreamId) (room : ℕ) → AreHeld links t → list_all (λ l. is_persistent l || is_there_or_touched t ss l.ctl) links ≡ true → length ss + length (ordinary_of links) ≤ room → IsCascade links t ss room
 cascade_at_first links t ss room held h enough = record {
   releasing = λ n. starts links n t held;

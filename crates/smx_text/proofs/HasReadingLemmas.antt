@@ -63,6 +63,7 @@ module _ {V K : Type 0} (g : Grammar V K) (made : IsWellMade g) (decides : (line
     ]
   ]
 
+  -- where each line behind others is decided, any bytes spell a value or have a first fault
   pub has_reading : IsBegun g [] → (bytes : List ℕ) → HasReading g bytes
   has_reading begun bytes = elim (first_line bytes) [
     | inl one ↦ stops bytes 1 cause.Cut ([], bytes, inl (refl, refl), one, refl) (λ c. cc)

@@ -134,7 +134,7 @@ lead v (k ∷ ks) order none =
           ∙ append_assoc (body v) (k ∷ []) ks,
     )
 
--- lines with which some allowed programs begin are all the lines of other allowed programs
+-- lines with which allowed programs begin are all the lines of some allowed programs
 pub begun_is_body : (version : Version) (lines : List Line) → IsBegun (programs_grammar version) lines
     → (v : ProgramLists) × IsAllowed version v × (body v ≡ lines)
 begun_is_body version lines (w, more, allowed, e) =

@@ -167,6 +167,7 @@ module _ (version : Version) where
   kinds_apart line.End line.End fits also kinds same = refl
   kinds_apart k l fits also kinds same = absurd cc
 
+  -- two lines of a transcript that can be told in a version and have the same text are the same line
   pub tells_apart : (k l : TranscriptLine) → FitsLine version k → FitsLine version l
       → line_text (transcript_grammar version) k ≡ line_text (transcript_grammar version) l → k ≡ l
   tells_apart k l fits also same =
@@ -258,6 +259,7 @@ module _ (version : Version) (ls : List TranscriptLine) (text : List ℕ)
     (fulls : (x : FullLine) → FitsFull x → text ≢ line_of (full_words x))
     (hungs : (x : HungLine) → FitsHungIn version x → text ≢ line_of (hung_words x))
     (end : text ≢ line_text (transcript_grammar version) line.End) where
+  -- a text that is none of these lines is no line behind any lines of a transcript
   pub no_line : IsNoLine (transcript_grammar version) ls text
   no_line (line.Driver x) fits may is = drivers x fits is
   no_line (line.Entry x) fits may is = entries x fits is

@@ -100,6 +100,7 @@ module _ (version : Version) (t : Transcript) (allowed : IsAllowed version t) wh
       (all_both FitsEntry (λ e. CanTell version (is_of_hangup e)) t.entries allowed.spellable.entries
       (told_entries version t allowed.told))
 
+  -- each line of an allowed transcript can be told in its version
   pub fits_body : AllByRecursion (FitsLine version) (body t)
   fits_body = all_append (FitsLine version) (map line.Driver t.drivers) _
       (all_map (FitsLine version) line.Driver t.drivers allowed.spellable.drivers)

@@ -65,6 +65,7 @@ module _ {V K : Type 0} (g : Version → Grammar V K) (are : AreVersions g) wher
 
   -- ---- so the laws
 
+  -- any bytes have at most one answer in all versions that is not want of memory
   pub one_reading_of_all : (bytes : List ℕ) (r s : Result V TextFault) → ReadsAny g bytes r → ReadsAny g bytes s
       → IfErr r (λ f. f.cause ≢ cause.NoMemory) → IfErr s (λ f. f.cause ≢ cause.NoMemory) → r ≡ s
   one_reading_of_all bytes r s reads (w, again, each) ample plenty =
@@ -78,6 +79,7 @@ module _ {V K : Type 0} (g : Version → Grammar V K) (are : AreVersions g) wher
   spelled : (version : Version) (v : V) → (g version).IsAllowed v → ReadsAny g (full_text (g version) v) (Ok v)
   spelled version v allowed = (version, record { allowed = allowed; text = refl }, tt)
 
+  -- the text of an allowed value in its version is read as that value, unless memory is wanting
   pub written_is_read : (version : Version) (v : V) (r : Result V TextFault) → (g version).IsAllowed v
       → ReadsAny g (full_text (g version) v) r → MatchResult r (λ w. w ≡ v) (λ f. f.cause ≡ cause.NoMemory)
   written_is_read version v (Ok w) allowed reads =
