@@ -66,7 +66,7 @@ released_none c freed m full = record {
 pub not_released : (c : Configuration) (place : Place) (m : Marks) → (has_mark m.wanted place ≡ true → is_full c place ≡ true) → IsReleased c (same_place place) m m
 not_released c place m full = released_none c (same_place place) m (λ q f w. let e = place_is place q f in subst (λ (x : Place). is_full c x ≡ true) e (full (subst (λ (x : Place). has_mark m.wanted x ≡ true) (sym e) w)))
 
--- where no place is freed, all that were are released with no change
+-- where no place is freed, to release what was freed changes nothing
 pub nothing_released : (c : Configuration) (m : Marks) → IsReleased c nowhere m m
 nothing_released c m = released_none c nowhere m (λ q f w. absurd (false≢true f))
 

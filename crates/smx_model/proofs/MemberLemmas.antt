@@ -25,6 +25,8 @@ pub in_none : {X : Type 0} (x : X) → Contains [] x → ⊥
 in_none x h = let lt = h.1 in omega arith
 
 -- what passes stays, and what is left was there and passes
+
+-- what is in a list and passes a test is left by a filter
 pub in_filtered : {X : Type 0} (test : X → Bool) (xs : List X) (x : X) → Contains xs x → test x ≡ true → Contains (filter test xs) x
 in_filtered test [] x h t = absurd (in_none x h)
 in_filtered test (y ∷ ys) x h t = elim (first_or_later x y ys h) [

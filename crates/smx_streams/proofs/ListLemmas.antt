@@ -6,6 +6,8 @@ use Rattle.std.proofs.lemmas.Bool.{cases_Bool}
 use Rattle.smx_model.specs.Ordered.{ComesBefore, with_inserted}
 
 -- a search that ends in the first part, or goes on in the second
+
+-- what a search finds in the first of two lists it finds in both together
 pub find_front : {X : Type 0} (test : X → Bool) (xs ys : List X) (x : X) → find test xs ≡ Some x → find test (xs ++ ys) ≡ Some x
 find_front test [] ys x h = absurd cc
 find_front test (y ∷ xs) ys x h = elim (cases_Bool (test y)) [ inl t ↦ rw t (rw t at h) | inr f ↦ rw f (find_front test xs ys x (rw f at h)) ]
