@@ -61,10 +61,12 @@ all_closed_touch t u p ss named went x there = elim (cases_Bool (is_there u x)) 
 
 -- ---- the outcome of a close that sweeps nothing
 
+-- a stream that a lookup of a descriptor gives without a refusal is there
 pub fd_at : (o : Option StreamId) (s : StreamId) → or_fault BadDescriptor o ≡ Ok s → o ≡ Some s
 fd_at None s e = absurd cc
 fd_at (Some x) s e = let same : x ≡ s = cc in ap (λ (y : StreamId). Some y) same
 
+-- a close that leaves nothing to sweep takes its descriptor away, and drops no message
 pub closes_shared : (drivers : List DriverSpec) (c : Configuration) (process fd : ℕ) (fds : List Descriptor) (new : Configuration) (r : Reply) → IdleDropsNone drivers → IsSwept drivers (record c { fds = fds })
     → fds ≡ filter (λ d. not (is_fd process fd d)) c.fds → new ≡ record c { fds = fds } → r ≡ Done [] → closing drivers c process fd ≡ Ok (new, r)
 closes_shared drivers c process fd fds new r idle swept e is none =
@@ -72,6 +74,7 @@ closes_shared drivers c process fd fds new r idle swept e is none =
 
 -- ---- the streams of a process's descriptors
 
+-- the streams of the process's descriptors with numbers below k are all among these
 abbrev pub AreNamed : List Descriptor → ℕ → ℕ → List StreamId → Type 0
 AreNamed fds p k ss = (n : ℕ) (s : StreamId) → n < k → stream_at fds p n ≡ Some s → list_any (same_stream s) ss ≡ true
 

@@ -32,6 +32,7 @@ abbrev pub IsRefusedBy : Outcome → StepError → Type 0
 IsRefusedBy o (step_error.Refused f) = o ≡ Err f
 IsRefusedBy o step_error.NoMemory = IsOk o
 
+-- where an outcome is refused with this fault, or memory is wanted, and nothing has changed, that is what came of it
 pub refused_by : (old new : Lists) (o : Outcome) (e : StepError) → configuration_of new ≡ configuration_of old → IsRefusedBy o e → HasOutcomeOrNoMemory old new o (Err e)
 refused_by old new o (step_error.Refused f) same h = (same, h)
 refused_by old new o step_error.NoMemory same h = (same, h)
@@ -41,6 +42,7 @@ abbrev pub Agrees : Configuration → ℕ → Answer → Outcome → Type 0
 Agrees c process (Ok x) o = o ≡ Ok (with_fd c process x.0 x.1, Fd x.0 x.1.minor)
 Agrees c process (Err f) o = IsRefusedBy o (as_step_error f)
 
+-- where the table answers a number and a stream, and the outcome agrees, it is one more descriptor
 pub agrees_ok : (c : Configuration) (process : ℕ) (a : Answer) (o : Outcome) (x : ℕ × StreamId) → Agrees c process a o → a ≡ Ok x → o ≡ Ok (with_fd c process x.0 x.1, Fd x.0 x.1.minor)
 agrees_ok c process a o x h e = subst (λ (b : Answer). Agrees c process b o) e h
 
@@ -48,6 +50,7 @@ agrees_some : (c : Configuration) (process : ℕ) (a : Answer) (o : Outcome) →
 agrees_some c process (Ok x) o h some = rw h refl
 agrees_some c process (Err f) o h some = absurd cc
 
+-- where the table refuses, and the outcome agrees, that is refused with the same fault, or memory is wanted
 pub agrees_err : (c : Configuration) (process : ℕ) (a : Answer) (o : Outcome) (f : StreamFault) → Agrees c process a o → IsRefused a f → IsRefusedBy o (as_step_error f)
 agrees_err c process a o f h (inl e) = subst (λ (b : Answer). Agrees c process b o) e h
 agrees_err c process a o f h (inr both) = subst (λ (g : StreamFault). IsRefusedBy o (as_step_error g)) (sym both.0) (agrees_some c process a o h both.1)
@@ -82,6 +85,7 @@ has_driver drivers t n minors lt =
 agree : (c : Configuration) (process : ℕ) (a b : Answer) (o p : Outcome) → a ≡ b → o ≡ p → Agrees c process b p → Agrees c process a o
 agree c process a b o p e f h = subst (λ (x : Answer). Agrees c process x o) (sym e) (subst (λ (x : Outcome). Agrees c process b x) (sym f) h)
 
+-- what the table of streams answers a clone open agrees with the outcome of the command
 pub clone_agrees : (drivers : List DriverSpec) (c : Configuration) (t : StreamTable) (process n : ℕ) (name : List ℕ) → t.minors ≡ map (λ d. d.minors) drivers → TellsExisting drivers c t → t.fds ≡ c.fds
     → driver_of drivers name ≡ Ok n → n < length drivers → Agrees c process (clone_answer t process n) (outcome drivers c process (command.OpenClone name))
 clone_agrees drivers c t process n name minors told same found lt = by (least_minor t n) (least_fd t.fds process) refl refl where
@@ -96,6 +100,7 @@ clone_agrees drivers c t process n name minors told same found lt = by (least_mi
   by (Some m) None e g = agree c process _ (Err stream_fault.TooManyDescriptors) _ (Err TooManyDescriptors) (rw (has_driver drivers t n minors lt, e, g) refl) (rw (found, free (Some m) e, number None g) refl) refl
   by (Some m) (Some k) e g = agree c process _ (Ok (k, record { driver = n; minor = m })) _ _ (rw (has_driver drivers t n minors lt, e, g) refl) (rw (found, free (Some m) e, number (Some k) g) refl) refl
 
+-- what the table of streams answers an open of a minor agrees with the outcome of the command
 pub minor_agrees : (drivers : List DriverSpec) (c : Configuration) (t : StreamTable) (process n minor : ℕ) (name : List ℕ) → t.minors ≡ map (λ d. d.minors) drivers → t.fds ≡ c.fds
     → driver_of drivers name ≡ Ok n → n < length drivers → nat_le (minors_of drivers n) minor ≡ false → is_below c.links (record { driver = n; minor = minor }) ≡ false
     → Agrees c process (minor_answer t process n minor) (outcome drivers c process (command.OpenMinor name minor))
@@ -110,6 +115,7 @@ minor_agrees drivers c t process n minor name minors same found lt few free = by
   by None g = agree c process _ (Err stream_fault.TooManyDescriptors) _ (Err TooManyDescriptors) (rw (has_driver drivers t n minors lt, inside, g) refl) (rw (found, few, free, number None g) refl) refl
   by (Some k) g = agree c process _ (Ok (k, record { driver = n; minor = minor })) _ _ (rw (has_driver drivers t n minors lt, inside, g) refl) (rw (found, few, free, number (Some k) g) refl) refl
 
+-- what the table of streams answers a dup agrees with the outcome of the command
 pub dup_agrees : (drivers : List DriverSpec) (c : Configuration) (t : StreamTable) (process fd : ℕ) → t.fds ≡ c.fds → Agrees c process (dup_answer t process fd) (outcome drivers c process (command.Dup fd))
 dup_agrees drivers c t process fd same = by (stream_at t.fds process fd) (least_fd t.fds process) refl refl where
   number : (k : Option ℕ) → least_fd t.fds process ≡ k → free_fd c process ≡ or_fault TooManyDescriptors k
@@ -131,6 +137,7 @@ dup_in_place t process fd h = by (stream_at t.fds process fd) (least_fd t.fds pr
   by (Some s) None e g = let x : ◌≡◌ {A = Answer} (Err stream_fault.TooManyDescriptors) (Err stream_fault.NoMemory) = rw (e, g) at h in absurd cc
   by (Some s) (Some k) e g = let x : ◌≡◌ {A = Answer} (Ok (k, s)) (Err stream_fault.NoMemory) = rw (e, g) at h in absurd cc
 
+-- the fault of a dup that is refused is not want of memory
 pub dup_refused_in_place : (t : StreamTable) (process fd : ℕ) (f : StreamFault) → dup_answer t process fd ≡ Err f → as_step_error f ≡ step_error.NoMemory → ⊥
 dup_refused_in_place t process fd stream_fault.BadDescriptor h e = absurd cc
 dup_refused_in_place t process fd stream_fault.NoDriver h e = absurd cc

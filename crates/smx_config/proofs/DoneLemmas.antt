@@ -31,11 +31,13 @@ use Rattle.smx_tables.proofs.ClimbLemmas.{named_stands}
 use Rattle.smx_tables.proofs.ExistingLemmas.{all_fewer, named_stream}
 use Rattle.smx_config.specs.UnlinkTargets.{is_target, are_there, unlinks}
 
+-- a change that was swept, with a reply that names the serials that left, is what the change comes to
 pub done_is : (drivers : List DriverSpec) (c new d : Configuration) (r : Reply) → d ≡ after_sweep drivers new → r ≡ Done (serials_that_left c.flow d.flow) → done_outcome drivers c new ≡ Ok (d, r)
 done_is drivers c new d r is gone = rw (gone, is) refl
 
 -- ---- the same, behind the refusals of a command
 
+-- an unlinking that is not refused comes to what the configuration without its links comes to
 pub unlink_does : (drivers : List DriverSpec) (c : Configuration) (process fd : ℕ) (w : Which) (k : LinkKind) (s : StreamId) (x : Configuration × Reply) → mux_stream drivers c process fd ≡ Ok s → are_there w k s c.links ≡ Ok tt
     → done_outcome drivers c (without_links c (is_target w k s)) ≡ Ok x → unlinks drivers c process fd w k ≡ Ok x
 unlink_does drivers c process fd w k s x e there h = rw (e, there) h
@@ -52,6 +54,7 @@ other_routes drivers c routes h = record { links = h.links; binds = h.binds; flo
 abbrev pub IdleDropsNone : List DriverSpec → Type 0
 IdleDropsNone drivers = (c new : Configuration) → IsSwept drivers new → new.flow ≡ c.flow → done_outcome drivers c new ≡ Ok (new, Done [])
 
+-- a route that is not refused replaces its driver's route for the address, and drops no message
 pub route_does : (drivers : List DriverSpec) (c : Configuration) (process fd addr id : ℕ) (s : StreamId) (new : Configuration) (r : Reply) → IdleDropsNone drivers → IsSwept drivers c → mux_stream drivers c process fd ≡ Ok s
     → refuse NoLink (not (list_any (λ l. eqb l.id id && eqb l.ctl.driver s.driver) c.links)) ≡ Ok tt
     → new ≡ record c { routes = with_inserted route_before (filter (λ x. not (eqb x.driver s.driver && eqb x.addr addr)) c.routes) (record { driver = s.driver; addr = addr; id = id }) } → r ≡ Done []
@@ -80,6 +83,7 @@ all_inserted before t (y ∷ ys) x h all = let p = and_parts (t y) (list_all t y
 one_more_bind : (drivers : List DriverSpec) (c : Configuration) (b : Binding) → exists drivers c (record { driver = b.driver; minor = b.minor }) ≡ true → IsSwept drivers c → IsSwept drivers (record c { binds = with_inserted bind_before c.binds b })
 one_more_bind drivers c b there h = record { links = h.links; binds = all_inserted bind_before _ c.binds b there h.binds; flow = h.flow; fulls = h.fulls; hungs = h.hungs }
 
+-- a bind that is not refused inserts its binding, and drops no message
 pub bind_does : (drivers : List DriverSpec) (c : Configuration) (process fd addr : ℕ) (s : StreamId) (new : Configuration) (r : Reply) → IdleDropsNone drivers → IsSwept drivers c → mux_stream drivers c process fd ≡ Ok s
     → refuse AddressInUse (list_any (λ b. eqb b.driver s.driver && (eqb b.addr addr || eqb b.minor s.minor)) c.binds) ≡ Ok tt
     → new ≡ record c { binds = with_inserted bind_before c.binds (record { driver = s.driver; addr = addr; minor = s.minor }) } → r ≡ Done []
@@ -88,6 +92,7 @@ bind_does drivers c process fd addr s new r idle clean e there is none = rw (e, 
   rest : Configuration
   rest = record c { binds = with_inserted bind_before c.binds (record { driver = s.driver; addr = addr; minor = s.minor }) }
 
+-- an unbind that is not refused takes the binding of its stream away, and drops no message
 pub unbind_does : (drivers : List DriverSpec) (c : Configuration) (process fd : ℕ) (s : StreamId) (new : Configuration) (r : Reply) → IdleDropsNone drivers → IsSwept drivers c → mux_stream drivers c process fd ≡ Ok s
     → refuse Unbound (not (list_any (λ b. eqb b.driver s.driver && eqb b.minor s.minor) c.binds)) ≡ Ok tt
     → new ≡ record c { binds = filter (λ b. not (eqb b.driver s.driver && eqb b.minor s.minor)) c.binds } → r ≡ Done [] → outcome drivers c process (command.Unbind fd) ≡ Ok (new, r)
@@ -98,6 +103,7 @@ unbind_does drivers c process fd s new r idle clean e there is none = rw (e, the
   rest : Configuration
   rest = record c { binds = filter other c.binds }
 
+-- an unroute that is not refused takes its driver's route for the address away, and drops no message
 pub unroute_does : (drivers : List DriverSpec) (c : Configuration) (process fd addr : ℕ) (s : StreamId) (new : Configuration) (r : Reply) → IdleDropsNone drivers → IsSwept drivers c → mux_stream drivers c process fd ≡ Ok s
     → refuse Unrouted (not (list_any (λ x. eqb x.driver s.driver && eqb x.addr addr) c.routes)) ≡ Ok tt
     → new ≡ record c { routes = filter (λ x. not (eqb x.driver s.driver && eqb x.addr addr)) c.routes } → r ≡ Done [] → outcome drivers c process (command.Unroute fd addr) ≡ Ok (new, r)
@@ -126,16 +132,19 @@ one_more_hung drivers c s there h = record { links = h.links; binds = h.binds; f
   all_hung true = h.hungs
   all_hung false = all_inserted stream_before (exists drivers c) c.hungs s there h.hungs
 
+-- a hangup that is not refused hangs its stream up, and drops no message
 pub hangup_does : (drivers : List DriverSpec) (c : Configuration) (process : ℕ) (name : List ℕ) (minor : ℕ) (s : StreamId) (new : Configuration) (r : Reply) → IdleDropsNone drivers → IsSwept drivers c → leaf_stream drivers c name minor ≡ Ok s
     → new ≡ record c { hungs = with_hung s c.hungs } → r ≡ Done [] → outcome drivers c process (command.Hangup name minor) ≡ Ok (new, r)
 hangup_does drivers c process name minor s new r idle clean e is none = rw (e, is, none) (idle c (record c { hungs = with_hung s c.hungs }) (one_more_hung drivers c s (leaf_exists drivers c name minor s e) clean) refl)
 
 -- ---- both kinds of links at once
 
+-- the outcome of unlink is that of an unlinking of ordinary links
 pub unlink_is : (drivers : List DriverSpec) (c : Configuration) (process fd : ℕ) (w : Which) → outcome drivers c process (command.Unlink fd w) ≡ unlinks drivers c process fd w kind.Ordinary
 unlink_is drivers c process fd which.All = refl
 unlink_is drivers c process fd (which.Id id) = refl
 
+-- the outcome of punlink is that of an unlinking of persistent links
 pub punlink_is : (drivers : List DriverSpec) (c : Configuration) (process fd : ℕ) (w : Which) → outcome drivers c process (command.Punlink fd w) ≡ unlinks drivers c process fd w kind.Persistent
 punlink_is drivers c process fd which.All = refl
 punlink_is drivers c process fd (which.Id id) = refl

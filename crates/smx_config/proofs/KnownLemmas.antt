@@ -35,9 +35,11 @@ stands_known drivers fds links (suc n) s kf kl h = elim (or_cases (stands_within
       (λ l t. let r = and_parts (not (is_persistent l)) (same_stream l.lower s && stands_within fds links n l.ctl) t in stream_is l.lower s (and_parts (same_stream l.lower s) (stands_within fds links n l.ctl) r.1).0) kl b
 ]
 
+-- a stream that exists is one that the drivers have
 pub exists_known : (drivers : List DriverSpec) (c : Configuration) (s : StreamId) → AreStreamsKnown drivers c → exists drivers c s ≡ true → IsKnown drivers s
 exists_known drivers c s k h = stands_known drivers c.fds c.links (length drivers) s (recursion_from_All (λ d. IsKnown drivers d.stream) c.fds k.fds) (recursion_from_All (λ l. IsKnown drivers l.lower) c.links k.lowers) h
 
+-- a stream whose minor its driver doesn't have doesn't exist
 pub unknown_is_not : (drivers : List DriverSpec) (c : Configuration) (s : StreamId) → AreStreamsKnown drivers c → minors_of drivers s.driver ≤ s.minor → exists drivers c s ≡ false
 unknown_is_not drivers c s k past = false_from_ne_true _ (λ t. let known = exists_known drivers c s k t in omega (arith, known.1))
 
@@ -49,8 +51,10 @@ found_known drivers process fd (d ∷ ds) s k h = elim (cases_Bool (is_fd proces
   | inr f ↦ found_known drivers process fd ds s k.1 (rw f at h)
 ]
 
+-- the stream of a descriptor is one that the drivers have
 pub stream_known : (drivers : List DriverSpec) (c : Configuration) (process fd : ℕ) (s : StreamId) → AreStreamsKnown drivers c → stream_of c process fd ≡ Ok s → IsKnown drivers s
 stream_known drivers c process fd s k h = found_known drivers process fd c.fds s (recursion_from_All (λ d. IsKnown drivers d.stream) c.fds k.fds) h
 
+-- the driver of a descriptor's stream is there
 pub driver_known : (drivers : List DriverSpec) (c : Configuration) (process fd : ℕ) (s : StreamId) → AreStreamsKnown drivers c → stream_of c process fd ≡ Ok s → s.driver < length drivers
 driver_known drivers c process fd s k h = (found_known drivers process fd c.fds s (recursion_from_All (λ d. IsKnown drivers d.stream) c.fds k.fds) h).0

@@ -17,6 +17,7 @@ pub not_refused : (f : Fault) (test : Bool) → refuse f test ≡ Ok tt → test
 not_refused f true h = absurd cc
 not_refused f false h = refl
 
+-- a leaf driver's stream that doesn't exist is refused with `NoMinor`
 pub no_leaf : (drivers : List DriverSpec) (c : Configuration) (name : List ℕ) (n minor : ℕ) → driver_of drivers name ≡ Ok n → is_mux drivers n ≡ false → exists drivers c (record { driver = n; minor = minor }) ≡ false
     → Err NoMinor ≡ leaf_stream drivers c name minor
 no_leaf drivers c name n minor e m x = rw (e, m, x) refl

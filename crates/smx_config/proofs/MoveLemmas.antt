@@ -14,5 +14,6 @@ drivers_by : (t q : FlowLists) (from to : Place) (o : Option Message) → first_
 drivers_by t q from to None first some moved = absurd cc
 drivers_by t q from to (Some m) first some moved = ap (λ (x : FlowLists). x.drivers) (moved m first)
 
+-- a move in the table of queues leaves its drivers as they were
 pub drivers_moved : (t q : FlowLists) (from to : Place) → IsSome (first_message t.flow from) → IsMoved t q from to → q.drivers ≡ t.drivers
 drivers_moved t q from to some moved = drivers_by t q from to (first_message t.flow from) refl some moved

@@ -29,6 +29,7 @@ none_found : (t : Place → Bool) (flow : List QueuedMessage) → ((p : Place) �
 none_found t [] f = refl
 none_found t (h ∷ hs) f = rw (f h.place) (none_found t hs f)
 
+-- in a settled configuration there is no least movable place
 pub least_none : (drivers : List DriverSpec) (c : Configuration) → IsSettled drivers c → least_movable drivers c ≡ None
 least_none drivers c s = ap (option_map (λ (h : QueuedMessage). h.place)) (none_found (is_movable drivers c) c.flow s)
 
@@ -46,9 +47,11 @@ open_of_next drivers c p = by (first_message c.flow p) where
   by None = refl
   by (Some m) = refl
 
+-- a first message whose next place isn't full may go on to that
 pub moves_to : (drivers : List DriverSpec) (c : Configuration) (p q : Place) (next : Option Place) → next ≡ next_of_first drivers c p → Some q ≡ if_open c next → next_open_place drivers c p ≡ Some q
 moves_to drivers c p q next is e = open_of_next drivers c p ∙ (ap (if_open c) (sym is) ∙ sym e)
 
+-- a place whose first message may go on to another is movable
 pub movable_to : (drivers : List DriverSpec) (c : Configuration) (p q : Place) → next_open_place drivers c p ≡ Some q → is_movable drivers c p ≡ true
 movable_to drivers c p q e = ap (λ (o : Option Place). is_some o) e
 
@@ -65,6 +68,7 @@ next_has_message drivers c p q e none = nowhere (sym (ap (next_of drivers c p) n
   nowhere : ◌≡◌ {A = Option Place} None (Some q) → ⊥
   nowhere k = cc
 
+-- a place whose first message may go on to another has one
 pub open_has_message : (drivers : List DriverSpec) (c : Configuration) (p q : Place) → next_open_place drivers c p ≡ Some q → first_message c.flow p ≢ None
 open_has_message drivers c p q e none = nowhere (sym (open_of_next drivers c p ∙ ap (λ (o : Option Message). if_open c (next_of drivers c p o)) none) ∙ e) where
   nowhere : ◌≡◌ {A = Option Place} None (Some q) → ⊥
@@ -76,6 +80,7 @@ next_is : (o : Option Place) (q : Place) → is_one_of (λ x. same_place x q) o 
 next_is None q h = absurd (false≢true h)
 next_is (Some x) q h = ap (λ (y : Place). Some y) (place_is x q h)
 
+-- where the least marked place isn't movable, it is cleared: its run mark goes, and its next place is wanted
 pub is_cleared : (drivers : List DriverSpec) (c : Configuration) (p : Place) (next : Option Place) (old new : Marks) → IsLeastMarked (has_mark old.run) p → next ≡ next_of_first drivers c p → if_open c next ≡ None
     → ((q : Place) → has_mark new.run q ≡ all_but (has_mark old.run) p q) → ((q : Place) → has_mark old.wanted q ≡ true → has_mark new.wanted q ≡ true) → ((q : Place) → next ≡ Some q → has_mark new.wanted q ≡ true)
     → IsCleared drivers p (marked_configuration c old) (marked_configuration c new)
@@ -176,12 +181,14 @@ forgotten drivers c p old new h here run wanted others same = record {
 
 -- ---- the place that is waited for
 
+-- where no mark but that of the next place may be new, each wanted place was wanted before, or is the next one
 pub few_wanted : (to q : Place) (old new : MarkList) (next : Option Place) → next ≡ Some to → (same_place to q ≡ false → has_mark new q ≡ has_mark old q) → has_mark new q ≡ true → (has_mark old q ≡ true) ⊎ (next ≡ Some q)
 few_wanted to q old new next is others h = elim (cases_Bool (same_place to q)) [
   | inl t ↦ inr (is ∙ ap (λ (x : Place). Some x) (place_is to q t))
   | inr f ↦ inl (sym (others f) ∙ h)
 ]
 
+-- where the next place has a mark if its stream is known, so has any place that is the next one
 pub there_too : (to q : Place) (m : MarkList) (next : Option Place) (drivers : List DriverSpec) → next ≡ Some to → (IsKnown drivers to.stream → has_mark m to ≡ true) → next ≡ Some q → IsKnown drivers q.stream → has_mark m q ≡ true
 there_too to q m next drivers is here at known = let e : to ≡ q = same (sym is ∙ at) in subst (λ (x : Place). has_mark m x ≡ true) e (here (subst (λ (x : Place). IsKnown drivers x.stream) (sym e) known)) where
   same : ◌≡◌ {A = Option Place} (Some to) (Some q) → to ≡ q

@@ -89,6 +89,7 @@ pub record IsOpenNext (drivers : List DriverSpec) (c : Configuration) (p q : Pla
   pub differ : same_place p q ≡ false
   pub free : is_full c q ≡ false
 
+-- where a first message may go on to is another place, which the drivers have and which isn't full
 pub open_next : (drivers : List DriverSpec) (c : Configuration) (p q : Place) → IsSound drivers c → next_open_place drivers c p ≡ Some q → IsOpenNext drivers c p q
 open_next drivers c p q h e =
     let m = bound (first_message c.flow p) (λ m. next_place drivers c p m.addr >>= (λ r. cond (is_full c r) None (Some r))) q e in

@@ -74,6 +74,7 @@ swapped flow one other old new h = fewer_marked flow (both one other) (both othe
 
 -- ---- the write sides of a driver
 
+-- the write sides of the driver's streams with minors below n
 abbrev pub writes_below : ℕ → ℕ → Place → Bool
 writes_below driver n p = is_write_of driver p && ltb p.stream.minor n
 
@@ -118,15 +119,18 @@ above_is links s d o apart e =
 
 -- ---- the read sides below a driver
 
+-- the read side of a stream with a link above is below a driver just where that link is the driver's
 pub below_by : (c : Configuration) (p : Place) (l : Link) (driver : ℕ) → AreLowersApart c.links → Some l ≡ find (λ k. same_stream k.lower p.stream) c.links → p.side ≡ side.Read → eqb l.ctl.driver driver ≡ is_read_below_driver c driver p
 below_by c p l driver apart e is = sym (rw is (above_is c.links p.stream driver (Some l) apart (sym e)))
 
+-- a place of a stream with no link above is no read side below a driver
 pub below_none : (c : Configuration) (p : Place) (driver : ℕ) → AreLowersApart c.links → None ≡ find (λ k. same_stream k.lower p.stream) c.links → false ≡ is_read_below_driver c driver p
 below_none c p driver apart e = sym (and_false (same_side p.side side.Read) (above_is c.links p.stream driver None apart (sym e))) where
   and_false : (a : Bool) {b : Bool} → b ≡ false → (a && b) ≡ false
   and_false true none = none
   and_false false none = refl
 
+-- a write side is no read side below a driver
 pub below_not : (c : Configuration) (p : Place) (driver : ℕ) → p.side ≡ side.Write → false ≡ is_read_below_driver c driver p
 below_not c p driver is = rw is refl
 
@@ -136,6 +140,7 @@ pub record ArePassed (flow rest : List QueuedMessage) (test : Place → Bool) (o
   pub marked : (p : Place) → IsKnown old.drivers p.stream → first_message flow p ≢ None → test p ≡ true → (has_mark new p ≡ true) ⊎ (list_any (λ h. same_place h.place p) rest ≡ true)
   pub drivers : new.drivers ≡ old.drivers
 
+-- before any message was passed, each place with a message is still to come
 pub none_passed : (flow rest : List QueuedMessage) (test : Place → Bool) (m : MarkList) → ((p : Place) → first_message flow p ≢ None → list_any (λ h. same_place h.place p) rest ≡ true) → ArePassed flow rest test m m
 none_passed flow rest test m all = record { kept = λ p h. h; marked = λ p known some t. inr (all p some); drivers = refl }
 

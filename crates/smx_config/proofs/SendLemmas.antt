@@ -70,6 +70,7 @@ live_known drivers c process fd s k e =
     let live = bound (refuse HungUp (is_hung c.hungs there.0)) (λ h. Ok there.0) s there.2 in
     free_known drivers c process fd s k (there.1 ∙ live.2)
 
+-- the stream of a device that has not hung up is one that the drivers have
 pub live_leaf_known : (drivers : List DriverSpec) (c : Configuration) (name : List ℕ) (minor : ℕ) (s : StreamId) → AreStreamsKnown drivers c → live_leaf drivers c name minor ≡ Ok s → IsKnown drivers s
 live_leaf_known drivers c name minor s k e =
     let there = bound (leaf_stream drivers c name minor) (λ x. refuse HungUp (is_hung c.hungs x) >>= (λ h. Ok x)) s e in

@@ -62,9 +62,11 @@ released_none c freed m full = record {
   waits = refl;
 }
 
+-- a place that is full, or that wasn't wanted, is released with no change
 pub not_released : (c : Configuration) (place : Place) (m : Marks) → (has_mark m.wanted place ≡ true → is_full c place ≡ true) → IsReleased c (same_place place) m m
 not_released c place m full = released_none c (same_place place) m (λ q f w. let e = place_is place q f in subst (λ (x : Place). is_full c x ≡ true) e (full (subst (λ (x : Place). has_mark m.wanted x ≡ true) (sym e) w)))
 
+-- where no place is freed, to release what was freed changes nothing
 pub nothing_released : (c : Configuration) (m : Marks) → IsReleased c nowhere m m
 nothing_released c m = released_none c nowhere m (λ q f w. absurd (false≢true f))
 
@@ -74,9 +76,11 @@ nothing_released c m = released_none c nowhere m (λ q f w. absurd (false≢true
 abbrev pub unwanted : Marks → Place → Bool
 unwanted m q = not (has_mark m.wanted q)
 
+-- the places that aren't wanted are released with no change
 pub released_at_first : (c : Configuration) (m : Marks) → IsReleased c (unwanted m) m m
 released_at_first c m = released_none c (unwanted m) m (λ q f w. never (unwanted m q) f (ap not w))
 
+-- where all places that weren't wanted were released, and one more is, all that aren't wanted then are
 pub released_more : (c : Configuration) (place : Place) (old mid new : Marks) → IsReleased c (unwanted mid) old mid → IsReleased c (same_place place) mid new → IsReleased c (unwanted new) old new
 released_more c place old mid new a b = record {
   kept = λ p h. b.kept p (a.kept p h);
@@ -96,6 +100,7 @@ released_more c place old mid new a b = record {
   waits = b.waits ∙ a.waits;
 }
 
+-- where each place that is still wanted is full, and all others are released, every place is
 pub released_all : (c : Configuration) (old new : Marks) → ((p : Place) → has_mark new.wanted p ≡ true → is_full c p ≡ true) → IsReleased c (unwanted new) old new → IsReleased c everywhere old new
 released_all c old new full h = record {
   kept = h.kept;
@@ -117,6 +122,7 @@ released_all c old new full h = record {
 abbrev with_run : Marks → MarkList → Marks
 with_run m run = record { run = run; wanted = m.wanted; waits = m.waits }
 
+-- where what was freed is released, and what was turned gets a run mark then, all of it is woken
 pub woken : (c : Configuration) (turned freed : Place → Bool) (old mid : Marks) (run : MarkList) → IsReleased c freed old mid → IsMarkedWhere c.flow turned mid.run run → IsWoken c turned freed old (with_run mid run)
 woken c turned freed old mid run a b = record {
   released = record {
@@ -135,18 +141,21 @@ woken c turned freed old mid run a b = record {
 
 -- ---- a wanted place that is open
 
+-- where the first place to come is full, an open one that is to come is among those behind it
 pub open_next : (c : Configuration) (place : Place) (rest next : List Place) (p : Place) → rest ≡ place ∷ next → is_full c place ≡ true → is_full c p ≡ false → list_any (same_place p) rest ≡ true → list_any (same_place p) next ≡ true
 open_next c place rest next p step full vacant here = elim (cases_Bool (same_place p place)) [
   | inl t ↦ never (is_full c p) (ap (is_full c) (place_is p place t) ∙ full) vacant
   | inr f ↦ let k : list_any (same_place p) (place ∷ next) ≡ true = subst (λ (ps : List Place). list_any (same_place p) ps ≡ true) step here in rw f at k
 ]
 
+-- what is behind the first place to come is among all that are to come
 pub marked_next : (place : Place) (rest next : List Place) (p : Place) → rest ≡ place ∷ next → list_any (same_place p) next ≡ true → list_any (same_place p) rest ≡ true
 marked_next place rest next p step h = subst (λ (ps : List Place). list_any (same_place p) ps ≡ true) (sym step) (or_right (same_place p place) _ h) where
   or_right : (a b : Bool) → b ≡ true → (a || b) ≡ true
   or_right true b k = refl
   or_right false b k = k
 
+-- where each open place is still to come, and none is, each place is full
 pub none_open : (c : Configuration) (rest : List Place) (p : Place) → rest ≡ [] → (is_full c p ≡ false → list_any (same_place p) rest ≡ true) → is_full c p ≡ true
 none_open c rest p none h = elim (cases_Bool (is_full c p)) [
   | inl t ↦ t
@@ -246,6 +255,7 @@ stands_there p q (w ∷ ws) e = elim (cases_Bool (same_place w.waiter p)) [
   | inr f ↦ let later : option_map (λ (v : Wait). v.target) (find (λ (v : Wait). same_place v.waiter p) ws) ≡ Some q = rw f at e in rw f (stands_there p q ws later)
 ]
 
+-- before any wait was passed, each place that waits for this one is still to come
 pub none_passed : (waits : WaitList) (rest : List Wait) (q : Place) (m : MarkList) → rest ≡ waits.waits → ArePassed waits rest q m m
 none_passed waits rest q m is = record { kept = λ p h. h; marked = λ p known next. inr (rw is (stands_there p q waits.waits next)); same_drivers = refl }
 
@@ -278,6 +288,7 @@ other_passed waits now rest w q old mid is a other = record {
   same_drivers = a.same_drivers;
 }
 
+-- once all waits were passed, each place that waits for this one has a run mark
 pub all_passed : (waits : WaitList) (rest : List Wait) (q : Place) (old new : MarkList) → rest ≡ [] → ArePassed waits rest q old new → AreWaitersMarked waits q old new
 all_passed waits rest q old new none a = record {
   kept = a.kept;

@@ -56,6 +56,7 @@ kept_links stays is (l ∷ ls) h =
 swept_links : (drivers : List DriverSpec) (c : Configuration) (binds : List Binding) → IsSwept drivers c → (after_sweep drivers (record c { binds = binds })).links ≡ c.links
 swept_links drivers c binds h = kept_links is_persistent (λ l. exists drivers c l.ctl) c.links h.links
 
+-- an accepted bind leaves the links as they were
 pub bind_keeps_links : (drivers : List DriverSpec) (c : Configuration) (process fd addr : ℕ) (x : Configuration × Reply) → IsSwept drivers c → outcome drivers c process (command.Bind fd addr) ≡ Ok x → x.0.links ≡ c.links
 bind_keeps_links drivers c process fd addr x h e =
     let s = ok_bound (mux_stream drivers c process fd) _ x e in
@@ -77,6 +78,7 @@ turned_on (Err e) f g d p h t = absurd (false≢true t)
 first_part : (a b : Bool) → (a && b) ≡ true → a ≡ true
 first_part a b h = (and_parts a b h).0
 
+-- each place that an accepted command turns is one that `wakes_of` says may be turned
 pub turns : (drivers : List DriverSpec) (c : Configuration) (process : ℕ) (k : Command) (x : Configuration × Reply) → IsSwept drivers c → outcome drivers c process k ≡ Ok x → (p : Place) → turned_by drivers c process k p ≡ true
     → turned_under x.0 (wakes_of drivers c process k) p ≡ true
 turns drivers c process (command.OpenClone name) x h e p t = absurd (false≢true t)
@@ -108,6 +110,7 @@ freed_on : (r : Result StreamId Fault) (f : StreamId → Place → Bool) (g : St
 freed_on (Ok s) f g p h t = h s t
 freed_on (Err e) f g p h t = absurd (false≢true t)
 
+-- each place that a command may free is one that `wakes_of` says may be freed
 pub frees : (drivers : List DriverSpec) (c new : Configuration) (process : ℕ) (k : Command) (p : Place) → freed_by drivers c process k new p ≡ true → freed_under (wakes_of drivers c process k) p ≡ true
 frees drivers c new process (command.OpenClone name) p t = absurd (false≢true t)
 frees drivers c new process (command.OpenMinor name minor) p t = absurd (false≢true t)
@@ -131,6 +134,7 @@ frees drivers c new process (command.Hangup name minor) p t = absurd (false≢tr
 
 -- ---- both ends of a move
 
+-- each place that a move turns is the one that it takes from, or the one that it goes to
 pub move_turns : (drivers : List DriverSpec) (c : Configuration) (from to p : Place) → next_open_place drivers c from ≡ Some to → turned_by_move drivers c from p ≡ true → both (same_place from) (same_place to) p ≡ true
 move_turns drivers c from to p e t = by (same_place from p) (subst (λ (o : Option Place). (same_place from p || is_first_there drivers c from o p) ≡ true) e t) where
   by : (b : Bool) → (b || is_first_there drivers c from (Some to) p) ≡ true → (b || same_place to p) ≡ true
@@ -143,10 +147,12 @@ turned_is drivers c new from to e h = subst (λ (o : Option Place). TurnsOnly dr
 
 -- ---- what holds of an accepted outcome
 
+-- what follows from three properties of an accepted result holds of it, where all three do
 pub of_three : {X : Type 0} {P Q S R : X → Type 0} (r : Result X Fault) → IfOk r P → IfOk r Q → IfOk r S → ((x : X) → r ≡ Ok x → P x → Q x → S x → R x) → IfOk r R
 of_three (Ok x) p q s f = f x refl p q s
 of_three (Err e) p q s f = tt
 
+-- what holds of a result if it is accepted holds of an accepted one
 pub of_accepted : {X : Type 0} (P : X → Type 0) (r : Result X Fault) (x : X) → r ≡ Ok x → IfOk r P → P x
 of_accepted {X = X} P (Ok y) x e h = subst P (same e) h where
   same : ◌≡◌ {A = Result X Fault} (Ok y) (Ok x) → y ≡ x
@@ -155,6 +161,7 @@ of_accepted P (Err g) x e h = absurd cc
 
 -- ---- after a command that was performed
 
+-- if a command is accepted, and all that it may turn and free was woken, the marks are right after it
 abbrev pub IsEnough : List DriverSpec → Configuration → ℕ → Command → Marks → Marks → Type 0
 IsEnough drivers c process k m n = IfOk (outcome drivers c process k) (λ x. IsWoken x.0 (turned_under x.0 (wakes_of drivers c process k)) (freed_under (wakes_of drivers c process k)) m n → AreMarks drivers x.0 n)
 
@@ -163,6 +170,7 @@ enough_at : (drivers : List DriverSpec) (c : Configuration) (process : ℕ) (k :
 enough_at drivers c process k m n x enough e =
     of_accepted (λ (y : Configuration × Reply). IsWoken y.0 (turned_under y.0 (wakes_of drivers c process k)) (freed_under (wakes_of drivers c process k)) m n → AreMarks drivers y.0 n) (outcome drivers c process k) x e enough
 
+-- where it is enough to wake what a command may turn and free, and that is done after it, the marks are right
 pub woken_after : (drivers told done : List DriverSpec) (old new : Lists) (process : ℕ) (k : Command) (result : Result Reply StepError) (r : Reply) (w : Wakes) (m n : Marks) → told ≡ drivers → done ≡ drivers → result ≡ Ok r
     → RefinesOrNoMemory done old new process k result → w ≡ wakes_of told (configuration_of old) process k → IsEnough drivers (configuration_of old) process k m n
     → IsWoken (configuration_of new) (turned_under (configuration_of new) w) (freed_under w) m n → AreMarks drivers (configuration_of new) n

@@ -49,6 +49,7 @@ loosed_fewer drivers c goes h = subst (λ (o : Outcome). LosesBindings c (after_
   idle : done_outcome drivers c fewer ≡ Ok (fewer, reply.Done [])
   idle = done_idle drivers c fewer (record { links = h.links; binds = all_filter _ _ c.binds h.binds; flow = h.flow; fulls = h.fulls; hungs = h.hungs }) refl
 
+-- unbind takes away the bindings of its stream, and leaves all others
 pub unbind_looses : (drivers : List DriverSpec) (c : Configuration) (process fd : ℕ) (s : StreamId) → IsSwept drivers c → mux_stream drivers c process fd ≡ Ok s
     → All (λ b. Contains (step drivers c process (command.Unbind fd)).0.binds b ↔ (not (eqb b.driver s.driver && eqb b.minor s.minor) ≡ true)) c.binds
 unbind_looses drivers c process fd s h e = all_in _ c.binds (subst (λ (r : Result StreamId Fault). LosesBindings c (after_outcome drivers c (r >>= (λ s. refuse Unbound (not (list_any (λ b. eqb b.driver s.driver && eqb b.minor s.minor) c.binds))
@@ -125,6 +126,7 @@ just_finished : (drivers : List DriverSpec) (c : Configuration) (o : Outcome) �
 just_finished drivers c (Ok x) h swept_ m = just_settled drivers c _ x.0 (record { each = λ b k. (λ there. in_all _ x.0.binds b swept_.holds.binds there, λ e. m.holds.each b k e) })
 just_finished drivers c (Err f) h swept_ m = record { each = λ b k. (λ there. in_all _ c.binds b h.binds there, λ e. k) }
 
+-- a command that is no unbind leaves just those of the old bindings whose streams exist after it
 pub others_keep_bound : (drivers : List DriverSpec) (c : Configuration) (process : ℕ) (k : Command) → IsSwept drivers c → ((fd : ℕ) → k ≡ command.Unbind fd → ⊥)
     → All (λ b. Contains (step drivers c process k).0.binds b ↔ (exists drivers (step drivers c process k).0 (record { driver = b.driver; minor = b.minor }) ≡ true)) c.binds
 others_keep_bound drivers c process k h never = all_in _ c.binds (just_finished drivers c (outcome drivers c process k) h (swept_accepted drivers c process k h) (bound_accepted drivers c process k never)).each

@@ -45,11 +45,13 @@ serials_front n (h ∷ hs) p m e = elim (cases_Bool (is_at p h)) [
 
 -- from old to new by a reply
 
+-- what was taken in or queued is delivered, dropped or queued then, and serials are taken from the next one on
 pub record Goes (c d : Configuration) (r : Reply) : Type 0 where
   pub balance : (n : ℕ) → times n (taken_by r) + times n (serials c.flow) ≡ times n (delivered_by r) + (times n (dropped_by r) + times n (serials d.flow))
   pub numbered : taken_by r ≡ range_with_len c.next_serial (length (taken_by r))
   pub next : d.next_serial ≡ c.next_serial + length (taken_by r)
 
+-- each queued message has a serial of its own, below the next one
 pub record IsNumbered (c : Configuration) : Type 0 where
   pub once : (n : ℕ) → times n (serials c.flow) ≤ 1
   pub below : (n : ℕ) → c.next_serial ≤ n → times n (serials c.flow) ≡ 0
@@ -111,6 +113,7 @@ goes_unlinked drivers c (which.Id id) mine h = search (after_test, goes_done, fe
 goes_linked : (drivers : List DriverSpec) (c : Configuration) (process fd arg : ℕ) (k : LinkKind) → IfAccepted (Goes c) (link_outcome drivers c process fd arg k)
 goes_linked drivers c process fd arg k = search (after_test, after_ok, at_ok, goes_id, rules) depth 20
 
+-- an accepted command loses and doubles no message, where each queued one has a serial of its own
 pub goes_accepted : (drivers : List DriverSpec) (c : Configuration) (process : ℕ) (k : Command) → IsNumbered c → IfAccepted (Goes c) (outcome drivers c process k)
 goes_accepted drivers c process (command.OpenClone name) h = search (after_ok, at_ok, goes_fd, rules) depth 20
 goes_accepted drivers c process (command.OpenMinor name minor) h = search (after_test, after_ok, at_ok, goes_fd, rules) depth 20
@@ -134,6 +137,7 @@ goes_accepted drivers c process (command.Hangup name minor) h = search (after_ok
 
 -- settling keeps what is queued
 
+-- a move leaves the same serials in the flow, each as often
 pub moved_same : (n : ℕ) (drivers : List DriverSpec) (c : Configuration) (p : Place) → times n (serials (after_move drivers c p).flow) ≡ times n (serials c.flow)
 moved_same n drivers c p = by (next_open_place drivers c p) (first_message c.flow p) refl where
   by : (o : Option Place) (m : Option Message) → first_message c.flow p ≡ m → times n (serials (after_move_to drivers c p o m).flow) ≡ times n (serials c.flow)
@@ -141,6 +145,7 @@ moved_same n drivers c p = by (next_open_place drivers c p) (first_message c.flo
   by (Some q) None e = refl
   by None m e = refl
 
+-- a move leaves the next serial as it is
 pub moved_next : (drivers : List DriverSpec) (c : Configuration) (p : Place) → (after_move drivers c p).next_serial ≡ c.next_serial
 moved_next drivers c p = by (next_open_place drivers c p) (first_message c.flow p) where
   by : (o : Option Place) (m : Option Message) → (after_move_to drivers c p o m).next_serial ≡ c.next_serial
@@ -169,6 +174,7 @@ goes_finished drivers c (Ok x) k = let s = settled_keeps drivers _ x.0 in record
 }
 goes_finished drivers c (Err f) k = record { balance = λ n. omega arith; numbered = refl; next = omega arith }
 
+-- a step loses and doubles no message, where each queued one has a serial of its own
 pub goes_step : (drivers : List DriverSpec) (c : Configuration) (process : ℕ) (k : Command) → IsNumbered c → Goes c (step drivers c process k).0 (step drivers c process k).1
 goes_step drivers c process k h = goes_finished drivers c (outcome drivers c process k) (goes_accepted drivers c process k h)
 
@@ -229,9 +235,11 @@ ends drivers c (e ∷ es) h legal =
           let l = length-append xs ys in
           ap (λ (zs : List ℕ). zs ++ ys) h ∙ (ap (λ (zs : List ℕ). range_with_len a (length xs) ++ zs) (k ∙ ap (λ (m : ℕ). range_with_len m (length ys)) next) ∙ (j ∙ ap (range_with_len a) (sym l)))
 
+-- no message is queued in the empty configuration, so each has a serial of its own
 pub numbered_empty : IsNumbered empty
 numbered_empty = record { once = λ n. omega arith; below = λ n le. refl }
 
+-- a legal history takes messages in under serials from 1 on, and loses and doubles none
 pub conserving : (drivers : List DriverSpec) (history : List Entry) → IsLegal drivers history → IsConserving drivers history
 conserving drivers history legal = let e = ends drivers empty history numbered_empty legal in record {
   numbered = e.numbered;

@@ -6,10 +6,12 @@ use Rattle.std.proofs.lemmas.Bool.{cases_Bool, cases_eq, eqb-true, eq-eqb, ne_eq
 use Rattle.std.proofs.lemmas.List.Sorted.{IsPermutation-refl, IsPermutation-cons, IsPermutation-trans, IsPermutation-sym, IsPermutation-to_front, IsPermutation-append_left}
 use Rattle.smx_model.specs.Ordered.{with_inserted, in_rising_order}
 
+-- how often the number n is in a list
 abbrev pub times : ℕ → List ℕ → ℕ
 times n [] = 0
 times n (m ∷ ms) = cond (eqb m n) 1 0 + times n ms
 
+-- in two lists, one after the other, a number is as often as in both together
 pub times_append : (n : ℕ) (xs ys : List ℕ) → times n (xs ++ ys) ≡ times n xs + times n ys
 times_append n [] ys = omega arith
 times_append n (x ∷ xs) ys = omega (arith, times_append n xs ys)
@@ -18,10 +20,12 @@ times_placed : (n : ℕ) (xs : List ℕ) (x : ℕ) → times n (with_inserted lt
 times_placed n [] x = refl
 times_placed n (y ∷ ys) x = elim (cases_Bool (ltb x y)) [ inl t ↦ rw t refl | inr f ↦ rw f (omega (arith, times_placed n ys x)) ]
 
+-- numbers that are put in rising order are there as often as before
 pub times_rising : (n : ℕ) (xs : List ℕ) → times n (in_rising_order xs) ≡ times n xs
 times_rising n [] = refl
 times_rising n (x ∷ xs) = omega (arith, times_placed n (in_rising_order xs) x, times_rising n xs)
 
+-- a filter leaves a number that passes as often as it was, and one that doesn't pass 0 times
 pub times_filter : (n : ℕ) (test : ℕ → Bool) (xs : List ℕ) → times n (filter test xs) ≡ cond (test n) (times n xs) 0
 times_filter n test [] = elim (cases_Bool (test n)) [ inl t ↦ rw t refl | inr f ↦ rw f refl ]
 times_filter n test (x ∷ xs) = elim (cases_eq x n) [
@@ -36,11 +40,13 @@ times_filter n test (x ∷ xs) = elim (cases_eq x n) [
       ]
 ]
 
+-- a number that no element is equal to is there 0 times
 pub times_none : (n : ℕ) (xs : List ℕ) → list_any (λ m. eqb n m) xs ≡ false → times n xs ≡ 0
 times_none n [] h = refl
 times_none n (x ∷ xs) h = let p = or_parts (eqb n x) (list_any (λ m. eqb n m) xs) h in
     elim (cases_eq x n) [ inl e ↦ absurd (false≢true (sym p.0 ∙ eq-eqb n x (sym e))) | inr ne ↦ rw (ne_eqb x n ne) (omega (arith, times_none n xs p.1)) ]
 
+-- a number that some element is equal to is there at least once
 pub times_some : (n : ℕ) (xs : List ℕ) → list_any (λ m. eqb n m) xs ≡ true → 1 ≤ times n xs
 times_some n [] h = absurd (false≢true h)
 times_some n (x ∷ xs) h = elim (or_cases (eqb n x) (list_any (λ m. eqb n m) xs) h)

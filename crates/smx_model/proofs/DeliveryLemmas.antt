@@ -177,6 +177,7 @@ got_from P drivers c [] late e m h legal is = inl ((carries_step P drivers c e l
 got_from P drivers c (x ∷ xs) late e m h legal is =
     told P x xs m (got_from (Known P x) drivers (step drivers c x.process x.command).0 xs late e m (carries_step P drivers c x legal.0 h).flow legal.1 is)
 
+-- a message that is delivered was taken in before, with the same serial, address and bytes
 pub arrive_whole : (drivers : List DriverSpec) (early late : List Entry) (e : Entry) (serial addr : ℕ) (bytes : List ℕ) → IsLegal drivers (early ++ e ∷ late) → e.reply ≡ reply.Got serial addr bytes
     → TakenIn early (record { serial = serial; addr = addr; bytes = bytes })
 arrive_whole drivers early late e serial addr bytes legal is =
@@ -187,6 +188,7 @@ queued_from P drivers c [] h legal = each_map _ _ c.flow (λ x p. inl p) h
 queued_from P drivers c (e ∷ es) h legal = each_map _ _ _ (λ x k. told P e es x.message k)
     (queued_from (Known P e) drivers (step drivers c e.process e.command).0 es (carries_step P drivers c e legal.0 h).flow legal.1)
 
+-- a message that is queued after a legal history was taken in by it, with its serial, address and bytes
 pub stay_whole : (drivers : List DriverSpec) (history : List Entry) → IsLegal drivers history → All (λ h. TakenIn history h.message) (after drivers history).flow
 stay_whole drivers history legal = all_of_each (λ h. TakenIn history h.message) (after drivers history).flow
     (each_map (λ h. ⊥ ⊎ TakenIn history h.message) (λ h. TakenIn history h.message) (after drivers history).flow (λ h k. elim k [ inl none ↦ absurd none | inr t ↦ t ]) (queued_from (λ m. ⊥) drivers empty history tt legal))
@@ -206,6 +208,7 @@ balanced c d r g = permuted (taken_by r ++ serials c.flow) (delivered_by r ++ (d
   times_append n (dropped_by r) (serials d.flow),
 ))
 
+-- what was queued or is taken in is, but for the order, what is delivered, is dropped or is queued then
 pub go_by_name : (drivers : List DriverSpec) (history : List Entry) (process : ℕ) (k : Command)
     → IsPermutation (taken_by (step drivers (after drivers history) process k).1 ++ serials (after drivers history).flow)
     (delivered_by (step drivers (after drivers history) process k).1 ++ (dropped_by (step drivers (after drivers history) process k).1 ++ serials (step drivers (after drivers history) process k).0.flow))

@@ -42,6 +42,7 @@ shut_done drivers c goes = record {
 shut_none : (c : Configuration) (goes : Descriptor → Bool) → list_any goes c.fds ≡ false → LosesDescriptors c c goes
 shut_none c goes e = record { each = λ x h. (λ k. rw (none_in goes c.fds e x h) refl, λ e. h) }
 
+-- close takes away just the descriptor of its process that it names
 pub close_shuts : (drivers : List DriverSpec) (c : Configuration) (process fd : ℕ) → All (λ d. Contains (step drivers c process (command.Close fd)).0.fds d ↔ (not (is_fd process fd d) ≡ true)) c.fds
 close_shuts drivers c process fd = all_in _ c.fds (by (find (is_fd process fd) c.fds) refl).each where
   found : Option Descriptor → Option StreamId
@@ -53,6 +54,7 @@ close_shuts drivers c process fd = all_in _ c.fds (by (find (is_fd process fd) c
   by None e = shut_none c (is_fd process fd) (none_found (is_fd process fd) c.fds e)
   by (Some d) e = shut_done drivers c (is_fd process fd)
 
+-- exit takes away just the descriptors of its process
 pub exit_shuts : (drivers : List DriverSpec) (c : Configuration) (process : ℕ) → All (λ d. Contains (step drivers c process command.CloseAll).0.fds d ↔ (not (eqb d.process process) ≡ true)) c.fds
 exit_shuts drivers c process = all_in _ c.fds (shut_done drivers c (λ d. eqb d.process process)).each
 
@@ -109,5 +111,6 @@ open_finished : (drivers : List DriverSpec) (c : Configuration) (o : Outcome) �
 open_finished drivers c (Ok x) h = record { each = λ d k. rw ((settled_alone drivers _ x.0).fds) (h.holds.each d k) }
 open_finished drivers c (Err f) h = record { each = λ d k. k }
 
+-- a command that is neither close nor exit leaves all descriptors
 pub others_leave_open : (drivers : List DriverSpec) (c : Configuration) (process : ℕ) (k : Command) → ((fd : ℕ) → k ≡ command.Close fd → ⊥) → (k ≡ command.CloseAll → ⊥) → All (Contains (step drivers c process k).0.fds) c.fds
 others_leave_open drivers c process k no_close no_exit = all_in _ c.fds (open_finished drivers c (outcome drivers c process k) (open_accepted drivers c process k no_close no_exit)).each

@@ -52,7 +52,6 @@ none_gone : (flow : List QueuedMessage) → serials_that_left flow flow ≡ []
 none_gone flow = ap in_rising_order (all_there (serials flow) (serials flow) (in_itself (serials flow)))
 
 -- what leaves nothing to sweep, and the flow as it was, is done with none dropped
-
 pub done_idle : (drivers : List DriverSpec) (c new : Configuration) → IsSwept drivers new → new.flow ≡ c.flow → done_outcome drivers c new ≡ Ok (new, Done [])
 done_idle drivers c new clean same =
     ap (λ (d : Configuration). Ok (d, Done (serials_that_left c.flow d.flow))) (swept_idle drivers new clean)
@@ -66,6 +65,7 @@ DropsNone o = IfAccepted (λ d r. dropped_by r ≡ []) o
 idle_drops : (drivers : List DriverSpec) (c d : Configuration) → IsSwept drivers d → d.flow ≡ c.flow → DropsNone (done_outcome drivers c d)
 idle_drops drivers c d clean same = rw (done_idle drivers c d clean same) (at_ok _ d (Done []) refl)
 
+-- a multiplexing driver's stream that a descriptor names, and that is not linked below, exists
 pub mux_exists : (drivers : List DriverSpec) (c : Configuration) (process fd : ℕ) (s : StreamId) → mux_stream drivers c process fd ≡ Ok s → exists drivers c s ≡ true
 mux_exists drivers c process fd s e = by (free_stream c process fd) refl e where
   tested : (t : StreamId) (b : Bool) → (refuse NotMux b >>= (λ _. Ok t)) ≡ Ok s → t ≡ s
@@ -91,6 +91,7 @@ route_drops drivers c routes h = idle_drops drivers c (record c { routes = route
 
 -- a hung-up stream that exists
 
+-- a configuration that is swept stays so when a stream that exists hangs up
 pub hung_swept : (drivers : List DriverSpec) (c : Configuration) (s : StreamId) → IsSwept drivers c → exists drivers c s ≡ true → IsSwept drivers (record c { hungs = with_hung s c.hungs })
 hung_swept drivers c s h e = record { links = h.links; binds = h.binds; flow = h.flow; fulls = h.fulls; hungs = by (is_hung c.hungs s) refl } where
   by : (b : Bool) → is_hung c.hungs s ≡ b → list_all (λ t. exists drivers c t) (with_hung s c.hungs) ≡ true
@@ -134,6 +135,7 @@ drops_accepted drivers c process (command.Inject name minor addr bytes) never h 
 drops_accepted drivers c process (command.Transmit name minor) never h = search (after_ok, received_drops, rules) depth 20
 drops_accepted drivers c process (command.Hangup name minor) never h = search (after_ok, hangup_drops, leaf_exists, rules) depth 20
 
+-- a command whose reply names dropped messages is one of those that may drop
 pub step_drops : (drivers : List DriverSpec) (c : Configuration) (process : ℕ) (k : Command) → IsSwept drivers c → (dropped_by (step drivers c process k).1 ≡ [] → ⊥) → may_drop k ≡ true
 step_drops drivers c process k h some = elim (cases_Bool (may_drop k)) [ inl may ↦ may | inr never ↦ absurd (some (by (outcome drivers c process k) (drops_accepted drivers c process k never h))) ] where
   by : (o : Outcome) → DropsNone o → dropped_by (after_outcome drivers c o).1 ≡ []
@@ -149,5 +151,6 @@ drops_from drivers c (e ∷ es) h legal = (
   drops_from drivers (step drivers c e.process e.command).0 es (step_keeps drivers c e.process e.command h) legal.1,
 )
 
+-- in a legal history only commands that may drop messages name dropped ones
 pub few_drop : (drivers : List DriverSpec) (history : List Entry) → IsLegal drivers history → AreDropsAllowed history
 few_drop drivers history legal = all_of_each _ history (drops_from drivers empty history (empty_kept drivers) legal)

@@ -34,6 +34,7 @@ order_sent drivers c p addr bytes h = search (after_test, at_ok, order_placed, r
 order_received : (drivers : List DriverSpec) (c : Configuration) (p : Place) → IsInOrder c.flow → IfAccepted (λ d r. IsInOrder d.flow) (receive_outcome drivers c p)
 order_received drivers c p h = search (after_some, at_ok, order_without, rules) depth 12
 
+-- an accepted command keeps the flow in order of places
 pub order_accepted : (drivers : List DriverSpec) (c : Configuration) (process : ℕ) (k : Command) → IsInOrder c.flow → IfAccepted (λ d r. IsInOrder d.flow) (outcome drivers c process k)
 order_accepted drivers c process (command.OpenClone name) h = search (after_ok, at_ok, rules) depth 20
 order_accepted drivers c process (command.OpenMinor name minor) h = search (after_test, after_ok, at_ok, rules) depth 20
@@ -55,6 +56,7 @@ order_accepted drivers c process (command.Inject name minor addr bytes) h = sear
 order_accepted drivers c process (command.Transmit name minor) h = search (after_ok, order_received, rules) depth 20
 order_accepted drivers c process (command.Hangup name minor) h = search (after_ok, order_done, rules) depth 20
 
+-- a move keeps the flow in order of places
 pub order_moved : (drivers : List DriverSpec) (c : Configuration) (p : Place) → IsInOrder c.flow → IsInOrder (after_move drivers c p).flow
 order_moved drivers c p h = by (next_open_place drivers c p) (first_message c.flow p) where
   by : (o : Option Place) (m : Option Message) → IsInOrder (after_move_to drivers c p o m).flow

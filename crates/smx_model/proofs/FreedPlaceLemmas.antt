@@ -162,6 +162,7 @@ at_stream : (c : Configuration) (named : Result StreamId Fault) (t : StreamId �
 at_stream c (Ok s) t f h = h s
 at_stream c (Err e) t f h = record { holds = tt }
 
+-- an accepted command, from a swept configuration, frees no place but those of `freed_by`
 pub frees : (drivers : List DriverSpec) (c : Configuration) (process : ℕ) (k : Command) → IsSwept drivers c → IfAccepted (λ d r. FreesOnly c d (freed_by drivers c process k d)) (outcome drivers c process k)
 frees drivers c process (command.OpenClone name) h = search (after_ok, at_ok, frees_with_fd drivers, rules) depth 20
 frees drivers c process (command.OpenMinor name minor) h = search (after_test, after_ok, at_ok, frees_with_fd drivers, rules) depth 20

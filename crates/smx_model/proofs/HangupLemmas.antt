@@ -23,9 +23,11 @@ tested f (Ok y) t x h = by (t y) refl h where
   by true e k = cc
   by false e k = let same : y ≡ x = cc in (k, ap t (sym same) ∙ e)
 
+-- a descriptor's stream that is looked up as live is found as one not linked below, and has not hung up
 pub live_is : (c : Configuration) (process fd : ℕ) (s : StreamId) → live_stream c process fd ≡ Ok s → (free_stream c process fd ≡ Ok s) × (is_hung c.hungs s ≡ false)
 live_is c process fd s e = tested HungUp (free_stream c process fd) (is_hung c.hungs) s e
 
+-- a device's stream that is looked up as live is found as a leaf driver's, and has not hung up
 pub live_leaf_is : (drivers : List DriverSpec) (c : Configuration) (name : List ℕ) (minor : ℕ) (s : StreamId) → live_leaf drivers c name minor ≡ Ok s → (leaf_stream drivers c name minor ≡ Ok s) × (is_hung c.hungs s ≡ false)
 live_leaf_is drivers c name minor s e = tested HungUp (leaf_stream drivers c name minor) (is_hung c.hungs) s e
 

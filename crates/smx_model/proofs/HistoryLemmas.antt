@@ -17,6 +17,7 @@ prefix_from : (drivers : List DriverSpec) (c : Configuration) (xs ys : List Entr
 prefix_from drivers c [] ys h = tt
 prefix_from drivers c (e ∷ xs) ys h = (h.0, prefix_from drivers (step drivers c e.process e.command).0 xs ys h.1)
 
+-- a beginning of a legal history is legal
 pub prefix_legal : (drivers : List DriverSpec) (xs ys : List Entry) → IsLegal drivers (xs ++ ys) → IsLegal drivers xs
 prefix_legal drivers xs ys h = prefix_from drivers empty xs ys h
 
@@ -66,6 +67,7 @@ determined_from drivers c (x ∷ xs) (y ∷ ys) h k e =
     let first : x ≡ y = ap (λ (a : ℕ × Command). entry_of a x.reply) asked ∙ ap (entry_of (call_of y)) reply in
     cc
 
+-- two legal histories of the same calls in the same order are the same
 pub determined : (drivers : List DriverSpec) (xs ys : List Entry) → IsLegal drivers xs → IsLegal drivers ys → map call_of xs ≡ map call_of ys → xs ≡ ys
 determined drivers xs ys h k e = determined_from drivers empty xs ys h k e
 
@@ -75,6 +77,7 @@ range_apart a n i j d lt within e =
     let in_range = length-range_with_len a n in
     omega (arith, e, in_range, within, lt, get_or-range_with_len a n i d (omega (arith, in_range, within, lt)), get_or-range_with_len a n j d (omega (arith, in_range, within)))
 
+-- a legal history is lawful
 pub lawful : (drivers : List DriverSpec) (history : List Entry) → IsLegal drivers history → IsLawful drivers history
 lawful drivers history legal =
     let sound = (always_is_kept drivers history).sound.links in
@@ -86,5 +89,6 @@ lawful drivers history legal =
       conserved = kept.conserved;
     }
 
+-- a legal history is lawful after each of its entries
 pub lawful_throughout : (drivers : List DriverSpec) (history : List Entry) → IsLegal drivers history → IsLawfulThroughout drivers history
 lawful_throughout drivers history legal xs ys e = lawful drivers xs (prefix_legal drivers xs ys (subst (IsLegal drivers) e legal))

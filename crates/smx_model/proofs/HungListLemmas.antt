@@ -57,6 +57,7 @@ one_list (x ∷ xs) (y ∷ ys) h k same = elim (cases_Bool (stream_before x y)) 
   ]
 ]
 
+-- with one more stream hung up, those have hung up that had before, and this one
 pub hung_with : (s t : StreamId) (hungs : List StreamId) → is_hung (with_hung s hungs) t ≡ (same_stream s t || is_hung hungs t)
 hung_with s t hungs = elim (cases_Bool (is_hung hungs s)) [
   | inl y ↦ rw y (elim (cases_Bool (same_stream s t)) [
@@ -66,6 +67,7 @@ hung_with s t hungs = elim (cases_Bool (is_hung hungs s)) [
   | inr n ↦ rw n (any_of_placed (λ u. same_stream u t) stream_before hungs s)
 ]
 
+-- of hung-up streams that are filtered, just those are left that pass
 pub hung_kept_by : (keep : StreamId → Bool) (s : StreamId) (hungs : List StreamId) → is_hung (filter keep hungs) s ≡ (keep s && is_hung hungs s)
 hung_kept_by keep s [] = by (keep s) where
   by : (b : Bool) → false ≡ (b && false)

@@ -98,6 +98,7 @@ hungs_finished drivers c (Ok x) h swept_ m = let s = settled_alone drivers (leng
   by (inr e) = e
   by (inl e) = sym (keep_all (λ s. exists drivers x.0 s) x.0.hungs swept_.holds.hungs) ∙ ap (existing drivers x.0) e
 
+-- after a command that is no hangup the same streams have hung up, but for those that don't exist
 pub others_leave_hungs : (drivers : List DriverSpec) (c : Configuration) (process : ℕ) (k : Command) → IsSwept drivers c → is_hangup k ≡ false → (step drivers c process k).0.hungs ≡ filter (λ s. exists drivers (step drivers c process k).0 s) c.hungs
 others_leave_hungs drivers c process k h other = hungs_finished drivers c (outcome drivers c process k) h (swept_accepted drivers c process k h) (hungs_accepted drivers c process k other)
 
@@ -112,6 +113,7 @@ hung_settled : (drivers : List DriverSpec) (c : Configuration) (s : StreamId) �
 hung_settled drivers c s h p = let d = record c { hungs = with_hung s c.hungs } in
     movable_by drivers d p ∙ stays_stuck c d (next_of_first drivers c p) (next_of_first drivers d p) (more_hung_turn_none drivers c s p refl) refl (sym (movable_by drivers c p) ∙ h p)
 
+-- a hangup of a device's stream adds it to the hung-up ones, drops no message and moves none
 pub hangup_is : (drivers : List DriverSpec) (c : Configuration) (process : ℕ) (name : List ℕ) (minor : ℕ) (s : StreamId) → IsKept drivers c → leaf_stream drivers c name minor ≡ Ok s
     → step drivers c process (command.Hangup name minor) ≡ (record c { hungs = with_hung s c.hungs }, reply.Done [])
 hangup_is drivers c process name minor s h e =
@@ -123,6 +125,7 @@ hangup_is drivers c process name minor s h e =
 
 -- so a stream that has hung up stays so, and one that is opened anew hasn't
 
+-- to hang up a stream that has hung up changes nothing
 pub hung_kept : (drivers : List DriverSpec) (c : Configuration) (s : StreamId) → is_hung c.hungs s ≡ true → (record c { hungs = with_hung s c.hungs }) ≡ c
 hung_kept drivers c s h = rw h refl
 
@@ -130,6 +133,7 @@ hung_kept drivers c s h = rw h refl
 hung_filter : (hungs : List StreamId) (keep : StreamId → Bool) (s : StreamId) → keep s ≡ true → is_hung (filter keep hungs) s ≡ is_hung hungs s
 hung_filter hungs keep s k = any_filter (λ t. same_stream t s) keep hungs (λ t e. ap keep (same_stream_is t s e) ∙ k)
 
+-- a second hangup of a device's stream is accepted, drops nothing and changes nothing
 pub hangup_again : (drivers : List DriverSpec) (c : Configuration) (process : ℕ) (name : List ℕ) (minor : ℕ) (s : StreamId) → IsKept drivers c → leaf_stream drivers c name minor ≡ Ok s → is_hung c.hungs s ≡ true
     → step drivers c process (command.Hangup name minor) ≡ (c, reply.Done [])
 hangup_again drivers c process name minor s h e again = hangup_is drivers c process name minor s h e ∙ ap (λ (d : Configuration). (d, reply.Done [])) (hung_kept drivers c s again)
@@ -171,6 +175,7 @@ hangs drivers c process name minor h = by (leaf_stream drivers c name minor) ref
   by (Ok s) e = record { either = inr (s, leaf_exists drivers c name minor s e, ap (λ (x : Configuration × Reply). x.0.hungs) (hangup_is drivers c process name minor s h e)) }
   by (Err f) e = record { either = inl (ap (λ (r : Result StreamId Fault). (after_outcome drivers c (r >>= (λ s. done_outcome drivers c (record c { hungs = with_hung s c.hungs })))).0.hungs) e) }
 
+-- a stream that has hung up, and exists after a command, has still hung up after it
 pub hung_stays : (drivers : List DriverSpec) (c : Configuration) (process : ℕ) (k : Command) (s : StreamId) → IsKept drivers c → is_hung c.hungs s ≡ true → exists drivers (step drivers c process k).0 s ≡ true → is_hung (step drivers c process k).0.hungs s ≡ true
 hung_stays drivers c process k s h was there = elim (cases_Bool (is_hangup k)) [
   | inr other ↦ ap (λ (hs : List StreamId). is_hung hs s) (others_leave_hungs drivers c process k h.sound.swept other) ∙ (hung_filter c.hungs (λ t. exists drivers (step drivers c process k).0 t) s there ∙ was)
@@ -196,6 +201,7 @@ hung_before t s hungs h = elim (cases_Bool (is_hung hungs t)) [
       elim (or_cases (same_stream t s) (is_hung hungs s) (sym (any_of_placed (λ u. same_stream u s) stream_before hungs t) ∙ k)) [ inl a ↦ inr a | inr b ↦ inl b ]
 ]
 
+-- a stream that didn't exist before a command has not hung up after it
 pub hung_anew : (drivers : List DriverSpec) (c : Configuration) (process : ℕ) (k : Command) (s : StreamId) → IsKept drivers c → exists drivers c s ≡ false → is_hung (step drivers c process k).0.hungs s ≡ false
 hung_anew drivers c process k s h gone = false_from_ne_true _ (λ now. both_ways (exists drivers c s) gone (elim (cases_Bool (is_hangup k)) [
   | inr other ↦ hung_exists drivers c s h.sound.swept (any_filtered (λ t. same_stream t s) (λ t. exists drivers (step drivers c process k).0 t) c.hungs (sym (ap (λ (hs : List StreamId). is_hung hs s) (others_leave_hungs drivers c process k h.sound.swept other)) ∙ now))

@@ -21,9 +21,11 @@ rise_push : (ls : List Link) (l : Link) → All (λ k. k.id < l.id) ls → IsRis
 rise_push [] l h r = (tt, tt)
 rise_push (k ∷ ls) l h r = (before_push k l ls r.0 (lt-ltb k.id l.id (All-head (λ k. k.id < l.id) k ls h)), rise_push ls l (All-tail (λ k. k.id < l.id) k ls h) r.1)
 
+-- where there are no links, ids rise below 1 as the next id
 pub ids_none : AreIdsRising [] 1
 ids_none = record { rise = tt; from_one = All-nil _; below_next = All-nil _; next = omega arith }
 
+-- with one more link at the end, under the next id, ids still rise, below the one after that
 pub ids_push : (ls : List Link) (l : Link) → AreIdsRising ls l.id → AreIdsRising (ls ++ l ∷ []) (l.id + 1)
 ids_push ls l h = record {
   rise = rise_push ls l h.below_next h.rise;

@@ -51,6 +51,7 @@ dead_none drivers c h =
     ∙ (ap (λ (x : List QueuedMessage). record c { flow = x; fulls = filter (λ p. not (not (exists drivers c p.stream))) c.fulls }) (keep_all _ c.flow (all_same _ (λ k. exists drivers c k.place.stream) c.flow (λ k. not_not (exists drivers c k.place.stream)) ∙ h.flow))
     ∙ ap (λ (x : List Place). record c { fulls = x }) (keep_all _ c.fulls (all_same _ (λ p. exists drivers c p.stream) c.fulls (λ p. not_not (exists drivers c p.stream)) ∙ h.fulls))))
 
+-- a sweep of a configuration that is swept changes nothing
 pub swept_idle : (drivers : List DriverSpec) (c : Configuration) → IsSwept drivers c → after_sweep drivers c ≡ c
 swept_idle drivers c h =
     ap (without_dead_streams drivers) (removed_none c (λ l. not (is_persistent l) && not (exists drivers c l.ctl)) (all_same _ (λ l. is_persistent l || exists drivers c l.ctl) c.links (λ l. not_gone (is_persistent l) (exists drivers c l.ctl)) ∙ h.links))

@@ -171,6 +171,7 @@ parts_accepted drivers c process k h = by (outcome drivers c process k) (sound_a
       }
       by (Err f) e1 e2 e3 e4 e5 e6 e7 = record { holds = tt }
 
+-- what an accepted command leaves of a sound configuration, before it is settled, is sound
 pub outcome_sound : (drivers : List DriverSpec) (c : Configuration) (process : ℕ) (k : Command) → IsSound drivers c → IfOk (outcome drivers c process k) (λ x. IsSound drivers x.0)
 outcome_sound drivers c process k h = by (outcome drivers c process k) (parts_accepted drivers c process k (parts_of drivers c h)) where
   by : (o : Outcome) → IfAccepted (λ d r. Parts drivers d) o → IfOk o (λ x. IsSound drivers x.0)
@@ -196,6 +197,7 @@ parts_moved drivers c p h = record {
   swept_ = swept_moved drivers c p (record { none = h.links.no_cycle; named = h.named; swept_ = h.swept_ });
 }
 
+-- a move leaves a sound configuration sound
 pub moved_sound : (drivers : List DriverSpec) (c : Configuration) (p : Place) → IsSound drivers c → IsSound drivers (after_move drivers c p)
 moved_sound drivers c p h = of_parts drivers (after_move drivers c p) (parts_moved drivers c p (parts_of drivers c h))
 
@@ -206,6 +208,7 @@ parts_settled drivers zero c h = h
 parts_settled drivers (suc k) c h = elim (least_movable drivers c) as (λ o. Parts drivers (elim o as (λ _. Configuration) [ None ↦ c | Some p ↦ after_settling_within drivers k (after_move drivers c p) ]))
     [ None ↦ h | Some p ↦ parts_settled drivers k (after_move drivers c p) (parts_moved drivers c p h) ]
 
+-- a sound configuration that is settled stays sound, and no message can move on
 pub settled_kept : (drivers : List DriverSpec) (c : Configuration) → IsSound drivers c → IsKept drivers (after_settling drivers c)
 settled_kept drivers c h = let p = parts_of drivers c h in record {
   sound = of_parts drivers (after_settling drivers c) (parts_settled drivers (length c.flow * length drivers) c p);
@@ -218,9 +221,11 @@ finished_kept : (drivers : List DriverSpec) (c : Configuration) (o : Outcome) �
 finished_kept drivers c (Ok x) h k = settled_kept drivers x.0 k
 finished_kept drivers c (Err f) h k = h
 
+-- a command leaves a sound and settled configuration sound and settled
 pub step_keeps : (drivers : List DriverSpec) (c : Configuration) (process : ℕ) (k : Command) → IsKept drivers c → IsKept drivers (step drivers c process k).0
 step_keeps drivers c process k h = finished_kept drivers c (outcome drivers c process k) h (outcome_sound drivers c process k h.sound)
 
+-- the empty configuration is sound and settled, over any drivers
 pub empty_kept : (drivers : List DriverSpec) → IsKept drivers empty
 empty_kept drivers = record {
   sound = of_parts drivers empty (record { links = sound_empty; named = record { fds = tt; links = tt }; routed = routed_empty drivers; rising = rising_empty; flow = tt; numbered = numbered_empty; swept_ = record { links = refl; binds = refl; flow = refl; fulls = refl; hungs = refl } });
@@ -231,19 +236,23 @@ after_keeps : (drivers : List DriverSpec) (c : Configuration) (es : List Entry) 
 after_keeps drivers c [] h = h
 after_keeps drivers c (e ∷ es) h = after_keeps drivers (step drivers c e.process e.command).0 es (step_keeps drivers c e.process e.command h)
 
+-- after any history the configuration is sound and settled
 pub always_is_kept : (drivers : List DriverSpec) (history : List Entry) → IsKept drivers (after drivers history)
 always_is_kept drivers history = after_keeps drivers empty history (empty_kept drivers)
 
 -- what holds of sound configurations
 
+-- without a cycle, and with known controlling streams, a stream exists just where it stands
 pub exists_is_stands : (drivers : List DriverSpec) (c : Configuration) (s : StreamId) → AreLinksSound c.links → All (λ l. IsKnown drivers l.ctl) c.links → (exists drivers c s ≡ true) ↔ Stands c s
 exists_is_stands drivers c s sound known = (λ h. record { climbs = length drivers; within = h }, λ h. stands_exists drivers c s sound.no_cycle (each_map (λ l. IsKnown drivers l.ctl) (λ l. l.ctl.driver < length drivers) c.links (λ l p. p.0) (each_of_all _ c.links known)) h)
 
+-- after any history a stream exists just where it stands within some number of climbs
 pub always_exists_is_stands : (drivers : List DriverSpec) (history : List Entry) (s : StreamId) → (exists drivers (after drivers history) s ≡ true) ↔ Stands (after drivers history) s
 always_exists_is_stands drivers history s = let k = (always_is_kept drivers history).sound in exists_is_stands drivers (after drivers history) s k.links k.known.controlling
 
 known_parts : (drivers : List DriverSpec) (c : Configuration) → IsSound drivers c → EachKnown drivers c
 known_parts drivers c h = let p = parts_of drivers c h in each_known drivers c p.named p.routed p.swept_
 
+-- sound configurations over drivers that can be had are the same if their views are
 pub view_is_of_one : (drivers : List DriverSpec) (c d : Configuration) → IsDriverList drivers → IsSound drivers c → IsSound drivers d → view drivers c ≡ view drivers d → c ≡ d
 view_is_of_one drivers c d h k l e = one_configuration drivers c d h (known_parts drivers c k) (known_parts drivers d l) e

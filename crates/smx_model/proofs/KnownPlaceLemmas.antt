@@ -28,9 +28,11 @@ held_by_known drivers (h ∷ hs) p k some = elim (cases_Bool (is_at p h)) [
   | inr f ↦ held_by_known drivers hs p k.1 (λ e. some (rw f e))
 ]
 
+-- a place with a message is one of a stream that the drivers have
 pub held_known : (drivers : List DriverSpec) (c : Configuration) (p : Place) → AreStreamsKnown drivers c → first_message c.flow p ≢ None → IsKnown drivers p.stream
 held_known drivers c p k some = held_by_known drivers c.flow p (each_of_all _ c.flow k.flow) some
 
+-- where a first message goes next is a place of a stream that the drivers have
 pub next_known : (drivers : List DriverSpec) (c : Configuration) (p q : Place) → AreStreamsKnown drivers c → next_of_first drivers c p ≡ Some q → IsKnown drivers q.stream
 next_known drivers c p q k e = by (first_message c.flow p) e where
   at_lower : (o : Option Link) (links : List Link) (t : Link → Bool) → find t links ≡ o → Each (λ l. IsKnown drivers l.lower) links → lower_side c.hungs o ≡ Some q → IsKnown drivers q.stream

@@ -153,6 +153,7 @@ within_from : (drivers : List DriverSpec) (c : Configuration) (es : List Entry) 
 within_from drivers c [] h = h
 within_from drivers c (e ∷ es) h = within_from drivers (step drivers c e.process e.command).0 es (within_finished drivers c (outcome drivers c e.process e.command) h (within_accepted drivers c e.process e.command h))
 
+-- after any history there are no more links, and no higher numbers, ids and serials, than there may be
 pub always_within : (drivers : List DriverSpec) (history : List Entry) → IsWithin (after drivers history)
 always_within drivers history = within_from drivers empty history (record { links = omega arith; numbers = tt; ids = omega arith; serials = omega arith })
 
@@ -176,6 +177,7 @@ few_from (d ∷ ds) process a r h k le = elim (cases_Bool (eqb d.process process
   next [] h = tt
   next (e ∷ es) h = (λ same. omega (arith, h.0 same), next es h.1)
 
+-- after any history a process has no more descriptors than it may have
 pub always_few : (drivers : List DriverSpec) (history : List Entry) (process : ℕ) → count_by (λ d. eqb d.process process) (after drivers history).fds ≤ MAX_DESCRIPTORS
 always_few drivers history process =
     let ds = (after drivers history).fds in

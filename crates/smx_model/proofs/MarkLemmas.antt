@@ -251,6 +251,7 @@ always_marked drivers history p list known =
     let lt = apart_at drivers p.stream.driver (each_of_all _ drivers list.each) known in
     marked_from drivers p empty history (record { lt = lt }) (record { full = λ e. absurd (false≢true e); free = λ e. omega (arith, lt) })
 
+-- after any history a full place has more bytes than its low water mark
 pub full_has_more : (drivers : List DriverSpec) (history : List Entry) (p : Place) → IsDriverList drivers → is_full (after drivers history) p ≡ true → low_of drivers p.stream.driver < bytes_at (after drivers history).flow p
 full_has_more drivers history p list full = (always_marked drivers history p list (known (after drivers history).fulls (each_of_all _ _ (always_is_kept drivers history).sound.known.fulls) full)).full full where
   known : (ps : List Place) → Each (λ q. IsKnown drivers q.stream) ps → list_any (same_place p) ps ≡ true → p.stream.driver < length drivers
@@ -260,6 +261,7 @@ full_has_more drivers history p list full = (always_marked drivers history p lis
     | inr k ↦ known qs h.1 k
   ]
 
+-- after any history a place that isn't full has fewer bytes than its high water mark
 pub free_has_less : (drivers : List DriverSpec) (history : List Entry) (p : Place) → IsDriverList drivers → p.stream.driver < length drivers → is_full (after drivers history) p ≡ false
     → bytes_at (after drivers history).flow p < high_of drivers p.stream.driver
 free_has_less drivers history p list known free = (always_marked drivers history p list known).free free

@@ -40,6 +40,7 @@ waits_where drivers c wanted p h f = held_up_by c wanted (next_of_first drivers 
 wanted_of : (drivers : List DriverSpec) (c : Configuration) (wanted : Place → Bool) (p q : Place) → is_waiting drivers c wanted p ≡ true → next_of_first drivers c p ≡ Some q → wanted q ≡ true
 wanted_of drivers c wanted p q h e = (and_parts (is_full c q) (wanted q) (sym (ap (is_held_up c wanted) e) ∙ h)).1
 
+-- each unmarked place waits just where movable ones have run marks and full ones that hold up are wanted
 pub two_kinds : (drivers : List DriverSpec) (c : Configuration) (run wanted : Place → Bool) → AreMarked drivers c run wanted ↔ (AreMovableMarked drivers c run × AreHoldingWanted drivers c run wanted)
 two_kinds drivers c run wanted = (to, from) where
   marked : AreMarked drivers c run wanted → (p : Place) → is_movable drivers c p ≡ true → run p ≡ true
@@ -51,11 +52,13 @@ two_kinds drivers c run wanted = (to, from) where
   from : AreMovableMarked drivers c run × AreHoldingWanted drivers c run wanted → AreMarked drivers c run wanted
   from h p f = waits_where drivers c wanted p (false_from_ne_true _ (λ m. both_ways (run p) f (h.0 p m))) (λ q up. h.1 p q f up)
 
+-- between commands each full place that holds up a first message is wanted
 pub rest_is : (drivers : List DriverSpec) (m : MarkedConfiguration) → IsAtRest drivers m → (p q : Place) → HoldsUp drivers m.configuration q p → m.wanted q ≡ true
 rest_is drivers m h p q up = wanted_of drivers m.configuration m.wanted p q (h.marks p (h.none p)) up.0
 
 -- ---- commands
 
+-- an accepted command, from a sound configuration, keeps the marks, where what it woke gets a run mark
 pub command_keeps_marks : (drivers : List DriverSpec) (old new : MarkedConfiguration) (process : ℕ) (k : Command) → IsSound drivers old.configuration → HasItsMarks drivers old
     → IfOk (outcome drivers old.configuration process k) (λ x. new.configuration ≡ x.0 → IsMarkedAfter drivers (turned_by drivers old.configuration process k) old new → HasItsMarks drivers new)
 command_keeps_marks drivers old new process k sound h = by (outcome drivers old.configuration process k) (outcomes_turn drivers old.configuration process k sound) where
@@ -69,6 +72,7 @@ command_keeps_marks drivers old new process k sound h = by (outcome drivers old.
 abbrev Settles : List DriverSpec → Configuration → MarkedConfiguration → Type 0
 Settles drivers c end = (end.configuration ≡ c) × IsAtRest drivers end
 
+-- an accepted command that is settled by marks comes to its step, and leaves no run mark
 pub command_settles : (drivers : List DriverSpec) (old woken end : MarkedConfiguration) (process : ℕ) (k : Command) (moves : List Place) → IsSound drivers old.configuration → HasItsMarks drivers old
     → IfOk (outcome drivers old.configuration process k) (λ x. woken.configuration ≡ x.0 → IsMarkedAfter drivers (turned_by drivers old.configuration process k) old woken → SettlesByMarks drivers woken moves end
     → (end.configuration ≡ (step drivers old.configuration process k).0) × IsAtRest drivers end)
@@ -99,6 +103,7 @@ few_woken drivers c d turned p s t m = elim (cases_Bool (both turned (feeds driv
   | inr n ↦ absurd (both_ways (is_movable drivers d p) (waiting_stays drivers d _ p (wakes drivers c d nowhere (λ q. true) turned (all_wait drivers c s) t p (not_woken drivers c d turned p n))) m)
 ]
 
+-- after a command from a settled configuration only what it turned, or what feeds a place that it freed, is movable
 pub few_movable : (drivers : List DriverSpec) (c : Configuration) (process : ℕ) (k : Command) (p : Place) → IsKept drivers c
     → IfOk (outcome drivers c process k) (λ x. is_movable drivers x.0 p ≡ true → both (turned_by drivers c process k) (feeds drivers x.0 (is_freed c x.0)) p ≡ true)
 few_movable drivers c process k p h = by (outcome drivers c process k) (outcomes_turn drivers c process k h.sound) where
@@ -108,6 +113,7 @@ few_movable drivers c process k p h = by (outcome drivers c process k) (outcomes
 
 -- ---- which places a command frees
 
+-- an accepted command, from a sound configuration, frees no place but those of `freed_by`
 pub few_freed : (drivers : List DriverSpec) (c : Configuration) (process : ℕ) (k : Command) → IsSound drivers c → IfOk (outcome drivers c process k) (λ x. FreesOnly c x.0 (freed_by drivers c process k x.0))
 few_freed drivers c process k h = by (outcome drivers c process k) (frees drivers c process k h.swept) where
   by : (o : Outcome) → IfAccepted (λ d r. FreesOnly c d (freed_by drivers c process k d)) o → IfOk o (λ x. FreesOnly c x.0 (freed_by drivers c process k x.0))

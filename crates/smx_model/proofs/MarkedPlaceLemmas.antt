@@ -189,15 +189,18 @@ message_there p (q ∷ ps) h = any_of_placed (is_at p) queued_before (messages_a
   | inr k ↦ or_right _ _ (message_there p ps k)
 ]
 
+-- settling by marks can come to its end, where all run marks stand at the places of a list
 pub settling_ends : (drivers : List DriverSpec) (m : MarkedConfiguration) (places : List Place) → IsSound drivers m.configuration → HasItsMarks drivers m → ((p : Place) → m.run p ≡ true → Contains places p) → CanSettleByMarks drivers m
 settling_ends drivers m places sound h w = ends_within drivers (length m.configuration.flow * length drivers) m (messages_at places) sound.ordered.flow h (settled_kept drivers m.configuration sound).settled
     (messages_in_order places) (λ p t. message_there p places (w p t))
 
 -- ---- the least that is asked for
 
+-- where the least marked place is movable, its move, with a run mark at what it woke, is one of settling by marks
 pub least_move : (drivers : List DriverSpec) (p : Place) (m : MarkedConfiguration) → IsLeastMarked m.run p → is_movable drivers m.configuration p ≡ true → IsMovedOn drivers p m (marked_move drivers m p)
 least_move drivers p m l t = record { least = l; movable = t; moved = refl; marks = record { run = λ q _ k. k; wanted = λ q k. k } }
 
+-- where the least marked place isn't movable, it is cleared: its run mark goes, and its next place is wanted
 pub least_clear : (drivers : List DriverSpec) (p : Place) (m : MarkedConfiguration) → IsLeastMarked m.run p → is_movable drivers m.configuration p ≡ false
     → IsCleared drivers p m (record { configuration = m.configuration; run = all_but m.run p; wanted = both m.wanted (is_next_of_first drivers m.configuration p) })
 least_clear drivers p m l t = record { least = l; waits = t; same = refl; run = λ q. refl; wanted = λ q k. k }
@@ -210,6 +213,7 @@ and_false : (b : Bool) → (b && false) ≡ false
 and_false true = refl
 and_false false = refl
 
+-- to clear takes away the run mark of the least marked place, and no other
 pub one_mark : (drivers : List DriverSpec) (p : Place) (old new : MarkedConfiguration) → IsCleared drivers p old new → IsLeastMarked old.run p × (new.run p ≡ false) × ((q : Place) → same_place p q ≡ false → new.run q ≡ old.run q)
 one_mark drivers p old new k = (
   k.least,

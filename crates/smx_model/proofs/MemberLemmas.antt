@@ -5,22 +5,28 @@ use Rattle.std.proofs.lemmas.Bool.{cases_Bool, and_parts, false≢true, or_cases
 use Rattle.std.proofs.lemmas.List.Elements.{All-contains, All-contains_itself, All-filter, Contains-get_or, filter_passes}
 use Rattle.smx_model.specs.Ordered.{with_inserted}
 
+-- the first element of a list is in it
 pub is_first : {X : Type 0} (x : X) (xs : List X) → Contains (x ∷ xs) x
 is_first x xs = (0, omega arith, refl)
 
+-- what is in a list is in it with one more element in front
 pub is_later : {X : Type 0} (x y : X) (ys : List X) → Contains ys x → Contains (y ∷ ys) x
 is_later x y ys h = let lt = h.1 in (suc h.0, omega arith, h.2)
 
+-- what is in a list is its first element, or is among the others
 pub first_or_later : {X : Type 0} (x y : X) (ys : List X) → Contains (y ∷ ys) x → (y ≡ x) ⊎ Contains ys x
 first_or_later x y ys h = by h.0 h.1 h.2 where
   by : (k : ℕ) → k < length (y ∷ ys) → get_or (y ∷ ys) k x ≡ x → (y ≡ x) ⊎ Contains ys x
   by zero lt e = inl e
   by (suc k) lt e = inr (k, omega (arith, lt), e)
 
+-- nothing is in the empty list
 pub in_none : {X : Type 0} (x : X) → Contains [] x → ⊥
 in_none x h = let lt = h.1 in omega arith
 
 -- what passes stays, and what is left was there and passes
+
+-- what is in a list and passes a test is left by a filter
 pub in_filtered : {X : Type 0} (test : X → Bool) (xs : List X) (x : X) → Contains xs x → test x ≡ true → Contains (filter test xs) x
 in_filtered test [] x h t = absurd (in_none x h)
 in_filtered test (y ∷ ys) x h t = elim (first_or_later x y ys h) [
@@ -28,9 +34,11 @@ in_filtered test (y ∷ ys) x h t = elim (first_or_later x y ys h) [
   | inr k ↦ elim (cases_Bool (test y)) [ inl p ↦ rw p (is_later x y (filter test ys) (in_filtered test ys x k t)) | inr f ↦ rw f (in_filtered test ys x k t) ]
 ]
 
+-- what a filter leaves was in the list
 pub of_filtered : {X : Type 0} (test : X → Bool) (xs : List X) (x : X) → Contains (filter test xs) x → Contains xs x
 of_filtered test xs x h = All-contains (Contains xs) (filter test xs) x (All-filter test (Contains xs) xs (All-contains_itself xs)) h
 
+-- what a filter leaves passes the test
 pub filtered_passes : {X : Type 0} (test : X → Bool) (xs : List X) (x : X) → Contains (filter test xs) x → test x ≡ true
 filtered_passes test xs x h = All-contains (λ y. test y ≡ true) (filter test xs) x (filter_passes test xs) h
 
@@ -47,6 +55,7 @@ in_placed before (z ∷ zs) x y h = elim (cases_Bool (before y z)) [
   | inr f ↦ rw f (elim (first_or_later x z zs h) [ inl e ↦ subst (λ w. Contains (w ∷ with_inserted before zs y) x) (sym e) (is_first x _) | inr k ↦ is_later x z _ (in_placed before zs x y k) ])
 ]
 
+-- what holds of all that is in a list holds of each element by index
 pub all_in : {X : Type 0} (P : X → Type 0) (xs : List X) → ((x : X) → Contains xs x → P x) → All P xs
 all_in P xs f k d lt = f (get_or xs k d) (Contains-get_or xs k d lt)
 

@@ -39,6 +39,7 @@ near_is_enough drivers turned freed may_wait old new waits frees m = record { ru
 
 -- what can feed a place
 
+-- run marks at what a change turned, and at all that can feed what it freed, are enough
 pub feeders_enough : (drivers : List DriverSpec) (turned freed : Place → Bool) (old new : MarkedConfiguration) → IsSound drivers new.configuration → FreesOnly old.configuration new.configuration freed
     → IsMarkedNear turned freed (can_feed new.configuration) old new → IsMarkedAfter drivers turned old new
 feeders_enough drivers turned freed old new sound frees m = near_is_enough drivers turned freed (can_feed new.configuration) old new
@@ -54,6 +55,7 @@ known_before drivers turned awaited old new turns known p q r t e = by (turns p 
   by (inl same) = known p q r (sym same ∙ e)
   by (inr none) = let k : None ≡ Some q = sym none ∙ e in absurd (cc)
 
+-- run marks at what a change turned, and at all that is known to wait for what it freed, are enough
 pub waiters_enough : (drivers : List DriverSpec) (turned freed : Place → Bool) (awaited : Place → Option Place) (old new : MarkedConfiguration) → TurnsOnly drivers old.configuration new.configuration turned → FreesOnly old.configuration new.configuration freed
     → AreAwaitedKnown drivers old awaited → IsMarkedNear turned freed (awaits awaited) old new → IsMarkedAfter drivers turned old new
 waiters_enough drivers turned freed awaited old new turns frees known m = near_is_enough drivers turned freed (awaits awaited) old new
@@ -63,6 +65,7 @@ waiters_enough drivers turned freed awaited old new turns frees known m = near_i
 has_first : (drivers : List DriverSpec) (m : MarkedConfiguration) (p q : Place) → next_of_first drivers m.configuration p ≡ Some q → first_message m.configuration.flow p ≢ None
 has_first drivers m p q e none = let k : None ≡ Some q = sym (ap (next_of drivers m.configuration p) none) ∙ e in cc
 
+-- after a change with such marks it is still known for which place each place without a run mark waits
 pub known_still : (drivers : List DriverSpec) (turned freed : Place → Bool) (awaited : Place → Option Place) (old new : MarkedConfiguration) → TurnsOnly drivers old.configuration new.configuration turned
     → AreAwaitedKnown drivers old awaited → IsMarkedNear turned freed (awaits awaited) old new → AreAwaitedKnown drivers new awaited
 known_still drivers turned freed awaited old new turns known m p q f e =
@@ -72,6 +75,7 @@ known_still drivers turned freed awaited old new turns known m p q f e =
     (false_from_ne_true _ (λ k. both_ways (new.run p) f (m.turned_ones p some k)))
     e
 
+-- after a mark is cleared it is known for which place each waits, if that of the cleared one is noted
 pub cleared_known : (drivers : List DriverSpec) (p : Place) (old new : MarkedConfiguration) (awaited known : Place → Option Place) → AreAwaitedKnown drivers old awaited → IsCleared drivers p old new
     → known p ≡ next_of_first drivers old.configuration p → ((r : Place) → same_place p r ≡ false → known r ≡ awaited r) → AreAwaitedKnown drivers new known
 cleared_known drivers p old new awaited known before k here others r q f e = elim (cases_Bool (same_place p r)) [

@@ -53,6 +53,7 @@ before_is p q = rw (sides_before p.side q.side) refl
 same_is : (p q : Place) → same_place p q ≡ same3 p.stream.driver p.stream.minor (number p.side) q.stream.driver q.stream.minor (number q.side)
 same_is p q = rw (sides_same p.side q.side) refl
 
+-- of two places that differ, one comes before the other
 pub place_either : (p q : Place) → same_place p q ≡ false → place_before p q ≡ false → place_before q p ≡ true
 place_either p q h k = before_is q p ∙ trichotomy p.stream.driver p.stream.minor (number p.side) q.stream.driver q.stream.minor (number q.side) (sym (same_is p q) ∙ h) (sym (before_is p q) ∙ k)
 
@@ -65,6 +66,7 @@ place_trans p q r h k = before_is r p ∙ trans3 p.stream.driver p.stream.minor 
 place_not_after : (p q : Place) → place_before p q ≡ true → place_before q p ≡ false
 place_not_after p q h = before_is q p ∙ not_after p.stream.driver p.stream.minor (number p.side) q.stream.driver q.stream.minor (number q.side) (sym (before_is p q) ∙ h)
 
+-- the order of places is transitive
 pub place_before_trans : (p q r : Place) → place_before p q ≡ true → place_before q r ≡ true → place_before p r ≡ true
 place_before_trans p q r h k = elim (cases_Bool (place_before p r)) [
   | inl t ↦ t
@@ -74,11 +76,13 @@ place_before_trans p q r h k = elim (cases_Bool (place_before p r)) [
   ]
 ]
 
+-- a place is the same as itself
 pub same_self : (p : Place) → same_place p p ≡ true
 same_self p = same_is p p ∙ self3 p.stream.driver p.stream.minor (number p.side) where
   self3 : (a b c : ℕ) → same3 a b c a b c ≡ true
   self3 a b c = grind (arith, nat_tests)
 
+-- no place comes before itself
 pub same_not_before : (p : Place) → place_before p p ≡ false
 same_not_before p = before_is p p ∙ self3 p.stream.driver p.stream.minor (number p.side) where
   self3 : (a b c : ℕ) → before3 a b c a b c ≡ false
@@ -100,6 +104,7 @@ none_before_placed : (k h : QueuedMessage) (hs : List QueuedMessage) → queued_
 none_before_placed k h [] lt n = (lt, tt)
 none_before_placed k h (j ∷ hs) lt n = elim (cases_Bool (queued_before h j)) [ inl t ↦ rw t (lt, n) | inr f ↦ rw f (n.0, none_before_placed k h hs lt n.1) ]
 
+-- a flow in order stays so when a message is inserted by its place
 pub order_placed : (hs : List QueuedMessage) (h : QueuedMessage) → IsInOrder hs → IsInOrder (with_inserted queued_before hs h)
 order_placed [] h o = (tt, tt)
 order_placed (k ∷ hs) h o = elim (cases_Bool (queued_before h k)) [
@@ -111,6 +116,7 @@ none_before_filter : (k : QueuedMessage) (test : QueuedMessage → Bool) (hs : L
 none_before_filter k test [] n = tt
 none_before_filter k test (h ∷ hs) n = elim (cases_Bool (test h)) [ inl t ↦ rw t (n.0, none_before_filter k test hs n.1) | inr f ↦ rw f (none_before_filter k test hs n.1) ]
 
+-- a flow in order stays so when it is filtered
 pub order_filter : (test : QueuedMessage → Bool) (hs : List QueuedMessage) → IsInOrder hs → IsInOrder (filter test hs)
 order_filter test [] o = tt
 order_filter test (h ∷ hs) o = elim (cases_Bool (test h)) [ inl t ↦ rw t (none_before_filter h test hs o.0, order_filter test hs o.1) | inr f ↦ rw f (order_filter test hs o.1) ]
@@ -119,6 +125,7 @@ none_before_without : (k : QueuedMessage) (test : QueuedMessage → Bool) (hs : 
 none_before_without k test [] n = tt
 none_before_without k test (h ∷ hs) n = elim (cases_Bool (test h)) [ inl t ↦ rw t n.1 | inr f ↦ rw f (n.0, none_before_without k test hs n.1) ]
 
+-- a flow in order stays so without the first message that passes a test
 pub order_without : (test : QueuedMessage → Bool) (hs : List QueuedMessage) → IsInOrder hs → IsInOrder (without_first test hs)
 order_without test [] o = tt
 order_without test (h ∷ hs) o = elim (cases_Bool (test h)) [ inl t ↦ rw t o.1 | inr f ↦ rw f (none_before_without h test hs o.0, order_without test hs o.1) ]
@@ -129,6 +136,7 @@ none_queued : (h : QueuedMessage) (hs : List QueuedMessage) (k : QueuedMessage) 
 none_queued h [] k lt n = refl
 none_queued h (j ∷ hs) k lt n = rw (place_apart h.place k.place j.place lt n.0) (none_queued h hs k lt n.1)
 
+-- a message that is inserted by its place goes to the end of the queue there
 pub queue_placed : (hs : List QueuedMessage) (h : QueuedMessage) → IsInOrder hs → queue (with_inserted queued_before hs h) h.place ≡ queue hs h.place ++ h.message ∷ []
 queue_placed [] h o = rw (same_self h.place) refl
 queue_placed (k ∷ hs) h o = elim (cases_Bool (queued_before h k)) [
@@ -139,6 +147,7 @@ queue_placed (k ∷ hs) h o = elim (cases_Bool (queued_before h k)) [
   ]
 ]
 
+-- a message that is inserted by its place leaves each other queue as it was
 pub queue_elsewhere : (hs : List QueuedMessage) (h : QueuedMessage) (q : Place) → same_place h.place q ≡ false → queue (with_inserted queued_before hs h) q ≡ queue hs q
 queue_elsewhere [] h q apart_ = rw apart_ refl
 queue_elsewhere (k ∷ hs) h q apart_ = elim (cases_Bool (queued_before h k)) [
@@ -157,6 +166,7 @@ tail_queue m n xs ys e = cc
 held_is : (h k : QueuedMessage) → h.place ≡ k.place → h.message ≡ k.message → h ≡ k
 held_is h k e f = ap (λ (p : Place). made_of p h.message) e ∙ ap (made_of k.place) f
 
+-- two flows in order that have the same queue at each place are the same
 pub one_flow : (xs ys : List QueuedMessage) → IsInOrder xs → IsInOrder ys → ((p : Place) → queue xs p ≡ queue ys p) → xs ≡ ys
 one_flow [] [] o u same = refl
 one_flow [] (k ∷ ys) o u same = let e = same k.place in let f : [] ≡ k.message ∷ queue ys k.place = rw (same_self k.place) at e in cc

@@ -22,6 +22,7 @@ walk_more : (xs ys : List Link) → ((l : Link) → Contains xs l → Contains y
 walk_more xs ys more a [] b h = h
 walk_more xs ys more a (l ∷ p) b h = (more l h.0, h.1, walk_more xs ys more l.lower.driver p b h.2)
 
+-- a path over some links is one over any list that has them all
 pub path_more : (xs ys : List Link) → ((l : Link) → Contains xs l → Contains ys l) → (a b : ℕ) → Path xs a b → Path ys a b
 path_more xs ys more a b h = record { path = h.path; some = h.some; leads = walk_more xs ys more a h.path b h.leads }
 
@@ -42,6 +43,7 @@ around l ls a b h k = record {
       (is_first l ls, refl, walk_more ls (l ∷ ls) (skip_first l ls) l.lower.driver k.path b k.leads);
 }
 
+-- where the test says that a driver reaches another, a path leads from it to that
 pub reaches_path : (links : List Link) (a b : ℕ) → reaches links a b ≡ true → Path links a b
 reaches_path [] a b h = absurd (false≢true h)
 reaches_path (l ∷ ls) a b h = elim (or_cases (reaches ls a b) _ h) [
@@ -58,6 +60,7 @@ comes_reaches : (links : List Link) (a b c : ℕ) → ((x y z : ℕ) → reaches
     → comes links a b ≡ true → reaches links b c ≡ true → reaches links a c ≡ true
 comes_reaches links a b c trans h k = elim (or_cases (eqb a b) (reaches links a b) h) [ inl e ↦ subst (λ (x : ℕ). reaches links x c ≡ true) (sym (eqb-true a b e)) k | inr r ↦ trans a b c r k ]
 
+-- a driver that reaches another reaches all that this one reaches
 pub reaches_trans : (links : List Link) (a b c : ℕ) → reaches links a b ≡ true → reaches links b c ≡ true → reaches links a c ≡ true
 reaches_trans [] a b c h k = h
 reaches_trans (l ∷ ls) a b c h k = elim (or_cases (reaches ls a b) (comes ls a l.ctl.driver && comes ls l.lower.driver b) h) [
@@ -73,6 +76,7 @@ reaches_trans (l ∷ ls) a b c h k = elim (or_cases (reaches ls a b) (comes ls a
       ]
 ]
 
+-- the upper driver of a link reaches its lower driver
 pub reaches_at : (links : List Link) (k : ℕ) (l : Link) → k < length links → get_or links k l ≡ l → reaches links l.ctl.driver l.lower.driver ≡ true
 reaches_at [] k l lt e = absurd (omega arith)
 reaches_at (m ∷ ls) zero l lt e = subst (λ (x : Link). reaches (x ∷ ls) l.ctl.driver l.lower.driver ≡ true) (sym e)
@@ -88,6 +92,7 @@ nonempty_reaches : (links : List Link) (a : ℕ) (p : List Link) (b : ℕ) → 0
 nonempty_reaches links a [] b some h = absurd (omega arith)
 nonempty_reaches links a (l ∷ p) b some h = walk_reaches links a l p b h
 
+-- where a path leads from a driver to another, the test says that it reaches that
 pub path_reaches : (links : List Link) (a b : ℕ) → Path links a b → reaches links a b ≡ true
 path_reaches links a b h = nonempty_reaches links a h.path b h.some h.leads
 
@@ -108,6 +113,7 @@ no_cycle_push ls l none back d h =
         | inr r ↦ or_right _ _ (reaches_comes links a b c (reaches_trans links) r k)
       ]
 
+-- links that are all among links without a cycle have none either
 pub no_cycle_fewer : (xs ys : List Link) → ((l : Link) → Contains ys l → Contains xs l) → HasNoCycle xs → HasNoCycle ys
 no_cycle_fewer xs ys less none d h = none d (path_more ys xs less d d h)
 

@@ -30,6 +30,7 @@ not_same_turned p q h = false_from_ne_true _ (λ t. both_ways (same_place p q) h
 
 -- a message arrives
 
+-- an arrival puts its message at the end of the queue of its place, and leaves each other queue
 pub arrived_queue : (flow : List QueuedMessage) (p q : Place) (m : Message) → IsInOrder flow → queue (with_inserted queued_before flow (record { place = p; message = m })) q ≡ cond (same_place p q) (queue flow q ++ m ∷ []) (queue flow q)
 arrived_queue flow p q m o = elim (cases_Bool (same_place p q)) [
   | inl t ↦ rw t (subst (λ (x : Place). queue (with_inserted queued_before flow (record { place = p; message = m })) x ≡ queue flow x ++ m ∷ []) (same_place_is p q t) (queue_placed flow (record { place = p; message = m }) o))
@@ -38,6 +39,7 @@ arrived_queue flow p q m o = elim (cases_Bool (same_place p q)) [
 
 -- the first message leaves
 
+-- a leaving takes the first message from the queue of its place, and leaves each other queue
 pub left_queue : (flow : List QueuedMessage) (p q : Place) → queue (without_first (is_at p) flow) q ≡ cond (same_place p q) (drop 1 (queue flow q)) (queue flow q)
 left_queue [] p q = elim (cases_Bool (same_place p q)) [ inl t ↦ rw t refl | inr f ↦ rw f refl ]
 left_queue (k ∷ ks) p q = elim (cases_Bool (same_place k.place p)) [
@@ -53,12 +55,14 @@ left_queue (k ∷ ks) p q = elim (cases_Bool (same_place k.place p)) [
   ]
 ]
 
+-- the first message at a place is the first one of its queue
 pub front_is : (flow : List QueuedMessage) (p : Place) → first_message flow p ≡ slice_get (queue flow p) 0
 front_is [] p = refl
 front_is (k ∷ ks) p = elim (cases_Bool (is_at p k)) [ inl t ↦ rw t refl | inr f ↦ rw f (front_is ks p) ]
 
 -- places are emptied
 
+-- the queues of emptied places are empty, and each other queue is as it was
 pub emptied_queue : (flow : List QueuedMessage) (goes : Place → Bool) (q : Place) → queue (filter (λ h. not (goes h.place)) flow) q ≡ cond (goes q) [] (queue flow q)
 emptied_queue [] goes q = elim (cases_Bool (goes q)) [ inl t ↦ rw t refl | inr f ↦ rw f refl ]
 emptied_queue (k ∷ ks) goes q = elim (cases_Bool (same_place k.place q)) [
@@ -86,6 +90,7 @@ any_unmarked p q (r ∷ rs) = let i = any_unmarked p q rs in elim (cases_Bool (s
       ]
 ]
 
+-- a place whose mark is set or taken away is full or not by that, and each other one is as it was
 pub marked_full : (p q : Place) (full : Bool) (ps : List Place) → list_any (same_place q) (with_mark p full ps) ≡ cond (same_place p q) full (list_any (same_place q) ps)
 marked_full p q true ps = any_of_placed (same_place q) place_before (filter (λ r. not (same_place p r)) ps) p ∙ by (any_unmarked p q ps) where
   by : list_any (same_place q) (filter (λ r. not (same_place p r)) ps) ≡ cond (same_place p q) false (list_any (same_place q) ps)
@@ -96,6 +101,7 @@ marked_full p q true ps = any_of_placed (same_place q) place_before (filter (λ 
   ]
 marked_full p q false ps = any_unmarked p q ps
 
+-- emptied places are not full, and each other one is as full as it was
 pub emptied_full : (ps : List Place) (goes : Place → Bool) (q : Place) → list_any (same_place q) (filter (λ p. not (goes p)) ps) ≡ cond (goes q) false (list_any (same_place q) ps)
 emptied_full [] goes q = elim (cases_Bool (goes q)) [ inl t ↦ rw t refl | inr f ↦ rw f refl ]
 emptied_full (r ∷ rs) goes q = let i = emptied_full rs goes q in elim (cases_Bool (same_place q r)) [
@@ -132,6 +138,7 @@ first_is_least t (k ∷ hs) h q m o e b f = elim (cases_Bool (t k.place)) [
   ]
 ]
 
+-- the first movable place of a flow in order is the least movable place, or there is none
 pub least_is : (drivers : List DriverSpec) (c : Configuration) → IsInOrder c.flow → IsLeastMovable drivers c (least_movable drivers c)
 least_is drivers c o = by (least_movable drivers c) refl where
   lesser : (h : QueuedMessage) → find (λ h. is_movable drivers c h.place) c.flow ≡ Some h → (q : Place) → place_before q h.place ≡ true → (m : Option Message) → first_message c.flow q ≡ m → is_movable drivers c q ≡ false
@@ -192,5 +199,6 @@ those_gone keep new (k ∷ ks) h = elim (cases_Bool (keep k)) [
   | inr f ↦ rw (h.0, f) (ap (λ (ns : List ℕ). k.message.serial ∷ ns) (those_gone keep new ks h.1))
 ]
 
+-- the serials that leave a filtered flow are those of the messages that don't pass, rising
 pub gone_is : (flow : List QueuedMessage) (keep : QueuedMessage → Bool) → AllPairs (λ m n. m ≡ n → ⊥) (serials flow) → serials_that_left flow (filter keep flow) ≡ in_rising_order (serials (filter (λ h. not (keep h)) flow))
 gone_is flow keep apart = ap in_rising_order (those_gone keep (serials (filter keep flow)) flow (kept_or_not keep flow (apart_of (serials flow) apart)))

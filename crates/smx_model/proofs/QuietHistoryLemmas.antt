@@ -184,6 +184,7 @@ quiet_from drivers c (e ∷ es) h none legal other = let p = or_parts (is_hangup
     or_from _ _ (or_from _ _ p.0 (ap tells_of_hangup (sym legal.0) ∙ quiet_step drivers c e.process e.command none p.0))
     (quiet_from drivers (step drivers c e.process e.command).0 es (step_keeps drivers c e.process e.command h) (none_left drivers c e.process e.command h none p.0) legal.1 p.1)
 
+-- a legal history without a hangup has no entry that only version 2 has
 pub quiet_replies : (drivers : List DriverSpec) (history : List Entry) → IsLegal drivers history → list_any (λ e. is_hangup e.command) history ≡ false → list_any is_of_hangup history ≡ false
 quiet_replies drivers history legal other = quiet_from drivers empty history (empty_kept drivers) refl legal other
 
@@ -192,6 +193,7 @@ hungs_from drivers c [] h none other = none
 hungs_from drivers c (e ∷ es) h none other = let p = or_parts (is_hangup e.command) (list_any (λ e. is_hangup e.command) es) other in
     hungs_from drivers (step drivers c e.process e.command).0 es (step_keeps drivers c e.process e.command h) (none_left drivers c e.process e.command h none p.0) p.1
 
+-- after a history without a hangup no stream has hung up
 pub quiet_streams : (drivers : List DriverSpec) (history : List Entry) → list_any (λ e. is_hangup e.command) history ≡ false → (after drivers history).hungs ≡ []
 quiet_streams drivers history other = hungs_from drivers empty history (empty_kept drivers) refl other
 
@@ -229,6 +231,7 @@ needs_none : (b : Bool) → version_2_where b ≡ V1 → b ≡ false
 needs_none true e = absurd cc
 needs_none false e = refl
 
+-- a report for programs that version 1 can tell is a transcript that version 1 can tell
 pub report_is_quiet : (programs : ProgramLists) (report : Transcript) → IsReportOf programs report → least_of_programs programs.drivers programs.programs ≡ V1 → least_of_transcript report ≡ V1
 report_is_quiet programs report h least =
     let p = or_parts (are_more_drivers programs.drivers) (list_any (list_any is_hangup) programs.programs) (needs_none _ least) in

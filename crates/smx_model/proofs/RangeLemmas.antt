@@ -31,6 +31,7 @@ use Rattle.smx_model.specs.Standing.{exists}
 use Rattle.smx_model.proofs.OutcomeLemmas.{IfAccepted, at_ok, after_ok, after_test, after_some, after_choice}
 use Rattle.smx_model.proofs.EachLemmas.{Each, each_filter, each_placed, each_push, each_find}
 
+-- each descriptor has a stream, and each link a controlling and a lower one, that the drivers have
 pub record AreNamed (drivers : List DriverSpec) (c : Configuration) : Type 0 where
   pub fds : Each (λ d. IsKnown drivers d.stream) c.fds
   pub links : Each (λ l. IsKnown drivers l.ctl × IsKnown drivers l.lower) c.links
@@ -104,6 +105,7 @@ named_unlinked drivers c (which.Id id) mine h = search (after_test, named_done, 
 named_linked : (drivers : List DriverSpec) (c : Configuration) (process fd arg : ℕ) (k : LinkKind) → AreNamed drivers c → IfAccepted (λ d r. AreNamed drivers d) (link_outcome drivers c process fd arg k)
 named_linked drivers c process fd arg k h = search (after_test, after_ok, at_ok, named_link, stream_known, rules) depth 24
 
+-- an accepted command leaves descriptors and links with streams that the drivers have
 pub named_accepted : (drivers : List DriverSpec) (c : Configuration) (process : ℕ) (k : Command) → AreNamed drivers c → IfAccepted (λ d r. AreNamed drivers d) (outcome drivers c process k)
 named_accepted drivers c process (command.OpenClone name) h = search (after_ok, at_ok, named_fd, known_made, minor_free, driver_below, rules) depth 20
 named_accepted drivers c process (command.OpenMinor name minor) h = search (after_test, after_ok, at_ok, named_fd, known_made, minor_in, driver_below, rules) depth 20
@@ -125,6 +127,7 @@ named_accepted drivers c process (command.Inject name minor addr bytes) h = sear
 named_accepted drivers c process (command.Transmit name minor) h = search (after_some, after_ok, at_ok, named_same, rules) depth 20
 named_accepted drivers c process (command.Hangup name minor) h = search (after_ok, named_done, named_same, rules) depth 20
 
+-- a move leaves descriptors and links with streams that the drivers have
 pub named_moved : (drivers : List DriverSpec) (c : Configuration) (p : Place) → AreNamed drivers c → AreNamed drivers (after_move drivers c p)
 named_moved drivers c p h = by (next_open_place drivers c p) (first_message c.flow p) where
   by : (o : Option Place) (m : Option Message) → AreNamed drivers (after_move_to drivers c p o m)

@@ -70,6 +70,7 @@ answers_accepted drivers c process (command.Hangup name minor) = search (after_o
 
 -- so a reply that is a fault is that of a refusal
 
+-- a command whose reply is a fault changes nothing
 pub refused_same : (drivers : List DriverSpec) (c : Configuration) (process : ℕ) (k : Command) (f : Fault) → (step drivers c process k).1 ≡ reply.Fault f → (step drivers c process k).0 ≡ c
 refused_same drivers c process k f e = by (outcome drivers c process k) (answers_accepted drivers c process k) e where
   by : (o : Outcome) → IsAnswered o → (after_outcome drivers c o).1 ≡ reply.Fault f → (after_outcome drivers c o).0 ≡ c

@@ -85,11 +85,13 @@ just_unlinked drivers c (which.Id id) mine h = by (list_any (λ l. eqb l.id id &
   by true e = just_settled drivers c (λ l. eqb l.id id && mine l) _ (after_sweep drivers (without_links c (λ l. eqb l.id id && mine l))) (just_removed drivers c (λ l. eqb l.id id && mine l))
   by false e = just_refused drivers c (λ l. eqb l.id id && mine l) h (none_in (λ l. eqb l.id id && mine l) c.links e)
 
+-- unlink leaves just those links that it doesn't mean and that are persistent or controlled by what exists then
 pub unlink_just : (drivers : List DriverSpec) (c : Configuration) (process fd : ℕ) (w : Which) (s : StreamId) → IsSwept drivers c → mux_stream drivers c process fd ≡ Ok s
     → All (λ l. Contains (step drivers c process (command.Unlink fd w)).0.links l ↔ ((not (is_meant w l && (not (is_persistent l) && same_stream l.ctl s)) && (is_persistent l || exists drivers (step drivers c process (command.Unlink fd w)).0 l.ctl)) ≡ true)) c.links
 unlink_just drivers c process fd w s h e = all_in _ c.links (subst (λ (r : Result StreamId Fault). LeavesJust drivers c (λ l. is_meant w l && (not (is_persistent l) && same_stream l.ctl s))
     (after_outcome drivers c (r >>= (λ s. unlink_outcome drivers c w (λ l. not (is_persistent l) && same_stream l.ctl s)))).0) (sym e) (just_unlinked drivers c w (λ l. not (is_persistent l) && same_stream l.ctl s) h)).each
 
+-- punlink leaves just those links that it doesn't mean and that are persistent or controlled by what exists then
 pub punlink_just : (drivers : List DriverSpec) (c : Configuration) (process fd : ℕ) (w : Which) (s : StreamId) → IsSwept drivers c → mux_stream drivers c process fd ≡ Ok s
     → All (λ l. Contains (step drivers c process (command.Punlink fd w)).0.links l ↔ ((not (is_meant w l && (is_persistent l && eqb l.ctl.driver s.driver)) && (is_persistent l || exists drivers (step drivers c process (command.Punlink fd w)).0 l.ctl)) ≡ true)) c.links
 punlink_just drivers c process fd w s h e = all_in _ c.links (subst (λ (r : Result StreamId Fault). LeavesJust drivers c (λ l. is_meant w l && (is_persistent l && eqb l.ctl.driver s.driver))
@@ -111,10 +113,12 @@ exit_just drivers c process = just_settled drivers c (λ l. false) _ (after_swee
   fewer : Configuration
   fewer = record c { fds = filter (λ d. not (eqb d.process process)) c.fds }
 
+-- close leaves just those links that are persistent or whose controlling stream exists after it
 pub close_takes : (drivers : List DriverSpec) (c : Configuration) (process fd : ℕ) → IsSwept drivers c
     → All (λ l. Contains (step drivers c process (command.Close fd)).0.links l ↔ ((is_persistent l || exists drivers (step drivers c process (command.Close fd)).0 l.ctl) ≡ true)) c.links
 close_takes drivers c process fd h = all_in _ c.links (close_just drivers c process fd h).each
 
+-- exit leaves just those links that are persistent or whose controlling stream exists after it
 pub exit_takes : (drivers : List DriverSpec) (c : Configuration) (process : ℕ) → IsSwept drivers c
     → All (λ l. Contains (step drivers c process command.CloseAll).0.links l ↔ ((is_persistent l || exists drivers (step drivers c process command.CloseAll).0 l.ctl) ≡ true)) c.links
 exit_takes drivers c process h = all_in _ c.links (exit_just drivers c process).each
@@ -187,6 +191,7 @@ keeps_finished drivers c (Err f) h = record { each = λ l k. k }
 keeps_step : (drivers : List DriverSpec) (c : Configuration) (process : ℕ) (k : Command) → IsOther k → IsSwept drivers c → KeepsLinks c (step drivers c process k).0
 keeps_step drivers c process k other h = keeps_finished drivers c (outcome drivers c process k) (keeps_accepted drivers c process k other h)
 
+-- a command that is neither close, exit, unlink nor punlink leaves all links
 pub others_keep : (drivers : List DriverSpec) (c : Configuration) (process : ℕ) (k : Command) → IsSwept drivers c → ((fd : ℕ) → k ≡ command.Close fd → ⊥) → (k ≡ command.CloseAll → ⊥)
     → ((fd : ℕ) (w : Which) → k ≡ command.Unlink fd w → ⊥) → ((fd : ℕ) (w : Which) → k ≡ command.Punlink fd w → ⊥) → All (Contains (step drivers c process k).0.links) c.links
 others_keep drivers c process k h a b d e = all_in _ c.links (keeps_step drivers c process k (record { close = a; exit = b; unlink = d; punlink = e }) h).each
@@ -198,6 +203,7 @@ not_ordinary true true b e = refl
 not_ordinary false true b e = refl
 not_ordinary a false b e = absurd (false≢true e)
 
+-- a command that is no punlink leaves all persistent links
 pub persistent_stays : (drivers : List DriverSpec) (c : Configuration) (process : ℕ) (k : Command) → IsSwept drivers c → ((fd : ℕ) (w : Which) → k ≡ command.Punlink fd w → ⊥)
     → All (λ l. is_persistent l ≡ true → Contains (step drivers c process k).0.links l) c.links
 persistent_stays drivers c process k h never = all_in _ c.links (by k never) where
@@ -277,5 +283,6 @@ came_finished : (drivers : List DriverSpec) (c : Configuration) (o : Outcome) �
 came_finished drivers c (Ok x) h = record { each = λ l k. h.holds.each l (subst (λ (ls : List Link). Contains ls l) (settled_alone drivers _ x.0).links k) }
 came_finished drivers c (Err f) h = record { each = λ l k. inl k }
 
+-- a link that stands after a command stood before it, or has the id that is its reply
 pub links_came : (drivers : List DriverSpec) (c : Configuration) (process : ℕ) (k : Command) → All (λ l. Contains c.links l ⊎ ((step drivers c process k).1 ≡ reply.Id l.id)) (step drivers c process k).0.links
 links_came drivers c process k = all_in _ _ (came_finished drivers c (outcome drivers c process k) (came_accepted drivers c process k)).each

@@ -59,6 +59,7 @@ example_holds (suc (suc p)) =
 example_drivers : IsDriverList drivers
 example_drivers = record { few = omega arith; each = all_of_each (λ d. spec_check d ≡ Ok tt) drivers (refl, tt); names = λ i j d lt lt2. absurd (omega (arith, lt, lt2)) }
 
+-- the example, an open of process 0, the exit of process 1 and a dup of process 0, is a report
 pub is_report : IsReportOf programs (report_with (opened ∷ exited ∷ copied ∷ []) two)
 is_report = report_of programs (report_with (opened ∷ exited ∷ copied ∷ []) two) refl example_drivers (refl, (refl, (refl, tt))) example_holds refl
 
@@ -67,20 +68,26 @@ is_report = report_of programs (report_with (opened ∷ exited ∷ copied ∷ []
 abbrev both : List Command
 both = OpenClone ip ∷ Dup 0 ∷ []
 
+-- the example without the dup of process 0 is no report
 pub left_out : IsReportOf programs (report_with (opened ∷ exited ∷ []) one) → ⊥
 left_out h = let e : OpenClone ip ∷ [] ≡ both = h.holds 0 in absurd cc
 
+-- the example with a second dup of process 0 is no report
 pub done_twice : IsReportOf programs (report_with (opened ∷ copied ∷ once_more ∷ exited ∷ []) three) → ⊥
 done_twice h = let e : OpenClone ip ∷ Dup 0 ∷ Dup 0 ∷ [] ≡ both = h.holds 0 in absurd cc
 
+-- the example with the dup of process 0 before its open is no report
 pub exchanged : IsReportOf programs (report_with (too_early ∷ opened ∷ exited ∷ []) one) → ⊥
 exchanged h = let e : Dup 0 ∷ OpenClone ip ∷ [] ≡ both = h.holds 0 in absurd cc
 
+-- the example with the exit of a process without a program, in place of the other's, is no report
 pub of_another : IsReportOf programs (report_with (opened ∷ copied ∷ another_exited ∷ []) two) → ⊥
 of_another h = let e : CloseAll ∷ [] ≡ [] = h.holds 7 in absurd cc
 
+-- the example with another reply to the dup is no report
 pub another_reply : IsReportOf programs (report_with (opened ∷ too_early ∷ exited ∷ []) one) → ⊥
 another_reply h = let e : Fd 1 0 ≡ Fault BadDescriptor = h.legal.1.0 in absurd cc
 
+-- the example with a view of one descriptor, where there are two, is no report
 pub another_view : IsReportOf programs (report_with (opened ∷ copied ∷ exited ∷ []) one) → ⊥
 another_view h = let e : 1 ≡ 2 = ap (λ (v : ConfigView). length v.fds) h.shown in absurd (omega (arith, e))

@@ -58,6 +58,7 @@ before_filter : {X : Type 0} (before : X → X → Bool) (test : X → Bool) (x 
 before_filter before test x [] h = tt
 before_filter before test x (y ∷ ys) h = elim (cases_Bool (test y)) [ inl t ↦ rw t (h.0, before_filter before test x ys h.1) | inr f ↦ rw f (before_filter before test x ys h.1) ]
 
+-- a rising list stays so when it is filtered
 pub rising_filter : {X : Type 0} (before : X → X → Bool) (test : X → Bool) (xs : List X) → IsRising before xs → IsRising before (filter test xs)
 rising_filter before test [] h = tt
 rising_filter before test (x ∷ xs) h = elim (cases_Bool (test x)) [ inl t ↦ rw t (before_filter before test x xs h.0, rising_filter before test xs h.1) | inr f ↦ rw f (rising_filter before test xs h.1) ]
@@ -169,6 +170,7 @@ rising_route c driver addr id h = record {
   hungs = h.hungs;
 }
 
+-- hung-up streams that rise do so with one more
 pub rising_with_hung : (s : StreamId) (hungs : List StreamId) → IsRising stream_before hungs → IsRising stream_before (with_hung s hungs)
 rising_with_hung s hungs h = by (is_hung hungs s) refl where
   by : (b : Bool) → is_hung hungs s ≡ b → IsRising stream_before (with_hung s hungs)
@@ -207,6 +209,7 @@ rising_unlinked drivers c (which.Id id) mine h = search (after_test, rising_done
 rising_linked : (drivers : List DriverSpec) (c : Configuration) (process fd arg : ℕ) (k : LinkKind) → AreRising c → IfAccepted (λ d r. AreRising d) (link_outcome drivers c process fd arg k)
 rising_linked drivers c process fd arg k h = search (after_test, after_ok, at_ok, rising_same, rules) depth 24
 
+-- an accepted command keeps descriptors, bindings, routes, full places and hung-up streams rising
 pub rising_accepted : (drivers : List DriverSpec) (c : Configuration) (process : ℕ) (k : Command) → AreRising c → IfAccepted (λ d r. AreRising d) (outcome drivers c process k)
 rising_accepted drivers c process (command.OpenClone name) h = search (after_ok, at_ok, rising_fd, rules) depth 20
 rising_accepted drivers c process (command.OpenMinor name minor) h = search (after_test, after_ok, at_ok, rising_fd, rules) depth 20
@@ -228,6 +231,7 @@ rising_accepted drivers c process (command.Inject name minor addr bytes) h = sea
 rising_accepted drivers c process (command.Transmit name minor) h = search (after_ok, rising_received, rules) depth 20
 rising_accepted drivers c process (command.Hangup name minor) h = search (after_ok, rising_done, rising_hung, rules) depth 20
 
+-- a move keeps descriptors, bindings, routes, full places and hung-up streams rising
 pub rising_moved : (drivers : List DriverSpec) (c : Configuration) (p : Place) → AreRising c → AreRising (after_move drivers c p)
 rising_moved drivers c p h = by (next_open_place drivers c p) (first_message c.flow p) where
   by : (o : Option Place) (m : Option Message) → AreRising (after_move_to drivers c p o m)
@@ -235,5 +239,6 @@ rising_moved drivers c p h = by (next_open_place drivers c p) (first_message c.f
   by (Some q) None = h
   by None m = h
 
+-- the lists of the empty configuration rise
 pub rising_empty : AreRising empty
 rising_empty = record { fds = tt; binds = tt; routes = tt; fulls = tt; hungs = tt }

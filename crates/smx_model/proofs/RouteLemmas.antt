@@ -38,6 +38,7 @@ Rising (l ∷ ls) = Each (λ k. l.id < k.id) ls × Rising ls
 abbrev pub leads_from : List Link → ℕ → ℕ → Bool
 leads_from links id driver = list_any (λ l. eqb l.id id && eqb l.ctl.driver driver) links
 
+-- ids of links rise from 1 to below the next one; each route has a multiplexing driver, and names a link of its own
 pub record AreRouted (drivers : List DriverSpec) (c : Configuration) : Type 0 where
   pub rise : Rising c.links
   pub ids : Each (λ l. (1 ≤ l.id) × (l.id < c.next_id)) c.links
@@ -168,6 +169,7 @@ mux_is drivers c process fd s e = by (free_stream c process fd) e where
   by (Err f) k = cc
   by (Ok t) k = tested t (is_mux drivers t.driver) refl k
 
+-- an accepted command keeps ids of links rising, and each route with a link of its own driver
 pub routed_accepted : (drivers : List DriverSpec) (c : Configuration) (process : ℕ) (k : Command) → AreRouted drivers c → IfAccepted (λ d r. AreRouted drivers d) (outcome drivers c process k)
 routed_accepted drivers c process (command.OpenClone name) h = search (after_ok, at_ok, routed_same, rules) depth 20
 routed_accepted drivers c process (command.OpenMinor name minor) h = search (after_test, after_ok, at_ok, routed_same, rules) depth 20
@@ -189,6 +191,7 @@ routed_accepted drivers c process (command.Inject name minor addr bytes) h = sea
 routed_accepted drivers c process (command.Transmit name minor) h = search (after_some, after_ok, at_ok, routed_same, rules) depth 20
 routed_accepted drivers c process (command.Hangup name minor) h = search (after_ok, routed_done, routed_same, rules) depth 20
 
+-- a move keeps ids of links rising, and each route with a link of its own driver
 pub routed_moved : (drivers : List DriverSpec) (c : Configuration) (p : Place) → AreRouted drivers c → AreRouted drivers (after_move drivers c p)
 routed_moved drivers c p h = by (next_open_place drivers c p) (first_message c.flow p) where
   by : (o : Option Place) (m : Option Message) → AreRouted drivers (after_move_to drivers c p o m)
@@ -196,6 +199,7 @@ routed_moved drivers c p h = by (next_open_place drivers c p) (first_message c.f
   by (Some q) None = h
   by None m = h
 
+-- in the empty configuration, without links and routes, ids rise and no route lacks its link
 pub routed_empty : (drivers : List DriverSpec) → AreRouted drivers empty
 routed_empty drivers = record { rise = tt; ids = tt; start = omega arith; routes = tt }
 
@@ -209,6 +213,7 @@ ids_rise : (ls : List Link) → Rising ls → IsRising (λ l k. ltb l.id k.id) l
 ids_rise [] h = tt
 ids_rise (l ∷ ls) h = (ids_before l ls h.0, ids_rise ls h.1)
 
+-- ids of links that rise by recursion are what `AreIdsRising` says of them
 pub rising_ids : (drivers : List DriverSpec) (c : Configuration) → AreRouted drivers c → AreIdsRising c.links c.next_id
 rising_ids drivers c h = record {
   rise = ids_rise c.links h.rise;
@@ -217,6 +222,7 @@ rising_ids drivers c h = record {
   next = h.start;
 }
 
+-- routes with links of their own drivers, by recursion, are what `AreRoutesSound` says of them
 pub sound_routes : (drivers : List DriverSpec) (c : Configuration) → AreRouted drivers c → AreRoutesSound drivers c
 sound_routes drivers c h = record {
   mux = all_of_each _ c.routes (each_map _ _ c.routes (λ r p. p.0) h.routes);

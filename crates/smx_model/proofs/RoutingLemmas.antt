@@ -59,6 +59,7 @@ new_route drivers c goes x h = subst (λ (o : Outcome). LeavesRoutes c (after_ou
       (in_placed route_before (filter (λ r. not (goes r)) c.routes) r x (in_filtered (λ r. not (goes r)) c.routes r k t));
 })
 
+-- unroute takes away its driver's routes for the address, and leaves all others
 pub unroute_takes : (drivers : List DriverSpec) (c : Configuration) (process fd addr : ℕ) (s : StreamId) → IsSwept drivers c → mux_stream drivers c process fd ≡ Ok s
     → All (λ r. Contains (step drivers c process (command.Unroute fd addr)).0.routes r ↔ (not (eqb r.driver s.driver && eqb r.addr addr) ≡ true)) c.routes
 unroute_takes drivers c process fd addr s h e = all_in _ c.routes (subst (λ (r : Result StreamId Fault). LosesRoutes c (after_outcome drivers c (r >>= (λ s. refuse Unrouted (not (list_any (λ r. eqb r.driver s.driver && eqb r.addr addr) c.routes))
@@ -70,6 +71,7 @@ unroute_takes drivers c process fd addr s h e = all_in _ c.routes (subst (λ (r 
       by true f = fewer_routes drivers c mine h
       by false f = record { each = λ r k. (λ m. rw (none_in mine c.routes f r k) refl, λ t. k) }
 
+-- route leaves all routes but its driver's for the address
 pub route_leaves : (drivers : List DriverSpec) (c : Configuration) (process fd addr id : ℕ) (s : StreamId) → IsSwept drivers c → mux_stream drivers c process fd ≡ Ok s
     → All (λ r. not (eqb r.driver s.driver && eqb r.addr addr) ≡ true → Contains (step drivers c process (command.Route fd addr id)).0.routes r) c.routes
 route_leaves drivers c process fd addr id s h e = all_in _ c.routes (subst (λ (r : Result StreamId Fault). LeavesRoutes c (after_outcome drivers c (r >>= (λ s. refuse NoLink (not (list_any (λ l. eqb l.id id && eqb l.ctl.driver s.driver) c.links))
@@ -182,6 +184,7 @@ just_finished : (drivers : List DriverSpec) (c : Configuration) (o : Outcome) �
 just_finished drivers c (Ok x) h sound m = just_settled drivers c _ x.0 (record { each = λ r k. (λ there. leads drivers x.0 r sound there, λ t. m.holds.each r k t) })
 just_finished drivers c (Err f) h sound m = record { each = λ r k. (λ there. leads drivers c r h there, λ t. k) }
 
+-- a command that is neither route nor unroute leaves just those of the old routes whose links stand
 pub others_keep_led : (drivers : List DriverSpec) (c : Configuration) (process : ℕ) (k : Command) → IsSound drivers c → ((fd addr id : ℕ) → k ≡ command.Route fd addr id → ⊥) → ((fd addr : ℕ) → k ≡ command.Unroute fd addr → ⊥)
     → All (λ r. Contains (step drivers c process k).0.routes r ↔ (list_any (λ l. eqb l.id r.id) (step drivers c process k).0.links ≡ true)) c.routes
 others_keep_led drivers c process k h no_route no_unroute = all_in _ c.routes (just_finished drivers c (outcome drivers c process k) h (outcome_sound drivers c process k h)

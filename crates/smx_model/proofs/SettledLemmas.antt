@@ -22,6 +22,7 @@ moved_alone drivers c p = by (next_open_place drivers c p) (first_message c.flow
   by (Some q) None = record { fds = refl; links = refl; binds = refl; routes = refl; hungs = refl }
   by None m = record { fds = refl; links = refl; binds = refl; routes = refl; hungs = refl }
 
+-- settling changes only the messages and the full marks
 pub settled_alone : (drivers : List DriverSpec) (n : ℕ) (c : Configuration) → ChangesQueuesAlone c (after_settling_within drivers n c)
 settled_alone drivers zero c = record { fds = refl; links = refl; binds = refl; routes = refl; hungs = refl }
 settled_alone drivers (suc k) c = elim (least_movable drivers c) as (λ o. ChangesQueuesAlone c (elim o as (λ _. Configuration) [ None ↦ c | Some p ↦ after_settling_within drivers k (after_move drivers c p) ])) [

@@ -42,12 +42,14 @@ marks_kept drivers turned old new h t m p unmarked = by (first_message new.confi
 not_moved : (drivers : List DriverSpec) (c : Configuration) (p : Place) → next_open_place drivers c p ≡ None → after_move drivers c p ≡ c
 not_moved drivers c p e = ap (λ (w : Option Place). after_move_to drivers c p w (first_message c.flow p)) e
 
+-- a move turns no place but those of `turned_by_move`
 pub turns_moved_on : (drivers : List DriverSpec) (c : Configuration) (p : Place) → IsInOrder c.flow → TurnsOnly drivers c (after_move drivers c p) (turned_by_move drivers c p)
 turns_moved_on drivers c p o = by (next_open_place drivers c p) refl where
   by : (w : Option Place) → next_open_place drivers c p ≡ w → TurnsOnly drivers c (after_move drivers c p) (turned_by_move drivers c p)
   by None e = subst (λ (d : Configuration). TurnsOnly drivers c d (turned_by_move drivers c p)) (sym (not_moved drivers c p e)) (λ r n. inl refl)
   by (Some q) e = subst (λ (w : Option Place). TurnsOnly drivers c (after_move drivers c p) (both (same_place p) (is_first_there drivers c p w))) (sym e) (turns_moved drivers c p q o e)
 
+-- a move keeps the marks, where what it woke gets a run mark
 pub move_keeps_marks : (drivers : List DriverSpec) (p : Place) (old new : MarkedConfiguration) → IsInOrder old.configuration.flow → HasItsMarks drivers old → new.configuration ≡ after_move drivers old.configuration p
     → IsMarkedAfter drivers (turned_by_move drivers old.configuration p) old new → HasItsMarks drivers new
 move_keeps_marks drivers p old new o h e m = marks_kept drivers (turned_by_move drivers old.configuration p) old new h
@@ -55,12 +57,14 @@ move_keeps_marks drivers p old new o h e m = marks_kept drivers (turned_by_move 
 
 -- ---- a cleared mark
 
+-- to clear the mark of a place that isn't movable keeps the marks
 pub clearing_keeps_marks : (drivers : List DriverSpec) (p : Place) (old new : MarkedConfiguration) → HasItsMarks drivers old → IsCleared drivers p old new → HasItsMarks drivers new
 clearing_keeps_marks drivers p old new h k r unmarked = subst (λ (c : Configuration). is_waiting drivers c new.wanted r ≡ true) (sym k.same)
     (more_wanted drivers old.configuration _ new.wanted r k.wanted (cleared drivers old.configuration old.run old.wanted p h k.waits r (sym (k.run r) ∙ unmarked)))
 
 -- ---- the least marked place
 
+-- the least place with a run mark, where it is movable, is the least movable place
 pub marked_is_least : (drivers : List DriverSpec) (c : Configuration) (run wanted : Place → Bool) (p : Place) → IsInOrder c.flow → AreMarked drivers c run wanted → IsLeastMarked run p → is_movable drivers c p ≡ true → least_movable drivers c ≡ Some p
 marked_is_least drivers c run wanted p o h l m = by (least_movable drivers c) (least_is drivers c o) where
   by : (w : Option Place) → IsLeastMovable drivers c w → w ≡ Some p
@@ -86,10 +90,12 @@ round : (drivers : List DriverSpec) (n : ℕ) (c : Configuration) (o : Option Pl
     → after_settling_within drivers (suc n) c ≡ elim o as (λ _. Configuration) [ None ↦ c | Some p ↦ after_settling_within drivers n (after_move drivers c p) ]
 round drivers n c o e = ap (λ (x : Option Place). elim x as (λ _. Configuration) [ None ↦ c | Some p ↦ after_settling_within drivers n (after_move drivers c p) ]) e
 
+-- settling, where there is no least movable place, changes nothing
 pub settling_stays : (drivers : List DriverSpec) (n : ℕ) (c : Configuration) → least_movable drivers c ≡ None → after_settling_within drivers n c ≡ c
 settling_stays drivers zero c e = refl
 settling_stays drivers (suc n) c e = round drivers n c None e
 
+-- settling within one move more begins with the move from the least movable place
 pub settling_moves : (drivers : List DriverSpec) (n : ℕ) (c : Configuration) (p : Place) → least_movable drivers c ≡ Some p → after_settling_within drivers (suc n) c ≡ after_settling_within drivers n (after_move drivers c p)
 settling_moves drivers n c p e = round drivers n c (Some p) e
 

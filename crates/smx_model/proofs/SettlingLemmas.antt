@@ -30,6 +30,7 @@ abbrev pub count : (ℕ → Bool) → ℕ → ℕ
 count f zero = 0
 count f (suc n) = cond (f n) 1 0 + count f n
 
+-- no more than n of the numbers below n pass
 pub count_le : (f : ℕ → Bool) (n : ℕ) → count f n ≤ n
 count_le f zero = omega arith
 count_le f (suc n) = elim (cases_Bool (f n)) [ inl t ↦ rw t (omega (arith, count_le f n)) | inr u ↦ rw u (omega (arith, count_le f n)) ]
@@ -66,6 +67,7 @@ rank_le links n d side.Read = count_le _ n
 down_less : (links : List Link) (n a b : ℕ) → HasNoCycle links → reaches links a b ≡ true → b < n → count (λ x. reaches links b x) n < count (λ x. reaches links a x) n
 down_less links n a b none r lt = count_less (λ x. reaches links b x) (λ x. reaches links a x) n b (λ x h. reaches_trans links a b x r h) lt (false_from_ne_true _ (λ h. none b (reaches_path links b b h))) r
 
+-- without a cycle fewer drivers reach a driver than reach one that it reaches
 pub up_less : (links : List Link) (n a b : ℕ) → HasNoCycle links → reaches links a b ≡ true → a < n → count (λ x. reaches links x a) n < count (λ x. reaches links x b) n
 up_less links n a b none r lt = count_less (λ x. reaches links x a) (λ x. reaches links x b) n a (λ x h. reaches_trans links x a b h r) lt (false_from_ne_true _ (λ h. none a (reaches_path links a a h))) r
 
@@ -171,6 +173,7 @@ at_place d m s = record { stream = record { driver = d; minor = m }; side = s }
 made : (a b : ℕ) (s : Side) (c d : ℕ) (t : Side) → a ≡ c → b ≡ d → s ≡ t → at_place a b s ≡ at_place c d t
 made a b s c d t e f g = ap (λ (x : ℕ). at_place x b s) e ∙ (ap (λ (x : ℕ). at_place c x s) f ∙ ap (λ (x : Side). at_place c d x) g)
 
+-- places that the test says are the same are equal
 pub same_place_is : (p q : Place) → same_place p q ≡ true → p ≡ q
 same_place_is p q h =
     let a = and_parts (same_stream p.stream q.stream) (same_side p.side q.side) h in
@@ -202,14 +205,17 @@ none_of t (h ∷ hs) p m e f = elim (cases_Bool (t h.place)) [
   ]
 ]
 
+-- where no message of the flow is at a movable place, no place is movable
 pub no_front : (drivers : List DriverSpec) (c : Configuration) (p : Place) (o : Option Message) → first_message c.flow p ≡ o → find (λ h. is_movable drivers c h.place) c.flow ≡ None → is_movable drivers c p ≡ false
 no_front drivers c p None e none = rw e refl
 no_front drivers c p (Some m) e none = none_of (is_movable drivers c) c.flow p m none e
 
+-- where there is no place of a message that was looked for, no message was found
 pub none_least : (o : Option QueuedMessage) → option_map (λ h. h.place) o ≡ None → o ≡ None
 none_least None e = refl
 none_least (Some h) e = cc
 
+-- a place of a message that was looked for is that of the message that was found
 pub some_least : (o : Option QueuedMessage) (p : Place) → option_map (λ h. h.place) o ≡ Some p → (h : QueuedMessage) × (o ≡ Some h) × (h.place ≡ p)
 some_least None p e = cc
 some_least (Some h) p e = (h, refl, cc)
@@ -223,6 +229,7 @@ least_way drivers c p e =
     let s = some_least (find (λ h. is_movable drivers c h.place) c.flow) p e in
     movable_way (next_open_place drivers c p) (subst (λ (x : Place). is_movable drivers c x ≡ true) s.2 (find_passes (λ h. is_movable drivers c h.place) c.flow s.0 s.1))
 
+-- a move leaves the links as they are
 pub moved_links : (drivers : List DriverSpec) (c : Configuration) (p : Place) → (after_move drivers c p).links ≡ c.links
 moved_links drivers c p = by (next_open_place drivers c p) (first_message c.flow p) where
   by : (o : Option Place) (m : Option Message) → (after_move_to drivers c p o m).links ≡ c.links

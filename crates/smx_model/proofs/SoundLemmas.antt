@@ -37,9 +37,11 @@ in_filter test (m ∷ ls) l h = elim (cases_Bool (test m)) [
   | inr f ↦ Contains-append_right (m ∷ []) ls l (in_filter test ls l (rw f at h))
 ]
 
+-- sound links stay so when they are filtered
 pub sound_filter : (test : Link → Bool) (ls : List Link) → AreLinksSound ls → AreLinksSound (filter test ls)
 sound_filter test ls h = record { no_cycle = no_cycle_fewer ls (filter test ls) (in_filter test ls) h.no_cycle; lowers = AllPairs-filter (λ l k. same_stream l.lower k.lower ≡ false) test ls h.lowers }
 
+-- sound links stay so with one more, which makes no cycle and whose lower stream is below no other
 pub sound_push : (ls : List Link) (l : Link) → AreLinksSound ls → is_below ls l.lower ≡ false → (eqb l.lower.driver l.ctl.driver || reaches ls l.lower.driver l.ctl.driver) ≡ false → AreLinksSound (ls ++ l ∷ [])
 sound_push ls l h free apart = record {
   no_cycle = no_cycle_push ls l h.no_cycle apart;
@@ -60,6 +62,7 @@ sound_unlinked drivers c (which.Id id) mine h = search (after_test, sound_done, 
 sound_linked : (drivers : List DriverSpec) (c : Configuration) (process fd arg : ℕ) (k : LinkKind) → AreLinksSound c.links → IfAccepted Sound (link_outcome drivers c process fd arg k)
 sound_linked drivers c process fd arg k h = search (after_test, after_ok, at_ok, sound_push, rules) depth 20
 
+-- an accepted command leaves sound links sound
 pub sound_accepted : (drivers : List DriverSpec) (c : Configuration) (process : ℕ) (k : Command) → AreLinksSound c.links → IfAccepted Sound (outcome drivers c process k)
 sound_accepted drivers c process (command.OpenClone name) h = search (after_some, after_ok, at_ok, rules) depth 20
 sound_accepted drivers c process (command.OpenMinor name minor) h = search (after_test, after_some, after_ok, at_ok, rules) depth 20
@@ -81,6 +84,7 @@ sound_accepted drivers c process (command.Inject name minor addr bytes) h = sear
 sound_accepted drivers c process (command.Transmit name minor) h = search (after_some, after_ok, at_ok, rules) depth 20
 sound_accepted drivers c process (command.Hangup name minor) h = search (after_ok, sound_done, rules) depth 20
 
+-- a move leaves sound links sound
 pub sound_moved : (drivers : List DriverSpec) (c : Configuration) (p : Place) → AreLinksSound c.links → AreLinksSound (after_move drivers c p).links
 sound_moved drivers c p h = onto (next_open_place drivers c p) (first_message c.flow p) where
   onto : (o : Option Place) (m : Option Message) → AreLinksSound (after_move_to drivers c p o m).links
@@ -88,5 +92,6 @@ sound_moved drivers c p h = onto (next_open_place drivers c p) (first_message c.
   onto (Some q) None = h
   onto None m = h
 
+-- where there are no links, they are sound
 pub sound_empty : AreLinksSound []
 sound_empty = record { no_cycle = λ d h. false≢true (path_reaches [] d d h); lowers = λ i j d lt lt2. absurd (omega arith) }

@@ -17,6 +17,7 @@ use Rattle.smx_model.proofs.TestLemmas.{any_same, any_filter, all_passes, any_fo
 
 -- more climbs
 
+-- a stream that stands within some climbs stands within any greater number of them
 pub stands_more : (fds : List Descriptor) (links : List Link) (n m : ℕ) (s : StreamId) → n ≤ m → stands_within fds links n s ≡ true → stands_within fds links m s ≡ true
 stands_more fds links n zero s le h = let e : n ≡ 0 = omega arith in subst (λ (k : ℕ). stands_within fds links k s ≡ true) e h
 stands_more fds links n (suc m) s le h = elim (cases_lt m n) [
@@ -47,6 +48,7 @@ stands_filter fds links m (suc n) s le = both _ _ _ _ (stands_filter fds links m
 swept_exists : (drivers : List DriverSpec) (c : Configuration) (s : StreamId) → exists drivers (after_sweep drivers c) s ≡ exists drivers c s
 swept_exists drivers c s = stands_filter c.fds c.links (length drivers) (length drivers) s (omega arith)
 
+-- what a sweep leaves is swept
 pub swept_is : (drivers : List DriverSpec) (c : Configuration) → IsSwept drivers (after_sweep drivers c)
 swept_is drivers c = record {
   links = all_passes _ _ c.links (λ l h. alive (is_persistent l) (exists drivers c l.ctl) (exists drivers (after_sweep drivers c) l.ctl) (sym (swept_exists drivers c l.ctl)) h);

@@ -102,6 +102,7 @@ stream_exists drivers c process fd s e = stands_more c.fds c.links 0 (length dri
   by None e k = cc
   by (Some d) e k = let same : d.stream ≡ s = cc in subst (λ (t : StreamId). is_named c.fds t ≡ true) same (named_found (is_fd process fd) c.fds d e)
 
+-- the stream of a descriptor that is not linked below exists
 pub free_exists : (drivers : List DriverSpec) (c : Configuration) (process fd : ℕ) (s : StreamId) → free_stream c process fd ≡ Ok s → exists drivers c s ≡ true
 free_exists drivers c process fd s e = by (stream_of c process fd) refl e where
   tested : (t : StreamId) (b : Bool) → (refuse Below b >>= (λ _. Ok t)) ≡ Ok s → t ≡ s
@@ -112,6 +113,7 @@ free_exists drivers c process fd s e = by (stream_of c process fd) refl e where
   by (Err f) e k = cc
   by (Ok t) e k = subst (λ (x : StreamId). exists drivers c x ≡ true) (tested t (is_below c.links t) k) (stream_exists drivers c process fd t e)
 
+-- the stream of a leaf driver and its minor that a lookup finds exists
 pub leaf_exists : (drivers : List DriverSpec) (c : Configuration) (name : List ℕ) (minor : ℕ) (s : StreamId) → leaf_stream drivers c name minor ≡ Ok s → exists drivers c s ≡ true
 leaf_exists drivers c name minor s e = by (driver_of drivers name) e where
   there : (n : ℕ) (b : Bool) → exists drivers c (record { driver = n; minor = minor }) ≡ b → (refuse NoMinor (not b) >>= (λ _. Ok (record { driver = n; minor = minor }))) ≡ Ok s → exists drivers c s ≡ true
@@ -167,6 +169,7 @@ swept_unlinked drivers c (which.Id id) mine = search (after_test, swept_done, ru
 swept_linked : (drivers : List DriverSpec) (c : Configuration) (process fd arg : ℕ) (k : LinkKind) → IsSwept drivers c → IfAccepted (λ d r. IsSwept drivers d) (link_outcome drivers c process fd arg k)
 swept_linked drivers c process fd arg k h = search (after_test, after_ok, at_ok, swept_link, stream_exists, rules) depth 24
 
+-- an accepted command leaves a swept configuration swept
 pub swept_accepted : (drivers : List DriverSpec) (c : Configuration) (process : ℕ) (k : Command) → IsSwept drivers c → IfAccepted (λ d r. IsSwept drivers d) (outcome drivers c process k)
 swept_accepted drivers c process (command.OpenClone name) h = search (after_ok, at_ok, swept_fd, rules) depth 20
 swept_accepted drivers c process (command.OpenMinor name minor) h = search (after_test, after_ok, at_ok, swept_fd, rules) depth 20
@@ -190,6 +193,7 @@ swept_accepted drivers c process (command.Hangup name minor) h = search (after_o
 
 -- a move goes to a stream that exists
 
+-- where the drivers of all controlling streams are there, each link leads from such a driver to its lower one
 pub links_in : (drivers : List DriverSpec) (links : List Link) → Each (λ l. l.ctl.driver < length drivers) links → Each (IsLinkIn drivers links) links
 links_in drivers [] h = tt
 links_in drivers (l ∷ ls) h = (
@@ -197,11 +201,13 @@ links_in drivers (l ∷ ls) h = (
   each_map (IsLinkIn drivers ls) (IsLinkIn drivers (l ∷ ls)) ls (λ k i. record { ctl = i.ctl; leads = or_left _ _ i.leads }) (links_in drivers ls h.1),
 )
 
+-- it has no cycle, its descriptors and links have streams that the drivers have, and it is swept
 pub record IsWhole (drivers : List DriverSpec) (c : Configuration) : Type 0 where
   pub none : HasNoCycle c.links
   pub named : AreNamed drivers c
   pub swept_ : IsSwept drivers c
 
+-- a stream is the same as itself
 pub stream_self : (t : StreamId) → same_stream t t ≡ true
 stream_self t = and_from _ _ (eq-eqb t.driver t.driver refl) (eq-eqb t.minor t.minor refl)
 
@@ -211,6 +217,7 @@ pub record AreKeepingLowers (drivers : List DriverSpec) (c : Configuration) : Ty
   pub below : Each (λ l. l.ctl.driver < length drivers) c.links
   pub alive : list_all (λ l. is_persistent l || exists drivers c l.ctl) c.links ≡ true
 
+-- the lower stream of a link that a search finds exists
 pub lower_exists : (drivers : List DriverSpec) (c : Configuration) (test : Link → Bool) (l : Link) → AreKeepingLowers drivers c → find test c.links ≡ Some l → exists drivers c l.lower ≡ true
 lower_exists drivers c test l h e = elim (cases_Bool (is_persistent l)) [
   | inl p ↦ stands_more c.fds c.links 0 (length drivers) l.lower (omega arith) (or_right _ _ (found_any test (λ k. is_persistent k && same_stream k.lower l.lower) c.links l e (and_from _ _ p (stream_self l.lower))))
@@ -242,6 +249,7 @@ front_exists t [] p m e h = cc
 front_exists t (k ∷ hs) p m e h = let a = and_parts (t k.place) (list_all (λ h. t h.place) hs) h in elim (cases_Bool (is_at p k))
     [ inl y ↦ ap t (sym (same_place_is k.place p y)) ∙ a.0 | inr n ↦ front_exists t hs p m (rw n at e) a.1 ]
 
+-- a move leaves a swept configuration without a cycle swept
 pub swept_moved : (drivers : List DriverSpec) (c : Configuration) (p : Place) → IsWhole drivers c → IsSwept drivers (after_move drivers c p)
 swept_moved drivers c p h = by (next_open_place drivers c p) (first_message c.flow p) refl refl where
   by : (o : Option Place) (m : Option Message) → next_open_place drivers c p ≡ o → first_message c.flow p ≡ m → IsSwept drivers (after_move_to drivers c p o m)

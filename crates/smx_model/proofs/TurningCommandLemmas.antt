@@ -62,6 +62,7 @@ pair_other a b c d h = false_from_ne_true _ (λ t. let p = and_parts (eqb a c) (
   | inr k ↦ absurd (omega (arith, ltb-true b d (and_parts (eqb a c) (nat_lt b d) k).1, eqb-true b d p.1))
 ])
 
+-- in a sound configuration each key of a route, a link or a binding is there once
 pub keyed : (drivers : List DriverSpec) (c : Configuration) → IsSound drivers c → IsKeyed c
 keyed drivers c h = record {
   routes = apart_rising _ route_before (λ r s. pair_other r.driver r.addr s.driver s.addr) c.routes h.ordered.routes;
@@ -70,6 +71,7 @@ keyed drivers c h = record {
   binds = apart_rising _ bind_before (λ b e. pair_other b.driver b.addr e.driver e.addr) c.binds h.ordered.binds;
 }
 
+-- the links of a sound configuration are sound, and their upper drivers are there
 pub rooted : (drivers : List DriverSpec) (c : Configuration) → IsSound drivers c → AreRooted drivers c.links
 rooted drivers c h = record { sound = h.links; below = each_map (λ l. IsKnown drivers l.ctl) _ c.links (λ l p. p.0) (each_of_all _ c.links h.known.controlling) }
 
@@ -161,9 +163,11 @@ turns_bind : (drivers : List DriverSpec) (c : Configuration) (driver addr minor 
     → IfAccepted (λ d r. TurnsOnly drivers c d (asks_up c driver addr)) (done_outcome drivers c (bound c driver addr minor))
 turns_bind drivers c driver addr minor k x free = turns_done drivers c (bound c driver addr minor) (asks_up c driver addr) (turns_bound drivers c driver addr minor) (keyed_bound c driver addr minor free k) x
 
+-- a stream that has hung up has done so with one more that has
 pub hung_more : (s t : StreamId) (hungs : List StreamId) → is_hung hungs t ≡ true → is_hung (with_hung s hungs) t ≡ true
 hung_more s t hungs h = elim (cases_Bool (is_hung hungs s)) [ inl y ↦ rw y h | inr n ↦ rw n (any_placed (λ u. same_stream u t) stream_before hungs s h) ]
 
+-- a stream that hangs up turns no place
 pub more_hung_turn_none : (drivers : List DriverSpec) (c : Configuration) (s : StreamId) → TurnsOnly drivers c (record c { hungs = with_hung s c.hungs }) nowhere
 more_hung_turn_none drivers c s = fewer_turns drivers c (record c { hungs = with_hung s c.hungs }) (record { routes = λ d a. inl refl; ids = λ i. inl refl; lowers = λ x. inl refl; binds = λ d a. inl refl; hungs = λ i l e h. hung_more s l.lower c.hungs h }) (λ r. inl refl)
 
@@ -188,6 +192,7 @@ at_stream drivers c (Err e) t f h = record { holds = tt }
 turns_link : (drivers : List DriverSpec) (c : Configuration) (process fd arg : ℕ) (k : LinkKind) → IsSound drivers c → IfAccepted (λ d r. TurnsOnly drivers c d (of_stream (stream_of c process arg) (λ s. same_place (read_side s)))) (link_outcome drivers c process fd arg k)
 turns_link drivers c process fd arg k h = search (after_ok, at_stream drivers c (stream_of c process arg) (λ s. same_place (read_side s)), after_test, at_ok, turns_new_link, rules) depth 24
 
+-- an accepted command, from a sound configuration, turns no place but those of `turned_by`
 pub turns : (drivers : List DriverSpec) (c : Configuration) (process : ℕ) (k : Command) → IsSound drivers c → IfAccepted (λ d r. TurnsOnly drivers c d (turned_by drivers c process k)) (outcome drivers c process k)
 turns drivers c process (command.OpenClone name) h = search (after_ok, at_ok, turns_with_fd, rules) depth 20
 turns drivers c process (command.OpenMinor name minor) h = search (after_test, after_ok, at_ok, turns_with_fd, rules) depth 20
@@ -209,9 +214,11 @@ turns drivers c process (command.Inject name minor addr bytes) h = search (at_st
 turns drivers c process (command.Transmit name minor) h = search (at_stream drivers c (live_leaf drivers c name minor) (λ s. same_place (write_side s)), turns_received, rules) depth 20
 turns drivers c process (command.Hangup name minor) h = let k = keyed drivers c h in let x = rooted drivers c h in search (after_ok, turns_hangup, rules) depth 20
 
+-- what `IfAccepted` says of the configuration of an accepted outcome, `IfOk` says of it too
 pub if_ok : (P : Configuration → Type 0) (o : Outcome) → IfAccepted (λ d r. P d) o → IfOk o (λ x. P x.0)
 if_ok P (Ok x) h = h.holds
 if_ok P (Err f) h = tt
 
+-- the same, as the laws say it: an accepted command turns no place but those of `turned_by`
 pub outcomes_turn : (drivers : List DriverSpec) (c : Configuration) (process : ℕ) (k : Command) → IsSound drivers c → IfOk (outcome drivers c process k) (λ x. TurnsOnly drivers c x.0 (turned_by drivers c process k))
 outcomes_turn drivers c process k h = if_ok (λ d. TurnsOnly drivers c d (turned_by drivers c process k)) (outcome drivers c process k) (turns drivers c process k h)

@@ -79,6 +79,7 @@ stays_by drivers c d p addr h =
 
 -- ---- lists with fewer elements find the same, or none
 
+-- a search finds the same as before, or nothing
 abbrev pub Finds : {X : Type 0} → Option X → Option X → Type 0
 Finds {X} o n = (n ≡ o) ⊎ (n ≡ None)
 
@@ -87,6 +88,7 @@ abbrev pub Apart : {X : Type 0} → (X → X → Type 0) → List X → Type 0
 Apart R [] = Unit {0}
 Apart R (x ∷ xs) = Each (R x) xs × Apart R xs
 
+-- where each element is related so to all later ones, it is so among those that a filter leaves
 pub apart_filter : {X : Type 0} (R : X → X → Type 0) (keep : X → Bool) (xs : List X) → Apart R xs → Apart R (filter keep xs)
 apart_filter R keep [] h = tt
 apart_filter R keep (x ∷ xs) h = elim (cases_Bool (keep x)) [ inl t ↦ rw t (each_filter (R x) keep xs h.0, apart_filter R keep xs h.1) | inr f ↦ rw f (apart_filter R keep xs h.1) ]
@@ -99,6 +101,7 @@ each_then : {X : Type 0} (P Q : X → Type 0) (xs : List X) → ((x : X) → P x
 each_then P Q [] f h = tt
 each_then P Q (x ∷ xs) f h = (f x h.0, each_then P Q xs f h.1)
 
+-- where no two elements pass a test, a search by it finds the same after a filter, or nothing
 pub finds_kept : {X : Type 0} (R : X → X → Type 0) (t keep : X → Bool) (xs : List X) → ((x y : X) → t x ≡ true → R x y → t y ≡ false) → Apart R xs → Finds (find t xs) (find t (filter keep xs))
 finds_kept R t keep [] f h = inl refl
 finds_kept R t keep (x ∷ xs) f h = elim (cases_Bool (t x)) [
@@ -165,6 +168,7 @@ next_of_finds drivers c d p o n h (inl e) = rw e (by o) where
   by None = inl refl
   by (Some m) = stays_by drivers c d p m.addr (next_finds drivers c d p.stream m.addr p.side h)
 
+-- a change after which each key, and each first message, is found as before or not at all turns no place
 pub fewer_turns : (drivers : List DriverSpec) (c d : Configuration) → Fewer c d → ((r : Place) → Finds (first_message c.flow r) (first_message d.flow r)) → TurnsOnly drivers c d nowhere
 fewer_turns drivers c d h f r n = next_of_finds drivers c d r (first_message c.flow r) (first_message d.flow r) h (f r)
 
@@ -182,6 +186,7 @@ two a b c d x y h k = false_from_ne_true _ (λ t. let p = and_parts (eqb a x) (e
 one : (a b x : ℕ) → eqb a x ≡ true → eqb a b ≡ false → eqb b x ≡ false
 one a b x h k = false_from_ne_true _ (λ t. both_ways (eqb a b) k (eq-eqb a b (eqb-true a x h ∙ sym (eqb-true b x t))))
 
+-- of filtered routes the one for a driver and an address is found as before, or none
 pub routes_find : (keep : Route → Bool) (c : Configuration) (driver addr : ℕ) → IsKeyed c → Finds (find (λ r. eqb r.driver driver && eqb r.addr addr) c.routes) (find (λ r. eqb r.driver driver && eqb r.addr addr) (filter keep c.routes))
 routes_find keep c driver addr h = finds_kept _ _ keep c.routes (λ x y t r. two x.driver x.addr y.driver y.addr driver addr t r) h.routes
 
@@ -191,9 +196,11 @@ ids_find keep c id h = finds_kept _ _ keep c.links (λ x y t r. one x.id y.id id
 lowers_find : (keep : Link → Bool) (c : Configuration) (s : StreamId) → IsKeyed c → Finds (find (λ l. same_stream l.lower s) c.links) (find (λ l. same_stream l.lower s) (filter keep c.links))
 lowers_find keep c s h = finds_kept _ _ keep c.links (λ x y t r. two x.lower.driver x.lower.minor y.lower.driver y.lower.minor s.driver s.minor t r) h.lowers
 
+-- of filtered bindings the one for a driver and an address is found as before, or none
 pub binds_find : (keep : Binding → Bool) (c : Configuration) (driver addr : ℕ) → IsKeyed c → Finds (find (λ b. eqb b.driver driver && eqb b.addr addr) c.binds) (find (λ b. eqb b.driver driver && eqb b.addr addr) (filter keep c.binds))
 binds_find keep c driver addr h = finds_kept _ _ keep c.binds (λ x y t r. two x.driver x.addr y.driver y.addr driver addr t r) h.binds
 
+-- after places are emptied each place has its first message as before, or none
 pub first_emptied : (flow : List QueuedMessage) (goes : Place → Bool) (r : Place) → Finds (first_message flow r) (first_message (filter (λ h. not (goes h.place)) flow) r)
 first_emptied flow goes r = elim (cases_Bool (goes r)) [
   | inl t ↦ let e : queue (filter (λ h. not (goes h.place)) flow) r ≡ [] = emptied_queue flow goes r ∙ rw t refl in
@@ -202,15 +209,18 @@ first_emptied flow goes r = elim (cases_Bool (goes r)) [
       inl (front_is (filter (λ h. not (goes h.place)) flow) r ∙ (ap (λ (ms : List Message). slice_get ms 0) e ∙ sym (front_is flow r)))
 ]
 
+-- places that are emptied turn none
 pub turns_emptied : (drivers : List DriverSpec) (c : Configuration) (goes : Place → Bool) → TurnsOnly drivers c (without_queues_at c goes) nowhere
 turns_emptied drivers c goes = fewer_turns drivers c (without_queues_at c goes) (record { routes = λ d a. inl refl; ids = λ i. inl refl; lowers = λ s. inl refl; binds = λ d a. inl refl; hungs = λ i l e k. k }) (first_emptied c.flow goes)
 
+-- links that are removed, with their routes and their lower streams' read sides, turn no place
 pub turns_removed : (drivers : List DriverSpec) (c : Configuration) (goes : Link → Bool) → IsKeyed c → TurnsOnly drivers c (without_links c goes) nowhere
 turns_removed drivers c goes h = fewer_turns drivers c (without_links c goes) (record { routes = λ d a. routes_find _ c d a h; ids = λ i. ids_find _ c i h; lowers = λ s. lowers_find _ c s h; binds = λ d a. inl refl; hungs = λ i l e k. k }) (first_emptied c.flow _)
 
 abbrev stream_of_parts : ℕ → ℕ → StreamId
 stream_of_parts driver minor = record { driver = driver; minor = minor }
 
+-- streams that the test says are the same are equal
 pub same_stream_is : (s t : StreamId) → same_stream s t ≡ true → s ≡ t
 same_stream_is s t e =
     let p = and_parts (eqb s.driver t.driver) (eqb s.minor t.minor) e in
@@ -222,9 +232,11 @@ turns_dead drivers c h lowers = fewer_turns drivers c (without_dead_streams driv
   stays : (l : Link) → exists drivers c l.lower ≡ true → is_hung c.hungs l.lower ≡ true → is_hung (filter (λ s. exists drivers c s) c.hungs) l.lower ≡ true
   stays l e k = any_filter (λ t. same_stream t l.lower) (λ s. exists drivers c s) c.hungs (λ t s. ap (exists drivers c) (same_stream_is t l.lower s) ∙ e) ∙ k
 
+-- where links are removed, each key is still there once
 pub keyed_removed : (c : Configuration) (goes : Link → Bool) → IsKeyed c → IsKeyed (without_links c goes)
 keyed_removed c goes h = record { routes = apart_filter _ _ c.routes h.routes; ids = apart_filter _ _ c.links h.ids; lowers = apart_filter _ _ c.links h.lowers; binds = h.binds }
 
+-- a change that turns some places, and then one that turns none, together turn no others
 pub turns_then : (drivers : List DriverSpec) (c d e : Configuration) (t : Place → Bool) → TurnsOnly drivers c d t → TurnsOnly drivers d e nowhere → TurnsOnly drivers c e t
 turns_then drivers c d e t h k r n = by (h r n) (k r refl) where
   by : Stays (next_of_first drivers c r) (next_of_first drivers d r) → Stays (next_of_first drivers d r) (next_of_first drivers e r) → Stays (next_of_first drivers c r) (next_of_first drivers e r)
@@ -237,9 +249,11 @@ pub record AreRooted (drivers : List DriverSpec) (links : List Link) : Type 0 wh
   pub sound : AreLinksSound links
   pub below : Each (λ l. l.ctl.driver < length drivers) links
 
+-- sound links with upper drivers that are there stay so when they are filtered
 pub rooted_filter : (drivers : List DriverSpec) (links : List Link) (test : Link → Bool) → AreRooted drivers links → AreRooted drivers (filter test links)
 rooted_filter drivers links test h = record { sound = sound_filter test links h.sound; below = each_filter _ test links h.below }
 
+-- a sweep turns no place
 pub turns_swept : (drivers : List DriverSpec) (c : Configuration) → IsKeyed c → AreRooted drivers c.links → TurnsOnly drivers c (after_sweep drivers c) nowhere
 turns_swept drivers c h r = turns_then drivers c (without_links c loose) (after_sweep drivers c) nowhere (turns_removed drivers c loose h) (turns_dead drivers (without_links c loose) (keyed_removed c loose h) (λ test l e. lower_exists drivers (without_links c loose) test l keeps e)) where
   loose : Link → Bool
@@ -253,9 +267,11 @@ turns_swept drivers c h r = turns_then drivers c (without_links c loose) (after_
 
 -- ---- a message arrives, the first one leaves
 
+-- a first message that leaves turns no place but its own
 pub turns_left : (drivers : List DriverSpec) (c : Configuration) (p : Place) → TurnsOnly drivers c (after_leaving drivers c p) (same_place p)
 turns_left drivers c p r f = inl (next_of_same drivers c (after_leaving drivers c p) r refl refl refl refl (first_left c.flow p r f))
 
+-- a message that arrives turns no place but its own, and that only if it was empty
 pub turns_arrived : (drivers : List DriverSpec) (c : Configuration) (q : Place) (m : Message) → IsInOrder c.flow → TurnsOnly drivers c (after_arrival drivers c q m) (is_first_at c q)
 turns_arrived drivers c q m o r f = inl (next_of_same drivers c (after_arrival drivers c q m) r refl refl refl refl (first_arrived c.flow q r m o f))
 
@@ -275,6 +291,7 @@ find_filter t keep (x ∷ xs) f = elim (cases_Bool (t x)) [
   | inr n ↦ elim (cases_Bool (keep x)) [ inl k ↦ rw (k, n) (find_filter t keep xs f) | inr k ↦ rw (k, n) (find_filter t keep xs f) ]
 ]
 
+-- with a route of the driver for the address, which names this link, in place of the one that it had
 abbrev pub routed : Configuration → ℕ → ℕ → ℕ → Configuration
 routed c driver addr id = record c { routes = with_inserted route_before (filter (λ r. not (eqb r.driver driver && eqb r.addr addr)) c.routes) (record { driver = driver; addr = addr; id = id }) }
 
@@ -289,6 +306,7 @@ find_routed c driver addr id d a h = find_placed (λ r. eqb r.driver d && eqb r.
       apart : (r : Route) → (eqb r.driver d && eqb r.addr a) ≡ true → (eqb r.driver driver && eqb r.addr addr) ≡ false
       apart r t = let p = and_parts (eqb r.driver d) (eqb r.addr a) t in rw (eqb-true r.driver d p.0, eqb-true r.addr a p.1) h
 
+-- a route turns no place but the driver's write sides whose first message has its address
 pub turns_routed : (drivers : List DriverSpec) (c : Configuration) (driver addr id : ℕ) → TurnsOnly drivers c (routed c driver addr id) (asks_down c driver addr)
 turns_routed drivers c driver addr id r f = by (first_message c.flow r) f where
   at : (a : ℕ) (x : Side) → ((same_side x side.Write && eqb r.stream.driver driver) && eqb a addr) ≡ false → Stays (next_by drivers c r.stream a x) (next_by drivers (routed c driver addr id) r.stream a x)
@@ -301,9 +319,11 @@ turns_routed drivers c driver addr id r f = by (first_message c.flow r) f where
 
 -- ---- a binding
 
+-- with a binding of the driver's minor to the address
 abbrev pub bound : Configuration → ℕ → ℕ → ℕ → Configuration
 bound c driver addr minor = record c { binds = with_inserted bind_before c.binds (record { driver = driver; addr = addr; minor = minor }) }
 
+-- a binding turns no place but the read sides below its driver whose first message has its address
 pub turns_bound : (drivers : List DriverSpec) (c : Configuration) (driver addr minor : ℕ) → TurnsOnly drivers c (bound c driver addr minor) (asks_up c driver addr)
 turns_bound drivers c driver addr minor r f = by (first_message c.flow r) f where
   over : (a : ℕ) (o : Option Link) → find (λ l. same_stream l.lower r.stream) c.links ≡ o → (list_any (λ l. same_stream l.lower r.stream && eqb l.ctl.driver driver) c.links && eqb a addr) ≡ false
@@ -332,6 +352,7 @@ find_push_found : {X : Type 0} (t : X → Bool) (xs : List X) (x : X) → list_a
 find_push_found t [] x h = absurd (false≢true h)
 find_push_found t (y ∷ ys) x h = elim (cases_Bool (t y)) [ inl k ↦ rw k refl | inr k ↦ rw k (find_push_found t ys x (rw k at h)) ]
 
+-- a link turns no place but the read side of its lower stream
 pub turns_linked : (drivers : List DriverSpec) (c : Configuration) (l : Link) (next : ℕ) → AreRoutesSound drivers c → TurnsOnly drivers c (record c { links = c.links ++ l ∷ []; next_id = next }) (same_place (record { stream = l.lower; side = side.Read }))
 turns_linked drivers c l next sound r f = by (first_message c.flow r) where
   lead : Each (λ r. list_any (λ l. eqb l.id r.id && eqb l.ctl.driver r.driver) c.links ≡ true) c.routes
@@ -354,6 +375,7 @@ turns_linked drivers c l next sound r f = by (first_message c.flow r) where
 
 -- ---- what else changes turns none
 
+-- where links, routes, bindings, hung-up streams and the flow are as before, no place is turned
 pub next_of_others : (drivers : List DriverSpec) (c d : Configuration) → d.links ≡ c.links → d.routes ≡ c.routes → d.binds ≡ c.binds → d.hungs ≡ c.hungs → d.flow ≡ c.flow → TurnsOnly drivers c d nowhere
 next_of_others drivers c d l r b u f p n = inl (next_of_same drivers c d p l r b u (ap (λ (hs : List QueuedMessage). first_message hs p) f))
 
@@ -366,6 +388,7 @@ turns_both drivers c d e s t h k r n = let o = or_parts (s r) (t r) n in by (h r
   by (inl y) (inl z) = inl (z ∙ y)
   by (inr y) (inl z) = inr (z ∙ y)
 
+-- a move turns no place but the one that it takes from, and the one that it goes to, if that was empty
 pub turns_moved : (drivers : List DriverSpec) (c : Configuration) (p q : Place) → IsInOrder c.flow → next_open_place drivers c p ≡ Some q → TurnsOnly drivers c (after_move drivers c p) (both (same_place p) (is_first_at (after_leaving drivers c p) q))
 turns_moved drivers c p q o w =
     let n = open_next drivers c p q w in
@@ -388,6 +411,7 @@ one_driver (k ∷ ks) id driver l h e a = elim (cases_Bool (eqb k.id id)) [
   | inr f ↦ one_driver ks id driver l h.1 (rw f at e) (rw f at a)
 ]
 
+-- a place whose first message goes next to another is one of those that can feed that
 pub feeders : (drivers : List DriverSpec) (c : Configuration) (q r : Place) → AreRoutesSound drivers c → IsKeyed c → feeds drivers c (same_place q) r ≡ true → can_feed c q r ≡ true
 feeders drivers c q r sound keyed h = by (first_message c.flow r) h where
   lead : Each (λ r. list_any (λ l. eqb l.id r.id && eqb l.ctl.driver r.driver) c.links ≡ true) c.routes
@@ -449,15 +473,18 @@ feeders drivers c q r sound keyed h = by (first_message c.flow r) h where
 
 -- ---- a move frees one place
 
+-- where a message leaves a place, each other place is as full as it was
 pub left_keeps : (drivers : List DriverSpec) (c : Configuration) (p q : Place) → same_place p q ≡ false → is_full (after_leaving drivers c p) q ≡ is_full c q
 left_keeps drivers c p q f = marked_full p q _ c.fulls ∙ rw f refl
 
+-- where a message arrives, each place that was full still is
 pub arrived_more : (drivers : List DriverSpec) (c : Configuration) (p q : Place) (m : Message) → is_full c q ≡ true → is_full (after_arrival drivers c p m) q ≡ true
 arrived_more drivers c p q m h = marked_full p q _ c.fulls ∙ elim (cases_Bool (same_place p q)) [
   | inl t ↦ rw t (or_left _ _ (ap (is_full c) (same_place_is p q t) ∙ h))
   | inr f ↦ rw f h
 ]
 
+-- a move frees no place but the one that it takes from
 pub moved_frees : (drivers : List DriverSpec) (c : Configuration) (p q : Place) → is_freed c (after_move drivers c p) q ≡ true → same_place p q ≡ true
 moved_frees drivers c p q h = by (next_open_place drivers c p) (first_message c.flow p) h where
   no : (b : Bool) → (b && not b) ≡ true → same_place p q ≡ true

@@ -69,6 +69,7 @@ mux_below drivers n e = elim (cases_lt n (length drivers)) [
   | inr le ↦ let past = slice_get_past drivers n le in let k : false ≡ true = rw past at e in absurd (false≢true k)
 ]
 
+-- each part of a configuration has a stream, and each route a driver, that the drivers have
 pub record EachKnown (drivers : List DriverSpec) (c : Configuration) : Type 0 where
   pub fds : Each (λ d. IsKnown drivers d.stream) c.fds
   pub links : Each (λ l. IsKnown drivers l.ctl × IsKnown drivers l.lower) c.links
@@ -78,6 +79,7 @@ pub record EachKnown (drivers : List DriverSpec) (c : Configuration) : Type 0 wh
   pub fulls : Each (λ p. IsKnown drivers p.stream) c.fulls
   pub hungs : Each (λ s. IsKnown drivers s) c.hungs
 
+-- in a swept configuration, where descriptors, links and routes have known streams and drivers, so has each part
 pub each_known : (drivers : List DriverSpec) (c : Configuration) → AreNamed drivers c → AreRouted drivers c → IsSwept drivers c → EachKnown drivers c
 each_known drivers c named routed swept_ = record {
   fds = named.fds;
@@ -89,6 +91,7 @@ each_known drivers c named routed swept_ = record {
   hungs = each_of_list_all _ _ c.hungs (λ s e. standing_known drivers c (length drivers) s named e) swept_.hungs;
 }
 
+-- what `EachKnown` says of each part by recursion, `AreStreamsKnown` says of it by index
 pub known_of_each : (drivers : List DriverSpec) (c : Configuration) → EachKnown drivers c → AreStreamsKnown drivers c
 known_of_each drivers c h = record {
   fds = all_of_each _ c.fds h.fds;
@@ -207,6 +210,7 @@ one_held drivers h x y lt lt2 k = held_made x.place x.message y.place y.message
 
 -- ---- and the view that of one configuration
 
+-- configurations of known streams that have one view, over drivers that can be had, are the same
 pub one_configuration : (drivers : List DriverSpec) (c d : Configuration) → IsDriverList drivers → EachKnown drivers c → EachKnown drivers d → view drivers c ≡ view drivers d → c ≡ d
 one_configuration drivers c d h kc kd e = configuration_made c.fds d.fds c.links d.links c.next_id d.next_id c.binds d.binds c.routes d.routes c.flow d.flow c.fulls d.fulls c.next_serial d.next_serial c.hungs d.hungs
     (map_one (view_of_fd drivers) (λ x. IsKnown drivers x.stream) c.fds d.fds (one_fd drivers h) kc.fds kd.fds (ap (λ (v : ConfigView). v.fds) e))

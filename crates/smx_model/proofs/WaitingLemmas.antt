@@ -26,6 +26,7 @@ abbrev pub next_by : List DriverSpec → Configuration → StreamId → ℕ → 
 next_by drivers c s addr side.Write = if is_mux drivers s.driver then place_below c.links c.routes c.hungs s.driver addr else None
 next_by drivers c s addr side.Read = place_above c.links c.binds s addr
 
+-- the next place from a place is the one from its stream and its side
 pub next_is : (drivers : List DriverSpec) (c : Configuration) (p : Place) (addr : ℕ) → next_place drivers c p addr ≡ next_by drivers c p.stream addr p.side
 next_is drivers c p addr = by p.side refl
   where
@@ -68,6 +69,7 @@ waits_now c wanted (Some q) h = elim (cases_Bool (is_full c q)) [
     by true = refl
     by false = refl
 
+-- a place is movable just where its first message has a next place that isn't full
 pub movable_by : (drivers : List DriverSpec) (c : Configuration) (p : Place) → is_movable drivers c p ≡ is_some (if_open c (next_of_first drivers c p))
 movable_by drivers c p = by (first_message c.flow p) refl
   where

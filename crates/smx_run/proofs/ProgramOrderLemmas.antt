@@ -59,6 +59,7 @@ picked_at (suc k) n (cs ∷ programs) =
     let next : suc k + n ≡ k + (n + 1) = omega arith in
     picked_more (suc k + n) (calls_of n cs) (calls_from (n + 1) programs) ∙ rw (picked_other (suc k + n) n cs other) (ap (λ (p : ℕ). picked p (calls_from (n + 1) programs)) next ∙ picked_at k (n + 1) programs)
 
+-- a history whose calls are those of all programs, one program after the other, holds the programs
 pub holds : (es : List Entry) (programs : List (List Command)) → map call_of es ≡ calls_from 0 programs → HoldsPrograms es programs
 holds es programs e p =
     let here : p + 0 ≡ p = omega arith in
@@ -66,6 +67,7 @@ holds es programs e p =
 
 -- ---- the report of a system that was asked all of it
 
+-- what is reported of a system that holds the programs is a report that is promised for them
 pub report_of : (programs : ProgramLists) (s : Recorded) (version : Version) (t : Report) → Reports s t → AreDropsAllowed s.history → s.drivers ≡ programs.drivers → HoldsPrograms s.history programs.programs
     → IsReportOf programs (transcript_of version t)
 report_of programs s version t h drops same holds = record {

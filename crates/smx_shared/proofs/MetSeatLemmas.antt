@@ -16,6 +16,7 @@ use Rattle.smx_shared.proofs.SeatListLemmas.{at_end}
 
 -- ---- lists of them
 
+-- if what the met seats of two lists knew is so of a system, so it is for both lists together
 pub met_join : (s : Recorded) (xs ys : List MetSeat) → AreMetBy s xs → AreMetBy s ys → AreMetBy s (xs ++ ys)
 met_join s [] ys p q = q
 met_join s (x ∷ xs) ys p q = (p.0, met_join s xs ys p.1 q)
@@ -25,6 +26,7 @@ pub met_behind : (s : Recorded) (xs ys : List MetSeat) → AreMetBy s (xs ++ ys)
 met_behind s [] ys p = p
 met_behind s (x ∷ xs) ys p = met_behind s xs ys p.1
 
+-- if the processes of the seats in two lists are below a name, so they are in both lists together
 pub met_named_join : (n : ℕ) (xs ys : List MetSeat) → AreMetBelow n xs → AreMetBelow n ys → AreMetBelow n (xs ++ ys)
 met_named_join n [] ys p q = q
 met_named_join n (x ∷ xs) ys p q = (p.0, met_named_join n xs ys p.1 q)

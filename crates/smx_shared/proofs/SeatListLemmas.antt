@@ -77,6 +77,7 @@ same_turn (x ∷ xs) (suc i) (suc k) v w u at same e on = same_turn xs i k v w u
 pub holder_same : (views : List SeatView) (t : Turn) (id : ℕ) (v w : SeatView) → get_elem? views id ≡ some v → w.turn ≡ v.turn → HasHolder t views → HasHolder t (set views id w)
 holder_same views t id v w at same there j is = let h = there j is in same_turn views id j v w h.0 at same h.1 h.2
 
+-- the turn that is held is held by one seat
 pub held_same : (j k : ℕ) → held j ≡ held k → j ≡ k
 held_same j k e = cc
 

@@ -21,6 +21,7 @@ use Rattle.smx_shared.proofs.WordLemmas.{held_odd, free_even, front_and_bit}
 
 -- ---- growing
 
+-- a seat that has seen more, and then more than that, has seen more than at first, and else is the same
 pub grown_trans : (u v w : SeatView) → HasGrown u v → HasGrown v w → HasGrown u w
 grown_trans u v w p q = record {
   drivers = q.drivers ∙ p.drivers;
@@ -32,6 +33,7 @@ grown_trans u v w p q = record {
   seen = begins_trans u.seen v.seen w.seen p.seen q.seen;
 }
 
+-- a seat has seen as much as it has, and is the same
 pub grown_same : (v : SeatView) → HasGrown v v
 grown_same v = record {
   drivers = refl;
@@ -115,6 +117,7 @@ pub found_system : (m : Mine) (slot x : Slot) → HasTurn m slot → m.1 ≡ (0,
 unfolding slot_in
 found_system m slot x h at = ap slot_in (sym at ∙ h.has)
 
+-- the slot of a seat that has the turn is the first that is out with it
 pub has_slot : (m : Mine) (slot : Slot) → HasTurn m slot → m.1 ≡ (0, slot) ∷ rest m.1
 has_slot m slot h = h.has ∙ ap (λ (l : List (ℕ × Slot)). (0, slot) ∷ rest l) (sym h.has)
 
@@ -134,6 +137,7 @@ pub record IsReady (m m1 : Mine) (s : Recorded) (n : ℕ) : Type 0 where
   pub sound : IsSoundSystem (system_with m1.0.drivers m1.0.limit s.history)
   pub front : n ≡ front_of m1.0.drivers s.history
 
+-- a seat with the turn can give it back with a sound system in the slot to which its process alone has added
 pub ready : (m m1 : Mine) (s : Recorded) (n : ℕ) → HasTurn m None → m.0.named ≡ true → s.drivers ≡ m.0.drivers → s.limit ≡ m.0.limit → AddsFor m.0.process m.0.seen s.history
     → IsSoundSystem s → n ≡ front_of s.drivers s.history → m1 ≡ (m.0, (0, Some s) ∷ rest m.1) → IsReady m m1 s n
 ready m m1 s n h named drivers limit more sound front is =
@@ -194,12 +198,14 @@ answers v w s s' p command is known named process grown informed seen did =
           ∙ ap₂ (λ (xs ys : List Entry). xs ++ ys) (sym (known.own named)) (entries_mine v.process e (sym process));
     }
 
+-- where a call answers the entry that it added, the seat has seen that last, and has made it
 pub answers_if : (r : Result Entry ApplyFault) (v w : SeatView) (s s' : Recorded) (p : ℕ) (command : Command) → s ≡ system_of v → IsInformed v → v.named ≡ true → v.process ≡ p → HasGrown v w → IsInformed w → w.seen ≡ s'.history
     → IfOk r (λ e. e ≡ next_entry s p command) → OnOk r (s' ≡ with_entry s p command) → IfOk r (AnswersEntry (known_of v) (known_of w) command)
 answers_if (Ok e) v w s s' p command is known named process grown informed seen answer did =
     subst (AnswersEntry (known_of v) (known_of w) command) (sym answer) (answers v w s s' p command is known named process grown informed seen did)
 answers_if (Err f) v w s s' p command is known named process grown informed seen answer did = tt
 
+-- where a call is accepted, and added an entry that it doesn't answer, the seat has seen that last, and has made it
 pub adds_if : {A : Type 0} (r : Result A ApplyFault) (v w : SeatView) (s s' : Recorded) (p : ℕ) (command : Command) → s ≡ system_of v → IsInformed v → v.named ≡ true → v.process ≡ p → HasGrown v w → IsInformed w → w.seen ≡ s'.history
     → OnOk r (s' ≡ with_entry s p command) → OnOk r (AddsEntry (known_of v) (known_of w) command)
 adds_if (Ok x) v w s s' p command is known named process grown informed seen did =

@@ -86,6 +86,7 @@ each_kept u old new used names holds now was x =
       both : (a b c d : Bool) → a ≡ b → c ≡ d → (a && c) ≡ (b && d)
       both a b c d e f = cc
 
+-- where no number changes and the same streams have hung up, all of them exist and are left
 pub kept : MakeTheList → (u : Uses) (old new : StreamTable) → AreUsed u → AreNames u new → new.holds ≡ u.holds → new.hungs ≡ hungs_from 0 u.hungs → old.hungs ≡ new.hungs → LeavesHungs old new
 kept law u old new used names holds now was = made law old new (rw now (hungs_rise 0 u.hungs)) (rw (was, now) (hungs_rise 0 u.hungs)) (each_kept u old new used names holds now was)
 
@@ -93,6 +94,7 @@ kept law u old new used names holds now was = made law old new (rw now (hungs_ri
 each_same : (u v : Uses) (s : StreamId) (o h : ℕ) → AreSet u s o h (flag_at u.hungs s) v → (x : StreamId) → is_hung (hungs_from 0 v.hungs) x ≡ is_hung (hungs_from 0 u.hungs) x
 each_same u v s o h set x = flag_tells v.hungs x ∙ set.hungs_now x ∙ elim (cases_Bool (same_stream x s)) [ inl t ↦ rw t (ap (flag_at u.hungs) (sym (same_is x s t))) | inr f ↦ rw f refl ] ∙ sym (flag_tells u.hungs x)
 
+-- where the numbers of one stream change, and its flag doesn't, the same streams have hung up
 pub hung_same : MakeTheList → (u v : Uses) (s : StreamId) (o h : ℕ) → AreSet u s o h (flag_at u.hungs s) v → hungs_from 0 v.hungs ≡ hungs_from 0 u.hungs
 hung_same law u v s o h set = law.same (hungs_from 0 v.hungs) (hungs_from 0 u.hungs) (hungs_rise 0 v.hungs) (hungs_rise 0 u.hungs) (each_same u v s o h set)
 
@@ -106,12 +108,14 @@ hung_still law u v s o h set = hung_same law u v s o (h + 1) (subst (λ (b : Boo
 each_now : (u v : Uses) (s : StreamId) (o h : ℕ) → AreSet u s o h true v → (x : StreamId) → is_hung (hungs_from 0 v.hungs) x ≡ (same_stream x s || is_hung (hungs_from 0 u.hungs) x)
 each_now u v s o h set x = flag_tells v.hungs x ∙ set.hungs_now x ∙ elim (cases_Bool (same_stream x s)) [ inl t ↦ rw t refl | inr f ↦ rw f (sym (flag_tells u.hungs x)) ]
 
+-- where the flag of one stream is set, the same streams have hung up, and that one
 pub hung_now : MakeTheList → (u v : Uses) (s : StreamId) (o h : ℕ) → AreSet u s o h true v → hungs_from 0 v.hungs ≡ with_hung s (hungs_from 0 u.hungs)
 hung_now law u v s o h set = law.same (hungs_from 0 v.hungs) (with_hung s (hungs_from 0 u.hungs)) (hungs_rise 0 v.hungs) (law.more s (hungs_from 0 u.hungs) (hungs_rise 0 u.hungs))
     (λ x. each_now u v s o h set x ∙ ap (λ (b : Bool). b || is_hung (hungs_from 0 u.hungs) x) (turned x s) ∙ sym (law.each_of_more s x (hungs_from 0 u.hungs))) where
       turned : (x y : StreamId) → same_stream x y ≡ same_stream y x
       turned x y = grind (arith, nat_tests)
 
+-- the streams whose flags are set, each with some descriptor or hold, are in order and exist
 pub are_sound : (u : Uses) (t : StreamTable) → AreUsed u → AreNames u t → t.holds ≡ u.holds → t.hungs ≡ hungs_from 0 u.hungs → AreHungsSound t
 are_sound u t used names holds hungs = record {
   rise = rw hungs (hungs_rise 0 u.hungs);
@@ -154,5 +158,6 @@ twice p q (x ∷ xs) h = elim (cases_Bool (p x)) [
   | inr f ↦ elim (cases_Bool (q x)) [ inl u ↦ rw (u, f) (twice p q xs h) | inr u ↦ rw (u, f) (twice p q xs h) ]
 ]
 
+-- where one descriptor more is closed, those of the first hung-up streams are left that exist then
 pub left_again : (old new : StreamTable) (p n : ℕ) (was first : List StreamId) → HasOneLess old p n new → was ≡ filter (exists old) first → filter (exists new) was ≡ filter (exists new) first
 left_again old new p n was first less e = ap (filter (exists new)) e ∙ twice (exists new) (exists old) first (λ x. exists_before old new p n x less)

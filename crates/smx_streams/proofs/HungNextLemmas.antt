@@ -111,5 +111,6 @@ none_left minors d n (x ∷ xs) past h =
     let f : not (pair_before x.driver x.minor d n) ≡ false = grind (arith, nat_tests) in
     rw f (none_left minors d n xs past (others_in_range minors x xs h))
 
+-- from a driver on that isn't there, there are no streams
 pub no_driver_left : (minors : List ℕ) (d n : ℕ) (xs : List StreamId) → None ≡ slice_get minors d → AreInRange minors xs → streams_from d n xs ≡ []
 no_driver_left minors d n xs none h = none_left minors d n xs (past_last minors d none) h

@@ -9,6 +9,7 @@ use Rattle.smx_model.specs.Ordered.{ComesBefore, IsRising}
 use Rattle.smx_streams.specs.HungRows.{flag_at, hung_from, hungs_from}
 use Rattle.smx_streams.proofs.ListLemmas.{comes_both}
 
+-- the stream of a driver and a minor
 abbrev pub stream : ℕ → ℕ → StreamId
 stream d m = record { driver = d; minor = m }
 
@@ -111,6 +112,7 @@ rising_row d n (true ∷ flags) rest h after = (comes_both stream_before (stream
   next : (d n : ℕ) → stream_before (stream d n) (stream d (n + 1)) ≡ true
   next d n = grind (arith, nat_tests)
 
+-- the streams whose flags are set are in order
 pub hungs_rise : (d : ℕ) (rows : List (List Bool)) → IsRising stream_before (hungs_from d rows)
 hungs_rise d [] = tt
 hungs_rise d (row ∷ rows) = rising_row d 0 row (hungs_from (d + 1) rows) (hungs_rise (d + 1) rows) (λ m. later_rows d m (d + 1) rows (omega arith))

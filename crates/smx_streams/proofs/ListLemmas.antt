@@ -6,10 +6,13 @@ use Rattle.std.proofs.lemmas.Bool.{cases_Bool}
 use Rattle.smx_model.specs.Ordered.{ComesBefore, with_inserted}
 
 -- a search that ends in the first part, or goes on in the second
+
+-- what a search finds in the first of two lists it finds in both together
 pub find_front : {X : Type 0} (test : X → Bool) (xs ys : List X) (x : X) → find test xs ≡ Some x → find test (xs ++ ys) ≡ Some x
 find_front test [] ys x h = absurd cc
 find_front test (y ∷ xs) ys x h = elim (cases_Bool (test y)) [ inl t ↦ rw t (rw t at h) | inr f ↦ rw f (find_front test xs ys x (rw f at h)) ]
 
+-- a search that finds nothing in the first of two lists finds what it finds in the second
 pub find_past : {X : Type 0} (test : X → Bool) (xs ys : List X) → find test xs ≡ None → find test (xs ++ ys) ≡ find test ys
 find_past test [] ys h = refl
 find_past test (y ∷ xs) ys h = elim (cases_Bool (test y)) [ inl t ↦ let k : Some y ≡ None = rw t at h in absurd cc | inr f ↦ rw f (find_past test xs ys (rw f at h)) ]
@@ -27,6 +30,7 @@ none_goes test (x ∷ xs) h = elim (cases_Bool (test x)) [
   | inr f ↦ rw f (ap (λ ys. x ∷ ys) (none_goes test xs (rw f at h)))
 ]
 
+-- a filter of two lists, one after the other, leaves what it leaves of each
 pub filter_both : {X : Type 0} (test : X → Bool) (xs ys : List X) → filter test (xs ++ ys) ≡ filter test xs ++ filter test ys
 filter_both test [] ys = refl
 filter_both test (x ∷ xs) ys = elim (cases_Bool (test x)) [ inl t ↦ rw t (ap (λ zs. x ∷ zs) (filter_both test xs ys)) | inr f ↦ rw f (filter_both test xs ys) ]
@@ -41,6 +45,7 @@ pub inserted_first : {X : Type 0} (before : X → X → Bool) (x : X) (ys : List
 inserted_first before x [] h = refl
 inserted_first before x (y ∷ ys) h = rw h.0 refl
 
+-- so many times the same, with one more at the end, is once more the same
 pub replicate_push : {X : Type 0} (n : ℕ) (x : X) → replicate n x ++ x ∷ [] ≡ replicate (suc n) x
 replicate_push zero x = refl
 replicate_push (suc n) x = ap (λ xs. x ∷ xs) (replicate_push n x)

@@ -143,6 +143,7 @@ known_alone grid old s key whole there k q differs is = elim (cases_Bool (same_s
   | inr f ↦ f
 ]
 
+-- a record that is put back, and counts some descriptor or hold, sets the numbers of its stream alone
 pub put_back_some : (grid : Grid) (old : Slab Record) (key : ℕ) (r : Record) (new : Slab Record) → AreRecords grid old → key_at grid r.stream ≡ Some key → 0 < r.opens + r.holds → Updates old new key (Some r) → IsSet grid old r grid new
 put_back_some grid old key r new whole there used slots =
     let change : IsChange grid old r.stream key (Some key) (Some r) grid new = record {
@@ -153,6 +154,7 @@ put_back_some grid old key r new whole there used slots =
     } in
     record { whole = is_set_some grid old key r grid new whole whole.few used change; set = numbers_set grid old r key (Some key) (Some r) grid new change (ap opens_of slots.changed) (ap holds_of slots.changed) (ap hung_of slots.changed ∙ flag_of_used r used) refl }
 
+-- where a record that counts nothing goes with its key, the numbers of its stream alone are set, to 0
 pub put_back_none : (grid : Grid) (old : Slab Record) (key : ℕ) (r : Record) (new_grid : Grid) (new : Slab Record) → AreRecords grid old → key_at grid r.stream ≡ Some key → r.opens ≡ 0 → r.holds ≡ 0 → Updates old new key None
     → ((x : StreamId) → key_at new_grid x ≡ (if same_stream x r.stream then None else key_at grid x)) → (uses_of new_grid new).minors ≡ (uses_of grid old).minors → IsSet grid old r new_grid new
 put_back_none grid old key r new_grid new whole there opens holds slots keys minors =
@@ -166,6 +168,7 @@ put_back_none grid old key r new_grid new whole there opens holds slots keys min
 
 -- where it had none
 
+-- a record that is new under a free key, and counts some descriptor or hold, sets the numbers of its stream alone
 pub put_new : (grid : Grid) (old : Slab Record) (key : ℕ) (r : Record) (new_grid : Grid) (new : Slab Record) → AreRecords grid old → key_at grid r.stream ≡ None → get old key ≡ None → 0 < r.opens + r.holds → Updates old new key (Some r)
     → ((x : StreamId) → key_at new_grid x ≡ (if same_stream x r.stream then Some key else key_at grid x)) → (uses_of new_grid new).minors ≡ (uses_of grid old).minors → IsSet grid old r new_grid new
 put_new grid old key r new_grid new whole none vacant used slots keys minors =
@@ -200,6 +203,7 @@ few_minors grid records whole = omega (arith, whole.few, length-map grid length)
 
 -- no records
 
+-- where there are no keys and no records, each key leads to its record, and each record has its key
 pub none_recorded : (minors : List ℕ) (records : Slab Record) → length minors ≤ MAX_DRIVERS → ((k : ℕ) → get records k ≡ None) → AreRecords (map (λ n. replicate n None) minors) records
 none_recorded minors records few none = record {
   few = let rows : ℕ → List (Option ℕ) = λ n. replicate n None in omega (arith, few, length-map minors rows);
@@ -207,12 +211,15 @@ none_recorded minors records few none = record {
   recorded = λ key r is. let no : ◌≡◌ {A = Option Record} None (Some r) = sym (none key) ∙ is in absurd cc;
 }
 
+-- where there are no keys, no stream has a descriptor
 pub no_opens : (minors : List ℕ) (records : Slab Record) (s : StreamId) → number_at (uses_of (map (λ n. replicate n None) minors) records).opens s ≡ 0
 no_opens minors records s = opens_at (map (λ n. replicate n None) minors) records s ∙ ap (λ o. opens_of (record_of_key records o)) (no_keys minors s)
 
+-- where there are no keys, no stream has a hold
 pub no_holds : (minors : List ℕ) (records : Slab Record) (s : StreamId) → number_at (uses_of (map (λ n. replicate n None) minors) records).holds s ≡ 0
 no_holds minors records s = holds_at (map (λ n. replicate n None) minors) records s ∙ ap (λ o. holds_of (record_of_key records o)) (no_keys minors s)
 
+-- where there are no keys, no stream has hung up
 pub no_hungs : (minors : List ℕ) (records : Slab Record) (s : StreamId) → flag_at (uses_of (map (λ n. replicate n None) minors) records).hungs s ≡ false
 no_hungs minors records s = hungs_at (map (λ n. replicate n None) minors) records s ∙ ap (λ o. hung_of (record_of_key records o)) (no_keys minors s)
 
@@ -224,7 +231,6 @@ hung_is_used grid records s whole h = rw (opens_at grid records s, holds_at grid
   by (Some key) e t = let there = whole.listed s key e in rw there.1 there.2.used
 
 -- the numbers of a stream are those of its record
-
 pub record_read : (grid : Grid) (records : Slab Record) (s : StreamId) (r : Option Record) → AreRecords grid records → r ≡ record_of_key records (key_at grid s) → IsRecordOf (uses_of grid records) s r
 record_read grid records s r whole is = record { opens = ap opens_of is ∙ sym (opens_at grid records s); holds = ap holds_of is ∙ sym (holds_at grid records s); hung = ap hung_of is ∙ sym (hungs_at grid records s); used = subst (λ o. IfSome o (λ x. 0 < x.opens + x.holds)) (sym is) (by (key_at grid s) refl) } where
   by : (o : Option ℕ) → key_at grid s ≡ o → IfSome (record_of_key records o) (λ x. 0 < x.opens + x.holds)
@@ -233,6 +239,7 @@ record_read grid records s r whole is = record { opens = ap opens_of is ∙ sym 
 
 -- the same slots
 
+-- slots of which each is a copy of another, with an equal record or none, are the same slots
 pub slots_same : (xs ys : List (Option Record)) → AllZip (IsSlotClone (λ (x y : Record). y ≡ x)) xs ys → ys ≡ xs
 slots_same [] [] h = refl
 slots_same [] (y ∷ ys) h = absurd h
@@ -241,14 +248,17 @@ slots_same (None ∷ xs) (y ∷ ys) h = ap (λ z. z ∷ ys) h.0 ∙ ap (λ zs. N
 slots_same (Some r ∷ xs) (None ∷ ys) h = absurd h.0
 slots_same (Some r ∷ xs) (Some q ∷ ys) h = ap (λ z. Some z ∷ ys) h.0 ∙ ap (λ zs. Some r ∷ zs) (slots_same xs ys h.1)
 
+-- in the same slots the numbers and flags of all streams are the same
 pub uses_same : (grid : Grid) (a b : Slab Record) → b.slots ≡ a.slots → uses_of grid b ≡ uses_of grid a
 uses_same grid a b e = rw e refl
 
 -- a record that counts nothing
 
+-- where descriptors and holds are together not more than 0, there are none of either
 pub counts_none : (x y : ℕ) → nat_lt 0 (x + y) ≡ false → (x ≡ 0) × (y ≡ 0)
 counts_none x y h = (grind (arith, nat_tests), grind (arith, nat_tests))
 
+-- a number that the test says is more than 0 is more than 0
 pub counts_some : (n : ℕ) → nat_lt 0 n ≡ true → 0 < n
 counts_some n h = ltb-true 0 n h
 

@@ -12,9 +12,11 @@ use Rattle.smx_streams.specs.DescriptorRows.{Rows, cell_at, with_cell, row_from,
 use Rattle.smx_streams.specs.StreamTables.{stream_at}
 use Rattle.smx_streams.proofs.ListLemmas.{find_front, find_past, any_found, none_goes, filter_both, comes_both, inserted_first}
 
+-- the descriptor of this process, with this number and this stream
 abbrev pub fd_of : ℕ → ℕ → StreamId → Descriptor
 fd_of p n s = record { process = p; fd = n; stream = s }
 
+-- numbers that differ fail the test for being equal
 pub other_number : (m n : ℕ) → (m ≡ n → ⊥) → eqb m n ≡ false
 other_number m n h = false_from_ne_true (eqb m n) (λ t. h (eqb-true m n t))
 
@@ -63,15 +65,18 @@ find_rows p n q zero (row ∷ rows) e = let same : q ≡ p = omega (arith, e) in
   here (Some s) is = find_front (is_fd p n) (row_from p 0 row) (rows_from (p + 1) rows) (fd_of p n s) (find_in_row p n 0 n row (omega arith) ∙ ap (found p n) is) ∙ sym (ap (found p n) is)
 find_rows p n q (suc i) (row ∷ rows) e = find_past (is_fd p n) (row_from q 0 row) (rows_from (q + 1) rows) (find_other_row p n q 0 row (other_number q p (λ same. absurd (omega (arith, e, same))))) ∙ find_rows p n (q + 1) i rows (omega (arith, e))
 
+-- the descriptor that a search in the rows finds has the stream of its cell, or there is none
 pub find_cell : (rows : Rows) (p n : ℕ) → find (is_fd p n) (rows_from 0 rows) ≡ found p n (cell_at rows p n)
 find_cell rows p n = find_rows p n 0 p rows (omega arith)
 
+-- the stream of a descriptor is what the rows have in its cell
 pub stream_is_cell : (rows : Rows) (p n : ℕ) → cell_at rows p n ≡ stream_at (rows_from 0 rows) p n
 stream_is_cell rows p n = sym (ap (option_map (λ d. d.stream)) (find_cell rows p n) ∙ back (cell_at rows p n)) where
   back : (cell : Option StreamId) → option_map (λ d. d.stream) (found p n cell) ≡ cell
   back None = refl
   back (Some s) = refl
 
+-- a process has a descriptor of a number just where the cell of that has a stream
 pub any_is_cell : (rows : Rows) (p n : ℕ) → list_any (is_fd p n) (rows_from 0 rows) ≡ is_some (cell_at rows p n)
 any_is_cell rows p n = any_found (is_fd p n) (rows_from 0 rows) ∙ ap is_some (find_cell rows p n) ∙ back (cell_at rows p n) where
   back : (cell : Option StreamId) → is_some (found p n cell) ≡ is_some cell
@@ -96,9 +101,11 @@ take_in_rows p n q (suc i) (row ∷ rows) e =
     filter_both _ (row_from q 0 row) (rows_from (q + 1) rows)
     ∙ rw (none_goes (is_fd p n) _ (find_other_row p n q 0 row (other_number q p (λ same. absurd (omega (arith, e, same))))), take_in_rows p n (q + 1) i rows (omega (arith, e))) refl
 
+-- a cell that is emptied takes its descriptor away, and no other
 pub take_cell : (rows : Rows) (p n : ℕ) → filter (λ d. not (is_fd p n d)) (rows_from 0 rows) ≡ rows_from 0 (with_cell rows p n None)
 take_cell rows p n = take_in_rows p n 0 p rows (omega arith)
 
+-- where a cell is empty, to take away its descriptor changes nothing
 pub take_none : (rows : Rows) (p n : ℕ) → cell_at rows p n ≡ None → filter (λ d. not (is_fd p n d)) (rows_from 0 rows) ≡ rows_from 0 rows
 take_none rows p n h = none_goes (is_fd p n) _ (find_cell rows p n ∙ ap (found p n) h)
 
@@ -107,11 +114,13 @@ take_none rows p n h = none_goes (is_fd p n) _ (find_cell rows p n ∙ ap (found
 next : (p n q k : ℕ) → pair_before p n q k ≡ true → pair_before p n q (k + 1) ≡ true
 next p n q k h = grind (arith, nat_tests)
 
+-- a descriptor comes before all of a row that starts at a later process, or at a later number of its own
 pub later_row : (p n q k : ℕ) (s : StreamId) (cells : List (Option StreamId)) → pair_before p n q k ≡ true → ComesBefore fd_before (fd_of p n s) (row_from q k cells)
 later_row p n q k s [] h = tt
 later_row p n q k s (None ∷ cells) h = later_row p n q (k + 1) s cells (next p n q k h)
 later_row p n q k s (Some t ∷ cells) h = (h, later_row p n q (k + 1) s cells (next p n q k h))
 
+-- a descriptor comes before all those of later processes
 pub later_rows : (p n q : ℕ) (s : StreamId) (rows : Rows) → p < q → ComesBefore fd_before (fd_of p n s) (rows_from q rows)
 later_rows p n q s [] h = tt
 later_rows p n q s (row ∷ rows) h = comes_both fd_before (fd_of p n s) (row_from q 0 row) (rows_from (q + 1) rows) (later_row p n q 0 s row (grind (arith, nat_tests))) (later_rows p n (q + 1) s rows (omega arith))
@@ -147,6 +156,7 @@ put_in_rows p n q zero s (row ∷ rows) e lt none =
 put_in_rows p n q (suc i) s (row ∷ rows) e lt none =
     skip_row p n q 0 s row (rows_from (q + 1) rows) (omega (arith, e)) ∙ ap (λ ds. row_from q 0 row ++ ds) (put_in_rows p n (q + 1) i s rows (omega (arith, e)) lt none)
 
+-- a stream that is put in an empty cell inserts its descriptor in order
 pub put_cell : (rows : Rows) (p n : ℕ) (s : StreamId) → n < length (get_or rows p []) → list_any (is_fd p n) (rows_from 0 rows) ≡ false
     → rows_from 0 (with_cell rows p n (Some s)) ≡ with_inserted fd_before (rows_from 0 rows) (fd_of p n s)
 put_cell rows p n s lt free = sym (put_in_rows p n 0 p s rows (omega arith) lt (none_there (cell_at rows p n) (sym (any_is_cell rows p n) ∙ free))) where

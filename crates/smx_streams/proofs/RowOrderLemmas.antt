@@ -34,6 +34,7 @@ few_in_row q k [] = omega arith
 few_in_row q k (None ∷ cells) = omega (arith, few_in_row q (k + 1) cells)
 few_in_row q k (Some s ∷ cells) = omega (arith, few_in_row q (k + 1) cells)
 
+-- a row with room for all numbers, or for none, is no longer than there are numbers
 pub short : (row : List (Option StreamId)) → AreAllOrNone row → length row ≤ MAX_DESCRIPTORS
 short [] h = omega arith
 short (c ∷ cells) h = omega (arith, h (omega arith))
@@ -61,6 +62,7 @@ process_rows : (q : ℕ) (rows : Rows) → q + length rows ≤ MAX_PROCESSES →
 process_rows q [] h = All-nil _
 process_rows q (row ∷ rows) h = All-append (λ d. d.process < MAX_PROCESSES) _ _ (process_row q 0 row (omega arith)) (process_rows (q + 1) rows (omega arith))
 
+-- the descriptors of rows are in order, none twice, and no more than there may be
 pub are_listed : (rows : Rows) → AreRows rows → IsListed (rows_from 0 rows)
 are_listed rows h = record { rise = rising_rows 0 rows; few = omega (arith, few_in_rows 0 rows h.rooms, h.processes); processes = process_rows 0 rows (omega (arith, h.processes)); numbered = numbered_rows 0 rows h.rooms }
 
@@ -79,6 +81,7 @@ room_in_rows q i [] = refl
 room_in_rows q zero (row ∷ rows) = ap (λ ds. ds ++ rows_from (q + 1) rows) (room_in_row q 0 row)
 room_in_rows q (suc i) (row ∷ rows) = ap (λ ds. row_from q 0 row ++ ds) (room_in_rows (q + 1) i rows)
 
+-- room that is made in a row leaves the descriptors as they are
 pub room_shows_the_same : (rows : Rows) (p : ℕ) → rows_from 0 (set rows p (with_room (get_or rows p []))) ≡ rows_from 0 rows
 room_shows_the_same rows p = room_in_rows 0 p rows
 
@@ -91,12 +94,15 @@ row_at [] p h = λ some. absurd (omega arith)
 row_at (row ∷ rows) zero h = h 0 row (omega arith)
 row_at (row ∷ rows) (suc p) h = row_at rows p (λ k d lt. h (suc k) d (omega (arith, lt)))
 
+-- a process for which room is made has it for all numbers
 pub there_is_room : (rows : Rows) (p : ℕ) → All AreAllOrNone rows → p < length rows → get_or (map length (set rows p (with_room (get_or rows p [])))) p 0 ≡ MAX_DESCRIPTORS
 there_is_room rows p h lt = get_or-map length (set rows p (with_room (get_or rows p []))) p [] ∙ ap length (get_or-set_same rows p (with_room (get_or rows p [])) [] lt) ∙ room_of (get_or rows p []) (row_at rows p h)
 
+-- a process has room for as many numbers as its row is long
 pub row_length : (rows : Rows) (p : ℕ) → get_or (map length rows) p 0 ≡ length (get_or rows p [])
 row_length rows p = get_or-map length rows p []
 
+-- a process that has a descriptor has some room
 pub has_cells : (rows : Rows) (p n : ℕ) → list_any (is_fd p n) (rows_from 0 rows) ≡ true → 0 < length (get_or rows p [])
 has_cells rows p n h = by (get_or rows p []) (sym (any_is_cell rows p n) ∙ h) where
   by : (row : List (Option StreamId)) → is_some (get_or row n None) ≡ true → 0 < length row
@@ -105,20 +111,24 @@ has_cells rows p n h = by (get_or rows p []) (sym (any_is_cell rows p n) ∙ h) 
 
 -- what every table keeps
 
+-- after room is made there is still a row for each process, with room for all numbers or for none
 pub rows_with_room : (rows : Rows) (p : ℕ) → AreRows rows → AreRows (set rows p (with_room (get_or rows p [])))
 rows_with_room rows p h = record { processes = length-set rows p (with_room (get_or rows p [])) ∙ h.processes; rooms = All-set AreAllOrNone rows p (with_room (get_or rows p [])) (λ some. room_of (get_or rows p []) (row_at rows p h.rooms)) h.rooms }
 
+-- after a cell is set there is still a row for each process, with room for all numbers or for none
 pub rows_with_cell : (rows : Rows) (p n : ℕ) (cell : Option StreamId) → AreRows rows → AreRows (with_cell rows p n cell)
 rows_with_cell rows p n cell h =
     let long = length-set (get_or rows p []) n cell in
     record { processes = length-set rows p (set (get_or rows p []) n cell) ∙ h.processes; rooms = All-set AreAllOrNone rows p (set (get_or rows p []) n cell) (λ some. long ∙ row_at rows p h.rooms (omega (arith, long))) h.rooms }
 
+-- an empty row for each process is how rows are at first, without room
 pub rows_empty : AreRows (replicate MAX_PROCESSES [])
 rows_empty = record { processes = length-replicate {A = List (Option StreamId)} MAX_PROCESSES []; rooms = each MAX_PROCESSES } where
   each : (n : ℕ) → All AreAllOrNone (replicate n [])
   each zero = All-nil _
   each (suc n) = All-cons AreAllOrNone _ _ (λ some. absurd (omega arith)) (each n)
 
+-- empty rows have no descriptor
 pub none_listed : (q n : ℕ) → rows_from q (replicate n []) ≡ []
 none_listed q zero = refl
 none_listed q (suc n) = none_listed (q + 1) n

@@ -65,5 +65,6 @@ last_is t s p n opens rise e same =
 pub last_then : (opens holds n : ℕ) (r : Bool) → opens ≡ 1 → holds ≡ n → (eqb opens 1 && eqb n 0) ≡ r → eqb holds 0 ≡ r
 last_then opens holds n r one e h = ap (λ (x : ℕ). eqb x 0) e ∙ rw (eq-eqb opens 1 one) at h
 
+-- where the first of both tests is known to fail, it says what both say together
 pub last_else : (opens n : ℕ) (r : Bool) → (opens ≡ 1 → ⊥) → (eqb opens 1 && eqb n 0) ≡ r → eqb opens 1 ≡ r
 last_else opens n r other h = let f : eqb opens 1 ≡ false = false_from_ne_true (eqb opens 1) (λ t. other (eqb-true opens 1 t)) in f ∙ rw f at h
