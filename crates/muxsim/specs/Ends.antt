@@ -9,7 +9,7 @@ use Rattle.smx_filters.specs.RunText.{RunsText}
 use Rattle.smx_filters.specs.Statuses.{status_of_outcome}
 use Rattle.smx_filters.specs.declared.done.Done.{Done}
 use Rattle.smx_filters.specs.declared.done.Done.TheVariants.{Finished, Judged}
-use Rattle.smx_filters.specs.declared.fault.MainFault.{MainFault}
+use Rattle.smx_filters.specs.declared.main_fault.MainFault.{MainFault}
 use Rattle.muxsim.specs.declared.jobs.Job.{Job}
 use Rattle.muxsim.specs.declared.jobs.Job.TheVariants.{Run, Check, Replay}
 

@@ -14,7 +14,7 @@ use Rattle.smx_addresses.specs.TableFields.{Entries, binding_of, bindings_of, Ar
 use Rattle.smx_addresses.proofs.ChangeLemmas.{Sets, finds_inserted, finds_filter}
 use Rattle.smx_addresses.proofs.KeyLemmas.{is_key_sym, key_same, found_any, found_find, none_of, filter_all, apart_filter, apart_inserted}
 use Rattle.smx_addresses.proofs.OrderLemmas.{rising_filter, rising_inserted, apart_rising}
-use Rattle.smx_addresses.proofs.TableLemmas.{Stands, in_order_stands, computed_is}
+use Rattle.smx_addresses.proofs.ListedTableLemmas.{Stands, in_order_stands, computed_is}
 
 -- the list of a table
 

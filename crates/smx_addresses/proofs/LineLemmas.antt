@@ -18,7 +18,7 @@ use Rattle.smx_addresses.specs.Keys.{Key, is_key, found, by_key}
 use Rattle.smx_addresses.specs.TableFields.{Entries}
 use Rattle.smx_addresses.proofs.KeyLemmas.{is_key_sym, is_key_congr, keys_equal}
 use Rattle.smx_addresses.proofs.OrderLemmas.{rising_same}
-use Rattle.smx_addresses.proofs.TableLemmas.{Stands}
+use Rattle.smx_addresses.proofs.ListedTableLemmas.{Stands}
 
 -- the order of a pair of unsigned numbers
 abbrev pub key_cmp : Key → Key → Ordering

@@ -15,7 +15,7 @@ use Rattle.smx_addresses.specs.TableFields.{Entries, route_of, routes_of}
 use Rattle.smx_addresses.proofs.ChangeLemmas.{Sets, finds_filter, finds_replaced, rises_replaced, found_kept}
 use Rattle.smx_addresses.proofs.KeyLemmas.{found_any, found_find}
 use Rattle.smx_addresses.proofs.OrderLemmas.{rising_filter, apart_rising}
-use Rattle.smx_addresses.proofs.TableLemmas.{Stands, in_order_stands, computed_is}
+use Rattle.smx_addresses.proofs.ListedTableLemmas.{Stands, in_order_stands, computed_is}
 
 -- the list of a table
 

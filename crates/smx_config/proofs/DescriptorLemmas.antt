@@ -17,8 +17,8 @@ use Rattle.smx_model.specs.Lookups.{driver_of, free_fd, free_minor, stream_of}
 use Rattle.smx_model.specs.Outcomes.{Outcome, or_fault}
 use Rattle.smx_model.specs.Standing.{exists, is_below}
 use Rattle.smx_streams.specs.StreamTables.{Answer, StreamTable, IsRefused, is_in_range, clone_answer, dup_answer, minor_answer, least_fd, least_minor, stream_at, exists as is_there}
-use Rattle.smx_streams.specs.declared.fault.StreamFault.{StreamFault}
-use Rattle.smx_streams.specs.declared.fault.StreamFault.TheVariants as stream_fault
+use Rattle.smx_streams.specs.declared.stream_fault.StreamFault.{StreamFault}
+use Rattle.smx_streams.specs.declared.stream_fault.StreamFault.TheVariants as stream_fault
 use Rattle.smx_tables.specs.declared.lists.Lists.{Lists}
 use Rattle.smx_config.specs.declared.step_error.StepError.{StepError}
 use Rattle.smx_config.specs.declared.step_error.StepError.TheVariants as step_error

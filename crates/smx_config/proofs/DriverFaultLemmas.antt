@@ -10,8 +10,8 @@ use Rattle.smx_types.specs.declared.driver.DriverSpec.{DriverSpec}
 use Rattle.smx_types.specs.declared.driver.SpecFault.{SpecFault}
 use Rattle.smx_model.specs.DriverList.{IsDriverList}
 use Rattle.smx_config.specs.DriverFaults.{IsFirstBad, RefusesDrivers}
-use Rattle.smx_config.specs.declared.fault.ConfigFault.{ConfigFault}
-use Rattle.smx_config.specs.declared.fault.ConfigFault.TheVariants.{BadSpec, SameName, TooMany, NoMemory}
+use Rattle.smx_config.specs.declared.config_fault.ConfigFault.{ConfigFault}
+use Rattle.smx_config.specs.declared.config_fault.ConfigFault.TheVariants.{BadSpec, SameName, TooMany, NoMemory}
 use Rattle.smx_tables.proofs.DriverListLemmas.{taken_name}
 
 -- an earlier driver has the name of this one

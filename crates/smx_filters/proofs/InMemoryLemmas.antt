@@ -5,8 +5,8 @@ use Rattle.std.proofs.lemmas.Bool.Decides.{nat_tests}
 use Rattle.std.proofs.lemmas.List.{drop_at, nil_from_length}
 use Rattle.smx_filters.specs.Filters.{Filter, FiltersText}
 use Rattle.smx_filters.specs.InMemory.{EndsInMemory, IsCutShort}
-use Rattle.smx_filters.specs.declared.fault.MainFault.{MainFault}
-use Rattle.smx_filters.specs.declared.fault.MainFault.TheVariants.{Refused, Text, TooLong, ReadFailed, WriteFailed}
+use Rattle.smx_filters.specs.declared.main_fault.MainFault.{MainFault}
+use Rattle.smx_filters.specs.declared.main_fault.MainFault.TheVariants.{Refused, Text, TooLong, ReadFailed, WriteFailed}
 use Rattle.smx_filters.specs.declared.input.TheConstants.{MAX_INPUT}
 
 -- of a whole input nothing is left

@@ -5,7 +5,7 @@ use Rattle.std.proofs.lemmas.List.{length-append, take-append-le}
 use Rattle.std.proofs.KnownBytes.{Consumes-trans}
 use Rattle.std.specs.Io.KnownBytes.{Consumes, Keeps}
 use Rattle.smx_filters.specs.Input.{IsInput}
-use Rattle.smx_filters.specs.declared.fault.MainFault.TheVariants.{TooLong, ReadFailed}
+use Rattle.smx_filters.specs.declared.main_fault.MainFault.TheVariants.{TooLong, ReadFailed}
 use Rattle.smx_filters.specs.declared.input.TheConstants.{MAX_INPUT}
 
 -- a beginning of a beginning

@@ -10,7 +10,7 @@ use Rattle.smx_run.specs.Fronts.{AreFrontsFrom}
 use Rattle.smx_run.specs.ProgramOrder.{calls_from}
 use Rattle.smx_run.specs.Reports.{transcript_of}
 use Rattle.smx_run.specs.RunFaults.{RefusesAlone, RefusesRun}
-use Rattle.smx_run.specs.declared.fault.RunFault.{RunFault}
+use Rattle.smx_run.specs.declared.run_fault.RunFault.{RunFault}
 use Rattle.smx_run.specs.declared.report.Report.{Report}
 use Rattle.smx_shared.specs.declared.front.Front.{Front}
 use Rattle.smx_text.specs.ProgramLines.{Line}
@@ -18,7 +18,7 @@ use Rattle.smx_text.specs.ProgramsText.{programs_grammar}
 use Rattle.smx_text.specs.TranscriptText.{transcript_text, IsSpellable, SpellsTranscript}
 use Rattle.smx_filters.specs.Filters.{Filter, FiltersText}
 use Rattle.smx_filters.specs.FrontsText.{fronts_text}
-use Rattle.smx_filters.specs.declared.fault.MainFault.{MainFault}
+use Rattle.smx_filters.specs.declared.main_fault.MainFault.{MainFault}
 
 -- the transcript of a report that is promised for the programs, in their version
 pub record IsTranscriptFor (programs : ProgramLists) (output : List ℕ) : Type 0 where

@@ -7,8 +7,8 @@ ghost use Rattle.smx_filters.specs.CheckText.{ChecksText, checking};
 ghost use Rattle.smx_filters.specs.InMemory.{EndsInMemory, IsCutShort};
 ghost use Rattle.smx_filters.specs.ReplayText.{ReplaysText, replaying};
 ghost use Rattle.smx_filters.specs.RunText.{IsWrittenFor, RunsText, running};
-ghost use Rattle.smx_filters.specs.declared.fault.MainFault.{MainFault};
-ghost use Rattle.smx_filters.specs.declared.fault.MainFault.TheVariants.{ReadFailed};
+ghost use Rattle.smx_filters.specs.declared.main_fault.MainFault.{MainFault};
+ghost use Rattle.smx_filters.specs.declared.main_fault.MainFault.TheVariants.{ReadFailed};
 
 use smx_model::laws_of_reports::reports_are_determined;
 

@@ -5,7 +5,7 @@ pub mod TwinLemmas
 pub mod CountLemmas
 pub mod PairLemmas
 pub mod IdLemmas
-pub mod TableLemmas
+pub mod LinkTableLemmas
 pub mod PlaceLemmas
 pub mod UpperLemmas
 pub mod StaleLemmas

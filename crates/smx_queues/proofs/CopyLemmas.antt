@@ -8,7 +8,7 @@ use Rattle.smx_model.specs.Queues.{bytes_of}
 use Rattle.smx_queues.specs.QueueTable.{Queue, IsPlace, queue_at, with_arrival}
 use Rattle.smx_queues.specs.Chains.{HaveBytes}
 use Rattle.smx_queues.proofs.StoreLemmas.{size}
-use Rattle.smx_queues.proofs.TableLemmas.{place_below, set_there, set_at, set_itself, same_set}
+use Rattle.smx_queues.proofs.QueueTableLemmas.{place_below, set_there, set_at, set_itself, same_set}
 
 -- place `to` has all messages but these, and nothing else has changed
 pub record IsCopying (old new : List (Option Queue)) (to : ℕ) (all rest : List Message) : Type 0 where

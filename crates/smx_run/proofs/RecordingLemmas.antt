@@ -24,8 +24,8 @@ use Rattle.smx_run.specs.Desks.{HasRecorded}
 use Rattle.smx_run.specs.ProgramOrder.{calls_of, calls_from}
 use Rattle.smx_run.specs.RecordedRuns.{IsRecordOf}
 use Rattle.smx_run.specs.RunFaults.{RefusesAlone, RefusesRun}
-use Rattle.smx_run.specs.declared.fault.RunFault.{RunFault}
-use Rattle.smx_run.specs.declared.fault.RunFault.TheVariants as run
+use Rattle.smx_run.specs.declared.run_fault.RunFault.{RunFault}
+use Rattle.smx_run.specs.declared.run_fault.RunFault.TheVariants as run
 use Rattle.smx_run.proofs.ProgramOrderLemmas.{holds}
 
 -- ---- what the laws of histories say

@@ -18,7 +18,7 @@ use Rattle.smx_run.specs.Fronts.{IsFrontAfter, AreFrontsFrom}
 use Rattle.smx_run.specs.Hands.{called, calls_in, known_at, IsFresh, EndsAt}
 use Rattle.smx_run.specs.Meeting.{IsBorneOutBy}
 use Rattle.smx_run.specs.ProgramOrder.{Calls, calls_of, calls_from, numbered}
-use Rattle.smx_run.specs.declared.worker.Done.{Done}
+use Rattle.smx_run.specs.declared.worker.EndedProgram.{EndedProgram}
 use Rattle.smx_run.proofs.HandLemmas.{take_off}
 use Rattle.smx_run.proofs.ProgramOrderLemmas.{holds}
 
@@ -59,7 +59,7 @@ commands_ended h k n commands is exact =
     ap (map (λ (e : Entry). e.command)) own ∙ of_entries k.own ∙ ap (λ (c : Calls). commands_in c.1) is ∙ of_program n commands
 
 -- where there are programs, somebody has ended
-pub some_ended : (ended : List (Done Seated)) (programs : List (List Command)) → map (called known_at) ended ≡ numbered 0 programs → 1 ≤ length programs → ended ≢ []
+pub some_ended : (ended : List (EndedProgram Seated)) (programs : List (List Command)) → map (called known_at) ended ≡ numbered 0 programs → 1 ≤ length programs → ended ≢ []
 some_ended ended [] is some none = omega arith
 some_ended [] (commands ∷ programs) is some none = cc
 some_ended (d ∷ ended) (commands ∷ programs) is some none = cc
@@ -141,7 +141,7 @@ none_named n p (e ∷ es) below past =
     rw other (none_named n p es below.1 past)
 
 -- each program is held by a history that bears out all who have ended
-holds_at : (s : Recorded) (k n p : ℕ) (ended : List (Done Seated)) (programs : List (List Command)) → map (called known_at) ended ≡ numbered n programs → All (IsBorneOutBy s) ended → k < length programs
+holds_at : (s : Recorded) (k n p : ℕ) (ended : List (EndedProgram Seated)) (programs : List (List Command)) → map (called known_at) ended ≡ numbered n programs → All (IsBorneOutBy s) ended → k < length programs
     → p ≡ k + n → commands_of p s.history ≡ get_or programs k []
 holds_at s k n p ended [] is borne below at = absurd (omega arith)
 holds_at s k n p [] (commands ∷ programs) is borne below at = absurd cc
@@ -154,7 +154,7 @@ holds_at s (suc k) n p (d ∷ ended) (commands ∷ programs) is borne below at =
     holds_at s k (n + 1) p ended programs others (take_off (IsBorneOutBy s) (d ∷ ended) ended d refl borne).1 (omega arith) (omega arith)
 
 -- and a process past the last has none
-pub holds_all : (s : Recorded) (ended : List (Done Seated)) (programs : List (List Command)) → map (called known_at) ended ≡ numbered 0 programs → All (IsBorneOutBy s) ended
+pub holds_all : (s : Recorded) (ended : List (EndedProgram Seated)) (programs : List (List Command)) → map (called known_at) ended ≡ numbered 0 programs → All (IsBorneOutBy s) ended
     → GoesOnNamed (length programs) [] s.history → HoldsPrograms s.history programs
 holds_all s ended programs is borne named p = elim (cases_lt p (length programs)) [
   | inl below ↦ holds_at s p 0 p ended programs is borne below (omega arith)
@@ -164,8 +164,8 @@ holds_all s ended programs is borne named p = elim (cases_lt p (length programs)
 ]
 
 -- each front is that of a beginning of the history, after the program
-pub fronts_all : (name : SharedId) (s : Recorded) (n : ℕ) (ended : List (Done Seated)) (programs : List (List Command)) → map (called known_at) ended ≡ numbered n programs → All (EndsAt name) ended → All (IsBorneOutBy s) ended
-    → AreFrontsFrom s.drivers s.history n programs (map (λ (d : Done Seated). d.front) ended)
+pub fronts_all : (name : SharedId) (s : Recorded) (n : ℕ) (ended : List (EndedProgram Seated)) (programs : List (List Command)) → map (called known_at) ended ≡ numbered n programs → All (EndsAt name) ended → All (IsBorneOutBy s) ended
+    → AreFrontsFrom s.drivers s.history n programs (map (λ (d : EndedProgram Seated). d.front) ended)
 fronts_all name s n [] [] is ends borne = tt
 fronts_all name s n [] (commands ∷ programs) is ends borne = absurd cc
 fronts_all name s n (d ∷ ended) [] is ends borne = absurd cc

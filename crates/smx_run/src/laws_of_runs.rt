@@ -11,15 +11,15 @@ ghost use Rattle.smx_model.specs.Headline.{IsReportOf};
 ghost use Rattle.smx_model.specs.Histories.{call_of};
 ghost use Rattle.smx_model.specs.Worked.Common.{mux, ip};
 ghost use Rattle.smx_model.specs.Worked.Reports.{copied, drivers, exited, opened, programs};
-ghost use Rattle.smx_config.specs.declared.fault.ConfigFault.TheVariants as config;
+ghost use Rattle.smx_config.specs.declared.config_fault.ConfigFault.TheVariants as config;
 ghost use Rattle.smx_shared.specs.WorkedCalls.{front};
 ghost use Rattle.smx_run.specs.Fronts.{AreFrontsFrom};
 ghost use Rattle.smx_run.specs.Gathering.{IsLeastStrange};
 ghost use Rattle.smx_run.specs.ProgramOrder.{calls_from};
 ghost use Rattle.smx_run.specs.RecordedRuns.{IsRecordOf};
 ghost use Rattle.smx_run.specs.RunFaults.{RefusesAlone, RefusesRun};
-ghost use Rattle.smx_run.specs.declared.fault.RunFault.{RunFault};
-ghost use Rattle.smx_run.specs.declared.fault.RunFault.TheVariants as run;
+ghost use Rattle.smx_run.specs.declared.run_fault.RunFault.{RunFault};
+ghost use Rattle.smx_run.specs.declared.run_fault.RunFault.TheVariants as run;
 
 /// Two programs have two fronts, each of a beginning of the history that holds all commands of the program: none is
 /// left out or added, and none is earlier, past the end, or of another number of links.

@@ -15,7 +15,7 @@ use Rattle.smx_shared.specs.TurnRule.{Slot, system_with}
 use Rattle.smx_shared.specs.declared.front.Front.{Front}
 use Rattle.smx_shared.specs.declared.seat_view.SeatView.{SeatView}
 use Rattle.smx_shared.proofs.TellLemmas.{grown_trans}
-use Rattle.smx_shared.proofs.WordLemmas.{word_small, reads_front, shows_held}
+use Rattle.smx_shared.proofs.FrontWordLemmas.{word_small, reads_front, shows_held}
 
 -- a seat that has grown, and knows what is so, has seen more
 pub has_seen_more : (v w : SeatView) → HasGrown v w → IsInformed w → v.named ≡ true → HasSeenMore (known_of v) (known_of w)

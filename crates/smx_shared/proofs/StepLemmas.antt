@@ -18,7 +18,7 @@ use Rattle.smx_shared.specs.declared.seat_view.SeatView.{SeatView}
 use Rattle.smx_shared.proofs.OwnEntryLemmas.{begins_trans, begins_itself, goes_on_trans, goes_on_itself, goes_on_more, goes_on_begins, entries_early, others_stay}
 use Rattle.smx_shared.proofs.MetSeatLemmas.{met_join, met_named_join, met_named_more, met_stays, not_met_next, met_apart_set, met_apart_kept, met_apart_end, met_apart_meeting}
 use Rattle.smx_shared.proofs.SeatListLemmas.{apart_set, apart_kept, at_end, apart_end, HasHolder, holder_stays, holder_same, holder_now, held_same}
-use Rattle.smx_shared.proofs.WordLemmas.{or_free, or_held}
+use Rattle.smx_shared.proofs.FrontWordLemmas.{or_free, or_held}
 
 abbrev Table : Type 0
 Table = State Slot SeatView

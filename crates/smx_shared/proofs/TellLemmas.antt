@@ -14,10 +14,10 @@ use Rattle.smx_shared.specs.Recorded.{Recorded, IsSoundSystem, next_entry, with_
 use Rattle.smx_shared.specs.Seats.{entries_of, AreMetBy, GoesOnNamed, IsBeginningOf}
 use Rattle.smx_shared.specs.SeatViews.{Mine, after_meeting, stepped, Shows, Looked, Taken, Published, history_in, known_of, system_of, IsAtRest, IsInformed, RestsAfter, HasTurn, HasGrown, HasMet, FoundWord, AddsFor}
 use Rattle.smx_shared.specs.TurnRule.{Slot, Turn, free, held, bit_of, home_of, system_with, TurnRule}
-use Rattle.smx_shared.specs.declared.fault.ApplyFault.{ApplyFault}
+use Rattle.smx_shared.specs.declared.shared_fault.ApplyFault.{ApplyFault}
 use Rattle.smx_shared.specs.declared.seat_view.SeatView.{SeatView}
 use Rattle.smx_shared.proofs.OwnEntryLemmas.{begins_trans, begins_itself, entries_append, entries_mine, adds_one, adds_none}
-use Rattle.smx_shared.proofs.WordLemmas.{held_odd, free_even, front_and_bit}
+use Rattle.smx_shared.proofs.FrontWordLemmas.{held_odd, free_even, front_and_bit}
 
 -- ---- growing
 

@@ -10,7 +10,7 @@ use Rattle.smx_shared.specs.Recorded.{Recorded, IsSoundSystem}
 use Rattle.smx_shared.specs.TurnRule.{Slot, Turn, TurnRule, free, held, bit_of, home_of, system_with}
 use Rattle.smx_shared.specs.declared.seat_view.SeatView.{SeatView}
 use Rattle.smx_shared.proofs.SeatListLemmas.{held_same}
-use Rattle.smx_shared.proofs.WordLemmas.{front_even, held_odd}
+use Rattle.smx_shared.proofs.FrontWordLemmas.{front_even, held_odd}
 
 -- the first word is the front of the one history, with what the turn adds
 word_is : (d : List DriverSpec) (l : ℕ) (start : List Entry) (count n : ℕ) (s : State Slot SeatView) (r : TurnRule d l start count s) → get_elem? s.words 0 ≡ some n → n ≡ front_of d r.history + bit_of r.turn

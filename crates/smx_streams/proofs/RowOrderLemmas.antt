@@ -12,7 +12,7 @@ use Rattle.smx_types.specs.declared.stream.StreamId.{StreamId}
 use Rattle.smx_model.specs.Configuration.{is_fd, fd_before}
 use Rattle.smx_model.specs.Ordered.{ComesBefore, IsRising}
 use Rattle.smx_streams.specs.DescriptorRows.{Rows, AreRows, IsListed, with_cell, row_from, rows_from}
-use Rattle.smx_streams.specs.Numbers.{AreAllOrNone, with_room}
+use Rattle.smx_streams.specs.RowRoom.{AreAllOrNone, with_room}
 use Rattle.smx_streams.proofs.ListLemmas.{comes_both}
 use Rattle.smx_streams.proofs.RowLemmas.{fd_of, later_row, later_rows, any_is_cell}
 

@@ -6,7 +6,7 @@ use Rattle.smx_types.specs.declared.stream.Descriptor.{Descriptor}
 use Rattle.smx_types.specs.declared.stream.StreamId.{StreamId}
 use Rattle.smx_model.specs.Configuration.{fd_before}
 use Rattle.smx_model.specs.Ordered.{IsRising}
-use Rattle.smx_streams.specs.Numbers.{AreAllOrNone, with_room}
+use Rattle.smx_streams.specs.RowRoom.{AreAllOrNone, with_room}
 
 -- for each process a row, with a stream or none at each number
 abbrev pub Rows : Type 0

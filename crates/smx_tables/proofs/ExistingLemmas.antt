@@ -20,7 +20,7 @@ use Rattle.smx_model.specs.Standing.{Stands, exists, is_below, is_named, is_pers
 use Rattle.smx_streams.specs.StreamTables.{StreamTable, HasHolds, number_at, stream_at, exists as is_there}
 use Rattle.smx_tables.specs.ExistingStreams.{AreHeld, TellsExisting, holds_of, is_held}
 use Rattle.smx_links.specs.LinkLists.{LinkList, IsLinked, refusal, with_link}
-use Rattle.smx_links.specs.declared.fault.LinkFault.TheVariants as link_fault
+use Rattle.smx_links.specs.declared.link_fault.LinkFault.TheVariants as link_fault
 use Rattle.smx_tables.proofs.AboveLemmas.{stream_is, stream_self}
 use Rattle.smx_tables.proofs.ClimbLemmas.{named_stands}
 

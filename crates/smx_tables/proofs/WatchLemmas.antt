@@ -17,7 +17,7 @@ use Rattle.smx_tables.specs.TouchedStreams.{is_watched}
 use Rattle.smx_tables.proofs.AboveLemmas.{stream_is, stream_self}
 use Rattle.smx_tables.proofs.ExistingLemmas.{all_weaker, holds_few}
 use Rattle.smx_tables.proofs.ReleaseLemmas.{not_more_held, not_true, this_one}
-use Rattle.smx_tables.proofs.TableLemmas.{take_one_more}
+use Rattle.smx_tables.proofs.LinkWalkLemmas.{take_one_more}
 
 -- ---- streams in a list
 

@@ -5,9 +5,9 @@ use Rattle.std.specs.List.{AllByRecursion}
 use Rattle.std.specs.Prelude.{◌⊎◌, IfErr}
 use Rattle.std.proofs.lemmas.List.{append-nil}
 use Rattle.smx_words.specs.Words.{LINE_FEED, text_of}
-use Rattle.smx_text.specs.declared.fault.Cause.{Cause}
-use Rattle.smx_text.specs.declared.fault.Cause.TheVariants as cause
-use Rattle.smx_text.specs.declared.fault.TextFault.{TextFault}
+use Rattle.smx_text.specs.declared.text_fault.Cause.{Cause}
+use Rattle.smx_text.specs.declared.text_fault.Cause.TheVariants as cause
+use Rattle.smx_text.specs.declared.text_fault.TextFault.{TextFault}
 use Rattle.smx_text.specs.Grammar.{Grammar, IsOneLine, header, line_text, beginning, full_text, Spells}
 use Rattle.smx_text.specs.Grammar.{IsBegun, GoesOn, IsNoLine, IsOneTooMany, Reaches, IsFault, Reads}
 use Rattle.smx_text.proofs.EachLemmas.{all_left, all_right}

@@ -11,7 +11,7 @@ use Rattle.smx_words.specs.LineReading.{IsReadAs}
 use Rattle.smx_words.specs.Words.{line_of}
 use Rattle.smx_words.specs.Spelling.{command_words, driver_words, process_words}
 use Rattle.smx_words.specs.Spellable.{FitsNumber, FitsDriver, FitsCommandIn}
-use Rattle.smx_text.specs.declared.fault.Cause.TheVariants as cause
+use Rattle.smx_text.specs.declared.text_fault.Cause.TheVariants as cause
 use Rattle.smx_text.specs.Grammar.{IsBegun, line_text}
 use Rattle.smx_text.specs.ProgramLines.{Line}
 use Rattle.smx_text.specs.ProgramLines as line

@@ -8,7 +8,7 @@ use Rattle.smx_types.specs.declared.driver.DriverSpec.{DriverSpec}
 use Rattle.smx_words.specs.Words.{line_of}
 use Rattle.smx_words.specs.Spelling.{command_words, driver_words, process_words}
 use Rattle.smx_words.specs.Spellable.{FitsNumber, FitsDriver, FitsCommandIn}
-use Rattle.smx_text.specs.declared.fault.Cause.{Cause}
+use Rattle.smx_text.specs.declared.text_fault.Cause.{Cause}
 use Rattle.smx_text.specs.Reading.{Refuses, AddsLine, RefusesLine}
 use Rattle.smx_text.proofs.ReadingLemmas.{refuses, on_added, on_refused}
 use Rattle.smx_text.specs.Grammar.{Continues, IsNoLine, IsOneLine, header, line_text}
@@ -22,7 +22,7 @@ use Rattle.smx_words.specs.Words.{AreWords}
 use Rattle.smx_words.proofs.LawLemmas.{command_spelled, driver_spelled, process_spelled, one_command}
 use Rattle.smx_words.proofs.LawLemmas.{one_driver, one_process}
 use Rattle.smx_text.proofs.VersionLemmas.{AreVersions}
-use Rattle.smx_text.proofs.WordLemmas.{one_spelling, first_word, end_spelled, one_line_of, differ}
+use Rattle.smx_text.proofs.LineWordLemmas.{one_spelling, first_word, end_spelled, one_line_of, differ}
 use Rattle.smx_types.specs.declared.version.Version.{Version}
 use Rattle.smx_types.specs.declared.version.Version.TheVariants.{V1, V2}
 

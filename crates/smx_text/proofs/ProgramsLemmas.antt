@@ -10,7 +10,7 @@ use Rattle.smx_text.specs.ProgramLines.{Line}
 use Rattle.smx_text.specs.ProgramLines as line
 use Rattle.smx_text.specs.ProgramsText.{FitsLine, body, IsAllowed, programs_grammar}
 use Rattle.smx_text.specs.Reading.{EndsAs, AddsLine, RefusesLine}
-use Rattle.smx_text.specs.declared.fault.Cause.TheVariants as cause
+use Rattle.smx_text.specs.declared.text_fault.Cause.TheVariants as cause
 use Rattle.smx_text.proofs.EachLemmas.{all_push}
 use Rattle.smx_text.proofs.ProgramsOrderLemmas.{a_driver, a_process, a_command, counts}
 use Rattle.smx_text.proofs.ProgramsFollowLemmas.{MayStand, AreMany, with_line, body_more, may_stand, version_stays}

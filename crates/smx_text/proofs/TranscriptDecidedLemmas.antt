@@ -23,7 +23,7 @@ use Rattle.smx_words.proofs.DecidedLineLemmas.{driver_reading, next_reading, des
 use Rattle.smx_words.proofs.DecidedLineLemmas.{link_reading, bind_reading, route_reading, message_reading}
 use Rattle.smx_words.proofs.DecidedLineLemmas.{full_reading, hung_reading}
 use Rattle.smx_words.proofs.ToldLemmas.{told_entry}
-use Rattle.smx_text.specs.declared.fault.Cause.TheVariants as cause
+use Rattle.smx_text.specs.declared.text_fault.Cause.TheVariants as cause
 use Rattle.smx_text.specs.declared.transcript.draft.Stage.{Stage}
 use Rattle.smx_text.specs.declared.transcript.draft.Stage.TheVariants as stage
 use Rattle.smx_text.specs.declared.transcript.draft.TranscriptDraft.{TranscriptDraft}

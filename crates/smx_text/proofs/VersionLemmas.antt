@@ -4,9 +4,9 @@ use Rattle.std.specs.Prelude.{◌⊎◌, [], IfErr, MatchResult}
 use Rattle.smx_types.specs.declared.version.Version.{Version}
 use Rattle.smx_types.specs.declared.version.Version.TheVariants.{V1, V2}
 use Rattle.smx_words.specs.Words.{LINE_FEED}
-use Rattle.smx_text.specs.declared.fault.Cause.{Cause}
-use Rattle.smx_text.specs.declared.fault.Cause.TheVariants as cause
-use Rattle.smx_text.specs.declared.fault.TextFault.{TextFault}
+use Rattle.smx_text.specs.declared.text_fault.Cause.{Cause}
+use Rattle.smx_text.specs.declared.text_fault.Cause.TheVariants as cause
+use Rattle.smx_text.specs.declared.text_fault.TextFault.{TextFault}
 use Rattle.smx_text.specs.Grammar.{Grammar, header, full_text, IsFault, Reads, ReadsAny, last_line}
 use Rattle.smx_text.proofs.GrammarLemmas.{IsWellMade, texts, Behind, Place, place, one_reading, beginning_and}
 use Rattle.smx_text.proofs.HasReadingLemmas.{HasReading}

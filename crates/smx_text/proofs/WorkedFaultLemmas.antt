@@ -3,9 +3,9 @@ use Rattle.std.proofs.Common.{◌≡◌, ◌≢◌, ℕ, ◌<◌, List, length, 
 use Rattle.std.proofs.Common.{Err, arith}
 use Rattle.std.specs.List.{AllByRecursion}
 use Rattle.smx_types.specs.declared.version.Version.{Version}
-use Rattle.smx_text.specs.declared.fault.Cause.{Cause}
-use Rattle.smx_text.specs.declared.fault.Cause.TheVariants as cause
-use Rattle.smx_text.specs.declared.fault.TextFault.{TextFault}
+use Rattle.smx_text.specs.declared.text_fault.Cause.{Cause}
+use Rattle.smx_text.specs.declared.text_fault.Cause.TheVariants as cause
+use Rattle.smx_text.specs.declared.text_fault.TextFault.{TextFault}
 use Rattle.smx_words.specs.Words.{AreWords, IsFree, SPACE, line_of}
 use Rattle.smx_words.proofs.LineLemmas.{same_free_words, words_free}
 use Rattle.smx_text.specs.Grammar.{Grammar, IsFault, ReadsAny, Spells}

@@ -26,12 +26,12 @@ use Rattle.smx_words.proofs.HexLemmas.{by_digits}
 use Rattle.smx_words.proofs.LawLemmas.{command_spelled, driver_spelled, process_spelled}
 use Rattle.smx_words.proofs.NumberLemmas.{decimal_digits, own}
 use Rattle.smx_words.proofs.SameCommandLemmas.{verb_is, verb_of}
-use Rattle.smx_text.specs.declared.fault.Cause.TheVariants as cause
+use Rattle.smx_text.specs.declared.text_fault.Cause.TheVariants as cause
 use Rattle.smx_text.specs.Grammar.{IsNoLine, IsOneLine, Reaches}
 use Rattle.smx_text.specs.ProgramsText.{IsAllowed, body, programs_grammar}
 use Rattle.smx_text.specs.WorkedFaults.{AreWrongPrograms, with_line_4}
 use Rattle.smx_text.proofs.ProgramsGrammarLemmas.{no_line, not_verb}
-use Rattle.smx_text.proofs.WordLemmas.{first_word, differ}
+use Rattle.smx_text.proofs.LineWordLemmas.{first_word, differ}
 use Rattle.smx_text.proofs.WorkedFaultLemmas.{told, wrong_programs}
 
 -- ---- line 4 of a text

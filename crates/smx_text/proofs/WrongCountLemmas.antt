@@ -14,7 +14,7 @@ use Rattle.smx_types.specs.declared.version.Version.{Version}
 use Rattle.smx_types.specs.declared.version.Version.TheVariants.{V1, V2}
 use Rattle.smx_words.specs.Spellable.{FitsDriver}
 use Rattle.smx_words.specs.Words.{LINE_FEED}
-use Rattle.smx_text.specs.declared.fault.Cause.TheVariants as cause
+use Rattle.smx_text.specs.declared.text_fault.Cause.TheVariants as cause
 use Rattle.smx_text.specs.declared.transcript.draft.Stage.TheVariants as stage
 use Rattle.smx_text.specs.declared.transcript.draft.TranscriptDraft.{TranscriptDraft}
 use Rattle.smx_text.specs.Drafts.{lines}

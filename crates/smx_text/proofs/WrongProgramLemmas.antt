@@ -13,7 +13,7 @@ use Rattle.smx_types.specs.declared.driver.DriverKind.TheVariants as kind
 use Rattle.smx_types.specs.declared.driver.DriverSpec.{DriverSpec}
 use Rattle.smx_types.specs.declared.version.Version.{Version}
 use Rattle.smx_types.specs.declared.version.Version.TheVariants.{V1, V2}
-use Rattle.smx_text.specs.declared.fault.Cause.TheVariants as cause
+use Rattle.smx_text.specs.declared.text_fault.Cause.TheVariants as cause
 use Rattle.smx_text.specs.Grammar.{IsBegun, beginning, header}
 use Rattle.smx_text.specs.ProgramLines.{Line}
 use Rattle.smx_text.specs.ProgramLines as line
@@ -24,7 +24,7 @@ use Rattle.smx_text.proofs.ProgramsGrammarLemmas.{refused_line}
 use Rattle.smx_text.proofs.ProgramsLemmas.{longer_begun, misplaced, too_many}
 use Rattle.smx_text.proofs.BodyLemmas.{added_process}
 use Rattle.smx_text.proofs.ReadingLemmas.{beginning_more}
-use Rattle.smx_text.proofs.WordLemmas.{differ}
+use Rattle.smx_text.proofs.LineWordLemmas.{differ}
 use Rattle.smx_text.proofs.WorkedFaultLemmas.{wrong_programs, wrong_in_each}
 use Rattle.smx_text.proofs.WrongCommandLemmas.{before, before_allowed, wrong_at_4}
 

@@ -28,7 +28,7 @@ use Rattle.smx_words.proofs.NumberLemmas.{own}
 use Rattle.smx_words.proofs.SameCommandLemmas.{verb_first, verb_of}
 use Rattle.smx_words.proofs.SameReplyLemmas.{reply_verb_of, verb_again, verb_at}
 use Rattle.smx_words.proofs.SameWordLemmas.{all_fault, fault_line, first_of_these, found_fault}
-use Rattle.smx_text.specs.declared.fault.Cause.TheVariants as cause
+use Rattle.smx_text.specs.declared.text_fault.Cause.TheVariants as cause
 use Rattle.smx_text.specs.declared.transcript.draft.Stage.TheVariants as stage
 use Rattle.smx_text.specs.declared.transcript.draft.TranscriptDraft.{TranscriptDraft}
 use Rattle.smx_text.specs.Drafts.{lines}
@@ -42,7 +42,7 @@ use Rattle.smx_text.proofs.TranscriptDrafts.{new_view, takes}
 use Rattle.smx_text.proofs.TranscriptGrammarLemmas.{kind_at, kind_first, kind_of, not_at_end, refused_line}
 use Rattle.smx_text.proofs.TranscriptGrammarLemmas.{spelling}
 use Rattle.smx_text.proofs.TranscriptLemmas.{misplaced, nothing_begun}
-use Rattle.smx_text.proofs.WordLemmas.{first_word, differ}
+use Rattle.smx_text.proofs.LineWordLemmas.{first_word, differ}
 use Rattle.smx_text.proofs.WorkedFaultLemmas.{told, wrong_transcript, wrong_transcript_in_each}
 use Rattle.smx_words.proofs.ToldLemmas.{no_told_entry}
 

@@ -1,7 +1,7 @@
 use Rattle.std.proofs.Common.{◌++◌, ◌∷◌, [], List, ℕ, arith, ap, refl, sym, ◌∙◌}
 use Rattle.smx_types.specs.declared.link.Link.{Link}
 use Rattle.smx_config.specs.UnlinkTargets.{may_unlink}
-use Rattle.smx_tables.proofs.TableLemmas.{one_got, kept_more, left_more}
+use Rattle.smx_tables.proofs.LinkWalkLemmas.{one_got, kept_more, left_more}
 use Rattle.smx_config.proofs.commands_of_links.all_targets.Goals as goal
 use Rattle.smx_config.proofs.commands_of_links.all_targets.Goals.{in-Some+then-may_unlink+in_ok-push, in-Some+else-may_unlink, in_default}
 

@@ -2,7 +2,7 @@ use Rattle.std.proofs.Common.{rules, ◌≡◌, ◌∷◌, [], All, refl, subst,
 use Rattle.std.proofs.lemmas.List.{length-append}
 use Rattle.smx_shared.specs.Seats.{Seated}
 use Rattle.smx_run.specs.Meeting.{IsBorneOutBy}
-use Rattle.smx_run.specs.declared.worker.Done.{Done}
+use Rattle.smx_run.specs.declared.worker.EndedProgram.{EndedProgram}
 use Rattle.smx_run.proofs.HandLemmas.{all_more, first_then_rest}
 use Rattle.smx_run.proofs.RunLemmas.{still_more, bears_out_first, bears_out_next, all_first, map_behind, next_taken, all_taken_off}
 use Rattle.smx_run.proofs.meeting.meet_all.Goals as goal
@@ -21,7 +21,7 @@ loop-done-preserved c =
       rest = next_taken _ _ _ _ _ before.rest c.in-Some.ensures.steps.0;
       room = search rules;
       counted = omega (arith, before.counted, c.push_reserved-in-loop-done.ensures.len, length-append c.loop-done.yielded (c.in-Some.done ∷ []));
-      fronts = map_behind (λ (d : Done Seated). d.front) _ _ _ _ c.in-Some.done before.fronts c.push_reserved-in-loop-done.ensures.items;
+      fronts = map_behind (λ (d : EndedProgram Seated). d.front) _ _ _ _ c.in-Some.done before.fronts c.push_reserved-in-loop-done.ensures.items;
     }
 
 pub returns-clause-met : goal.returns-clause-met

@@ -5,7 +5,7 @@ use Rattle.smx_types.specs.declared.driver.DriverSpec.{DriverSpec}
 use Rattle.smx_types.specs.declared.command.Command.{Command}
 use Rattle.smx_types.specs.declared.command.Entry.{Entry}
 use Rattle.smx_model.specs.Histories.{call_of}
-use Rattle.smx_shared.specs.declared.fault.ApplyFault.TheVariants as apply
+use Rattle.smx_shared.specs.declared.shared_fault.ApplyFault.TheVariants as apply
 use Rattle.smx_run.specs.Fronts.{AreFrontsFrom}
 use Rattle.smx_run.specs.ProgramOrder.{BeginsCalls, calls_of, calls_from}
 use Rattle.smx_run.proofs.StopLemmas.{left_of, memory_left, on_err, room_left}

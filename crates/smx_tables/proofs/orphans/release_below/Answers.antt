@@ -8,7 +8,7 @@ use Rattle.smx_tables.specs.TouchedStreams.{is_watched, AreReleased}
 use Rattle.smx_tables.proofs.HungLemmas.{left_twice, none_went, there_before}
 use Rattle.smx_tables.proofs.OrphanIdLemmas.{one_released}
 use Rattle.smx_tables.proofs.ReleaseLemmas.{less_this, loose_held, releases_this}
-use Rattle.smx_tables.proofs.TableLemmas.{among_all, one_got}
+use Rattle.smx_tables.proofs.LinkWalkLemmas.{among_all, one_got}
 use Rattle.smx_tables.proofs.TouchLemmas.{release_touches_on}
 use Rattle.smx_tables.proofs.WatchLemmas.{all_at, all_in_all, all_more, all_watch_on, listed_last, none_by, released_is_watched, still_listed, still_listed_before, watched_in_all, watched_less}
 use Rattle.smx_tables.proofs.orphans.release_below.Goals as goal

@@ -1,6 +1,6 @@
 use Rattle.std.proofs.Common.{arith}
 use Rattle.smx_model.specs.Views.{view_of_link}
-use Rattle.smx_tables.proofs.TableLemmas.{none_past, shown_more}
+use Rattle.smx_tables.proofs.LinkWalkLemmas.{none_past, shown_more}
 use Rattle.smx_tables.proofs.shown_lines.are_links_shown.Goals as goal
 use Rattle.smx_tables.proofs.shown_lines.are_links_shown.Goals.{in-Some+else-not-is_link_shown, in_default}
 

@@ -4,7 +4,7 @@ use Rattle.smx_links.specs.Masks.{IsWithin}
 use Rattle.smx_links.specs.Pairs.{AreCounts}
 use Rattle.smx_links.proofs.CountLemmas.{counts_less, some_counted}
 use Rattle.smx_links.proofs.LowerLemmas.{found_has}
-use Rattle.smx_links.proofs.TableLemmas.{parts_less, lent}
+use Rattle.smx_links.proofs.LinkTableLemmas.{parts_less, lent}
 use Rattle.smx_links.proofs.StaleLemmas.{lost_more, none_lost}
 use Rattle.smx_links.proofs.table.LinkTable.remove.Goals as goal
 

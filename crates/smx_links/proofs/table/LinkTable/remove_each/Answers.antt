@@ -2,7 +2,7 @@ use Rattle.std.proofs.Common.{◌≡◌, ℕ, List, Bool, not, length, sym, ap, 
 use Rattle.smx_types.specs.declared.link.Link.{Link}
 use Rattle.smx_links.specs.LinkLists.{is_one_of}
 use Rattle.smx_links.specs.Pairs.{AreCounts}
-use Rattle.smx_links.proofs.TableLemmas.{parts_less, lent}
+use Rattle.smx_links.proofs.LinkTableLemmas.{parts_less, lent}
 use Rattle.smx_links.proofs.table.LinkTable.remove_each.Goals as goal
 
 pub invariant_of-self : goal.invariant_of-self

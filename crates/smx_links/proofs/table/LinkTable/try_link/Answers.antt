@@ -2,7 +2,7 @@ use Rattle.std.proofs.Common.{◌≡◌, ◌<◌, length, sym, ap, ◌∙◌, su
 use Rattle.smx_types.specs.declared.link.Link.{Link}
 use Rattle.smx_links.specs.LinkLists.{LinkList, refusal}
 use Rattle.smx_links.specs.TableFields.{list_of_parts}
-use Rattle.smx_links.proofs.TableLemmas.{IsFree, is_free, parts_push, lent}
+use Rattle.smx_links.proofs.LinkTableLemmas.{IsFree, is_free, parts_push, lent}
 use Rattle.smx_links.proofs.CountLemmas.{count_few, counts_more, entry_is}
 use Rattle.smx_links.proofs.table.LinkTable.try_link.Goals as goal
 

@@ -1,6 +1,6 @@
 use Rattle.std.proofs.Common.{◌≡◌, ap, arith, length, position, ◌∙◌, sym}
 use Rattle.smx_queues.specs.QueueTable.{empty_queue, least_vacant}
-use Rattle.smx_queues.proofs.TableLemmas.{goes, vacant_found, vacant_not_found}
+use Rattle.smx_queues.proofs.QueueTableLemmas.{goes, vacant_found, vacant_not_found}
 use Rattle.smx_queues.proofs.SoundLemmas.{new_is_bare, seen_again, seen_push, view_slots, queues_of}
 use Rattle.smx_queues.proofs.queues.Queues.add_place.Goals as goal
 

@@ -1,5 +1,5 @@
 use Rattle.std.proofs.Common.{◌∙◌}
-use Rattle.smx_queues.proofs.TableLemmas.{place_below, clearing_starts, clearing_goes_on, cleared_queues}
+use Rattle.smx_queues.proofs.QueueTableLemmas.{place_below, clearing_starts, clearing_goes_on, cleared_queues}
 use Rattle.smx_queues.proofs.queues.Queues.clear.Goals as goal
 
 pub loop-message-init : goal.loop-message-init

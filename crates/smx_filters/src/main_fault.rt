@@ -2,8 +2,8 @@
 
 ghost use Rattle.std.specs.Prelude.{◌≡◌};
 ghost use Rattle.smx_filters.specs.Statuses.{status_of};
-ghost use Rattle.smx_filters.specs.declared.fault.MainFault.TheVariants.{Refused};
-ghost use Rattle.smx_run.specs.declared.fault.RunFault.TheVariants.{NoMemory};
+ghost use Rattle.smx_filters.specs.declared.main_fault.MainFault.TheVariants.{Refused};
+ghost use Rattle.smx_run.specs.declared.run_fault.RunFault.TheVariants.{NoMemory};
 
 use smx_config::ConfigFault;
 use smx_run::RunFault;
@@ -61,7 +61,7 @@ impl From<NoMemory> for MainFault {
 
 impl From<TextFault> for MainFault {
     ghost use Rattle.std.specs.Prelude.{◌≡◌};
-    ghost use Rattle.smx_filters.specs.declared.fault.MainFault.TheVariants.{Text};
+    ghost use Rattle.smx_filters.specs.declared.main_fault.MainFault.TheVariants.{Text};
 
     ghost from_gives = { λ f fault. fault ≡ Text f };
 

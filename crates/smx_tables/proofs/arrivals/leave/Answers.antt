@@ -1,7 +1,7 @@
 use Rattle.std.proofs.Common.{List, ap}
 use Rattle.smx_types.specs.declared.driver.DriverSpec.{DriverSpec}
 use Rattle.smx_tables.proofs.QueueLemmas.{drivers_taken, not_taken_is, taken_is}
-use Rattle.smx_tables.proofs.queues.leave.Goals as goal
+use Rattle.smx_tables.proofs.arrivals.leave.Goals as goal
 
 pub returns-clause-value : goal.returns-clause-value
 returns-clause-value c = taken_is c.args.lists.now c.take.new.self c.args.place c.take.result c.take.ensures.left

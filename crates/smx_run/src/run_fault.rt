@@ -48,7 +48,7 @@ impl From<ConfigFault> for RunFault {
 
 impl From<NoMemory> for RunFault {
     ghost use Rattle.std.specs.Prelude.{◌≡◌};
-    ghost use Rattle.smx_run.specs.declared.fault.RunFault.TheVariants as run;
+    ghost use Rattle.smx_run.specs.declared.run_fault.RunFault.TheVariants as run;
 
     ghost from_gives = { λ _ e. e ≡ run.NoMemory };
 
@@ -73,7 +73,7 @@ impl From<ApplyFault> for RunFault {
 
 impl From<CloseFault> for RunFault {
     ghost use Rattle.std.specs.Prelude.{◌≡◌};
-    ghost use Rattle.smx_run.specs.declared.fault.RunFault.TheVariants as run;
+    ghost use Rattle.smx_run.specs.declared.run_fault.RunFault.TheVariants as run;
 
     ghost from_gives = { λ _ e. e ≡ run.Held };
 
@@ -86,7 +86,7 @@ impl From<CloseFault> for RunFault {
 
 impl From<NoMemory> for GatherFault {
     ghost use Rattle.std.specs.Prelude.{◌≡◌};
-    ghost use Rattle.smx_run.specs.declared.fault.GatherFault.TheVariants as gathered;
+    ghost use Rattle.smx_run.specs.declared.run_fault.GatherFault.TheVariants as gathered;
 
     ghost from_gives = { λ _ e. e ≡ gathered.NoMemory };
 

@@ -1,7 +1,7 @@
 //! Why a command was not performed, in the words that a program prints.
 
 ghost use Rattle.std.specs.Prelude.{◌≡◌};
-ghost use Rattle.smx_shared.specs.declared.fault.ApplyFault.TheVariants as apply;
+ghost use Rattle.smx_shared.specs.declared.shared_fault.ApplyFault.TheVariants as apply;
 
 use smx_types::NoMemory;
 use std::alloc::{AllocError, AllocFailed};

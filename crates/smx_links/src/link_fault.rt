@@ -17,7 +17,7 @@ pub enum LinkFault {
 
 impl From<NoMemory> for LinkFault {
     ghost use Rattle.std.specs.Prelude.{◌≡◌};
-    ghost use Rattle.smx_links.specs.declared.fault.LinkFault.TheVariants as fault;
+    ghost use Rattle.smx_links.specs.declared.link_fault.LinkFault.TheVariants as fault;
 
     ghost from_gives = { λ _ e. e ≡ fault.NoMemory };
 

@@ -19,7 +19,7 @@ pub enum StreamFault {
 
 impl From<NoMemory> for StreamFault {
     ghost use Rattle.std.specs.Prelude.{◌≡◌};
-    ghost use Rattle.smx_streams.specs.declared.fault.StreamFault.TheVariants as fault;
+    ghost use Rattle.smx_streams.specs.declared.stream_fault.StreamFault.TheVariants as fault;
 
     ghost from_gives = { λ _ e. e ≡ fault.NoMemory };
 

@@ -19,7 +19,7 @@ pub enum ConfigFault {
 
 impl From<NoMemory> for ConfigFault {
     ghost use Rattle.std.specs.Prelude.{◌≡◌};
-    ghost use Rattle.smx_config.specs.declared.fault.ConfigFault.TheVariants as config;
+    ghost use Rattle.smx_config.specs.declared.config_fault.ConfigFault.TheVariants as config;
 
     ghost from_gives = { λ _ e. e ≡ config.NoMemory };
 

@@ -12,7 +12,7 @@ use Rattle.smx_types.specs.declared.stream.StreamId.{StreamId}
 use Rattle.smx_model.specs.Paths.{reaches}
 use Rattle.smx_model.specs.SoundLinks.{AreLinksSound, AreIdsRising}
 use Rattle.smx_model.specs.Standing.{is_below}
-use Rattle.smx_links.specs.declared.fault.LinkFault.{LinkFault}
+use Rattle.smx_links.specs.declared.link_fault.LinkFault.{LinkFault}
 use Rattle.smx_links.specs.declared.links.Lower.{Lower}
 use Rattle.smx_links.specs.Ids.{HasIds}
 use Rattle.smx_links.specs.LinkLists.{LinkList, ordinary_of, refusal}

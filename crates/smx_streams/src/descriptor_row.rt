@@ -1,7 +1,7 @@
 //! The descriptors of one process, by their numbers.
 
 ghost use Rattle.std.specs.Prelude.{◌≡◌, ◌<◌, ◌↔◌, [], None, length, slice_set, slice_index_or, IfOk, OnOk, OnErr, IsOk};
-ghost use Rattle.smx_streams.specs.Numbers.{with_room};
+ghost use Rattle.smx_streams.specs.RowRoom.{with_room};
 
 use smx_types::{MAX_DESCRIPTORS, NoMemory, StreamId};
 use std::alloc::Global;
@@ -9,14 +9,14 @@ use std::marker::Model;
 
 /// A stream or none at each number. There is no room before the first open, and room for all numbers from then on.
 #[derive(Debug, Drop)]
-pub struct Numbers {
+pub struct DescriptorRow {
     cells: Vec<Option<StreamId>>,
 }
 
-impl Model for Numbers {
+impl Model for DescriptorRow {
     ghost use Rattle.std.specs.Prelude.{List, Option};
     ghost use Rattle.smx_types.specs.declared.stream.StreamId.{StreamId};
-    ghost use Rattle.smx_streams.specs.Numbers.{AreAllOrNone};
+    ghost use Rattle.smx_streams.specs.RowRoom.{AreAllOrNone};
 
     ghost Value = { List (Option StreamId) };
 
@@ -25,11 +25,11 @@ impl Model for Numbers {
     ghost invariant = { λ n. AreAllOrNone n.cells.items };
 }
 
-impl Numbers {
-    pub fn new(alloc: Global) -> Numbers
+impl DescriptorRow {
+    pub fn new(alloc: Global) -> DescriptorRow
         ensures { result ≡ [] }
     {
-        Numbers {
+        DescriptorRow {
             cells: Vec::new(alloc),
         }
     }
@@ -62,10 +62,10 @@ impl Numbers {
         self.cells[fd as usize] = cell;
     }
 
-    pub fn copy(&self, alloc: Global) -> Result<Numbers, NoMemory>
+    pub fn copy(&self, alloc: Global) -> Result<DescriptorRow, NoMemory>
         ensures { IfOk result (λ n. n ≡ self.now) }
     {
-        Ok(Numbers {
+        Ok(DescriptorRow {
             cells: Vec::from_slice(alloc, &self.cells)?,
         })
     }

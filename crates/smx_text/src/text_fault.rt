@@ -1,7 +1,7 @@
 //! Why a text is refused.
 
 ghost use Rattle.std.specs.Prelude.{◌≡◌};
-ghost use Rattle.smx_text.specs.declared.fault.Cause.TheVariants.{NoMemory as memory};
+ghost use Rattle.smx_text.specs.declared.text_fault.Cause.TheVariants.{NoMemory as memory};
 
 use smx_types::NoMemory;
 use std::alloc::AllocFailed;
