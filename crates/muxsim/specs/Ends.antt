@@ -37,7 +37,8 @@ pub record Devices : Type 0 where
 -- the programs were run, and the status is that of what came of it
 pub record EndsRun (fronts : Bool) (workers : ℕ) (d : Devices) (code : ExitCode) : Type 0 where
   pub answer : Result (Unit {0}) MainFault
-  pub ran : RunsText fronts workers d.had d.left d.ended d.read_failures d.before d.after d.flushed d.write_failures answer
+  pub ran : RunsText fronts workers d.had d.left d.ended d.read_failures d.before d.after d.flushed d.write_failures
+      answer
   pub status : exit_status code ≡ status_of_outcome (outcome_of_writing answer)
 
 -- the transcript was judged, and the status is that of what came of it

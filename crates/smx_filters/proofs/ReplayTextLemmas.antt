@@ -1,5 +1,6 @@
 -- What a replay says of the input that was read whole, and the laws of replays over bytes.
-use Rattle.std.proofs.Common.{◌≡◌, ◌≢◌, ℕ, Bool, true, List, length, Option, Vec, Result, Ok, Err, refl, sym, ap, subst, ◌∙◌, arith}
+use Rattle.std.proofs.Common.{◌≡◌, ◌≢◌, ℕ, Bool, true, List, length, Option, Vec, Result, Ok, Err, refl, sym, ap, subst}
+use Rattle.std.proofs.Common.{◌∙◌, arith}
 use Rattle.std.specs.Prelude.{IfErr, IsErrAnd, OnErr, OnOk}
 use Rattle.std.specs.Global.{Global}
 use Rattle.std.specs.Io.KnownBytes.{Appends}
@@ -32,7 +33,8 @@ abbrev CanBeTold : Type 0
 CanBeTold = (t r : Transcript) → IsAllowed t.version t → IsReplayOf t r → IsSpellable r → IsAllowed r.version r
 
 abbrev HasOneReading : Type 0
-HasOneReading = (bytes : List ℕ) (r s : Result Transcript TextFault) → ReadsAny transcript_grammar bytes r → ReadsAny transcript_grammar bytes s
+HasOneReading = (bytes : List ℕ) (r s : Result Transcript TextFault) → ReadsAny transcript_grammar bytes r
+    → ReadsAny transcript_grammar bytes s
     → IfErr r (λ f. f.cause ≢ NoMemory) → IfErr s (λ f. f.cause ≢ NoMemory) → r ≡ s
 
 abbrev HasOneReplay : Type 0
@@ -47,11 +49,13 @@ IsJudgedLegal = (t r : Transcript) → IsReplayOf t r → IsVerdict r.drivers r.
 -- ---- answers
 
 -- a transcript that is spelled is within the limits of its own version
-allowed_of : (version : Version) (bytes : List ℕ) (t : Transcript) → Spells (transcript_grammar version) bytes t → IsAllowed t.version t
+allowed_of : (version : Version) (bytes : List ℕ) (t : Transcript) → Spells (transcript_grammar version) bytes t
+    → IsAllowed t.version t
 allowed_of version bytes t h = subst (λ (v : Version). IsAllowed v t) (sym h.allowed.version_is) h.allowed
 
 -- the text of the replay of what was read
-pub gives : CanBeTold → (bytes input : List ℕ) → bytes ≡ input → (t : Transcript) → ReadsAny transcript_grammar bytes (Ok t)
+pub gives : CanBeTold → (bytes input : List ℕ) → bytes ≡ input → (t : Transcript)
+    → ReadsAny transcript_grammar bytes (Ok t)
     → (text : Vec ℕ Global) → IsReplayText t text.items → Answers replaying input (items_of (Ok text))
 gives told bytes input same t read text h = (
   read.0,
@@ -60,30 +64,41 @@ gives told bytes input same t read text h = (
   record {
     replay = h.replay;
     replays = h.replays;
-    written = record { allowed = told t h.replay (allowed_of read.0 bytes t read.1) h.replays h.spellable; text = h.written };
+    written =
+        record { allowed = told t h.replay (allowed_of read.0 bytes t read.1) h.replays h.spellable; text = h.written };
   },
 )
 
 -- where the text is refused, its fault is the answer
-pub text_refused : (bytes input : List ℕ) → bytes ≡ input → (f : TextFault) (answer : Result (Vec ℕ Global) MainFault) → IsErrAnd answer (λ e. e ≡ Text f)
+pub text_refused : (bytes input : List ℕ) → bytes ≡ input → (f : TextFault) (answer : Result (Vec ℕ Global) MainFault)
+    → IsErrAnd answer (λ e. e ≡ Text f)
     → IsFaultOf replaying bytes f → Answers replaying input (items_of answer)
 text_refused bytes input same f (Ok v) is a = absurd is
 text_refused bytes input same f (Err e) is a =
-    subst (λ (x : MainFault). Answers replaying input (Err x)) (sym is) (subst (λ (given : List ℕ). IsFaultOf replaying given f) same a)
+    subst (λ (x : MainFault). Answers replaying input (Err x)) (sym is)
+    (subst (λ (given : List ℕ). IsFaultOf replaying given f) same a)
 
 -- and where the drivers are, or memory was wanting
-pub replay_refused : (bytes input : List ℕ) → bytes ≡ input → (t : Transcript) → ReadsAny transcript_grammar bytes (Ok t)
-    → (f : ConfigFault) (answer : Result (Vec ℕ Global) MainFault) → IsErrAnd answer (λ e. e ≡ Refused (run_fault_of f)) → RefusesDrivers t.drivers f
+pub replay_refused : (bytes input : List ℕ) → bytes ≡ input → (t : Transcript)
+    → ReadsAny transcript_grammar bytes (Ok t)
+    → (f : ConfigFault) (answer : Result (Vec ℕ Global) MainFault) → IsErrAnd answer (λ e. e ≡ Refused (run_fault_of f))
+    → RefusesDrivers t.drivers f
     → Answers replaying input (items_of answer)
 replay_refused bytes input same t read f (Ok v) is refused = absurd is
 replay_refused bytes input same t read f (Err e) is refused =
-    subst (λ (x : MainFault). Answers replaying input (Err x)) (sym is)
-    (read.0, t, subst (λ (bs : List ℕ). Spells (transcript_grammar read.0) bs t) same read.1, alone_of t.drivers f refused)
+    subst (λ (x : MainFault). Answers replaying input (Err x)) (sym is) (
+      read.0,
+      t,
+      subst (λ (bs : List ℕ). Spells (transcript_grammar read.0) bs t) same read.1,
+      alone_of t.drivers f refused,
+    )
 
 -- ---- writing
 
-module _ (had left : Option (List ℕ)) (ended : Bool) (failures : ℕ) (before after : Option (List ℕ)) (flushed : Bool) (written : ℕ) (v : Vec ℕ Global) (read : List ℕ)
-    (h : IsInput had left ended failures (Ok v) read) (bytes : List ℕ) (given : GivesFor replaying v.items tt bytes) where
+module _ (had left : Option (List ℕ)) (ended : Bool) (failures : ℕ) (before after : Option (List ℕ)) (flushed : Bool)
+    (written : ℕ) (v : Vec ℕ Global) (read : List ℕ)
+    (h : IsInput had left ended failures (Ok v) read) (bytes : List ℕ)
+    (given : GivesFor replaying v.items tt bytes) where
   whole : IsWhole had ended read
   whole = h.whole
 
@@ -94,8 +109,10 @@ module _ (had left : Option (List ℕ)) (ended : Bool) (failures : ℕ) (before 
   gives_read = subst (λ (input : List ℕ). GivesFor replaying input tt bytes) h.answered given
 
   -- what was given was written, or writing failed
-  pub written_out : (answer : Result (Unit {0}) MainFault) → OnOk answer (Appends before after bytes) → OnOk answer (flushed ≡ true) → OnOk answer (written ≡ 0)
-      → OnErr answer (AppendsBeginning before after bytes) → IfErr answer (λ fault. fault ≡ WriteFailed) → OnErr answer (written ≡ 1)
+  pub written_out : (answer : Result (Unit {0}) MainFault) → OnOk answer (Appends before after bytes)
+      → OnOk answer (flushed ≡ true) → OnOk answer (written ≡ 0)
+      → OnErr answer (AppendsBeginning before after bytes) → IfErr answer (λ fault. fault ≡ WriteFailed)
+      → OnErr answer (written ≡ 1)
       → FiltersText replaying had left ended failures before after flushed written answer
   written_out (Ok done) appended out fine beginning fault failed = record {
     read = read;
@@ -122,7 +139,8 @@ module _ (had left : Option (List ℕ)) (ended : Bool) (failures : ℕ) (before 
       λ long. let over : ok ≡ Err TooLong = h.too_long.1 long in absurd cc,
     );
     read_failed = (
-      λ is. let same : Err e ≡ Err ReadFailed = is in let other : WriteFailed ≡ ReadFailed = sym fault ∙ cc in absurd cc,
+      λ is. let same : Err e ≡ Err ReadFailed = is in let other : WriteFailed ≡ ReadFailed = sym fault ∙ cc in
+          absurd cc,
       λ broken. let over : ok ≡ Err ReadFailed = h.read_failed.1 broken in absurd cc,
     );
     write_failed = (λ is. failed, λ broken. ap Err fault);
@@ -133,7 +151,8 @@ module _ (had left : Option (List ℕ)) (ended : Bool) (failures : ℕ) (before 
 -- ---- laws
 
 -- one text spells one transcript
-one_spelled : HasOneReading → (bytes : List ℕ) (v w : Version) (t u : Transcript) → Spells (transcript_grammar v) bytes t → Spells (transcript_grammar w) bytes u → t ≡ u
+one_spelled : HasOneReading → (bytes : List ℕ) (v w : Version) (t u : Transcript)
+    → Spells (transcript_grammar v) bytes t → Spells (transcript_grammar w) bytes u → t ≡ u
 one_spelled reading bytes v w t u h k =
     let one : Result Transcript TextFault = Ok t in
     let other : Result Transcript TextFault = Ok u in
@@ -141,11 +160,14 @@ one_spelled reading bytes v w t u h k =
     cc
 
 -- which is its one text
-its_text : (version : Version) (bytes : List ℕ) (t : Transcript) → Spells (transcript_grammar version) bytes t → bytes ≡ transcript_text t
-its_text version bytes t h = h.text ∙ ap (λ (v : Version). full_text (transcript_grammar v) t) (sym h.allowed.version_is)
+its_text : (version : Version) (bytes : List ℕ) (t : Transcript) → Spells (transcript_grammar version) bytes t
+    → bytes ≡ transcript_text t
+its_text version bytes t h =
+    h.text ∙ ap (λ (v : Version). full_text (transcript_grammar v) t) (sym h.allowed.version_is)
 
 -- two replays of one text are written alike
-pub one_replay : HasOneReading → HasOneReplay → (input one other : List ℕ) (done : Unit {0}) → GivesFor replaying input done one → GivesFor replaying input done other
+pub one_replay : HasOneReading → HasOneReplay → (input one other : List ℕ) (done : Unit {0})
+    → GivesFor replaying input done one → GivesFor replaying input done other
     → one ≡ other
 one_replay reading determined input one other done (v, t, spells, h) (w, u, spells_too, k) =
     let same : t ≡ u = one_spelled reading input v w t u spells spells_too in
@@ -153,12 +175,14 @@ one_replay reading determined input one other done (v, t, spells, h) (w, u, spel
     h.written.text ∙ ap transcript_text (determined u h.replay k.replay first k.replays) ∙ sym k.written.text
 
 -- a legal one is given back
-pub given_back : HasOneReading → HasOneReplay → IsItsOwn → (input line output : List ℕ) (done : Unit {0}) → GivesFor checking input Legal line
+pub given_back : HasOneReading → HasOneReplay → IsItsOwn → (input line output : List ℕ) (done : Unit {0})
+    → GivesFor checking input Legal line
     → GivesFor replaying input done output → output ≡ input
 given_back reading determined own input line output done (v, t, spells, judged) (w, u, spells_too, k) =
     let same : u ≡ t = one_spelled reading input w v u t spells_too spells in
     let replays : IsReplayOf t k.replay = subst (λ (x : Transcript). IsReplayOf x k.replay) same k.replays in
-    k.written.text ∙ ap transcript_text (determined t k.replay t replays (own t judged.can_be_had judged.judged)) ∙ sym (its_text v input t spells)
+    k.written.text ∙ ap transcript_text (determined t k.replay t replays (own t judged.can_be_had judged.judged))
+    ∙ sym (its_text v input t spells)
 
 -- and what is given is legal
 pub judged_legal : IsJudgedLegal → (input output : List ℕ) (done : Unit {0}) → GivesFor replaying input done output

@@ -1,5 +1,6 @@
 -- What a check says of the bytes that it read, and what it writes.
-use Rattle.std.specs.Prelude.{◌≡◌, ℕ, Bool, List, [], ◌∷◌, ◌++◌, length, Option, Result, Ok, Err, String, codes, string_bytes}
+use Rattle.std.specs.Prelude.{◌≡◌, ℕ, Bool, List, [], ◌∷◌, ◌++◌, length, Option, Result, Ok, Err, String, codes}
+use Rattle.std.specs.Prelude.{string_bytes}
 use Rattle.std.specs.Global.{Global}
 use Rattle.std.specs.Fmt.{decimal}
 use Rattle.smx_types.specs.declared.transcript.Transcript.{Transcript}
@@ -33,8 +34,8 @@ pub record IsJudged (t : Transcript) (verdict : Verdict) (output : List ℕ) : T
   -- The output is the line of that verdict, with the number of the entries, and nothing else.
   pub written : output ≡ verdict_line (length t.entries) verdict
 
--- a check reads a transcript, writes the line of the verdict on it, and answers that verdict; or it refuses the drivers,
--- or memory was wanting
+-- a check reads a transcript, writes the line of the verdict on it, and answers that verdict; or it refuses the
+-- drivers, or memory was wanting
 abbrev pub checking : Filter Transcript TranscriptLine Verdict
 checking = record {
   grammar = transcript_grammar;

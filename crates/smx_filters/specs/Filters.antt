@@ -1,5 +1,6 @@
 -- A filter reads the whole input, and then writes what it makes of it.
-use Rattle.std.specs.Prelude.{◌≡◌, ◌≢◌, ℕ, ◌+◌, ◌<◌, ◌≤◌, ◌↔◌, ◌⊎◌, Bool, true, false, List, length, Option, Result, Ok, Err, IfOk, IfErr, IsErrOf}
+use Rattle.std.specs.Prelude.{◌≡◌, ◌≢◌, ℕ, ◌+◌, ◌<◌, ◌≤◌, ◌↔◌, ◌⊎◌, Bool, true, false, List, length, Option, Result, Ok}
+use Rattle.std.specs.Prelude.{Err, IfOk, IfErr, IsErrOf}
 use Rattle.std.specs.Io.KnownBytes.{Consumes, Appends, Keeps}
 use Rattle.smx_types.specs.declared.version.Version.{Version}
 use Rattle.smx_text.specs.Grammar.{Grammar, ReadsAny, Spells}
@@ -24,7 +25,8 @@ pub record Filter (V K T : Type 0) : Type 1 where
 module _ {V K T : Type 0} (f : Filter V K T) where
   -- the input spells a value in some version, for which this may be answered and written
   abbrev pub GivesFor : List ℕ → T → List ℕ → Type 0
-  GivesFor input answer output = (version : Version) × (v : V) × Spells (f.grammar version) input v × f.Gives v answer output
+  GivesFor input answer output =
+      (version : Version) × (v : V) × Spells (f.grammar version) input v × f.Gives v answer output
 
   -- the input spells a value in some version, which may be refused so
   abbrev pub RefusesFor : List ℕ → RunFault → Type 0

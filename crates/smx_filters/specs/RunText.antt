@@ -42,7 +42,8 @@ pub record IsFrontsTextFor (programs : ProgramLists) (output : List ℕ) : Type 
 
 -- the transcript of the report in which each program comes whole, by rising number; there is one such report at most
 pub record IsTranscriptInTurn (programs : ProgramLists) (output : List ℕ) : Type 0 where
-  -- There is a report that is promised for these programs, to be told in their version, with one program after the other,
+  -- There is a report that is promised for these programs, to be told in their version, with one program after the
+  -- other,
   pub report : Transcript
   pub promised : IsReportOf programs report
   pub version : report.version ≡ programs.version
@@ -50,7 +51,8 @@ pub record IsTranscriptInTurn (programs : ProgramLists) (output : List ℕ) : Ty
   -- and the output is its transcript, and nothing else.
   pub written : SpellsTranscript output report
 
--- what so many workers write: the fronts, or the transcript, which one worker alone makes of one program after the other
+-- what so many workers write: the fronts, or the transcript, which one worker alone makes of one program after the
+-- other
 abbrev pub IsWrittenFor : Bool → ℕ → ProgramLists → List ℕ → Type 0
 IsWrittenFor true workers programs output = IsFrontsTextFor programs output
 IsWrittenFor false zero programs output = IsTranscriptFor programs output

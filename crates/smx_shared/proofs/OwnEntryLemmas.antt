@@ -1,5 +1,6 @@
 -- Histories that begin alike, and the entries of one process in them.
-use Rattle.std.proofs.Common.{◌≡◌, ◌≢◌, ℕ, ◌+◌, ◌<◌, ◌≤◌, List, [], ◌∷◌, ◌++◌, Bool, refl, sym, ap, ◌∙◌, append_assoc, append-nil, arith, eq-eqb, cond}
+use Rattle.std.proofs.Common.{◌≡◌, ◌≢◌, ℕ, ◌+◌, ◌<◌, ◌≤◌, List, [], ◌∷◌, ◌++◌, Bool, refl, sym, ap, ◌∙◌, append_assoc}
+use Rattle.std.proofs.Common.{append-nil, arith, eq-eqb, cond}
 use Rattle.std.specs.Prelude.{◌==◌}
 use Rattle.std.proofs.lemmas.List.Elements.{filter-append}
 use Rattle.std.proofs.lemmas.Bool.{ne_eqb}
@@ -37,7 +38,8 @@ entries_none n p [] below le = refl
 entries_none n p (e ∷ es) below le =
     let lt : e.process < n = below.0 in
     let ne : e.process ≢ p = λ is. absurd (omega arith) in
-    ap (λ (b : Bool). cond b (e ∷ entries_of p es) (entries_of p es)) (ne_eqb e.process p ne) ∙ entries_none n p es below.1 le
+    ap (λ (b : Bool). cond b (e ∷ entries_of p es) (entries_of p es)) (ne_eqb e.process p ne)
+    ∙ entries_none n p es below.1 le
 
 -- ---- histories that go on by named processes
 

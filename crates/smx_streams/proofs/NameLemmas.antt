@@ -1,5 +1,7 @@
 -- How many descriptors name a stream.
-use Rattle.std.proofs.Common.{◌≡◌, ℕ, zero, suc, ◌+◌, ◌-◌, ◌<◌, ◌≤◌, Bool, true, false, ◌||◌, not, eqb, List, [], ◌∷◌, length, find, filter, get_or, slice_get, Option, Some, None, if◌then◌else◌, refl, sym, ap, arith, inl, inr}
+use Rattle.std.proofs.Common.{◌≡◌, ℕ, zero, suc, ◌+◌, ◌-◌, ◌<◌, ◌≤◌, Bool, true, false, ◌||◌, not, eqb, List, [], ◌∷◌}
+use Rattle.std.proofs.Common.{length, find, filter, get_or, slice_get, Option, Some, None, if◌then◌else◌, refl, sym, ap}
+use Rattle.std.proofs.Common.{arith, inl, inr}
 use Rattle.std.specs.Prelude.{nat_lt}
 use Rattle.std.specs.List.{list_any, range_with_len}
 use Rattle.std.proofs.lemmas.Bool.{cases_Bool, and_parts, both_ways, eqb-true}
@@ -19,7 +21,8 @@ abbrev pub one_if : Bool → ℕ
 one_if b = if b then 1 else 0
 
 -- a descriptor that is inserted names its own stream once more, and no other
-pub names_put : (s : StreamId) (d : Descriptor) (ds : List Descriptor) → names_of s (with_inserted fd_before ds d) ≡ one_if (same_stream d.stream s) + names_of s ds
+pub names_put : (s : StreamId) (d : Descriptor) (ds : List Descriptor)
+    → names_of s (with_inserted fd_before ds d) ≡ one_if (same_stream d.stream s) + names_of s ds
 names_put s d [] = refl
 names_put s d (e ∷ ds) = elim (cases_Bool (fd_before d e)) [
   | inl t ↦ rw t refl
@@ -27,7 +30,8 @@ names_put s d (e ∷ ds) = elim (cases_Bool (fd_before d e)) [
 ]
 
 -- what comes later is another descriptor
-later_is_other : (p n : ℕ) (d : Descriptor) (ds : List Descriptor) → is_fd p n d ≡ true → ComesBefore fd_before d ds → find (is_fd p n) ds ≡ None
+later_is_other : (p n : ℕ) (d : Descriptor) (ds : List Descriptor) → is_fd p n d ≡ true → ComesBefore fd_before d ds
+    → find (is_fd p n) ds ≡ None
 later_is_other p n d [] t h = refl
 later_is_other p n d (e ∷ ds) t h = elim (cases_Bool (is_fd p n e)) [
   | inl u ↦
@@ -43,7 +47,8 @@ later_is_other p n d (e ∷ ds) t h = elim (cases_Bool (is_fd p n e)) [
 ]
 
 -- a descriptor that is taken away names its own stream once less, and no other
-pub names_taken : (s t : StreamId) (p n : ℕ) (ds : List Descriptor) → IsRising fd_before ds → stream_at ds p n ≡ Some t → names_of s ds ≡ one_if (same_stream t s) + names_of s (filter (λ d. not (is_fd p n d)) ds)
+pub names_taken : (s t : StreamId) (p n : ℕ) (ds : List Descriptor) → IsRising fd_before ds → stream_at ds p n ≡ Some t
+    → names_of s ds ≡ one_if (same_stream t s) + names_of s (filter (λ d. not (is_fd p n d)) ds)
 names_taken s t p n [] r h = absurd cc
 names_taken s t p n (d ∷ ds) r h = elim (cases_Bool (is_fd p n d)) [
   | inl here ↦
@@ -64,7 +69,8 @@ named_is_some s (d ∷ ds) = elim (cases_Bool (same_stream d.stream s)) [
 -- no more descriptors name a stream than there are
 pub names_few : (s : StreamId) (ds : List Descriptor) → names_of s ds ≤ length ds
 names_few s [] = omega arith
-names_few s (d ∷ ds) = elim (cases_Bool (same_stream d.stream s)) [ inl t ↦ rw t (omega (arith, names_few s ds)) | inr f ↦ rw f (omega (arith, names_few s ds)) ]
+names_few s (d ∷ ds) = elim (cases_Bool (same_stream d.stream s))
+    [ inl t ↦ rw t (omega (arith, names_few s ds)) | inr f ↦ rw f (omega (arith, names_few s ds)) ]
 
 -- a descriptor that names the stream counts
 pub names_some : (s : StreamId) (p n : ℕ) (ds : List Descriptor) → stream_at ds p n ≡ Some s → 0 < names_of s ds
@@ -78,7 +84,8 @@ names_some s p n (d ∷ ds) h = elim (cases_Bool (is_fd p n d)) [
 ]
 
 -- a stream with a record exists
-pub used_exists : (t : StreamTable) (s : StreamId) (opens : ℕ) → opens ≡ names_of s t.fds → nat_lt 0 (opens + number_at t.holds s) ≡ exists t s
+pub used_exists : (t : StreamTable) (s : StreamId) (opens : ℕ) → opens ≡ names_of s t.fds
+    → nat_lt 0 (opens + number_at t.holds s) ≡ exists t s
 used_exists t s opens e = rw (e, named_is_some s t.fds) (either (names_of s t.fds) (number_at t.holds s)) where
   either : (x y : ℕ) → nat_lt 0 (x + y) ≡ (nat_lt 0 x || nat_lt 0 y)
   either x y = grind (arith, nat_tests)
@@ -109,13 +116,16 @@ minors_at (x ∷ xs) (suc d) n h = minors_at xs d n h
 
 same_sym : (s t : StreamId) → same_stream s t ≡ false → same_stream t s ≡ false
 same_sym s t f = elim (cases_Bool (same_stream t s)) [
-  | inl e ↦ let k : same_stream s t ≡ true = rw (same_is t s e) (same_self s) in absurd (both_ways (same_stream s t) f k)
+  | inl e ↦ let k : same_stream s t ≡ true = rw (same_is t s e) (same_self s) in
+      absurd (both_ways (same_stream s t) f k)
   | inr g ↦ g
 ]
 
 -- with one more for the stream of a new descriptor, the numbers are again how often streams are named
-pub names_after_put : (opens : List (List ℕ)) (s t : StreamId) (p n : ℕ) (fds : List Descriptor) → ((x : StreamId) → number_at opens x ≡ names_of x fds)
-    → (if same_stream s t then number_at opens t + 1 else number_at opens s) ≡ names_of s (with_inserted fd_before fds (record { process = p; fd = n; stream = t }))
+pub names_after_put : (opens : List (List ℕ)) (s t : StreamId) (p n : ℕ) (fds : List Descriptor)
+    → ((x : StreamId) → number_at opens x ≡ names_of x fds)
+    → (if same_stream s t then number_at opens t + 1 else number_at opens s)
+    ≡ names_of s (with_inserted fd_before fds (record { process = p; fd = n; stream = t }))
 names_after_put opens s t p n fds h = elim (cases_Bool (same_stream s t)) [
   | inl e ↦
       let same = same_is s t e in
@@ -133,8 +143,10 @@ names_after_put opens s t p n fds h = elim (cases_Bool (same_stream s t)) [
 ]
 
 -- with one less for the stream of a descriptor that goes, the numbers are again how often streams are named
-pub names_after_take : (opens : List (List ℕ)) (s t : StreamId) (p n : ℕ) (fds : List Descriptor) → ((x : StreamId) → number_at opens x ≡ names_of x fds) → IsRising fd_before fds → stream_at fds p n ≡ Some t
-    → (if same_stream s t then number_at opens t - 1 else number_at opens s) ≡ names_of s (filter (λ d. not (is_fd p n d)) fds)
+pub names_after_take : (opens : List (List ℕ)) (s t : StreamId) (p n : ℕ) (fds : List Descriptor)
+    → ((x : StreamId) → number_at opens x ≡ names_of x fds) → IsRising fd_before fds → stream_at fds p n ≡ Some t
+    → (if same_stream s t then number_at opens t - 1 else number_at opens s)
+    ≡ names_of s (filter (λ d. not (is_fd p n d)) fds)
 names_after_take opens s t p n fds h rise there = elim (cases_Bool (same_stream s t)) [
   | inl e ↦
       let same = same_is s t e in
@@ -151,6 +163,8 @@ names_after_take opens s t p n fds h rise there = elim (cases_Bool (same_stream 
 ]
 
 -- a descriptor of the stream is one of the process
-pub named_any : (s : StreamId) (p n : ℕ) (ds : List Descriptor) → stream_at ds p n ≡ Some s → list_any (is_fd p n) ds ≡ true
+pub named_any : (s : StreamId) (p n : ℕ) (ds : List Descriptor) → stream_at ds p n ≡ Some s
+    → list_any (is_fd p n) ds ≡ true
 named_any s p n [] h = absurd cc
-named_any s p n (d ∷ ds) h = elim (cases_Bool (is_fd p n d)) [ inl here ↦ rw here refl | inr other ↦ rw other (named_any s p n ds (rw other at h)) ]
+named_any s p n (d ∷ ds) h = elim (cases_Bool (is_fd p n d))
+    [ inl here ↦ rw here refl | inr other ↦ rw other (named_any s p n ds (rw other at h)) ]

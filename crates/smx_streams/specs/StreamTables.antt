@@ -1,5 +1,6 @@
 -- What a contract sees of a table of streams.
-use Rattle.std.specs.Prelude.{◌≡◌, ℕ, ◌+◌, ◌<◌, Bool, true, false, ◌||◌, not, ◌==◌, nat_lt, nat_le, List, [], ◌∷◌, length, find, filter, slice_index, slice_index_or}
+use Rattle.std.specs.Prelude.{◌≡◌, ℕ, ◌+◌, ◌<◌, Bool, true, false, ◌||◌, not, ◌==◌, nat_lt, nat_le, List, [], ◌∷◌}
+use Rattle.std.specs.Prelude.{length, find, filter, slice_index, slice_index_or}
 use Rattle.std.specs.Prelude.{Option, Some, None, Result, Ok, Err, IsOk, ◌⊎◌, if◌then◌else◌}
 use Rattle.std.specs.List.{list_any, range_with_len}
 use Rattle.std.specs.Option.{option_map, option_map_or}

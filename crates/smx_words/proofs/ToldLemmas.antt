@@ -1,5 +1,6 @@
 -- What a version can tell.
-use Rattle.std.proofs.Common.{◌≡◌, ◌≢◌, Bool, true, false, ◌||◌, ℕ, List, Option, Some, None, ◌++◌, ◌∷◌, codes, refl, sym, ◌∙◌}
+use Rattle.std.proofs.Common.{◌≡◌, ◌≢◌, Bool, true, false, ◌||◌, ℕ, List, Option, Some, None, ◌++◌, ◌∷◌, codes, refl}
+use Rattle.std.proofs.Common.{sym, ◌∙◌}
 use Rattle.std.specs.Fmt.{decimal}
 use Rattle.smx_types.specs.Versions.{is_hangup, is_of_hangup, tells_of_hangup}
 use Rattle.smx_types.specs.declared.command.Command.{Command}
@@ -8,7 +9,8 @@ use Rattle.smx_types.specs.declared.reply.Reply.{Reply}
 use Rattle.smx_types.specs.declared.version.Version.{Version}
 use Rattle.smx_types.specs.declared.version.Version.TheVariants.{V1, V2}
 use Rattle.smx_words.specs.LineReading.{IsLineOf, IsReadAs}
-use Rattle.smx_words.specs.Spellable.{CanTell, FitsCommand, FitsCommandIn, FitsEntry, FitsEntryIn, FitsProcess, FitsReply, FitsReplyIn}
+use Rattle.smx_words.specs.Spellable.{CanTell, FitsCommand, FitsCommandIn, FitsEntry, FitsEntryIn, FitsProcess}
+use Rattle.smx_words.specs.Spellable.{FitsReply, FitsReplyIn}
 use Rattle.smx_words.specs.Spelling.{command_words, entry_words, reply_words}
 use Rattle.smx_words.specs.Words.{SPACE, line_of}
 use Rattle.smx_words.proofs.EntryLemmas.{entry_is}

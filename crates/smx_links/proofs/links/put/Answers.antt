@@ -12,7 +12,8 @@ returns-clause-ordinary c =
     let more : c.push_reserved.new.self.items ≡ c.args.links.now.items ++ c.args.link ∷ [] =
     c.push_reserved.ensures.items ∙ ap (λ (ls : List Link). ls ++ c.args.link ∷ []) c.in_ok-reserve.ensures.items in
     c.put_ordinary.ensures
-    ∙ ap (λ (ls : List Link). ls ++ ordinary_of (c.args.link ∷ [])) (c.in_ok-reserve-2.ensures.items ∙ c.requires.ordinary)
+    ∙ ap (λ (ls : List Link). ls ++ ordinary_of (c.args.link ∷ []))
+    (c.in_ok-reserve-2.ensures.items ∙ c.requires.ordinary)
     ∙ sym (filter-append (λ l. not (is_persistent l)) c.args.links.now.items (c.args.link ∷ []))
     ∙ ap ordinary_of (sym more)
 

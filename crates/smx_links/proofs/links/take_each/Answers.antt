@@ -66,8 +66,10 @@ loop-id-preserved c =
             ordinary = c.take.ensures.ordinary;
             ids = c.take.ensures.ids;
             pairs = rw w.pairs-is counts;
-            same = rw (w.lost-is, w.lose-lost.ensures.lost) (lost_more c.one_link_more_joins.ensures c.paths_join.ensures
-                c.args.drivers c.loop-id.lost links earlier c.take.new.links.items w.lose-lost.new.pairs w.in-Some.link _ rise
+            same = rw (w.lost-is, w.lose-lost.ensures.lost)
+                (lost_more c.one_link_more_joins.ensures c.paths_join.ensures
+                c.args.drivers c.loop-id.lost links earlier c.take.new.links.items w.lose-lost.new.pairs w.in-Some.link
+                _ rise
                 found c.take.ensures.rest counts own c.loop-id.invariant.same);
           }
       | in_default w ↦

@@ -14,4 +14,6 @@ returns-clause-kept c = record { held = c.requires.held }
 
 pub returns-clause-drivers : goal.returns-clause-drivers
 returns-clause-drivers c =
-    ap (λ (ds : List DriverSpec). (c.args.lists.now.links.drivers, c.args.lists.now.streams.minors, ds)) (drivers_taken c.args.lists.now.queues c.take.new.self c.args.place c.take.result c.take.ensures.left c.take.ensures.none)
+    ap (λ (ds : List DriverSpec). (c.args.lists.now.links.drivers, c.args.lists.now.streams.minors, ds))
+    (drivers_taken c.args.lists.now.queues c.take.new.self c.args.place c.take.result c.take.ensures.left
+    c.take.ensures.none)

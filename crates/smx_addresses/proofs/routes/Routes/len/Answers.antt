@@ -5,4 +5,5 @@ use Rattle.smx_addresses.proofs.ListedTableLemmas.{length_in_order}
 use Rattle.smx_addresses.proofs.routes.Routes.len.Goals as goal
 
 pub returns : goal.returns
-returns c = c.len.ensures.len ∙ sym (length_in_order route_before route_of c.self.inside.ids.entries) ∙ ap length c.self.view_is
+returns c =
+    c.len.ensures.len ∙ sym (length_in_order route_before route_of c.self.inside.ids.entries) ∙ ap length c.self.view_is

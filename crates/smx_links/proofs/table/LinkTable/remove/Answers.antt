@@ -46,7 +46,8 @@ invariant_of-self-2 c =
     (c.fewer_links_stay_sound.ensures.sound ls stays c.self.invariant.list.sound)
     (c.fewer_links_stay_sound.ensures.ids ls stays c.self.inside.next_id c.self.invariant.list.ids)
     long counts
-    (rw c.lose-lost.ensures.lost (rw wide (lost_more c.one_link_more_joins.ensures c.paths_join.ensures (length ws) 0 ls ls
+    (rw c.lose-lost.ensures.lost
+    (rw wide (lost_more c.one_link_more_joins.ensures c.paths_join.ensures (length ws) 0 ls ls
     c.take.new.links.items c.lose-lost.new.pairs c.in_ok-link.link c.args.id c.self.invariant.list.ids.rise
     (sym c.in_ok-link.ensures.link) c.in_ok-link.ensures.rest counts own (none_lost ls))))
     (rw (c.deref_mut-2.ensures.value, c.deref.ensures.value, back) at c.renew.ensures.masks))
