@@ -2,9 +2,11 @@
 #![tactic(auto)]
 
 mod fault;
+mod ids;
 mod links;
 mod masks;
 mod pairs;
+mod row;
 mod table;
 
 pub use fault::LinkFault;
