@@ -1,4 +1,5 @@
 pub mod BitLemmas
+pub mod RowLemmas
 pub mod LowerLemmas
 pub mod MaskLemmas
 pub mod TwinLemmas

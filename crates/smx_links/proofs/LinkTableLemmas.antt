@@ -1,6 +1,6 @@
 -- A table of links, made and changed.
 use Rattle.std.proofs.Common.{◌≡◌, ℕ, ◌<◌, ◌+◌, Bool, true, false, ◌||◌, eqb, leb, List, [], ◌∷◌, ◌++◌, length}
-use Rattle.std.proofs.Common.{filter, take, drop, Option, Some, None, refl, arith, if◌then◌else◌, length-append}
+use Rattle.std.proofs.Common.{filter, take, drop, Option, Some, None, refl, sym, ◌∙◌, arith, if◌then◌else◌, length-append}
 use Rattle.std.proofs.lemmas.Bool.{leb-false, or_parts}
 use Rattle.std.proofs.lemmas.List.{take_at}
 use Rattle.std.specs.List.{All}
@@ -12,9 +12,8 @@ use Rattle.smx_types.specs.declared.stream.StreamId.{StreamId}
 use Rattle.smx_model.specs.Paths.{reaches}
 use Rattle.smx_model.specs.SoundLinks.{AreLinksSound, AreIdsRising}
 use Rattle.smx_model.specs.Standing.{is_below}
-use Rattle.smx_links.specs.declared.link_fault.LinkFault.{LinkFault}
-use Rattle.smx_links.specs.declared.links.Lower.{Lower}
-use Rattle.smx_links.specs.Ids.{HasIds}
+use Rattle.smx_links.specs.declared.fault.LinkFault.{LinkFault}
+use Rattle.smx_links.specs.Ids.{Rows, HasIds}
 use Rattle.smx_links.specs.LinkLists.{LinkList, ordinary_of, refusal}
 use Rattle.smx_links.specs.Masks.{AreJoined, AreMasks, IsWithin, LeadAlikeBut}
 use Rattle.smx_links.specs.Pairs.{AreCounts, with_one_more}
@@ -56,17 +55,17 @@ is_free t ctl lower h =
 -- one link more
 
 -- the fields of a table with one link more
-pub parts_push : Joins → (ws vs : List ℕ) (ls os ks : List Link) (es fs : List (Lower × ℕ)) (ps : List ℕ) (n : ℕ)
+pub parts_push : Joins → (ws vs : List ℕ) (ls os ks : List Link) (es fs : Rows) (ps : List ℕ) (n : ℕ)
     (ctl lower : StreamId) (kind : LinkKind) → AreParts ws ls os es ps n → IsFree (list_of_parts ws ls n) ctl lower
     → ctl.driver < length ws → lower.driver < length ws
     → AreLinksSound (ls ++ record { id = n; ctl = ctl; lower = lower; kind = kind } ∷ [])
     → AreIdsRising (ls ++ record { id = n; ctl = ctl; lower = lower; kind = kind } ∷ []) (n + 1)
-    → HasIds fs (ls ++ record { id = n; ctl = ctl; lower = lower; kind = kind } ∷ [])
+    → HasIds fs (ls ++ record { id = n; ctl = ctl; lower = lower; kind = kind } ∷ []) → length fs ≡ length es
     → ks ≡ ordinary_of (ls ++ record { id = n; ctl = ctl; lower = lower; kind = kind } ∷ [])
     → length vs ≡ length ws → AreJoined ws ctl.driver lower.driver vs
     → AreParts vs (ls ++ record { id = n; ctl = ctl; lower = lower; kind = kind } ∷ []) ks fs
     (with_one_more (length ws) ps (record { id = n; ctl = ctl; lower = lower; kind = kind })) (n + 1)
-parts_push joins ws vs ls os ks es fs ps n ctl lower kind h free up low sound ids more same long joined = record {
+parts_push joins ws vs ls os ks es fs ps n ctl lower kind h free up low sound ids more rows same long joined = record {
   list = record {
     sound = sound;
     ids = ids;
@@ -79,6 +78,7 @@ parts_push joins ws vs ls os ks es fs ps n ctl lower kind h free up low sound id
   masks = masks_push joins ls _ ws vs h.masks joined;
   ordinary = same;
   ids = more;
+  rows = rows ∙ h.rows ∙ sym long;
   pairs = rw long (counts_more (length ws) ls ps _ h.pairs (up, low));
 }
 
@@ -90,12 +90,12 @@ Renews ws vs qs lost = (old links : List Link) → AreMasks old ws → LeadAlike
     → All (IsWithin (length ws)) links → AreCounts (length ws) links qs → AreMasks links vs
 
 -- the fields of a table with some links less
-pub parts_less : (ws vs : List ℕ) (ls ks os js : List Link) (es fs : List (Lower × ℕ)) (ps qs : List ℕ) (n : ℕ)
+pub parts_less : (ws vs : List ℕ) (ls ks os js : List Link) (es fs : Rows) (ps qs : List ℕ) (n : ℕ)
     (stays : Link → Bool) (lost : ℕ) → AreParts ws ls os es ps n → ks ≡ filter stays ls
-    → js ≡ ordinary_of ks → HasIds fs ks
+    → js ≡ ordinary_of ks → HasIds fs ks → length fs ≡ length es
     → AreLinksSound (filter stays ls) → AreIdsRising (filter stays ls) n → length vs ≡ length ws
     → AreCounts (length ws) ks qs → LeadAlikeBut lost ls ks → Renews ws vs qs lost → AreParts vs ks js fs qs n
-parts_less ws vs ls ks os js es fs ps qs n stays lost h is same kept sound ids long counts alike renews =
+parts_less ws vs ls ks os js es fs ps qs n stays lost h is same kept rows sound ids long counts alike renews =
     let within : All (IsWithin (length ws)) ks = rw is (All-filter stays (IsWithin (length ws)) ls h.within) in record {
       list = record {
         sound = rw is sound;
@@ -108,6 +108,7 @@ parts_less ws vs ls ks os js es fs ps qs n stays lost h is same kept sound ids l
       masks = renews ls ks h.masks alike within counts;
       ordinary = same;
       ids = kept;
+      rows = rows ∙ h.rows ∙ sym long;
       pairs = rw long counts;
     }
 

@@ -1,10 +1,12 @@
 //! The table of links between drivers, and its cycle test: a bit for each two drivers.
 #![tactic(auto)]
 
-mod link_fault;
+mod fault;
+mod ids;
 mod links;
 mod masks;
 mod pairs;
+mod row;
 mod table;
 
 pub use link_fault::LinkFault;

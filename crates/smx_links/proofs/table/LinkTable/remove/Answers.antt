@@ -40,9 +40,9 @@ invariant_of-self-2 c =
     let long : length c.renew.new.words ≡ length ws = c.renew.ensures.length ∙ ap length c.deref_mut-2.ensures.value in
     rw (lent c.self.inside.masks.len c.renew.new.words ws long c.self.inside.masks.ok.0, back)
     (parts_less ws c.renew.new.words ls c.take.new.links.items c.self.inside.ordinary.items c.take.new.ordinary.items
-    c.self.inside.ids.entries c.take.new.ids.entries
+    c.self.inside.ids.items c.take.new.ids.items
     c.self.inside.pairs.items c.lose-lost.new.pairs c.self.inside.next_id stays c.lose-lost.result
-    c.self.invariant c.in_ok-link.ensures.rest c.in_ok-link.ensures.ordinary c.in_ok-link.ensures.ids
+    c.self.invariant c.in_ok-link.ensures.rest c.in_ok-link.ensures.ordinary c.in_ok-link.ensures.ids c.in_ok-link.ensures.rows
     (c.fewer_links_stay_sound.ensures.sound ls stays c.self.invariant.list.sound)
     (c.fewer_links_stay_sound.ensures.ids ls stays c.self.inside.next_id c.self.invariant.list.ids)
     long counts
