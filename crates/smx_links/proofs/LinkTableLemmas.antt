@@ -1,6 +1,7 @@
 -- A table of links, made and changed.
 use Rattle.std.proofs.Common.{◌≡◌, ℕ, ◌<◌, ◌+◌, Bool, true, false, ◌||◌, eqb, leb, List, [], ◌∷◌, ◌++◌, length}
-use Rattle.std.proofs.Common.{filter, take, drop, Option, Some, None, refl, sym, ◌∙◌, arith, if◌then◌else◌, length-append}
+use Rattle.std.proofs.Common.{filter, take, drop, Option, Some, None, refl, sym, ◌∙◌, arith, if◌then◌else◌}
+use Rattle.std.proofs.Common.{length-append}
 use Rattle.std.proofs.lemmas.Bool.{leb-false, or_parts}
 use Rattle.std.proofs.lemmas.List.{take_at}
 use Rattle.std.specs.List.{All}
@@ -12,7 +13,7 @@ use Rattle.smx_types.specs.declared.stream.StreamId.{StreamId}
 use Rattle.smx_model.specs.Paths.{reaches}
 use Rattle.smx_model.specs.SoundLinks.{AreLinksSound, AreIdsRising}
 use Rattle.smx_model.specs.Standing.{is_below}
-use Rattle.smx_links.specs.declared.fault.LinkFault.{LinkFault}
+use Rattle.smx_links.specs.declared.link_fault.LinkFault.{LinkFault}
 use Rattle.smx_links.specs.Ids.{Rows, HasIds}
 use Rattle.smx_links.specs.LinkLists.{LinkList, ordinary_of, refusal}
 use Rattle.smx_links.specs.Masks.{AreJoined, AreMasks, IsWithin, LeadAlikeBut}

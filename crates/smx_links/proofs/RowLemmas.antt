@@ -1,5 +1,6 @@
 -- Ids by driver and minor.
-use Rattle.std.proofs.Common.{◌≡◌, ℕ, ◌<◌, cond, eqb, List, [], length, get_or, set, Option, Some, None, sym, ap, ◌∙◌, inl, inr}
+use Rattle.std.proofs.Common.{◌≡◌, ℕ, ◌<◌, cond, eqb, List, [], length, get_or, set, Option, Some, None, sym, ap, ◌∙◌}
+use Rattle.std.proofs.Common.{inl, inr}
 use Rattle.std.proofs.lemmas.Bool.{cases_eq, cases_lt, eq-eqb, eqb-true, false_from_ne_true}
 use Rattle.std.proofs.lemmas.List.{get_or-set_same, get_or-set_other, get_or_past}
 use Rattle.smx_types.specs.declared.stream.StreamId.{StreamId}
@@ -15,7 +16,8 @@ id_set rows s id x driver minor =
     elim (cases_eq s.driver x.driver) [
       | inl d ↦
           let row : get_or (with_id rows s id) x.driver [] ≡ set old s.minor id =
-          ap (λ n. get_or (with_id rows s id) n []) (sym d) ∙ get_or-set_same rows s.driver (set old s.minor id) [] driver
+          ap (λ n. get_or (with_id rows s id) n []) (sym d)
+          ∙ get_or-set_same rows s.driver (set old s.minor id) [] driver
           in
           elim (cases_eq s.minor x.minor) [
             | inl m ↦ rw (eq-eqb s.driver x.driver d, eq-eqb s.minor x.minor m)

@@ -12,8 +12,8 @@ use Rattle.smx_links.specs.Pairs.{AreCounts}
 abbrev pub list_of_parts : List ℕ → List Link → ℕ → LinkList
 list_of_parts ws links n = record { links = links; next_id = n; drivers = length ws }
 
--- each link is between drivers of the table, each bit is exactly a path, the ordinary links are there again, at each lower
--- stream is its link's id, in a row for each driver, and the links between each two drivers are counted
+-- each link is between drivers of the table, each bit is exactly a path, the ordinary links are there again, at each
+-- lower stream is its link's id, in a row for each driver, and the links between each two drivers are counted
 pub record AreParts (ws : List ℕ) (links os : List Link) (es : Rows) (ps : List ℕ) (n : ℕ) : Type 0 where
   pub list : IsLinkList (list_of_parts ws links n)
   pub within : All (IsWithin (length ws)) links

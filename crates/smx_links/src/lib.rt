@@ -1,8 +1,8 @@
 //! The table of links between drivers, and its cycle test: a bit for each two drivers.
 #![tactic(auto)]
 
-mod fault;
 mod ids;
+mod link_fault;
 mod links;
 mod masks;
 mod pairs;

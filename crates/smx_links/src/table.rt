@@ -9,8 +9,8 @@ ghost use Rattle.smx_model.specs.Standing.{is_below};
 ghost use Rattle.smx_links.specs.LinkLists.{IsLinkList, IsLinked, is_upper, ordinary_of, refusal};
 ghost use Rattle.smx_links.specs.LinkLists.{with_link, without_id, without_ids};
 
-use crate::fault::LinkFault;
 use crate::ids::{Ids, copy_ids, no_ids};
+use crate::link_fault::LinkFault;
 use crate::links::{above, get, is_below, lose, put, take, take_each};
 use crate::masks::{Word, has_any_bit, has_bit, join, renew};
 use crate::pairs::{Count, count};

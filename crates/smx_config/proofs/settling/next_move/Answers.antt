@@ -6,4 +6,6 @@ use Rattle.smx_config.proofs.settling.next_move.Goals as goal
 pub returns-in-None-clause-least : goal.returns-in-None-clause-least
 returns-in-None-clause-least c =
     let now = configuration_of c.args.lists.now in
-    least_none c.args.drivers.now now (c.without_marks_it_is_settled.ensures c.args.drivers.now now (has_mark c.args.marks.now.run) (has_mark c.args.marks.now.wanted) c.requires.marks.waiting c.in-None.ensures)
+    least_none c.args.drivers.now now
+    (c.without_marks_it_is_settled.ensures c.args.drivers.now now (has_mark c.args.marks.now.run)
+    (has_mark c.args.marks.now.wanted) c.requires.marks.waiting c.in-None.ensures)

@@ -42,7 +42,8 @@ invariant_of-self-2 c =
     (parts_less ws c.renew.new.words ls c.take.new.links.items c.self.inside.ordinary.items c.take.new.ordinary.items
     c.self.inside.ids.items c.take.new.ids.items
     c.self.inside.pairs.items c.lose-lost.new.pairs c.self.inside.next_id stays c.lose-lost.result
-    c.self.invariant c.in_ok-link.ensures.rest c.in_ok-link.ensures.ordinary c.in_ok-link.ensures.ids c.in_ok-link.ensures.rows
+    c.self.invariant c.in_ok-link.ensures.rest c.in_ok-link.ensures.ordinary c.in_ok-link.ensures.ids
+    c.in_ok-link.ensures.rows
     (c.fewer_links_stay_sound.ensures.sound ls stays c.self.invariant.list.sound)
     (c.fewer_links_stay_sound.ensures.ids ls stays c.self.inside.next_id c.self.invariant.list.ids)
     long counts
