@@ -48,9 +48,9 @@ class Shown:
             self.groups[words[0]].append(words[1:])
 
     def streams(self):
-        """The streams that some line names, each once."""
+        """The streams that some line needs, each once: the controlling stream of a link may be gone."""
         named = [fd[2:4] for fd in self.groups["fd"]]
-        named += [link[1:3] for link in self.groups["link"]] + [link[3:5] for link in self.groups["link"]]
+        named += [link[3:5] for link in self.groups["link"]]
         named += [[bind[0], bind[2]] for bind in self.groups["bind"]]
         for group in "msg", "full", "hung":
             named += [words[:2] for words in self.groups[group]]
@@ -171,7 +171,7 @@ def draws_svg(name, text, is_placed=True):
 
 def nodes_wanted(shown):
     """The nodes of a text for Graphviz."""
-    nodes = {driver[0] for driver in shown.drivers} | set(shown.streams())
+    nodes = {driver[0] for driver in shown.drivers} | {link[1] for link in shown.groups["link"]} | set(shown.streams())
     nodes |= {stream.split()[0] for stream in shown.streams()} | {route[0] for route in shown.groups["route"]}
     nodes |= {f"fd:{fd[0]}:{fd[1]}" for fd in shown.groups["fd"]} | {f"link:{link[0]}" for link in shown.groups["link"]}
     nodes |= {f"bind:{bind[0]}:{bind[1]}" for bind in shown.groups["bind"]}

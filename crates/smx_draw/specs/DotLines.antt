@@ -34,8 +34,7 @@ link_line l =
     codes ", " ∷ link_word l.kind ∷ codes "\\nby " ∷ l.ctl_driver ∷ codes " " ∷ decimal l.ctl_minor ∷
     codes "\"]; \"" ∷ l.ctl_driver ∷ codes "\" -> \"link:" ∷ decimal l.id ∷ codes "\" -> \"" ∷ l.lower_driver ∷
     codes " " ∷ decimal l.lower_minor ∷ codes "\" [" ∷ stroke l.kind ∷ codes "]; \"" ∷ l.lower_driver ∷
-    codes " " ∷ decimal l.lower_minor ∷ codes "\" -> \"" ∷ l.lower_driver ∷ codes "\"; \"" ∷ l.ctl_driver ∷
-    codes " " ∷ decimal l.ctl_minor ∷ codes "\" -> \"" ∷ l.ctl_driver ∷ codes "\";\n" ∷ [])
+    codes " " ∷ decimal l.lower_minor ∷ codes "\" -> \"" ∷ l.lower_driver ∷ codes "\";\n" ∷ [])
 
 -- a binding above its stream
 abbrev pub binding_line : BindingLine → List ℕ

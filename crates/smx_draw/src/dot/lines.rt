@@ -101,12 +101,6 @@ impl DotLine for LinkLine {
                 Piece::Number(self.lower_minor),
                 Piece::Text(b"\" -> \""),
                 Piece::Name(&self.lower_driver),
-                Piece::Text(b"\"; \""),
-                Piece::Name(&self.ctl_driver),
-                Piece::Text(b" "),
-                Piece::Number(self.ctl_minor),
-                Piece::Text(b"\" -> \""),
-                Piece::Name(&self.ctl_driver),
                 Piece::Text(b"\";\n"),
             ],
         )

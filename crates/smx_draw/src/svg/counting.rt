@@ -28,7 +28,7 @@ impl Counted for DescriptorLine {
 
 impl Counted for LinkLine {
     fn count(&self, plan: &mut Plan) {
-        let _controlling = plan.name(&self.ctl_driver, self.ctl_minor);
+        // The controlling stream of a persistent link may be gone; where it isn't, another line names it.
         let _lower = plan.name(&self.lower_driver, self.lower_minor);
         let upper = plan.frame_of(&self.ctl_driver);
         plan.add_link(upper);
