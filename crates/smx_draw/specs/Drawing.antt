@@ -1,6 +1,5 @@
 -- Parts of a picture, one behind the other.
 use Rattle.std.specs.Prelude.{◌≡◌, ℕ, List, [], ◌∷◌, ◌++◌}
-use Rattle.std.specs.List.{AllByRecursion}
 use Rattle.smx_draw.specs.declared.svg.area.Area.{Area}
 
 module _ {X : Type 0} where

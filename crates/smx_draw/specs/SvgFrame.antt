@@ -19,7 +19,7 @@ svg_looks =
     codes ".leaf path { fill: #eef7ee; stroke: #57606a }\n" ∷ codes ".name { font: bold 13px sans-serif }\n" ∷
     codes ".stream path { fill: #ffffff }\n" ∷ codes ".stream text { font-weight: bold }\n" ∷
     codes ".queue .bytes { fill: #ffd479; stroke: none }\n" ∷
-    codes ".queue .mark { stroke: #57606a; stroke-dasharray: 2 2 }\n" ∷
+    codes ".queue .mark { stroke: #b0b7bf; stroke-dasharray: 2 2 }\n" ∷
     codes ".message path { fill: #fff8e1; stroke: #d9c27a }\n" ∷ codes ".address { fill: #57606a }\n" ∷
     codes ".full path { stroke: #cf222e; stroke-width: 2 }\n" ∷
     codes ".full text { font-weight: bold; fill: #cf222e; text-anchor: end }\n" ∷

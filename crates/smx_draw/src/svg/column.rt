@@ -4,7 +4,7 @@ use crate::svg::area::Area;
 use smx_types::{Name, Side};
 
 /// How wide a column is.
-pub const WIDTH: u32 = 124;
+pub const WIDTH: u32 = 176;
 
 /// How high a row of text is.
 pub const ROW: u32 = 14;

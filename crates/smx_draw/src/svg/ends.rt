@@ -67,7 +67,7 @@ fn put_looks(out: &mut Vec<u8>) -> Result<(), NoMemory>
             Piece::Text(b".stream path { fill: #ffffff }\n"),
             Piece::Text(b".stream text { font-weight: bold }\n"),
             Piece::Text(b".queue .bytes { fill: #ffd479; stroke: none }\n"),
-            Piece::Text(b".queue .mark { stroke: #57606a; stroke-dasharray: 2 2 }\n"),
+            Piece::Text(b".queue .mark { stroke: #b0b7bf; stroke-dasharray: 2 2 }\n"),
             Piece::Text(b".message path { fill: #fff8e1; stroke: #d9c27a }\n"),
             Piece::Text(b".address { fill: #57606a }\n"),
             Piece::Text(b".full path { stroke: #cf222e; stroke-width: 2 }\n"),

@@ -7,9 +7,9 @@ use crate::svg::column::{ROW, WIDTH};
 const PADDING: u32 = 8;
 
 // How wide a frame is at least, and what each link below it takes.
-const LEAST: u32 = 190;
+const LEAST: u32 = 192;
 
-const LINK: u32 = 84;
+const LINK: u32 = 96;
 
 // How high the lines of a driver are.
 const TITLE: u32 = 48;
