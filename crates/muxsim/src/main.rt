@@ -1,4 +1,4 @@
-//! Runs programs against a STREAMS multiplexer and writes the transcript, or judges a transcript.
+//! Runs programs against a STREAMS multiplexer and writes the transcript, or judges, replays or draws a transcript.
 #![tactic(auto)]
 
 mod command_line;

@@ -69,20 +69,9 @@ gives told bytes input same t read text h = (
   },
 )
 
--- where the text is refused, its fault is the answer
-pub text_refused : (bytes input : List ℕ) → bytes ≡ input → (f : TextFault) (answer : Result (Vec ℕ Global) MainFault)
-    → IsErrAnd answer (λ e. e ≡ Text f)
-    → IsFaultOf replaying bytes f → Answers replaying input (items_of answer)
-text_refused bytes input same f (Ok v) is a = absurd is
-text_refused bytes input same f (Err e) is a =
-    subst (λ (x : MainFault). Answers replaying input (Err x)) (sym is)
-    (subst (λ (given : List ℕ). IsFaultOf replaying given f) same a)
-
--- and where the drivers are, or memory was wanting
-pub replay_refused : (bytes input : List ℕ) → bytes ≡ input → (t : Transcript)
-    → ReadsAny transcript_grammar bytes (Ok t)
-    → (f : ConfigFault) (answer : Result (Vec ℕ Global) MainFault) → IsErrAnd answer (λ e. e ≡ Refused (run_fault_of f))
-    → RefusesDrivers t.drivers f
+-- where the drivers are refused, or memory was wanting
+pub replay_refused : (bytes input : List ℕ) → bytes ≡ input → (t : Transcript) → ReadsAny transcript_grammar bytes (Ok t)
+    → (f : ConfigFault) (answer : Result (Vec ℕ Global) MainFault) → IsErrAnd answer (λ e. e ≡ Refused (run_fault_of f)) → RefusesDrivers t.drivers f
     → Answers replaying input (items_of answer)
 replay_refused bytes input same t read f (Ok v) is refused = absurd is
 replay_refused bytes input same t read f (Err e) is refused =
@@ -92,61 +81,6 @@ replay_refused bytes input same t read f (Err e) is refused =
       subst (λ (bs : List ℕ). Spells (transcript_grammar read.0) bs t) same read.1,
       alone_of t.drivers f refused,
     )
-
--- ---- writing
-
-module _ (had left : Option (List ℕ)) (ended : Bool) (failures : ℕ) (before after : Option (List ℕ)) (flushed : Bool)
-    (written : ℕ) (v : Vec ℕ Global) (read : List ℕ)
-    (h : IsInput had left ended failures (Ok v) read) (bytes : List ℕ)
-    (given : GivesFor replaying v.items tt bytes) where
-  whole : IsWhole had ended read
-  whole = h.whole
-
-  abbrev ok : Result (Vec ℕ Global) MainFault
-  ok = Ok v
-
-  gives_read : GivesFor replaying read tt bytes
-  gives_read = subst (λ (input : List ℕ). GivesFor replaying input tt bytes) h.answered given
-
-  -- what was given was written, or writing failed
-  pub written_out : (answer : Result (Unit {0}) MainFault) → OnOk answer (Appends before after bytes)
-      → OnOk answer (flushed ≡ true) → OnOk answer (written ≡ 0)
-      → OnErr answer (AppendsBeginning before after bytes) → IfErr answer (λ fault. fault ≡ WriteFailed)
-      → OnErr answer (written ≡ 1)
-      → FiltersText replaying had left ended failures before after flushed written answer
-  written_out (Ok done) appended out fine beginning fault failed = record {
-    read = read;
-    consumed = h.consumed;
-    few = h.few;
-    done = (whole, out, bytes, gives_read, appended);
-    text = tt;
-    refused = tt;
-    too_long = (λ is. absurd cc, λ long. let over : ok ≡ Err TooLong = h.too_long.1 long in absurd cc);
-    read_failed = (λ is. absurd cc, λ broken. let over : ok ≡ Err ReadFailed = h.read_failed.1 broken in absurd cc);
-    write_failed = (λ is. absurd cc, λ broken. absurd (omega (arith, fine, broken)));
-    cut_short = tt;
-    unwritten = tt;
-  }
-  written_out (Err e) appended out fine beginning fault failed = record {
-    read = read;
-    consumed = h.consumed;
-    few = h.few;
-    done = tt;
-    text = λ f is. let other : WriteFailed ≡ Text f = sym fault ∙ is in absurd cc;
-    refused = λ f is. let other : WriteFailed ≡ Refused f = sym fault ∙ is in absurd cc;
-    too_long = (
-      λ is. let same : Err e ≡ Err TooLong = is in let other : WriteFailed ≡ TooLong = sym fault ∙ cc in absurd cc,
-      λ long. let over : ok ≡ Err TooLong = h.too_long.1 long in absurd cc,
-    );
-    read_failed = (
-      λ is. let same : Err e ≡ Err ReadFailed = is in let other : WriteFailed ≡ ReadFailed = sym fault ∙ cc in
-          absurd cc,
-      λ broken. let over : ok ≡ Err ReadFailed = h.read_failed.1 broken in absurd cc,
-    );
-    write_failed = (λ is. failed, λ broken. ap Err fault);
-    cut_short = λ is. (whole, tt, bytes, gives_read, beginning);
-    unwritten = λ differs. absurd (differs fault);
-  }
 
 -- ---- laws
 

@@ -1,9 +1,11 @@
-//! Laws of runs, checks and replays over memory, each the contract of a function that does nothing.
+//! Laws of runs, checks, replays and drawings over memory, each the contract of a function that does nothing.
 
 ghost use Rattle.std.specs.Prelude.{◌≡◌, ℕ, Bool, false, List, [], Result, Some, Err};
 ghost use Rattle.smx_types.specs.ProgramLists.{ProgramLists};
 ghost use Rattle.smx_config.specs.declared.verdict.Verdict.{Verdict};
+ghost use Rattle.smx_draw.specs.declared.form.Form.{Form};
 ghost use Rattle.smx_filters.specs.CheckText.{ChecksText, checking};
+ghost use Rattle.smx_filters.specs.DrawText.{DrawsText, drawing};
 ghost use Rattle.smx_filters.specs.InMemory.{EndsInMemory, IsCutShort};
 ghost use Rattle.smx_filters.specs.ReplayText.{ReplaysText, replaying};
 ghost use Rattle.smx_filters.specs.RunText.{IsWrittenFor, RunsText, running};
@@ -58,4 +60,17 @@ pub fn replays_end_in_memory()
     ensures cut_short { (input left output : List ℕ) (ended flushed : Bool) (answer : Result (Unit {0}) MainFault)
         → ReplaysText (Some input) (Some left) ended 0 (Some []) (Some output) flushed 1 answer
         → IsCutShort replaying input output answer }
+{}
+
+/// The same of a drawing, which answers that it is done.
+pub fn drawings_end_in_memory()
+    ensures ends { (input left output : List ℕ) (form : Form) (ended flushed : Bool) (answer : Result (Unit {0}) MainFault)
+        → DrawsText form (Some input) (Some left) ended 0 (Some []) (Some output) flushed 0 answer
+        → EndsInMemory (drawing form) input left output flushed answer }
+    ensures unread { (input left output : List ℕ) (form : Form) (ended flushed : Bool) (answer : Result (Unit {0}) MainFault)
+        → DrawsText form (Some input) (Some left) ended 1 (Some []) (Some output) flushed 0 answer
+        → (answer ≡ Err ReadFailed) × (output ≡ []) }
+    ensures cut_short { (input left output : List ℕ) (form : Form) (ended flushed : Bool) (answer : Result (Unit {0}) MainFault)
+        → DrawsText form (Some input) (Some left) ended 0 (Some []) (Some output) flushed 1 answer
+        → IsCutShort (drawing form) input output answer }
 {}
