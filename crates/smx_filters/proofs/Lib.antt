@@ -4,4 +4,7 @@ pub mod FilterLemmas
 pub mod InMemoryLemmas
 pub mod FrontsTextLemmas
 pub mod ToldLemmas
+pub mod ReadingLemmas
 pub mod ReplayTextLemmas
+pub mod AnswerLemmas
+pub mod FrontsLawLemmas

@@ -7,4 +7,5 @@ pub mod RunText
 pub mod CheckText
 pub mod ReplayText
 pub mod WorkedVerdicts
+pub mod WorkedFronts
 pub mod InMemory
