@@ -6,5 +6,6 @@ pub mod FrontsTextLemmas
 pub mod ToldLemmas
 pub mod ReadingLemmas
 pub mod ReplayTextLemmas
+pub mod OneProcessLemmas
 pub mod AnswerLemmas
 pub mod FrontsLawLemmas

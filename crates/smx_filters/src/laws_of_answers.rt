@@ -6,6 +6,7 @@ ghost use Rattle.smx_types.specs.declared.transcript.Transcript.{Transcript};
 ghost use Rattle.smx_types.specs.declared.version.Version.{Version};
 ghost use Rattle.smx_model.specs.Headline.{IsReportOf};
 ghost use Rattle.smx_text.specs.Grammar.{Spells};
+ghost use Rattle.smx_text.specs.ProgramsText.{programs_grammar};
 ghost use Rattle.smx_text.specs.TranscriptText.{transcript_grammar};
 ghost use Rattle.smx_config.specs.declared.fault.ConfigFault.{ConfigFault};
 ghost use Rattle.smx_config.specs.declared.verdict.Verdict.{Verdict};
@@ -44,6 +45,18 @@ pub fn an_input_has_one_answer()
     a_transcript_has_one_replay();
     one_text_has_one_reading();
     one_transcript_has_one_reading();
+}
+
+/// So has a run of one process, or of none, by however many workers.
+pub fn a_run_of_one_process_has_one_answer()
+    ensures { (workers : ℕ) (input : List ℕ) (one other : Result (Unit {0} × List ℕ) MainFault)
+        → ((version : Version) (p : ProgramLists) → Spells (programs_grammar version) input p → length p.programs ≤ 1)
+        → Answers (running false workers) input one → Answers (running false workers) input other
+        → IfErr one (λ e. IsWantOfMemory e → ⊥) → IfErr other (λ e. IsWantOfMemory e → ⊥) → one ≡ other }
+{
+    drivers_have_one_fault();
+    reports_are_determined();
+    one_text_has_one_reading();
 }
 
 /// Programs that several workers have run aren't refused for their drivers, whether their fronts or a transcript came of them.
