@@ -182,12 +182,12 @@ one_process_once : HaveOneReport → (workers : ℕ) (programs : ProgramLists) �
 one_process_once determined workers programs few one other h k =
     let a = report_of workers programs one h in
     let b = report_of workers programs other k in
-    told_once determined programs one other a b (in_turn programs.programs a.0.entries few a.1.0.holds ∙ sym (in_turn programs.programs b.0.entries few b.1.0.holds))
+    told_once determined programs one other a b (in_turn programs.programs a.0.entries few a.1.holds ∙ sym (in_turn programs.programs b.0.entries few b.1.holds))
 
 -- what is written of a run is of drivers that can be had
 run_had : (fronts : Bool) (workers : ℕ) (programs : ProgramLists) (output : List ℕ) → IsWrittenFor fronts workers programs output → IsDriverList programs.drivers
 run_had true workers programs output h = h.promised.can_be_had
-run_had false workers programs output h = (report_of workers programs output h).1.0.can_be_had
+run_had false workers programs output h = (report_of workers programs output h).1.can_be_had
 
 -- ---- a run
 

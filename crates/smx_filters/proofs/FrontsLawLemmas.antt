@@ -1,5 +1,5 @@
 -- The fronts text that a run writes is of one report.
-use Rattle.std.proofs.Common.{◌≡◌, ℕ, suc, ◌+◌, ◌≤◌, List, [], ◌∷◌, length, refl, sym, ap, ◌∙◌, arith, length-append}
+use Rattle.std.proofs.Common.{◌≡◌, ℕ, suc, ◌+◌, ◌≤◌, true, List, [], ◌∷◌, length, refl, sym, ap, ◌∙◌, arith, length-append}
 use Rattle.std.proofs.lemmas.List.Elements.{All-nil, All-cons}
 use Rattle.std.specs.List.{All}
 use Rattle.smx_types.specs.ProgramLists.{ProgramLists}
@@ -31,9 +31,9 @@ not_past drivers history n program front h =
 -- and so none is
 none_past : (drivers : List DriverSpec) (history : List Entry) (n : ℕ) (programs : List (List Command)) (fronts : List Front) → AreFrontsFrom drivers history n programs fronts
     → All (λ f. f.entries ≤ length history) fronts
-none_past drivers history n [] [] h = All-nil _
+none_past drivers history n [] [] h = All-nil (λ (f : Front). f.entries ≤ length history)
 none_past drivers history n (program ∷ programs) (front ∷ fronts) h =
-    All-cons _ front fronts (not_past drivers history n program front h.0) (none_past drivers history (n + 1) programs fronts h.1)
+    All-cons (λ (f : Front). f.entries ≤ length history) front fronts (not_past drivers history n program front h.0) (none_past drivers history (n + 1) programs fronts h.1)
 none_past drivers history n [] (front ∷ fronts) h = absurd h
 none_past drivers history n (program ∷ programs) [] h = absurd h
 
