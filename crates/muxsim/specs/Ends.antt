@@ -1,5 +1,5 @@
 -- How the program ends: what came of the job, and the exit status that tells it.
-use Rattle.std.specs.Prelude.{◌≡◌, ℕ, Bool, List, Option, Result, Ok, Err}
+use Rattle.std.specs.Prelude.{◌≡◌, ℕ, Bool, List, [], Option, Some, Result, Ok, Err}
 use Rattle.std.specs.Process.{exit_status}
 use Rattle.std.specs.declared.process.ExitCode.{ExitCode}
 use Rattle.smx_config.specs.declared.verdict.Verdict.{Verdict}
@@ -35,6 +35,12 @@ pub record Devices : Type 0 where
   pub after : Option (List ℕ)
   pub flushed : Bool
   pub write_failures : ℕ
+
+-- these bytes were there to read, none had been written, and these are written now
+pub record Writes (d : Devices) (input output : List ℕ) : Type 0 where
+  pub had : d.had ≡ Some input
+  pub before : d.before ≡ Some []
+  pub after : d.after ≡ Some output
 
 -- the programs were run, and the status is that of what came of it
 pub record EndsRun (fronts : Bool) (workers : ℕ) (d : Devices) (code : ExitCode) : Type 0 where

@@ -26,16 +26,12 @@ use Rattle.smx_filters.specs.RunText.{items_of}
 use Rattle.smx_filters.specs.declared.main_fault.MainFault.{MainFault}
 use Rattle.smx_filters.specs.declared.main_fault.MainFault.TheVariants.{Refused, Text, TooLong, ReadFailed, WriteFailed}
 use Rattle.smx_filters.proofs.FilterLemmas.{alone_of}
+use Rattle.smx_filters.proofs.ReadingLemmas.{HasOneReading, one_value}
 
 -- ---- what other crates' laws say
 
 abbrev CanBeTold : Type 0
 CanBeTold = (t r : Transcript) → IsAllowed t.version t → IsReplayOf t r → IsSpellable r → IsAllowed r.version r
-
-abbrev HasOneReading : Type 0
-HasOneReading = (bytes : List ℕ) (r s : Result Transcript TextFault) → ReadsAny transcript_grammar bytes r
-    → ReadsAny transcript_grammar bytes s
-    → IfErr r (λ f. f.cause ≢ NoMemory) → IfErr s (λ f. f.cause ≢ NoMemory) → r ≡ s
 
 abbrev HasOneReplay : Type 0
 HasOneReplay = (t r s : Transcript) → IsReplayOf t r → IsReplayOf t s → r ≡ s
@@ -84,36 +80,23 @@ replay_refused bytes input same t read f (Err e) is refused =
 
 -- ---- laws
 
--- one text spells one transcript
-one_spelled : HasOneReading → (bytes : List ℕ) (v w : Version) (t u : Transcript)
-    → Spells (transcript_grammar v) bytes t → Spells (transcript_grammar w) bytes u → t ≡ u
-one_spelled reading bytes v w t u h k =
-    let one : Result Transcript TextFault = Ok t in
-    let other : Result Transcript TextFault = Ok u in
-    let same : one ≡ other = reading bytes one other (v, h, tt) (w, k, tt) tt tt in
-    cc
-
--- which is its one text
-its_text : (version : Version) (bytes : List ℕ) (t : Transcript) → Spells (transcript_grammar version) bytes t
-    → bytes ≡ transcript_text t
-its_text version bytes t h =
-    h.text ∙ ap (λ (v : Version). full_text (transcript_grammar v) t) (sym h.allowed.version_is)
+-- what is spelled is the one text of it
+its_text : (version : Version) (bytes : List ℕ) (t : Transcript) → Spells (transcript_grammar version) bytes t → bytes ≡ transcript_text t
+its_text version bytes t h = h.text ∙ ap (λ (v : Version). full_text (transcript_grammar v) t) (sym h.allowed.version_is)
 
 -- two replays of one text are written alike
-pub one_replay : HasOneReading → HasOneReplay → (input one other : List ℕ) (done : Unit {0})
-    → GivesFor replaying input done one → GivesFor replaying input done other
+pub one_replay : HasOneReading transcript_grammar → HasOneReplay → (input one other : List ℕ) (done : Unit {0}) → GivesFor replaying input done one → GivesFor replaying input done other
     → one ≡ other
 one_replay reading determined input one other done (v, t, spells, h) (w, u, spells_too, k) =
-    let same : t ≡ u = one_spelled reading input v w t u spells spells_too in
+    let same : t ≡ u = one_value transcript_grammar reading input v w t u spells spells_too in
     let first : IsReplayOf u h.replay = subst (λ (x : Transcript). IsReplayOf x h.replay) same h.replays in
     h.written.text ∙ ap transcript_text (determined u h.replay k.replay first k.replays) ∙ sym k.written.text
 
 -- a legal one is given back
-pub given_back : HasOneReading → HasOneReplay → IsItsOwn → (input line output : List ℕ) (done : Unit {0})
-    → GivesFor checking input Legal line
+pub given_back : HasOneReading transcript_grammar → HasOneReplay → IsItsOwn → (input line output : List ℕ) (done : Unit {0}) → GivesFor checking input Legal line
     → GivesFor replaying input done output → output ≡ input
 given_back reading determined own input line output done (v, t, spells, judged) (w, u, spells_too, k) =
-    let same : u ≡ t = one_spelled reading input w v u t spells_too spells in
+    let same : u ≡ t = one_value transcript_grammar reading input w v u t spells_too spells in
     let replays : IsReplayOf t k.replay = subst (λ (x : Transcript). IsReplayOf x k.replay) same k.replays in
     k.written.text ∙ ap transcript_text (determined t k.replay t replays (own t judged.can_be_had judged.judged))
     ∙ sym (its_text v input t spells)

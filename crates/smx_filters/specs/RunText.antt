@@ -1,5 +1,5 @@
 -- The headline over bytes: what a run says of the bytes that it read, and what it writes.
-use Rattle.std.specs.Prelude.{◌≡◌, ℕ, zero, suc, Bool, true, false, List, map, Option, Result, Vec, Ok, Err}
+use Rattle.std.specs.Prelude.{◌≡◌, ◌≤◌, ◌⊎◌, ℕ, zero, suc, Bool, true, false, List, length, map, Option, Result, Vec, Ok, Err}
 use Rattle.std.specs.Global.{Global}
 use Rattle.smx_types.specs.ProgramLists.{ProgramLists}
 use Rattle.smx_types.specs.declared.transcript.Transcript.{Transcript}
@@ -59,11 +59,10 @@ IsWrittenFor false zero programs output = IsTranscriptFor programs output
 IsWrittenFor false (suc zero) programs output = IsTranscriptInTurn programs output
 IsWrittenFor false (suc (suc more)) programs output = IsTranscriptFor programs output
 
--- what so many workers may refuse: one alone refuses for nothing that workers share
+-- what so many workers may refuse: where one worker runs all that there is, nothing that workers share
 abbrev pub IsRefusedFor : ℕ → ProgramLists → RunFault → Type 0
-IsRefusedFor zero programs fault = RefusesRun programs.drivers fault
-IsRefusedFor (suc zero) programs fault = RefusesAlone programs.drivers fault
-IsRefusedFor (suc (suc more)) programs fault = RefusesRun programs.drivers fault
+IsRefusedFor workers programs fault = RefusesRun programs.drivers fault
+    × ((workers ≤ 1) ⊎ (length programs.programs ≤ 1) → RefusesAlone programs.drivers fault)
 
 -- the text of a report: its fronts, or its transcript in a version, each line of which can be spelled
 abbrev pub IsTextOf : Bool → Version → Report → List ℕ → Type 0

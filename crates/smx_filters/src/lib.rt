@@ -7,6 +7,7 @@ mod done;
 mod draw;
 mod fronts_text;
 mod input;
+pub mod laws_of_answers;
 pub mod laws_of_filters;
 pub mod laws_of_replays;
 mod main_fault;
