@@ -1,9 +1,10 @@
 -- The codes that C gets.
 use Rattle.std.specs.Prelude.{Result, Ok, Err, ℤ, pos}
 use Rattle.smx_session.specs.declared.trouble.Trouble.{Trouble as SessionTrouble}
-use Rattle.smx_session.specs.declared.trouble.Trouble.TheVariants.{NoMemory as session-NoMemory, Text as session-Text, Drivers as session-Drivers, Line as session-Line, NoEntry as session-NoEntry}
+use Rattle.smx_session.specs.declared.trouble.Trouble.TheVariants as session
 use Rattle.muxsim_c.specs.declared.trouble.Trouble.{Trouble}
-use Rattle.muxsim_c.specs.declared.trouble.Trouble.TheVariants.{NoMemory, Text, Drivers, Line, NoEntry, NoRoom, Closed, IsOpen}
+use Rattle.muxsim_c.specs.declared.trouble.Trouble.TheVariants.{NoMemory, Text, Drivers, Line, NoEntry}
+use Rattle.muxsim_c.specs.declared.trouble.Trouble.TheVariants.{NoRoom, Closed, IsOpen}
 
 -- done, or why nothing was
 abbrev pub Outcome : Type 0
@@ -23,8 +24,8 @@ code (Err IsOpen) = pos 8
 
 -- what C is told of a session's trouble
 abbrev pub told_of : SessionTrouble → Trouble
-told_of session-NoMemory = NoMemory
-told_of (session-Text fault) = Text
-told_of (session-Drivers fault) = Drivers
-told_of session-Line = Line
-told_of session-NoEntry = NoEntry
+told_of session.NoMemory = NoMemory
+told_of (session.Text fault) = Text
+told_of (session.Drivers fault) = Drivers
+told_of session.Line = Line
+told_of session.NoEntry = NoEntry

@@ -27,4 +27,5 @@ held_keyless a (block_ptr b o) None = tt
 held_keyless a (block_ptr b o) (Some x) = (boxed.owned (record { ptr = block_ptr b o; alloc = a; value = x }) []).1
 
 pub send : IsSend the_row
-send = let pointer : IsSend RawPtr = search sendable in owning_send the_type (pointer, (global.the_field_send, tt)) (λ h. held_keyless h.alloc h.at h.value) (λ k h w. tt)
+send = let pointer : IsSend RawPtr = search sendable in owning_send the_type (pointer, (global.the_field_send, tt))
+    (λ h. held_keyless h.alloc h.at h.value) (λ k h w. tt)
