@@ -1,5 +1,6 @@
 -- What each call does with a handle, which has a session or none.
-use Rattle.std.specs.Prelude.{◌≡◌, ◌<◌, ◌≤◌, ◌⊎◌, ℕ, ℤ, List, [], ◌∷◌, ◌++◌, map, drop, length, codes, Option, Some, None, Ok, Err}
+use Rattle.std.specs.Prelude.{◌≡◌, ◌<◌, ◌≤◌, ◌⊎◌, ℕ, ℤ, List, [], ◌∷◌, ◌++◌, map, drop, length, codes, Option, Some}
+use Rattle.std.specs.Prelude.{None, Ok, Err}
 use Rattle.smx_types.specs.declared.command.Entry.{Entry}
 use Rattle.smx_model.specs.Views.{view}
 use Rattle.smx_words.specs.Spelling.{entry_words}

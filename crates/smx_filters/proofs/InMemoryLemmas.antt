@@ -31,11 +31,21 @@ module _ {V K T : Type 0} (f : Filter V K T) (input left output : List ℕ) (end
   -- what it says
   pub ends : (answer : Result T MainFault) → Filtered answer → EndsInMemory f input left ended output flushed answer
   ends (Ok a) h =
-      let (whole, is_flushed, bytes, gives, out) = h.done in
-      (short (Ok a) h (λ e. cc) whole.1, none_left input h.read left h.consumed whole.1, whole.0, is_flushed, rw (whole.1, out) gives)
+      let (whole, is_flushed, bytes, gives, out) = h.done in (
+        short (Ok a) h (λ e. cc) whole.1,
+        none_left input h.read left h.consumed whole.1,
+        whole.0,
+        is_flushed,
+        rw (whole.1, out) gives,
+      )
   ends (Err (Text fault)) h =
-      let told = h.text fault refl in
-      (short _ h (λ e. cc) told.0.1, none_left input h.read left h.consumed told.0.1, told.0.0, h.unwritten (λ e. cc), rw told.0.1 told.1)
+      let told = h.text fault refl in (
+        short _ h (λ e. cc) told.0.1,
+        none_left input h.read left h.consumed told.0.1,
+        told.0.0,
+        h.unwritten (λ e. cc),
+        rw told.0.1 told.1,
+      )
   ends (Err (Refused fault)) h = (
     elim (h.refused fault refl) [
       | inl told ↦ inl (short _ h (λ e. cc) told.0.1, told.0.0, rw told.0.1 told.1)

@@ -1,5 +1,6 @@
 -- Of the programs of one process, or of none, there is one report.
-use Rattle.std.proofs.Common.{◌≡◌, ◌≢◌, ℕ, zero, suc, ◌≤◌, eqb, true, false, List, [], ◌∷◌, length, map, refl, sym, ap, ◌∙◌, arith, inl, inr}
+use Rattle.std.proofs.Common.{◌≡◌, ◌≢◌, ℕ, zero, suc, ◌≤◌, eqb, true, false, List, [], ◌∷◌, length, map, refl, sym, ap}
+use Rattle.std.proofs.Common.{◌∙◌, arith, inl, inr}
 use Rattle.std.proofs.lemmas.Bool.{cases_eq, eq-eqb, ne_eqb}
 use Rattle.std.proofs.lemmas.List.{append-nil}
 use Rattle.std.specs.Prelude.{slice_index_or}
@@ -19,7 +20,8 @@ another e es p differs = let f : eqb e.process p ≡ false = ne_eqb e.process p 
 -- where no process has a program there is no entry
 none : (es : List Entry) → HoldsPrograms es [] → es ≡ []
 none [] h = refl
-none (e ∷ es) h = let e : e.command ∷ commands_of e.process es ≡ [] = sym (own e es e.process refl) ∙ h e.process in absurd cc
+none (e ∷ es) h =
+    let e : e.command ∷ commands_of e.process es ≡ [] = sym (own e es e.process refl) ∙ h e.process in absurd cc
 
 -- where one has, they are its commands
 alone : (c : List Command) (es : List Entry) → HoldsPrograms es (c ∷ []) → map call_of es ≡ calls_of 0 c
@@ -33,16 +35,19 @@ alone c (e ∷ es) h = elim (cases_eq e.process 0) [
       ap (λ x. x ∷ map call_of es) first ∙ ap (λ xs. (0, e.command) ∷ xs) (alone rest es others) ∙ ap (calls_of 0) all
   | inr not_mine ↦ absurd (strange e.process refl not_mine)
 ] where
-  left : (rest : List Command) → e.process ≡ 0 → (p : ℕ) → commands_of p es ≡ slice_index_or (commands_of 0 es ∷ []) p []
+  left : (rest : List Command) → e.process ≡ 0 → (p : ℕ)
+      → commands_of p es ≡ slice_index_or (commands_of 0 es ∷ []) p []
   left rest mine zero = refl
   left rest mine (suc p) = sym (another e es (suc p) (λ is. absurd (omega (arith, mine, is)))) ∙ h (suc p)
 
   strange : (p : ℕ) → e.process ≡ p → e.process ≢ 0 → ⊥
   strange zero is not_mine = not_mine is
-  strange (suc p) is not_mine = let e : e.command ∷ commands_of (suc p) es ≡ [] = sym (own e es (suc p) is) ∙ h (suc p) in absurd cc
+  strange (suc p) is not_mine =
+      let e : e.command ∷ commands_of (suc p) es ≡ [] = sym (own e es (suc p) is) ∙ h (suc p) in absurd cc
 
 -- so they come one program after the other
-pub in_turn : (programs : List (List Command)) (es : List Entry) → length programs ≤ 1 → HoldsPrograms es programs → map call_of es ≡ calls_from 0 programs
+pub in_turn : (programs : List (List Command)) (es : List Entry) → length programs ≤ 1 → HoldsPrograms es programs
+    → map call_of es ≡ calls_from 0 programs
 in_turn [] es few h = ap (map call_of) (none es h)
 in_turn (c ∷ []) es few h = alone c es h ∙ sym (append-nil (calls_of 0 c))
 in_turn (c ∷ d ∷ more) es few h = absurd (omega arith)

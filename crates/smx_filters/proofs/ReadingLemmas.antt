@@ -3,8 +3,8 @@ use Rattle.std.proofs.Common.{◌≡◌, ◌≢◌, ℕ, List, Result, Ok, Err}
 use Rattle.std.specs.Prelude.{IfErr}
 use Rattle.smx_types.specs.declared.version.Version.{Version}
 use Rattle.smx_text.specs.Grammar.{Grammar, ReadsAny, Spells}
-use Rattle.smx_text.specs.declared.fault.Cause.TheVariants as cause
-use Rattle.smx_text.specs.declared.fault.TextFault.{TextFault}
+use Rattle.smx_text.specs.declared.text_fault.Cause.TheVariants as cause
+use Rattle.smx_text.specs.declared.text_fault.TextFault.{TextFault}
 
 -- two readings of one text are the same, unless memory runs out: what the laws of texts say
 abbrev pub HasOneReading : {V K : Type 0} → (Version → Grammar V K) → Type 0
@@ -12,7 +12,8 @@ HasOneReading {V} {K} g = (bytes : List ℕ) (r s : Result V TextFault) → Read
     → IfErr r (λ f. f.cause ≢ cause.NoMemory) → IfErr s (λ f. f.cause ≢ cause.NoMemory) → r ≡ s
 
 -- an input spells one value
-pub one_value : {V K : Type 0} (g : Version → Grammar V K) → HasOneReading g → (bytes : List ℕ) (v w : Version) (x y : V)
+pub one_value : {V K : Type 0} (g : Version → Grammar V K) → HasOneReading g
+    → (bytes : List ℕ) (v w : Version) (x y : V)
     → Spells (g v) bytes x → Spells (g w) bytes y → x ≡ y
 one_value {V} {K} g reading bytes v w x y h k =
     let one : Result V TextFault = Ok x in
@@ -21,7 +22,8 @@ one_value {V} {K} g reading bytes v w x y h k =
     cc
 
 -- what spells a value goes wrong nowhere
-pub no_fault : {V K : Type 0} (g : Version → Grammar V K) → HasOneReading g → (bytes : List ℕ) (v : Version) (x : V) (f : TextFault)
+pub no_fault : {V K : Type 0} (g : Version → Grammar V K) → HasOneReading g
+    → (bytes : List ℕ) (v : Version) (x : V) (f : TextFault)
     → Spells (g v) bytes x → ReadsAny g bytes (Err f) → f.cause ≢ cause.NoMemory → ⊥
 no_fault {V} {K} g reading bytes v x f h k known =
     let one : Result V TextFault = Ok x in

@@ -66,8 +66,10 @@ gives told bytes input same t read text h = (
 )
 
 -- where the drivers are refused, or memory was wanting
-pub replay_refused : (bytes input : List ℕ) → bytes ≡ input → (t : Transcript) → ReadsAny transcript_grammar bytes (Ok t)
-    → (f : ConfigFault) (answer : Result (Vec ℕ Global) MainFault) → IsErrAnd answer (λ e. e ≡ Refused (run_fault_of f)) → RefusesDrivers t.drivers f
+pub replay_refused : (bytes input : List ℕ) → bytes ≡ input → (t : Transcript)
+    → ReadsAny transcript_grammar bytes (Ok t)
+    → (f : ConfigFault) (answer : Result (Vec ℕ Global) MainFault) → IsErrAnd answer (λ e. e ≡ Refused (run_fault_of f))
+    → RefusesDrivers t.drivers f
     → Answers replaying input (items_of answer)
 replay_refused bytes input same t read f (Ok v) is refused = absurd is
 replay_refused bytes input same t read f (Err e) is refused =
@@ -81,11 +83,14 @@ replay_refused bytes input same t read f (Err e) is refused =
 -- ---- laws
 
 -- what is spelled is the one text of it
-its_text : (version : Version) (bytes : List ℕ) (t : Transcript) → Spells (transcript_grammar version) bytes t → bytes ≡ transcript_text t
-its_text version bytes t h = h.text ∙ ap (λ (v : Version). full_text (transcript_grammar v) t) (sym h.allowed.version_is)
+its_text : (version : Version) (bytes : List ℕ) (t : Transcript) → Spells (transcript_grammar version) bytes t
+    → bytes ≡ transcript_text t
+its_text version bytes t h =
+    h.text ∙ ap (λ (v : Version). full_text (transcript_grammar v) t) (sym h.allowed.version_is)
 
 -- two replays of one text are written alike
-pub one_replay : HasOneReading transcript_grammar → HasOneReplay → (input one other : List ℕ) (done : Unit {0}) → GivesFor replaying input done one → GivesFor replaying input done other
+pub one_replay : HasOneReading transcript_grammar → HasOneReplay → (input one other : List ℕ) (done : Unit {0})
+    → GivesFor replaying input done one → GivesFor replaying input done other
     → one ≡ other
 one_replay reading determined input one other done (v, t, spells, h) (w, u, spells_too, k) =
     let same : t ≡ u = one_value transcript_grammar reading input v w t u spells spells_too in
@@ -93,7 +98,8 @@ one_replay reading determined input one other done (v, t, spells, h) (w, u, spel
     h.written.text ∙ ap transcript_text (determined u h.replay k.replay first k.replays) ∙ sym k.written.text
 
 -- a legal one is given back
-pub given_back : HasOneReading transcript_grammar → HasOneReplay → IsItsOwn → (input line output : List ℕ) (done : Unit {0}) → GivesFor checking input Legal line
+pub given_back : HasOneReading transcript_grammar → HasOneReplay → IsItsOwn
+    → (input line output : List ℕ) (done : Unit {0}) → GivesFor checking input Legal line
     → GivesFor replaying input done output → output ≡ input
 given_back reading determined own input line output done (v, t, spells, judged) (w, u, spells_too, k) =
     let same : u ≡ t = one_value transcript_grammar reading input w v u t spells_too spells in

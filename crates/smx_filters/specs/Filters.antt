@@ -4,10 +4,10 @@ use Rattle.std.specs.Prelude.{Err, IfOk, IfErr, IsErrOf}
 use Rattle.std.specs.Io.KnownBytes.{Consumes, Appends, Keeps}
 use Rattle.smx_types.specs.declared.version.Version.{Version}
 use Rattle.smx_text.specs.Grammar.{Grammar, ReadsAny, Spells}
-use Rattle.smx_text.specs.declared.fault.Cause.TheVariants as cause
-use Rattle.smx_text.specs.declared.fault.TextFault.{TextFault}
-use Rattle.smx_run.specs.declared.fault.RunFault.{RunFault}
-use Rattle.smx_run.specs.declared.fault.RunFault.TheVariants as run
+use Rattle.smx_text.specs.declared.text_fault.Cause.TheVariants as cause
+use Rattle.smx_text.specs.declared.text_fault.TextFault.{TextFault}
+use Rattle.smx_run.specs.declared.run_fault.RunFault.{RunFault}
+use Rattle.smx_run.specs.declared.run_fault.RunFault.TheVariants as run
 use Rattle.smx_filters.specs.Input.{IsWhole}
 use Rattle.smx_filters.specs.Output.{AppendsBeginning}
 use Rattle.smx_filters.specs.declared.main_fault.MainFault.{MainFault}

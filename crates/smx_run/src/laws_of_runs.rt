@@ -12,7 +12,7 @@ ghost use Rattle.smx_model.specs.Headline.{IsReportOf};
 ghost use Rattle.smx_model.specs.Histories.{call_of};
 ghost use Rattle.smx_model.specs.Worked.Common.{mux, ip, OpenClone, Dup, CloseAll};
 ghost use Rattle.smx_model.specs.Worked.Reports.{copied, drivers, exited, opened, programs};
-ghost use Rattle.smx_config.specs.declared.fault.ConfigFault.TheVariants as config;
+ghost use Rattle.smx_config.specs.declared.config_fault.ConfigFault.TheVariants as config;
 ghost use Rattle.smx_shared.specs.WorkedCalls.{front, knows};
 ghost use Rattle.smx_run.specs.Desks.{KnowsItFull, StopsAmong};
 ghost use Rattle.smx_run.specs.Fronts.{AreFrontsFrom};

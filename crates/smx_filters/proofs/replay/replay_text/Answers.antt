@@ -15,6 +15,8 @@ pub returns : goal.returns
 returns g c =
     let input = c.in_ok-input.ensures in
     let wrote = c.write_all.ensures in
-    let given = subst (λ output. GivesFor replaying c.in_ok-input.input.items tt output) (sym c.as_slice.ensures.value) c.in_ok-output.ensures in
-    written_out replaying _ _ _ _ _ _ _ _ c.in_ok-input.input input.0 input.1 c.as_slice.result.now given c.write_all.result
+    let given = subst (λ output. GivesFor replaying c.in_ok-input.input.items tt output)
+    (sym c.as_slice.ensures.value) c.in_ok-output.ensures in
+    written_out replaying _ _ _ _ _ _ _ _ c.in_ok-input.input input.0 input.1 c.as_slice.result.now given
+    c.write_all.result
     wrote.written wrote.flushed wrote.fine wrote.beginning wrote.fault wrote.failed
