@@ -1,7 +1,7 @@
 //! Why a call of a session did nothing.
 
 ghost use Rattle.std.specs.Prelude.{◌≡◌, ◌⊎◌};
-ghost use Rattle.smx_session.specs.declared.trouble.Trouble.TheVariants.{Drivers, NoMemory as memory, Text};
+ghost use Rattle.smx_session.specs.declared.trouble.Trouble.TheVariants.{NoMemory as memory, Text, Drivers};
 
 use smx_config::ConfigFault;
 use smx_text::{Cause, TextFault};
