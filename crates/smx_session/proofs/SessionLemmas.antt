@@ -6,12 +6,12 @@ use Rattle.smx_types.specs.declared.driver.DriverSpec.{DriverSpec}
 use Rattle.smx_types.specs.declared.version.Version.{Version}
 use Rattle.smx_config.specs.DriverFaults.{RefusesDrivers}
 use Rattle.smx_config.specs.Machine.{Machine}
-use Rattle.smx_config.specs.declared.fault.ConfigFault.{ConfigFault}
+use Rattle.smx_config.specs.declared.config_fault.ConfigFault.{ConfigFault}
 use Rattle.smx_model.specs.Configuration.{empty}
 use Rattle.smx_model.specs.DriverList.{IsDriverList}
 use Rattle.smx_text.specs.Grammar.{ReadsAny, Spells}
 use Rattle.smx_text.specs.ProgramsText.{programs_grammar}
-use Rattle.smx_text.specs.declared.fault.TextFault.{TextFault}
+use Rattle.smx_text.specs.declared.text_fault.TextFault.{TextFault}
 use Rattle.smx_session.specs.Sessions.{IsStartOf, StartsAs}
 use Rattle.smx_session.specs.declared.trouble.Trouble.{Trouble}
 use Rattle.smx_session.specs.declared.trouble.Trouble.TheVariants.{NoMemory, Text, Drivers}

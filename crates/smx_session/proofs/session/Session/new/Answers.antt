@@ -6,11 +6,13 @@ returns-in-Err c = start.at_fault c.args.programs.now c.in-Err.fault c.of_text.r
 
 pub returns-in-Ok-new : goal.returns-in-Ok-new
 returns-in-Ok-new c =
-    start.started c.args.programs.now c.in-Ok.programs c.version.result c.drivers.result.now c.in-Ok-new.config c.in-Ok.ensures
+    start.started c.args.programs.now c.in-Ok.programs c.version.result c.drivers.result.now c.in-Ok-new.config
+    c.in-Ok.ensures
     c.version.ensures.version c.drivers.ensures.drivers c.in-Ok-new.ensures.drivers.0 c.in-Ok-new.ensures.drivers.1
     c.in-Ok-new.ensures.empty
 
 pub returns : goal.returns
 returns c =
-    start.refused c.args.programs.now c.in-Ok.programs c.drivers.result.now c.in-Err-new.fault c.of_drivers.result c.in-Ok.ensures
+    start.refused c.args.programs.now c.in-Ok.programs c.drivers.result.now c.in-Err-new.fault c.of_drivers.result
+    c.in-Ok.ensures
     c.drivers.ensures.drivers c.in-Err-new.ensures.refused c.of_drivers.ensures
