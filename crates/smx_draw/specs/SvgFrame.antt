@@ -35,10 +35,8 @@ svg_looks =
 abbrev pub svg_head : ℕ → ℕ → List ℕ
 svg_head width height =
     joined (svg_size width height ∷ svg_looks ∷ codes "<rect class=\"page\" width=\"100%\" height=\"100%\"/>\n" ∷
-    codes "<g class=\"ordinary\"><path d=\"M24 20H64\"/><text class=\"id\" x=\"70\" y=\"24\">ordinary
-        link</text></g>\n" ∷
-    codes "<g class=\"persistent\"><path d=\"M150 20H190\"/><text class=\"id\" x=\"196\" y=\"24\">persistent
-        link</text></g>\n" ∷
+    codes "<g class=\"ordinary\"><path d=\"M24 20H64\"/><text class=\"id\" x=\"70\" y=\"24\">ordinary link</text></g>\n" ∷
+    codes "<g class=\"persistent\"><path d=\"M150 20H190\"/><text class=\"id\" x=\"196\" y=\"24\">persistent link</text></g>\n" ∷
     codes "<g class=\"full\"><path d=\"M290 12H320V28H290Z\"/></g><text x=\"326\" y=\"24\">full queue</text>\n" ∷
     codes "<g class=\"hung\"><path d=\"M390 12H420V28H390Z\"/></g><text x=\"426\" y=\"24\">stream hung up</text>\n" ∷
     [])
