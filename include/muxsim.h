@@ -100,8 +100,9 @@ static inline int32_t muxsim_open(struct muxsim *shared, const char *programs, s
 }
 
 /* Performs the command of a line, as "0 clone ip", which has no line feed, and writes the line of its entry, which has the
- * reply and a line feed: "0 clone ip = fd 0 0\n". A command that is refused is performed too: its reply says why. Where
- * nothing is written, and the code is MUXSIM_NO_MEMORY, muxsim_entry tells whether it was performed. */
+ * reply and a line feed: "0 clone ip = fd 0 0\n". A command that is refused is performed too: its reply says why. With
+ * MUXSIM_NO_MEMORY it was performed or not, as memory was wanting for its line or before; its line is asked for again by
+ * muxsim_entry, which writes that of the last one performed. */
 static inline int32_t muxsim_perform(struct muxsim *shared, const char *line, size_t len, struct muxsim_text *text) {
     text->len = 0;
     if (pthread_mutex_lock(&shared->lock) != 0) return MUXSIM_NO_LOCK;
