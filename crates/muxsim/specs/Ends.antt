@@ -1,5 +1,5 @@
 -- How the program ends: what came of the job, and the exit status that tells it.
-use Rattle.std.specs.Prelude.{◌≡◌, ℕ, Bool, List, Option, Result, Ok, Err}
+use Rattle.std.specs.Prelude.{◌≡◌, ℕ, Bool, List, [], Option, Some, Result, Ok, Err}
 use Rattle.std.specs.Process.{exit_status}
 use Rattle.std.specs.declared.process.ExitCode.{ExitCode}
 use Rattle.smx_config.specs.declared.verdict.Verdict.{Verdict}
@@ -11,7 +11,7 @@ use Rattle.smx_filters.specs.RunText.{RunsText}
 use Rattle.smx_filters.specs.Statuses.{status_of_outcome}
 use Rattle.smx_filters.specs.declared.done.Done.{Done}
 use Rattle.smx_filters.specs.declared.done.Done.TheVariants.{Finished, Judged}
-use Rattle.smx_filters.specs.declared.fault.MainFault.{MainFault}
+use Rattle.smx_filters.specs.declared.main_fault.MainFault.{MainFault}
 use Rattle.muxsim.specs.declared.jobs.Job.{Job}
 use Rattle.muxsim.specs.declared.jobs.Job.TheVariants.{Run, Check, Replay, Draw}
 
@@ -36,10 +36,17 @@ pub record Devices : Type 0 where
   pub flushed : Bool
   pub write_failures : ℕ
 
+-- these bytes were there to read, none had been written, and these are written now
+pub record Writes (d : Devices) (input output : List ℕ) : Type 0 where
+  pub had : d.had ≡ Some input
+  pub before : d.before ≡ Some []
+  pub after : d.after ≡ Some output
+
 -- the programs were run, and the status is that of what came of it
 pub record EndsRun (fronts : Bool) (workers : ℕ) (d : Devices) (code : ExitCode) : Type 0 where
   pub answer : Result (Unit {0}) MainFault
-  pub ran : RunsText fronts workers d.had d.left d.ended d.read_failures d.before d.after d.flushed d.write_failures answer
+  pub ran : RunsText fronts workers d.had d.left d.ended d.read_failures d.before d.after d.flushed d.write_failures
+      answer
   pub status : exit_status code ≡ status_of_outcome (outcome_of_writing answer)
 
 -- the transcript was judged, and the status is that of what came of it

@@ -5,6 +5,7 @@ mod command_line;
 mod command_list;
 mod doing;
 mod jobs;
+mod laws_of_ends;
 
 ghost use Rattle.std.specs.Prelude.{◌≡◌, ◌≢◌, ◌⊎◌};
 ghost use Rattle.std.specs.IoError.{error_kind};

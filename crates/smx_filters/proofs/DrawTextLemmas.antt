@@ -7,14 +7,15 @@ use Rattle.smx_text.specs.Grammar.{ReadsAny, Spells}
 use Rattle.smx_text.specs.TranscriptText.{transcript_grammar}
 use Rattle.smx_draw.specs.Pictures.{IsPictureOf}
 use Rattle.smx_draw.specs.declared.form.Form.{Form}
-use Rattle.smx_run.specs.declared.fault.RunFault.TheVariants.{NoMemory}
+use Rattle.smx_run.specs.declared.run_fault.RunFault.TheVariants.{NoMemory}
 use Rattle.smx_filters.specs.DrawText.{drawing}
 use Rattle.smx_filters.specs.Filters.{Answers}
 use Rattle.smx_filters.specs.RunText.{items_of}
-use Rattle.smx_filters.specs.declared.fault.MainFault.{MainFault}
-use Rattle.smx_filters.specs.declared.fault.MainFault.TheVariants.{Refused}
+use Rattle.smx_filters.specs.declared.main_fault.MainFault.{MainFault}
+use Rattle.smx_filters.specs.declared.main_fault.MainFault.TheVariants.{Refused}
 
-module _ (form : Form) (bytes input : List ℕ) (same : bytes ≡ input) (t : Transcript) (read : ReadsAny transcript_grammar bytes (Ok t)) where
+module _ (form : Form) (bytes input : List ℕ) (same : bytes ≡ input) (t : Transcript)
+    (read : ReadsAny transcript_grammar bytes (Ok t)) where
   spelled : Spells (transcript_grammar read.0) input t
   spelled = subst (λ (bs : List ℕ). Spells (transcript_grammar read.0) bs t) same read.1
 

@@ -1,26 +1,30 @@
--- What is said of a filter that answers nothing but that it is done: of an input that was read whole, its text is refused, or
--- what it gives is written.
+-- What is said of a filter that answers nothing but that it is done: of an input that was read whole, its text is
+-- refused, or what it gives is written.
 use Rattle.std.proofs.Common.{◌≡◌, ℕ, Bool, true, List, Option, Vec, Result, Ok, Err, sym, ap, subst, ◌∙◌, arith}
 use Rattle.std.specs.Prelude.{IfErr, IsErrAnd, OnErr, OnOk}
 use Rattle.std.specs.Global.{Global}
 use Rattle.std.specs.Io.KnownBytes.{Appends}
-use Rattle.smx_text.specs.declared.fault.TextFault.{TextFault}
+use Rattle.smx_text.specs.declared.text_fault.TextFault.{TextFault}
 use Rattle.smx_filters.specs.Filters.{Answers, Filter, FiltersText, GivesFor, IsFaultOf}
 use Rattle.smx_filters.specs.Input.{IsInput, IsWhole}
 use Rattle.smx_filters.specs.Output.{AppendsBeginning}
 use Rattle.smx_filters.specs.RunText.{items_of}
-use Rattle.smx_filters.specs.declared.fault.MainFault.{MainFault}
-use Rattle.smx_filters.specs.declared.fault.MainFault.TheVariants.{Refused, Text, TooLong, ReadFailed, WriteFailed}
+use Rattle.smx_filters.specs.declared.main_fault.MainFault.{MainFault}
+use Rattle.smx_filters.specs.declared.main_fault.MainFault.TheVariants.{Refused, Text, TooLong, ReadFailed, WriteFailed}
 
 -- where the text is refused, its fault is the answer
-pub text_refused : {V K : Type 0} (filter : Filter V K (Unit {0})) (bytes input : List ℕ) → bytes ≡ input → (f : TextFault) (answer : Result (Vec ℕ Global) MainFault) → IsErrAnd answer (λ e. e ≡ Text f)
+pub text_refused : {V K : Type 0} (filter : Filter V K (Unit {0})) (bytes input : List ℕ) → bytes ≡ input
+    → (f : TextFault) (answer : Result (Vec ℕ Global) MainFault) → IsErrAnd answer (λ e. e ≡ Text f)
     → IsFaultOf filter bytes f → Answers filter input (items_of answer)
 text_refused filter bytes input same f (Ok v) is a = absurd is
 text_refused filter bytes input same f (Err e) is a =
-    subst (λ (x : MainFault). Answers filter input (Err x)) (sym is) (subst (λ (given : List ℕ). IsFaultOf filter given f) same a)
+    subst (λ (x : MainFault). Answers filter input (Err x)) (sym is)
+    (subst (λ (given : List ℕ). IsFaultOf filter given f) same a)
 
-module _ {V K : Type 0} (f : Filter V K (Unit {0})) (had left : Option (List ℕ)) (ended : Bool) (failures : ℕ) (before after : Option (List ℕ)) (flushed : Bool) (written : ℕ) (v : Vec ℕ Global)
-    (read : List ℕ) (h : IsInput had left ended failures (Ok v) read) (bytes : List ℕ) (given : GivesFor f v.items tt bytes) where
+module _ {V K : Type 0} (f : Filter V K (Unit {0})) (had left : Option (List ℕ)) (ended : Bool) (failures : ℕ)
+    (before after : Option (List ℕ)) (flushed : Bool) (written : ℕ) (v : Vec ℕ Global)
+    (read : List ℕ) (h : IsInput had left ended failures (Ok v) read) (bytes : List ℕ)
+    (given : GivesFor f v.items tt bytes) where
   whole : IsWhole had ended read
   whole = h.whole
 
@@ -31,8 +35,10 @@ module _ {V K : Type 0} (f : Filter V K (Unit {0})) (had left : Option (List ℕ
   gives_read = subst (λ (input : List ℕ). GivesFor f input tt bytes) h.answered given
 
   -- what was given was written, or writing failed
-  pub written_out : (answer : Result (Unit {0}) MainFault) → OnOk answer (Appends before after bytes) → OnOk answer (flushed ≡ true) → OnOk answer (written ≡ 0)
-      → OnErr answer (AppendsBeginning before after bytes) → IfErr answer (λ fault. fault ≡ WriteFailed) → OnErr answer (written ≡ 1)
+  pub written_out : (answer : Result (Unit {0}) MainFault) → OnOk answer (Appends before after bytes)
+      → OnOk answer (flushed ≡ true) → OnOk answer (written ≡ 0)
+      → OnErr answer (AppendsBeginning before after bytes) → IfErr answer (λ fault. fault ≡ WriteFailed)
+      → OnErr answer (written ≡ 1)
       → FiltersText f had left ended failures before after flushed written answer
   written_out (Ok done) appended out fine beginning fault failed = record {
     read = read;
@@ -59,7 +65,8 @@ module _ {V K : Type 0} (f : Filter V K (Unit {0})) (had left : Option (List ℕ
       λ long. let over : ok ≡ Err TooLong = h.too_long.1 long in absurd cc,
     );
     read_failed = (
-      λ is. let same : Err e ≡ Err ReadFailed = is in let other : WriteFailed ≡ ReadFailed = sym fault ∙ cc in absurd cc,
+      λ is. let same : Err e ≡ Err ReadFailed = is in let other : WriteFailed ≡ ReadFailed = sym fault ∙ cc in
+          absurd cc,
       λ broken. let over : ok ≡ Err ReadFailed = h.read_failed.1 broken in absurd cc,
     );
     write_failed = (λ is. failed, λ broken. ap Err fault);

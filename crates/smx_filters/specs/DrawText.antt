@@ -5,9 +5,9 @@ use Rattle.smx_text.specs.TranscriptLines.{TranscriptLine}
 use Rattle.smx_text.specs.TranscriptText.{transcript_grammar}
 use Rattle.smx_draw.specs.Pictures.{IsPictureOf}
 use Rattle.smx_draw.specs.declared.form.Form.{Form}
-use Rattle.smx_run.specs.declared.fault.RunFault.TheVariants.{NoMemory}
+use Rattle.smx_run.specs.declared.run_fault.RunFault.TheVariants.{NoMemory}
 use Rattle.smx_filters.specs.Filters.{Filter, FiltersText}
-use Rattle.smx_filters.specs.declared.fault.MainFault.{MainFault}
+use Rattle.smx_filters.specs.declared.main_fault.MainFault.{MainFault}
 
 -- a drawing reads a transcript, whatever its drivers, its entries and its view, and writes a picture of that view in
 -- this form; or memory was wanting; that it is done is all that it answers

@@ -8,4 +8,5 @@ pub mod CheckText
 pub mod ReplayText
 pub mod DrawText
 pub mod WorkedVerdicts
+pub mod WorkedFronts
 pub mod InMemory

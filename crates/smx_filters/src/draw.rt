@@ -6,8 +6,8 @@ ghost use Rattle.smx_filters.specs.Filters.{Answers};
 ghost use Rattle.smx_filters.specs.RunText.{items_of};
 
 use crate::device::{Feed, Sink};
-use crate::fault::MainFault;
 use crate::input::read_all;
+use crate::main_fault::MainFault;
 use crate::output::write_all;
 use smx_draw::{Form, draw};
 use smx_text::read_transcript;

@@ -9,8 +9,8 @@ ghost use Rattle.smx_filters.specs.DrawText.{DrawsText, drawing};
 ghost use Rattle.smx_filters.specs.InMemory.{EndsInMemory, IsCutShort};
 ghost use Rattle.smx_filters.specs.ReplayText.{ReplaysText, replaying};
 ghost use Rattle.smx_filters.specs.RunText.{IsWrittenFor, RunsText, running};
-ghost use Rattle.smx_filters.specs.declared.fault.MainFault.{MainFault};
-ghost use Rattle.smx_filters.specs.declared.fault.MainFault.TheVariants.{ReadFailed};
+ghost use Rattle.smx_filters.specs.declared.main_fault.MainFault.{MainFault};
+ghost use Rattle.smx_filters.specs.declared.main_fault.MainFault.TheVariants.{ReadFailed};
 
 use smx_model::laws_of_reports::reports_are_determined;
 
@@ -19,7 +19,7 @@ use smx_model::laws_of_reports::reports_are_determined;
 pub fn runs_end_in_memory()
     ensures ends { (input left output : List ℕ) (workers : ℕ) (fronts ended flushed : Bool) (answer : Result (Unit {0}) MainFault)
         → RunsText fronts workers (Some input) (Some left) ended 0 (Some []) (Some output) flushed 0 answer
-        → EndsInMemory (running fronts workers) input left output flushed answer }
+        → EndsInMemory (running fronts workers) input left ended output flushed answer }
     ensures unread { (input left output : List ℕ) (workers : ℕ) (fronts ended flushed : Bool) (answer : Result (Unit {0}) MainFault)
         → RunsText fronts workers (Some input) (Some left) ended 1 (Some []) (Some output) flushed 0 answer
         → (answer ≡ Err ReadFailed) × (output ≡ []) }
@@ -40,7 +40,7 @@ pub fn one_worker_writes_one_transcript()
 pub fn checks_end_in_memory()
     ensures ends { (input left output : List ℕ) (ended flushed : Bool) (answer : Result Verdict MainFault)
         → ChecksText (Some input) (Some left) ended 0 (Some []) (Some output) flushed 0 answer
-        → EndsInMemory checking input left output flushed answer }
+        → EndsInMemory checking input left ended output flushed answer }
     ensures unread { (input left output : List ℕ) (ended flushed : Bool) (answer : Result Verdict MainFault)
         → ChecksText (Some input) (Some left) ended 1 (Some []) (Some output) flushed 0 answer
         → (answer ≡ Err ReadFailed) × (output ≡ []) }
@@ -53,7 +53,7 @@ pub fn checks_end_in_memory()
 pub fn replays_end_in_memory()
     ensures ends { (input left output : List ℕ) (ended flushed : Bool) (answer : Result (Unit {0}) MainFault)
         → ReplaysText (Some input) (Some left) ended 0 (Some []) (Some output) flushed 0 answer
-        → EndsInMemory replaying input left output flushed answer }
+        → EndsInMemory replaying input left ended output flushed answer }
     ensures unread { (input left output : List ℕ) (ended flushed : Bool) (answer : Result (Unit {0}) MainFault)
         → ReplaysText (Some input) (Some left) ended 1 (Some []) (Some output) flushed 0 answer
         → (answer ≡ Err ReadFailed) × (output ≡ []) }
