@@ -1,5 +1,6 @@
 -- What was drawn piece by piece, and what stands in it.
-use Rattle.std.proofs.Common.{◌≡◌, ℕ, ◌+◌, ◌<◌, List, [], ◌∷◌, ◌++◌, length, get_or, take, append-nil, append_assoc, sym, ap, ◌∙◌, subst}
+use Rattle.std.proofs.Common.{◌≡◌, ℕ, ◌+◌, ◌<◌, List, [], ◌∷◌, ◌++◌, length, get_or, take, append-nil, append_assoc}
+use Rattle.std.proofs.Common.{sym, ap, ◌∙◌, subst}
 use Rattle.std.proofs.lemmas.List.{take_more}
 use Rattle.std.specs.List.{AllByRecursion, flat_map}
 use Rattle.smx_draw.specs.Drawing.{Draws, HasPart}
@@ -54,7 +55,8 @@ each_line line (x ∷ xs) before after =
     let e : before ++ ((line x ++ flat_map line xs) ++ after) ≡ before ++ line x ++ (flat_map line xs ++ after) =
     simp append_assoc in (
       (before, flat_map line xs ++ after, e),
-      subst (λ (t : List ℕ). AllByRecursion (λ y. HasPart t (line y)) xs) (sym e) (each_line line xs (before ++ line x) after),
+      subst (λ (t : List ℕ). AllByRecursion (λ y. HasPart t (line y)) xs) (sym e)
+          (each_line line xs (before ++ line x) after),
     )
 
 -- each element stands in a text that goes on behind it
