@@ -1,6 +1,7 @@
 -- What was drawn piece by piece, and what stands in it.
 use Rattle.std.proofs.Common.{◌≡◌, ℕ, ◌+◌, ◌<◌, List, [], ◌∷◌, ◌++◌, length, get_or, take, append-nil, append_assoc}
-use Rattle.std.proofs.Common.{sym, ap, ◌∙◌, subst}
+use Rattle.std.proofs.Common.{Result, Ok, Err, sym, ap, ◌∙◌, subst}
+use Rattle.std.specs.Prelude.{OnOk}
 use Rattle.std.proofs.lemmas.List.{take_more}
 use Rattle.std.specs.List.{AllByRecursion, flat_map}
 use Rattle.smx_draw.specs.Drawing.{Draws, HasPart}
@@ -66,3 +67,10 @@ pub each_still_there : {X : Type 0} (element : X → Area → List ℕ) (xs : Li
 each_still_there element xs text more =
     all_of (λ x. (at : Area) × HasPart text (element x at)) (λ x. (at : Area) × HasPart (text ++ more) (element x at))
     (λ x h. (h.0, still_there text (element x h.0) more h.1)) xs
+
+-- what is written in two steps, as one text
+pub then_put : {E : Type 0} (answer : Result (Unit {0}) E) (old middle new first second : List ℕ)
+    → middle ≡ old ++ first → OnOk answer (new ≡ middle ++ second) → OnOk answer (new ≡ old ++ (first ++ second))
+then_put (Ok done) old middle new first second e h =
+    h ∙ (ap (λ (t : List ℕ). t ++ second) e ∙ append_assoc old first second)
+then_put (Err fault) old middle new first second e h = tt
