@@ -1,5 +1,5 @@
 -- What a status tells of what was answered.
-use Rattle.std.proofs.Common.{◌≡◌, ◌≢◌, ◌⊎◌, ◌↔◌, ℕ, Bool, true, false, List, [], Option, Some, Result, Ok, Err, refl, sym, ap, subst, ◌∙◌, arith, inl, inr}
+use Rattle.std.proofs.Common.{◌≡◌, ◌≢◌, ◌⊎◌, ◌↔◌, ℕ, Bool, true, List, [], Option, Some, Result, Ok, Err, refl, sym, ap, subst, ◌∙◌, arith, inl, inr}
 use Rattle.std.specs.Prelude.{IfSome}
 use Rattle.std.specs.Io.KnownBytes.{Appends, Keeps}
 use Rattle.std.specs.Process.{exit_status}
@@ -8,7 +8,6 @@ use Rattle.smx_config.specs.declared.verdict.Verdict.{Verdict}
 use Rattle.smx_config.specs.declared.verdict.Verdict.TheVariants.{Legal, Illegal, ConfigDiffers}
 use Rattle.smx_text.specs.declared.fault.Cause.{Cause}
 use Rattle.smx_text.specs.declared.fault.Cause.TheVariants as cause
-use Rattle.smx_text.specs.declared.fault.TextFault.{TextFault}
 use Rattle.smx_filters.specs.CheckText.{checking}
 use Rattle.smx_filters.specs.Filters.{Filter, FiltersText, GivesFor}
 use Rattle.smx_filters.specs.ReplayText.{replaying}
@@ -173,12 +172,12 @@ record Tells (d : Devices) (n : ℕ) : Type 0 where
 of_answer : {V K T : Type 0} (f : Filter V K T) (d : Devices) (a : T) → Filtered f d (Ok a) → (n : ℕ) → (n ≡ 0) ⊎ (n ≡ 4) → Tells d n
 of_answer f d a h n (inl zero) = record {
   failed = (λ is. absurd (omega (arith, zero, is)), λ broke. absurd (fine f d a h broke));
-  unwritten = λ low. elim low [ | inl one ↦ absurd (omega (arith, zero, one)) | inr three ↦ absurd (omega (arith, zero, three)) ];
+  unwritten = λ low. elim low [ inl one ↦ absurd (omega (arith, zero, one)) | inr three ↦ absurd (omega (arith, zero, three)) ];
   no_words = λ is. absurd (omega (arith, zero, is));
 }
 of_answer f d a h n (inr four) = record {
   failed = (λ is. absurd (omega (arith, four, is)), λ broke. absurd (fine f d a h broke));
-  unwritten = λ low. elim low [ | inl one ↦ absurd (omega (arith, four, one)) | inr three ↦ absurd (omega (arith, four, three)) ];
+  unwritten = λ low. elim low [ inl one ↦ absurd (omega (arith, four, one)) | inr three ↦ absurd (omega (arith, four, three)) ];
   no_words = λ is. absurd (omega (arith, four, is));
 }
 

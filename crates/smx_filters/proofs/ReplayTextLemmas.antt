@@ -1,5 +1,5 @@
 -- What a replay says of the input that was read whole, and the laws of replays over bytes.
-use Rattle.std.proofs.Common.{◌≡◌, ◌≢◌, ℕ, Bool, true, List, length, Option, Vec, Result, Ok, Err, refl, sym, ap, subst, ◌∙◌, arith}
+use Rattle.std.proofs.Common.{◌≡◌, ℕ, Bool, true, List, length, Option, Vec, Result, Ok, Err, refl, sym, ap, subst, ◌∙◌, arith}
 use Rattle.std.specs.Prelude.{IfErr, IsErrAnd, OnErr, OnOk}
 use Rattle.std.specs.Global.{Global}
 use Rattle.std.specs.Io.KnownBytes.{Appends}
@@ -8,7 +8,6 @@ use Rattle.smx_types.specs.declared.version.Version.{Version}
 use Rattle.smx_model.specs.DriverList.{IsDriverList}
 use Rattle.smx_text.specs.Grammar.{ReadsAny, Spells, full_text}
 use Rattle.smx_text.specs.TranscriptText.{IsAllowed, IsSpellable, transcript_grammar, transcript_text}
-use Rattle.smx_text.specs.declared.fault.Cause.TheVariants.{NoMemory}
 use Rattle.smx_text.specs.declared.fault.TextFault.{TextFault}
 use Rattle.smx_config.specs.DriverFaults.{RefusesDrivers}
 use Rattle.smx_config.specs.Verdicts.{IsVerdict}

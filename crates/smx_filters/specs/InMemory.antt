@@ -7,14 +7,16 @@ use Rattle.smx_filters.specs.declared.fault.MainFault.TheVariants.{Refused, Text
 use Rattle.smx_filters.specs.declared.input.TheConstants.{MAX_INPUT}
 
 module _ {V K T : Type 0} (f : Filter V K T) where
-  -- where no device fails: this input, what is left of it, whether its end was seen, what was written, and whether that is flushed
+  -- where no device fails: this input, what is left of it, whether its end was seen, what was written, and whether that
+  -- is flushed
   abbrev pub EndsInMemory : List ℕ → List ℕ → Bool → List ℕ → Bool → Result T MainFault → Type 0
   EndsInMemory input left ended output flushed (Ok answer) =
       (length input ≤ MAX_INPUT) × (left ≡ []) × (ended ≡ true) × (flushed ≡ true) × GivesFor f input answer output
   EndsInMemory input left ended output flushed (Err (Text fault)) =
       (length input ≤ MAX_INPUT) × (left ≡ []) × (ended ≡ true) × (output ≡ []) × IsFaultOf f input fault
   EndsInMemory input left ended output flushed (Err (Refused fault)) =
-      (((length input ≤ MAX_INPUT) × (ended ≡ true) × RefusesFor f input fault) ⊎ ((fault ≡ run.NoMemory) × (ended ≡ false))) × (output ≡ [])
+      (((length input ≤ MAX_INPUT) × (ended ≡ true) × RefusesFor f input fault)
+      ⊎ ((fault ≡ run.NoMemory) × (ended ≡ false))) × (output ≡ [])
   EndsInMemory input left ended output flushed (Err TooLong) =
       (MAX_INPUT < length input) × (left ≡ drop (MAX_INPUT + 1) input) × (output ≡ [])
   EndsInMemory input left ended output flushed (Err ReadFailed) = ⊥

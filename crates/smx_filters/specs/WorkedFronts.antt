@@ -9,6 +9,7 @@ pub none_has_two_lines : fronts_text [] ≡ codes "fronts 1\nend\n"
 none_has_two_lines = refl
 
 -- of two, the second of which saw the turn held
-pub two_have_a_line_each : fronts_text (front 3 0 false ∷ front 10 2 true ∷ []) ≡ codes "fronts 1\nfront 0 3 0\nfront 1 10 2\nend\n"
+pub two_have_a_line_each : fronts_text (front 3 0 false ∷ front 10 2 true ∷ [])
+    ≡ codes "fronts 1\nfront 0 3 0\nfront 1 10 2\nend\n"
 unfolding digits
 two_have_a_line_each = refl
