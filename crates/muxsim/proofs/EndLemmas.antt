@@ -10,17 +10,19 @@ use Rattle.smx_config.specs.declared.verdict.Verdict.TheVariants.{Legal, Illegal
 use Rattle.smx_text.specs.declared.text_fault.Cause.{Cause}
 use Rattle.smx_text.specs.declared.text_fault.Cause.TheVariants as cause
 use Rattle.smx_text.specs.declared.text_fault.TextFault.{TextFault}
+use Rattle.smx_draw.specs.declared.form.Form.{Form}
 use Rattle.smx_filters.specs.CheckText.{checking}
+use Rattle.smx_filters.specs.DrawText.{drawing}
 use Rattle.smx_filters.specs.Filters.{Filter, FiltersText, GivesFor}
 use Rattle.smx_filters.specs.ReplayText.{replaying}
 use Rattle.smx_filters.specs.RunText.{running}
 use Rattle.smx_filters.specs.Statuses.{status_of, status_of_cause, status_of_outcome, status_of_verdict}
 use Rattle.smx_filters.specs.declared.main_fault.MainFault.{MainFault}
 use Rattle.smx_filters.specs.declared.main_fault.MainFault.TheVariants.{Refused, Text, TooLong, ReadFailed, WriteFailed}
-use Rattle.muxsim.specs.Ends.{Devices, EndsCheck, EndsJob, EndsReplay, EndsRun, Writes, outcome_of_check}
-use Rattle.muxsim.specs.Ends.{outcome_of_writing}
+use Rattle.muxsim.specs.Ends.{Devices, EndsCheck, EndsDraw, EndsJob, EndsReplay, EndsRun, Writes}
+use Rattle.muxsim.specs.Ends.{outcome_of_check, outcome_of_writing}
 use Rattle.muxsim.specs.declared.jobs.Job.{Job}
-use Rattle.muxsim.specs.declared.jobs.Job.TheVariants.{Run, Check, Replay}
+use Rattle.muxsim.specs.declared.jobs.Job.TheVariants.{Run, Check, Replay, Draw}
 
 -- ---- numbers
 
@@ -137,6 +139,13 @@ module _ (d : Devices) (code : ExitCode) (input output : List ℕ) (w : Writes d
   replayed (Ok done) h is zero = gave replaying d tt h input output w
   replayed (Err e) h is zero = absurd (fault_not_0 e _ is zero)
 
+  -- of a drawing
+  drawn : (form : Form) (answer : Result (Unit {0}) MainFault) → Filtered (drawing form) d answer
+      → exit_status code ≡ status_of_outcome (outcome_of_writing answer) → exit_status code ≡ 0
+      → (d.flushed ≡ true) × GivesFor (drawing form) input tt output
+  drawn form (Ok done) h is zero = gave (drawing form) d tt h input output w
+  drawn form (Err e) h is zero = absurd (fault_not_0 e _ is zero)
+
   -- of a check
   judged : (answer : Result Verdict MainFault) → Filtered checking d answer
       → exit_status code ≡ status_of_outcome (outcome_of_check answer) → exit_status code ≡ 0
@@ -157,21 +166,30 @@ module _ (d : Devices) (code : ExitCode) (input output : List ℕ) (w : Writes d
   ]
   otherwise (Err e) h is four = absurd (fault_not_4 e _ is four)
 
--- the same of the ends of a job
+-- a run with the status 0 wrote what it was asked for
 pub run_done : (fronts : Bool) (workers : ℕ) (d : Devices) (code : ExitCode) (input output : List ℕ)
     → EndsRun fronts workers d code
     → Writes d input output → exit_status code ≡ 0
     → (d.flushed ≡ true) × GivesFor (running fronts workers) input tt output
 run_done fronts workers d code input output h w = ran d code input output w fronts workers h.answer h.ran h.status
 
+-- so did a replay
 pub replay_done : (d : Devices) (code : ExitCode) (input output : List ℕ) → EndsReplay d code
     → Writes d input output → exit_status code ≡ 0 → (d.flushed ≡ true) × GivesFor replaying input tt output
 replay_done d code input output h w = replayed d code input output w h.answer h.replayed h.status
 
+-- so did a drawing
+pub draw_done : (form : Form) (d : Devices) (code : ExitCode) (input output : List ℕ) → EndsDraw form d code
+    → Writes d input output → exit_status code ≡ 0
+    → (d.flushed ≡ true) × GivesFor (drawing form) input tt output
+draw_done form d code input output h w = drawn d code input output w form h.answer h.drawn h.status
+
+-- a check with the status 0 judged the transcript legal
 pub judged_legal : (d : Devices) (code : ExitCode) (input output : List ℕ) → EndsCheck d code
     → Writes d input output → exit_status code ≡ 0 → (d.flushed ≡ true) × GivesFor checking input Legal output
 judged_legal d code input output h w = judged d code input output w h.answer h.judged h.status
 
+-- a check with the status 4 judged it otherwise
 pub judged_otherwise : (d : Devices) (code : ExitCode) (input output : List ℕ) → EndsCheck d code
     → Writes d input output → exit_status code ≡ 4
     → (d.flushed ≡ true) × (v : Verdict) × (v ≢ Legal) × GivesFor checking input v output
@@ -229,15 +247,19 @@ tells : (job : Job) (d : Devices) (code : ExitCode) → EndsJob job d code → T
 tells (Run workers fronts) d code h = of_writing (running fronts workers) d _ h.answer h.ran h.status
 tells Check d code h = of_judging d _ h.answer h.judged h.status
 tells Replay d code h = of_writing replaying d _ h.answer h.replayed h.status
+tells (Draw form) d code h = of_writing (drawing form) d _ h.answer h.drawn h.status
 
+-- the status 5 tells that a device failed
 pub failed : (job : Job) (d : Devices) (code : ExitCode) → EndsJob job d code
     → (exit_status code ≡ 5) ↔ ((d.read_failures ≡ 1) ⊎ (d.write_failures ≡ 1))
 failed job d code h = (tells job d code h).failed
 
+-- behind the statuses 1 and 3 nothing was written
 pub unwritten : (job : Job) (d : Devices) (code : ExitCode) → EndsJob job d code
     → (exit_status code ≡ 1) ⊎ (exit_status code ≡ 3) → Keeps d.before d.after
 unwritten job d code h = (tells job d code h).unwritten
 
+-- no job that was begun has the status 2
 pub no_words : (job : Job) (d : Devices) (code : ExitCode) → EndsJob job d code → exit_status code ≡ 2 → ⊥
 no_words job d code h = (tells job d code h).no_words
 
@@ -246,9 +268,15 @@ not_4 : (n : ℕ) (answer : Result (Unit {0}) MainFault) → n ≡ status_of_out
 not_4 n (Ok done) is four = absurd (omega (arith, is, four))
 not_4 n (Err e) is four = fault_not_4 e n is four
 
+-- no run has the status 4
 pub run_not_4 : (fronts : Bool) (workers : ℕ) (d : Devices) (code : ExitCode) → EndsRun fronts workers d code
     → exit_status code ≡ 4 → ⊥
 run_not_4 fronts workers d code h = not_4 _ h.answer h.status
 
+-- no replay has it
 pub replay_not_4 : (d : Devices) (code : ExitCode) → EndsReplay d code → exit_status code ≡ 4 → ⊥
 replay_not_4 d code h = not_4 _ h.answer h.status
+
+-- no drawing has it
+pub draw_not_4 : (form : Form) (d : Devices) (code : ExitCode) → EndsDraw form d code → exit_status code ≡ 4 → ⊥
+draw_not_4 form d code h = not_4 _ h.answer h.status
