@@ -12,12 +12,13 @@ _muxsim() {
         --workers) return ;;
     esac
     if ((COMP_CWORD == 1)); then
-        words='run check replay help --help --version'
+        words='run check replay draw help --help --version'
     else
         case ${COMP_WORDS[1]} in
             run) words='--workers --fronts --help' ;;
             check | replay) words='--help' ;;
-            help) words='run check replay commands' ;;
+            draw) words='--dot --help' ;;
+            help) words='run check replay draw commands' ;;
         esac
     fi
     mapfile -t COMPREPLY < <(compgen -W "$words" -- "$word")

@@ -52,6 +52,7 @@ def by_strace():
     jobs = [(["run", "--workers", "3"], "examples/shared_multiplexer.mux")]
     for text in [EXAMPLE, OF_VERSION_2]:
         jobs += [(["run"], f"{text}.mux"), (["check"], f"{text}.transcript"), (["replay"], f"{text}.transcript"),
+                 (["draw"], f"{text}.transcript"),
                  (["run", "--workers", "2"], f"{text}.mux"), (["run", "--fronts"], f"{text}.mux")]
     for words, given in jobs:
         refused("read", [f"error={error}" for error in ON_READS], words, given)

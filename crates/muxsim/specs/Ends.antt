@@ -1,19 +1,21 @@
 -- How the program ends: what came of the job, and the exit status that tells it.
-use Rattle.std.specs.Prelude.{◌≡◌, ℕ, Bool, List, Option, Result, Ok, Err}
+use Rattle.std.specs.Prelude.{◌≡◌, ℕ, Bool, List, [], Option, Some, Result, Ok, Err}
 use Rattle.std.specs.Process.{exit_status}
 use Rattle.std.specs.declared.process.ExitCode.{ExitCode}
 use Rattle.smx_config.specs.declared.verdict.Verdict.{Verdict}
+use Rattle.smx_draw.specs.declared.form.Form.{Form}
 use Rattle.smx_filters.specs.CheckText.{ChecksText}
+use Rattle.smx_filters.specs.DrawText.{DrawsText}
 use Rattle.smx_filters.specs.ReplayText.{ReplaysText}
 use Rattle.smx_filters.specs.RunText.{RunsText}
 use Rattle.smx_filters.specs.Statuses.{status_of_outcome}
 use Rattle.smx_filters.specs.declared.done.Done.{Done}
 use Rattle.smx_filters.specs.declared.done.Done.TheVariants.{Finished, Judged}
-use Rattle.smx_filters.specs.declared.fault.MainFault.{MainFault}
+use Rattle.smx_filters.specs.declared.main_fault.MainFault.{MainFault}
 use Rattle.muxsim.specs.declared.jobs.Job.{Job}
-use Rattle.muxsim.specs.declared.jobs.Job.TheVariants.{Run, Check, Replay}
+use Rattle.muxsim.specs.declared.jobs.Job.TheVariants.{Run, Check, Replay, Draw}
 
--- a run or a replay that was done is finished
+-- a run, a replay or a drawing that was done is finished
 abbrev pub outcome_of_writing : Result (Unit {0}) MainFault → Result Done MainFault
 outcome_of_writing (Ok done) = Ok Finished
 outcome_of_writing (Err fault) = Err fault
@@ -34,10 +36,17 @@ pub record Devices : Type 0 where
   pub flushed : Bool
   pub write_failures : ℕ
 
+-- these bytes were there to read, none had been written, and these are written now
+pub record Writes (d : Devices) (input output : List ℕ) : Type 0 where
+  pub had : d.had ≡ Some input
+  pub before : d.before ≡ Some []
+  pub after : d.after ≡ Some output
+
 -- the programs were run, and the status is that of what came of it
 pub record EndsRun (fronts : Bool) (workers : ℕ) (d : Devices) (code : ExitCode) : Type 0 where
   pub answer : Result (Unit {0}) MainFault
-  pub ran : RunsText fronts workers d.had d.left d.ended d.read_failures d.before d.after d.flushed d.write_failures answer
+  pub ran : RunsText fronts workers d.had d.left d.ended d.read_failures d.before d.after d.flushed d.write_failures
+      answer
   pub status : exit_status code ≡ status_of_outcome (outcome_of_writing answer)
 
 -- the transcript was judged, and the status is that of what came of it
@@ -52,8 +61,15 @@ pub record EndsReplay (d : Devices) (code : ExitCode) : Type 0 where
   pub replayed : ReplaysText d.had d.left d.ended d.read_failures d.before d.after d.flushed d.write_failures answer
   pub status : exit_status code ≡ status_of_outcome (outcome_of_writing answer)
 
+-- the configuration of the transcript was drawn, and the status is that of what came of it
+pub record EndsDraw (form : Form) (d : Devices) (code : ExitCode) : Type 0 where
+  pub answer : Result (Unit {0}) MainFault
+  pub drawn : DrawsText form d.had d.left d.ended d.read_failures d.before d.after d.flushed d.write_failures answer
+  pub status : exit_status code ≡ status_of_outcome (outcome_of_writing answer)
+
 -- the job was done, and the status is that of what came of it
 abbrev pub EndsJob : Job → Devices → ExitCode → Type 0
 EndsJob (Run workers fronts) d code = EndsRun fronts workers d code
 EndsJob Check d code = EndsCheck d code
 EndsJob Replay d code = EndsReplay d code
+EndsJob (Draw form) d code = EndsDraw form d code

@@ -7,6 +7,7 @@ use crate::command_list::COMMANDS;
 use crate::jobs::Job;
 use clap::error::ErrorKind;
 use clap::{Arg, ArgAction, ArgMatches, Command, Error, value_parser};
+use smx_draw::Form;
 use std::alloc::{AllocError, Global};
 use std::convert::AsStr;
 
@@ -24,8 +25,8 @@ The texts, in both versions, are in docs/FORMATS.md, commands and replies in doc
 and more in docs/MUXSIM.md. 'muxsim help commands' lists the commands of a program.";
 
 /// What the words ask for, of which the first is the program's name. Any other words than `run`, with
-/// `--workers` and `--fronts` or without, `check` and `replay` are clap's error, and so is a request for help or the
-/// version; want of memory is its kind `OutOfMemory`.
+/// `--workers` and `--fronts` or without, `check`, `replay` and `draw`, with `--dot` or without, are clap's error, and so is
+/// a request for help or the version; want of memory is its kind `OutOfMemory`.
 pub fn job<'a, S: AsStr>(alloc: Global, words: &'a [S]) -> Result<Job, Error>
     ensures { IfOk result CanRun }
 {
@@ -39,6 +40,9 @@ pub fn job<'a, S: AsStr>(alloc: Global, words: &'a [S]) -> Result<Job, Error>
             fronts: run.get_flag("fronts"),
         }),
         Some(("replay", _)) => Ok(Job::Replay),
+        Some(("draw", draw)) => Ok(Job::Draw {
+            form: form_of(draw),
+        }),
         Some(_) | None => Ok(Job::Check),
     }
 }
@@ -51,6 +55,15 @@ fn workers_of(run: &ArgMatches) -> usize
     match run.get_one::<usize>("workers") {
         Some(workers) if 1 <= workers && workers <= MOST_WORKERS => workers,
         Some(_) | None => 1,
+    }
+}
+
+// In which language a picture is asked for.
+fn form_of(draw: &ArgMatches) -> Form {
+    if draw.get_flag("dot") {
+        Form::Dot
+    } else {
+        Form::Svg
     }
 }
 
@@ -80,6 +93,12 @@ fn program<'a>(alloc: Global) -> Result<Command<'a>, AllocError> {
         "Replay the transcript on standard input and write the transcript that its commands give",
     )
     .override_usage("muxsim replay < TRANSCRIPT");
+    let draw = subcommand(
+        alloc,
+        "draw",
+        "Draw the configuration that the transcript on standard input shows",
+    )
+    .override_usage("muxsim draw [--dot] < TRANSCRIPT");
     let commands = Command::new(alloc, "commands")
         .override_help(COMMANDS)
         .hide(true);
@@ -92,6 +111,7 @@ fn program<'a>(alloc: Global) -> Result<Command<'a>, AllocError> {
         .subcommand(run.arg(workers(alloc))?.arg(fronts(alloc))?)?
         .subcommand(check)?
         .subcommand(replay)?
+        .subcommand(draw.arg(dot(alloc))?)?
         .subcommand(commands)
 }
 
@@ -115,5 +135,13 @@ fn fronts<'a>(alloc: Global) -> Arg<'a> {
     Arg::new(alloc, "fronts")
         .long("fronts")
         .help("Write the fronts text in place of the transcript")
+        .action(ArgAction::SetTrue)
+}
+
+// The option that has a picture written in Graphviz's language.
+fn dot<'a>(alloc: Global) -> Arg<'a> {
+    Arg::new(alloc, "dot")
+        .long("dot")
+        .help("Write the language of Graphviz in place of SVG")
         .action(ArgAction::SetTrue)
 }

@@ -1,5 +1,7 @@
 //! The jobs that the program does.
 
+use smx_draw::Form;
+
 /// What the program is asked to do.
 #[derive(Clone, Copy, Debug, PartialEq, Eq)]
 pub enum Job {
@@ -14,4 +16,9 @@ pub enum Job {
     Check,
     /// To perform the commands of the transcript of the input and to write the transcript that they give.
     Replay,
+    /// To draw the configuration that the transcript of the input shows.
+    Draw {
+        /// In which language.
+        form: Form,
+    },
 }

@@ -1,10 +1,11 @@
-//! Runs programs against a STREAMS multiplexer and writes the transcript, or judges a transcript.
+//! Runs programs against a STREAMS multiplexer and writes the transcript, or judges, replays or draws a transcript.
 #![tactic(auto)]
 
 mod command_line;
 mod command_list;
 mod doing;
 mod jobs;
+mod laws_of_ends;
 
 ghost use Rattle.std.specs.Prelude.{◌≡◌, ◌≢◌, ◌⊎◌};
 ghost use Rattle.std.specs.IoError.{error_kind};

@@ -1,5 +1,6 @@
 -- What each change of the table of bindings makes of its list.
-use Rattle.std.proofs.Common.{◌≡◌, ℕ, Bool, true, false, ◌&&◌, ◌||◌, ◌==◌, not, List, [], ◌∷◌, filter, find, is_some, Option, Some, None, refl, sym, ap, ◌∙◌, arith, inl, inr}
+use Rattle.std.proofs.Common.{◌≡◌, ℕ, Bool, true, false, ◌&&◌, ◌||◌, ◌==◌, not, List, [], ◌∷◌, filter, find, is_some}
+use Rattle.std.proofs.Common.{Option, Some, None, refl, sym, ap, ◌∙◌, arith, inl, inr}
 use Rattle.std.specs.List.{list_any, IsDistinct}
 use Rattle.std.specs.Map.{lookup, keys_of}
 use Rattle.std.specs.Option.{option_map}
@@ -12,12 +13,14 @@ use Rattle.smx_addresses.specs.BindingLists.{address_of, stream_of, IsBindingLis
 use Rattle.smx_addresses.specs.Keys.{Key, is_key, found, AreApart}
 use Rattle.smx_addresses.specs.TableFields.{Entries, binding_of, bindings_of, AreBindings}
 use Rattle.smx_addresses.proofs.ChangeLemmas.{Sets, finds_inserted, finds_filter}
-use Rattle.smx_addresses.proofs.KeyLemmas.{is_key_sym, key_same, found_any, found_find, none_of, filter_all, apart_filter, apart_inserted}
+use Rattle.smx_addresses.proofs.KeyLemmas.{is_key_sym, key_same, found_any, found_find, none_of, filter_all}
+use Rattle.smx_addresses.proofs.KeyLemmas.{apart_filter, apart_inserted}
 use Rattle.smx_addresses.proofs.OrderLemmas.{rising_filter, rising_inserted, apart_rising}
-use Rattle.smx_addresses.proofs.TableLemmas.{Stands, in_order_stands, computed_is}
+use Rattle.smx_addresses.proofs.ListedTableLemmas.{Stands, in_order_stands, computed_is}
 
 -- the list of a table
 
+-- the table of addresses holds these bindings, in order
 abbrev pub HasList : Entries → List Binding → Type 0
 HasList = Stands address_of (λ b. b.minor)
 
@@ -25,38 +28,50 @@ HasList = Stands address_of (λ b. b.minor)
 pub binding_exact : (x y : Binding) → address_of x ≡ address_of y → x.minor ≡ y.minor → x ≡ y
 binding_exact x y e f i = record { driver = (e i).0; addr = (e i).1; minor = f i }
 
+-- where no address comes twice, a table of addresses holds its own bindings
 pub has_list : (es : Entries) → IsDistinct is_key (keys_of es) → HasList es (bindings_of es)
 has_list es u = in_order_stands address_of (λ b. b.minor) binding_exact binding_of (λ e. refl) (λ e. refl) es u
 
+-- bindings that the table of addresses holds are its own, in order
 pub list_is : (es : Entries) (bs : List Binding) → IsDistinct is_key (keys_of es) → HasList es bs → bindings_of es ≡ bs
 list_is es bs u h = computed_is address_of (λ b. b.minor) binding_exact binding_of (λ e. refl) (λ e. refl) es bs u h
 
+-- the bindings of the two tables are a list in which no address and no stream comes twice
 pub bindings_sound : (xs ys : Entries) → AreBindings xs ys → IsBindingList (bindings_of xs)
 bindings_sound xs ys h = record { rise = (has_list xs h.unique).rises; streams = h.streams }
 
 -- look-ups
 
 -- the search by address
-pub find_address : (xs : Entries) (bs : List Binding) (d a : ℕ) (r : Option ℕ) → bindings_of xs ≡ bs → IsDistinct is_key (keys_of xs) → r ≡ lookup (is_key (d, a)) xs
-    → find (λ b. (b.driver == d) && (b.addr == a)) bs ≡ option_map (λ (m : ℕ). record { driver = d; addr = a; minor = m }) r
+pub find_address : (xs : Entries) (bs : List Binding) (d a : ℕ) (r : Option ℕ) → bindings_of xs ≡ bs
+    → IsDistinct is_key (keys_of xs) → r ≡ lookup (is_key (d, a)) xs
+    → find (λ b. (b.driver == d) && (b.addr == a)) bs
+    ≡ option_map (λ (m : ℕ). record { driver = d; addr = a; minor = m }) r
 find_address xs bs d a r e u at =
     ap (find (λ b. (b.driver == d) && (b.addr == a))) (sym e)
-    ∙ found_find address_of (λ b. b.minor) (λ k m. record { driver = k.0; addr = k.1; minor = m }) (λ b. refl) (bindings_of xs) (d, a)
-    ∙ ap (option_map (λ (m : ℕ). record { driver = d; addr = a; minor = m })) (sym ((has_list xs u).finds (d, a)) ∙ sym at)
+    ∙ found_find address_of (λ b. b.minor) (λ k m. record { driver = k.0; addr = k.1; minor = m }) (λ b. refl)
+    (bindings_of xs) (d, a)
+    ∙ ap (option_map (λ (m : ℕ). record { driver = d; addr = a; minor = m }))
+    (sym ((has_list xs u).finds (d, a)) ∙ sym at)
 
 -- the search by stream
-pub find_stream : (xs ys : Entries) (bs : List Binding) (d m : ℕ) (r : Option ℕ) → bindings_of xs ≡ bs → AreBindings xs ys → r ≡ lookup (is_key (d, m)) ys
-    → find (λ b. (b.driver == d) && (b.minor == m)) bs ≡ option_map (λ (a : ℕ). record { driver = d; addr = a; minor = m }) r
+pub find_stream : (xs ys : Entries) (bs : List Binding) (d m : ℕ) (r : Option ℕ) → bindings_of xs ≡ bs
+    → AreBindings xs ys → r ≡ lookup (is_key (d, m)) ys
+    → find (λ b. (b.driver == d) && (b.minor == m)) bs
+    ≡ option_map (λ (a : ℕ). record { driver = d; addr = a; minor = m }) r
 find_stream xs ys bs d m r e h at =
     ap (find (λ b. (b.driver == d) && (b.minor == m))) (sym e)
-    ∙ found_find stream_of (λ b. b.addr) (λ k a. record { driver = k.0; addr = a; minor = k.1 }) (λ b. refl) (bindings_of xs) (d, m)
+    ∙ found_find stream_of (λ b. b.addr) (λ k a. record { driver = k.0; addr = a; minor = k.1 }) (λ b. refl)
+    (bindings_of xs) (d, m)
     ∙ ap (option_map (λ (a : ℕ). record { driver = d; addr = a; minor = m })) (sym (h.addresses (d, m)) ∙ sym at)
 
 either_any : (d a m : ℕ) (bs : List Binding)
-    → list_any (λ b. (b.driver == d) && ((b.addr == a) || (b.minor == m))) bs ≡ (list_any (λ b. is_key (address_of b) (d, a)) bs || list_any (λ b. is_key (stream_of b) (d, m)) bs)
+    → list_any (λ b. (b.driver == d) && ((b.addr == a) || (b.minor == m))) bs
+    ≡ (list_any (λ b. is_key (address_of b) (d, a)) bs || list_any (λ b. is_key (stream_of b) (d, m)) bs)
 either_any d a m [] = refl
 either_any d a m (b ∷ bs) = rw (either_any d a m bs)
-    (by (b.driver == d) (b.addr == a) (b.minor == m) (list_any (λ c. is_key (address_of c) (d, a)) bs) (list_any (λ c. is_key (stream_of c) (d, m)) bs)) where
+    (by (b.driver == d) (b.addr == a) (b.minor == m) (list_any (λ c. is_key (address_of c) (d, a)) bs)
+    (list_any (λ c. is_key (stream_of c) (d, m)) bs)) where
       by : (p q r x y : Bool) → ((p && (q || r)) || (x || y)) ≡ (((p && q) || x) || ((p && r) || y))
       by true true r x y = refl
       by true false true true y = refl
@@ -66,23 +81,28 @@ either_any d a m (b ∷ bs) = rw (either_any d a m bs)
 
 -- the test of both, by the two tables
 pub taken_either : (xs ys : Entries) (bs : List Binding) (d a m : ℕ) → bindings_of xs ≡ bs → AreBindings xs ys
-    → list_any (λ b. (b.driver == d) && ((b.addr == a) || (b.minor == m))) bs ≡ (is_some (lookup (is_key (d, a)) xs) || is_some (lookup (is_key (d, m)) ys))
+    → list_any (λ b. (b.driver == d) && ((b.addr == a) || (b.minor == m))) bs
+    ≡ (is_some (lookup (is_key (d, a)) xs) || is_some (lookup (is_key (d, m)) ys))
 taken_either xs ys bs d a m e h =
     let x : is_some (lookup (is_key (d, a)) xs) ≡ list_any (λ b. is_key (address_of b) (d, a)) (bindings_of xs) =
     ap is_some ((has_list xs h.unique).finds (d, a)) ∙ found_any address_of (λ b. b.minor) (bindings_of xs) (d, a) in
     let y : is_some (lookup (is_key (d, m)) ys) ≡ list_any (λ b. is_key (stream_of b) (d, m)) (bindings_of xs) =
     ap is_some (h.addresses (d, m)) ∙ found_any stream_of (λ b. b.addr) (bindings_of xs) (d, m) in
-    ap (list_any (λ b. (b.driver == d) && ((b.addr == a) || (b.minor == m)))) (sym e) ∙ either_any d a m (bindings_of xs) ∙ (λ i. sym x i || sym y i)
+    ap (list_any (λ b. (b.driver == d) && ((b.addr == a) || (b.minor == m)))) (sym e)
+    ∙ either_any d a m (bindings_of xs) ∙ (λ i. sym x i || sym y i)
 
 -- one more
 
-taken_address : (d a m : ℕ) (b : Binding) → is_key (address_of b) (d, a) ≡ true → ((b.driver == d) && ((b.addr == a) || (b.minor == m))) ≡ true
+taken_address : (d a m : ℕ) (b : Binding) → is_key (address_of b) (d, a) ≡ true
+    → ((b.driver == d) && ((b.addr == a) || (b.minor == m))) ≡ true
 taken_address d a m b h = grind (arith, nat_tests)
 
-taken_stream : (d a m : ℕ) (b : Binding) → is_key (stream_of b) (d, m) ≡ true → ((b.driver == d) && ((b.addr == a) || (b.minor == m))) ≡ true
+taken_stream : (d a m : ℕ) (b : Binding) → is_key (stream_of b) (d, m) ≡ true
+    → ((b.driver == d) && ((b.addr == a) || (b.minor == m))) ≡ true
 taken_stream d a m b h = grind (arith, nat_tests)
 
-module _ (xs ys us vs : Entries) (d a m : ℕ) (h : AreBindings xs ys) (free : list_any (λ b. (b.driver == d) && ((b.addr == a) || (b.minor == m))) (bindings_of xs) ≡ false)
+module _ (xs ys us vs : Entries) (d a m : ℕ) (h : AreBindings xs ys)
+    (free : list_any (λ b. (b.driver == d) && ((b.addr == a) || (b.minor == m))) (bindings_of xs) ≡ false)
     (unique : IsDistinct is_key (keys_of us)) (s : Sets xs us (d, a) (Some m)) where
   added : Binding
   added = record { driver = d; addr = a; minor = m }
@@ -93,27 +113,32 @@ module _ (xs ys us vs : Entries) (d a m : ℕ) (h : AreBindings xs ys) (free : l
   free_stream : list_any (λ b. is_key (stream_of b) (d, m)) (bindings_of xs) ≡ false
   free_stream = none_of _ _ (taken_stream d a m) (bindings_of xs) free
 
+  -- with an address of a stream bound where both were free, the list has the binding inserted in its order
   pub bound : bindings_of us ≡ with_inserted bind_before (bindings_of xs) (record { driver = d; addr = a; minor = m })
   unfolding added
   bound =
       let k = has_list xs h.unique in
       list_is us _ unique (record {
         rises = rising_inserted address_of added (bindings_of xs) free_address k.rises;
-        finds = finds_inserted address_of (λ b. b.minor) (bindings_of xs) bind_before xs us added k.finds free_address s;
+        finds = finds_inserted address_of (λ b. b.minor)
+            (bindings_of xs) bind_before xs us added k.finds free_address s;
       })
 
+  -- where the other table finds the stream's address too, both tables are those of the bindings
   pub bound_whole : Sets ys vs (d, m) (Some a) → AreBindings us vs
   unfolding added
   bound_whole t = record {
     unique = unique;
     streams = rw bound (apart_inserted stream_of bind_before (bindings_of xs) added free_stream h.streams);
-    addresses = rw bound (finds_inserted stream_of (λ b. b.addr) (bindings_of xs) bind_before ys vs added h.addresses free_stream t);
+    addresses = rw bound
+        (finds_inserted stream_of (λ b. b.addr) (bindings_of xs) bind_before ys vs added h.addresses free_stream t);
   }
 
 -- one less
 
 -- who has the stream has its address, and no other has
-has_address : (bs : List Binding) (d a m : ℕ) → found stream_of (λ b. b.addr) bs (d, m) ≡ Some a → list_any (λ b. is_key (address_of b) (d, a)) bs ≡ true
+has_address : (bs : List Binding) (d a m : ℕ) → found stream_of (λ b. b.addr) bs (d, m) ≡ Some a
+    → list_any (λ b. is_key (address_of b) (d, a)) bs ≡ true
 has_address [] d a m h = cc
 has_address (b ∷ bs) d a m h = elim (cases_Bool (is_key (d, m) (stream_of b))) [
   | inl t ↦
@@ -129,7 +154,8 @@ has_address (b ∷ bs) d a m h = elim (cases_Bool (is_key (d, m) (stream_of b)))
 ]
 
 -- so both tests take the same out
-same_taken : (bs : List Binding) (d a m : ℕ) → AreApart address_of bs → AreApart stream_of bs → found stream_of (λ b. b.addr) bs (d, m) ≡ Some a
+same_taken : (bs : List Binding) (d a m : ℕ) → AreApart address_of bs → AreApart stream_of bs
+    → found stream_of (λ b. b.addr) bs (d, m) ≡ Some a
     → filter (λ b. not (is_key (stream_of b) (d, m))) bs ≡ filter (λ b. not (is_key (address_of b) (d, a))) bs
 same_taken [] d a m u v h = refl
 same_taken (b ∷ bs) d a m u v h = elim (cases_Bool (is_key (d, m) (stream_of b))) [
@@ -139,27 +165,38 @@ same_taken (b ∷ bs) d a m u v h = elim (cases_Bool (is_key (d, m) (stream_of b
       let same : b.addr ≡ a = cc in
       let x : is_key (stream_of b) (d, m) ≡ true = is_key_sym (stream_of b) (d, m) ∙ t in
       let y : is_key (address_of b) (d, a) ≡ true = grind (arith, nat_tests) in
-      let i : list_any (λ c. is_key (stream_of c) (d, m)) bs ≡ false = ap (λ (k : Key). list_any (λ c. is_key (stream_of c) k) bs) (sym (key_same _ _ x)) ∙ v.0 in
-      let j : list_any (λ c. is_key (address_of c) (d, a)) bs ≡ false = ap (λ (k : Key). list_any (λ c. is_key (address_of c) k) bs) (sym (key_same _ _ y)) ∙ u.0 in
+      let i : list_any (λ c. is_key (stream_of c) (d, m)) bs
+      ≡ false = ap (λ (k : Key). list_any (λ c. is_key (stream_of c) k) bs) (sym (key_same _ _ x)) ∙ v.0 in
+      let j : list_any (λ c. is_key (address_of c) (d, a)) bs
+      ≡ false = ap (λ (k : Key). list_any (λ c. is_key (address_of c) k) bs) (sym (key_same _ _ y)) ∙ u.0 in
       rw (x, y) (filter_all _ bs i ∙ sym (filter_all _ bs j))
   | inr f ↦
       let off : found stream_of (λ c. c.addr) (b ∷ bs) (d, m) ≡ found stream_of (λ c. c.addr) bs (d, m) = rw f refl in
       let tail = sym off ∙ h in
       let x : is_key (stream_of b) (d, m) ≡ false = is_key_sym (stream_of b) (d, m) ∙ f in
       elim (cases_Bool (is_key (address_of b) (d, a))) [
-        | inl t ↦ absurd (false≢true (sym u.0 ∙ ap (λ (k : Key). list_any (λ c. is_key (address_of c) k) bs) (key_same _ _ t) ∙ has_address bs d a m tail))
+        | inl t ↦
+            absurd (false≢true (sym u.0 ∙ ap (λ (k : Key). list_any (λ c. is_key (address_of c) k) bs) (key_same _ _ t)
+            ∙ has_address bs d a m tail))
         | inr y ↦ rw (x, y) (ap (λ (cs : List Binding). b ∷ cs) (same_taken bs d a m u.1 v.1 tail))
       ]
 ]
 
-module _ (xs ys us vs : Entries) (d a m : ℕ) (h : AreBindings xs ys) (at : lookup (is_key (d, m)) ys ≡ Some a) (unique : IsDistinct is_key (keys_of us)) (s : Sets xs us (d, a) None) where
+module _ (xs ys us vs : Entries) (d a m : ℕ) (h : AreBindings xs ys) (at : lookup (is_key (d, m)) ys ≡ Some a)
+    (unique : IsDistinct is_key (keys_of us)) (s : Sets xs us (d, a) None) where
   -- the stream had this address
   pub unbound : bindings_of us ≡ filter (λ b. not ((b.driver == d) && (b.minor == m))) (bindings_of xs)
   unbound =
       let k = has_list xs h.unique in
-      list_is us _ unique (record { rises = rising_filter bind_before _ (bindings_of xs) k.rises; finds = finds_filter address_of (λ b. b.minor) (bindings_of xs) xs us (d, a) k.finds s })
-      ∙ sym (same_taken (bindings_of xs) d a m (apart_rising address_of (bindings_of xs) k.rises) h.streams (sym (h.addresses (d, m)) ∙ at))
+      list_is us _ unique
+      (record {
+        rises = rising_filter bind_before _ (bindings_of xs) k.rises;
+        finds = finds_filter address_of (λ b. b.minor) (bindings_of xs) xs us (d, a) k.finds s;
+      })
+      ∙ sym (same_taken (bindings_of xs) d a m (apart_rising address_of (bindings_of xs) k.rises) h.streams
+      (sym (h.addresses (d, m)) ∙ at))
 
+  -- where the other table finds no address for the stream either, both tables are those of the bindings
   pub unbound_whole : Sets ys vs (d, m) None → AreBindings us vs
   unbound_whole t = record {
     unique = unique;
@@ -168,9 +205,11 @@ module _ (xs ys us vs : Entries) (d a m : ℕ) (h : AreBindings xs ys) (at : loo
   }
 
 -- the stream had none
-pub not_bound : (xs ys : Entries) (d m : ℕ) → AreBindings xs ys → lookup (is_key (d, m)) ys ≡ None → filter (λ b. not ((b.driver == d) && (b.minor == m))) (bindings_of xs) ≡ bindings_of xs
+pub not_bound : (xs ys : Entries) (d m : ℕ) → AreBindings xs ys → lookup (is_key (d, m)) ys ≡ None
+    → filter (λ b. not ((b.driver == d) && (b.minor == m))) (bindings_of xs) ≡ bindings_of xs
 not_bound xs ys d m h none =
-    filter_all (λ b. is_key (stream_of b) (d, m)) (bindings_of xs) (sym (found_any stream_of (λ b. b.addr) (bindings_of xs) (d, m)) ∙ ap is_some (sym (h.addresses (d, m)) ∙ none))
+    filter_all (λ b. is_key (stream_of b) (d, m)) (bindings_of xs)
+    (sym (found_any stream_of (λ b. b.addr) (bindings_of xs) (d, m)) ∙ ap is_some (sym (h.addresses (d, m)) ∙ none))
 
 -- nothing is bound
 pub no_bindings : (xs ys : Entries) → IsDistinct is_key (keys_of xs) → xs ≡ [] → ys ≡ [] → AreBindings xs ys

@@ -1,5 +1,6 @@
 -- What is found in a list after one more goes to its place, and after some are taken out.
-use Rattle.std.proofs.Common.{◌≡◌, ℕ, Bool, true, false, cond, ◌||◌, not, List, [], ◌∷◌, filter, find, is_some, Some, None, refl, sym, ap, ◌∙◌, arith, inl, inr}
+use Rattle.std.proofs.Common.{◌≡◌, ℕ, Bool, true, false, cond, ◌||◌, not, List, [], ◌∷◌, filter, find, is_some, Some}
+use Rattle.std.proofs.Common.{None, refl, sym, ap, ◌∙◌, arith, inl, inr}
 use Rattle.std.specs.Cmp.{IsEquivalence}
 use Rattle.std.specs.List.{list_any}
 use Rattle.std.specs.Option.{option_map}
@@ -10,12 +11,15 @@ use Rattle.smx_addresses.specs.Keys.{Key, is_key, found, AreApart}
 
 -- equal keys
 
+-- whether two keys are equal is told in either order
 pub is_key_sym : (p q : Key) → is_key p q ≡ is_key q p
 is_key_sym p q = grind (arith, nat_tests)
 
+-- each key is equal to itself
 pub is_key_refl : (p : Key) → is_key p p ≡ true
 is_key_refl p = grind (arith, nat_tests)
 
+-- keys that are equal to a third are equal to one another
 pub is_key_trans : (p q r : Key) → is_key p q ≡ true → is_key q r ≡ true → is_key p r ≡ true
 is_key_trans p q r h k = grind (arith, nat_tests)
 
@@ -25,8 +29,10 @@ is_key_congr p q r h = grind (arith, nat_tests)
 
 -- keys that pass as equal are equal
 pub key_same : (p q : Key) → is_key p q ≡ true → p ≡ q
-key_same p q h = let a : p.0 ≡ q.0 = grind (arith, nat_tests) in let b : p.1 ≡ q.1 = grind (arith, nat_tests) in (λ i. (a i, b i))
+key_same p q h =
+    let a : p.0 ≡ q.0 = grind (arith, nat_tests) in let b : p.1 ≡ q.1 = grind (arith, nat_tests) in (λ i. (a i, b i))
 
+-- equality of keys is an equivalence, as the look-ups in maps need it
 pub keys_equal : IsEquivalence is_key
 keys_equal = record { refl = is_key_refl; symm = is_key_sym; congr = λ p q r h. is_key_congr p q r h }
 
@@ -36,15 +42,18 @@ module _ {X : Type 0} (key : X → Key) (value : X → ℕ) where
   -- the test of the model, and the look-up
   pub found_any : (xs : List X) (k : Key) → is_some (found key value xs k) ≡ list_any (λ x. is_key (key x) k) xs
   found_any [] k = refl
-  found_any (x ∷ xs) k = rw (is_key_sym k (key x)) (elim (cases_Bool (is_key (key x) k)) [ inl t ↦ rw t refl | inr f ↦ rw f (found_any xs k) ])
+  found_any (x ∷ xs) k = rw (is_key_sym k (key x))
+      (elim (cases_Bool (is_key (key x) k)) [ inl t ↦ rw t refl | inr f ↦ rw f (found_any xs k) ])
 
   -- the look-up, by the search of the model
   pub found_value : (xs : List X) (k : Key) → found key value xs k ≡ option_map value (find (λ x. is_key (key x) k) xs)
   found_value [] k = refl
-  found_value (x ∷ xs) k = rw (is_key_sym k (key x)) (elim (cases_Bool (is_key (key x) k)) [ inl t ↦ rw t refl | inr f ↦ rw f (found_value xs k) ])
+  found_value (x ∷ xs) k = rw (is_key_sym k (key x))
+      (elim (cases_Bool (is_key (key x) k)) [ inl t ↦ rw t refl | inr f ↦ rw f (found_value xs k) ])
 
   -- where an element is made of its key and its value, the search of the model and the look-up
-  pub found_find : (make : Key → ℕ → X) → ((x : X) → make (key x) (value x) ≡ x) → (xs : List X) (k : Key) → find (λ x. is_key (key x) k) xs ≡ option_map (make k) (found key value xs k)
+  pub found_find : (make : Key → ℕ → X) → ((x : X) → make (key x) (value x) ≡ x) → (xs : List X) (k : Key)
+      → find (λ x. is_key (key x) k) xs ≡ option_map (make k) (found key value xs k)
   found_find make whole [] k = refl
   found_find make whole (x ∷ xs) k = rw (is_key_sym k (key x)) (elim (cases_Bool (is_key (key x) k)) [
     | inl t ↦ rw t (ap (λ (y : X). Some y) (sym (whole x) ∙ ap (λ (q : Key). make q (value x)) (key_same (key x) k t)))
@@ -56,11 +65,13 @@ module _ {X : Type 0} (key : X → Key) (value : X → ℕ) where
   found_none [] k h = refl
   found_none (x ∷ xs) k h = elim (cases_Bool (is_key (key x) k)) [
     | inl t ↦ absurd (false≢true (sym h ∙ ap (λ b. b || list_any (λ x. is_key (key x) k) xs) t))
-    | inr f ↦ rw (is_key_sym k (key x), f) (found_none xs k (sym (ap (λ b. b || list_any (λ x. is_key (key x) k) xs) f) ∙ h))
+    | inr f ↦
+        rw (is_key_sym k (key x), f) (found_none xs k (sym (ap (λ b. b || list_any (λ x. is_key (key x) k) xs) f) ∙ h))
   ]
 
   -- one more, whose key is new
-  pub found_inserted : (before : X → X → Bool) (xs : List X) (x : X) (q : Key) → list_any (λ y. is_key (key y) (key x)) xs ≡ false
+  pub found_inserted : (before : X → X → Bool) (xs : List X) (x : X) (q : Key)
+      → list_any (λ y. is_key (key y) (key x)) xs ≡ false
       → found key value (with_inserted before xs x) q ≡ cond (is_key (key x) q) (Some (value x)) (found key value xs q)
   found_inserted before [] x q h = rw (is_key_sym q (key x)) refl
   found_inserted before (y ∷ ys) x q h = elim (cases_Bool (before x y)) [
@@ -80,7 +91,8 @@ module _ {X : Type 0} (key : X → Key) (value : X → ℕ) where
   ]
 
   -- without those that have the key
-  pub found_filter : (xs : List X) (k q : Key) → found key value (filter (λ x. not (is_key (key x) k)) xs) q ≡ cond (is_key k q) None (found key value xs q)
+  pub found_filter : (xs : List X) (k q : Key)
+      → found key value (filter (λ x. not (is_key (key x) k)) xs) q ≡ cond (is_key k q) None (found key value xs q)
   found_filter [] k q = elim (cases_Bool (is_key k q)) [ inl t ↦ rw t refl | inr f ↦ rw f refl ]
   found_filter (x ∷ xs) k q = elim (cases_Bool (is_key (key x) k)) [
     | inl t ↦ rw t (elim (cases_Bool (is_key k q)) [
@@ -97,7 +109,8 @@ module _ {X : Type 0} (key : X → Key) (value : X → ℕ) where
 
 module _ {X : Type 0} where
   -- fewer elements pass no more
-  pub any_filter : (test keep : X → Bool) (xs : List X) → list_any test xs ≡ false → list_any test (filter keep xs) ≡ false
+  pub any_filter : (test keep : X → Bool) (xs : List X) → list_any test xs ≡ false
+      → list_any test (filter keep xs) ≡ false
   any_filter test keep [] h = refl
   any_filter test keep (x ∷ xs) h = elim (cases_Bool (test x)) [
     | inl t ↦ absurd (false≢true (sym h ∙ ap (λ b. b || list_any test xs) t))
@@ -120,7 +133,8 @@ module _ {X : Type 0} where
   any_same p q e (x ∷ xs) = rw (e x, any_same p q e xs) refl
 
   -- a test that answers true only where another does
-  pub none_of : (p q : X → Bool) → ((x : X) → p x ≡ true → q x ≡ true) → (xs : List X) → list_any q xs ≡ false → list_any p xs ≡ false
+  pub none_of : (p q : X → Bool) → ((x : X) → p x ≡ true → q x ≡ true) → (xs : List X) → list_any q xs ≡ false
+      → list_any p xs ≡ false
   none_of p q h [] e = refl
   none_of p q h (x ∷ xs) e = elim (cases_Bool (q x)) [
     | inl t ↦ absurd (false≢true (sym e ∙ ap (λ b. b || list_any q xs) t))
@@ -141,7 +155,8 @@ module _ {X : Type 0} (key : X → Key) where
     | inr f ↦ rw f (apart_filter keep xs h.1)
   ]
 
-  any_inserted : (before : X → X → Bool) (test : X → Bool) (xs : List X) (x : X) → test x ≡ false → list_any test xs ≡ false → list_any test (with_inserted before xs x) ≡ false
+  any_inserted : (before : X → X → Bool) (test : X → Bool) (xs : List X) (x : X) → test x ≡ false
+      → list_any test xs ≡ false → list_any test (with_inserted before xs x) ≡ false
   any_inserted before test [] x f h = rw f refl
   any_inserted before test (y ∷ ys) x f h = elim (cases_Bool (before x y)) [
     | inl t ↦ rw (t, f) h
@@ -152,7 +167,8 @@ module _ {X : Type 0} (key : X → Key) where
   ]
 
   -- one more, whose key is new
-  pub apart_inserted : (before : X → X → Bool) (xs : List X) (x : X) → list_any (λ y. is_key (key y) (key x)) xs ≡ false → AreApart key xs → AreApart key (with_inserted before xs x)
+  pub apart_inserted : (before : X → X → Bool) (xs : List X) (x : X) → list_any (λ y. is_key (key y) (key x)) xs ≡ false
+      → AreApart key xs → AreApart key (with_inserted before xs x)
   apart_inserted before [] x new h = (refl, tt)
   apart_inserted before (y ∷ ys) x new h = elim (cases_Bool (before x y)) [
     | inl t ↦ rw t (new, h)

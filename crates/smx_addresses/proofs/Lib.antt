@@ -1,7 +1,7 @@
 pub mod KeyLemmas
 pub mod OrderLemmas
 pub mod ChangeLemmas
-pub mod TableLemmas
+pub mod ListedTableLemmas
 pub mod BindingLemmas
 pub mod RouteLemmas
 pub mod TargetLemmas

@@ -1,5 +1,6 @@
 -- What each change of the table of routes makes of its list.
-use Rattle.std.proofs.Common.{◌≡◌, ℕ, ◌<◌, ◌+◌, ◌&&◌, ◌||◌, ◌==◌, not, List, [], ◌∷◌, ◌++◌, length, get_or, take, filter, find, is_some, Option, Some, None, refl, sym, ap, ◌∙◌, inl, inr}
+use Rattle.std.proofs.Common.{◌≡◌, ℕ, ◌<◌, ◌+◌, ◌&&◌, ◌||◌, ◌==◌, not, List, [], ◌∷◌, ◌++◌, length, get_or, take}
+use Rattle.std.proofs.Common.{filter, find, is_some, Option, Some, None, refl, sym, ap, ◌∙◌, inl, inr}
 use Rattle.std.specs.List.{list_any, IsDistinct}
 use Rattle.std.specs.Map.{lookup, keys_of}
 use Rattle.std.specs.Option.{option_map}
@@ -15,10 +16,11 @@ use Rattle.smx_addresses.specs.TableFields.{Entries, route_of, routes_of}
 use Rattle.smx_addresses.proofs.ChangeLemmas.{Sets, finds_filter, finds_replaced, rises_replaced, found_kept}
 use Rattle.smx_addresses.proofs.KeyLemmas.{found_any, found_find}
 use Rattle.smx_addresses.proofs.OrderLemmas.{rising_filter, apart_rising}
-use Rattle.smx_addresses.proofs.TableLemmas.{Stands, in_order_stands, computed_is}
+use Rattle.smx_addresses.proofs.ListedTableLemmas.{Stands, in_order_stands, computed_is}
 
 -- the list of a table
 
+-- the table of routes holds these routes, in order
 abbrev pub HasList : Entries → List Route → Type 0
 HasList = Stands target_of (λ r. r.id)
 
@@ -26,21 +28,29 @@ HasList = Stands target_of (λ r. r.id)
 pub route_exact : (x y : Route) → target_of x ≡ target_of y → x.id ≡ y.id → x ≡ y
 route_exact x y e f i = record { driver = (e i).0; addr = (e i).1; id = f i }
 
+-- where no address comes twice, a table of routes holds its own routes
 pub has_list : (es : Entries) → IsDistinct is_key (keys_of es) → HasList es (routes_of es)
 has_list es u = in_order_stands target_of (λ r. r.id) route_exact route_of (λ e. refl) (λ e. refl) es u
 
+-- routes that the table holds are its own, in order
 pub list_is : (es : Entries) (rs : List Route) → IsDistinct is_key (keys_of es) → HasList es rs → routes_of es ≡ rs
 list_is es rs u h = computed_is target_of (λ r. r.id) route_exact route_of (λ e. refl) (λ e. refl) es rs u h
 
 -- look-ups
 
-pub find_route : (es : Entries) (rs : List Route) (d a : ℕ) (r : Option ℕ) → routes_of es ≡ rs → IsDistinct is_key (keys_of es) → r ≡ lookup (is_key (d, a)) es
-    → find (λ r. (r.driver == d) && (r.addr == a)) rs ≡ option_map (λ (id : ℕ). record { driver = d; addr = a; id = id }) r
+-- the search for a driver's address in the list finds the route that the table has there
+pub find_route : (es : Entries) (rs : List Route) (d a : ℕ) (r : Option ℕ) → routes_of es ≡ rs
+    → IsDistinct is_key (keys_of es) → r ≡ lookup (is_key (d, a)) es
+    → find (λ r. (r.driver == d) && (r.addr == a)) rs
+    ≡ option_map (λ (id : ℕ). record { driver = d; addr = a; id = id }) r
 find_route es rs d a r e u at =
     ap (find (λ r. (r.driver == d) && (r.addr == a))) (sym e)
-    ∙ found_find target_of (λ r. r.id) (λ k id. record { driver = k.0; addr = k.1; id = id }) (λ r. refl) (routes_of es) (d, a)
-    ∙ ap (option_map (λ (id : ℕ). record { driver = d; addr = a; id = id })) (sym ((has_list es u).finds (d, a)) ∙ sym at)
+    ∙ found_find target_of (λ r. r.id) (λ k id. record { driver = k.0; addr = k.1; id = id }) (λ r. refl) (routes_of es)
+    (d, a)
+    ∙ ap (option_map (λ (id : ℕ). record { driver = d; addr = a; id = id }))
+    (sym ((has_list es u).finds (d, a)) ∙ sym at)
 
+-- the list has a route for a driver's address exactly where the table has one
 pub any_route : (es : Entries) (rs : List Route) (d a : ℕ) → routes_of es ≡ rs → IsDistinct is_key (keys_of es)
     → list_any (λ r. (r.driver == d) && (r.addr == a)) rs ≡ is_some (lookup (is_key (d, a)) es)
 any_route es rs d a e u =
@@ -49,18 +59,31 @@ any_route es rs d a e u =
 
 -- one more, in place of what was there, and one less
 
-pub routed : (xs us : Entries) (d a id : ℕ) → IsDistinct is_key (keys_of xs) → IsDistinct is_key (keys_of us) → Sets xs us (d, a) (Some id)
-    → routes_of us ≡ with_inserted route_before (filter (λ r. not ((r.driver == d) && (r.addr == a))) (routes_of xs)) (record { driver = d; addr = a; id = id })
+-- with another route for an address, the list is without the old one and has the new one in order
+pub routed : (xs us : Entries) (d a id : ℕ) → IsDistinct is_key (keys_of xs) → IsDistinct is_key (keys_of us)
+    → Sets xs us (d, a) (Some id)
+    → routes_of us ≡ with_inserted route_before (filter (λ r. not ((r.driver == d) && (r.addr == a))) (routes_of xs))
+    (record { driver = d; addr = a; id = id })
 routed xs us d a id u v s =
     let x : Route = record { driver = d; addr = a; id = id } in
     let k = has_list xs u in
-    list_is us _ v (record { rises = rises_replaced target_of (λ r. r.id) (routes_of xs) x k.rises; finds = finds_replaced target_of (λ r. r.id) (routes_of xs) xs us x k.finds s })
+    list_is us _ v
+    (record {
+      rises = rises_replaced target_of (λ r. r.id) (routes_of xs) x k.rises;
+      finds = finds_replaced target_of (λ r. r.id) (routes_of xs) xs us x k.finds s;
+    })
 
-pub unrouted : (xs us : Entries) (d a : ℕ) → IsDistinct is_key (keys_of xs) → IsDistinct is_key (keys_of us) → Sets xs us (d, a) None
+-- without the route for an address, the list is without just that one
+pub unrouted : (xs us : Entries) (d a : ℕ) → IsDistinct is_key (keys_of xs) → IsDistinct is_key (keys_of us)
+    → Sets xs us (d, a) None
     → routes_of us ≡ filter (λ r. not ((r.driver == d) && (r.addr == a))) (routes_of xs)
 unrouted xs us d a u v s =
     let k = has_list xs u in
-    list_is us _ v (record { rises = rising_filter route_before _ (routes_of xs) k.rises; finds = finds_filter target_of (λ r. r.id) (routes_of xs) xs us (d, a) k.finds s })
+    list_is us _ v
+    (record {
+      rises = rising_filter route_before _ (routes_of xs) k.rises;
+      finds = finds_filter target_of (λ r. r.id) (routes_of xs) xs us (d, a) k.finds s;
+    })
 
 -- without the routes to a link
 
@@ -68,22 +91,28 @@ unrouted xs us d a u v s =
 abbrev pub Unlinks : Entries → Entries → ℕ → Type 0
 Unlinks xs us id = (q : Key) → lookup (is_key q) us ≡ option_filter (λ n. not (n == id)) (lookup (is_key q) xs)
 
-pub unlinked : (xs us : Entries) (id : ℕ) → IsDistinct is_key (keys_of xs) → IsDistinct is_key (keys_of us) → Unlinks xs us id → routes_of us ≡ filter (λ r. not (r.id == id)) (routes_of xs)
+-- without the routes to a link, the list is without those of its id
+pub unlinked : (xs us : Entries) (id : ℕ) → IsDistinct is_key (keys_of xs) → IsDistinct is_key (keys_of us)
+    → Unlinks xs us id → routes_of us ≡ filter (λ r. not (r.id == id)) (routes_of xs)
 unlinked xs us id u v s =
     let k = has_list xs u in
     list_is us _ v (record {
       rises = rising_filter route_before _ (routes_of xs) k.rises;
-      finds = λ q. s q ∙ ap (option_filter (λ n. not (n == id))) (k.finds q) ∙ sym (found_kept target_of (λ r. r.id) (λ n. not (n == id)) (routes_of xs) (apart_rising target_of (routes_of xs) k.rises) q);
+      finds = λ q. s q ∙ ap (option_filter (λ n. not (n == id))) (k.finds q)
+          ∙ sym (found_kept target_of (λ r. r.id) (λ n. not (n == id)) (routes_of xs)
+          (apart_rising target_of (routes_of xs) k.rises) q);
     })
 
 -- one link more whose routes are gone
 
-ids_more : (ids : List ℕ) (id : ℕ) (r : Route) → list_any (λ i. r.id == i) (ids ++ id ∷ []) ≡ (list_any (λ i. r.id == i) ids || (r.id == id))
+ids_more : (ids : List ℕ) (id : ℕ) (r : Route)
+    → list_any (λ i. r.id == i) (ids ++ id ∷ []) ≡ (list_any (λ i. r.id == i) ids || (r.id == id))
 ids_more [] id r = elim (cases_Bool (r.id == id)) [ inl t ↦ rw t refl | inr f ↦ rw f refl ]
 ids_more (x ∷ ids) id r = elim (cases_Bool (r.id == x)) [ inl t ↦ rw t refl | inr f ↦ rw f (ids_more ids id r) ]
 
 unlinked_more : (rs : List Route) (ids : List ℕ) (id : ℕ)
-    → filter (λ r. not (r.id == id)) (filter (λ r. not (list_any (λ i. r.id == i) ids)) rs) ≡ filter (λ r. not (list_any (λ i. r.id == i) (ids ++ id ∷ []))) rs
+    → filter (λ r. not (r.id == id)) (filter (λ r. not (list_any (λ i. r.id == i) ids)) rs)
+    ≡ filter (λ r. not (list_any (λ i. r.id == i) (ids ++ id ∷ []))) rs
 unlinked_more [] ids id = refl
 unlinked_more (r ∷ rs) ids id = elim (cases_Bool (list_any (λ i. r.id == i) ids)) [
   | inl t ↦ rw (ids_more ids id r, t) (unlinked_more rs ids id)
@@ -93,10 +122,13 @@ unlinked_more (r ∷ rs) ids id = elim (cases_Bool (list_any (λ i. r.id == i) i
   ]
 ]
 
+-- without the routes to some links, and then those to the next one, is without those to one link more
 pub unlinked_next : (rs : List Route) (ids : List ℕ) (i : ℕ) → i < length ids
-    → filter (λ r. not (r.id == get_or ids i 0)) (filter (λ r. not (list_any (λ i. r.id == i) (take i ids))) rs) ≡ filter (λ r. not (list_any (λ i. r.id == i) (take (i + 1) ids))) rs
+    → filter (λ r. not (r.id == get_or ids i 0)) (filter (λ r. not (list_any (λ i. r.id == i) (take i ids))) rs)
+    ≡ filter (λ r. not (list_any (λ i. r.id == i) (take (i + 1) ids))) rs
 unlinked_next rs ids i lt = rw (take_more ids i 0 lt) (unlinked_more rs (take i ids) (get_or ids i 0))
 
+-- without the routes to no links, the list is as it was
 pub unlinked_none : (rs : List Route) → filter (λ r. not (list_any (λ i. r.id == i) [])) rs ≡ rs
 unlinked_none [] = refl
 unlinked_none (r ∷ rs) = ap (λ x. r ∷ x) (unlinked_none rs)

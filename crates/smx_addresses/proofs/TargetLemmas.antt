@@ -1,5 +1,7 @@
 -- The sets of keys under the links, after each change of the table of routes.
-use Rattle.std.proofs.Common.{◌≡◌, ℕ, ◌<◌, ◌+◌, Bool, true, false, cond, ◌||◌, ◌==◌, not, List, [], ◌∷◌, ◌++◌, length, get_or, take, Option, Some, None, Result, Ok, Err, OnErr, refl, sym, ap, ◌∙◌, arith, if◌then◌else◌, inl, inr}
+use Rattle.std.proofs.Common.{◌≡◌, ℕ, ◌<◌, ◌+◌, Bool, true, false, cond, ◌||◌, ◌==◌, not, List, [], ◌∷◌, ◌++◌, length}
+use Rattle.std.proofs.Common.{get_or, take, Option, Some, None, Result, Ok, Err, OnErr, refl, sym, ap, ◌∙◌, arith}
+use Rattle.std.proofs.Common.{if◌then◌else◌, inl, inr}
 use Rattle.std.specs.HashSet.{HashSet}
 use Rattle.std.specs.List.{list_any, AllZip, IsDistinct}
 use Rattle.std.specs.Map.{lookup, keys_of}
@@ -28,25 +30,39 @@ any_more : (ks : List Key) (k q : Key) → list_any (is_key q) (ks ++ k ∷ []) 
 any_more [] k q = rw (is_key_sym q k) (elim (cases_Bool (is_key k q)) [ inl t ↦ rw t refl | inr f ↦ rw f refl ])
 any_more (x ∷ ks) k q = elim (cases_Bool (is_key q x)) [ inl t ↦ rw t refl | inr f ↦ rw f (any_more ks k q) ]
 
-pub left_more : (ks : List Key) (k q : Key) (r : Option ℕ) → cond (is_key k q) None (left_of ks q r) ≡ left_of (ks ++ k ∷ []) q r
+-- taking one key more out, after some, is taking out these keys with that one behind
+pub left_more : (ks : List Key) (k q : Key) (r : Option ℕ)
+    → cond (is_key k q) None (left_of ks q r) ≡ left_of (ks ++ k ∷ []) q r
 left_more ks k q r = rw (any_more ks k q) (elim (cases_Bool (is_key k q)) [
   | inl t ↦ elim (cases_Bool (list_any (is_key q) ks)) [ inl a ↦ rw (t, a) refl | inr a ↦ rw (t, a) refl ]
   | inr f ↦ elim (cases_Bool (list_any (is_key q) ks)) [ inl a ↦ rw (f, a) refl | inr a ↦ rw (f, a) refl ]
 ])
 
-pub left_next : (ks : List Key) (i : ℕ) (d q : Key) (r : Option ℕ) → i < length ks → cond (is_key (get_or ks i d) q) None (left_of (take i ks) q r) ≡ left_of (take (i + 1) ks) q r
+-- taking the key at an index out, after those before it, is taking out all up to it
+pub left_next : (ks : List Key) (i : ℕ) (d q : Key) (r : Option ℕ) → i < length ks
+    → cond (is_key (get_or ks i d) q) None (left_of (take i ks) q r) ≡ left_of (take (i + 1) ks) q r
 left_next ks i d q r lt = rw (take_more ks i d lt) (left_more (take i ks) (get_or ks i d) q r)
 
 -- what is left without the keys of a link
-left_filtered : (id : ℕ) (b : Bool) (r : Option ℕ) → b ≡ leads_to id r → (if b then None else r) ≡ option_filter (λ n. not (n == id)) r
+left_filtered : (id : ℕ) (b : Bool) (r : Option ℕ) → b ≡ leads_to id r
+    → (if b then None else r) ≡ option_filter (λ n. not (n == id)) r
 left_filtered id b None e = elim (cases_Bool b) [ inl t ↦ rw t refl | inr f ↦ rw f refl ]
 left_filtered id b (Some n) e = rw e (elim (cases_Bool (n == id)) [ inl t ↦ rw t refl | inr f ↦ rw f refl ])
 
-leads_filtered : (id i : ℕ) (r : Option ℕ) → leads_to i (option_filter (λ n. not (n == id)) r) ≡ cond (id == i) false (leads_to i r)
+leads_filtered : (id i : ℕ) (r : Option ℕ) → leads_to i (option_filter (λ n. not (n == id)) r)
+    ≡ cond (id == i) false (leads_to i r)
 leads_filtered id i None = elim (cases_Bool (id == i)) [ inl t ↦ rw t refl | inr f ↦ rw f refl ]
 leads_filtered id i (Some n) = elim (cases_Bool (n == id)) [
-  | inl t ↦ elim (cases_Bool (id == i)) [ inl a ↦ rw (t, a) refl | inr a ↦ let b : (n == i) ≡ false = grind (arith, nat_tests) in rw (t, a, b) refl ]
-  | inr f ↦ elim (cases_Bool (id == i)) [ inl a ↦ let b : (n == i) ≡ false = grind (arith, nat_tests) in rw (f, a, b) refl | inr a ↦ rw (f, a) refl ]
+  | inl t ↦ elim (cases_Bool (id == i)) [
+    | inl a ↦ rw (t, a) refl
+    | inr a ↦
+        let b : (n == i) ≡ false = grind (arith, nat_tests) in rw (t, a, b) refl
+  ]
+  | inr f ↦ elim (cases_Bool (id == i)) [
+    | inl a ↦ let b : (n == i) ≡ false = grind (arith, nat_tests) in
+        rw (f, a, b) refl
+    | inr a ↦ rw (f, a) refl
+  ]
 ]
 
 -- keys that are cloned
@@ -61,23 +77,31 @@ pub on_err : {X E : Type 0} (r : Result X E) (P : Type 0) → P → OnErr r P
 on_err (Ok x) P p = tt
 on_err (Err e) P p = p
 
+-- whether a test is true is the test itself
 pub when_true : (b : Bool) → cond b true false ≡ b
 when_true true = refl
 when_true false = refl
 
 module _ {S : Type 0} where
   -- no route and no key
-  pub no_targets : (xs : Entries) (ts : List (ℕ × HashSet Key S)) → IsDistinct is_key (keys_of xs) → xs ≡ [] → ts ≡ [] → AreRoutes xs ts
+  pub no_targets : (xs : Entries) (ts : List (ℕ × HashSet Key S)) → IsDistinct is_key (keys_of xs) → xs ≡ [] → ts ≡ []
+      → AreRoutes xs ts
   no_targets xs ts u e f = record { unique = u; targets = λ i q. rw (e, f) refl }
 
-  module _ (xs us : Entries) (ts vs : List (ℕ × HashSet Key S)) (k : Key) (id : ℕ) (h : AreRoutes xs ts) (unique : IsDistinct is_key (keys_of us)) (s : Sets xs us k (Some id)) (t : IsTargetSet ts vs id k true) where
+  module _ (xs us : Entries) (ts vs : List (ℕ × HashSet Key S)) (k : Key) (id : ℕ) (h : AreRoutes xs ts)
+      (unique : IsDistinct is_key (keys_of us)) (s : Sets xs us k (Some id)) (t : IsTargetSet ts vs id k true) where
     now_there : (i : ℕ) (q : Key) → is_key k q ≡ true → leads_to i (lookup (is_key q) us) ≡ (id == i)
     now_there i q a = ap (leads_to i) (s q) ∙ rw a refl
 
     as_before : (i : ℕ) (q : Key) → is_key k q ≡ false → is_target vs i q ≡ leads_to i (lookup (is_key q) us)
     as_before i q a =
-        let now : leads_to i (lookup (is_key q) us) ≡ leads_to i (lookup (is_key q) xs) = ap (leads_to i) (s q) ∙ rw a refl in
-        t i q ∙ elim (cases_Bool (id == i)) [ inl b ↦ rw (a, b) (h.targets i q ∙ sym now) | inr b ↦ rw b (h.targets i q ∙ sym now) ]
+        let now : leads_to i (lookup (is_key q) us) ≡ leads_to i (lookup (is_key q) xs) = ap (leads_to i) (s q)
+        ∙ rw a refl in
+        t i q ∙ elim (cases_Bool (id == i)) [
+          | inl b ↦ rw (a, b) (h.targets i q ∙ sym now)
+          | inr b ↦
+              rw b (h.targets i q ∙ sym now)
+        ]
 
     was_at : (i : ℕ) (q : Key) → is_key k q ≡ true → is_target ts i q ≡ leads_to i (lookup (is_key k) xs)
     was_at i q a = h.targets i q ∙ ap (λ (p : Key). leads_to i (lookup (is_key p) xs)) (sym (key_same k q a))
@@ -96,7 +120,8 @@ module _ {S : Type 0} where
     }
 
     -- a key that had one
-    pub routed_away : (ws : List (ℕ × HashSet Key S)) (old : ℕ) → lookup (is_key k) xs ≡ Some old → (old == id) ≡ false → IsTargetSet vs ws old k false → AreRoutes us ws
+    pub routed_away : (ws : List (ℕ × HashSet Key S)) (old : ℕ) → lookup (is_key k) xs ≡ Some old → (old == id) ≡ false
+        → IsTargetSet vs ws old k false → AreRoutes us ws
     routed_away ws old at other w = record {
       unique = unique;
       targets = λ i q. w i q ∙ elim (cases_Bool (is_key k q)) [
@@ -112,72 +137,97 @@ module _ {S : Type 0} where
     }
 
   -- a key without its route
-  pub unrouted_whole : (xs us : Entries) (ts vs : List (ℕ × HashSet Key S)) (k : Key) (old : ℕ) → AreRoutes xs ts → IsDistinct is_key (keys_of us)
+  pub unrouted_whole : (xs us : Entries) (ts vs : List (ℕ × HashSet Key S)) (k : Key) (old : ℕ) → AreRoutes xs ts
+      → IsDistinct is_key (keys_of us)
       → lookup (is_key k) xs ≡ Some old → Sets xs us k None → IsTargetSet ts vs old k false → AreRoutes us vs
   unrouted_whole xs us ts vs k old h unique at s t = record {
     unique = unique;
     targets = λ i q. t i q ∙ elim (cases_Bool (is_key k q)) [
       | inl a ↦
           let now : leads_to i (lookup (is_key q) us) ≡ false = ap (leads_to i) (s q) ∙ rw a refl in
-          let was : is_target ts i q ≡ leads_to i (lookup (is_key k) xs) = h.targets i q ∙ ap (λ (p : Key). leads_to i (lookup (is_key p) xs)) (sym (key_same k q a)) in
-          elim (cases_Bool (old == i)) [ inl b ↦ rw (a, b) (sym now) | inr b ↦ rw b (was ∙ ap (leads_to i) at ∙ b ∙ sym now) ]
+          let was : is_target ts i q ≡ leads_to i (lookup (is_key k) xs) = h.targets i q
+          ∙ ap (λ (p : Key). leads_to i (lookup (is_key p) xs)) (sym (key_same k q a)) in
+          elim (cases_Bool (old == i)) [
+            | inl b ↦ rw (a, b) (sym now)
+            | inr b ↦
+                rw b (was ∙ ap (leads_to i) at ∙ b ∙ sym now)
+          ]
       | inr a ↦
-          let now : leads_to i (lookup (is_key q) us) ≡ leads_to i (lookup (is_key q) xs) = ap (leads_to i) (s q) ∙ rw a refl in
-          elim (cases_Bool (old == i)) [ inl b ↦ rw (a, b) (h.targets i q ∙ sym now) | inr b ↦ rw b (h.targets i q ∙ sym now) ]
+          let now : leads_to i (lookup (is_key q) us) ≡ leads_to i (lookup (is_key q) xs) = ap (leads_to i) (s q)
+          ∙ rw a refl in
+          elim (cases_Bool (old == i)) [
+            | inl b ↦ rw (a, b) (h.targets i q ∙ sym now)
+            | inr b ↦
+                rw b (h.targets i q ∙ sym now)
+          ]
     ];
   }
 
   -- without the keys of a link its routes are gone
-  pub link_unlinks : (xs us : Entries) (ts : List (ℕ × HashSet Key S)) (id : ℕ) (keys : HashSet Key S) → AreRoutes xs ts → lookup (λ i. id == i) ts ≡ Some keys
+  pub link_unlinks : (xs us : Entries) (ts : List (ℕ × HashSet Key S)) (id : ℕ) (keys : HashSet Key S) → AreRoutes xs ts
+      → lookup (λ i. id == i) ts ≡ Some keys
       → ((q : Key) → lookup (is_key q) us ≡ left_of keys.keys q (lookup (is_key q) xs)) → Unlinks xs us id
   link_unlinks xs us ts id keys h at s q =
       let there : is_target ts id q ≡ list_any (is_key q) keys.keys = rw at refl in
       s q ∙ left_filtered id (list_any (is_key q) keys.keys) (lookup (is_key q) xs) (sym there ∙ h.targets id q)
 
   -- where a link has no keys it has no routes
-  pub none_unlinks : (xs : Entries) (ts : List (ℕ × HashSet Key S)) (id : ℕ) → AreRoutes xs ts → lookup (λ i. id == i) ts ≡ None → Unlinks xs xs id
+  pub none_unlinks : (xs : Entries) (ts : List (ℕ × HashSet Key S)) (id : ℕ) → AreRoutes xs ts
+      → lookup (λ i. id == i) ts ≡ None → Unlinks xs xs id
   none_unlinks xs ts id h at q =
       let there : is_target ts id q ≡ false = rw at refl in
       left_filtered id false (lookup (is_key q) xs) (sym there ∙ h.targets id q)
 
   -- without a link and its routes
-  pub unlinked_whole : (xs us : Entries) (ts vs : List (ℕ × HashSet Key S)) (id : ℕ) → AreRoutes xs ts → IsDistinct is_key (keys_of us) → Unlinks xs us id
+  pub unlinked_whole : (xs us : Entries) (ts vs : List (ℕ × HashSet Key S)) (id : ℕ) → AreRoutes xs ts
+      → IsDistinct is_key (keys_of us) → Unlinks xs us id
       → ((i : ℕ) → lookup (λ j. i == j) vs ≡ cond (id == i) None (lookup (λ j. i == j) ts)) → AreRoutes us vs
   unlinked_whole xs us ts vs id h unique s t = record {
     unique = unique;
     targets = λ i q.
-        let now : leads_to i (lookup (is_key q) us) ≡ cond (id == i) false (leads_to i (lookup (is_key q) xs)) = ap (leads_to i) (s q) ∙ leads_filtered id i (lookup (is_key q) xs) in
+        let now : leads_to i (lookup (is_key q) us) ≡ cond (id == i) false (leads_to i (lookup (is_key q) xs)) =
+        ap (leads_to i) (s q) ∙ leads_filtered id i (lookup (is_key q) xs) in
         let there : is_target vs i q ≡ cond (id == i) false (is_target ts i q) =
-        ap (λ (o : Option (HashSet Key S)). option_map_or (λ s. list_any (is_key q) s.keys) o false) (t i) ∙ elim (cases_Bool (id == i)) [ inl a ↦ rw a refl | inr a ↦ rw a refl ] in
+        ap (λ (o : Option (HashSet Key S)). option_map_or (λ s. list_any (is_key q) s.keys) o false) (t i)
+        ∙ elim (cases_Bool (id == i)) [ inl a ↦ rw a refl | inr a ↦ rw a refl ] in
         there ∙ ap (cond (id == i) false) (h.targets i q) ∙ sym now;
   }
 
   -- the sets after a change of the table that holds them
 
   -- a set written back with the same keys
-  pub same_set : (ts vs : List (ℕ × HashSet Key S)) (id : ℕ) (s w : HashSet Key S) → lookup (λ j. id == j) ts ≡ Some s → w.keys ≡ s.keys
-      → ((i : ℕ) → lookup (λ j. i == j) vs ≡ cond (id == i) (Some w) (lookup (λ j. i == j) ts)) → (i : ℕ) (q : Key) → is_target vs i q ≡ is_target ts i q
+  pub same_set : (ts vs : List (ℕ × HashSet Key S)) (id : ℕ) (s w : HashSet Key S) → lookup (λ j. id == j) ts ≡ Some s
+      → w.keys ≡ s.keys
+      → ((i : ℕ) → lookup (λ j. i == j) vs ≡ cond (id == i) (Some w) (lookup (λ j. i == j) ts)) → (i : ℕ) (q : Key)
+      → is_target vs i q ≡ is_target ts i q
   same_set ts vs id s w at e t i q =
-      ap (λ (o : Option (HashSet Key S)). option_map_or (λ x. list_any (is_key q) x.keys) o false) (t i) ∙ elim (cases_Bool (id == i)) [
+      ap (λ (o : Option (HashSet Key S)). option_map_or (λ x. list_any (is_key q) x.keys) o false) (t i)
+      ∙ elim (cases_Bool (id == i)) [
         | inl a ↦
-            let same : lookup (λ j. i == j) ts ≡ Some s = ap (λ n. lookup (λ j. n == j) ts) (sym (eqb-true id i a)) ∙ at in
+            let same : lookup (λ j. i == j) ts ≡ Some s =
+            ap (λ n. lookup (λ j. n == j) ts) (sym (eqb-true id i a)) ∙ at in
             rw (a, same, e) refl
         | inr a ↦ rw a refl
       ]
 
   -- a first key, under an id that had no set
-  pub new_set : (ts vs : List (ℕ × HashSet Key S)) (id : ℕ) (k : Key) (w : HashSet Key S) → lookup (λ j. id == j) ts ≡ None → ((q : Key) → list_any (is_key q) w.keys ≡ is_key k q)
-      → ((i : ℕ) → lookup (λ j. i == j) vs ≡ cond (id == i) (Some w) (lookup (λ j. i == j) ts)) → IsTargetSet ts vs id k true
+  pub new_set : (ts vs : List (ℕ × HashSet Key S)) (id : ℕ) (k : Key) (w : HashSet Key S)
+      → lookup (λ j. id == j) ts ≡ None → ((q : Key) → list_any (is_key q) w.keys ≡ is_key k q)
+      → ((i : ℕ) → lookup (λ j. i == j) vs ≡ cond (id == i) (Some w) (lookup (λ j. i == j) ts))
+      → IsTargetSet ts vs id k true
   new_set ts vs id k w at e t i q =
-      ap (λ (o : Option (HashSet Key S)). option_map_or (λ x. list_any (is_key q) x.keys) o false) (t i) ∙ elim (cases_Bool (id == i)) [
+      ap (λ (o : Option (HashSet Key S)). option_map_or (λ x. list_any (is_key q) x.keys) o false) (t i)
+      ∙ elim (cases_Bool (id == i)) [
         | inl a ↦
-            let same : lookup (λ j. i == j) ts ≡ None = ap (λ n. lookup (λ j. n == j) ts) (sym (eqb-true id i a)) ∙ at in
+            let same : lookup (λ j. i == j) ts ≡ None =
+            ap (λ n. lookup (λ j. n == j) ts) (sym (eqb-true id i a)) ∙ at in
             elim (cases_Bool (is_key k q)) [ inl b ↦ rw (a, e q, b) refl | inr b ↦ rw (a, e q, b, same) refl ]
         | inr a ↦ rw a refl
       ]
 
   -- no key goes from a set that isn't there
-  pub no_set : (ts : List (ℕ × HashSet Key S)) (id : ℕ) (k : Key) → lookup (λ j. id == j) ts ≡ None → IsTargetSet ts ts id k false
+  pub no_set : (ts : List (ℕ × HashSet Key S)) (id : ℕ) (k : Key) → lookup (λ j. id == j) ts ≡ None
+      → IsTargetSet ts ts id k false
   no_set ts id k at i q = elim (cases_Bool (id == i)) [
     | inl a ↦
         let same : lookup (λ j. i == j) ts ≡ None = ap (λ n. lookup (λ j. n == j) ts) (sym (eqb-true id i a)) ∙ at in
@@ -187,7 +237,8 @@ module _ {S : Type 0} where
 
   -- a copy
 
-  targets_again : (ts vs : List (ℕ × HashSet Key S)) → AllZip (λ p q. (q.0 ≡ p.0) × AllZip (λ x y. (y.0 ≡ x.0) × (y.1 ≡ x.1)) p.1.keys q.1.keys) ts vs
+  targets_again : (ts vs : List (ℕ × HashSet Key S))
+      → AllZip (λ p q. (q.0 ≡ p.0) × AllZip (λ x y. (y.0 ≡ x.0) × (y.1 ≡ x.1)) p.1.keys q.1.keys) ts vs
       → (i : ℕ) (q : Key) → is_target vs i q ≡ is_target ts i q
   targets_again [] [] h i q = refl
   targets_again [] (v ∷ vs) h i q = absurd h
@@ -202,9 +253,11 @@ module _ {S : Type 0} where
   ]
 
   -- of both tables
-  pub copied_whole : (xs us : Entries) (ts vs : List (ℕ × HashSet Key S)) → AreRoutes xs ts → us ≡ xs → AllZip (λ p q. (q.0 ≡ p.0) × AllZip (λ x y. (y.0 ≡ x.0) × (y.1 ≡ x.1)) p.1.keys q.1.keys) ts vs
+  pub copied_whole : (xs us : Entries) (ts vs : List (ℕ × HashSet Key S)) → AreRoutes xs ts → us ≡ xs
+      → AllZip (λ p q. (q.0 ≡ p.0) × AllZip (λ x y. (y.0 ≡ x.0) × (y.1 ≡ x.1)) p.1.keys q.1.keys) ts vs
       → AreRoutes us vs
-  copied_whole xs us ts vs h e z = record { unique = rw e h.unique; targets = λ i q. rw e (targets_again ts vs z i q ∙ h.targets i q) }
+  copied_whole xs us ts vs h e z =
+      record { unique = rw e h.unique; targets = λ i q. rw e (targets_again ts vs z i q ∙ h.targets i q) }
 
 -- the ids of a copy
 pub ids_again : (es fs : Entries) → AllZip (λ p q. ((q.0.0 ≡ p.0.0) × (q.0.1 ≡ p.0.1)) × (q.1 ≡ p.1)) es fs → fs ≡ es

@@ -1,5 +1,6 @@
 -- What a close of descriptors touches, and its outcome.
-use Rattle.std.proofs.Common.{◌≡◌, ℕ, ◌+◌, ◌<◌, true, false, ◌||◌, not, List, [], ◌∷◌, ◌++◌, filter, Option, Some, None, Ok, refl, sym, ap, subst, ◌∙◌, arith, inl, inr}
+use Rattle.std.proofs.Common.{◌≡◌, ℕ, ◌+◌, ◌<◌, true, false, ◌||◌, not, List, [], ◌∷◌, ◌++◌, filter, Option, Some, None}
+use Rattle.std.proofs.Common.{Ok, refl, sym, ap, subst, ◌∙◌, arith, inl, inr}
 use Rattle.std.specs.Prelude.{nat_lt}
 use Rattle.std.specs.List.{list_any}
 use Rattle.std.proofs.lemmas.Bool.{cases_Bool, cases_lt, or_left, or_right, false≢true}
@@ -16,7 +17,8 @@ use Rattle.smx_model.specs.Hangups.{is_hung}
 use Rattle.smx_model.specs.Outcomes.{or_fault}
 use Rattle.smx_model.specs.Standing.{is_named}
 use Rattle.smx_model.specs.Swept.{IsSwept}
-use Rattle.smx_streams.specs.StreamTables.{StreamTable, HasOneLess, is_last, number_at, stream_at, without_fd, exists as is_there}
+use Rattle.smx_streams.specs.StreamTables.{StreamTable, HasOneLess, is_last, number_at, stream_at, without_fd}
+use Rattle.smx_streams.specs.StreamTables.{exists as is_there}
 use Rattle.smx_config.specs.Closing.{closing}
 use Rattle.smx_tables.specs.TouchedStreams.{is_there_or_touched}
 use Rattle.smx_config.proofs.DoneLemmas.{IdleDropsNone}
@@ -24,7 +26,8 @@ use Rattle.smx_tables.proofs.WatchLemmas.{listed_last, still_listed}
 use Rattle.smx_tables.proofs.TouchLemmas.{touched_there}
 
 -- one descriptor is closed, and its stream stays
-pub closed_stays : (t u : StreamTable) (p n : ℕ) → is_last t p n ≡ false → HasOneLess t p n u → ((s : StreamId) → is_there t s ≡ true → is_there u s ≡ false → stream_at t.fds p n ≡ Some s)
+pub closed_stays : (t u : StreamTable) (p n : ℕ) → is_last t p n ≡ false → HasOneLess t p n u
+    → ((s : StreamId) → is_there t s ≡ true → is_there u s ≡ false → stream_at t.fds p n ≡ Some s)
     → (s : StreamId) → is_there t s ≡ true → is_there_or_touched u [] s ≡ true
 closed_stays t u p n stays less went s there = elim (cases_Bool (is_there u s)) [
   | inl a ↦ or_left _ _ a
@@ -33,16 +36,21 @@ closed_stays t u p n stays less went s there = elim (cases_Bool (is_there u s)) 
       absurd (false≢true (sym stays ∙ last ∙ ap not (sym same ∙ gone)))
 ] where
   same : is_there u s ≡ is_there (without_fd t p n) s
-  same = ap (λ (fds : List Descriptor). is_named fds s || nat_lt 0 (number_at u.holds s)) less.fds ∙ ap (λ (m : ℕ). is_named (filter (λ d. not (is_fd p n d)) t.fds) s || nat_lt 0 m) (less.holds s)
+  same = ap (λ (fds : List Descriptor). is_named fds s || nat_lt 0 (number_at u.holds s)) less.fds
+      ∙ ap (λ (m : ℕ). is_named (filter (λ d. not (is_fd p n d)) t.fds) s || nat_lt 0 m) (less.holds s)
 
 -- so the hung-up streams are there
-pub all_stay : (t u : StreamTable) (hungs : List StreamId) → ((x : StreamId) → is_hung hungs x ≡ true → is_there t x ≡ true) → ((x : StreamId) → is_there t x ≡ true → is_there_or_touched u [] x ≡ true)
+pub all_stay : (t u : StreamTable) (hungs : List StreamId)
+    → ((x : StreamId) → is_hung hungs x ≡ true → is_there t x ≡ true)
+    → ((x : StreamId) → is_there t x ≡ true → is_there_or_touched u [] x ≡ true)
     → (x : StreamId) → is_hung hungs x ≡ true → is_there u x ≡ true
 all_stay t u hungs there stays x up = touched_there u [] x refl (stays x (there x up))
 
 -- or it is touched
-pub closed_touches : (t u : StreamTable) (p n : ℕ) (s : StreamId) (ss : List StreamId) → stream_at t.fds p n ≡ Some s → list_any (same_stream s) ss ≡ true
-    → ((x : StreamId) → is_there t x ≡ true → is_there u x ≡ false → stream_at t.fds p n ≡ Some x) → (x : StreamId) → is_there t x ≡ true → is_there_or_touched u ss x ≡ true
+pub closed_touches : (t u : StreamTable) (p n : ℕ) (s : StreamId) (ss : List StreamId) → stream_at t.fds p n ≡ Some s
+    → list_any (same_stream s) ss ≡ true
+    → ((x : StreamId) → is_there t x ≡ true → is_there u x ≡ false → stream_at t.fds p n ≡ Some x) → (x : StreamId)
+    → is_there t x ≡ true → is_there_or_touched u ss x ≡ true
 closed_touches t u p n s ss at one went x there = elim (cases_Bool (is_there u x)) [
   | inl a ↦ or_left _ _ a
   | inr gone ↦
@@ -52,8 +60,10 @@ closed_touches t u p n s ss at one went x there = elim (cases_Bool (is_there u x
 ]
 
 -- all descriptors of a process are closed
-pub all_closed_touch : (t u : StreamTable) (p : ℕ) (ss : List StreamId) → ((n : ℕ) (s : StreamId) → n < MAX_DESCRIPTORS → stream_at t.fds p n ≡ Some s → list_any (same_stream s) ss ≡ true)
-    → ((x : StreamId) → is_there t x ≡ true → is_there u x ≡ false → (n : ℕ) × (n < MAX_DESCRIPTORS) × (stream_at t.fds p n ≡ Some x)) → (x : StreamId) → is_there t x ≡ true → is_there_or_touched u ss x ≡ true
+pub all_closed_touch : (t u : StreamTable) (p : ℕ) (ss : List StreamId)
+    → ((n : ℕ) (s : StreamId) → n < MAX_DESCRIPTORS → stream_at t.fds p n ≡ Some s → list_any (same_stream s) ss ≡ true)
+    → ((x : StreamId) → is_there t x ≡ true → is_there u x ≡ false → (n : ℕ) × (n < MAX_DESCRIPTORS)
+    × (stream_at t.fds p n ≡ Some x)) → (x : StreamId) → is_there t x ≡ true → is_there_or_touched u ss x ≡ true
 all_closed_touch t u p ss named went x there = elim (cases_Bool (is_there u x)) [
   | inl a ↦ or_left _ _ a
   | inr gone ↦ let at = went x there gone in or_right _ _ (named at.0 x at.1 at.2)
@@ -61,37 +71,47 @@ all_closed_touch t u p ss named went x there = elim (cases_Bool (is_there u x)) 
 
 -- ---- the outcome of a close that sweeps nothing
 
+-- a stream that a lookup of a descriptor gives without a refusal is there
 pub fd_at : (o : Option StreamId) (s : StreamId) → or_fault BadDescriptor o ≡ Ok s → o ≡ Some s
 fd_at None s e = absurd cc
 fd_at (Some x) s e = let same : x ≡ s = cc in ap (λ (y : StreamId). Some y) same
 
-pub closes_shared : (drivers : List DriverSpec) (c : Configuration) (process fd : ℕ) (fds : List Descriptor) (new : Configuration) (r : Reply) → IdleDropsNone drivers → IsSwept drivers (record c { fds = fds })
-    → fds ≡ filter (λ d. not (is_fd process fd d)) c.fds → new ≡ record c { fds = fds } → r ≡ Done [] → closing drivers c process fd ≡ Ok (new, r)
+-- a close that leaves nothing to sweep takes its descriptor away, and drops no message
+pub closes_shared : (drivers : List DriverSpec) (c : Configuration) (process fd : ℕ) (fds : List Descriptor)
+    (new : Configuration) (r : Reply) → IdleDropsNone drivers → IsSwept drivers (record c { fds = fds })
+    → fds ≡ filter (λ d. not (is_fd process fd d)) c.fds → new ≡ record c { fds = fds } → r ≡ Done []
+    → closing drivers c process fd ≡ Ok (new, r)
 closes_shared drivers c process fd fds new r idle swept e is none =
-    subst (λ (ds : List Descriptor). done_outcome drivers c (record c { fds = ds }) ≡ Ok (new, r)) e (rw (is, none) (idle c (record c { fds = fds }) swept refl))
+    subst (λ (ds : List Descriptor). done_outcome drivers c (record c { fds = ds }) ≡ Ok (new, r)) e
+    (rw (is, none) (idle c (record c { fds = fds }) swept refl))
 
 -- ---- the streams of a process's descriptors
 
+-- the streams of the process's descriptors with numbers below k are all among these
 abbrev pub AreNamed : List Descriptor → ℕ → ℕ → List StreamId → Type 0
 AreNamed fds p k ss = (n : ℕ) (s : StreamId) → n < k → stream_at fds p n ≡ Some s → list_any (same_stream s) ss ≡ true
 
 -- one number more, with a stream
-pub one_named_more : (fds : List Descriptor) (p k : ℕ) (t : StreamId) (ss : List StreamId) → stream_at fds p k ≡ Some t → AreNamed fds p k ss → AreNamed fds p (k + 1) (ss ++ t ∷ [])
+pub one_named_more : (fds : List Descriptor) (p k : ℕ) (t : StreamId) (ss : List StreamId) → stream_at fds p k ≡ Some t
+    → AreNamed fds p k ss → AreNamed fds p (k + 1) (ss ++ t ∷ [])
 one_named_more fds p k t ss at h = λ n s lt e. elim (cases_lt n k) [
   | inl earlier ↦ still_listed s ss t (h n s earlier e)
   | inr here ↦
       let last : n ≡ k = omega (arith, here, lt) in
-      let both : ◌≡◌ {A = Option StreamId} (Some t) (Some s) = sym at ∙ subst (λ (m : ℕ). stream_at fds p m ≡ Some s) last e in
+      let both : ◌≡◌ {A = Option StreamId} (Some t) (Some s) =
+      sym at ∙ subst (λ (m : ℕ). stream_at fds p m ≡ Some s) last e in
       let same : t ≡ s = cc in
       subst (λ (x : StreamId). list_any (same_stream x) (ss ++ t ∷ []) ≡ true) same (listed_last ss t)
 ]
 
 -- and without one
-pub none_named_more : (fds : List Descriptor) (p k : ℕ) (ss : List StreamId) → stream_at fds p k ≡ None → AreNamed fds p k ss → AreNamed fds p (k + 1) ss
+pub none_named_more : (fds : List Descriptor) (p k : ℕ) (ss : List StreamId) → stream_at fds p k ≡ None
+    → AreNamed fds p k ss → AreNamed fds p (k + 1) ss
 none_named_more fds p k ss at h = λ n s lt e. elim (cases_lt n k) [
   | inl earlier ↦ h n s earlier e
   | inr here ↦
       let last : n ≡ k = omega (arith, here, lt) in
-      let both : ◌≡◌ {A = Option StreamId} None (Some s) = sym at ∙ subst (λ (m : ℕ). stream_at fds p m ≡ Some s) last e in
+      let both : ◌≡◌ {A = Option StreamId} None (Some s) =
+      sym at ∙ subst (λ (m : ℕ). stream_at fds p m ≡ Some s) last e in
       absurd cc
 ]

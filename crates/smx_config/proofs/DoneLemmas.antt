@@ -1,5 +1,6 @@
 -- What a swept change comes to.
-use Rattle.std.proofs.Common.{◌≡◌, ℕ, Bool, true, false, ◌&&◌, ◌||◌, not, eqb, List, [], ◌∷◌, length, filter, find, Option, Some, None, Result, Ok, Err, if◌then◌else◌, refl, sym, ap, ◌∙◌, inl, inr}
+use Rattle.std.proofs.Common.{◌≡◌, ℕ, Bool, true, false, ◌&&◌, ◌||◌, not, eqb, List, [], ◌∷◌, length, filter, find}
+use Rattle.std.proofs.Common.{Option, Some, None, Result, Ok, Err, if◌then◌else◌, refl, sym, ap, ◌∙◌, inl, inr}
 use Rattle.std.specs.Option.{option_map}
 use Rattle.std.proofs.lemmas.Bool.{cases_Bool, and_parts, and_from}
 use Rattle.std.specs.List.{list_any, list_all}
@@ -11,7 +12,8 @@ use Rattle.smx_types.specs.declared.link.LinkKind.{LinkKind}
 use Rattle.smx_types.specs.declared.link.LinkKind.TheVariants as kind
 use Rattle.smx_types.specs.declared.link.Route.{Route}
 use Rattle.smx_types.specs.declared.reply.Fault.{Fault}
-use Rattle.smx_types.specs.declared.reply.Fault.TheVariants.{AddressInUse, BadDescriptor, Below, NoDriver, NoLink, NoMinor, NotMux, Unbound, Unrouted}
+use Rattle.smx_types.specs.declared.reply.Fault.TheVariants.{AddressInUse, BadDescriptor, Below, NoDriver, NoLink}
+use Rattle.smx_types.specs.declared.reply.Fault.TheVariants.{NoMinor, NotMux, Unbound, Unrouted}
 use Rattle.smx_types.specs.declared.stream.Descriptor.{Descriptor}
 use Rattle.smx_types.specs.declared.stream.StreamId.{StreamId}
 use Rattle.smx_types.specs.declared.driver.DriverSpec.{DriverSpec}
@@ -31,111 +33,200 @@ use Rattle.smx_tables.proofs.ClimbLemmas.{named_stands}
 use Rattle.smx_tables.proofs.ExistingLemmas.{all_fewer, named_stream}
 use Rattle.smx_config.specs.UnlinkTargets.{is_target, are_there, unlinks}
 
-pub done_is : (drivers : List DriverSpec) (c new d : Configuration) (r : Reply) → d ≡ after_sweep drivers new → r ≡ Done (serials_that_left c.flow d.flow) → done_outcome drivers c new ≡ Ok (d, r)
+-- a change that was swept, with a reply that names the serials that left, is what the change comes to
+pub done_is : (drivers : List DriverSpec) (c new d : Configuration) (r : Reply) → d ≡ after_sweep drivers new
+    → r ≡ Done (serials_that_left c.flow d.flow) → done_outcome drivers c new ≡ Ok (d, r)
 done_is drivers c new d r is gone = rw (gone, is) refl
 
 -- ---- the same, behind the refusals of a command
 
-pub unlink_does : (drivers : List DriverSpec) (c : Configuration) (process fd : ℕ) (w : Which) (k : LinkKind) (s : StreamId) (x : Configuration × Reply) → mux_stream drivers c process fd ≡ Ok s → are_there w k s c.links ≡ Ok tt
+-- an unlinking that is not refused comes to what the configuration without its links comes to
+pub unlink_does : (drivers : List DriverSpec) (c : Configuration) (process fd : ℕ) (w : Which) (k : LinkKind)
+    (s : StreamId) (x : Configuration × Reply) → mux_stream drivers c process fd ≡ Ok s
+    → are_there w k s c.links ≡ Ok tt
     → done_outcome drivers c (without_links c (is_target w k s)) ≡ Ok x → unlinks drivers c process fd w k ≡ Ok x
 unlink_does drivers c process fd w k s x e there h = rw (e, there) h
 
 -- ---- without a few bindings, or with other routes, nothing is left to sweep
 
-fewer_binds : (drivers : List DriverSpec) (c : Configuration) (t : Binding → Bool) → IsSwept drivers c → IsSwept drivers (record c { binds = filter t c.binds })
-fewer_binds drivers c t h = record { links = h.links; binds = all_fewer _ t c.binds h.binds; flow = h.flow; fulls = h.fulls; hungs = h.hungs }
+fewer_binds : (drivers : List DriverSpec) (c : Configuration) (t : Binding → Bool) → IsSwept drivers c
+    → IsSwept drivers (record c { binds = filter t c.binds })
+fewer_binds drivers c t h =
+    record { links = h.links; binds = all_fewer _ t c.binds h.binds; flow = h.flow; fulls = h.fulls; hungs = h.hungs }
 
-other_routes : (drivers : List DriverSpec) (c : Configuration) (routes : List Route) → IsSwept drivers c → IsSwept drivers (record c { routes = routes })
-other_routes drivers c routes h = record { links = h.links; binds = h.binds; flow = h.flow; fulls = h.fulls; hungs = h.hungs }
+other_routes : (drivers : List DriverSpec) (c : Configuration) (routes : List Route) → IsSwept drivers c
+    → IsSwept drivers (record c { routes = routes })
+other_routes drivers c routes h =
+    record { links = h.links; binds = h.binds; flow = h.flow; fulls = h.fulls; hungs = h.hungs }
 
 -- what the law of the model says: then no message is dropped
 abbrev pub IdleDropsNone : List DriverSpec → Type 0
-IdleDropsNone drivers = (c new : Configuration) → IsSwept drivers new → new.flow ≡ c.flow → done_outcome drivers c new ≡ Ok (new, Done [])
+IdleDropsNone drivers =
+    (c new : Configuration) → IsSwept drivers new → new.flow ≡ c.flow → done_outcome drivers c new ≡ Ok (new, Done [])
 
-pub route_does : (drivers : List DriverSpec) (c : Configuration) (process fd addr id : ℕ) (s : StreamId) (new : Configuration) (r : Reply) → IdleDropsNone drivers → IsSwept drivers c → mux_stream drivers c process fd ≡ Ok s
+-- a route that is not refused replaces its driver's route for the address, and drops no message
+pub route_does : (drivers : List DriverSpec) (c : Configuration) (process fd addr id : ℕ) (s : StreamId)
+    (new : Configuration) (r : Reply) → IdleDropsNone drivers → IsSwept drivers c
+    → mux_stream drivers c process fd ≡ Ok s
     → refuse NoLink (not (list_any (λ l. eqb l.id id && eqb l.ctl.driver s.driver) c.links)) ≡ Ok tt
-    → new ≡ record c { routes = with_inserted route_before (filter (λ x. not (eqb x.driver s.driver && eqb x.addr addr)) c.routes) (record { driver = s.driver; addr = addr; id = id }) } → r ≡ Done []
+    → new ≡ record c {
+      routes = with_inserted route_before
+          (filter (λ x. not (eqb x.driver s.driver && eqb x.addr addr)) c.routes)
+          (record { driver = s.driver; addr = addr; id = id });
+    } → r ≡ Done []
     → outcome drivers c process (command.Route fd addr id) ≡ Ok (new, r)
-route_does drivers c process fd addr id s new r idle clean e there is none = rw (e, there, is, none) (idle c rest (other_routes drivers c rest.routes clean) refl) where
-  rest : Configuration
-  rest = record c { routes = with_inserted route_before (filter (λ x. not (eqb x.driver s.driver && eqb x.addr addr)) c.routes) (record { driver = s.driver; addr = addr; id = id }) }
+route_does drivers c process fd addr id s new r idle clean e there is none =
+    rw (e, there, is, none) (idle c rest (other_routes drivers c rest.routes clean) refl) where
+      rest : Configuration
+      rest = record c {
+        routes = with_inserted route_before
+            (filter (λ x. not (eqb x.driver s.driver && eqb x.addr addr)) c.routes)
+            (record { driver = s.driver; addr = addr; id = id });
+      }
 
 mux_stream_of : (o : Option StreamId) (below leaf : StreamId → Bool) (s : StreamId)
-    → (((or_fault BadDescriptor o >>= (λ x. refuse Below (below x) >>= (λ a. Ok x)))) >>= (λ x. refuse NotMux (leaf x) >>= (λ m. Ok x))) ≡ Ok s → o ≡ Some s
+    → (((or_fault BadDescriptor o >>= (λ x. refuse Below (below x) >>= (λ a. Ok x)))) >>= (λ x.
+    refuse NotMux (leaf x) >>= (λ m. Ok x))) ≡ Ok s → o ≡ Some s
 mux_stream_of None below leaf s h = absurd cc
 mux_stream_of (Some x) below leaf s h = elim (cases_Bool (below x)) [
   | inl t ↦ let k = rw t at h in absurd cc
-  | inr f ↦ elim (cases_Bool (leaf x)) [ inl t ↦ let k = rw (f, t) at h in absurd cc | inr g ↦ let k : Ok x ≡ Ok s = rw (f, g) at h in let same : x ≡ s = cc in ap (λ (y : StreamId). Some y) same ]
+  | inr f ↦ elim (cases_Bool (leaf x)) [
+    | inl t ↦ let k = rw (f, t) at h in
+        absurd cc
+    | inr g ↦ let k : Ok x ≡ Ok s = rw (f, g) at h in let same : x ≡ s = cc in ap (λ (y : StreamId). Some y) same
+  ]
 ]
 
-mux_stream_exists : (drivers : List DriverSpec) (c : Configuration) (process fd : ℕ) (s : StreamId) → mux_stream drivers c process fd ≡ Ok s → exists drivers c s ≡ true
+mux_stream_exists : (drivers : List DriverSpec) (c : Configuration) (process fd : ℕ) (s : StreamId)
+    → mux_stream drivers c process fd ≡ Ok s → exists drivers c s ≡ true
 mux_stream_exists drivers c process fd s e =
-    let there = mux_stream_of (option_map (λ (d : Descriptor). d.stream) (find (is_fd process fd) c.fds)) (λ x. is_below c.links x) (λ x. not (is_mux drivers x.driver)) s e in
+    let there = mux_stream_of (option_map (λ (d : Descriptor). d.stream) (find (is_fd process fd) c.fds))
+    (λ x. is_below c.links x) (λ x. not (is_mux drivers x.driver)) s e in
     named_stands c.fds c.links (length drivers) s (named_stream process fd c.fds s there)
 
-all_inserted : {X : Type 0} (before : X → X → Bool) (t : X → Bool) (xs : List X) (x : X) → t x ≡ true → list_all t xs ≡ true → list_all t (with_inserted before xs x) ≡ true
+all_inserted : {X : Type 0} (before : X → X → Bool) (t : X → Bool) (xs : List X) (x : X) → t x ≡ true
+    → list_all t xs ≡ true → list_all t (with_inserted before xs x) ≡ true
 all_inserted before t [] x h all = and_from _ _ h refl
-all_inserted before t (y ∷ ys) x h all = let p = and_parts (t y) (list_all t ys) all in elim (cases_Bool (before x y)) [ inl a ↦ rw a (and_from _ _ h all) | inr b ↦ rw b (and_from _ _ p.0 (all_inserted before t ys x h p.1)) ]
+all_inserted before t (y ∷ ys) x h all = let p = and_parts (t y) (list_all t ys) all in
+    elim (cases_Bool (before x y)) [
+      | inl a ↦ rw a (and_from _ _ h all)
+      | inr b ↦
+          rw b (and_from _ _ p.0 (all_inserted before t ys x h p.1))
+    ]
 
-one_more_bind : (drivers : List DriverSpec) (c : Configuration) (b : Binding) → exists drivers c (record { driver = b.driver; minor = b.minor }) ≡ true → IsSwept drivers c → IsSwept drivers (record c { binds = with_inserted bind_before c.binds b })
-one_more_bind drivers c b there h = record { links = h.links; binds = all_inserted bind_before _ c.binds b there h.binds; flow = h.flow; fulls = h.fulls; hungs = h.hungs }
+one_more_bind : (drivers : List DriverSpec) (c : Configuration) (b : Binding)
+    → exists drivers c (record { driver = b.driver; minor = b.minor }) ≡ true → IsSwept drivers c
+    → IsSwept drivers (record c { binds = with_inserted bind_before c.binds b })
+one_more_bind drivers c b there h = record {
+  links = h.links;
+  binds = all_inserted bind_before _ c.binds b there h.binds;
+  flow = h.flow;
+  fulls = h.fulls;
+  hungs = h.hungs;
+}
 
-pub bind_does : (drivers : List DriverSpec) (c : Configuration) (process fd addr : ℕ) (s : StreamId) (new : Configuration) (r : Reply) → IdleDropsNone drivers → IsSwept drivers c → mux_stream drivers c process fd ≡ Ok s
-    → refuse AddressInUse (list_any (λ b. eqb b.driver s.driver && (eqb b.addr addr || eqb b.minor s.minor)) c.binds) ≡ Ok tt
-    → new ≡ record c { binds = with_inserted bind_before c.binds (record { driver = s.driver; addr = addr; minor = s.minor }) } → r ≡ Done []
+-- a bind that is not refused inserts its binding, and drops no message
+pub bind_does : (drivers : List DriverSpec) (c : Configuration) (process fd addr : ℕ) (s : StreamId)
+    (new : Configuration) (r : Reply) → IdleDropsNone drivers → IsSwept drivers c
+    → mux_stream drivers c process fd ≡ Ok s
+    → refuse AddressInUse (list_any (λ b. eqb b.driver s.driver && (eqb b.addr addr || eqb b.minor s.minor)) c.binds)
+    ≡ Ok tt
+    → new ≡ record c {
+      binds = with_inserted bind_before c.binds
+          (record { driver = s.driver; addr = addr; minor = s.minor });
+    } → r ≡ Done []
     → outcome drivers c process (command.Bind fd addr) ≡ Ok (new, r)
-bind_does drivers c process fd addr s new r idle clean e there is none = rw (e, there, is, none) (idle c rest (one_more_bind drivers c (record { driver = s.driver; addr = addr; minor = s.minor }) (mux_stream_exists drivers c process fd s e) clean) refl) where
-  rest : Configuration
-  rest = record c { binds = with_inserted bind_before c.binds (record { driver = s.driver; addr = addr; minor = s.minor }) }
+bind_does drivers c process fd addr s new r idle clean e there is none = rw (e, there, is, none)
+    (idle c rest (one_more_bind drivers c (record { driver = s.driver; addr = addr; minor = s.minor })
+    (mux_stream_exists drivers c process fd s e) clean) refl) where
+      rest : Configuration
+      rest = record c {
+        binds = with_inserted bind_before c.binds
+            (record { driver = s.driver; addr = addr; minor = s.minor });
+      }
 
-pub unbind_does : (drivers : List DriverSpec) (c : Configuration) (process fd : ℕ) (s : StreamId) (new : Configuration) (r : Reply) → IdleDropsNone drivers → IsSwept drivers c → mux_stream drivers c process fd ≡ Ok s
+-- an unbind that is not refused takes the binding of its stream away, and drops no message
+pub unbind_does : (drivers : List DriverSpec) (c : Configuration) (process fd : ℕ) (s : StreamId) (new : Configuration)
+    (r : Reply) → IdleDropsNone drivers → IsSwept drivers c → mux_stream drivers c process fd ≡ Ok s
     → refuse Unbound (not (list_any (λ b. eqb b.driver s.driver && eqb b.minor s.minor) c.binds)) ≡ Ok tt
-    → new ≡ record c { binds = filter (λ b. not (eqb b.driver s.driver && eqb b.minor s.minor)) c.binds } → r ≡ Done [] → outcome drivers c process (command.Unbind fd) ≡ Ok (new, r)
-unbind_does drivers c process fd s new r idle clean e there is none = rw (e, there, is, none) (idle c rest (fewer_binds drivers c other clean) refl) where
-  other : Binding → Bool
-  other b = not (eqb b.driver s.driver && eqb b.minor s.minor)
+    → new ≡ record c { binds = filter (λ b. not (eqb b.driver s.driver && eqb b.minor s.minor)) c.binds } → r ≡ Done []
+    → outcome drivers c process (command.Unbind fd) ≡ Ok (new, r)
+unbind_does drivers c process fd s new r idle clean e there is none =
+    rw (e, there, is, none) (idle c rest (fewer_binds drivers c other clean) refl) where
+      other : Binding → Bool
+      other b = not (eqb b.driver s.driver && eqb b.minor s.minor)
 
-  rest : Configuration
-  rest = record c { binds = filter other c.binds }
+      rest : Configuration
+      rest = record c { binds = filter other c.binds }
 
-pub unroute_does : (drivers : List DriverSpec) (c : Configuration) (process fd addr : ℕ) (s : StreamId) (new : Configuration) (r : Reply) → IdleDropsNone drivers → IsSwept drivers c → mux_stream drivers c process fd ≡ Ok s
+-- an unroute that is not refused takes its driver's route for the address away, and drops no message
+pub unroute_does : (drivers : List DriverSpec) (c : Configuration) (process fd addr : ℕ) (s : StreamId)
+    (new : Configuration) (r : Reply) → IdleDropsNone drivers → IsSwept drivers c
+    → mux_stream drivers c process fd ≡ Ok s
     → refuse Unrouted (not (list_any (λ x. eqb x.driver s.driver && eqb x.addr addr) c.routes)) ≡ Ok tt
-    → new ≡ record c { routes = filter (λ x. not (eqb x.driver s.driver && eqb x.addr addr)) c.routes } → r ≡ Done [] → outcome drivers c process (command.Unroute fd addr) ≡ Ok (new, r)
-unroute_does drivers c process fd addr s new r idle clean e there is none = rw (e, there, is, none) (idle c rest (other_routes drivers c rest.routes clean) refl) where
-  rest : Configuration
-  rest = record c { routes = filter (λ x. not (eqb x.driver s.driver && eqb x.addr addr)) c.routes }
+    → new ≡ record c { routes = filter (λ x. not (eqb x.driver s.driver && eqb x.addr addr)) c.routes } → r ≡ Done []
+    → outcome drivers c process (command.Unroute fd addr) ≡ Ok (new, r)
+unroute_does drivers c process fd addr s new r idle clean e there is none =
+    rw (e, there, is, none) (idle c rest (other_routes drivers c rest.routes clean) refl) where
+      rest : Configuration
+      rest = record c { routes = filter (λ x. not (eqb x.driver s.driver && eqb x.addr addr)) c.routes }
 
 -- ---- a hangup
 
 -- the stream that a device's command names exists
-pub leaf_exists : (drivers : List DriverSpec) (c : Configuration) (name : List ℕ) (minor : ℕ) (s : StreamId) → leaf_stream drivers c name minor ≡ Ok s → exists drivers c s ≡ true
+pub leaf_exists : (drivers : List DriverSpec) (c : Configuration) (name : List ℕ) (minor : ℕ) (s : StreamId)
+    → leaf_stream drivers c name minor ≡ Ok s → exists drivers c s ≡ true
 leaf_exists drivers c name minor s h = named (driver_of drivers name) h where
-  named : (o : Result ℕ Fault) → (o >>= (λ n. refuse NoDriver (is_mux drivers n) >>= (λ leaf. refuse NoMinor (not (exists drivers c (record { driver = n; minor = minor }))) >>= (λ there. Ok (record { driver = n; minor = minor }))))) ≡ Ok s → exists drivers c s ≡ true
+  named : (o : Result ℕ Fault)
+      → (o >>= (λ n. refuse NoDriver
+      (is_mux drivers n) >>= (λ leaf. refuse NoMinor
+      (not (exists drivers c (record { driver = n; minor = minor }))) >>= (λ there.
+      Ok (record { driver = n; minor = minor }))))) ≡ Ok s → exists drivers c s ≡ true
   named (Err f) e = absurd cc
   named (Ok n) e = elim (cases_Bool (is_mux drivers n)) [
     | inl t ↦ let k : Err NoDriver ≡ Ok s = rw t at e in absurd cc
     | inr f ↦ elim (cases_Bool (exists drivers c (record { driver = n; minor = minor }))) [
-      | inl t ↦ let k : Ok (record { driver = n; minor = minor }) ≡ Ok s = rw (f, t) at e in let same : ◌≡◌ {A = StreamId} (record { driver = n; minor = minor }) s = cc in ap (exists drivers c) (sym same) ∙ t
+      | inl t ↦ let k : Ok (record { driver = n; minor = minor }) ≡ Ok s = rw (f, t) at e in
+          let same : ◌≡◌ {A = StreamId} (record { driver = n; minor = minor }) s =
+          cc in ap (exists drivers c) (sym same) ∙ t
       | inr g ↦ let k : Err NoMinor ≡ Ok s = rw (f, g) at e in absurd cc
     ]
   ]
 
-one_more_hung : (drivers : List DriverSpec) (c : Configuration) (s : StreamId) → exists drivers c s ≡ true → IsSwept drivers c → IsSwept drivers (record c { hungs = with_hung s c.hungs })
-one_more_hung drivers c s there h = record { links = h.links; binds = h.binds; flow = h.flow; fulls = h.fulls; hungs = all_hung (is_hung c.hungs s) } where
-  all_hung : (b : Bool) → list_all (exists drivers c) (if b then c.hungs else with_inserted stream_before c.hungs s) ≡ true
+one_more_hung : (drivers : List DriverSpec) (c : Configuration) (s : StreamId) → exists drivers c s ≡ true
+    → IsSwept drivers c → IsSwept drivers (record c { hungs = with_hung s c.hungs })
+one_more_hung drivers c s there h = record {
+  links = h.links;
+  binds = h.binds;
+  flow = h.flow;
+  fulls = h.fulls;
+  hungs = all_hung (is_hung c.hungs s);
+} where
+  all_hung : (b : Bool) → list_all (exists drivers c) (if b then c.hungs else with_inserted stream_before c.hungs s)
+      ≡ true
   all_hung true = h.hungs
   all_hung false = all_inserted stream_before (exists drivers c) c.hungs s there h.hungs
 
-pub hangup_does : (drivers : List DriverSpec) (c : Configuration) (process : ℕ) (name : List ℕ) (minor : ℕ) (s : StreamId) (new : Configuration) (r : Reply) → IdleDropsNone drivers → IsSwept drivers c → leaf_stream drivers c name minor ≡ Ok s
-    → new ≡ record c { hungs = with_hung s c.hungs } → r ≡ Done [] → outcome drivers c process (command.Hangup name minor) ≡ Ok (new, r)
-hangup_does drivers c process name minor s new r idle clean e is none = rw (e, is, none) (idle c (record c { hungs = with_hung s c.hungs }) (one_more_hung drivers c s (leaf_exists drivers c name minor s e) clean) refl)
+-- a hangup that is not refused hangs its stream up, and drops no message
+pub hangup_does : (drivers : List DriverSpec) (c : Configuration) (process : ℕ) (name : List ℕ) (minor : ℕ)
+    (s : StreamId) (new : Configuration) (r : Reply) → IdleDropsNone drivers → IsSwept drivers c
+    → leaf_stream drivers c name minor ≡ Ok s
+    → new ≡ record c { hungs = with_hung s c.hungs } → r ≡ Done []
+    → outcome drivers c process (command.Hangup name minor) ≡ Ok (new, r)
+hangup_does drivers c process name minor s new r idle clean e is none = rw (e, is, none)
+    (idle c (record c { hungs = with_hung s c.hungs })
+    (one_more_hung drivers c s (leaf_exists drivers c name minor s e) clean) refl)
 
 -- ---- both kinds of links at once
 
-pub unlink_is : (drivers : List DriverSpec) (c : Configuration) (process fd : ℕ) (w : Which) → outcome drivers c process (command.Unlink fd w) ≡ unlinks drivers c process fd w kind.Ordinary
+-- the outcome of unlink is that of an unlinking of ordinary links
+pub unlink_is : (drivers : List DriverSpec) (c : Configuration) (process fd : ℕ) (w : Which)
+    → outcome drivers c process (command.Unlink fd w) ≡ unlinks drivers c process fd w kind.Ordinary
 unlink_is drivers c process fd which.All = refl
 unlink_is drivers c process fd (which.Id id) = refl
 
-pub punlink_is : (drivers : List DriverSpec) (c : Configuration) (process fd : ℕ) (w : Which) → outcome drivers c process (command.Punlink fd w) ≡ unlinks drivers c process fd w kind.Persistent
+-- the outcome of punlink is that of an unlinking of persistent links
+pub punlink_is : (drivers : List DriverSpec) (c : Configuration) (process fd : ℕ) (w : Which)
+    → outcome drivers c process (command.Punlink fd w) ≡ unlinks drivers c process fd w kind.Persistent
 punlink_is drivers c process fd which.All = refl
 punlink_is drivers c process fd (which.Id id) = refl

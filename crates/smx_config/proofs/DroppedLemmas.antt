@@ -13,6 +13,11 @@ as_many (n ∷ ns) = omega (arith, longer_by_one ltb (in_rising_order ns) _ n re
 
 -- no more serials leave a flow than are in it
 pub few_left : (old new : List QueuedMessage) → length (serials_that_left old new) ≤ length old
-few_left old new = omega (arith, as_many (filter is_gone (serials old)), not_more is_gone (serials old) _ refl, length-map old (λ (h : QueuedMessage). h.message.serial)) where
+few_left old new = omega (
+  arith,
+  as_many (filter is_gone (serials old)),
+  not_more is_gone (serials old) _ refl,
+  length-map old (λ (h : QueuedMessage). h.message.serial),
+) where
   is_gone : ℕ → Bool
   is_gone n = not (list_any (λ m. eqb n m) (serials new))

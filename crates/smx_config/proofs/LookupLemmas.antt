@@ -1,5 +1,6 @@
 -- What a leaf stream's words come to, and whether anything is found.
-use Rattle.std.proofs.Common.{◌≡◌, ℕ, Bool, true, false, not, List, [], ◌∷◌, find, Ok, Err, refl, sym, ap, ◌∙◌, inl, inr}
+use Rattle.std.proofs.Common.{◌≡◌, ℕ, Bool, true, false, not, List, [], ◌∷◌, find, Ok, Err, refl, sym, ap, ◌∙◌, inl}
+use Rattle.std.proofs.Common.{inr}
 use Rattle.std.specs.List.{list_any}
 use Rattle.std.specs.Option.{is_some}
 use Rattle.std.proofs.lemmas.Bool.{cases_Bool}
@@ -17,7 +18,10 @@ pub not_refused : (f : Fault) (test : Bool) → refuse f test ≡ Ok tt → test
 not_refused f true h = absurd cc
 not_refused f false h = refl
 
-pub no_leaf : (drivers : List DriverSpec) (c : Configuration) (name : List ℕ) (n minor : ℕ) → driver_of drivers name ≡ Ok n → is_mux drivers n ≡ false → exists drivers c (record { driver = n; minor = minor }) ≡ false
+-- a leaf driver's stream that doesn't exist is refused with `NoMinor`
+pub no_leaf : (drivers : List DriverSpec) (c : Configuration) (name : List ℕ) (n minor : ℕ)
+    → driver_of drivers name ≡ Ok n → is_mux drivers n ≡ false
+    → exists drivers c (record { driver = n; minor = minor }) ≡ false
     → Err NoMinor ≡ leaf_stream drivers c name minor
 no_leaf drivers c name n minor e m x = rw (e, m, x) refl
 
@@ -27,6 +31,7 @@ found_any test [] = refl
 found_any test (x ∷ xs) = elim (cases_Bool (test x)) [ inl t ↦ rw t refl | inr f ↦ rw f (found_any test xs) ]
 
 -- nothing is found where none passes
-pub none_found : {X : Type 0} (test : X → Bool) (xs : List X) (none : Bool) → is_some (find test xs) ≡ not none → none ≡ not (list_any test xs)
+pub none_found : {X : Type 0} (test : X → Bool) (xs : List X) (none : Bool) → is_some (find test xs) ≡ not none
+    → none ≡ not (list_any test xs)
 none_found test xs true h = ap not (sym h ∙ found_any test xs)
 none_found test xs false h = ap not (sym h ∙ found_any test xs)

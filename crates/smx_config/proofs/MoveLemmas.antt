@@ -10,9 +10,12 @@ use Rattle.smx_queues.specs.FlowTables.{FlowLists, after_arrival, after_leaving}
 abbrev pub IsMoved : FlowLists → FlowLists → Place → Place → Type 0
 IsMoved t q from to = (m : Message) → first_message t.flow from ≡ Some m → q ≡ after_arrival (after_leaving t from) to m
 
-drivers_by : (t q : FlowLists) (from to : Place) (o : Option Message) → first_message t.flow from ≡ o → IsSome o → IsMoved t q from to → q.drivers ≡ t.drivers
+drivers_by : (t q : FlowLists) (from to : Place) (o : Option Message) → first_message t.flow from ≡ o → IsSome o
+    → IsMoved t q from to → q.drivers ≡ t.drivers
 drivers_by t q from to None first some moved = absurd cc
 drivers_by t q from to (Some m) first some moved = ap (λ (x : FlowLists). x.drivers) (moved m first)
 
-pub drivers_moved : (t q : FlowLists) (from to : Place) → IsSome (first_message t.flow from) → IsMoved t q from to → q.drivers ≡ t.drivers
+-- a move in the table of queues leaves its drivers as they were
+pub drivers_moved : (t q : FlowLists) (from to : Place) → IsSome (first_message t.flow from) → IsMoved t q from to
+    → q.drivers ≡ t.drivers
 drivers_moved t q from to some moved = drivers_by t q from to (first_message t.flow from) refl some moved

@@ -1,5 +1,6 @@
 -- The least place with a run mark, and what is left of the marks where it can't be moved from.
-use Rattle.std.proofs.Common.{◌≡◌, ℕ, zero, suc, ◌≤◌, Bool, true, false, cond, List, [], ◌∷◌, find, Option, Some, None, refl, sym, ap, ◌∙◌, subst, arith, inl, inr}
+use Rattle.std.proofs.Common.{◌≡◌, ℕ, zero, suc, ◌≤◌, Bool, true, false, cond, List, [], ◌∷◌, find, Option, Some, None}
+use Rattle.std.proofs.Common.{refl, sym, ap, ◌∙◌, subst, arith, inl, inr}
 use Rattle.std.specs.Prelude.{◌≢◌, ◌⊎◌, IfNone}
 use Rattle.std.specs.List.{AllByRecursion, list_any}
 use Rattle.std.specs.Option.{is_some, option_map}
@@ -25,50 +26,64 @@ use Rattle.smx_tables.proofs.DriverListLemmas.{minors_within}
 use Rattle.smx_tables.proofs.PlaceLemmas.{place_is}
 
 -- what is settled has nothing to move
-none_found : (t : Place → Bool) (flow : List QueuedMessage) → ((p : Place) → t p ≡ false) → find (λ h. t h.place) flow ≡ None
+none_found : (t : Place → Bool) (flow : List QueuedMessage) → ((p : Place) → t p ≡ false)
+    → find (λ h. t h.place) flow ≡ None
 none_found t [] f = refl
 none_found t (h ∷ hs) f = rw (f h.place) (none_found t hs f)
 
+-- in a settled configuration there is no least movable place
 pub least_none : (drivers : List DriverSpec) (c : Configuration) → IsSettled drivers c → least_movable drivers c ≡ None
 least_none drivers c s = ap (option_map (λ (h : QueuedMessage). h.place)) (none_found (is_movable drivers c) c.flow s)
 
 -- where it is settled there is no least move
-pub none_left : (drivers : List DriverSpec) (c : Configuration) (r : Option Move) (P : Type 0) → IsSettled drivers c → IsLeastMove drivers c r → IfNone r P → P
+pub none_left : (drivers : List DriverSpec) (c : Configuration) (r : Option Move) (P : Type 0) → IsSettled drivers c
+    → IsLeastMove drivers c r → IfNone r P → P
 none_left drivers c None P s least none = none
 none_left drivers c (Some m) P s least none = let e = least_none drivers c s in absurd (apart (sym e ∙ least.0)) where
   apart : ◌≡◌ {A = Option Place} None (Some m.from) → ⊥
   apart k = cc
 
 -- where a first message goes, unless that is full, is where it may go on to
-pub open_of_next : (drivers : List DriverSpec) (c : Configuration) (p : Place) → next_open_place drivers c p ≡ if_open c (next_of_first drivers c p)
+pub open_of_next : (drivers : List DriverSpec) (c : Configuration) (p : Place)
+    → next_open_place drivers c p ≡ if_open c (next_of_first drivers c p)
 open_of_next drivers c p = by (first_message c.flow p) where
-  by : (o : Option Message) → (o >>= (λ m. next_place drivers c p m.addr >>= (λ q. cond (is_full c q) None (Some q)))) ≡ if_open c (next_of drivers c p o)
+  by : (o : Option Message) → (o >>= (λ m. next_place drivers c p m.addr >>= (λ q. cond (is_full c q) None (Some q))))
+      ≡ if_open c (next_of drivers c p o)
   by None = refl
   by (Some m) = refl
 
-pub moves_to : (drivers : List DriverSpec) (c : Configuration) (p q : Place) (next : Option Place) → next ≡ next_of_first drivers c p → Some q ≡ if_open c next → next_open_place drivers c p ≡ Some q
+-- a first message whose next place isn't full may go on to that
+pub moves_to : (drivers : List DriverSpec) (c : Configuration) (p q : Place) (next : Option Place)
+    → next ≡ next_of_first drivers c p → Some q ≡ if_open c next → next_open_place drivers c p ≡ Some q
 moves_to drivers c p q next is e = open_of_next drivers c p ∙ (ap (if_open c) (sym is) ∙ sym e)
 
-pub movable_to : (drivers : List DriverSpec) (c : Configuration) (p q : Place) → next_open_place drivers c p ≡ Some q → is_movable drivers c p ≡ true
+-- a place whose first message may go on to another is movable
+pub movable_to : (drivers : List DriverSpec) (c : Configuration) (p q : Place) → next_open_place drivers c p ≡ Some q
+    → is_movable drivers c p ≡ true
 movable_to drivers c p q e = ap (λ (o : Option Place). is_some o) e
 
 -- a place that is not open is full
-pub not_open : (c : Configuration) (q : Place) (next : Option Place) → next ≡ Some q → if_open c next ≡ None → is_full c q ≡ true
+pub not_open : (c : Configuration) (q : Place) (next : Option Place) → next ≡ Some q → if_open c next ≡ None
+    → is_full c q ≡ true
 not_open c q next is e = by (is_full c q) (subst (λ (o : Option Place). if_open c o ≡ None) is e) where
   by : (b : Bool) → cond b None (Some q) ≡ None → b ≡ true
   by true h = refl
   by false h = absurd cc
 
 -- a place from which a message goes next has one
-pub next_has_message : (drivers : List DriverSpec) (c : Configuration) (p q : Place) → next_of_first drivers c p ≡ Some q → first_message c.flow p ≢ None
+pub next_has_message : (drivers : List DriverSpec) (c : Configuration) (p q : Place)
+    → next_of_first drivers c p ≡ Some q → first_message c.flow p ≢ None
 next_has_message drivers c p q e none = nowhere (sym (ap (next_of drivers c p) none) ∙ e) where
   nowhere : ◌≡◌ {A = Option Place} None (Some q) → ⊥
   nowhere k = cc
 
-pub open_has_message : (drivers : List DriverSpec) (c : Configuration) (p q : Place) → next_open_place drivers c p ≡ Some q → first_message c.flow p ≢ None
-open_has_message drivers c p q e none = nowhere (sym (open_of_next drivers c p ∙ ap (λ (o : Option Message). if_open c (next_of drivers c p o)) none) ∙ e) where
-  nowhere : ◌≡◌ {A = Option Place} None (Some q) → ⊥
-  nowhere k = cc
+-- a place whose first message may go on to another has one
+pub open_has_message : (drivers : List DriverSpec) (c : Configuration) (p q : Place)
+    → next_open_place drivers c p ≡ Some q → first_message c.flow p ≢ None
+open_has_message drivers c p q e none = nowhere
+    (sym (open_of_next drivers c p ∙ ap (λ (o : Option Message). if_open c (next_of drivers c p o)) none) ∙ e) where
+      nowhere : ◌≡◌ {A = Option Place} None (Some q) → ⊥
+      nowhere k = cc
 
 -- ---- a run mark is cleared
 
@@ -76,8 +91,12 @@ next_is : (o : Option Place) (q : Place) → is_one_of (λ x. same_place x q) o 
 next_is None q h = absurd (false≢true h)
 next_is (Some x) q h = ap (λ (y : Place). Some y) (place_is x q h)
 
-pub is_cleared : (drivers : List DriverSpec) (c : Configuration) (p : Place) (next : Option Place) (old new : Marks) → IsLeastMarked (has_mark old.run) p → next ≡ next_of_first drivers c p → if_open c next ≡ None
-    → ((q : Place) → has_mark new.run q ≡ all_but (has_mark old.run) p q) → ((q : Place) → has_mark old.wanted q ≡ true → has_mark new.wanted q ≡ true) → ((q : Place) → next ≡ Some q → has_mark new.wanted q ≡ true)
+-- where the least marked place isn't movable, it is cleared: its run mark goes, and its next place is wanted
+pub is_cleared : (drivers : List DriverSpec) (c : Configuration) (p : Place) (next : Option Place) (old new : Marks)
+    → IsLeastMarked (has_mark old.run) p → next ≡ next_of_first drivers c p → if_open c next ≡ None
+    → ((q : Place) → has_mark new.run q ≡ all_but (has_mark old.run) p q)
+    → ((q : Place) → has_mark old.wanted q ≡ true → has_mark new.wanted q ≡ true)
+    → ((q : Place) → next ≡ Some q → has_mark new.wanted q ≡ true)
     → IsCleared drivers p (marked_configuration c old) (marked_configuration c new)
 is_cleared drivers c p next old new least is stays gone kept there = record {
   least = least;
@@ -86,7 +105,8 @@ is_cleared drivers c p next old new least is stays gone kept there = record {
   run = gone;
   wanted = λ q h. elim (cases_Bool (has_mark old.wanted q)) [
     | inl t ↦ kept q t
-    | inr f ↦ let k : is_next_of_first drivers c p q ≡ true = rw f at h in there q (is ∙ next_is (next_of_first drivers c p) q k)
+    | inr f ↦ let k : is_next_of_first drivers c p q ≡ true = rw f at h in
+        there q (is ∙ next_is (next_of_first drivers c p) q k)
   ];
 }
 
@@ -95,27 +115,36 @@ pub record IsNoted (drivers : List DriverSpec) (c : Configuration) (old new : Ma
   pub held_up : (p q : Place) → has_mark new.run p ≡ false → next_of_first drivers c p ≡ Some q → IsNotedFor new p q
   pub same_drivers : new.waits.drivers ≡ old.waits.drivers
 
-still_run : (old new : MarkList) (p q : Place) → ((r : Place) → has_mark new r ≡ all_but (has_mark old) p r) → same_place p q ≡ false → has_mark new q ≡ false → has_mark old q ≡ false
+still_run : (old new : MarkList) (p q : Place) → ((r : Place) → has_mark new r ≡ all_but (has_mark old) p r)
+    → same_place p q ≡ false → has_mark new q ≡ false → has_mark old q ≡ false
 still_run old new p q gone other clear = elim (cases_Bool (has_mark old q)) [
   | inl t ↦ absurd (false≢true (sym clear ∙ (gone q ∙ rw t (rw other refl))))
   | inr f ↦ f
 ]
 
 -- the place whose mark is cleared is noted, and the others are as before
-pub noted : (drivers : List DriverSpec) (c : Configuration) (p : Place) (next : Option Place) (old new : Marks) → AreMarks drivers c old → next ≡ next_of_first drivers c p → ((q : Place) → has_mark new.run q ≡ all_but (has_mark old.run) p q)
-    → ((q : Place) → next ≡ Some q → IsNotedFor new p q) → ((q : Place) → same_place p q ≡ false → target_of new.waits q ≡ target_of old.waits q)
+pub noted : (drivers : List DriverSpec) (c : Configuration) (p : Place) (next : Option Place) (old new : Marks)
+    → AreMarks drivers c old → next ≡ next_of_first drivers c p
+    → ((q : Place) → has_mark new.run q ≡ all_but (has_mark old.run) p q)
+    → ((q : Place) → next ≡ Some q → IsNotedFor new p q)
+    → ((q : Place) → same_place p q ≡ false → target_of new.waits q ≡ target_of old.waits q)
     → new.waits.drivers ≡ old.waits.drivers → IsNoted drivers c old new
 noted drivers c p next old new h is gone there others same = record {
   held_up = λ r q clear e. elim (cases_Bool (same_place p r)) [
-    | inl here ↦ let k = place_is p r here in subst (λ (x : Place). IsNotedFor new x q) k (there q (is ∙ subst (λ (x : Place). next_of_first drivers c x ≡ Some q) (sym k) e))
+    | inl here ↦ let k = place_is p r here in
+        subst (λ (x : Place). IsNotedFor new x q) k
+        (there q (is ∙ subst (λ (x : Place). next_of_first drivers c x ≡ Some q) (sym k) e))
     | inr other ↦ others r other ∙ h.held_up r q (still_run old.run new.run p r gone other clear) e
   ];
   same_drivers = same;
 }
 
 -- what is left of the marks
-pub cleared_marks : (drivers : List DriverSpec) (c : Configuration) (next : Option Place) (old new : Marks) → AreMarks drivers c old → HasItsMarks drivers (marked_configuration c new) → if_open c next ≡ None
-    → ((q : Place) → has_mark new.wanted q ≡ true → (has_mark old.wanted q ≡ true) ⊎ (next ≡ Some q)) → new.run.drivers ≡ old.run.drivers → new.wanted.drivers ≡ old.wanted.drivers → IsNoted drivers c old new → AreMarks drivers c new
+pub cleared_marks : (drivers : List DriverSpec) (c : Configuration) (next : Option Place) (old new : Marks)
+    → AreMarks drivers c old → HasItsMarks drivers (marked_configuration c new) → if_open c next ≡ None
+    → ((q : Place) → has_mark new.wanted q ≡ true → (has_mark old.wanted q ≡ true) ⊎ (next ≡ Some q))
+    → new.run.drivers ≡ old.run.drivers → new.wanted.drivers ≡ old.wanted.drivers → IsNoted drivers c old new
+    → AreMarks drivers c new
 cleared_marks drivers c next old new h waiting stays few run wanted noted = record {
   few = h.few;
   run = run ∙ h.run;
@@ -127,7 +156,9 @@ cleared_marks drivers c next old new h waiting stays few run wanted noted = reco
 }
 
 -- a place without messages waits, so its mark may go
-pub emptied_marks : (drivers : List DriverSpec) (c : Configuration) (p : Place) (old new : Marks) → first_message c.flow p ≡ None → AreMarks drivers c old → ((q : Place) → has_mark new.run q ≡ all_but (has_mark old.run) p q)
+pub emptied_marks : (drivers : List DriverSpec) (c : Configuration) (p : Place) (old new : Marks)
+    → first_message c.flow p ≡ None → AreMarks drivers c old
+    → ((q : Place) → has_mark new.run q ≡ all_but (has_mark old.run) p q)
     → new.run.drivers ≡ old.run.drivers → new.wanted ≡ old.wanted → new.waits ≡ old.waits → AreMarks drivers c new
 emptied_marks drivers c p old new none h gone run wanted waits = record {
   few = h.few;
@@ -141,18 +172,22 @@ emptied_marks drivers c p old new none h gone run wanted waits = record {
   waits = ap (λ (t : WaitList). t.drivers) waits ∙ h.waits;
   held_up = λ r q clear e. elim (cases_Bool (same_place p r)) [
     | inl here ↦ absurd (no_place q (sym (nowhere_next r here) ∙ e))
-    | inr other ↦ subst (λ (t : WaitList). target_of t r ≡ Some q) (sym waits) (h.held_up r q (still_run old.run new.run p r gone other clear) e)
+    | inr other ↦ subst (λ (t : WaitList). target_of t r ≡ Some q) (sym waits)
+        (h.held_up r q (still_run old.run new.run p r gone other clear) e)
   ];
 } where
   no_place : (q : Place) → ◌≡◌ {A = Option Place} None (Some q) → ⊥
   no_place q k = cc
 
   nowhere_next : (q : Place) → same_place p q ≡ true → next_of_first drivers c q ≡ None
-  nowhere_next q here = ap (next_of drivers c q) (subst (λ (x : Place). first_message c.flow x ≡ None) (place_is p q here) none)
+  nowhere_next q here =
+      ap (next_of drivers c q) (subst (λ (x : Place). first_message c.flow x ≡ None) (place_is p q here) none)
 
 -- a place with a run mark, or without messages, need not be noted
-pub forgotten : (drivers : List DriverSpec) (c : Configuration) (p : Place) (old new : Marks) → AreMarks drivers c old → (has_mark old.run p ≡ true) ⊎ (first_message c.flow p ≡ None) → new.run ≡ old.run → new.wanted ≡ old.wanted
-    → ((q : Place) → same_place p q ≡ false → target_of new.waits q ≡ target_of old.waits q) → new.waits.drivers ≡ old.waits.drivers → AreMarks drivers c new
+pub forgotten : (drivers : List DriverSpec) (c : Configuration) (p : Place) (old new : Marks) → AreMarks drivers c old
+    → (has_mark old.run p ≡ true) ⊎ (first_message c.flow p ≡ None) → new.run ≡ old.run → new.wanted ≡ old.wanted
+    → ((q : Place) → same_place p q ≡ false → target_of new.waits q ≡ target_of old.waits q)
+    → new.waits.drivers ≡ old.waits.drivers → AreMarks drivers c new
 forgotten drivers c p old new h here run wanted others same = record {
   few = h.few;
   run = ap (λ (m : MarkList). m.drivers) run ∙ h.run;
@@ -171,32 +206,45 @@ forgotten drivers c p old new h here run wanted others same = record {
   not_it : (r q : Place) → p ≡ r → has_mark old.run r ≡ false → next_of_first drivers c r ≡ Some q → ⊥
   not_it r q k clear e = elim here [
     | inl marked ↦ false≢true (sym clear ∙ subst (λ (x : Place). has_mark old.run x ≡ true) k marked)
-    | inr none ↦ no_place q (sym (ap (next_of drivers c r) (subst (λ (x : Place). first_message c.flow x ≡ None) k none)) ∙ e)
+    | inr none ↦
+        no_place q (sym (ap (next_of drivers c r) (subst (λ (x : Place). first_message c.flow x ≡ None) k none)) ∙ e)
   ]
 
 -- ---- the place that is waited for
 
-pub few_wanted : (to q : Place) (old new : MarkList) (next : Option Place) → next ≡ Some to → (same_place to q ≡ false → has_mark new q ≡ has_mark old q) → has_mark new q ≡ true → (has_mark old q ≡ true) ⊎ (next ≡ Some q)
+-- where no mark but that of the next place may be new, each wanted place was wanted before, or is the next one
+pub few_wanted : (to q : Place) (old new : MarkList) (next : Option Place) → next ≡ Some to
+    → (same_place to q ≡ false → has_mark new q ≡ has_mark old q) → has_mark new q ≡ true
+    → (has_mark old q ≡ true) ⊎ (next ≡ Some q)
 few_wanted to q old new next is others h = elim (cases_Bool (same_place to q)) [
   | inl t ↦ inr (is ∙ ap (λ (x : Place). Some x) (place_is to q t))
   | inr f ↦ inl (sym (others f) ∙ h)
 ]
 
-pub there_too : (to q : Place) (m : MarkList) (next : Option Place) (drivers : List DriverSpec) → next ≡ Some to → (IsKnown drivers to.stream → has_mark m to ≡ true) → next ≡ Some q → IsKnown drivers q.stream → has_mark m q ≡ true
-there_too to q m next drivers is here at known = let e : to ≡ q = same (sym is ∙ at) in subst (λ (x : Place). has_mark m x ≡ true) e (here (subst (λ (x : Place). IsKnown drivers x.stream) (sym e) known)) where
-  same : ◌≡◌ {A = Option Place} (Some to) (Some q) → to ≡ q
-  same e = cc
+-- where the next place has a mark if its stream is known, so has any place that is the next one
+pub there_too : (to q : Place) (m : MarkList) (next : Option Place) (drivers : List DriverSpec) → next ≡ Some to
+    → (IsKnown drivers to.stream → has_mark m to ≡ true) → next ≡ Some q → IsKnown drivers q.stream
+    → has_mark m q ≡ true
+there_too to q m next drivers is here at known = let e : to ≡ q = same (sym is ∙ at) in
+    subst (λ (x : Place). has_mark m x ≡ true) e
+    (here (subst (λ (x : Place). IsKnown drivers x.stream) (sym e) known)) where
+      same : ◌≡◌ {A = Option Place} (Some to) (Some q) → to ≡ q
+      same e = cc
 
 -- ---- at first
 
-few_of : (drivers : List DriverSpec) → AllByRecursion (λ d. d.minors ≤ MAX_MINORS) drivers → (n : ℕ) → minors_of drivers n ≤ 64
+few_of : (drivers : List DriverSpec) → AllByRecursion (λ d. d.minors ≤ MAX_MINORS) drivers → (n : ℕ)
+    → minors_of drivers n ≤ 64
 few_of [] h n = omega arith
 few_of (d ∷ ds) h zero = h.0
 few_of (d ∷ ds) h (suc n) = few_of ds h.1 n
 
 -- no marks beside the empty configuration
-pub marks_at_first : (drivers given : List DriverSpec) (c : Configuration) (m : Marks) → given ≡ drivers → IsDriverList drivers → c ≡ empty → m.run.drivers ≡ drivers → m.wanted.drivers ≡ drivers → m.waits.drivers ≡ drivers → m.run.marked ≡ [] → m.wanted.marked ≡ []
-    → IsAtRest drivers (record { configuration = empty; run = nowhere; wanted = nowhere }) → AreMarks given c m × IsAtRest given (marked_configuration c m)
+pub marks_at_first : (drivers given : List DriverSpec) (c : Configuration) (m : Marks) → given ≡ drivers
+    → IsDriverList drivers → c ≡ empty → m.run.drivers ≡ drivers → m.wanted.drivers ≡ drivers
+    → m.waits.drivers ≡ drivers → m.run.marked ≡ [] → m.wanted.marked ≡ []
+    → IsAtRest drivers (record { configuration = empty; run = nowhere; wanted = nowhere })
+    → AreMarks given c m × IsAtRest given (marked_configuration c m)
 marks_at_first drivers given c m same can none run wanted waits no_run no_wanted rest =
     let at_rest = none_marked in
     let here : AreMarks drivers c m = record {
@@ -206,15 +254,39 @@ marks_at_first drivers given c m same can none run wanted waits no_run no_wanted
       waiting = at_rest.marks;
       full = λ p h. absurd (false≢true (sym (ap (list_any (same_place p)) no_wanted) ∙ h));
       waits = waits;
-      held_up = λ p q clear e. absurd (nothing p q (subst (λ (x : Configuration). next_of_first drivers x p ≡ Some q) none e));
+      held_up = λ p q clear e.
+          absurd (nothing p q (subst (λ (x : Configuration). next_of_first drivers x p ≡ Some q) none e));
     } in
-    subst (λ (ds : List DriverSpec). AreMarks ds c m × IsAtRest ds (marked_configuration c m)) (sym same) (here, at_rest) where
-      rested : (xs ys : List Place) → xs ≡ [] → ys ≡ [] → IsAtRest drivers (record { configuration = c; run = λ p. list_any (same_place p) xs; wanted = λ p. list_any (same_place p) ys })
+    subst (λ (ds : List DriverSpec). AreMarks ds c m × IsAtRest ds (marked_configuration c m)) (sym same)
+    (here, at_rest) where
+      rested : (xs ys : List Place) → xs ≡ [] → ys ≡ []
+          → IsAtRest drivers
+          (record {
+            configuration = c;
+            run = λ p. list_any (same_place p) xs;
+            wanted = λ p. list_any (same_place p) ys;
+          })
       rested xs ys e f =
-          let now : IsAtRest drivers (record { configuration = c; run = λ p. list_any (same_place p) []; wanted = λ p. list_any (same_place p) [] }) =
-          subst (λ (x : Configuration). IsAtRest drivers (record { configuration = x; run = nowhere; wanted = nowhere })) (sym none) rest in
-          subst (λ (zs : List Place). IsAtRest drivers (record { configuration = c; run = λ p. list_any (same_place p) zs; wanted = λ p. list_any (same_place p) ys })) (sym e)
-          (subst (λ (zs : List Place). IsAtRest drivers (record { configuration = c; run = λ p. list_any (same_place p) []; wanted = λ p. list_any (same_place p) zs })) (sym f) now)
+          let now : IsAtRest drivers
+          (record {
+            configuration = c;
+            run = λ p. list_any (same_place p) [];
+            wanted = λ p. list_any (same_place p) [];
+          }) =
+          subst (λ (x : Configuration). IsAtRest drivers
+          (record { configuration = x; run = nowhere; wanted = nowhere })) (sym none) rest in
+          subst (λ (zs : List Place). IsAtRest drivers
+          (record {
+            configuration = c;
+            run = λ p. list_any (same_place p) zs;
+            wanted = λ p. list_any (same_place p) ys;
+          })) (sym e)
+          (subst (λ (zs : List Place). IsAtRest drivers
+          (record {
+            configuration = c;
+            run = λ p. list_any (same_place p) [];
+            wanted = λ p. list_any (same_place p) zs;
+          })) (sym f) now)
 
       nothing : (p q : Place) → ◌≡◌ {A = Option Place} None (Some q) → ⊥
       nothing p q k = cc

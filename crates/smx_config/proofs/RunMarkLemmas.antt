@@ -1,9 +1,11 @@
 -- Places that are marked, one after another.
-use Rattle.std.proofs.Common.{◌≡◌, ℕ, ◌+◌, ◌<◌, Bool, true, false, ◌&&◌, ◌||◌, eqb, ltb, List, [], ◌∷◌, find, Option, Some, None, refl, sym, ap, ◌∙◌, subst, arith, inl, inr}
+use Rattle.std.proofs.Common.{◌≡◌, ℕ, ◌+◌, ◌<◌, Bool, true, false, ◌&&◌, ◌||◌, eqb, ltb, List, [], ◌∷◌, find, Option}
+use Rattle.std.proofs.Common.{Some, None, refl, sym, ap, ◌∙◌, subst, arith, inl, inr}
 use Rattle.std.specs.Prelude.{◌≢◌, ◌⊎◌}
 use Rattle.std.specs.List.{list_any}
 use Rattle.std.specs.Option.{option_map_or}
-use Rattle.std.proofs.lemmas.Bool.{and_from, and_parts, cases_Bool, cases_eq, eqb-true, eq-eqb, false≢true, lt-ltb, ltb-true}
+use Rattle.std.proofs.lemmas.Bool.{and_from, and_parts, cases_Bool, cases_eq, eqb-true, eq-eqb, false≢true, lt-ltb}
+use Rattle.std.proofs.lemmas.Bool.{ltb-true}
 use Rattle.smx_types.specs.declared.driver.DriverSpec.{DriverSpec}
 use Rattle.smx_types.specs.declared.link.Link.{Link}
 use Rattle.smx_types.specs.declared.stream.Place.{Place}
@@ -33,24 +35,33 @@ side_swap side.Write h = refl
 side_swap side.Read h = absurd (false≢true h)
 
 -- nothing is marked where no place with a message passes the test
-pub none_marked : (flow : List QueuedMessage) (test : Place → Bool) (m : MarkList) → ((p : Place) → test p ≡ true → first_message flow p ≡ None) → IsMarkedWhere flow test m m
-none_marked flow test m none = record { kept = λ p h. h; marked = λ p known some t. absurd (some (none p t)); drivers = refl }
+pub none_marked : (flow : List QueuedMessage) (test : Place → Bool) (m : MarkList)
+    → ((p : Place) → test p ≡ true → first_message flow p ≡ None) → IsMarkedWhere flow test m m
+none_marked flow test m none =
+    record { kept = λ p h. h; marked = λ p known some t. absurd (some (none p t)); drivers = refl }
 
 -- the place has no message
-pub no_message : (flow : List QueuedMessage) (place : Place) (m : MarkList) → None ≡ first_message flow place → IsMarkedWhere flow (same_place place) m m
-no_message flow place m none = none_marked flow (same_place place) m (λ p t. subst (λ (x : Place). first_message flow x ≡ None) (place_is place p t) (sym none))
+pub no_message : (flow : List QueuedMessage) (place : Place) (m : MarkList) → None ≡ first_message flow place
+    → IsMarkedWhere flow (same_place place) m m
+no_message flow place m none = none_marked flow (same_place place) m
+    (λ p t. subst (λ (x : Place). first_message flow x ≡ None) (place_is place p t) (sym none))
 
 -- a mark at the place
-pub one_marked : (flow : List QueuedMessage) (place : Place) (old new : MarkList) → (IsKnown old.drivers place.stream → has_mark new place ≡ true) → ((p : Place) → has_mark old p ≡ true → has_mark new p ≡ true) → new.drivers ≡ old.drivers
+pub one_marked : (flow : List QueuedMessage) (place : Place) (old new : MarkList)
+    → (IsKnown old.drivers place.stream → has_mark new place ≡ true)
+    → ((p : Place) → has_mark old p ≡ true → has_mark new p ≡ true) → new.drivers ≡ old.drivers
     → IsMarkedWhere flow (same_place place) old new
 one_marked flow place old new here kept same = record {
   kept = kept;
-  marked = λ p known some t. let e = place_is place p t in subst (λ (x : Place). has_mark new x ≡ true) e (here (subst (λ (x : Place). IsKnown old.drivers x.stream) (sym e) known));
+  marked = λ p known some t. let e = place_is place p t in
+      subst (λ (x : Place). has_mark new x ≡ true) e
+      (here (subst (λ (x : Place). IsKnown old.drivers x.stream) (sym e) known));
   drivers = same;
 }
 
 -- one marking after another
-pub both_marked : (flow : List QueuedMessage) (one other : Place → Bool) (old mid new : MarkList) → IsMarkedWhere flow one old mid → IsMarkedWhere flow other mid new → IsMarkedWhere flow (both one other) old new
+pub both_marked : (flow : List QueuedMessage) (one other : Place → Bool) (old mid new : MarkList)
+    → IsMarkedWhere flow one old mid → IsMarkedWhere flow other mid new → IsMarkedWhere flow (both one other) old new
 both_marked flow one other old mid new a b = record {
   kept = λ p h. b.kept p (a.kept p h);
   marked = λ p known some t. elim (cases_Bool (one p)) [
@@ -61,19 +72,25 @@ both_marked flow one other old mid new a b = record {
 }
 
 -- a test that fewer places pass
-pub fewer_marked : (flow : List QueuedMessage) (wide narrow : Place → Bool) (old new : MarkList) → ((p : Place) → narrow p ≡ true → wide p ≡ true) → IsMarkedWhere flow wide old new → IsMarkedWhere flow narrow old new
-fewer_marked flow wide narrow old new less h = record { kept = h.kept; marked = λ p known some t. h.marked p known some (less p t); drivers = h.drivers }
+pub fewer_marked : (flow : List QueuedMessage) (wide narrow : Place → Bool) (old new : MarkList)
+    → ((p : Place) → narrow p ≡ true → wide p ≡ true) → IsMarkedWhere flow wide old new
+    → IsMarkedWhere flow narrow old new
+fewer_marked flow wide narrow old new less h =
+    record { kept = h.kept; marked = λ p known some t. h.marked p known some (less p t); drivers = h.drivers }
 
 -- in the other order
-pub swapped : (flow : List QueuedMessage) (one other : Place → Bool) (old new : MarkList) → IsMarkedWhere flow (both one other) old new → IsMarkedWhere flow (both other one) old new
-swapped flow one other old new h = fewer_marked flow (both one other) (both other one) old new (λ p t. turn (one p) (other p) t) h where
-  turn : (a b : Bool) → (b || a) ≡ true → (a || b) ≡ true
-  turn true b t = refl
-  turn false true t = refl
-  turn false false t = t
+pub swapped : (flow : List QueuedMessage) (one other : Place → Bool) (old new : MarkList)
+    → IsMarkedWhere flow (both one other) old new → IsMarkedWhere flow (both other one) old new
+swapped flow one other old new h =
+    fewer_marked flow (both one other) (both other one) old new (λ p t. turn (one p) (other p) t) h where
+      turn : (a b : Bool) → (b || a) ≡ true → (a || b) ≡ true
+      turn true b t = refl
+      turn false true t = refl
+      turn false false t = t
 
 -- ---- the write sides of a driver
 
+-- the write sides of the driver's streams with minors below n
 abbrev pub writes_below : ℕ → ℕ → Place → Bool
 writes_below driver n p = is_write_of driver p && ltb p.stream.minor n
 
@@ -82,82 +99,121 @@ write_at driver minor = record { stream = record { driver = driver; minor = mino
 
 -- none is below 0
 pub no_writes : (flow : List QueuedMessage) (driver : ℕ) (m : MarkList) → IsMarkedWhere flow (writes_below driver 0) m m
-no_writes flow driver m = none_marked flow (writes_below driver 0) m (λ p t. let lt : p.stream.minor < 0 = ltb-true p.stream.minor 0 (and_parts (is_write_of driver p) _ t).1 in absurd (omega arith))
+no_writes flow driver m = none_marked flow (writes_below driver 0) m
+    (λ p t. let lt : p.stream.minor < 0 = ltb-true p.stream.minor 0 (and_parts (is_write_of driver p) _ t).1 in
+    absurd (omega arith))
 
 -- one minor more
-pub writes_more : (flow : List QueuedMessage) (driver n : ℕ) (old mid new : MarkList) → IsMarkedWhere flow (writes_below driver n) old mid → IsMarkedWhere flow (same_place (write_at driver n)) mid new
+pub writes_more : (flow : List QueuedMessage) (driver n : ℕ) (old mid new : MarkList)
+    → IsMarkedWhere flow (writes_below driver n) old mid → IsMarkedWhere flow (same_place (write_at driver n)) mid new
     → IsMarkedWhere flow (writes_below driver (n + 1)) old new
 writes_more flow driver n old mid new a b =
-    fewer_marked flow (both (writes_below driver n) (same_place (write_at driver n))) (writes_below driver (n + 1)) old new one_or_other (both_marked flow (writes_below driver n) (same_place (write_at driver n)) old mid new a b) where
-      one_or_other : (p : Place) → writes_below driver (n + 1) p ≡ true → both (writes_below driver n) (same_place (write_at driver n)) p ≡ true
+    fewer_marked flow (both (writes_below driver n) (same_place (write_at driver n)))
+    (writes_below driver (n + 1)) old new one_or_other
+    (both_marked flow (writes_below driver n) (same_place (write_at driver n)) old mid new a b) where
+      one_or_other : (p : Place) → writes_below driver (n + 1) p ≡ true
+          → both (writes_below driver n) (same_place (write_at driver n)) p ≡ true
       one_or_other p t =
           let parts = and_parts (is_write_of driver p) (ltb p.stream.minor (n + 1)) t in
           let write = and_parts (same_side p.side side.Write) (eqb p.stream.driver driver) parts.0 in
           let lt : p.stream.minor < n + 1 = ltb-true p.stream.minor (n + 1) parts.1 in
           elim (cases_eq p.stream.minor n) [
-            | inl same ↦ or_from_right (writes_below driver n p) _ (and_from _ _ (and_from _ _ (eqb_swap driver p.stream.driver ∙ write.1) (eq-eqb n p.stream.minor (sym same))) (side_swap p.side write.0))
+            | inl same ↦ or_from_right (writes_below driver n p) _
+                (and_from _ _ (and_from _ _ (eqb_swap driver p.stream.driver ∙ write.1)
+                (eq-eqb n p.stream.minor (sym same))) (side_swap p.side write.0))
             | inr other ↦ or_from_left _ _ (and_from _ _ parts.0 (lt-ltb p.stream.minor n (omega (arith, lt, other))))
           ]
 
 -- all that the driver has
-pub writes_all : (flow : List QueuedMessage) (driver n : ℕ) (drivers : List DriverSpec) (old new : MarkList) → old.drivers ≡ drivers → n ≡ minors_of drivers driver → IsMarkedWhere flow (writes_below driver n) old new → IsMarkedWhere flow (is_write_of driver) old new
+pub writes_all : (flow : List QueuedMessage) (driver n : ℕ) (drivers : List DriverSpec) (old new : MarkList)
+    → old.drivers ≡ drivers → n ≡ minors_of drivers driver → IsMarkedWhere flow (writes_below driver n) old new
+    → IsMarkedWhere flow (is_write_of driver) old new
 writes_all flow driver n drivers old new same many h = record {
   kept = h.kept;
   marked = λ p known some t.
-      let here : p.stream.driver ≡ driver = eqb-true p.stream.driver driver (and_parts (same_side p.side side.Write) _ t).1 in
-      let minors : minors_of old.drivers p.stream.driver ≡ n = ap (λ (ds : List DriverSpec). minors_of ds p.stream.driver) same ∙ (ap (minors_of drivers) here ∙ sym many) in
+      let here : p.stream.driver ≡ driver = eqb-true p.stream.driver driver
+      (and_parts (same_side p.side side.Write) _ t).1 in
+      let minors : minors_of old.drivers p.stream.driver
+      ≡ n = ap (λ (ds : List DriverSpec). minors_of ds p.stream.driver) same
+      ∙ (ap (minors_of drivers) here ∙ sym many) in
       h.marked p known some (and_from _ _ t (lt-ltb p.stream.minor n (omega (arith, known.1, minors))));
   drivers = h.drivers;
 }
 
 -- ---- the driver above a stream
 
-above_is : (links : List Link) (s : StreamId) (d : ℕ) (o : Option Link) → AreLowersApart links → find (λ l. same_stream l.lower s) links ≡ o → list_any (λ l. same_stream l.lower s && eqb l.ctl.driver d) links ≡ option_map_or (λ l. eqb l.ctl.driver d) o false
+above_is : (links : List Link) (s : StreamId) (d : ℕ) (o : Option Link) → AreLowersApart links
+    → find (λ l. same_stream l.lower s) links ≡ o → list_any (λ l. same_stream l.lower s && eqb l.ctl.driver d) links
+    ≡ option_map_or (λ l. eqb l.ctl.driver d) o false
 above_is links s d o apart e =
-    any_once (λ l. same_stream l.lower s) (λ l. eqb l.ctl.driver d) (λ l. same_stream l.lower s && eqb l.ctl.driver d) links (once_below s links apart) (λ l. refl) ∙ ap (λ (x : Option Link). option_map_or (λ l. eqb l.ctl.driver d) x false) e
+    any_once (λ l. same_stream l.lower s) (λ l. eqb l.ctl.driver d) (λ l. same_stream l.lower s && eqb l.ctl.driver d)
+    links (once_below s links apart) (λ l. refl)
+    ∙ ap (λ (x : Option Link). option_map_or (λ l. eqb l.ctl.driver d) x false) e
 
 -- ---- the read sides below a driver
 
-pub below_by : (c : Configuration) (p : Place) (l : Link) (driver : ℕ) → AreLowersApart c.links → Some l ≡ find (λ k. same_stream k.lower p.stream) c.links → p.side ≡ side.Read → eqb l.ctl.driver driver ≡ is_read_below_driver c driver p
+-- the read side of a stream with a link above is below a driver just where that link is the driver's
+pub below_by : (c : Configuration) (p : Place) (l : Link) (driver : ℕ) → AreLowersApart c.links
+    → Some l ≡ find (λ k. same_stream k.lower p.stream) c.links → p.side ≡ side.Read
+    → eqb l.ctl.driver driver ≡ is_read_below_driver c driver p
 below_by c p l driver apart e is = sym (rw is (above_is c.links p.stream driver (Some l) apart (sym e)))
 
-pub below_none : (c : Configuration) (p : Place) (driver : ℕ) → AreLowersApart c.links → None ≡ find (λ k. same_stream k.lower p.stream) c.links → false ≡ is_read_below_driver c driver p
-below_none c p driver apart e = sym (and_false (same_side p.side side.Read) (above_is c.links p.stream driver None apart (sym e))) where
-  and_false : (a : Bool) {b : Bool} → b ≡ false → (a && b) ≡ false
-  and_false true none = none
-  and_false false none = refl
+-- a place of a stream with no link above is no read side below a driver
+pub below_none : (c : Configuration) (p : Place) (driver : ℕ) → AreLowersApart c.links
+    → None ≡ find (λ k. same_stream k.lower p.stream) c.links → false ≡ is_read_below_driver c driver p
+below_none c p driver apart e =
+    sym (and_false (same_side p.side side.Read) (above_is c.links p.stream driver None apart (sym e))) where
+      and_false : (a : Bool) {b : Bool} → b ≡ false → (a && b) ≡ false
+      and_false true none = none
+      and_false false none = refl
 
-pub below_not : (c : Configuration) (p : Place) (driver : ℕ) → p.side ≡ side.Write → false ≡ is_read_below_driver c driver p
+-- a write side is no read side below a driver
+pub below_not : (c : Configuration) (p : Place) (driver : ℕ) → p.side ≡ side.Write
+    → false ≡ is_read_below_driver c driver p
 below_not c p driver is = rw is refl
 
--- what is marked of the first messages that were passed: of places that pass the test each has a mark, or is still to come
+-- what is marked of the first messages that were passed: of places that pass the test each has a mark, or is still to
+-- come
 pub record ArePassed (flow rest : List QueuedMessage) (test : Place → Bool) (old new : MarkList) : Type 0 where
   pub kept : (p : Place) → has_mark old p ≡ true → has_mark new p ≡ true
-  pub marked : (p : Place) → IsKnown old.drivers p.stream → first_message flow p ≢ None → test p ≡ true → (has_mark new p ≡ true) ⊎ (list_any (λ h. same_place h.place p) rest ≡ true)
+  pub marked : (p : Place) → IsKnown old.drivers p.stream → first_message flow p ≢ None → test p ≡ true
+      → (has_mark new p ≡ true) ⊎ (list_any (λ h. same_place h.place p) rest ≡ true)
   pub drivers : new.drivers ≡ old.drivers
 
-pub none_passed : (flow rest : List QueuedMessage) (test : Place → Bool) (m : MarkList) → ((p : Place) → first_message flow p ≢ None → list_any (λ h. same_place h.place p) rest ≡ true) → ArePassed flow rest test m m
-none_passed flow rest test m all = record { kept = λ p h. h; marked = λ p known some t. inr (all p some); drivers = refl }
+-- before any message was passed, each place with a message is still to come
+pub none_passed : (flow rest : List QueuedMessage) (test : Place → Bool) (m : MarkList)
+    → ((p : Place) → first_message flow p ≢ None → list_any (λ h. same_place h.place p) rest ≡ true)
+    → ArePassed flow rest test m m
+none_passed flow rest test m all =
+    record { kept = λ p h. h; marked = λ p known some t. inr (all p some); drivers = refl }
 
 -- one that passes the test was marked
-pub one_passed : (flow now rest : List QueuedMessage) (h : QueuedMessage) (test : Place → Bool) (old mid new : MarkList) → now ≡ h ∷ rest → ArePassed flow now test old mid
-    → (IsKnown mid.drivers h.place.stream → has_mark new h.place ≡ true) → ((p : Place) → has_mark mid p ≡ true → has_mark new p ≡ true) → new.drivers ≡ mid.drivers → ArePassed flow rest test old new
+pub one_passed : (flow now rest : List QueuedMessage) (h : QueuedMessage) (test : Place → Bool) (old mid new : MarkList)
+    → now ≡ h ∷ rest → ArePassed flow now test old mid
+    → (IsKnown mid.drivers h.place.stream → has_mark new h.place ≡ true)
+    → ((p : Place) → has_mark mid p ≡ true → has_mark new p ≡ true) → new.drivers ≡ mid.drivers
+    → ArePassed flow rest test old new
 one_passed flow now rest h test old mid new is a here kept same = record {
   kept = λ p m. kept p (a.kept p m);
   marked = λ p known some t. elim (a.marked p known some t) [
     | inl m ↦ inl (kept p m)
     | inr later ↦ elim (cases_Bool (same_place h.place p)) [
-      | inl y ↦ let e = place_is h.place p y in inl (subst (λ (x : Place). has_mark new x ≡ true) e (here (subst (λ (x : Place). IsKnown mid.drivers x.stream) (sym e) (subst (λ (ds : List DriverSpec). IsKnown ds p.stream) (sym a.drivers) known))))
+      | inl y ↦ let e = place_is h.place p y in
+          inl (subst (λ (x : Place). has_mark new x ≡ true) e
+          (here (subst (λ (x : Place). IsKnown mid.drivers x.stream) (sym e)
+          (subst (λ (ds : List DriverSpec). IsKnown ds p.stream) (sym a.drivers) known))))
       | inr n ↦ inr (behind p n later)
     ]
   ];
   drivers = same ∙ a.drivers;
 } where
-  behind : (p : Place) → same_place h.place p ≡ false → list_any (λ k. same_place k.place p) now ≡ true → list_any (λ k. same_place k.place p) rest ≡ true
+  behind : (p : Place) → same_place h.place p ≡ false → list_any (λ k. same_place k.place p) now ≡ true
+      → list_any (λ k. same_place k.place p) rest ≡ true
   behind p n later = rw n at (rw is at later)
 
 -- one that doesn't pass it was left
-pub one_left : (flow now rest : List QueuedMessage) (h : QueuedMessage) (test : Place → Bool) (old mid : MarkList) → now ≡ h ∷ rest → ArePassed flow now test old mid → test h.place ≡ false → ArePassed flow rest test old mid
+pub one_left : (flow now rest : List QueuedMessage) (h : QueuedMessage) (test : Place → Bool) (old mid : MarkList)
+    → now ≡ h ∷ rest → ArePassed flow now test old mid → test h.place ≡ false → ArePassed flow rest test old mid
 one_left flow now rest h test old mid is a not_it = record {
   kept = a.kept;
   marked = λ p known some t. elim (a.marked p known some t) [
@@ -169,11 +225,13 @@ one_left flow now rest h test old mid is a not_it = record {
   ];
   drivers = a.drivers;
 } where
-  behind : (p : Place) → same_place h.place p ≡ false → list_any (λ k. same_place k.place p) now ≡ true → list_any (λ k. same_place k.place p) rest ≡ true
+  behind : (p : Place) → same_place h.place p ≡ false → list_any (λ k. same_place k.place p) now ≡ true
+      → list_any (λ k. same_place k.place p) rest ≡ true
   behind p n later = rw n at (rw is at later)
 
 -- all were passed
-pub all_passed : (flow rest : List QueuedMessage) (test : Place → Bool) (old new : MarkList) → rest ≡ [] → ArePassed flow rest test old new → IsMarkedWhere flow test old new
+pub all_passed : (flow rest : List QueuedMessage) (test : Place → Bool) (old new : MarkList) → rest ≡ []
+    → ArePassed flow rest test old new → IsMarkedWhere flow test old new
 all_passed flow rest test old new none a = record {
   kept = a.kept;
   marked = λ p known some t. elim (a.marked p known some t) [
@@ -186,5 +244,7 @@ all_passed flow rest test old new none a = record {
 -- ---- a place that a message has left
 
 -- nothing is marked at a place without messages
-pub left_empty : (flow : List QueuedMessage) (one other : Place → Bool) (old new : MarkList) → ((p : Place) → one p ≡ true → first_message flow p ≡ None) → IsMarkedWhere flow other old new → IsMarkedWhere flow (both one other) old new
+pub left_empty : (flow : List QueuedMessage) (one other : Place → Bool) (old new : MarkList)
+    → ((p : Place) → one p ≡ true → first_message flow p ≡ None) → IsMarkedWhere flow other old new
+    → IsMarkedWhere flow (both one other) old new
 left_empty flow one other old new none h = both_marked flow one other old old new (none_marked flow one old none) h

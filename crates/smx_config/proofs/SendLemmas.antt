@@ -1,5 +1,6 @@
 -- A message that may be sent: where it goes, and what it has.
-use Rattle.std.proofs.Common.{◌≡◌, ℕ, ◌<◌, Bool, true, false, ◌||◌, not, eqb, List, [], ◌∷◌, length, Result, Ok, Err, refl, sym, ◌∙◌, subst, arith}
+use Rattle.std.proofs.Common.{◌≡◌, ℕ, ◌<◌, Bool, true, false, ◌||◌, not, eqb, List, [], ◌∷◌, length, Result, Ok, Err}
+use Rattle.std.proofs.Common.{refl, sym, ◌∙◌, subst, arith}
 use Rattle.std.specs.Prelude.{nat_le, nat_lt, IfOk}
 use Rattle.std.proofs.lemmas.Bool.{or_parts, false≢true}
 use Rattle.smx_types.specs.declared.driver.DriverSpec.{DriverSpec}
@@ -20,7 +21,8 @@ use Rattle.smx_config.specs.Sending.{may_send}
 use Rattle.smx_config.proofs.KnownLemmas.{exists_known, stream_known}
 
 -- what came before an accepted result
-bound : {A B : Type 0} (a : Result A Fault) (f : A → Result B Fault) (y : B) → (a >>= f) ≡ Ok y → (x : A) × (a ≡ Ok x) × (f x ≡ Ok y)
+bound : {A B : Type 0} (a : Result A Fault) (f : A → Result B Fault) (y : B) → (a >>= f) ≡ Ok y
+    → (x : A) × (a ≡ Ok x) × (f x ≡ Ok y)
 bound (Ok x) f y e = (x, refl, e)
 bound (Err g) f y e = absurd cc
 
@@ -36,47 +38,64 @@ some_bytes [] h = absurd (false≢true (sym h))
 some_bytes (b ∷ bytes) h = omega arith
 
 -- the place is not full, and there are bytes
-pub sent : (drivers : List DriverSpec) (c : Configuration) (p : Place) (bytes : List ℕ) → may_send drivers c p bytes ≡ Ok tt → (is_full c p ≡ false) × (0 < length bytes)
+pub sent : (drivers : List DriverSpec) (c : Configuration) (p : Place) (bytes : List ℕ)
+    → may_send drivers c p bytes ≡ Ok tt → (is_full c p ≡ false) × (0 < length bytes)
 sent drivers c p bytes e =
-    let size = bound (refuse BadSize (eqb (length bytes) 0 || nat_lt (max_of drivers p.stream.driver) (length bytes))) (λ z. refuse Full (is_full c p || nat_le NUMBER_END c.next_serial)) tt e in
-    let sizes = or_parts _ _ (passed BadSize (eqb (length bytes) 0 || nat_lt (max_of drivers p.stream.driver) (length bytes)) size.0 size.1) in
+    let size = bound (refuse BadSize (eqb (length bytes) 0 || nat_lt (max_of drivers p.stream.driver) (length bytes)))
+    (λ z. refuse Full (is_full c p || nat_le NUMBER_END c.next_serial)) tt e in
+    let sizes = or_parts _ _
+    (passed BadSize (eqb (length bytes) 0 || nat_lt (max_of drivers p.stream.driver) (length bytes)) size.0 size.1) in
     let room = or_parts _ _ (passed Full (is_full c p || nat_le NUMBER_END c.next_serial) tt size.2) in
     (room.0, some_bytes bytes sizes.0)
 
 -- the stream of a descriptor is known
-pub free_known : (drivers : List DriverSpec) (c : Configuration) (process fd : ℕ) (s : StreamId) → AreStreamsKnown drivers c → free_stream c process fd ≡ Ok s → IsKnown drivers s
+pub free_known : (drivers : List DriverSpec) (c : Configuration) (process fd : ℕ) (s : StreamId)
+    → AreStreamsKnown drivers c → free_stream c process fd ≡ Ok s → IsKnown drivers s
 free_known drivers c process fd s k e =
     let there = bound (stream_of c process fd) (λ x. refuse Below (is_below c.links x) >>= (λ a. Ok x)) s e in
     let free = bound (refuse Below (is_below c.links there.0)) (λ a. Ok there.0) s there.2 in
     stream_known drivers c process fd s k (there.1 ∙ free.2)
 
 -- and so is that of a device
-pub leaf_known : (drivers : List DriverSpec) (c : Configuration) (name : List ℕ) (minor : ℕ) (s : StreamId) → AreStreamsKnown drivers c → leaf_stream drivers c name minor ≡ Ok s → IsKnown drivers s
+pub leaf_known : (drivers : List DriverSpec) (c : Configuration) (name : List ℕ) (minor : ℕ) (s : StreamId)
+    → AreStreamsKnown drivers c → leaf_stream drivers c name minor ≡ Ok s → IsKnown drivers s
 leaf_known drivers c name minor s k e =
-    let n = bound (driver_of drivers name) (λ n. refuse NoDriver (is_mux drivers n) >>= (λ l. refuse NoMinor (not (exists drivers c (record { driver = n; minor = minor }))) >>= (λ t. Ok (record { driver = n; minor = minor })))) s e in
-    let leaf = bound (refuse NoDriver (is_mux drivers n.0)) (λ l. refuse NoMinor (not (exists drivers c (record { driver = n.0; minor = minor }))) >>= (λ t. Ok (record { driver = n.0; minor = minor }))) s n.2 in
-    let there = bound (refuse NoMinor (not (exists drivers c (record { driver = n.0; minor = minor })))) (λ t. Ok (record { driver = n.0; minor = minor })) s leaf.2 in
+    let n = bound (driver_of drivers name)
+    (λ n. refuse NoDriver
+    (is_mux drivers n) >>= (λ l. refuse NoMinor
+    (not (exists drivers c (record { driver = n; minor = minor }))) >>= (λ t.
+    Ok (record { driver = n; minor = minor })))) s e in
+    let leaf = bound (refuse NoDriver (is_mux drivers n.0))
+    (λ l. refuse NoMinor (not (exists drivers c (record { driver = n.0; minor = minor }))) >>= (λ t.
+    Ok (record { driver = n.0; minor = minor }))) s n.2 in
+    let there = bound (refuse NoMinor (not (exists drivers c (record { driver = n.0; minor = minor }))))
+    (λ t. Ok (record { driver = n.0; minor = minor })) s leaf.2 in
     let here = passed NoMinor (not (exists drivers c (record { driver = n.0; minor = minor }))) there.0 there.1 in
     let same : record { driver = n.0; minor = minor } ≡ s = ok_is (record { driver = n.0; minor = minor }) s there.2 in
-    subst (IsKnown drivers) same (exists_known drivers c (record { driver = n.0; minor = minor }) k (is_true _ here)) where
+    subst (IsKnown drivers) same
+    (exists_known drivers c (record { driver = n.0; minor = minor }) k (is_true _ here)) where
       is_true : (b : Bool) → not b ≡ false → b ≡ true
       is_true true h = refl
       is_true false h = absurd cc
 
 -- and so are those whose device has not hung up
-pub live_known : (drivers : List DriverSpec) (c : Configuration) (process fd : ℕ) (s : StreamId) → AreStreamsKnown drivers c → live_stream c process fd ≡ Ok s → IsKnown drivers s
+pub live_known : (drivers : List DriverSpec) (c : Configuration) (process fd : ℕ) (s : StreamId)
+    → AreStreamsKnown drivers c → live_stream c process fd ≡ Ok s → IsKnown drivers s
 live_known drivers c process fd s k e =
     let there = bound (free_stream c process fd) (λ x. refuse HungUp (is_hung c.hungs x) >>= (λ h. Ok x)) s e in
     let live = bound (refuse HungUp (is_hung c.hungs there.0)) (λ h. Ok there.0) s there.2 in
     free_known drivers c process fd s k (there.1 ∙ live.2)
 
-pub live_leaf_known : (drivers : List DriverSpec) (c : Configuration) (name : List ℕ) (minor : ℕ) (s : StreamId) → AreStreamsKnown drivers c → live_leaf drivers c name minor ≡ Ok s → IsKnown drivers s
+-- the stream of a device that has not hung up is one that the drivers have
+pub live_leaf_known : (drivers : List DriverSpec) (c : Configuration) (name : List ℕ) (minor : ℕ) (s : StreamId)
+    → AreStreamsKnown drivers c → live_leaf drivers c name minor ≡ Ok s → IsKnown drivers s
 live_leaf_known drivers c name minor s k e =
     let there = bound (leaf_stream drivers c name minor) (λ x. refuse HungUp (is_hung c.hungs x) >>= (λ h. Ok x)) s e in
     let live = bound (refuse HungUp (is_hung c.hungs there.0)) (λ h. Ok there.0) s there.2 in
     leaf_known drivers c name minor s k (there.1 ∙ live.2)
 
 -- every stream that a look-up answers is known
-pub answers_known : (drivers : List DriverSpec) (named : Result StreamId Fault) → ((s : StreamId) → named ≡ Ok s → IsKnown drivers s) → IfOk named (IsKnown drivers)
+pub answers_known : (drivers : List DriverSpec) (named : Result StreamId Fault)
+    → ((s : StreamId) → named ≡ Ok s → IsKnown drivers s) → IfOk named (IsKnown drivers)
 answers_known drivers (Ok s) h = h s refl
 answers_known drivers (Err f) h = tt

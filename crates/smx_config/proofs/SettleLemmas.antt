@@ -7,18 +7,28 @@ use Rattle.smx_model.specs.Settling.{least_movable, after_move, after_settling_w
 
 -- one round, by what the least movable place is
 round : (drivers : List DriverSpec) (n : ℕ) (c : Configuration) (o : Option Place) → least_movable drivers c ≡ o
-    → after_settling_within drivers (suc n) c ≡ elim o as (λ _. Configuration) [ None ↦ c | Some p ↦ after_settling_within drivers n (after_move drivers c p) ]
-round drivers n c o e = ap (λ (x : Option Place). elim x as (λ _. Configuration) [ None ↦ c | Some p ↦ after_settling_within drivers n (after_move drivers c p) ]) e
+    → after_settling_within drivers (suc n) c ≡ elim o as (λ _. Configuration)
+    [ None ↦ c | Some p ↦ after_settling_within drivers n (after_move drivers c p) ]
+round drivers n c o e = ap (λ (x : Option Place).
+    elim x as (λ _. Configuration) [ None ↦ c | Some p ↦ after_settling_within drivers n (after_move drivers c p) ]) e
 
-pub settled_none : (drivers : List DriverSpec) (n : ℕ) (c : Configuration) → least_movable drivers c ≡ None → after_settling_within drivers n c ≡ c
+-- settling, where there is no least movable place, changes nothing
+pub settled_none : (drivers : List DriverSpec) (n : ℕ) (c : Configuration) → least_movable drivers c ≡ None
+    → after_settling_within drivers n c ≡ c
 settled_none drivers zero c e = refl
 settled_none drivers (suc n) c e = round drivers n c None e
 
-pub settled_one : (drivers : List DriverSpec) (n : ℕ) (c d : Configuration) (p : Place) → 0 < n → least_movable drivers c ≡ Some p → d ≡ after_move drivers c p → after_settling_within drivers (n - 1) d ≡ after_settling_within drivers n c
+-- settling is the move from the least movable place, and then settling within one move less
+pub settled_one : (drivers : List DriverSpec) (n : ℕ) (c d : Configuration) (p : Place) → 0 < n
+    → least_movable drivers c ≡ Some p → d ≡ after_move drivers c p
+    → after_settling_within drivers (n - 1) d ≡ after_settling_within drivers n c
 settled_one drivers zero c d p some e m = absurd (omega arith)
-settled_one drivers (suc n) c d p some e m = let k : suc n - 1 ≡ n = omega arith in ap (λ (j : ℕ). after_settling_within drivers j d) k ∙ (ap (after_settling_within drivers n) m ∙ sym (round drivers n c (Some p) e))
+settled_one drivers (suc n) c d p some e m = let k : suc n - 1 ≡ n = omega arith in
+    ap (λ (j : ℕ). after_settling_within drivers j d) k
+    ∙ (ap (after_settling_within drivers n) m ∙ sym (round drivers n c (Some p) e))
 
 -- after the last round
-pub within_zero : (drivers : List DriverSpec) (n : ℕ) (c d : Configuration) → n ≡ 0 → after_settling_within drivers n c ≡ d → c ≡ d
+pub within_zero : (drivers : List DriverSpec) (n : ℕ) (c d : Configuration) → n ≡ 0
+    → after_settling_within drivers n c ≡ d → c ≡ d
 within_zero drivers zero c d z e = e
 within_zero drivers (suc n) c d z e = absurd (omega arith)

@@ -1,5 +1,6 @@
 -- Full places that are wanted no more, and what a change keeps of the marks.
-use Rattle.std.proofs.Common.{◌≡◌, Bool, true, false, ◌&&◌, ◌||◌, not, List, [], ◌∷◌, find, Option, None, Some, refl, sym, ap, ◌∙◌, subst, inl, inr}
+use Rattle.std.proofs.Common.{◌≡◌, Bool, true, false, ◌&&◌, ◌||◌, not, List, [], ◌∷◌, find, Option, None, Some, refl}
+use Rattle.std.proofs.Common.{sym, ap, ◌∙◌, subst, inl, inr}
 use Rattle.std.specs.Prelude.{◌≢◌, ◌⊎◌}
 use Rattle.std.specs.List.{list_any}
 use Rattle.std.specs.Option.{option_map}
@@ -15,7 +16,8 @@ use Rattle.smx_model.specs.SettlingByMarks.{IsMarkedAfter}
 use Rattle.smx_queues.specs.PlaceMarks.{MarkList, has_mark}
 use Rattle.smx_queues.specs.declared.waiters.Wait.{Wait}
 use Rattle.smx_queues.specs.Waiters.{WaitList, target_of}
-use Rattle.smx_config.specs.Marking.{AreMarks, AreWaitersMarked, IsMarkedWhere, IsNotedFor, IsReleased, IsWoken, marked_configuration}
+use Rattle.smx_config.specs.Marking.{AreMarks, AreWaitersMarked, IsMarkedWhere, IsNotedFor, IsReleased, IsWoken}
+use Rattle.smx_config.specs.Marking.{marked_configuration}
 use Rattle.smx_config.specs.declared.marks.Marks.{Marks}
 use Rattle.smx_config.specs.Wakes.{everywhere}
 use Rattle.smx_config.proofs.NextMoveLemmas.{next_has_message}
@@ -31,7 +33,9 @@ noted_still old new p q waits noted = subst (λ (t : WaitList). target_of t p �
 -- ---- one place
 
 -- it is wanted no more, and what can feed it is marked
-pub released_one : (c : Configuration) (place : Place) (old new : Marks) → is_full c place ≡ false → ((q : Place) → has_mark new.wanted q ≡ all_but (has_mark old.wanted) place q) → new.wanted.drivers ≡ old.wanted.drivers
+pub released_one : (c : Configuration) (place : Place) (old new : Marks) → is_full c place ≡ false
+    → ((q : Place) → has_mark new.wanted q ≡ all_but (has_mark old.wanted) place q)
+    → new.wanted.drivers ≡ old.wanted.drivers
     → new.waits ≡ old.waits → AreWaitersMarked old.waits place old.run new.run → IsReleased c (same_place place) old new
 released_one c place old new vacant gone same waits h = record {
   kept = h.kept;
@@ -40,7 +44,8 @@ released_one c place old new vacant gone same waits h = record {
     | inl t ↦ never (is_full c q) full (ap (is_full c) (sym (place_is place q t)) ∙ vacant)
     | inr f ↦ ap not f
   ]);
-  gone = λ q f w. never (not (same_place place q)) (and_parts (has_mark old.wanted q) _ (sym (gone q) ∙ w)).1 (ap not f);
+  gone = λ q f w. never (not (same_place place q)) (and_parts (has_mark old.wanted q) _ (sym (gone q) ∙ w)).1
+      (ap not f);
   left = λ q f w. gone q ∙ and_from _ _ w (ap not f);
   fewer = λ q w. (and_parts (has_mark old.wanted q) _ (sym (gone q) ∙ w)).0;
   run_drivers = h.same_drivers;
@@ -49,7 +54,8 @@ released_one c place old new vacant gone same waits h = record {
 }
 
 -- it is full, or it wasn't wanted
-pub released_none : (c : Configuration) (freed : Place → Bool) (m : Marks) → ((q : Place) → freed q ≡ true → has_mark m.wanted q ≡ true → is_full c q ≡ true) → IsReleased c freed m m
+pub released_none : (c : Configuration) (freed : Place → Bool) (m : Marks)
+    → ((q : Place) → freed q ≡ true → has_mark m.wanted q ≡ true → is_full c q ≡ true) → IsReleased c freed m m
 released_none c freed m full = record {
   kept = λ p h. h;
   waiters = λ q p f nf w known noted. never (is_full c q) (full q f w) nf;
@@ -62,9 +68,13 @@ released_none c freed m full = record {
   waits = refl;
 }
 
-pub not_released : (c : Configuration) (place : Place) (m : Marks) → (has_mark m.wanted place ≡ true → is_full c place ≡ true) → IsReleased c (same_place place) m m
-not_released c place m full = released_none c (same_place place) m (λ q f w. let e = place_is place q f in subst (λ (x : Place). is_full c x ≡ true) e (full (subst (λ (x : Place). has_mark m.wanted x ≡ true) (sym e) w)))
+-- a place that is full, or that wasn't wanted, is released with no change
+pub not_released : (c : Configuration) (place : Place) (m : Marks)
+    → (has_mark m.wanted place ≡ true → is_full c place ≡ true) → IsReleased c (same_place place) m m
+not_released c place m full = released_none c (same_place place) m (λ q f w. let e = place_is place q f in
+    subst (λ (x : Place). is_full c x ≡ true) e (full (subst (λ (x : Place). has_mark m.wanted x ≡ true) (sym e) w)))
 
+-- where no place is freed, to release what was freed changes nothing
 pub nothing_released : (c : Configuration) (m : Marks) → IsReleased c nowhere m m
 nothing_released c m = released_none c nowhere m (λ q f w. absurd (false≢true f))
 
@@ -74,15 +84,20 @@ nothing_released c m = released_none c nowhere m (λ q f w. absurd (false≢true
 abbrev pub unwanted : Marks → Place → Bool
 unwanted m q = not (has_mark m.wanted q)
 
+-- the places that aren't wanted are released with no change
 pub released_at_first : (c : Configuration) (m : Marks) → IsReleased c (unwanted m) m m
 released_at_first c m = released_none c (unwanted m) m (λ q f w. never (unwanted m q) f (ap not w))
 
-pub released_more : (c : Configuration) (place : Place) (old mid new : Marks) → IsReleased c (unwanted mid) old mid → IsReleased c (same_place place) mid new → IsReleased c (unwanted new) old new
+-- where all places that weren't wanted were released, and one more is, all that aren't wanted then are
+pub released_more : (c : Configuration) (place : Place) (old mid new : Marks) → IsReleased c (unwanted mid) old mid
+    → IsReleased c (same_place place) mid new → IsReleased c (unwanted new) old new
 released_more c place old mid new a b = record {
   kept = λ p h. b.kept p (a.kept p h);
   waiters = λ q p f nf w known noted. elim (cases_Bool (has_mark mid.wanted q)) [
     | inl still ↦ elim (cases_Bool (same_place place q)) [
-      | inl here ↦ b.waiters q p here nf still (subst (λ (ds : List DriverSpec). IsKnown ds p.stream) (sym a.run_drivers) known) (noted_still old mid p q a.waits noted)
+      | inl here ↦
+          b.waiters q p here nf still (subst (λ (ds : List DriverSpec). IsKnown ds p.stream) (sym a.run_drivers) known)
+          (noted_still old mid p q a.waits noted)
       | inr other ↦ never (unwanted new q) f (ap not (b.left q other still))
     ]
     | inr none ↦ b.kept p (a.waiters q p (ap not none) nf w known noted)
@@ -96,7 +111,10 @@ released_more c place old mid new a b = record {
   waits = b.waits ∙ a.waits;
 }
 
-pub released_all : (c : Configuration) (old new : Marks) → ((p : Place) → has_mark new.wanted p ≡ true → is_full c p ≡ true) → IsReleased c (unwanted new) old new → IsReleased c everywhere old new
+-- where each place that is still wanted is full, and all others are released, every place is
+pub released_all : (c : Configuration) (old new : Marks)
+    → ((p : Place) → has_mark new.wanted p ≡ true → is_full c p ≡ true) → IsReleased c (unwanted new) old new
+    → IsReleased c everywhere old new
 released_all c old new full h = record {
   kept = h.kept;
   waiters = λ q p f nf w known noted. elim (cases_Bool (has_mark new.wanted q)) [
@@ -117,7 +135,10 @@ released_all c old new full h = record {
 abbrev with_run : Marks → MarkList → Marks
 with_run m run = record { run = run; wanted = m.wanted; waits = m.waits }
 
-pub woken : (c : Configuration) (turned freed : Place → Bool) (old mid : Marks) (run : MarkList) → IsReleased c freed old mid → IsMarkedWhere c.flow turned mid.run run → IsWoken c turned freed old (with_run mid run)
+-- where what was freed is released, and what was turned gets a run mark then, all of it is woken
+pub woken : (c : Configuration) (turned freed : Place → Bool) (old mid : Marks) (run : MarkList)
+    → IsReleased c freed old mid → IsMarkedWhere c.flow turned mid.run run
+    → IsWoken c turned freed old (with_run mid run)
 woken c turned freed old mid run a b = record {
   released = record {
     kept = λ p h. b.kept p (a.kept p h);
@@ -130,24 +151,34 @@ woken c turned freed old mid run a b = record {
     wanted_drivers = a.wanted_drivers;
     waits = a.waits;
   };
-  turned_ones = λ p known some t. b.marked p (subst (λ (ds : List DriverSpec). IsKnown ds p.stream) (sym a.run_drivers) known) some t;
+  turned_ones = λ p known some t. b.marked p
+      (subst (λ (ds : List DriverSpec). IsKnown ds p.stream) (sym a.run_drivers) known) some t;
 }
 
 -- ---- a wanted place that is open
 
-pub open_next : (c : Configuration) (place : Place) (rest next : List Place) (p : Place) → rest ≡ place ∷ next → is_full c place ≡ true → is_full c p ≡ false → list_any (same_place p) rest ≡ true → list_any (same_place p) next ≡ true
+-- where the first place to come is full, an open one that is to come is among those behind it
+pub open_next : (c : Configuration) (place : Place) (rest next : List Place) (p : Place) → rest ≡ place ∷ next
+    → is_full c place ≡ true → is_full c p ≡ false → list_any (same_place p) rest ≡ true
+    → list_any (same_place p) next ≡ true
 open_next c place rest next p step full vacant here = elim (cases_Bool (same_place p place)) [
   | inl t ↦ never (is_full c p) (ap (is_full c) (place_is p place t) ∙ full) vacant
-  | inr f ↦ let k : list_any (same_place p) (place ∷ next) ≡ true = subst (λ (ps : List Place). list_any (same_place p) ps ≡ true) step here in rw f at k
+  | inr f ↦ let k : list_any (same_place p) (place ∷ next)
+      ≡ true = subst (λ (ps : List Place). list_any (same_place p) ps ≡ true) step here in rw f at k
 ]
 
-pub marked_next : (place : Place) (rest next : List Place) (p : Place) → rest ≡ place ∷ next → list_any (same_place p) next ≡ true → list_any (same_place p) rest ≡ true
-marked_next place rest next p step h = subst (λ (ps : List Place). list_any (same_place p) ps ≡ true) (sym step) (or_right (same_place p place) _ h) where
-  or_right : (a b : Bool) → b ≡ true → (a || b) ≡ true
-  or_right true b k = refl
-  or_right false b k = k
+-- what is behind the first place to come is among all that are to come
+pub marked_next : (place : Place) (rest next : List Place) (p : Place) → rest ≡ place ∷ next
+    → list_any (same_place p) next ≡ true → list_any (same_place p) rest ≡ true
+marked_next place rest next p step h =
+    subst (λ (ps : List Place). list_any (same_place p) ps ≡ true) (sym step) (or_right (same_place p place) _ h) where
+      or_right : (a b : Bool) → b ≡ true → (a || b) ≡ true
+      or_right true b k = refl
+      or_right false b k = k
 
-pub none_open : (c : Configuration) (rest : List Place) (p : Place) → rest ≡ [] → (is_full c p ≡ false → list_any (same_place p) rest ≡ true) → is_full c p ≡ true
+-- where each open place is still to come, and none is, each place is full
+pub none_open : (c : Configuration) (rest : List Place) (p : Place) → rest ≡ []
+    → (is_full c p ≡ false → list_any (same_place p) rest ≡ true) → is_full c p ≡ true
 none_open c rest p none h = elim (cases_Bool (is_full c p)) [
   | inl t ↦ t
   | inr f ↦ absurd (false≢true (subst (λ (ps : List Place). list_any (same_place p) ps ≡ true) none (h f)))
@@ -156,7 +187,9 @@ none_open c rest p none h = elim (cases_Bool (is_full c p)) [
 -- ---- what a change keeps
 
 -- a place that a change didn't turn goes where it went before
-went_there : (drivers : List DriverSpec) (old new : Configuration) (turned : Place → Bool) (p q : Place) → TurnsOnly drivers old new turned → turned p ≡ false → next_of_first drivers new p ≡ Some q → next_of_first drivers old p ≡ Some q
+went_there : (drivers : List DriverSpec) (old new : Configuration) (turned : Place → Bool) (p q : Place)
+    → TurnsOnly drivers old new turned → turned p ≡ false → next_of_first drivers new p ≡ Some q
+    → next_of_first drivers old p ≡ Some q
 went_there drivers old new turned p q only f e = elim (only p f) [
   | inl same ↦ sym same ∙ e
   | inr none ↦ absurd (nowhere (sym none ∙ e))
@@ -165,7 +198,8 @@ went_there drivers old new turned p q only f e = elim (only p f) [
   nowhere k = cc
 
 -- what a change turned and freed is among what was woken
-pub record IsAmong (drivers : List DriverSpec) (old new : Configuration) (turned freed turned_too freed_too : Place → Bool) : Type 0 where
+pub record IsAmong (drivers : List DriverSpec) (old new : Configuration)
+    (turned freed turned_too freed_too : Place → Bool) : Type 0 where
   pub known : (p : Place) → first_message new.flow p ≢ None → IsKnown drivers p.stream
   pub turns : (p : Place) → turned p ≡ true → turned_too p ≡ true
   pub frees : (p : Place) → freed p ≡ true → freed_too p ≡ true
@@ -173,17 +207,21 @@ pub record IsAmong (drivers : List DriverSpec) (old new : Configuration) (turned
   pub frees_only : FreesOnly old new freed
 
 -- what a change woke is marked after it
-pub marked_after : (drivers : List DriverSpec) (old new : Configuration) (turned freed turned_too freed_too : Place → Bool) (m n : Marks) → AreMarks drivers old m → IsAmong drivers old new turned freed turned_too freed_too → IsWoken new turned_too freed_too m n
+pub marked_after : (drivers : List DriverSpec) (old new : Configuration) (turned freed turned_too freed_too : Place
+    → Bool) (m n : Marks) → AreMarks drivers old m → IsAmong drivers old new turned freed turned_too freed_too
+    → IsWoken new turned_too freed_too m n
     → IsMarkedAfter drivers turned (marked_configuration old m) (marked_configuration new n)
 marked_after drivers old new turned freed turned_too freed_too m n marks among w = record {
   run = λ p some h. elim (cases_Bool (has_mark m.run p)) [
     | inl before ↦ w.released.kept p before
     | inr none ↦ elim (cases_Bool (turned p)) [
       | inl t ↦ w.turned_ones p (here p some) some (among.turns p t)
-      | inr f ↦ let fed : feeds drivers new (λ q. is_freed old new q && has_mark m.wanted q) p ≡ true = rw f at (rw none at h) in waiter p some none f (next_of_first drivers new p) refl fed
+      | inr f ↦ let fed : feeds drivers new (λ q. is_freed old new q && has_mark m.wanted q) p
+          ≡ true = rw f at (rw none at h) in waiter p some none f (next_of_first drivers new p) refl fed
     ]
   ];
-  wanted = λ p h. let b = and_parts (has_mark m.wanted p) _ h in w.released.wanted p b.0 (stays (is_full old p) (is_full new p) (marks.full p b.0) b.1);
+  wanted = λ p h. let b = and_parts (has_mark m.wanted p) _ h in
+      w.released.wanted p b.0 (stays (is_full old p) (is_full new p) (marks.full p b.0) b.1);
 } where
   here : (p : Place) → first_message new.flow p ≢ None → IsKnown m.run.drivers p.stream
   here p some = subst (λ (ds : List DriverSpec). IsKnown ds p.stream) (sym marks.run) (among.known p some)
@@ -197,26 +235,38 @@ marked_after drivers old new turned freed turned_too freed_too m n marks among w
   stays true false h k = k
   stays false b h k = absurd (false≢true h)
 
-  waiter : (p : Place) → first_message new.flow p ≢ None → has_mark m.run p ≡ false → turned p ≡ false → (o : Option Place) → next_of_first drivers new p ≡ o → is_one_of (λ q. is_freed old new q && has_mark m.wanted q) o ≡ true → has_mark n.run p ≡ true
+  waiter : (p : Place) → first_message new.flow p ≢ None → has_mark m.run p ≡ false → turned p ≡ false
+      → (o : Option Place) → next_of_first drivers new p ≡ o
+      → is_one_of (λ q. is_freed old new q && has_mark m.wanted q) o ≡ true → has_mark n.run p ≡ true
   waiter p some none f None e fed = absurd (false≢true fed)
   waiter p some none f (Some q) e fed =
       let gone = and_parts (is_freed old new q) (has_mark m.wanted q) fed in
       let vacant = not_true (is_full new q) (and_parts (is_full old q) _ gone.0).1 in
-      w.released.waiters q p (among.frees q (among.frees_only q gone.0)) vacant gone.1 (here p some) (marks.held_up p q none (went_there drivers old new turned p q among.turns_only f e))
+      w.released.waiters q p (among.frees q (among.frees_only q gone.0)) vacant gone.1 (here p some)
+      (marks.held_up p q none (went_there drivers old new turned p q among.turns_only f e))
 
 -- what waits is noted still
-pub held_up_still : (drivers : List DriverSpec) (old new : Configuration) (turned freed turned_too freed_too : Place → Bool) (m n : Marks) → AreMarks drivers old m → IsAmong drivers old new turned freed turned_too freed_too → IsWoken new turned_too freed_too m n
+pub held_up_still : (drivers : List DriverSpec) (old new : Configuration) (turned freed turned_too freed_too : Place
+    → Bool) (m n : Marks) → AreMarks drivers old m → IsAmong drivers old new turned freed turned_too freed_too
+    → IsWoken new turned_too freed_too m n
     → (p q : Place) → has_mark n.run p ≡ false → next_of_first drivers new p ≡ Some q → IsNotedFor n p q
-held_up_still drivers old new turned freed turned_too freed_too m n marks among w p q none e = elim (cases_Bool (has_mark m.run p)) [
-  | inl before ↦ never (has_mark n.run p) (w.released.kept p before) none
-  | inr clear ↦ elim (cases_Bool (turned p)) [
-    | inl t ↦ let some = next_has_message drivers new p q e in never (has_mark n.run p) (w.turned_ones p (subst (λ (ds : List DriverSpec). IsKnown ds p.stream) (sym marks.run) (among.known p some)) some (among.turns p t)) none
-    | inr f ↦ noted_still m n p q w.released.waits (marks.held_up p q clear (went_there drivers old new turned p q among.turns_only f e))
-  ]
-]
+held_up_still drivers old new turned freed turned_too freed_too m n marks among w p q none e =
+    elim (cases_Bool (has_mark m.run p)) [
+      | inl before ↦ never (has_mark n.run p) (w.released.kept p before) none
+      | inr clear ↦ elim (cases_Bool (turned p)) [
+        | inl t ↦ let some = next_has_message drivers new p q e in
+            never (has_mark n.run p)
+            (w.turned_ones p (subst (λ (ds : List DriverSpec). IsKnown ds p.stream) (sym marks.run)
+            (among.known p some)) some (among.turns p t)) none
+        | inr f ↦ noted_still m n p q w.released.waits
+            (marks.held_up p q clear (went_there drivers old new turned p q among.turns_only f e))
+      ]
+    ]
 
 -- each wanted place is full again
-pub full_again : (drivers : List DriverSpec) (old new : Configuration) (turned_too freed freed_too : Place → Bool) (m n : Marks) → AreMarks drivers old m → FreesOnly old new freed → ((p : Place) → freed p ≡ true → freed_too p ≡ true)
+pub full_again : (drivers : List DriverSpec) (old new : Configuration) (turned_too freed freed_too : Place → Bool)
+    (m n : Marks) → AreMarks drivers old m → FreesOnly old new freed
+    → ((p : Place) → freed p ≡ true → freed_too p ≡ true)
     → IsWoken new turned_too freed_too m n → (p : Place) → has_mark n.wanted p ≡ true → is_full new p ≡ true
 full_again drivers old new turned_too freed freed_too m n marks only frees w p h = elim (cases_Bool (is_full new p)) [
   | inl t ↦ t
@@ -232,32 +282,47 @@ waits_for p q w = same_place w.waiter p && same_place w.target q
 -- of those that were passed, the ones that wait for the place have a mark
 pub record ArePassed (waits : WaitList) (rest : List Wait) (q : Place) (old new : MarkList) : Type 0 where
   pub kept : (p : Place) → has_mark old p ≡ true → has_mark new p ≡ true
-  pub marked : (p : Place) → IsKnown old.drivers p.stream → target_of waits p ≡ Some q → (has_mark new p ≡ true) ⊎ (list_any (waits_for p q) rest ≡ true)
+  pub marked : (p : Place) → IsKnown old.drivers p.stream → target_of waits p ≡ Some q
+      → (has_mark new p ≡ true) ⊎ (list_any (waits_for p q) rest ≡ true)
   pub same_drivers : new.drivers ≡ old.drivers
 
 -- what waits for the place stands in the list
-stands_there : (p q : Place) (ws : List Wait) → option_map (λ w. w.target) (find (λ w. same_place w.waiter p) ws) ≡ Some q → list_any (waits_for p q) ws ≡ true
+stands_there : (p q : Place) (ws : List Wait)
+    → option_map (λ w. w.target) (find (λ w. same_place w.waiter p) ws) ≡ Some q → list_any (waits_for p q) ws ≡ true
 stands_there p q [] e = absurd cc
 stands_there p q (w ∷ ws) e = elim (cases_Bool (same_place w.waiter p)) [
   | inl t ↦
       let here : ◌≡◌ {A = Option Place} (Some w.target) (Some q) = rw t at e in
       let is : w.target ≡ q = cc in
       rw (t, is, place_self q) refl
-  | inr f ↦ let later : option_map (λ (v : Wait). v.target) (find (λ (v : Wait). same_place v.waiter p) ws) ≡ Some q = rw f at e in rw f (stands_there p q ws later)
+  | inr f ↦ let later : option_map (λ (v : Wait). v.target) (find (λ (v : Wait). same_place v.waiter p) ws)
+      ≡ Some q = rw f at e in rw f (stands_there p q ws later)
 ]
 
-pub none_passed : (waits : WaitList) (rest : List Wait) (q : Place) (m : MarkList) → rest ≡ waits.waits → ArePassed waits rest q m m
-none_passed waits rest q m is = record { kept = λ p h. h; marked = λ p known next. inr (rw is (stands_there p q waits.waits next)); same_drivers = refl }
+-- before any wait was passed, each place that waits for this one is still to come
+pub none_passed : (waits : WaitList) (rest : List Wait) (q : Place) (m : MarkList) → rest ≡ waits.waits
+    → ArePassed waits rest q m m
+none_passed waits rest q m is = record {
+  kept = λ p h. h;
+  marked = λ p known next. inr (rw is (stands_there p q waits.waits next));
+  same_drivers = refl;
+}
 
 -- it waits for the place, and was marked
-pub waiter_passed : (waits : WaitList) (now rest : List Wait) (w : Wait) (q : Place) (old mid new : MarkList) → now ≡ w ∷ rest → ArePassed waits now q old mid
-    → (IsKnown mid.drivers w.waiter.stream → has_mark new w.waiter ≡ true) → ((p : Place) → has_mark mid p ≡ true → has_mark new p ≡ true) → new.drivers ≡ mid.drivers → ArePassed waits rest q old new
+pub waiter_passed : (waits : WaitList) (now rest : List Wait) (w : Wait) (q : Place) (old mid new : MarkList)
+    → now ≡ w ∷ rest → ArePassed waits now q old mid
+    → (IsKnown mid.drivers w.waiter.stream → has_mark new w.waiter ≡ true)
+    → ((p : Place) → has_mark mid p ≡ true → has_mark new p ≡ true) → new.drivers ≡ mid.drivers
+    → ArePassed waits rest q old new
 waiter_passed waits now rest w q old mid new is a here kept same = record {
   kept = λ p m. kept p (a.kept p m);
   marked = λ p known next. elim (a.marked p known next) [
     | inl m ↦ inl (kept p m)
     | inr h ↦ elim (cases_Bool (waits_for p q w)) [
-      | inl y ↦ let e = place_is w.waiter p (and_parts (same_place w.waiter p) _ y).0 in inl (subst (λ (x : Place). has_mark new x ≡ true) e (here (subst (λ (x : Place). IsKnown mid.drivers x.stream) (sym e) (subst (λ (ds : List DriverSpec). IsKnown ds p.stream) (sym a.same_drivers) known))))
+      | inl y ↦ let e = place_is w.waiter p (and_parts (same_place w.waiter p) _ y).0 in
+          inl (subst (λ (x : Place). has_mark new x ≡ true) e
+          (here (subst (λ (x : Place). IsKnown mid.drivers x.stream) (sym e)
+          (subst (λ (ds : List DriverSpec). IsKnown ds p.stream) (sym a.same_drivers) known))))
       | inr n ↦ let later : list_any (waits_for p q) (w ∷ rest) ≡ true = rw is at h in inr (rw n at later)
     ]
   ];
@@ -265,20 +330,24 @@ waiter_passed waits now rest w q old mid new is a here kept same = record {
 }
 
 -- it doesn't wait for the place
-pub other_passed : (waits : WaitList) (now rest : List Wait) (w : Wait) (q : Place) (old mid : MarkList) → now ≡ w ∷ rest → ArePassed waits now q old mid → same_place q w.target ≡ false → ArePassed waits rest q old mid
+pub other_passed : (waits : WaitList) (now rest : List Wait) (w : Wait) (q : Place) (old mid : MarkList)
+    → now ≡ w ∷ rest → ArePassed waits now q old mid → same_place q w.target ≡ false → ArePassed waits rest q old mid
 other_passed waits now rest w q old mid is a other = record {
   kept = a.kept;
   marked = λ p known next. elim (a.marked p known next) [
     | inl m ↦ inl m
     | inr h ↦ elim (cases_Bool (waits_for p q w)) [
-      | inl y ↦ let e = place_is w.target q (and_parts (same_place w.waiter p) _ y).1 in absurd (false≢true (sym other ∙ (ap (same_place q) e ∙ place_self q)))
+      | inl y ↦ let e = place_is w.target q (and_parts (same_place w.waiter p) _ y).1 in
+          absurd (false≢true (sym other ∙ (ap (same_place q) e ∙ place_self q)))
       | inr n ↦ let later : list_any (waits_for p q) (w ∷ rest) ≡ true = rw is at h in inr (rw n at later)
     ]
   ];
   same_drivers = a.same_drivers;
 }
 
-pub all_passed : (waits : WaitList) (rest : List Wait) (q : Place) (old new : MarkList) → rest ≡ [] → ArePassed waits rest q old new → AreWaitersMarked waits q old new
+-- once all waits were passed, each place that waits for this one has a run mark
+pub all_passed : (waits : WaitList) (rest : List Wait) (q : Place) (old new : MarkList) → rest ≡ []
+    → ArePassed waits rest q old new → AreWaitersMarked waits q old new
 all_passed waits rest q old new none a = record {
   kept = a.kept;
   marked = λ p known next. elim (a.marked p known next) [

@@ -1,5 +1,6 @@
 -- What a command turns and frees is among what it may wake.
-use Rattle.std.proofs.Common.{◌≡◌, ℕ, Bool, true, false, ◌&&◌, ◌||◌, not, eqb, List, [], ◌∷◌, filter, Option, Some, Result, Ok, Err, refl, sym, ap, ◌∙◌, subst}
+use Rattle.std.proofs.Common.{◌≡◌, ℕ, Bool, true, false, ◌&&◌, ◌||◌, not, eqb, List, [], ◌∷◌, filter, Option, Some}
+use Rattle.std.proofs.Common.{Result, Ok, Err, refl, sym, ap, ◌∙◌, subst}
 use Rattle.std.specs.Prelude.{IfOk}
 use Rattle.std.specs.List.{list_all, list_any}
 use Rattle.std.proofs.lemmas.Bool.{and_parts, false≢true}
@@ -39,11 +40,13 @@ use Rattle.smx_config.specs.declared.wakes.Wakes.{Wakes}
 
 -- ---- a binding changes no link
 
-ok_bound : {A B : Type 0} (r : Result A Fault) (f : A → Result B Fault) (y : B) → (r >>= f) ≡ Ok y → (x : A) × (r ≡ Ok x) × (f x ≡ Ok y)
+ok_bound : {A B : Type 0} (r : Result A Fault) (f : A → Result B Fault) (y : B) → (r >>= f) ≡ Ok y
+    → (x : A) × (r ≡ Ok x) × (f x ≡ Ok y)
 ok_bound (Err e) f y h = absurd cc
 ok_bound (Ok x) f y h = (x, refl, h)
 
-kept_links : (stays is : Link → Bool) (links : List Link) → list_all (λ l. stays l || is l) links ≡ true → filter (λ l. not (not (stays l) && not (is l))) links ≡ links
+kept_links : (stays is : Link → Bool) (links : List Link) → list_all (λ l. stays l || is l) links ≡ true
+    → filter (λ l. not (not (stays l) && not (is l))) links ≡ links
 kept_links stays is [] h = refl
 kept_links stays is (l ∷ ls) h =
     let parts = and_parts (stays l || is l) (list_all (λ k. stays k || is k) ls) h in
@@ -53,31 +56,41 @@ kept_links stays is (l ∷ ls) h =
       passes false true k = refl
       passes false false k = k
 
-swept_links : (drivers : List DriverSpec) (c : Configuration) (binds : List Binding) → IsSwept drivers c → (after_sweep drivers (record c { binds = binds })).links ≡ c.links
+swept_links : (drivers : List DriverSpec) (c : Configuration) (binds : List Binding) → IsSwept drivers c
+    → (after_sweep drivers (record c { binds = binds })).links ≡ c.links
 swept_links drivers c binds h = kept_links is_persistent (λ l. exists drivers c l.ctl) c.links h.links
 
-pub bind_keeps_links : (drivers : List DriverSpec) (c : Configuration) (process fd addr : ℕ) (x : Configuration × Reply) → IsSwept drivers c → outcome drivers c process (command.Bind fd addr) ≡ Ok x → x.0.links ≡ c.links
+-- an accepted bind leaves the links as they were
+pub bind_keeps_links : (drivers : List DriverSpec) (c : Configuration) (process fd addr : ℕ) (x : Configuration × Reply)
+    → IsSwept drivers c → outcome drivers c process (command.Bind fd addr) ≡ Ok x → x.0.links ≡ c.links
 bind_keeps_links drivers c process fd addr x h e =
     let s = ok_bound (mux_stream drivers c process fd) _ x e in
-    let free = ok_bound (refuse AddressInUse (list_any (λ b. eqb b.driver s.0.driver && (eqb b.addr addr || eqb b.minor s.0.minor)) c.binds)) _ x s.2 in
+    let free = ok_bound
+    (refuse AddressInUse
+    (list_any (λ b. eqb b.driver s.0.driver && (eqb b.addr addr || eqb b.minor s.0.minor)) c.binds)) _ x s.2 in
     let binds = with_inserted bind_before c.binds (record { driver = s.0.driver; addr = addr; minor = s.0.minor }) in
     swept_out binds free.2 where
       same : (y : Configuration × Reply) → ◌≡◌ {A = Outcome} (Ok y) (Ok x) → y ≡ x
       same y k = cc
 
-      swept_out : (binds : List Binding) → done_outcome drivers c (record c { binds = binds }) ≡ Ok x → x.0.links ≡ c.links
+      swept_out : (binds : List Binding) → done_outcome drivers c (record c { binds = binds }) ≡ Ok x
+          → x.0.links ≡ c.links
       swept_out binds k = ap (λ (y : Configuration × Reply). y.0.links) (sym (same _ k)) ∙ swept_links drivers c binds h
 
 -- ---- the turned places
 
-turned_on : (r : Result StreamId Fault) (f : StreamId → Place → Bool) (g : StreamId → Wakes) (d : Configuration) (p : Place) → ((s : StreamId) → f s p ≡ true → turned_under d (g s) p ≡ true) → of_stream r f p ≡ true → turned_under d (on_stream r g) p ≡ true
+turned_on : (r : Result StreamId Fault) (f : StreamId → Place → Bool) (g : StreamId → Wakes) (d : Configuration)
+    (p : Place) → ((s : StreamId) → f s p ≡ true → turned_under d (g s) p ≡ true) → of_stream r f p ≡ true
+    → turned_under d (on_stream r g) p ≡ true
 turned_on (Ok s) f g d p h t = h s t
 turned_on (Err e) f g d p h t = absurd (false≢true t)
 
 first_part : (a b : Bool) → (a && b) ≡ true → a ≡ true
 first_part a b h = (and_parts a b h).0
 
-pub turns : (drivers : List DriverSpec) (c : Configuration) (process : ℕ) (k : Command) (x : Configuration × Reply) → IsSwept drivers c → outcome drivers c process k ≡ Ok x → (p : Place) → turned_by drivers c process k p ≡ true
+-- each place that an accepted command turns is one that `wakes_of` says may be turned
+pub turns : (drivers : List DriverSpec) (c : Configuration) (process : ℕ) (k : Command) (x : Configuration × Reply)
+    → IsSwept drivers c → outcome drivers c process k ≡ Ok x → (p : Place) → turned_by drivers c process k p ≡ true
     → turned_under x.0 (wakes_of drivers c process k) p ≡ true
 turns drivers c process (command.OpenClone name) x h e p t = absurd (false≢true t)
 turns drivers c process (command.OpenMinor name minor) x h e p t = absurd (false≢true t)
@@ -90,25 +103,37 @@ turns drivers c process (command.Unlink fd w) x h e p t = absurd (false≢true t
 turns drivers c process (command.Punlink fd w) x h e p t = absurd (false≢true t)
 turns drivers c process (command.Bind fd addr) x h e p t =
     turned_on (mux_stream drivers c process fd) _ _ x.0 p (λ s u. still s (first_part _ _ u)) t where
-      still : (s : StreamId) → (same_side p.side side.Read && is_below_driver c s.driver p.stream) ≡ true → (same_side p.side side.Read && is_below_driver x.0 s.driver p.stream) ≡ true
-      still s u = subst (λ (links : List Link). (same_side p.side side.Read && list_any (λ l. same_stream l.lower p.stream && eqb l.ctl.driver s.driver) links) ≡ true) (sym (bind_keeps_links drivers c process fd addr x h e)) u
+      still : (s : StreamId) → (same_side p.side side.Read && is_below_driver c s.driver p.stream) ≡ true
+          → (same_side p.side side.Read && is_below_driver x.0 s.driver p.stream) ≡ true
+      still s u = subst
+          (λ (links : List Link).
+          (same_side p.side side.Read && list_any (λ l. same_stream l.lower p.stream && eqb l.ctl.driver s.driver)
+          links) ≡ true) (sym (bind_keeps_links drivers c process fd addr x h e)) u
 turns drivers c process (command.Unbind fd) x h e p t = absurd (false≢true t)
-turns drivers c process (command.Route fd addr id) x h e p t = turned_on (mux_stream drivers c process fd) _ _ x.0 p (λ s u. first_part _ _ u) t
+turns drivers c process (command.Route fd addr id) x h e p t =
+    turned_on (mux_stream drivers c process fd) _ _ x.0 p (λ s u. first_part _ _ u) t
 turns drivers c process (command.Unroute fd addr) x h e p t = absurd (false≢true t)
-turns drivers c process (command.Write fd addr bytes) x h e p t = turned_on (live_stream c process fd) _ _ x.0 p (λ s u. first_part _ _ u) t
+turns drivers c process (command.Write fd addr bytes) x h e p t =
+    turned_on (live_stream c process fd) _ _ x.0 p (λ s u. first_part _ _ u) t
 turns drivers c process (command.Read fd) x h e p t = turned_on (free_stream c process fd) _ _ x.0 p (λ s u. u) t
 turns drivers c process (command.Flush fd w) x h e p t = absurd (false≢true t)
-turns drivers c process (command.Inject name minor addr bytes) x h e p t = turned_on (live_leaf drivers c name minor) _ _ x.0 p (λ s u. first_part _ _ u) t
-turns drivers c process (command.Transmit name minor) x h e p t = turned_on (live_leaf drivers c name minor) _ _ x.0 p (λ s u. u) t
+turns drivers c process (command.Inject name minor addr bytes) x h e p t =
+    turned_on (live_leaf drivers c name minor) _ _ x.0 p (λ s u. first_part _ _ u) t
+turns drivers c process (command.Transmit name minor) x h e p t =
+    turned_on (live_leaf drivers c name minor) _ _ x.0 p (λ s u. u) t
 turns drivers c process (command.Hangup name minor) x h e p t = absurd (false≢true t)
 
 -- ---- the freed places
 
-freed_on : (r : Result StreamId Fault) (f : StreamId → Place → Bool) (g : StreamId → Wakes) (p : Place) → ((s : StreamId) → f s p ≡ true → freed_under (g s) p ≡ true) → of_stream r f p ≡ true → freed_under (on_stream r g) p ≡ true
+freed_on : (r : Result StreamId Fault) (f : StreamId → Place → Bool) (g : StreamId → Wakes) (p : Place)
+    → ((s : StreamId) → f s p ≡ true → freed_under (g s) p ≡ true) → of_stream r f p ≡ true
+    → freed_under (on_stream r g) p ≡ true
 freed_on (Ok s) f g p h t = h s t
 freed_on (Err e) f g p h t = absurd (false≢true t)
 
-pub frees : (drivers : List DriverSpec) (c new : Configuration) (process : ℕ) (k : Command) (p : Place) → freed_by drivers c process k new p ≡ true → freed_under (wakes_of drivers c process k) p ≡ true
+-- each place that a command may free is one that `wakes_of` says may be freed
+pub frees : (drivers : List DriverSpec) (c new : Configuration) (process : ℕ) (k : Command) (p : Place)
+    → freed_by drivers c process k new p ≡ true → freed_under (wakes_of drivers c process k) p ≡ true
 frees drivers c new process (command.OpenClone name) p t = absurd (false≢true t)
 frees drivers c new process (command.OpenMinor name minor) p t = absurd (false≢true t)
 frees drivers c new process (command.Dup fd) p t = absurd (false≢true t)
@@ -126,27 +151,39 @@ frees drivers c new process (command.Write fd addr bytes) p t = absurd (false≢
 frees drivers c new process (command.Read fd) p t = freed_on (free_stream c process fd) _ _ p (λ s u. u) t
 frees drivers c new process (command.Flush fd w) p t = refl
 frees drivers c new process (command.Inject name minor addr bytes) p t = absurd (false≢true t)
-frees drivers c new process (command.Transmit name minor) p t = freed_on (live_leaf drivers c name minor) _ _ p (λ s u. u) t
+frees drivers c new process (command.Transmit name minor) p t =
+    freed_on (live_leaf drivers c name minor) _ _ p (λ s u. u) t
 frees drivers c new process (command.Hangup name minor) p t = absurd (false≢true t)
 
 -- ---- both ends of a move
 
-pub move_turns : (drivers : List DriverSpec) (c : Configuration) (from to p : Place) → next_open_place drivers c from ≡ Some to → turned_by_move drivers c from p ≡ true → both (same_place from) (same_place to) p ≡ true
-move_turns drivers c from to p e t = by (same_place from p) (subst (λ (o : Option Place). (same_place from p || is_first_there drivers c from o p) ≡ true) e t) where
-  by : (b : Bool) → (b || is_first_there drivers c from (Some to) p) ≡ true → (b || same_place to p) ≡ true
-  by true h = refl
-  by false h = first_part (same_place to p) _ h
+-- each place that a move turns is the one that it takes from, or the one that it goes to
+pub move_turns : (drivers : List DriverSpec) (c : Configuration) (from to p : Place)
+    → next_open_place drivers c from ≡ Some to → turned_by_move drivers c from p ≡ true
+    → both (same_place from) (same_place to) p ≡ true
+move_turns drivers c from to p e t = by (same_place from p)
+    (subst (λ (o : Option Place). (same_place from p || is_first_there drivers c from o p) ≡ true) e t) where
+      by : (b : Bool) → (b || is_first_there drivers c from (Some to) p) ≡ true → (b || same_place to p) ≡ true
+      by true h = refl
+      by false h = first_part (same_place to p) _ h
 
 -- what a move turns, by where it goes
-pub turned_is : (drivers : List DriverSpec) (c new : Configuration) (from to : Place) → next_open_place drivers c from ≡ Some to → TurnsOnly drivers c new (both (same_place from) (is_first_at (after_leaving drivers c from) to)) → TurnsOnly drivers c new (turned_by_move drivers c from)
-turned_is drivers c new from to e h = subst (λ (o : Option Place). TurnsOnly drivers c new (both (same_place from) (is_first_there drivers c from o))) (sym e) h
+pub turned_is : (drivers : List DriverSpec) (c new : Configuration) (from to : Place)
+    → next_open_place drivers c from ≡ Some to
+    → TurnsOnly drivers c new (both (same_place from) (is_first_at (after_leaving drivers c from) to))
+    → TurnsOnly drivers c new (turned_by_move drivers c from)
+turned_is drivers c new from to e h = subst
+    (λ (o : Option Place). TurnsOnly drivers c new (both (same_place from) (is_first_there drivers c from o))) (sym e) h
 
 -- ---- what holds of an accepted outcome
 
-pub of_three : {X : Type 0} {P Q S R : X → Type 0} (r : Result X Fault) → IfOk r P → IfOk r Q → IfOk r S → ((x : X) → r ≡ Ok x → P x → Q x → S x → R x) → IfOk r R
+-- what follows from three properties of an accepted result holds of it, where all three do
+pub of_three : {X : Type 0} {P Q S R : X → Type 0} (r : Result X Fault) → IfOk r P → IfOk r Q → IfOk r S
+    → ((x : X) → r ≡ Ok x → P x → Q x → S x → R x) → IfOk r R
 of_three (Ok x) p q s f = f x refl p q s
 of_three (Err e) p q s f = tt
 
+-- what holds of a result if it is accepted holds of an accepted one
 pub of_accepted : {X : Type 0} (P : X → Type 0) (r : Result X Fault) (x : X) → r ≡ Ok x → IfOk r P → P x
 of_accepted {X = X} P (Ok y) x e h = subst P (same e) h where
   same : ◌≡◌ {A = Result X Fault} (Ok y) (Ok x) → y ≡ x
@@ -155,19 +192,33 @@ of_accepted P (Err g) x e h = absurd cc
 
 -- ---- after a command that was performed
 
+-- if a command is accepted, and all that it may turn and free was woken, the marks are right after it
 abbrev pub IsEnough : List DriverSpec → Configuration → ℕ → Command → Marks → Marks → Type 0
-IsEnough drivers c process k m n = IfOk (outcome drivers c process k) (λ x. IsWoken x.0 (turned_under x.0 (wakes_of drivers c process k)) (freed_under (wakes_of drivers c process k)) m n → AreMarks drivers x.0 n)
+IsEnough drivers c process k m n = IfOk (outcome drivers c process k)
+    (λ x. IsWoken x.0 (turned_under x.0 (wakes_of drivers c process k)) (freed_under (wakes_of drivers c process k)) m n
+    → AreMarks drivers x.0 n)
 
-enough_at : (drivers : List DriverSpec) (c : Configuration) (process : ℕ) (k : Command) (m n : Marks) (x : Configuration × Reply) → IsEnough drivers c process k m n → outcome drivers c process k ≡ Ok x
-    → IsWoken x.0 (turned_under x.0 (wakes_of drivers c process k)) (freed_under (wakes_of drivers c process k)) m n → AreMarks drivers x.0 n
+enough_at : (drivers : List DriverSpec) (c : Configuration) (process : ℕ) (k : Command) (m n : Marks)
+    (x : Configuration × Reply) → IsEnough drivers c process k m n → outcome drivers c process k ≡ Ok x
+    → IsWoken x.0 (turned_under x.0 (wakes_of drivers c process k)) (freed_under (wakes_of drivers c process k)) m n
+    → AreMarks drivers x.0 n
 enough_at drivers c process k m n x enough e =
-    of_accepted (λ (y : Configuration × Reply). IsWoken y.0 (turned_under y.0 (wakes_of drivers c process k)) (freed_under (wakes_of drivers c process k)) m n → AreMarks drivers y.0 n) (outcome drivers c process k) x e enough
+    of_accepted (λ (y : Configuration × Reply). IsWoken y.0 (turned_under y.0 (wakes_of drivers c process k))
+    (freed_under (wakes_of drivers c process k)) m n → AreMarks drivers y.0 n) (outcome drivers c process k) x e enough
 
-pub woken_after : (drivers told done : List DriverSpec) (old new : Lists) (process : ℕ) (k : Command) (result : Result Reply StepError) (r : Reply) (w : Wakes) (m n : Marks) → told ≡ drivers → done ≡ drivers → result ≡ Ok r
-    → RefinesOrNoMemory done old new process k result → w ≡ wakes_of told (configuration_of old) process k → IsEnough drivers (configuration_of old) process k m n
-    → IsWoken (configuration_of new) (turned_under (configuration_of new) w) (freed_under w) m n → AreMarks drivers (configuration_of new) n
+-- where it is enough to wake what a command may turn and free, and that is done after it, the marks are right
+pub woken_after : (drivers told done : List DriverSpec) (old new : Lists) (process : ℕ) (k : Command)
+    (result : Result Reply StepError) (r : Reply) (w : Wakes) (m n : Marks) → told ≡ drivers → done ≡ drivers
+    → result ≡ Ok r
+    → RefinesOrNoMemory done old new process k result → w ≡ wakes_of told (configuration_of old) process k
+    → IsEnough drivers (configuration_of old) process k m n
+    → IsWoken (configuration_of new) (turned_under (configuration_of new) w) (freed_under w) m n
+    → AreMarks drivers (configuration_of new) n
 woken_after drivers told done old new process k result r w m n same same_too is refines tells enough woken =
-    let here = subst (λ (x : Result Reply StepError). RefinesOrNoMemory drivers old new process k x) is (subst (λ (ds : List DriverSpec). RefinesOrNoMemory ds old new process k result) same_too refines) in
-    let told_so : w ≡ wakes_of drivers (configuration_of old) process k = tells ∙ ap (λ (ds : List DriverSpec). wakes_of ds (configuration_of old) process k) same in
+    let here = subst (λ (x : Result Reply StepError). RefinesOrNoMemory drivers old new process k x) is
+    (subst (λ (ds : List DriverSpec). RefinesOrNoMemory ds old new process k result) same_too refines) in
+    let told_so : w ≡ wakes_of drivers (configuration_of old) process k = tells
+    ∙ ap (λ (ds : List DriverSpec). wakes_of ds (configuration_of old) process k) same in
     enough_at drivers (configuration_of old) process k m n (configuration_of new, r) enough here
-    (subst (λ (x : Wakes). IsWoken (configuration_of new) (turned_under (configuration_of new) x) (freed_under x) m n) told_so woken)
+    (subst (λ (x : Wakes). IsWoken (configuration_of new) (turned_under (configuration_of new) x) (freed_under x) m n)
+    told_so woken)

@@ -2,7 +2,9 @@
 use Rattle.std.specs.Prelude.{◌≡◌, List, [], ◌∷◌, filter, refl}
 use Rattle.smx_types.specs.declared.command.Command.{Command}
 use Rattle.smx_types.specs.declared.command.Which.TheVariants as which
-use Rattle.smx_model.specs.Worked.Common.{OpenClone, OpenMinor, Dup, Close, CloseAll, Link, Plink, Unlink, Punlink, Bind, Unbind, Route, Unroute, Write, Read, Flush, Inject, Transmit, Hangup, RW, ip, eth}
+use Rattle.smx_model.specs.Worked.Common.{OpenClone, OpenMinor, Dup, Close, CloseAll, Link, Plink, Unlink, Punlink}
+use Rattle.smx_model.specs.Worked.Common.{Bind, Unbind, Route, Unroute, Write, Read, Flush, Inject, Transmit, Hangup}
+use Rattle.smx_model.specs.Worked.Common.{RW, ip, eth}
 use Rattle.smx_config.specs.Machine.{takes_no_memory}
 
 abbrev pub of_streams : List Command

@@ -4,8 +4,8 @@ use Rattle.smx_types.specs.Drivers.{spec_check}
 use Rattle.smx_types.specs.declared.driver.DriverSpec.{DriverSpec}
 use Rattle.smx_types.specs.declared.limits.TheConstants.{MAX_DRIVERS}
 use Rattle.smx_model.specs.DriverList.{IsDriverList}
-use Rattle.smx_config.specs.declared.fault.ConfigFault.{ConfigFault}
-use Rattle.smx_config.specs.declared.fault.ConfigFault.TheVariants.{BadSpec, SameName, TooMany, NoMemory}
+use Rattle.smx_config.specs.declared.config_fault.ConfigFault.{ConfigFault}
+use Rattle.smx_config.specs.declared.config_fault.ConfigFault.TheVariants.{BadSpec, SameName, TooMany, NoMemory}
 
 -- there are not too many, and the drivers before this one are in order, numbered from 0
 pub record IsFirstBad (drivers : List DriverSpec) (i : ℕ) (d : DriverSpec) : Type 0 where
@@ -13,9 +13,11 @@ pub record IsFirstBad (drivers : List DriverSpec) (i : ℕ) (d : DriverSpec) : T
   pub here : slice_get drivers i ≡ Some d
   pub before : IsDriverList (take i drivers)
 
--- There are too many; or else the least number of a driver that can't be had, or that has the name of an earlier one: a bad driver before a same name.
+-- There are too many; or else the least number of a driver that can't be had, or that has the name of an earlier one:
+-- a bad driver before a same name.
 abbrev pub RefusesDrivers : List DriverSpec → ConfigFault → Type 0
 RefusesDrivers drivers TooMany = MAX_DRIVERS < length drivers
 RefusesDrivers drivers (BadSpec i f) = (d : DriverSpec) × IsFirstBad drivers i d × (spec_check d ≡ Err f)
-RefusesDrivers drivers (SameName i) = (d : DriverSpec) × IsFirstBad drivers i d × (spec_check d ≡ Ok tt) × Any (λ e. e.name ≡ d.name) (take i drivers)
+RefusesDrivers drivers (SameName i) =
+    (d : DriverSpec) × IsFirstBad drivers i d × (spec_check d ≡ Ok tt) × Any (λ e. e.name ≡ d.name) (take i drivers)
 RefusesDrivers drivers NoMemory = IsDriverList drivers

@@ -1,7 +1,7 @@
 -- Why there is no link, as an answer to a command. No public clause needs this.
 use Rattle.smx_types.specs.declared.reply.Fault.TheVariants.{AlreadyBelow, Cycle, TooManyLinks}
-use Rattle.smx_links.specs.declared.fault.LinkFault.{LinkFault}
-use Rattle.smx_links.specs.declared.fault.LinkFault.TheVariants as link_fault
+use Rattle.smx_links.specs.declared.link_fault.LinkFault.{LinkFault}
+use Rattle.smx_links.specs.declared.link_fault.LinkFault.TheVariants as link_fault
 use Rattle.smx_config.specs.declared.step_error.StepError.{StepError}
 use Rattle.smx_config.specs.declared.step_error.StepError.TheVariants.{Refused, NoMemory}
 

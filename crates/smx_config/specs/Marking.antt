@@ -1,5 +1,5 @@
--- Run marks, wanted marks and the places that wait beside the lists, and what marks a change puts and takes. No public clause
--- needs this.
+-- Run marks, wanted marks and the places that wait beside the lists, and what marks a change puts and takes. No
+-- public clause needs this.
 use Rattle.std.specs.Prelude.{◌≡◌, ◌≢◌, ℕ, Bool, true, false, ◌&&◌, ◌==◌, List, None, Some}
 use Rattle.smx_types.specs.declared.driver.DriverSpec.{DriverSpec}
 use Rattle.smx_types.specs.declared.stream.Place.{Place}
@@ -22,8 +22,8 @@ marked_configuration c m = record { configuration = c; run = has_mark m.run; wan
 abbrev pub IsNotedFor : Marks → Place → Place → Type 0
 IsNotedFor m p q = target_of m.waits p ≡ Some q
 
--- over these drivers, each place without a run mark waits, a wanted mark stands at full places alone, and where there is no
--- run mark and the first message has a next place, that it waits for that place is noted
+-- over these drivers, each place without a run mark waits, a wanted mark stands at full places alone, and where there
+-- is no run mark and the first message has a next place, that it waits for that place is noted
 pub record AreMarks (drivers : List DriverSpec) (c : Configuration) (m : Marks) : Type 0 where
   pub few : HaveFewMinors drivers
   pub run : m.run.drivers ≡ drivers
@@ -44,7 +44,8 @@ is_read_below_driver c driver p = same_side p.side side.Read && is_below_driver 
 -- of the places that pass the test, those with a message have a mark, and all that had one
 pub record IsMarkedWhere (flow : List QueuedMessage) (test : Place → Bool) (old new : MarkList) : Type 0 where
   pub kept : (p : Place) → has_mark old p ≡ true → has_mark new p ≡ true
-  pub marked : (p : Place) → IsKnown old.drivers p.stream → first_message flow p ≢ None → test p ≡ true → has_mark new p ≡ true
+  pub marked : (p : Place) → IsKnown old.drivers p.stream → first_message flow p ≢ None → test p ≡ true
+      → has_mark new p ≡ true
   pub drivers : new.drivers ≡ old.drivers
 
 -- the mark of the place is gone
@@ -58,7 +59,8 @@ pub record AreWaitersMarked (waits : WaitList) (q : Place) (old new : MarkList) 
   pub marked : (p : Place) → IsKnown old.drivers p.stream → target_of waits p ≡ Some q → has_mark new p ≡ true
   pub same_drivers : new.drivers ≡ old.drivers
 
--- of the freed places those that are wanted and no longer full are wanted no more, and what waits for them has a run mark
+-- of the freed places those that are wanted and no longer full are wanted no more, and what waits for them has a run
+-- mark
 pub record IsReleased (c : Configuration) (freed : Place → Bool) (old new : Marks) : Type 0 where
   pub kept : (p : Place) → has_mark old.run p ≡ true → has_mark new.run p ≡ true
   pub waiters : (q p : Place) → freed q ≡ true → is_full c q ≡ false → has_mark old.wanted q ≡ true
@@ -74,4 +76,5 @@ pub record IsReleased (c : Configuration) (freed : Place → Bool) (old new : Ma
 -- the same, and the turned places with a message have a run mark
 pub record IsWoken (c : Configuration) (turned freed : Place → Bool) (old new : Marks) : Type 0 where
   pub released : IsReleased c freed old new
-  pub turned_ones : (p : Place) → IsKnown old.run.drivers p.stream → first_message c.flow p ≢ None → turned p ≡ true → has_mark new.run p ≡ true
+  pub turned_ones : (p : Place) → IsKnown old.run.drivers p.stream → first_message c.flow p ≢ None → turned p ≡ true
+      → has_mark new.run p ≡ true

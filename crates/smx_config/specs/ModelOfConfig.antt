@@ -28,10 +28,11 @@ pub record ConfigInvariant (c : Inside) : Type 0 where
   pub streams : c.lists.streams.minors ≡ map (λ d. d.minors) c.drivers.items
   -- the table of queues is over the drivers
   pub queues : c.lists.queues.drivers ≡ c.drivers.items
-  -- the table of streams has a stream exactly where the stream exists: where a descriptor names it, or it is below a link
+  -- the table of streams has a stream exactly where the stream exists: where a descriptor names it, or it is below a
+  -- link
   pub existing : TellsExisting c.drivers.items (configuration_of c.lists) c.lists.streams
-  -- each place without a run mark waits, a wanted mark stands at full places alone, and what is held up is listed with the
-  -- place that holds it up
+  -- each place without a run mark waits, a wanted mark stands at full places alone, and what is held up is listed
+  -- with the place that holds it up
   pub marks : AreMarks c.drivers.items (configuration_of c.lists) c.marks
   -- none has a run mark
   pub rest : IsAtRest c.drivers.items (marked_configuration (configuration_of c.lists) c.marks)

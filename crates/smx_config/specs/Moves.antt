@@ -16,4 +16,5 @@ if_open c o = do
 -- from the least movable place to its next open place; or no place is movable
 abbrev pub IsLeastMove : List DriverSpec → Configuration → Option Move → Type 0
 IsLeastMove drivers c None = least_movable drivers c ≡ None
-IsLeastMove drivers c (Some m) = (least_movable drivers c ≡ Some m.from) × (next_open_place drivers c m.from ≡ Some m.to)
+IsLeastMove drivers c (Some m) =
+    (least_movable drivers c ≡ Some m.from) × (next_open_place drivers c m.from ≡ Some m.to)

@@ -39,16 +39,19 @@ HasOutcome old new o (Err f) = (configuration_of new ≡ configuration_of old) �
 -- the same; or a growth was refused of what was accepted, and nothing has changed
 abbrev pub HasOutcomeOrNoMemory : Lists → Lists → Outcome → Result Reply StepError → Type 0
 HasOutcomeOrNoMemory old new o (Ok r) = o ≡ Ok (configuration_of new, r)
-HasOutcomeOrNoMemory old new o (Err (step_error.Refused f)) = (configuration_of new ≡ configuration_of old) × (o ≡ Err f)
+HasOutcomeOrNoMemory old new o (Err (step_error.Refused f)) =
+    (configuration_of new ≡ configuration_of old) × (o ≡ Err f)
 HasOutcomeOrNoMemory old new o (Err step_error.NoMemory) = (configuration_of new ≡ configuration_of old) × IsOk o
 
 -- a command that takes no memory comes to the outcome of the command table
 abbrev pub Refines : List DriverSpec → Lists → Lists → ℕ → Command → Result Reply Fault → Type 0
-Refines drivers old new process command result = HasOutcome old new (outcome drivers (configuration_of old) process command) result
+Refines drivers old new process command result =
+    HasOutcome old new (outcome drivers (configuration_of old) process command) result
 
 -- and so does one that may take some
 abbrev pub RefinesOrNoMemory : List DriverSpec → Lists → Lists → ℕ → Command → Result Reply StepError → Type 0
-RefinesOrNoMemory drivers old new process command result = HasOutcomeOrNoMemory old new (outcome drivers (configuration_of old) process command) result
+RefinesOrNoMemory drivers old new process command result =
+    HasOutcomeOrNoMemory old new (outcome drivers (configuration_of old) process command) result
 
 -- the answer of a command that takes no memory, among those that may take some
 abbrev pub as_step_error : Result Reply Fault → Result Reply StepError

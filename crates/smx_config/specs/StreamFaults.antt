@@ -1,7 +1,7 @@
 -- Why no stream is opened, as an answer to a command. No public clause needs this.
 use Rattle.smx_types.specs.declared.reply.Fault.TheVariants.{BadDescriptor, NoDriver, NoMinor, TooManyDescriptors}
-use Rattle.smx_streams.specs.declared.fault.StreamFault.{StreamFault}
-use Rattle.smx_streams.specs.declared.fault.StreamFault.TheVariants as stream_fault
+use Rattle.smx_streams.specs.declared.stream_fault.StreamFault.{StreamFault}
+use Rattle.smx_streams.specs.declared.stream_fault.StreamFault.TheVariants as stream_fault
 use Rattle.smx_config.specs.declared.step_error.StepError.{StepError}
 use Rattle.smx_config.specs.declared.step_error.StepError.TheVariants.{Refused, NoMemory}
 

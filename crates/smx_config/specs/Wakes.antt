@@ -52,13 +52,18 @@ wakes_of drivers c process (command.Link fd arg) = on_stream (stream_of c proces
 wakes_of drivers c process (command.Plink fd arg) = on_stream (stream_of c process arg) (λ s. wakes.Turns (read_side s))
 wakes_of drivers c process (command.Unlink fd w) = wakes.Frees
 wakes_of drivers c process (command.Punlink fd w) = wakes.Frees
-wakes_of drivers c process (command.Bind fd addr) = on_stream (mux_stream drivers c process fd) (λ s. wakes.TurnsReads s.driver)
+wakes_of drivers c process (command.Bind fd addr) =
+    on_stream (mux_stream drivers c process fd) (λ s. wakes.TurnsReads s.driver)
 wakes_of drivers c process (command.Unbind fd) = wakes.Nothing
-wakes_of drivers c process (command.Route fd addr id) = on_stream (mux_stream drivers c process fd) (λ s. wakes.TurnsWrites s.driver)
+wakes_of drivers c process (command.Route fd addr id) =
+    on_stream (mux_stream drivers c process fd) (λ s. wakes.TurnsWrites s.driver)
 wakes_of drivers c process (command.Unroute fd addr) = wakes.Nothing
-wakes_of drivers c process (command.Write fd addr bytes) = on_stream (live_stream c process fd) (λ s. wakes.Turns (write_side s))
+wakes_of drivers c process (command.Write fd addr bytes) =
+    on_stream (live_stream c process fd) (λ s. wakes.Turns (write_side s))
 wakes_of drivers c process (command.Read fd) = on_stream (free_stream c process fd) (λ s. wakes.Leaves (read_side s))
 wakes_of drivers c process (command.Flush fd w) = wakes.Frees
-wakes_of drivers c process (command.Inject name minor addr bytes) = on_stream (live_leaf drivers c name minor) (λ s. wakes.Turns (read_side s))
-wakes_of drivers c process (command.Transmit name minor) = on_stream (live_leaf drivers c name minor) (λ s. wakes.Leaves (write_side s))
+wakes_of drivers c process (command.Inject name minor addr bytes) =
+    on_stream (live_leaf drivers c name minor) (λ s. wakes.Turns (read_side s))
+wakes_of drivers c process (command.Transmit name minor) =
+    on_stream (live_leaf drivers c name minor) (λ s. wakes.Leaves (write_side s))
 wakes_of drivers c process (command.Hangup name minor) = wakes.Nothing

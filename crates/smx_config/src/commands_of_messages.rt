@@ -15,10 +15,10 @@ ghost use Rattle.smx_config.specs.Sending.{is_at_end, may_send, read_from, recei
 use crate::lookups::live_stream;
 use crate::refuse::refuse;
 use crate::step_error::StepError;
+use smx_tables::arrivals::{arrive, leave};
 use smx_tables::driver_specs::max_of;
 use smx_tables::dropped_messages::drop_sides;
 use smx_tables::lists::Lists;
-use smx_tables::queues::{arrive, leave};
 use smx_tables::sweep::{reserve_for_sweep, sweep_and_reply};
 use smx_types::{
     Bytes, DriverSpec, Fault, Message, NUMBER_END, Place, Process, Reply, Side, Sides, StreamId,

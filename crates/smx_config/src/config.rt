@@ -12,8 +12,8 @@ ghost use Rattle.smx_model.specs.Views.{view};
 ghost use Rattle.smx_config.specs.DriverFaults.{RefusesDrivers};
 ghost use Rattle.smx_config.specs.Machine.{takes_no_memory};
 
+use crate::config_fault::ConfigFault;
 use crate::driver_list::check_drivers;
-use crate::fault::ConfigFault;
 use crate::laws_of_waking::woken_marks_are_enough;
 use crate::marks::{Marks, copy_marks, no_marks};
 use crate::perform::perform;

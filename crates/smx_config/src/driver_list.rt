@@ -3,9 +3,9 @@
 ghost use Rattle.std.specs.Prelude.{◌≡◌, ◌≢◌, ◌↔◌, Any, IfErr, IsOk, IsTrue, ◌<◌, Err};
 ghost use Rattle.smx_model.specs.DriverList.{IsDriverList};
 ghost use Rattle.smx_config.specs.DriverFaults.{RefusesDrivers};
-ghost use Rattle.smx_config.specs.declared.fault.ConfigFault.TheVariants.{NoMemory};
+ghost use Rattle.smx_config.specs.declared.config_fault.ConfigFault.TheVariants.{NoMemory};
 
-use crate::fault::ConfigFault;
+use crate::config_fault::ConfigFault;
 use smx_types::{DriverSpec, MAX_DRIVERS, Name};
 
 /// Whether a configuration can have these drivers; if not, why. Takes no memory.

@@ -10,7 +10,7 @@ ghost use Rattle.smx_config.specs.DriverFaults.{RefusesDrivers};
 ghost use Rattle.smx_config.specs.Verdicts.{IsVerdict};
 
 use crate::config::Config;
-use crate::fault::ConfigFault;
+use crate::config_fault::ConfigFault;
 use crate::verdict::Verdict;
 use smx_model::laws::one_entry_more;
 use smx_types::{ConfigView, DriverSpec, Entry, NoMemory, Same};

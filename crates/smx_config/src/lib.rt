@@ -6,8 +6,8 @@ mod commands_of_links;
 mod commands_of_messages;
 mod commands_of_streams;
 mod config;
+mod config_fault;
 mod driver_list;
-mod fault;
 mod history;
 pub mod laws_of_drivers;
 pub mod laws_of_verdicts;
@@ -26,6 +26,6 @@ mod wakes;
 mod waking;
 
 pub use config::Config;
-pub use fault::ConfigFault;
+pub use config_fault::ConfigFault;
 pub use history::check_history;
 pub use verdict::Verdict;

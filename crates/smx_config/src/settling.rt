@@ -101,7 +101,7 @@ fn clear_mark(
 
 // The least movable place, with where its first message goes. Only places with a run mark are looked at, and the marks of
 // those that come before it are cleared.
-fn next_move(drivers: &[DriverSpec], lists: &Lists, marks: &mut Marks) -> Option<Move>
+fn marked_move(drivers: &[DriverSpec], lists: &Lists, marks: &mut Marks) -> Option<Move>
     requires sound { IsSound drivers.now (configuration_of lists.now) }
     requires marks { AreMarks drivers.now (configuration_of lists.now) marks.old }
     ensures least { IsLeastMove drivers.now (configuration_of lists.now) result }
@@ -118,6 +118,22 @@ fn next_move(drivers: &[DriverSpec], lists: &Lists, marks: &mut Marks) -> Option
         clear_mark(drivers, lists, marks, from, next);
     }
     None
+}
+
+// The same, for where mostly no place has a run mark.
+fn next_move(drivers: &[DriverSpec], lists: &Lists, marks: &mut Marks) -> Option<Move>
+    requires sound { IsSound drivers.now (configuration_of lists.now) }
+    requires marks { AreMarks drivers.now (configuration_of lists.now) marks.old }
+    ensures least { IsLeastMove drivers.now (configuration_of lists.now) result }
+    ensures marks { AreMarks drivers.now (configuration_of lists.now) marks.new }
+    ensures none { IfNone result (HasNoRunMark (has_mark marks.new.run)) }
+{
+    without_marks_it_is_settled();
+    let (_drivers, _lists) = (drivers, lists);
+    match marks.run.first() {
+        Some(_place) => marked_move(drivers, lists, marks),
+        None => None,
+    }
 }
 
 // The first message of a place moves on to its next place.

@@ -14,8 +14,8 @@ use crate::marks::Marks;
 use crate::run_marks::{mark_reads, mark_waiting, mark_writes};
 use crate::wakes::Wakes;
 use smx_queues::{PlaceMarks, Waiters};
+use smx_tables::comparisons::same_place;
 use smx_tables::lists::Lists;
-use smx_tables::streams::same_place;
 use smx_types::{DriverSpec, Place};
 
 // Marks those of the waiting places that wait for this one.

@@ -1,5 +1,6 @@
 -- What a filter says where nothing comes of the bytes that it read.
-use Rattle.std.proofs.Common.{◌≡◌, ◌≢◌, ℕ, List, Option, Some, None, Bool, Result, Ok, Err, String, Vec, sym, subst, rules, arith, inl}
+use Rattle.std.proofs.Common.{◌≡◌, ◌≢◌, ℕ, List, Option, Some, None, Bool, Result, Ok, Err, String, Vec, sym, subst}
+use Rattle.std.proofs.Common.{rules, arith, inl}
 use Rattle.std.specs.Prelude.{IsErrAnd, IsErrOf}
 use Rattle.std.specs.Global.{Global}
 use Rattle.std.specs.Io.KnownBytes.{Keeps}
@@ -7,15 +8,15 @@ use Rattle.smx_types.specs.declared.driver.DriverSpec.{DriverSpec}
 use Rattle.smx_types.specs.declared.transcript.Transcript.{Transcript}
 use Rattle.smx_text.specs.Grammar.{ReadsAny}
 use Rattle.smx_text.specs.TranscriptText.{transcript_grammar}
-use Rattle.smx_text.specs.declared.fault.TextFault.{TextFault}
+use Rattle.smx_text.specs.declared.text_fault.TextFault.{TextFault}
 use Rattle.smx_config.specs.DriverFaults.{RefusesDrivers}
-use Rattle.smx_config.specs.declared.fault.ConfigFault.{ConfigFault}
-use Rattle.smx_config.specs.declared.fault.ConfigFault.TheVariants as config
+use Rattle.smx_config.specs.declared.config_fault.ConfigFault.{ConfigFault}
+use Rattle.smx_config.specs.declared.config_fault.ConfigFault.TheVariants as config
 use Rattle.smx_config.specs.declared.verdict.Verdict.{Verdict}
 use Rattle.smx_run.specs.RunFaults.{RefusesAlone, run_fault_of}
-use Rattle.smx_run.specs.declared.fault.RunFault.{RunFault}
-use Rattle.smx_filters.specs.declared.fault.MainFault.{MainFault}
-use Rattle.smx_filters.specs.declared.fault.MainFault.TheVariants.{Refused, Text, TooLong, ReadFailed, WriteFailed}
+use Rattle.smx_run.specs.declared.run_fault.RunFault.{RunFault}
+use Rattle.smx_filters.specs.declared.main_fault.MainFault.{MainFault}
+use Rattle.smx_filters.specs.declared.main_fault.MainFault.TheVariants.{Refused, Text, TooLong, ReadFailed, WriteFailed}
 use Rattle.smx_filters.specs.Filters.{Filter, Answers, FiltersText, IsFaultOf, RefusesFor}
 use Rattle.smx_filters.specs.Input.{IsInput, IsWhole}
 use Rattle.smx_filters.specs.CheckText.{checking, judged_of}
@@ -30,9 +31,13 @@ kept (Some bytes) = search rules
 fault_of : {T : Type 0} {e f : MainFault} → IsErrOf {T = T} (Err e) f → e ≡ f
 fault_of is = cc
 
-module _ {V K T : Type 0} (filter : Filter V K T) (had left : Option (List ℕ)) (ended : Bool) (failures : ℕ) (held : Option (List ℕ)) (flushed : Bool) (written : ℕ) (v : Vec ℕ Global) (read : List ℕ) (h : IsInput had left ended failures (Ok v) read) (fine : written ≡ 0) where
+module _ {V K T : Type 0} (filter : Filter V K T) (had left : Option (List ℕ)) (ended : Bool) (failures : ℕ)
+    (held : Option (List ℕ)) (flushed : Bool) (written : ℕ) (v : Vec ℕ Global) (read : List ℕ)
+    (h : IsInput had left ended failures (Ok v) read) (fine : written ≡ 0) where
   -- the part that every such fault has
-  said : (e : MainFault) → e ≢ TooLong → e ≢ ReadFailed → e ≢ WriteFailed → ((f : TextFault) → e ≡ Text f → IsFaultOf filter read f) → ((f : RunFault) → e ≡ Refused f → RefusesFor filter read f)
+  said : (e : MainFault) → e ≢ TooLong → e ≢ ReadFailed → e ≢ WriteFailed
+      → ((f : TextFault) → e ≡ Text f → IsFaultOf filter read f)
+      → ((f : RunFault) → e ≡ Refused f → RefusesFor filter read f)
       → FiltersText filter had left ended failures held held flushed written (Err e)
   said e not_long not_read not_written text refused = record {
     read = read;
@@ -41,8 +46,12 @@ module _ {V K T : Type 0} (filter : Filter V K T) (had left : Option (List ℕ))
     done = tt;
     text = λ f is. (whole, text f is);
     refused = λ f is. inl (whole, refused f is);
-    too_long = (λ is. absurd (not_long (fault_of is)), λ long. let over : ok ≡ Err TooLong = h.too_long.1 long in absurd cc);
-    read_failed = (λ is. absurd (not_read (fault_of is)), λ failed. let broken : ok ≡ Err ReadFailed = h.read_failed.1 failed in absurd cc);
+    too_long =
+        (λ is. absurd (not_long (fault_of is)), λ long. let over : ok ≡ Err TooLong = h.too_long.1 long in absurd cc);
+    read_failed = (
+      λ is. absurd (not_read (fault_of is)),
+      λ failed. let broken : ok ≡ Err ReadFailed = h.read_failed.1 failed in absurd cc,
+    );
     write_failed = (λ is. absurd (not_written (fault_of is)), λ failed. absurd (omega arith));
     cut_short = λ is. absurd (not_written is);
     unwritten = λ differs. kept held;
@@ -53,27 +62,40 @@ module _ {V K T : Type 0} (filter : Filter V K T) (had left : Option (List ℕ))
     ok : Result (Vec ℕ Global) MainFault
     ok = Ok v
 
-  at_answer : (e : MainFault) → Answers filter v.items (Err e) → FiltersText filter had left ended failures held held flushed written (Err e)
-  at_answer (Text f) a = said (Text f) (λ is. cc) (λ is. cc) (λ is. cc) (λ g is. let same : f ≡ g = cc in subst (λ (x : TextFault). IsFaultOf filter read x) same (subst (λ (bytes : List ℕ). IsFaultOf filter bytes f) h.answered a)) (λ g is. absurd cc)
-  at_answer (Refused f) a = said (Refused f) (λ is. cc) (λ is. cc) (λ is. cc) (λ g is. absurd cc) (λ g is. let same : f ≡ g = cc in subst (λ (x : RunFault). RefusesFor filter read x) same (subst (λ (bytes : List ℕ). RefusesFor filter bytes f) h.answered a))
+  at_answer : (e : MainFault) → Answers filter v.items (Err e)
+      → FiltersText filter had left ended failures held held flushed written (Err e)
+  at_answer (Text f) a = said (Text f) (λ is. cc) (λ is. cc) (λ is. cc) (λ g is. let same : f ≡ g = cc in
+      subst (λ (x : TextFault). IsFaultOf filter read x) same
+      (subst (λ (bytes : List ℕ). IsFaultOf filter bytes f) h.answered a)) (λ g is. absurd cc)
+  at_answer (Refused f) a = said (Refused f) (λ is. cc) (λ is. cc) (λ is. cc) (λ g is. absurd cc)
+      (λ g is. let same : f ≡ g = cc in
+      subst (λ (x : RunFault). RefusesFor filter read x) same
+      (subst (λ (bytes : List ℕ). RefusesFor filter bytes f) h.answered a))
   at_answer TooLong a = absurd a
   at_answer ReadFailed a = absurd a
   at_answer WriteFailed a = absurd a
 
   -- and a `?` passes the fault on as it is
-  pub passed_on : (e : MainFault) (answer : Result T MainFault) → IsErrAnd answer (λ f. f ≡ e) → Answers filter v.items (Err e) → FiltersText filter had left ended failures held held flushed written answer
+  pub passed_on : (e : MainFault) (answer : Result T MainFault) → IsErrAnd answer (λ f. f ≡ e)
+      → Answers filter v.items (Err e) → FiltersText filter had left ended failures held held flushed written answer
   passed_on e (Ok x) is a = absurd is
-  passed_on e (Err f) is a = subst (λ (x : MainFault). FiltersText filter had left ended failures held held flushed written (Err x)) (sym is) (at_answer e a)
+  passed_on e (Err f) is a = subst
+      (λ (x : MainFault). FiltersText filter had left ended failures held held flushed written (Err x)) (sym is)
+      (at_answer e a)
 
 -- where the text is refused, its fault is the answer of a run
-pub text_refused : (fronts : Bool) (workers : ℕ) (bytes input : List ℕ) → bytes ≡ input → (f : TextFault) (answer : Result (Vec ℕ Global) MainFault) → IsErrAnd answer (λ e. e ≡ Text f) → IsFaultOf (running fronts workers) bytes f
+pub text_refused : (fronts : Bool) (workers : ℕ) (bytes input : List ℕ) → bytes ≡ input
+    → (f : TextFault) (answer : Result (Vec ℕ Global) MainFault) → IsErrAnd answer (λ e. e ≡ Text f)
+    → IsFaultOf (running fronts workers) bytes f
     → Answers (running fronts workers) input (items_of answer)
 text_refused fronts workers bytes input same f (Ok v) is a = absurd is
 text_refused fronts workers bytes input same f (Err e) is a =
-    subst (λ (x : MainFault). Answers (running fronts workers) input (Err x)) (sym is) (subst (λ (given : List ℕ). IsFaultOf (running fronts workers) given f) same a)
+    subst (λ (x : MainFault). Answers (running fronts workers) input (Err x)) (sym is)
+    (subst (λ (given : List ℕ). IsFaultOf (running fronts workers) given f) same a)
 
 -- drivers that a configuration can't have are refused so, and else memory was wanting
-pub alone_of : (drivers : List DriverSpec) (f : ConfigFault) → RefusesDrivers drivers f → RefusesAlone drivers (run_fault_of f)
+pub alone_of : (drivers : List DriverSpec) (f : ConfigFault) → RefusesDrivers drivers f
+    → RefusesAlone drivers (run_fault_of f)
 alone_of drivers config.NoMemory refused = refused
 alone_of drivers config.TooMany refused = (refused, λ is. cc)
 alone_of drivers (config.BadSpec i why) refused = (refused, λ is. cc)
@@ -81,7 +103,8 @@ alone_of drivers (config.SameName i) refused = (refused, λ is. cc)
 
 -- where what was read is not judged, that is the answer of a check
 pub judged_refused : (input : List ℕ) (t : Transcript) → ReadsAny transcript_grammar input (Ok t) → (f : ConfigFault)
-    (answer : Result (Verdict × String Global) MainFault) → IsErrAnd answer (λ e. e ≡ Refused (run_fault_of f)) → RefusesDrivers t.drivers f
+    (answer : Result (Verdict × String Global) MainFault) → IsErrAnd answer (λ e. e ≡ Refused (run_fault_of f))
+    → RefusesDrivers t.drivers f
     → Answers checking input (judged_of answer)
 judged_refused input t read f (Ok x) is refused = absurd is
 judged_refused input t read f (Err e) is refused =

@@ -1,12 +1,13 @@
 -- What a filter says of an input in memory.
-use Rattle.std.proofs.Common.{◌≡◌, ◌≢◌, ℕ, ◌+◌, ◌≤◌, ltb, Bool, List, [], ◌++◌, length, drop, Some, Result, Ok, Err, sym, ap, ◌∙◌, arith, inl, inr, length-append, refl}
+use Rattle.std.proofs.Common.{◌≡◌, ◌≢◌, ℕ, ◌+◌, ◌≤◌, ltb, Bool, List, [], ◌++◌, length, drop, Some, Result, Ok, Err}
+use Rattle.std.proofs.Common.{sym, ap, ◌∙◌, arith, inl, inr, length-append, refl}
 use Rattle.std.proofs.lemmas.Bool.{cases_Bool}
 use Rattle.std.proofs.lemmas.Bool.Decides.{nat_tests}
 use Rattle.std.proofs.lemmas.List.{drop_at, nil_from_length}
 use Rattle.smx_filters.specs.Filters.{Filter, FiltersText}
 use Rattle.smx_filters.specs.InMemory.{EndsInMemory, IsCutShort}
-use Rattle.smx_filters.specs.declared.fault.MainFault.{MainFault}
-use Rattle.smx_filters.specs.declared.fault.MainFault.TheVariants.{Refused, Text, TooLong, ReadFailed, WriteFailed}
+use Rattle.smx_filters.specs.declared.main_fault.MainFault.{MainFault}
+use Rattle.smx_filters.specs.declared.main_fault.MainFault.TheVariants.{Refused, Text, TooLong, ReadFailed, WriteFailed}
 use Rattle.smx_filters.specs.declared.input.TheConstants.{MAX_INPUT}
 
 -- of a whole input nothing is left
@@ -20,24 +21,35 @@ module _ {V K T : Type 0} (f : Filter V K T) (input left output : List ℕ) (end
   Filtered answer = FiltersText f (Some input) (Some left) ended 0 (Some []) (Some output) flushed 0 answer
 
   -- an answer that is not TooLong is of an input that is short enough
-  short : (answer : Result T MainFault) → (h : Filtered answer) → answer ≢ Err TooLong → input ≡ h.read → length input ≤ MAX_INPUT
+  short : (answer : Result T MainFault) → (h : Filtered answer) → answer ≢ Err TooLong → input ≡ h.read
+      → length input ≤ MAX_INPUT
   short answer h other whole = elim (cases_Bool (ltb MAX_INPUT (length h.read))) [
     | inl t ↦ absurd (other (h.too_long.1 (grind (arith, nat_tests))))
     | inr f ↦ let few : length h.read ≤ MAX_INPUT = grind (arith, nat_tests) in rw whole few
   ]
 
   -- what it says
-  pub ends : (answer : Result T MainFault) → Filtered answer → EndsInMemory f input left output flushed answer
+  pub ends : (answer : Result T MainFault) → Filtered answer → EndsInMemory f input left ended output flushed answer
   ends (Ok a) h =
-      let (whole, is_flushed, bytes, gives, out) = h.done in
-      (short (Ok a) h (λ e. cc) whole.1, none_left input h.read left h.consumed whole.1, is_flushed, rw (whole.1, out) gives)
+      let (whole, is_flushed, bytes, gives, out) = h.done in (
+        short (Ok a) h (λ e. cc) whole.1,
+        none_left input h.read left h.consumed whole.1,
+        whole.0,
+        is_flushed,
+        rw (whole.1, out) gives,
+      )
   ends (Err (Text fault)) h =
-      let told = h.text fault refl in
-      (short _ h (λ e. cc) told.0.1, none_left input h.read left h.consumed told.0.1, h.unwritten (λ e. cc), rw told.0.1 told.1)
+      let told = h.text fault refl in (
+        short _ h (λ e. cc) told.0.1,
+        none_left input h.read left h.consumed told.0.1,
+        told.0.0,
+        h.unwritten (λ e. cc),
+        rw told.0.1 told.1,
+      )
   ends (Err (Refused fault)) h = (
     elim (h.refused fault refl) [
-      | inl told ↦ inl (short _ h (λ e. cc) told.0.1, rw told.0.1 told.1)
-      | inr none ↦ inr none.0
+      | inl told ↦ inl (short _ h (λ e. cc) told.0.1, told.0.0, rw told.0.1 told.1)
+      | inr none ↦ inr none
     ],
     h.unwritten (λ e. cc),
   )
@@ -69,4 +81,11 @@ module _ {V K T : Type 0} (f : Filter V K T) (input left output : List ℕ) (end
       let told : Err e ≡ Err WriteFailed = h.write_failed.1 refl in
       let is : e ≡ WriteFailed = cc in
       let (whole, given, bytes, gives, beginning) = h.cut_short is in
-      record { told = told; given = given; whole = bytes; gives = rw whole.1 gives; count = beginning.0; beginning = beginning.1 }
+      record {
+        told = told;
+        given = given;
+        whole = bytes;
+        gives = rw whole.1 gives;
+        count = beginning.0;
+        beginning = beginning.1;
+      }

@@ -4,4 +4,10 @@ pub mod FilterLemmas
 pub mod InMemoryLemmas
 pub mod FrontsTextLemmas
 pub mod ToldLemmas
+pub mod ReadingLemmas
 pub mod ReplayTextLemmas
+pub mod WritingFilterLemmas
+pub mod DrawTextLemmas
+pub mod OneProcessLemmas
+pub mod AnswerLemmas
+pub mod FrontsLawLemmas

@@ -1,5 +1,6 @@
 -- What a replay says of the input that was read whole, and the laws of replays over bytes.
-use Rattle.std.proofs.Common.{◌≡◌, ◌≢◌, ℕ, Bool, true, List, length, Option, Vec, Result, Ok, Err, refl, sym, ap, subst, ◌∙◌, arith}
+use Rattle.std.proofs.Common.{◌≡◌, ◌≢◌, ℕ, Bool, true, List, length, Option, Vec, Result, Ok, Err, refl, sym, ap, subst}
+use Rattle.std.proofs.Common.{◌∙◌, arith}
 use Rattle.std.specs.Prelude.{IfErr, IsErrAnd, OnErr, OnOk}
 use Rattle.std.specs.Global.{Global}
 use Rattle.std.specs.Io.KnownBytes.{Appends}
@@ -8,11 +9,11 @@ use Rattle.smx_types.specs.declared.version.Version.{Version}
 use Rattle.smx_model.specs.DriverList.{IsDriverList}
 use Rattle.smx_text.specs.Grammar.{ReadsAny, Spells, full_text}
 use Rattle.smx_text.specs.TranscriptText.{IsAllowed, IsSpellable, transcript_grammar, transcript_text}
-use Rattle.smx_text.specs.declared.fault.Cause.TheVariants.{NoMemory}
-use Rattle.smx_text.specs.declared.fault.TextFault.{TextFault}
+use Rattle.smx_text.specs.declared.text_fault.Cause.TheVariants.{NoMemory}
+use Rattle.smx_text.specs.declared.text_fault.TextFault.{TextFault}
 use Rattle.smx_config.specs.DriverFaults.{RefusesDrivers}
 use Rattle.smx_config.specs.Verdicts.{IsVerdict}
-use Rattle.smx_config.specs.declared.fault.ConfigFault.{ConfigFault}
+use Rattle.smx_config.specs.declared.config_fault.ConfigFault.{ConfigFault}
 use Rattle.smx_config.specs.declared.verdict.Verdict.TheVariants.{Legal}
 use Rattle.smx_replay.specs.Replays.{IsReplayOf, IsReplayText}
 use Rattle.smx_run.specs.RunFaults.{run_fault_of}
@@ -22,18 +23,15 @@ use Rattle.smx_filters.specs.Input.{IsInput, IsWhole}
 use Rattle.smx_filters.specs.Output.{AppendsBeginning}
 use Rattle.smx_filters.specs.ReplayText.{replaying}
 use Rattle.smx_filters.specs.RunText.{items_of}
-use Rattle.smx_filters.specs.declared.fault.MainFault.{MainFault}
-use Rattle.smx_filters.specs.declared.fault.MainFault.TheVariants.{Refused, Text, TooLong, ReadFailed, WriteFailed}
+use Rattle.smx_filters.specs.declared.main_fault.MainFault.{MainFault}
+use Rattle.smx_filters.specs.declared.main_fault.MainFault.TheVariants.{Refused, Text, TooLong, ReadFailed, WriteFailed}
 use Rattle.smx_filters.proofs.FilterLemmas.{alone_of}
+use Rattle.smx_filters.proofs.ReadingLemmas.{HasOneReading, one_value}
 
 -- ---- what other crates' laws say
 
 abbrev CanBeTold : Type 0
 CanBeTold = (t r : Transcript) → IsAllowed t.version t → IsReplayOf t r → IsSpellable r → IsAllowed r.version r
-
-abbrev HasOneReading : Type 0
-HasOneReading = (bytes : List ℕ) (r s : Result Transcript TextFault) → ReadsAny transcript_grammar bytes r → ReadsAny transcript_grammar bytes s
-    → IfErr r (λ f. f.cause ≢ NoMemory) → IfErr s (λ f. f.cause ≢ NoMemory) → r ≡ s
 
 abbrev HasOneReplay : Type 0
 HasOneReplay = (t r s : Transcript) → IsReplayOf t r → IsReplayOf t s → r ≡ s
@@ -47,11 +45,13 @@ IsJudgedLegal = (t r : Transcript) → IsReplayOf t r → IsVerdict r.drivers r.
 -- ---- answers
 
 -- a transcript that is spelled is within the limits of its own version
-allowed_of : (version : Version) (bytes : List ℕ) (t : Transcript) → Spells (transcript_grammar version) bytes t → IsAllowed t.version t
+allowed_of : (version : Version) (bytes : List ℕ) (t : Transcript) → Spells (transcript_grammar version) bytes t
+    → IsAllowed t.version t
 allowed_of version bytes t h = subst (λ (v : Version). IsAllowed v t) (sym h.allowed.version_is) h.allowed
 
 -- the text of the replay of what was read
-pub gives : CanBeTold → (bytes input : List ℕ) → bytes ≡ input → (t : Transcript) → ReadsAny transcript_grammar bytes (Ok t)
+pub gives : CanBeTold → (bytes input : List ℕ) → bytes ≡ input → (t : Transcript)
+    → ReadsAny transcript_grammar bytes (Ok t)
     → (text : Vec ℕ Global) → IsReplayText t text.items → Answers replaying input (items_of (Ok text))
 gives told bytes input same t read text h = (
   read.0,
@@ -60,105 +60,52 @@ gives told bytes input same t read text h = (
   record {
     replay = h.replay;
     replays = h.replays;
-    written = record { allowed = told t h.replay (allowed_of read.0 bytes t read.1) h.replays h.spellable; text = h.written };
+    written =
+        record { allowed = told t h.replay (allowed_of read.0 bytes t read.1) h.replays h.spellable; text = h.written };
   },
 )
 
--- where the text is refused, its fault is the answer
-pub text_refused : (bytes input : List ℕ) → bytes ≡ input → (f : TextFault) (answer : Result (Vec ℕ Global) MainFault) → IsErrAnd answer (λ e. e ≡ Text f)
-    → IsFaultOf replaying bytes f → Answers replaying input (items_of answer)
-text_refused bytes input same f (Ok v) is a = absurd is
-text_refused bytes input same f (Err e) is a =
-    subst (λ (x : MainFault). Answers replaying input (Err x)) (sym is) (subst (λ (given : List ℕ). IsFaultOf replaying given f) same a)
-
--- and where the drivers are, or memory was wanting
-pub replay_refused : (bytes input : List ℕ) → bytes ≡ input → (t : Transcript) → ReadsAny transcript_grammar bytes (Ok t)
-    → (f : ConfigFault) (answer : Result (Vec ℕ Global) MainFault) → IsErrAnd answer (λ e. e ≡ Refused (run_fault_of f)) → RefusesDrivers t.drivers f
+-- where the drivers are refused, or memory was wanting
+pub replay_refused : (bytes input : List ℕ) → bytes ≡ input → (t : Transcript)
+    → ReadsAny transcript_grammar bytes (Ok t)
+    → (f : ConfigFault) (answer : Result (Vec ℕ Global) MainFault) → IsErrAnd answer (λ e. e ≡ Refused (run_fault_of f))
+    → RefusesDrivers t.drivers f
     → Answers replaying input (items_of answer)
 replay_refused bytes input same t read f (Ok v) is refused = absurd is
 replay_refused bytes input same t read f (Err e) is refused =
-    subst (λ (x : MainFault). Answers replaying input (Err x)) (sym is)
-    (read.0, t, subst (λ (bs : List ℕ). Spells (transcript_grammar read.0) bs t) same read.1, alone_of t.drivers f refused)
-
--- ---- writing
-
-module _ (had left : Option (List ℕ)) (ended : Bool) (failures : ℕ) (before after : Option (List ℕ)) (flushed : Bool) (written : ℕ) (v : Vec ℕ Global) (read : List ℕ)
-    (h : IsInput had left ended failures (Ok v) read) (bytes : List ℕ) (given : GivesFor replaying v.items tt bytes) where
-  whole : IsWhole had ended read
-  whole = h.whole
-
-  abbrev ok : Result (Vec ℕ Global) MainFault
-  ok = Ok v
-
-  gives_read : GivesFor replaying read tt bytes
-  gives_read = subst (λ (input : List ℕ). GivesFor replaying input tt bytes) h.answered given
-
-  -- what was given was written, or writing failed
-  pub written_out : (answer : Result (Unit {0}) MainFault) → OnOk answer (Appends before after bytes) → OnOk answer (flushed ≡ true) → OnOk answer (written ≡ 0)
-      → OnErr answer (AppendsBeginning before after bytes) → IfErr answer (λ fault. fault ≡ WriteFailed) → OnErr answer (written ≡ 1)
-      → FiltersText replaying had left ended failures before after flushed written answer
-  written_out (Ok done) appended out fine beginning fault failed = record {
-    read = read;
-    consumed = h.consumed;
-    few = h.few;
-    done = (whole, out, bytes, gives_read, appended);
-    text = tt;
-    refused = tt;
-    too_long = (λ is. absurd cc, λ long. let over : ok ≡ Err TooLong = h.too_long.1 long in absurd cc);
-    read_failed = (λ is. absurd cc, λ broken. let over : ok ≡ Err ReadFailed = h.read_failed.1 broken in absurd cc);
-    write_failed = (λ is. absurd cc, λ broken. absurd (omega (arith, fine, broken)));
-    cut_short = tt;
-    unwritten = tt;
-  }
-  written_out (Err e) appended out fine beginning fault failed = record {
-    read = read;
-    consumed = h.consumed;
-    few = h.few;
-    done = tt;
-    text = λ f is. let other : WriteFailed ≡ Text f = sym fault ∙ is in absurd cc;
-    refused = λ f is. let other : WriteFailed ≡ Refused f = sym fault ∙ is in absurd cc;
-    too_long = (
-      λ is. let same : Err e ≡ Err TooLong = is in let other : WriteFailed ≡ TooLong = sym fault ∙ cc in absurd cc,
-      λ long. let over : ok ≡ Err TooLong = h.too_long.1 long in absurd cc,
-    );
-    read_failed = (
-      λ is. let same : Err e ≡ Err ReadFailed = is in let other : WriteFailed ≡ ReadFailed = sym fault ∙ cc in absurd cc,
-      λ broken. let over : ok ≡ Err ReadFailed = h.read_failed.1 broken in absurd cc,
-    );
-    write_failed = (λ is. failed, λ broken. ap Err fault);
-    cut_short = λ is. (whole, tt, bytes, gives_read, beginning);
-    unwritten = λ differs. absurd (differs fault);
-  }
+    subst (λ (x : MainFault). Answers replaying input (Err x)) (sym is) (
+      read.0,
+      t,
+      subst (λ (bs : List ℕ). Spells (transcript_grammar read.0) bs t) same read.1,
+      alone_of t.drivers f refused,
+    )
 
 -- ---- laws
 
--- one text spells one transcript
-one_spelled : HasOneReading → (bytes : List ℕ) (v w : Version) (t u : Transcript) → Spells (transcript_grammar v) bytes t → Spells (transcript_grammar w) bytes u → t ≡ u
-one_spelled reading bytes v w t u h k =
-    let one : Result Transcript TextFault = Ok t in
-    let other : Result Transcript TextFault = Ok u in
-    let same : one ≡ other = reading bytes one other (v, h, tt) (w, k, tt) tt tt in
-    cc
-
--- which is its one text
-its_text : (version : Version) (bytes : List ℕ) (t : Transcript) → Spells (transcript_grammar version) bytes t → bytes ≡ transcript_text t
-its_text version bytes t h = h.text ∙ ap (λ (v : Version). full_text (transcript_grammar v) t) (sym h.allowed.version_is)
+-- what is spelled is the one text of it
+its_text : (version : Version) (bytes : List ℕ) (t : Transcript) → Spells (transcript_grammar version) bytes t
+    → bytes ≡ transcript_text t
+its_text version bytes t h =
+    h.text ∙ ap (λ (v : Version). full_text (transcript_grammar v) t) (sym h.allowed.version_is)
 
 -- two replays of one text are written alike
-pub one_replay : HasOneReading → HasOneReplay → (input one other : List ℕ) (done : Unit {0}) → GivesFor replaying input done one → GivesFor replaying input done other
+pub one_replay : HasOneReading transcript_grammar → HasOneReplay → (input one other : List ℕ) (done : Unit {0})
+    → GivesFor replaying input done one → GivesFor replaying input done other
     → one ≡ other
 one_replay reading determined input one other done (v, t, spells, h) (w, u, spells_too, k) =
-    let same : t ≡ u = one_spelled reading input v w t u spells spells_too in
+    let same : t ≡ u = one_value transcript_grammar reading input v w t u spells spells_too in
     let first : IsReplayOf u h.replay = subst (λ (x : Transcript). IsReplayOf x h.replay) same h.replays in
     h.written.text ∙ ap transcript_text (determined u h.replay k.replay first k.replays) ∙ sym k.written.text
 
 -- a legal one is given back
-pub given_back : HasOneReading → HasOneReplay → IsItsOwn → (input line output : List ℕ) (done : Unit {0}) → GivesFor checking input Legal line
+pub given_back : HasOneReading transcript_grammar → HasOneReplay → IsItsOwn
+    → (input line output : List ℕ) (done : Unit {0}) → GivesFor checking input Legal line
     → GivesFor replaying input done output → output ≡ input
 given_back reading determined own input line output done (v, t, spells, judged) (w, u, spells_too, k) =
-    let same : u ≡ t = one_spelled reading input w v u t spells_too spells in
+    let same : u ≡ t = one_value transcript_grammar reading input w v u t spells_too spells in
     let replays : IsReplayOf t k.replay = subst (λ (x : Transcript). IsReplayOf x k.replay) same k.replays in
-    k.written.text ∙ ap transcript_text (determined t k.replay t replays (own t judged.can_be_had judged.judged)) ∙ sym (its_text v input t spells)
+    k.written.text ∙ ap transcript_text (determined t k.replay t replays (own t judged.can_be_had judged.judged))
+    ∙ sym (its_text v input t spells)
 
 -- and what is given is legal
 pub judged_legal : IsJudgedLegal → (input output : List ℕ) (done : Unit {0}) → GivesFor replaying input done output

@@ -1,7 +1,9 @@
 -- A report of programs can be told in their version.
-use Rattle.std.proofs.Common.{◌≡◌, ℕ, zero, suc, ◌≤◌, Bool, true, false, ◌||◌, List, length, refl, sym, subst, ◌∙◌, arith, rules}
+use Rattle.std.proofs.Common.{◌≡◌, ℕ, zero, suc, ◌≤◌, Bool, true, false, ◌||◌, List, length, refl, sym, subst, ◌∙◌}
+use Rattle.std.proofs.Common.{arith, rules}
 use Rattle.smx_types.specs.ProgramLists.{ProgramLists, AreWithinLimits}
-use Rattle.smx_types.specs.Versions.{are_more_drivers, least_of_programs, least_of_transcript, most_drivers, version_2_where}
+use Rattle.smx_types.specs.Versions.{are_more_drivers, least_of_programs, least_of_transcript, most_drivers}
+use Rattle.smx_types.specs.Versions.{version_2_where}
 use Rattle.smx_types.specs.declared.driver.DriverSpec.{DriverSpec}
 use Rattle.smx_types.specs.declared.limits.TheConstants.{MAX_COMMANDS, MAX_DRIVERS}
 use Rattle.smx_types.specs.declared.transcript.Transcript.{Transcript}
@@ -40,7 +42,8 @@ pub can_be_told : NeedNoLaterVersion → (p : ProgramLists) (r : Transcript) →
     → r.version ≡ p.version → length r.entries ≤ MAX_COMMANDS → IsSpellable r → IsAllowed r.version r
 can_be_told need p r within report same few spellable = record {
   version_is = refl;
-  drivers = few_drivers r.version r.drivers (subst (λ (ds : List DriverSpec). length ds ≤ MAX_DRIVERS) (sym report.drivers) within.drivers)
+  drivers = few_drivers r.version r.drivers
+      (subst (λ (ds : List DriverSpec). length ds ≤ MAX_DRIVERS) (sym report.drivers) within.drivers)
       (λ is. not_more _ _ (told need p r within report same is));
   entries = few;
   spellable = spellable;
@@ -49,22 +52,33 @@ can_be_told need p r within report same few spellable = record {
 
 -- and what is its one text spells it
 pub spelled : NeedNoLaterVersion → (p : ProgramLists) (r : Transcript) → AreWithinLimits p → IsReportOf p r
-    → r.version ≡ p.version → length r.entries ≤ MAX_COMMANDS → IsSpellable r → (bytes : List ℕ) → bytes ≡ transcript_text r
+    → r.version ≡ p.version → length r.entries ≤ MAX_COMMANDS → IsSpellable r → (bytes : List ℕ)
+    → bytes ≡ transcript_text r
     → SpellsTranscript bytes r
 spelled need p r within report same few spellable bytes is = record {
   allowed = can_be_told need p r within report same few spellable;
   text = is;
 }
 
--- the text of a report in the version of its programs is what so many workers write, where it is the fronts or several wrote it
-pub written_for : NeedNoLaterVersion → (fronts : Bool) (workers : ℕ) (p : ProgramLists) (version : Version) (report : Report) (text : List ℕ)
+-- the text of a report in the version of its programs is what so many workers write, where it is the fronts or
+-- several wrote it
+pub written_for : NeedNoLaterVersion
+    → (fronts : Bool) (workers : ℕ) (p : ProgramLists) (version : Version) (report : Report) (text : List ℕ)
     → AreWithinLimits p → IsReportOf p (transcript_of p.version report) → length report.entries ≤ MAX_COMMANDS
     → AreFrontsFrom report.drivers report.entries 0 p.programs report.fronts → (fronts ≡ false → 2 ≤ workers)
     → version ≡ p.version → IsTextOf fronts version report text → IsWrittenFor fronts workers p text
 written_for need true workers p version report text within promised few seen several same is =
-    record { report = transcript_of p.version report; promised = promised; fronts = report.fronts; seen = seen; written = is }
-written_for need false zero p version report text within promised few seen several same is = absurd (omega (arith, several refl))
-written_for need false (suc zero) p version report text within promised few seen several same is = absurd (omega (arith, several refl))
+    record {
+      report = transcript_of p.version report;
+      promised = promised;
+      fronts = report.fronts;
+      seen = seen;
+      written = is;
+    }
+written_for need false zero p version report text within promised few seen several same is =
+    absurd (omega (arith, several refl))
+written_for need false (suc zero) p version report text within promised few seen several same is =
+    absurd (omega (arith, several refl))
 written_for need false (suc (suc more)) p version report text within promised few seen several same is =
     let told : IsTextOf false p.version report text = subst (λ (v : Version). IsTextOf false v report text) same is in
     record {

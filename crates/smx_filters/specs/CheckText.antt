@@ -1,5 +1,6 @@
 -- What a check says of the bytes that it read, and what it writes.
-use Rattle.std.specs.Prelude.{◌≡◌, ℕ, Bool, List, [], ◌∷◌, ◌++◌, length, Option, Result, Ok, Err, String, codes, string_bytes}
+use Rattle.std.specs.Prelude.{◌≡◌, ℕ, Bool, List, [], ◌∷◌, ◌++◌, length, Option, Result, Ok, Err, String, codes}
+use Rattle.std.specs.Prelude.{string_bytes}
 use Rattle.std.specs.Global.{Global}
 use Rattle.std.specs.Fmt.{decimal}
 use Rattle.smx_types.specs.declared.transcript.Transcript.{Transcript}
@@ -12,7 +13,7 @@ use Rattle.smx_config.specs.declared.verdict.Verdict.{Verdict}
 use Rattle.smx_config.specs.declared.verdict.Verdict.TheVariants.{Legal, Illegal, ConfigDiffers}
 use Rattle.smx_run.specs.RunFaults.{RefusesAlone}
 use Rattle.smx_filters.specs.Filters.{Filter, FiltersText}
-use Rattle.smx_filters.specs.declared.fault.MainFault.{MainFault}
+use Rattle.smx_filters.specs.declared.main_fault.MainFault.{MainFault}
 
 -- the words of a verdict on so many entries: how many they are, or which is the first illegal one
 abbrev pub verdict_words : ℕ → Verdict → List (List ℕ)
@@ -33,8 +34,8 @@ pub record IsJudged (t : Transcript) (verdict : Verdict) (output : List ℕ) : T
   -- The output is the line of that verdict, with the number of the entries, and nothing else.
   pub written : output ≡ verdict_line (length t.entries) verdict
 
--- a check reads a transcript, writes the line of the verdict on it, and answers that verdict; or it refuses the drivers,
--- or memory was wanting
+-- a check reads a transcript, writes the line of the verdict on it, and answers that verdict; or it refuses the
+-- drivers, or memory was wanting
 abbrev pub checking : Filter Transcript TranscriptLine Verdict
 checking = record {
   grammar = transcript_grammar;

@@ -1,16 +1,26 @@
 -- A filter reads the whole input, and then writes what it makes of it.
-use Rattle.std.specs.Prelude.{◌≡◌, ◌≢◌, ℕ, ◌+◌, ◌<◌, ◌≤◌, ◌↔◌, ◌⊎◌, Bool, true, false, List, length, Option, Result, Ok, Err, IfOk, IfErr, IsErrOf}
+use Rattle.std.specs.Prelude.{◌≡◌, ◌≢◌, ℕ, ◌+◌, ◌<◌, ◌≤◌, ◌↔◌, ◌⊎◌, Bool, true, false, List, length, Option, Result, Ok}
+use Rattle.std.specs.Prelude.{Err, IfOk, IfErr, IsErrOf}
 use Rattle.std.specs.Io.KnownBytes.{Consumes, Appends, Keeps}
 use Rattle.smx_types.specs.declared.version.Version.{Version}
 use Rattle.smx_text.specs.Grammar.{Grammar, ReadsAny, Spells}
-use Rattle.smx_text.specs.declared.fault.TextFault.{TextFault}
-use Rattle.smx_run.specs.declared.fault.RunFault.{RunFault}
-use Rattle.smx_run.specs.declared.fault.RunFault.TheVariants as run
+use Rattle.smx_text.specs.declared.text_fault.Cause.TheVariants as cause
+use Rattle.smx_text.specs.declared.text_fault.TextFault.{TextFault}
+use Rattle.smx_run.specs.declared.run_fault.RunFault.{RunFault}
+use Rattle.smx_run.specs.declared.run_fault.RunFault.TheVariants as run
 use Rattle.smx_filters.specs.Input.{IsWhole}
 use Rattle.smx_filters.specs.Output.{AppendsBeginning}
-use Rattle.smx_filters.specs.declared.fault.MainFault.{MainFault}
-use Rattle.smx_filters.specs.declared.fault.MainFault.TheVariants.{Refused, Text, TooLong, ReadFailed, WriteFailed}
+use Rattle.smx_filters.specs.declared.main_fault.MainFault.{MainFault}
+use Rattle.smx_filters.specs.declared.main_fault.MainFault.TheVariants.{Refused, Text, TooLong, ReadFailed, WriteFailed}
 use Rattle.smx_filters.specs.declared.input.TheConstants.{MAX_INPUT}
+
+-- memory was wanting, while the text was read or behind that
+abbrev pub IsWantOfMemory : MainFault → Type 0
+IsWantOfMemory (Refused fault) = fault ≡ run.NoMemory
+IsWantOfMemory (Text fault) = fault.cause ≡ cause.NoMemory
+IsWantOfMemory TooLong = ⊥
+IsWantOfMemory ReadFailed = ⊥
+IsWantOfMemory WriteFailed = ⊥
 
 -- One kind of filter. Its inputs spell values of V in lines of K, and its answers are of T.
 pub record Filter (V K T : Type 0) : Type 1 where
@@ -24,7 +34,8 @@ pub record Filter (V K T : Type 0) : Type 1 where
 module _ {V K T : Type 0} (f : Filter V K T) where
   -- the input spells a value in some version, for which this may be answered and written
   abbrev pub GivesFor : List ℕ → T → List ℕ → Type 0
-  GivesFor input answer output = (version : Version) × (v : V) × Spells (f.grammar version) input v × f.Gives v answer output
+  GivesFor input answer output =
+      (version : Version) × (v : V) × Spells (f.grammar version) input v × f.Gives v answer output
 
   -- the input spells a value in some version, which may be refused so
   abbrev pub RefusesFor : List ℕ → RunFault → Type 0

@@ -1,24 +1,27 @@
 -- What a filter says of an input in memory, and where a device fails.
-use Rattle.std.specs.Prelude.{◌≡◌, ℕ, ◌+◌, ◌<◌, ◌≤◌, ◌⊎◌, Bool, true, List, [], length, take, drop, Result, Ok, Err}
-use Rattle.smx_run.specs.declared.fault.RunFault.TheVariants as run
+use Rattle.std.specs.Prelude.{◌≡◌, ℕ, ◌+◌, ◌<◌, ◌≤◌, ◌⊎◌, Bool, true, false, List, [], length, take, drop, Result, Ok}
+use Rattle.std.specs.Prelude.{Err}
+use Rattle.smx_run.specs.declared.run_fault.RunFault.TheVariants as run
 use Rattle.smx_filters.specs.Filters.{Filter, GivesFor, RefusesFor, IsFaultOf}
-use Rattle.smx_filters.specs.declared.fault.MainFault.{MainFault}
-use Rattle.smx_filters.specs.declared.fault.MainFault.TheVariants.{Refused, Text, TooLong, ReadFailed, WriteFailed}
+use Rattle.smx_filters.specs.declared.main_fault.MainFault.{MainFault}
+use Rattle.smx_filters.specs.declared.main_fault.MainFault.TheVariants.{Refused, Text, TooLong, ReadFailed, WriteFailed}
 use Rattle.smx_filters.specs.declared.input.TheConstants.{MAX_INPUT}
 
 module _ {V K T : Type 0} (f : Filter V K T) where
-  -- where no device fails: this input, what is left of it, what was written, and whether that is flushed
-  abbrev pub EndsInMemory : List ℕ → List ℕ → List ℕ → Bool → Result T MainFault → Type 0
-  EndsInMemory input left output flushed (Ok answer) =
-      (length input ≤ MAX_INPUT) × (left ≡ []) × (flushed ≡ true) × GivesFor f input answer output
-  EndsInMemory input left output flushed (Err (Text fault)) =
-      (length input ≤ MAX_INPUT) × (left ≡ []) × (output ≡ []) × IsFaultOf f input fault
-  EndsInMemory input left output flushed (Err (Refused fault)) =
-      (length input ≤ MAX_INPUT × RefusesFor f input fault ⊎ (fault ≡ run.NoMemory)) × (output ≡ [])
-  EndsInMemory input left output flushed (Err TooLong) =
+  -- where no device fails: this input, what is left of it, whether its end was seen, what was written, and whether
+  -- that is flushed
+  abbrev pub EndsInMemory : List ℕ → List ℕ → Bool → List ℕ → Bool → Result T MainFault → Type 0
+  EndsInMemory input left ended output flushed (Ok answer) =
+      (length input ≤ MAX_INPUT) × (left ≡ []) × (ended ≡ true) × (flushed ≡ true) × GivesFor f input answer output
+  EndsInMemory input left ended output flushed (Err (Text fault)) =
+      (length input ≤ MAX_INPUT) × (left ≡ []) × (ended ≡ true) × (output ≡ []) × IsFaultOf f input fault
+  EndsInMemory input left ended output flushed (Err (Refused fault)) =
+      (((length input ≤ MAX_INPUT) × (ended ≡ true) × RefusesFor f input fault)
+      ⊎ ((fault ≡ run.NoMemory) × (ended ≡ false))) × (output ≡ [])
+  EndsInMemory input left ended output flushed (Err TooLong) =
       (MAX_INPUT < length input) × (left ≡ drop (MAX_INPUT + 1) input) × (output ≡ [])
-  EndsInMemory input left output flushed (Err ReadFailed) = ⊥
-  EndsInMemory input left output flushed (Err WriteFailed) = ⊥
+  EndsInMemory input left ended output flushed (Err ReadFailed) = ⊥
+  EndsInMemory input left ended output flushed (Err WriteFailed) = ⊥
 
   -- where the writer fails: this input, and what was written, a beginning of what the filter gives for it
   pub record IsCutShort (input output : List ℕ) (answer : Result T MainFault) : Type 0 where

@@ -1,18 +1,21 @@
 -- What reading to the end answers, by the bytes that were read.
-use Rattle.std.specs.Prelude.{◌≡◌, ℕ, ◌+◌, ◌<◌, ◌≤◌, ◌↔◌, ◌⊎◌, Bool, true, false, List, length, Option, Result, Vec, IfOk, IfErr, IfSome, OnOk, IsErrOf}
+use Rattle.std.specs.Prelude.{◌≡◌, ℕ, ◌+◌, ◌<◌, ◌≤◌, ◌↔◌, ◌⊎◌, Bool, true, false, List, length, Option, Result, Vec}
+use Rattle.std.specs.Prelude.{IfOk, IfErr, IfSome, OnOk, IsErrOf}
 use Rattle.std.specs.Global.{Global}
 use Rattle.std.specs.Io.KnownBytes.{Consumes}
-use Rattle.smx_run.specs.declared.fault.RunFault.TheVariants.{NoMemory}
-use Rattle.smx_filters.specs.declared.fault.MainFault.{MainFault}
-use Rattle.smx_filters.specs.declared.fault.MainFault.TheVariants.{Refused, TooLong, ReadFailed}
+use Rattle.smx_run.specs.declared.run_fault.RunFault.TheVariants.{NoMemory}
+use Rattle.smx_filters.specs.declared.main_fault.MainFault.{MainFault}
+use Rattle.smx_filters.specs.declared.main_fault.MainFault.TheVariants.{Refused, TooLong, ReadFailed}
 use Rattle.smx_filters.specs.declared.input.TheConstants.{MAX_INPUT}
 
 -- the end was seen, and these bytes are all that the reader had, where it tells
 abbrev pub IsWhole : Option (List ℕ) → Bool → List ℕ → Type 0
 IsWhole had ended read = (ended ≡ true) × IfSome had (λ all. all ≡ read)
 
--- the answer for these bytes, which were read of a reader that had `old` and has `new` left, has shown the end or not, and has failed so many times
-pub record IsInput (old new : Option (List ℕ)) (ended : Bool) (failures : ℕ) (answer : Result (Vec ℕ Global) MainFault) (read : List ℕ) : Type 0 where
+-- the answer for these bytes, which were read of a reader that had `old` and has `new` left, has shown the end or
+-- not, and has failed so many times
+pub record IsInput (old new : Option (List ℕ)) (ended : Bool) (failures : ℕ) (answer : Result (Vec ℕ Global) MainFault)
+    (read : List ℕ) : Type 0 where
   -- these bytes were read, and no others
   pub consumed : Consumes old new read
   -- no more than one byte too many
@@ -26,4 +29,5 @@ pub record IsInput (old new : Option (List ℕ)) (ended : Bool) (failures : ℕ)
   -- a failed read exactly where the reader failed
   pub read_failed : IsErrOf answer ReadFailed ↔ (failures ≡ 1)
   -- and else want of memory, before the end was seen
-  pub refused : IfErr answer (λ fault. (fault ≡ TooLong) ⊎ (fault ≡ ReadFailed) ⊎ ((fault ≡ Refused NoMemory) × (ended ≡ false)))
+  pub refused : IfErr answer (λ fault. (fault ≡ TooLong) ⊎ (fault ≡ ReadFailed)
+      ⊎ ((fault ≡ Refused NoMemory) × (ended ≡ false)))

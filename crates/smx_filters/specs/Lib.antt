@@ -6,5 +6,7 @@ pub mod FrontsText
 pub mod RunText
 pub mod CheckText
 pub mod ReplayText
+pub mod DrawText
 pub mod WorkedVerdicts
+pub mod WorkedFronts
 pub mod InMemory

@@ -1,5 +1,6 @@
 -- The headline over bytes: what a run says of the bytes that it read, and what it writes.
-use Rattle.std.specs.Prelude.{◌≡◌, ℕ, zero, suc, Bool, true, false, List, map, Option, Result, Vec, Ok, Err}
+use Rattle.std.specs.Prelude.{◌≡◌, ◌≤◌, ◌⊎◌, ℕ, zero, suc, Bool, true, false, List, length, map, Option, Result, Vec}
+use Rattle.std.specs.Prelude.{Ok, Err}
 use Rattle.std.specs.Global.{Global}
 use Rattle.smx_types.specs.ProgramLists.{ProgramLists}
 use Rattle.smx_types.specs.declared.transcript.Transcript.{Transcript}
@@ -10,7 +11,7 @@ use Rattle.smx_run.specs.Fronts.{AreFrontsFrom}
 use Rattle.smx_run.specs.ProgramOrder.{calls_from}
 use Rattle.smx_run.specs.Reports.{transcript_of}
 use Rattle.smx_run.specs.RunFaults.{RefusesAlone, RefusesRun}
-use Rattle.smx_run.specs.declared.fault.RunFault.{RunFault}
+use Rattle.smx_run.specs.declared.run_fault.RunFault.{RunFault}
 use Rattle.smx_run.specs.declared.report.Report.{Report}
 use Rattle.smx_shared.specs.declared.front.Front.{Front}
 use Rattle.smx_text.specs.ProgramLines.{Line}
@@ -18,7 +19,7 @@ use Rattle.smx_text.specs.ProgramsText.{programs_grammar}
 use Rattle.smx_text.specs.TranscriptText.{transcript_text, IsSpellable, SpellsTranscript}
 use Rattle.smx_filters.specs.Filters.{Filter, FiltersText}
 use Rattle.smx_filters.specs.FrontsText.{fronts_text}
-use Rattle.smx_filters.specs.declared.fault.MainFault.{MainFault}
+use Rattle.smx_filters.specs.declared.main_fault.MainFault.{MainFault}
 
 -- the transcript of a report that is promised for the programs, in their version
 pub record IsTranscriptFor (programs : ProgramLists) (output : List ℕ) : Type 0 where
@@ -42,7 +43,8 @@ pub record IsFrontsTextFor (programs : ProgramLists) (output : List ℕ) : Type 
 
 -- the transcript of the report in which each program comes whole, by rising number; there is one such report at most
 pub record IsTranscriptInTurn (programs : ProgramLists) (output : List ℕ) : Type 0 where
-  -- There is a report that is promised for these programs, to be told in their version, with one program after the other,
+  -- There is a report that is promised for these programs, to be told in their version, with one program after the
+  -- other,
   pub report : Transcript
   pub promised : IsReportOf programs report
   pub version : report.version ≡ programs.version
@@ -50,18 +52,18 @@ pub record IsTranscriptInTurn (programs : ProgramLists) (output : List ℕ) : Ty
   -- and the output is its transcript, and nothing else.
   pub written : SpellsTranscript output report
 
--- what so many workers write: the fronts, or the transcript, which one worker alone makes of one program after the other
+-- what so many workers write: the fronts, or the transcript, which one worker alone makes of one program after the
+-- other
 abbrev pub IsWrittenFor : Bool → ℕ → ProgramLists → List ℕ → Type 0
 IsWrittenFor true workers programs output = IsFrontsTextFor programs output
 IsWrittenFor false zero programs output = IsTranscriptFor programs output
 IsWrittenFor false (suc zero) programs output = IsTranscriptInTurn programs output
 IsWrittenFor false (suc (suc more)) programs output = IsTranscriptFor programs output
 
--- what so many workers may refuse: one alone refuses for nothing that workers share
+-- what so many workers may refuse: where one worker runs all that there is, nothing that workers share
 abbrev pub IsRefusedFor : ℕ → ProgramLists → RunFault → Type 0
-IsRefusedFor zero programs fault = RefusesRun programs.drivers fault
-IsRefusedFor (suc zero) programs fault = RefusesAlone programs.drivers fault
-IsRefusedFor (suc (suc more)) programs fault = RefusesRun programs.drivers fault
+IsRefusedFor workers programs fault = RefusesRun programs.drivers fault
+    × ((workers ≤ 1) ⊎ (length programs.programs ≤ 1) → RefusesAlone programs.drivers fault)
 
 -- the text of a report: its fronts, or its transcript in a version, each line of which can be spelled
 abbrev pub IsTextOf : Bool → Version → Report → List ℕ → Type 0

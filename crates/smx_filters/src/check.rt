@@ -7,8 +7,8 @@ ghost use Rattle.smx_filters.specs.CheckText.{ChecksText, checking, judged_of, v
 ghost use Rattle.smx_filters.specs.Filters.{Answers};
 
 use crate::device::{Feed, Sink};
-use crate::fault::MainFault;
 use crate::input::read_all;
+use crate::main_fault::MainFault;
 use crate::output::write_all;
 use smx_config::{Verdict, check_history};
 use smx_text::read_transcript;

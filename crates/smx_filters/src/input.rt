@@ -4,7 +4,7 @@ ghost use Rattle.std.specs.Prelude.{◌≡◌, ℕ, ◌+◌, ◌<◌, ◌≤◌,
 ghost use Rattle.smx_filters.specs.Input.{IsInput};
 
 use crate::device::Feed;
-use crate::fault::MainFault;
+use crate::main_fault::MainFault;
 use std::alloc::{AllocError, Global};
 
 /// The most bytes that an input may have.

@@ -1,14 +1,16 @@
-//! Laws of runs, checks and replays over memory, each the contract of a function that does nothing.
+//! Laws of runs, checks, replays and drawings over memory, each the contract of a function that does nothing.
 
 ghost use Rattle.std.specs.Prelude.{◌≡◌, ℕ, Bool, false, List, [], Result, Some, Err};
 ghost use Rattle.smx_types.specs.ProgramLists.{ProgramLists};
 ghost use Rattle.smx_config.specs.declared.verdict.Verdict.{Verdict};
+ghost use Rattle.smx_draw.specs.declared.form.Form.{Form};
 ghost use Rattle.smx_filters.specs.CheckText.{ChecksText, checking};
+ghost use Rattle.smx_filters.specs.DrawText.{DrawsText, drawing};
 ghost use Rattle.smx_filters.specs.InMemory.{EndsInMemory, IsCutShort};
 ghost use Rattle.smx_filters.specs.ReplayText.{ReplaysText, replaying};
 ghost use Rattle.smx_filters.specs.RunText.{IsWrittenFor, RunsText, running};
-ghost use Rattle.smx_filters.specs.declared.fault.MainFault.{MainFault};
-ghost use Rattle.smx_filters.specs.declared.fault.MainFault.TheVariants.{ReadFailed};
+ghost use Rattle.smx_filters.specs.declared.main_fault.MainFault.{MainFault};
+ghost use Rattle.smx_filters.specs.declared.main_fault.MainFault.TheVariants.{ReadFailed};
 
 use smx_model::laws_of_reports::reports_are_determined;
 
@@ -17,7 +19,7 @@ use smx_model::laws_of_reports::reports_are_determined;
 pub fn runs_end_in_memory()
     ensures ends { (input left output : List ℕ) (workers : ℕ) (fronts ended flushed : Bool) (answer : Result (Unit {0}) MainFault)
         → RunsText fronts workers (Some input) (Some left) ended 0 (Some []) (Some output) flushed 0 answer
-        → EndsInMemory (running fronts workers) input left output flushed answer }
+        → EndsInMemory (running fronts workers) input left ended output flushed answer }
     ensures unread { (input left output : List ℕ) (workers : ℕ) (fronts ended flushed : Bool) (answer : Result (Unit {0}) MainFault)
         → RunsText fronts workers (Some input) (Some left) ended 1 (Some []) (Some output) flushed 0 answer
         → (answer ≡ Err ReadFailed) × (output ≡ []) }
@@ -38,7 +40,7 @@ pub fn one_worker_writes_one_transcript()
 pub fn checks_end_in_memory()
     ensures ends { (input left output : List ℕ) (ended flushed : Bool) (answer : Result Verdict MainFault)
         → ChecksText (Some input) (Some left) ended 0 (Some []) (Some output) flushed 0 answer
-        → EndsInMemory checking input left output flushed answer }
+        → EndsInMemory checking input left ended output flushed answer }
     ensures unread { (input left output : List ℕ) (ended flushed : Bool) (answer : Result Verdict MainFault)
         → ChecksText (Some input) (Some left) ended 1 (Some []) (Some output) flushed 0 answer
         → (answer ≡ Err ReadFailed) × (output ≡ []) }
@@ -51,11 +53,24 @@ pub fn checks_end_in_memory()
 pub fn replays_end_in_memory()
     ensures ends { (input left output : List ℕ) (ended flushed : Bool) (answer : Result (Unit {0}) MainFault)
         → ReplaysText (Some input) (Some left) ended 0 (Some []) (Some output) flushed 0 answer
-        → EndsInMemory replaying input left output flushed answer }
+        → EndsInMemory replaying input left ended output flushed answer }
     ensures unread { (input left output : List ℕ) (ended flushed : Bool) (answer : Result (Unit {0}) MainFault)
         → ReplaysText (Some input) (Some left) ended 1 (Some []) (Some output) flushed 0 answer
         → (answer ≡ Err ReadFailed) × (output ≡ []) }
     ensures cut_short { (input left output : List ℕ) (ended flushed : Bool) (answer : Result (Unit {0}) MainFault)
         → ReplaysText (Some input) (Some left) ended 0 (Some []) (Some output) flushed 1 answer
         → IsCutShort replaying input output answer }
+{}
+
+/// The same of a drawing, which answers that it is done.
+pub fn drawings_end_in_memory()
+    ensures ends { (input left output : List ℕ) (form : Form) (ended flushed : Bool) (answer : Result (Unit {0}) MainFault)
+        → DrawsText form (Some input) (Some left) ended 0 (Some []) (Some output) flushed 0 answer
+        → EndsInMemory (drawing form) input left ended output flushed answer }
+    ensures unread { (input left output : List ℕ) (form : Form) (ended flushed : Bool) (answer : Result (Unit {0}) MainFault)
+        → DrawsText form (Some input) (Some left) ended 1 (Some []) (Some output) flushed 0 answer
+        → (answer ≡ Err ReadFailed) × (output ≡ []) }
+    ensures cut_short { (input left output : List ℕ) (form : Form) (ended flushed : Bool) (answer : Result (Unit {0}) MainFault)
+        → DrawsText form (Some input) (Some left) ended 0 (Some []) (Some output) flushed 1 answer
+        → IsCutShort (drawing form) input output answer }
 {}

@@ -1,14 +1,16 @@
-//! Filters: what runs programs, what judges a transcript, and what replays one, from bytes to bytes.
+//! Filters: what runs programs, and what judges, replays or draws a transcript, from bytes to bytes.
 #![tactic(auto)]
 
 mod check;
 mod device;
 mod done;
-mod fault;
+mod draw;
 mod fronts_text;
 mod input;
+pub mod laws_of_answers;
 pub mod laws_of_filters;
 pub mod laws_of_replays;
+mod main_fault;
 mod output;
 mod replay;
 mod text;
@@ -17,8 +19,9 @@ mod text_recorder;
 pub use check::check_text;
 pub use device::{Failed, Feed, Sink, Source, Target};
 pub use done::Done;
-pub use fault::MainFault;
+pub use draw::draw_text;
 pub use input::{MAX_INPUT, read_all};
+pub use main_fault::MainFault;
 pub use output::write_all;
 pub use replay::replay_text;
 pub use text::run_text;

@@ -3,10 +3,10 @@
 ghost use Rattle.std.specs.Prelude.{◌≡◌, true, IfErr, OnOk, OnErr};
 ghost use Rattle.std.specs.Io.KnownBytes.{Appends};
 ghost use Rattle.smx_filters.specs.Output.{AppendsBeginning};
-ghost use Rattle.smx_filters.specs.declared.fault.MainFault.TheVariants.{WriteFailed};
+ghost use Rattle.smx_filters.specs.declared.main_fault.MainFault.TheVariants.{WriteFailed};
 
 use crate::device::Sink;
-use crate::fault::MainFault;
+use crate::main_fault::MainFault;
 
 /// Writes all of the bytes, and then flushes. The one refusal is `WriteFailed`, which comes only
 /// where the sink failed; a beginning of the bytes is then out. Each write passes a byte on at least.

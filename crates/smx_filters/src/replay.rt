@@ -6,8 +6,8 @@ ghost use Rattle.smx_filters.specs.ReplayText.{ReplaysText, replaying};
 ghost use Rattle.smx_filters.specs.RunText.{items_of};
 
 use crate::device::{Feed, Sink};
-use crate::fault::MainFault;
 use crate::input::read_all;
+use crate::main_fault::MainFault;
 use crate::output::write_all;
 use smx_replay::laws_of_replays::replays_can_be_told;
 use smx_replay::replay;

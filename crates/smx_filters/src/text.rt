@@ -10,9 +10,9 @@ ghost use Rattle.smx_run.specs.Reports.{transcript_of};
 ghost use Rattle.smx_run.specs.RunFaults.{RefusesAlone};
 
 use crate::device::{Feed, Sink};
-use crate::fault::MainFault;
 use crate::fronts_text::fronts_text;
 use crate::input::read_all;
+use crate::main_fault::MainFault;
 use crate::output::write_all;
 use crate::text_recorder::TextRecorder;
 use smx_model::laws_of_hangups::reports_need_no_later_version;

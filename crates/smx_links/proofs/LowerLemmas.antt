@@ -3,7 +3,6 @@ use Rattle.std.proofs.Common.{◌≡◌, ℕ, suc, Bool, true, false, cond, not,
 use Rattle.std.proofs.Common.{Some, None, refl, sym, subst, ap, ◌∙◌, arith, inl, inr}
 use Rattle.std.specs.Prelude.{nat_lt}
 use Rattle.std.specs.List.{All, list_any}
-use Rattle.std.specs.Map.{lookup}
 use Rattle.std.specs.Option.{option_map, is_some}
 use Rattle.std.proofs.lemmas.Bool.{cases_Bool, eq-eqb, eqb-true, false≢true}
 use Rattle.std.proofs.lemmas.Bool.Decides.{nat_tests}
@@ -14,8 +13,7 @@ use Rattle.smx_model.specs.Configuration.{same_stream}
 use Rattle.smx_model.specs.Ordered.{IsRising}
 use Rattle.smx_model.specs.Paths.{AreLowersApart}
 use Rattle.smx_model.specs.Standing.{is_below}
-use Rattle.smx_links.specs.declared.links.Lower.{Lower}
-use Rattle.smx_links.specs.Ids.{key_of, same_key, id_above, HasIds}
+use Rattle.smx_links.specs.Ids.{Rows, id_at, id_above, HasIds}
 use Rattle.smx_links.proofs.IdLemmas.{later_stay, before_found}
 
 -- equal streams
@@ -23,6 +21,10 @@ use Rattle.smx_links.proofs.IdLemmas.{later_stay, before_found}
 -- in either order
 same_sym : (s t : StreamId) → same_stream s t ≡ same_stream t s
 same_sym s t = grind (arith, nat_tests)
+
+-- a stream is itself
+same_self : (s : StreamId) → same_stream s s ≡ true
+same_self s = rw (eq-eqb s.driver s.driver refl, eq-eqb s.minor s.minor refl) refl
 
 -- equal streams pass the same tests
 same_congr : (s t u : StreamId) → same_stream s t ≡ true → same_stream s u ≡ same_stream t u
@@ -66,11 +68,11 @@ above_more (k ∷ ks) l s h = elim (cases_Bool (same_stream k.lower l.lower)) [
   ]
 ]
 
--- the map with the id of one link more
-pub ids_more : (es fs : List (Lower × ℕ)) (ls : List Link) (l : Link) → HasIds es ls → is_below ls l.lower ≡ false
-    → ((q : Lower) → lookup (same_key q) fs ≡ cond (same_key (key_of l.lower) q) (Some l.id) (lookup (same_key q) es))
+-- the rows with the id of one link more
+pub ids_more : (es fs : Rows) (ls : List Link) (l : Link) → HasIds es ls → is_below ls l.lower ≡ false
+    → ((s : StreamId) → id_at fs s ≡ cond (same_stream l.lower s) (Some l.id) (id_at es s))
     → HasIds fs (ls ++ l ∷ [])
-ids_more es fs ls l h free put s = put (key_of s) ∙ ap (cond (same_stream l.lower s) (Some l.id)) (h s)
+ids_more es fs ls l h free put s = put s ∙ ap (cond (same_stream l.lower s) (Some l.id)) (h s)
     ∙ sym (above_more ls l s free)
 
 -- one link less
@@ -121,14 +123,14 @@ above_less (k ∷ ks) l id s apart rise h = elim (cases_Bool (eqb k.id id)) [
       ])
 ]
 
--- the map without the id of the link that was found
-pub ids_less : (es fs : List (Lower × ℕ)) (ls : List Link) (l : Link) (id : ℕ) → AreLowersApart ls
+-- the rows without the id of the link that was found
+pub ids_less : (es fs : Rows) (ls : List Link) (l : Link) (id : ℕ) → AreLowersApart ls
     → IsRising (λ l k. nat_lt l.id k.id) ls → HasIds es ls
     → find (λ l. eqb l.id id) ls ≡ Some l
-    → ((q : Lower) → lookup (same_key q) fs ≡ cond (same_key (key_of l.lower) q) None (lookup (same_key q) es))
+    → ((s : StreamId) → id_at fs s ≡ cond (same_stream l.lower s) None (id_at es s))
     → HasIds fs (filter (λ l. not (eqb l.id id)) ls)
 ids_less es fs ls l id apart rise h found taken s =
-    taken (key_of s) ∙ ap (cond (same_stream l.lower s) None) (h s)
+    taken s ∙ ap (cond (same_stream l.lower s) None) (h s)
     ∙ mapped (same_stream l.lower s) (find (λ l. same_stream l.lower s) ls)
     ∙ sym (ap (option_map (λ (k : Link). k.id)) (above_less ls l id s apart rise found)) where
       mapped : (b : Bool) (o : Option Link)
@@ -151,9 +153,9 @@ found_by_id test (k ∷ ks) l rise h = elim (cases_Bool (test k)) [
 ]
 
 -- what a look-up finds is the id of the link above
-pub above_found : (es : List (Lower × ℕ)) (ls : List Link) (s : StreamId) (id : ℕ)
+pub above_found : (es : Rows) (ls : List Link) (s : StreamId) (id : ℕ)
     → IsRising (λ l k. nat_lt l.id k.id) ls → HasIds es ls
-    → lookup (same_key (key_of s)) es ≡ Some id → find (λ l. eqb l.id id) ls ≡ find (λ l. same_stream l.lower s) ls
+    → id_at es s ≡ Some id → find (λ l. eqb l.id id) ls ≡ find (λ l. same_stream l.lower s) ls
 above_found es ls s id rise h at = by (find (λ l. same_stream l.lower s) ls) refl where
   by : (o : Option Link) → find (λ l. same_stream l.lower s) ls ≡ o → find (λ l. eqb l.id id) ls ≡ o
   by None none = let k : ◌≡◌ {A = Option ℕ} (Some id) None = sym at ∙ h s
@@ -164,10 +166,27 @@ above_found es ls s id rise h at = by (find (λ l. same_stream l.lower s) ls) re
       rw e (found_by_id (λ l. same_stream l.lower s) ls l rise some)
 
 -- and where it finds nothing there is none
-pub above_none : (es : List (Lower × ℕ)) (ls : List Link) (s : StreamId) → HasIds es ls
-    → lookup (same_key (key_of s)) es ≡ None → find (λ l. same_stream l.lower s) ls ≡ None
+pub above_none : (es : Rows) (ls : List Link) (s : StreamId) → HasIds es ls
+    → id_at es s ≡ None → find (λ l. same_stream l.lower s) ls ≡ None
 above_none es ls s h at = by (find (λ l. same_stream l.lower s) ls) refl where
   by : (o : Option Link) → find (λ l. same_stream l.lower s) ls ≡ o → o ≡ None
   by None none = refl
   by (Some l) some = let k : ◌≡◌ {A = Option ℕ} None (Some l.id) = sym at ∙ h s
       ∙ ap (option_map (λ (l : Link). l.id)) some in absurd cc
+
+-- the id of the link that was found is at its lower stream
+pub id_of_found : (es : Rows) (ls : List Link) (l : Link) (id : ℕ) → AreLowersApart ls → HasIds es ls
+    → find (λ k. eqb k.id id) ls ≡ Some l → id_at es l.lower ≡ Some l.id
+id_of_found es ls l id apart h found = h l.lower ∙ above ls apart found where
+  above : (ks : List Link) → AreLowersApart ks → find (λ k. eqb k.id id) ks ≡ Some l → id_above ks l.lower ≡ Some l.id
+  above [] apart found = absurd cc
+  above (k ∷ ks) apart found = elim (cases_Bool (eqb k.id id)) [
+    | inl t ↦
+        let some : ◌≡◌ {A = Option Link} (Some k) (Some l) = rw t at found in
+        let is : k ≡ l = cc in
+        rw (is, same_self l.lower) refl
+    | inr f ↦
+        let rest : find (λ k. eqb k.id id) ks ≡ Some l = rw f at found in
+        rw (found_has (λ (j : Link). same_stream k.lower j.lower ≡ false) _ ks l (apart_head k ks apart) rest)
+        (above ks (apart_tail k ks apart) rest)
+  ]

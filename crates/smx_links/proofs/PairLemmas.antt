@@ -107,7 +107,8 @@ pub pair_joins : Joins → PathsJoin → (done : ℕ → Bool) (ls : List Link) 
 pair_joins joins trans done ls u l old new h m j a b =
     masks_push joins (filter (is_before done u l) ls) (between u l) old new m j a b
     ∙ joins (filter (is_before done u l) ls) (between u l) a b
-    ∙ sym (with_found joins trans (is_before done u l) (is_before done u (l + 1)) (between u l) (before_next done u l) ls
+    ∙ sym (with_found joins trans (is_before done u l) (is_before done u (l + 1)) (between u l)
+    (before_next done u l) ls
     h a b)
 
 -- where it leads nowhere new
@@ -116,7 +117,8 @@ pub pair_known : Joins → PathsJoin → (done : ℕ → Bool) (ls : List Link) 
     → AreMasksBefore done ls u (l + 1) ws
 pair_known joins trans done ls u l ws h m k a b =
     m a b ∙ known_same trans (filter (is_before done u l) ls) (between u l) (sym (m u l) ∙ k) a b
-    ∙ sym (with_found joins trans (is_before done u l) (is_before done u (l + 1)) (between u l) (before_next done u l) ls
+    ∙ sym (with_found joins trans (is_before done u l) (is_before done u (l + 1)) (between u l)
+    (before_next done u l) ls
     h a b)
 
 -- and where there is none

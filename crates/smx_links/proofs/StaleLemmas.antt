@@ -1,9 +1,11 @@
 -- Where links go, only the masks of drivers that lost some, and of those that led to one, are other than before.
-use Rattle.std.proofs.Common.{◌≡◌, ℕ, ◌<◌, ◌≤◌, ◌^◌, Bool, true, false, ◌&&◌, ◌||◌, ◌+◌, not, cond, eqb, List, [], ◌∷◌, length, filter, find}
+use Rattle.std.proofs.Common.{◌≡◌, ℕ, ◌<◌, ◌≤◌, ◌^◌, Bool, true, false, ◌&&◌, ◌||◌, ◌+◌, not, cond, eqb, List, [], ◌∷◌}
+use Rattle.std.proofs.Common.{length, filter, find}
 use Rattle.std.proofs.Common.{get_or, bit_and, bit_or, Some, refl, sym, ap, subst, ◌∙◌, arith, inl, inr, if◌then◌else◌}
 use Rattle.std.specs.Prelude.{nat_lt}
 use Rattle.std.specs.Int.Bits.{and_le_r, and_zero_l}
-use Rattle.std.proofs.lemmas.Bool.{cases_Bool, cases_eq, cases_lt, and_parts, and_from, eqb-true, eq-eqb, false_from_ne_true, false≢true, ne_eqb, or_left, or_parts, or_right}
+use Rattle.std.proofs.lemmas.Bool.{cases_Bool, cases_eq, cases_lt, and_parts, and_from, eqb-true, eq-eqb}
+use Rattle.std.proofs.lemmas.Bool.{false_from_ne_true, false≢true, ne_eqb, or_left, or_parts, or_right}
 use Rattle.std.proofs.lemmas.Bool.Decides.{nat_tests}
 use Rattle.std.proofs.lemmas.List.{get_or_past}
 use Rattle.std.proofs.lemmas.List.Elements.{filter_agree}
@@ -11,7 +13,8 @@ use Rattle.smx_types.specs.declared.link.Link.{Link}
 use Rattle.smx_model.specs.Ordered.{IsRising}
 use Rattle.smx_model.specs.Paths.{reaches}
 use Rattle.smx_links.specs.LinkLists.{is_upper}
-use Rattle.smx_links.specs.Masks.{AreMasks, HasAnyBit, IsClear, IsWithin, LeadAlike, LeadAlikeBut, has_bit, is_set, is_stale, with_bit}
+use Rattle.smx_links.specs.Masks.{AreMasks, HasAnyBit, IsClear, IsWithin, LeadAlike, LeadAlikeBut, has_bit, is_set}
+use Rattle.smx_links.specs.Masks.{is_stale, with_bit}
 use Rattle.smx_links.specs.Pairs.{AreCounts, AreMasksBefore, entry_of, is_before}
 use Rattle.smx_links.proofs.BitLemmas.{cleared_bit, is_set_and, is_set_with, is_set_zero, past_bits}
 use Rattle.smx_links.proofs.MaskLemmas.{Joins, PathsJoin}
@@ -29,7 +32,8 @@ stale_more ws lost stale i h so_far k lt = is_set_with stale i k ∙ elim (cases
   | inl here ↦
       let same = eqb-true i k here in
       or_right (is_set stale k) (eqb i k) here
-      ∙ sym (or_right (is_set lost k) _ (subst (λ (j : ℕ). not (eqb (bit_and (get_or ws j 0) lost) 0) ≡ true) same (ap not (ne_eqb _ 0 h))))
+      ∙ sym (or_right (is_set lost k) _
+      (subst (λ (j : ℕ). not (eqb (bit_and (get_or ws j 0) lost) 0) ≡ true) same (ap not (ne_eqb _ 0 h))))
   | inr other ↦
       let less : k < i = grind (arith, nat_tests) in
       ap (λ (x : Bool). is_set stale k || x) other ∙ or_false (is_set stale k) ∙ so_far k less
@@ -54,7 +58,8 @@ pub stale_same : (ws : List ℕ) (lost stale i : ℕ) → bit_and (get_or ws i 0
     → ((k : ℕ) → k < i → is_set stale k ≡ is_stale ws lost k) → is_set stale i ≡ is_set lost i
     → (k : ℕ) → k < i + 1 → is_set stale k ≡ is_stale ws lost k
 stale_same ws lost stale i h so_far here k lt = elim (cases_eq k i) [
-  | inl same ↦ rw same (here ∙ sym (ap (λ (x : Bool). is_set lost i || not x) (eq-eqb _ 0 h) ∙ or_false (is_set lost i)))
+  | inl same ↦
+      rw same (here ∙ sym (ap (λ (x : Bool). is_set lost i || not x) (eq-eqb _ 0 h) ∙ or_false (is_set lost i)))
   | inr other ↦ so_far k (grind (arith, nat_tests))
 ] where
   or_false : (b : Bool) → (b || false) ≡ b
@@ -76,7 +81,8 @@ not_not true e = refl
 not_not false e = absurd cc
 
 -- a driver that isn't stale is clear
-clear_of : (ws : List ℕ) (lost a : ℕ) (old : List Link) → AreMasks old ws → is_stale ws lost a ≡ false → IsClear lost old a
+clear_of : (ws : List ℕ) (lost a : ℕ) (old : List Link) → AreMasks old ws → is_stale ws lost a ≡ false
+    → IsClear lost old a
 clear_of ws lost a old m h =
     let p = or_parts (is_set lost a) _ h in
     record { own = p.0; led = λ b path. none b (m a b ∙ path) (not_not _ p.1) } where
@@ -163,6 +169,7 @@ led_nowhere keep ls a b h = none_reached (filter (λ k. keep k.ctl.driver) ls) a
 
 -- ---- the masks, once the words of stale drivers are cleared
 
+-- once the words of stale drivers are cleared, the words are the masks of the links with no stale upper driver
 pub cleared_masks : PathsJoin → (ws vs : List ℕ) (lost stale : ℕ) (old links : List Link) → lost < 2 ^ 128
     → AreMasks old ws → LeadAlikeBut lost old links → ((a : ℕ) → is_set stale a ≡ is_stale ws lost a)
     → ((a b : ℕ) → has_bit vs a b ≡ (not (is_set stale a) && has_bit ws a b))
@@ -181,14 +188,16 @@ cleared_masks trans ws vs lost stale old links fits m alike which cleared a b =
       closed : (x y : ℕ) → keep x ≡ true → reaches links x y ≡ true → keep y ≡ true
       closed x y t path = ap not (which y ∙ fresh_led trans ws lost x y old fits m (fresh x t) (alike.fewer x y path))
 
-      by : (s : Bool) → is_set stale a ≡ s → (not s && has_bit ws a b) ≡ reaches (filter (λ k. keep k.ctl.driver) links) a b
+      by : (s : Bool) → is_set stale a ≡ s → (not s && has_bit ws a b)
+          ≡ reaches (filter (λ k. keep k.ctl.driver) links) a b
       by true e = sym (led_nowhere keep links a b (ap not e))
       by false e = m a b ∙ sym (alike.same a (clear_of ws lost a old m (fresh a (ap not e))) b)
           ∙ sym (led_alike keep links closed a b (ap not e))
 
       at_first : (k : Link) → keep k.ctl.driver ≡ is_before (is_done stale 0) 0 0 k
       at_first k = first (is_set stale k.ctl.driver) where
-        first : (s : Bool) → not s ≡ ((not s || nat_lt k.ctl.driver 0) || ((eqb k.ctl.driver 0) && nat_lt k.lower.driver 0))
+        first : (s : Bool)
+            → not s ≡ ((not s || nat_lt k.ctl.driver 0) || ((eqb k.ctl.driver 0) && nat_lt k.lower.driver 0))
         first true = grind (arith, nat_tests)
         first false = refl
 
@@ -197,6 +206,7 @@ cleared_masks trans ws vs lost stale old links fits m alike which cleared a b =
 
 -- ---- links that go
 
+-- where no link goes, each driver leads where it led
 pub none_lost : (ls : List Link) → LeadAlikeBut 0 ls ls
 none_lost ls = record { fewer = λ a b h. h; same = λ a clear b. refl }
 
@@ -224,7 +234,8 @@ one_lost joins more ls ks l id rise found rest bit = record { fewer = fewer; sam
   same : (a : ℕ) → IsClear more ls a → (b : ℕ) → reaches ks a b ≡ reaches ls a b
   same a clear b =
       let other : eqb a l.ctl.driver ≡ false = false_from_ne_true (eqb a l.ctl.driver)
-      (λ e. false≢true (sym clear.own ∙ subst (λ (x : ℕ). is_set more x ≡ true) (sym (eqb-true a l.ctl.driver e)) bit)) in
+      (λ e. false≢true
+      (sym clear.own ∙ subst (λ (x : ℕ). is_set more x ≡ true) (sym (eqb-true a l.ctl.driver e)) bit)) in
       let none : reaches ks a l.ctl.driver ≡ false = false_from_ne_true (reaches ks a l.ctl.driver)
       (λ e. false≢true (sym (clear.led l.ctl.driver (fewer a l.ctl.driver e)) ∙ bit)) in
       or_none (reaches ks a b) ∙ sym (rw (other, none) at (sym (front a b))) where

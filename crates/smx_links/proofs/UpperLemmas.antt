@@ -50,7 +50,8 @@ any_is_upper ls ws a false m h = elim (cases_Bool (is_upper ls a)) [
 ]
 
 -- a word that is not 0 has a bit
-pub has_bits : (ws : List ℕ) (a w : ℕ) → get_or ws a 0 ≡ w → get_or ws a 0 < 2 ^ WORD_BITS → HasAnyBit ws a (not (eqb w 0))
+pub has_bits : (ws : List ℕ) (a w : ℕ) → get_or ws a 0 ≡ w → get_or ws a 0 < 2 ^ WORD_BITS
+    → HasAnyBit ws a (not (eqb w 0))
 has_bits ws a w e fits = elim (cases_Bool (eqb w 0)) [
   | inl t ↦ rw t (λ b. ap (λ (x : ℕ). is_set x b) (e ∙ eqb-true w 0 t) ∙ is_set_zero b)
   | inr f ↦

@@ -1,5 +1,6 @@
 -- A word of bits for each driver, bit b of word a for a path from driver a to driver b.
-use Rattle.std.specs.Prelude.{◌≡◌, ℕ, ◌<◌, Bool, true, false, ◌&&◌, ◌||◌, not, ◌==◌, List, slice_index, bit_and, bit_or, ◌^◌}
+use Rattle.std.specs.Prelude.{◌≡◌, ℕ, ◌<◌, Bool, true, false, ◌&&◌, ◌||◌, not, ◌==◌, List, slice_index, bit_and, bit_or}
+use Rattle.std.specs.Prelude.{◌^◌}
 use Rattle.std.specs.Int.{bit_at}
 use Rattle.smx_types.specs.declared.link.Link.{Link}
 use Rattle.smx_model.specs.Paths.{reaches}

@@ -8,51 +8,32 @@ ghost use Rattle.smx_model.specs.Configuration.{same_stream};
 ghost use Rattle.smx_model.specs.Ordered.{IsRising};
 ghost use Rattle.smx_model.specs.SoundLinks.{AreLinksSound};
 ghost use Rattle.smx_model.specs.Standing.{is_below};
-ghost use Rattle.smx_links.specs.Ids.{key_of, id_at, HasIds, IsPlace};
+ghost use Rattle.smx_links.specs.Ids.{id_at, HasIds, IsPlace};
 ghost use Rattle.smx_links.specs.LinkLists.{is_one_of, ordinary_of};
 ghost use Rattle.smx_links.specs.Masks.{with_bit, IsWithin, LeadAlikeBut};
 ghost use Rattle.smx_links.specs.Pairs.{entry_of, with_one_less, AreCounts};
 
+use crate::ids::{Ids, id_at, make_room, set_id};
 use crate::masks::{Word, with_bit};
 use crate::pairs::{Count, uncount};
-use indexmap::IndexMap;
+use crate::row::Row;
 use smx_model::laws_of_links::{fewer_links_stay_sound, one_link_more_joins, paths_join};
 use smx_types::{Link, LinkKind, NoMemory, StreamId};
 
-/// A stream that is below, as a key.
-#[derive(Clone, Copy, Debug, PartialEq, Eq, Hash)]
-pub struct Lower {
-    pub driver: u8,
-    pub minor: u8,
-}
-
-/// The id of the link that a stream is below. The order means nothing.
-pub type Ids = IndexMap<Lower, u32>;
-
-// The stream as a key.
-fn key_of(stream: StreamId) -> Lower
-    ensures { result ≡ key_of stream }
-{
-    Lower {
-        driver: stream.driver,
-        minor: stream.minor,
-    }
-}
-
 // Whether the stream is below.
-pub fn is_below(ids: &Ids, lower: StreamId) -> bool
-    ensures { result ≡ is_some (id_at ids.now.entries lower) }
+pub fn is_below(ids: &[Row], lower: StreamId) -> bool
+    ensures { result ≡ is_some (id_at ids.now lower) }
 {
-    ids.contains_key(&key_of(lower))
+    id_at(ids, lower).is_some()
 }
 
 // The link that the stream is below.
-pub fn above<'a>(links: &'a [Link], ids: &Ids, lower: StreamId) -> Option<&'a Link>
+pub fn above<'a>(links: &'a [Link], ids: &[Row], lower: StreamId) -> Option<&'a Link>
     requires rise { IsRising (λ l k. nat_lt l.id k.id) links.now }
-    requires ids { HasIds ids.now.entries links.now }
+    requires ids { HasIds ids.now links.now }
     ensures { option_copied result ≡ find (λ l. same_stream l.lower lower) links.now }
 {
-    let id = *ids.get(&key_of(lower))?;
+    let id = id_at(ids, lower)?;
     get(links, id)
 }
 
@@ -103,16 +84,19 @@ pub fn put(
     link: Link,
 ) -> Result<(), NoMemory>
     requires ordinary { ordinary.old.items ≡ ordinary_of links.old.items }
-    requires ids { HasIds ids.old.entries links.old.items }
+    requires ids { HasIds ids.old.items links.old.items }
     requires free { is_below links.old.items link.lower ≡ false }
+    requires driver { link.lower.driver < length ids.old.items }
     ensures ok { OnOk result (links.new.items ≡ links.old.items ++ link ∷ []) }
     ensures err { OnErr result (links.new.items ≡ links.old.items) }
     ensures ordinary { ordinary.new.items ≡ ordinary_of links.new.items }
-    ensures ids { HasIds ids.new.entries links.new.items }
+    ensures ids { HasIds ids.new.items links.new.items }
+    ensures rows { length ids.new.items ≡ length ids.old.items }
 {
     links.reserve(1)?;
     ordinary.reserve(1)?;
-    ids.insert(key_of(link.lower), link.id)?;
+    make_room(ids, link.lower)?;
+    set_id(ids, link.lower, Some(link.id));
     links.push_reserved(link);
     put_ordinary(ordinary, link);
     Ok(())
@@ -135,17 +119,18 @@ pub fn take(links: &mut Vec<Link>, ordinary: &mut Vec<Link>, ids: &mut Ids, id: 
     requires sound { AreLinksSound links.old.items }
     requires rise { IsRising (λ l k. nat_lt l.id k.id) links.old.items }
     requires ordinary { ordinary.old.items ≡ ordinary_of links.old.items }
-    requires ids { HasIds ids.old.entries links.old.items }
+    requires ids { HasIds ids.old.items links.old.items }
     ensures link { result ≡ find (λ l. l.id == id) links.old.items }
     ensures rest { links.new.items ≡ filter (λ l. not (l.id == id)) links.old.items }
     ensures ordinary { ordinary.new.items ≡ ordinary_of links.new.items }
-    ensures ids { HasIds ids.new.entries links.new.items }
+    ensures ids { HasIds ids.new.items links.new.items }
+    ensures rows { length ids.new.items ≡ length ids.old.items }
     ensures unchanged { IfNone result (links.new.items ≡ links.old.items) }
 {
     fewer_links_stay_sound();
     let link = take_one(links, id)?;
     let _ordinary = take_one(ordinary, id);
-    let _id = ids.swap_remove(&key_of(link.lower));
+    set_id(ids, link.lower, None);
     Some(link)
 }
 
@@ -177,13 +162,14 @@ pub fn take_each(
     requires sound { AreLinksSound links.old.items }
     requires rise { IsRising (λ l k. nat_lt l.id k.id) links.old.items }
     requires ordinary { ordinary.old.items ≡ ordinary_of links.old.items }
-    requires ids { HasIds ids.old.entries links.old.items }
+    requires ids { HasIds ids.old.items links.old.items }
     requires few { drivers ≤ MAX_DRIVERS }
     requires within { All (IsWithin drivers) links.old.items }
     requires pairs { AreCounts drivers links.old.items pairs.old }
     ensures rest { links.new.items ≡ filter (λ l. not (is_one_of gone.now l)) links.old.items }
     ensures ordinary { ordinary.new.items ≡ ordinary_of links.new.items }
-    ensures ids { HasIds ids.new.entries links.new.items }
+    ensures ids { HasIds ids.new.items links.new.items }
+    ensures rows { length ids.new.items ≡ length ids.old.items }
     ensures pairs { AreCounts drivers links.new.items pairs.new }
     ensures same { LeadAlikeBut result links.old.items links.new.items }
 {

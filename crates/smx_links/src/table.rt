@@ -9,8 +9,9 @@ ghost use Rattle.smx_model.specs.Standing.{is_below};
 ghost use Rattle.smx_links.specs.LinkLists.{IsLinkList, IsLinked, is_upper, ordinary_of, refusal};
 ghost use Rattle.smx_links.specs.LinkLists.{with_link, without_id, without_ids};
 
-use crate::fault::LinkFault;
-use crate::links::{Ids, above, get, is_below, lose, put, take, take_each};
+use crate::ids::{Ids, copy_ids, no_ids};
+use crate::link_fault::LinkFault;
+use crate::links::{above, get, is_below, lose, put, take, take_each};
 use crate::masks::{Word, has_any_bit, has_bit, join, renew};
 use crate::pairs::{Count, count};
 use smx_model::laws_of_links::{
@@ -59,7 +60,7 @@ impl LinkTable {
             masks: vec![in alloc; 0; drivers]?,
             links: Vec::new(alloc),
             ordinary: Vec::new(alloc),
-            ids: Ids::new(alloc),
+            ids: no_ids(alloc, drivers)?,
             pairs: vec![in alloc; 0; drivers * drivers]?,
             next_id: 1,
         })
@@ -254,11 +255,12 @@ impl LinkTable {
     pub fn copy(&self) -> Result<LinkTable, NoMemory>
         ensures { IfOk result (λ t. t ≡ self.now) }
     {
+        let alloc = *self.masks.allocator();
         Ok(LinkTable {
             masks: self.masks.clone()?,
             links: self.links.clone()?,
             ordinary: self.ordinary.clone()?,
-            ids: self.ids.clone()?,
+            ids: copy_ids(alloc, &self.ids)?,
             pairs: self.pairs.clone()?,
             next_id: self.next_id,
         })

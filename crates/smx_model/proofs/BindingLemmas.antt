@@ -1,5 +1,6 @@
 -- Which bindings a command takes away.
-use Rattle.std.proofs.Common.{◌≡◌, ◌↔◌, ℕ, Bool, true, false, ◌&&◌, not, eqb, List, [], filter, Result, Ok, Err, refl, rules, sym, subst}
+use Rattle.std.proofs.Common.{◌≡◌, ◌↔◌, ℕ, Bool, true, false, ◌&&◌, not, eqb, List, [], filter, Result, Ok, Err, refl}
+use Rattle.std.proofs.Common.{rules, sym, subst}
 use Rattle.std.specs.List.{All, Contains, list_any}
 use Rattle.smx_types.specs.declared.command.Command.{Command}
 use Rattle.smx_types.specs.declared.command.Command.TheVariants as command
@@ -14,7 +15,8 @@ use Rattle.smx_types.specs.declared.reply.Fault.TheVariants.{Unbound}
 use Rattle.smx_types.specs.declared.reply.Reply.TheVariants as reply
 use Rattle.smx_types.specs.declared.stream.Place.{Place}
 use Rattle.smx_types.specs.declared.stream.StreamId.{StreamId}
-use Rattle.smx_model.specs.Commands.{outcome, step, after_outcome, done_outcome, link_outcome, unlink_outcome, send_outcome, receive_outcome}
+use Rattle.smx_model.specs.Commands.{outcome, step, after_outcome, done_outcome, link_outcome, unlink_outcome}
+use Rattle.smx_model.specs.Commands.{send_outcome, receive_outcome}
 use Rattle.smx_model.specs.Configuration.{Configuration, bind_before}
 use Rattle.smx_model.specs.Lookups.{mux_stream}
 use Rattle.smx_model.specs.Ordered.{with_inserted}
@@ -39,24 +41,47 @@ stream b = record { driver = b.driver; minor = b.minor }
 record LosesBindings (c d : Configuration) (goes : Binding → Bool) : Type 0 where
   each : (b : Binding) → Contains c.binds b → Contains d.binds b ↔ (not (goes b) ≡ true)
 
-loosed_fewer : (drivers : List DriverSpec) (c : Configuration) (goes : Binding → Bool) → IsSwept drivers c → LosesBindings c (after_outcome drivers c (done_outcome drivers c (record c { binds = filter (λ b. not (goes b)) c.binds }))).0 goes
-loosed_fewer drivers c goes h = subst (λ (o : Outcome). LosesBindings c (after_outcome drivers c o).0 goes) (sym idle) (record {
-  each = λ b k. rw ((settled_alone drivers _ fewer).binds) (λ m. filtered_passes (λ b. not (goes b)) c.binds b m, λ e. in_filtered (λ b. not (goes b)) c.binds b k e);
-}) where
-  fewer : Configuration
-  fewer = record c { binds = filter (λ b. not (goes b)) c.binds }
+loosed_fewer : (drivers : List DriverSpec) (c : Configuration) (goes : Binding → Bool) → IsSwept drivers c
+    → LosesBindings c (after_outcome drivers c
+    (done_outcome drivers c (record c { binds = filter (λ b. not (goes b)) c.binds }))).0 goes
+loosed_fewer drivers c goes h =
+    subst (λ (o : Outcome). LosesBindings c (after_outcome drivers c o).0 goes) (sym idle) (record {
+      each = λ b k. rw ((settled_alone drivers _ fewer).binds)
+          (λ m. filtered_passes (λ b. not (goes b)) c.binds b m, λ e. in_filtered (λ b. not (goes b)) c.binds b k e);
+    }) where
+      fewer : Configuration
+      fewer = record c { binds = filter (λ b. not (goes b)) c.binds }
 
-  idle : done_outcome drivers c fewer ≡ Ok (fewer, reply.Done [])
-  idle = done_idle drivers c fewer (record { links = h.links; binds = all_filter _ _ c.binds h.binds; flow = h.flow; fulls = h.fulls; hungs = h.hungs }) refl
+      idle : done_outcome drivers c fewer ≡ Ok (fewer, reply.Done [])
+      idle = done_idle drivers c fewer
+          (record {
+            links = h.links;
+            binds = all_filter _ _ c.binds h.binds;
+            flow = h.flow;
+            fulls = h.fulls;
+            hungs = h.hungs;
+          }) refl
 
-pub unbind_looses : (drivers : List DriverSpec) (c : Configuration) (process fd : ℕ) (s : StreamId) → IsSwept drivers c → mux_stream drivers c process fd ≡ Ok s
-    → All (λ b. Contains (step drivers c process (command.Unbind fd)).0.binds b ↔ (not (eqb b.driver s.driver && eqb b.minor s.minor) ≡ true)) c.binds
-unbind_looses drivers c process fd s h e = all_in _ c.binds (subst (λ (r : Result StreamId Fault). LosesBindings c (after_outcome drivers c (r >>= (λ s. refuse Unbound (not (list_any (λ b. eqb b.driver s.driver && eqb b.minor s.minor) c.binds))
-    >>= (λ bound. done_outcome drivers c (record c { binds = filter (λ b. not (eqb b.driver s.driver && eqb b.minor s.minor)) c.binds }))))).0 mine) (sym e) (by (list_any mine c.binds) refl)).each where
+-- unbind takes away the bindings of its stream, and leaves all others
+pub unbind_looses : (drivers : List DriverSpec) (c : Configuration) (process fd : ℕ) (s : StreamId) → IsSwept drivers c
+    → mux_stream drivers c process fd ≡ Ok s
+    → All (λ b. Contains (step drivers c process (command.Unbind fd)).0.binds b
+    ↔ (not (eqb b.driver s.driver && eqb b.minor s.minor) ≡ true)) c.binds
+unbind_looses drivers c process fd s h e = all_in _ c.binds
+    (subst (λ (r : Result StreamId Fault). LosesBindings c
+    (after_outcome drivers c
+    (r >>= (λ s. refuse Unbound (not (list_any (λ b. eqb b.driver s.driver && eqb b.minor s.minor) c.binds))
+    >>= (λ bound. done_outcome drivers c
+    (record c { binds = filter (λ b. not (eqb b.driver s.driver && eqb b.minor s.minor)) c.binds }))))).0 mine) (sym e)
+    (by (list_any mine c.binds) refl)).each where
       mine : Binding → Bool
       mine b = eqb b.driver s.driver && eqb b.minor s.minor
 
-      by : (b : Bool) → list_any mine c.binds ≡ b → LosesBindings c (after_outcome drivers c (refuse Unbound (not b) >>= (λ bound. done_outcome drivers c (record c { binds = filter (λ b. not (mine b)) c.binds })))).0 mine
+      by : (b : Bool) → list_any mine c.binds ≡ b
+          → LosesBindings c
+          (after_outcome drivers c
+          (refuse Unbound (not b) >>= (λ bound. done_outcome drivers c
+          (record c { binds = filter (λ b. not (mine b)) c.binds })))).0 mine
       by true f = loosed_fewer drivers c mine h
       by false f = record { each = λ b k. (λ m. rw (none_in mine c.binds f b k) refl, λ t. k) }
 
@@ -69,31 +94,44 @@ record KeepsBindings (drivers : List DriverSpec) (c d : Configuration) : Type 0 
 bound_same : (drivers : List DriverSpec) (c d : Configuration) → d.binds ≡ c.binds → KeepsBindings drivers c d
 bound_same drivers c d e = record { each = λ b h t. subst (λ (bs : List Binding). Contains bs b) (sym e) h }
 
-bound_done : (drivers : List DriverSpec) (c d : Configuration) → ((b : Binding) → Contains c.binds b → Contains d.binds b) → IfAccepted (λ d r. KeepsBindings drivers c d) (done_outcome drivers c d)
+bound_done : (drivers : List DriverSpec) (c d : Configuration)
+    → ((b : Binding) → Contains c.binds b → Contains d.binds b)
+    → IfAccepted (λ d r. KeepsBindings drivers c d) (done_outcome drivers c d)
 bound_done drivers c d f = record { holds = record { each = λ b h t. in_filtered _ d.binds b (f b h) t } }
 
-bound_like : (drivers : List DriverSpec) (c d : Configuration) → d.binds ≡ c.binds → IfAccepted (λ d r. KeepsBindings drivers c d) (done_outcome drivers c d)
+bound_like : (drivers : List DriverSpec) (c d : Configuration) → d.binds ≡ c.binds
+    → IfAccepted (λ d r. KeepsBindings drivers c d) (done_outcome drivers c d)
 bound_like drivers c d e = bound_done drivers c d (λ b h. subst (λ (bs : List Binding). Contains bs b) (sym e) h)
 
-bound_bind : (drivers : List DriverSpec) (c : Configuration) (x : Binding) → IfAccepted (λ d r. KeepsBindings drivers c d) (done_outcome drivers c (record c { binds = with_inserted bind_before c.binds x }))
-bound_bind drivers c x = bound_done drivers c (record c { binds = with_inserted bind_before c.binds x }) (λ b h. in_placed bind_before c.binds b x h)
+bound_bind : (drivers : List DriverSpec) (c : Configuration) (x : Binding)
+    → IfAccepted (λ d r. KeepsBindings drivers c d)
+    (done_outcome drivers c (record c { binds = with_inserted bind_before c.binds x }))
+bound_bind drivers c x = bound_done drivers c (record c { binds = with_inserted bind_before c.binds x })
+    (λ b h. in_placed bind_before c.binds b x h)
 
-bound_unlinked : (drivers : List DriverSpec) (c : Configuration) (w : Which) (mine : Link → Bool) → IfAccepted (λ d r. KeepsBindings drivers c d) (unlink_outcome drivers c w mine)
+bound_unlinked : (drivers : List DriverSpec) (c : Configuration) (w : Which) (mine : Link → Bool)
+    → IfAccepted (λ d r. KeepsBindings drivers c d) (unlink_outcome drivers c w mine)
 bound_unlinked drivers c which.All mine = bound_like drivers c (without_links c mine) refl
 bound_unlinked drivers c (which.Id id) mine = search (after_test, bound_like, rules) depth 12
 
-bound_linked : (drivers : List DriverSpec) (c : Configuration) (process fd arg : ℕ) (k : LinkKind) → IfAccepted (λ d r. KeepsBindings drivers c d) (link_outcome drivers c process fd arg k)
+bound_linked : (drivers : List DriverSpec) (c : Configuration) (process fd arg : ℕ) (k : LinkKind)
+    → IfAccepted (λ d r. KeepsBindings drivers c d) (link_outcome drivers c process fd arg k)
 bound_linked drivers c process fd arg k = search (after_test, after_ok, at_ok, bound_same, rules) depth 24
 
-bound_sent : (drivers : List DriverSpec) (c : Configuration) (p : Place) (addr : ℕ) (bytes : List ℕ) → IfAccepted (λ d r. KeepsBindings drivers c d) (send_outcome drivers c p addr bytes)
+bound_sent : (drivers : List DriverSpec) (c : Configuration) (p : Place) (addr : ℕ) (bytes : List ℕ)
+    → IfAccepted (λ d r. KeepsBindings drivers c d) (send_outcome drivers c p addr bytes)
 bound_sent drivers c p addr bytes = search (after_test, at_ok, bound_same, rules) depth 12
 
-bound_received : (drivers : List DriverSpec) (c : Configuration) (p : Place) → IfAccepted (λ d r. KeepsBindings drivers c d) (receive_outcome drivers c p)
+bound_received : (drivers : List DriverSpec) (c : Configuration) (p : Place)
+    → IfAccepted (λ d r. KeepsBindings drivers c d) (receive_outcome drivers c p)
 bound_received drivers c p = search (after_some, at_ok, bound_same, rules) depth 12
 
-bound_accepted : (drivers : List DriverSpec) (c : Configuration) (process : ℕ) (k : Command) → ((fd : ℕ) → k ≡ command.Unbind fd → ⊥) → IfAccepted (λ d r. KeepsBindings drivers c d) (outcome drivers c process k)
+bound_accepted : (drivers : List DriverSpec) (c : Configuration) (process : ℕ) (k : Command)
+    → ((fd : ℕ) → k ≡ command.Unbind fd → ⊥)
+    → IfAccepted (λ d r. KeepsBindings drivers c d) (outcome drivers c process k)
 bound_accepted drivers c process (command.OpenClone name) never = search (after_ok, at_ok, bound_same, rules) depth 20
-bound_accepted drivers c process (command.OpenMinor name minor) never = search (after_test, after_ok, at_ok, bound_same, rules) depth 20
+bound_accepted drivers c process (command.OpenMinor name minor) never =
+    search (after_test, after_ok, at_ok, bound_same, rules) depth 20
 bound_accepted drivers c process (command.Dup fd) never = search (after_ok, at_ok, bound_same, rules) depth 20
 bound_accepted drivers c process (command.Close fd) never = search (after_ok, bound_like, rules) depth 20
 bound_accepted drivers c process command.CloseAll never = search (bound_like, rules) depth 20
@@ -101,14 +139,19 @@ bound_accepted drivers c process (command.Link fd arg) never = search (bound_lin
 bound_accepted drivers c process (command.Plink fd arg) never = search (bound_linked, rules) depth 20
 bound_accepted drivers c process (command.Unlink fd w) never = search (after_ok, bound_unlinked, rules) depth 20
 bound_accepted drivers c process (command.Punlink fd w) never = search (after_ok, bound_unlinked, rules) depth 20
-bound_accepted drivers c process (command.Bind fd addr) never = search (after_test, after_ok, bound_bind, rules) depth 20
+bound_accepted drivers c process (command.Bind fd addr) never =
+    search (after_test, after_ok, bound_bind, rules) depth 20
 bound_accepted drivers c process (command.Unbind fd) never = absurd (never fd refl)
-bound_accepted drivers c process (command.Route fd addr id) never = search (after_test, after_ok, bound_like, rules) depth 20
-bound_accepted drivers c process (command.Unroute fd addr) never = search (after_test, after_ok, bound_like, rules) depth 20
+bound_accepted drivers c process (command.Route fd addr id) never =
+    search (after_test, after_ok, bound_like, rules) depth 20
+bound_accepted drivers c process (command.Unroute fd addr) never =
+    search (after_test, after_ok, bound_like, rules) depth 20
 bound_accepted drivers c process (command.Write fd addr bytes) never = search (after_ok, bound_sent, rules) depth 20
-bound_accepted drivers c process (command.Read fd) never = search (after_ok, after_choice, at_ok, bound_same, bound_received, rules) depth 20
+bound_accepted drivers c process (command.Read fd) never =
+    search (after_ok, after_choice, at_ok, bound_same, bound_received, rules) depth 20
 bound_accepted drivers c process (command.Flush fd w) never = search (after_ok, bound_like, rules) depth 20
-bound_accepted drivers c process (command.Inject name minor addr bytes) never = search (after_ok, bound_sent, rules) depth 20
+bound_accepted drivers c process (command.Inject name minor addr bytes) never =
+    search (after_ok, bound_sent, rules) depth 20
 bound_accepted drivers c process (command.Transmit name minor) never = search (after_ok, bound_received, rules) depth 20
 bound_accepted drivers c process (command.Hangup name minor) never = search (after_ok, bound_like, rules) depth 20
 
@@ -118,13 +161,24 @@ bound_accepted drivers c process (command.Hangup name minor) never = search (aft
 record JustBound (drivers : List DriverSpec) (c d : Configuration) : Type 0 where
   each : (b : Binding) → Contains c.binds b → Contains d.binds b ↔ (exists drivers d (stream b) ≡ true)
 
-just_settled : (drivers : List DriverSpec) (c : Configuration) (n : ℕ) (d : Configuration) → JustBound drivers c d → JustBound drivers c (after_settling_within drivers n d)
-just_settled drivers c n d h = let s = settled_alone drivers n d in record { each = λ b k. rw (s.binds, s.links, s.fds) (h.each b k) }
+just_settled : (drivers : List DriverSpec) (c : Configuration) (n : ℕ) (d : Configuration) → JustBound drivers c d
+    → JustBound drivers c (after_settling_within drivers n d)
+just_settled drivers c n d h =
+    let s = settled_alone drivers n d in record { each = λ b k. rw (s.binds, s.links, s.fds) (h.each b k) }
 
-just_finished : (drivers : List DriverSpec) (c : Configuration) (o : Outcome) → IsSwept drivers c → IfAccepted (λ d r. IsSwept drivers d) o → IfAccepted (λ d r. KeepsBindings drivers c d) o → JustBound drivers c (after_outcome drivers c o).0
-just_finished drivers c (Ok x) h swept_ m = just_settled drivers c _ x.0 (record { each = λ b k. (λ there. in_all _ x.0.binds b swept_.holds.binds there, λ e. m.holds.each b k e) })
-just_finished drivers c (Err f) h swept_ m = record { each = λ b k. (λ there. in_all _ c.binds b h.binds there, λ e. k) }
+just_finished : (drivers : List DriverSpec) (c : Configuration) (o : Outcome) → IsSwept drivers c
+    → IfAccepted (λ d r. IsSwept drivers d) o → IfAccepted (λ d r. KeepsBindings drivers c d) o
+    → JustBound drivers c (after_outcome drivers c o).0
+just_finished drivers c (Ok x) h swept_ m = just_settled drivers c _ x.0
+    (record { each = λ b k. (λ there. in_all _ x.0.binds b swept_.holds.binds there, λ e. m.holds.each b k e) })
+just_finished drivers c (Err f) h swept_ m =
+    record { each = λ b k. (λ there. in_all _ c.binds b h.binds there, λ e. k) }
 
-pub others_keep_bound : (drivers : List DriverSpec) (c : Configuration) (process : ℕ) (k : Command) → IsSwept drivers c → ((fd : ℕ) → k ≡ command.Unbind fd → ⊥)
-    → All (λ b. Contains (step drivers c process k).0.binds b ↔ (exists drivers (step drivers c process k).0 (record { driver = b.driver; minor = b.minor }) ≡ true)) c.binds
-others_keep_bound drivers c process k h never = all_in _ c.binds (just_finished drivers c (outcome drivers c process k) h (swept_accepted drivers c process k h) (bound_accepted drivers c process k never)).each
+-- a command that is no unbind leaves just those of the old bindings whose streams exist after it
+pub others_keep_bound : (drivers : List DriverSpec) (c : Configuration) (process : ℕ) (k : Command) → IsSwept drivers c
+    → ((fd : ℕ) → k ≡ command.Unbind fd → ⊥)
+    → All (λ b. Contains (step drivers c process k).0.binds b
+    ↔ (exists drivers (step drivers c process k).0 (record { driver = b.driver; minor = b.minor }) ≡ true)) c.binds
+others_keep_bound drivers c process k h never = all_in _ c.binds
+    (just_finished drivers c (outcome drivers c process k) h (swept_accepted drivers c process k h)
+    (bound_accepted drivers c process k never)).each

@@ -1,5 +1,7 @@
 -- Each message that was taken is delivered, dropped or queued.
-use Rattle.std.proofs.Common.{◌≡◌, ℕ, zero, suc, ◌+◌, ◌<◌, ◌≤◌, Bool, cond, eqb, List, [], ◌∷◌, ◌++◌, length, filter, Option, Some, None, Ok, Err, refl, rules, sym, ap, ◌∙◌, subst, arith, inl, inr, length-append}
+use Rattle.std.proofs.Common.{◌≡◌, ℕ, zero, suc, ◌+◌, ◌<◌, ◌≤◌, Bool, cond, eqb, List, [], ◌∷◌, ◌++◌, length, filter}
+use Rattle.std.proofs.Common.{Option, Some, None, Ok, Err, refl, rules, sym, ap, ◌∙◌, subst, arith, inl, inr}
+use Rattle.std.proofs.Common.{length-append}
 use Rattle.std.specs.List.{range_with_len}
 use Rattle.std.proofs.lemmas.Bool.{cases_Bool, cases_lt, cases_eq, ne_eqb, eq-eqb}
 use Rattle.smx_types.specs.declared.command.Command.{Command}
@@ -14,10 +16,12 @@ use Rattle.smx_types.specs.declared.link.Link.{Link}
 use Rattle.smx_types.specs.declared.link.LinkKind.{LinkKind}
 use Rattle.smx_types.specs.declared.message.Message.{Message}
 use Rattle.smx_types.specs.declared.stream.Place.{Place}
-use Rattle.smx_model.specs.Commands.{outcome, step, after_outcome, done_outcome, link_outcome, unlink_outcome, send_outcome, receive_outcome}
+use Rattle.smx_model.specs.Commands.{outcome, step, after_outcome, done_outcome, link_outcome, unlink_outcome}
+use Rattle.smx_model.specs.Commands.{send_outcome, receive_outcome}
 use Rattle.smx_model.specs.Configuration.{Configuration, QueuedMessage, empty, is_at, queued_before}
 use Rattle.smx_model.specs.Histories.{after_from, after, IsLegalFrom, IsLegal}
-use Rattle.smx_model.specs.LawfulHistories.{taken_by, delivered_by, dropped_by, taken_serials, delivered_serials, dropped_serials, IsConserving}
+use Rattle.smx_model.specs.LawfulHistories.{taken_by, delivered_by, dropped_by, taken_serials, delivered_serials}
+use Rattle.smx_model.specs.LawfulHistories.{dropped_serials, IsConserving}
 use Rattle.smx_model.specs.Ordered.{with_inserted, without_first}
 use Rattle.smx_model.specs.Outcomes.{Outcome}
 use Rattle.smx_model.specs.Queues.{first_message, after_leaving}
@@ -28,15 +32,20 @@ use Rattle.smx_model.proofs.OutcomeLemmas.{IfAccepted, at_ok, after_ok, after_te
 
 -- serials of a flow
 
-serials_placed : (n : ℕ) (hs : List QueuedMessage) (h : QueuedMessage) → times n (serials (with_inserted queued_before hs h)) ≡ cond (eqb h.message.serial n) 1 0 + times n (serials hs)
+serials_placed : (n : ℕ) (hs : List QueuedMessage) (h : QueuedMessage)
+    → times n (serials (with_inserted queued_before hs h)) ≡ cond (eqb h.message.serial n) 1 0 + times n (serials hs)
 serials_placed n [] h = refl
-serials_placed n (k ∷ hs) h = elim (cases_Bool (queued_before h k)) [ inl t ↦ rw t refl | inr f ↦ rw f (omega (arith, serials_placed n hs h)) ]
+serials_placed n (k ∷ hs) h =
+    elim (cases_Bool (queued_before h k)) [ inl t ↦ rw t refl | inr f ↦ rw f (omega (arith, serials_placed n hs h)) ]
 
-serials_filter : (n : ℕ) (test : QueuedMessage → Bool) (hs : List QueuedMessage) → times n (serials (filter test hs)) ≤ times n (serials hs)
+serials_filter : (n : ℕ) (test : QueuedMessage → Bool) (hs : List QueuedMessage)
+    → times n (serials (filter test hs)) ≤ times n (serials hs)
 serials_filter n test [] = omega arith
-serials_filter n test (h ∷ hs) = elim (cases_Bool (test h)) [ inl t ↦ rw t (omega (arith, serials_filter n test hs)) | inr f ↦ rw f (omega (arith, serials_filter n test hs)) ]
+serials_filter n test (h ∷ hs) = elim (cases_Bool (test h))
+    [ inl t ↦ rw t (omega (arith, serials_filter n test hs)) | inr f ↦ rw f (omega (arith, serials_filter n test hs)) ]
 
-serials_front : (n : ℕ) (hs : List QueuedMessage) (p : Place) (m : Message) → first_message hs p ≡ Some m → times n (serials hs) ≡ cond (eqb m.serial n) 1 0 + times n (serials (without_first (is_at p) hs))
+serials_front : (n : ℕ) (hs : List QueuedMessage) (p : Place) (m : Message) → first_message hs p ≡ Some m
+    → times n (serials hs) ≡ cond (eqb m.serial n) 1 0 + times n (serials (without_first (is_at p) hs))
 serials_front n [] p m e = cc
 serials_front n (h ∷ hs) p m e = elim (cases_Bool (is_at p h)) [
   | inl t ↦ let k : Some h.message ≡ Some m = rw t at e in let same : h.message ≡ m = cc in rw (t, same) refl
@@ -45,11 +54,14 @@ serials_front n (h ∷ hs) p m e = elim (cases_Bool (is_at p h)) [
 
 -- from old to new by a reply
 
+-- what was taken in or queued is delivered, dropped or queued then, and serials are taken from the next one on
 pub record Goes (c d : Configuration) (r : Reply) : Type 0 where
-  pub balance : (n : ℕ) → times n (taken_by r) + times n (serials c.flow) ≡ times n (delivered_by r) + (times n (dropped_by r) + times n (serials d.flow))
+  pub balance : (n : ℕ) → times n (taken_by r) + times n (serials c.flow)
+      ≡ times n (delivered_by r) + (times n (dropped_by r) + times n (serials d.flow))
   pub numbered : taken_by r ≡ range_with_len c.next_serial (length (taken_by r))
   pub next : d.next_serial ≡ c.next_serial + length (taken_by r)
 
+-- each queued message has a serial of its own, below the next one
 pub record IsNumbered (c : Configuration) : Type 0 where
   pub once : (n : ℕ) → times n (serials c.flow) ≤ 1
   pub below : (n : ℕ) → c.next_serial ≤ n → times n (serials c.flow) ≡ 0
@@ -66,22 +78,31 @@ fewer_emptied c goes = record { each = λ n. serials_filter n _ c.flow }
 fewer_removed : (c : Configuration) (goes : Link → Bool) → IsFewer c (without_links c goes)
 fewer_removed c goes = record { each = λ n. serials_filter n _ c.flow }
 
-two_filters : (n : ℕ) (f g : QueuedMessage → Bool) (hs : List QueuedMessage) → times n (serials (filter g (filter f hs))) ≤ times n (serials hs)
+two_filters : (n : ℕ) (f g : QueuedMessage → Bool) (hs : List QueuedMessage)
+    → times n (serials (filter g (filter f hs))) ≤ times n (serials hs)
 two_filters n f g hs = omega (arith, serials_filter n g (filter f hs), serials_filter n f hs)
 
-fewer_swept : (n : ℕ) (drivers : List DriverSpec) (c : Configuration) → times n (serials (after_sweep drivers c).flow) ≤ times n (serials c.flow)
+fewer_swept : (n : ℕ) (drivers : List DriverSpec) (c : Configuration)
+    → times n (serials (after_sweep drivers c).flow) ≤ times n (serials c.flow)
 fewer_swept n drivers c = two_filters n _ _ c.flow
 
-goes_done : (drivers : List DriverSpec) (c d : Configuration) → IsNumbered c → d.next_serial ≡ c.next_serial → IsFewer c d → IfAccepted (Goes c) (done_outcome drivers c d)
+goes_done : (drivers : List DriverSpec) (c d : Configuration) → IsNumbered c → d.next_serial ≡ c.next_serial
+    → IsFewer c d → IfAccepted (Goes c) (done_outcome drivers c d)
 goes_done drivers c d h same fewer = record {
   holds = record {
-    balance = λ n. omega (arith, times_gone n (serials c.flow) (serials (after_sweep drivers d).flow) (omega (arith, fewer_swept n drivers d, fewer.each n)) (h.once n));
+    balance = λ n.
+        omega (
+          arith,
+          times_gone n (serials c.flow) (serials (after_sweep drivers d).flow)
+              (omega (arith, fewer_swept n drivers d, fewer.each n)) (h.once n),
+        );
     numbered = refl;
     next = omega arith;
   };
 }
 
-goes_fd : (c d : Configuration) (fd minor : ℕ) → d.flow ≡ c.flow → d.next_serial ≡ c.next_serial → Goes c d (reply.Fd fd minor)
+goes_fd : (c d : Configuration) (fd minor : ℕ) → d.flow ≡ c.flow → d.next_serial ≡ c.next_serial
+    → Goes c d (reply.Fd fd minor)
 goes_fd c d fd minor e same = record { balance = λ n. rw e (omega arith); numbered = refl; next = omega arith }
 
 goes_eof : (c : Configuration) → Goes c c reply.Eof
@@ -90,30 +111,46 @@ goes_eof c = record { balance = λ n. omega arith; numbered = refl; next = omega
 goes_id : (c d : Configuration) (id : ℕ) → d.flow ≡ c.flow → d.next_serial ≡ c.next_serial → Goes c d (reply.Id id)
 goes_id c d id e same = record { balance = λ n. rw e (omega arith); numbered = refl; next = omega arith }
 
-goes_sent : (drivers : List DriverSpec) (c : Configuration) (p : Place) (addr : ℕ) (bytes : List ℕ) → IfAccepted (Goes c) (send_outcome drivers c p addr bytes)
+goes_sent : (drivers : List DriverSpec) (c : Configuration) (p : Place) (addr : ℕ) (bytes : List ℕ)
+    → IfAccepted (Goes c) (send_outcome drivers c p addr bytes)
 goes_sent drivers c p addr bytes = search (after_test, at_ok, took, rules) depth 12 where
-  took : (d : Configuration) → d.flow ≡ with_inserted queued_before c.flow (record { place = p; message = record { serial = c.next_serial; addr = addr; bytes = bytes } }) → d.next_serial ≡ c.next_serial + 1 → Goes c d (reply.Took c.next_serial)
+  took : (d : Configuration)
+      → d.flow ≡ with_inserted queued_before c.flow
+      (record { place = p; message = record { serial = c.next_serial; addr = addr; bytes = bytes } })
+      → d.next_serial ≡ c.next_serial + 1 → Goes c d (reply.Took c.next_serial)
   took d e next = record {
-    balance = λ n. rw e (omega (arith, serials_placed n c.flow (record { place = p; message = record { serial = c.next_serial; addr = addr; bytes = bytes } })));
+    balance = λ n.
+        rw e (omega (
+          arith,
+          serials_placed n c.flow
+              (record { place = p; message = record { serial = c.next_serial; addr = addr; bytes = bytes } }),
+        ));
     numbered = refl;
     next = next;
   }
 
-goes_received : (drivers : List DriverSpec) (c : Configuration) (p : Place) → IfAccepted (Goes c) (receive_outcome drivers c p)
+goes_received : (drivers : List DriverSpec) (c : Configuration) (p : Place)
+    → IfAccepted (Goes c) (receive_outcome drivers c p)
 goes_received drivers c p = search (after_some, at_ok, got, rules) depth 12 where
-  got : (m : Message) → first_message c.flow p ≡ Some m → Goes c (after_leaving drivers c p) (reply.Got m.serial m.addr m.bytes)
+  got : (m : Message) → first_message c.flow p ≡ Some m
+      → Goes c (after_leaving drivers c p) (reply.Got m.serial m.addr m.bytes)
   got m e = record { balance = λ n. omega (arith, serials_front n c.flow p m e); numbered = refl; next = omega arith }
 
-goes_unlinked : (drivers : List DriverSpec) (c : Configuration) (w : Which) (mine : Link → Bool) → IsNumbered c → IfAccepted (Goes c) (unlink_outcome drivers c w mine)
+goes_unlinked : (drivers : List DriverSpec) (c : Configuration) (w : Which) (mine : Link → Bool) → IsNumbered c
+    → IfAccepted (Goes c) (unlink_outcome drivers c w mine)
 goes_unlinked drivers c which.All mine h = goes_done drivers c (without_links c mine) h refl (fewer_removed c mine)
 goes_unlinked drivers c (which.Id id) mine h = search (after_test, goes_done, fewer_removed, rules) depth 12
 
-goes_linked : (drivers : List DriverSpec) (c : Configuration) (process fd arg : ℕ) (k : LinkKind) → IfAccepted (Goes c) (link_outcome drivers c process fd arg k)
+goes_linked : (drivers : List DriverSpec) (c : Configuration) (process fd arg : ℕ) (k : LinkKind)
+    → IfAccepted (Goes c) (link_outcome drivers c process fd arg k)
 goes_linked drivers c process fd arg k = search (after_test, after_ok, at_ok, goes_id, rules) depth 20
 
-pub goes_accepted : (drivers : List DriverSpec) (c : Configuration) (process : ℕ) (k : Command) → IsNumbered c → IfAccepted (Goes c) (outcome drivers c process k)
+-- an accepted command loses and doubles no message, where each queued one has a serial of its own
+pub goes_accepted : (drivers : List DriverSpec) (c : Configuration) (process : ℕ) (k : Command) → IsNumbered c
+    → IfAccepted (Goes c) (outcome drivers c process k)
 goes_accepted drivers c process (command.OpenClone name) h = search (after_ok, at_ok, goes_fd, rules) depth 20
-goes_accepted drivers c process (command.OpenMinor name minor) h = search (after_test, after_ok, at_ok, goes_fd, rules) depth 20
+goes_accepted drivers c process (command.OpenMinor name minor) h =
+    search (after_test, after_ok, at_ok, goes_fd, rules) depth 20
 goes_accepted drivers c process (command.Dup fd) h = search (after_ok, at_ok, goes_fd, rules) depth 20
 goes_accepted drivers c process (command.Close fd) h = search (after_ok, at_ok, goes_done, fewer_same, rules) depth 20
 goes_accepted drivers c process command.CloseAll h = search (at_ok, goes_done, fewer_same, rules) depth 20
@@ -121,27 +158,42 @@ goes_accepted drivers c process (command.Link fd arg) h = search (goes_linked, r
 goes_accepted drivers c process (command.Plink fd arg) h = search (goes_linked, rules) depth 20
 goes_accepted drivers c process (command.Unlink fd w) h = search (after_ok, goes_unlinked, rules) depth 20
 goes_accepted drivers c process (command.Punlink fd w) h = search (after_ok, goes_unlinked, rules) depth 20
-goes_accepted drivers c process (command.Bind fd addr) h = search (after_test, after_ok, at_ok, goes_done, fewer_same, rules) depth 20
-goes_accepted drivers c process (command.Unbind fd) h = search (after_test, after_ok, at_ok, goes_done, fewer_same, rules) depth 20
-goes_accepted drivers c process (command.Route fd addr id) h = search (after_test, after_ok, at_ok, goes_done, fewer_same, rules) depth 20
-goes_accepted drivers c process (command.Unroute fd addr) h = search (after_test, after_ok, at_ok, goes_done, fewer_same, rules) depth 20
+goes_accepted drivers c process (command.Bind fd addr) h =
+    search (after_test, after_ok, at_ok, goes_done, fewer_same, rules) depth 20
+goes_accepted drivers c process (command.Unbind fd) h =
+    search (after_test, after_ok, at_ok, goes_done, fewer_same, rules) depth 20
+goes_accepted drivers c process (command.Route fd addr id) h =
+    search (after_test, after_ok, at_ok, goes_done, fewer_same, rules) depth 20
+goes_accepted drivers c process (command.Unroute fd addr) h =
+    search (after_test, after_ok, at_ok, goes_done, fewer_same, rules) depth 20
 goes_accepted drivers c process (command.Write fd addr bytes) h = search (after_ok, goes_sent, rules) depth 20
-goes_accepted drivers c process (command.Read fd) h = search (after_ok, after_choice, at_ok, goes_eof, goes_received, rules) depth 20
-goes_accepted drivers c process (command.Flush fd w) h = search (after_ok, at_ok, goes_done, fewer_emptied, rules) depth 20
+goes_accepted drivers c process (command.Read fd) h =
+    search (after_ok, after_choice, at_ok, goes_eof, goes_received, rules) depth 20
+goes_accepted drivers c process (command.Flush fd w) h =
+    search (after_ok, at_ok, goes_done, fewer_emptied, rules) depth 20
 goes_accepted drivers c process (command.Inject name minor addr bytes) h = search (after_ok, goes_sent, rules) depth 20
 goes_accepted drivers c process (command.Transmit name minor) h = search (after_ok, goes_received, rules) depth 20
 goes_accepted drivers c process (command.Hangup name minor) h = search (after_ok, goes_done, fewer_same, rules) depth 20
 
 -- settling keeps what is queued
 
-pub moved_same : (n : ℕ) (drivers : List DriverSpec) (c : Configuration) (p : Place) → times n (serials (after_move drivers c p).flow) ≡ times n (serials c.flow)
+-- a move leaves the same serials in the flow, each as often
+pub moved_same : (n : ℕ) (drivers : List DriverSpec) (c : Configuration) (p : Place)
+    → times n (serials (after_move drivers c p).flow) ≡ times n (serials c.flow)
 moved_same n drivers c p = by (next_open_place drivers c p) (first_message c.flow p) refl where
-  by : (o : Option Place) (m : Option Message) → first_message c.flow p ≡ m → times n (serials (after_move_to drivers c p o m).flow) ≡ times n (serials c.flow)
-  by (Some q) (Some m) e = omega (arith, serials_front n c.flow p m e, serials_placed n (after_leaving drivers c p).flow (record { place = q; message = m }))
+  by : (o : Option Place) (m : Option Message) → first_message c.flow p ≡ m
+      → times n (serials (after_move_to drivers c p o m).flow) ≡ times n (serials c.flow)
+  by (Some q) (Some m) e = omega (
+    arith,
+    serials_front n c.flow p m e,
+    serials_placed n (after_leaving drivers c p).flow (record { place = q; message = m }),
+  )
   by (Some q) None e = refl
   by None m e = refl
 
-pub moved_next : (drivers : List DriverSpec) (c : Configuration) (p : Place) → (after_move drivers c p).next_serial ≡ c.next_serial
+-- a move leaves the next serial as it is
+pub moved_next : (drivers : List DriverSpec) (c : Configuration) (p : Place)
+    → (after_move drivers c p).next_serial ≡ c.next_serial
 moved_next drivers c p = by (next_open_place drivers c p) (first_message c.flow p) where
   by : (o : Option Place) (m : Option Message) → (after_move_to drivers c p o m).next_serial ≡ c.next_serial
   by (Some q) (Some m) = refl
@@ -152,16 +204,21 @@ record KeepsSerials (c d : Configuration) : Type 0 where
   same : (n : ℕ) → times n (serials d.flow) ≡ times n (serials c.flow)
   next : d.next_serial ≡ c.next_serial
 
-settled_keeps : (drivers : List DriverSpec) (n : ℕ) (c : Configuration) → KeepsSerials c (after_settling_within drivers n c)
+settled_keeps : (drivers : List DriverSpec) (n : ℕ) (c : Configuration)
+    → KeepsSerials c (after_settling_within drivers n c)
 settled_keeps drivers zero c = record { same = λ n. refl; next = refl }
-settled_keeps drivers (suc k) c = elim (least_movable drivers c) as (λ o. KeepsSerials c (elim o as (λ _. Configuration) [ None ↦ c | Some p ↦ after_settling_within drivers k (after_move drivers c p) ])) [
-  | None ↦ record { same = λ n. refl; next = refl }
-  | Some p ↦ let r = settled_keeps drivers k (after_move drivers c p) in record { same = λ n. r.same n ∙ moved_same n drivers c p; next = r.next ∙ moved_next drivers c p }
-]
+settled_keeps drivers (suc k) c = elim (least_movable drivers c) as
+    (λ o. KeepsSerials c
+    (elim o as (λ _. Configuration) [ None ↦ c | Some p ↦ after_settling_within drivers k (after_move drivers c p) ])) [
+      | None ↦ record { same = λ n. refl; next = refl }
+      | Some p ↦ let r = settled_keeps drivers k (after_move drivers c p) in
+          record { same = λ n. r.same n ∙ moved_same n drivers c p; next = r.next ∙ moved_next drivers c p }
+    ]
 
 -- a step
 
-goes_finished : (drivers : List DriverSpec) (c : Configuration) (o : Outcome) → IfAccepted (Goes c) o → Goes c (after_outcome drivers c o).0 (after_outcome drivers c o).1
+goes_finished : (drivers : List DriverSpec) (c : Configuration) (o : Outcome) → IfAccepted (Goes c) o
+    → Goes c (after_outcome drivers c o).0 (after_outcome drivers c o).1
 goes_finished drivers c (Ok x) k = let s = settled_keeps drivers _ x.0 in record {
   balance = λ n. rw (s.same n) (k.holds.balance n);
   numbered = k.holds.numbered;
@@ -169,17 +226,22 @@ goes_finished drivers c (Ok x) k = let s = settled_keeps drivers _ x.0 in record
 }
 goes_finished drivers c (Err f) k = record { balance = λ n. omega arith; numbered = refl; next = omega arith }
 
-pub goes_step : (drivers : List DriverSpec) (c : Configuration) (process : ℕ) (k : Command) → IsNumbered c → Goes c (step drivers c process k).0 (step drivers c process k).1
-goes_step drivers c process k h = goes_finished drivers c (outcome drivers c process k) (goes_accepted drivers c process k h)
+-- a step loses and doubles no message, where each queued one has a serial of its own
+pub goes_step : (drivers : List DriverSpec) (c : Configuration) (process : ℕ) (k : Command) → IsNumbered c
+    → Goes c (step drivers c process k).0 (step drivers c process k).1
+goes_step drivers c process k h =
+    goes_finished drivers c (outcome drivers c process k) (goes_accepted drivers c process k h)
 
 -- a number among those from a on
 times_range_below : (n a k : ℕ) → n < a → times n (range_with_len a k) ≡ 0
 times_range_below n a zero lt = refl
-times_range_below n a (suc k) lt = rw (ne_eqb a n (λ e. omega (arith, e))) (omega (arith, times_range_below n (a + 1) k (omega arith)))
+times_range_below n a (suc k) lt =
+    rw (ne_eqb a n (λ e. omega (arith, e))) (omega (arith, times_range_below n (a + 1) k (omega arith)))
 
 times_range_above : (n a k : ℕ) → a + k ≤ n → times n (range_with_len a k) ≡ 0
 times_range_above n a zero le = refl
-times_range_above n a (suc k) le = rw (ne_eqb a n (λ e. omega (arith, e))) (omega (arith, times_range_above n (a + 1) k (omega arith)))
+times_range_above n a (suc k) le =
+    rw (ne_eqb a n (λ e. omega (arith, e))) (omega (arith, times_range_above n (a + 1) k (omega arith)))
 
 times_range_once : (n a k : ℕ) → times n (range_with_len a k) ≤ 1
 times_range_once n a zero = omega arith
@@ -195,7 +257,15 @@ numbered_goes c d r h g = record { once = at_most; below = λ n le. none n le } 
   count n = ap (times n) g.numbered
 
   none : (n : ℕ) → d.next_serial ≤ n → times n (serials d.flow) ≡ 0
-  none n le = omega (arith, g.balance n, count n, g.next, times_range_above n c.next_serial (length (taken_by r)) (omega (arith, g.next)), h.below n (omega (arith, g.next)))
+  none n le = omega (
+    arith,
+    g.balance n,
+    count n,
+    g.next,
+    times_range_above n c.next_serial (length (taken_by r))
+        (omega (arith, g.next)),
+    h.below n (omega (arith, g.next)),
+  )
 
   at_most : (n : ℕ) → times n (serials d.flow) ≤ 1
   at_most n = elim (cases_lt n c.next_serial) [
@@ -204,37 +274,65 @@ numbered_goes c d r h g = record { once = at_most; below = λ n le. none n le } 
   ]
 
 range_join : (a k m : ℕ) → range_with_len a k ++ range_with_len (a + k) m ≡ range_with_len a (k + m)
-range_join a zero m = let e : a + 0 ≡ a = omega arith in let f : m ≡ 0 + m = omega arith in ap (λ (x : ℕ). range_with_len x m) e ∙ ap (range_with_len a) f
+range_join a zero m = let e : a + 0 ≡ a = omega arith in let f : m ≡ 0 + m = omega arith in
+    ap (λ (x : ℕ). range_with_len x m) e ∙ ap (range_with_len a) f
 range_join a (suc k) m =
     let e : a + suc k ≡ (a + 1) + k = omega arith in
     let f : suc (k + m) ≡ suc k + m = omega arith in
-    ap (λ (xs : List ℕ). a ∷ xs) (ap (λ (x : ℕ). range_with_len (a + 1) k ++ range_with_len x m) e ∙ range_join (a + 1) k m) ∙ ap (range_with_len a) f
+    ap (λ (xs : List ℕ). a ∷ xs) (ap (λ (x : ℕ). range_with_len (a + 1) k ++ range_with_len x m) e
+    ∙ range_join (a + 1) k m) ∙ ap (range_with_len a) f
 
 record Ends (drivers : List DriverSpec) (c : Configuration) (es : List Entry) : Type 0 where
-  balance : (n : ℕ) → times n (taken_serials es) + times n (serials c.flow) ≡ times n (delivered_serials es) + (times n (dropped_serials es) + times n (serials (after_from drivers c es).flow))
+  balance : (n : ℕ) → times n (taken_serials es) + times n (serials c.flow) ≡ times n (delivered_serials es)
+      + (times n (dropped_serials es) + times n (serials (after_from drivers c es).flow))
   numbered : taken_serials es ≡ range_with_len c.next_serial (length (taken_serials es))
 
-ends : (drivers : List DriverSpec) (c : Configuration) (es : List Entry) → IsNumbered c → IsLegalFrom drivers c es → Ends drivers c es
+ends : (drivers : List DriverSpec) (c : Configuration) (es : List Entry) → IsNumbered c → IsLegalFrom drivers c es
+    → Ends drivers c es
 ends drivers c [] h legal = record { balance = λ n. omega arith; numbered = refl }
 ends drivers c (e ∷ es) h legal =
     let d : Configuration = (step drivers c e.process e.command).0 in
-    let g : Goes c (step drivers c e.process e.command).0 e.reply = subst (λ (r : Reply). Goes c (step drivers c e.process e.command).0 r) legal.0 (goes_step drivers c e.process e.command h) in
-    let i = ends drivers (step drivers c e.process e.command).0 es (numbered_goes c (step drivers c e.process e.command).0 e.reply h g) legal.1 in
+    let g : Goes c (step drivers c e.process e.command).0 e.reply = subst
+    (λ (r : Reply). Goes c (step drivers c e.process e.command).0 r) legal.0
+    (goes_step drivers c e.process e.command h) in
+    let i = ends drivers (step drivers c e.process e.command).0 es
+    (numbered_goes c (step drivers c e.process e.command).0 e.reply h g) legal.1 in
     record {
-      balance = λ n. omega (arith, g.balance n, i.balance n, times_append n (taken_by e.reply) (taken_serials es), times_append n (delivered_by e.reply) (delivered_serials es), times_append n (dropped_by e.reply) (dropped_serials es));
-      numbered = joined c.next_serial (step drivers c e.process e.command).0.next_serial (taken_by e.reply) (taken_serials es) g.numbered g.next i.numbered;
+      balance = λ n. omega (
+        arith,
+        g.balance n,
+        i.balance n,
+        times_append n (taken_by e.reply) (taken_serials es),
+        times_append n (delivered_by e.reply) (delivered_serials es),
+        times_append n (dropped_by e.reply) (dropped_serials es),
+      );
+      numbered = joined c.next_serial (step drivers c e.process e.command).0.next_serial (taken_by e.reply)
+          (taken_serials es) g.numbered g.next i.numbered;
     } where
-      joined : (a b : ℕ) (xs ys : List ℕ) → xs ≡ range_with_len a (length xs) → b ≡ a + length xs → ys ≡ range_with_len b (length ys) → xs ++ ys ≡ range_with_len a (length (xs ++ ys))
+      joined : (a b : ℕ) (xs ys : List ℕ) → xs ≡ range_with_len a (length xs) → b ≡ a + length xs
+          → ys ≡ range_with_len b (length ys) → xs ++ ys ≡ range_with_len a (length (xs ++ ys))
       joined a b xs ys h next k = let j = range_join a (length xs) (length ys) in
           let l = length-append xs ys in
-          ap (λ (zs : List ℕ). zs ++ ys) h ∙ (ap (λ (zs : List ℕ). range_with_len a (length xs) ++ zs) (k ∙ ap (λ (m : ℕ). range_with_len m (length ys)) next) ∙ (j ∙ ap (range_with_len a) (sym l)))
+          ap (λ (zs : List ℕ). zs ++ ys) h
+          ∙ (ap (λ (zs : List ℕ). range_with_len a (length xs) ++ zs)
+          (k ∙ ap (λ (m : ℕ). range_with_len m (length ys)) next) ∙ (j ∙ ap (range_with_len a) (sym l)))
 
+-- no message is queued in the empty configuration, so each has a serial of its own
 pub numbered_empty : IsNumbered empty
 numbered_empty = record { once = λ n. omega arith; below = λ n le. refl }
 
-pub conserving : (drivers : List DriverSpec) (history : List Entry) → IsLegal drivers history → IsConserving drivers history
+-- a legal history takes messages in under serials from 1 on, and loses and doubles none
+pub conserving : (drivers : List DriverSpec) (history : List Entry) → IsLegal drivers history
+    → IsConserving drivers history
 conserving drivers history legal = let e = ends drivers empty history numbered_empty legal in record {
   numbered = e.numbered;
-  conserved = permuted (taken_serials history) (delivered_serials history ++ (dropped_serials history ++ serials (after drivers history).flow))
-      (λ n. omega (arith, e.balance n, times_append n (delivered_serials history) (dropped_serials history ++ serials (after drivers history).flow), times_append n (dropped_serials history) (serials (after drivers history).flow)));
+  conserved = permuted (taken_serials history)
+      (delivered_serials history ++ (dropped_serials history ++ serials (after drivers history).flow))
+      (λ n. omega (
+        arith,
+        e.balance n,
+        times_append n (delivered_serials history)
+            (dropped_serials history ++ serials (after drivers history).flow),
+        times_append n (dropped_serials history) (serials (after drivers history).flow),
+      ));
 }

@@ -1,59 +1,83 @@
 -- How often a number is in a list.
-use Rattle.std.proofs.Common.{◌≡◌, ℕ, ◌+◌, ◌≤◌, Bool, true, false, not, cond, eqb, ltb, List, [], ◌∷◌, ◌++◌, filter, refl, sym, ap, ◌∙◌, subst, arith, inl, inr}
+use Rattle.std.proofs.Common.{◌≡◌, ℕ, ◌+◌, ◌≤◌, Bool, true, false, not, cond, eqb, ltb, List, [], ◌∷◌, ◌++◌, filter}
+use Rattle.std.proofs.Common.{refl, sym, ap, ◌∙◌, subst, arith, inl, inr}
 use Rattle.std.specs.List.{list_any}
 use Rattle.std.specs.List.Sorted.{IsPermutation}
 use Rattle.std.proofs.lemmas.Bool.{cases_Bool, cases_eq, eqb-true, eq-eqb, ne_eqb, false≢true, or_cases, or_parts}
-use Rattle.std.proofs.lemmas.List.Sorted.{IsPermutation-refl, IsPermutation-cons, IsPermutation-trans, IsPermutation-sym, IsPermutation-to_front, IsPermutation-append_left}
+use Rattle.std.proofs.lemmas.List.Sorted.{IsPermutation-refl, IsPermutation-cons, IsPermutation-trans}
+use Rattle.std.proofs.lemmas.List.Sorted.{IsPermutation-sym, IsPermutation-to_front, IsPermutation-append_left}
 use Rattle.smx_model.specs.Ordered.{with_inserted, in_rising_order}
 
+-- how often the number n is in a list
 abbrev pub times : ℕ → List ℕ → ℕ
 times n [] = 0
 times n (m ∷ ms) = cond (eqb m n) 1 0 + times n ms
 
+-- in two lists, one after the other, a number is as often as in both together
 pub times_append : (n : ℕ) (xs ys : List ℕ) → times n (xs ++ ys) ≡ times n xs + times n ys
 times_append n [] ys = omega arith
 times_append n (x ∷ xs) ys = omega (arith, times_append n xs ys)
 
 times_placed : (n : ℕ) (xs : List ℕ) (x : ℕ) → times n (with_inserted ltb xs x) ≡ cond (eqb x n) 1 0 + times n xs
 times_placed n [] x = refl
-times_placed n (y ∷ ys) x = elim (cases_Bool (ltb x y)) [ inl t ↦ rw t refl | inr f ↦ rw f (omega (arith, times_placed n ys x)) ]
+times_placed n (y ∷ ys) x =
+    elim (cases_Bool (ltb x y)) [ inl t ↦ rw t refl | inr f ↦ rw f (omega (arith, times_placed n ys x)) ]
 
+-- numbers that are put in rising order are there as often as before
 pub times_rising : (n : ℕ) (xs : List ℕ) → times n (in_rising_order xs) ≡ times n xs
 times_rising n [] = refl
 times_rising n (x ∷ xs) = omega (arith, times_placed n (in_rising_order xs) x, times_rising n xs)
 
+-- a filter leaves a number that passes as often as it was, and one that doesn't pass 0 times
 pub times_filter : (n : ℕ) (test : ℕ → Bool) (xs : List ℕ) → times n (filter test xs) ≡ cond (test n) (times n xs) 0
 times_filter n test [] = elim (cases_Bool (test n)) [ inl t ↦ rw t refl | inr f ↦ rw f refl ]
 times_filter n test (x ∷ xs) = elim (cases_eq x n) [
   | inl e ↦ elim (cases_Bool (test n)) [
-    | inl t ↦ let k : test x ≡ true = ap test e ∙ t in let i = times_filter n test xs in let j : times n (filter test xs) ≡ times n xs = rw t at i in rw (k, t) (omega (arith, j))
-    | inr f ↦ let k : test x ≡ false = ap test e ∙ f in let i = times_filter n test xs in let j : times n (filter test xs) ≡ 0 = rw f at i in rw (k, f) j
+    | inl t ↦ let k : test x ≡ true = ap test e ∙ t in let i = times_filter n test xs in
+        let j : times n (filter test xs) ≡ times n xs = rw t at i in rw (k, t) (omega (arith, j))
+    | inr f ↦ let k : test x ≡ false = ap test e ∙ f in let i = times_filter n test xs in
+        let j : times n (filter test xs) ≡ 0 = rw f at i in rw (k, f) j
   ]
   | inr ne ↦ let z : eqb x n ≡ false = ne_eqb x n ne in let i = times_filter n test xs in
       elim (cases_Bool (test n)) [
-        | inl t ↦ let j : times n (filter test xs) ≡ times n xs = rw t at i in elim (cases_Bool (test x)) [ inl u ↦ rw (u, t, z) (omega (arith, j)) | inr u ↦ rw (u, t, z) (omega (arith, j)) ]
-        | inr f ↦ let j : times n (filter test xs) ≡ 0 = rw f at i in elim (cases_Bool (test x)) [ inl u ↦ rw (u, f, z) (omega (arith, j)) | inr u ↦ rw (u, f) j ]
+        | inl t ↦ let j : times n (filter test xs) ≡ times n xs = rw t at i in
+            elim (cases_Bool (test x)) [
+              | inl u ↦ rw (u, t, z) (omega (arith, j))
+              | inr u ↦
+                  rw (u, t, z) (omega (arith, j))
+            ]
+        | inr f ↦ let j : times n (filter test xs) ≡ 0 = rw f at i in
+            elim (cases_Bool (test x)) [ inl u ↦ rw (u, f, z) (omega (arith, j)) | inr u ↦ rw (u, f) j ]
       ]
 ]
 
+-- a number that no element is equal to is there 0 times
 pub times_none : (n : ℕ) (xs : List ℕ) → list_any (λ m. eqb n m) xs ≡ false → times n xs ≡ 0
 times_none n [] h = refl
 times_none n (x ∷ xs) h = let p = or_parts (eqb n x) (list_any (λ m. eqb n m) xs) h in
-    elim (cases_eq x n) [ inl e ↦ absurd (false≢true (sym p.0 ∙ eq-eqb n x (sym e))) | inr ne ↦ rw (ne_eqb x n ne) (omega (arith, times_none n xs p.1)) ]
+    elim (cases_eq x n) [
+      | inl e ↦ absurd (false≢true (sym p.0 ∙ eq-eqb n x (sym e)))
+      | inr ne ↦
+          rw (ne_eqb x n ne) (omega (arith, times_none n xs p.1))
+    ]
 
+-- a number that some element is equal to is there at least once
 pub times_some : (n : ℕ) (xs : List ℕ) → list_any (λ m. eqb n m) xs ≡ true → 1 ≤ times n xs
 times_some n [] h = absurd (false≢true h)
 times_some n (x ∷ xs) h = elim (or_cases (eqb n x) (list_any (λ m. eqb n m) xs) h)
     [ inl e ↦ rw (eq-eqb x n (sym (eqb-true n x e))) (omega arith) | inr r ↦ omega (arith, times_some n xs r) ]
 
 -- what left, and what is left
-pub times_gone : (n : ℕ) (old new : List ℕ) → times n new ≤ times n old → times n old ≤ 1 → times n (in_rising_order (filter (λ m. not (list_any (λ k. eqb m k) new)) old)) + times n new ≡ times n old
+pub times_gone : (n : ℕ) (old new : List ℕ) → times n new ≤ times n old → times n old ≤ 1
+    → times n (in_rising_order (filter (λ m. not (list_any (λ k. eqb m k) new)) old)) + times n new ≡ times n old
 times_gone n old new fewer once =
     let r = times_rising n (filter (λ m. not (list_any (λ k. eqb m k) new)) old) in
     let f = times_filter n (λ m. not (list_any (λ k. eqb m k) new)) old in
     elim (cases_Bool (list_any (λ k. eqb n k) new)) [
-      | inl t ↦ let g : times n (filter (λ m. not (list_any (λ k. eqb m k) new)) old) ≡ 0 = rw t at f in omega (arith, g, r, times_some n new t)
-      | inr u ↦ let g : times n (filter (λ m. not (list_any (λ k. eqb m k) new)) old) ≡ times n old = rw u at f in omega (arith, g, r, times_none n new u)
+      | inl t ↦ let g : times n (filter (λ m. not (list_any (λ k. eqb m k) new)) old) ≡ 0 = rw t at f in
+          omega (arith, g, r, times_some n new t)
+      | inr u ↦ let g : times n (filter (λ m. not (list_any (λ k. eqb m k) new)) old) ≡ times n old = rw u at f in
+          omega (arith, g, r, times_none n new u)
     ]
 
 abbrev without : ℕ → List ℕ → List ℕ
@@ -61,20 +85,24 @@ without n [] = []
 without n (m ∷ ms) = cond (eqb m n) ms (m ∷ without n ms)
 
 swap_two : (x y : ℕ) (xs : List ℕ) → IsPermutation (x ∷ y ∷ xs) (y ∷ x ∷ xs)
-swap_two x y xs = IsPermutation-append_left xs (x ∷ y ∷ []) (y ∷ x ∷ []) (IsPermutation-sym (y ∷ x ∷ []) (x ∷ y ∷ []) (IsPermutation-to_front (y ∷ []) x))
+swap_two x y xs = IsPermutation-append_left xs (x ∷ y ∷ []) (y ∷ x ∷ [])
+    (IsPermutation-sym (y ∷ x ∷ []) (x ∷ y ∷ []) (IsPermutation-to_front (y ∷ []) x))
 
 brought : (n : ℕ) (xs : List ℕ) → 1 ≤ times n xs → IsPermutation (n ∷ without n xs) xs
 brought n [] h = absurd (omega arith)
 brought n (x ∷ xs) h = elim (cases_eq x n) [
   | inl e ↦ rw (eq-eqb x n e) (subst (λ (y : ℕ). IsPermutation (n ∷ xs) (y ∷ xs)) (sym e) (IsPermutation-refl (n ∷ xs)))
-  | inr ne ↦ let z : eqb x n ≡ false = ne_eqb x n ne in rw z (IsPermutation-trans (n ∷ x ∷ without n xs) (x ∷ n ∷ without n xs) (x ∷ xs) (swap_two n x (without n xs)) (IsPermutation-cons x (n ∷ without n xs) xs (brought n xs (omega (arith, rw z at h)))))
+  | inr ne ↦ let z : eqb x n ≡ false = ne_eqb x n ne in
+      rw z (IsPermutation-trans (n ∷ x ∷ without n xs) (x ∷ n ∷ without n xs) (x ∷ xs) (swap_two n x (without n xs))
+      (IsPermutation-cons x (n ∷ without n xs) xs (brought n xs (omega (arith, rw z at h)))))
 ]
 
 times_without : (n m : ℕ) (xs : List ℕ) → 1 ≤ times m xs → times n xs ≡ cond (eqb m n) 1 0 + times n (without m xs)
 times_without n m [] h = absurd (omega arith)
 times_without n m (x ∷ xs) h = elim (cases_eq x m) [
   | inl e ↦ rw (eq-eqb x m e) (rw e refl)
-  | inr ne ↦ let z : eqb x m ≡ false = ne_eqb x m ne in rw z (omega (arith, times_without n m xs (omega (arith, rw z at h))))
+  | inr ne ↦ let z : eqb x m ≡ false = ne_eqb x m ne in
+      rw z (omega (arith, times_without n m xs (omega (arith, rw z at h))))
 ]
 
 nothing : (xs : List ℕ) → ((n : ℕ) → 0 ≡ times n xs) → xs ≡ []
@@ -88,5 +116,6 @@ permuted (x ∷ xs) ys h =
     let k = h x in
     let some : 1 ≤ times x ys = omega (arith, rw (eq-eqb x x refl) at k) in
     IsPermutation-trans (x ∷ xs) (x ∷ without x ys) ys
-    (IsPermutation-cons x xs (without x ys) (permuted xs (without x ys) (λ n. omega (arith, h n, times_without n x ys some))))
+    (IsPermutation-cons x xs (without x ys)
+    (permuted xs (without x ys) (λ n. omega (arith, h n, times_without n x ys some))))
     (brought x ys some)

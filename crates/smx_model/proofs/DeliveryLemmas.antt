@@ -1,5 +1,6 @@
 -- Messages keep their serial, address and bytes from where they are taken in to where they are delivered.
-use Rattle.std.proofs.Common.{◌≡◌, ◌⊎◌, ℕ, zero, suc, Bool, List, [], ◌∷◌, ◌++◌, Option, Some, None, Ok, Err, refl, rules, ap, ◌∙◌, subst, inl, inr, arith}
+use Rattle.std.proofs.Common.{◌≡◌, ◌⊎◌, ℕ, zero, suc, Bool, List, [], ◌∷◌, ◌++◌, Option, Some, None, Ok, Err, refl}
+use Rattle.std.proofs.Common.{rules, ap, ◌∙◌, subst, inl, inr, arith}
 use Rattle.std.specs.List.{All, Contains}
 use Rattle.std.specs.List.Sorted.{IsPermutation}
 use Rattle.std.proofs.lemmas.Bool.{cases_Bool}
@@ -15,7 +16,8 @@ use Rattle.smx_types.specs.declared.message.Message.{Message}
 use Rattle.smx_types.specs.declared.reply.Reply.{Reply}
 use Rattle.smx_types.specs.declared.reply.Reply.TheVariants as reply
 use Rattle.smx_types.specs.declared.stream.Place.{Place}
-use Rattle.smx_model.specs.Commands.{outcome, step, after_outcome, done_outcome, link_outcome, unlink_outcome, send_outcome, receive_outcome}
+use Rattle.smx_model.specs.Commands.{outcome, step, after_outcome, done_outcome, link_outcome, unlink_outcome}
+use Rattle.smx_model.specs.Commands.{send_outcome, receive_outcome}
 use Rattle.smx_model.specs.Configuration.{Configuration, QueuedMessage, empty, is_at, queued_before}
 use Rattle.smx_model.specs.Histories.{after, after_from, IsLegal, IsLegalFrom}
 use Rattle.smx_model.specs.Ordered.{with_inserted, without_first}
@@ -32,26 +34,31 @@ use Rattle.smx_model.proofs.OutcomeLemmas.{IfAccepted, at_ok, after_ok, after_te
 
 -- a command that sends these bytes to this address
 abbrev Sends : Command → ℕ → List ℕ → Type 0
-Sends k addr bytes = ((fd : ℕ) × (k ≡ command.Write fd addr bytes)) ⊎ ((name : List ℕ) × (minor : ℕ) × (k ≡ command.Inject name minor addr bytes))
+Sends k addr bytes = ((fd : ℕ) × (k ≡ command.Write fd addr bytes))
+    ⊎ ((name : List ℕ) × (minor : ℕ) × (k ≡ command.Inject name minor addr bytes))
 
 -- an entry took the message in
 abbrev TakenIn : List Entry → Message → Type 0
-TakenIn history m = (took : Entry) × Contains history took × (took.reply ≡ reply.Took m.serial) × Sends took.command m.addr m.bytes
+TakenIn history m =
+    (took : Entry) × Contains history took × (took.reply ≡ reply.Took m.serial) × Sends took.command m.addr m.bytes
 
 -- P of each queued message
 abbrev OfEach : (Message → Type 0) → List QueuedMessage → Type 0
 OfEach P hs = Each (λ h. P h.message) hs
 
-first_has : (P : Message → Type 0) (hs : List QueuedMessage) (p : Place) (m : Message) → first_message hs p ≡ Some m → OfEach P hs → P m
+first_has : (P : Message → Type 0) (hs : List QueuedMessage) (p : Place) (m : Message) → first_message hs p ≡ Some m
+    → OfEach P hs → P m
 first_has P [] p m e h = cc
 first_has P (k ∷ ks) p m e h = elim (cases_Bool (is_at p k)) [
   | inl t ↦ let s : Some k.message ≡ Some m = rw t at e in let same : k.message ≡ m = cc in subst P same h.0
   | inr f ↦ first_has P ks p m (rw f at e) h.1
 ]
 
-rest_has : (P : Message → Type 0) (test : QueuedMessage → Bool) (hs : List QueuedMessage) → OfEach P hs → OfEach P (without_first test hs)
+rest_has : (P : Message → Type 0) (test : QueuedMessage → Bool) (hs : List QueuedMessage) → OfEach P hs
+    → OfEach P (without_first test hs)
 rest_has P test [] h = tt
-rest_has P test (k ∷ ks) h = elim (cases_Bool (test k)) [ inl t ↦ rw t h.1 | inr f ↦ rw f (h.0, rest_has P test ks h.1) ]
+rest_has P test (k ∷ ks) h =
+    elim (cases_Bool (test k)) [ inl t ↦ rw t h.1 | inr f ↦ rw f (h.0, rest_has P test ks h.1) ]
 
 -- a reply to a command leaves messages that were there or that it took in, and delivers one that was there
 
@@ -60,25 +67,33 @@ pub record Carries (P : Message → Type 0) (k : Command) (d : Configuration) (r
   pub flow : OfEach (λ m. P m ⊎ ((r ≡ reply.Took m.serial) × Sends k m.addr m.bytes)) d.flow
   pub got : (m : Message) → r ≡ reply.Got m.serial m.addr m.bytes → P m
 
-old : (P : Message → Type 0) (k : Command) (r : Reply) (hs : List QueuedMessage) → OfEach P hs → OfEach (λ m. P m ⊎ ((r ≡ reply.Took m.serial) × Sends k m.addr m.bytes)) hs
+old : (P : Message → Type 0) (k : Command) (r : Reply) (hs : List QueuedMessage) → OfEach P hs
+    → OfEach (λ m. P m ⊎ ((r ≡ reply.Took m.serial) × Sends k m.addr m.bytes)) hs
 old P k r hs h = each_map _ _ hs (λ x p. inl p) h
 
-carries_fd : (P : Message → Type 0) (k : Command) (d : Configuration) (fd minor : ℕ) → OfEach P d.flow → Carries P k d (reply.Fd fd minor)
+carries_fd : (P : Message → Type 0) (k : Command) (d : Configuration) (fd minor : ℕ) → OfEach P d.flow
+    → Carries P k d (reply.Fd fd minor)
 carries_fd P k d fd minor h = record { flow = old P k (reply.Fd fd minor) d.flow h; got = λ m e. cc }
 
 carries_eof : (P : Message → Type 0) (k : Command) (d : Configuration) → OfEach P d.flow → Carries P k d reply.Eof
 carries_eof P k d h = record { flow = old P k reply.Eof d.flow h; got = λ m e. cc }
 
-carries_id : (P : Message → Type 0) (k : Command) (d : Configuration) (id : ℕ) → OfEach P d.flow → Carries P k d (reply.Id id)
+carries_id : (P : Message → Type 0) (k : Command) (d : Configuration) (id : ℕ) → OfEach P d.flow
+    → Carries P k d (reply.Id id)
 carries_id P k d id h = record { flow = old P k (reply.Id id) d.flow h; got = λ m e. cc }
 
-carries_done : (P : Message → Type 0) (k : Command) (drivers : List DriverSpec) (c d : Configuration) → OfEach P d.flow → IfAccepted (Carries P k) (done_outcome drivers c d)
-carries_done P k drivers c d h = record { holds = record { flow = old P k _ _ (each_filter _ _ _ (each_filter _ _ d.flow h)); got = λ m e. cc } }
+carries_done : (P : Message → Type 0) (k : Command) (drivers : List DriverSpec) (c d : Configuration) → OfEach P d.flow
+    → IfAccepted (Carries P k) (done_outcome drivers c d)
+carries_done P k drivers c d h =
+    record { holds = record { flow = old P k _ _ (each_filter _ _ _ (each_filter _ _ d.flow h)); got = λ m e. cc } }
 
-carries_emptied : (P : Message → Type 0) (k : Command) (drivers : List DriverSpec) (c : Configuration) (goes : Place → Bool) → OfEach P c.flow → IfAccepted (Carries P k) (done_outcome drivers c (without_queues_at c goes))
+carries_emptied : (P : Message → Type 0) (k : Command) (drivers : List DriverSpec) (c : Configuration)
+    (goes : Place → Bool) → OfEach P c.flow
+    → IfAccepted (Carries P k) (done_outcome drivers c (without_queues_at c goes))
 carries_emptied P k drivers c goes h = carries_done P k drivers c (without_queues_at c goes) (each_filter _ _ c.flow h)
 
-carries_unlinked : (P : Message → Type 0) (k : Command) (drivers : List DriverSpec) (c : Configuration) (w : Which) (mine : Link → Bool) → OfEach P c.flow → IfAccepted (Carries P k) (unlink_outcome drivers c w mine)
+carries_unlinked : (P : Message → Type 0) (k : Command) (drivers : List DriverSpec) (c : Configuration) (w : Which)
+    (mine : Link → Bool) → OfEach P c.flow → IfAccepted (Carries P k) (unlink_outcome drivers c w mine)
 carries_unlinked P k drivers c w mine h = by w where
   gone : (goes : Link → Bool) → IfAccepted (Carries P k) (done_outcome drivers c (without_links c goes))
   gone goes = carries_done P k drivers c (without_links c goes) (each_filter _ _ c.flow h)
@@ -87,37 +102,61 @@ carries_unlinked P k drivers c w mine h = by w where
   by which.All = gone mine
   by (which.Id id) = search (after_test, gone, rules) depth 12
 
-carries_linked : (P : Message → Type 0) (k : Command) (drivers : List DriverSpec) (c : Configuration) (process fd arg : ℕ) (kind : LinkKind) → OfEach P c.flow → IfAccepted (Carries P k) (link_outcome drivers c process fd arg kind)
+carries_linked : (P : Message → Type 0) (k : Command) (drivers : List DriverSpec) (c : Configuration)
+    (process fd arg : ℕ) (kind : LinkKind) → OfEach P c.flow
+    → IfAccepted (Carries P k) (link_outcome drivers c process fd arg kind)
 carries_linked P k drivers c process fd arg kind h = search (after_test, after_ok, at_ok, carries_id, rules) depth 24
 
-carries_sent : (P : Message → Type 0) (k : Command) (drivers : List DriverSpec) (c : Configuration) (p : Place) (addr : ℕ) (bytes : List ℕ) → Sends k addr bytes → OfEach P c.flow → IfAccepted (Carries P k) (send_outcome drivers c p addr bytes)
+carries_sent : (P : Message → Type 0) (k : Command) (drivers : List DriverSpec) (c : Configuration) (p : Place)
+    (addr : ℕ) (bytes : List ℕ) → Sends k addr bytes → OfEach P c.flow
+    → IfAccepted (Carries P k) (send_outcome drivers c p addr bytes)
 carries_sent P k drivers c p addr bytes sends h = search (after_test, at_ok, took, rules) depth 12 where
-  took : (d : Configuration) → d.flow ≡ with_inserted queued_before c.flow (record { place = p; message = record { serial = c.next_serial; addr = addr; bytes = bytes } }) → Carries P k d (reply.Took c.next_serial)
+  took : (d : Configuration)
+      → d.flow ≡ with_inserted queued_before c.flow
+      (record { place = p; message = record { serial = c.next_serial; addr = addr; bytes = bytes } })
+      → Carries P k d (reply.Took c.next_serial)
   took d e = record {
-    flow = rw e (each_placed _ queued_before c.flow (record { place = p; message = record { serial = c.next_serial; addr = addr; bytes = bytes } }) (inr (refl, sends)) (old P k (reply.Took c.next_serial) c.flow h));
+    flow = rw e
+        (each_placed _ queued_before c.flow
+        (record { place = p; message = record { serial = c.next_serial; addr = addr; bytes = bytes } })
+        (inr (refl, sends)) (old P k (reply.Took c.next_serial) c.flow h));
     got = λ m e. cc;
   }
 
-carries_written : (P : Message → Type 0) (drivers : List DriverSpec) (c : Configuration) (p : Place) (fd addr : ℕ) (bytes : List ℕ) → OfEach P c.flow → IfAccepted (Carries P (command.Write fd addr bytes)) (send_outcome drivers c p addr bytes)
-carries_written P drivers c p fd addr bytes h = carries_sent P (command.Write fd addr bytes) drivers c p addr bytes (inl (fd, refl)) h
+carries_written : (P : Message → Type 0) (drivers : List DriverSpec) (c : Configuration) (p : Place) (fd addr : ℕ)
+    (bytes : List ℕ) → OfEach P c.flow
+    → IfAccepted (Carries P (command.Write fd addr bytes)) (send_outcome drivers c p addr bytes)
+carries_written P drivers c p fd addr bytes h =
+    carries_sent P (command.Write fd addr bytes) drivers c p addr bytes (inl (fd, refl)) h
 
-carries_injected : (P : Message → Type 0) (drivers : List DriverSpec) (c : Configuration) (p : Place) (name : List ℕ) (minor addr : ℕ) (bytes : List ℕ) → OfEach P c.flow → IfAccepted (Carries P (command.Inject name minor addr bytes)) (send_outcome drivers c p addr bytes)
-carries_injected P drivers c p name minor addr bytes h = carries_sent P (command.Inject name minor addr bytes) drivers c p addr bytes (inr (name, minor, refl)) h
+carries_injected : (P : Message → Type 0) (drivers : List DriverSpec) (c : Configuration) (p : Place) (name : List ℕ)
+    (minor addr : ℕ) (bytes : List ℕ) → OfEach P c.flow
+    → IfAccepted (Carries P (command.Inject name minor addr bytes)) (send_outcome drivers c p addr bytes)
+carries_injected P drivers c p name minor addr bytes h =
+    carries_sent P (command.Inject name minor addr bytes) drivers c p addr bytes (inr (name, minor, refl)) h
 
-carries_received : (P : Message → Type 0) (k : Command) (drivers : List DriverSpec) (c : Configuration) (p : Place) → OfEach P c.flow → IfAccepted (Carries P k) (receive_outcome drivers c p)
+carries_received : (P : Message → Type 0) (k : Command) (drivers : List DriverSpec) (c : Configuration) (p : Place)
+    → OfEach P c.flow → IfAccepted (Carries P k) (receive_outcome drivers c p)
 carries_received P k drivers c p h = search (after_some, at_ok, got, rules) depth 12 where
   message : ℕ → ℕ → List ℕ → Message
   message a b bs = record { serial = a; addr = b; bytes = bs }
 
   same : (a b x y : ℕ) (bs zs : List ℕ) → reply.Got a b bs ≡ reply.Got x y zs → message a b bs ≡ message x y zs
-  same a b x y bs zs e = let f : a ≡ x = cc in let g : b ≡ y = cc in let i : bs ≡ zs = cc in ap (λ (n : ℕ). message n b bs) f ∙ (ap (λ (n : ℕ). message x n bs) g ∙ ap (message x y) i)
+  same a b x y bs zs e = let f : a ≡ x = cc in let g : b ≡ y = cc in let i : bs ≡ zs = cc in
+      ap (λ (n : ℕ). message n b bs) f ∙ (ap (λ (n : ℕ). message x n bs) g ∙ ap (message x y) i)
 
-  got : (m : Message) → first_message c.flow p ≡ Some m → Carries P k (after_leaving drivers c p) (reply.Got m.serial m.addr m.bytes)
-  got m e = record { flow = old P k _ _ (rest_has P (is_at p) c.flow h); got = λ n f. subst P (same m.serial m.addr n.serial n.addr m.bytes n.bytes f) (first_has P c.flow p m e h) }
+  got : (m : Message) → first_message c.flow p ≡ Some m
+      → Carries P k (after_leaving drivers c p) (reply.Got m.serial m.addr m.bytes)
+  got m e = record {
+    flow = old P k _ _ (rest_has P (is_at p) c.flow h);
+    got = λ n f. subst P (same m.serial m.addr n.serial n.addr m.bytes n.bytes f) (first_has P c.flow p m e h);
+  }
 
-carries_accepted : (P : Message → Type 0) (drivers : List DriverSpec) (c : Configuration) (process : ℕ) (k : Command) → OfEach P c.flow → IfAccepted (Carries P k) (outcome drivers c process k)
+carries_accepted : (P : Message → Type 0) (drivers : List DriverSpec) (c : Configuration) (process : ℕ) (k : Command)
+    → OfEach P c.flow → IfAccepted (Carries P k) (outcome drivers c process k)
 carries_accepted P drivers c process (command.OpenClone name) h = search (after_ok, at_ok, carries_fd, rules) depth 20
-carries_accepted P drivers c process (command.OpenMinor name minor) h = search (after_test, after_ok, at_ok, carries_fd, rules) depth 20
+carries_accepted P drivers c process (command.OpenMinor name minor) h =
+    search (after_test, after_ok, at_ok, carries_fd, rules) depth 20
 carries_accepted P drivers c process (command.Dup fd) h = search (after_ok, at_ok, carries_fd, rules) depth 20
 carries_accepted P drivers c process (command.Close fd) h = search (after_ok, carries_done, rules) depth 20
 carries_accepted P drivers c process command.CloseAll h = search (carries_done, rules) depth 20
@@ -125,88 +164,132 @@ carries_accepted P drivers c process (command.Link fd arg) h = search (carries_l
 carries_accepted P drivers c process (command.Plink fd arg) h = search (carries_linked, rules) depth 20
 carries_accepted P drivers c process (command.Unlink fd w) h = search (after_ok, carries_unlinked, rules) depth 20
 carries_accepted P drivers c process (command.Punlink fd w) h = search (after_ok, carries_unlinked, rules) depth 20
-carries_accepted P drivers c process (command.Bind fd addr) h = search (after_test, after_ok, carries_done, rules) depth 20
+carries_accepted P drivers c process (command.Bind fd addr) h =
+    search (after_test, after_ok, carries_done, rules) depth 20
 carries_accepted P drivers c process (command.Unbind fd) h = search (after_test, after_ok, carries_done, rules) depth 20
-carries_accepted P drivers c process (command.Route fd addr id) h = search (after_test, after_ok, carries_done, rules) depth 20
-carries_accepted P drivers c process (command.Unroute fd addr) h = search (after_test, after_ok, carries_done, rules) depth 20
-carries_accepted P drivers c process (command.Write fd addr bytes) h = search (after_ok, carries_written, rules) depth 20
-carries_accepted P drivers c process (command.Read fd) h = search (after_ok, after_choice, at_ok, carries_eof, carries_received, rules) depth 20
+carries_accepted P drivers c process (command.Route fd addr id) h =
+    search (after_test, after_ok, carries_done, rules) depth 20
+carries_accepted P drivers c process (command.Unroute fd addr) h =
+    search (after_test, after_ok, carries_done, rules) depth 20
+carries_accepted P drivers c process (command.Write fd addr bytes) h =
+    search (after_ok, carries_written, rules) depth 20
+carries_accepted P drivers c process (command.Read fd) h =
+    search (after_ok, after_choice, at_ok, carries_eof, carries_received, rules) depth 20
 carries_accepted P drivers c process (command.Flush fd w) h = search (after_ok, carries_emptied, rules) depth 20
-carries_accepted P drivers c process (command.Inject name minor addr bytes) h = search (after_ok, carries_injected, rules) depth 20
-carries_accepted P drivers c process (command.Transmit name minor) h = search (after_ok, carries_received, rules) depth 20
+carries_accepted P drivers c process (command.Inject name minor addr bytes) h =
+    search (after_ok, carries_injected, rules) depth 20
+carries_accepted P drivers c process (command.Transmit name minor) h =
+    search (after_ok, carries_received, rules) depth 20
 carries_accepted P drivers c process (command.Hangup name minor) h = search (after_ok, carries_done, rules) depth 20
 
 -- moves and settling keep messages
 
-moved_has : (P : Message → Type 0) (drivers : List DriverSpec) (c : Configuration) (p : Place) → OfEach P c.flow → OfEach P (after_move drivers c p).flow
+moved_has : (P : Message → Type 0) (drivers : List DriverSpec) (c : Configuration) (p : Place) → OfEach P c.flow
+    → OfEach P (after_move drivers c p).flow
 moved_has P drivers c p h = by (next_open_place drivers c p) (first_message c.flow p) refl where
-  by : (o : Option Place) (m : Option Message) → first_message c.flow p ≡ m → OfEach P (after_move_to drivers c p o m).flow
-  by (Some q) (Some m) e = each_placed _ queued_before _ (record { place = q; message = m }) (first_has P c.flow p m e h) (rest_has P (is_at p) c.flow h)
+  by : (o : Option Place) (m : Option Message) → first_message c.flow p ≡ m
+      → OfEach P (after_move_to drivers c p o m).flow
+  by (Some q) (Some m) e = each_placed _ queued_before _ (record { place = q; message = m })
+      (first_has P c.flow p m e h) (rest_has P (is_at p) c.flow h)
   by (Some q) None e = h
   by None m e = h
 
-settled_has : (P : Message → Type 0) (drivers : List DriverSpec) (n : ℕ) (c : Configuration) → OfEach P c.flow → OfEach P (after_settling_within drivers n c).flow
+settled_has : (P : Message → Type 0) (drivers : List DriverSpec) (n : ℕ) (c : Configuration) → OfEach P c.flow
+    → OfEach P (after_settling_within drivers n c).flow
 settled_has P drivers zero c h = h
-settled_has P drivers (suc k) c h = elim (least_movable drivers c) as (λ o. OfEach P (elim o as (λ _. Configuration) [ None ↦ c | Some p ↦ after_settling_within drivers k (after_move drivers c p) ]).flow)
+settled_has P drivers (suc k) c h = elim (least_movable drivers c) as
+    (λ o. OfEach P (elim o as (λ _. Configuration)
+    [ None ↦ c | Some p ↦ after_settling_within drivers k (after_move drivers c p) ]).flow)
     [ None ↦ h | Some p ↦ settled_has P drivers k (after_move drivers c p) (moved_has P drivers c p h) ]
 
 -- so each step
 
-carries_finished : (P : Message → Type 0) (drivers : List DriverSpec) (c : Configuration) (k : Command) (o : Outcome) → OfEach P c.flow → IfAccepted (Carries P k) o → Carries P k (after_outcome drivers c o).0 (after_outcome drivers c o).1
-carries_finished P drivers c k (Ok x) h m = record { flow = settled_has (λ m. P m ⊎ ((x.1 ≡ reply.Took m.serial) × Sends k m.addr m.bytes)) drivers _ x.0 m.holds.flow; got = m.holds.got }
+carries_finished : (P : Message → Type 0) (drivers : List DriverSpec) (c : Configuration) (k : Command) (o : Outcome)
+    → OfEach P c.flow → IfAccepted (Carries P k) o
+    → Carries P k (after_outcome drivers c o).0 (after_outcome drivers c o).1
+carries_finished P drivers c k
+    (Ok x) h m =
+    record {
+      flow = settled_has (λ m. P m ⊎ ((x.1 ≡ reply.Took m.serial) × Sends k m.addr m.bytes)) drivers _ x.0
+          m.holds.flow;
+      got = m.holds.got;
+    }
 carries_finished P drivers c k (Err f) h m = record { flow = old P k (reply.Fault f) c.flow h; got = λ m e. cc }
 
 -- it was taken in by this entry or known before
 abbrev Known : (Message → Type 0) → Entry → Message → Type 0
 Known P e m = P m ⊎ ((e.reply ≡ reply.Took m.serial) × Sends e.command m.addr m.bytes)
 
-carries_step : (P : Message → Type 0) (drivers : List DriverSpec) (c : Configuration) (e : Entry) → (step drivers c e.process e.command).1 ≡ e.reply → OfEach P c.flow → Carries P e.command (step drivers c e.process e.command).0 e.reply
+carries_step : (P : Message → Type 0) (drivers : List DriverSpec) (c : Configuration) (e : Entry)
+    → (step drivers c e.process e.command).1 ≡ e.reply → OfEach P c.flow
+    → Carries P e.command (step drivers c e.process e.command).0 e.reply
 carries_step P drivers c e is h = subst (Carries P e.command (step drivers c e.process e.command).0) is
-    (carries_finished P drivers c e.command (outcome drivers c e.process e.command) h (carries_accepted P drivers c e.process e.command h))
+    (carries_finished P drivers c e.command (outcome drivers c e.process e.command) h
+    (carries_accepted P drivers c e.process e.command h))
 
 -- and each history
 
-told : (P : Message → Type 0) (e : Entry) (es : List Entry) (m : Message) → Known P e m ⊎ TakenIn es m → P m ⊎ TakenIn (e ∷ es) m
+told : (P : Message → Type 0) (e : Entry) (es : List Entry) (m : Message) → Known P e m ⊎ TakenIn es m
+    → P m ⊎ TakenIn (e ∷ es) m
 told P e es m (inl (inl p)) = inl p
 told P e es m (inl (inr k)) = inr (e, is_first e es, k.0, k.1)
 told P e es m (inr k) = inr (k.0, is_later k.0 e es k.1, k.2, k.3)
 
-got_from : (P : Message → Type 0) (drivers : List DriverSpec) (c : Configuration) (early late : List Entry) (e : Entry) (m : Message) → OfEach P c.flow → IsLegalFrom drivers c (early ++ e ∷ late)
+got_from : (P : Message → Type 0) (drivers : List DriverSpec) (c : Configuration) (early late : List Entry) (e : Entry)
+    (m : Message) → OfEach P c.flow → IsLegalFrom drivers c (early ++ e ∷ late)
     → e.reply ≡ reply.Got m.serial m.addr m.bytes → P m ⊎ TakenIn early m
 got_from P drivers c [] late e m h legal is = inl ((carries_step P drivers c e legal.0 h).got m is)
 got_from P drivers c (x ∷ xs) late e m h legal is =
-    told P x xs m (got_from (Known P x) drivers (step drivers c x.process x.command).0 xs late e m (carries_step P drivers c x legal.0 h).flow legal.1 is)
+    told P x xs m (got_from (Known P x) drivers (step drivers c x.process x.command).0 xs late e m
+    (carries_step P drivers c x legal.0 h).flow legal.1 is)
 
-pub arrive_whole : (drivers : List DriverSpec) (early late : List Entry) (e : Entry) (serial addr : ℕ) (bytes : List ℕ) → IsLegal drivers (early ++ e ∷ late) → e.reply ≡ reply.Got serial addr bytes
+-- a message that is delivered was taken in before, with the same serial, address and bytes
+pub arrive_whole : (drivers : List DriverSpec) (early late : List Entry) (e : Entry) (serial addr : ℕ) (bytes : List ℕ)
+    → IsLegal drivers (early ++ e ∷ late) → e.reply ≡ reply.Got serial addr bytes
     → TakenIn early (record { serial = serial; addr = addr; bytes = bytes })
 arrive_whole drivers early late e serial addr bytes legal is =
-    elim (got_from (λ m. ⊥) drivers empty early late e (record { serial = serial; addr = addr; bytes = bytes }) tt legal is) [ inl none ↦ absurd none | inr k ↦ k ]
+    elim (got_from (λ m. ⊥) drivers empty early late e
+    (record { serial = serial; addr = addr; bytes = bytes }) tt legal is) [ inl none ↦ absurd none | inr k ↦ k ]
 
-queued_from : (P : Message → Type 0) (drivers : List DriverSpec) (c : Configuration) (es : List Entry) → OfEach P c.flow → IsLegalFrom drivers c es → OfEach (λ m. P m ⊎ TakenIn es m) (after_from drivers c es).flow
+queued_from : (P : Message → Type 0) (drivers : List DriverSpec) (c : Configuration) (es : List Entry) → OfEach P c.flow
+    → IsLegalFrom drivers c es → OfEach (λ m. P m ⊎ TakenIn es m) (after_from drivers c es).flow
 queued_from P drivers c [] h legal = each_map _ _ c.flow (λ x p. inl p) h
 queued_from P drivers c (e ∷ es) h legal = each_map _ _ _ (λ x k. told P e es x.message k)
-    (queued_from (Known P e) drivers (step drivers c e.process e.command).0 es (carries_step P drivers c e legal.0 h).flow legal.1)
+    (queued_from (Known P e) drivers (step drivers c e.process e.command).0 es
+    (carries_step P drivers c e legal.0 h).flow legal.1)
 
-pub stay_whole : (drivers : List DriverSpec) (history : List Entry) → IsLegal drivers history → All (λ h. TakenIn history h.message) (after drivers history).flow
+-- a message that is queued after a legal history was taken in by it, with its serial, address and bytes
+pub stay_whole : (drivers : List DriverSpec) (history : List Entry) → IsLegal drivers history
+    → All (λ h. TakenIn history h.message) (after drivers history).flow
 stay_whole drivers history legal = all_of_each (λ h. TakenIn history h.message) (after drivers history).flow
-    (each_map (λ h. ⊥ ⊎ TakenIn history h.message) (λ h. TakenIn history h.message) (after drivers history).flow (λ h k. elim k [ inl none ↦ absurd none | inr t ↦ t ]) (queued_from (λ m. ⊥) drivers empty history tt legal))
+    (each_map (λ h. ⊥ ⊎ TakenIn history h.message) (λ h. TakenIn history h.message) (after drivers history).flow
+    (λ h k. elim k [ inl none ↦ absurd none | inr t ↦ t ]) (queued_from (λ m. ⊥) drivers empty history tt legal))
 
 -- a command keeps, delivers or drops each message that was queued
 
-numbered_from : (drivers : List DriverSpec) (c : Configuration) (es : List Entry) → IsNumbered c → IsNumbered (after_from drivers c es)
+numbered_from : (drivers : List DriverSpec) (c : Configuration) (es : List Entry) → IsNumbered c
+    → IsNumbered (after_from drivers c es)
 numbered_from drivers c [] h = h
-numbered_from drivers c (e ∷ es) h = numbered_from drivers (step drivers c e.process e.command).0 es (numbered_goes c _ _ h (goes_step drivers c e.process e.command h))
+numbered_from drivers c (e ∷ es) h = numbered_from drivers (step drivers c e.process e.command).0 es
+    (numbered_goes c _ _ h (goes_step drivers c e.process e.command h))
 
-balanced : (c d : Configuration) (r : Reply) → Goes c d r → IsPermutation (taken_by r ++ serials c.flow) (delivered_by r ++ (dropped_by r ++ serials d.flow))
-balanced c d r g = permuted (taken_by r ++ serials c.flow) (delivered_by r ++ (dropped_by r ++ serials d.flow)) (λ n. omega (
-  arith,
-  g.balance n,
-  times_append n (taken_by r) (serials c.flow),
-  times_append n (delivered_by r) (dropped_by r ++ serials d.flow),
-  times_append n (dropped_by r) (serials d.flow),
-))
+balanced : (c d : Configuration) (r : Reply) → Goes c d r
+    → IsPermutation (taken_by r ++ serials c.flow) (delivered_by r ++ (dropped_by r ++ serials d.flow))
+balanced c d r g =
+    permuted (taken_by r ++ serials c.flow) (delivered_by r ++ (dropped_by r ++ serials d.flow)) (λ n. omega (
+      arith,
+      g.balance n,
+      times_append n (taken_by r) (serials c.flow),
+      times_append n (delivered_by r) (dropped_by r ++ serials d.flow),
+      times_append n (dropped_by r) (serials d.flow),
+    ))
 
+-- what was queued or is taken in is, but for the order, what is delivered, is dropped or is queued then
 pub go_by_name : (drivers : List DriverSpec) (history : List Entry) (process : ℕ) (k : Command)
-    → IsPermutation (taken_by (step drivers (after drivers history) process k).1 ++ serials (after drivers history).flow)
-    (delivered_by (step drivers (after drivers history) process k).1 ++ (dropped_by (step drivers (after drivers history) process k).1 ++ serials (step drivers (after drivers history) process k).0.flow))
-go_by_name drivers history process k = balanced _ _ _ (goes_step drivers (after drivers history) process k (numbered_from drivers empty history numbered_empty))
+    → IsPermutation (taken_by (step drivers (after drivers history) process k).1
+    ++ serials (after drivers history).flow)
+    (delivered_by (step drivers (after drivers history) process k).1
+    ++ (dropped_by (step drivers (after drivers history) process k).1
+    ++ serials (step drivers (after drivers history) process k).0.flow))
+go_by_name drivers history process k = balanced _ _ _
+    (goes_step drivers (after drivers history) process k (numbered_from drivers empty history numbered_empty))

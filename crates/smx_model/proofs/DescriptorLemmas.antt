@@ -1,5 +1,6 @@
 -- Which descriptors a command closes.
-use Rattle.std.proofs.Common.{◌≡◌, ◌↔◌, ℕ, Bool, true, false, not, eqb, List, [], ◌∷◌, filter, find, Option, Some, None, Ok, Err, refl, rules, sym, subst, inl, inr}
+use Rattle.std.proofs.Common.{◌≡◌, ◌↔◌, ℕ, Bool, true, false, not, eqb, List, [], ◌∷◌, filter, find, Option, Some, None}
+use Rattle.std.proofs.Common.{Ok, Err, refl, rules, sym, subst, inl, inr}
 use Rattle.std.specs.List.{All, Contains, list_any}
 use Rattle.std.proofs.lemmas.Bool.{cases_Bool}
 use Rattle.smx_types.specs.declared.command.Command.{Command}
@@ -13,7 +14,8 @@ use Rattle.smx_types.specs.declared.reply.Fault.TheVariants.{BadDescriptor}
 use Rattle.smx_types.specs.declared.stream.Descriptor.{Descriptor}
 use Rattle.smx_types.specs.declared.stream.Place.{Place}
 use Rattle.smx_types.specs.declared.stream.StreamId.{StreamId}
-use Rattle.smx_model.specs.Commands.{outcome, step, after_outcome, done_outcome, link_outcome, unlink_outcome, send_outcome, receive_outcome, with_fd}
+use Rattle.smx_model.specs.Commands.{outcome, step, after_outcome, done_outcome, link_outcome, unlink_outcome}
+use Rattle.smx_model.specs.Commands.{send_outcome, receive_outcome, with_fd}
 use Rattle.smx_model.specs.Configuration.{Configuration, fd_before, is_fd}
 use Rattle.smx_model.specs.Outcomes.{Outcome, ◌>>=◌, or_fault}
 use Rattle.smx_model.specs.Removal.{after_sweep, without_links}
@@ -25,7 +27,8 @@ use Rattle.smx_model.proofs.SettledLemmas.{settled_alone}
 -- what no search found fails the test
 none_found : {X : Type 0} (t : X → Bool) (xs : List X) → find t xs ≡ None → list_any t xs ≡ false
 none_found t [] e = refl
-none_found t (x ∷ xs) e = elim (cases_Bool (t x)) [ inl k ↦ let no : Some x ≡ None = rw k at e in cc | inr k ↦ rw k (none_found t xs (rw k at e)) ]
+none_found t (x ∷ xs) e = elim (cases_Bool (t x))
+    [ inl k ↦ let no : Some x ≡ None = rw k at e in cc | inr k ↦ rw k (none_found t xs (rw k at e)) ]
 
 -- closing
 
@@ -33,27 +36,38 @@ none_found t (x ∷ xs) e = elim (cases_Bool (t x)) [ inl k ↦ let no : Some x 
 record LosesDescriptors (c d : Configuration) (goes : Descriptor → Bool) : Type 0 where
   each : (x : Descriptor) → Contains c.fds x → Contains d.fds x ↔ (not (goes x) ≡ true)
 
-shut_done : (drivers : List DriverSpec) (c : Configuration) (goes : Descriptor → Bool) → LosesDescriptors c (after_settling drivers (after_sweep drivers (record c { fds = filter (λ d. not (goes d)) c.fds }))) goes
+shut_done : (drivers : List DriverSpec) (c : Configuration) (goes : Descriptor → Bool)
+    → LosesDescriptors c
+    (after_settling drivers (after_sweep drivers (record c { fds = filter (λ d. not (goes d)) c.fds }))) goes
 shut_done drivers c goes = record {
-  each = λ x h. rw ((settled_alone drivers _ (after_sweep drivers (record c { fds = filter (λ d. not (goes d)) c.fds }))).fds)
+  each = λ x h.
+      rw ((settled_alone drivers _ (after_sweep drivers (record c { fds = filter (λ d. not (goes d)) c.fds }))).fds)
       (λ k. filtered_passes (λ d. not (goes d)) c.fds x k, λ e. in_filtered (λ d. not (goes d)) c.fds x h e);
 }
 
 shut_none : (c : Configuration) (goes : Descriptor → Bool) → list_any goes c.fds ≡ false → LosesDescriptors c c goes
 shut_none c goes e = record { each = λ x h. (λ k. rw (none_in goes c.fds e x h) refl, λ e. h) }
 
-pub close_shuts : (drivers : List DriverSpec) (c : Configuration) (process fd : ℕ) → All (λ d. Contains (step drivers c process (command.Close fd)).0.fds d ↔ (not (is_fd process fd d) ≡ true)) c.fds
+-- close takes away just the descriptor of its process that it names
+pub close_shuts : (drivers : List DriverSpec) (c : Configuration) (process fd : ℕ)
+    → All (λ d. Contains (step drivers c process (command.Close fd)).0.fds d ↔ (not (is_fd process fd d) ≡ true)) c.fds
 close_shuts drivers c process fd = all_in _ c.fds (by (find (is_fd process fd) c.fds) refl).each where
   found : Option Descriptor → Option StreamId
   found None = None
   found (Some d) = Some d.stream
 
   by : (o : Option Descriptor) → find (is_fd process fd) c.fds ≡ o
-      → LosesDescriptors c (after_outcome drivers c (or_fault BadDescriptor (found o) >>= (λ s. done_outcome drivers c (record c { fds = filter (λ d. not (is_fd process fd d)) c.fds })))).0 (is_fd process fd)
+      → LosesDescriptors c
+      (after_outcome drivers c
+      (or_fault BadDescriptor
+      (found o) >>= (λ s. done_outcome drivers c (record c { fds = filter (λ d. not (is_fd process fd d)) c.fds })))).0
+      (is_fd process fd)
   by None e = shut_none c (is_fd process fd) (none_found (is_fd process fd) c.fds e)
   by (Some d) e = shut_done drivers c (is_fd process fd)
 
-pub exit_shuts : (drivers : List DriverSpec) (c : Configuration) (process : ℕ) → All (λ d. Contains (step drivers c process command.CloseAll).0.fds d ↔ (not (eqb d.process process) ≡ true)) c.fds
+-- exit takes away just the descriptors of its process
+pub exit_shuts : (drivers : List DriverSpec) (c : Configuration) (process : ℕ)
+    → All (λ d. Contains (step drivers c process command.CloseAll).0.fds d ↔ (not (eqb d.process process) ≡ true)) c.fds
 exit_shuts drivers c process = all_in _ c.fds (shut_done drivers c (λ d. eqb d.process process)).each
 
 -- each other command leaves every descriptor
@@ -66,48 +80,74 @@ open_same : (c d : Configuration) → d.fds ≡ c.fds → KeepsDescriptors c d
 open_same c d e = record { each = λ x h. subst (λ (ds : List Descriptor). Contains ds x) (sym e) h }
 
 open_fd : (c : Configuration) (process fd : ℕ) (s : StreamId) → KeepsDescriptors c (with_fd c process fd s)
-open_fd c process fd s = record { each = λ x h. in_placed fd_before c.fds x (record { process = process; fd = fd; stream = s }) h }
+open_fd c process fd s =
+    record { each = λ x h. in_placed fd_before c.fds x (record { process = process; fd = fd; stream = s }) h }
 
-open_done : (drivers : List DriverSpec) (c d : Configuration) → d.fds ≡ c.fds → IfAccepted (λ d r. KeepsDescriptors c d) (done_outcome drivers c d)
+open_done : (drivers : List DriverSpec) (c d : Configuration) → d.fds ≡ c.fds
+    → IfAccepted (λ d r. KeepsDescriptors c d) (done_outcome drivers c d)
 open_done drivers c d e = record { holds = open_same c (after_sweep drivers d) e }
 
-open_unlinked : (drivers : List DriverSpec) (c : Configuration) (w : Which) (mine : Link → Bool) → IfAccepted (λ d r. KeepsDescriptors c d) (unlink_outcome drivers c w mine)
+open_unlinked : (drivers : List DriverSpec) (c : Configuration) (w : Which) (mine : Link → Bool)
+    → IfAccepted (λ d r. KeepsDescriptors c d) (unlink_outcome drivers c w mine)
 open_unlinked drivers c which.All mine = open_done drivers c (without_links c mine) refl
 open_unlinked drivers c (which.Id id) mine = search (after_test, open_done, rules) depth 12
 
-open_linked : (drivers : List DriverSpec) (c : Configuration) (process fd arg : ℕ) (k : LinkKind) → IfAccepted (λ d r. KeepsDescriptors c d) (link_outcome drivers c process fd arg k)
+open_linked : (drivers : List DriverSpec) (c : Configuration) (process fd arg : ℕ) (k : LinkKind)
+    → IfAccepted (λ d r. KeepsDescriptors c d) (link_outcome drivers c process fd arg k)
 open_linked drivers c process fd arg k = search (after_test, after_ok, at_ok, open_same, rules) depth 24
 
-open_sent : (drivers : List DriverSpec) (c : Configuration) (p : Place) (addr : ℕ) (bytes : List ℕ) → IfAccepted (λ d r. KeepsDescriptors c d) (send_outcome drivers c p addr bytes)
+open_sent : (drivers : List DriverSpec) (c : Configuration) (p : Place) (addr : ℕ) (bytes : List ℕ)
+    → IfAccepted (λ d r. KeepsDescriptors c d) (send_outcome drivers c p addr bytes)
 open_sent drivers c p addr bytes = search (after_test, at_ok, open_same, rules) depth 12
 
-open_received : (drivers : List DriverSpec) (c : Configuration) (p : Place) → IfAccepted (λ d r. KeepsDescriptors c d) (receive_outcome drivers c p)
+open_received : (drivers : List DriverSpec) (c : Configuration) (p : Place)
+    → IfAccepted (λ d r. KeepsDescriptors c d) (receive_outcome drivers c p)
 open_received drivers c p = search (after_some, at_ok, open_same, rules) depth 12
 
-open_accepted : (drivers : List DriverSpec) (c : Configuration) (process : ℕ) (k : Command) → ((fd : ℕ) → k ≡ command.Close fd → ⊥) → (k ≡ command.CloseAll → ⊥) → IfAccepted (λ d r. KeepsDescriptors c d) (outcome drivers c process k)
-open_accepted drivers c process (command.OpenClone name) no_close no_exit = search (after_ok, at_ok, open_fd, rules) depth 20
-open_accepted drivers c process (command.OpenMinor name minor) no_close no_exit = search (after_test, after_ok, at_ok, open_fd, rules) depth 20
+open_accepted : (drivers : List DriverSpec) (c : Configuration) (process : ℕ) (k : Command)
+    → ((fd : ℕ) → k ≡ command.Close fd → ⊥) → (k ≡ command.CloseAll → ⊥)
+    → IfAccepted (λ d r. KeepsDescriptors c d) (outcome drivers c process k)
+open_accepted drivers c process (command.OpenClone name) no_close no_exit =
+    search (after_ok, at_ok, open_fd, rules) depth 20
+open_accepted drivers c process (command.OpenMinor name minor) no_close no_exit =
+    search (after_test, after_ok, at_ok, open_fd, rules) depth 20
 open_accepted drivers c process (command.Dup fd) no_close no_exit = search (after_ok, at_ok, open_fd, rules) depth 20
 open_accepted drivers c process (command.Close fd) no_close no_exit = absurd (no_close fd refl)
 open_accepted drivers c process command.CloseAll no_close no_exit = absurd (no_exit refl)
 open_accepted drivers c process (command.Link fd arg) no_close no_exit = search (open_linked, rules) depth 20
 open_accepted drivers c process (command.Plink fd arg) no_close no_exit = search (open_linked, rules) depth 20
-open_accepted drivers c process (command.Unlink fd w) no_close no_exit = search (after_ok, open_unlinked, rules) depth 20
-open_accepted drivers c process (command.Punlink fd w) no_close no_exit = search (after_ok, open_unlinked, rules) depth 20
-open_accepted drivers c process (command.Bind fd addr) no_close no_exit = search (after_test, after_ok, open_done, rules) depth 20
-open_accepted drivers c process (command.Unbind fd) no_close no_exit = search (after_test, after_ok, open_done, rules) depth 20
-open_accepted drivers c process (command.Route fd addr id) no_close no_exit = search (after_test, after_ok, open_done, rules) depth 20
-open_accepted drivers c process (command.Unroute fd addr) no_close no_exit = search (after_test, after_ok, open_done, rules) depth 20
-open_accepted drivers c process (command.Write fd addr bytes) no_close no_exit = search (after_ok, open_sent, rules) depth 20
-open_accepted drivers c process (command.Read fd) no_close no_exit = search (after_ok, after_choice, at_ok, open_same, open_received, rules) depth 20
+open_accepted drivers c process (command.Unlink fd w) no_close no_exit =
+    search (after_ok, open_unlinked, rules) depth 20
+open_accepted drivers c process (command.Punlink fd w) no_close no_exit =
+    search (after_ok, open_unlinked, rules) depth 20
+open_accepted drivers c process (command.Bind fd addr) no_close no_exit =
+    search (after_test, after_ok, open_done, rules) depth 20
+open_accepted drivers c process (command.Unbind fd) no_close no_exit =
+    search (after_test, after_ok, open_done, rules) depth 20
+open_accepted drivers c process (command.Route fd addr id) no_close no_exit =
+    search (after_test, after_ok, open_done, rules) depth 20
+open_accepted drivers c process (command.Unroute fd addr) no_close no_exit =
+    search (after_test, after_ok, open_done, rules) depth 20
+open_accepted drivers c process (command.Write fd addr bytes) no_close no_exit =
+    search (after_ok, open_sent, rules) depth 20
+open_accepted drivers c process (command.Read fd) no_close no_exit =
+    search (after_ok, after_choice, at_ok, open_same, open_received, rules) depth 20
 open_accepted drivers c process (command.Flush fd w) no_close no_exit = search (after_ok, open_done, rules) depth 20
-open_accepted drivers c process (command.Inject name minor addr bytes) no_close no_exit = search (after_ok, open_sent, rules) depth 20
-open_accepted drivers c process (command.Transmit name minor) no_close no_exit = search (after_ok, open_received, rules) depth 20
-open_accepted drivers c process (command.Hangup name minor) no_close no_exit = search (after_ok, open_done, rules) depth 20
+open_accepted drivers c process (command.Inject name minor addr bytes) no_close no_exit =
+    search (after_ok, open_sent, rules) depth 20
+open_accepted drivers c process (command.Transmit name minor) no_close no_exit =
+    search (after_ok, open_received, rules) depth 20
+open_accepted drivers c process (command.Hangup name minor) no_close no_exit =
+    search (after_ok, open_done, rules) depth 20
 
-open_finished : (drivers : List DriverSpec) (c : Configuration) (o : Outcome) → IfAccepted (λ d r. KeepsDescriptors c d) o → KeepsDescriptors c (after_outcome drivers c o).0
+open_finished : (drivers : List DriverSpec) (c : Configuration) (o : Outcome)
+    → IfAccepted (λ d r. KeepsDescriptors c d) o → KeepsDescriptors c (after_outcome drivers c o).0
 open_finished drivers c (Ok x) h = record { each = λ d k. rw ((settled_alone drivers _ x.0).fds) (h.holds.each d k) }
 open_finished drivers c (Err f) h = record { each = λ d k. k }
 
-pub others_leave_open : (drivers : List DriverSpec) (c : Configuration) (process : ℕ) (k : Command) → ((fd : ℕ) → k ≡ command.Close fd → ⊥) → (k ≡ command.CloseAll → ⊥) → All (Contains (step drivers c process k).0.fds) c.fds
-others_leave_open drivers c process k no_close no_exit = all_in _ c.fds (open_finished drivers c (outcome drivers c process k) (open_accepted drivers c process k no_close no_exit)).each
+-- a command that is neither close nor exit leaves all descriptors
+pub others_leave_open : (drivers : List DriverSpec) (c : Configuration) (process : ℕ) (k : Command)
+    → ((fd : ℕ) → k ≡ command.Close fd → ⊥) → (k ≡ command.CloseAll → ⊥)
+    → All (Contains (step drivers c process k).0.fds) c.fds
+others_leave_open drivers c process k no_close no_exit = all_in _ c.fds
+    (open_finished drivers c (outcome drivers c process k) (open_accepted drivers c process k no_close no_exit)).each

@@ -1,5 +1,6 @@
 -- Which commands drop messages.
-use Rattle.std.proofs.Common.{◌≡◌, ℕ, Bool, true, false, not, eqb, List, [], ◌∷◌, filter, Result, Ok, Err, refl, rules, sym, ap, ◌∙◌, subst, inl, inr}
+use Rattle.std.proofs.Common.{◌≡◌, ℕ, Bool, true, false, not, eqb, List, [], ◌∷◌, filter, Result, Ok, Err, refl, rules}
+use Rattle.std.proofs.Common.{sym, ap, ◌∙◌, subst, inl, inr}
 use Rattle.std.specs.List.{list_any, list_all}
 use Rattle.std.proofs.lemmas.Bool.{cases_Bool, and_parts, and_from, or_left, or_right, eq-eqb, false≢true}
 use Rattle.smx_types.specs.declared.command.Command.{Command}
@@ -14,7 +15,8 @@ use Rattle.smx_types.specs.declared.reply.Fault.TheVariants.{NotMux}
 use Rattle.smx_types.specs.declared.reply.Reply.TheVariants.{Done}
 use Rattle.smx_types.specs.declared.stream.Place.{Place}
 use Rattle.smx_types.specs.declared.stream.StreamId.{StreamId}
-use Rattle.smx_model.specs.Commands.{outcome, step, after_outcome, done_outcome, link_outcome, send_outcome, receive_outcome}
+use Rattle.smx_model.specs.Commands.{outcome, step, after_outcome, done_outcome, link_outcome, send_outcome}
+use Rattle.smx_model.specs.Commands.{receive_outcome}
 use Rattle.smx_model.specs.Configuration.{Configuration, QueuedMessage, empty, bind_before, stream_before}
 use Rattle.smx_model.specs.DriverList.{is_mux}
 use Rattle.smx_model.specs.Histories.{IsLegal, IsLegalFrom}
@@ -36,13 +38,16 @@ use Rattle.smx_model.specs.Hangups.{is_hung, with_hung}
 
 -- from the same flow no message has gone
 
-all_there : (ms ns : List ℕ) → list_all (λ n. list_any (λ m. eqb n m) ms) ns ≡ true → filter (λ n. not (list_any (λ m. eqb n m) ms)) ns ≡ []
+all_there : (ms ns : List ℕ) → list_all (λ n. list_any (λ m. eqb n m) ms) ns ≡ true
+    → filter (λ n. not (list_any (λ m. eqb n m) ms)) ns ≡ []
 all_there ms [] h = refl
 all_there ms (n ∷ ns) h = let p = and_parts (list_any (λ m. eqb n m) ms) _ h in rw p.0 (all_there ms ns p.1)
 
-in_more : (m : ℕ) (ms ns : List ℕ) → list_all (λ n. list_any (λ k. eqb n k) ms) ns ≡ true → list_all (λ n. list_any (λ k. eqb n k) (m ∷ ms)) ns ≡ true
+in_more : (m : ℕ) (ms ns : List ℕ) → list_all (λ n. list_any (λ k. eqb n k) ms) ns ≡ true
+    → list_all (λ n. list_any (λ k. eqb n k) (m ∷ ms)) ns ≡ true
 in_more m ms [] h = refl
-in_more m ms (n ∷ ns) h = let p = and_parts (list_any (λ k. eqb n k) ms) _ h in and_from _ _ (or_right _ _ p.0) (in_more m ms ns p.1)
+in_more m ms (n ∷ ns) h =
+    let p = and_parts (list_any (λ k. eqb n k) ms) _ h in and_from _ _ (or_right _ _ p.0) (in_more m ms ns p.1)
 
 in_itself : (ns : List ℕ) → list_all (λ n. list_any (λ k. eqb n k) ns) ns ≡ true
 in_itself [] = refl
@@ -52,8 +57,8 @@ none_gone : (flow : List QueuedMessage) → serials_that_left flow flow ≡ []
 none_gone flow = ap in_rising_order (all_there (serials flow) (serials flow) (in_itself (serials flow)))
 
 -- what leaves nothing to sweep, and the flow as it was, is done with none dropped
-
-pub done_idle : (drivers : List DriverSpec) (c new : Configuration) → IsSwept drivers new → new.flow ≡ c.flow → done_outcome drivers c new ≡ Ok (new, Done [])
+pub done_idle : (drivers : List DriverSpec) (c new : Configuration) → IsSwept drivers new → new.flow ≡ c.flow
+    → done_outcome drivers c new ≡ Ok (new, Done [])
 done_idle drivers c new clean same =
     ap (λ (d : Configuration). Ok (d, Done (serials_that_left c.flow d.flow))) (swept_idle drivers new clean)
     ∙ (ap (λ (f : List QueuedMessage). Ok (new, Done (serials_that_left c.flow f))) same
@@ -63,49 +68,92 @@ done_idle drivers c new clean same =
 abbrev DropsNone : Outcome → Type 0
 DropsNone o = IfAccepted (λ d r. dropped_by r ≡ []) o
 
-idle_drops : (drivers : List DriverSpec) (c d : Configuration) → IsSwept drivers d → d.flow ≡ c.flow → DropsNone (done_outcome drivers c d)
+idle_drops : (drivers : List DriverSpec) (c d : Configuration) → IsSwept drivers d → d.flow ≡ c.flow
+    → DropsNone (done_outcome drivers c d)
 idle_drops drivers c d clean same = rw (done_idle drivers c d clean same) (at_ok _ d (Done []) refl)
 
-pub mux_exists : (drivers : List DriverSpec) (c : Configuration) (process fd : ℕ) (s : StreamId) → mux_stream drivers c process fd ≡ Ok s → exists drivers c s ≡ true
+-- a multiplexing driver's stream that a descriptor names, and that is not linked below, exists
+pub mux_exists : (drivers : List DriverSpec) (c : Configuration) (process fd : ℕ) (s : StreamId)
+    → mux_stream drivers c process fd ≡ Ok s → exists drivers c s ≡ true
 mux_exists drivers c process fd s e = by (free_stream c process fd) refl e where
   tested : (t : StreamId) (b : Bool) → (refuse NotMux b >>= (λ _. Ok t)) ≡ Ok s → t ≡ s
   tested t true k = cc
   tested t false k = cc
 
-  by : (r : Result StreamId Fault) → free_stream c process fd ≡ r → (r >>= (λ t. refuse NotMux (not (is_mux drivers t.driver)) >>= (λ _. Ok t))) ≡ Ok s → exists drivers c s ≡ true
+  by : (r : Result StreamId Fault) → free_stream c process fd ≡ r
+      → (r >>= (λ t. refuse NotMux (not (is_mux drivers t.driver)) >>= (λ _. Ok t))) ≡ Ok s → exists drivers c s ≡ true
   by (Err f) e k = cc
-  by (Ok t) e k = subst (λ (x : StreamId). exists drivers c x ≡ true) (tested t (not (is_mux drivers t.driver)) k) (free_exists drivers c process fd t e)
+  by (Ok t) e k = subst (λ (x : StreamId). exists drivers c x ≡ true) (tested t (not (is_mux drivers t.driver)) k)
+      (free_exists drivers c process fd t e)
 
 -- a binding of a stream that exists, fewer bindings, or other routes
 
-bind_drops : (drivers : List DriverSpec) (c : Configuration) (s : StreamId) (addr : ℕ) → IsSwept drivers c → exists drivers c s ≡ true
-    → DropsNone (done_outcome drivers c (record c { binds = with_inserted bind_before c.binds (record { driver = s.driver; addr = addr; minor = s.minor }) }))
-bind_drops drivers c s addr h e = idle_drops drivers c (record c { binds = with_inserted bind_before c.binds (record { driver = s.driver; addr = addr; minor = s.minor }) })
-    (record { links = h.links; binds = all_placed _ bind_before c.binds _ e h.binds; flow = h.flow; fulls = h.fulls; hungs = h.hungs }) refl
+bind_drops : (drivers : List DriverSpec) (c : Configuration) (s : StreamId) (addr : ℕ) → IsSwept drivers c
+    → exists drivers c s ≡ true
+    → DropsNone
+    (done_outcome drivers c
+    (record c {
+      binds = with_inserted bind_before c.binds
+          (record { driver = s.driver; addr = addr; minor = s.minor });
+    }))
+bind_drops drivers c s addr h e = idle_drops drivers c
+    (record c {
+      binds = with_inserted bind_before c.binds
+          (record { driver = s.driver; addr = addr; minor = s.minor });
+    })
+    (record {
+      links = h.links;
+      binds = all_placed _ bind_before c.binds _ e h.binds;
+      flow = h.flow;
+      fulls = h.fulls;
+      hungs = h.hungs;
+    }) refl
 
-unbind_drops : (drivers : List DriverSpec) (c : Configuration) (keep : Binding → Bool) → IsSwept drivers c → DropsNone (done_outcome drivers c (record c { binds = filter keep c.binds }))
-unbind_drops drivers c keep h = idle_drops drivers c (record c { binds = filter keep c.binds }) (record { links = h.links; binds = all_filter _ keep c.binds h.binds; flow = h.flow; fulls = h.fulls; hungs = h.hungs }) refl
+unbind_drops : (drivers : List DriverSpec) (c : Configuration) (keep : Binding → Bool) → IsSwept drivers c
+    → DropsNone (done_outcome drivers c (record c { binds = filter keep c.binds }))
+unbind_drops drivers c keep h = idle_drops drivers c (record c { binds = filter keep c.binds })
+    (record {
+      links = h.links;
+      binds = all_filter _ keep c.binds h.binds;
+      flow = h.flow;
+      fulls = h.fulls;
+      hungs = h.hungs;
+    }) refl
 
-route_drops : (drivers : List DriverSpec) (c : Configuration) (routes : List Route) → IsSwept drivers c → DropsNone (done_outcome drivers c (record c { routes = routes }))
-route_drops drivers c routes h = idle_drops drivers c (record c { routes = routes }) (record { links = h.links; binds = h.binds; flow = h.flow; fulls = h.fulls; hungs = h.hungs }) refl
+route_drops : (drivers : List DriverSpec) (c : Configuration) (routes : List Route) → IsSwept drivers c
+    → DropsNone (done_outcome drivers c (record c { routes = routes }))
+route_drops drivers c routes h = idle_drops drivers c (record c { routes = routes })
+    (record { links = h.links; binds = h.binds; flow = h.flow; fulls = h.fulls; hungs = h.hungs }) refl
 
 -- a hung-up stream that exists
 
-pub hung_swept : (drivers : List DriverSpec) (c : Configuration) (s : StreamId) → IsSwept drivers c → exists drivers c s ≡ true → IsSwept drivers (record c { hungs = with_hung s c.hungs })
-hung_swept drivers c s h e = record { links = h.links; binds = h.binds; flow = h.flow; fulls = h.fulls; hungs = by (is_hung c.hungs s) refl } where
+-- a configuration that is swept stays so when a stream that exists hangs up
+pub hung_swept : (drivers : List DriverSpec) (c : Configuration) (s : StreamId) → IsSwept drivers c
+    → exists drivers c s ≡ true → IsSwept drivers (record c { hungs = with_hung s c.hungs })
+hung_swept drivers c s h e = record {
+  links = h.links;
+  binds = h.binds;
+  flow = h.flow;
+  fulls = h.fulls;
+  hungs = by (is_hung c.hungs s) refl;
+} where
   by : (b : Bool) → is_hung c.hungs s ≡ b → list_all (λ t. exists drivers c t) (with_hung s c.hungs) ≡ true
   by true t = rw t h.hungs
   by false f = rw f (all_placed _ stream_before c.hungs s e h.hungs)
 
-hangup_drops : (drivers : List DriverSpec) (c : Configuration) (s : StreamId) → IsSwept drivers c → exists drivers c s ≡ true → DropsNone (done_outcome drivers c (record c { hungs = with_hung s c.hungs }))
-hangup_drops drivers c s h e = idle_drops drivers c (record c { hungs = with_hung s c.hungs }) (hung_swept drivers c s h e) refl
+hangup_drops : (drivers : List DriverSpec) (c : Configuration) (s : StreamId) → IsSwept drivers c
+    → exists drivers c s ≡ true → DropsNone (done_outcome drivers c (record c { hungs = with_hung s c.hungs }))
+hangup_drops drivers c s h e =
+    idle_drops drivers c (record c { hungs = with_hung s c.hungs }) (hung_swept drivers c s h e) refl
 
 -- what replies no Done
 
-linked_drops : (drivers : List DriverSpec) (c : Configuration) (process fd arg : ℕ) (k : LinkKind) → DropsNone (link_outcome drivers c process fd arg k)
+linked_drops : (drivers : List DriverSpec) (c : Configuration) (process fd arg : ℕ) (k : LinkKind)
+    → DropsNone (link_outcome drivers c process fd arg k)
 linked_drops drivers c process fd arg k = search (after_test, after_ok, at_ok, rules) depth 24
 
-sent_drops : (drivers : List DriverSpec) (c : Configuration) (p : Place) (addr : ℕ) (bytes : List ℕ) → DropsNone (send_outcome drivers c p addr bytes)
+sent_drops : (drivers : List DriverSpec) (c : Configuration) (p : Place) (addr : ℕ) (bytes : List ℕ)
+    → DropsNone (send_outcome drivers c p addr bytes)
 sent_drops drivers c p addr bytes = search (after_test, at_ok, rules) depth 12
 
 received_drops : (drivers : List DriverSpec) (c : Configuration) (p : Place) → DropsNone (receive_outcome drivers c p)
@@ -113,9 +161,11 @@ received_drops drivers c p = search (after_some, at_ok, rules) depth 12
 
 -- each command that may not drop
 
-drops_accepted : (drivers : List DriverSpec) (c : Configuration) (process : ℕ) (k : Command) → may_drop k ≡ false → IsSwept drivers c → DropsNone (outcome drivers c process k)
+drops_accepted : (drivers : List DriverSpec) (c : Configuration) (process : ℕ) (k : Command) → may_drop k ≡ false
+    → IsSwept drivers c → DropsNone (outcome drivers c process k)
 drops_accepted drivers c process (command.OpenClone name) never h = search (after_ok, at_ok, rules) depth 20
-drops_accepted drivers c process (command.OpenMinor name minor) never h = search (after_test, after_ok, at_ok, rules) depth 20
+drops_accepted drivers c process (command.OpenMinor name minor) never h =
+    search (after_test, after_ok, at_ok, rules) depth 20
 drops_accepted drivers c process (command.Dup fd) never h = search (after_ok, at_ok, rules) depth 20
 drops_accepted drivers c process (command.Close fd) never h = absurd (false≢true (sym never))
 drops_accepted drivers c process command.CloseAll never h = absurd (false≢true (sym never))
@@ -123,31 +173,47 @@ drops_accepted drivers c process (command.Link fd arg) never h = search (linked_
 drops_accepted drivers c process (command.Plink fd arg) never h = search (linked_drops, rules) depth 20
 drops_accepted drivers c process (command.Unlink fd w) never h = absurd (false≢true (sym never))
 drops_accepted drivers c process (command.Punlink fd w) never h = absurd (false≢true (sym never))
-drops_accepted drivers c process (command.Bind fd addr) never h = search (after_test, after_ok, bind_drops, mux_exists, rules) depth 20
-drops_accepted drivers c process (command.Unbind fd) never h = search (after_test, after_ok, unbind_drops, rules) depth 20
-drops_accepted drivers c process (command.Route fd addr id) never h = search (after_test, after_ok, route_drops, rules) depth 20
-drops_accepted drivers c process (command.Unroute fd addr) never h = search (after_test, after_ok, route_drops, rules) depth 20
+drops_accepted drivers c process (command.Bind fd addr) never h =
+    search (after_test, after_ok, bind_drops, mux_exists, rules) depth 20
+drops_accepted drivers c process (command.Unbind fd) never h =
+    search (after_test, after_ok, unbind_drops, rules) depth 20
+drops_accepted drivers c process (command.Route fd addr id) never h =
+    search (after_test, after_ok, route_drops, rules) depth 20
+drops_accepted drivers c process (command.Unroute fd addr) never h =
+    search (after_test, after_ok, route_drops, rules) depth 20
 drops_accepted drivers c process (command.Write fd addr bytes) never h = search (after_ok, sent_drops, rules) depth 20
-drops_accepted drivers c process (command.Read fd) never h = search (after_ok, after_choice, at_ok, received_drops, rules) depth 20
+drops_accepted drivers c process (command.Read fd) never h =
+    search (after_ok, after_choice, at_ok, received_drops, rules) depth 20
 drops_accepted drivers c process (command.Flush fd w) never h = absurd (false≢true (sym never))
-drops_accepted drivers c process (command.Inject name minor addr bytes) never h = search (after_ok, sent_drops, rules) depth 20
-drops_accepted drivers c process (command.Transmit name minor) never h = search (after_ok, received_drops, rules) depth 20
-drops_accepted drivers c process (command.Hangup name minor) never h = search (after_ok, hangup_drops, leaf_exists, rules) depth 20
+drops_accepted drivers c process (command.Inject name minor addr bytes) never h =
+    search (after_ok, sent_drops, rules) depth 20
+drops_accepted drivers c process (command.Transmit name minor) never h =
+    search (after_ok, received_drops, rules) depth 20
+drops_accepted drivers c process (command.Hangup name minor) never h =
+    search (after_ok, hangup_drops, leaf_exists, rules) depth 20
 
-pub step_drops : (drivers : List DriverSpec) (c : Configuration) (process : ℕ) (k : Command) → IsSwept drivers c → (dropped_by (step drivers c process k).1 ≡ [] → ⊥) → may_drop k ≡ true
-step_drops drivers c process k h some = elim (cases_Bool (may_drop k)) [ inl may ↦ may | inr never ↦ absurd (some (by (outcome drivers c process k) (drops_accepted drivers c process k never h))) ] where
+-- a command whose reply names dropped messages is one of those that may drop
+pub step_drops : (drivers : List DriverSpec) (c : Configuration) (process : ℕ) (k : Command) → IsSwept drivers c
+    → (dropped_by (step drivers c process k).1 ≡ [] → ⊥) → may_drop k ≡ true
+step_drops drivers c process k h some = elim (cases_Bool (may_drop k)) [
+  | inl may ↦ may
+  | inr never ↦
+      absurd (some (by (outcome drivers c process k) (drops_accepted drivers c process k never h)))
+] where
   by : (o : Outcome) → DropsNone o → dropped_by (after_outcome drivers c o).1 ≡ []
   by (Ok x) m = m.holds
   by (Err f) m = refl
 
 -- and so each entry
 
-drops_from : (drivers : List DriverSpec) (c : Configuration) (es : List Entry) → IsKept drivers c → IsLegalFrom drivers c es → Each (λ e. (dropped_by e.reply ≡ [] → ⊥) → may_drop e.command ≡ true) es
+drops_from : (drivers : List DriverSpec) (c : Configuration) (es : List Entry) → IsKept drivers c
+    → IsLegalFrom drivers c es → Each (λ e. (dropped_by e.reply ≡ [] → ⊥) → may_drop e.command ≡ true) es
 drops_from drivers c [] h legal = tt
 drops_from drivers c (e ∷ es) h legal = (
   λ some. step_drops drivers c e.process e.command h.sound.swept (λ none. some (ap dropped_by (sym legal.0) ∙ none)),
   drops_from drivers (step drivers c e.process e.command).0 es (step_keeps drivers c e.process e.command h) legal.1,
 )
 
+-- in a legal history only commands that may drop messages name dropped ones
 pub few_drop : (drivers : List DriverSpec) (history : List Entry) → IsLegal drivers history → AreDropsAllowed history
 few_drop drivers history legal = all_of_each _ history (drops_from drivers empty history (empty_kept drivers) legal)

@@ -1,5 +1,6 @@
 -- Which places the commands free.
-use Rattle.std.proofs.Common.{◌≡◌, ℕ, Bool, true, false, ◌+◌, ◌&&◌, not, cond, List, [], filter, None, Result, Ok, Err, refl, rules, sym, ap, ◌∙◌, subst, inl, inr}
+use Rattle.std.proofs.Common.{◌≡◌, ℕ, Bool, true, false, ◌+◌, ◌&&◌, not, cond, List, [], filter, None, Result, Ok, Err}
+use Rattle.std.proofs.Common.{refl, rules, sym, ap, ◌∙◌, subst, inl, inr}
 use mathlib.Core.Logic.{◌⊎◌}
 use Rattle.std.specs.Prelude.{slice_get}
 use Rattle.std.specs.List.{list_any}
@@ -18,7 +19,8 @@ use Rattle.smx_types.specs.declared.reply.Fault.{Fault}
 use Rattle.smx_types.specs.declared.stream.Descriptor.{Descriptor}
 use Rattle.smx_types.specs.declared.stream.Place.{Place}
 use Rattle.smx_types.specs.declared.stream.StreamId.{StreamId}
-use Rattle.smx_model.specs.Commands.{outcome, done_outcome, link_outcome, unlink_outcome, send_outcome, receive_outcome, with_fd}
+use Rattle.smx_model.specs.Commands.{outcome, done_outcome, link_outcome, unlink_outcome, send_outcome, receive_outcome}
+use Rattle.smx_model.specs.Commands.{with_fd}
 use Rattle.smx_model.specs.Configuration.{Configuration, QueuedMessage, bind_before, same_place}
 use Rattle.smx_model.specs.FreedPlaces.{FreesOnly, freed_by, is_empty_at, is_side_of}
 use Rattle.smx_model.specs.Lookups.{free_stream, live_stream, live_leaf}
@@ -48,20 +50,27 @@ never_freed false h = false≢true h
 
 -- with the same full places
 same_frees : (c d : Configuration) (t : Place → Bool) → d.fulls ≡ c.fulls → FreesOnly c d t
-same_frees c d t e p h = absurd (never_freed (is_full c p) (sym (ap (λ (ps : List Place). is_full c p && not (list_any (same_place p) ps)) e) ∙ h))
+same_frees c d t e p h = absurd (never_freed (is_full c p)
+    (sym (ap (λ (ps : List Place). is_full c p && not (list_any (same_place p) ps)) e) ∙ h))
 
 -- where a place is one of these, or is as full as it was
-frees_by : (c d : Configuration) (t : Place → Bool) → ((p : Place) → t p ≡ false → is_full c p ≡ true → is_full d p ≡ true) → FreesOnly c d t
+frees_by : (c d : Configuration) (t : Place → Bool)
+    → ((p : Place) → t p ≡ false → is_full c p ≡ true → is_full d p ≡ true) → FreesOnly c d t
 frees_by c d t f p h = elim (cases_Bool (t p)) [
   | inl y ↦ y
-  | inr n ↦ let a = and_parts (is_full c p) (not (is_full d p)) h in absurd (both_ways (not (is_full d p)) (ap not (f p n a.0)) a.1)
+  | inr n ↦ let a = and_parts (is_full c p) (not (is_full d p)) h in
+      absurd (both_ways (not (is_full d p)) (ap not (f p n a.0)) a.1)
 ]
 
-frees_at_arrival : (drivers : List DriverSpec) (c : Configuration) (p : Place) (m : Message) (n : ℕ) → FreesOnly c (record (after_arrival drivers c p m) { next_serial = n }) nowhere
-frees_at_arrival drivers c p m n = frees_by c (record (after_arrival drivers c p m) { next_serial = n }) nowhere (λ q _ h. arrived_more drivers c p q m h)
+frees_at_arrival : (drivers : List DriverSpec) (c : Configuration) (p : Place) (m : Message) (n : ℕ)
+    → FreesOnly c (record (after_arrival drivers c p m) { next_serial = n }) nowhere
+frees_at_arrival drivers c p m n = frees_by c (record (after_arrival drivers c p m) { next_serial = n }) nowhere
+    (λ q _ h. arrived_more drivers c p q m h)
 
-frees_at_leaving : (drivers : List DriverSpec) (c : Configuration) (p : Place) → FreesOnly c (after_leaving drivers c p) (same_place p)
-frees_at_leaving drivers c p = frees_by c (after_leaving drivers c p) (same_place p) (λ q n h. left_keeps drivers c p q n ∙ h)
+frees_at_leaving : (drivers : List DriverSpec) (c : Configuration) (p : Place)
+    → FreesOnly c (after_leaving drivers c p) (same_place p)
+frees_at_leaving drivers c p =
+    frees_by c (after_leaving drivers c p) (same_place p) (λ q n h. left_keeps drivers c p q n ∙ h)
 
 frees_emptied : (c : Configuration) (goes : Place → Bool) → FreesOnly c (without_queues_at c goes) goes
 frees_emptied c goes = frees_by c (without_queues_at c goes) goes (λ q n h. emptied_full c.fulls goes q ∙ rw n h)
@@ -70,35 +79,50 @@ frees_emptied c goes = frees_by c (without_queues_at c goes) goes (λ q n h. emp
 
 -- each place is as full as it was, with the same first message, or it is empty
 abbrev KeepsOrEmpties : Configuration → Configuration → Type 0
-KeepsOrEmpties c d = (q : Place) → ((is_full d q ≡ is_full c q) × (first_message d.flow q ≡ first_message c.flow q)) ⊎ (first_message d.flow q ≡ None)
+KeepsOrEmpties c d = (q : Place) → ((is_full d q ≡ is_full c q) × (first_message d.flow q ≡ first_message c.flow q))
+    ⊎ (first_message d.flow q ≡ None)
 
 keeps_then : (c d e : Configuration) → KeepsOrEmpties c d → KeepsOrEmpties d e → KeepsOrEmpties c e
 keeps_then c d e f g q = by (f q) (g q) where
-  by : ((is_full d q ≡ is_full c q) × (first_message d.flow q ≡ first_message c.flow q)) ⊎ (first_message d.flow q ≡ None) → ((is_full e q ≡ is_full d q) × (first_message e.flow q ≡ first_message d.flow q)) ⊎ (first_message e.flow q ≡ None)
-      → ((is_full e q ≡ is_full c q) × (first_message e.flow q ≡ first_message c.flow q)) ⊎ (first_message e.flow q ≡ None)
+  by : ((is_full d q ≡ is_full c q) × (first_message d.flow q ≡ first_message c.flow q))
+      ⊎ (first_message d.flow q ≡ None)
+      → ((is_full e q ≡ is_full d q) × (first_message e.flow q ≡ first_message d.flow q))
+      ⊎ (first_message e.flow q ≡ None)
+      → ((is_full e q ≡ is_full c q) × (first_message e.flow q ≡ first_message c.flow q))
+      ⊎ (first_message e.flow q ≡ None)
   by a (inr z) = inr z
   by (inl a) (inl b) = inl (b.0 ∙ a.0, b.1 ∙ a.1)
   by (inr z) (inl b) = inr (b.1 ∙ z)
 
-emptied_keeps : (c d : Configuration) (goes : Place → Bool) → d.flow ≡ filter (λ h. not (goes h.place)) c.flow → d.fulls ≡ filter (λ p. not (goes p)) c.fulls → KeepsOrEmpties c d
+emptied_keeps : (c d : Configuration) (goes : Place → Bool) → d.flow ≡ filter (λ h. not (goes h.place)) c.flow
+    → d.fulls ≡ filter (λ p. not (goes p)) c.fulls → KeepsOrEmpties c d
 emptied_keeps c d goes e f q = by (goes q) refl where
   queues : (b : Bool) → goes q ≡ b → queue d.flow q ≡ cond b [] (queue c.flow q)
-  queues b g = ap (λ (hs : List QueuedMessage). queue hs q) e ∙ (emptied_queue c.flow goes q ∙ ap (λ (x : Bool). cond x [] (queue c.flow q)) g)
+  queues b g = ap (λ (hs : List QueuedMessage). queue hs q) e
+      ∙ (emptied_queue c.flow goes q ∙ ap (λ (x : Bool). cond x [] (queue c.flow q)) g)
 
   marks : (b : Bool) → goes q ≡ b → is_full d q ≡ cond b false (is_full c q)
-  marks b g = ap (λ (ps : List Place). list_any (same_place q) ps) f ∙ (emptied_full c.fulls goes q ∙ ap (λ (x : Bool). cond x false (is_full c q)) g)
+  marks b g = ap (λ (ps : List Place). list_any (same_place q) ps) f
+      ∙ (emptied_full c.fulls goes q ∙ ap (λ (x : Bool). cond x false (is_full c q)) g)
 
-  by : (b : Bool) → goes q ≡ b → ((is_full d q ≡ is_full c q) × (first_message d.flow q ≡ first_message c.flow q)) ⊎ (first_message d.flow q ≡ None)
+  by : (b : Bool) → goes q ≡ b → ((is_full d q ≡ is_full c q) × (first_message d.flow q ≡ first_message c.flow q))
+      ⊎ (first_message d.flow q ≡ None)
   by true g = inr (front_is d.flow q ∙ ap (λ (ms : List Message). slice_get ms 0) (queues true g))
-  by false g = inl (marks false g, front_is d.flow q ∙ (ap (λ (ms : List Message). slice_get ms 0) (queues false g) ∙ sym (front_is c.flow q)))
+  by false g = inl (
+    marks false g,
+    front_is d.flow q
+        ∙ (ap (λ (ms : List Message). slice_get ms 0) (queues false g) ∙ sym (front_is c.flow q)),
+  )
 
 removed_keeps : (c : Configuration) (goes : Link → Bool) → KeepsOrEmpties c (without_links c goes)
 removed_keeps c goes = emptied_keeps c (without_links c goes) (is_read_below (filter goes c.links)) refl refl
 
 swept_keeps : (drivers : List DriverSpec) (c : Configuration) → KeepsOrEmpties c (after_sweep drivers c)
-swept_keeps drivers c = keeps_then c (without_links c loose) (after_sweep drivers c) (removed_keeps c loose) (emptied_keeps (without_links c loose) (after_sweep drivers c) (λ p. not (exists drivers (without_links c loose) p.stream)) refl refl) where
-  loose : Link → Bool
-  loose l = not (is_persistent l) && not (exists drivers c l.ctl)
+swept_keeps drivers c = keeps_then c (without_links c loose) (after_sweep drivers c) (removed_keeps c loose)
+    (emptied_keeps (without_links c loose) (after_sweep drivers c)
+    (λ p. not (exists drivers (without_links c loose) p.stream)) refl refl) where
+      loose : Link → Bool
+      loose l = not (is_persistent l) && not (exists drivers c l.ctl)
 
 frees_empty : (c d : Configuration) → KeepsOrEmpties c d → FreesOnly c d (is_empty_at d)
 frees_empty c d h p freed = elim (h p) [
@@ -109,62 +133,127 @@ frees_empty c d h p freed = elim (h p) [
 -- ---- the rows of the command table
 
 -- what leaves nothing to sweep
-frees_done : (drivers : List DriverSpec) (c new : Configuration) (t : Place → Bool) → IsSwept drivers new → FreesOnly c new t → IfAccepted (λ d r. FreesOnly c d t) (done_outcome drivers c new)
-frees_done drivers c new t clean h = record { holds = subst (λ (d : Configuration). FreesOnly c d t) (sym (swept_idle drivers new clean)) h }
+frees_done : (drivers : List DriverSpec) (c new : Configuration) (t : Place → Bool) → IsSwept drivers new
+    → FreesOnly c new t → IfAccepted (λ d r. FreesOnly c d t) (done_outcome drivers c new)
+frees_done drivers c new t clean h =
+    record { holds = subst (λ (d : Configuration). FreesOnly c d t) (sym (swept_idle drivers new clean)) h }
 
-frees_bind : (drivers : List DriverSpec) (c : Configuration) (s : StreamId) (addr : ℕ) → IsSwept drivers c → exists drivers c s ≡ true
-    → IfAccepted (λ d r. FreesOnly c d nowhere) (done_outcome drivers c (record c { binds = with_inserted bind_before c.binds (record { driver = s.driver; addr = addr; minor = s.minor }) }))
-frees_bind drivers c s addr h e = frees_done drivers c new nowhere (record { links = h.links; binds = all_placed _ bind_before c.binds _ e h.binds; flow = h.flow; fulls = h.fulls; hungs = h.hungs }) (same_frees c new nowhere refl) where
-  new : Configuration
-  new = record c { binds = with_inserted bind_before c.binds (record { driver = s.driver; addr = addr; minor = s.minor }) }
+frees_bind : (drivers : List DriverSpec) (c : Configuration) (s : StreamId) (addr : ℕ) → IsSwept drivers c
+    → exists drivers c s ≡ true
+    → IfAccepted (λ d r. FreesOnly c d nowhere)
+    (done_outcome drivers c
+    (record c {
+      binds = with_inserted bind_before c.binds
+          (record { driver = s.driver; addr = addr; minor = s.minor });
+    }))
+frees_bind drivers c s addr h e = frees_done drivers c new nowhere
+    (record {
+      links = h.links;
+      binds = all_placed _ bind_before c.binds _ e h.binds;
+      flow = h.flow;
+      fulls = h.fulls;
+      hungs = h.hungs;
+    }) (same_frees c new nowhere refl) where
+      new : Configuration
+      new = record c {
+        binds = with_inserted bind_before c.binds
+            (record { driver = s.driver; addr = addr; minor = s.minor });
+      }
 
-frees_unbind : (drivers : List DriverSpec) (c : Configuration) (keep : Binding → Bool) → IsSwept drivers c → IfAccepted (λ d r. FreesOnly c d nowhere) (done_outcome drivers c (record c { binds = filter keep c.binds }))
-frees_unbind drivers c keep h = frees_done drivers c (record c { binds = filter keep c.binds }) nowhere (record { links = h.links; binds = all_filter _ keep c.binds h.binds; flow = h.flow; fulls = h.fulls; hungs = h.hungs }) (same_frees c (record c { binds = filter keep c.binds }) nowhere refl)
+frees_unbind : (drivers : List DriverSpec) (c : Configuration) (keep : Binding → Bool) → IsSwept drivers c
+    → IfAccepted (λ d r. FreesOnly c d nowhere) (done_outcome drivers c (record c { binds = filter keep c.binds }))
+frees_unbind drivers c keep h = frees_done drivers c (record c { binds = filter keep c.binds }) nowhere
+    (record {
+      links = h.links;
+      binds = all_filter _ keep c.binds h.binds;
+      flow = h.flow;
+      fulls = h.fulls;
+      hungs = h.hungs;
+    }) (same_frees c (record c { binds = filter keep c.binds }) nowhere refl)
 
-frees_route : (drivers : List DriverSpec) (c : Configuration) (routes : List Route) → IsSwept drivers c → IfAccepted (λ d r. FreesOnly c d nowhere) (done_outcome drivers c (record c { routes = routes }))
-frees_route drivers c routes h = frees_done drivers c (record c { routes = routes }) nowhere (record { links = h.links; binds = h.binds; flow = h.flow; fulls = h.fulls; hungs = h.hungs }) (same_frees c (record c { routes = routes }) nowhere refl)
+frees_route : (drivers : List DriverSpec) (c : Configuration) (routes : List Route) → IsSwept drivers c
+    → IfAccepted (λ d r. FreesOnly c d nowhere) (done_outcome drivers c (record c { routes = routes }))
+frees_route drivers c routes h = frees_done drivers c (record c { routes = routes }) nowhere
+    (record { links = h.links; binds = h.binds; flow = h.flow; fulls = h.fulls; hungs = h.hungs })
+    (same_frees c (record c { routes = routes }) nowhere refl)
 
-frees_hangup : (drivers : List DriverSpec) (c : Configuration) (s : StreamId) → IsSwept drivers c → exists drivers c s ≡ true → IfAccepted (λ d r. FreesOnly c d nowhere) (done_outcome drivers c (record c { hungs = with_hung s c.hungs }))
-frees_hangup drivers c s h e = frees_done drivers c (record c { hungs = with_hung s c.hungs }) nowhere (hung_swept drivers c s h e) (same_frees c (record c { hungs = with_hung s c.hungs }) nowhere refl)
+frees_hangup : (drivers : List DriverSpec) (c : Configuration) (s : StreamId) → IsSwept drivers c
+    → exists drivers c s ≡ true
+    → IfAccepted (λ d r. FreesOnly c d nowhere) (done_outcome drivers c (record c { hungs = with_hung s c.hungs }))
+frees_hangup drivers c s h e = frees_done drivers c (record c { hungs = with_hung s c.hungs }) nowhere
+    (hung_swept drivers c s h e) (same_frees c (record c { hungs = with_hung s c.hungs }) nowhere refl)
 
-frees_flush : (drivers : List DriverSpec) (c : Configuration) (goes : Place → Bool) → IsSwept drivers c → IfAccepted (λ d r. FreesOnly c d goes) (done_outcome drivers c (without_queues_at c goes))
-frees_flush drivers c goes h = frees_done drivers c (without_queues_at c goes) goes (record { links = h.links; binds = h.binds; flow = all_filter _ _ c.flow h.flow; fulls = all_filter _ _ c.fulls h.fulls; hungs = h.hungs }) (frees_emptied c goes)
+frees_flush : (drivers : List DriverSpec) (c : Configuration) (goes : Place → Bool) → IsSwept drivers c
+    → IfAccepted (λ d r. FreesOnly c d goes) (done_outcome drivers c (without_queues_at c goes))
+frees_flush drivers c goes h = frees_done drivers c (without_queues_at c goes) goes
+    (record {
+      links = h.links;
+      binds = h.binds;
+      flow = all_filter _ _ c.flow h.flow;
+      fulls = all_filter _ _ c.fulls h.fulls;
+      hungs = h.hungs;
+    }) (frees_emptied c goes)
 
 -- what is swept frees only places that are empty then
-frees_closed : (drivers : List DriverSpec) (c : Configuration) (fds : List Descriptor) → IfAccepted (λ d r. FreesOnly c d (is_empty_at d)) (done_outcome drivers c (record c { fds = fds }))
-frees_closed drivers c fds = record { holds = frees_empty c (after_sweep drivers (record c { fds = fds })) (swept_keeps drivers (record c { fds = fds })) }
+frees_closed : (drivers : List DriverSpec) (c : Configuration) (fds : List Descriptor)
+    → IfAccepted (λ d r. FreesOnly c d (is_empty_at d)) (done_outcome drivers c (record c { fds = fds }))
+frees_closed drivers c fds = record {
+  holds = frees_empty c (after_sweep drivers (record c { fds = fds }))
+      (swept_keeps drivers (record c { fds = fds }));
+}
 
-frees_removed : (drivers : List DriverSpec) (c : Configuration) (goes : Link → Bool) → IfAccepted (λ d r. FreesOnly c d (is_empty_at d)) (done_outcome drivers c (without_links c goes))
-frees_removed drivers c goes = record { holds = frees_empty c (after_sweep drivers (without_links c goes)) (keeps_then c (without_links c goes) (after_sweep drivers (without_links c goes)) (removed_keeps c goes) (swept_keeps drivers (without_links c goes))) }
+frees_removed : (drivers : List DriverSpec) (c : Configuration) (goes : Link → Bool)
+    → IfAccepted (λ d r. FreesOnly c d (is_empty_at d)) (done_outcome drivers c (without_links c goes))
+frees_removed drivers c goes = record {
+  holds = frees_empty c (after_sweep drivers (without_links c goes))
+      (keeps_then c (without_links c goes) (after_sweep drivers (without_links c goes)) (removed_keeps c goes)
+      (swept_keeps drivers (without_links c goes)));
+}
 
-frees_unlinked : (drivers : List DriverSpec) (c : Configuration) (w : Which) (mine : Link → Bool) → IfAccepted (λ d r. FreesOnly c d (is_empty_at d)) (unlink_outcome drivers c w mine)
+frees_unlinked : (drivers : List DriverSpec) (c : Configuration) (w : Which) (mine : Link → Bool)
+    → IfAccepted (λ d r. FreesOnly c d (is_empty_at d)) (unlink_outcome drivers c w mine)
 frees_unlinked drivers c which.All mine = frees_removed drivers c mine
 frees_unlinked drivers c (which.Id id) mine = search (after_test, frees_removed, rules) depth 12
 
-frees_with_fd : (drivers : List DriverSpec) (c : Configuration) (process fd : ℕ) (s : StreamId) → FreesOnly c (with_fd c process fd s) nowhere
+frees_with_fd : (drivers : List DriverSpec) (c : Configuration) (process fd : ℕ) (s : StreamId)
+    → FreesOnly c (with_fd c process fd s) nowhere
 frees_with_fd drivers c process fd s = same_frees c (with_fd c process fd s) nowhere refl
 
-frees_new_link : (c : Configuration) (links : List Link) (next : ℕ) → FreesOnly c (record c { links = links; next_id = next }) nowhere
+frees_new_link : (c : Configuration) (links : List Link) (next : ℕ)
+    → FreesOnly c (record c { links = links; next_id = next }) nowhere
 frees_new_link c links next = same_frees c (record c { links = links; next_id = next }) nowhere refl
 
-frees_linked : (drivers : List DriverSpec) (c : Configuration) (process fd arg : ℕ) (k : LinkKind) → IfAccepted (λ d r. FreesOnly c d nowhere) (link_outcome drivers c process fd arg k)
+frees_linked : (drivers : List DriverSpec) (c : Configuration) (process fd arg : ℕ) (k : LinkKind)
+    → IfAccepted (λ d r. FreesOnly c d nowhere) (link_outcome drivers c process fd arg k)
 frees_linked drivers c process fd arg k = search (after_ok, after_test, at_ok, frees_new_link, rules) depth 24
 
-frees_sent : (drivers : List DriverSpec) (c : Configuration) (p : Place) (addr : ℕ) (bytes : List ℕ) → IfAccepted (λ d r. FreesOnly c d nowhere) (send_outcome drivers c p addr bytes)
-frees_sent drivers c p addr bytes = search (after_test, at_ok, frees_at_arrival drivers c p (record { serial = c.next_serial; addr = addr; bytes = bytes }) (c.next_serial + 1), rules) depth 12
+frees_sent : (drivers : List DriverSpec) (c : Configuration) (p : Place) (addr : ℕ) (bytes : List ℕ)
+    → IfAccepted (λ d r. FreesOnly c d nowhere) (send_outcome drivers c p addr bytes)
+frees_sent drivers c p addr bytes = search (
+  after_test,
+  at_ok,
+  frees_at_arrival drivers c p (record { serial = c.next_serial; addr = addr; bytes = bytes })
+      (c.next_serial + 1),
+  rules,
+) depth 12
 
-frees_received : (drivers : List DriverSpec) (c : Configuration) (p : Place) → IfAccepted (λ d r. FreesOnly c d (same_place p)) (receive_outcome drivers c p)
+frees_received : (drivers : List DriverSpec) (c : Configuration) (p : Place)
+    → IfAccepted (λ d r. FreesOnly c d (same_place p)) (receive_outcome drivers c p)
 frees_received drivers c p = search (after_some, at_ok, frees_at_leaving, rules) depth 12
 
 -- places by the stream that a lookup names, which the rest of the command is about
 at_stream : (c : Configuration) (named : Result StreamId Fault) (t : StreamId → Place → Bool) (f : StreamId → Outcome)
-    → ((s : StreamId) → IfAccepted (λ d r. FreesOnly c d (t s)) (f s)) → IfAccepted (λ d r. FreesOnly c d (of_stream named t)) (named >>= f)
+    → ((s : StreamId) → IfAccepted (λ d r. FreesOnly c d (t s)) (f s))
+    → IfAccepted (λ d r. FreesOnly c d (of_stream named t)) (named >>= f)
 at_stream c (Ok s) t f h = h s
 at_stream c (Err e) t f h = record { holds = tt }
 
-pub frees : (drivers : List DriverSpec) (c : Configuration) (process : ℕ) (k : Command) → IsSwept drivers c → IfAccepted (λ d r. FreesOnly c d (freed_by drivers c process k d)) (outcome drivers c process k)
+-- an accepted command, from a swept configuration, frees no place but those of `freed_by`
+pub frees : (drivers : List DriverSpec) (c : Configuration) (process : ℕ) (k : Command) → IsSwept drivers c
+    → IfAccepted (λ d r. FreesOnly c d (freed_by drivers c process k d)) (outcome drivers c process k)
 frees drivers c process (command.OpenClone name) h = search (after_ok, at_ok, frees_with_fd drivers, rules) depth 20
-frees drivers c process (command.OpenMinor name minor) h = search (after_test, after_ok, at_ok, frees_with_fd drivers, rules) depth 20
+frees drivers c process (command.OpenMinor name minor) h =
+    search (after_test, after_ok, at_ok, frees_with_fd drivers, rules) depth 20
 frees drivers c process (command.Dup fd) h = search (after_ok, at_ok, frees_with_fd drivers, rules) depth 20
 frees drivers c process (command.Close fd) h = search (after_ok, frees_closed, rules) depth 20
 frees drivers c process command.CloseAll h = frees_closed drivers c _
@@ -177,8 +266,17 @@ frees drivers c process (command.Unbind fd) h = search (after_test, after_ok, fr
 frees drivers c process (command.Route fd addr id) h = search (after_test, after_ok, frees_route, rules) depth 20
 frees drivers c process (command.Unroute fd addr) h = search (after_test, after_ok, frees_route, rules) depth 20
 frees drivers c process (command.Write fd addr bytes) h = search (after_ok, frees_sent, rules) depth 20
-frees drivers c process (command.Read fd) h = search (at_stream c (free_stream c process fd) (λ s. same_place (read_side s)), after_choice, at_ok, same_frees, frees_received, rules) depth 20
-frees drivers c process (command.Flush fd w) h = search (at_stream c (live_stream c process fd) (λ s. is_side_of s w), frees_flush, rules) depth 20
+frees drivers c process (command.Read fd) h = search (
+  at_stream c (free_stream c process fd) (λ s. same_place (read_side s)),
+  after_choice,
+  at_ok,
+  same_frees,
+  frees_received,
+  rules,
+) depth 20
+frees drivers c process (command.Flush fd w) h =
+    search (at_stream c (live_stream c process fd) (λ s. is_side_of s w), frees_flush, rules) depth 20
 frees drivers c process (command.Inject name minor addr bytes) h = search (after_ok, frees_sent, rules) depth 20
-frees drivers c process (command.Transmit name minor) h = search (at_stream c (live_leaf drivers c name minor) (λ s. same_place (write_side s)), frees_received, rules) depth 20
+frees drivers c process (command.Transmit name minor) h = search
+    (at_stream c (live_leaf drivers c name minor) (λ s. same_place (write_side s)), frees_received, rules) depth 20
 frees drivers c process (command.Hangup name minor) h = search (after_ok, frees_hangup, leaf_exists, rules) depth 20

@@ -13,7 +13,8 @@ use Rattle.smx_model.specs.Outcomes.{◌>>=◌, refuse}
 use Rattle.smx_model.specs.Settling.{live_write_side}
 
 -- a lookup that is tested names what it named, and that passed the test
-tested : (f : Fault) (r : Result StreamId Fault) (t : StreamId → Bool) (x : StreamId) → (r >>= (λ y. refuse f (t y) >>= (λ _. Ok y))) ≡ Ok x → (r ≡ Ok x) × (t x ≡ false)
+tested : (f : Fault) (r : Result StreamId Fault) (t : StreamId → Bool) (x : StreamId)
+    → (r >>= (λ y. refuse f (t y) >>= (λ _. Ok y))) ≡ Ok x → (r ≡ Ok x) × (t x ≡ false)
 tested f (Err e) t x h = cc
 tested f (Ok y) t x h = by (t y) refl h where
   named : StreamId → Result StreamId Fault
@@ -23,15 +24,21 @@ tested f (Ok y) t x h = by (t y) refl h where
   by true e k = cc
   by false e k = let same : y ≡ x = cc in (k, ap t (sym same) ∙ e)
 
-pub live_is : (c : Configuration) (process fd : ℕ) (s : StreamId) → live_stream c process fd ≡ Ok s → (free_stream c process fd ≡ Ok s) × (is_hung c.hungs s ≡ false)
+-- a descriptor's stream that is looked up as live is found as one not linked below, and has not hung up
+pub live_is : (c : Configuration) (process fd : ℕ) (s : StreamId) → live_stream c process fd ≡ Ok s
+    → (free_stream c process fd ≡ Ok s) × (is_hung c.hungs s ≡ false)
 live_is c process fd s e = tested HungUp (free_stream c process fd) (is_hung c.hungs) s e
 
-pub live_leaf_is : (drivers : List DriverSpec) (c : Configuration) (name : List ℕ) (minor : ℕ) (s : StreamId) → live_leaf drivers c name minor ≡ Ok s → (leaf_stream drivers c name minor ≡ Ok s) × (is_hung c.hungs s ≡ false)
+-- a device's stream that is looked up as live is found as a leaf driver's, and has not hung up
+pub live_leaf_is : (drivers : List DriverSpec) (c : Configuration) (name : List ℕ) (minor : ℕ) (s : StreamId)
+    → live_leaf drivers c name minor ≡ Ok s → (leaf_stream drivers c name minor ≡ Ok s) × (is_hung c.hungs s ≡ false)
 live_leaf_is drivers c name minor s e = tested HungUp (leaf_stream drivers c name minor) (is_hung c.hungs) s e
 
 -- a write side that isn't hung up is that of the stream
-pub live_is_side : (hungs : List StreamId) (s : StreamId) (q : Place) → live_write_side hungs s ≡ Some q → record { stream = s; side = side.Write } ≡ q
+pub live_is_side : (hungs : List StreamId) (s : StreamId) (q : Place) → live_write_side hungs s ≡ Some q
+    → record { stream = s; side = side.Write } ≡ q
 live_is_side hungs s q e = by (is_hung hungs s) refl e where
-  by : (b : Bool) → is_hung hungs s ≡ b → live_write_side hungs s ≡ Some q → record { stream = s; side = side.Write } ≡ q
+  by : (b : Bool) → is_hung hungs s ≡ b → live_write_side hungs s ≡ Some q
+      → record { stream = s; side = side.Write } ≡ q
   by true t k = let z : None ≡ Some q = rw t at k in cc
   by false f k = let z : Some (record { stream = s; side = side.Write }) ≡ Some q = rw f at k in cc

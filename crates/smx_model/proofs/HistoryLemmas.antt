@@ -13,10 +13,12 @@ use Rattle.smx_model.specs.LawfulHistories.{taken_serials, IsLawful, IsLawfulThr
 use Rattle.smx_model.proofs.ConservationLemmas.{conserving}
 use Rattle.smx_model.proofs.KeptLemmas.{always_is_kept}
 
-prefix_from : (drivers : List DriverSpec) (c : Configuration) (xs ys : List Entry) → IsLegalFrom drivers c (xs ++ ys) → IsLegalFrom drivers c xs
+prefix_from : (drivers : List DriverSpec) (c : Configuration) (xs ys : List Entry) → IsLegalFrom drivers c (xs ++ ys)
+    → IsLegalFrom drivers c xs
 prefix_from drivers c [] ys h = tt
 prefix_from drivers c (e ∷ xs) ys h = (h.0, prefix_from drivers (step drivers c e.process e.command).0 xs ys h.1)
 
+-- a beginning of a legal history is legal
 pub prefix_legal : (drivers : List DriverSpec) (xs ys : List Entry) → IsLegal drivers (xs ++ ys) → IsLegal drivers xs
 prefix_legal drivers xs ys h = prefix_from drivers empty xs ys h
 
@@ -52,7 +54,8 @@ entry_of asked reply = record { process = asked.0; command = asked.1; reply = re
 abbrev step_of : List DriverSpec → Configuration → ℕ × Command → Configuration × Reply
 step_of drivers c asked = step drivers c asked.0 asked.1
 
-determined_from : (drivers : List DriverSpec) (c : Configuration) (xs ys : List Entry) → IsLegalFrom drivers c xs → IsLegalFrom drivers c ys → map call_of xs ≡ map call_of ys → xs ≡ ys
+determined_from : (drivers : List DriverSpec) (c : Configuration) (xs ys : List Entry) → IsLegalFrom drivers c xs
+    → IsLegalFrom drivers c ys → map call_of xs ≡ map call_of ys → xs ≡ ys
 determined_from drivers c [] [] h k e = refl
 determined_from drivers c [] (y ∷ ys) h k e = let differ : [] ≡ call_of y ∷ map call_of ys = e in absurd cc
 determined_from drivers c (x ∷ xs) [] h k e = let differ : call_of x ∷ map call_of xs ≡ [] = e in absurd cc
@@ -62,19 +65,31 @@ determined_from drivers c (x ∷ xs) (y ∷ ys) h k e =
     let rest : map call_of xs ≡ map call_of ys = cc in
     let steps = ap (step_of drivers c) asked in
     let reply : x.reply ≡ y.reply = sym h.0 ∙ ap (λ (s : Configuration × Reply). s.1) steps ∙ k.0 in
-    let later = determined_from drivers (step drivers c x.process x.command).0 xs ys h.1 (subst (λ (s : Configuration × Reply). IsLegalFrom drivers s.0 ys) (sym steps) k.1) rest in
+    let later = determined_from drivers (step drivers c x.process x.command).0 xs ys h.1
+    (subst (λ (s : Configuration × Reply). IsLegalFrom drivers s.0 ys) (sym steps) k.1) rest in
     let first : x ≡ y = ap (λ (a : ℕ × Command). entry_of a x.reply) asked ∙ ap (entry_of (call_of y)) reply in
     cc
 
-pub determined : (drivers : List DriverSpec) (xs ys : List Entry) → IsLegal drivers xs → IsLegal drivers ys → map call_of xs ≡ map call_of ys → xs ≡ ys
+-- two legal histories of the same calls in the same order are the same
+pub determined : (drivers : List DriverSpec) (xs ys : List Entry) → IsLegal drivers xs → IsLegal drivers ys
+    → map call_of xs ≡ map call_of ys → xs ≡ ys
 determined drivers xs ys h k e = determined_from drivers empty xs ys h k e
 
 -- numbers from a on differ
 range_apart : (a n : ℕ) → AllPairs (λ x y. x ≢ y) (range_with_len a n)
 range_apart a n i j d lt within e =
     let in_range = length-range_with_len a n in
-    omega (arith, e, in_range, within, lt, get_or-range_with_len a n i d (omega (arith, in_range, within, lt)), get_or-range_with_len a n j d (omega (arith, in_range, within)))
+    omega (
+      arith,
+      e,
+      in_range,
+      within,
+      lt,
+      get_or-range_with_len a n i d (omega (arith, in_range, within, lt)),
+      get_or-range_with_len a n j d (omega (arith, in_range, within)),
+    )
 
+-- a legal history is lawful
 pub lawful : (drivers : List DriverSpec) (history : List Entry) → IsLegal drivers history → IsLawful drivers history
 lawful drivers history legal =
     let sound = (always_is_kept drivers history).sound.links in
@@ -86,5 +101,8 @@ lawful drivers history legal =
       conserved = kept.conserved;
     }
 
-pub lawful_throughout : (drivers : List DriverSpec) (history : List Entry) → IsLegal drivers history → IsLawfulThroughout drivers history
-lawful_throughout drivers history legal xs ys e = lawful drivers xs (prefix_legal drivers xs ys (subst (IsLegal drivers) e legal))
+-- a legal history is lawful after each of its entries
+pub lawful_throughout : (drivers : List DriverSpec) (history : List Entry) → IsLegal drivers history
+    → IsLawfulThroughout drivers history
+lawful_throughout drivers history legal xs ys e =
+    lawful drivers xs (prefix_legal drivers xs ys (subst (IsLegal drivers) e legal))

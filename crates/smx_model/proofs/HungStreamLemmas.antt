@@ -1,5 +1,6 @@
 -- Which streams have hung up after a command.
-use Rattle.std.proofs.Common.{◌≡◌, ℕ, Bool, true, false, List, [], filter, Option, Some, None, Result, Ok, Err, refl, rules, sym, ap, ◌∙◌, subst, inl, inr, ◌*◌, length}
+use Rattle.std.proofs.Common.{◌≡◌, ℕ, Bool, true, false, List, [], filter, Option, Some, None, Result, Ok, Err, refl}
+use Rattle.std.proofs.Common.{rules, sym, ap, ◌∙◌, subst, inl, inr, ◌*◌, length}
 use mathlib.Core.Logic.{◌⊎◌}
 use Rattle.std.specs.Option.{is_some}
 use Rattle.std.specs.List.{list_any}
@@ -16,7 +17,8 @@ use Rattle.smx_types.specs.declared.reply.Fault.{Fault}
 use Rattle.smx_types.specs.declared.reply.Reply.TheVariants as reply
 use Rattle.smx_types.specs.declared.stream.Place.{Place}
 use Rattle.smx_types.specs.declared.stream.StreamId.{StreamId}
-use Rattle.smx_model.specs.Commands.{outcome, step, after_outcome, done_outcome, link_outcome, unlink_outcome, send_outcome, receive_outcome}
+use Rattle.smx_model.specs.Commands.{outcome, step, after_outcome, done_outcome, link_outcome, unlink_outcome}
+use Rattle.smx_model.specs.Commands.{send_outcome, receive_outcome}
 use Rattle.smx_model.specs.Configuration.{Configuration, same_stream, stream_before}
 use Rattle.smx_model.specs.Hangups.{is_hung, with_hung}
 use Rattle.smx_model.specs.KeptConfigurations.{IsKept}
@@ -50,25 +52,33 @@ record LeavesHungs (drivers : List DriverSpec) (c d : Configuration) : Type 0 wh
 hungs_same : (drivers : List DriverSpec) (c d : Configuration) → d.hungs ≡ c.hungs → LeavesHungs drivers c d
 hungs_same drivers c d e = record { either = inl e }
 
-hungs_done : (drivers : List DriverSpec) (c d : Configuration) → d.hungs ≡ c.hungs → IfAccepted (λ d r. LeavesHungs drivers c d) (done_outcome drivers c d)
-hungs_done drivers c d e = record { holds = record { either = inr (ap (filter (λ s. exists drivers (without_links d _) s)) e) } }
+hungs_done : (drivers : List DriverSpec) (c d : Configuration) → d.hungs ≡ c.hungs
+    → IfAccepted (λ d r. LeavesHungs drivers c d) (done_outcome drivers c d)
+hungs_done drivers c d e =
+    record { holds = record { either = inr (ap (filter (λ s. exists drivers (without_links d _) s)) e) } }
 
-hungs_unlinked : (drivers : List DriverSpec) (c : Configuration) (w : Which) (mine : Link → Bool) → IfAccepted (λ d r. LeavesHungs drivers c d) (unlink_outcome drivers c w mine)
+hungs_unlinked : (drivers : List DriverSpec) (c : Configuration) (w : Which) (mine : Link → Bool)
+    → IfAccepted (λ d r. LeavesHungs drivers c d) (unlink_outcome drivers c w mine)
 hungs_unlinked drivers c which.All mine = hungs_done drivers c (without_links c mine) refl
 hungs_unlinked drivers c (which.Id id) mine = search (after_test, hungs_done, rules) depth 12
 
-hungs_linked : (drivers : List DriverSpec) (c : Configuration) (process fd arg : ℕ) (k : LinkKind) → IfAccepted (λ d r. LeavesHungs drivers c d) (link_outcome drivers c process fd arg k)
+hungs_linked : (drivers : List DriverSpec) (c : Configuration) (process fd arg : ℕ) (k : LinkKind)
+    → IfAccepted (λ d r. LeavesHungs drivers c d) (link_outcome drivers c process fd arg k)
 hungs_linked drivers c process fd arg k = search (after_test, after_ok, at_ok, hungs_same, rules) depth 24
 
-hungs_sent : (drivers : List DriverSpec) (c : Configuration) (p : Place) (addr : ℕ) (bytes : List ℕ) → IfAccepted (λ d r. LeavesHungs drivers c d) (send_outcome drivers c p addr bytes)
+hungs_sent : (drivers : List DriverSpec) (c : Configuration) (p : Place) (addr : ℕ) (bytes : List ℕ)
+    → IfAccepted (λ d r. LeavesHungs drivers c d) (send_outcome drivers c p addr bytes)
 hungs_sent drivers c p addr bytes = search (after_test, at_ok, hungs_same, rules) depth 12
 
-hungs_received : (drivers : List DriverSpec) (c : Configuration) (p : Place) → IfAccepted (λ d r. LeavesHungs drivers c d) (receive_outcome drivers c p)
+hungs_received : (drivers : List DriverSpec) (c : Configuration) (p : Place)
+    → IfAccepted (λ d r. LeavesHungs drivers c d) (receive_outcome drivers c p)
 hungs_received drivers c p = search (after_some, at_ok, hungs_same, rules) depth 12
 
-hungs_accepted : (drivers : List DriverSpec) (c : Configuration) (process : ℕ) (k : Command) → is_hangup k ≡ false → IfAccepted (λ d r. LeavesHungs drivers c d) (outcome drivers c process k)
+hungs_accepted : (drivers : List DriverSpec) (c : Configuration) (process : ℕ) (k : Command) → is_hangup k ≡ false
+    → IfAccepted (λ d r. LeavesHungs drivers c d) (outcome drivers c process k)
 hungs_accepted drivers c process (command.OpenClone name) other = search (after_ok, at_ok, hungs_same, rules) depth 20
-hungs_accepted drivers c process (command.OpenMinor name minor) other = search (after_test, after_ok, at_ok, hungs_same, rules) depth 20
+hungs_accepted drivers c process (command.OpenMinor name minor) other =
+    search (after_test, after_ok, at_ok, hungs_same, rules) depth 20
 hungs_accepted drivers c process (command.Dup fd) other = search (after_ok, at_ok, hungs_same, rules) depth 20
 hungs_accepted drivers c process (command.Close fd) other = search (after_ok, hungs_done, rules) depth 20
 hungs_accepted drivers c process command.CloseAll other = search (hungs_done, rules) depth 20
@@ -76,14 +86,19 @@ hungs_accepted drivers c process (command.Link fd arg) other = search (hungs_lin
 hungs_accepted drivers c process (command.Plink fd arg) other = search (hungs_linked, rules) depth 20
 hungs_accepted drivers c process (command.Unlink fd w) other = search (after_ok, hungs_unlinked, rules) depth 20
 hungs_accepted drivers c process (command.Punlink fd w) other = search (after_ok, hungs_unlinked, rules) depth 20
-hungs_accepted drivers c process (command.Bind fd addr) other = search (after_test, after_ok, hungs_done, rules) depth 20
+hungs_accepted drivers c process (command.Bind fd addr) other =
+    search (after_test, after_ok, hungs_done, rules) depth 20
 hungs_accepted drivers c process (command.Unbind fd) other = search (after_test, after_ok, hungs_done, rules) depth 20
-hungs_accepted drivers c process (command.Route fd addr id) other = search (after_test, after_ok, hungs_done, rules) depth 20
-hungs_accepted drivers c process (command.Unroute fd addr) other = search (after_test, after_ok, hungs_done, rules) depth 20
+hungs_accepted drivers c process (command.Route fd addr id) other =
+    search (after_test, after_ok, hungs_done, rules) depth 20
+hungs_accepted drivers c process (command.Unroute fd addr) other =
+    search (after_test, after_ok, hungs_done, rules) depth 20
 hungs_accepted drivers c process (command.Write fd addr bytes) other = search (after_ok, hungs_sent, rules) depth 20
-hungs_accepted drivers c process (command.Read fd) other = search (after_ok, after_choice, at_ok, hungs_same, hungs_received, rules) depth 20
+hungs_accepted drivers c process (command.Read fd) other =
+    search (after_ok, after_choice, at_ok, hungs_same, hungs_received, rules) depth 20
 hungs_accepted drivers c process (command.Flush fd w) other = search (after_ok, hungs_done, rules) depth 20
-hungs_accepted drivers c process (command.Inject name minor addr bytes) other = search (after_ok, hungs_sent, rules) depth 20
+hungs_accepted drivers c process (command.Inject name minor addr bytes) other =
+    search (after_ok, hungs_sent, rules) depth 20
 hungs_accepted drivers c process (command.Transmit name minor) other = search (after_ok, hungs_received, rules) depth 20
 hungs_accepted drivers c process (command.Hangup name minor) other = absurd (false≢true (sym other))
 
@@ -91,48 +106,70 @@ hungs_accepted drivers c process (command.Hangup name minor) other = absurd (fal
 abbrev existing : List DriverSpec → Configuration → List StreamId → List StreamId
 existing drivers d hungs = filter (λ s. exists drivers d s) hungs
 
-hungs_finished : (drivers : List DriverSpec) (c : Configuration) (o : Outcome) → IsSwept drivers c → IfAccepted (λ d r. IsSwept drivers d) o → IfAccepted (λ d r. LeavesHungs drivers c d) o → (after_outcome drivers c o).0.hungs ≡ existing drivers (after_outcome drivers c o).0 c.hungs
+hungs_finished : (drivers : List DriverSpec) (c : Configuration) (o : Outcome) → IsSwept drivers c
+    → IfAccepted (λ d r. IsSwept drivers d) o → IfAccepted (λ d r. LeavesHungs drivers c d) o
+    → (after_outcome drivers c o).0.hungs ≡ existing drivers (after_outcome drivers c o).0 c.hungs
 hungs_finished drivers c (Err f) h swept_ m = sym (keep_all (λ s. exists drivers c s) c.hungs h.hungs)
-hungs_finished drivers c (Ok x) h swept_ m = let s = settled_alone drivers (length x.0.flow * length drivers) x.0 in rw (s.hungs, s.fds, s.links) (by m.holds.either) where
-  by : (x.0.hungs ≡ c.hungs) ⊎ (x.0.hungs ≡ existing drivers x.0 c.hungs) → x.0.hungs ≡ existing drivers x.0 c.hungs
-  by (inr e) = e
-  by (inl e) = sym (keep_all (λ s. exists drivers x.0 s) x.0.hungs swept_.holds.hungs) ∙ ap (existing drivers x.0) e
+hungs_finished drivers c (Ok x) h swept_ m = let s = settled_alone drivers (length x.0.flow * length drivers) x.0 in
+    rw (s.hungs, s.fds, s.links) (by m.holds.either) where
+      by : (x.0.hungs ≡ c.hungs) ⊎ (x.0.hungs ≡ existing drivers x.0 c.hungs) → x.0.hungs ≡ existing drivers x.0 c.hungs
+      by (inr e) = e
+      by (inl e) = sym (keep_all (λ s. exists drivers x.0 s) x.0.hungs swept_.holds.hungs) ∙ ap (existing drivers x.0) e
 
-pub others_leave_hungs : (drivers : List DriverSpec) (c : Configuration) (process : ℕ) (k : Command) → IsSwept drivers c → is_hangup k ≡ false → (step drivers c process k).0.hungs ≡ filter (λ s. exists drivers (step drivers c process k).0 s) c.hungs
-others_leave_hungs drivers c process k h other = hungs_finished drivers c (outcome drivers c process k) h (swept_accepted drivers c process k h) (hungs_accepted drivers c process k other)
+-- after a command that is no hangup the same streams have hung up, but for those that don't exist
+pub others_leave_hungs : (drivers : List DriverSpec) (c : Configuration) (process : ℕ) (k : Command) → IsSwept drivers c
+    → is_hangup k ≡ false → (step drivers c process k).0.hungs
+    ≡ filter (λ s. exists drivers (step drivers c process k).0 s) c.hungs
+others_leave_hungs drivers c process k h other = hungs_finished drivers c (outcome drivers c process k) h
+    (swept_accepted drivers c process k h) (hungs_accepted drivers c process k other)
 
 -- a hangup moves nothing
 
-stays_stuck : (c d : Configuration) (o n : Option Place) → Stays o n → d.fulls ≡ c.fulls → is_some (if_open c o) ≡ false → is_some (if_open d n) ≡ false
+stays_stuck : (c d : Configuration) (o n : Option Place) → Stays o n → d.fulls ≡ c.fulls → is_some (if_open c o) ≡ false
+    → is_some (if_open d n) ≡ false
 stays_stuck c d o n (inr e) f h = rw e refl
 stays_stuck c d None n (inl e) f h = rw e refl
 stays_stuck c d (Some q) n (inl e) f h = rw (e, f) h
 
-hung_settled : (drivers : List DriverSpec) (c : Configuration) (s : StreamId) → IsSettled drivers c → IsSettled drivers (record c { hungs = with_hung s c.hungs })
+hung_settled : (drivers : List DriverSpec) (c : Configuration) (s : StreamId) → IsSettled drivers c
+    → IsSettled drivers (record c { hungs = with_hung s c.hungs })
 hung_settled drivers c s h p = let d = record c { hungs = with_hung s c.hungs } in
-    movable_by drivers d p ∙ stays_stuck c d (next_of_first drivers c p) (next_of_first drivers d p) (more_hung_turn_none drivers c s p refl) refl (sym (movable_by drivers c p) ∙ h p)
+    movable_by drivers d p ∙ stays_stuck c d (next_of_first drivers c p) (next_of_first drivers d p)
+    (more_hung_turn_none drivers c s p refl) refl (sym (movable_by drivers c p) ∙ h p)
 
-pub hangup_is : (drivers : List DriverSpec) (c : Configuration) (process : ℕ) (name : List ℕ) (minor : ℕ) (s : StreamId) → IsKept drivers c → leaf_stream drivers c name minor ≡ Ok s
+-- a hangup of a device's stream adds it to the hung-up ones, drops no message and moves none
+pub hangup_is : (drivers : List DriverSpec) (c : Configuration) (process : ℕ) (name : List ℕ) (minor : ℕ) (s : StreamId)
+    → IsKept drivers c → leaf_stream drivers c name minor ≡ Ok s
     → step drivers c process (command.Hangup name minor) ≡ (record c { hungs = with_hung s c.hungs }, reply.Done [])
 hangup_is drivers c process name minor s h e =
-    ap (λ (r : Result StreamId Fault). after_outcome drivers c (r >>= (λ s. done_outcome drivers c (record c { hungs = with_hung s c.hungs })))) e
-    ∙ (ap (after_outcome drivers c) (done_idle drivers c hung (hung_swept drivers c s h.sound.swept (leaf_exists drivers c name minor s e)) refl)
-    ∙ ap (λ (d : Configuration). (d, reply.Done [])) (settling_stays drivers _ hung (none_is_least drivers hung h.sound.ordered.flow (hung_settled drivers c s h.settled)))) where
+    ap (λ (r : Result StreamId Fault). after_outcome drivers c
+    (r >>= (λ s. done_outcome drivers c (record c { hungs = with_hung s c.hungs })))) e
+    ∙ (ap (after_outcome drivers c)
+    (done_idle drivers c hung (hung_swept drivers c s h.sound.swept (leaf_exists drivers c name minor s e)) refl)
+    ∙ ap (λ (d : Configuration). (d, reply.Done []))
+    (settling_stays drivers _ hung
+    (none_is_least drivers hung h.sound.ordered.flow (hung_settled drivers c s h.settled)))) where
       hung : Configuration
       hung = record c { hungs = with_hung s c.hungs }
 
 -- so a stream that has hung up stays so, and one that is opened anew hasn't
 
-pub hung_kept : (drivers : List DriverSpec) (c : Configuration) (s : StreamId) → is_hung c.hungs s ≡ true → (record c { hungs = with_hung s c.hungs }) ≡ c
+-- to hang up a stream that has hung up changes nothing
+pub hung_kept : (drivers : List DriverSpec) (c : Configuration) (s : StreamId) → is_hung c.hungs s ≡ true
+    → (record c { hungs = with_hung s c.hungs }) ≡ c
 hung_kept drivers c s h = rw h refl
 
 -- what is hung up, of a list that is filtered
-hung_filter : (hungs : List StreamId) (keep : StreamId → Bool) (s : StreamId) → keep s ≡ true → is_hung (filter keep hungs) s ≡ is_hung hungs s
+hung_filter : (hungs : List StreamId) (keep : StreamId → Bool) (s : StreamId) → keep s ≡ true
+    → is_hung (filter keep hungs) s ≡ is_hung hungs s
 hung_filter hungs keep s k = any_filter (λ t. same_stream t s) keep hungs (λ t e. ap keep (same_stream_is t s e) ∙ k)
 
-pub hangup_again : (drivers : List DriverSpec) (c : Configuration) (process : ℕ) (name : List ℕ) (minor : ℕ) (s : StreamId) → IsKept drivers c → leaf_stream drivers c name minor ≡ Ok s → is_hung c.hungs s ≡ true
+-- a second hangup of a device's stream is accepted, drops nothing and changes nothing
+pub hangup_again : (drivers : List DriverSpec) (c : Configuration) (process : ℕ) (name : List ℕ) (minor : ℕ)
+    (s : StreamId) → IsKept drivers c → leaf_stream drivers c name minor ≡ Ok s → is_hung c.hungs s ≡ true
     → step drivers c process (command.Hangup name minor) ≡ (c, reply.Done [])
-hangup_again drivers c process name minor s h e again = hangup_is drivers c process name minor s h e ∙ ap (λ (d : Configuration). (d, reply.Done [])) (hung_kept drivers c s again)
+hangup_again drivers c process name minor s h e again = hangup_is drivers c process name minor s h e
+    ∙ ap (λ (d : Configuration). (d, reply.Done [])) (hung_kept drivers c s again)
 
 -- a hangup is that of a driver and a minor
 record IsHangup (k : Command) : Type 0 where
@@ -165,48 +202,86 @@ hangup_of (command.Hangup name minor) h = record { name = name; minor = minor; i
 record HangsUp (drivers : List DriverSpec) (c d : Configuration) : Type 0 where
   either : (d.hungs ≡ c.hungs) ⊎ ((s : StreamId) × (exists drivers c s ≡ true) × (d.hungs ≡ with_hung s c.hungs))
 
-hangs : (drivers : List DriverSpec) (c : Configuration) (process : ℕ) (name : List ℕ) (minor : ℕ) → IsKept drivers c → HangsUp drivers c (step drivers c process (command.Hangup name minor)).0
+hangs : (drivers : List DriverSpec) (c : Configuration) (process : ℕ) (name : List ℕ) (minor : ℕ) → IsKept drivers c
+    → HangsUp drivers c (step drivers c process (command.Hangup name minor)).0
 hangs drivers c process name minor h = by (leaf_stream drivers c name minor) refl where
-  by : (r : Result StreamId Fault) → leaf_stream drivers c name minor ≡ r → HangsUp drivers c (step drivers c process (command.Hangup name minor)).0
-  by (Ok s) e = record { either = inr (s, leaf_exists drivers c name minor s e, ap (λ (x : Configuration × Reply). x.0.hungs) (hangup_is drivers c process name minor s h e)) }
-  by (Err f) e = record { either = inl (ap (λ (r : Result StreamId Fault). (after_outcome drivers c (r >>= (λ s. done_outcome drivers c (record c { hungs = with_hung s c.hungs })))).0.hungs) e) }
+  by : (r : Result StreamId Fault) → leaf_stream drivers c name minor ≡ r
+      → HangsUp drivers c (step drivers c process (command.Hangup name minor)).0
+  by (Ok s) e =
+      record {
+        either = inr (
+          s,
+          leaf_exists drivers c name minor s e,
+          ap (λ (x : Configuration × Reply). x.0.hungs) (hangup_is drivers c process name minor s h e),
+        );
+      }
+  by (Err f) e =
+      record {
+        either = inl
+            (ap (λ (r : Result StreamId Fault).
+            (after_outcome drivers c
+            (r >>= (λ s. done_outcome drivers c (record c { hungs = with_hung s c.hungs })))).0.hungs) e);
+      }
 
-pub hung_stays : (drivers : List DriverSpec) (c : Configuration) (process : ℕ) (k : Command) (s : StreamId) → IsKept drivers c → is_hung c.hungs s ≡ true → exists drivers (step drivers c process k).0 s ≡ true → is_hung (step drivers c process k).0.hungs s ≡ true
+-- a stream that has hung up, and exists after a command, has still hung up after it
+pub hung_stays : (drivers : List DriverSpec) (c : Configuration) (process : ℕ) (k : Command) (s : StreamId)
+    → IsKept drivers c → is_hung c.hungs s ≡ true → exists drivers (step drivers c process k).0 s ≡ true
+    → is_hung (step drivers c process k).0.hungs s ≡ true
 hung_stays drivers c process k s h was there = elim (cases_Bool (is_hangup k)) [
-  | inr other ↦ ap (λ (hs : List StreamId). is_hung hs s) (others_leave_hungs drivers c process k h.sound.swept other) ∙ (hung_filter c.hungs (λ t. exists drivers (step drivers c process k).0 t) s there ∙ was)
-  | inl hangs_up ↦ let w = hangup_of k hangs_up in subst (λ (x : Command). is_hung (step drivers c process x).0.hungs s ≡ true) (sym w.is) (more w.name w.minor)
+  | inr other ↦ ap (λ (hs : List StreamId). is_hung hs s) (others_leave_hungs drivers c process k h.sound.swept other)
+      ∙ (hung_filter c.hungs (λ t. exists drivers (step drivers c process k).0 t) s there ∙ was)
+  | inl hangs_up ↦ let w = hangup_of k hangs_up in
+      subst (λ (x : Command). is_hung (step drivers c process x).0.hungs s ≡ true) (sym w.is) (more w.name w.minor)
 ] where
-  by : (d : Configuration) → (d.hungs ≡ c.hungs) ⊎ ((t : StreamId) × (exists drivers c t ≡ true) × (d.hungs ≡ with_hung t c.hungs)) → is_hung d.hungs s ≡ true
+  by : (d : Configuration) → (d.hungs ≡ c.hungs)
+      ⊎ ((t : StreamId) × (exists drivers c t ≡ true) × (d.hungs ≡ with_hung t c.hungs)) → is_hung d.hungs s ≡ true
   by d (inl e) = rw e was
   by d (inr (t, x, e)) = rw e (hung_more t s c.hungs was)
 
   more : (name : List ℕ) (minor : ℕ) → is_hung (step drivers c process (command.Hangup name minor)).0.hungs s ≡ true
-  more name minor = by (step drivers c process (command.Hangup name minor)).0 (hangs drivers c process name minor h).either
+  more name minor =
+      by (step drivers c process (command.Hangup name minor)).0 (hangs drivers c process name minor h).either
 
-hung_exists : (drivers : List DriverSpec) (c : Configuration) (s : StreamId) → IsSwept drivers c → is_hung c.hungs s ≡ true → exists drivers c s ≡ true
+hung_exists : (drivers : List DriverSpec) (c : Configuration) (s : StreamId) → IsSwept drivers c
+    → is_hung c.hungs s ≡ true → exists drivers c s ≡ true
 hung_exists drivers c s h e =
-    let f = any_found (λ t. same_stream t s) (λ t. exists drivers c t ≡ true) c.hungs (each_of_list_all (λ t. exists drivers c t) (λ t. exists drivers c t ≡ true) c.hungs (λ t p. p) h.hungs) e in
+    let f = any_found (λ t. same_stream t s) (λ t. exists drivers c t ≡ true) c.hungs
+    (each_of_list_all (λ t. exists drivers c t) (λ t. exists drivers c t ≡ true) c.hungs (λ t p. p) h.hungs) e in
     subst (λ (x : StreamId). exists drivers c x ≡ true) (same_stream_is f.one s f.passes) f.has
 
 -- what has hung up had before, or is the one
-hung_before : (t s : StreamId) (hungs : List StreamId) → is_hung (with_hung t hungs) s ≡ true → (is_hung hungs s ≡ true) ⊎ (same_stream t s ≡ true)
+hung_before : (t s : StreamId) (hungs : List StreamId) → is_hung (with_hung t hungs) s ≡ true
+    → (is_hung hungs s ≡ true) ⊎ (same_stream t s ≡ true)
 hung_before t s hungs h = elim (cases_Bool (is_hung hungs t)) [
   | inl y ↦ inl (rw y at h)
   | inr n ↦ let k : list_any (λ u. same_stream u s) (with_inserted stream_before hungs t) ≡ true = rw n at h in
-      elim (or_cases (same_stream t s) (is_hung hungs s) (sym (any_of_placed (λ u. same_stream u s) stream_before hungs t) ∙ k)) [ inl a ↦ inr a | inr b ↦ inl b ]
+      elim (or_cases (same_stream t s) (is_hung hungs s)
+      (sym (any_of_placed (λ u. same_stream u s) stream_before hungs t) ∙ k)) [ inl a ↦ inr a | inr b ↦ inl b ]
 ]
 
-pub hung_anew : (drivers : List DriverSpec) (c : Configuration) (process : ℕ) (k : Command) (s : StreamId) → IsKept drivers c → exists drivers c s ≡ false → is_hung (step drivers c process k).0.hungs s ≡ false
-hung_anew drivers c process k s h gone = false_from_ne_true _ (λ now. both_ways (exists drivers c s) gone (elim (cases_Bool (is_hangup k)) [
-  | inr other ↦ hung_exists drivers c s h.sound.swept (any_filtered (λ t. same_stream t s) (λ t. exists drivers (step drivers c process k).0 t) c.hungs (sym (ap (λ (hs : List StreamId). is_hung hs s) (others_leave_hungs drivers c process k h.sound.swept other)) ∙ now))
-  | inl hangs_up ↦ let w = hangup_of k hangs_up in there w.name w.minor (subst (λ (x : Command). is_hung (step drivers c process x).0.hungs s ≡ true) w.is now)
-])) where
-  by : (d : Configuration) → (d.hungs ≡ c.hungs) ⊎ ((t : StreamId) × (exists drivers c t ≡ true) × (d.hungs ≡ with_hung t c.hungs)) → is_hung d.hungs s ≡ true → exists drivers c s ≡ true
-  by d (inl e) now = hung_exists drivers c s h.sound.swept (rw e at now)
-  by d (inr (t, x, e)) now = elim (hung_before t s c.hungs (rw e at now)) [
-    | inl was ↦ hung_exists drivers c s h.sound.swept was
-    | inr same ↦ subst (λ (y : StreamId). exists drivers c y ≡ true) (same_stream_is t s same) x
-  ]
+-- a stream that didn't exist before a command has not hung up after it
+pub hung_anew : (drivers : List DriverSpec) (c : Configuration) (process : ℕ) (k : Command) (s : StreamId)
+    → IsKept drivers c → exists drivers c s ≡ false → is_hung (step drivers c process k).0.hungs s ≡ false
+hung_anew drivers c process k s h gone =
+    false_from_ne_true _ (λ now. both_ways (exists drivers c s) gone (elim (cases_Bool (is_hangup k)) [
+      | inr other ↦ hung_exists drivers c s h.sound.swept
+          (any_filtered (λ t. same_stream t s) (λ t. exists drivers (step drivers c process k).0 t) c.hungs
+          (sym (ap (λ (hs : List StreamId). is_hung hs s) (others_leave_hungs drivers c process k h.sound.swept other))
+          ∙ now))
+      | inl hangs_up ↦ let w = hangup_of k hangs_up in
+          there w.name w.minor (subst (λ (x : Command). is_hung (step drivers c process x).0.hungs s ≡ true) w.is now)
+    ])) where
+      by : (d : Configuration) → (d.hungs ≡ c.hungs)
+          ⊎ ((t : StreamId) × (exists drivers c t ≡ true) × (d.hungs ≡ with_hung t c.hungs)) → is_hung d.hungs s ≡ true
+          → exists drivers c s ≡ true
+      by d (inl e) now = hung_exists drivers c s h.sound.swept (rw e at now)
+      by d (inr (t, x, e)) now = elim (hung_before t s c.hungs (rw e at now)) [
+        | inl was ↦ hung_exists drivers c s h.sound.swept was
+        | inr same ↦ subst (λ (y : StreamId). exists drivers c y ≡ true) (same_stream_is t s same) x
+      ]
 
-  there : (name : List ℕ) (minor : ℕ) → is_hung (step drivers c process (command.Hangup name minor)).0.hungs s ≡ true → exists drivers c s ≡ true
-  there name minor now = by (step drivers c process (command.Hangup name minor)).0 (hangs drivers c process name minor h).either now
+      there : (name : List ℕ) (minor : ℕ) → is_hung (step drivers c process (command.Hangup name minor)).0.hungs s
+          ≡ true
+          → exists drivers c s ≡ true
+      there name minor now =
+          by (step drivers c process (command.Hangup name minor)).0 (hangs drivers c process name minor h).either now

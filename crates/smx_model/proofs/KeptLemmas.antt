@@ -1,5 +1,6 @@
 -- What every configuration is, is kept by each command.
-use Rattle.std.proofs.Common.{◌≡◌, ◌↔◌, ℕ, zero, suc, ◌+◌, ◌*◌, ◌<◌, Some, None, Ok, Err, true, ◌≤◌, ltb, List, [], ◌∷◌, length, get_or, refl, sym, ◌∙◌, subst, arith, inl, inr}
+use Rattle.std.proofs.Common.{◌≡◌, ◌↔◌, ℕ, zero, suc, ◌+◌, ◌*◌, ◌<◌, Some, None, Ok, Err, true, ◌≤◌, ltb, List, [], ◌∷◌}
+use Rattle.std.proofs.Common.{length, get_or, refl, sym, ◌∙◌, subst, arith, inl, inr}
 use Rattle.std.specs.Prelude.{IfOk}
 use Rattle.std.specs.List.{All, AllPairs}
 use Rattle.std.proofs.lemmas.Bool.{cases_eq, cases_lt, eq-eqb, ltb-true, ne_eqb}
@@ -22,13 +23,15 @@ use Rattle.smx_model.specs.SoundLinks.{AreIdsRising, AreRoutesSound, AreLinksSou
 use Rattle.smx_model.specs.Standing.{exists, Stands}
 use Rattle.smx_model.specs.Swept.{IsSwept}
 use Rattle.smx_model.specs.Views.{view}
-use Rattle.smx_model.proofs.ConservationLemmas.{IsNumbered, Goes, goes_accepted, moved_same, moved_next, numbered_empty, numbered_goes}
+use Rattle.smx_model.proofs.ConservationLemmas.{IsNumbered, Goes, goes_accepted, moved_same, moved_next, numbered_empty}
+use Rattle.smx_model.proofs.ConservationLemmas.{numbered_goes}
 use Rattle.smx_model.proofs.CountLemmas.{times}
 use Rattle.smx_model.proofs.FlowLemmas.{order_accepted, order_moved}
 use Rattle.smx_model.proofs.OutcomeLemmas.{IfAccepted}
 use Rattle.smx_model.proofs.RangeLemmas.{AreNamed, named_accepted, named_moved}
 use Rattle.smx_model.proofs.RisingLemmas.{AreRising, rising_accepted, rising_empty, rising_moved}
-use Rattle.smx_model.proofs.RouteLemmas.{AreRouted, Rising, rising_ids, routed_accepted, routed_empty, routed_moved, sound_routes}
+use Rattle.smx_model.proofs.RouteLemmas.{AreRouted, Rising, rising_ids, routed_accepted, routed_empty, routed_moved}
+use Rattle.smx_model.proofs.RouteLemmas.{sound_routes}
 use Rattle.smx_model.proofs.SettlingLemmas.{settled_is}
 use Rattle.smx_model.proofs.SoundLemmas.{sound_accepted, sound_empty, sound_moved}
 use Rattle.smx_model.proofs.SweptLemmas.{stands_exists, swept_accepted, swept_moved}
@@ -53,7 +56,8 @@ at_some : (n : ℕ) (xs : List ℕ) → 1 ≤ times n xs → IsAt n xs
 at_some n [] h = absurd (omega arith)
 at_some n (x ∷ xs) h = elim (cases_eq x n) [
   | inl e ↦ record { index = 0; within = omega arith; is = λ d. e }
-  | inr ne ↦ let r = at_some n xs (omega (arith, rw (ne_eqb x n ne) at h)) in record { index = suc r.index; within = omega (arith, r.within); is = r.is }
+  | inr ne ↦ let r = at_some n xs (omega (arith, rw (ne_eqb x n ne) at h)) in
+      record { index = suc r.index; within = omega (arith, r.within); is = r.is }
 ]
 
 -- none is there twice where they differ
@@ -67,7 +71,8 @@ once_apart (x ∷ xs) h zero (suc j) d lt within e =
     let there : 1 ≤ times x xs = subst (λ (y : ℕ). 1 ≤ times y xs) (sym e) (times_at xs j d (omega (arith, within))) in
     omega (arith, k2, there)
 once_apart (x ∷ xs) h (suc i) zero d lt within e = absurd (omega (arith, lt))
-once_apart (x ∷ xs) h (suc i) (suc j) d lt within e = once_apart xs (λ n. omega (arith, h n)) i j d (omega (arith, lt)) (omega (arith, within)) e
+once_apart (x ∷ xs) h (suc i) (suc j) d lt within e =
+    once_apart xs (λ n. omega (arith, h n)) i j d (omega (arith, lt)) (omega (arith, within)) e
 
 apart_once : (xs : List ℕ) → AllPairs (λ m n. m ≡ n → ⊥) xs → (n : ℕ) → times n xs ≤ 1
 apart_once [] h n = omega arith
@@ -75,7 +80,8 @@ apart_once (x ∷ xs) h n =
     let rest = apart_once xs (λ i j d lt within. h (suc i) (suc j) d (omega (arith, lt)) (omega (arith, within))) n in
     elim (cases_eq x n) [
       | inl e ↦ elim (cases_lt 0 (times n xs)) [
-        | inl some ↦ let r = at_some n xs (omega (arith, some)) in absurd (h 0 (suc r.index) 0 (omega arith) (omega (arith, r.within)) (e ∙ sym (r.is 0)))
+        | inl some ↦ let r = at_some n xs (omega (arith, some)) in
+            absurd (h 0 (suc r.index) 0 (omega arith) (omega (arith, r.within)) (e ∙ sym (r.is 0)))
         | inr none ↦ rw (eq-eqb x n e) (omega (arith, none))
       ]
       | inr ne ↦ rw (ne_eqb x n ne) (omega (arith, rest))
@@ -83,20 +89,27 @@ apart_once (x ∷ xs) h n =
 
 none_from : (xs : List ℕ) (next : ℕ) → All (λ n. n < next) xs → (n : ℕ) → next ≤ n → times n xs ≡ 0
 none_from [] next h n le = refl
-none_from (x ∷ xs) next h n le = rw (ne_eqb x n (λ e. omega (arith, e, le, h 0 0 (omega arith)))) (omega (arith, none_from xs next (λ k d lt. h (suc k) d (omega (arith, lt))) n le))
+none_from (x ∷ xs) next h n le = rw (ne_eqb x n (λ e. omega (arith, e, le, h 0 0 (omega arith))))
+    (omega (arith, none_from xs next (λ k d lt. h (suc k) d (omega (arith, lt))) n le))
 
 all_below : (xs : List ℕ) (next : ℕ) → ((n : ℕ) → next ≤ n → times n xs ≡ 0) → All (λ n. n < next) xs
-all_below xs next h k d lt = elim (cases_lt (get_or xs k d) next) [ inl below ↦ below | inr le ↦ absurd (omega (arith, h (get_or xs k d) le, times_at xs k d lt)) ]
+all_below xs next h k d lt = elim (cases_lt (get_or xs k d) next)
+    [ inl below ↦ below | inr le ↦ absurd (omega (arith, h (get_or xs k d) le, times_at xs k d lt)) ]
 
 -- from what the laws say to what the lemmas take, and back
 
 named_of : (drivers : List DriverSpec) (c : Configuration) → AreStreamsKnown drivers c → AreNamed drivers c
-named_of drivers c h = record { fds = each_of_all _ c.fds h.fds; links = both c.links (each_of_all _ c.links h.controlling) (each_of_all _ c.links h.lowers) } where
-  both : (ls : List Link) → Each (λ l. IsKnown drivers l.ctl) ls → Each (λ l. IsKnown drivers l.lower) ls → Each (λ l. IsKnown drivers l.ctl × IsKnown drivers l.lower) ls
+named_of drivers c h = record {
+  fds = each_of_all _ c.fds h.fds;
+  links = both c.links (each_of_all _ c.links h.controlling) (each_of_all _ c.links h.lowers);
+} where
+  both : (ls : List Link) → Each (λ l. IsKnown drivers l.ctl) ls → Each (λ l. IsKnown drivers l.lower) ls
+      → Each (λ l. IsKnown drivers l.ctl × IsKnown drivers l.lower) ls
   both [] h k = tt
   both (l ∷ ls) h k = ((h.0, k.0), both ls h.1 k.1)
 
-routed_of : (drivers : List DriverSpec) (c : Configuration) → AreIdsRising c.links c.next_id → AreRoutesSound drivers c → AreRouted drivers c
+routed_of : (drivers : List DriverSpec) (c : Configuration) → AreIdsRising c.links c.next_id → AreRoutesSound drivers c
+    → AreRouted drivers c
 routed_of drivers c h k = record {
   rise = rises c.links h.rise;
   ids = both c.links (each_of_all _ c.links h.from_one) (each_of_all _ c.links h.below_next);
@@ -111,7 +124,8 @@ routed_of drivers c h k = record {
   rises [] h = tt
   rises (l ∷ ls) h = (befores l ls h.0, rises ls h.1)
 
-  both : (ls : List Link) → Each (λ l. 1 ≤ l.id) ls → Each (λ l. l.id < c.next_id) ls → Each (λ l. (1 ≤ l.id) × (l.id < c.next_id)) ls
+  both : (ls : List Link) → Each (λ l. 1 ≤ l.id) ls → Each (λ l. l.id < c.next_id) ls
+      → Each (λ l. (1 ≤ l.id) × (l.id < c.next_id)) ls
   both [] h k = tt
   both (l ∷ ls) h k = ((h.0, k.0), both ls h.1 k.1)
 
@@ -134,9 +148,18 @@ parts_of drivers c h = record {
   links = h.links;
   named = named_of drivers c h.known;
   routed = routed_of drivers c h.ids h.routes;
-  rising = record { fds = h.ordered.fds; binds = h.ordered.binds; routes = h.ordered.routes; fulls = h.ordered.fulls; hungs = h.ordered.hungs };
+  rising = record {
+    fds = h.ordered.fds;
+    binds = h.ordered.binds;
+    routes = h.ordered.routes;
+    fulls = h.ordered.fulls;
+    hungs = h.ordered.hungs;
+  };
   flow = h.ordered.flow;
-  numbered = record { once = apart_once (serials c.flow) h.serials.apart; below = none_from (serials c.flow) c.next_serial h.serials.below_next };
+  numbered = record {
+    once = apart_once (serials c.flow) h.serials.apart;
+    below = none_from (serials c.flow) c.next_serial h.serials.below_next;
+  };
   swept_ = h.swept;
 }
 
@@ -146,18 +169,33 @@ of_parts drivers c h = record {
   ids = rising_ids drivers c h.routed;
   routes = sound_routes drivers c h.routed;
   known = known_of_each drivers c (each_known drivers c h.named h.routed h.swept_);
-  ordered = record { fds = h.rising.fds; binds = h.rising.binds; routes = h.rising.routes; fulls = h.rising.fulls; hungs = h.rising.hungs; flow = h.flow };
-  serials = record { apart = once_apart (serials c.flow) h.numbered.once; below_next = all_below (serials c.flow) c.next_serial h.numbered.below };
+  ordered = record {
+    fds = h.rising.fds;
+    binds = h.rising.binds;
+    routes = h.rising.routes;
+    fulls = h.rising.fulls;
+    hungs = h.rising.hungs;
+    flow = h.flow;
+  };
+  serials = record {
+    apart = once_apart (serials c.flow) h.numbered.once;
+    below_next = all_below (serials c.flow) c.next_serial h.numbered.below;
+  };
   swept = h.swept_;
 }
 
 -- each accepted outcome
 
-parts_accepted : (drivers : List DriverSpec) (c : Configuration) (process : ℕ) (k : Command) → Parts drivers c → IfAccepted (λ d r. Parts drivers d) (outcome drivers c process k)
-parts_accepted drivers c process k h = by (outcome drivers c process k) (sound_accepted drivers c process k h.links) (named_accepted drivers c process k h.named) (routed_accepted drivers c process k h.routed)
-    (rising_accepted drivers c process k h.rising) (order_accepted drivers c process k h.flow) (goes_accepted drivers c process k h.numbered) (swept_accepted drivers c process k h.swept_) where
-      by : (o : Outcome) → IfAccepted (λ d r. AreLinksSound d.links) o → IfAccepted (λ d r. AreNamed drivers d) o → IfAccepted (λ d r. AreRouted drivers d) o → IfAccepted (λ d r. AreRising d) o
-          → IfAccepted (λ d r. IsInOrder d.flow) o → IfAccepted (Goes c) o → IfAccepted (λ d r. IsSwept drivers d) o → IfAccepted (λ d r. Parts drivers d) o
+parts_accepted : (drivers : List DriverSpec) (c : Configuration) (process : ℕ) (k : Command) → Parts drivers c
+    → IfAccepted (λ d r. Parts drivers d) (outcome drivers c process k)
+parts_accepted drivers c process k h = by (outcome drivers c process k) (sound_accepted drivers c process k h.links)
+    (named_accepted drivers c process k h.named) (routed_accepted drivers c process k h.routed)
+    (rising_accepted drivers c process k h.rising) (order_accepted drivers c process k h.flow)
+    (goes_accepted drivers c process k h.numbered) (swept_accepted drivers c process k h.swept_) where
+      by : (o : Outcome) → IfAccepted (λ d r. AreLinksSound d.links) o → IfAccepted (λ d r. AreNamed drivers d) o
+          → IfAccepted (λ d r. AreRouted drivers d) o → IfAccepted (λ d r. AreRising d) o
+          → IfAccepted (λ d r. IsInOrder d.flow) o → IfAccepted (Goes c) o → IfAccepted (λ d r. IsSwept drivers d) o
+          → IfAccepted (λ d r. Parts drivers d) o
       by (Ok x) e1 e2 e3 e4 e5 e6 e7 = record {
         holds = record {
           links = e1.holds;
@@ -171,21 +209,26 @@ parts_accepted drivers c process k h = by (outcome drivers c process k) (sound_a
       }
       by (Err f) e1 e2 e3 e4 e5 e6 e7 = record { holds = tt }
 
-pub outcome_sound : (drivers : List DriverSpec) (c : Configuration) (process : ℕ) (k : Command) → IsSound drivers c → IfOk (outcome drivers c process k) (λ x. IsSound drivers x.0)
-outcome_sound drivers c process k h = by (outcome drivers c process k) (parts_accepted drivers c process k (parts_of drivers c h)) where
-  by : (o : Outcome) → IfAccepted (λ d r. Parts drivers d) o → IfOk o (λ x. IsSound drivers x.0)
-  by (Ok x) m = of_parts drivers x.0 m.holds
-  by (Err f) m = tt
+-- what an accepted command leaves of a sound configuration, before it is settled, is sound
+pub outcome_sound : (drivers : List DriverSpec) (c : Configuration) (process : ℕ) (k : Command) → IsSound drivers c
+    → IfOk (outcome drivers c process k) (λ x. IsSound drivers x.0)
+outcome_sound drivers c process k h =
+    by (outcome drivers c process k) (parts_accepted drivers c process k (parts_of drivers c h)) where
+      by : (o : Outcome) → IfAccepted (λ d r. Parts drivers d) o → IfOk o (λ x. IsSound drivers x.0)
+      by (Ok x) m = of_parts drivers x.0 m.holds
+      by (Err f) m = tt
 
 -- each move
 
-numbered_moved : (drivers : List DriverSpec) (c : Configuration) (p : Place) → IsNumbered c → IsNumbered (after_move drivers c p)
+numbered_moved : (drivers : List DriverSpec) (c : Configuration) (p : Place) → IsNumbered c
+    → IsNumbered (after_move drivers c p)
 numbered_moved drivers c p h = record {
   once = λ n. omega (arith, moved_same n drivers c p, h.once n);
   below = λ n le. omega (arith, moved_same n drivers c p, h.below n (omega (arith, moved_next drivers c p, le)));
 }
 
-parts_moved : (drivers : List DriverSpec) (c : Configuration) (p : Place) → Parts drivers c → Parts drivers (after_move drivers c p)
+parts_moved : (drivers : List DriverSpec) (c : Configuration) (p : Place) → Parts drivers c
+    → Parts drivers (after_move drivers c p)
 parts_moved drivers c p h = record {
   links = sound_moved drivers c p h.links;
   named = named_moved drivers c p h.named;
@@ -196,17 +239,24 @@ parts_moved drivers c p h = record {
   swept_ = swept_moved drivers c p (record { none = h.links.no_cycle; named = h.named; swept_ = h.swept_ });
 }
 
-pub moved_sound : (drivers : List DriverSpec) (c : Configuration) (p : Place) → IsSound drivers c → IsSound drivers (after_move drivers c p)
+-- a move leaves a sound configuration sound
+pub moved_sound : (drivers : List DriverSpec) (c : Configuration) (p : Place) → IsSound drivers c
+    → IsSound drivers (after_move drivers c p)
 moved_sound drivers c p h = of_parts drivers (after_move drivers c p) (parts_moved drivers c p (parts_of drivers c h))
 
 -- and so settling
 
-parts_settled : (drivers : List DriverSpec) (n : ℕ) (c : Configuration) → Parts drivers c → Parts drivers (after_settling_within drivers n c)
+parts_settled : (drivers : List DriverSpec) (n : ℕ) (c : Configuration) → Parts drivers c
+    → Parts drivers (after_settling_within drivers n c)
 parts_settled drivers zero c h = h
-parts_settled drivers (suc k) c h = elim (least_movable drivers c) as (λ o. Parts drivers (elim o as (λ _. Configuration) [ None ↦ c | Some p ↦ after_settling_within drivers k (after_move drivers c p) ]))
+parts_settled drivers (suc k) c h = elim (least_movable drivers c) as
+    (λ o. Parts drivers
+    (elim o as (λ _. Configuration) [ None ↦ c | Some p ↦ after_settling_within drivers k (after_move drivers c p) ]))
     [ None ↦ h | Some p ↦ parts_settled drivers k (after_move drivers c p) (parts_moved drivers c p h) ]
 
-pub settled_kept : (drivers : List DriverSpec) (c : Configuration) → IsSound drivers c → IsKept drivers (after_settling drivers c)
+-- a sound configuration that is settled stays sound, and no message can move on
+pub settled_kept : (drivers : List DriverSpec) (c : Configuration) → IsSound drivers c
+    → IsKept drivers (after_settling drivers c)
 settled_kept drivers c h = let p = parts_of drivers c h in record {
   sound = of_parts drivers (after_settling drivers c) (parts_settled drivers (length c.flow * length drivers) c p);
   settled = settled_is drivers c p.links p.named p.routed;
@@ -214,36 +264,66 @@ settled_kept drivers c h = let p = parts_of drivers c h in record {
 
 -- and so each command
 
-finished_kept : (drivers : List DriverSpec) (c : Configuration) (o : Outcome) → IsKept drivers c → IfOk o (λ x. IsSound drivers x.0) → IsKept drivers (after_outcome drivers c o).0
+finished_kept : (drivers : List DriverSpec) (c : Configuration) (o : Outcome) → IsKept drivers c
+    → IfOk o (λ x. IsSound drivers x.0) → IsKept drivers (after_outcome drivers c o).0
 finished_kept drivers c (Ok x) h k = settled_kept drivers x.0 k
 finished_kept drivers c (Err f) h k = h
 
-pub step_keeps : (drivers : List DriverSpec) (c : Configuration) (process : ℕ) (k : Command) → IsKept drivers c → IsKept drivers (step drivers c process k).0
-step_keeps drivers c process k h = finished_kept drivers c (outcome drivers c process k) h (outcome_sound drivers c process k h.sound)
+-- a command leaves a sound and settled configuration sound and settled
+pub step_keeps : (drivers : List DriverSpec) (c : Configuration) (process : ℕ) (k : Command) → IsKept drivers c
+    → IsKept drivers (step drivers c process k).0
+step_keeps drivers c process k h =
+    finished_kept drivers c (outcome drivers c process k) h (outcome_sound drivers c process k h.sound)
 
+-- the empty configuration is sound and settled, over any drivers
 pub empty_kept : (drivers : List DriverSpec) → IsKept drivers empty
 empty_kept drivers = record {
-  sound = of_parts drivers empty (record { links = sound_empty; named = record { fds = tt; links = tt }; routed = routed_empty drivers; rising = rising_empty; flow = tt; numbered = numbered_empty; swept_ = record { links = refl; binds = refl; flow = refl; fulls = refl; hungs = refl } });
+  sound = of_parts drivers empty
+      (record {
+        links = sound_empty;
+        named = record { fds = tt; links = tt };
+        routed = routed_empty drivers;
+        rising = rising_empty;
+        flow = tt;
+        numbered = numbered_empty;
+        swept_ = record { links = refl; binds = refl; flow = refl; fulls = refl; hungs = refl };
+      });
   settled = λ p. refl;
 }
 
-after_keeps : (drivers : List DriverSpec) (c : Configuration) (es : List Entry) → IsKept drivers c → IsKept drivers (after_from drivers c es)
+after_keeps : (drivers : List DriverSpec) (c : Configuration) (es : List Entry) → IsKept drivers c
+    → IsKept drivers (after_from drivers c es)
 after_keeps drivers c [] h = h
-after_keeps drivers c (e ∷ es) h = after_keeps drivers (step drivers c e.process e.command).0 es (step_keeps drivers c e.process e.command h)
+after_keeps drivers c (e ∷ es) h =
+    after_keeps drivers (step drivers c e.process e.command).0 es (step_keeps drivers c e.process e.command h)
 
+-- after any history the configuration is sound and settled
 pub always_is_kept : (drivers : List DriverSpec) (history : List Entry) → IsKept drivers (after drivers history)
 always_is_kept drivers history = after_keeps drivers empty history (empty_kept drivers)
 
 -- what holds of sound configurations
 
-pub exists_is_stands : (drivers : List DriverSpec) (c : Configuration) (s : StreamId) → AreLinksSound c.links → All (λ l. IsKnown drivers l.ctl) c.links → (exists drivers c s ≡ true) ↔ Stands c s
-exists_is_stands drivers c s sound known = (λ h. record { climbs = length drivers; within = h }, λ h. stands_exists drivers c s sound.no_cycle (each_map (λ l. IsKnown drivers l.ctl) (λ l. l.ctl.driver < length drivers) c.links (λ l p. p.0) (each_of_all _ c.links known)) h)
+-- without a cycle, and with known controlling streams, a stream exists just where it stands
+pub exists_is_stands : (drivers : List DriverSpec) (c : Configuration) (s : StreamId) → AreLinksSound c.links
+    → All (λ l. IsKnown drivers l.ctl) c.links → (exists drivers c s ≡ true) ↔ Stands c s
+exists_is_stands drivers c s sound known = (
+  λ h. record { climbs = length drivers; within = h },
+  λ h. stands_exists drivers c s sound.no_cycle
+      (each_map (λ l. IsKnown drivers l.ctl) (λ l. l.ctl.driver < length drivers) c.links (λ l p. p.0)
+      (each_of_all _ c.links known)) h,
+)
 
-pub always_exists_is_stands : (drivers : List DriverSpec) (history : List Entry) (s : StreamId) → (exists drivers (after drivers history) s ≡ true) ↔ Stands (after drivers history) s
-always_exists_is_stands drivers history s = let k = (always_is_kept drivers history).sound in exists_is_stands drivers (after drivers history) s k.links k.known.controlling
+-- after any history a stream exists just where it stands within some number of climbs
+pub always_exists_is_stands : (drivers : List DriverSpec) (history : List Entry) (s : StreamId)
+    → (exists drivers (after drivers history) s ≡ true) ↔ Stands (after drivers history) s
+always_exists_is_stands drivers history s = let k = (always_is_kept drivers history).sound in
+    exists_is_stands drivers (after drivers history) s k.links k.known.controlling
 
 known_parts : (drivers : List DriverSpec) (c : Configuration) → IsSound drivers c → EachKnown drivers c
 known_parts drivers c h = let p = parts_of drivers c h in each_known drivers c p.named p.routed p.swept_
 
-pub view_is_of_one : (drivers : List DriverSpec) (c d : Configuration) → IsDriverList drivers → IsSound drivers c → IsSound drivers d → view drivers c ≡ view drivers d → c ≡ d
-view_is_of_one drivers c d h k l e = one_configuration drivers c d h (known_parts drivers c k) (known_parts drivers d l) e
+-- sound configurations over drivers that can be had are the same if their views are
+pub view_is_of_one : (drivers : List DriverSpec) (c d : Configuration) → IsDriverList drivers → IsSound drivers c
+    → IsSound drivers d → view drivers c ≡ view drivers d → c ≡ d
+view_is_of_one drivers c d h k l e =
+    one_configuration drivers c d h (known_parts drivers c k) (known_parts drivers d l) e

@@ -1,5 +1,7 @@
 -- Limits: few links, few descriptors of each process, and numbers that end.
-use Rattle.std.proofs.Common.{◌≡◌, ℕ, zero, suc, ◌+◌, ◌<◌, ◌≤◌, Bool, true, false, ◌||◌, not, leb, eqb, arith, List, [], ◌∷◌, ◌++◌, length, filter, find, Option, Some, None, Ok, Err, refl, rules, subst, inl, inr}
+use Rattle.std.proofs.Common.{◌≡◌, ℕ, zero, suc, ◌+◌, ◌<◌, ◌≤◌, Bool, true, false, ◌||◌, not, leb, eqb, arith, List, []}
+use Rattle.std.proofs.Common.{◌∷◌, ◌++◌, length, filter, find, Option, Some, None, Ok, Err, refl, rules, subst, inl}
+use Rattle.std.proofs.Common.{inr}
 use Rattle.std.specs.List.{count_by, list_any, range_with_len}
 use Rattle.std.proofs.lemmas.Bool.{cases_Bool, eqb-true, leb-false, or_parts}
 use Rattle.std.proofs.lemmas.List.Sums.{length-filter}
@@ -18,7 +20,8 @@ use Rattle.smx_types.specs.declared.reply.Fault.TheVariants.{TooManyDescriptors}
 use Rattle.smx_types.specs.declared.stream.Descriptor.{Descriptor}
 use Rattle.smx_types.specs.declared.stream.Place.{Place}
 use Rattle.smx_types.specs.declared.stream.StreamId.{StreamId}
-use Rattle.smx_model.specs.Commands.{outcome, step, after_outcome, done_outcome, link_outcome, unlink_outcome, send_outcome, receive_outcome, with_fd}
+use Rattle.smx_model.specs.Commands.{outcome, step, after_outcome, done_outcome, link_outcome, unlink_outcome}
+use Rattle.smx_model.specs.Commands.{send_outcome, receive_outcome, with_fd}
 use Rattle.smx_model.specs.Configuration.{Configuration, empty, fd_before, is_fd, pair_before}
 use Rattle.smx_model.specs.Histories.{after, after_from}
 use Rattle.smx_model.specs.Lookups.{free_fd}
@@ -39,8 +42,10 @@ pub record IsWithin (c : Configuration) : Type 0 where
   pub serials : c.next_serial ≤ NUMBER_END
 
 -- descriptors, links and next numbers as they were
-within_same : (c d : Configuration) → IsWithin c → d.fds ≡ c.fds → d.links ≡ c.links → d.next_id ≡ c.next_id → d.next_serial ≡ c.next_serial → IsWithin d
-within_same c d h e f g k = record { links = rw f h.links; numbers = rw e h.numbers; ids = rw g h.ids; serials = rw k h.serials }
+within_same : (c d : Configuration) → IsWithin c → d.fds ≡ c.fds → d.links ≡ c.links → d.next_id ≡ c.next_id
+    → d.next_serial ≡ c.next_serial → IsWithin d
+within_same c d h e f g k =
+    record { links = rw f h.links; numbers = rw e h.numbers; ids = rw g h.ids; serials = rw k h.serials }
 
 -- a free number is below the limit
 
@@ -52,33 +57,42 @@ range_below test a (suc n) m e = elim (cases_Bool (test a)) [
 ]
 
 free_below : (c : Configuration) (process fd : ℕ) → free_fd c process ≡ Ok fd → fd < MAX_DESCRIPTORS
-free_below c process fd e = by (find (λ n. not (list_any (is_fd process n) c.fds)) (range_with_len 0 MAX_DESCRIPTORS)) refl e where
-  by : (o : Option ℕ) → find (λ n. not (list_any (is_fd process n) c.fds)) (range_with_len 0 MAX_DESCRIPTORS) ≡ o → or_fault TooManyDescriptors o ≡ Ok fd → fd < MAX_DESCRIPTORS
-  by None f k = cc
-  by (Some n) f k = let same : n ≡ fd = cc in omega (arith, same, range_below (λ n. not (list_any (is_fd process n) c.fds)) 0 MAX_DESCRIPTORS n f)
+free_below c process fd e =
+    by (find (λ n. not (list_any (is_fd process n) c.fds)) (range_with_len 0 MAX_DESCRIPTORS)) refl e where
+      by : (o : Option ℕ) → find (λ n. not (list_any (is_fd process n) c.fds)) (range_with_len 0 MAX_DESCRIPTORS) ≡ o
+          → or_fault TooManyDescriptors o ≡ Ok fd → fd < MAX_DESCRIPTORS
+      by None f k = cc
+      by (Some n) f k = let same : n ≡ fd = cc in
+          omega (arith, same, range_below (λ n. not (list_any (is_fd process n) c.fds)) 0 MAX_DESCRIPTORS n f)
 
-within_fd : (c : Configuration) (process fd : ℕ) (s : StreamId) → IsWithin c → free_fd c process ≡ Ok fd → IsWithin (with_fd c process fd s)
+within_fd : (c : Configuration) (process fd : ℕ) (s : StreamId) → IsWithin c → free_fd c process ≡ Ok fd
+    → IsWithin (with_fd c process fd s)
 within_fd c process fd s h e = record {
   links = h.links;
-  numbers = each_placed _ fd_before c.fds (record { process = process; fd = fd; stream = s }) (free_below c process fd e) h.numbers;
+  numbers = each_placed _ fd_before c.fds (record { process = process; fd = fd; stream = s })
+      (free_below c process fd e) h.numbers;
   ids = h.ids;
   serials = h.serials;
 }
 
-within_closed : (c : Configuration) (test : Descriptor → Bool) → IsWithin c → IsWithin (record c { fds = filter test c.fds })
-within_closed c test h = record { links = h.links; numbers = each_filter _ test c.fds h.numbers; ids = h.ids; serials = h.serials }
+within_closed : (c : Configuration) (test : Descriptor → Bool) → IsWithin c
+    → IsWithin (record c { fds = filter test c.fds })
+within_closed c test h =
+    record { links = h.links; numbers = each_filter _ test c.fds h.numbers; ids = h.ids; serials = h.serials }
 
 -- links, one more and fewer
 
 fewer : {X : Type 0} (test : X → Bool) (xs : List X) → length (filter test xs) ≤ length xs
 fewer test [] = omega arith
-fewer test (x ∷ xs) = elim (cases_Bool (test x)) [ inl t ↦ rw t (omega (arith, fewer test xs)) | inr f ↦ rw f (omega (arith, fewer test xs)) ]
+fewer test (x ∷ xs) = elim (cases_Bool (test x))
+    [ inl t ↦ rw t (omega (arith, fewer test xs)) | inr f ↦ rw f (omega (arith, fewer test xs)) ]
 
 one_more : {X : Type 0} (xs : List X) (x : X) → length (xs ++ x ∷ []) ≡ length xs + 1
 one_more [] x = refl
 one_more (y ∷ ys) x = omega (arith, one_more ys x)
 
-within_link : (c : Configuration) (l : Link) → IsWithin c → (leb MAX_LINKS (length c.links) || leb NUMBER_END c.next_id) ≡ false → IsWithin (record c { links = c.links ++ l ∷ []; next_id = c.next_id + 1 })
+within_link : (c : Configuration) (l : Link) → IsWithin c → (leb MAX_LINKS (length c.links) || leb NUMBER_END c.next_id)
+    ≡ false → IsWithin (record c { links = c.links ++ l ∷ []; next_id = c.next_id + 1 })
 within_link c l h room = let p = or_parts (leb MAX_LINKS (length c.links)) (leb NUMBER_END c.next_id) room in record {
   links = omega (arith, one_more c.links l, leb-false MAX_LINKS (length c.links) p.0);
   numbers = h.numbers;
@@ -87,32 +101,52 @@ within_link c l h room = let p = or_parts (leb MAX_LINKS (length c.links)) (leb 
 }
 
 within_removed : (c : Configuration) (goes : Link → Bool) → IsWithin c → IsWithin (without_links c goes)
-within_removed c goes h = record { links = omega (arith, h.links, fewer (λ l. not (goes l)) c.links); numbers = h.numbers; ids = h.ids; serials = h.serials }
+within_removed c goes h = record {
+  links = omega (arith, h.links, fewer (λ l. not (goes l)) c.links);
+  numbers = h.numbers;
+  ids = h.ids;
+  serials = h.serials;
+}
 
-within_done : (drivers : List DriverSpec) (c d : Configuration) → IsWithin d → IfAccepted (λ d r. IsWithin d) (done_outcome drivers c d)
-within_done drivers c d h = let k = within_removed d _ h in record { holds = record { links = k.links; numbers = k.numbers; ids = k.ids; serials = k.serials } }
+within_done : (drivers : List DriverSpec) (c d : Configuration) → IsWithin d
+    → IfAccepted (λ d r. IsWithin d) (done_outcome drivers c d)
+within_done drivers c d h = let k = within_removed d _ h in
+    record { holds = record { links = k.links; numbers = k.numbers; ids = k.ids; serials = k.serials } }
 
-within_unlinked : (drivers : List DriverSpec) (c : Configuration) (w : Which) (mine : Link → Bool) → IsWithin c → IfAccepted (λ d r. IsWithin d) (unlink_outcome drivers c w mine)
+within_unlinked : (drivers : List DriverSpec) (c : Configuration) (w : Which) (mine : Link → Bool) → IsWithin c
+    → IfAccepted (λ d r. IsWithin d) (unlink_outcome drivers c w mine)
 within_unlinked drivers c which.All mine h = within_done drivers c (without_links c mine) (within_removed c mine h)
 within_unlinked drivers c (which.Id id) mine h = search (after_test, within_done, within_removed, rules) depth 12
 
-within_linked : (drivers : List DriverSpec) (c : Configuration) (process fd arg : ℕ) (k : LinkKind) → IsWithin c → IfAccepted (λ d r. IsWithin d) (link_outcome drivers c process fd arg k)
+within_linked : (drivers : List DriverSpec) (c : Configuration) (process fd arg : ℕ) (k : LinkKind) → IsWithin c
+    → IfAccepted (λ d r. IsWithin d) (link_outcome drivers c process fd arg k)
 within_linked drivers c process fd arg k h = search (after_test, after_ok, at_ok, within_link, rules) depth 24
 
 -- a message that is sent takes a serial
 
-within_took : (c d : Configuration) (full : Bool) → IsWithin c → d.fds ≡ c.fds → d.links ≡ c.links → d.next_id ≡ c.next_id → d.next_serial ≡ c.next_serial + 1 → (full || leb NUMBER_END c.next_serial) ≡ false → IsWithin d
-within_took c d full h e f g k room = record { links = rw f h.links; numbers = rw e h.numbers; ids = rw g h.ids; serials = rw k (omega (arith, leb-false NUMBER_END c.next_serial (or_parts full _ room).1)) }
+within_took : (c d : Configuration) (full : Bool) → IsWithin c → d.fds ≡ c.fds → d.links ≡ c.links
+    → d.next_id ≡ c.next_id → d.next_serial ≡ c.next_serial + 1 → (full || leb NUMBER_END c.next_serial) ≡ false
+    → IsWithin d
+within_took c d full h e f g k room = record {
+  links = rw f h.links;
+  numbers = rw e h.numbers;
+  ids = rw g h.ids;
+  serials = rw k (omega (arith, leb-false NUMBER_END c.next_serial (or_parts full _ room).1));
+}
 
-within_sent : (drivers : List DriverSpec) (c : Configuration) (p : Place) (addr : ℕ) (bytes : List ℕ) → IsWithin c → IfAccepted (λ d r. IsWithin d) (send_outcome drivers c p addr bytes)
+within_sent : (drivers : List DriverSpec) (c : Configuration) (p : Place) (addr : ℕ) (bytes : List ℕ) → IsWithin c
+    → IfAccepted (λ d r. IsWithin d) (send_outcome drivers c p addr bytes)
 within_sent drivers c p addr bytes h = search (after_test, at_ok, within_took, rules) depth 16
 
-within_received : (drivers : List DriverSpec) (c : Configuration) (p : Place) → IsWithin c → IfAccepted (λ d r. IsWithin d) (receive_outcome drivers c p)
+within_received : (drivers : List DriverSpec) (c : Configuration) (p : Place) → IsWithin c
+    → IfAccepted (λ d r. IsWithin d) (receive_outcome drivers c p)
 within_received drivers c p h = search (after_some, at_ok, within_same, rules) depth 16
 
-within_accepted : (drivers : List DriverSpec) (c : Configuration) (process : ℕ) (k : Command) → IsWithin c → IfAccepted (λ d r. IsWithin d) (outcome drivers c process k)
+within_accepted : (drivers : List DriverSpec) (c : Configuration) (process : ℕ) (k : Command) → IsWithin c
+    → IfAccepted (λ d r. IsWithin d) (outcome drivers c process k)
 within_accepted drivers c process (command.OpenClone name) h = search (after_ok, at_ok, within_fd, rules) depth 20
-within_accepted drivers c process (command.OpenMinor name minor) h = search (after_test, after_ok, at_ok, within_fd, rules) depth 20
+within_accepted drivers c process (command.OpenMinor name minor) h =
+    search (after_test, after_ok, at_ok, within_fd, rules) depth 20
 within_accepted drivers c process (command.Dup fd) h = search (after_ok, at_ok, within_fd, rules) depth 20
 within_accepted drivers c process (command.Close fd) h = search (after_ok, within_done, within_closed, rules) depth 20
 within_accepted drivers c process command.CloseAll h = search (within_done, within_closed, rules) depth 20
@@ -120,66 +154,100 @@ within_accepted drivers c process (command.Link fd arg) h = search (within_linke
 within_accepted drivers c process (command.Plink fd arg) h = search (within_linked, rules) depth 20
 within_accepted drivers c process (command.Unlink fd w) h = search (after_ok, within_unlinked, rules) depth 20
 within_accepted drivers c process (command.Punlink fd w) h = search (after_ok, within_unlinked, rules) depth 20
-within_accepted drivers c process (command.Bind fd addr) h = search (after_test, after_ok, within_done, within_same, rules) depth 20
-within_accepted drivers c process (command.Unbind fd) h = search (after_test, after_ok, within_done, within_same, rules) depth 20
-within_accepted drivers c process (command.Route fd addr id) h = search (after_test, after_ok, within_done, within_same, rules) depth 20
-within_accepted drivers c process (command.Unroute fd addr) h = search (after_test, after_ok, within_done, within_same, rules) depth 20
+within_accepted drivers c process (command.Bind fd addr) h =
+    search (after_test, after_ok, within_done, within_same, rules) depth 20
+within_accepted drivers c process (command.Unbind fd) h =
+    search (after_test, after_ok, within_done, within_same, rules) depth 20
+within_accepted drivers c process (command.Route fd addr id) h =
+    search (after_test, after_ok, within_done, within_same, rules) depth 20
+within_accepted drivers c process (command.Unroute fd addr) h =
+    search (after_test, after_ok, within_done, within_same, rules) depth 20
 within_accepted drivers c process (command.Write fd addr bytes) h = search (after_ok, within_sent, rules) depth 20
-within_accepted drivers c process (command.Read fd) h = search (after_ok, after_choice, at_ok, within_received, rules) depth 20
+within_accepted drivers c process (command.Read fd) h =
+    search (after_ok, after_choice, at_ok, within_received, rules) depth 20
 within_accepted drivers c process (command.Flush fd w) h = search (after_ok, within_done, within_same, rules) depth 20
-within_accepted drivers c process (command.Inject name minor addr bytes) h = search (after_ok, within_sent, rules) depth 20
+within_accepted drivers c process (command.Inject name minor addr bytes) h =
+    search (after_ok, within_sent, rules) depth 20
 within_accepted drivers c process (command.Transmit name minor) h = search (after_ok, within_received, rules) depth 20
-within_accepted drivers c process (command.Hangup name minor) h = search (after_ok, within_done, within_same, rules) depth 20
+within_accepted drivers c process (command.Hangup name minor) h =
+    search (after_ok, within_done, within_same, rules) depth 20
 
 -- moves, settling, histories
 
-within_moved : (drivers : List DriverSpec) (c : Configuration) (p : Place) → IsWithin c → IsWithin (after_move drivers c p)
+within_moved : (drivers : List DriverSpec) (c : Configuration) (p : Place) → IsWithin c
+    → IsWithin (after_move drivers c p)
 within_moved drivers c p h = by (next_open_place drivers c p) (first_message c.flow p) where
   by : (o : Option Place) (m : Option Message) → IsWithin (after_move_to drivers c p o m)
   by (Some q) (Some m) = record { links = h.links; numbers = h.numbers; ids = h.ids; serials = h.serials }
   by (Some q) None = h
   by None m = h
 
-within_settled : (drivers : List DriverSpec) (n : ℕ) (c : Configuration) → IsWithin c → IsWithin (after_settling_within drivers n c)
+within_settled : (drivers : List DriverSpec) (n : ℕ) (c : Configuration) → IsWithin c
+    → IsWithin (after_settling_within drivers n c)
 within_settled drivers zero c h = h
-within_settled drivers (suc k) c h = elim (least_movable drivers c) as (λ o. IsWithin (elim o as (λ _. Configuration) [ None ↦ c | Some p ↦ after_settling_within drivers k (after_move drivers c p) ]))
+within_settled drivers (suc k) c h = elim (least_movable drivers c) as
+    (λ o. IsWithin (elim o as (λ _. Configuration)
+    [ None ↦ c | Some p ↦ after_settling_within drivers k (after_move drivers c p) ]))
     [ None ↦ h | Some p ↦ within_settled drivers k (after_move drivers c p) (within_moved drivers c p h) ]
 
-within_finished : (drivers : List DriverSpec) (c : Configuration) (o : Outcome) → IsWithin c → IfAccepted (λ d r. IsWithin d) o → IsWithin (after_outcome drivers c o).0
+within_finished : (drivers : List DriverSpec) (c : Configuration) (o : Outcome) → IsWithin c
+    → IfAccepted (λ d r. IsWithin d) o → IsWithin (after_outcome drivers c o).0
 within_finished drivers c (Ok x) h k = within_settled drivers _ x.0 k.holds
 within_finished drivers c (Err f) h k = h
 
-within_from : (drivers : List DriverSpec) (c : Configuration) (es : List Entry) → IsWithin c → IsWithin (after_from drivers c es)
+within_from : (drivers : List DriverSpec) (c : Configuration) (es : List Entry) → IsWithin c
+    → IsWithin (after_from drivers c es)
 within_from drivers c [] h = h
-within_from drivers c (e ∷ es) h = within_from drivers (step drivers c e.process e.command).0 es (within_finished drivers c (outcome drivers c e.process e.command) h (within_accepted drivers c e.process e.command h))
+within_from drivers c (e ∷ es) h = within_from drivers (step drivers c e.process e.command).0 es
+    (within_finished drivers c (outcome drivers c e.process e.command) h
+    (within_accepted drivers c e.process e.command h))
 
+-- after any history there are no more links, and no higher numbers, ids and serials, than there may be
 pub always_within : (drivers : List DriverSpec) (history : List Entry) → IsWithin (after drivers history)
-always_within drivers history = within_from drivers empty history (record { links = omega arith; numbers = tt; ids = omega arith; serials = omega arith })
+always_within drivers history = within_from drivers empty history
+    (record { links = omega arith; numbers = tt; ids = omega arith; serials = omega arith })
 
 -- of a process there are as many descriptors as numbers
 
-later_numbers : (d : Descriptor) (ds : List Descriptor) → ComesBefore fd_before d ds → Each (λ e. e.process ≡ d.process → d.fd < e.fd) ds
+later_numbers : (d : Descriptor) (ds : List Descriptor) → ComesBefore fd_before d ds
+    → Each (λ e. e.process ≡ d.process → d.fd < e.fd) ds
 later_numbers d [] h = tt
 later_numbers d (e ∷ ds) h = (λ same. after d.process d.fd e.process e.fd same h.0, later_numbers d ds h.1) where
   after : (a b x y : ℕ) → x ≡ a → pair_before a b x y ≡ true → b < y
   after a b x y same h = grind (arith, nat_tests)
 
-few_from : (ds : List Descriptor) (process a : ℕ) → IsRising fd_before ds → Each (λ d. d.process ≡ process → a ≤ d.fd) ds → Each (λ d. d.fd < MAX_DESCRIPTORS) ds → a ≤ MAX_DESCRIPTORS
+few_from : (ds : List Descriptor) (process a : ℕ) → IsRising fd_before ds
+    → Each (λ d. d.process ≡ process → a ≤ d.fd) ds → Each (λ d. d.fd < MAX_DESCRIPTORS) ds → a ≤ MAX_DESCRIPTORS
     → a + length (filter (λ d. eqb d.process process) ds) ≤ MAX_DESCRIPTORS
 few_from [] process a r h k le = omega (arith, le)
 few_from (d ∷ ds) process a r h k le = elim (cases_Bool (eqb d.process process)) [
   | inl t ↦ let is = eqb-true d.process process t in rw t
-      (omega (arith, h.0 is, k.0, few_from ds process (d.fd + 1) r.1 (subst (λ (p : ℕ). Each (λ e. e.process ≡ p → d.fd + 1 ≤ e.fd) ds) is (next ds (later_numbers d ds r.0))) k.1 (omega (arith, k.0))))
+      (omega (
+        arith,
+        h.0 is,
+        k.0,
+        few_from ds process (d.fd + 1) r.1
+            (subst (λ (p : ℕ). Each (λ e. e.process ≡ p → d.fd + 1 ≤ e.fd) ds) is (next ds (later_numbers d ds r.0)))
+            k.1 (omega (arith, k.0)),
+      ))
   | inr f ↦ rw f (few_from ds process a r.1 h.1 k.1 le)
 ] where
-  next : (es : List Descriptor) → Each (λ e. e.process ≡ d.process → d.fd < e.fd) es → Each (λ e. e.process ≡ d.process → d.fd + 1 ≤ e.fd) es
+  next : (es : List Descriptor) → Each (λ e. e.process ≡ d.process → d.fd < e.fd) es
+      → Each (λ e. e.process ≡ d.process → d.fd + 1 ≤ e.fd) es
   next [] h = tt
   next (e ∷ es) h = (λ same. omega (arith, h.0 same), next es h.1)
 
-pub always_few : (drivers : List DriverSpec) (history : List Entry) (process : ℕ) → count_by (λ d. eqb d.process process) (after drivers history).fds ≤ MAX_DESCRIPTORS
+-- after any history a process has no more descriptors than it may have
+pub always_few : (drivers : List DriverSpec) (history : List Entry) (process : ℕ)
+    → count_by (λ d. eqb d.process process) (after drivers history).fds ≤ MAX_DESCRIPTORS
 always_few drivers history process =
     let ds = (after drivers history).fds in
-    omega (arith, length-filter (λ d. eqb d.process process) (after drivers history).fds, few_from (after drivers history).fds process 0 (always_is_kept drivers history).sound.ordered.fds (any (after drivers history).fds) (always_within drivers history).numbers (omega arith)) where
+    omega (
+      arith,
+      length-filter (λ d. eqb d.process process) (after drivers history).fds,
+      few_from (after drivers history).fds process 0 (always_is_kept drivers history).sound.ordered.fds
+          (any (after drivers history).fds) (always_within drivers history).numbers (omega arith),
+    ) where
       any : (es : List Descriptor) → Each (λ e. e.process ≡ process → 0 ≤ e.fd) es
       any [] = tt
       any (e ∷ es) = (λ same. omega arith, any es)

@@ -1,7 +1,10 @@
 -- A full place has more bytes than its low water mark, and one that is not full fewer than its high one.
-use Rattle.std.proofs.Common.{◌≡◌, ℕ, zero, suc, ◌<◌, ◌≤◌, Bool, true, false, ◌&&◌, ◌||◌, not, cond, leb, ltb, arith, List, [], ◌∷◌, drop, length, filter, Option, Some, None, Result, Ok, Err, refl, rules, sym, ap, ◌∙◌, subst, inl, inr}
+use Rattle.std.proofs.Common.{◌≡◌, ℕ, zero, suc, ◌<◌, ◌≤◌, Bool, true, false, ◌&&◌, ◌||◌, not, cond, leb, ltb, arith}
+use Rattle.std.proofs.Common.{List, [], ◌∷◌, drop, length, filter, Option, Some, None, Result, Ok, Err, refl, rules}
+use Rattle.std.proofs.Common.{sym, ap, ◌∙◌, subst, inl, inr}
 use Rattle.std.specs.List.{list_any, sum_by}
-use Rattle.std.proofs.lemmas.Bool.{and_cases, and_parts, cases_Bool, false≢true, leb-false, leb-true, ltb-false, ltb-true, or_cases, or_parts}
+use Rattle.std.proofs.lemmas.Bool.{and_cases, and_parts, cases_Bool, false≢true, leb-false, leb-true, ltb-false}
+use Rattle.std.proofs.lemmas.Bool.{ltb-true, or_cases, or_parts}
 use Rattle.std.proofs.lemmas.List.Sums.{sum_by-cons}
 use Rattle.smx_types.specs.Drivers.{spec_check}
 use Rattle.smx_types.specs.declared.command.Command.{Command}
@@ -17,7 +20,8 @@ use Rattle.smx_types.specs.declared.link.Link.{Link}
 use Rattle.smx_types.specs.declared.link.LinkKind.{LinkKind}
 use Rattle.smx_types.specs.declared.message.Message.{Message}
 use Rattle.smx_types.specs.declared.stream.Place.{Place}
-use Rattle.smx_model.specs.Commands.{outcome, step, after_outcome, done_outcome, link_outcome, unlink_outcome, send_outcome, receive_outcome}
+use Rattle.smx_model.specs.Commands.{outcome, step, after_outcome, done_outcome, link_outcome, unlink_outcome}
+use Rattle.smx_model.specs.Commands.{send_outcome, receive_outcome}
 use Rattle.smx_model.specs.Configuration.{Configuration, QueuedMessage, empty, is_at, queued_before, same_place}
 use Rattle.smx_model.specs.DriverList.{high_of, IsDriverList, low_of}
 use Rattle.smx_model.specs.Histories.{after, after_from}
@@ -39,22 +43,40 @@ use Rattle.smx_model.proofs.SettlingLemmas.{same_place_is}
 abbrev total : List Message → ℕ
 total ms = sum_by (λ m. length m.bytes) ms
 
-more_arrive : (flow : List QueuedMessage) (h : QueuedMessage) (p : Place) → bytes_at flow p ≤ bytes_at (with_inserted queued_before flow h) p
+more_arrive : (flow : List QueuedMessage) (h : QueuedMessage) (p : Place)
+    → bytes_at flow p ≤ bytes_at (with_inserted queued_before flow h) p
 more_arrive [] h p = elim (cases_Bool (is_at p h)) [ inl t ↦ rw t (omega arith) | inr f ↦ rw f (omega arith) ]
 more_arrive (k ∷ ks) h p = elim (cases_Bool (queued_before h k)) [
-  | inl b ↦ rw b (elim (cases_Bool (is_at p h)) [ inl t ↦ rw t (omega (arith, sum_by-cons (λ m. length m.bytes) h.message (queue (k ∷ ks) p))) | inr f ↦ rw f (omega arith) ])
+  | inl b ↦
+      rw b (elim (cases_Bool (is_at p h)) [
+        | inl t ↦ rw t (omega (arith, sum_by-cons (λ m. length m.bytes) h.message (queue (k ∷ ks) p)))
+        | inr f ↦
+            rw f (omega arith)
+      ])
   | inr b ↦ rw b (elim (cases_Bool (is_at p k)) [
-    | inl t ↦ rw t (omega (arith, more_arrive ks h p, sum_by-cons (λ m. length m.bytes) k.message (queue ks p), sum_by-cons (λ m. length m.bytes) k.message (queue (with_inserted queued_before ks h) p)))
+    | inl t ↦
+        rw t (omega (
+          arith,
+          more_arrive ks h p,
+          sum_by-cons (λ m. length m.bytes) k.message (queue ks p),
+          sum_by-cons (λ m. length m.bytes) k.message (queue (with_inserted queued_before ks h) p),
+        ))
     | inr f ↦ rw f (more_arrive ks h p)
   ])
 ]
 
 -- elsewhere the bytes stay
-same_elsewhere : (flow : List QueuedMessage) (h : QueuedMessage) (p : Place) → is_at p h ≡ false → queue (with_inserted queued_before flow h) p ≡ queue flow p
+same_elsewhere : (flow : List QueuedMessage) (h : QueuedMessage) (p : Place) → is_at p h ≡ false
+    → queue (with_inserted queued_before flow h) p ≡ queue flow p
 same_elsewhere [] h p e = rw e refl
 same_elsewhere (k ∷ ks) h p e = elim (cases_Bool (queued_before h k)) [
   | inl b ↦ rw (b, e) refl
-  | inr b ↦ rw b (elim (cases_Bool (is_at p k)) [ inl t ↦ rw t (ap (λ (ms : List Message). k.message ∷ ms) (same_elsewhere ks h p e)) | inr f ↦ rw f (same_elsewhere ks h p e) ])
+  | inr b ↦
+      rw b (elim (cases_Bool (is_at p k)) [
+        | inl t ↦ rw t (ap (λ (ms : List Message). k.message ∷ ms) (same_elsewhere ks h p e))
+        | inr f ↦
+            rw f (same_elsewhere ks h p e)
+      ])
 ]
 
 fewer_left : (ms : List Message) → total (drop 1 ms) ≤ total ms
@@ -73,18 +95,23 @@ record IsApart (drivers : List DriverSpec) (p : Place) : Type 0 where
   lt : low_of drivers p.stream.driver < high_of drivers p.stream.driver
 
 -- its messages and its mark as they were
-marked_alike : (drivers : List DriverSpec) (p : Place) (c d : Configuration) → IsMarked drivers p c → queue d.flow p ≡ queue c.flow p → is_full d p ≡ is_full c p → IsMarked drivers p d
+marked_alike : (drivers : List DriverSpec) (p : Place) (c d : Configuration) → IsMarked drivers p c
+    → queue d.flow p ≡ queue c.flow p → is_full d p ≡ is_full c p → IsMarked drivers p d
 marked_alike drivers p c d h q m = record {
   full = λ e. rw q (h.full (sym m ∙ e));
   free = λ e. rw q (h.free (sym m ∙ e));
 }
 
-marked_same : (drivers : List DriverSpec) (p : Place) (c d : Configuration) → IsMarked drivers p c → d.flow ≡ c.flow → d.fulls ≡ c.fulls → IsMarked drivers p d
-marked_same drivers p c d h e f = marked_alike drivers p c d h (ap (λ (hs : List QueuedMessage). queue hs p) e) (ap (λ (ps : List Place). list_any (same_place p) ps) f)
+marked_same : (drivers : List DriverSpec) (p : Place) (c d : Configuration) → IsMarked drivers p c → d.flow ≡ c.flow
+    → d.fulls ≡ c.fulls → IsMarked drivers p d
+marked_same drivers p c d h e f = marked_alike drivers p c d h (ap (λ (hs : List QueuedMessage). queue hs p) e)
+    (ap (λ (ps : List Place). list_any (same_place p) ps) f)
 
 -- some places are emptied
-marked_emptied : (drivers : List DriverSpec) (p : Place) (c d : Configuration) (goes : Place → Bool) → IsApart drivers p → IsMarked drivers p c
-    → d.flow ≡ filter (λ h. not (goes h.place)) c.flow → d.fulls ≡ filter (λ p. not (goes p)) c.fulls → IsMarked drivers p d
+marked_emptied : (drivers : List DriverSpec) (p : Place) (c d : Configuration) (goes : Place → Bool) → IsApart drivers p
+    → IsMarked drivers p c
+    → d.flow ≡ filter (λ h. not (goes h.place)) c.flow → d.fulls ≡ filter (λ p. not (goes p)) c.fulls
+    → IsMarked drivers p d
 marked_emptied drivers p c d goes a h e f = by (goes p) refl where
   queues : queue d.flow p ≡ cond (goes p) [] (queue c.flow p)
   queues = ap (λ (hs : List QueuedMessage). queue hs p) e ∙ emptied_queue c.flow goes p
@@ -102,30 +129,40 @@ marked_emptied drivers p c d goes a h e f = by (goes p) refl where
       let mark : is_full d p ≡ is_full c p = rw g at marks in
       marked_alike drivers p c d h same mark
 
-marked_removed : (drivers : List DriverSpec) (p : Place) (c : Configuration) (goes : Link → Bool) → IsApart drivers p → IsMarked drivers p c → IsMarked drivers p (without_links c goes)
+marked_removed : (drivers : List DriverSpec) (p : Place) (c : Configuration) (goes : Link → Bool) → IsApart drivers p
+    → IsMarked drivers p c → IsMarked drivers p (without_links c goes)
 marked_removed drivers p c goes a h = marked_emptied drivers p c (without_links c goes) _ a h refl refl
 
-marked_done : (drivers : List DriverSpec) (p : Place) (c d : Configuration) → IsApart drivers p → IsMarked drivers p d → IfAccepted (λ d r. IsMarked drivers p d) (done_outcome drivers c d)
-marked_done drivers p c d a h = record { holds = marked_emptied drivers p (without_links d _) _ _ a (marked_removed drivers p d _ a h) refl refl }
+marked_done : (drivers : List DriverSpec) (p : Place) (c d : Configuration) → IsApart drivers p → IsMarked drivers p d
+    → IfAccepted (λ d r. IsMarked drivers p d) (done_outcome drivers c d)
+marked_done drivers p c d a h =
+    record { holds = marked_emptied drivers p (without_links d _) _ _ a (marked_removed drivers p d _ a h) refl refl }
 
-marked_like : (drivers : List DriverSpec) (p : Place) (c d : Configuration) → IsApart drivers p → IsMarked drivers p c → d.flow ≡ c.flow → d.fulls ≡ c.fulls → IfAccepted (λ d r. IsMarked drivers p d) (done_outcome drivers c d)
+marked_like : (drivers : List DriverSpec) (p : Place) (c d : Configuration) → IsApart drivers p → IsMarked drivers p c
+    → d.flow ≡ c.flow → d.fulls ≡ c.fulls → IfAccepted (λ d r. IsMarked drivers p d) (done_outcome drivers c d)
 marked_like drivers p c d a h e f = marked_done drivers p c d a (marked_same drivers p c d h e f)
 
 -- a message arrives or leaves
 
-marked_arrived : (drivers : List DriverSpec) (p : Place) (c : Configuration) (q : Place) (m : Message) → IsApart drivers p → IsMarked drivers p c → IsMarked drivers p (after_arrival drivers c q m)
+marked_arrived : (drivers : List DriverSpec) (p : Place) (c : Configuration) (q : Place) (m : Message)
+    → IsApart drivers p → IsMarked drivers p c → IsMarked drivers p (after_arrival drivers c q m)
 marked_arrived drivers p c q m a h = elim (cases_Bool (same_place q p)) [
   | inl t ↦ subst (λ (x : Place). IsMarked drivers p (after_arrival drivers c x m)) (sym (same_place_is q p t)) here
-  | inr f ↦ marked_alike drivers p c (after_arrival drivers c q m) h (same_elsewhere c.flow (record { place = q; message = m }) p f) (elsewhere q f)
+  | inr f ↦ marked_alike drivers p c (after_arrival drivers c q m) h
+      (same_elsewhere c.flow (record { place = q; message = m }) p f) (elsewhere q f)
 ] where
   elsewhere : (q : Place) → same_place q p ≡ false → is_full (after_arrival drivers c q m) p ≡ is_full c p
-  elsewhere q f = let e = marked_full q p (is_full c q || leb (high_of drivers q.stream.driver) (bytes_at (with_inserted queued_before c.flow (record { place = q; message = m })) q)) c.fulls in rw f at e
+  elsewhere q f = let e = marked_full q p
+      (is_full c q || leb (high_of drivers q.stream.driver)
+      (bytes_at (with_inserted queued_before c.flow (record { place = q; message = m })) q)) c.fulls in rw f at e
 
   now : List QueuedMessage
   now = with_inserted queued_before c.flow (record { place = p; message = m })
 
-  mark : is_full (after_arrival drivers c p m) p ≡ (is_full c p || leb (high_of drivers p.stream.driver) (bytes_at now p))
-  mark = let e = marked_full p p (is_full c p || leb (high_of drivers p.stream.driver) (bytes_at now p)) c.fulls in rw (same_self p) at e
+  mark : is_full (after_arrival drivers c p m) p
+      ≡ (is_full c p || leb (high_of drivers p.stream.driver) (bytes_at now p))
+  mark = let e = marked_full p p (is_full c p || leb (high_of drivers p.stream.driver) (bytes_at now p)) c.fulls in
+      rw (same_self p) at e
 
   here : IsMarked drivers p (after_arrival drivers c p m)
   here = record {
@@ -133,10 +170,12 @@ marked_arrived drivers p c q m a h = elim (cases_Bool (same_place q p)) [
       | inl was ↦ omega (arith, h.full was, more_arrive c.flow (record { place = p; message = m }) p)
       | inr high ↦ omega (arith, a.lt, leb-true (high_of drivers p.stream.driver) (bytes_at now p) high)
     ];
-    free = λ t. leb-false (high_of drivers p.stream.driver) (bytes_at now p) (or_parts (is_full c p) (leb (high_of drivers p.stream.driver) (bytes_at now p)) (sym mark ∙ t)).1;
+    free = λ t. leb-false (high_of drivers p.stream.driver) (bytes_at now p)
+        (or_parts (is_full c p) (leb (high_of drivers p.stream.driver) (bytes_at now p)) (sym mark ∙ t)).1;
   }
 
-marked_left : (drivers : List DriverSpec) (p : Place) (c : Configuration) (q : Place) → IsApart drivers p → IsMarked drivers p c → IsMarked drivers p (after_leaving drivers c q)
+marked_left : (drivers : List DriverSpec) (p : Place) (c : Configuration) (q : Place) → IsApart drivers p
+    → IsMarked drivers p c → IsMarked drivers p (after_leaving drivers c q)
 marked_left drivers p c q a h = elim (cases_Bool (same_place q p)) [
   | inl t ↦ subst (λ (x : Place). IsMarked drivers p (after_leaving drivers c x)) (sym (same_place_is q p t)) here
   | inr f ↦ marked_alike drivers p c (after_leaving drivers c q) h (rest q f) (elsewhere q f)
@@ -145,20 +184,25 @@ marked_left drivers p c q a h = elim (cases_Bool (same_place q p)) [
   rest q f = let e = left_queue c.flow q p in rw f at e
 
   elsewhere : (q : Place) → same_place q p ≡ false → is_full (after_leaving drivers c q) p ≡ is_full c p
-  elsewhere q f = let e = marked_full q p (is_full c q && ltb (low_of drivers q.stream.driver) (bytes_at (without_first (is_at q) c.flow) q)) c.fulls in rw f at e
+  elsewhere q f = let e = marked_full q p
+      (is_full c q && ltb (low_of drivers q.stream.driver) (bytes_at (without_first (is_at q) c.flow) q)) c.fulls in
+      rw f at e
 
   now : List QueuedMessage
   now = without_first (is_at p) c.flow
 
   mark : is_full (after_leaving drivers c p) p ≡ (is_full c p && ltb (low_of drivers p.stream.driver) (bytes_at now p))
-  mark = let e = marked_full p p (is_full c p && ltb (low_of drivers p.stream.driver) (bytes_at now p)) c.fulls in rw (same_self p) at e
+  mark = let e = marked_full p p (is_full c p && ltb (low_of drivers p.stream.driver) (bytes_at now p)) c.fulls in
+      rw (same_self p) at e
 
   fewer : bytes_at now p ≤ bytes_at c.flow p
-  fewer = let e = left_queue c.flow p p in let f : queue now p ≡ drop 1 (queue c.flow p) = rw (same_self p) at e in rw f (fewer_left (queue c.flow p))
+  fewer = let e = left_queue c.flow p p in let f : queue now p ≡ drop 1 (queue c.flow p) = rw (same_self p) at e in
+      rw f (fewer_left (queue c.flow p))
 
   here : IsMarked drivers p (after_leaving drivers c p)
   here = record {
-    full = λ t. ltb-true (low_of drivers p.stream.driver) (bytes_at now p) (and_parts (is_full c p) (ltb (low_of drivers p.stream.driver) (bytes_at now p)) (sym mark ∙ t)).1;
+    full = λ t. ltb-true (low_of drivers p.stream.driver) (bytes_at now p)
+        (and_parts (is_full c p) (ltb (low_of drivers p.stream.driver) (bytes_at now p)) (sym mark ∙ t)).1;
     free = λ t. elim (and_cases (is_full c p) (ltb (low_of drivers p.stream.driver) (bytes_at now p)) (sym mark ∙ t)) [
       | inl was ↦ omega (arith, h.free was, fewer)
       | inr low ↦ omega (arith, a.lt, ltb-false (low_of drivers p.stream.driver) (bytes_at now p) low)
@@ -167,28 +211,41 @@ marked_left drivers p c q a h = elim (cases_Bool (same_place q p)) [
 
 -- of each accepted outcome
 
-marked_took : (drivers : List DriverSpec) (p : Place) (c : Configuration) (q : Place) (m : Message) (n : ℕ) → IsApart drivers p → IsMarked drivers p c → IsMarked drivers p (record (after_arrival drivers c q m) { next_serial = n })
-marked_took drivers p c q m n a h = marked_same drivers p (after_arrival drivers c q m) (record (after_arrival drivers c q m) { next_serial = n }) (marked_arrived drivers p c q m a h) refl refl
+marked_took : (drivers : List DriverSpec) (p : Place) (c : Configuration) (q : Place) (m : Message) (n : ℕ)
+    → IsApart drivers p → IsMarked drivers p c
+    → IsMarked drivers p (record (after_arrival drivers c q m) { next_serial = n })
+marked_took drivers p c q m n a h = marked_same drivers p (after_arrival drivers c q m)
+    (record (after_arrival drivers c q m) { next_serial = n }) (marked_arrived drivers p c q m a h) refl refl
 
-marked_sent : (drivers : List DriverSpec) (p : Place) (c : Configuration) (q : Place) (addr : ℕ) (bytes : List ℕ) → IsApart drivers p → IsMarked drivers p c → IfAccepted (λ d r. IsMarked drivers p d) (send_outcome drivers c q addr bytes)
+marked_sent : (drivers : List DriverSpec) (p : Place) (c : Configuration) (q : Place) (addr : ℕ) (bytes : List ℕ)
+    → IsApart drivers p → IsMarked drivers p c
+    → IfAccepted (λ d r. IsMarked drivers p d) (send_outcome drivers c q addr bytes)
 marked_sent drivers p c q addr bytes a h = search (after_test, at_ok, marked_took, rules) depth 12
 
-marked_received : (drivers : List DriverSpec) (p : Place) (c : Configuration) (q : Place) → IsApart drivers p → IsMarked drivers p c → IfAccepted (λ d r. IsMarked drivers p d) (receive_outcome drivers c q)
+marked_received : (drivers : List DriverSpec) (p : Place) (c : Configuration) (q : Place) → IsApart drivers p
+    → IsMarked drivers p c → IfAccepted (λ d r. IsMarked drivers p d) (receive_outcome drivers c q)
 marked_received drivers p c q a h = search (after_some, at_ok, marked_left, rules) depth 12
 
-marked_unlinked : (drivers : List DriverSpec) (p : Place) (c : Configuration) (w : Which) (mine : Link → Bool) → IsApart drivers p → IsMarked drivers p c → IfAccepted (λ d r. IsMarked drivers p d) (unlink_outcome drivers c w mine)
-marked_unlinked drivers p c which.All mine a h = marked_done drivers p c (without_links c mine) a (marked_removed drivers p c mine a h)
+marked_unlinked : (drivers : List DriverSpec) (p : Place) (c : Configuration) (w : Which) (mine : Link → Bool)
+    → IsApart drivers p → IsMarked drivers p c
+    → IfAccepted (λ d r. IsMarked drivers p d) (unlink_outcome drivers c w mine)
+marked_unlinked drivers p c which.All mine a h =
+    marked_done drivers p c (without_links c mine) a (marked_removed drivers p c mine a h)
 marked_unlinked drivers p c (which.Id id) mine a h = search (after_test, marked_done, marked_removed, rules) depth 12
 
-marked_linked : (drivers : List DriverSpec) (p : Place) (c : Configuration) (process fd arg : ℕ) (k : LinkKind) → IsMarked drivers p c → IfAccepted (λ d r. IsMarked drivers p d) (link_outcome drivers c process fd arg k)
+marked_linked : (drivers : List DriverSpec) (p : Place) (c : Configuration) (process fd arg : ℕ) (k : LinkKind)
+    → IsMarked drivers p c → IfAccepted (λ d r. IsMarked drivers p d) (link_outcome drivers c process fd arg k)
 marked_linked drivers p c process fd arg k h = search (after_test, after_ok, at_ok, marked_same, rules) depth 24
 
-marked_flushed : (drivers : List DriverSpec) (p : Place) (c : Configuration) (goes : Place → Bool) → IsApart drivers p → IsMarked drivers p c → IsMarked drivers p (without_queues_at c goes)
+marked_flushed : (drivers : List DriverSpec) (p : Place) (c : Configuration) (goes : Place → Bool) → IsApart drivers p
+    → IsMarked drivers p c → IsMarked drivers p (without_queues_at c goes)
 marked_flushed drivers p c goes a h = marked_emptied drivers p c (without_queues_at c goes) goes a h refl refl
 
-marked_accepted : (drivers : List DriverSpec) (p : Place) (c : Configuration) (process : ℕ) (k : Command) → IsApart drivers p → IsMarked drivers p c → IfAccepted (λ d r. IsMarked drivers p d) (outcome drivers c process k)
+marked_accepted : (drivers : List DriverSpec) (p : Place) (c : Configuration) (process : ℕ) (k : Command)
+    → IsApart drivers p → IsMarked drivers p c → IfAccepted (λ d r. IsMarked drivers p d) (outcome drivers c process k)
 marked_accepted drivers p c process (command.OpenClone name) a h = search (after_ok, at_ok, marked_same, rules) depth 20
-marked_accepted drivers p c process (command.OpenMinor name minor) a h = search (after_test, after_ok, at_ok, marked_same, rules) depth 20
+marked_accepted drivers p c process (command.OpenMinor name minor) a h =
+    search (after_test, after_ok, at_ok, marked_same, rules) depth 20
 marked_accepted drivers p c process (command.Dup fd) a h = search (after_ok, at_ok, marked_same, rules) depth 20
 marked_accepted drivers p c process (command.Close fd) a h = search (after_ok, marked_like, rules) depth 20
 marked_accepted drivers p c process command.CloseAll a h = search (marked_like, rules) depth 20
@@ -196,38 +253,54 @@ marked_accepted drivers p c process (command.Link fd arg) a h = search (marked_l
 marked_accepted drivers p c process (command.Plink fd arg) a h = search (marked_linked, rules) depth 20
 marked_accepted drivers p c process (command.Unlink fd w) a h = search (after_ok, marked_unlinked, rules) depth 20
 marked_accepted drivers p c process (command.Punlink fd w) a h = search (after_ok, marked_unlinked, rules) depth 20
-marked_accepted drivers p c process (command.Bind fd addr) a h = search (after_test, after_ok, marked_like, rules) depth 20
+marked_accepted drivers p c process (command.Bind fd addr) a h =
+    search (after_test, after_ok, marked_like, rules) depth 20
 marked_accepted drivers p c process (command.Unbind fd) a h = search (after_test, after_ok, marked_like, rules) depth 20
-marked_accepted drivers p c process (command.Route fd addr id) a h = search (after_test, after_ok, marked_like, rules) depth 20
-marked_accepted drivers p c process (command.Unroute fd addr) a h = search (after_test, after_ok, marked_like, rules) depth 20
+marked_accepted drivers p c process (command.Route fd addr id) a h =
+    search (after_test, after_ok, marked_like, rules) depth 20
+marked_accepted drivers p c process (command.Unroute fd addr) a h =
+    search (after_test, after_ok, marked_like, rules) depth 20
 marked_accepted drivers p c process (command.Write fd addr bytes) a h = search (after_ok, marked_sent, rules) depth 20
-marked_accepted drivers p c process (command.Read fd) a h = search (after_ok, after_choice, at_ok, marked_received, rules) depth 20
-marked_accepted drivers p c process (command.Flush fd w) a h = search (after_ok, marked_done, marked_flushed, rules) depth 20
-marked_accepted drivers p c process (command.Inject name minor addr bytes) a h = search (after_ok, marked_sent, rules) depth 20
-marked_accepted drivers p c process (command.Transmit name minor) a h = search (after_ok, marked_received, rules) depth 20
+marked_accepted drivers p c process (command.Read fd) a h =
+    search (after_ok, after_choice, at_ok, marked_received, rules) depth 20
+marked_accepted drivers p c process (command.Flush fd w) a h =
+    search (after_ok, marked_done, marked_flushed, rules) depth 20
+marked_accepted drivers p c process (command.Inject name minor addr bytes) a h =
+    search (after_ok, marked_sent, rules) depth 20
+marked_accepted drivers p c process (command.Transmit name minor) a h =
+    search (after_ok, marked_received, rules) depth 20
 marked_accepted drivers p c process (command.Hangup name minor) a h = search (after_ok, marked_like, rules) depth 20
 
 -- moves, settling, histories
 
-marked_moved : (drivers : List DriverSpec) (p : Place) (c : Configuration) (q : Place) → IsApart drivers p → IsMarked drivers p c → IsMarked drivers p (after_move drivers c q)
+marked_moved : (drivers : List DriverSpec) (p : Place) (c : Configuration) (q : Place) → IsApart drivers p
+    → IsMarked drivers p c → IsMarked drivers p (after_move drivers c q)
 marked_moved drivers p c q a h = by (next_open_place drivers c q) (first_message c.flow q) where
   by : (o : Option Place) (m : Option Message) → IsMarked drivers p (after_move_to drivers c q o m)
   by (Some r) (Some m) = marked_arrived drivers p (after_leaving drivers c q) r m a (marked_left drivers p c q a h)
   by (Some r) None = h
   by None m = h
 
-marked_settled : (drivers : List DriverSpec) (p : Place) (n : ℕ) (c : Configuration) → IsApart drivers p → IsMarked drivers p c → IsMarked drivers p (after_settling_within drivers n c)
+marked_settled : (drivers : List DriverSpec) (p : Place) (n : ℕ) (c : Configuration) → IsApart drivers p
+    → IsMarked drivers p c → IsMarked drivers p (after_settling_within drivers n c)
 marked_settled drivers p zero c a h = h
-marked_settled drivers p (suc k) c a h = elim (least_movable drivers c) as (λ o. IsMarked drivers p (elim o as (λ _. Configuration) [ None ↦ c | Some q ↦ after_settling_within drivers k (after_move drivers c q) ]))
+marked_settled drivers p (suc k) c a h = elim (least_movable drivers c) as
+    (λ o. IsMarked drivers p
+    (elim o as (λ _. Configuration) [ None ↦ c | Some q ↦ after_settling_within drivers k (after_move drivers c q) ]))
     [ None ↦ h | Some q ↦ marked_settled drivers p k (after_move drivers c q) a (marked_moved drivers p c q a h) ]
 
-marked_finished : (drivers : List DriverSpec) (p : Place) (c : Configuration) (o : Outcome) → IsApart drivers p → IsMarked drivers p c → IfAccepted (λ d r. IsMarked drivers p d) o → IsMarked drivers p (after_outcome drivers c o).0
+marked_finished : (drivers : List DriverSpec) (p : Place) (c : Configuration) (o : Outcome) → IsApart drivers p
+    → IsMarked drivers p c → IfAccepted (λ d r. IsMarked drivers p d) o
+    → IsMarked drivers p (after_outcome drivers c o).0
 marked_finished drivers p c (Ok x) a h k = marked_settled drivers p _ x.0 a k.holds
 marked_finished drivers p c (Err f) a h k = h
 
-marked_from : (drivers : List DriverSpec) (p : Place) (c : Configuration) (es : List Entry) → IsApart drivers p → IsMarked drivers p c → IsMarked drivers p (after_from drivers c es)
+marked_from : (drivers : List DriverSpec) (p : Place) (c : Configuration) (es : List Entry) → IsApart drivers p
+    → IsMarked drivers p c → IsMarked drivers p (after_from drivers c es)
 marked_from drivers p c [] a h = h
-marked_from drivers p c (e ∷ es) a h = marked_from drivers p (step drivers c e.process e.command).0 es a (marked_finished drivers p c (outcome drivers c e.process e.command) a h (marked_accepted drivers p c e.process e.command a h))
+marked_from drivers p c (e ∷ es) a h = marked_from drivers p (step drivers c e.process e.command).0 es a
+    (marked_finished drivers p c (outcome drivers c e.process e.command) a h
+    (marked_accepted drivers p c e.process e.command a h))
 
 -- drivers that can be had
 
@@ -235,31 +308,45 @@ abbrev first_fault : Bool → Bool → Bool → Result (Unit {0}) SpecFault
 first_fault a b c = cond a (Err BadMinors) (cond b (Err BadMarks) (cond c (Err BadMax) (Ok tt)))
 
 low_below_high : (d : DriverSpec) → spec_check d ≡ Ok tt → d.low < d.high
-low_below_high d e = by (ltb d.minors 1 || ltb MAX_MINORS d.minors) (ltb MAX_HIGH d.high || leb d.high d.low) refl e where
-  by : (a b : Bool) → (ltb MAX_HIGH d.high || leb d.high d.low) ≡ b → first_fault a b (ltb d.max 1 || ltb MAX_MESSAGE d.max) ≡ Ok tt → d.low < d.high
-  by true b f k = cc
-  by false true f k = cc
-  by false false f k = leb-false d.high d.low (or_parts (ltb MAX_HIGH d.high) (leb d.high d.low) f).1
+low_below_high d e =
+    by (ltb d.minors 1 || ltb MAX_MINORS d.minors) (ltb MAX_HIGH d.high || leb d.high d.low) refl e where
+      by : (a b : Bool) → (ltb MAX_HIGH d.high || leb d.high d.low) ≡ b
+          → first_fault a b (ltb d.max 1 || ltb MAX_MESSAGE d.max) ≡ Ok tt → d.low < d.high
+      by true b f k = cc
+      by false true f k = cc
+      by false false f k = leb-false d.high d.low (or_parts (ltb MAX_HIGH d.high) (leb d.high d.low) f).1
 
-apart_at : (ds : List DriverSpec) (n : ℕ) → Each (λ d. spec_check d ≡ Ok tt) ds → n < length ds → low_of ds n < high_of ds n
+apart_at : (ds : List DriverSpec) (n : ℕ) → Each (λ d. spec_check d ≡ Ok tt) ds → n < length ds
+    → low_of ds n < high_of ds n
 apart_at [] n h lt = absurd (omega (arith, lt))
 apart_at (d ∷ ds) zero h lt = low_below_high d h.0
 apart_at (d ∷ ds) (suc n) h lt = apart_at ds n h.1 (omega (arith, lt))
 
-always_marked : (drivers : List DriverSpec) (history : List Entry) (p : Place) → IsDriverList drivers → p.stream.driver < length drivers → IsMarked drivers p (after drivers history)
+always_marked : (drivers : List DriverSpec) (history : List Entry) (p : Place) → IsDriverList drivers
+    → p.stream.driver < length drivers → IsMarked drivers p (after drivers history)
 always_marked drivers history p list known =
     let lt = apart_at drivers p.stream.driver (each_of_all _ drivers list.each) known in
-    marked_from drivers p empty history (record { lt = lt }) (record { full = λ e. absurd (false≢true e); free = λ e. omega (arith, lt) })
+    marked_from drivers p empty history (record { lt = lt })
+    (record { full = λ e. absurd (false≢true e); free = λ e. omega (arith, lt) })
 
-pub full_has_more : (drivers : List DriverSpec) (history : List Entry) (p : Place) → IsDriverList drivers → is_full (after drivers history) p ≡ true → low_of drivers p.stream.driver < bytes_at (after drivers history).flow p
-full_has_more drivers history p list full = (always_marked drivers history p list (known (after drivers history).fulls (each_of_all _ _ (always_is_kept drivers history).sound.known.fulls) full)).full full where
-  known : (ps : List Place) → Each (λ q. IsKnown drivers q.stream) ps → list_any (same_place p) ps ≡ true → p.stream.driver < length drivers
-  known [] h e = absurd (false≢true e)
-  known (q ∷ qs) h e = elim (or_cases (same_place p q) (list_any (same_place p) qs) e) [
-    | inl t ↦ subst (λ (x : Place). x.stream.driver < length drivers) (sym (same_place_is p q t)) h.0.0
-    | inr k ↦ known qs h.1 k
-  ]
+-- after any history a full place has more bytes than its low water mark
+pub full_has_more : (drivers : List DriverSpec) (history : List Entry) (p : Place) → IsDriverList drivers
+    → is_full (after drivers history) p ≡ true
+    → low_of drivers p.stream.driver < bytes_at (after drivers history).flow p
+full_has_more drivers history p list
+    full = (always_marked drivers history p list
+    (known (after drivers history).fulls (each_of_all _ _ (always_is_kept drivers history).sound.known.fulls)
+    full)).full full where
+      known : (ps : List Place) → Each (λ q. IsKnown drivers q.stream) ps → list_any (same_place p) ps ≡ true
+          → p.stream.driver < length drivers
+      known [] h e = absurd (false≢true e)
+      known (q ∷ qs) h e = elim (or_cases (same_place p q) (list_any (same_place p) qs) e) [
+        | inl t ↦ subst (λ (x : Place). x.stream.driver < length drivers) (sym (same_place_is p q t)) h.0.0
+        | inr k ↦ known qs h.1 k
+      ]
 
-pub free_has_less : (drivers : List DriverSpec) (history : List Entry) (p : Place) → IsDriverList drivers → p.stream.driver < length drivers → is_full (after drivers history) p ≡ false
+-- after any history a place that isn't full has fewer bytes than its high water mark
+pub free_has_less : (drivers : List DriverSpec) (history : List Entry) (p : Place) → IsDriverList drivers
+    → p.stream.driver < length drivers → is_full (after drivers history) p ≡ false
     → bytes_at (after drivers history).flow p < high_of drivers p.stream.driver
 free_has_less drivers history p list known free = (always_marked drivers history p list known).free free

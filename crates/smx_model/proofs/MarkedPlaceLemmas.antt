@@ -1,8 +1,10 @@
 -- Settling by marks can come to its end, where finitely many places have run marks.
-use Rattle.std.proofs.Common.{◌≡◌, ℕ, zero, suc, ◌*◌, Bool, true, false, ◌&&◌, not, List, [], ◌∷◌, length, Option, Some, None, refl, sym, ap, ◌∙◌, subst, inl, inr}
+use Rattle.std.proofs.Common.{◌≡◌, ℕ, zero, suc, ◌*◌, Bool, true, false, ◌&&◌, not, List, [], ◌∷◌, length, Option, Some}
+use Rattle.std.proofs.Common.{None, refl, sym, ap, ◌∙◌, subst, inl, inr}
 use mathlib.Core.Logic.{◌⊎◌}
 use Rattle.std.specs.List.{Contains, list_any}
-use Rattle.std.proofs.lemmas.Bool.{both_ways, cases_Bool, and_parts, false_from_ne_true, false≢true, or_cases, or_left, or_parts, or_right}
+use Rattle.std.proofs.lemmas.Bool.{both_ways, cases_Bool, and_parts, false_from_ne_true, false≢true, or_cases, or_left}
+use Rattle.std.proofs.lemmas.Bool.{or_parts, or_right}
 use Rattle.smx_types.specs.declared.driver.DriverSpec.{DriverSpec}
 use Rattle.smx_types.specs.declared.message.Message.{Message}
 use Rattle.smx_types.specs.declared.stream.Place.{Place}
@@ -11,9 +13,13 @@ use Rattle.smx_model.specs.FlowOrder.{IsInOrder, NoneBefore}
 use Rattle.smx_model.specs.KeptConfigurations.{IsSound}
 use Rattle.smx_model.specs.Ordered.{with_inserted, without_first}
 use Rattle.smx_model.specs.Queues.{first_message}
-use Rattle.smx_model.specs.RunMarks.{AreMarked, all_but, both, feeds, is_next_of_first, is_one_of, next_of, wanted_after, woken_by}
-use Rattle.smx_model.specs.Settling.{IsSettled, after_move, after_move_to, after_settling_within, is_movable, next_open_place}
-use Rattle.smx_model.specs.SettlingByMarks.{CanSettleByMarks, HasItsMarks, IsCleared, IsLeastMarked, IsMovedOn, MarkedConfiguration, clears_mark, is_first_there, is_settled, moves_on, turned_by_move}
+use Rattle.smx_model.specs.RunMarks.{AreMarked, all_but, both, feeds, is_next_of_first, is_one_of, next_of}
+use Rattle.smx_model.specs.RunMarks.{wanted_after, woken_by}
+use Rattle.smx_model.specs.Settling.{IsSettled, after_move, after_move_to, after_settling_within, is_movable}
+use Rattle.smx_model.specs.Settling.{next_open_place}
+use Rattle.smx_model.specs.SettlingByMarks.{CanSettleByMarks, HasItsMarks, IsCleared, IsLeastMarked, IsMovedOn}
+use Rattle.smx_model.specs.SettlingByMarks.{MarkedConfiguration, clears_mark, is_first_there, is_settled, moves_on}
+use Rattle.smx_model.specs.SettlingByMarks.{turned_by_move}
 use Rattle.smx_model.proofs.FlowLemmas.{order_moved}
 use Rattle.smx_model.proofs.KeptLemmas.{settled_kept}
 use Rattle.smx_model.proofs.MemberLemmas.{first_or_later, in_none}
@@ -30,60 +36,89 @@ abbrev AreWithin : List QueuedMessage → (Place → Bool) → Type 0
 AreWithin hs run = (p : Place) → run p ≡ true → list_any (is_at p) hs ≡ true
 
 -- a place before the first one is none of theirs
-not_there : (h : QueuedMessage) (hs : List QueuedMessage) (q : Place) → NoneBefore h hs → place_before q h.place ≡ true → list_any (is_at q) hs ≡ true → ⊥
+not_there : (h : QueuedMessage) (hs : List QueuedMessage) (q : Place) → NoneBefore h hs → place_before q h.place ≡ true
+    → list_any (is_at q) hs ≡ true → ⊥
 not_there h [] q n b k = false≢true k
 not_there h (g ∷ hs) q n b k = elim (or_cases (is_at q g) (list_any (is_at q) hs) k) [
-  | inl e ↦ both_ways (place_before g.place h.place) n.0 (subst (λ (x : Place). place_before x h.place ≡ true) (sym (same_place_is g.place q e)) b)
+  | inl e ↦ both_ways (place_before g.place h.place) n.0
+      (subst (λ (x : Place). place_before x h.place ≡ true) (sym (same_place_is g.place q e)) b)
   | inr later ↦ not_there h hs q n.1 b later
 ]
 
-least_there : (h : QueuedMessage) (hs : List QueuedMessage) (run : Place → Bool) → IsInOrder (h ∷ hs) → AreWithin (h ∷ hs) run → run h.place ≡ true → IsLeastMarked run h.place
-least_there h hs run o w t = record { marked = t; none_before = λ q b. false_from_ne_true (run q) (λ k. none q b (or_cases (is_at q h) (list_any (is_at q) hs) (w q k))) } where
+least_there : (h : QueuedMessage) (hs : List QueuedMessage) (run : Place → Bool) → IsInOrder (h ∷ hs)
+    → AreWithin (h ∷ hs) run → run h.place ≡ true → IsLeastMarked run h.place
+least_there h hs run o w t = record {
+  marked = t;
+  none_before = λ q b.
+      false_from_ne_true (run q) (λ k. none q b (or_cases (is_at q h) (list_any (is_at q) hs) (w q k)));
+} where
   none : (q : Place) → place_before q h.place ≡ true → (is_at q h ≡ true) ⊎ (list_any (is_at q) hs ≡ true) → ⊥
-  none q b (inl e) = both_ways (place_before q q) (same_not_before q) (subst (λ (x : Place). place_before q x ≡ true) (same_place_is h.place q e) b)
+  none q b (inl e) = both_ways (place_before q q) (same_not_before q)
+      (subst (λ (x : Place). place_before q x ≡ true) (same_place_is h.place q e) b)
   none q b (inr k) = not_there h hs q o.0 b k
 
 -- the place of the first one has no mark, or it is cleared
-within_rest : (h : QueuedMessage) (hs : List QueuedMessage) (run : Place → Bool) → AreWithin (h ∷ hs) run → run h.place ≡ false → AreWithin hs run
+within_rest : (h : QueuedMessage) (hs : List QueuedMessage) (run : Place → Bool) → AreWithin (h ∷ hs) run
+    → run h.place ≡ false → AreWithin hs run
 within_rest h hs run w f p t = elim (or_cases (is_at p h) (list_any (is_at p) hs) (w p t)) [
   | inl e ↦ absurd (both_ways (run p) (sym (ap run (same_place_is h.place p e)) ∙ f) t)
   | inr k ↦ k
 ]
 
-within_cleared : (h : QueuedMessage) (hs : List QueuedMessage) (run : Place → Bool) → AreWithin (h ∷ hs) run → AreWithin hs (all_but run h.place)
-within_cleared h hs run w p t = let a = and_parts (run p) (not (same_place h.place p)) t in elim (or_cases (is_at p h) (list_any (is_at p) hs) (w p a.0)) [
-  | inl e ↦ absurd (both_ways (not (same_place h.place p)) (ap not e) a.1)
-  | inr k ↦ k
-]
+within_cleared : (h : QueuedMessage) (hs : List QueuedMessage) (run : Place → Bool) → AreWithin (h ∷ hs) run
+    → AreWithin hs (all_but run h.place)
+within_cleared h hs run w p t = let a = and_parts (run p) (not (same_place h.place p)) t in
+    elim (or_cases (is_at p h) (list_any (is_at p) hs) (w p a.0)) [
+      | inl e ↦ absurd (both_ways (not (same_place h.place p)) (ap not e) a.1)
+      | inr k ↦ k
+    ]
 
 -- ---- all marks before the first movable place are cleared
 
 -- from any marks over the configuration, the move of the least marked place goes on to the end
 abbrev MovesGoOn : List DriverSpec → Configuration → Type 0
-MovesGoOn drivers c = (hs : List QueuedMessage) (run wanted : Place → Bool) (p : Place) → IsInOrder hs → AreWithin hs run → AreMarked drivers c run wanted → IsLeastMarked run p → is_movable drivers c p ≡ true
+MovesGoOn drivers c = (hs : List QueuedMessage) (run wanted : Place → Bool) (p : Place) → IsInOrder hs
+    → AreWithin hs run → AreMarked drivers c run wanted → IsLeastMarked run p → is_movable drivers c p ≡ true
     → CanSettleByMarks drivers (record { configuration = c; run = run; wanted = wanted })
 
-looks_end : (drivers : List DriverSpec) (c : Configuration) → MovesGoOn drivers c → (hs : List QueuedMessage) (run wanted : Place → Bool) → IsInOrder hs → AreWithin hs run → AreMarked drivers c run wanted
+looks_end : (drivers : List DriverSpec) (c : Configuration) → MovesGoOn drivers c
+    → (hs : List QueuedMessage) (run wanted : Place → Bool) → IsInOrder hs → AreWithin hs run
+    → AreMarked drivers c run wanted
     → CanSettleByMarks drivers (record { configuration = c; run = run; wanted = wanted })
 looks_end drivers c go [] run wanted o w a = record {
   moves = [];
   end = record { configuration = c; run = run; wanted = wanted };
-  settles = is_settled (record { configuration = c; run = run; wanted = wanted }) (λ p. false_from_ne_true (run p) (λ t. false≢true (w p t)));
+  settles = is_settled (record { configuration = c; run = run; wanted = wanted })
+      (λ p. false_from_ne_true (run p) (λ t. false≢true (w p t)));
 }
 looks_end drivers c go (h ∷ hs) run wanted o w a = elim (cases_Bool (run h.place)) [
   | inr f ↦ looks_end drivers c go hs run wanted o.1 (within_rest h hs run w f) a
   | inl t ↦ elim (cases_Bool (is_movable drivers c h.place)) [
     | inl m ↦ go (h ∷ hs) run wanted h.place o w a (least_there h hs run o w t) m
-    | inr s ↦ clear t s (looks_end drivers c go hs (all_but run h.place) (both wanted (is_next_of_first drivers c h.place)) o.1 (within_cleared h hs run w) (cleared drivers c run wanted h.place a s))
+    | inr s ↦
+        clear t s (looks_end drivers c go hs (all_but run h.place) (both wanted (is_next_of_first drivers c h.place))
+        o.1 (within_cleared h hs run w) (cleared drivers c run wanted h.place a s))
   ]
 ] where
-  clear : run h.place ≡ true → is_movable drivers c h.place ≡ false → CanSettleByMarks drivers (record { configuration = c; run = all_but run h.place; wanted = both wanted (is_next_of_first drivers c h.place) })
+  clear : run h.place ≡ true → is_movable drivers c h.place ≡ false
+      → CanSettleByMarks drivers
+      (record {
+        configuration = c;
+        run = all_but run h.place;
+        wanted = both wanted (is_next_of_first drivers c h.place);
+      })
       → CanSettleByMarks drivers (record { configuration = c; run = run; wanted = wanted })
   clear t s rest = record {
     moves = rest.moves;
     end = rest.end;
-    settles = clears_mark (record { configuration = c; run = run; wanted = wanted }) (record { configuration = c; run = all_but run h.place; wanted = both wanted (is_next_of_first drivers c h.place) }) rest.end h.place rest.moves
-        (record { least = least_there h hs run o w t; waits = s; same = refl; run = λ q. refl; wanted = λ q k. k }) rest.settles;
+    settles = clears_mark (record { configuration = c; run = run; wanted = wanted })
+        (record {
+          configuration = c;
+          run = all_but run h.place;
+          wanted = both wanted (is_next_of_first drivers c h.place);
+        }) rest.end h.place rest.moves
+        (record { least = least_there h hs run o w t; waits = s; same = refl; run = λ q. refl; wanted = λ q k. k })
+        rest.settles;
   }
 
 -- ---- marks after a move
@@ -97,86 +132,115 @@ joined_in_order : (gs hs : List QueuedMessage) → IsInOrder hs → IsInOrder (j
 joined_in_order [] hs o = o
 joined_in_order (g ∷ gs) hs o = order_placed (joined gs hs) g (joined_in_order gs hs o)
 
-in_either : (t : QueuedMessage → Bool) (gs hs : List QueuedMessage) → (list_any t gs ≡ true) ⊎ (list_any t hs ≡ true) → list_any t (joined gs hs) ≡ true
+in_either : (t : QueuedMessage → Bool) (gs hs : List QueuedMessage) → (list_any t gs ≡ true) ⊎ (list_any t hs ≡ true)
+    → list_any t (joined gs hs) ≡ true
 in_either t [] hs (inl k) = absurd (false≢true k)
 in_either t [] hs (inr k) = k
-in_either t (g ∷ gs) hs (inl k) = any_of_placed t queued_before (joined gs hs) g ∙ elim (or_cases (t g) (list_any t gs) k) [ inl a ↦ or_left _ _ a | inr b ↦ or_right _ _ (in_either t gs hs (inl b)) ]
-in_either t (g ∷ gs) hs (inr k) = any_of_placed t queued_before (joined gs hs) g ∙ or_right _ _ (in_either t gs hs (inr k))
+in_either t (g ∷ gs) hs (inl k) = any_of_placed t queued_before (joined gs hs) g
+    ∙ elim (or_cases (t g) (list_any t gs) k)
+    [ inl a ↦ or_left _ _ a | inr b ↦ or_right _ _ (in_either t gs hs (inl b)) ]
+in_either t (g ∷ gs) hs (inr k) =
+    any_of_placed t queued_before (joined gs hs) g ∙ or_right _ _ (in_either t gs hs (inr k))
 
 -- a place of no message has no first one
 none_first : (hs : List QueuedMessage) (p : Place) → list_any (is_at p) hs ≡ false → first_message hs p ≡ None
 none_first [] p e = refl
 none_first (h ∷ hs) p e = let a = or_parts (is_at p h) (list_any (is_at p) hs) e in rw a.0 (none_first hs p a.1)
 
-feeds_there : (drivers : List DriverSpec) (c : Configuration) (places : Place → Bool) (p : Place) → feeds drivers c places p ≡ true → list_any (is_at p) c.flow ≡ true
+feeds_there : (drivers : List DriverSpec) (c : Configuration) (places : Place → Bool) (p : Place)
+    → feeds drivers c places p ≡ true → list_any (is_at p) c.flow ≡ true
 feeds_there drivers c places p k = elim (cases_Bool (list_any (is_at p) c.flow)) [
   | inl t ↦ t
-  | inr f ↦ absurd (false≢true (sym (ap (λ (o : Option Message). is_one_of places (next_of drivers c p o)) (none_first c.flow p f)) ∙ k))
+  | inr f ↦
+      absurd (false≢true
+      (sym (ap (λ (o : Option Message). is_one_of places (next_of drivers c p o)) (none_first c.flow p f)) ∙ k))
 ]
 
 -- the place that a message arrives at has one
-arrives_there : (drivers : List DriverSpec) (c : Configuration) (p r : Place) → is_first_there drivers c p (next_open_place drivers c p) r ≡ true → list_any (is_at r) (after_move drivers c p).flow ≡ true
+arrives_there : (drivers : List DriverSpec) (c : Configuration) (p r : Place)
+    → is_first_there drivers c p (next_open_place drivers c p) r ≡ true
+    → list_any (is_at r) (after_move drivers c p).flow ≡ true
 arrives_there drivers c p r k = by (next_open_place drivers c p) refl k where
-  by : (w : Option Place) → next_open_place drivers c p ≡ w → is_first_there drivers c p w r ≡ true → list_any (is_at r) (after_move drivers c p).flow ≡ true
+  by : (w : Option Place) → next_open_place drivers c p ≡ w → is_first_there drivers c p w r ≡ true
+      → list_any (is_at r) (after_move drivers c p).flow ≡ true
   by None e k = absurd (false≢true k)
   by (Some q) e k =
       let n = open_next drivers c p q e in
-      let is : after_move drivers c p ≡ after_move_to drivers c p (Some q) (Some n.0) = ap (λ (w : Option Place). after_move_to drivers c p w (first_message c.flow p)) e ∙ ap (after_move_to drivers c p (Some q)) n.1 in
+      let is : after_move drivers c p ≡ after_move_to drivers c p (Some q)
+      (Some n.0) = ap (λ (w : Option Place). after_move_to drivers c p w (first_message c.flow p)) e
+      ∙ ap (after_move_to drivers c p (Some q)) n.1 in
       subst (λ (d : Configuration). list_any (is_at r) d.flow ≡ true) (sym is)
-      (any_of_placed (is_at r) queued_before (without_first (is_at p) c.flow) (record { place = q; message = n.0 }) ∙ or_left _ _ (and_parts (same_place q r) _ k).0)
+      (any_of_placed (is_at r) queued_before (without_first (is_at p) c.flow) (record { place = q; message = n.0 })
+      ∙ or_left _ _ (and_parts (same_place q r) _ k).0)
 
 -- the run marks and wanted marks that a move leaves
 abbrev marked_move : List DriverSpec → MarkedConfiguration → Place → MarkedConfiguration
 marked_move drivers m p = record {
   configuration = after_move drivers m.configuration p;
-  run = both m.run (woken_by drivers m.configuration (after_move drivers m.configuration p) m.wanted (turned_by_move drivers m.configuration p));
+  run = both m.run (woken_by drivers m.configuration (after_move drivers m.configuration p) m.wanted
+      (turned_by_move drivers m.configuration p));
   wanted = wanted_after m.configuration (after_move drivers m.configuration p) m.wanted;
 }
 
-within_moved : (drivers : List DriverSpec) (m : MarkedConfiguration) (p : Place) (hs : List QueuedMessage) → AreWithin hs m.run → m.run p ≡ true → AreWithin (joined hs (after_move drivers m.configuration p).flow) (marked_move drivers m p).run
-within_moved drivers m p hs w marked r t = in_either (is_at r) hs (after_move drivers m.configuration p).flow (elim (or_cases (m.run r) _ t) [
-  | inl k ↦ inl (w r k)
-  | inr k ↦ elim (or_cases (turned_by_move drivers m.configuration p r) _ k) [
-    | inl turned ↦ elim (or_cases (same_place p r) _ turned) [
-      | inl same ↦ inl (w r (subst (λ (x : Place). m.run x ≡ true) (same_place_is p r same) marked))
-      | inr first ↦ inr (arrives_there drivers m.configuration p r first)
-    ]
-    | inr fed ↦ inr (feeds_there drivers (after_move drivers m.configuration p) _ r fed)
-  ]
-])
+within_moved : (drivers : List DriverSpec) (m : MarkedConfiguration) (p : Place) (hs : List QueuedMessage)
+    → AreWithin hs m.run → m.run p ≡ true
+    → AreWithin (joined hs (after_move drivers m.configuration p).flow) (marked_move drivers m p).run
+within_moved drivers m p hs w marked r t =
+    in_either (is_at r) hs (after_move drivers m.configuration p).flow (elim (or_cases (m.run r) _ t) [
+      | inl k ↦ inl (w r k)
+      | inr k ↦ elim (or_cases (turned_by_move drivers m.configuration p r) _ k) [
+        | inl turned ↦ elim (or_cases (same_place p r) _ turned) [
+          | inl same ↦ inl (w r (subst (λ (x : Place). m.run x ≡ true) (same_place_is p r same) marked))
+          | inr first ↦ inr (arrives_there drivers m.configuration p r first)
+        ]
+        | inr fed ↦ inr (feeds_there drivers (after_move drivers m.configuration p) _ r fed)
+      ]
+    ])
 
 -- ---- to the end
 
 -- from any marks over a configuration that so many moves settle, it comes to the end
 abbrev EndsWithin : List DriverSpec → ℕ → Type 0
-EndsWithin drivers n = (m : MarkedConfiguration) (hs : List QueuedMessage) → IsInOrder m.configuration.flow → HasItsMarks drivers m → IsSettled drivers (after_settling_within drivers n m.configuration)
+EndsWithin drivers n = (m : MarkedConfiguration) (hs : List QueuedMessage) → IsInOrder m.configuration.flow
+    → HasItsMarks drivers m → IsSettled drivers (after_settling_within drivers n m.configuration)
     → IsInOrder hs → AreWithin hs m.run → CanSettleByMarks drivers m
 
 -- the first of these moves, and the others
-moves_then : (drivers : List DriverSpec) (old : MarkedConfiguration) (p : Place) → IsLeastMarked old.run p → is_movable drivers old.configuration p ≡ true → CanSettleByMarks drivers (marked_move drivers old p) → CanSettleByMarks drivers old
+moves_then : (drivers : List DriverSpec) (old : MarkedConfiguration) (p : Place) → IsLeastMarked old.run p
+    → is_movable drivers old.configuration p ≡ true → CanSettleByMarks drivers (marked_move drivers old p)
+    → CanSettleByMarks drivers old
 moves_then drivers old p l t rest = record {
   moves = p ∷ rest.moves;
   end = rest.end;
-  settles = moves_on old (marked_move drivers old p) rest.end p rest.moves (record { least = l; movable = t; moved = refl; marks = record { run = λ q _ k. k; wanted = λ q k. k } }) rest.settles;
+  settles = moves_on old (marked_move drivers old p) rest.end p rest.moves
+      (record { least = l; movable = t; moved = refl; marks = record { run = λ q _ k. k; wanted = λ q k. k } })
+      rest.settles;
 }
 
-moves_go_on : (drivers : List DriverSpec) (n : ℕ) (c : Configuration) → IsInOrder c.flow → IsSettled drivers (after_settling_within drivers (suc n) c) → EndsWithin drivers n → MovesGoOn drivers c
+moves_go_on : (drivers : List DriverSpec) (n : ℕ) (c : Configuration) → IsInOrder c.flow
+    → IsSettled drivers (after_settling_within drivers (suc n) c) → EndsWithin drivers n → MovesGoOn drivers c
 moves_go_on drivers n c o s later hs run wanted p ordered within a l t = moves_then drivers old p l t
     (later (marked_move drivers old p) (joined hs (after_move drivers c p).flow) (order_moved drivers c p o)
-    (move_keeps_marks drivers p old (marked_move drivers old p) o a refl (record { run = λ q _ k. k; wanted = λ q k. k }))
+    (move_keeps_marks drivers p old (marked_move drivers old p) o a refl
+    (record { run = λ q _ k. k; wanted = λ q k. k }))
     (subst (IsSettled drivers) (settling_moves drivers n c p (marked_is_least drivers c run wanted p o a l t)) s)
-    (joined_in_order hs (after_move drivers c p).flow (order_moved drivers c p o)) (within_moved drivers old p hs within l.marked)) where
+    (joined_in_order hs (after_move drivers c p).flow (order_moved drivers c p o))
+    (within_moved drivers old p hs within l.marked)) where
       old : MarkedConfiguration
       old = record { configuration = c; run = run; wanted = wanted }
 
 ends_within : (drivers : List DriverSpec) (n : ℕ) → EndsWithin drivers n
-ends_within drivers zero m hs o h s ordered w = looks_end drivers m.configuration (λ gs run wanted p _ _ _ _ t. absurd (both_ways (is_movable drivers m.configuration p) (s p) t)) hs m.run m.wanted ordered w h
-ends_within drivers (suc n) m hs o h s ordered w = looks_end drivers m.configuration (moves_go_on drivers n m.configuration o s (ends_within drivers n)) hs m.run m.wanted ordered w h
+ends_within drivers zero m hs o h s ordered w = looks_end drivers m.configuration
+    (λ gs run wanted p _ _ _ _ t. absurd (both_ways (is_movable drivers m.configuration p) (s p) t)) hs m.run m.wanted
+    ordered w h
+ends_within drivers (suc n) m hs o h s ordered w = looks_end drivers m.configuration
+    (moves_go_on drivers n m.configuration o s (ends_within drivers n)) hs m.run m.wanted ordered w h
 
 -- messages at these places
 abbrev messages_at : List Place → List QueuedMessage
 messages_at [] = []
-messages_at (p ∷ ps) = with_inserted queued_before (messages_at ps) (record { place = p; message = record { serial = 0; addr = 0; bytes = [] } })
+messages_at (p ∷ ps) = with_inserted queued_before (messages_at ps)
+    (record { place = p; message = record { serial = 0; addr = 0; bytes = [] } })
 
 messages_in_order : (ps : List Place) → IsInOrder (messages_at ps)
 messages_in_order [] = tt
@@ -189,17 +253,31 @@ message_there p (q ∷ ps) h = any_of_placed (is_at p) queued_before (messages_a
   | inr k ↦ or_right _ _ (message_there p ps k)
 ]
 
-pub settling_ends : (drivers : List DriverSpec) (m : MarkedConfiguration) (places : List Place) → IsSound drivers m.configuration → HasItsMarks drivers m → ((p : Place) → m.run p ≡ true → Contains places p) → CanSettleByMarks drivers m
-settling_ends drivers m places sound h w = ends_within drivers (length m.configuration.flow * length drivers) m (messages_at places) sound.ordered.flow h (settled_kept drivers m.configuration sound).settled
+-- settling by marks can come to its end, where all run marks stand at the places of a list
+pub settling_ends : (drivers : List DriverSpec) (m : MarkedConfiguration) (places : List Place)
+    → IsSound drivers m.configuration → HasItsMarks drivers m → ((p : Place) → m.run p ≡ true → Contains places p)
+    → CanSettleByMarks drivers m
+settling_ends drivers m places sound h w = ends_within drivers (length m.configuration.flow * length drivers) m
+    (messages_at places) sound.ordered.flow h (settled_kept drivers m.configuration sound).settled
     (messages_in_order places) (λ p t. message_there p places (w p t))
 
 -- ---- the least that is asked for
 
-pub least_move : (drivers : List DriverSpec) (p : Place) (m : MarkedConfiguration) → IsLeastMarked m.run p → is_movable drivers m.configuration p ≡ true → IsMovedOn drivers p m (marked_move drivers m p)
-least_move drivers p m l t = record { least = l; movable = t; moved = refl; marks = record { run = λ q _ k. k; wanted = λ q k. k } }
+-- where the least marked place is movable, its move, with a run mark at what it woke, is one of settling by marks
+pub least_move : (drivers : List DriverSpec) (p : Place) (m : MarkedConfiguration) → IsLeastMarked m.run p
+    → is_movable drivers m.configuration p ≡ true → IsMovedOn drivers p m (marked_move drivers m p)
+least_move drivers p m l t =
+    record { least = l; movable = t; moved = refl; marks = record { run = λ q _ k. k; wanted = λ q k. k } }
 
-pub least_clear : (drivers : List DriverSpec) (p : Place) (m : MarkedConfiguration) → IsLeastMarked m.run p → is_movable drivers m.configuration p ≡ false
-    → IsCleared drivers p m (record { configuration = m.configuration; run = all_but m.run p; wanted = both m.wanted (is_next_of_first drivers m.configuration p) })
+-- where the least marked place isn't movable, it is cleared: its run mark goes, and its next place is wanted
+pub least_clear : (drivers : List DriverSpec) (p : Place) (m : MarkedConfiguration) → IsLeastMarked m.run p
+    → is_movable drivers m.configuration p ≡ false
+    → IsCleared drivers p m
+    (record {
+      configuration = m.configuration;
+      run = all_but m.run p;
+      wanted = both m.wanted (is_next_of_first drivers m.configuration p);
+    })
 least_clear drivers p m l t = record { least = l; waits = t; same = refl; run = λ q. refl; wanted = λ q k. k }
 
 and_true : (b : Bool) → (b && true) ≡ b
@@ -210,7 +288,9 @@ and_false : (b : Bool) → (b && false) ≡ false
 and_false true = refl
 and_false false = refl
 
-pub one_mark : (drivers : List DriverSpec) (p : Place) (old new : MarkedConfiguration) → IsCleared drivers p old new → IsLeastMarked old.run p × (new.run p ≡ false) × ((q : Place) → same_place p q ≡ false → new.run q ≡ old.run q)
+-- to clear takes away the run mark of the least marked place, and no other
+pub one_mark : (drivers : List DriverSpec) (p : Place) (old new : MarkedConfiguration) → IsCleared drivers p old new
+    → IsLeastMarked old.run p × (new.run p ≡ false) × ((q : Place) → same_place p q ≡ false → new.run q ≡ old.run q)
 one_mark drivers p old new k = (
   k.least,
   k.run p ∙ (ap (λ (b : Bool). old.run p && not b) (same_self p) ∙ and_false (old.run p)),

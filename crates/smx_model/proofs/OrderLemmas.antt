@@ -1,12 +1,14 @@
 -- A flow in order is what its queues are.
-use Rattle.std.proofs.Common.{◌≡◌, ℕ, Bool, true, false, ◌&&◌, ◌||◌, eqb, ltb, List, [], ◌∷◌, ◌++◌, filter, refl, sym, ap, ◌∙◌, subst, arith, inl, inr}
+use Rattle.std.proofs.Common.{◌≡◌, ℕ, Bool, true, false, ◌&&◌, ◌||◌, eqb, ltb, List, [], ◌∷◌, ◌++◌, filter, refl, sym}
+use Rattle.std.proofs.Common.{ap, ◌∙◌, subst, arith, inl, inr}
 use Rattle.std.proofs.lemmas.Bool.{both_ways, cases_Bool}
 use Rattle.std.proofs.lemmas.Bool.Decides.{nat_tests}
 use Rattle.smx_types.specs.declared.message.Message.{Message}
 use Rattle.smx_types.specs.declared.stream.Place.{Place}
 use Rattle.smx_types.specs.declared.stream.Side.{Side}
 use Rattle.smx_types.specs.declared.stream.Side.TheVariants as side
-use Rattle.smx_model.specs.Configuration.{QueuedMessage, is_at, queued_before, place_before, same_place, same_side, side_before, pair_before}
+use Rattle.smx_model.specs.Configuration.{QueuedMessage, is_at, queued_before, place_before, same_place, same_side}
+use Rattle.smx_model.specs.Configuration.{side_before, pair_before}
 use Rattle.smx_model.specs.FlowOrder.{NoneBefore, IsInOrder}
 use Rattle.smx_model.specs.Ordered.{with_inserted, without_first}
 use Rattle.smx_model.specs.Queues.{queue}
@@ -44,41 +46,56 @@ apart a b c x y z u v w h k = grind (arith, nat_tests)
 not_after : (a b c x y z : ℕ) → before3 a b c x y z ≡ true → before3 x y z a b c ≡ false
 not_after a b c x y z h = grind (arith, nat_tests)
 
-trans3 : (a b c x y z u v w : ℕ) → before3 a b c x y z ≡ true → before3 u v w x y z ≡ false → before3 u v w a b c ≡ false
+trans3 : (a b c x y z u v w : ℕ) → before3 a b c x y z ≡ true → before3 u v w x y z ≡ false
+    → before3 u v w a b c ≡ false
 trans3 a b c x y z u v w h k = grind (arith, nat_tests)
 
-before_is : (p q : Place) → place_before p q ≡ before3 p.stream.driver p.stream.minor (number p.side) q.stream.driver q.stream.minor (number q.side)
+before_is : (p q : Place) → place_before p q
+    ≡ before3 p.stream.driver p.stream.minor (number p.side) q.stream.driver q.stream.minor (number q.side)
 before_is p q = rw (sides_before p.side q.side) refl
 
-same_is : (p q : Place) → same_place p q ≡ same3 p.stream.driver p.stream.minor (number p.side) q.stream.driver q.stream.minor (number q.side)
+same_is : (p q : Place) → same_place p q ≡ same3 p.stream.driver p.stream.minor
+    (number p.side) q.stream.driver q.stream.minor (number q.side)
 same_is p q = rw (sides_same p.side q.side) refl
 
+-- of two places that differ, one comes before the other
 pub place_either : (p q : Place) → same_place p q ≡ false → place_before p q ≡ false → place_before q p ≡ true
-place_either p q h k = before_is q p ∙ trichotomy p.stream.driver p.stream.minor (number p.side) q.stream.driver q.stream.minor (number q.side) (sym (same_is p q) ∙ h) (sym (before_is p q) ∙ k)
+place_either p q h k = before_is q p ∙ trichotomy p.stream.driver p.stream.minor
+    (number p.side) q.stream.driver q.stream.minor (number q.side) (sym (same_is p q) ∙ h) (sym (before_is p q) ∙ k)
 
 place_apart : (p q r : Place) → place_before p q ≡ true → place_before r q ≡ false → same_place r p ≡ false
-place_apart p q r h k = same_is r p ∙ apart p.stream.driver p.stream.minor (number p.side) q.stream.driver q.stream.minor (number q.side) r.stream.driver r.stream.minor (number r.side) (sym (before_is p q) ∙ h) (sym (before_is r q) ∙ k)
+place_apart p q r h k = same_is r p ∙ apart p.stream.driver p.stream.minor (number p.side) q.stream.driver
+    q.stream.minor (number q.side) r.stream.driver r.stream.minor (number r.side) (sym (before_is p q) ∙ h)
+    (sym (before_is r q) ∙ k)
 
 place_trans : (p q r : Place) → place_before p q ≡ true → place_before r q ≡ false → place_before r p ≡ false
-place_trans p q r h k = before_is r p ∙ trans3 p.stream.driver p.stream.minor (number p.side) q.stream.driver q.stream.minor (number q.side) r.stream.driver r.stream.minor (number r.side) (sym (before_is p q) ∙ h) (sym (before_is r q) ∙ k)
+place_trans p q r h k = before_is r p ∙ trans3 p.stream.driver p.stream.minor (number p.side) q.stream.driver
+    q.stream.minor (number q.side) r.stream.driver r.stream.minor (number r.side) (sym (before_is p q) ∙ h)
+    (sym (before_is r q) ∙ k)
 
 place_not_after : (p q : Place) → place_before p q ≡ true → place_before q p ≡ false
-place_not_after p q h = before_is q p ∙ not_after p.stream.driver p.stream.minor (number p.side) q.stream.driver q.stream.minor (number q.side) (sym (before_is p q) ∙ h)
+place_not_after p q h = before_is q p ∙ not_after p.stream.driver p.stream.minor
+    (number p.side) q.stream.driver q.stream.minor (number q.side) (sym (before_is p q) ∙ h)
 
+-- the order of places is transitive
 pub place_before_trans : (p q r : Place) → place_before p q ≡ true → place_before q r ≡ true → place_before p r ≡ true
 place_before_trans p q r h k = elim (cases_Bool (place_before p r)) [
   | inl t ↦ t
   | inr f ↦ elim (cases_Bool (same_place p r)) [
-    | inl s ↦ absurd (both_ways (place_before q p) (place_not_after p q h) (subst (λ (x : Place). place_before q x ≡ true) (sym (same_place_is p r s)) k))
+    | inl s ↦
+        absurd (both_ways (place_before q p) (place_not_after p q h)
+        (subst (λ (x : Place). place_before q x ≡ true) (sym (same_place_is p r s)) k))
     | inr n ↦ absurd (both_ways (place_before q r) (place_trans r p q (place_either p r n f) (place_not_after p q h)) k)
   ]
 ]
 
+-- a place is the same as itself
 pub same_self : (p : Place) → same_place p p ≡ true
 same_self p = same_is p p ∙ self3 p.stream.driver p.stream.minor (number p.side) where
   self3 : (a b c : ℕ) → same3 a b c a b c ≡ true
   self3 a b c = grind (arith, nat_tests)
 
+-- no place comes before itself
 pub same_not_before : (p : Place) → place_before p p ≡ false
 same_not_before p = before_is p p ∙ self3 p.stream.driver p.stream.minor (number p.side) where
   self3 : (a b c : ℕ) → before3 a b c a b c ≡ false
@@ -92,54 +109,78 @@ no_head m ms e = cc
 
 -- order is kept
 
-none_before_less : (h k : QueuedMessage) (hs : List QueuedMessage) → queued_before h k ≡ true → NoneBefore k hs → NoneBefore h hs
+none_before_less : (h k : QueuedMessage) (hs : List QueuedMessage) → queued_before h k ≡ true → NoneBefore k hs
+    → NoneBefore h hs
 none_before_less h k [] lt n = tt
 none_before_less h k (j ∷ hs) lt n = (place_trans h.place k.place j.place lt n.0, none_before_less h k hs lt n.1)
 
-none_before_placed : (k h : QueuedMessage) (hs : List QueuedMessage) → queued_before h k ≡ false → NoneBefore k hs → NoneBefore k (with_inserted queued_before hs h)
+none_before_placed : (k h : QueuedMessage) (hs : List QueuedMessage) → queued_before h k ≡ false → NoneBefore k hs
+    → NoneBefore k (with_inserted queued_before hs h)
 none_before_placed k h [] lt n = (lt, tt)
-none_before_placed k h (j ∷ hs) lt n = elim (cases_Bool (queued_before h j)) [ inl t ↦ rw t (lt, n) | inr f ↦ rw f (n.0, none_before_placed k h hs lt n.1) ]
+none_before_placed k h (j ∷ hs) lt n = elim (cases_Bool (queued_before h j))
+    [ inl t ↦ rw t (lt, n) | inr f ↦ rw f (n.0, none_before_placed k h hs lt n.1) ]
 
-pub order_placed : (hs : List QueuedMessage) (h : QueuedMessage) → IsInOrder hs → IsInOrder (with_inserted queued_before hs h)
+-- a flow in order stays so when a message is inserted by its place
+pub order_placed : (hs : List QueuedMessage) (h : QueuedMessage) → IsInOrder hs
+    → IsInOrder (with_inserted queued_before hs h)
 order_placed [] h o = (tt, tt)
 order_placed (k ∷ hs) h o = elim (cases_Bool (queued_before h k)) [
   | inl t ↦ rw t ((place_not_after h.place k.place t, none_before_less h k hs t o.0), o)
   | inr f ↦ rw f (none_before_placed k h hs f o.0, order_placed hs h o.1)
 ]
 
-none_before_filter : (k : QueuedMessage) (test : QueuedMessage → Bool) (hs : List QueuedMessage) → NoneBefore k hs → NoneBefore k (filter test hs)
+none_before_filter : (k : QueuedMessage) (test : QueuedMessage → Bool) (hs : List QueuedMessage) → NoneBefore k hs
+    → NoneBefore k (filter test hs)
 none_before_filter k test [] n = tt
-none_before_filter k test (h ∷ hs) n = elim (cases_Bool (test h)) [ inl t ↦ rw t (n.0, none_before_filter k test hs n.1) | inr f ↦ rw f (none_before_filter k test hs n.1) ]
+none_before_filter k test (h ∷ hs) n = elim (cases_Bool (test h))
+    [ inl t ↦ rw t (n.0, none_before_filter k test hs n.1) | inr f ↦ rw f (none_before_filter k test hs n.1) ]
 
+-- a flow in order stays so when it is filtered
 pub order_filter : (test : QueuedMessage → Bool) (hs : List QueuedMessage) → IsInOrder hs → IsInOrder (filter test hs)
 order_filter test [] o = tt
-order_filter test (h ∷ hs) o = elim (cases_Bool (test h)) [ inl t ↦ rw t (none_before_filter h test hs o.0, order_filter test hs o.1) | inr f ↦ rw f (order_filter test hs o.1) ]
+order_filter test (h ∷ hs) o = elim (cases_Bool (test h)) [
+  | inl t ↦ rw t (none_before_filter h test hs o.0, order_filter test hs o.1)
+  | inr f ↦
+      rw f (order_filter test hs o.1)
+]
 
-none_before_without : (k : QueuedMessage) (test : QueuedMessage → Bool) (hs : List QueuedMessage) → NoneBefore k hs → NoneBefore k (without_first test hs)
+none_before_without : (k : QueuedMessage) (test : QueuedMessage → Bool) (hs : List QueuedMessage) → NoneBefore k hs
+    → NoneBefore k (without_first test hs)
 none_before_without k test [] n = tt
-none_before_without k test (h ∷ hs) n = elim (cases_Bool (test h)) [ inl t ↦ rw t n.1 | inr f ↦ rw f (n.0, none_before_without k test hs n.1) ]
+none_before_without k test (h ∷ hs) n =
+    elim (cases_Bool (test h)) [ inl t ↦ rw t n.1 | inr f ↦ rw f (n.0, none_before_without k test hs n.1) ]
 
-pub order_without : (test : QueuedMessage → Bool) (hs : List QueuedMessage) → IsInOrder hs → IsInOrder (without_first test hs)
+-- a flow in order stays so without the first message that passes a test
+pub order_without : (test : QueuedMessage → Bool) (hs : List QueuedMessage) → IsInOrder hs
+    → IsInOrder (without_first test hs)
 order_without test [] o = tt
-order_without test (h ∷ hs) o = elim (cases_Bool (test h)) [ inl t ↦ rw t o.1 | inr f ↦ rw f (none_before_without h test hs o.0, order_without test hs o.1) ]
+order_without test (h ∷ hs) o = elim (cases_Bool (test h))
+    [ inl t ↦ rw t o.1 | inr f ↦ rw f (none_before_without h test hs o.0, order_without test hs o.1) ]
 
 -- what arrives goes to the end of its queue, and no other changes
 
-none_queued : (h : QueuedMessage) (hs : List QueuedMessage) (k : QueuedMessage) → queued_before h k ≡ true → NoneBefore k hs → queue hs h.place ≡ []
+none_queued : (h : QueuedMessage) (hs : List QueuedMessage) (k : QueuedMessage) → queued_before h k ≡ true
+    → NoneBefore k hs → queue hs h.place ≡ []
 none_queued h [] k lt n = refl
 none_queued h (j ∷ hs) k lt n = rw (place_apart h.place k.place j.place lt n.0) (none_queued h hs k lt n.1)
 
-pub queue_placed : (hs : List QueuedMessage) (h : QueuedMessage) → IsInOrder hs → queue (with_inserted queued_before hs h) h.place ≡ queue hs h.place ++ h.message ∷ []
+-- a message that is inserted by its place goes to the end of the queue there
+pub queue_placed : (hs : List QueuedMessage) (h : QueuedMessage) → IsInOrder hs
+    → queue (with_inserted queued_before hs h) h.place ≡ queue hs h.place ++ h.message ∷ []
 queue_placed [] h o = rw (same_self h.place) refl
 queue_placed (k ∷ hs) h o = elim (cases_Bool (queued_before h k)) [
-  | inl t ↦ let e = none_queued h (k ∷ hs) k t (same_not_before k.place, o.0) in rw (t, same_self h.place) (ap (λ (ms : List Message). h.message ∷ ms) e ∙ ap (λ (ms : List Message). ms ++ h.message ∷ []) (sym e))
+  | inl t ↦ let e = none_queued h (k ∷ hs) k t (same_not_before k.place, o.0) in
+      rw (t, same_self h.place) (ap (λ (ms : List Message). h.message ∷ ms) e
+      ∙ ap (λ (ms : List Message). ms ++ h.message ∷ []) (sym e))
   | inr f ↦ elim (cases_Bool (is_at h.place k)) [
     | inl at_h ↦ rw (f, at_h) (ap (λ (ms : List Message). k.message ∷ ms) (queue_placed hs h o.1))
     | inr not_h ↦ rw (f, not_h) (queue_placed hs h o.1)
   ]
 ]
 
-pub queue_elsewhere : (hs : List QueuedMessage) (h : QueuedMessage) (q : Place) → same_place h.place q ≡ false → queue (with_inserted queued_before hs h) q ≡ queue hs q
+-- a message that is inserted by its place leaves each other queue as it was
+pub queue_elsewhere : (hs : List QueuedMessage) (h : QueuedMessage) (q : Place) → same_place h.place q ≡ false
+    → queue (with_inserted queued_before hs h) q ≡ queue hs q
 queue_elsewhere [] h q apart_ = rw apart_ refl
 queue_elsewhere (k ∷ hs) h q apart_ = elim (cases_Bool (queued_before h k)) [
   | inl t ↦ rw (t, apart_) refl
@@ -157,10 +198,14 @@ tail_queue m n xs ys e = cc
 held_is : (h k : QueuedMessage) → h.place ≡ k.place → h.message ≡ k.message → h ≡ k
 held_is h k e f = ap (λ (p : Place). made_of p h.message) e ∙ ap (made_of k.place) f
 
-pub one_flow : (xs ys : List QueuedMessage) → IsInOrder xs → IsInOrder ys → ((p : Place) → queue xs p ≡ queue ys p) → xs ≡ ys
+-- two flows in order that have the same queue at each place are the same
+pub one_flow : (xs ys : List QueuedMessage) → IsInOrder xs → IsInOrder ys → ((p : Place) → queue xs p ≡ queue ys p)
+    → xs ≡ ys
 one_flow [] [] o u same = refl
-one_flow [] (k ∷ ys) o u same = let e = same k.place in let f : [] ≡ k.message ∷ queue ys k.place = rw (same_self k.place) at e in cc
-one_flow (h ∷ xs) [] o u same = let e = same h.place in let f : h.message ∷ queue xs h.place ≡ [] = rw (same_self h.place) at e in cc
+one_flow [] (k ∷ ys) o u same =
+    let e = same k.place in let f : [] ≡ k.message ∷ queue ys k.place = rw (same_self k.place) at e in cc
+one_flow (h ∷ xs) [] o u same =
+    let e = same h.place in let f : h.message ∷ queue xs h.place ≡ [] = rw (same_self h.place) at e in cc
 one_flow (h ∷ xs) (k ∷ ys) o u same = elim (cases_Bool (same_place h.place k.place)) [
   | inl t ↦
       let place : h.place ≡ k.place = same_place_is h.place k.place t in
@@ -168,12 +213,19 @@ one_flow (h ∷ xs) (k ∷ ys) o u same = elim (cases_Bool (same_place h.place k
       let f : h.message ∷ queue xs k.place ≡ k.message ∷ queue ys k.place = rw (t, same_self k.place) at e in
       let message : h.message ≡ k.message = cc in
       let head : h ≡ k = held_is h k place message in
-      ap (λ (x : QueuedMessage). x ∷ xs) head ∙ ap (λ (zs : List QueuedMessage). k ∷ zs) (one_flow xs ys o.1 u.1 (rest head))
+      ap (λ (x : QueuedMessage). x ∷ xs) head ∙ ap (λ (zs : List QueuedMessage). k ∷ zs)
+      (one_flow xs ys o.1 u.1 (rest head))
   | inr not_same ↦ elim (cases_Bool (place_before h.place k.place)) [
-    | inl t ↦ let e = same h.place in let g = none_queued h (k ∷ ys) k t (same_not_before k.place, u.0) in let f : h.message ∷ queue xs h.place ≡ queue (k ∷ ys) h.place = rw (same_self h.place) at e in absurd (no_head h.message (queue xs h.place) (f ∙ g))
-    | inr w ↦ let t = place_either h.place k.place not_same w in let e = same k.place in let g = none_queued k (h ∷ xs) h t (same_not_before h.place, o.0) in let f : queue (h ∷ xs) k.place ≡ k.message ∷ queue ys k.place = rw (same_self k.place) at e in absurd (no_head k.message (queue ys k.place) (sym f ∙ g))
+    | inl t ↦ let e = same h.place in let g = none_queued h (k ∷ ys) k t (same_not_before k.place, u.0) in
+        let f : h.message ∷ queue xs h.place ≡ queue (k ∷ ys) h.place = rw (same_self h.place) at e in
+        absurd (no_head h.message (queue xs h.place) (f ∙ g))
+    | inr w ↦ let t = place_either h.place k.place not_same w in let e = same k.place in
+        let g = none_queued k (h ∷ xs) h t (same_not_before h.place, o.0) in
+        let f : queue (h ∷ xs) k.place ≡ k.message ∷ queue ys k.place = rw (same_self k.place) at e in
+        absurd (no_head k.message (queue ys k.place) (sym f ∙ g))
   ]
 ] where
   rest : h ≡ k → (p : Place) → queue xs p ≡ queue ys p
-  rest head p = let s = subst (λ (x : QueuedMessage). queue (x ∷ xs) p ≡ queue (k ∷ ys) p) head (same p) in elim (cases_Bool (is_at p k))
+  rest head p = let s = subst (λ (x : QueuedMessage). queue (x ∷ xs) p ≡ queue (k ∷ ys) p) head (same p) in
+      elim (cases_Bool (is_at p k))
       [ inl t ↦ tail_queue k.message k.message (queue xs p) (queue ys p) (rw t at s) | inr f ↦ rw f at s ]

@@ -14,21 +14,30 @@ of_accepted P (Err f) = Unit {0}
 pub record IfAccepted (P : Configuration → Reply → Type 0) (o : Outcome) : Type 0 where
   pub holds : of_accepted P o
 
+-- P holds of an accepted outcome, if it holds of its configuration and its reply
 pub at_ok : (P : Configuration → Reply → Type 0) (d : Configuration) (r : Reply) → P d r → IfAccepted P (Ok (d, r))
 at_ok P d r h = record { holds = h }
 
-pub after_ok : {A : Type 0} (P : Configuration → Reply → Type 0) (r : Result A Fault) (f : A → Outcome) → ((x : A) → r ≡ Ok x → IfAccepted P (f x)) → IfAccepted P (r >>= f)
+-- P holds of an outcome behind a lookup, if it holds with each value that the lookup may give
+pub after_ok : {A : Type 0} (P : Configuration → Reply → Type 0) (r : Result A Fault) (f : A → Outcome)
+    → ((x : A) → r ≡ Ok x → IfAccepted P (f x)) → IfAccepted P (r >>= f)
 after_ok P (Ok x) f h = h x refl
 after_ok P (Err e) f h = record { holds = tt }
 
-pub after_test : (P : Configuration → Reply → Type 0) (fault : Fault) (b : Bool) (f : Unit {0} → Outcome) → (b ≡ false → IfAccepted P (f tt)) → IfAccepted P (refuse fault b >>= f)
+-- P holds of an outcome behind a refusal, if it holds where the test of that fails
+pub after_test : (P : Configuration → Reply → Type 0) (fault : Fault) (b : Bool) (f : Unit {0} → Outcome)
+    → (b ≡ false → IfAccepted P (f tt)) → IfAccepted P (refuse fault b >>= f)
 after_test P fault true f h = record { holds = tt }
 after_test P fault false f h = h refl
 
-pub after_some : {A : Type 0} (P : Configuration → Reply → Type 0) (fault : Fault) (o : Option A) (f : A → Outcome) → ((x : A) → o ≡ Some x → IfAccepted P (f x)) → IfAccepted P (or_fault fault o >>= f)
+-- P holds of an outcome behind what may be missing, if it holds with whatever is there
+pub after_some : {A : Type 0} (P : Configuration → Reply → Type 0) (fault : Fault) (o : Option A) (f : A → Outcome)
+    → ((x : A) → o ≡ Some x → IfAccepted P (f x)) → IfAccepted P (or_fault fault o >>= f)
 after_some P fault (Some x) f h = h x refl
 after_some P fault None f h = record { holds = tt }
 
-pub after_choice : (P : Configuration → Reply → Type 0) (b : Bool) (o p : Outcome) → (b ≡ true → IfAccepted P o) → (b ≡ false → IfAccepted P p) → IfAccepted P (if b then o else p)
+-- P holds of a choice of two outcomes, if it holds of each one where that is chosen
+pub after_choice : (P : Configuration → Reply → Type 0) (b : Bool) (o p : Outcome) → (b ≡ true → IfAccepted P o)
+    → (b ≡ false → IfAccepted P p) → IfAccepted P (if b then o else p)
 after_choice P true o p h k = h refl
 after_choice P false o p h k = k refl

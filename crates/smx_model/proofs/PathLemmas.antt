@@ -1,7 +1,9 @@
 -- Paths, and the test for them.
-use Rattle.std.proofs.Common.{◌≡◌, ℕ, zero, suc, ◌<◌, Bool, true, false, ◌&&◌, ◌||◌, eqb, List, [], ◌∷◌, ◌++◌, length, get_or, refl, ◌∙◌, sym, subst, arith, inl, inr, length-append, find, Some}
+use Rattle.std.proofs.Common.{◌≡◌, ℕ, zero, suc, ◌<◌, Bool, true, false, ◌&&◌, ◌||◌, eqb, List, [], ◌∷◌, ◌++◌, length}
+use Rattle.std.proofs.Common.{get_or, refl, ◌∙◌, sym, subst, arith, inl, inr, length-append, find, Some}
 use Rattle.std.specs.List.{Contains}
-use Rattle.std.proofs.lemmas.Bool.{false_from_ne_true, cases_Bool, false≢true, both_ways, or_cases, and_parts, and_from, or_left, or_right, eqb-true, eq-eqb}
+use Rattle.std.proofs.lemmas.Bool.{false_from_ne_true, cases_Bool, false≢true, both_ways, or_cases, and_parts, and_from}
+use Rattle.std.proofs.lemmas.Bool.{or_left, or_right, eqb-true, eq-eqb}
 use Rattle.std.proofs.lemmas.List.Elements.{Contains-append_cases, Contains-append_left, Contains-append_right}
 use Rattle.smx_types.specs.declared.link.Link.{Link}
 use Rattle.smx_model.specs.Paths.{IsPath, Path, HasNoCycle, reaches}
@@ -13,20 +15,26 @@ record Walk (links : List Link) (a b : ℕ) : Type 0 where
   path : List Link
   leads : IsPath links a path b
 
-walk_join : (links : List Link) (a : ℕ) (p : List Link) (b : ℕ) (q : List Link) (c : ℕ) → IsPath links a p b → IsPath links b q c → IsPath links a (p ++ q) c
+walk_join : (links : List Link) (a : ℕ) (p : List Link) (b : ℕ) (q : List Link) (c : ℕ) → IsPath links a p b
+    → IsPath links b q c → IsPath links a (p ++ q) c
 walk_join links a [] b q c h k = subst (λ (x : ℕ). IsPath links x q c) (sym h) k
 walk_join links a (l ∷ p) b q c h k = (h.0, h.1, walk_join links l.lower.driver p b q c h.2 k)
 
 -- a path over more links
-walk_more : (xs ys : List Link) → ((l : Link) → Contains xs l → Contains ys l) → (a : ℕ) (p : List Link) (b : ℕ) → IsPath xs a p b → IsPath ys a p b
+walk_more : (xs ys : List Link) → ((l : Link) → Contains xs l → Contains ys l) → (a : ℕ) (p : List Link) (b : ℕ)
+    → IsPath xs a p b → IsPath ys a p b
 walk_more xs ys more a [] b h = h
 walk_more xs ys more a (l ∷ p) b h = (more l h.0, h.1, walk_more xs ys more l.lower.driver p b h.2)
 
-pub path_more : (xs ys : List Link) → ((l : Link) → Contains xs l → Contains ys l) → (a b : ℕ) → Path xs a b → Path ys a b
+-- a path over some links is one over any list that has them all
+pub path_more : (xs ys : List Link) → ((l : Link) → Contains xs l → Contains ys l) → (a b : ℕ) → Path xs a b
+    → Path ys a b
 path_more xs ys more a b h = record { path = h.path; some = h.some; leads = walk_more xs ys more a h.path b h.leads }
 
-comes_walk : (links : List Link) (a b : ℕ) → (reaches links a b ≡ true → Path links a b) → comes links a b ≡ true → Walk links a b
-comes_walk links a b f h = elim (or_cases (eqb a b) (reaches links a b) h) [ inl e ↦ record { path = []; leads = eqb-true a b e } | inr r ↦ record { path = (f r).path; leads = (f r).leads } ]
+comes_walk : (links : List Link) (a b : ℕ) → (reaches links a b ≡ true → Path links a b) → comes links a b ≡ true
+    → Walk links a b
+comes_walk links a b f h = elim (or_cases (eqb a b) (reaches links a b) h)
+    [ inl e ↦ record { path = []; leads = eqb-true a b e } | inr r ↦ record { path = (f r).path; leads = (f r).leads } ]
 
 skip_first : (l : Link) (ls : List Link) (k : Link) → Contains ls k → Contains (l ∷ ls) k
 skip_first l ls k h = Contains-append_right (l ∷ []) ls k h
@@ -38,81 +46,108 @@ around : (l : Link) (ls : List Link) (a b : ℕ) → Walk ls a l.ctl.driver → 
 around l ls a b h k = record {
   path = h.path ++ l ∷ k.path;
   some = omega (arith, length-append h.path (l ∷ k.path));
-  leads = walk_join (l ∷ ls) a h.path l.ctl.driver (l ∷ k.path) b (walk_more ls (l ∷ ls) (skip_first l ls) a h.path l.ctl.driver h.leads)
+  leads = walk_join (l ∷ ls) a h.path l.ctl.driver (l ∷ k.path) b
+      (walk_more ls (l ∷ ls) (skip_first l ls) a h.path l.ctl.driver h.leads)
       (is_first l ls, refl, walk_more ls (l ∷ ls) (skip_first l ls) l.lower.driver k.path b k.leads);
 }
 
+-- where the test says that a driver reaches another, a path leads from it to that
 pub reaches_path : (links : List Link) (a b : ℕ) → reaches links a b ≡ true → Path links a b
 reaches_path [] a b h = absurd (false≢true h)
 reaches_path (l ∷ ls) a b h = elim (or_cases (reaches ls a b) _ h) [
   | inl r ↦ path_more ls (l ∷ ls) (skip_first l ls) a b (reaches_path ls a b r)
   | inr via ↦ let v = and_parts (comes ls a l.ctl.driver) (comes ls l.lower.driver b) via in
-      around l ls a b (comes_walk ls a l.ctl.driver (reaches_path ls a l.ctl.driver) v.0) (comes_walk ls l.lower.driver b (reaches_path ls l.lower.driver b) v.1)
+      around l ls a b (comes_walk ls a l.ctl.driver (reaches_path ls a l.ctl.driver) v.0)
+      (comes_walk ls l.lower.driver b (reaches_path ls l.lower.driver b) v.1)
 ]
 
-reaches_comes : (links : List Link) (a b c : ℕ) → ((x y z : ℕ) → reaches links x y ≡ true → reaches links y z ≡ true → reaches links x z ≡ true)
+reaches_comes : (links : List Link) (a b c : ℕ)
+    → ((x y z : ℕ) → reaches links x y ≡ true → reaches links y z ≡ true → reaches links x z ≡ true)
     → reaches links a b ≡ true → comes links b c ≡ true → reaches links a c ≡ true
-reaches_comes links a b c trans h k = elim (or_cases (eqb b c) (reaches links b c) k) [ inl e ↦ subst (λ (x : ℕ). reaches links a x ≡ true) (eqb-true b c e) h | inr r ↦ trans a b c h r ]
+reaches_comes links a b c trans h k = elim (or_cases (eqb b c) (reaches links b c) k)
+    [ inl e ↦ subst (λ (x : ℕ). reaches links a x ≡ true) (eqb-true b c e) h | inr r ↦ trans a b c h r ]
 
-comes_reaches : (links : List Link) (a b c : ℕ) → ((x y z : ℕ) → reaches links x y ≡ true → reaches links y z ≡ true → reaches links x z ≡ true)
+comes_reaches : (links : List Link) (a b c : ℕ)
+    → ((x y z : ℕ) → reaches links x y ≡ true → reaches links y z ≡ true → reaches links x z ≡ true)
     → comes links a b ≡ true → reaches links b c ≡ true → reaches links a c ≡ true
-comes_reaches links a b c trans h k = elim (or_cases (eqb a b) (reaches links a b) h) [ inl e ↦ subst (λ (x : ℕ). reaches links x c ≡ true) (sym (eqb-true a b e)) k | inr r ↦ trans a b c r k ]
+comes_reaches links a b c trans h k = elim (or_cases (eqb a b) (reaches links a b) h)
+    [ inl e ↦ subst (λ (x : ℕ). reaches links x c ≡ true) (sym (eqb-true a b e)) k | inr r ↦ trans a b c r k ]
 
-pub reaches_trans : (links : List Link) (a b c : ℕ) → reaches links a b ≡ true → reaches links b c ≡ true → reaches links a c ≡ true
+-- a driver that reaches another reaches all that this one reaches
+pub reaches_trans : (links : List Link) (a b c : ℕ) → reaches links a b ≡ true → reaches links b c ≡ true
+    → reaches links a c ≡ true
 reaches_trans [] a b c h k = h
-reaches_trans (l ∷ ls) a b c h k = elim (or_cases (reaches ls a b) (comes ls a l.ctl.driver && comes ls l.lower.driver b) h) [
-  | inl h1 ↦ elim (or_cases (reaches ls b c) (comes ls b l.ctl.driver && comes ls l.lower.driver c) k) [
-    | inl k1 ↦ or_left _ _ (reaches_trans ls a b c h1 k1)
-    | inr k2 ↦ let v = and_parts (comes ls b l.ctl.driver) (comes ls l.lower.driver c) k2 in
-        or_right _ _ (and_from _ _ (or_right _ _ (reaches_comes ls a b l.ctl.driver (reaches_trans ls) h1 v.0)) v.1)
-  ]
-  | inr h2 ↦ let u = and_parts (comes ls a l.ctl.driver) (comes ls l.lower.driver b) h2 in
-      elim (or_cases (reaches ls b c) (comes ls b l.ctl.driver && comes ls l.lower.driver c) k) [
-        | inl k1 ↦ or_right _ _ (and_from _ _ u.0 (or_right _ _ (comes_reaches ls l.lower.driver b c (reaches_trans ls) u.1 k1)))
-        | inr k2 ↦ let v = and_parts (comes ls b l.ctl.driver) (comes ls l.lower.driver c) k2 in or_right _ _ (and_from _ _ u.0 v.1)
+reaches_trans (l ∷ ls) a b c h k =
+    elim (or_cases (reaches ls a b) (comes ls a l.ctl.driver && comes ls l.lower.driver b) h) [
+      | inl h1 ↦ elim (or_cases (reaches ls b c) (comes ls b l.ctl.driver && comes ls l.lower.driver c) k) [
+        | inl k1 ↦ or_left _ _ (reaches_trans ls a b c h1 k1)
+        | inr k2 ↦ let v = and_parts (comes ls b l.ctl.driver) (comes ls l.lower.driver c) k2 in
+            or_right _ _ (and_from _ _ (or_right _ _ (reaches_comes ls a b l.ctl.driver (reaches_trans ls) h1 v.0)) v.1)
       ]
-]
+      | inr h2 ↦ let u = and_parts (comes ls a l.ctl.driver) (comes ls l.lower.driver b) h2 in
+          elim (or_cases (reaches ls b c) (comes ls b l.ctl.driver && comes ls l.lower.driver c) k) [
+            | inl k1 ↦
+                or_right _ _
+                (and_from _ _ u.0 (or_right _ _ (comes_reaches ls l.lower.driver b c (reaches_trans ls) u.1 k1)))
+            | inr k2 ↦ let v = and_parts (comes ls b l.ctl.driver) (comes ls l.lower.driver c) k2 in
+                or_right _ _ (and_from _ _ u.0 v.1)
+          ]
+    ]
 
-pub reaches_at : (links : List Link) (k : ℕ) (l : Link) → k < length links → get_or links k l ≡ l → reaches links l.ctl.driver l.lower.driver ≡ true
+-- the upper driver of a link reaches its lower driver
+pub reaches_at : (links : List Link) (k : ℕ) (l : Link) → k < length links → get_or links k l ≡ l
+    → reaches links l.ctl.driver l.lower.driver ≡ true
 reaches_at [] k l lt e = absurd (omega arith)
 reaches_at (m ∷ ls) zero l lt e = subst (λ (x : Link). reaches (x ∷ ls) l.ctl.driver l.lower.driver ≡ true) (sym e)
-    (or_right _ _ (and_from _ _ (or_left _ _ (eq-eqb l.ctl.driver l.ctl.driver refl)) (or_left _ _ (eq-eqb l.lower.driver l.lower.driver refl))))
+    (or_right _ _ (and_from _ _ (or_left _ _ (eq-eqb l.ctl.driver l.ctl.driver refl))
+    (or_left _ _ (eq-eqb l.lower.driver l.lower.driver refl))))
 reaches_at (m ∷ ls) (suc k) l lt e = or_left _ _ (reaches_at ls k l (omega arith) e)
 
-walk_reaches : (links : List Link) (a : ℕ) (l : Link) (p : List Link) (b : ℕ) → IsPath links a (l ∷ p) b → reaches links a b ≡ true
-walk_reaches links a l [] b h = subst (λ (x : ℕ). reaches links x b ≡ true) h.1 (subst (λ (x : ℕ). reaches links l.ctl.driver x ≡ true) h.2 (reaches_at links h.0.0 l h.0.1 h.0.2))
+walk_reaches : (links : List Link) (a : ℕ) (l : Link) (p : List Link) (b : ℕ) → IsPath links a (l ∷ p) b
+    → reaches links a b ≡ true
+walk_reaches links a l [] b h = subst (λ (x : ℕ). reaches links x b ≡ true) h.1
+    (subst (λ (x : ℕ). reaches links l.ctl.driver x ≡ true) h.2 (reaches_at links h.0.0 l h.0.1 h.0.2))
 walk_reaches links a l (m ∷ p) b h = subst (λ (x : ℕ). reaches links x b ≡ true) h.1
-    (reaches_trans links l.ctl.driver l.lower.driver b (reaches_at links h.0.0 l h.0.1 h.0.2) (walk_reaches links l.lower.driver m p b h.2))
+    (reaches_trans links l.ctl.driver l.lower.driver b (reaches_at links h.0.0 l h.0.1 h.0.2)
+    (walk_reaches links l.lower.driver m p b h.2))
 
-nonempty_reaches : (links : List Link) (a : ℕ) (p : List Link) (b : ℕ) → 0 < length p → IsPath links a p b → reaches links a b ≡ true
+nonempty_reaches : (links : List Link) (a : ℕ) (p : List Link) (b : ℕ) → 0 < length p → IsPath links a p b
+    → reaches links a b ≡ true
 nonempty_reaches links a [] b some h = absurd (omega arith)
 nonempty_reaches links a (l ∷ p) b some h = walk_reaches links a l p b h
 
+-- where a path leads from a driver to another, the test says that it reaches that
 pub path_reaches : (links : List Link) (a b : ℕ) → Path links a b → reaches links a b ≡ true
 path_reaches links a b h = nonempty_reaches links a h.path b h.some h.leads
 
 last_or : (ls : List Link) (l k : Link) → Contains (ls ++ l ∷ []) k → Contains (l ∷ ls) k
-last_or ls l k h = elim (Contains-append_cases ls (l ∷ []) k h) [ inl c ↦ skip_first l ls k c | inr c ↦ Contains-append_left (l ∷ []) ls k c ]
+last_or ls l k h = elim (Contains-append_cases ls (l ∷ []) k h)
+    [ inl c ↦ skip_first l ls k c | inr c ↦ Contains-append_left (l ∷ []) ls k c ]
 
 -- one link more, where no path leads back
-pub no_cycle_push : (ls : List Link) (l : Link) → HasNoCycle ls → comes ls l.lower.driver l.ctl.driver ≡ false → HasNoCycle (ls ++ l ∷ [])
+pub no_cycle_push : (ls : List Link) (l : Link) → HasNoCycle ls → comes ls l.lower.driver l.ctl.driver ≡ false
+    → HasNoCycle (ls ++ l ∷ [])
 no_cycle_push ls l none back d h =
-    elim (or_cases (reaches ls d d) (comes ls d l.ctl.driver && comes ls l.lower.driver d) (path_reaches (l ∷ ls) d d (path_more (ls ++ l ∷ []) (l ∷ ls) (last_or ls l) d d h))) [
+    elim (or_cases (reaches ls d d) (comes ls d l.ctl.driver && comes ls l.lower.driver d)
+    (path_reaches (l ∷ ls) d d (path_more (ls ++ l ∷ []) (l ∷ ls) (last_or ls l) d d h))) [
       | inl r ↦ none d (reaches_path ls d d r)
       | inr via ↦ let v = and_parts (comes ls d l.ctl.driver) (comes ls l.lower.driver d) via in
           both_ways _ back (comes_trans ls l.lower.driver d l.ctl.driver v.1 v.0)
     ] where
-      comes_trans : (links : List Link) (a b c : ℕ) → comes links a b ≡ true → comes links b c ≡ true → comes links a c ≡ true
+      comes_trans : (links : List Link) (a b c : ℕ) → comes links a b ≡ true → comes links b c ≡ true
+          → comes links a c ≡ true
       comes_trans links a b c h k = elim (or_cases (eqb a b) (reaches links a b) h) [
         | inl e ↦ subst (λ (x : ℕ). comes links x c ≡ true) (sym (eqb-true a b e)) k
         | inr r ↦ or_right _ _ (reaches_comes links a b c (reaches_trans links) r k)
       ]
 
+-- links that are all among links without a cycle have none either
 pub no_cycle_fewer : (xs ys : List Link) → ((l : Link) → Contains ys l → Contains xs l) → HasNoCycle xs → HasNoCycle ys
 no_cycle_fewer xs ys less none d h = none d (path_more ys xs less d d h)
 
 -- a link that a search finds
-pub reaches_link : (links : List Link) (test : Link → Bool) (l : Link) → find test links ≡ Some l → reaches links l.ctl.driver l.lower.driver ≡ true
+pub reaches_link : (links : List Link) (test : Link → Bool) (l : Link) → find test links ≡ Some l
+    → reaches links l.ctl.driver l.lower.driver ≡ true
 reaches_link [] test l e = cc
 reaches_link (m ∷ ls) test l e = elim (cases_Bool (test m)) [
   | inl t ↦ let k : Some m ≡ Some l = rw t at e in let same : m ≡ l = cc in reaches_at (m ∷ ls) 0 l (omega arith) same
@@ -120,11 +155,17 @@ reaches_link (m ∷ ls) test l e = elim (cases_Bool (test m)) [
 ]
 
 first_or : (ls : List Link) (l k : Link) → Contains (l ∷ ls) k → Contains (ls ++ l ∷ []) k
-first_or ls l k h = elim (Contains-append_cases (l ∷ []) ls k h) [ inl c ↦ Contains-append_right ls (l ∷ []) k c | inr c ↦ Contains-append_left ls (l ∷ []) k c ]
+first_or ls l k h = elim (Contains-append_cases (l ∷ []) ls k h)
+    [ inl c ↦ Contains-append_right ls (l ∷ []) k c | inr c ↦ Contains-append_left ls (l ∷ []) k c ]
 
 -- a link at the end counts as one at the head
 pub reaches_push : (links : List Link) (l : Link) (a b : ℕ) → reaches (links ++ l ∷ []) a b ≡ reaches (l ∷ links) a b
 reaches_push links l a b = elim (cases_Bool (reaches (l ∷ links) a b)) [
-  | inl t ↦ path_reaches (links ++ l ∷ []) a b (path_more (l ∷ links) (links ++ l ∷ []) (first_or links l) a b (reaches_path (l ∷ links) a b t)) ∙ sym t
-  | inr f ↦ false_from_ne_true _ (λ t. both_ways _ f (path_reaches (l ∷ links) a b (path_more (links ++ l ∷ []) (l ∷ links) (last_or links l) a b (reaches_path (links ++ l ∷ []) a b t)))) ∙ sym f
+  | inl t ↦ path_reaches (links ++ l ∷ []) a b
+      (path_more (l ∷ links) (links ++ l ∷ []) (first_or links l) a b (reaches_path (l ∷ links) a b t)) ∙ sym t
+  | inr f ↦
+      false_from_ne_true _
+      (λ t. both_ways _ f
+      (path_reaches (l ∷ links) a b
+      (path_more (links ++ l ∷ []) (l ∷ links) (last_or links l) a b (reaches_path (links ++ l ∷ []) a b t)))) ∙ sym f
 ]

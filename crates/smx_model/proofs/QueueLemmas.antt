@@ -1,5 +1,7 @@
 -- How single queues and full marks change, which place is the least movable one, and which serials are dropped.
-use Rattle.std.proofs.Common.{◌≡◌, ℕ, suc, ◌<◌, Bool, true, false, ◌||◌, not, cond, eqb, List, [], ◌∷◌, ◌++◌, length, get_or, filter, find, drop, Option, Some, None, refl, sym, ap, ◌∙◌, subst, arith, inl, inr}
+use Rattle.std.proofs.Common.{◌≡◌, ℕ, suc, ◌<◌, Bool, true, false, ◌||◌, not, cond, eqb, List, [], ◌∷◌, ◌++◌, length}
+use Rattle.std.proofs.Common.{get_or, filter, find, drop, Option, Some, None, refl, sym, ap, ◌∙◌, subst, arith, inl}
+use Rattle.std.proofs.Common.{inr}
 use Rattle.std.specs.Prelude.{slice_get}
 use Rattle.std.specs.List.{AllPairs, list_any}
 use Rattle.std.proofs.lemmas.Bool.{both_ways, cases_Bool, eq-eqb, eqb-true, false_from_ne_true, ne_eqb}
@@ -30,15 +32,22 @@ not_same_turned p q h = false_from_ne_true _ (λ t. both_ways (same_place p q) h
 
 -- a message arrives
 
-pub arrived_queue : (flow : List QueuedMessage) (p q : Place) (m : Message) → IsInOrder flow → queue (with_inserted queued_before flow (record { place = p; message = m })) q ≡ cond (same_place p q) (queue flow q ++ m ∷ []) (queue flow q)
+-- an arrival puts its message at the end of the queue of its place, and leaves each other queue
+pub arrived_queue : (flow : List QueuedMessage) (p q : Place) (m : Message) → IsInOrder flow
+    → queue (with_inserted queued_before flow (record { place = p; message = m })) q
+    ≡ cond (same_place p q) (queue flow q ++ m ∷ []) (queue flow q)
 arrived_queue flow p q m o = elim (cases_Bool (same_place p q)) [
-  | inl t ↦ rw t (subst (λ (x : Place). queue (with_inserted queued_before flow (record { place = p; message = m })) x ≡ queue flow x ++ m ∷ []) (same_place_is p q t) (queue_placed flow (record { place = p; message = m }) o))
+  | inl t ↦
+      rw t (subst (λ (x : Place). queue (with_inserted queued_before flow (record { place = p; message = m })) x
+      ≡ queue flow x ++ m ∷ []) (same_place_is p q t) (queue_placed flow (record { place = p; message = m }) o))
   | inr f ↦ rw f (queue_elsewhere flow (record { place = p; message = m }) q f)
 ]
 
 -- the first message leaves
 
-pub left_queue : (flow : List QueuedMessage) (p q : Place) → queue (without_first (is_at p) flow) q ≡ cond (same_place p q) (drop 1 (queue flow q)) (queue flow q)
+-- a leaving takes the first message from the queue of its place, and leaves each other queue
+pub left_queue : (flow : List QueuedMessage) (p q : Place)
+    → queue (without_first (is_at p) flow) q ≡ cond (same_place p q) (drop 1 (queue flow q)) (queue flow q)
 left_queue [] p q = elim (cases_Bool (same_place p q)) [ inl t ↦ rw t refl | inr f ↦ rw f refl ]
 left_queue (k ∷ ks) p q = elim (cases_Bool (same_place k.place p)) [
   | inl at_p ↦ let e = same_places k.place p q at_p in elim (cases_Bool (same_place p q)) [
@@ -46,26 +55,34 @@ left_queue (k ∷ ks) p q = elim (cases_Bool (same_place k.place p)) [
     | inr f ↦ rw (at_p, e, f) refl
   ]
   | inr not_p ↦ elim (cases_Bool (same_place p q)) [
-    | inl t ↦ let f : same_place k.place q ≡ false = subst (λ (x : Place). same_place k.place x ≡ false) (same_place_is p q t) not_p in
-        let i = left_queue ks p q in let j : queue (without_first (is_at p) ks) q ≡ drop 1 (queue ks q) = rw t at i in rw (not_p, t, f) j
+    | inl t ↦ let f : same_place k.place q ≡ false = subst (λ (x : Place). same_place k.place x ≡ false)
+        (same_place_is p q t) not_p in
+        let i = left_queue ks p q in let j : queue (without_first (is_at p) ks) q ≡ drop 1 (queue ks q) = rw t at i in
+        rw (not_p, t, f) j
     | inr f ↦ let i = left_queue ks p q in let j : queue (without_first (is_at p) ks) q ≡ queue ks q = rw f at i in
-        elim (cases_Bool (same_place k.place q)) [ inl u ↦ rw (not_p, f, u) (ap (λ (ms : List Message). k.message ∷ ms) j) | inr u ↦ rw (not_p, f, u) j ]
+        elim (cases_Bool (same_place k.place q))
+        [ inl u ↦ rw (not_p, f, u) (ap (λ (ms : List Message). k.message ∷ ms) j) | inr u ↦ rw (not_p, f, u) j ]
   ]
 ]
 
+-- the first message at a place is the first one of its queue
 pub front_is : (flow : List QueuedMessage) (p : Place) → first_message flow p ≡ slice_get (queue flow p) 0
 front_is [] p = refl
 front_is (k ∷ ks) p = elim (cases_Bool (is_at p k)) [ inl t ↦ rw t refl | inr f ↦ rw f (front_is ks p) ]
 
 -- places are emptied
 
-pub emptied_queue : (flow : List QueuedMessage) (goes : Place → Bool) (q : Place) → queue (filter (λ h. not (goes h.place)) flow) q ≡ cond (goes q) [] (queue flow q)
+-- the queues of emptied places are empty, and each other queue is as it was
+pub emptied_queue : (flow : List QueuedMessage) (goes : Place → Bool) (q : Place)
+    → queue (filter (λ h. not (goes h.place)) flow) q ≡ cond (goes q) [] (queue flow q)
 emptied_queue [] goes q = elim (cases_Bool (goes q)) [ inl t ↦ rw t refl | inr f ↦ rw f refl ]
 emptied_queue (k ∷ ks) goes q = elim (cases_Bool (same_place k.place q)) [
-  | inl at_q ↦ let e : goes k.place ≡ goes q = ap goes (same_place_is k.place q at_q) in let i = emptied_queue ks goes q in elim (cases_Bool (goes q)) [
-    | inl t ↦ let j : queue (filter (λ h. not (goes h.place)) ks) q ≡ [] = rw t at i in rw (e, t) j
-    | inr f ↦ let j : queue (filter (λ h. not (goes h.place)) ks) q ≡ queue ks q = rw f at i in rw (e, f, at_q) (ap (λ (ms : List Message). k.message ∷ ms) j)
-  ]
+  | inl at_q ↦ let e : goes k.place ≡ goes q = ap goes (same_place_is k.place q at_q) in
+      let i = emptied_queue ks goes q in elim (cases_Bool (goes q)) [
+        | inl t ↦ let j : queue (filter (λ h. not (goes h.place)) ks) q ≡ [] = rw t at i in rw (e, t) j
+        | inr f ↦ let j : queue (filter (λ h. not (goes h.place)) ks) q ≡ queue ks q = rw f at i in
+            rw (e, f, at_q) (ap (λ (ms : List Message). k.message ∷ ms) j)
+      ]
   | inr not_q ↦ elim (cases_Bool (goes k.place)) [
     | inl t ↦ rw (t, not_q) (emptied_queue ks goes q)
     | inr f ↦ rw (f, not_q) (emptied_queue ks goes q)
@@ -74,29 +91,42 @@ emptied_queue (k ∷ ks) goes q = elim (cases_Bool (same_place k.place q)) [
 
 -- full marks
 
-any_unmarked : (p q : Place) (ps : List Place) → list_any (same_place q) (filter (λ r. not (same_place p r)) ps) ≡ cond (same_place p q) false (list_any (same_place q) ps)
+any_unmarked : (p q : Place) (ps : List Place) → list_any (same_place q) (filter (λ r. not (same_place p r)) ps)
+    ≡ cond (same_place p q) false (list_any (same_place q) ps)
 any_unmarked p q [] = elim (cases_Bool (same_place p q)) [ inl t ↦ rw t refl | inr f ↦ rw f refl ]
 any_unmarked p q (r ∷ rs) = let i = any_unmarked p q rs in elim (cases_Bool (same_place p q)) [
-  | inl t ↦ let j : list_any (same_place q) (filter (λ r. not (same_place p r)) rs) ≡ false = rw t at i in let e = same_places p q r t in
+  | inl t ↦ let j : list_any (same_place q) (filter (λ r. not (same_place p r)) rs) ≡ false = rw t at i in
+      let e = same_places p q r t in
       elim (cases_Bool (same_place q r)) [ inl u ↦ rw (t, e, u) j | inr u ↦ rw (t, e, u) (rw u j) ]
-  | inr f ↦ let j : list_any (same_place q) (filter (λ r. not (same_place p r)) rs) ≡ list_any (same_place q) rs = rw f at i in
+  | inr f ↦ let j : list_any (same_place q) (filter (λ r. not (same_place p r)) rs)
+      ≡ list_any (same_place q) rs = rw f at i in
       elim (cases_Bool (same_place p r)) [
-        | inl u ↦ let w : same_place q r ≡ false = false_from_ne_true _ (λ v. both_ways (same_place p q) f (subst (λ (x : Place). same_place p x ≡ true) (sym (same_place_is q r v)) u)) in rw (f, u, w) j
+        | inl u ↦ let w : same_place q r ≡ false = false_from_ne_true _
+            (λ v. both_ways (same_place p q) f
+            (subst (λ (x : Place). same_place p x ≡ true) (sym (same_place_is q r v)) u)) in rw (f, u, w) j
         | inr u ↦ rw (f, u, j) refl
       ]
 ]
 
-pub marked_full : (p q : Place) (full : Bool) (ps : List Place) → list_any (same_place q) (with_mark p full ps) ≡ cond (same_place p q) full (list_any (same_place q) ps)
-marked_full p q true ps = any_of_placed (same_place q) place_before (filter (λ r. not (same_place p r)) ps) p ∙ by (any_unmarked p q ps) where
-  by : list_any (same_place q) (filter (λ r. not (same_place p r)) ps) ≡ cond (same_place p q) false (list_any (same_place q) ps)
-      → (same_place q p || list_any (same_place q) (filter (λ r. not (same_place p r)) ps)) ≡ cond (same_place p q) true (list_any (same_place q) ps)
-  by i = elim (cases_Bool (same_place p q)) [
-    | inl t ↦ rw (t, same_turned p q t) refl
-    | inr f ↦ let j : list_any (same_place q) (filter (λ r. not (same_place p r)) ps) ≡ list_any (same_place q) ps = rw f at i in rw (f, not_same_turned p q f) j
-  ]
+-- a place whose mark is set or taken away is full or not by that, and each other one is as it was
+pub marked_full : (p q : Place) (full : Bool) (ps : List Place)
+    → list_any (same_place q) (with_mark p full ps) ≡ cond (same_place p q) full (list_any (same_place q) ps)
+marked_full p q true ps =
+    any_of_placed (same_place q) place_before (filter (λ r. not (same_place p r)) ps) p ∙ by (any_unmarked p q ps) where
+      by : list_any (same_place q) (filter (λ r. not (same_place p r)) ps)
+          ≡ cond (same_place p q) false (list_any (same_place q) ps)
+          → (same_place q p || list_any (same_place q) (filter (λ r. not (same_place p r)) ps))
+          ≡ cond (same_place p q) true (list_any (same_place q) ps)
+      by i = elim (cases_Bool (same_place p q)) [
+        | inl t ↦ rw (t, same_turned p q t) refl
+        | inr f ↦ let j : list_any (same_place q) (filter (λ r. not (same_place p r)) ps)
+            ≡ list_any (same_place q) ps = rw f at i in rw (f, not_same_turned p q f) j
+      ]
 marked_full p q false ps = any_unmarked p q ps
 
-pub emptied_full : (ps : List Place) (goes : Place → Bool) (q : Place) → list_any (same_place q) (filter (λ p. not (goes p)) ps) ≡ cond (goes q) false (list_any (same_place q) ps)
+-- emptied places are not full, and each other one is as full as it was
+pub emptied_full : (ps : List Place) (goes : Place → Bool) (q : Place)
+    → list_any (same_place q) (filter (λ p. not (goes p)) ps) ≡ cond (goes q) false (list_any (same_place q) ps)
 emptied_full [] goes q = elim (cases_Bool (goes q)) [ inl t ↦ rw t refl | inr f ↦ rw f refl ]
 emptied_full (r ∷ rs) goes q = let i = emptied_full rs goes q in elim (cases_Bool (same_place q r)) [
   | inl at_r ↦ let e : goes q ≡ goes r = ap goes (same_place_is q r at_r) in elim (cases_Bool (goes r)) [
@@ -108,23 +138,32 @@ emptied_full (r ∷ rs) goes q = let i = emptied_full rs goes q in elim (cases_B
 
 -- the least movable place
 
-no_front_before : (k : QueuedMessage) (hs : List QueuedMessage) (q : Place) → NoneBefore k hs → place_before q k.place ≡ true → first_message hs q ≡ None
+no_front_before : (k : QueuedMessage) (hs : List QueuedMessage) (q : Place) → NoneBefore k hs
+    → place_before q k.place ≡ true → first_message hs q ≡ None
 no_front_before k [] q n h = refl
 no_front_before k (j ∷ hs) q n h = elim (cases_Bool (is_at q j)) [
-  | inl t ↦ absurd (both_ways (place_before q k.place) (subst (λ (x : Place). place_before x k.place ≡ false) (same_place_is j.place q t) n.0) h)
+  | inl t ↦
+      absurd (both_ways (place_before q k.place)
+      (subst (λ (x : Place). place_before x k.place ≡ false) (same_place_is j.place q t) n.0) h)
   | inr f ↦ rw f (no_front_before k hs q n.1 h)
 ]
 
-first_is_least : (t : Place → Bool) (hs : List QueuedMessage) (h : QueuedMessage) (q : Place) (m : Message) → IsInOrder hs → find (λ h. t h.place) hs ≡ Some h → place_before q h.place ≡ true → first_message hs q ≡ Some m → t q ≡ false
+first_is_least : (t : Place → Bool) (hs : List QueuedMessage) (h : QueuedMessage) (q : Place) (m : Message)
+    → IsInOrder hs → find (λ h. t h.place) hs ≡ Some h → place_before q h.place ≡ true → first_message hs q ≡ Some m
+    → t q ≡ false
 first_is_least t [] h q m o e b f = cc
 first_is_least t (k ∷ hs) h q m o e b f = elim (cases_Bool (t k.place)) [
   | inl t1 ↦
       let same : Some k ≡ Some h = rw t1 at e in
       let is : k ≡ h = cc in
-      let before : place_before q k.place ≡ true = subst (λ (x : QueuedMessage). place_before q x.place ≡ true) (sym is) b in
+      let before : place_before q k.place ≡ true = subst (λ (x : QueuedMessage). place_before q x.place ≡ true)
+      (sym is) b in
       elim (cases_Bool (is_at q k)) [
-        | inl at_q ↦ absurd (both_ways (place_before q q) (same_not_before q) (subst (λ (x : Place). place_before q x ≡ true) (same_place_is k.place q at_q) before))
-        | inr not_q ↦ let none = no_front_before k hs q o.0 before in let g : first_message hs q ≡ Some m = rw not_q at f in let no : None ≡ Some m = sym none ∙ g in cc
+        | inl at_q ↦
+            absurd (both_ways (place_before q q) (same_not_before q)
+            (subst (λ (x : Place). place_before q x ≡ true) (same_place_is k.place q at_q) before))
+        | inr not_q ↦ let none = no_front_before k hs q o.0 before in
+            let g : first_message hs q ≡ Some m = rw not_q at f in let no : None ≡ Some m = sym none ∙ g in cc
       ]
   | inr t0 ↦ elim (cases_Bool (is_at q k)) [
     | inl at_q ↦ ap t (sym (same_place_is k.place q at_q)) ∙ t0
@@ -132,16 +171,21 @@ first_is_least t (k ∷ hs) h q m o e b f = elim (cases_Bool (t k.place)) [
   ]
 ]
 
-pub least_is : (drivers : List DriverSpec) (c : Configuration) → IsInOrder c.flow → IsLeastMovable drivers c (least_movable drivers c)
+-- the first movable place of a flow in order is the least movable place, or there is none
+pub least_is : (drivers : List DriverSpec) (c : Configuration) → IsInOrder c.flow
+    → IsLeastMovable drivers c (least_movable drivers c)
 least_is drivers c o = by (least_movable drivers c) refl where
-  lesser : (h : QueuedMessage) → find (λ h. is_movable drivers c h.place) c.flow ≡ Some h → (q : Place) → place_before q h.place ≡ true → (m : Option Message) → first_message c.flow q ≡ m → is_movable drivers c q ≡ false
+  lesser : (h : QueuedMessage) → find (λ h. is_movable drivers c h.place) c.flow ≡ Some h → (q : Place)
+      → place_before q h.place ≡ true → (m : Option Message) → first_message c.flow q ≡ m
+      → is_movable drivers c q ≡ false
   lesser h e q b None f = rw f refl
   lesser h e q b (Some m) f = first_is_least (is_movable drivers c) c.flow h q m o e b f
 
   by : (r : Option Place) → least_movable drivers c ≡ r → IsLeastMovable drivers c r
   by None e = λ p. no_front drivers c p (first_message c.flow p) refl (none_least _ e)
   by (Some p) e = let s = some_least (find (λ h. is_movable drivers c h.place) c.flow) p e in (
-    subst (λ (x : Place). is_movable drivers c x ≡ true) s.2 (find_passes (λ h. is_movable drivers c h.place) c.flow s.0 s.1),
+    subst (λ (x : Place). is_movable drivers c x ≡ true) s.2
+        (find_passes (λ h. is_movable drivers c h.place) c.flow s.0 s.1),
     λ q b. lesser s.0 s.1 q (subst (λ (x : Place). place_before q x ≡ true) (sym s.2) b) (first_message c.flow q) refl,
   )
 
@@ -152,45 +196,61 @@ abbrev Apart : List ℕ → Type 0
 Apart [] = Unit {0}
 Apart (n ∷ ns) = Each (λ m. eqb n m ≡ false) ns × Apart ns
 
-apart_each : (n : ℕ) (ns : List ℕ) → ((k d : ℕ) → k < length ns → n ≡ get_or ns k d → ⊥) → Each (λ m. eqb n m ≡ false) ns
+apart_each : (n : ℕ) (ns : List ℕ) → ((k d : ℕ) → k < length ns → n ≡ get_or ns k d → ⊥)
+    → Each (λ m. eqb n m ≡ false) ns
 apart_each n [] h = tt
-apart_each n (m ∷ ms) h = (ne_eqb n m (λ e. h 0 0 (omega arith) e), apart_each n ms (λ k d lt. h (suc k) d (omega (arith, lt))))
+apart_each n (m ∷ ms) h =
+    (ne_eqb n m (λ e. h 0 0 (omega arith) e), apart_each n ms (λ k d lt. h (suc k) d (omega (arith, lt))))
 
 apart_of : (ns : List ℕ) → AllPairs (λ m n. m ≡ n → ⊥) ns → Apart ns
 apart_of [] h = tt
-apart_of (n ∷ ns) h = (apart_each n ns (λ k d lt. h 0 (suc k) d (omega arith) (omega (arith, lt))), apart_of ns (λ i j d lt within. h (suc i) (suc j) d (omega (arith, lt)) (omega (arith, within))))
+apart_of (n ∷ ns) h = (
+  apart_each n ns (λ k d lt. h 0 (suc k) d (omega arith) (omega (arith, lt))),
+  apart_of ns (λ i j d lt within. h (suc i) (suc j) d (omega (arith, lt)) (omega (arith, within))),
+)
 
 -- a serial that differs from all is not kept
-not_kept : (n : ℕ) (keep : QueuedMessage → Bool) (hs : List QueuedMessage) → Each (λ m. eqb n m ≡ false) (serials hs) → list_any (λ m. eqb n m) (serials (filter keep hs)) ≡ false
+not_kept : (n : ℕ) (keep : QueuedMessage → Bool) (hs : List QueuedMessage) → Each (λ m. eqb n m ≡ false) (serials hs)
+    → list_any (λ m. eqb n m) (serials (filter keep hs)) ≡ false
 not_kept n keep [] h = refl
-not_kept n keep (k ∷ ks) h = elim (cases_Bool (keep k)) [ inl t ↦ rw (t, h.0) (not_kept n keep ks h.1) | inr f ↦ rw f (not_kept n keep ks h.1) ]
+not_kept n keep (k ∷ ks) h =
+    elim (cases_Bool (keep k)) [ inl t ↦ rw (t, h.0) (not_kept n keep ks h.1) | inr f ↦ rw f (not_kept n keep ks h.1) ]
 
 turned_eqb : (m n : ℕ) → eqb m n ≡ false → eqb n m ≡ false
 turned_eqb m n h = false_from_ne_true _ (λ t. both_ways (eqb m n) h (eq-eqb m n (sym (eqb-true n m t))))
 
 -- a serial is kept exactly where its message is
-kept_or_not : (keep : QueuedMessage → Bool) (hs : List QueuedMessage) → Apart (serials hs) → Each (λ h. list_any (λ m. eqb h.message.serial m) (serials (filter keep hs)) ≡ keep h) hs
+kept_or_not : (keep : QueuedMessage → Bool) (hs : List QueuedMessage) → Apart (serials hs)
+    → Each (λ h. list_any (λ m. eqb h.message.serial m) (serials (filter keep hs)) ≡ keep h) hs
 kept_or_not keep [] a = tt
 kept_or_not keep (k ∷ ks) a = elim (cases_Bool (keep k)) [
   | inl t ↦ (rw (t, eq-eqb k.message.serial k.message.serial refl) refl, rest_kept t ks (kept_or_not keep ks a.1) a.0)
   | inr f ↦ (rw f (not_kept k.message.serial keep ks a.0), rest_not f ks (kept_or_not keep ks a.1))
 ] where
-  rest_kept : keep k ≡ true → (hs : List QueuedMessage) → Each (λ h. list_any (λ m. eqb h.message.serial m) (serials (filter keep ks)) ≡ keep h) hs → Each (λ m. eqb k.message.serial m ≡ false) (serials hs)
+  rest_kept : keep k ≡ true → (hs : List QueuedMessage)
+      → Each (λ h. list_any (λ m. eqb h.message.serial m) (serials (filter keep ks)) ≡ keep h) hs
+      → Each (λ m. eqb k.message.serial m ≡ false) (serials hs)
       → Each (λ h. list_any (λ m. eqb h.message.serial m) (serials (filter keep (k ∷ ks))) ≡ keep h) hs
   rest_kept t [] e n = tt
   rest_kept t (h ∷ hs) e n = (rw (t, turned_eqb k.message.serial h.message.serial n.0) e.0, rest_kept t hs e.1 n.1)
 
-  rest_not : keep k ≡ false → (hs : List QueuedMessage) → Each (λ h. list_any (λ m. eqb h.message.serial m) (serials (filter keep ks)) ≡ keep h) hs
+  rest_not : keep k ≡ false → (hs : List QueuedMessage)
+      → Each (λ h. list_any (λ m. eqb h.message.serial m) (serials (filter keep ks)) ≡ keep h) hs
       → Each (λ h. list_any (λ m. eqb h.message.serial m) (serials (filter keep (k ∷ ks))) ≡ keep h) hs
   rest_not f [] e = tt
   rest_not f (h ∷ hs) e = (rw f e.0, rest_not f hs e.1)
 
-those_gone : (keep : QueuedMessage → Bool) (new : List ℕ) (hs : List QueuedMessage) → Each (λ h. list_any (λ m. eqb h.message.serial m) new ≡ keep h) hs → filter (λ n. not (list_any (λ m. eqb n m) new)) (serials hs) ≡ serials (filter (λ h. not (keep h)) hs)
+those_gone : (keep : QueuedMessage → Bool) (new : List ℕ) (hs : List QueuedMessage)
+    → Each (λ h. list_any (λ m. eqb h.message.serial m) new ≡ keep h) hs
+    → filter (λ n. not (list_any (λ m. eqb n m) new)) (serials hs) ≡ serials (filter (λ h. not (keep h)) hs)
 those_gone keep new [] h = refl
 those_gone keep new (k ∷ ks) h = elim (cases_Bool (keep k)) [
   | inl t ↦ rw (h.0, t) (those_gone keep new ks h.1)
   | inr f ↦ rw (h.0, f) (ap (λ (ns : List ℕ). k.message.serial ∷ ns) (those_gone keep new ks h.1))
 ]
 
-pub gone_is : (flow : List QueuedMessage) (keep : QueuedMessage → Bool) → AllPairs (λ m n. m ≡ n → ⊥) (serials flow) → serials_that_left flow (filter keep flow) ≡ in_rising_order (serials (filter (λ h. not (keep h)) flow))
-gone_is flow keep apart = ap in_rising_order (those_gone keep (serials (filter keep flow)) flow (kept_or_not keep flow (apart_of (serials flow) apart)))
+-- the serials that leave a filtered flow are those of the messages that don't pass, rising
+pub gone_is : (flow : List QueuedMessage) (keep : QueuedMessage → Bool) → AllPairs (λ m n. m ≡ n → ⊥) (serials flow)
+    → serials_that_left flow (filter keep flow) ≡ in_rising_order (serials (filter (λ h. not (keep h)) flow))
+gone_is flow keep apart = ap in_rising_order
+    (those_gone keep (serials (filter keep flow)) flow (kept_or_not keep flow (apart_of (serials flow) apart)))

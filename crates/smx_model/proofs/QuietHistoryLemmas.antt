@@ -1,11 +1,14 @@
 -- A history without a hangup tells of none.
-use Rattle.std.proofs.Common.{◌≡◌, ℕ, zero, suc, Bool, true, false, ◌&&◌, ◌||◌, not, eqb, ltb, List, [], ◌∷◌, length, filter, Option, Some, None, Result, Ok, Err, refl, rules, sym, ap, ◌∙◌, inl, inr}
+use Rattle.std.proofs.Common.{◌≡◌, ℕ, zero, suc, Bool, true, false, ◌&&◌, ◌||◌, not, eqb, ltb, List, [], ◌∷◌, length}
+use Rattle.std.proofs.Common.{filter, Option, Some, None, Result, Ok, Err, refl, rules, sym, ap, ◌∙◌, inl, inr}
 use Rattle.std.specs.Prelude.{slice_index_or, if◌then◌else◌}
 use Rattle.std.specs.List.{list_any}
 use Rattle.std.specs.Option.{is_some}
-use Rattle.std.proofs.lemmas.Bool.{both_ways, cases_Bool, and_from, eq-eqb, false_from_ne_true, false≢true, or_cases, or_from, or_left, or_parts, or_right}
+use Rattle.std.proofs.lemmas.Bool.{both_ways, cases_Bool, and_from, eq-eqb, false_from_ne_true, false≢true, or_cases}
+use Rattle.std.proofs.lemmas.Bool.{or_from, or_left, or_parts, or_right}
 use Rattle.smx_types.specs.ProgramLists.{ProgramLists}
-use Rattle.smx_types.specs.Versions.{are_more_drivers, is_hangup, is_hung_up, is_of_hangup, least_of_programs, least_of_transcript, tells_of_hangup, version_2_where}
+use Rattle.smx_types.specs.Versions.{are_more_drivers, is_hangup, is_hung_up, is_of_hangup, least_of_programs}
+use Rattle.smx_types.specs.Versions.{least_of_transcript, tells_of_hangup, version_2_where}
 use Rattle.smx_types.specs.declared.command.Command.{Command}
 use Rattle.smx_types.specs.declared.command.Command.TheVariants as command
 use Rattle.smx_types.specs.declared.command.Entry.{Entry}
@@ -23,14 +26,16 @@ use Rattle.smx_types.specs.declared.stream.Side.TheVariants as side
 use Rattle.smx_types.specs.declared.stream.StreamId.{StreamId}
 use Rattle.smx_types.specs.declared.transcript.Transcript.{Transcript}
 use Rattle.smx_types.specs.declared.version.Version.TheVariants.{V1}
-use Rattle.smx_model.specs.Commands.{outcome, step, after_outcome, done_outcome, link_outcome, read_outcome, receive_outcome, send_outcome, unlink_outcome}
+use Rattle.smx_model.specs.Commands.{outcome, step, after_outcome, done_outcome, link_outcome, read_outcome}
+use Rattle.smx_model.specs.Commands.{receive_outcome, send_outcome, unlink_outcome}
 use Rattle.smx_model.specs.Configuration.{Configuration, empty}
 use Rattle.smx_model.specs.DriverList.{is_mux}
 use Rattle.smx_model.specs.Hangups.{is_hung}
 use Rattle.smx_model.specs.Headline.{IsReportOf}
 use Rattle.smx_model.specs.Histories.{after, after_from, commands_of, HoldsPrograms, IsLegal, IsLegalFrom}
 use Rattle.smx_model.specs.KeptConfigurations.{IsKept}
-use Rattle.smx_model.specs.Lookups.{driver_of, free_fd, free_minor, free_stream, leaf_stream, live_leaf, live_stream, mux_stream, stream_of}
+use Rattle.smx_model.specs.Lookups.{driver_of, free_fd, free_minor, free_stream, leaf_stream, live_leaf, live_stream}
+use Rattle.smx_model.specs.Lookups.{mux_stream, stream_of}
 use Rattle.smx_model.specs.Outcomes.{Outcome, ◌>>=◌, or_fault, refuse}
 use Rattle.smx_model.specs.Queues.{first_message}
 use Rattle.smx_model.specs.Removal.{without_links}
@@ -52,16 +57,19 @@ calm_some {A} g None h = record { each = λ f e. by f e } where
   by : (f : Fault) → or_fault {A = A} g None ≡ Err f → is_hung_up f ≡ false
   by f e = let same : g ≡ f = cc in ap is_hung_up (sym same) ∙ h
 
-calm_test : {A : Type 0} (g : Fault) (b : Bool) (f : Unit {0} → Result A Fault) → is_hung_up g ≡ false → IsCalm (f tt) → IsCalm (refuse g b >>= f)
+calm_test : {A : Type 0} (g : Fault) (b : Bool) (f : Unit {0} → Result A Fault) → is_hung_up g ≡ false → IsCalm (f tt)
+    → IsCalm (refuse g b >>= f)
 calm_test g false f h k = k
 calm_test {A} g true f h k = record { each = λ f e. by f e } where
   by : (x : Fault) → (refuse g true >>= f) ≡ Err x → is_hung_up x ≡ false
   by x e = let same : g ≡ x = cc in ap is_hung_up (sym same) ∙ h
 
-calm_hung : {A : Type 0} (c : Configuration) (s : StreamId) (f : Unit {0} → Result A Fault) → c.hungs ≡ [] → IsCalm (f tt) → IsCalm (refuse fault.HungUp (is_hung c.hungs s) >>= f)
+calm_hung : {A : Type 0} (c : Configuration) (s : StreamId) (f : Unit {0} → Result A Fault) → c.hungs ≡ []
+    → IsCalm (f tt) → IsCalm (refuse fault.HungUp (is_hung c.hungs s) >>= f)
 calm_hung c s f none k = rw none k
 
-calm_then : {A B : Type 0} (r : Result A Fault) (f : A → Result B Fault) → IsCalm r → ((x : A) → IsCalm (f x)) → IsCalm (r >>= f)
+calm_then : {A B : Type 0} (r : Result A Fault) (f : A → Result B Fault) → IsCalm r → ((x : A) → IsCalm (f x))
+    → IsCalm (r >>= f)
 calm_then (Ok x) f h k = k x
 calm_then {A} {B} (Err g) f h k = record { each = λ x e. by x e } where
   refused : Result A Fault
@@ -83,20 +91,28 @@ calm_minor : (drivers : List DriverSpec) (c : Configuration) (n : ℕ) → IsCal
 calm_minor drivers c n = calm_some fault.NoMinor _ refl
 
 calm_free : (c : Configuration) (process fd : ℕ) → IsCalm (free_stream c process fd)
-calm_free c process fd = calm_then (stream_of c process fd) _ (calm_stream c process fd) (λ s. calm_test fault.Below (is_below c.links s) _ refl (calm_ok s))
+calm_free c process fd = calm_then (stream_of c process fd) _ (calm_stream c process fd)
+    (λ s. calm_test fault.Below (is_below c.links s) _ refl (calm_ok s))
 
 calm_live : (c : Configuration) (process fd : ℕ) → c.hungs ≡ [] → IsCalm (live_stream c process fd)
-calm_live c process fd none = calm_then (free_stream c process fd) _ (calm_free c process fd) (λ s. calm_hung c s _ none (calm_ok s))
+calm_live c process fd none =
+    calm_then (free_stream c process fd) _ (calm_free c process fd) (λ s. calm_hung c s _ none (calm_ok s))
 
 calm_mux : (drivers : List DriverSpec) (c : Configuration) (process fd : ℕ) → IsCalm (mux_stream drivers c process fd)
-calm_mux drivers c process fd = calm_then (free_stream c process fd) _ (calm_free c process fd) (λ s. calm_test fault.NotMux (not (is_mux drivers s.driver)) _ refl (calm_ok s))
+calm_mux drivers c process fd = calm_then (free_stream c process fd) _ (calm_free c process fd)
+    (λ s. calm_test fault.NotMux (not (is_mux drivers s.driver)) _ refl (calm_ok s))
 
-calm_leaf : (drivers : List DriverSpec) (c : Configuration) (name : List ℕ) (minor : ℕ) → IsCalm (leaf_stream drivers c name minor)
+calm_leaf : (drivers : List DriverSpec) (c : Configuration) (name : List ℕ) (minor : ℕ)
+    → IsCalm (leaf_stream drivers c name minor)
 calm_leaf drivers c name minor = calm_then (driver_of drivers name) _ (calm_driver drivers name) (λ n.
-    calm_test fault.NoDriver (is_mux drivers n) _ refl (calm_test fault.NoMinor (not (exists drivers c (record { driver = n; minor = minor }))) _ refl (calm_ok (record { driver = n; minor = minor }))))
+    calm_test fault.NoDriver (is_mux drivers n) _ refl
+    (calm_test fault.NoMinor (not (exists drivers c (record { driver = n; minor = minor }))) _ refl
+    (calm_ok (record { driver = n; minor = minor }))))
 
-calm_live_leaf : (drivers : List DriverSpec) (c : Configuration) (name : List ℕ) (minor : ℕ) → c.hungs ≡ [] → IsCalm (live_leaf drivers c name minor)
-calm_live_leaf drivers c name minor none = calm_then (leaf_stream drivers c name minor) _ (calm_leaf drivers c name minor) (λ s. calm_hung c s _ none (calm_ok s))
+calm_live_leaf : (drivers : List DriverSpec) (c : Configuration) (name : List ℕ) (minor : ℕ) → c.hungs ≡ []
+    → IsCalm (live_leaf drivers c name minor)
+calm_live_leaf drivers c name minor none = calm_then (leaf_stream drivers c name minor) _
+    (calm_leaf drivers c name minor) (λ s. calm_hung c s _ none (calm_ok s))
 
 -- nor does the reply of an accepted command tell of one
 
@@ -110,99 +126,143 @@ record IsQuiet (o : Outcome) : Type 0 where
 quiet_ok : (d : Configuration) (r : Reply) → tells_of_hangup r ≡ false → IsQuiet (Ok (d, r))
 quiet_ok d r h = record { told = h }
 
-quiet_then : {A : Type 0} (r : Result A Fault) (f : A → Outcome) → IsCalm r → ((x : A) → IsQuiet (f x)) → IsQuiet (r >>= f)
+quiet_then : {A : Type 0} (r : Result A Fault) (f : A → Outcome) → IsCalm r → ((x : A) → IsQuiet (f x))
+    → IsQuiet (r >>= f)
 quiet_then (Ok x) f h k = k x
 quiet_then (Err g) f h k = record { told = h.each g refl }
 
-quiet_test : (g : Fault) (b : Bool) (f : Unit {0} → Outcome) → is_hung_up g ≡ false → IsQuiet (f tt) → IsQuiet (refuse g b >>= f)
+quiet_test : (g : Fault) (b : Bool) (f : Unit {0} → Outcome) → is_hung_up g ≡ false → IsQuiet (f tt)
+    → IsQuiet (refuse g b >>= f)
 quiet_test g true f h k = record { told = h }
 quiet_test g false f h k = k
 
-quiet_hung : (c : Configuration) (s : StreamId) (f : Unit {0} → Outcome) → c.hungs ≡ [] → IsQuiet (f tt) → IsQuiet (refuse fault.HungUp (is_hung c.hungs s) >>= f)
+quiet_hung : (c : Configuration) (s : StreamId) (f : Unit {0} → Outcome) → c.hungs ≡ [] → IsQuiet (f tt)
+    → IsQuiet (refuse fault.HungUp (is_hung c.hungs s) >>= f)
 quiet_hung c s f none k = rw none k
 
 quiet_done : (drivers : List DriverSpec) (c d : Configuration) → IsQuiet (done_outcome drivers c d)
 quiet_done drivers c d = record { told = refl }
 
-quiet_unlinked : (drivers : List DriverSpec) (c : Configuration) (w : Which) (mine : Link → Bool) → IsQuiet (unlink_outcome drivers c w mine)
+quiet_unlinked : (drivers : List DriverSpec) (c : Configuration) (w : Which) (mine : Link → Bool)
+    → IsQuiet (unlink_outcome drivers c w mine)
 quiet_unlinked drivers c which.All mine = quiet_done drivers c (without_links c mine)
 quiet_unlinked drivers c (which.Id id) mine = search (quiet_test, quiet_done, rules) depth 12
 
-quiet_linked : (drivers : List DriverSpec) (c : Configuration) (process fd arg : ℕ) (k : LinkKind) → c.hungs ≡ [] → IsQuiet (link_outcome drivers c process fd arg k)
-quiet_linked drivers c process fd arg k none = search (quiet_then, calm_stream, quiet_hung, quiet_test, quiet_ok, rules) depth 30
+quiet_linked : (drivers : List DriverSpec) (c : Configuration) (process fd arg : ℕ) (k : LinkKind) → c.hungs ≡ []
+    → IsQuiet (link_outcome drivers c process fd arg k)
+quiet_linked drivers c process fd arg k none =
+    search (quiet_then, calm_stream, quiet_hung, quiet_test, quiet_ok, rules) depth 30
 
-quiet_sent : (drivers : List DriverSpec) (c : Configuration) (p : Place) (addr : ℕ) (bytes : List ℕ) → IsQuiet (send_outcome drivers c p addr bytes)
+quiet_sent : (drivers : List DriverSpec) (c : Configuration) (p : Place) (addr : ℕ) (bytes : List ℕ)
+    → IsQuiet (send_outcome drivers c p addr bytes)
 quiet_sent drivers c p addr bytes = search (quiet_test, quiet_ok, rules) depth 12
 
 quiet_received : (drivers : List DriverSpec) (c : Configuration) (p : Place) → IsQuiet (receive_outcome drivers c p)
-quiet_received drivers c p = quiet_then (or_fault fault.Empty (first_message c.flow p)) _ (calm_some fault.Empty (first_message c.flow p) refl) (λ m. record { told = refl })
+quiet_received drivers c p = quiet_then (or_fault fault.Empty (first_message c.flow p)) _
+    (calm_some fault.Empty (first_message c.flow p) refl) (λ m. record { told = refl })
 
-quiet_read : (drivers : List DriverSpec) (c : Configuration) (s : StreamId) → c.hungs ≡ [] → IsQuiet (read_outcome drivers c s)
+quiet_read : (drivers : List DriverSpec) (c : Configuration) (s : StreamId) → c.hungs ≡ []
+    → IsQuiet (read_outcome drivers c s)
 quiet_read drivers c s none = by (is_hung c.hungs s) (ap (λ (hs : List StreamId). is_hung hs s) none) where
   p : Place
   p = record { stream = s; side = side.Read }
 
-  by : (b : Bool) → b ≡ false → IsQuiet (if b && not (is_some (first_message c.flow p)) then Ok (c, reply.Eof) else receive_outcome drivers c p)
+  by : (b : Bool) → b ≡ false
+      → IsQuiet (if b && not (is_some (first_message c.flow p)) then Ok (c, reply.Eof) else receive_outcome drivers c p)
   by true e = absurd (false≢true (sym e))
   by false e = quiet_received drivers c p
 
-quiet_accepted : (drivers : List DriverSpec) (c : Configuration) (process : ℕ) (k : Command) → c.hungs ≡ [] → is_hangup k ≡ false → IsQuiet (outcome drivers c process k)
-quiet_accepted drivers c process (command.OpenClone name) none other = search (quiet_then, calm_driver, calm_minor, calm_fd, quiet_ok, rules) depth 20
-quiet_accepted drivers c process (command.OpenMinor name minor) none other = search (quiet_then, quiet_test, calm_driver, calm_fd, quiet_ok, rules) depth 20
-quiet_accepted drivers c process (command.Dup fd) none other = search (quiet_then, calm_stream, calm_fd, quiet_ok, rules) depth 20
-quiet_accepted drivers c process (command.Close fd) none other = search (quiet_then, calm_stream, quiet_done, rules) depth 20
+quiet_accepted : (drivers : List DriverSpec) (c : Configuration) (process : ℕ) (k : Command) → c.hungs ≡ []
+    → is_hangup k ≡ false → IsQuiet (outcome drivers c process k)
+quiet_accepted drivers c process (command.OpenClone name) none other =
+    search (quiet_then, calm_driver, calm_minor, calm_fd, quiet_ok, rules) depth 20
+quiet_accepted drivers c process (command.OpenMinor name minor) none other =
+    search (quiet_then, quiet_test, calm_driver, calm_fd, quiet_ok, rules) depth 20
+quiet_accepted drivers c process (command.Dup fd) none other =
+    search (quiet_then, calm_stream, calm_fd, quiet_ok, rules) depth 20
+quiet_accepted drivers c process (command.Close fd) none other =
+    search (quiet_then, calm_stream, quiet_done, rules) depth 20
 quiet_accepted drivers c process command.CloseAll none other = search (quiet_done, rules) depth 20
 quiet_accepted drivers c process (command.Link fd arg) none other = search (quiet_linked, rules) depth 20
 quiet_accepted drivers c process (command.Plink fd arg) none other = search (quiet_linked, rules) depth 20
-quiet_accepted drivers c process (command.Unlink fd w) none other = search (quiet_then, calm_mux, quiet_unlinked, rules) depth 20
-quiet_accepted drivers c process (command.Punlink fd w) none other = search (quiet_then, calm_mux, quiet_unlinked, rules) depth 20
-quiet_accepted drivers c process (command.Bind fd addr) none other = search (quiet_then, quiet_test, calm_mux, quiet_done, rules) depth 20
-quiet_accepted drivers c process (command.Unbind fd) none other = search (quiet_then, quiet_test, calm_mux, quiet_done, rules) depth 20
-quiet_accepted drivers c process (command.Route fd addr id) none other = search (quiet_then, quiet_test, calm_mux, quiet_done, rules) depth 20
-quiet_accepted drivers c process (command.Unroute fd addr) none other = search (quiet_then, quiet_test, calm_mux, quiet_done, rules) depth 20
-quiet_accepted drivers c process (command.Write fd addr bytes) none other = search (quiet_then, calm_live, quiet_sent, rules) depth 20
-quiet_accepted drivers c process (command.Read fd) none other = search (quiet_then, calm_free, quiet_read, rules) depth 20
-quiet_accepted drivers c process (command.Flush fd w) none other = search (quiet_then, calm_live, quiet_done, rules) depth 20
-quiet_accepted drivers c process (command.Inject name minor addr bytes) none other = search (quiet_then, calm_live_leaf, quiet_sent, rules) depth 20
-quiet_accepted drivers c process (command.Transmit name minor) none other = search (quiet_then, calm_live_leaf, quiet_received, rules) depth 20
+quiet_accepted drivers c process (command.Unlink fd w) none other =
+    search (quiet_then, calm_mux, quiet_unlinked, rules) depth 20
+quiet_accepted drivers c process (command.Punlink fd w) none other =
+    search (quiet_then, calm_mux, quiet_unlinked, rules) depth 20
+quiet_accepted drivers c process (command.Bind fd addr) none other =
+    search (quiet_then, quiet_test, calm_mux, quiet_done, rules) depth 20
+quiet_accepted drivers c process (command.Unbind fd) none other =
+    search (quiet_then, quiet_test, calm_mux, quiet_done, rules) depth 20
+quiet_accepted drivers c process (command.Route fd addr id) none other =
+    search (quiet_then, quiet_test, calm_mux, quiet_done, rules) depth 20
+quiet_accepted drivers c process (command.Unroute fd addr) none other =
+    search (quiet_then, quiet_test, calm_mux, quiet_done, rules) depth 20
+quiet_accepted drivers c process (command.Write fd addr bytes) none other =
+    search (quiet_then, calm_live, quiet_sent, rules) depth 20
+quiet_accepted drivers c process (command.Read fd) none other =
+    search (quiet_then, calm_free, quiet_read, rules) depth 20
+quiet_accepted drivers c process (command.Flush fd w) none other =
+    search (quiet_then, calm_live, quiet_done, rules) depth 20
+quiet_accepted drivers c process (command.Inject name minor addr bytes) none other =
+    search (quiet_then, calm_live_leaf, quiet_sent, rules) depth 20
+quiet_accepted drivers c process (command.Transmit name minor) none other =
+    search (quiet_then, calm_live_leaf, quiet_received, rules) depth 20
 quiet_accepted drivers c process (command.Hangup name minor) none other = absurd (false≢true (sym other))
 
-quiet_step : (drivers : List DriverSpec) (c : Configuration) (process : ℕ) (k : Command) → c.hungs ≡ [] → is_hangup k ≡ false → tells_of_hangup (step drivers c process k).1 ≡ false
-quiet_step drivers c process k none other = by (outcome drivers c process k) (quiet_accepted drivers c process k none other) where
-  by : (o : Outcome) → IsQuiet o → tells_of_hangup (after_outcome drivers c o).1 ≡ false
-  by (Ok x) h = h.told
-  by (Err f) h = h.told
+quiet_step : (drivers : List DriverSpec) (c : Configuration) (process : ℕ) (k : Command) → c.hungs ≡ []
+    → is_hangup k ≡ false → tells_of_hangup (step drivers c process k).1 ≡ false
+quiet_step drivers c process k none other =
+    by (outcome drivers c process k) (quiet_accepted drivers c process k none other) where
+      by : (o : Outcome) → IsQuiet o → tells_of_hangup (after_outcome drivers c o).1 ≡ false
+      by (Ok x) h = h.told
+      by (Err f) h = h.told
 
-none_left : (drivers : List DriverSpec) (c : Configuration) (process : ℕ) (k : Command) → IsKept drivers c → c.hungs ≡ [] → is_hangup k ≡ false → (step drivers c process k).0.hungs ≡ []
-none_left drivers c process k h none other = others_leave_hungs drivers c process k h.sound.swept other ∙ ap (filter (λ s. exists drivers (step drivers c process k).0 s)) none
+none_left : (drivers : List DriverSpec) (c : Configuration) (process : ℕ) (k : Command) → IsKept drivers c
+    → c.hungs ≡ [] → is_hangup k ≡ false → (step drivers c process k).0.hungs ≡ []
+none_left drivers c process k h none other = others_leave_hungs drivers c process k h.sound.swept other
+    ∙ ap (filter (λ s. exists drivers (step drivers c process k).0 s)) none
 
 -- so histories without one
 
-quiet_from : (drivers : List DriverSpec) (c : Configuration) (es : List Entry) → IsKept drivers c → c.hungs ≡ [] → IsLegalFrom drivers c es → list_any (λ e. is_hangup e.command) es ≡ false → list_any is_of_hangup es ≡ false
+quiet_from : (drivers : List DriverSpec) (c : Configuration) (es : List Entry) → IsKept drivers c → c.hungs ≡ []
+    → IsLegalFrom drivers c es → list_any (λ e. is_hangup e.command) es ≡ false → list_any is_of_hangup es ≡ false
 quiet_from drivers c [] h none legal other = refl
-quiet_from drivers c (e ∷ es) h none legal other = let p = or_parts (is_hangup e.command) (list_any (λ e. is_hangup e.command) es) other in
+quiet_from drivers c (e ∷ es) h none legal other =
+    let p = or_parts (is_hangup e.command) (list_any (λ e. is_hangup e.command) es) other in
     or_from _ _ (or_from _ _ p.0 (ap tells_of_hangup (sym legal.0) ∙ quiet_step drivers c e.process e.command none p.0))
-    (quiet_from drivers (step drivers c e.process e.command).0 es (step_keeps drivers c e.process e.command h) (none_left drivers c e.process e.command h none p.0) legal.1 p.1)
+    (quiet_from drivers (step drivers c e.process e.command).0 es (step_keeps drivers c e.process e.command h)
+    (none_left drivers c e.process e.command h none p.0) legal.1 p.1)
 
-pub quiet_replies : (drivers : List DriverSpec) (history : List Entry) → IsLegal drivers history → list_any (λ e. is_hangup e.command) history ≡ false → list_any is_of_hangup history ≡ false
+-- a legal history without a hangup has no entry that only version 2 has
+pub quiet_replies : (drivers : List DriverSpec) (history : List Entry) → IsLegal drivers history
+    → list_any (λ e. is_hangup e.command) history ≡ false → list_any is_of_hangup history ≡ false
 quiet_replies drivers history legal other = quiet_from drivers empty history (empty_kept drivers) refl legal other
 
-hungs_from : (drivers : List DriverSpec) (c : Configuration) (es : List Entry) → IsKept drivers c → c.hungs ≡ [] → list_any (λ e. is_hangup e.command) es ≡ false → (after_from drivers c es).hungs ≡ []
+hungs_from : (drivers : List DriverSpec) (c : Configuration) (es : List Entry) → IsKept drivers c → c.hungs ≡ []
+    → list_any (λ e. is_hangup e.command) es ≡ false → (after_from drivers c es).hungs ≡ []
 hungs_from drivers c [] h none other = none
-hungs_from drivers c (e ∷ es) h none other = let p = or_parts (is_hangup e.command) (list_any (λ e. is_hangup e.command) es) other in
-    hungs_from drivers (step drivers c e.process e.command).0 es (step_keeps drivers c e.process e.command h) (none_left drivers c e.process e.command h none p.0) p.1
+hungs_from drivers c (e ∷ es) h none other =
+    let p = or_parts (is_hangup e.command) (list_any (λ e. is_hangup e.command) es) other in
+    hungs_from drivers (step drivers c e.process e.command).0 es (step_keeps drivers c e.process e.command h)
+    (none_left drivers c e.process e.command h none p.0) p.1
 
-pub quiet_streams : (drivers : List DriverSpec) (history : List Entry) → list_any (λ e. is_hangup e.command) history ≡ false → (after drivers history).hungs ≡ []
+-- after a history without a hangup no stream has hung up
+pub quiet_streams : (drivers : List DriverSpec) (history : List Entry)
+    → list_any (λ e. is_hangup e.command) history ≡ false → (after drivers history).hungs ≡ []
 quiet_streams drivers history other = hungs_from drivers empty history (empty_kept drivers) refl other
 
 -- and so reports of programs without one
 
-of_process : (p : ℕ) (es : List Entry) → list_any (λ e. eqb e.process p && is_hangup e.command) es ≡ true → list_any is_hangup (commands_of p es) ≡ true
+of_process : (p : ℕ) (es : List Entry) → list_any (λ e. eqb e.process p && is_hangup e.command) es ≡ true
+    → list_any is_hangup (commands_of p es) ≡ true
 of_process p [] h = h
 of_process p (e ∷ es) h = elim (cases_Bool (eqb e.process p)) [
-  | inl t ↦ let k : (is_hangup e.command || list_any (λ e. eqb e.process p && is_hangup e.command) es) ≡ true = rw t at h in
-      rw t (elim (or_cases (is_hangup e.command) _ k) [ inl a ↦ or_left _ _ a | inr b ↦ or_right _ _ (of_process p es b) ])
-  | inr f ↦ let k : list_any (λ e. eqb e.process p && is_hangup e.command) es ≡ true = rw f at h in rw f (of_process p es k)
+  | inl t ↦ let k : (is_hangup e.command || list_any (λ e. eqb e.process p && is_hangup e.command) es)
+      ≡ true = rw t at h in
+      rw t (elim (or_cases (is_hangup e.command) _ k)
+      [ inl a ↦ or_left _ _ a | inr b ↦ or_right _ _ (of_process p es b) ])
+  | inr f ↦ let k : list_any (λ e. eqb e.process p && is_hangup e.command) es ≡ true = rw f at h in
+      rw f (of_process p es k)
 ]
 
 record OfSome (es : List Entry) : Type 0 where
@@ -216,25 +276,34 @@ of_some (e ∷ es) h = elim (or_cases (is_hangup e.command) (list_any (λ e. is_
   | inr b ↦ let r = of_some es b in record { process = r.process; hangs = or_right _ _ r.hangs }
 ]
 
-in_program : (programs : List (List Command)) (p : ℕ) → list_any is_hangup (slice_index_or programs p []) ≡ true → list_any (list_any is_hangup) programs ≡ true
+in_program : (programs : List (List Command)) (p : ℕ) → list_any is_hangup (slice_index_or programs p []) ≡ true
+    → list_any (list_any is_hangup) programs ≡ true
 in_program [] p h = absurd (false≢true h)
 in_program (x ∷ xs) zero h = or_left _ _ h
 in_program (x ∷ xs) (suc p) h = or_right _ _ (in_program xs p h)
 
-none_held : (history : List Entry) (programs : List (List Command)) → HoldsPrograms history programs → list_any (list_any is_hangup) programs ≡ false → list_any (λ e. is_hangup e.command) history ≡ false
+none_held : (history : List Entry) (programs : List (List Command)) → HoldsPrograms history programs
+    → list_any (list_any is_hangup) programs ≡ false → list_any (λ e. is_hangup e.command) history ≡ false
 none_held history programs holds none = false_from_ne_true _ (λ h. let r = of_some history h in
-    both_ways _ none (in_program programs r.process (ap (list_any is_hangup) (sym (holds r.process)) ∙ of_process r.process history r.hangs)))
+    both_ways _ none (in_program programs r.process
+    (ap (list_any is_hangup) (sym (holds r.process)) ∙ of_process r.process history r.hangs)))
 
 needs_none : (b : Bool) → version_2_where b ≡ V1 → b ≡ false
 needs_none true e = absurd cc
 needs_none false e = refl
 
-pub report_is_quiet : (programs : ProgramLists) (report : Transcript) → IsReportOf programs report → least_of_programs programs.drivers programs.programs ≡ V1 → least_of_transcript report ≡ V1
+-- a report for programs that version 1 can tell is a transcript that version 1 can tell
+pub report_is_quiet : (programs : ProgramLists) (report : Transcript) → IsReportOf programs report
+    → least_of_programs programs.drivers programs.programs ≡ V1 → least_of_transcript report ≡ V1
 report_is_quiet programs report h least =
-    let p = or_parts (are_more_drivers programs.drivers) (list_any (list_any is_hangup) programs.programs) (needs_none _ least) in
-    let other : list_any (λ e. is_hangup e.command) report.entries ≡ false = none_held report.entries programs.programs h.holds p.1 in
-    let told : list_any is_of_hangup report.entries ≡ false = quiet_replies programs.drivers report.entries h.legal other in
-    let hung : (after programs.drivers report.entries).hungs ≡ [] = quiet_streams programs.drivers report.entries other in
+    let p = or_parts (are_more_drivers programs.drivers) (list_any (list_any is_hangup) programs.programs)
+    (needs_none _ least) in
+    let other : list_any (λ e. is_hangup e.command) report.entries
+    ≡ false = none_held report.entries programs.programs h.holds p.1 in
+    let told : list_any is_of_hangup report.entries
+    ≡ false = quiet_replies programs.drivers report.entries h.legal other in
+    let hung : (after programs.drivers report.entries).hungs
+    ≡ [] = quiet_streams programs.drivers report.entries other in
     let few : are_more_drivers report.drivers ≡ false = ap are_more_drivers h.drivers ∙ p.0 in
     let none : ltb 0 (length report.view.hungs) ≡ false = rw (h.shown, hung) refl in
     ap version_2_where (or_from _ _ few (or_from _ _ told none))

@@ -14,7 +14,8 @@ use Rattle.smx_model.specs.Headline.{IsReportOf}
 use Rattle.smx_model.specs.Histories.{after, call_of, HoldsPrograms, IsLegal}
 use Rattle.smx_model.specs.Views.{view}
 use Rattle.smx_model.specs.Worked.Common.{OpenClone, Dup, CloseAll, Fd, Fault, BadDescriptor, ip}
-use Rattle.smx_model.specs.Worked.Reports.{another_exited, copied, drivers, exited, once_more, one, opened, programs, report_with, three, too_early, two}
+use Rattle.smx_model.specs.Worked.Reports.{another_exited, copied, drivers, exited, once_more, one, opened, programs}
+use Rattle.smx_model.specs.Worked.Reports.{report_with, three, too_early, two}
 use Rattle.smx_model.proofs.DropLemmas.{few_drop}
 use Rattle.smx_model.proofs.EachLemmas.{all_of_each}
 use Rattle.smx_model.proofs.HistoryLemmas.{determined, lawful_throughout}
@@ -23,18 +24,21 @@ use Rattle.smx_types.specs.declared.version.Version.{Version}
 abbrev transcript : Version → List DriverSpec → List Entry → ConfigView → Transcript
 transcript version drivers entries v = record { version = version; drivers = drivers; entries = entries; view = v }
 
-transcript_of : (n : Version) (ds ds2 : List DriverSpec) (es es2 : List Entry) (v v2 : ConfigView) → ds ≡ ds2 → es ≡ es2 → v ≡ v2 → transcript n ds es v ≡ transcript n ds2 es2 v2
+transcript_of : (n : Version) (ds ds2 : List DriverSpec) (es es2 : List Entry) (v v2 : ConfigView) → ds ≡ ds2 → es ≡ es2
+    → v ≡ v2 → transcript n ds es v ≡ transcript n ds2 es2 v2
 transcript_of n ds ds2 es es2 v v2 e f g = cc
 
 -- the drivers, the history and the view of a report follow from the calls
-pub one_report : (programs : ProgramLists) (r s : Transcript) → IsReportOf programs r → IsReportOf programs s → map call_of r.entries ≡ map call_of s.entries → r ≡ record s { version = r.version }
+pub one_report : (programs : ProgramLists) (r s : Transcript) → IsReportOf programs r → IsReportOf programs s
+    → map call_of r.entries ≡ map call_of s.entries → r ≡ record s { version = r.version }
 one_report programs r s h k e =
     let same : r.entries ≡ s.entries = determined programs.drivers r.entries s.entries h.legal k.legal e in
     transcript_of r.version r.drivers s.drivers r.entries s.entries r.view s.view (h.drivers ∙ sym k.drivers) same
     (h.shown ∙ (ap (λ (es : List Entry). view programs.drivers (after programs.drivers es)) same ∙ sym k.shown))
 
 -- what a report needs is enough
-pub report_of : (programs : ProgramLists) (r : Transcript) → r.drivers ≡ programs.drivers → IsDriverList programs.drivers → IsLegal programs.drivers r.entries → HoldsPrograms r.entries programs.programs
+pub report_of : (programs : ProgramLists) (r : Transcript) → r.drivers ≡ programs.drivers
+    → IsDriverList programs.drivers → IsLegal programs.drivers r.entries → HoldsPrograms r.entries programs.programs
     → r.view ≡ view programs.drivers (after programs.drivers r.entries) → IsReportOf programs r
 report_of programs r same can legal holds shown = record {
   drivers = same;
@@ -57,30 +61,42 @@ example_holds (suc (suc p)) =
     rw (not_first, not_second) refl
 
 example_drivers : IsDriverList drivers
-example_drivers = record { few = omega arith; each = all_of_each (λ d. spec_check d ≡ Ok tt) drivers (refl, tt); names = λ i j d lt lt2. absurd (omega (arith, lt, lt2)) }
+example_drivers = record {
+  few = omega arith;
+  each = all_of_each (λ d. spec_check d ≡ Ok tt) drivers (refl, tt);
+  names = λ i j d lt lt2. absurd (omega (arith, lt, lt2));
+}
 
+-- the example, an open of process 0, the exit of process 1 and a dup of process 0, is a report
 pub is_report : IsReportOf programs (report_with (opened ∷ exited ∷ copied ∷ []) two)
-is_report = report_of programs (report_with (opened ∷ exited ∷ copied ∷ []) two) refl example_drivers (refl, (refl, (refl, tt))) example_holds refl
+is_report = report_of programs (report_with (opened ∷ exited ∷ copied ∷ []) two) refl example_drivers
+    (refl, (refl, (refl, tt))) example_holds refl
 
 -- and what is none
 
 abbrev both : List Command
 both = OpenClone ip ∷ Dup 0 ∷ []
 
+-- the example without the dup of process 0 is no report
 pub left_out : IsReportOf programs (report_with (opened ∷ exited ∷ []) one) → ⊥
 left_out h = let e : OpenClone ip ∷ [] ≡ both = h.holds 0 in absurd cc
 
+-- the example with a second dup of process 0 is no report
 pub done_twice : IsReportOf programs (report_with (opened ∷ copied ∷ once_more ∷ exited ∷ []) three) → ⊥
 done_twice h = let e : OpenClone ip ∷ Dup 0 ∷ Dup 0 ∷ [] ≡ both = h.holds 0 in absurd cc
 
+-- the example with the dup of process 0 before its open is no report
 pub exchanged : IsReportOf programs (report_with (too_early ∷ opened ∷ exited ∷ []) one) → ⊥
 exchanged h = let e : Dup 0 ∷ OpenClone ip ∷ [] ≡ both = h.holds 0 in absurd cc
 
+-- the example with the exit of a process without a program, in place of the other's, is no report
 pub of_another : IsReportOf programs (report_with (opened ∷ copied ∷ another_exited ∷ []) two) → ⊥
 of_another h = let e : CloseAll ∷ [] ≡ [] = h.holds 7 in absurd cc
 
+-- the example with another reply to the dup is no report
 pub another_reply : IsReportOf programs (report_with (opened ∷ too_early ∷ exited ∷ []) one) → ⊥
 another_reply h = let e : Fd 1 0 ≡ Fault BadDescriptor = h.legal.1.0 in absurd cc
 
+-- the example with a view of one descriptor, where there are two, is no report
 pub another_view : IsReportOf programs (report_with (opened ∷ copied ∷ exited ∷ []) one) → ⊥
 another_view h = let e : 1 ≡ 2 = ap (λ (v : ConfigView). length v.fds) h.shown in absurd (omega (arith, e))

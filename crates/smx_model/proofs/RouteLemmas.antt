@@ -1,5 +1,6 @@
 -- Ids of links rise, and routes name links of their own upper driver.
-use Rattle.std.proofs.Common.{◌≡◌, ℕ, ◌+◌, ◌<◌, ◌≤◌, Bool, true, false, ◌&&◌, ◌||◌, not, eqb, ltb, List, [], ◌∷◌, ◌++◌, filter, Option, Some, None, Ok, Err, refl, rules, sym, ◌∙◌, subst, arith, inl, inr}
+use Rattle.std.proofs.Common.{◌≡◌, ℕ, ◌+◌, ◌<◌, ◌≤◌, Bool, true, false, ◌&&◌, ◌||◌, not, eqb, ltb, List, [], ◌∷◌, ◌++◌}
+use Rattle.std.proofs.Common.{filter, Option, Some, None, Ok, Err, refl, rules, sym, ◌∙◌, subst, arith, inl, inr}
 use Rattle.std.specs.Prelude.{Result}
 use Rattle.std.specs.List.{list_any}
 use Rattle.std.proofs.lemmas.Bool.{lt-ltb, cases_Bool, eqb-true, and_parts, or_cases, or_left, or_right, false≢true}
@@ -38,6 +39,7 @@ Rising (l ∷ ls) = Each (λ k. l.id < k.id) ls × Rising ls
 abbrev pub leads_from : List Link → ℕ → ℕ → Bool
 leads_from links id driver = list_any (λ l. eqb l.id id && eqb l.ctl.driver driver) links
 
+-- ids of links rise from 1 to below the next one; each route has a multiplexing driver, and names a link of its own
 pub record AreRouted (drivers : List DriverSpec) (c : Configuration) : Type 0 where
   pub rise : Rising c.links
   pub ids : Each (λ l. (1 ≤ l.id) × (l.id < c.next_id)) c.links
@@ -46,53 +48,70 @@ pub record AreRouted (drivers : List DriverSpec) (c : Configuration) : Type 0 wh
 
 -- an id names one link
 
-below_found : (links : List Link) (i id driver : ℕ) → Each (λ k. i < k.id) links → leads_from links id driver ≡ true → i < id
+below_found : (links : List Link) (i id driver : ℕ) → Each (λ k. i < k.id) links → leads_from links id driver ≡ true
+    → i < id
 below_found [] i id driver h e = absurd (false≢true e)
-below_found (l ∷ ls) i id driver h e = elim (or_cases (eqb l.id id && eqb l.ctl.driver driver) (leads_from ls id driver) e) [
-  | inl k ↦ subst (λ (x : ℕ). i < x) (eqb-true l.id id (and_parts (eqb l.id id) (eqb l.ctl.driver driver) k).0) h.0
-  | inr k ↦ below_found ls i id driver h.1 k
-]
+below_found (l ∷ ls) i id driver h e =
+    elim (or_cases (eqb l.id id && eqb l.ctl.driver driver) (leads_from ls id driver) e) [
+      | inl k ↦ subst (λ (x : ℕ). i < x) (eqb-true l.id id (and_parts (eqb l.id id) (eqb l.ctl.driver driver) k).0) h.0
+      | inr k ↦ below_found ls i id driver h.1 k
+    ]
 
-none_above : (links : List Link) (id driver : ℕ) → Each (λ k. id < k.id) links → Each (λ l. l.id ≡ id → l.ctl.driver ≡ driver) links
+none_above : (links : List Link) (id driver : ℕ) → Each (λ k. id < k.id) links
+    → Each (λ l. l.id ≡ id → l.ctl.driver ≡ driver) links
 none_above [] id driver h = tt
 none_above (l ∷ ls) id driver h = (λ e. absurd (omega (arith, e, h.0)), none_above ls id driver h.1)
 
 -- so each link of that id has that upper driver
-pub one_driver : (links : List Link) (id driver : ℕ) → Rising links → leads_from links id driver ≡ true → Each (λ l. l.id ≡ id → l.ctl.driver ≡ driver) links
+pub one_driver : (links : List Link) (id driver : ℕ) → Rising links → leads_from links id driver ≡ true
+    → Each (λ l. l.id ≡ id → l.ctl.driver ≡ driver) links
 one_driver [] id driver h e = tt
-one_driver (l ∷ ls) id driver h e = elim (or_cases (eqb l.id id && eqb l.ctl.driver driver) (leads_from ls id driver) e) [
-  | inl k ↦ let p = and_parts (eqb l.id id) (eqb l.ctl.driver driver) k in
-      (λ same. eqb-true l.ctl.driver driver p.1, none_above ls id driver (subst (λ (x : ℕ). Each (λ k. x < k.id) ls) (eqb-true l.id id p.0) h.0))
-  | inr k ↦ (λ same. absurd (omega (arith, same, below_found ls l.id id driver h.0 k)), one_driver ls id driver h.1 k)
-]
+one_driver (l ∷ ls) id driver h e =
+    elim (or_cases (eqb l.id id && eqb l.ctl.driver driver) (leads_from ls id driver) e) [
+      | inl k ↦ let p = and_parts (eqb l.id id) (eqb l.ctl.driver driver) k in (
+        λ same. eqb-true l.ctl.driver driver p.1,
+        none_above ls id driver (subst (λ (x : ℕ). Each (λ k. x < k.id) ls) (eqb-true l.id id p.0) h.0),
+      )
+      | inr k ↦ (
+        λ same. absurd (omega (arith, same, below_found ls l.id id driver h.0 k)),
+        one_driver ls id driver h.1 k,
+      )
+    ]
 
 -- each route's id is that of links of its own driver alone
-pub routes_lead : (drivers : List DriverSpec) (c : Configuration) → AreRouted drivers c → Each (λ r. Each (λ l. l.id ≡ r.id → l.ctl.driver ≡ r.driver) c.links) c.routes
+pub routes_lead : (drivers : List DriverSpec) (c : Configuration) → AreRouted drivers c
+    → Each (λ r. Each (λ l. l.id ≡ r.id → l.ctl.driver ≡ r.driver) c.links) c.routes
 routes_lead drivers c h = each_map _ _ c.routes (λ r p. one_driver c.links r.id r.driver h.rise p.1) h.routes
 
 -- the lists as they change
 
 rising_filter : (test : Link → Bool) (ls : List Link) → Rising ls → Rising (filter test ls)
 rising_filter test [] h = tt
-rising_filter test (l ∷ ls) h = elim (cases_Bool (test l)) [ inl t ↦ rw t (each_filter _ test ls h.0, rising_filter test ls h.1) | inr f ↦ rw f (rising_filter test ls h.1) ]
+rising_filter test (l ∷ ls) h = elim (cases_Bool (test l))
+    [ inl t ↦ rw t (each_filter _ test ls h.0, rising_filter test ls h.1) | inr f ↦ rw f (rising_filter test ls h.1) ]
 
 rising_push : (ls : List Link) (l : Link) → Each (λ k. k.id < l.id) ls → Rising ls → Rising (ls ++ l ∷ [])
 rising_push [] l h r = (tt, tt)
 rising_push (k ∷ ls) l h r = (each_push _ ls l h.0 r.0, rising_push ls l h.1 r.1)
 
-leads_push : (ls : List Link) (l : Link) (id driver : ℕ) → leads_from ls id driver ≡ true → leads_from (ls ++ l ∷ []) id driver ≡ true
+leads_push : (ls : List Link) (l : Link) (id driver : ℕ) → leads_from ls id driver ≡ true
+    → leads_from (ls ++ l ∷ []) id driver ≡ true
 leads_push [] l id driver e = absurd (false≢true e)
 leads_push (k ∷ ls) l id driver e = elim (or_cases (eqb k.id id && eqb k.ctl.driver driver) (leads_from ls id driver) e)
     [ inl t ↦ or_left _ _ t | inr t ↦ or_right _ _ (leads_push ls l id driver t) ]
 
 -- a route whose link stays stays true
-leads_kept : (goes : Link → Bool) (ls : List Link) (id driver : ℕ) → leads_from ls id driver ≡ true → not (list_any (λ l. eqb l.id id) (filter goes ls)) ≡ true → leads_from (filter (λ l. not (goes l)) ls) id driver ≡ true
+leads_kept : (goes : Link → Bool) (ls : List Link) (id driver : ℕ) → leads_from ls id driver ≡ true
+    → not (list_any (λ l. eqb l.id id) (filter goes ls)) ≡ true
+    → leads_from (filter (λ l. not (goes l)) ls) id driver ≡ true
 leads_kept goes [] id driver e h = absurd (false≢true e)
 leads_kept goes (l ∷ ls) id driver e h = elim (cases_Bool (goes l)) [
   | inl g ↦ let h2 : not (eqb l.id id || list_any (λ l. eqb l.id id) (filter goes ls)) ≡ true = rw g at h in
       let p = not_either (eqb l.id id) (list_any (λ l. eqb l.id id) (filter goes ls)) h2 in
-      rw g (leads_kept goes ls id driver (elim (or_cases (eqb l.id id && eqb l.ctl.driver driver) (leads_from ls id driver) e)
-      [ inl t ↦ absurd (false≢true (sym p.0 ∙ (and_parts (eqb l.id id) (eqb l.ctl.driver driver) t).0)) | inr t ↦ t ]) p.1)
+      rw g (leads_kept goes ls id driver
+      (elim (or_cases (eqb l.id id && eqb l.ctl.driver driver) (leads_from ls id driver) e)
+      [ inl t ↦ absurd (false≢true (sym p.0 ∙ (and_parts (eqb l.id id) (eqb l.ctl.driver driver) t).0)) | inr t ↦ t ])
+      p.1)
   | inr k ↦ let h2 : not (list_any (λ l. eqb l.id id) (filter goes ls)) ≡ true = rw k at h in
       rw k (elim (or_cases (eqb l.id id && eqb l.ctl.driver driver) (leads_from ls id driver) e)
       [ inl t ↦ or_left _ _ t | inr t ↦ or_right _ _ (leads_kept goes ls id driver t h2) ])
@@ -104,14 +123,19 @@ leads_kept goes (l ∷ ls) id driver e h = elim (cases_Bool (goes l)) [
 -- of each accepted outcome
 
 -- links, routes and next id as they were
-routed_same : (drivers : List DriverSpec) (c d : Configuration) → AreRouted drivers c → d.links ≡ c.links → d.routes ≡ c.routes → d.next_id ≡ c.next_id → AreRouted drivers d
-routed_same drivers c d h e f g = record { rise = rw e h.rise; ids = rw (e, g) h.ids; start = rw g h.start; routes = rw (e, f) h.routes }
+routed_same : (drivers : List DriverSpec) (c d : Configuration) → AreRouted drivers c → d.links ≡ c.links
+    → d.routes ≡ c.routes → d.next_id ≡ c.next_id → AreRouted drivers d
+routed_same drivers c d h e f g =
+    record { rise = rw e h.rise; ids = rw (e, g) h.ids; start = rw g h.start; routes = rw (e, f) h.routes }
 
 -- fewer routes
-routed_fewer : (drivers : List DriverSpec) (c : Configuration) (test : Route → Bool) → AreRouted drivers c → AreRouted drivers (record c { routes = filter test c.routes })
-routed_fewer drivers c test h = record { rise = h.rise; ids = h.ids; start = h.start; routes = each_filter _ test c.routes h.routes }
+routed_fewer : (drivers : List DriverSpec) (c : Configuration) (test : Route → Bool) → AreRouted drivers c
+    → AreRouted drivers (record c { routes = filter test c.routes })
+routed_fewer drivers c test h =
+    record { rise = h.rise; ids = h.ids; start = h.start; routes = each_filter _ test c.routes h.routes }
 
-routed_removed : (drivers : List DriverSpec) (c : Configuration) (goes : Link → Bool) → AreRouted drivers c → AreRouted drivers (without_links c goes)
+routed_removed : (drivers : List DriverSpec) (c : Configuration) (goes : Link → Bool) → AreRouted drivers c
+    → AreRouted drivers (without_links c goes)
 routed_removed drivers c goes h = record {
   rise = rising_filter _ c.links h.rise;
   ids = each_filter _ _ c.links h.ids;
@@ -119,20 +143,34 @@ routed_removed drivers c goes h = record {
   routes = kept c.routes h.routes;
 } where
   kept : (rs : List Route) → Each (λ r. (is_mux drivers r.driver ≡ true) × (leads_from c.links r.id r.driver ≡ true)) rs
-      → Each (λ r. (is_mux drivers r.driver ≡ true) × (leads_from (filter (λ l. not (goes l)) c.links) r.id r.driver ≡ true)) (filter (λ r. not (list_any (λ l. eqb l.id r.id) (filter goes c.links))) rs)
+      → Each (λ r. (is_mux drivers r.driver ≡ true)
+      × (leads_from (filter (λ l. not (goes l)) c.links) r.id r.driver ≡ true))
+      (filter (λ r. not (list_any (λ l. eqb l.id r.id) (filter goes c.links))) rs)
   kept [] k = tt
-  kept (r ∷ rs) k = elim (cases_Bool (not (list_any (λ l. eqb l.id r.id) (filter goes c.links))))
-      [ inl t ↦ rw t ((k.0.0, leads_kept goes c.links r.id r.driver k.0.1 t), kept rs k.1) | inr f ↦ rw f (kept rs k.1) ]
+  kept (r ∷ rs) k = elim (cases_Bool (not (list_any (λ l. eqb l.id r.id) (filter goes c.links)))) [
+    | inl t ↦ rw t ((k.0.0, leads_kept goes c.links r.id r.driver k.0.1 t), kept rs k.1)
+    | inr f ↦
+        rw f (kept rs k.1)
+  ]
 
-routed_done : (drivers : List DriverSpec) (c d : Configuration) → AreRouted drivers d → IfAccepted (λ d r. AreRouted drivers d) (done_outcome drivers c d)
-routed_done drivers c d h = let k = routed_removed drivers d _ h in record { holds = record { rise = k.rise; ids = k.ids; start = k.start; routes = k.routes } }
+routed_done : (drivers : List DriverSpec) (c d : Configuration) → AreRouted drivers d
+    → IfAccepted (λ d r. AreRouted drivers d) (done_outcome drivers c d)
+routed_done drivers c d h = let k = routed_removed drivers d _ h in
+    record { holds = record { rise = k.rise; ids = k.ids; start = k.start; routes = k.routes } }
 
-routed_unlinked : (drivers : List DriverSpec) (c : Configuration) (w : Which) (mine : Link → Bool) → AreRouted drivers c → IfAccepted (λ d r. AreRouted drivers d) (unlink_outcome drivers c w mine)
-routed_unlinked drivers c which.All mine h = routed_done drivers c (without_links c mine) (routed_removed drivers c mine h)
+routed_unlinked : (drivers : List DriverSpec) (c : Configuration) (w : Which) (mine : Link → Bool) → AreRouted drivers c
+    → IfAccepted (λ d r. AreRouted drivers d) (unlink_outcome drivers c w mine)
+routed_unlinked drivers c which.All mine h =
+    routed_done drivers c (without_links c mine) (routed_removed drivers c mine h)
 routed_unlinked drivers c (which.Id id) mine h = search (after_test, routed_done, routed_removed, rules) depth 12
 
-routed_link : (drivers : List DriverSpec) (c : Configuration) (ctl lower : StreamId) (k : LinkKind) → AreRouted drivers c
-    → AreRouted drivers (record c { links = c.links ++ record { id = c.next_id; ctl = ctl; lower = lower; kind = k } ∷ []; next_id = c.next_id + 1 })
+routed_link : (drivers : List DriverSpec) (c : Configuration) (ctl lower : StreamId) (k : LinkKind)
+    → AreRouted drivers c
+    → AreRouted drivers
+    (record c {
+      links = c.links ++ record { id = c.next_id; ctl = ctl; lower = lower; kind = k } ∷ [];
+      next_id = c.next_id + 1;
+    })
 routed_link drivers c ctl lower k h = record {
   rise = rising_push c.links l (each_map _ _ c.links (λ m p. p.1) h.ids) h.rise;
   ids = each_push _ c.links l (h.start, omega arith) (each_map _ _ c.links (λ m p. (p.0, omega (arith, p.1))) h.ids);
@@ -142,35 +180,48 @@ routed_link drivers c ctl lower k h = record {
   l : Link
   l = record { id = c.next_id; ctl = ctl; lower = lower; kind = k }
 
-routed_linked : (drivers : List DriverSpec) (c : Configuration) (process fd arg : ℕ) (k : LinkKind) → AreRouted drivers c → IfAccepted (λ d r. AreRouted drivers d) (link_outcome drivers c process fd arg k)
+routed_linked : (drivers : List DriverSpec) (c : Configuration) (process fd arg : ℕ) (k : LinkKind)
+    → AreRouted drivers c → IfAccepted (λ d r. AreRouted drivers d) (link_outcome drivers c process fd arg k)
 routed_linked drivers c process fd arg k h = search (after_test, after_ok, at_ok, routed_link, rules) depth 24
 
-routed_route : (drivers : List DriverSpec) (c : Configuration) (test : Route → Bool) (driver addr id : ℕ) → AreRouted drivers c → is_mux drivers driver ≡ true → not (leads_from c.links id driver) ≡ false
-    → AreRouted drivers (record c { routes = with_inserted route_before (filter test c.routes) (record { driver = driver; addr = addr; id = id }) })
+routed_route : (drivers : List DriverSpec) (c : Configuration) (test : Route → Bool) (driver addr id : ℕ)
+    → AreRouted drivers c → is_mux drivers driver ≡ true → not (leads_from c.links id driver) ≡ false
+    → AreRouted drivers
+    (record c {
+      routes = with_inserted route_before (filter test c.routes)
+          (record { driver = driver; addr = addr; id = id });
+    })
 routed_route drivers c test driver addr id h mux there = record {
   rise = h.rise;
   ids = h.ids;
   start = h.start;
-  routes = each_placed _ route_before (filter test c.routes) (record { driver = driver; addr = addr; id = id }) (mux, not_false _ there) (each_filter _ test c.routes h.routes);
+  routes = each_placed _ route_before (filter test c.routes) (record { driver = driver; addr = addr; id = id })
+      (mux, not_false _ there) (each_filter _ test c.routes h.routes);
 } where
   not_false : (b : Bool) → not b ≡ false → b ≡ true
   not_false true e = refl
   not_false false e = absurd (false≢true (sym e))
 
 -- the stream's driver is a multiplexing one
-mux_is : (drivers : List DriverSpec) (c : Configuration) (process fd : ℕ) (s : StreamId) → mux_stream drivers c process fd ≡ Ok s → is_mux drivers s.driver ≡ true
+mux_is : (drivers : List DriverSpec) (c : Configuration) (process fd : ℕ) (s : StreamId)
+    → mux_stream drivers c process fd ≡ Ok s → is_mux drivers s.driver ≡ true
 mux_is drivers c process fd s e = by (free_stream c process fd) e where
-  tested : (t : StreamId) (b : Bool) → is_mux drivers t.driver ≡ b → (refuse NotMux (not b) >>= (λ _. Ok t)) ≡ Ok s → is_mux drivers s.driver ≡ true
+  tested : (t : StreamId) (b : Bool) → is_mux drivers t.driver ≡ b → (refuse NotMux (not b) >>= (λ _. Ok t)) ≡ Ok s
+      → is_mux drivers s.driver ≡ true
   tested t true h k = let same : t ≡ s = cc in subst (λ (x : StreamId). is_mux drivers x.driver ≡ true) same h
   tested t false h k = cc
 
-  by : (r : Result StreamId Fault) → (r >>= (λ t. refuse NotMux (not (is_mux drivers t.driver)) >>= (λ _. Ok t))) ≡ Ok s → is_mux drivers s.driver ≡ true
+  by : (r : Result StreamId Fault) → (r >>= (λ t. refuse NotMux (not (is_mux drivers t.driver)) >>= (λ _. Ok t))) ≡ Ok s
+      → is_mux drivers s.driver ≡ true
   by (Err f) k = cc
   by (Ok t) k = tested t (is_mux drivers t.driver) refl k
 
-pub routed_accepted : (drivers : List DriverSpec) (c : Configuration) (process : ℕ) (k : Command) → AreRouted drivers c → IfAccepted (λ d r. AreRouted drivers d) (outcome drivers c process k)
+-- an accepted command keeps ids of links rising, and each route with a link of its own driver
+pub routed_accepted : (drivers : List DriverSpec) (c : Configuration) (process : ℕ) (k : Command) → AreRouted drivers c
+    → IfAccepted (λ d r. AreRouted drivers d) (outcome drivers c process k)
 routed_accepted drivers c process (command.OpenClone name) h = search (after_ok, at_ok, routed_same, rules) depth 20
-routed_accepted drivers c process (command.OpenMinor name minor) h = search (after_test, after_ok, at_ok, routed_same, rules) depth 20
+routed_accepted drivers c process (command.OpenMinor name minor) h =
+    search (after_test, after_ok, at_ok, routed_same, rules) depth 20
 routed_accepted drivers c process (command.Dup fd) h = search (after_ok, at_ok, routed_same, rules) depth 20
 routed_accepted drivers c process (command.Close fd) h = search (after_ok, routed_done, routed_same, rules) depth 20
 routed_accepted drivers c process command.CloseAll h = search (routed_done, routed_same, rules) depth 20
@@ -178,24 +229,36 @@ routed_accepted drivers c process (command.Link fd arg) h = search (routed_linke
 routed_accepted drivers c process (command.Plink fd arg) h = search (routed_linked, rules) depth 20
 routed_accepted drivers c process (command.Unlink fd w) h = search (after_ok, routed_unlinked, rules) depth 20
 routed_accepted drivers c process (command.Punlink fd w) h = search (after_ok, routed_unlinked, rules) depth 20
-routed_accepted drivers c process (command.Bind fd addr) h = search (after_test, after_ok, routed_done, routed_same, rules) depth 20
-routed_accepted drivers c process (command.Unbind fd) h = search (after_test, after_ok, routed_done, routed_same, rules) depth 20
-routed_accepted drivers c process (command.Route fd addr id) h = search (after_test, after_ok, routed_done, routed_route, mux_is, routed_same, rules) depth 20
-routed_accepted drivers c process (command.Unroute fd addr) h = search (after_test, after_ok, routed_done, routed_fewer, rules) depth 20
-routed_accepted drivers c process (command.Write fd addr bytes) h = search (after_test, after_ok, at_ok, routed_same, rules) depth 20
-routed_accepted drivers c process (command.Read fd) h = search (after_ok, after_choice, after_some, at_ok, routed_same, rules) depth 20
+routed_accepted drivers c process (command.Bind fd addr) h =
+    search (after_test, after_ok, routed_done, routed_same, rules) depth 20
+routed_accepted drivers c process (command.Unbind fd) h =
+    search (after_test, after_ok, routed_done, routed_same, rules) depth 20
+routed_accepted drivers c process (command.Route fd addr id) h =
+    search (after_test, after_ok, routed_done, routed_route, mux_is, routed_same, rules) depth 20
+routed_accepted drivers c process (command.Unroute fd addr) h =
+    search (after_test, after_ok, routed_done, routed_fewer, rules) depth 20
+routed_accepted drivers c process (command.Write fd addr bytes) h =
+    search (after_test, after_ok, at_ok, routed_same, rules) depth 20
+routed_accepted drivers c process (command.Read fd) h =
+    search (after_ok, after_choice, after_some, at_ok, routed_same, rules) depth 20
 routed_accepted drivers c process (command.Flush fd w) h = search (after_ok, routed_done, routed_same, rules) depth 20
-routed_accepted drivers c process (command.Inject name minor addr bytes) h = search (after_test, after_ok, at_ok, routed_same, rules) depth 20
-routed_accepted drivers c process (command.Transmit name minor) h = search (after_some, after_ok, at_ok, routed_same, rules) depth 20
-routed_accepted drivers c process (command.Hangup name minor) h = search (after_ok, routed_done, routed_same, rules) depth 20
+routed_accepted drivers c process (command.Inject name minor addr bytes) h =
+    search (after_test, after_ok, at_ok, routed_same, rules) depth 20
+routed_accepted drivers c process (command.Transmit name minor) h =
+    search (after_some, after_ok, at_ok, routed_same, rules) depth 20
+routed_accepted drivers c process (command.Hangup name minor) h =
+    search (after_ok, routed_done, routed_same, rules) depth 20
 
-pub routed_moved : (drivers : List DriverSpec) (c : Configuration) (p : Place) → AreRouted drivers c → AreRouted drivers (after_move drivers c p)
+-- a move keeps ids of links rising, and each route with a link of its own driver
+pub routed_moved : (drivers : List DriverSpec) (c : Configuration) (p : Place) → AreRouted drivers c
+    → AreRouted drivers (after_move drivers c p)
 routed_moved drivers c p h = by (next_open_place drivers c p) (first_message c.flow p) where
   by : (o : Option Place) (m : Option Message) → AreRouted drivers (after_move_to drivers c p o m)
   by (Some q) (Some m) = record { rise = h.rise; ids = h.ids; start = h.start; routes = h.routes }
   by (Some q) None = h
   by None m = h
 
+-- in the empty configuration, without links and routes, ids rise and no route lacks its link
 pub routed_empty : (drivers : List DriverSpec) → AreRouted drivers empty
 routed_empty drivers = record { rise = tt; ids = tt; start = omega arith; routes = tt }
 
@@ -209,6 +272,7 @@ ids_rise : (ls : List Link) → Rising ls → IsRising (λ l k. ltb l.id k.id) l
 ids_rise [] h = tt
 ids_rise (l ∷ ls) h = (ids_before l ls h.0, ids_rise ls h.1)
 
+-- ids of links that rise by recursion are what `AreIdsRising` says of them
 pub rising_ids : (drivers : List DriverSpec) (c : Configuration) → AreRouted drivers c → AreIdsRising c.links c.next_id
 rising_ids drivers c h = record {
   rise = ids_rise c.links h.rise;
@@ -217,6 +281,7 @@ rising_ids drivers c h = record {
   next = h.start;
 }
 
+-- routes with links of their own drivers, by recursion, are what `AreRoutesSound` says of them
 pub sound_routes : (drivers : List DriverSpec) (c : Configuration) → AreRouted drivers c → AreRoutesSound drivers c
 sound_routes drivers c h = record {
   mux = all_of_each _ c.routes (each_map _ _ c.routes (λ r p. p.0) h.routes);

@@ -1,8 +1,10 @@
 -- Which routes a command takes away.
-use Rattle.std.proofs.Common.{◌≡◌, ◌↔◌, ℕ, ◌<◌, Bool, true, false, ◌&&◌, ◌||◌, not, eqb, ltb, arith, List, [], ◌∷◌, filter, Result, Ok, Err, refl, rules, sym, subst, inl, inr}
+use Rattle.std.proofs.Common.{◌≡◌, ◌↔◌, ℕ, ◌<◌, Bool, true, false, ◌&&◌, ◌||◌, not, eqb, ltb, arith, List, [], ◌∷◌}
+use Rattle.std.proofs.Common.{filter, Result, Ok, Err, refl, rules, sym, subst, inl, inr}
 use Rattle.std.specs.List.{All, Contains, list_any}
 use Rattle.std.specs.Prelude.{IfOk}
-use Rattle.std.proofs.lemmas.Bool.{cases_Bool, and_parts, eqb-true, false_from_ne_true, false≢true, ltb-true, ne_eqb, or_from, or_cases}
+use Rattle.std.proofs.lemmas.Bool.{cases_Bool, and_parts, eqb-true, false_from_ne_true, false≢true, ltb-true, ne_eqb}
+use Rattle.std.proofs.lemmas.Bool.{or_from, or_cases}
 use Rattle.std.proofs.lemmas.List.Elements.{All-contains}
 use Rattle.smx_types.specs.declared.command.Command.{Command}
 use Rattle.smx_types.specs.declared.command.Command.TheVariants as command
@@ -17,7 +19,8 @@ use Rattle.smx_types.specs.declared.reply.Fault.TheVariants.{NoLink, Unrouted}
 use Rattle.smx_types.specs.declared.reply.Reply.TheVariants as reply
 use Rattle.smx_types.specs.declared.stream.Place.{Place}
 use Rattle.smx_types.specs.declared.stream.StreamId.{StreamId}
-use Rattle.smx_model.specs.Commands.{outcome, step, after_outcome, done_outcome, link_outcome, unlink_outcome, send_outcome, receive_outcome}
+use Rattle.smx_model.specs.Commands.{outcome, step, after_outcome, done_outcome, link_outcome, unlink_outcome}
+use Rattle.smx_model.specs.Commands.{send_outcome, receive_outcome}
 use Rattle.smx_model.specs.Configuration.{Configuration, route_before}
 use Rattle.smx_model.specs.KeptConfigurations.{IsSound}
 use Rattle.smx_model.specs.Lookups.{mux_stream}
@@ -44,52 +47,97 @@ record LosesRoutes (c d : Configuration) (goes : Route → Bool) : Type 0 where
 record LeavesRoutes (c d : Configuration) (goes : Route → Bool) : Type 0 where
   each : (r : Route) → Contains c.routes r → not (goes r) ≡ true → Contains d.routes r
 
-idle : (drivers : List DriverSpec) (c : Configuration) (routes : List Route) → IsSwept drivers c → done_outcome drivers c (record c { routes = routes }) ≡ Ok (record c { routes = routes }, reply.Done [])
-idle drivers c routes h = done_idle drivers c (record c { routes = routes }) (record { links = h.links; binds = h.binds; flow = h.flow; fulls = h.fulls; hungs = h.hungs }) refl
+idle : (drivers : List DriverSpec) (c : Configuration) (routes : List Route) → IsSwept drivers c
+    → done_outcome drivers c (record c { routes = routes }) ≡ Ok (record c { routes = routes }, reply.Done [])
+idle drivers c routes h = done_idle drivers c (record c { routes = routes })
+    (record { links = h.links; binds = h.binds; flow = h.flow; fulls = h.fulls; hungs = h.hungs }) refl
 
-fewer_routes : (drivers : List DriverSpec) (c : Configuration) (goes : Route → Bool) → IsSwept drivers c → LosesRoutes c (after_outcome drivers c (done_outcome drivers c (record c { routes = filter (λ r. not (goes r)) c.routes }))).0 goes
-fewer_routes drivers c goes h = subst (λ (o : Outcome). LosesRoutes c (after_outcome drivers c o).0 goes) (sym (idle drivers c (filter (λ r. not (goes r)) c.routes) h)) (record {
-  each = λ r k. rw ((settled_alone drivers _ (record c { routes = filter (λ r. not (goes r)) c.routes })).routes) (λ m. filtered_passes (λ r. not (goes r)) c.routes r m, λ e. in_filtered (λ r. not (goes r)) c.routes r k e);
-})
+fewer_routes : (drivers : List DriverSpec) (c : Configuration) (goes : Route → Bool) → IsSwept drivers c
+    → LosesRoutes c
+    (after_outcome drivers c (done_outcome drivers c (record c { routes = filter (λ r. not (goes r)) c.routes }))).0
+    goes
+fewer_routes drivers c goes h = subst (λ (o : Outcome). LosesRoutes c (after_outcome drivers c o).0 goes)
+    (sym (idle drivers c (filter (λ r. not (goes r)) c.routes) h)) (record {
+      each = λ r k. rw ((settled_alone drivers _ (record c { routes = filter (λ r. not (goes r)) c.routes })).routes)
+          (λ m. filtered_passes (λ r. not (goes r)) c.routes r m, λ e. in_filtered (λ r. not (goes r)) c.routes r k e);
+    })
 
 new_route : (drivers : List DriverSpec) (c : Configuration) (goes : Route → Bool) (x : Route) → IsSwept drivers c
-    → LeavesRoutes c (after_outcome drivers c (done_outcome drivers c (record c { routes = with_inserted route_before (filter (λ r. not (goes r)) c.routes) x }))).0 goes
-new_route drivers c goes x h = subst (λ (o : Outcome). LeavesRoutes c (after_outcome drivers c o).0 goes) (sym (idle drivers c (with_inserted route_before (filter (λ r. not (goes r)) c.routes) x) h)) (record {
-  each = λ r k t. rw ((settled_alone drivers _ (record c { routes = with_inserted route_before (filter (λ r. not (goes r)) c.routes) x })).routes)
-      (in_placed route_before (filter (λ r. not (goes r)) c.routes) r x (in_filtered (λ r. not (goes r)) c.routes r k t));
-})
+    → LeavesRoutes c
+    (after_outcome drivers c
+    (done_outcome drivers c
+    (record c { routes = with_inserted route_before (filter (λ r. not (goes r)) c.routes) x }))).0 goes
+new_route drivers c goes x h = subst (λ (o : Outcome). LeavesRoutes c (after_outcome drivers c o).0 goes)
+    (sym (idle drivers c (with_inserted route_before (filter (λ r. not (goes r)) c.routes) x) h)) (record {
+      each = λ r k t.
+          rw ((settled_alone drivers _
+          (record c { routes = with_inserted route_before (filter (λ r. not (goes r)) c.routes) x })).routes)
+          (in_placed route_before (filter (λ r. not (goes r)) c.routes) r x
+          (in_filtered (λ r. not (goes r)) c.routes r k t));
+    })
 
-pub unroute_takes : (drivers : List DriverSpec) (c : Configuration) (process fd addr : ℕ) (s : StreamId) → IsSwept drivers c → mux_stream drivers c process fd ≡ Ok s
-    → All (λ r. Contains (step drivers c process (command.Unroute fd addr)).0.routes r ↔ (not (eqb r.driver s.driver && eqb r.addr addr) ≡ true)) c.routes
-unroute_takes drivers c process fd addr s h e = all_in _ c.routes (subst (λ (r : Result StreamId Fault). LosesRoutes c (after_outcome drivers c (r >>= (λ s. refuse Unrouted (not (list_any (λ r. eqb r.driver s.driver && eqb r.addr addr) c.routes))
-    >>= (λ there. done_outcome drivers c (record c { routes = filter (λ r. not (eqb r.driver s.driver && eqb r.addr addr)) c.routes }))))).0 mine) (sym e) (by (list_any mine c.routes) refl)).each where
+-- unroute takes away its driver's routes for the address, and leaves all others
+pub unroute_takes : (drivers : List DriverSpec) (c : Configuration) (process fd addr : ℕ) (s : StreamId)
+    → IsSwept drivers c → mux_stream drivers c process fd ≡ Ok s
+    → All (λ r. Contains (step drivers c process (command.Unroute fd addr)).0.routes r
+    ↔ (not (eqb r.driver s.driver && eqb r.addr addr) ≡ true)) c.routes
+unroute_takes drivers c process fd addr s h e = all_in _ c.routes
+    (subst (λ (r : Result StreamId Fault). LosesRoutes c
+    (after_outcome drivers c
+    (r >>= (λ s. refuse Unrouted (not (list_any (λ r. eqb r.driver s.driver && eqb r.addr addr) c.routes))
+    >>= (λ there. done_outcome drivers c
+    (record c { routes = filter (λ r. not (eqb r.driver s.driver && eqb r.addr addr)) c.routes }))))).0 mine) (sym e)
+    (by (list_any mine c.routes) refl)).each where
       mine : Route → Bool
       mine r = eqb r.driver s.driver && eqb r.addr addr
 
-      by : (b : Bool) → list_any mine c.routes ≡ b → LosesRoutes c (after_outcome drivers c (refuse Unrouted (not b) >>= (λ there. done_outcome drivers c (record c { routes = filter (λ r. not (mine r)) c.routes })))).0 mine
+      by : (b : Bool) → list_any mine c.routes ≡ b
+          → LosesRoutes c
+          (after_outcome drivers c
+          (refuse Unrouted (not b) >>= (λ there. done_outcome drivers c
+          (record c { routes = filter (λ r. not (mine r)) c.routes })))).0 mine
       by true f = fewer_routes drivers c mine h
       by false f = record { each = λ r k. (λ m. rw (none_in mine c.routes f r k) refl, λ t. k) }
 
-pub route_leaves : (drivers : List DriverSpec) (c : Configuration) (process fd addr id : ℕ) (s : StreamId) → IsSwept drivers c → mux_stream drivers c process fd ≡ Ok s
-    → All (λ r. not (eqb r.driver s.driver && eqb r.addr addr) ≡ true → Contains (step drivers c process (command.Route fd addr id)).0.routes r) c.routes
-route_leaves drivers c process fd addr id s h e = all_in _ c.routes (subst (λ (r : Result StreamId Fault). LeavesRoutes c (after_outcome drivers c (r >>= (λ s. refuse NoLink (not (list_any (λ l. eqb l.id id && eqb l.ctl.driver s.driver) c.links))
-    >>= (λ there. done_outcome drivers c (record c { routes = with_inserted route_before (filter (λ r. not (eqb r.driver s.driver && eqb r.addr addr)) c.routes) (record { driver = s.driver; addr = addr; id = id }) }))))).0 mine) (sym e) (by (list_any (λ l. eqb l.id id && eqb l.ctl.driver s.driver) c.links))).each where
+-- route leaves all routes but its driver's for the address
+pub route_leaves : (drivers : List DriverSpec) (c : Configuration) (process fd addr id : ℕ) (s : StreamId)
+    → IsSwept drivers c → mux_stream drivers c process fd ≡ Ok s
+    → All (λ r. not (eqb r.driver s.driver && eqb r.addr addr) ≡ true
+    → Contains (step drivers c process (command.Route fd addr id)).0.routes r) c.routes
+route_leaves drivers c process fd addr id s h e = all_in _ c.routes
+    (subst (λ (r : Result StreamId Fault). LeavesRoutes c
+    (after_outcome drivers c
+    (r >>= (λ s. refuse NoLink (not (list_any (λ l. eqb l.id id && eqb l.ctl.driver s.driver) c.links))
+    >>= (λ there. done_outcome drivers c
+    (record c {
+      routes = with_inserted route_before
+          (filter (λ r. not (eqb r.driver s.driver && eqb r.addr addr)) c.routes)
+          (record { driver = s.driver; addr = addr; id = id });
+    }))))).0 mine) (sym e) (by (list_any (λ l. eqb l.id id && eqb l.ctl.driver s.driver) c.links))).each where
       mine : Route → Bool
       mine r = eqb r.driver s.driver && eqb r.addr addr
 
       by : (b : Bool) → LeavesRoutes c (after_outcome drivers c (refuse NoLink (not b)
-          >>= (λ there. done_outcome drivers c (record c { routes = with_inserted route_before (filter (λ r. not (mine r)) c.routes) (record { driver = s.driver; addr = addr; id = id }) })))).0 mine
+          >>= (λ there. done_outcome drivers c
+          (record c {
+            routes = with_inserted route_before (filter (λ r. not (mine r)) c.routes)
+                (record { driver = s.driver; addr = addr; id = id });
+          })))).0 mine
       by true = new_route drivers c mine (record { driver = s.driver; addr = addr; id = id }) h
       by false = record { each = λ r k t. k }
 
 -- an id is that of one link
 
-above : (x : Link) (ls : List Link) (i : ℕ) → ComesBefore (λ l k. ltb l.id k.id) x ls → list_any (λ l. eqb l.id i) ls ≡ true → x.id < i
+above : (x : Link) (ls : List Link) (i : ℕ) → ComesBefore (λ l k. ltb l.id k.id) x ls
+    → list_any (λ l. eqb l.id i) ls ≡ true → x.id < i
 above x [] i h e = absurd (false≢true e)
-above x (l ∷ ls) i h e = elim (or_cases (eqb l.id i) (list_any (λ l. eqb l.id i) ls) e) [ inl t ↦ omega (arith, ltb-true x.id l.id h.0, eqb-true l.id i t) | inr k ↦ above x ls i h.1 k ]
+above x (l ∷ ls) i h e = elim (or_cases (eqb l.id i) (list_any (λ l. eqb l.id i) ls) e)
+    [ inl t ↦ omega (arith, ltb-true x.id l.id h.0, eqb-true l.id i t) | inr k ↦ above x ls i h.1 k ]
 
 -- where a link of this id is left, none of this id has gone
-none_gone : (goes : Link → Bool) (ls : List Link) (i : ℕ) → IsRising (λ l k. ltb l.id k.id) ls → list_any (λ l. eqb l.id i) (filter (λ l. not (goes l)) ls) ≡ true → list_any (λ l. eqb l.id i) (filter goes ls) ≡ false
+none_gone : (goes : Link → Bool) (ls : List Link) (i : ℕ) → IsRising (λ l k. ltb l.id k.id) ls
+    → list_any (λ l. eqb l.id i) (filter (λ l. not (goes l)) ls) ≡ true
+    → list_any (λ l. eqb l.id i) (filter goes ls) ≡ false
 none_gone goes [] i h e = refl
 none_gone goes (l ∷ ls) i h e = elim (cases_Bool (goes l)) [
   | inl g ↦ let left : list_any (λ l. eqb l.id i) (filter (λ l. not (goes l)) ls) ≡ true = rw g at e in
@@ -97,7 +145,9 @@ none_gone goes (l ∷ ls) i h e = elim (cases_Bool (goes l)) [
       rw g (or_from _ _ (ne_eqb l.id i (λ same. omega (arith, same, lt))) (none_gone goes ls i h.1 left))
   | inr g ↦ let left : (eqb l.id i || list_any (λ l. eqb l.id i) (filter (λ l. not (goes l)) ls)) ≡ true = rw g at e in
       rw g (elim (or_cases (eqb l.id i) (list_any (λ l. eqb l.id i) (filter (λ l. not (goes l)) ls)) left) [
-        | inl t ↦ false_from_ne_true _ (λ m. omega (arith, eqb-true l.id i t, above l ls i h.0 (any_filtered (λ l. eqb l.id i) goes ls m)))
+        | inl t ↦
+            false_from_ne_true _
+            (λ m. omega (arith, eqb-true l.id i t, above l ls i h.0 (any_filtered (λ l. eqb l.id i) goes ls m)))
         | inr k ↦ none_gone goes ls i h.1 k
       ])
 ]
@@ -115,54 +165,80 @@ record AreApart (c : Configuration) : Type 0 where
 led_same : (c d : Configuration) → d.routes ≡ c.routes → KeepsRoutes c d
 led_same c d e = record { each = λ r h t. subst (λ (rs : List Route). Contains rs r) (sym e) h }
 
-led_removed : (c d : Configuration) (goes : Link → Bool) → AreApart d → KeepsRoutes c d → KeepsRoutes c (without_links d goes)
-led_removed c d goes a h = record { each = λ r k t. in_filtered _ d.routes r (h.each r k (any_filtered (λ l. eqb l.id r.id) (λ l. not (goes l)) d.links t)) (rw (none_gone goes d.links r.id a.rise t) refl) }
+led_removed : (c d : Configuration) (goes : Link → Bool) → AreApart d → KeepsRoutes c d
+    → KeepsRoutes c (without_links d goes)
+led_removed c d goes a h =
+    record {
+      each = λ r k t. in_filtered _ d.routes r
+          (h.each r k (any_filtered (λ l. eqb l.id r.id) (λ l. not (goes l)) d.links t))
+          (rw (none_gone goes d.links r.id a.rise t) refl);
+    }
 
-led_done : (drivers : List DriverSpec) (c d : Configuration) → AreApart d → KeepsRoutes c d → IfAccepted (λ d r. KeepsRoutes c d) (done_outcome drivers c d)
+led_done : (drivers : List DriverSpec) (c d : Configuration) → AreApart d → KeepsRoutes c d
+    → IfAccepted (λ d r. KeepsRoutes c d) (done_outcome drivers c d)
 led_done drivers c d a h = let m = led_removed c d _ a h in record { holds = record { each = m.each } }
 
-led_like : (drivers : List DriverSpec) (c d : Configuration) → AreApart c → d.routes ≡ c.routes → d.links ≡ c.links → IfAccepted (λ d r. KeepsRoutes c d) (done_outcome drivers c d)
+led_like : (drivers : List DriverSpec) (c d : Configuration) → AreApart c → d.routes ≡ c.routes → d.links ≡ c.links
+    → IfAccepted (λ d r. KeepsRoutes c d) (done_outcome drivers c d)
 led_like drivers c d a e f = led_done drivers c d (record { rise = rw f a.rise }) (led_same c d e)
 
-led_unlinked : (drivers : List DriverSpec) (c : Configuration) (w : Which) (mine : Link → Bool) → AreApart c → IfAccepted (λ d r. KeepsRoutes c d) (unlink_outcome drivers c w mine)
+led_unlinked : (drivers : List DriverSpec) (c : Configuration) (w : Which) (mine : Link → Bool) → AreApart c
+    → IfAccepted (λ d r. KeepsRoutes c d) (unlink_outcome drivers c w mine)
 led_unlinked drivers c w mine a = by w where
   gone : (goes : Link → Bool) → IfAccepted (λ d r. KeepsRoutes c d) (done_outcome drivers c (without_links c goes))
-  gone goes = led_done drivers c (without_links c goes) (record { rise = rising_filter _ _ c.links a.rise }) (led_removed c c goes a (led_same c c refl))
+  gone goes = led_done drivers c (without_links c goes) (record { rise = rising_filter _ _ c.links a.rise })
+      (led_removed c c goes a (led_same c c refl))
 
   by : (w : Which) → IfAccepted (λ d r. KeepsRoutes c d) (unlink_outcome drivers c w mine)
   by which.All = gone mine
   by (which.Id id) = search (after_test, gone, rules) depth 12
 
-led_linked : (drivers : List DriverSpec) (c : Configuration) (process fd arg : ℕ) (k : LinkKind) → IfAccepted (λ d r. KeepsRoutes c d) (link_outcome drivers c process fd arg k)
+led_linked : (drivers : List DriverSpec) (c : Configuration) (process fd arg : ℕ) (k : LinkKind)
+    → IfAccepted (λ d r. KeepsRoutes c d) (link_outcome drivers c process fd arg k)
 led_linked drivers c process fd arg k = search (after_test, after_ok, at_ok, led_same, rules) depth 24
 
-led_sent : (drivers : List DriverSpec) (c : Configuration) (p : Place) (addr : ℕ) (bytes : List ℕ) → IfAccepted (λ d r. KeepsRoutes c d) (send_outcome drivers c p addr bytes)
+led_sent : (drivers : List DriverSpec) (c : Configuration) (p : Place) (addr : ℕ) (bytes : List ℕ)
+    → IfAccepted (λ d r. KeepsRoutes c d) (send_outcome drivers c p addr bytes)
 led_sent drivers c p addr bytes = search (after_test, at_ok, led_same, rules) depth 12
 
-led_received : (drivers : List DriverSpec) (c : Configuration) (p : Place) → IfAccepted (λ d r. KeepsRoutes c d) (receive_outcome drivers c p)
+led_received : (drivers : List DriverSpec) (c : Configuration) (p : Place)
+    → IfAccepted (λ d r. KeepsRoutes c d) (receive_outcome drivers c p)
 led_received drivers c p = search (after_some, at_ok, led_same, rules) depth 12
 
-led_accepted : (drivers : List DriverSpec) (c : Configuration) (process : ℕ) (k : Command) → AreApart c → ((fd addr id : ℕ) → k ≡ command.Route fd addr id → ⊥) → ((fd addr : ℕ) → k ≡ command.Unroute fd addr → ⊥)
+led_accepted : (drivers : List DriverSpec) (c : Configuration) (process : ℕ) (k : Command) → AreApart c
+    → ((fd addr id : ℕ) → k ≡ command.Route fd addr id → ⊥) → ((fd addr : ℕ) → k ≡ command.Unroute fd addr → ⊥)
     → IfAccepted (λ d r. KeepsRoutes c d) (outcome drivers c process k)
-led_accepted drivers c process (command.OpenClone name) a no_route no_unroute = search (after_ok, at_ok, led_same, rules) depth 20
-led_accepted drivers c process (command.OpenMinor name minor) a no_route no_unroute = search (after_test, after_ok, at_ok, led_same, rules) depth 20
-led_accepted drivers c process (command.Dup fd) a no_route no_unroute = search (after_ok, at_ok, led_same, rules) depth 20
+led_accepted drivers c process (command.OpenClone name) a no_route no_unroute =
+    search (after_ok, at_ok, led_same, rules) depth 20
+led_accepted drivers c process (command.OpenMinor name minor) a no_route no_unroute =
+    search (after_test, after_ok, at_ok, led_same, rules) depth 20
+led_accepted drivers c process (command.Dup fd) a no_route no_unroute =
+    search (after_ok, at_ok, led_same, rules) depth 20
 led_accepted drivers c process (command.Close fd) a no_route no_unroute = search (after_ok, led_like, rules) depth 20
 led_accepted drivers c process command.CloseAll a no_route no_unroute = search (led_like, rules) depth 20
 led_accepted drivers c process (command.Link fd arg) a no_route no_unroute = search (led_linked, rules) depth 20
 led_accepted drivers c process (command.Plink fd arg) a no_route no_unroute = search (led_linked, rules) depth 20
-led_accepted drivers c process (command.Unlink fd w) a no_route no_unroute = search (after_ok, led_unlinked, rules) depth 20
-led_accepted drivers c process (command.Punlink fd w) a no_route no_unroute = search (after_ok, led_unlinked, rules) depth 20
-led_accepted drivers c process (command.Bind fd addr) a no_route no_unroute = search (after_test, after_ok, led_like, rules) depth 20
-led_accepted drivers c process (command.Unbind fd) a no_route no_unroute = search (after_test, after_ok, led_like, rules) depth 20
+led_accepted drivers c process (command.Unlink fd w) a no_route no_unroute =
+    search (after_ok, led_unlinked, rules) depth 20
+led_accepted drivers c process (command.Punlink fd w) a no_route no_unroute =
+    search (after_ok, led_unlinked, rules) depth 20
+led_accepted drivers c process (command.Bind fd addr) a no_route no_unroute =
+    search (after_test, after_ok, led_like, rules) depth 20
+led_accepted drivers c process (command.Unbind fd) a no_route no_unroute =
+    search (after_test, after_ok, led_like, rules) depth 20
 led_accepted drivers c process (command.Route fd addr id) a no_route no_unroute = absurd (no_route fd addr id refl)
 led_accepted drivers c process (command.Unroute fd addr) a no_route no_unroute = absurd (no_unroute fd addr refl)
-led_accepted drivers c process (command.Write fd addr bytes) a no_route no_unroute = search (after_ok, led_sent, rules) depth 20
-led_accepted drivers c process (command.Read fd) a no_route no_unroute = search (after_ok, after_choice, at_ok, led_same, led_received, rules) depth 20
+led_accepted drivers c process (command.Write fd addr bytes) a no_route no_unroute =
+    search (after_ok, led_sent, rules) depth 20
+led_accepted drivers c process (command.Read fd) a no_route no_unroute =
+    search (after_ok, after_choice, at_ok, led_same, led_received, rules) depth 20
 led_accepted drivers c process (command.Flush fd w) a no_route no_unroute = search (after_ok, led_like, rules) depth 20
-led_accepted drivers c process (command.Inject name minor addr bytes) a no_route no_unroute = search (after_ok, led_sent, rules) depth 20
-led_accepted drivers c process (command.Transmit name minor) a no_route no_unroute = search (after_ok, led_received, rules) depth 20
-led_accepted drivers c process (command.Hangup name minor) a no_route no_unroute = search (after_ok, led_like, rules) depth 20
+led_accepted drivers c process (command.Inject name minor addr bytes) a no_route no_unroute =
+    search (after_ok, led_sent, rules) depth 20
+led_accepted drivers c process (command.Transmit name minor) a no_route no_unroute =
+    search (after_ok, led_received, rules) depth 20
+led_accepted drivers c process (command.Hangup name minor) a no_route no_unroute =
+    search (after_ok, led_like, rules) depth 20
 
 -- and no others
 
@@ -170,19 +246,31 @@ led_accepted drivers c process (command.Hangup name minor) a no_route no_unroute
 record JustRouted (c d : Configuration) : Type 0 where
   each : (r : Route) → Contains c.routes r → Contains d.routes r ↔ (list_any (λ l. eqb l.id r.id) d.links ≡ true)
 
-just_settled : (drivers : List DriverSpec) (c : Configuration) (n : ℕ) (d : Configuration) → JustRouted c d → JustRouted c (after_settling_within drivers n d)
-just_settled drivers c n d h = let s = settled_alone drivers n d in record { each = λ r k. rw (s.routes, s.links) (h.each r k) }
+just_settled : (drivers : List DriverSpec) (c : Configuration) (n : ℕ) (d : Configuration) → JustRouted c d
+    → JustRouted c (after_settling_within drivers n d)
+just_settled drivers c n d h =
+    let s = settled_alone drivers n d in record { each = λ r k. rw (s.routes, s.links) (h.each r k) }
 
 -- a route of a sound configuration has its link
-leads : (drivers : List DriverSpec) (d : Configuration) (r : Route) → IsSound drivers d → Contains d.routes r → list_any (λ l. eqb l.id r.id) d.links ≡ true
-leads drivers d r h there = any_more (λ l. eqb l.id r.id && eqb l.ctl.driver r.driver) (λ l. eqb l.id r.id) d.links (λ l t. (and_parts (eqb l.id r.id) (eqb l.ctl.driver r.driver) t).0)
-    (All-contains (λ r. list_any (λ l. eqb l.id r.id && eqb l.ctl.driver r.driver) d.links ≡ true) d.routes r h.routes.lead there)
+leads : (drivers : List DriverSpec) (d : Configuration) (r : Route) → IsSound drivers d → Contains d.routes r
+    → list_any (λ l. eqb l.id r.id) d.links ≡ true
+leads drivers d r h there = any_more (λ l. eqb l.id r.id && eqb l.ctl.driver r.driver) (λ l. eqb l.id r.id) d.links
+    (λ l t. (and_parts (eqb l.id r.id) (eqb l.ctl.driver r.driver) t).0)
+    (All-contains (λ r. list_any (λ l. eqb l.id r.id && eqb l.ctl.driver r.driver) d.links ≡ true) d.routes r
+    h.routes.lead there)
 
-just_finished : (drivers : List DriverSpec) (c : Configuration) (o : Outcome) → IsSound drivers c → IfOk o (λ x. IsSound drivers x.0) → IfAccepted (λ d r. KeepsRoutes c d) o → JustRouted c (after_outcome drivers c o).0
-just_finished drivers c (Ok x) h sound m = just_settled drivers c _ x.0 (record { each = λ r k. (λ there. leads drivers x.0 r sound there, λ t. m.holds.each r k t) })
+just_finished : (drivers : List DriverSpec) (c : Configuration) (o : Outcome) → IsSound drivers c
+    → IfOk o (λ x. IsSound drivers x.0) → IfAccepted (λ d r. KeepsRoutes c d) o
+    → JustRouted c (after_outcome drivers c o).0
+just_finished drivers c (Ok x) h sound m = just_settled drivers c _ x.0
+    (record { each = λ r k. (λ there. leads drivers x.0 r sound there, λ t. m.holds.each r k t) })
 just_finished drivers c (Err f) h sound m = record { each = λ r k. (λ there. leads drivers c r h there, λ t. k) }
 
-pub others_keep_led : (drivers : List DriverSpec) (c : Configuration) (process : ℕ) (k : Command) → IsSound drivers c → ((fd addr id : ℕ) → k ≡ command.Route fd addr id → ⊥) → ((fd addr : ℕ) → k ≡ command.Unroute fd addr → ⊥)
-    → All (λ r. Contains (step drivers c process k).0.routes r ↔ (list_any (λ l. eqb l.id r.id) (step drivers c process k).0.links ≡ true)) c.routes
-others_keep_led drivers c process k h no_route no_unroute = all_in _ c.routes (just_finished drivers c (outcome drivers c process k) h (outcome_sound drivers c process k h)
+-- a command that is neither route nor unroute leaves just those of the old routes whose links stand
+pub others_keep_led : (drivers : List DriverSpec) (c : Configuration) (process : ℕ) (k : Command) → IsSound drivers c
+    → ((fd addr id : ℕ) → k ≡ command.Route fd addr id → ⊥) → ((fd addr : ℕ) → k ≡ command.Unroute fd addr → ⊥)
+    → All (λ r. Contains (step drivers c process k).0.routes r
+    ↔ (list_any (λ l. eqb l.id r.id) (step drivers c process k).0.links ≡ true)) c.routes
+others_keep_led drivers c process k h no_route no_unroute =
+    all_in _ c.routes (just_finished drivers c (outcome drivers c process k) h (outcome_sound drivers c process k h)
     (led_accepted drivers c process k (record { rise = h.ids.rise }) no_route no_unroute)).each

@@ -15,16 +15,29 @@ pub record ChangesQueuesAlone (c d : Configuration) : Type 0 where
   pub routes : d.routes ≡ c.routes
   pub hungs : d.hungs ≡ c.hungs
 
-moved_alone : (drivers : List DriverSpec) (c : Configuration) (p : Place) → ChangesQueuesAlone c (after_move drivers c p)
+moved_alone : (drivers : List DriverSpec) (c : Configuration) (p : Place)
+    → ChangesQueuesAlone c (after_move drivers c p)
 moved_alone drivers c p = by (next_open_place drivers c p) (first_message c.flow p) where
   by : (o : Option Place) (m : Option Message) → ChangesQueuesAlone c (after_move_to drivers c p o m)
   by (Some q) (Some m) = record { fds = refl; links = refl; binds = refl; routes = refl; hungs = refl }
   by (Some q) None = record { fds = refl; links = refl; binds = refl; routes = refl; hungs = refl }
   by None m = record { fds = refl; links = refl; binds = refl; routes = refl; hungs = refl }
 
-pub settled_alone : (drivers : List DriverSpec) (n : ℕ) (c : Configuration) → ChangesQueuesAlone c (after_settling_within drivers n c)
+-- settling changes only the messages and the full marks
+pub settled_alone : (drivers : List DriverSpec) (n : ℕ) (c : Configuration)
+    → ChangesQueuesAlone c (after_settling_within drivers n c)
 settled_alone drivers zero c = record { fds = refl; links = refl; binds = refl; routes = refl; hungs = refl }
-settled_alone drivers (suc k) c = elim (least_movable drivers c) as (λ o. ChangesQueuesAlone c (elim o as (λ _. Configuration) [ None ↦ c | Some p ↦ after_settling_within drivers k (after_move drivers c p) ])) [
-  | None ↦ record { fds = refl; links = refl; binds = refl; routes = refl; hungs = refl }
-  | Some p ↦ let r = settled_alone drivers k (after_move drivers c p) in let m = moved_alone drivers c p in record { fds = r.fds ∙ m.fds; links = r.links ∙ m.links; binds = r.binds ∙ m.binds; routes = r.routes ∙ m.routes; hungs = r.hungs ∙ m.hungs }
-]
+settled_alone drivers (suc k) c = elim (least_movable drivers c) as
+    (λ o. ChangesQueuesAlone c
+    (elim o as (λ _. Configuration) [ None ↦ c | Some p ↦ after_settling_within drivers k (after_move drivers c p) ])) [
+      | None ↦ record { fds = refl; links = refl; binds = refl; routes = refl; hungs = refl }
+      | Some p ↦ let r = settled_alone drivers k (after_move drivers c p) in let m = moved_alone drivers c p in
+          record {
+            fds = r.fds ∙ m.fds;
+            links = r.links ∙ m.links;
+            binds = r.binds ∙ m.binds;
+            routes = r.routes
+                ∙ m.routes;
+            hungs = r.hungs ∙ m.hungs;
+          }
+    ]

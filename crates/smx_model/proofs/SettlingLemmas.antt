@@ -1,5 +1,6 @@
 -- Settling ends: each move lowers a rank.
-use Rattle.std.proofs.Common.{◌≡◌, ℕ, zero, suc, ◌+◌, ◌*◌, ◌<◌, ◌≤◌, Bool, true, false, ◌&&◌, cond, eqb, List, [], ◌∷◌, length, find, Option, Some, None, refl, sym, ap, ◌∙◌, subst, arith, inl, inr}
+use Rattle.std.proofs.Common.{◌≡◌, ℕ, zero, suc, ◌+◌, ◌*◌, ◌<◌, ◌≤◌, Bool, true, false, ◌&&◌, cond, eqb, List, [], ◌∷◌}
+use Rattle.std.proofs.Common.{length, find, Option, Some, None, refl, sym, ap, ◌∙◌, subst, arith, inl, inr}
 use Rattle.std.specs.Option.{is_some, option_map}
 use Rattle.std.proofs.lemmas.Bool.{cases_Bool, cases_eq, eqb-true, and_parts, false≢true, false_from_ne_true}
 use Rattle.smx_types.specs.declared.link.Binding.{Binding}
@@ -11,12 +12,15 @@ use Rattle.smx_types.specs.declared.link.Route.{Route}
 use Rattle.smx_types.specs.declared.stream.Side.{Side}
 use Rattle.smx_types.specs.declared.stream.Side.TheVariants as side
 use Rattle.smx_types.specs.declared.stream.StreamId.{StreamId}
-use Rattle.smx_model.specs.Configuration.{Configuration, QueuedMessage, is_at, queued_before, same_place, same_stream, same_side}
+use Rattle.smx_model.specs.Configuration.{Configuration, QueuedMessage, is_at, queued_before, same_place, same_stream}
+use Rattle.smx_model.specs.Configuration.{same_side}
 use Rattle.smx_model.specs.DriverList.{is_mux}
 use Rattle.smx_model.specs.Ordered.{with_inserted, without_first}
 use Rattle.smx_model.specs.Paths.{HasNoCycle, reaches}
 use Rattle.smx_model.specs.Queues.{first_message, after_leaving, is_full}
-use Rattle.smx_model.specs.Settling.{◌>>=◌, after_settling, after_settling_within, least_movable, after_move, after_move_to, next_open_place, is_movable, next_place, live_write_side, place_below, place_above, IsSettled}
+use Rattle.smx_model.specs.Settling.{◌>>=◌, after_settling, after_settling_within, least_movable, after_move}
+use Rattle.smx_model.specs.Settling.{after_move_to, next_open_place, is_movable, next_place, live_write_side}
+use Rattle.smx_model.specs.Settling.{place_below, place_above, IsSettled}
 use Rattle.smx_model.proofs.HangupLemmas.{live_is_side}
 use Rattle.smx_model.specs.SoundLinks.{AreLinksSound}
 use Rattle.smx_model.proofs.PathLemmas.{reaches_path, reaches_trans, reaches_link}
@@ -30,18 +34,25 @@ abbrev pub count : (ℕ → Bool) → ℕ → ℕ
 count f zero = 0
 count f (suc n) = cond (f n) 1 0 + count f n
 
+-- no more than n of the numbers below n pass
 pub count_le : (f : ℕ → Bool) (n : ℕ) → count f n ≤ n
 count_le f zero = omega arith
-count_le f (suc n) = elim (cases_Bool (f n)) [ inl t ↦ rw t (omega (arith, count_le f n)) | inr u ↦ rw u (omega (arith, count_le f n)) ]
+count_le f (suc n) =
+    elim (cases_Bool (f n)) [ inl t ↦ rw t (omega (arith, count_le f n)) | inr u ↦ rw u (omega (arith, count_le f n)) ]
 
 count_more : (f g : ℕ → Bool) (n : ℕ) → ((x : ℕ) → f x ≡ true → g x ≡ true) → count f n ≤ count g n
 count_more f g zero h = omega arith
 count_more f g (suc n) h = elim (cases_Bool (f n)) [
   | inl t ↦ rw (t, h n t) (omega (arith, count_more f g n h))
-  | inr u ↦ elim (cases_Bool (g n)) [ inl v ↦ rw (u, v) (omega (arith, count_more f g n h)) | inr v ↦ rw (u, v) (omega (arith, count_more f g n h)) ]
+  | inr u ↦ elim (cases_Bool (g n)) [
+    | inl v ↦ rw (u, v) (omega (arith, count_more f g n h))
+    | inr v ↦
+        rw (u, v) (omega (arith, count_more f g n h))
+  ]
 ]
 
-count_less : (f g : ℕ → Bool) (n b : ℕ) → ((x : ℕ) → f x ≡ true → g x ≡ true) → b < n → f b ≡ false → g b ≡ true → count f n < count g n
+count_less : (f g : ℕ → Bool) (n b : ℕ) → ((x : ℕ) → f x ≡ true → g x ≡ true) → b < n → f b ≡ false → g b ≡ true
+    → count f n < count g n
 count_less f g zero b h lt u v = absurd (omega arith)
 count_less f g (suc n) b h lt u v = elim (cases_eq n b) [
   | inl e ↦ rw (e) (rw (u, v) (omega (arith, count_more f g b h)))
@@ -63,11 +74,16 @@ rank_le : (links : List Link) (n d : ℕ) (s : Side) → rank_by links n d s ≤
 rank_le links n d side.Write = count_le _ n
 rank_le links n d side.Read = count_le _ n
 
-down_less : (links : List Link) (n a b : ℕ) → HasNoCycle links → reaches links a b ≡ true → b < n → count (λ x. reaches links b x) n < count (λ x. reaches links a x) n
-down_less links n a b none r lt = count_less (λ x. reaches links b x) (λ x. reaches links a x) n b (λ x h. reaches_trans links a b x r h) lt (false_from_ne_true _ (λ h. none b (reaches_path links b b h))) r
+down_less : (links : List Link) (n a b : ℕ) → HasNoCycle links → reaches links a b ≡ true → b < n
+    → count (λ x. reaches links b x) n < count (λ x. reaches links a x) n
+down_less links n a b none r lt = count_less (λ x. reaches links b x) (λ x. reaches links a x) n b
+    (λ x h. reaches_trans links a b x r h) lt (false_from_ne_true _ (λ h. none b (reaches_path links b b h))) r
 
-pub up_less : (links : List Link) (n a b : ℕ) → HasNoCycle links → reaches links a b ≡ true → a < n → count (λ x. reaches links x a) n < count (λ x. reaches links x b) n
-up_less links n a b none r lt = count_less (λ x. reaches links x a) (λ x. reaches links x b) n a (λ x h. reaches_trans links x a b h r) lt (false_from_ne_true _ (λ h. none a (reaches_path links a a h))) r
+-- without a cycle fewer drivers reach a driver than reach one that it reaches
+pub up_less : (links : List Link) (n a b : ℕ) → HasNoCycle links → reaches links a b ≡ true → a < n
+    → count (λ x. reaches links x a) n < count (λ x. reaches links x b) n
+up_less links n a b none r lt = count_less (λ x. reaches links x a) (λ x. reaches links x b) n a
+    (λ x h. reaches_trans links x a b h r) lt (false_from_ne_true _ (λ h. none a (reaches_path links a a h))) r
 
 abbrev AreBelow : ℕ → List Link → Type 0
 AreBelow n links = Each (λ l. (l.ctl.driver < n) × (l.lower.driver < n)) links
@@ -83,61 +99,86 @@ record Falls (links : List Link) (n : ℕ) (p q : Place) : Type 0 where
   falls : rank links n q < rank links n p
 
 -- what came of two steps came of the first
-pub bound : {A B : Type 0} (o : Option A) (f : A → Option B) (y : B) → (o >>= f) ≡ Some y → (x : A) × (o ≡ Some x) × (f x ≡ Some y)
+pub bound : {A B : Type 0} (o : Option A) (f : A → Option B) (y : B) → (o >>= f) ≡ Some y
+    → (x : A) × (o ≡ Some x) × (f x ≡ Some y)
 bound None f y e = cc
 bound (Some x) f y e = (x, refl, e)
 
 -- the link that leads to the place below
-pub below_link : (links : List Link) (routes : List Route) (hungs : List StreamId) (d addr : ℕ) (q : Place) → place_below links routes hungs d addr ≡ Some q
-    → (r : Route) × (find (λ r. eqb r.driver d && eqb r.addr addr) routes ≡ Some r) × (l : Link) × (find (λ l. eqb l.id r.id) links ≡ Some l) × (record { stream = l.lower; side = side.Write } ≡ q)
+pub below_link : (links : List Link) (routes : List Route) (hungs : List StreamId) (d addr : ℕ) (q : Place)
+    → place_below links routes hungs d addr ≡ Some q
+    → (r : Route) × (find (λ r. eqb r.driver d && eqb r.addr addr) routes ≡ Some r) × (l : Link)
+    × (find (λ l. eqb l.id r.id) links ≡ Some l) × (record { stream = l.lower; side = side.Write } ≡ q)
 below_link links routes hungs d addr q e =
-    let r = bound (find (λ r. eqb r.driver d && eqb r.addr addr) routes) (λ r. find (λ l. eqb l.id r.id) links >>= (λ l. live_write_side hungs l.lower)) q e in
+    let r = bound (find (λ r. eqb r.driver d && eqb r.addr addr) routes)
+    (λ r. find (λ l. eqb l.id r.id) links >>= (λ l. live_write_side hungs l.lower)) q e in
     let l = bound (find (λ l. eqb l.id r.0.id) links) (λ l. live_write_side hungs l.lower) q r.2 in
     (r.0, r.1, l.0, l.1, live_is_side hungs l.0.lower q l.2)
 
 -- the link and the binding that lead to the place above
-pub above_binding : (links : List Link) (binds : List Binding) (s : StreamId) (addr : ℕ) (q : Place) → place_above links binds s addr ≡ Some q
-    → (l : Link) × (find (λ l. same_stream l.lower s) links ≡ Some l) × (b : Binding) × (find (λ b. eqb b.driver l.ctl.driver && eqb b.addr addr) binds ≡ Some b)
+pub above_binding : (links : List Link) (binds : List Binding) (s : StreamId) (addr : ℕ) (q : Place)
+    → place_above links binds s addr ≡ Some q
+    → (l : Link) × (find (λ l. same_stream l.lower s) links ≡ Some l) × (b : Binding)
+    × (find (λ b. eqb b.driver l.ctl.driver && eqb b.addr addr) binds ≡ Some b)
     × (record { stream = record { driver = b.driver; minor = b.minor }; side = side.Read } ≡ q)
 above_binding links binds s addr q e =
-    let l = bound (find (λ l. same_stream l.lower s) links) (λ l. find (λ b. eqb b.driver l.ctl.driver && eqb b.addr addr) binds >>= (λ b. Some (record { stream = record { driver = b.driver; minor = b.minor }; side = side.Read }))) q e in
-    let b = bound (find (λ b. eqb b.driver l.0.ctl.driver && eqb b.addr addr) binds) (λ b. Some (record { stream = record { driver = b.driver; minor = b.minor }; side = side.Read })) q l.2 in
+    let l = bound (find (λ l. same_stream l.lower s) links)
+    (λ l. find (λ b. eqb b.driver l.ctl.driver && eqb b.addr addr)
+    binds >>= (λ b. Some (record { stream = record { driver = b.driver; minor = b.minor }; side = side.Read }))) q e in
+    let b = bound (find (λ b. eqb b.driver l.0.ctl.driver && eqb b.addr addr) binds)
+    (λ b. Some (record { stream = record { driver = b.driver; minor = b.minor }; side = side.Read })) q l.2 in
     (l.0, l.1, b.0, b.1, cc)
 
-down_falls : (links : List Link) (routes : List Route) (hungs : List StreamId) (n d addr : ℕ) (q : Place) → HasNoCycle links → AreBelow n links → Each (λ r. Each (λ l. l.id ≡ r.id → l.ctl.driver ≡ r.driver) links) routes
+down_falls : (links : List Link) (routes : List Route) (hungs : List StreamId) (n d addr : ℕ) (q : Place)
+    → HasNoCycle links → AreBelow n links → Each (λ r. Each (λ l. l.id ≡ r.id → l.ctl.driver ≡ r.driver) links) routes
     → place_below links routes hungs d addr ≡ Some q → rank links n q < rank_by links n d side.Write
 down_falls links routes hungs n d addr q none below leads e = via (below_link links routes hungs d addr q e) where
-  via : (w : (r : Route) × (find (λ r. eqb r.driver d && eqb r.addr addr) routes ≡ Some r) × (l : Link) × (find (λ l. eqb l.id r.id) links ≡ Some l) × (record { stream = l.lower; side = side.Write } ≡ q))
+  via : (w : (r : Route) × (find (λ r. eqb r.driver d && eqb r.addr addr) routes ≡ Some r) × (l : Link)
+      × (find (λ l. eqb l.id r.id) links ≡ Some l) × (record { stream = l.lower; side = side.Write } ≡ q))
       → rank links n q < rank_by links n d side.Write
   via (r, f, l, g, is) =
       let same : r.driver ≡ d = eqb-true r.driver d (and_parts _ _ (find_passes _ routes r f)).0 in
-      let up : l.ctl.driver ≡ r.driver = each_find _ _ links l g (each_find _ _ routes r f leads) (eqb-true l.id r.id (find_passes _ links l g)) in
-      let r1 : reaches links d l.lower.driver ≡ true = subst (λ (x : ℕ). reaches links x l.lower.driver ≡ true) (up ∙ same) (reaches_link links _ l g) in
-      subst (λ (x : Place). rank links n x < rank_by links n d side.Write) is (down_less links n d l.lower.driver none r1 (each_find _ _ links l g below).1)
+      let up : l.ctl.driver ≡ r.driver = each_find _ _ links l g (each_find _ _ routes r f leads)
+      (eqb-true l.id r.id (find_passes _ links l g)) in
+      let r1 : reaches links d l.lower.driver ≡ true = subst (λ (x : ℕ). reaches links x l.lower.driver ≡ true)
+      (up ∙ same) (reaches_link links _ l g) in
+      subst (λ (x : Place). rank links n x < rank_by links n d side.Write) is
+      (down_less links n d l.lower.driver none r1 (each_find _ _ links l g below).1)
 
-up_falls : (links : List Link) (binds : List Binding) (n addr : ℕ) (s : StreamId) (q : Place) → HasNoCycle links → AreBelow n links
+up_falls : (links : List Link) (binds : List Binding) (n addr : ℕ) (s : StreamId) (q : Place) → HasNoCycle links
+    → AreBelow n links
     → place_above links binds s addr ≡ Some q → rank links n q < rank_by links n s.driver side.Read
 up_falls links binds n addr s q none below e = via (above_binding links binds s addr q e) where
-  via : (w : (l : Link) × (find (λ l. same_stream l.lower s) links ≡ Some l) × (b : Binding) × (find (λ b. eqb b.driver l.ctl.driver && eqb b.addr addr) binds ≡ Some b)
-      × (record { stream = record { driver = b.driver; minor = b.minor }; side = side.Read } ≡ q)) → rank links n q < rank_by links n s.driver side.Read
+  via : (w : (l : Link) × (find (λ l. same_stream l.lower s) links ≡ Some l) × (b : Binding)
+      × (find (λ b. eqb b.driver l.ctl.driver && eqb b.addr addr) binds ≡ Some b)
+      × (record { stream = record { driver = b.driver; minor = b.minor }; side = side.Read } ≡ q))
+      → rank links n q < rank_by links n s.driver side.Read
   via (l, f, b, g, is) =
       let up : b.driver ≡ l.ctl.driver = eqb-true b.driver l.ctl.driver (and_parts _ _ (find_passes _ binds b g)).0 in
-      let low : l.lower.driver ≡ s.driver = eqb-true l.lower.driver s.driver (and_parts _ _ (find_passes _ links l f)).0 in
-      let r1 : reaches links b.driver s.driver ≡ true = subst (λ (x : ℕ). reaches links x s.driver ≡ true) (sym up) (subst (λ (x : ℕ). reaches links l.ctl.driver x ≡ true) low (reaches_link links _ l f)) in
+      let low : l.lower.driver ≡ s.driver = eqb-true l.lower.driver s.driver
+      (and_parts _ _ (find_passes _ links l f)).0 in
+      let r1 : reaches links b.driver s.driver ≡ true = subst (λ (x : ℕ). reaches links x s.driver ≡ true) (sym up)
+      (subst (λ (x : ℕ). reaches links l.ctl.driver x ≡ true) low (reaches_link links _ l f)) in
       let lt : b.driver < n = subst (λ (x : ℕ). x < n) (sym up) (each_find _ _ links l f below).0 in
-      subst (λ (x : Place). rank links n x < rank_by links n s.driver side.Read) is (up_less links n b.driver s.driver none r1 lt)
+      subst (λ (x : Place). rank links n x < rank_by links n s.driver side.Read) is
+      (up_less links n b.driver s.driver none r1 lt)
 
-next_falls : (drivers : List DriverSpec) (c : Configuration) (s : StreamId) (addr : ℕ) (side_ : Side) (q : Place) → CanSettle drivers c → next_place drivers c (record { stream = s; side = side_ }) addr ≡ Some q → rank c.links (length drivers) q < rank_by c.links (length drivers) s.driver side_
+next_falls : (drivers : List DriverSpec) (c : Configuration) (s : StreamId) (addr : ℕ) (side_ : Side) (q : Place)
+    → CanSettle drivers c → next_place drivers c (record { stream = s; side = side_ }) addr ≡ Some q
+    → rank c.links (length drivers) q < rank_by c.links (length drivers) s.driver side_
 next_falls drivers c s addr side.Write q h e = elim (cases_Bool (is_mux drivers s.driver)) [
-  | inl t ↦ down_falls c.links c.routes c.hungs (length drivers) s.driver addr q h.none h.below (routes_lead drivers c h.routed) (rw t at e)
+  | inl t ↦ down_falls c.links c.routes c.hungs (length drivers) s.driver addr q h.none h.below
+      (routes_lead drivers c h.routed) (rw t at e)
   | inr f ↦ let k : None ≡ Some q = rw f at e in cc
 ]
 next_falls drivers c s addr side.Read q h e = up_falls c.links c.binds (length drivers) addr s q h.none h.below e
 
 -- the next place for the first message, where it is open
-pub open_next : (drivers : List DriverSpec) (c : Configuration) (p q : Place) → next_open_place drivers c p ≡ Some q → (m : Message) × (first_message c.flow p ≡ Some m) × (next_place drivers c p m.addr ≡ Some q)
+pub open_next : (drivers : List DriverSpec) (c : Configuration) (p q : Place) → next_open_place drivers c p ≡ Some q
+    → (m : Message) × (first_message c.flow p ≡ Some m) × (next_place drivers c p m.addr ≡ Some q)
 open_next drivers c p q e =
-    let m = bound (first_message c.flow p) (λ m. next_place drivers c p m.addr >>= (λ r. cond (is_full c r) None (Some r))) q e in
+    let m = bound (first_message c.flow p)
+    (λ m. next_place drivers c p m.addr >>= (λ r. cond (is_full c r) None (Some r))) q e in
     let r = bound (next_place drivers c p m.0.addr) (λ r. cond (is_full c r) None (Some r)) q m.2 in
     (m.0, m.1, r.1 ∙ same r.0 (is_full c r.0) r.2) where
       same : (r : Place) (full : Bool) → cond full None (Some r) ≡ Some q → Some r ≡ Some q
@@ -155,9 +196,11 @@ weight_le f n (k ∷ hs) h = rw (mul_suc (length hs) n) (omega (arith, weight_le
   mul_suc : (m n : ℕ) → suc m * n ≡ n + m * n
   mul_suc m n = grind arith
 
-weight_placed : (f : Place → ℕ) (hs : List QueuedMessage) (h : QueuedMessage) → weight f (with_inserted queued_before hs h) ≡ f h.place + weight f hs
+weight_placed : (f : Place → ℕ) (hs : List QueuedMessage) (h : QueuedMessage)
+    → weight f (with_inserted queued_before hs h) ≡ f h.place + weight f hs
 weight_placed f [] h = refl
-weight_placed f (k ∷ hs) h = elim (cases_Bool (queued_before h k)) [ inl t ↦ rw t refl | inr u ↦ rw u (omega (arith, weight_placed f hs h)) ]
+weight_placed f (k ∷ hs) h =
+    elim (cases_Bool (queued_before h k)) [ inl t ↦ rw t refl | inr u ↦ rw u (omega (arith, weight_placed f hs h)) ]
 
 same_side_is : (s t : Side) → same_side s t ≡ true → s ≡ t
 same_side_is side.Write side.Write h = refl
@@ -169,30 +212,46 @@ abbrev at_place : ℕ → ℕ → Side → Place
 at_place d m s = record { stream = record { driver = d; minor = m }; side = s }
 
 made : (a b : ℕ) (s : Side) (c d : ℕ) (t : Side) → a ≡ c → b ≡ d → s ≡ t → at_place a b s ≡ at_place c d t
-made a b s c d t e f g = ap (λ (x : ℕ). at_place x b s) e ∙ (ap (λ (x : ℕ). at_place c x s) f ∙ ap (λ (x : Side). at_place c d x) g)
+made a b s c d t e f g =
+    ap (λ (x : ℕ). at_place x b s) e ∙ (ap (λ (x : ℕ). at_place c x s) f ∙ ap (λ (x : Side). at_place c d x) g)
 
+-- places that the test says are the same are equal
 pub same_place_is : (p q : Place) → same_place p q ≡ true → p ≡ q
 same_place_is p q h =
     let a = and_parts (same_stream p.stream q.stream) (same_side p.side q.side) h in
     let b = and_parts _ _ a.0 in
-    made p.stream.driver p.stream.minor p.side q.stream.driver q.stream.minor q.side (eqb-true p.stream.driver q.stream.driver b.0) (eqb-true p.stream.minor q.stream.minor b.1) (same_side_is p.side q.side a.1)
+    made p.stream.driver p.stream.minor p.side q.stream.driver q.stream.minor q.side
+    (eqb-true p.stream.driver q.stream.driver b.0) (eqb-true p.stream.minor q.stream.minor b.1)
+    (same_side_is p.side q.side a.1)
 
-weight_front : (f : Place → ℕ) (hs : List QueuedMessage) (p : Place) (m : Message) → first_message hs p ≡ Some m → weight f hs ≡ f p + weight f (without_first (is_at p) hs)
+weight_front : (f : Place → ℕ) (hs : List QueuedMessage) (p : Place) (m : Message) → first_message hs p ≡ Some m
+    → weight f hs ≡ f p + weight f (without_first (is_at p) hs)
 weight_front f [] p m e = cc
 weight_front f (h ∷ hs) p m e = elim (cases_Bool (is_at p h)) [
   | inl t ↦ rw (t, same_place_is h.place p t) refl
   | inr u ↦ rw u (omega (arith, weight_front f hs p m (rw u at e)))
 ]
 
-moved_weight : (drivers : List DriverSpec) (c : Configuration) (p : Place) → CanSettle drivers c → (q : Place) → next_open_place drivers c p ≡ Some q
-    → weight (rank c.links (length drivers)) (after_move drivers c p).flow < weight (rank c.links (length drivers)) c.flow
+moved_weight : (drivers : List DriverSpec) (c : Configuration) (p : Place) → CanSettle drivers c → (q : Place)
+    → next_open_place drivers c p ≡ Some q
+    → weight (rank c.links (length drivers)) (after_move drivers c p).flow
+    < weight (rank c.links (length drivers)) c.flow
 moved_weight drivers c p h q e =
     let l = open_next drivers c p q e in
-    let falls : rank c.links (length drivers) q < rank c.links (length drivers) p = next_falls drivers c p.stream l.0.addr p.side q h l.2 in
-    rw (e, l.1) (omega (arith, falls, weight_front (rank c.links (length drivers)) c.flow p l.0 l.1, weight_placed (rank c.links (length drivers)) (after_leaving drivers c p).flow (record { place = q; message = l.0 })))
+    let falls : rank c.links (length drivers) q
+    < rank c.links (length drivers) p = next_falls drivers c p.stream l.0.addr p.side q h l.2 in
+    rw (e, l.1)
+    (omega (
+      arith,
+      falls,
+      weight_front (rank c.links (length drivers)) c.flow p l.0 l.1,
+      weight_placed (rank c.links (length drivers)) (after_leaving drivers c p).flow
+          (record { place = q; message = l.0 }),
+    ))
 
 -- no place of the flow is movable, so none is
-none_of : (t : Place → Bool) (hs : List QueuedMessage) (p : Place) (m : Message) → find (λ h. t h.place) hs ≡ None → first_message hs p ≡ Some m → t p ≡ false
+none_of : (t : Place → Bool) (hs : List QueuedMessage) (p : Place) (m : Message) → find (λ h. t h.place) hs ≡ None
+    → first_message hs p ≡ Some m → t p ≡ false
 none_of t [] p m e f = cc
 none_of t (h ∷ hs) p m e f = elim (cases_Bool (t h.place)) [
   | inl t1 ↦ let k : Some h ≡ None = rw t1 at e in cc
@@ -202,15 +261,21 @@ none_of t (h ∷ hs) p m e f = elim (cases_Bool (t h.place)) [
   ]
 ]
 
-pub no_front : (drivers : List DriverSpec) (c : Configuration) (p : Place) (o : Option Message) → first_message c.flow p ≡ o → find (λ h. is_movable drivers c h.place) c.flow ≡ None → is_movable drivers c p ≡ false
+-- where no message of the flow is at a movable place, no place is movable
+pub no_front : (drivers : List DriverSpec) (c : Configuration) (p : Place) (o : Option Message)
+    → first_message c.flow p ≡ o → find (λ h. is_movable drivers c h.place) c.flow ≡ None
+    → is_movable drivers c p ≡ false
 no_front drivers c p None e none = rw e refl
 no_front drivers c p (Some m) e none = none_of (is_movable drivers c) c.flow p m none e
 
+-- where there is no place of a message that was looked for, no message was found
 pub none_least : (o : Option QueuedMessage) → option_map (λ h. h.place) o ≡ None → o ≡ None
 none_least None e = refl
 none_least (Some h) e = cc
 
-pub some_least : (o : Option QueuedMessage) (p : Place) → option_map (λ h. h.place) o ≡ Some p → (h : QueuedMessage) × (o ≡ Some h) × (h.place ≡ p)
+-- a place of a message that was looked for is that of the message that was found
+pub some_least : (o : Option QueuedMessage) (p : Place) → option_map (λ h. h.place) o ≡ Some p
+    → (h : QueuedMessage) × (o ≡ Some h) × (h.place ≡ p)
 some_least None p e = cc
 some_least (Some h) p e = (h, refl, cc)
 
@@ -218,11 +283,15 @@ movable_way : (o : Option Place) → is_some o ≡ true → (q : Place) × (o �
 movable_way None e = absurd (false≢true e)
 movable_way (Some q) e = (q, refl)
 
-least_way : (drivers : List DriverSpec) (c : Configuration) (p : Place) → least_movable drivers c ≡ Some p → (q : Place) × (next_open_place drivers c p ≡ Some q)
+least_way : (drivers : List DriverSpec) (c : Configuration) (p : Place) → least_movable drivers c ≡ Some p
+    → (q : Place) × (next_open_place drivers c p ≡ Some q)
 least_way drivers c p e =
     let s = some_least (find (λ h. is_movable drivers c h.place) c.flow) p e in
-    movable_way (next_open_place drivers c p) (subst (λ (x : Place). is_movable drivers c x ≡ true) s.2 (find_passes (λ h. is_movable drivers c h.place) c.flow s.0 s.1))
+    movable_way (next_open_place drivers c p)
+    (subst (λ (x : Place). is_movable drivers c x ≡ true) s.2
+    (find_passes (λ h. is_movable drivers c h.place) c.flow s.0 s.1))
 
+-- a move leaves the links as they are
 pub moved_links : (drivers : List DriverSpec) (c : Configuration) (p : Place) → (after_move drivers c p).links ≡ c.links
 moved_links drivers c p = by (next_open_place drivers c p) (first_message c.flow p) where
   by : (o : Option Place) (m : Option Message) → (after_move_to drivers c p o m).links ≡ c.links
@@ -230,7 +299,8 @@ moved_links drivers c p = by (next_open_place drivers c p) (first_message c.flow
   by (Some q) None = refl
   by None m = refl
 
-can_move : (drivers : List DriverSpec) (c : Configuration) (p : Place) → CanSettle drivers c → CanSettle drivers (after_move drivers c p)
+can_move : (drivers : List DriverSpec) (c : Configuration) (p : Place) → CanSettle drivers c
+    → CanSettle drivers (after_move drivers c p)
 can_move drivers c p h = record {
   none = subst HasNoCycle (sym (moved_links drivers c p)) h.none;
   below = subst (AreBelow (length drivers)) (sym (moved_links drivers c p)) h.below;
@@ -241,22 +311,37 @@ can_move drivers c p h = record {
 abbrev weight_of : List DriverSpec → Configuration → ℕ
 weight_of drivers c = weight (rank c.links (length drivers)) c.flow
 
-less_weight : (drivers : List DriverSpec) (c : Configuration) (p : Place) → CanSettle drivers c → least_movable drivers c ≡ Some p → weight_of drivers (after_move drivers c p) < weight_of drivers c
+less_weight : (drivers : List DriverSpec) (c : Configuration) (p : Place) → CanSettle drivers c
+    → least_movable drivers c ≡ Some p → weight_of drivers (after_move drivers c p) < weight_of drivers c
 less_weight drivers c p h e = let w = least_way drivers c p e in
-    subst (λ (ls : List Link). weight (rank ls (length drivers)) (after_move drivers c p).flow < weight_of drivers c) (sym (moved_links drivers c p)) (moved_weight drivers c p h w.0 w.1)
+    subst (λ (ls : List Link). weight (rank ls (length drivers)) (after_move drivers c p).flow < weight_of drivers c)
+    (sym (moved_links drivers c p)) (moved_weight drivers c p h w.0 w.1)
 
-settles : (drivers : List DriverSpec) (k : ℕ) (c : Configuration) → CanSettle drivers c → weight_of drivers c ≤ k → IsSettled drivers (after_settling_within drivers k c)
+settles : (drivers : List DriverSpec) (k : ℕ) (c : Configuration) → CanSettle drivers c → weight_of drivers c ≤ k
+    → IsSettled drivers (after_settling_within drivers k c)
 settles drivers zero c h le = by (least_movable drivers c) refl where
   by : (o : Option Place) → least_movable drivers c ≡ o → IsSettled drivers c
   by None e = λ p. no_front drivers c p (first_message c.flow p) refl (none_least _ e)
   by (Some p) e = absurd (omega (arith, less_weight drivers c p h e))
-settles drivers (suc k) c h le = by (λ p fewer. settles drivers k (after_move drivers c p) (can_move drivers c p h) fewer) (least_movable drivers c) refl where
-  by : ((p : Place) → weight_of drivers (after_move drivers c p) ≤ k → IsSettled drivers (after_settling_within drivers k (after_move drivers c p)))
-      → (o : Option Place) → least_movable drivers c ≡ o → IsSettled drivers (elim o as (λ _. Configuration) [ None ↦ c | Some p ↦ after_settling_within drivers k (after_move drivers c p) ])
-  by rest None e = λ p. no_front drivers c p (first_message c.flow p) refl (none_least _ e)
-  by rest (Some p) e = rest p (omega (arith, less_weight drivers c p h e))
+settles drivers (suc k) c h le = by
+    (λ p fewer. settles drivers k (after_move drivers c p) (can_move drivers c p h) fewer)
+    (least_movable drivers c) refl where
+      by : ((p : Place) → weight_of drivers (after_move drivers c p) ≤ k
+          → IsSettled drivers (after_settling_within drivers k (after_move drivers c p)))
+          → (o : Option Place) → least_movable drivers c ≡ o
+          → IsSettled drivers
+          (elim o as (λ _. Configuration) [
+            | None ↦ c
+            | Some p ↦
+                after_settling_within drivers k (after_move drivers c p)
+          ])
+      by rest None e = λ p. no_front drivers c p (first_message c.flow p) refl (none_least _ e)
+      by rest (Some p) e = rest p (omega (arith, less_weight drivers c p h e))
 
 -- the bound suffices
-pub settled_is : (drivers : List DriverSpec) (c : Configuration) → AreLinksSound c.links → AreNamed drivers c → AreRouted drivers c → IsSettled drivers (after_settling drivers c)
-settled_is drivers c sound named routed = settles drivers (length c.flow * length drivers) c (record { none = sound.no_cycle; below = links_below drivers c.links named.links; routed = routed })
-    (weight_le (rank c.links (length drivers)) (length drivers) c.flow (λ p. rank_le c.links (length drivers) p.stream.driver p.side))
+pub settled_is : (drivers : List DriverSpec) (c : Configuration) → AreLinksSound c.links → AreNamed drivers c
+    → AreRouted drivers c → IsSettled drivers (after_settling drivers c)
+settled_is drivers c sound named routed = settles drivers (length c.flow * length drivers) c
+    (record { none = sound.no_cycle; below = links_below drivers c.links named.links; routed = routed })
+    (weight_le (rank c.links (length drivers)) (length drivers) c.flow
+    (λ p. rank_le c.links (length drivers) p.stream.driver p.side))

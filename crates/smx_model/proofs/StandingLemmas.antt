@@ -1,5 +1,6 @@
 -- What stands, and what a sweep leaves.
-use Rattle.std.proofs.Common.{◌≡◌, ℕ, zero, suc, ◌<◌, ◌≤◌, Bool, true, false, ◌&&◌, ◌||◌, not, eqb, List, length, filter, refl, sym, ap, ◌∙◌, subst, arith, inl, inr}
+use Rattle.std.proofs.Common.{◌≡◌, ℕ, zero, suc, ◌<◌, ◌≤◌, Bool, true, false, ◌&&◌, ◌||◌, not, eqb, List, length}
+use Rattle.std.proofs.Common.{filter, refl, sym, ap, ◌∙◌, subst, arith, inl, inr}
 use Rattle.std.specs.List.{list_any}
 use Rattle.std.proofs.lemmas.Bool.{cases_lt, eqb-true, and_parts, or_cases, or_left, or_right, and_from, false≢true}
 use Rattle.smx_types.specs.declared.stream.Descriptor.{Descriptor}
@@ -17,8 +18,11 @@ use Rattle.smx_model.proofs.TestLemmas.{any_same, any_filter, all_passes, any_fo
 
 -- more climbs
 
-pub stands_more : (fds : List Descriptor) (links : List Link) (n m : ℕ) (s : StreamId) → n ≤ m → stands_within fds links n s ≡ true → stands_within fds links m s ≡ true
-stands_more fds links n zero s le h = let e : n ≡ 0 = omega arith in subst (λ (k : ℕ). stands_within fds links k s ≡ true) e h
+-- a stream that stands within some climbs stands within any greater number of them
+pub stands_more : (fds : List Descriptor) (links : List Link) (n m : ℕ) (s : StreamId) → n ≤ m
+    → stands_within fds links n s ≡ true → stands_within fds links m s ≡ true
+stands_more fds links n zero s le h =
+    let e : n ≡ 0 = omega arith in subst (λ (k : ℕ). stands_within fds links k s ≡ true) e h
 stands_more fds links n (suc m) s le h = elim (cases_lt m n) [
   | inl lt ↦ let e : n ≡ suc m = omega arith in subst (λ (k : ℕ). stands_within fds links k s ≡ true) e h
   | inr ge ↦ or_left _ _ (stands_more fds links n m s ge h)
@@ -27,15 +31,21 @@ stands_more fds links n (suc m) s le h = elim (cases_lt m n) [
 -- without links that are ordinary and whose controlling stream doesn't stand, the same streams stand
 
 stands_filter : (fds : List Descriptor) (links : List Link) (m n : ℕ) (s : StreamId) → n ≤ m
-    → stands_within fds (filter (λ l. not (not (is_persistent l) && not (stands_within fds links m l.ctl))) links) n s ≡ stands_within fds links n s
-stands_filter fds links m zero s le = ap (λ (b : Bool). is_named fds s || b) (any_filter (λ l. is_persistent l && same_stream l.lower s) _ links (λ l h. kept (is_persistent l) (same_stream l.lower s) (stands_within fds links m l.ctl) h)) where
-  kept : (a b d : Bool) → (a && b) ≡ true → not (not a && not d) ≡ true
-  kept true b d h = refl
-  kept false b d h = absurd (false≢true h)
+    → stands_within fds (filter (λ l. not (not (is_persistent l) && not (stands_within fds links m l.ctl))) links) n s
+    ≡ stands_within fds links n s
+stands_filter fds links m zero s le = ap (λ (b : Bool). is_named fds s || b)
+    (any_filter (λ l. is_persistent l && same_stream l.lower s) _ links
+    (λ l h. kept (is_persistent l) (same_stream l.lower s) (stands_within fds links m l.ctl) h)) where
+      kept : (a b d : Bool) → (a && b) ≡ true → not (not a && not d) ≡ true
+      kept true b d h = refl
+      kept false b d h = absurd (false≢true h)
 stands_filter fds links m (suc n) s le = both _ _ _ _ (stands_filter fds links m n s (omega arith))
-    (any_same _ _ (filter (λ k. not (not (is_persistent k) && not (stands_within fds links m k.ctl))) links) (λ l. ap (λ (b : Bool). not (is_persistent l) && (same_stream l.lower s && b)) (stands_filter fds links m n l.ctl (omega arith)))
+    (any_same _ _ (filter (λ k. not (not (is_persistent k) && not (stands_within fds links m k.ctl))) links)
+    (λ l. ap (λ (b : Bool). not (is_persistent l) && (same_stream l.lower s && b))
+    (stands_filter fds links m n l.ctl (omega arith)))
     ∙ any_filter (λ l. not (is_persistent l) && (same_stream l.lower s && stands_within fds links n l.ctl)) _ links
-    (λ l h. kept (is_persistent l) (stands_within fds links m l.ctl) (stands_more fds links n m l.ctl (omega arith) (and_parts _ _ (and_parts _ _ h).1).1))) where
+    (λ l h. kept (is_persistent l) (stands_within fds links m l.ctl)
+    (stands_more fds links n m l.ctl (omega arith) (and_parts _ _ (and_parts _ _ h).1).1))) where
       both : (a b d e : Bool) → a ≡ b → d ≡ e → (a || d) ≡ (b || e)
       both a b d e f g = cc
 
@@ -44,15 +54,21 @@ stands_filter fds links m (suc n) s le = both _ _ _ _ (stands_filter fds links m
       kept false true h = refl
       kept false false h = absurd (false≢true h)
 
-swept_exists : (drivers : List DriverSpec) (c : Configuration) (s : StreamId) → exists drivers (after_sweep drivers c) s ≡ exists drivers c s
+swept_exists : (drivers : List DriverSpec) (c : Configuration) (s : StreamId)
+    → exists drivers (after_sweep drivers c) s ≡ exists drivers c s
 swept_exists drivers c s = stands_filter c.fds c.links (length drivers) (length drivers) s (omega arith)
 
+-- what a sweep leaves is swept
 pub swept_is : (drivers : List DriverSpec) (c : Configuration) → IsSwept drivers (after_sweep drivers c)
 swept_is drivers c = record {
-  links = all_passes _ _ c.links (λ l h. alive (is_persistent l) (exists drivers c l.ctl) (exists drivers (after_sweep drivers c) l.ctl) (sym (swept_exists drivers c l.ctl)) h);
+  links = all_passes _ _ c.links
+      (λ l h. alive (is_persistent l) (exists drivers c l.ctl) (exists drivers (after_sweep drivers c) l.ctl)
+      (sym (swept_exists drivers c l.ctl)) h);
   binds = all_passes _ _ c.binds (λ b h. h);
-  flow = all_passes _ _ (without_links c (λ l. not (is_persistent l) && not (exists drivers c l.ctl))).flow (λ h k. not_not _ k);
-  fulls = all_passes _ _ (without_links c (λ l. not (is_persistent l) && not (exists drivers c l.ctl))).fulls (λ p k. not_not _ k);
+  flow = all_passes _ _ (without_links c (λ l. not (is_persistent l) && not (exists drivers c l.ctl))).flow
+      (λ h k. not_not _ k);
+  fulls = all_passes _ _ (without_links c (λ l. not (is_persistent l) && not (exists drivers c l.ctl))).fulls
+      (λ p k. not_not _ k);
   hungs = all_passes _ _ c.hungs (λ s h. h);
 } where
   not_not : (b : Bool) → not (not b) ≡ true → b ≡ true
@@ -74,31 +90,56 @@ pub record IsLinkIn (drivers : List DriverSpec) (links : List Link) (l : Link) :
   pub ctl : l.ctl.driver < length drivers
   pub leads : reaches links l.ctl.driver l.lower.driver ≡ true
 
-link_rises : (drivers : List DriverSpec) (links : List Link) (l : Link) (s : StreamId) → HasNoCycle links → IsLinkIn drivers links l → same_stream l.lower s ≡ true → height drivers links l.ctl.driver < height drivers links s.driver
+link_rises : (drivers : List DriverSpec) (links : List Link) (l : Link) (s : StreamId) → HasNoCycle links
+    → IsLinkIn drivers links l → same_stream l.lower s ≡ true
+    → height drivers links l.ctl.driver < height drivers links s.driver
 link_rises drivers links l s none h same =
-    let d : l.lower.driver ≡ s.driver = eqb-true l.lower.driver s.driver (and_parts (eqb l.lower.driver s.driver) (eqb l.lower.minor s.minor) same).0 in
-    up_less links (length drivers) l.ctl.driver s.driver none (subst (λ (x : ℕ). reaches links l.ctl.driver x ≡ true) d h.leads) h.ctl
+    let d : l.lower.driver ≡ s.driver = eqb-true l.lower.driver s.driver
+    (and_parts (eqb l.lower.driver s.driver) (eqb l.lower.minor s.minor) same).0 in
+    up_less links (length drivers) l.ctl.driver s.driver none
+    (subst (λ (x : ℕ). reaches links l.ctl.driver x ≡ true) d h.leads) h.ctl
 
-enough_climbs : (drivers : List DriverSpec) (fds : List Descriptor) (links : List Link) (n : ℕ) (s : StreamId) → HasNoCycle links → Each (IsLinkIn drivers links) links
+enough_climbs : (drivers : List DriverSpec) (fds : List Descriptor) (links : List Link) (n : ℕ) (s : StreamId)
+    → HasNoCycle links → Each (IsLinkIn drivers links) links
     → stands_within fds links n s ≡ true → stands_within fds links (height drivers links s.driver) s ≡ true
-enough_climbs drivers fds links zero s none below h = stands_more fds links 0 (height drivers links s.driver) s (omega arith) h
-enough_climbs drivers fds links (suc n) s none below h = elim (or_cases (stands_within fds links n s) (list_any (λ l. not (is_persistent l) && (same_stream l.lower s && stands_within fds links n l.ctl)) links) h) [
-  | inl k ↦ enough_climbs drivers fds links n s none below k
-  | inr k ↦ by (λ t. enough_climbs drivers fds links n t none below) k (height drivers links s.driver) refl
-] where
-  by : ((t : StreamId) → stands_within fds links n t ≡ true → stands_within fds links (height drivers links t.driver) t ≡ true)
-      → list_any (λ l. not (is_persistent l) && (same_stream l.lower s && stands_within fds links n l.ctl)) links ≡ true
-      → (r : ℕ) → height drivers links s.driver ≡ r → stands_within fds links r s ≡ true
-  by up k zero e = let f = any_found (λ l. not (is_persistent l) && (same_stream l.lower s && stands_within fds links n l.ctl)) (IsLinkIn drivers links) links below k in
-      let a = and_parts (not (is_persistent f.one)) (same_stream f.one.lower s && stands_within fds links n f.one.ctl) f.passes in
-      absurd (omega (arith, e, link_rises drivers links f.one s none f.has (and_parts (same_stream f.one.lower s) (stands_within fds links n f.one.ctl) a.1).0))
-  by up k (suc r) e = or_right _ _ (any_more_each (IsLinkIn drivers links) (λ l. not (is_persistent l) && (same_stream l.lower s && stands_within fds links n l.ctl))
-      (λ l. not (is_persistent l) && (same_stream l.lower s && stands_within fds links r l.ctl)) links below
-      (λ l in_ passes. let a = and_parts (not (is_persistent l)) (same_stream l.lower s && stands_within fds links n l.ctl) passes in
-      let b = and_parts (same_stream l.lower s) (stands_within fds links n l.ctl) a.1 in
-      and_from _ _ a.0 (and_from _ _ b.0 (stands_more fds links (height drivers links l.ctl.driver) r l.ctl (omega (arith, e, link_rises drivers links l s none in_ b.0)) (up l.ctl b.1)))) k)
+enough_climbs drivers fds links zero s none below h =
+    stands_more fds links 0 (height drivers links s.driver) s (omega arith) h
+enough_climbs drivers fds links (suc n) s none below
+    h = elim (or_cases (stands_within fds links n s)
+    (list_any (λ l. not (is_persistent l) && (same_stream l.lower s && stands_within fds links n l.ctl)) links) h) [
+      | inl k ↦ enough_climbs drivers fds links n s none below k
+      | inr k ↦ by (λ t. enough_climbs drivers fds links n t none below) k (height drivers links s.driver) refl
+    ] where
+      by : ((t : StreamId) → stands_within fds links n t ≡ true
+          → stands_within fds links (height drivers links t.driver) t ≡ true)
+          → list_any (λ l. not (is_persistent l) && (same_stream l.lower s && stands_within fds links n l.ctl)) links
+          ≡ true
+          → (r : ℕ) → height drivers links s.driver ≡ r → stands_within fds links r s ≡ true
+      by up k zero e = let f = any_found (λ l. not (is_persistent l)
+          && (same_stream l.lower s && stands_within fds links n l.ctl)) (IsLinkIn drivers links) links below k in
+          let a = and_parts (not (is_persistent f.one))
+          (same_stream f.one.lower s && stands_within fds links n f.one.ctl) f.passes in
+          absurd (omega (
+            arith,
+            e,
+            link_rises drivers links f.one s none f.has
+                (and_parts (same_stream f.one.lower s) (stands_within fds links n f.one.ctl) a.1).0,
+          ))
+      by up k (suc r) e = or_right _ _
+          (any_more_each (IsLinkIn drivers links)
+          (λ l. not (is_persistent l) && (same_stream l.lower s && stands_within fds links n l.ctl))
+          (λ l. not (is_persistent l) && (same_stream l.lower s && stands_within fds links r l.ctl)) links below
+          (λ l in_ passes. let a = and_parts (not (is_persistent l))
+          (same_stream l.lower s && stands_within fds links n l.ctl) passes in
+          let b = and_parts (same_stream l.lower s) (stands_within fds links n l.ctl) a.1 in
+          and_from _ _ a.0
+          (and_from _ _ b.0 (stands_more fds links (height drivers links l.ctl.driver) r l.ctl
+          (omega (arith, e, link_rises drivers links l s none in_ b.0)) (up l.ctl b.1)))) k)
 
 -- as many climbs as drivers are enough
-pub climbs_suffice : (drivers : List DriverSpec) (fds : List Descriptor) (links : List Link) (n : ℕ) (s : StreamId) → HasNoCycle links → Each (IsLinkIn drivers links) links
+pub climbs_suffice : (drivers : List DriverSpec) (fds : List Descriptor) (links : List Link) (n : ℕ) (s : StreamId)
+    → HasNoCycle links → Each (IsLinkIn drivers links) links
     → stands_within fds links n s ≡ true → stands_within fds links (length drivers) s ≡ true
-climbs_suffice drivers fds links n s none below h = stands_more fds links (height drivers links s.driver) (length drivers) s (count_le (λ x. reaches links x s.driver) (length drivers)) (enough_climbs drivers fds links n s none below h)
+climbs_suffice drivers fds links n s none below h = stands_more fds links (height drivers links s.driver)
+    (length drivers) s (count_le (λ x. reaches links x s.driver) (length drivers))
+    (enough_climbs drivers fds links n s none below h)

@@ -1,8 +1,12 @@
 -- Each configuration is swept.
-use Rattle.std.proofs.Common.{◌≡◌, ℕ, zero, suc, ◌<◌, Bool, true, false, ◌&&◌, ◌||◌, not, eqb, List, [], ◌∷◌, ◌++◌, length, find, Option, Some, None, Ok, Err, refl, rules, sym, ap, ◌∙◌, subst, arith, inl, inr}
+use Rattle.std.proofs.Common.{◌≡◌, ℕ, zero, suc, ◌<◌, Bool, true, false, ◌&&◌, ◌||◌, not, eqb, List, [], ◌∷◌, ◌++◌}
+use Rattle.std.proofs.Common.{length, find, Option, Some, None, Ok, Err, refl, rules, sym, ap, ◌∙◌, subst, arith, inl}
+use Rattle.std.proofs.Common.{inr}
 use Rattle.std.specs.Prelude.{Result, IfOk}
-use Rattle.smx_model.specs.Commands.{outcome, done_outcome, link_outcome, unlink_outcome, send_outcome, receive_outcome, with_fd}
-use Rattle.smx_model.specs.Configuration.{Configuration, QueuedMessage, is_at, queued_before, fd_before, same_stream, place_before, is_fd}
+use Rattle.smx_model.specs.Commands.{outcome, done_outcome, link_outcome, unlink_outcome, send_outcome, receive_outcome}
+use Rattle.smx_model.specs.Commands.{with_fd}
+use Rattle.smx_model.specs.Configuration.{Configuration, QueuedMessage, is_at, queued_before, fd_before, same_stream}
+use Rattle.smx_model.specs.Configuration.{place_before, is_fd}
 use Rattle.smx_model.specs.DriverList.{is_mux}
 use Rattle.smx_model.specs.Lookups.{driver_of, stream_of, free_stream, leaf_stream, live_leaf, live_stream}
 use Rattle.smx_model.specs.Outcomes.{Outcome, or_fault, ◌>>=◌, refuse}
@@ -39,26 +43,45 @@ use Rattle.smx_types.specs.declared.stream.StreamId.{StreamId}
 use Rattle.std.specs.List.{list_all}
 use Rattle.smx_types.specs.declared.reply.Fault.TheVariants.{Below, NoMinor}
 use Rattle.smx_model.proofs.EachLemmas.{Each, each_map}
-use Rattle.smx_model.proofs.TestLemmas.{any_more, all_more, all_push, all_placed, all_filter, all_without, any_placed, any_push, found_any, found_all}
+use Rattle.smx_model.proofs.TestLemmas.{any_more, all_more, all_push, all_placed, all_filter, all_without, any_placed}
+use Rattle.smx_model.proofs.TestLemmas.{any_push, found_any, found_all}
 
 -- with more descriptors or links more streams stand
 
-stands_grow : (fds fds2 : List Descriptor) (links links2 : List Link) → ((t : Descriptor → Bool) → list_any t fds ≡ true → list_any t fds2 ≡ true) → ((t : Link → Bool) → list_any t links ≡ true → list_any t links2 ≡ true)
+stands_grow : (fds fds2 : List Descriptor) (links links2 : List Link)
+    → ((t : Descriptor → Bool) → list_any t fds ≡ true → list_any t fds2 ≡ true)
+    → ((t : Link → Bool) → list_any t links ≡ true → list_any t links2 ≡ true)
     → (n : ℕ) (s : StreamId) → stands_within fds links n s ≡ true → stands_within fds2 links2 n s ≡ true
-stands_grow fds fds2 links links2 f g zero s h = elim (or_cases (is_named fds s) (list_any (λ l. is_persistent l && same_stream l.lower s) links) h)
-    [ inl k ↦ or_left _ _ (f (λ d. same_stream d.stream s) k) | inr k ↦ or_right _ _ (g (λ l. is_persistent l && same_stream l.lower s) k) ]
-stands_grow fds fds2 links links2 f g (suc n) s h = elim (or_cases (stands_within fds links n s) (list_any (λ l. not (is_persistent l) && (same_stream l.lower s && stands_within fds links n l.ctl)) links) h) [
-  | inl k ↦ or_left _ _ (stands_grow fds fds2 links links2 f g n s k)
-  | inr k ↦ or_right _ _ (any_more (λ l. not (is_persistent l) && (same_stream l.lower s && stands_within fds links n l.ctl)) (λ l. not (is_persistent l) && (same_stream l.lower s && stands_within fds2 links2 n l.ctl)) links2
-      (deeper (stands_grow fds fds2 links links2 f g n)) (g (λ l. not (is_persistent l) && (same_stream l.lower s && stands_within fds links n l.ctl)) k))
-] where
-  deeper : ((t : StreamId) → stands_within fds links n t ≡ true → stands_within fds2 links2 n t ≡ true) → (l : Link) → (not (is_persistent l) && (same_stream l.lower s && stands_within fds links n l.ctl)) ≡ true → (not (is_persistent l) && (same_stream l.lower s && stands_within fds2 links2 n l.ctl)) ≡ true
-  deeper up l e = let a = and_parts (not (is_persistent l)) (same_stream l.lower s && stands_within fds links n l.ctl) e in
-      let b = and_parts (same_stream l.lower s) (stands_within fds links n l.ctl) a.1 in and_from _ _ a.0 (and_from _ _ b.0 (up l.ctl b.1))
+stands_grow fds fds2 links links2 f g zero s h =
+    elim (or_cases (is_named fds s) (list_any (λ l. is_persistent l && same_stream l.lower s) links) h) [
+      | inl k ↦ or_left _ _ (f (λ d. same_stream d.stream s) k)
+      | inr k ↦
+          or_right _ _ (g (λ l. is_persistent l && same_stream l.lower s) k)
+    ]
+stands_grow fds fds2 links links2 f g (suc n) s
+    h = elim (or_cases (stands_within fds links n s)
+    (list_any (λ l. not (is_persistent l) && (same_stream l.lower s && stands_within fds links n l.ctl)) links) h) [
+      | inl k ↦ or_left _ _ (stands_grow fds fds2 links links2 f g n s k)
+      | inr k ↦
+          or_right _ _
+          (any_more (λ l. not (is_persistent l) && (same_stream l.lower s && stands_within fds links n l.ctl))
+          (λ l. not (is_persistent l) && (same_stream l.lower s && stands_within fds2 links2 n l.ctl)) links2
+          (deeper (stands_grow fds fds2 links links2 f g n))
+          (g (λ l. not (is_persistent l) && (same_stream l.lower s && stands_within fds links n l.ctl)) k))
+    ] where
+      deeper : ((t : StreamId) → stands_within fds links n t ≡ true → stands_within fds2 links2 n t ≡ true) → (l : Link)
+          → (not (is_persistent l) && (same_stream l.lower s && stands_within fds links n l.ctl)) ≡ true
+          → (not (is_persistent l) && (same_stream l.lower s && stands_within fds2 links2 n l.ctl)) ≡ true
+      deeper up l e =
+          let a = and_parts (not (is_persistent l)) (same_stream l.lower s && stands_within fds links n l.ctl) e in
+          let b = and_parts (same_stream l.lower s) (stands_within fds links n l.ctl) a.1 in
+          and_from _ _ a.0 (and_from _ _ b.0 (up l.ctl b.1))
 
 -- a configuration in which as many streams stand, and nothing else changed
-grown : (drivers : List DriverSpec) (c d : Configuration) → IsSwept drivers c → ((s : StreamId) → exists drivers c s ≡ true → exists drivers d s ≡ true)
-    → list_all (λ l. is_persistent l || exists drivers d l.ctl) d.links ≡ true → d.binds ≡ c.binds → d.flow ≡ c.flow → d.fulls ≡ c.fulls → d.hungs ≡ c.hungs → IsSwept drivers d
+grown : (drivers : List DriverSpec) (c d : Configuration) → IsSwept drivers c
+    → ((s : StreamId) → exists drivers c s ≡ true → exists drivers d s ≡ true)
+    → list_all (λ l. is_persistent l || exists drivers d l.ctl) d.links ≡ true → d.binds ≡ c.binds → d.flow ≡ c.flow
+    → d.fulls ≡ c.fulls → d.hungs ≡ c.hungs → IsSwept drivers d
 grown drivers c d h more links b f u g = record {
   links = links;
   binds = rw b (all_more _ _ c.binds (λ x. more (record { driver = x.driver; minor = x.minor })) h.binds);
@@ -71,72 +94,106 @@ link_more : (a b d : Bool) → (b ≡ true → d ≡ true) → (a || b) ≡ true
 link_more true b d f h = refl
 link_more false b d f h = f h
 
-swept_fd : (drivers : List DriverSpec) (c : Configuration) (process fd : ℕ) (s : StreamId) → IsSwept drivers c → IsSwept drivers (with_fd c process fd s)
-swept_fd drivers c process fd s h = grown drivers c (with_fd c process fd s) h more (all_more _ _ c.links (λ l. link_more (is_persistent l) (exists drivers c l.ctl) (exists drivers (with_fd c process fd s) l.ctl) (more l.ctl)) h.links) refl refl refl refl where
-  more : (t : StreamId) → exists drivers c t ≡ true → exists drivers (with_fd c process fd s) t ≡ true
-  more = stands_grow c.fds _ c.links c.links (λ t e. any_placed t fd_before c.fds _ e) (λ t e. e) (length drivers)
+swept_fd : (drivers : List DriverSpec) (c : Configuration) (process fd : ℕ) (s : StreamId) → IsSwept drivers c
+    → IsSwept drivers (with_fd c process fd s)
+swept_fd drivers c process fd s h = grown drivers c (with_fd c process fd s) h more
+    (all_more _ _ c.links
+    (λ l. link_more (is_persistent l) (exists drivers c l.ctl) (exists drivers (with_fd c process fd s) l.ctl)
+    (more l.ctl)) h.links) refl refl refl refl where
+      more : (t : StreamId) → exists drivers c t ≡ true → exists drivers (with_fd c process fd s) t ≡ true
+      more = stands_grow c.fds _ c.links c.links (λ t e. any_placed t fd_before c.fds _ e) (λ t e. e) (length drivers)
 
-swept_link : (drivers : List DriverSpec) (c : Configuration) (l : Link) (next : ℕ) → IsSwept drivers c → exists drivers c l.ctl ≡ true → IsSwept drivers (record c { links = c.links ++ l ∷ []; next_id = next })
+swept_link : (drivers : List DriverSpec) (c : Configuration) (l : Link) (next : ℕ) → IsSwept drivers c
+    → exists drivers c l.ctl ≡ true → IsSwept drivers (record c { links = c.links ++ l ∷ []; next_id = next })
 swept_link drivers c l next h e = grown drivers c (record c { links = c.links ++ l ∷ []; next_id = next }) h more
-    (all_push _ c.links l (or_right _ _ (more l.ctl e)) (all_more _ _ c.links (λ k. link_more (is_persistent k) (exists drivers c k.ctl) _ (more k.ctl)) h.links)) refl refl refl refl where
-      more : (t : StreamId) → exists drivers c t ≡ true → stands_within c.fds (c.links ++ l ∷ []) (length drivers) t ≡ true
-      more = stands_grow c.fds c.fds c.links (c.links ++ l ∷ []) (λ t e. e) (λ t e. any_push t c.links l e) (length drivers)
+    (all_push _ c.links l (or_right _ _ (more l.ctl e))
+    (all_more _ _ c.links (λ k. link_more (is_persistent k) (exists drivers c k.ctl) _ (more k.ctl)) h.links)) refl refl
+    refl refl where
+      more : (t : StreamId) → exists drivers c t ≡ true
+          → stands_within c.fds (c.links ++ l ∷ []) (length drivers) t ≡ true
+      more = stands_grow c.fds c.fds c.links (c.links ++ l ∷ []) (λ t e. e) (λ t e. any_push t c.links l e)
+          (length drivers)
 
 -- a process' stream exists
-named_found : (test : Descriptor → Bool) (ds : List Descriptor) (d : Descriptor) → find test ds ≡ Some d → is_named ds d.stream ≡ true
+named_found : (test : Descriptor → Bool) (ds : List Descriptor) (d : Descriptor) → find test ds ≡ Some d
+    → is_named ds d.stream ≡ true
 named_found test [] d e = cc
 named_found test (x ∷ ds) d e = elim (cases_Bool (test x)) [
-  | inl t ↦ let k : Some x ≡ Some d = rw t at e in let same : x ≡ d = cc in or_left _ _ (subst (λ (y : Descriptor). same_stream y.stream d.stream ≡ true) (sym same) (self d.stream))
+  | inl t ↦ let k : Some x ≡ Some d = rw t at e in let same : x ≡ d = cc in
+      or_left _ _ (subst (λ (y : Descriptor). same_stream y.stream d.stream ≡ true) (sym same) (self d.stream))
   | inr f ↦ or_right _ _ (named_found test ds d (rw f at e))
 ] where
   self : (t : StreamId) → same_stream t t ≡ true
   self t = and_from _ _ (eq-eqb t.driver t.driver refl) (eq-eqb t.minor t.minor refl)
 
-stream_exists : (drivers : List DriverSpec) (c : Configuration) (process fd : ℕ) (s : StreamId) → stream_of c process fd ≡ Ok s → exists drivers c s ≡ true
-stream_exists drivers c process fd s e = stands_more c.fds c.links 0 (length drivers) s (omega arith) (or_left _ _ (by (find (is_fd process fd) c.fds) refl e)) where
-  found : Option Descriptor → Option StreamId
-  found None = None
-  found (Some d) = Some d.stream
+stream_exists : (drivers : List DriverSpec) (c : Configuration) (process fd : ℕ) (s : StreamId)
+    → stream_of c process fd ≡ Ok s → exists drivers c s ≡ true
+stream_exists drivers c process fd s e = stands_more c.fds c.links 0 (length drivers) s (omega arith)
+    (or_left _ _ (by (find (is_fd process fd) c.fds) refl e)) where
+      found : Option Descriptor → Option StreamId
+      found None = None
+      found (Some d) = Some d.stream
 
-  by : (o : Option Descriptor) → find (is_fd process fd) c.fds ≡ o → or_fault BadDescriptor (found o) ≡ Ok s → is_named c.fds s ≡ true
-  by None e k = cc
-  by (Some d) e k = let same : d.stream ≡ s = cc in subst (λ (t : StreamId). is_named c.fds t ≡ true) same (named_found (is_fd process fd) c.fds d e)
+      by : (o : Option Descriptor) → find (is_fd process fd) c.fds ≡ o → or_fault BadDescriptor (found o) ≡ Ok s
+          → is_named c.fds s ≡ true
+      by None e k = cc
+      by (Some d) e k = let same : d.stream ≡ s = cc in
+          subst (λ (t : StreamId). is_named c.fds t ≡ true) same (named_found (is_fd process fd) c.fds d e)
 
-pub free_exists : (drivers : List DriverSpec) (c : Configuration) (process fd : ℕ) (s : StreamId) → free_stream c process fd ≡ Ok s → exists drivers c s ≡ true
+-- the stream of a descriptor that is not linked below exists
+pub free_exists : (drivers : List DriverSpec) (c : Configuration) (process fd : ℕ) (s : StreamId)
+    → free_stream c process fd ≡ Ok s → exists drivers c s ≡ true
 free_exists drivers c process fd s e = by (stream_of c process fd) refl e where
   tested : (t : StreamId) (b : Bool) → (refuse Below b >>= (λ _. Ok t)) ≡ Ok s → t ≡ s
   tested t true k = cc
   tested t false k = cc
 
-  by : (r : Result StreamId Fault) → stream_of c process fd ≡ r → (r >>= (λ t. refuse Below (is_below c.links t) >>= (λ _. Ok t))) ≡ Ok s → exists drivers c s ≡ true
+  by : (r : Result StreamId Fault) → stream_of c process fd ≡ r
+      → (r >>= (λ t. refuse Below (is_below c.links t) >>= (λ _. Ok t))) ≡ Ok s → exists drivers c s ≡ true
   by (Err f) e k = cc
-  by (Ok t) e k = subst (λ (x : StreamId). exists drivers c x ≡ true) (tested t (is_below c.links t) k) (stream_exists drivers c process fd t e)
+  by (Ok t) e k = subst (λ (x : StreamId). exists drivers c x ≡ true) (tested t (is_below c.links t) k)
+      (stream_exists drivers c process fd t e)
 
-pub leaf_exists : (drivers : List DriverSpec) (c : Configuration) (name : List ℕ) (minor : ℕ) (s : StreamId) → leaf_stream drivers c name minor ≡ Ok s → exists drivers c s ≡ true
+-- the stream of a leaf driver and its minor that a lookup finds exists
+pub leaf_exists : (drivers : List DriverSpec) (c : Configuration) (name : List ℕ) (minor : ℕ) (s : StreamId)
+    → leaf_stream drivers c name minor ≡ Ok s → exists drivers c s ≡ true
 leaf_exists drivers c name minor s e = by (driver_of drivers name) e where
-  there : (n : ℕ) (b : Bool) → exists drivers c (record { driver = n; minor = minor }) ≡ b → (refuse NoMinor (not b) >>= (λ _. Ok (record { driver = n; minor = minor }))) ≡ Ok s → exists drivers c s ≡ true
-  there n true h k = let same : record { driver = n; minor = minor } ≡ s = cc in subst (λ (x : StreamId). exists drivers c x ≡ true) same h
+  there : (n : ℕ) (b : Bool) → exists drivers c (record { driver = n; minor = minor }) ≡ b
+      → (refuse NoMinor (not b) >>= (λ _. Ok (record { driver = n; minor = minor }))) ≡ Ok s → exists drivers c s ≡ true
+  there n true h k = let same : record { driver = n; minor = minor } ≡ s =
+      cc in subst (λ (x : StreamId). exists drivers c x ≡ true) same h
   there n false h k = cc
 
-  leaf : (n : ℕ) (b : Bool) → (refuse NoDriver b >>= (λ _. refuse NoMinor (not (exists drivers c (record { driver = n; minor = minor }))) >>= (λ _. Ok (record { driver = n; minor = minor })))) ≡ Ok s → exists drivers c s ≡ true
+  leaf : (n : ℕ) (b : Bool)
+      → (refuse NoDriver
+      b >>= (λ _. refuse NoMinor (not (exists drivers c (record { driver = n; minor = minor }))) >>= (λ _.
+      Ok (record { driver = n; minor = minor })))) ≡ Ok s → exists drivers c s ≡ true
   leaf n true k = cc
   leaf n false k = there n (exists drivers c (record { driver = n; minor = minor })) refl k
 
-  by : (r : Result ℕ Fault) → (r >>= (λ n. refuse NoDriver (is_mux drivers n) >>= (λ _. refuse NoMinor (not (exists drivers c (record { driver = n; minor = minor }))) >>= (λ _. Ok (record { driver = n; minor = minor }))))) ≡ Ok s → exists drivers c s ≡ true
+  by : (r : Result ℕ Fault)
+      → (r >>= (λ n. refuse NoDriver
+      (is_mux drivers n) >>= (λ _. refuse NoMinor
+      (not (exists drivers c (record { driver = n; minor = minor }))) >>= (λ _.
+      Ok (record { driver = n; minor = minor }))))) ≡ Ok s → exists drivers c s ≡ true
   by (Err f) k = cc
   by (Ok n) k = leaf n (is_mux drivers n) k
 
-live_exists : (drivers : List DriverSpec) (c : Configuration) (process fd : ℕ) (s : StreamId) → live_stream c process fd ≡ Ok s → exists drivers c s ≡ true
+live_exists : (drivers : List DriverSpec) (c : Configuration) (process fd : ℕ) (s : StreamId)
+    → live_stream c process fd ≡ Ok s → exists drivers c s ≡ true
 live_exists drivers c process fd s e = free_exists drivers c process fd s (live_is c process fd s e).0
 
-live_leaf_exists : (drivers : List DriverSpec) (c : Configuration) (name : List ℕ) (minor : ℕ) (s : StreamId) → live_leaf drivers c name minor ≡ Ok s → exists drivers c s ≡ true
+live_leaf_exists : (drivers : List DriverSpec) (c : Configuration) (name : List ℕ) (minor : ℕ) (s : StreamId)
+    → live_leaf drivers c name minor ≡ Ok s → exists drivers c s ≡ true
 live_leaf_exists drivers c name minor s e = leaf_exists drivers c name minor s (live_leaf_is drivers c name minor s e).0
 
-all_marked : (t : Place → Bool) (p : Place) (b : Bool) (ps : List Place) → t p ≡ true → list_all t ps ≡ true → list_all t (with_mark p b ps) ≡ true
+all_marked : (t : Place → Bool) (p : Place) (b : Bool) (ps : List Place) → t p ≡ true → list_all t ps ≡ true
+    → list_all t (with_mark p b ps) ≡ true
 all_marked t p true ps h e = all_placed t place_before _ p h (all_filter t _ ps e)
 all_marked t p false ps h e = all_filter t _ ps e
 
-swept_arrived : (drivers : List DriverSpec) (c : Configuration) (p : Place) (m : Message) → exists drivers c p.stream ≡ true → IsSwept drivers c → IsSwept drivers (after_arrival drivers c p m)
+swept_arrived : (drivers : List DriverSpec) (c : Configuration) (p : Place) (m : Message)
+    → exists drivers c p.stream ≡ true → IsSwept drivers c → IsSwept drivers (after_arrival drivers c p m)
 swept_arrived drivers c p m e h = record {
   links = h.links;
   binds = h.binds;
@@ -145,31 +202,51 @@ swept_arrived drivers c p m e h = record {
   hungs = h.hungs;
 }
 
-swept_left : (drivers : List DriverSpec) (c : Configuration) (p : Place) → exists drivers c p.stream ≡ true → IsSwept drivers c → IsSwept drivers (after_leaving drivers c p)
-swept_left drivers c p e h = record { links = h.links; binds = h.binds; flow = all_without _ _ c.flow h.flow; fulls = all_marked _ p _ c.fulls e h.fulls; hungs = h.hungs }
+swept_left : (drivers : List DriverSpec) (c : Configuration) (p : Place) → exists drivers c p.stream ≡ true
+    → IsSwept drivers c → IsSwept drivers (after_leaving drivers c p)
+swept_left drivers c p e h = record {
+  links = h.links;
+  binds = h.binds;
+  flow = all_without _ _ c.flow h.flow;
+  fulls = all_marked _ p _ c.fulls e h.fulls;
+  hungs = h.hungs;
+}
 
-swept_took : (drivers : List DriverSpec) (c : Configuration) (p : Place) (m : Message) (n : ℕ) → exists drivers c p.stream ≡ true → IsSwept drivers c → IsSwept drivers (record (after_arrival drivers c p m) { next_serial = n })
-swept_took drivers c p m n e h = let a = swept_arrived drivers c p m e h in record { links = a.links; binds = a.binds; flow = a.flow; fulls = a.fulls; hungs = a.hungs }
+swept_took : (drivers : List DriverSpec) (c : Configuration) (p : Place) (m : Message) (n : ℕ)
+    → exists drivers c p.stream ≡ true → IsSwept drivers c
+    → IsSwept drivers (record (after_arrival drivers c p m) { next_serial = n })
+swept_took drivers c p m n e h = let a = swept_arrived drivers c p m e h in
+    record { links = a.links; binds = a.binds; flow = a.flow; fulls = a.fulls; hungs = a.hungs }
 
-swept_sent : (drivers : List DriverSpec) (c : Configuration) (p : Place) (addr : ℕ) (bytes : List ℕ) → exists drivers c p.stream ≡ true → IsSwept drivers c → IfAccepted (λ d r. IsSwept drivers d) (send_outcome drivers c p addr bytes)
+swept_sent : (drivers : List DriverSpec) (c : Configuration) (p : Place) (addr : ℕ) (bytes : List ℕ)
+    → exists drivers c p.stream ≡ true → IsSwept drivers c
+    → IfAccepted (λ d r. IsSwept drivers d) (send_outcome drivers c p addr bytes)
 swept_sent drivers c p addr bytes e h = search (after_test, at_ok, swept_took, rules) depth 12
 
-swept_received : (drivers : List DriverSpec) (c : Configuration) (p : Place) → exists drivers c p.stream ≡ true → IsSwept drivers c → IfAccepted (λ d r. IsSwept drivers d) (receive_outcome drivers c p)
+swept_received : (drivers : List DriverSpec) (c : Configuration) (p : Place) → exists drivers c p.stream ≡ true
+    → IsSwept drivers c → IfAccepted (λ d r. IsSwept drivers d) (receive_outcome drivers c p)
 swept_received drivers c p e h = search (after_some, at_ok, swept_left, rules) depth 12
 
-swept_done : (drivers : List DriverSpec) (c d : Configuration) → IfAccepted (λ d r. IsSwept drivers d) (done_outcome drivers c d)
+swept_done : (drivers : List DriverSpec) (c d : Configuration)
+    → IfAccepted (λ d r. IsSwept drivers d) (done_outcome drivers c d)
 swept_done drivers c d = record { holds = swept_is drivers d }
 
-swept_unlinked : (drivers : List DriverSpec) (c : Configuration) (w : Which) (mine : Link → Bool) → IfAccepted (λ d r. IsSwept drivers d) (unlink_outcome drivers c w mine)
+swept_unlinked : (drivers : List DriverSpec) (c : Configuration) (w : Which) (mine : Link → Bool)
+    → IfAccepted (λ d r. IsSwept drivers d) (unlink_outcome drivers c w mine)
 swept_unlinked drivers c which.All mine = swept_done drivers c (without_links c mine)
 swept_unlinked drivers c (which.Id id) mine = search (after_test, swept_done, rules) depth 12
 
-swept_linked : (drivers : List DriverSpec) (c : Configuration) (process fd arg : ℕ) (k : LinkKind) → IsSwept drivers c → IfAccepted (λ d r. IsSwept drivers d) (link_outcome drivers c process fd arg k)
-swept_linked drivers c process fd arg k h = search (after_test, after_ok, at_ok, swept_link, stream_exists, rules) depth 24
+swept_linked : (drivers : List DriverSpec) (c : Configuration) (process fd arg : ℕ) (k : LinkKind) → IsSwept drivers c
+    → IfAccepted (λ d r. IsSwept drivers d) (link_outcome drivers c process fd arg k)
+swept_linked drivers c process fd arg k h =
+    search (after_test, after_ok, at_ok, swept_link, stream_exists, rules) depth 24
 
-pub swept_accepted : (drivers : List DriverSpec) (c : Configuration) (process : ℕ) (k : Command) → IsSwept drivers c → IfAccepted (λ d r. IsSwept drivers d) (outcome drivers c process k)
+-- an accepted command leaves a swept configuration swept
+pub swept_accepted : (drivers : List DriverSpec) (c : Configuration) (process : ℕ) (k : Command) → IsSwept drivers c
+    → IfAccepted (λ d r. IsSwept drivers d) (outcome drivers c process k)
 swept_accepted drivers c process (command.OpenClone name) h = search (after_ok, at_ok, swept_fd, rules) depth 20
-swept_accepted drivers c process (command.OpenMinor name minor) h = search (after_test, after_ok, at_ok, swept_fd, rules) depth 20
+swept_accepted drivers c process (command.OpenMinor name minor) h =
+    search (after_test, after_ok, at_ok, swept_fd, rules) depth 20
 swept_accepted drivers c process (command.Dup fd) h = search (after_ok, at_ok, swept_fd, rules) depth 20
 swept_accepted drivers c process (command.Close fd) h = search (after_ok, swept_done, rules) depth 20
 swept_accepted drivers c process command.CloseAll h = search (swept_done, rules) depth 20
@@ -179,29 +256,39 @@ swept_accepted drivers c process (command.Unlink fd w) h = search (after_ok, swe
 swept_accepted drivers c process (command.Punlink fd w) h = search (after_ok, swept_unlinked, rules) depth 20
 swept_accepted drivers c process (command.Bind fd addr) h = search (after_test, after_ok, swept_done, rules) depth 20
 swept_accepted drivers c process (command.Unbind fd) h = search (after_test, after_ok, swept_done, rules) depth 20
-swept_accepted drivers c process (command.Route fd addr id) h = search (after_test, after_ok, swept_done, rules) depth 20
+swept_accepted drivers c process (command.Route fd addr id) h =
+    search (after_test, after_ok, swept_done, rules) depth 20
 swept_accepted drivers c process (command.Unroute fd addr) h = search (after_test, after_ok, swept_done, rules) depth 20
-swept_accepted drivers c process (command.Write fd addr bytes) h = search (after_test, after_ok, at_ok, swept_sent, live_exists, rules) depth 20
-swept_accepted drivers c process (command.Read fd) h = search (after_ok, after_choice, at_ok, swept_received, free_exists, rules) depth 20
+swept_accepted drivers c process (command.Write fd addr bytes) h =
+    search (after_test, after_ok, at_ok, swept_sent, live_exists, rules) depth 20
+swept_accepted drivers c process (command.Read fd) h =
+    search (after_ok, after_choice, at_ok, swept_received, free_exists, rules) depth 20
 swept_accepted drivers c process (command.Flush fd w) h = search (after_ok, swept_done, rules) depth 20
-swept_accepted drivers c process (command.Inject name minor addr bytes) h = search (after_test, after_ok, at_ok, swept_sent, live_leaf_exists, rules) depth 20
-swept_accepted drivers c process (command.Transmit name minor) h = search (after_ok, at_ok, swept_received, live_leaf_exists, rules) depth 20
+swept_accepted drivers c process (command.Inject name minor addr bytes) h =
+    search (after_test, after_ok, at_ok, swept_sent, live_leaf_exists, rules) depth 20
+swept_accepted drivers c process (command.Transmit name minor) h =
+    search (after_ok, at_ok, swept_received, live_leaf_exists, rules) depth 20
 swept_accepted drivers c process (command.Hangup name minor) h = search (after_ok, swept_done, rules) depth 20
 
 -- a move goes to a stream that exists
 
-pub links_in : (drivers : List DriverSpec) (links : List Link) → Each (λ l. l.ctl.driver < length drivers) links → Each (IsLinkIn drivers links) links
+-- where the drivers of all controlling streams are there, each link leads from such a driver to its lower one
+pub links_in : (drivers : List DriverSpec) (links : List Link) → Each (λ l. l.ctl.driver < length drivers) links
+    → Each (IsLinkIn drivers links) links
 links_in drivers [] h = tt
 links_in drivers (l ∷ ls) h = (
   record { ctl = h.0; leads = reaches_at (l ∷ ls) 0 l (omega arith) refl },
-  each_map (IsLinkIn drivers ls) (IsLinkIn drivers (l ∷ ls)) ls (λ k i. record { ctl = i.ctl; leads = or_left _ _ i.leads }) (links_in drivers ls h.1),
+  each_map (IsLinkIn drivers ls) (IsLinkIn drivers (l ∷ ls)) ls
+      (λ k i. record { ctl = i.ctl; leads = or_left _ _ i.leads }) (links_in drivers ls h.1),
 )
 
+-- it has no cycle, its descriptors and links have streams that the drivers have, and it is swept
 pub record IsWhole (drivers : List DriverSpec) (c : Configuration) : Type 0 where
   pub none : HasNoCycle c.links
   pub named : AreNamed drivers c
   pub swept_ : IsSwept drivers c
 
+-- a stream is the same as itself
 pub stream_self : (t : StreamId) → same_stream t t ≡ true
 stream_self t = and_from _ _ (eq-eqb t.driver t.driver refl) (eq-eqb t.minor t.minor refl)
 
@@ -211,40 +298,56 @@ pub record AreKeepingLowers (drivers : List DriverSpec) (c : Configuration) : Ty
   pub below : Each (λ l. l.ctl.driver < length drivers) c.links
   pub alive : list_all (λ l. is_persistent l || exists drivers c l.ctl) c.links ≡ true
 
-pub lower_exists : (drivers : List DriverSpec) (c : Configuration) (test : Link → Bool) (l : Link) → AreKeepingLowers drivers c → find test c.links ≡ Some l → exists drivers c l.lower ≡ true
+-- the lower stream of a link that a search finds exists
+pub lower_exists : (drivers : List DriverSpec) (c : Configuration) (test : Link → Bool) (l : Link)
+    → AreKeepingLowers drivers c → find test c.links ≡ Some l → exists drivers c l.lower ≡ true
 lower_exists drivers c test l h e = elim (cases_Bool (is_persistent l)) [
-  | inl p ↦ stands_more c.fds c.links 0 (length drivers) l.lower (omega arith) (or_right _ _ (found_any test (λ k. is_persistent k && same_stream k.lower l.lower) c.links l e (and_from _ _ p (stream_self l.lower))))
+  | inl p ↦ stands_more c.fds c.links 0 (length drivers) l.lower (omega arith)
+      (or_right _ _ (found_any test (λ k. is_persistent k && same_stream k.lower l.lower) c.links l e
+      (and_from _ _ p (stream_self l.lower))))
   | inr o ↦
       let a = found_all test (λ k. is_persistent k || exists drivers c k.ctl) c.links l e h.alive in
       let up : exists drivers c l.ctl ≡ true = rw o at a in
       climbs_suffice drivers c.fds c.links (suc (length drivers)) l.lower h.none (links_in drivers c.links h.below)
-      (or_right _ _ (found_any test (λ k. not (is_persistent k) && (same_stream k.lower l.lower && stands_within c.fds c.links (length drivers) k.ctl)) c.links l e
+      (or_right _ _
+      (found_any test (λ k. not (is_persistent k)
+      && (same_stream k.lower l.lower && stands_within c.fds c.links (length drivers) k.ctl)) c.links l e
       (and_from _ _ (rw o refl) (and_from _ _ (stream_self l.lower) up))))
 ]
 
 whole_keeps : (drivers : List DriverSpec) (c : Configuration) → IsWhole drivers c → AreKeepingLowers drivers c
-whole_keeps drivers c h = record { none = h.none; below = each_map _ _ c.links (λ l p. p.0.0) h.named.links; alive = h.swept_.links }
+whole_keeps drivers c h =
+    record { none = h.none; below = each_map _ _ c.links (λ l p. p.0.0) h.named.links; alive = h.swept_.links }
 
-next_exists : (drivers : List DriverSpec) (c : Configuration) (s : StreamId) (addr : ℕ) (which_side : Side) (q : Place) → IsWhole drivers c → next_place drivers c (record { stream = s; side = which_side }) addr ≡ Some q → exists drivers c q.stream ≡ true
+next_exists : (drivers : List DriverSpec) (c : Configuration) (s : StreamId) (addr : ℕ) (which_side : Side) (q : Place)
+    → IsWhole drivers c → next_place drivers c (record { stream = s; side = which_side }) addr ≡ Some q
+    → exists drivers c q.stream ≡ true
 next_exists drivers c s addr side.Write q h e = elim (cases_Bool (is_mux drivers s.driver)) [
   | inl t ↦ let w = below_link c.links c.routes c.hungs s.driver addr q (rw t at e) in
-      subst (λ (x : Place). exists drivers c x.stream ≡ true) w.4 (lower_exists drivers c _ w.2 (whole_keeps drivers c h) w.3)
+      subst (λ (x : Place). exists drivers c x.stream ≡ true) w.4
+      (lower_exists drivers c _ w.2 (whole_keeps drivers c h) w.3)
   | inr f ↦ let k : None ≡ Some q = rw f at e in cc
 ]
 next_exists drivers c s addr side.Read q h e =
     let w = above_binding c.links c.binds s addr q e in
     subst (λ (x : Place). exists drivers c x.stream ≡ true) w.4
-    (found_all (λ b. eqb b.driver w.0.ctl.driver && eqb b.addr addr) (λ b. exists drivers c (record { driver = b.driver; minor = b.minor })) c.binds w.2 w.3 h.swept_.binds)
+    (found_all (λ b. eqb b.driver w.0.ctl.driver && eqb b.addr addr)
+    (λ b. exists drivers c (record { driver = b.driver; minor = b.minor })) c.binds w.2 w.3 h.swept_.binds)
 
 -- from a queue of a stream that exists
-front_exists : (t : Place → Bool) (hs : List QueuedMessage) (p : Place) (m : Message) → first_message hs p ≡ Some m → list_all (λ h. t h.place) hs ≡ true → t p ≡ true
+front_exists : (t : Place → Bool) (hs : List QueuedMessage) (p : Place) (m : Message) → first_message hs p ≡ Some m
+    → list_all (λ h. t h.place) hs ≡ true → t p ≡ true
 front_exists t [] p m e h = cc
-front_exists t (k ∷ hs) p m e h = let a = and_parts (t k.place) (list_all (λ h. t h.place) hs) h in elim (cases_Bool (is_at p k))
+front_exists t (k ∷ hs) p m e h =
+    let a = and_parts (t k.place) (list_all (λ h. t h.place) hs) h in elim (cases_Bool (is_at p k))
     [ inl y ↦ ap t (sym (same_place_is k.place p y)) ∙ a.0 | inr n ↦ front_exists t hs p m (rw n at e) a.1 ]
 
-pub swept_moved : (drivers : List DriverSpec) (c : Configuration) (p : Place) → IsWhole drivers c → IsSwept drivers (after_move drivers c p)
+-- a move leaves a swept configuration without a cycle swept
+pub swept_moved : (drivers : List DriverSpec) (c : Configuration) (p : Place) → IsWhole drivers c
+    → IsSwept drivers (after_move drivers c p)
 swept_moved drivers c p h = by (next_open_place drivers c p) (first_message c.flow p) refl refl where
-  by : (o : Option Place) (m : Option Message) → next_open_place drivers c p ≡ o → first_message c.flow p ≡ m → IsSwept drivers (after_move_to drivers c p o m)
+  by : (o : Option Place) (m : Option Message) → next_open_place drivers c p ≡ o → first_message c.flow p ≡ m
+      → IsSwept drivers (after_move_to drivers c p o m)
   by (Some q) (Some m) e f =
       let w = open_next drivers c p q e in
       swept_arrived drivers (after_leaving drivers c p) q m (next_exists drivers c p.stream w.0.addr p.side q h w.2)
@@ -253,11 +356,14 @@ swept_moved drivers c p h = by (next_open_place drivers c p) (first_message c.fl
   by None m e f = h.swept_
 
 -- a stream that stands within some number of climbs exists
-pub stands_exists : (drivers : List DriverSpec) (c : Configuration) (s : StreamId) → HasNoCycle c.links → Each (λ l. l.ctl.driver < length drivers) c.links → Stands c s → exists drivers c s ≡ true
-stands_exists drivers c s none below h = climbs_suffice drivers c.fds c.links h.climbs s none (links_in drivers c.links below) h.within
+pub stands_exists : (drivers : List DriverSpec) (c : Configuration) (s : StreamId) → HasNoCycle c.links
+    → Each (λ l. l.ctl.driver < length drivers) c.links → Stands c s → exists drivers c s ≡ true
+stands_exists drivers c s none below h =
+    climbs_suffice drivers c.fds c.links h.climbs s none (links_in drivers c.links below) h.within
 
 -- what an accepted command leaves needs no further sweep
-pub swept_once : (drivers : List DriverSpec) (c : Configuration) (process : ℕ) (k : Command) → IsSwept drivers c → IfOk (outcome drivers c process k) (λ x. after_sweep drivers x.0 ≡ x.0)
+pub swept_once : (drivers : List DriverSpec) (c : Configuration) (process : ℕ) (k : Command) → IsSwept drivers c
+    → IfOk (outcome drivers c process k) (λ x. after_sweep drivers x.0 ≡ x.0)
 swept_once drivers c process k h = by (outcome drivers c process k) (swept_accepted drivers c process k h) where
   by : (o : Outcome) → IfAccepted (λ d r. IsSwept drivers d) o → IfOk o (λ x. after_sweep drivers x.0 ≡ x.0)
   by (Ok x) m = swept_idle drivers x.0 m.holds

@@ -1,5 +1,6 @@
 -- Each part of a configuration names a stream that its drivers have, and so the view determines the configuration.
-use Rattle.std.proofs.Common.{◌≡◌, ℕ, zero, suc, ◌<◌, Bool, true, false, ◌&&◌, not, eqb, slice_index_or, List, [], ◌∷◌, length, map, Option, refl, sym, ap, ◌∙◌, subst, arith, inl, inr}
+use Rattle.std.proofs.Common.{◌≡◌, ℕ, zero, suc, ◌<◌, Bool, true, false, ◌&&◌, not, eqb, slice_index_or, List, [], ◌∷◌}
+use Rattle.std.proofs.Common.{length, map, Option, refl, sym, ap, ◌∙◌, subst, arith, inl, inr}
 use Rattle.std.specs.List.{list_any}
 use Rattle.std.specs.Option.{option_map_or}
 use Rattle.std.proofs.lemmas.Bool.{cases_lt, eqb-true, and_parts, or_cases, false≢true}
@@ -28,38 +29,54 @@ use Rattle.smx_model.specs.DriverList.{IsDriverList, is_mux, minors_of, name_of}
 use Rattle.smx_model.specs.KnownStreams.{AreStreamsKnown, IsKnown}
 use Rattle.smx_model.specs.Standing.{is_named, is_persistent, stands_within}
 use Rattle.smx_model.specs.Swept.{IsSwept}
-use Rattle.smx_model.specs.Views.{view, view_of_fd, view_of_link, view_of_bind, view_of_route, view_of_message, view_of_full, view_of_hung}
+use Rattle.smx_model.specs.Views.{view, view_of_fd, view_of_link, view_of_bind, view_of_route, view_of_message}
+use Rattle.smx_model.specs.Views.{view_of_full, view_of_hung}
 use Rattle.smx_model.proofs.RangeLemmas.{AreNamed}
 use Rattle.smx_model.proofs.RouteLemmas.{AreRouted}
 use Rattle.smx_model.proofs.EachLemmas.{Each, each_map, all_of_each, each_of_list_all}
 
 -- ---- a stream that exists is one that its driver has
 
-same_known : (drivers : List DriverSpec) (s t : StreamId) → IsKnown drivers s → same_stream s t ≡ true → IsKnown drivers t
+same_known : (drivers : List DriverSpec) (s t : StreamId) → IsKnown drivers s → same_stream s t ≡ true
+    → IsKnown drivers t
 same_known drivers s t h e = let p = and_parts (eqb s.driver t.driver) (eqb s.minor t.minor) e in
     known_at s.driver s.minor t.driver t.minor (eqb-true s.driver t.driver p.0) (eqb-true s.minor t.minor p.1) h where
-      known_at : (d m d2 m2 : ℕ) → d ≡ d2 → m ≡ m2 → (d < length drivers) × (m < minors_of drivers d) → (d2 < length drivers) × (m2 < minors_of drivers d2)
-      known_at d m d2 m2 e f k = subst (λ (x : ℕ). (d2 < length drivers) × (x < minors_of drivers d2)) f (subst (λ (x : ℕ). (x < length drivers) × (m < minors_of drivers x)) e k)
+      known_at : (d m d2 m2 : ℕ) → d ≡ d2 → m ≡ m2 → (d < length drivers) × (m < minors_of drivers d)
+          → (d2 < length drivers) × (m2 < minors_of drivers d2)
+      known_at d m d2 m2 e f k = subst (λ (x : ℕ). (d2 < length drivers) × (x < minors_of drivers d2)) f
+          (subst (λ (x : ℕ). (x < length drivers) × (m < minors_of drivers x)) e k)
 
-named_known : (drivers : List DriverSpec) (fds : List Descriptor) (s : StreamId) → Each (λ d. IsKnown drivers d.stream) fds → is_named fds s ≡ true → IsKnown drivers s
+named_known : (drivers : List DriverSpec) (fds : List Descriptor) (s : StreamId)
+    → Each (λ d. IsKnown drivers d.stream) fds → is_named fds s ≡ true → IsKnown drivers s
 named_known drivers [] s h e = absurd (false≢true e)
-named_known drivers (d ∷ ds) s h e = elim (or_cases (same_stream d.stream s) (is_named ds s) e) [ inl k ↦ same_known drivers d.stream s h.0 k | inr k ↦ named_known drivers ds s h.1 k ]
+named_known drivers (d ∷ ds) s h e = elim (or_cases (same_stream d.stream s) (is_named ds s) e)
+    [ inl k ↦ same_known drivers d.stream s h.0 k | inr k ↦ named_known drivers ds s h.1 k ]
 
-lower_known : (drivers : List DriverSpec) (test : Link → Bool) (links : List Link) (s : StreamId) → Each (λ l. IsKnown drivers l.ctl × IsKnown drivers l.lower) links
+lower_known : (drivers : List DriverSpec) (test : Link → Bool) (links : List Link) (s : StreamId)
+    → Each (λ l. IsKnown drivers l.ctl × IsKnown drivers l.lower) links
     → ((l : Link) → test l ≡ true → same_stream l.lower s ≡ true) → list_any test links ≡ true → IsKnown drivers s
 lower_known drivers test [] s h f e = absurd (false≢true e)
-lower_known drivers test (l ∷ ls) s h f e = elim (or_cases (test l) (list_any test ls) e) [ inl k ↦ same_known drivers l.lower s h.0.1 (f l k) | inr k ↦ lower_known drivers test ls s h.1 f k ]
+lower_known drivers test (l ∷ ls) s h f e = elim (or_cases (test l) (list_any test ls) e)
+    [ inl k ↦ same_known drivers l.lower s h.0.1 (f l k) | inr k ↦ lower_known drivers test ls s h.1 f k ]
 
-standing_known : (drivers : List DriverSpec) (c : Configuration) (n : ℕ) (s : StreamId) → AreNamed drivers c → stands_within c.fds c.links n s ≡ true → IsKnown drivers s
-standing_known drivers c zero s h e = elim (or_cases (is_named c.fds s) (list_any (λ l. is_persistent l && same_stream l.lower s) c.links) e) [
-  | inl k ↦ named_known drivers c.fds s h.fds k
-  | inr k ↦ lower_known drivers (λ l. is_persistent l && same_stream l.lower s) c.links s h.links (λ l p. (and_parts (is_persistent l) (same_stream l.lower s) p).1) k
-]
-standing_known drivers c (suc n) s h e = elim (or_cases (stands_within c.fds c.links n s) (list_any (λ l. not (is_persistent l) && (same_stream l.lower s && stands_within c.fds c.links n l.ctl)) c.links) e) [
-  | inl k ↦ standing_known drivers c n s h k
-  | inr k ↦ lower_known drivers (λ l. not (is_persistent l) && (same_stream l.lower s && stands_within c.fds c.links n l.ctl)) c.links s h.links
-      (λ l p. (and_parts (same_stream l.lower s) (stands_within c.fds c.links n l.ctl) (and_parts (not (is_persistent l)) (same_stream l.lower s && stands_within c.fds c.links n l.ctl) p).1).0) k
-]
+standing_known : (drivers : List DriverSpec) (c : Configuration) (n : ℕ) (s : StreamId) → AreNamed drivers c
+    → stands_within c.fds c.links n s ≡ true → IsKnown drivers s
+standing_known drivers c zero s h e =
+    elim (or_cases (is_named c.fds s) (list_any (λ l. is_persistent l && same_stream l.lower s) c.links) e) [
+      | inl k ↦ named_known drivers c.fds s h.fds k
+      | inr k ↦ lower_known drivers (λ l. is_persistent l && same_stream l.lower s) c.links s h.links
+          (λ l p. (and_parts (is_persistent l) (same_stream l.lower s) p).1) k
+    ]
+standing_known drivers c (suc n) s h
+    e = elim (or_cases (stands_within c.fds c.links n s)
+    (list_any (λ l. not (is_persistent l) && (same_stream l.lower s && stands_within c.fds c.links n l.ctl)) c.links) e) [
+      | inl k ↦ standing_known drivers c n s h k
+      | inr k ↦
+          lower_known drivers (λ l. not (is_persistent l)
+          && (same_stream l.lower s && stands_within c.fds c.links n l.ctl)) c.links s h.links
+          (λ l p. (and_parts (same_stream l.lower s) (stands_within c.fds c.links n l.ctl)
+          (and_parts (not (is_persistent l)) (same_stream l.lower s && stands_within c.fds c.links n l.ctl) p).1).0) k
+    ]
 
 -- ---- so is each part
 
@@ -69,6 +86,7 @@ mux_below drivers n e = elim (cases_lt n (length drivers)) [
   | inr le ↦ let past = slice_get_past drivers n le in let k : false ≡ true = rw past at e in absurd (false≢true k)
 ]
 
+-- each part of a configuration has a stream, and each route a driver, that the drivers have
 pub record EachKnown (drivers : List DriverSpec) (c : Configuration) : Type 0 where
   pub fds : Each (λ d. IsKnown drivers d.stream) c.fds
   pub links : Each (λ l. IsKnown drivers l.ctl × IsKnown drivers l.lower) c.links
@@ -78,17 +96,23 @@ pub record EachKnown (drivers : List DriverSpec) (c : Configuration) : Type 0 wh
   pub fulls : Each (λ p. IsKnown drivers p.stream) c.fulls
   pub hungs : Each (λ s. IsKnown drivers s) c.hungs
 
-pub each_known : (drivers : List DriverSpec) (c : Configuration) → AreNamed drivers c → AreRouted drivers c → IsSwept drivers c → EachKnown drivers c
+-- in a swept configuration, where descriptors, links and routes have known streams and drivers, so has each part
+pub each_known : (drivers : List DriverSpec) (c : Configuration) → AreNamed drivers c → AreRouted drivers c
+    → IsSwept drivers c → EachKnown drivers c
 each_known drivers c named routed swept_ = record {
   fds = named.fds;
   links = named.links;
-  binds = each_of_list_all _ _ c.binds (λ b e. standing_known drivers c (length drivers) (record { driver = b.driver; minor = b.minor }) named e) swept_.binds;
+  binds = each_of_list_all _ _ c.binds
+      (λ b e. standing_known drivers c (length drivers) (record { driver = b.driver; minor = b.minor }) named e)
+      swept_.binds;
   routes = each_map _ _ c.routes (λ r p. mux_below drivers r.driver p.0) routed.routes;
-  flow = each_of_list_all _ _ c.flow (λ h e. standing_known drivers c (length drivers) h.place.stream named e) swept_.flow;
+  flow = each_of_list_all _ _ c.flow (λ h e. standing_known drivers c (length drivers) h.place.stream named e)
+      swept_.flow;
   fulls = each_of_list_all _ _ c.fulls (λ p e. standing_known drivers c (length drivers) p.stream named e) swept_.fulls;
   hungs = each_of_list_all _ _ c.hungs (λ s e. standing_known drivers c (length drivers) s named e) swept_.hungs;
 }
 
+-- what `EachKnown` says of each part by recursion, `AreStreamsKnown` says of it by index
 pub known_of_each : (drivers : List DriverSpec) (c : Configuration) → EachKnown drivers c → AreStreamsKnown drivers c
 known_of_each drivers c h = record {
   fds = all_of_each _ c.fds h.fds;
@@ -106,20 +130,28 @@ known_of_each drivers c h = record {
 some_driver : DriverSpec
 some_driver = record { name = []; kind = Leaf; minors = 0; high = 0; low = 0; max = 0 }
 
-name_at : (drivers : List DriverSpec) (n : ℕ) → n < length drivers → name_of drivers n ≡ (slice_index_or drivers n some_driver).name
-name_at drivers n lt = ap (λ (o : Option DriverSpec). option_map_or (λ d. d.name) o []) (slice_get-get_or drivers n some_driver lt)
+name_at : (drivers : List DriverSpec) (n : ℕ) → n < length drivers
+    → name_of drivers n ≡ (slice_index_or drivers n some_driver).name
+name_at drivers n lt =
+    ap (λ (o : Option DriverSpec). option_map_or (λ d. d.name) o []) (slice_get-get_or drivers n some_driver lt)
 
-one_number : (drivers : List DriverSpec) (a b : ℕ) → IsDriverList drivers → a < length drivers → b < length drivers → name_of drivers a ≡ name_of drivers b → a ≡ b
+one_number : (drivers : List DriverSpec) (a b : ℕ) → IsDriverList drivers → a < length drivers → b < length drivers
+    → name_of drivers a ≡ name_of drivers b → a ≡ b
 one_number drivers a b h lt_a lt_b e =
     let names = sym (name_at drivers a lt_a) ∙ (e ∙ name_at drivers b lt_b) in
     elim (cases_lt a b) [
       | inl lt ↦ absurd (h.names a b some_driver lt lt_b names)
-      | inr le ↦ elim (cases_lt b a) [ inl lt ↦ absurd (h.names b a some_driver lt lt_a (sym names)) | inr le2 ↦ omega (arith, le, le2) ]
+      | inr le ↦ elim (cases_lt b a) [
+        | inl lt ↦ absurd (h.names b a some_driver lt lt_a (sym names))
+        | inr le2 ↦
+            omega (arith, le, le2)
+      ]
     ]
 
 -- ---- and so a line is that of one part
 
-map_one : {X Y : Type 0} (f : X → Y) (P : X → Type 0) (xs ys : List X) → ((x y : X) → P x → P y → f x ≡ f y → x ≡ y) → Each P xs → Each P ys → map f xs ≡ map f ys → xs ≡ ys
+map_one : {X Y : Type 0} (f : X → Y) (P : X → Type 0) (xs ys : List X) → ((x y : X) → P x → P y → f x ≡ f y → x ≡ y)
+    → Each P xs → Each P ys → map f xs ≡ map f ys → xs ≡ ys
 map_one f P [] [] one h k e = refl
 map_one f P [] (y ∷ ys) one h k e = let differ : [] ≡ f y ∷ map f ys = e in absurd cc
 map_one f P (x ∷ xs) [] one h k e = let differ : f x ∷ map f xs ≡ [] = e in absurd cc
@@ -136,85 +168,151 @@ map_one f P (x ∷ xs) (y ∷ ys) one h k e =
 abbrev Same : (X : Type 0) → X → X → Type 0
 Same X x y = x ≡ y
 
-fd_made : (process fd driver minor process2 fd2 driver2 minor2 : ℕ) → process ≡ process2 → fd ≡ fd2 → driver ≡ driver2 → minor ≡ minor2
-    → Same Descriptor (record { process = process; fd = fd; stream = record { driver = driver; minor = minor } }) (record { process = process2; fd = fd2; stream = record { driver = driver2; minor = minor2 } })
+fd_made : (process fd driver minor process2 fd2 driver2 minor2 : ℕ) → process ≡ process2 → fd ≡ fd2 → driver ≡ driver2
+    → minor ≡ minor2
+    → Same Descriptor (record { process = process; fd = fd; stream = record { driver = driver; minor = minor } })
+    (record { process = process2; fd = fd2; stream = record { driver = driver2; minor = minor2 } })
 fd_made process fd driver minor process2 fd2 driver2 minor2 e f g h = cc
 
-link_made : (id upper ctl lower below : ℕ) (k : LinkKind) (id2 upper2 ctl2 lower2 below2 : ℕ) (k2 : LinkKind) → id ≡ id2 → upper ≡ upper2 → ctl ≡ ctl2 → lower ≡ lower2 → below ≡ below2 → k ≡ k2
-    → Same Link (record { id = id; ctl = record { driver = upper; minor = ctl }; lower = record { driver = lower; minor = below }; kind = k }) (record { id = id2; ctl = record { driver = upper2; minor = ctl2 }; lower = record { driver = lower2; minor = below2 }; kind = k2 })
+link_made : (id upper ctl lower below : ℕ) (k : LinkKind) (id2 upper2 ctl2 lower2 below2 : ℕ) (k2 : LinkKind) → id ≡ id2
+    → upper ≡ upper2 → ctl ≡ ctl2 → lower ≡ lower2 → below ≡ below2 → k ≡ k2
+    → Same Link
+    (record {
+      id = id;
+      ctl = record { driver = upper; minor = ctl };
+      lower = record { driver = lower; minor = below };
+      kind = k;
+    }) (record {
+      id = id2;
+      ctl =
+          record { driver = upper2; minor = ctl2 };
+      lower = record { driver = lower2; minor = below2 };
+      kind = k2;
+    })
 link_made id upper ctl lower below k id2 upper2 ctl2 lower2 below2 k2 e1 e2 e3 e4 e5 e6 = cc
 
 bind_made : (driver addr minor driver2 addr2 minor2 : ℕ) → driver ≡ driver2 → addr ≡ addr2 → minor ≡ minor2
-    → Same Binding (record { driver = driver; addr = addr; minor = minor }) (record { driver = driver2; addr = addr2; minor = minor2 })
+    → Same Binding (record { driver = driver; addr = addr; minor = minor })
+    (record { driver = driver2; addr = addr2; minor = minor2 })
 bind_made driver addr minor driver2 addr2 minor2 e f g = cc
 
 route_made : (driver addr id driver2 addr2 id2 : ℕ) → driver ≡ driver2 → addr ≡ addr2 → id ≡ id2
-    → Same Route (record { driver = driver; addr = addr; id = id }) (record { driver = driver2; addr = addr2; id = id2 })
+    → Same Route (record { driver = driver; addr = addr; id = id })
+    (record { driver = driver2; addr = addr2; id = id2 })
 route_made driver addr id driver2 addr2 id2 e f g = cc
 
 place_made : (driver minor : ℕ) (s : Side) (driver2 minor2 : ℕ) (s2 : Side) → driver ≡ driver2 → minor ≡ minor2 → s ≡ s2
-    → Same Place (record { stream = record { driver = driver; minor = minor }; side = s }) (record { stream = record { driver = driver2; minor = minor2 }; side = s2 })
+    → Same Place (record { stream = record { driver = driver; minor = minor }; side = s })
+    (record { stream = record { driver = driver2; minor = minor2 }; side = s2 })
 place_made driver minor s driver2 minor2 s2 e f g = cc
 
-held_made : (p : Place) (m : Message) (p2 : Place) (m2 : Message) → p ≡ p2 → m ≡ m2 → Same QueuedMessage (record { place = p; message = m }) (record { place = p2; message = m2 })
+held_made : (p : Place) (m : Message) (p2 : Place) (m2 : Message) → p ≡ p2 → m ≡ m2
+    → Same QueuedMessage (record { place = p; message = m }) (record { place = p2; message = m2 })
 held_made p m p2 m2 e f = cc
 
-abbrev configuration : List Descriptor → List Link → ℕ → List Binding → List Route → List QueuedMessage → List Place → ℕ → List StreamId → Configuration
-configuration fds links id binds routes flow fulls serial hungs = record { fds = fds; links = links; next_id = id; binds = binds; routes = routes; flow = flow; fulls = fulls; next_serial = serial; hungs = hungs }
+abbrev configuration : List Descriptor → List Link → ℕ → List Binding → List Route → List QueuedMessage → List Place → ℕ
+    → List StreamId → Configuration
+configuration fds links id binds routes flow fulls serial hungs = record {
+  fds = fds;
+  links = links;
+  next_id = id;
+  binds = binds;
+  routes = routes;
+  flow = flow;
+  fulls = fulls;
+  next_serial = serial;
+  hungs = hungs;
+}
 
-configuration_made : (fds fds2 : List Descriptor) (links links2 : List Link) (id id2 : ℕ) (binds binds2 : List Binding) (routes routes2 : List Route) (flow flow2 : List QueuedMessage) (fulls fulls2 : List Place) (serial serial2 : ℕ) (hungs hungs2 : List StreamId)
-    → fds ≡ fds2 → links ≡ links2 → id ≡ id2 → binds ≡ binds2 → routes ≡ routes2 → flow ≡ flow2 → fulls ≡ fulls2 → serial ≡ serial2 → hungs ≡ hungs2
-    → configuration fds links id binds routes flow fulls serial hungs ≡ configuration fds2 links2 id2 binds2 routes2 flow2 fulls2 serial2 hungs2
-configuration_made fds fds2 links links2 id id2 binds binds2 routes routes2 flow flow2 fulls fulls2 serial serial2 hungs hungs2 e1 e2 e3 e4 e5 e6 e7 e8 e9 = cc
+configuration_made : (fds fds2 : List Descriptor) (links links2 : List Link) (id id2 : ℕ) (binds binds2 : List Binding)
+    (routes routes2 : List Route) (flow flow2 : List QueuedMessage) (fulls fulls2 : List Place) (serial serial2 : ℕ)
+    (hungs hungs2 : List StreamId)
+    → fds ≡ fds2 → links ≡ links2 → id ≡ id2 → binds ≡ binds2 → routes ≡ routes2 → flow ≡ flow2 → fulls ≡ fulls2
+    → serial ≡ serial2 → hungs ≡ hungs2
+    → configuration fds links id binds routes flow fulls serial hungs
+    ≡ configuration fds2 links2 id2 binds2 routes2 flow2 fulls2 serial2 hungs2
+configuration_made fds fds2 links links2 id id2 binds binds2 routes routes2 flow flow2 fulls fulls2 serial serial2 hungs
+    hungs2 e1 e2 e3 e4 e5 e6 e7 e8 e9 = cc
 
-one_fd : (drivers : List DriverSpec) → IsDriverList drivers → (d e : Descriptor) → IsKnown drivers d.stream → IsKnown drivers e.stream → view_of_fd drivers d ≡ view_of_fd drivers e → d ≡ e
-one_fd drivers h d e lt lt2 k = fd_made d.process d.fd d.stream.driver d.stream.minor e.process e.fd e.stream.driver e.stream.minor
+one_fd : (drivers : List DriverSpec) → IsDriverList drivers → (d e : Descriptor) → IsKnown drivers d.stream
+    → IsKnown drivers e.stream → view_of_fd drivers d ≡ view_of_fd drivers e → d ≡ e
+one_fd drivers h d e lt lt2 k =
+    fd_made d.process d.fd d.stream.driver d.stream.minor e.process e.fd e.stream.driver e.stream.minor
     (ap (λ (l : DescriptorLine). l.process) k) (ap (λ (l : DescriptorLine). l.fd) k)
-    (one_number drivers d.stream.driver e.stream.driver h lt.0 lt2.0 (ap (λ (l : DescriptorLine). l.driver) k)) (ap (λ (l : DescriptorLine). l.minor) k)
+    (one_number drivers d.stream.driver e.stream.driver h lt.0 lt2.0 (ap (λ (l : DescriptorLine). l.driver) k))
+    (ap (λ (l : DescriptorLine). l.minor) k)
 
-one_link : (drivers : List DriverSpec) → IsDriverList drivers → (l m : Link) → IsKnown drivers l.ctl × IsKnown drivers l.lower → IsKnown drivers m.ctl × IsKnown drivers m.lower
+one_link : (drivers : List DriverSpec) → IsDriverList drivers → (l m : Link)
+    → IsKnown drivers l.ctl × IsKnown drivers l.lower → IsKnown drivers m.ctl × IsKnown drivers m.lower
     → view_of_link drivers l ≡ view_of_link drivers m → l ≡ m
-one_link drivers h l m lt lt2 k = link_made l.id l.ctl.driver l.ctl.minor l.lower.driver l.lower.minor l.kind m.id m.ctl.driver m.ctl.minor m.lower.driver m.lower.minor m.kind
+one_link drivers h l m lt lt2 k = link_made l.id l.ctl.driver l.ctl.minor l.lower.driver l.lower.minor l.kind m.id
+    m.ctl.driver m.ctl.minor m.lower.driver m.lower.minor m.kind
     (ap (λ (x : LinkLine). x.id) k)
-    (one_number drivers l.ctl.driver m.ctl.driver h lt.0.0 lt2.0.0 (ap (λ (x : LinkLine). x.ctl_driver) k)) (ap (λ (x : LinkLine). x.ctl_minor) k)
-    (one_number drivers l.lower.driver m.lower.driver h lt.1.0 lt2.1.0 (ap (λ (x : LinkLine). x.lower_driver) k)) (ap (λ (x : LinkLine). x.lower_minor) k)
+    (one_number drivers l.ctl.driver m.ctl.driver h lt.0.0 lt2.0.0 (ap (λ (x : LinkLine). x.ctl_driver) k))
+    (ap (λ (x : LinkLine). x.ctl_minor) k)
+    (one_number drivers l.lower.driver m.lower.driver h lt.1.0 lt2.1.0 (ap (λ (x : LinkLine). x.lower_driver) k))
+    (ap (λ (x : LinkLine). x.lower_minor) k)
     (ap (λ (x : LinkLine). x.kind) k)
 
-one_bind : (drivers : List DriverSpec) → IsDriverList drivers → (b c : Binding) → IsKnown drivers (record { driver = b.driver; minor = b.minor }) → IsKnown drivers (record { driver = c.driver; minor = c.minor }) → view_of_bind drivers b ≡ view_of_bind drivers c → b ≡ c
+one_bind : (drivers : List DriverSpec) → IsDriverList drivers → (b c : Binding)
+    → IsKnown drivers (record { driver = b.driver; minor = b.minor })
+    → IsKnown drivers (record { driver = c.driver; minor = c.minor }) → view_of_bind drivers b ≡ view_of_bind drivers c
+    → b ≡ c
 one_bind drivers h b c lt lt2 k = bind_made b.driver b.addr b.minor c.driver c.addr c.minor
-    (one_number drivers b.driver c.driver h lt.0 lt2.0 (ap (λ (l : BindingLine). l.driver) k)) (ap (λ (l : BindingLine). l.addr) k) (ap (λ (l : BindingLine). l.minor) k)
+    (one_number drivers b.driver c.driver h lt.0 lt2.0 (ap (λ (l : BindingLine). l.driver) k))
+    (ap (λ (l : BindingLine). l.addr) k) (ap (λ (l : BindingLine). l.minor) k)
 
-one_route : (drivers : List DriverSpec) → IsDriverList drivers → (r s : Route) → r.driver < length drivers → s.driver < length drivers → view_of_route drivers r ≡ view_of_route drivers s → r ≡ s
+one_route : (drivers : List DriverSpec) → IsDriverList drivers → (r s : Route) → r.driver < length drivers
+    → s.driver < length drivers → view_of_route drivers r ≡ view_of_route drivers s → r ≡ s
 one_route drivers h r s lt lt2 k = route_made r.driver r.addr r.id s.driver s.addr s.id
-    (one_number drivers r.driver s.driver h lt lt2 (ap (λ (l : RouteLine). l.driver) k)) (ap (λ (l : RouteLine). l.addr) k) (ap (λ (l : RouteLine). l.id) k)
+    (one_number drivers r.driver s.driver h lt lt2 (ap (λ (l : RouteLine). l.driver) k))
+    (ap (λ (l : RouteLine). l.addr) k) (ap (λ (l : RouteLine). l.id) k)
 
-one_full : (drivers : List DriverSpec) → IsDriverList drivers → (p q : Place) → IsKnown drivers p.stream → IsKnown drivers q.stream → view_of_full drivers p ≡ view_of_full drivers q → p ≡ q
+one_full : (drivers : List DriverSpec) → IsDriverList drivers → (p q : Place) → IsKnown drivers p.stream
+    → IsKnown drivers q.stream → view_of_full drivers p ≡ view_of_full drivers q → p ≡ q
 one_full drivers h p q lt lt2 k = place_made p.stream.driver p.stream.minor p.side q.stream.driver q.stream.minor q.side
-    (one_number drivers p.stream.driver q.stream.driver h lt.0 lt2.0 (ap (λ (l : FullLine). l.driver) k)) (ap (λ (l : FullLine). l.minor) k) (ap (λ (l : FullLine). l.side) k)
+    (one_number drivers p.stream.driver q.stream.driver h lt.0 lt2.0 (ap (λ (l : FullLine). l.driver) k))
+    (ap (λ (l : FullLine). l.minor) k) (ap (λ (l : FullLine). l.side) k)
 
-stream_made : (driver minor driver2 minor2 : ℕ) → driver ≡ driver2 → minor ≡ minor2 → Same StreamId (record { driver = driver; minor = minor }) (record { driver = driver2; minor = minor2 })
+stream_made : (driver minor driver2 minor2 : ℕ) → driver ≡ driver2 → minor ≡ minor2
+    → Same StreamId (record { driver = driver; minor = minor }) (record { driver = driver2; minor = minor2 })
 stream_made driver minor driver2 minor2 e f = cc
 
-one_hung : (drivers : List DriverSpec) → IsDriverList drivers → (s t : StreamId) → IsKnown drivers s → IsKnown drivers t → view_of_hung drivers s ≡ view_of_hung drivers t → s ≡ t
+one_hung : (drivers : List DriverSpec) → IsDriverList drivers → (s t : StreamId) → IsKnown drivers s → IsKnown drivers t
+    → view_of_hung drivers s ≡ view_of_hung drivers t → s ≡ t
 one_hung drivers h s t lt lt2 k = stream_made s.driver s.minor t.driver t.minor
-    (one_number drivers s.driver t.driver h lt.0 lt2.0 (ap (λ (l : HungLine). l.driver) k)) (ap (λ (l : HungLine). l.minor) k)
+    (one_number drivers s.driver t.driver h lt.0 lt2.0 (ap (λ (l : HungLine). l.driver) k))
+    (ap (λ (l : HungLine). l.minor) k)
 
-one_held : (drivers : List DriverSpec) → IsDriverList drivers → (x y : QueuedMessage) → IsKnown drivers x.place.stream → IsKnown drivers y.place.stream → view_of_message drivers x ≡ view_of_message drivers y → x ≡ y
+one_held : (drivers : List DriverSpec) → IsDriverList drivers → (x y : QueuedMessage) → IsKnown drivers x.place.stream
+    → IsKnown drivers y.place.stream → view_of_message drivers x ≡ view_of_message drivers y → x ≡ y
 one_held drivers h x y lt lt2 k = held_made x.place x.message y.place y.message
-    (place_made x.place.stream.driver x.place.stream.minor x.place.side y.place.stream.driver y.place.stream.minor y.place.side
-    (one_number drivers x.place.stream.driver y.place.stream.driver h lt.0 lt2.0 (ap (λ (l : MessageLine). l.driver) k)) (ap (λ (l : MessageLine). l.minor) k) (ap (λ (l : MessageLine). l.side) k))
+    (place_made x.place.stream.driver x.place.stream.minor x.place.side y.place.stream.driver y.place.stream.minor
+    y.place.side
+    (one_number drivers x.place.stream.driver y.place.stream.driver h lt.0 lt2.0 (ap (λ (l : MessageLine). l.driver) k))
+    (ap (λ (l : MessageLine). l.minor) k) (ap (λ (l : MessageLine). l.side) k))
     (ap (λ (l : MessageLine). l.message) k)
 
 -- ---- and the view that of one configuration
 
-pub one_configuration : (drivers : List DriverSpec) (c d : Configuration) → IsDriverList drivers → EachKnown drivers c → EachKnown drivers d → view drivers c ≡ view drivers d → c ≡ d
-one_configuration drivers c d h kc kd e = configuration_made c.fds d.fds c.links d.links c.next_id d.next_id c.binds d.binds c.routes d.routes c.flow d.flow c.fulls d.fulls c.next_serial d.next_serial c.hungs d.hungs
-    (map_one (view_of_fd drivers) (λ x. IsKnown drivers x.stream) c.fds d.fds (one_fd drivers h) kc.fds kd.fds (ap (λ (v : ConfigView). v.fds) e))
-    (map_one (view_of_link drivers) (λ x. IsKnown drivers x.ctl × IsKnown drivers x.lower) c.links d.links (one_link drivers h) kc.links kd.links (ap (λ (v : ConfigView). v.links) e))
+-- configurations of known streams that have one view, over drivers that can be had, are the same
+pub one_configuration : (drivers : List DriverSpec) (c d : Configuration) → IsDriverList drivers → EachKnown drivers c
+    → EachKnown drivers d → view drivers c ≡ view drivers d → c ≡ d
+one_configuration drivers c d h kc kd e = configuration_made c.fds d.fds c.links d.links c.next_id d.next_id c.binds
+    d.binds c.routes d.routes c.flow d.flow c.fulls d.fulls c.next_serial d.next_serial c.hungs d.hungs
+    (map_one (view_of_fd drivers) (λ x. IsKnown drivers x.stream) c.fds d.fds (one_fd drivers h) kc.fds kd.fds
+    (ap (λ (v : ConfigView). v.fds) e))
+    (map_one (view_of_link drivers) (λ x. IsKnown drivers x.ctl × IsKnown drivers x.lower) c.links d.links
+    (one_link drivers h) kc.links kd.links (ap (λ (v : ConfigView). v.links) e))
     (ap (λ (v : ConfigView). v.next_id) e)
-    (map_one (view_of_bind drivers) (λ x. IsKnown drivers (record { driver = x.driver; minor = x.minor })) c.binds d.binds (one_bind drivers h) kc.binds kd.binds (ap (λ (v : ConfigView). v.binds) e))
-    (map_one (view_of_route drivers) (λ x. x.driver < length drivers) c.routes d.routes (one_route drivers h) kc.routes kd.routes (ap (λ (v : ConfigView). v.routes) e))
-    (map_one (view_of_message drivers) (λ x. IsKnown drivers x.place.stream) c.flow d.flow (one_held drivers h) kc.flow kd.flow (ap (λ (v : ConfigView). v.msgs) e))
-    (map_one (view_of_full drivers) (λ x. IsKnown drivers x.stream) c.fulls d.fulls (one_full drivers h) kc.fulls kd.fulls (ap (λ (v : ConfigView). v.fulls) e))
+    (map_one (view_of_bind drivers) (λ x. IsKnown drivers (record { driver = x.driver; minor = x.minor })) c.binds
+    d.binds (one_bind drivers h) kc.binds kd.binds (ap (λ (v : ConfigView). v.binds) e))
+    (map_one (view_of_route drivers) (λ x. x.driver < length drivers) c.routes d.routes
+    (one_route drivers h) kc.routes kd.routes (ap (λ (v : ConfigView). v.routes) e))
+    (map_one (view_of_message drivers) (λ x. IsKnown drivers x.place.stream) c.flow d.flow
+    (one_held drivers h) kc.flow kd.flow (ap (λ (v : ConfigView). v.msgs) e))
+    (map_one (view_of_full drivers) (λ x. IsKnown drivers x.stream) c.fulls d.fulls
+    (one_full drivers h) kc.fulls kd.fulls (ap (λ (v : ConfigView). v.fulls) e))
     (ap (λ (v : ConfigView). v.next_serial) e)
-    (map_one (view_of_hung drivers) (λ x. IsKnown drivers x) c.hungs d.hungs (one_hung drivers h) kc.hungs kd.hungs (ap (λ (v : ConfigView). v.hungs) e))
+    (map_one (view_of_hung drivers) (λ x. IsKnown drivers x) c.hungs d.hungs (one_hung drivers h) kc.hungs kd.hungs
+    (ap (λ (v : ConfigView). v.hungs) e))

@@ -1,5 +1,6 @@
 -- Waiting, and what keeps a place waiting.
-use Rattle.std.proofs.Common.{◌≡◌, ℕ, Bool, true, false, ◌&&◌, ◌||◌, not, List, [], ◌∷◌, ◌++◌, Option, Some, None, refl, sym, ap, ◌∙◌, subst, inl, inr}
+use Rattle.std.proofs.Common.{◌≡◌, ℕ, Bool, true, false, ◌&&◌, ◌||◌, not, List, [], ◌∷◌, ◌++◌, Option, Some, None, refl}
+use Rattle.std.proofs.Common.{sym, ap, ◌∙◌, subst, inl, inr}
 use mathlib.Core.Logic.{◌⊎◌}
 use Rattle.std.specs.Option.{is_some}
 use Rattle.std.specs.Prelude.{slice_get, if◌then◌else◌}
@@ -15,7 +16,8 @@ use Rattle.smx_model.specs.DriverList.{is_mux}
 use Rattle.smx_model.specs.FlowOrder.{IsInOrder}
 use Rattle.smx_model.specs.Ordered.{with_inserted, without_first}
 use Rattle.smx_model.specs.Queues.{first_message, is_full, queue}
-use Rattle.smx_model.specs.RunMarks.{AreMarked, all_but, both, is_held_up, is_next_of_first, is_one_of, is_waiting, next_of, next_of_first}
+use Rattle.smx_model.specs.RunMarks.{AreMarked, all_but, both, is_held_up, is_next_of_first, is_one_of, is_waiting}
+use Rattle.smx_model.specs.RunMarks.{next_of, next_of_first}
 use Rattle.smx_model.specs.Settling.{◌>>=◌, is_movable, next_place, place_above, place_below}
 use Rattle.smx_model.proofs.OrderLemmas.{same_self}
 use Rattle.smx_model.proofs.QueueLemmas.{arrived_queue, left_queue, front_is}
@@ -23,10 +25,13 @@ use Rattle.smx_model.proofs.SettlingLemmas.{same_place_is}
 
 -- the next place by the stream and the side
 abbrev pub next_by : List DriverSpec → Configuration → StreamId → ℕ → Side → Option Place
-next_by drivers c s addr side.Write = if is_mux drivers s.driver then place_below c.links c.routes c.hungs s.driver addr else None
+next_by drivers c s addr side.Write =
+    if is_mux drivers s.driver then place_below c.links c.routes c.hungs s.driver addr else None
 next_by drivers c s addr side.Read = place_above c.links c.binds s addr
 
-pub next_is : (drivers : List DriverSpec) (c : Configuration) (p : Place) (addr : ℕ) → next_place drivers c p addr ≡ next_by drivers c p.stream addr p.side
+-- the next place from a place is the one from its stream and its side
+pub next_is : (drivers : List DriverSpec) (c : Configuration) (p : Place) (addr : ℕ)
+    → next_place drivers c p addr ≡ next_by drivers c p.stream addr p.side
 next_is drivers c p addr = by p.side refl
   where
     by : (x : Side) → p.side ≡ x → next_place drivers c p addr ≡ next_by drivers c p.stream addr p.side
@@ -34,30 +39,38 @@ next_is drivers c p addr = by p.side refl
     by side.Read e = rw e refl
 
 -- what waits goes on to wait, where it goes next to the same place or nowhere, and that stays full and wanted
-pub keeps_by : (c d : Configuration) (v w : Place → Bool) (o n : Option Place) → (n ≡ o) ⊎ (n ≡ None) → ((q : Place) → o ≡ Some q → (is_full c q && v q) ≡ true → (is_full d q && w q) ≡ true) → is_held_up c v o ≡ true → is_held_up d w n ≡ true
+pub keeps_by : (c d : Configuration) (v w : Place → Bool) (o n : Option Place) → (n ≡ o) ⊎ (n ≡ None)
+    → ((q : Place) → o ≡ Some q → (is_full c q && v q) ≡ true → (is_full d q && w q) ≡ true) → is_held_up c v o ≡ true
+    → is_held_up d w n ≡ true
 keeps_by c d v w None n (inl e) f h = rw e refl
 keeps_by c d v w None n (inr e) f h = rw e refl
 keeps_by c d v w (Some q) n (inl e) f h = rw e (f q refl h)
 keeps_by c d v w (Some q) n (inr e) f h = rw e refl
 
-next_same : (drivers : List DriverSpec) (c d : Configuration) (s : StreamId) (addr : ℕ) (x : Side) → d.links ≡ c.links → d.routes ≡ c.routes → d.binds ≡ c.binds → d.hungs ≡ c.hungs → next_by drivers d s addr x ≡ next_by drivers c s addr x
+next_same : (drivers : List DriverSpec) (c d : Configuration) (s : StreamId) (addr : ℕ) (x : Side) → d.links ≡ c.links
+    → d.routes ≡ c.routes → d.binds ≡ c.binds → d.hungs ≡ c.hungs
+    → next_by drivers d s addr x ≡ next_by drivers c s addr x
 next_same drivers c d s addr side.Write l r b u = rw (l, r, u) refl
 next_same drivers c d s addr side.Read l r b u = rw (l, b) refl
 
 -- with the same links, routes, bindings and hung-up streams, a first message that stays goes where it went
-pub next_of_same : (drivers : List DriverSpec) (c d : Configuration) (p : Place) → d.links ≡ c.links → d.routes ≡ c.routes → d.binds ≡ c.binds → d.hungs ≡ c.hungs → first_message d.flow p ≡ first_message c.flow p → next_of_first drivers d p ≡ next_of_first drivers c p
+pub next_of_same : (drivers : List DriverSpec) (c d : Configuration) (p : Place) → d.links ≡ c.links
+    → d.routes ≡ c.routes → d.binds ≡ c.binds → d.hungs ≡ c.hungs → first_message d.flow p ≡ first_message c.flow p
+    → next_of_first drivers d p ≡ next_of_first drivers c p
 next_of_same drivers c d p l r b u f = rw f (by (first_message c.flow p))
   where
     by : (o : Option Message) → next_of drivers d p o ≡ next_of drivers c p o
     by None = refl
     by (Some m) =
-        next_is drivers d p m.addr ∙ next_same drivers c d p.stream m.addr p.side l r b u ∙ sym (next_is drivers c p m.addr)
+        next_is drivers d p m.addr ∙ next_same drivers c d p.stream m.addr p.side l r b u
+        ∙ sym (next_is drivers c p m.addr)
 
 -- a place, unless it is full
 abbrev pub if_open : Configuration → Option Place → Option Place
 if_open c o = o >>= (λ q. if is_full c q then None else Some q)
 
-waits_now : (c : Configuration) (wanted : Place → Bool) (o : Option Place) → is_some (if_open c o) ≡ false → is_held_up c (both wanted (λ q. is_one_of (λ x. same_place x q) o)) o ≡ true
+waits_now : (c : Configuration) (wanted : Place → Bool) (o : Option Place) → is_some (if_open c o) ≡ false
+    → is_held_up c (both wanted (λ q. is_one_of (λ x. same_place x q) o)) o ≡ true
 waits_now c wanted None h = refl
 waits_now c wanted (Some q) h = elim (cases_Bool (is_full c q)) [
   | inl t ↦ rw (t, same_self q) (by (wanted q))
@@ -68,28 +81,38 @@ waits_now c wanted (Some q) h = elim (cases_Bool (is_full c q)) [
     by true = refl
     by false = refl
 
-pub movable_by : (drivers : List DriverSpec) (c : Configuration) (p : Place) → is_movable drivers c p ≡ is_some (if_open c (next_of_first drivers c p))
+-- a place is movable just where its first message has a next place that isn't full
+pub movable_by : (drivers : List DriverSpec) (c : Configuration) (p : Place)
+    → is_movable drivers c p ≡ is_some (if_open c (next_of_first drivers c p))
 movable_by drivers c p = by (first_message c.flow p) refl
   where
-    by : (o : Option Message) → first_message c.flow p ≡ o → is_movable drivers c p ≡ is_some (if_open c (next_of_first drivers c p))
+    by : (o : Option Message) → first_message c.flow p ≡ o
+        → is_movable drivers c p ≡ is_some (if_open c (next_of_first drivers c p))
     by None e = rw e refl
     by (Some m) e = rw e refl
 
-waits_not_open : (c : Configuration) (wanted : Place → Bool) (o : Option Place) → is_held_up c wanted o ≡ true → is_some (if_open c o) ≡ false
+waits_not_open : (c : Configuration) (wanted : Place → Bool) (o : Option Place) → is_held_up c wanted o ≡ true
+    → is_some (if_open c o) ≡ false
 waits_not_open c wanted None h = refl
 waits_not_open c wanted (Some q) h = rw (and_parts (is_full c q) (wanted q) h).0 refl
 
 -- a place that waits isn't movable
-pub waiting_stays : (drivers : List DriverSpec) (c : Configuration) (wanted : Place → Bool) (p : Place) → is_waiting drivers c wanted p ≡ true → is_movable drivers c p ≡ false
+pub waiting_stays : (drivers : List DriverSpec) (c : Configuration) (wanted : Place → Bool) (p : Place)
+    → is_waiting drivers c wanted p ≡ true → is_movable drivers c p ≡ false
 waiting_stays drivers c wanted p h = movable_by drivers c p ∙ waits_not_open c wanted (next_of_first drivers c p) h
 
 -- the mark of a place that isn't movable is cleared
-pub cleared : (drivers : List DriverSpec) (c : Configuration) (run wanted : Place → Bool) (p : Place) → AreMarked drivers c run wanted → is_movable drivers c p ≡ false → AreMarked drivers c (all_but run p) (both wanted (is_next_of_first drivers c p))
+pub cleared : (drivers : List DriverSpec) (c : Configuration) (run wanted : Place → Bool) (p : Place)
+    → AreMarked drivers c run wanted → is_movable drivers c p ≡ false
+    → AreMarked drivers c (all_but run p) (both wanted (is_next_of_first drivers c p))
 cleared drivers c run wanted p h stuck r unmarked = elim (cases_Bool (same_place p r)) [
-  | inl t ↦ subst (λ (x : Place). is_waiting drivers c (both wanted (is_next_of_first drivers c p)) x ≡ true) (same_place_is p r t) (waits_now c wanted (next_of_first drivers c p) (sym (movable_by drivers c p) ∙ stuck))
+  | inl t ↦ subst (λ (x : Place). is_waiting drivers c (both wanted (is_next_of_first drivers c p)) x ≡ true)
+      (same_place_is p r t) (waits_now c wanted (next_of_first drivers c p) (sym (movable_by drivers c p) ∙ stuck))
   | inr f ↦
       let k : (run r && not false) ≡ false = rw f at unmarked in
-      keeps_by c c wanted (both wanted (is_next_of_first drivers c p)) (next_of_first drivers c r) (next_of_first drivers c r) (inl refl) (λ q e g. let a = and_parts (is_full c q) (wanted q) g in and_from _ _ a.0 (or_left _ _ a.1)) (h r (by (run r) k))
+      keeps_by c c wanted (both wanted (is_next_of_first drivers c p)) (next_of_first drivers c r)
+      (next_of_first drivers c r) (inl refl) (λ q e g. let a = and_parts (is_full c q) (wanted q) g in
+      and_from _ _ a.0 (or_left _ _ a.1)) (h r (by (run r) k))
 ]
   where
     by : (b : Bool) → (b && not false) ≡ false → b ≡ false
@@ -97,20 +120,26 @@ cleared drivers c run wanted p h stuck r unmarked = elim (cases_Bool (same_place
     by false e = refl
 
 -- where the first message of one place leaves, that of another stays
-pub first_left : (flow : List QueuedMessage) (p r : Place) → same_place p r ≡ false → first_message (without_first (is_at p) flow) r ≡ first_message flow r
+pub first_left : (flow : List QueuedMessage) (p r : Place) → same_place p r ≡ false
+    → first_message (without_first (is_at p) flow) r ≡ first_message flow r
 first_left flow p r f =
-    front_is (without_first (is_at p) flow) r ∙ (ap (λ (ms : List Message). slice_get ms 0) (left_queue flow p r ∙ rw f refl) ∙ sym (front_is flow r))
+    front_is (without_first (is_at p) flow) r
+    ∙ (ap (λ (ms : List Message). slice_get ms 0) (left_queue flow p r ∙ rw f refl) ∙ sym (front_is flow r))
 
-first_stays : (ms : List Message) (m : Message) → is_some (slice_get ms 0) ≡ true → slice_get (ms ++ m ∷ []) 0 ≡ slice_get ms 0
+first_stays : (ms : List Message) (m : Message) → is_some (slice_get ms 0) ≡ true
+    → slice_get (ms ++ m ∷ []) 0 ≡ slice_get ms 0
 first_stays [] m h = absurd (false≢true h)
 first_stays (k ∷ ks) m h = refl
 
 -- where a message arrives, each first message stays
-pub first_arrived : (flow : List QueuedMessage) (q r : Place) (m : Message) → IsInOrder flow → (same_place q r && not (is_some (first_message flow q))) ≡ false → first_message (with_inserted queued_before flow (record { place = q; message = m })) r ≡ first_message flow r
+pub first_arrived : (flow : List QueuedMessage) (q r : Place) (m : Message) → IsInOrder flow
+    → (same_place q r && not (is_some (first_message flow q))) ≡ false
+    → first_message (with_inserted queued_before flow (record { place = q; message = m })) r ≡ first_message flow r
 first_arrived flow q r m o asleep =
     front_is (with_inserted queued_before flow (record { place = q; message = m })) r
     ∙ (elim (cases_Bool (same_place q r)) [
-      | inl t ↦ ap (λ (ms : List Message). slice_get ms 0) (arrived_queue flow q r m o ∙ rw t refl) ∙ first_stays (queue flow r) m (some r (same_place_is q r t) t asleep)
+      | inl t ↦ ap (λ (ms : List Message). slice_get ms 0) (arrived_queue flow q r m o ∙ rw t refl)
+          ∙ first_stays (queue flow r) m (some r (same_place_is q r t) t asleep)
       | inr f ↦ ap (λ (ms : List Message). slice_get ms 0) (arrived_queue flow q r m o ∙ rw f refl)
     ]
     ∙ sym (front_is flow r))
@@ -119,7 +148,9 @@ first_arrived flow q r m o asleep =
     not_not true h = refl
     not_not false h = sym h
 
-    some : (r : Place) → q ≡ r → same_place q r ≡ true → (same_place q r && not (is_some (first_message flow q))) ≡ false → is_some (slice_get (queue flow r) 0) ≡ true
+    some : (r : Place) → q ≡ r → same_place q r ≡ true
+        → (same_place q r && not (is_some (first_message flow q))) ≡ false → is_some (slice_get (queue flow r) 0) ≡ true
     some r e t a =
         let k : (true && not (is_some (first_message flow q))) ≡ false = rw t at a in
-        sym (ap is_some (front_is flow r)) ∙ (sym (ap (λ (x : Place). is_some (first_message flow x)) e) ∙ not_not (is_some (first_message flow q)) k)
+        sym (ap is_some (front_is flow r))
+        ∙ (sym (ap (λ (x : Place). is_some (first_message flow x)) e) ∙ not_not (is_some (first_message flow q)) k)

@@ -1,5 +1,6 @@
 -- The command table: for each command its refusals in order, a line each, and what it does if accepted.
-use Rattle.std.specs.Prelude.{ℕ, ◌+◌, Bool, true, ◌&&◌, ◌||◌, not, ◌==◌, nat_lt, nat_le, if◌then◌else◌, List, [], ◌∷◌, ◌++◌, length, filter, Ok, Err}
+use Rattle.std.specs.Prelude.{ℕ, ◌+◌, Bool, true, ◌&&◌, ◌||◌, not, ◌==◌, nat_lt, nat_le, if◌then◌else◌, List, [], ◌∷◌}
+use Rattle.std.specs.Prelude.{◌++◌, length, filter, Ok, Err}
 use Rattle.std.specs.List.{list_any}
 use Rattle.std.specs.Option.{is_some}
 use Rattle.smx_types.specs.declared.command.Command.{Command}
@@ -13,17 +14,21 @@ use Rattle.smx_types.specs.declared.limits.TheConstants.{MAX_LINKS, NUMBER_END}
 use Rattle.smx_types.specs.declared.link.Link.{Link}
 use Rattle.smx_types.specs.declared.link.LinkKind.{LinkKind}
 use Rattle.smx_types.specs.declared.link.LinkKind.TheVariants as kind
-use Rattle.smx_types.specs.declared.reply.Fault.TheVariants.{Below, NotMux, AlreadyBelow, Cycle, TooManyLinks, NoLink, NoMinor, AddressInUse, Unbound, Unrouted, Full, Empty, BadSize, HungUp}
+use Rattle.smx_types.specs.declared.reply.Fault.TheVariants.{Below, NotMux, AlreadyBelow, Cycle, TooManyLinks, NoLink}
+use Rattle.smx_types.specs.declared.reply.Fault.TheVariants.{NoMinor, AddressInUse, Unbound, Unrouted, Full, Empty}
+use Rattle.smx_types.specs.declared.reply.Fault.TheVariants.{BadSize, HungUp}
 use Rattle.smx_types.specs.declared.reply.Reply.{Reply}
 use Rattle.smx_types.specs.declared.reply.Reply.TheVariants as reply
 use Rattle.smx_types.specs.declared.stream.Place.{Place}
 use Rattle.smx_types.specs.declared.stream.Side.{Side}
 use Rattle.smx_types.specs.declared.stream.Side.TheVariants as side
 use Rattle.smx_types.specs.declared.stream.StreamId.{StreamId}
-use Rattle.smx_model.specs.Configuration.{Configuration, same_stream, same_side, fd_before, bind_before, route_before, is_fd}
+use Rattle.smx_model.specs.Configuration.{Configuration, same_stream, same_side, fd_before, bind_before, route_before}
+use Rattle.smx_model.specs.Configuration.{is_fd}
 use Rattle.smx_model.specs.DriverList.{is_mux, minors_of, max_of}
 use Rattle.smx_model.specs.Hangups.{is_hung, with_hung}
-use Rattle.smx_model.specs.Lookups.{driver_of, stream_of, free_fd, free_minor, free_stream, live_stream, mux_stream, leaf_stream, live_leaf}
+use Rattle.smx_model.specs.Lookups.{driver_of, stream_of, free_fd, free_minor, free_stream, live_stream, mux_stream}
+use Rattle.smx_model.specs.Lookups.{leaf_stream, live_leaf}
 use Rattle.smx_model.specs.Ordered.{with_inserted}
 use Rattle.smx_model.specs.Outcomes.{Outcome, ◌>>=◌, or_fault, refuse}
 use Rattle.smx_model.specs.Paths.{reaches}
@@ -34,7 +39,8 @@ use Rattle.smx_model.specs.Standing.{is_persistent, is_below}
 
 -- with one more descriptor of the process
 abbrev pub with_fd : Configuration → ℕ → ℕ → StreamId → Configuration
-with_fd c process fd s = record c { fds = with_inserted fd_before c.fds (record { process = process; fd = fd; stream = s }) }
+with_fd c process fd s =
+    record c { fds = with_inserted fd_before c.fds (record { process = process; fd = fd; stream = s }) }
 
 -- done: the new configuration is swept, and the reply names the serials that left
 abbrev pub done_outcome : List DriverSpec → Configuration → Configuration → Outcome
@@ -53,7 +59,13 @@ link_outcome drivers c process fd arg k = do
   free ← refuse AlreadyBelow (is_below c.links lower)
   no_cycle ← refuse Cycle ((lower.driver == upper.driver) || reaches c.links lower.driver upper.driver)
   room ← refuse TooManyLinks (nat_le MAX_LINKS (length c.links) || nat_le NUMBER_END c.next_id)
-  Ok (record c { links = c.links ++ record { id = c.next_id; ctl = upper; lower = lower; kind = k } ∷ []; next_id = c.next_id + 1 }, reply.Id c.next_id)
+  Ok (
+    record c {
+      links = c.links ++ record { id = c.next_id; ctl = upper; lower = lower; kind = k } ∷ [];
+      next_id = c.next_id + 1;
+    },
+    reply.Id c.next_id,
+  )
 
 -- one of my links, or each of them, removed (streamio(7), I_UNLINK and I_PUNLINK, MUXID_ALL)
 abbrev pub unlink_outcome : List DriverSpec → Configuration → Which → (Link → Bool) → Outcome
@@ -67,7 +79,12 @@ abbrev pub send_outcome : List DriverSpec → Configuration → Place → ℕ �
 send_outcome drivers c p addr bytes = do
   size ← refuse BadSize ((length bytes == 0) || nat_lt (max_of drivers p.stream.driver) (length bytes))
   room ← refuse Full (is_full c p || nat_le NUMBER_END c.next_serial)
-  Ok (record (after_arrival drivers c p (record { serial = c.next_serial; addr = addr; bytes = bytes })) { next_serial = c.next_serial + 1 }, reply.Took c.next_serial)
+  Ok (
+    record (after_arrival drivers c p (record { serial = c.next_serial; addr = addr; bytes = bytes })) {
+      next_serial = c.next_serial + 1;
+    },
+    reply.Took c.next_serial,
+  )
 
 -- the first message of a place is delivered
 abbrev pub receive_outcome : List DriverSpec → Configuration → Place → Outcome
@@ -80,7 +97,8 @@ receive_outcome drivers c p = do
 abbrev pub read_outcome : List DriverSpec → Configuration → StreamId → Outcome
 read_outcome drivers c s = at (record { stream = s; side = side.Read }) where
   at : Place → Outcome
-  at p = if is_hung c.hungs s && not (is_some (first_message c.flow p)) then Ok (c, reply.Eof) else receive_outcome drivers c p
+  at p = if is_hung c.hungs s && not (is_some (first_message c.flow p)) then Ok (c, reply.Eof)
+      else receive_outcome drivers c p
 
 -- one of the sides that are named (streamio(7), I_FLUSH)
 abbrev pub is_side : Sides → Side → Bool
@@ -108,7 +126,8 @@ outcome drivers c process (command.Dup fd) = do
 outcome drivers c process (command.Close fd) = do
   s ← stream_of c process fd
   done_outcome drivers c (record c { fds = filter (λ d. not (is_fd process fd d)) c.fds })
-outcome drivers c process command.CloseAll = done_outcome drivers c (record c { fds = filter (λ d. not (d.process == process)) c.fds })
+outcome drivers c process command.CloseAll =
+    done_outcome drivers c (record c { fds = filter (λ d. not (d.process == process)) c.fds })
 outcome drivers c process (command.Link fd arg) = link_outcome drivers c process fd arg kind.Ordinary
 outcome drivers c process (command.Plink fd arg) = link_outcome drivers c process fd arg kind.Persistent
 outcome drivers c process (command.Unlink fd w) = do
@@ -119,16 +138,27 @@ outcome drivers c process (command.Punlink fd w) = do
   unlink_outcome drivers c w (λ l. is_persistent l && (l.ctl.driver == s.driver))
 outcome drivers c process (command.Bind fd addr) = do
   s ← mux_stream drivers c process fd
-  free ← refuse AddressInUse (list_any (λ b. (b.driver == s.driver) && ((b.addr == addr) || (b.minor == s.minor))) c.binds)
-  done_outcome drivers c (record c { binds = with_inserted bind_before c.binds (record { driver = s.driver; addr = addr; minor = s.minor }) })
+  free ← refuse AddressInUse
+      (list_any (λ b. (b.driver == s.driver) && ((b.addr == addr) || (b.minor == s.minor))) c.binds)
+  done_outcome drivers c
+      (record c {
+        binds = with_inserted bind_before c.binds
+            (record { driver = s.driver; addr = addr; minor = s.minor });
+      })
 outcome drivers c process (command.Unbind fd) = do
   s ← mux_stream drivers c process fd
   bound ← refuse Unbound (not (list_any (λ b. (b.driver == s.driver) && (b.minor == s.minor)) c.binds))
-  done_outcome drivers c (record c { binds = filter (λ b. not ((b.driver == s.driver) && (b.minor == s.minor))) c.binds })
+  done_outcome drivers c
+      (record c { binds = filter (λ b. not ((b.driver == s.driver) && (b.minor == s.minor))) c.binds })
 outcome drivers c process (command.Route fd addr id) = do
   s ← mux_stream drivers c process fd
   there ← refuse NoLink (not (list_any (λ l. (l.id == id) && (l.ctl.driver == s.driver)) c.links))
-  done_outcome drivers c (record c { routes = with_inserted route_before (filter (λ r. not ((r.driver == s.driver) && (r.addr == addr))) c.routes) (record { driver = s.driver; addr = addr; id = id }) })
+  done_outcome drivers c
+      (record c {
+        routes = with_inserted route_before
+            (filter (λ r. not ((r.driver == s.driver) && (r.addr == addr))) c.routes)
+            (record { driver = s.driver; addr = addr; id = id });
+      })
 outcome drivers c process (command.Unroute fd addr) = do
   s ← mux_stream drivers c process fd
   there ← refuse Unrouted (not (list_any (λ r. (r.driver == s.driver) && (r.addr == addr)) c.routes))

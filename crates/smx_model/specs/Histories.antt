@@ -18,7 +18,8 @@ after drivers history = after_from drivers empty history
 -- each reply is the one that its command gets, starting from this configuration
 abbrev pub IsLegalFrom : List DriverSpec → Configuration → List Entry → Type 0
 IsLegalFrom drivers c [] = Unit {0}
-IsLegalFrom drivers c (e ∷ es) = ((step drivers c e.process e.command).1 ≡ e.reply) × IsLegalFrom drivers (step drivers c e.process e.command).0 es
+IsLegalFrom drivers c (e ∷ es) =
+    ((step drivers c e.process e.command).1 ≡ e.reply) × IsLegalFrom drivers (step drivers c e.process e.command).0 es
 
 -- each reply is the one that its command gets, from the empty configuration on
 abbrev pub IsLegal : List DriverSpec → List Entry → Type 0

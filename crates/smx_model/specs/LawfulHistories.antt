@@ -90,7 +90,8 @@ queued_serials drivers history = serials (after drivers history).flow
 -- each message that was taken in was delivered, was dropped or is queued, and just one of these, once
 abbrev pub AreMessagesConserved : List DriverSpec → List Entry → Type 0
 AreMessagesConserved drivers history =
-    IsPermutation (taken_serials history) (delivered_serials history ++ (dropped_serials history ++ queued_serials drivers history))
+    IsPermutation (taken_serials history)
+    (delivered_serials history ++ (dropped_serials history ++ queued_serials drivers history))
 
 -- serials count from 1, and no message is lost or doubled
 pub record IsConserving (drivers : List DriverSpec) (history : List Entry) : Type 0 where

@@ -8,4 +8,5 @@ use Rattle.smx_model.specs.Settling.{is_movable, IsSettled}
 -- it is movable and none before it is; or there is none, and the configuration is settled
 abbrev pub IsLeastMovable : List DriverSpec → Configuration → Option Place → Type 0
 IsLeastMovable drivers c None = IsSettled drivers c
-IsLeastMovable drivers c (Some p) = (is_movable drivers c p ≡ true) × ((q : Place) → place_before q p ≡ true → is_movable drivers c q ≡ false)
+IsLeastMovable drivers c (Some p) =
+    (is_movable drivers c p ≡ true) × ((q : Place) → place_before q p ≡ true → is_movable drivers c q ≡ false)

@@ -6,7 +6,8 @@ use Rattle.std.specs.Str.{bytes_eq}
 use Rattle.smx_types.specs.declared.driver.DriverSpec.{DriverSpec}
 use Rattle.smx_types.specs.declared.limits.TheConstants.{MAX_DESCRIPTORS}
 use Rattle.smx_types.specs.declared.reply.Fault.{Fault}
-use Rattle.smx_types.specs.declared.reply.Fault.TheVariants.{BadDescriptor, Below, NotMux, NoDriver, NoMinor, TooManyDescriptors, HungUp}
+use Rattle.smx_types.specs.declared.reply.Fault.TheVariants.{BadDescriptor, Below, NotMux, NoDriver, NoMinor}
+use Rattle.smx_types.specs.declared.reply.Fault.TheVariants.{TooManyDescriptors, HungUp}
 use Rattle.smx_types.specs.declared.stream.StreamId.{StreamId}
 use Rattle.smx_model.specs.Configuration.{Configuration, is_fd}
 use Rattle.smx_model.specs.DriverList.{is_mux, minors_of}
@@ -24,11 +25,14 @@ stream_of c process fd = or_fault BadDescriptor (option_map (λ d. d.stream) (fi
 
 -- the least number that is no descriptor of the process; it has 16 at most
 abbrev pub free_fd : Configuration → ℕ → Result ℕ Fault
-free_fd c process = or_fault TooManyDescriptors (find (λ n. not (list_any (is_fd process n) c.fds)) (range_with_len 0 MAX_DESCRIPTORS))
+free_fd c process =
+    or_fault TooManyDescriptors (find (λ n. not (list_any (is_fd process n) c.fds)) (range_with_len 0 MAX_DESCRIPTORS))
 
 -- the least minor of the driver whose stream doesn't exist
 abbrev pub free_minor : List DriverSpec → Configuration → ℕ → Result ℕ Fault
-free_minor drivers c driver = or_fault NoMinor (find (λ m. not (exists drivers c (record { driver = driver; minor = m }))) (range_with_len 0 (minors_of drivers driver)))
+free_minor drivers c driver = or_fault NoMinor
+    (find (λ m. not (exists drivers c (record { driver = driver; minor = m })))
+    (range_with_len 0 (minors_of drivers driver)))
 
 -- the stream of the process's descriptor, where it is not linked below
 abbrev pub free_stream : Configuration → ℕ → ℕ → Result StreamId Fault

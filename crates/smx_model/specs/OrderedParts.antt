@@ -1,5 +1,6 @@
 -- A configuration whose lists are kept in the order in which they are shown.
-use Rattle.smx_model.specs.Configuration.{Configuration, fd_before, bind_before, route_before, place_before, stream_before}
+use Rattle.smx_model.specs.Configuration.{Configuration, fd_before, bind_before, route_before, place_before}
+use Rattle.smx_model.specs.Configuration.{stream_before}
 use Rattle.smx_model.specs.FlowOrder.{IsInOrder}
 use Rattle.smx_model.specs.Ordered.{IsRising}
 

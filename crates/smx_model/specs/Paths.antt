@@ -26,4 +26,5 @@ AreLowersApart links = AllPairs (λ l k. same_stream l.lower k.lower ≡ false) 
 -- whether a path leads from driver a to driver b: without the first link, or over it once
 abbrev pub reaches : List Link → ℕ → ℕ → Bool
 reaches [] a b = false
-reaches (l ∷ ls) a b = reaches ls a b || (((a == l.ctl.driver) || reaches ls a l.ctl.driver) && ((l.lower.driver == b) || reaches ls l.lower.driver b))
+reaches (l ∷ ls) a b = reaches ls a b
+    || (((a == l.ctl.driver) || reaches ls a l.ctl.driver) && ((l.lower.driver == b) || reaches ls l.lower.driver b))

@@ -1,5 +1,6 @@
 -- The messages that are queued at a place, and when its queue is full.
-use Rattle.std.specs.Prelude.{ℕ, Bool, ◌&&◌, ◌||◌, not, nat_lt, nat_le, if◌then◌else◌, List, length, map, filter, find, Option}
+use Rattle.std.specs.Prelude.{ℕ, Bool, ◌&&◌, ◌||◌, not, nat_lt, nat_le, if◌then◌else◌, List, length, map, filter, find}
+use Rattle.std.specs.Prelude.{Option}
 use Rattle.std.specs.List.{list_any, sum_by}
 use Rattle.std.specs.Option.{option_map}
 use Rattle.smx_types.specs.declared.driver.DriverSpec.{DriverSpec}
@@ -29,8 +30,8 @@ first_message flow p = option_map (λ h. h.message) (find (is_at p) flow)
 abbrev pub is_full : Configuration → Place → Bool
 is_full c p = list_any (same_place p) c.fulls
 
--- after an arrival a place is full if it was, or if it now has as many bytes as its high water mark (STREAMS guide, flow
--- control; the exact reading is this project's own)
+-- after an arrival a place is full if it was, or if it now has as many bytes as its high water mark (STREAMS guide,
+-- flow control; the exact reading is this project's own)
 abbrev pub full_after_arrival : Bool → ℕ → ℕ → Bool
 full_after_arrival was high bytes = was || nat_le high bytes
 
@@ -40,18 +41,27 @@ full_after_leaving was low bytes = was && nat_lt low bytes
 
 -- with the place marked as full, or not
 abbrev pub with_mark : Place → Bool → List Place → List Place
-with_mark p full fulls = if full then with_inserted place_before (without_mark p fulls) p else without_mark p fulls where
-  without_mark : Place → List Place → List Place
-  without_mark p fulls = filter (λ q. not (same_place p q)) fulls
+with_mark p full fulls =
+    if full then with_inserted place_before (without_mark p fulls) p else without_mark p fulls where
+      without_mark : Place → List Place → List Place
+      without_mark p fulls = filter (λ q. not (same_place p q)) fulls
 
 -- a message arrives at a place
 abbrev pub after_arrival : List DriverSpec → Configuration → Place → Message → Configuration
 after_arrival drivers c p m = now (with_inserted queued_before c.flow (record { place = p; message = m })) where
   now : List QueuedMessage → Configuration
-  now flow = record c { flow = flow; fulls = with_mark p (full_after_arrival (is_full c p) (high_of drivers p.stream.driver) (bytes_at flow p)) c.fulls }
+  now flow = record c {
+    flow = flow;
+    fulls = with_mark p
+        (full_after_arrival (is_full c p) (high_of drivers p.stream.driver) (bytes_at flow p)) c.fulls;
+  }
 
 -- the first message leaves a place
 abbrev pub after_leaving : List DriverSpec → Configuration → Place → Configuration
 after_leaving drivers c p = now (without_first (is_at p) c.flow) where
   now : List QueuedMessage → Configuration
-  now flow = record c { flow = flow; fulls = with_mark p (full_after_leaving (is_full c p) (low_of drivers p.stream.driver) (bytes_at flow p)) c.fulls }
+  now flow = record c {
+    flow = flow;
+    fulls = with_mark p
+        (full_after_leaving (is_full c p) (low_of drivers p.stream.driver) (bytes_at flow p)) c.fulls;
+  }

@@ -11,7 +11,8 @@ use Rattle.smx_model.specs.Standing.{is_persistent, is_below, exists}
 
 -- without the messages and full marks of some places
 abbrev pub without_queues_at : Configuration → (Place → Bool) → Configuration
-without_queues_at c goes = record c { flow = filter (λ h. not (goes h.place)) c.flow; fulls = filter (λ p. not (goes p)) c.fulls }
+without_queues_at c goes =
+    record c { flow = filter (λ h. not (goes h.place)) c.flow; fulls = filter (λ p. not (goes p)) c.fulls }
 
 -- the read side of a stream below one of the links
 abbrev pub is_read_below : List Link → Place → Bool
@@ -19,18 +20,27 @@ is_read_below links p = same_side p.side side.Read && is_below links p.stream
 
 -- without some links, the routes to them, and what their lower streams' read sides hold (this project's own)
 abbrev pub without_links : Configuration → (Link → Bool) → Configuration
-without_links c goes = without_queues_at (record c { links = filter (λ l. not (goes l)) c.links; routes = filter (λ r. not (list_any (λ l. l.id == r.id) gone)) c.routes }) (is_read_below gone) where
-  gone : List Link
-  gone = filter goes c.links
+without_links c goes = without_queues_at
+    (record c {
+      links = filter (λ l. not (goes l)) c.links;
+      routes = filter (λ r. not (list_any (λ l. l.id == r.id) gone)) c.routes;
+    }) (is_read_below gone) where
+      gone : List Link
+      gone = filter goes c.links
 
 -- without the messages, full marks, bindings and hangups of streams that don't exist
 abbrev pub without_dead_streams : List DriverSpec → Configuration → Configuration
-without_dead_streams drivers c = without_queues_at (record c { binds = filter (λ b. exists drivers c (record { driver = b.driver; minor = b.minor })) c.binds; hungs = filter (λ s. exists drivers c s) c.hungs }) (λ p. not (exists drivers c p.stream))
+without_dead_streams drivers c = without_queues_at
+    (record c {
+      binds = filter (λ b. exists drivers c (record { driver = b.driver; minor = b.minor })) c.binds;
+      hungs = filter (λ s. exists drivers c s) c.hungs;
+    }) (λ p. not (exists drivers c p.stream))
 
 -- the sweep: without the ordinary links whose controlling stream doesn't exist, and then without what dead streams
 -- hold (streamio(7), I_LINK: the last close)
 abbrev pub after_sweep : List DriverSpec → Configuration → Configuration
-after_sweep drivers c = without_dead_streams drivers (without_links c (λ l. not (is_persistent l) && not (exists drivers c l.ctl)))
+after_sweep drivers c =
+    without_dead_streams drivers (without_links c (λ l. not (is_persistent l) && not (exists drivers c l.ctl)))
 
 -- the serials of queued messages
 abbrev pub serials : List QueuedMessage → List ℕ

@@ -1,5 +1,6 @@
 -- Messages move on through the multiplexers until none can.
-use Rattle.std.specs.Prelude.{◌≡◌, ℕ, zero, suc, ◌*◌, Bool, false, ◌&&◌, ◌==◌, List, length, find, Option, Some, None, if◌then◌else◌}
+use Rattle.std.specs.Prelude.{◌≡◌, ℕ, zero, suc, ◌*◌, Bool, false, ◌&&◌, ◌==◌, List, length, find, Option, Some, None}
+use Rattle.std.specs.Prelude.{if◌then◌else◌}
 use Rattle.std.specs.Option.{is_some, option_map}
 use Rattle.smx_types.specs.declared.driver.DriverSpec.{DriverSpec}
 use Rattle.smx_types.specs.declared.link.Binding.{Binding}
@@ -44,7 +45,8 @@ place_above links binds s addr = do
 abbrev pub next_place : List DriverSpec → Configuration → Place → ℕ → Option Place
 next_place drivers c p addr = toward p.side where
   toward : Side → Option Place
-  toward side.Write = if is_mux drivers p.stream.driver then place_below c.links c.routes c.hungs p.stream.driver addr else None
+  toward side.Write =
+      if is_mux drivers p.stream.driver then place_below c.links c.routes c.hungs p.stream.driver addr else None
   toward side.Read = place_above c.links c.binds p.stream addr
 
 -- where the first message of a place may go on to: its next place, unless that is full (STREAMS guide, canput)
@@ -75,7 +77,8 @@ after_move drivers c p = after_move_to drivers c p (next_open_place drivers c p)
 -- at most so many moves, each from the least movable place
 abbrev pub after_settling_within : List DriverSpec → ℕ → Configuration → Configuration
 after_settling_within drivers zero c = c
-after_settling_within drivers (suc n) c = elim (least_movable drivers c) [ None ↦ c | Some p ↦ after_settling_within drivers n (after_move drivers c p) ]
+after_settling_within drivers (suc n) c =
+    elim (least_movable drivers c) [ None ↦ c | Some p ↦ after_settling_within drivers n (after_move drivers c p) ]
 
 -- as many moves as there are messages times drivers (the guide's joining of both sides, in kind)
 abbrev pub after_settling : List DriverSpec → Configuration → Configuration

@@ -28,7 +28,8 @@ is_below links s = list_any (λ l. same_stream l.lower s) links
 -- ordinary link whose controlling stream stands (STREAMS guide, multiplexing: the last close)
 abbrev pub stands_within : List Descriptor → List Link → ℕ → StreamId → Bool
 stands_within fds links zero s = is_named fds s || list_any (λ l. is_persistent l && same_stream l.lower s) links
-stands_within fds links (suc n) s = stands_within fds links n s || list_any (λ l. not (is_persistent l) && (same_stream l.lower s && stands_within fds links n l.ctl)) links
+stands_within fds links (suc n) s = stands_within fds links n s
+    || list_any (λ l. not (is_persistent l) && (same_stream l.lower s && stands_within fds links n l.ctl)) links
 
 -- it stands within as many climbs as there are drivers
 abbrev pub exists : List DriverSpec → Configuration → StreamId → Bool

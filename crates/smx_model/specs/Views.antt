@@ -20,11 +20,19 @@ use Rattle.smx_model.specs.DriverList.{name_of}
 
 -- a descriptor, with its driver by name
 abbrev pub view_of_fd : List DriverSpec → Descriptor → DescriptorLine
-view_of_fd drivers d = record { process = d.process; fd = d.fd; driver = name_of drivers d.stream.driver; minor = d.stream.minor }
+view_of_fd drivers d =
+    record { process = d.process; fd = d.fd; driver = name_of drivers d.stream.driver; minor = d.stream.minor }
 
 -- a link, with both drivers by name
 abbrev pub view_of_link : List DriverSpec → Link → LinkLine
-view_of_link drivers l = record { id = l.id; ctl_driver = name_of drivers l.ctl.driver; ctl_minor = l.ctl.minor; lower_driver = name_of drivers l.lower.driver; lower_minor = l.lower.minor; kind = l.kind }
+view_of_link drivers l = record {
+  id = l.id;
+  ctl_driver = name_of drivers l.ctl.driver;
+  ctl_minor = l.ctl.minor;
+  lower_driver = name_of drivers l.lower.driver;
+  lower_minor = l.lower.minor;
+  kind = l.kind;
+}
 
 -- a binding, with its driver by name
 abbrev pub view_of_bind : List DriverSpec → Binding → BindingLine
@@ -36,7 +44,12 @@ view_of_route drivers r = record { driver = name_of drivers r.driver; addr = r.a
 
 -- a queued message, with the driver of its place by name
 abbrev pub view_of_message : List DriverSpec → QueuedMessage → MessageLine
-view_of_message drivers h = record { driver = name_of drivers h.place.stream.driver; minor = h.place.stream.minor; side = h.place.side; message = h.message }
+view_of_message drivers h = record {
+  driver = name_of drivers h.place.stream.driver;
+  minor = h.place.stream.minor;
+  side = h.place.side;
+  message = h.message;
+}
 
 -- a full place, with its driver by name
 abbrev pub view_of_full : List DriverSpec → Place → FullLine

@@ -1,5 +1,6 @@
 -- Messages that are copied one after the other to a place that had none.
-use Rattle.std.proofs.Common.{◌≡◌, ℕ, zero, suc, ◌+◌, add-one, ◌<◌, ◌^◌, Bool, true, List, [], ◌∷◌, ◌++◌, length, get_or, set, Option, Some, None, refl, sym, ap, ◌∙◌, arith, append_assoc, append-nil}
+use Rattle.std.proofs.Common.{◌≡◌, ℕ, zero, suc, ◌+◌, add-one, ◌<◌, ◌^◌, Bool, true, List, [], ◌∷◌, ◌++◌, length}
+use Rattle.std.proofs.Common.{get_or, set, Option, Some, None, refl, sym, ap, ◌∙◌, arith, append_assoc, append-nil}
 use Rattle.std.specs.List.{repeat}
 use Rattle.std.proofs.lemmas.List.{set-set}
 use Rattle.std.proofs.lemmas.List.Sums.{sum_by-append, sum_by-cons}
@@ -8,7 +9,7 @@ use Rattle.smx_model.specs.Queues.{bytes_of}
 use Rattle.smx_queues.specs.QueueTable.{Queue, IsPlace, queue_at, with_arrival}
 use Rattle.smx_queues.specs.Chains.{HaveBytes}
 use Rattle.smx_queues.proofs.StoreLemmas.{size}
-use Rattle.smx_queues.proofs.TableLemmas.{place_below, set_there, set_at, set_itself, same_set}
+use Rattle.smx_queues.proofs.QueueTableLemmas.{place_below, set_there, set_at, set_itself, same_set}
 
 -- place `to` has all messages but these, and nothing else has changed
 pub record IsCopying (old new : List (Option Queue)) (to : ℕ) (all rest : List Message) : Type 0 where
@@ -19,51 +20,67 @@ pub record IsCopying (old new : List (Option Queue)) (to : ℕ) (all rest : List
 same_messages : (q : Queue) (ms : List Message) → q.messages ≡ ms → record q { messages = ms } ≡ q
 same_messages q ms e = rw (← e) refl
 
-pub copying_starts : (queues : List (Option Queue)) (to : ℕ) (all : List Message) → IsPlace queues to → (queue_at queues to).messages ≡ [] → IsCopying queues queues to all all
+-- before the first message is copied to an empty place, all are to come
+pub copying_starts : (queues : List (Option Queue)) (to : ℕ) (all : List Message) → IsPlace queues to
+    → (queue_at queues to).messages ≡ [] → IsCopying queues queues to all all
 copying_starts queues to all there none =
     record {
       done = [];
       parts = refl;
-      queues = sym (set_itself queues to there) ∙ ap (λ (q : Queue). set queues to (Some q)) (sym (same_messages (queue_at queues to) [] none));
+      queues = sym (set_itself queues to there)
+          ∙ ap (λ (q : Queue). set queues to (Some q)) (sym (same_messages (queue_at queues to) [] none));
     }
 
-pub copying_at : (old new : List (Option Queue)) (to : ℕ) (all rest : List Message) (c : IsCopying old new to all rest) → IsPlace old to → queue_at new to ≡ record (queue_at old to) { messages = c.done }
+-- a place that is copied to has the messages that have come, and else what it had
+pub copying_at : (old new : List (Option Queue)) (to : ℕ) (all rest : List Message) (c : IsCopying old new to all rest)
+    → IsPlace old to → queue_at new to ≡ record (queue_at old to) { messages = c.done }
 copying_at old new to all rest c there =
     ap (λ qs. queue_at qs to) c.queues ∙ set_at old to _ (place_below old to there)
 
-pub copying_there : (old new : List (Option Queue)) (to : ℕ) (all rest : List Message) → IsCopying old new to all rest → IsPlace old to → IsPlace new to
+-- a place that is copied to is still there
+pub copying_there : (old new : List (Option Queue)) (to : ℕ) (all rest : List Message) → IsCopying old new to all rest
+    → IsPlace old to → IsPlace new to
 copying_there old new to all rest c there = rw c.queues (set_there old to _ (place_below old to there))
 
-arrives_full : (q : Queue) (ms : List Message) (m : Message) → q.full ≡ true → with_arrival (record q { messages = ms }) m ≡ record q { messages = ms ++ m ∷ [] }
+arrives_full : (q : Queue) (ms : List Message) (m : Message) → q.full ≡ true
+    → with_arrival (record q { messages = ms }) m ≡ record q { messages = ms ++ m ∷ [] }
 arrives_full q ms m full = rw full refl
 
 -- one more has come
-pub copying_goes_on : (old mid new : List (Option Queue)) (to : ℕ) (all rest : List Message) (m : Message) (later : List Message) → IsPlace old to → (queue_at old to).full ≡ true → IsCopying old mid to all rest → rest ≡ m ∷ later → new ≡ set mid to (Some (with_arrival (queue_at mid to) m)) → IsCopying old new to all later
+pub copying_goes_on : (old mid new : List (Option Queue)) (to : ℕ) (all rest : List Message) (m : Message)
+    (later : List Message) → IsPlace old to → (queue_at old to).full ≡ true → IsCopying old mid to all rest
+    → rest ≡ m ∷ later → new ≡ set mid to (Some (with_arrival (queue_at mid to) m)) → IsCopying old new to all later
 copying_goes_on old mid new to all rest m later there full c are put =
     let e = copying_at old mid to all rest c there in
     record {
       done = c.done ++ m ∷ [];
       parts = append_assoc c.done (m ∷ []) later ∙ ap (λ ms. c.done ++ ms) (sym are) ∙ c.parts;
-      queues = put ∙ same_set _ _ to _ _ c.queues (ap (λ q. with_arrival q m) e ∙ arrives_full (queue_at old to) c.done m full) ∙ set-set old to _ _;
+      queues = put ∙ same_set _ _ to _ _ c.queues
+          (ap (λ q. with_arrival q m) e ∙ arrives_full (queue_at old to) c.done m full) ∙ set-set old to _ _;
     }
 
 -- all have come
-pub copying_ends : (old new : List (Option Queue)) (to : ℕ) (all rest : List Message) → IsCopying old new to all rest → rest ≡ [] → new ≡ set old to (Some (record (queue_at old to) { messages = all }))
+pub copying_ends : (old new : List (Option Queue)) (to : ℕ) (all rest : List Message) → IsCopying old new to all rest
+    → rest ≡ [] → new ≡ set old to (Some (record (queue_at old to) { messages = all }))
 copying_ends old new to all rest c none =
     let whole : c.done ≡ all = sym (append-nil c.done) ∙ ap (λ ms. c.done ++ ms) (sym none) ∙ c.parts in
     c.queues ∙ ap (λ ms. set old to (Some (record (queue_at old to) { messages = ms }))) whole
 
-one_has : (done : List Message) (m : Message) (later : List Message) → HaveBytes (done ++ m ∷ later) → (0 < size m) × (size m < 2 ^ 63)
+one_has : (done : List Message) (m : Message) (later : List Message) → HaveBytes (done ++ m ∷ later)
+    → (0 < size m) × (size m < 2 ^ 63)
 one_has [] m later have = (have.0, have.1)
 one_has (x ∷ done) m later have = one_has done m later have.2
 
+-- the message has bytes, so few that they can be added to those of the place without overflow
 pub record HasRoom (queues : List (Option Queue)) (to : ℕ) (m : Message) : Type 0 where
   pub some : 0 < size m
   pub few : size m < 2 ^ 63
   pub fits : bytes_of (queue_at queues to).messages + size m < 2 ^ 64
 
 -- the next one has bytes, and they fit
-pub copying_has_room : (old mid : List (Option Queue)) (to : ℕ) (all rest : List Message) (m : Message) (later : List Message) (bytes : ℕ) → IsPlace old to → IsCopying old mid to all rest → rest ≡ m ∷ later → HaveBytes all → bytes ≡ bytes_of all → bytes < 2 ^ 64 → HasRoom mid to m
+pub copying_has_room : (old mid : List (Option Queue)) (to : ℕ) (all rest : List Message) (m : Message)
+    (later : List Message) (bytes : ℕ) → IsPlace old to → IsCopying old mid to all rest → rest ≡ m ∷ later
+    → HaveBytes all → bytes ≡ bytes_of all → bytes < 2 ^ 64 → HasRoom mid to m
 copying_has_room old mid to all rest m later bytes there c are have is fits =
     let whole : all ≡ c.done ++ m ∷ later = sym c.parts ∙ ap (λ ms. c.done ++ ms) are in
     let h = one_has c.done m later (rw (← whole) have) in
@@ -71,15 +88,26 @@ copying_has_room old mid to all rest m later bytes there c are have is fits =
     record {
       some = h.0;
       few = h.1;
-      fits = omega (arith, e, is, fits, ap bytes_of whole, sum_by-append size c.done (m ∷ later), sum_by-cons size m later);
+      fits = omega (
+        arith,
+        e,
+        is,
+        fits,
+        ap bytes_of whole,
+        sum_by-append size c.done (m ∷ later),
+        sum_by-cons size m later,
+      );
     }
 
 -- the last place
-pub set_last : (queues : List (Option Queue)) (a b : Option Queue) (n : ℕ) → n ≡ length queues → set (queues ++ a ∷ []) n b ≡ queues ++ b ∷ []
+pub set_last : (queues : List (Option Queue)) (a b : Option Queue) (n : ℕ) → n ≡ length queues
+    → set (queues ++ a ∷ []) n b ≡ queues ++ b ∷ []
 set_last [] a b n e = rw e refl
 set_last (x ∷ queues) a b n e = rw e (ap (λ rest. x ∷ rest) (set_last queues a b (length queues) refl))
 
-pub last_is : (queues : List (Option Queue)) (a : Option Queue) (n : ℕ) → n ≡ length queues → get_or (queues ++ a ∷ []) n None ≡ a
+-- what was added behind all queues stands at the number of how many there were
+pub last_is : (queues : List (Option Queue)) (a : Option Queue) (n : ℕ) → n ≡ length queues
+    → get_or (queues ++ a ∷ []) n None ≡ a
 last_is [] a n e = rw e refl
 last_is (x ∷ queues) a n e = rw e (last_is queues a (length queues) refl)
 
@@ -87,32 +115,43 @@ last_is (x ∷ queues) a n e = rw e (last_is queues a (length queues) refl)
 pub record IsCopied (old new : List (Option Queue)) (to : ℕ) (q : Queue) : Type 0 where
   pub there : IsPlace new to
   pub at : queue_at new to ≡ q
-  pub marked : (full : Bool) → set new to (Some (record (queue_at new to) { full = full })) ≡ old ++ Some (record q { full = full }) ∷ []
+  pub marked : (full : Bool) → set new to (Some (record (queue_at new to) { full = full }))
+      ≡ old ++ Some (record q { full = full }) ∷ []
 
-pub copied_is : (old mid new : List (Option Queue)) (to : ℕ) (q : Queue) (all : List Message) → to ≡ length old → mid ≡ old ++ Some q ∷ [] → new ≡ set mid to (Some (record (queue_at mid to) { messages = all })) → IsCopied old new to (record q { messages = all })
+-- a place that came behind all others, and then got these messages, was copied with them
+pub copied_is : (old mid new : List (Option Queue)) (to : ℕ) (q : Queue) (all : List Message) → to ≡ length old
+    → mid ≡ old ++ Some q ∷ [] → new ≡ set mid to (Some (record (queue_at mid to) { messages = all }))
+    → IsCopied old new to (record q { messages = all })
 copied_is old mid new to q all last pushed copied =
     let here : queue_at mid to ≡ q = ap (λ qs. queue_at qs to) pushed ∙ queue_last old q to last in
-    let new_is : new ≡ old ++ Some (record q { messages = all }) ∷ [] = copied ∙ same_set mid _ to _ _ pushed (ap (λ (x : Queue). record x { messages = all }) here) ∙ set_last old (Some q) (Some (record q { messages = all })) to last in
-    let now : queue_at new to ≡ record q { messages = all } = ap (λ qs. queue_at qs to) new_is ∙ queue_last old _ to last in
+    let new_is : new ≡ old ++ Some (record q { messages = all }) ∷ [] = copied
+    ∙ same_set mid _ to _ _ pushed (ap (λ (x : Queue). record x { messages = all }) here)
+    ∙ set_last old (Some q) (Some (record q { messages = all })) to last in
+    let now : queue_at new to ≡ record q { messages = all } =
+    ap (λ qs. queue_at qs to) new_is ∙ queue_last old _ to last in
     record {
       there = rw (new_is, last_is old (Some (record q { messages = all })) to last) refl;
       at = now;
-      marked = λ full. same_set new _ to _ _ new_is (ap (λ (x : Queue). record x { full = full }) now) ∙ set_last old _ _ to last;
+      marked = λ full. same_set new _ to _ _ new_is (ap (λ (x : Queue). record x { full = full }) now)
+          ∙ set_last old _ _ to last;
     }
   where
     queue_last : (old : List (Option Queue)) (q : Queue) (n : ℕ) → n ≡ length old → queue_at (old ++ Some q ∷ []) n ≡ q
     queue_last old q n last = rw (last_is old (Some q) n last) refl
 
 -- a place that is there is in the table
-pub there_is : (queues : List (Option Queue)) (p : ℕ) → IsPlace queues p → Some (queue_at queues p) ≡ get_or queues p None
+pub there_is : (queues : List (Option Queue)) (p : ℕ) → IsPlace queues p
+    → Some (queue_at queues p) ≡ get_or queues p None
 there_is [] p is = absurd (cc)
 there_is (Some q ∷ queues) zero is = refl
 there_is (None ∷ queues) zero is = absurd (cc)
 there_is (x ∷ queues) (suc p) is = there_is queues p is
 
 -- so many more and one more
-pub repeat_more : {A : Type 0} → (xs : List A) (n : ℕ) (x : A) → (xs ++ repeat n (x ∷ [])) ++ x ∷ [] ≡ xs ++ repeat (n + 1) (x ∷ [])
-repeat_more xs n x = append_assoc xs (repeat n (x ∷ [])) (x ∷ []) ∙ ap (λ ys. xs ++ ys) (one_more n ∙ ap (λ k. repeat k (x ∷ [])) (sym (add-one n)))
+pub repeat_more : {A : Type 0} → (xs : List A) (n : ℕ) (x : A)
+    → (xs ++ repeat n (x ∷ [])) ++ x ∷ [] ≡ xs ++ repeat (n + 1) (x ∷ [])
+repeat_more xs n x = append_assoc xs (repeat n (x ∷ [])) (x ∷ [])
+    ∙ ap (λ ys. xs ++ ys) (one_more n ∙ ap (λ k. repeat k (x ∷ [])) (sym (add-one n)))
   where
     one_more : (n : ℕ) → repeat n (x ∷ []) ++ x ∷ [] ≡ repeat (suc n) (x ∷ [])
     one_more zero = refl

@@ -1,5 +1,6 @@
 -- What the chain of a number says of the slot of that number, and how many messages all chains have.
-use Rattle.std.proofs.Common.{◌≡◌, ℕ, zero, suc, ◌+◌, ◌<◌, ◌≤◌, Bool, false, ◌&&◌, List, [], ◌∷◌, length, map, get_or, Option, None, refl, sym, ap, ◌∙◌, subst, arith, inl, inr}
+use Rattle.std.proofs.Common.{◌≡◌, ℕ, zero, suc, ◌+◌, ◌<◌, ◌≤◌, Bool, false, ◌&&◌, List, [], ◌∷◌, length, map, get_or}
+use Rattle.std.proofs.Common.{Option, None, refl, sym, ap, ◌∙◌, subst, arith, inl, inr}
 use Rattle.std.specs.List.{sum_by}
 use Rattle.std.proofs.lemmas.Bool.{cases_Bool, cases_lt}
 use Rattle.std.proofs.lemmas.List.Sums.{sum_by-cons}
@@ -14,25 +15,29 @@ use Rattle.smx_queues.specs.Slots.{is_marked, message_total, messages_in}
 use Rattle.smx_queues.proofs.SlotLemmas.{slot, slots}
 use Rattle.smx_queues.proofs.SoundLemmas.{view_slots}
 
-slots_at : (chains : List Chain) (queues : List Queue) (p : ℕ) → length queues ≡ length chains → p < length chains → get_or (slots chains queues) p None ≡ slot (get_or chains p no_chain) (get_or queues p no_queue)
+slots_at : (chains : List Chain) (queues : List Queue) (p : ℕ) → length queues ≡ length chains → p < length chains
+    → get_or (slots chains queues) p None ≡ slot (get_or chains p no_chain) (get_or queues p no_queue)
 slots_at [] queues p many below = absurd (omega arith)
 slots_at (c ∷ chains) [] p many below = absurd (omega arith)
 slots_at (c ∷ chains) (q ∷ queues) zero many below = refl
 slots_at (c ∷ chains) (q ∷ queues) (suc p) many below = slots_at chains queues p (omega arith) (omega arith)
 
-slots_length : (chains : List Chain) (queues : List Queue) → length queues ≡ length chains → length (slots chains queues) ≡ length chains
+slots_length : (chains : List Chain) (queues : List Queue) → length queues ≡ length chains
+    → length (slots chains queues) ≡ length chains
 slots_length [] [] many = refl
 slots_length [] (q ∷ queues) many = absurd (omega arith)
 slots_length (c ∷ chains) [] many = absurd (omega arith)
 slots_length (c ∷ chains) (q ∷ queues) many = omega (arith, slots_length chains queues (omega arith))
 
-count_in : (own : ℕ → ℕ × ℕ) (s : Slab Node) (p : ℕ) (chain : Chain) (q : Queue) → IsQueue own s p chain q → chain.count ≡ length (messages_in (slot chain q))
+count_in : (own : ℕ → ℕ × ℕ) (s : Slab Node) (p : ℕ) (chain : Chain) (q : Queue) → IsQueue own s p chain q
+    → chain.count ≡ length (messages_in (slot chain q))
 count_in own s p chain q l = elim (cases_Bool chain.there) [
   | inl t ↦ rw t l.count
   | inr f ↦ rw f (l.count ∙ ap (λ (ms : List Message). length ms) (l.none_if_gone f))
 ]
 
-mark_in : (own : ℕ → ℕ × ℕ) (s : Slab Node) (p : ℕ) (chain : Chain) (q : Queue) → IsQueue own s p chain q → (chain.there && chain.full) ≡ is_marked (slot chain q)
+mark_in : (own : ℕ → ℕ × ℕ) (s : Slab Node) (p : ℕ) (chain : Chain) (q : Queue) → IsQueue own s p chain q
+    → (chain.there && chain.full) ≡ is_marked (slot chain q)
 mark_in own s p chain q l = elim (cases_Bool chain.there) [
   | inl t ↦ rw t l.full
   | inr f ↦ rw f refl
@@ -43,18 +48,25 @@ pub record IsSlot (view : List (Option Queue)) (p : ℕ) (chain : Chain) : Type 
   pub count : chain.count ≡ length (messages_in (get_or view p None))
   pub mark : (chain.there && chain.full) ≡ is_marked (get_or view p None)
 
-pub slot_at : (s : Slab Node) (chains : List Chain) (sound : IsSound s chains) (view : List (Option Queue)) → map (slot_of s) chains ≡ view → (p : ℕ) (chain : Chain) → p < length chains → chain ≡ get_or chains p chain → IsSlot view p chain
+-- the chain that was read at a number has as many nodes as the queue there has messages, and its full mark
+pub slot_at : (s : Slab Node) (chains : List Chain) (sound : IsSound s chains) (view : List (Option Queue))
+    → map (slot_of s) chains ≡ view → (p : ℕ) (chain : Chain) → p < length chains → chain ≡ get_or chains p chain
+    → IsSlot view p chain
 slot_at s chains sound view is p chain below read =
     let e : chain ≡ get_or chains p no_chain = read ∙ get_or_default chains p chain no_chain below in
     let l = sound.store.each p below in
-    let at = ap (λ (v : List (Option Queue)). get_or v p None) (view_slots s chains sound view is) ∙ slots_at chains sound.queues p sound.store.as_many below in
+    let at = ap (λ (v : List (Option Queue)). get_or v p None) (view_slots s chains sound view is)
+    ∙ slots_at chains sound.queues p sound.store.as_many below in
     record {
       count = rw (e, at) (count_in _ _ _ _ _ l);
       mark = rw (e, at) (mark_in _ _ _ _ _ l);
     }
 
-pub view_length : (s : Slab Node) (chains : List Chain) (sound : IsSound s chains) (view : List (Option Queue)) → map (slot_of s) chains ≡ view → length view ≡ length chains
-view_length s chains sound view is = ap (λ (v : List (Option Queue)). length v) (view_slots s chains sound view is) ∙ slots_length chains sound.queues sound.store.as_many
+-- there are as many chains as numbers that a contract sees
+pub view_length : (s : Slab Node) (chains : List Chain) (sound : IsSound s chains) (view : List (Option Queue))
+    → map (slot_of s) chains ≡ view → length view ≡ length chains
+view_length s chains sound view is = ap (λ (v : List (Option Queue)). length v) (view_slots s chains sound view is)
+    ∙ slots_length chains sound.queues sound.store.as_many
 
 -- behind all numbers there is nothing
 pub nothing_past : (view : List (Option Queue)) (k : ℕ) → length view ≤ k → get_or view k None ≡ None
@@ -63,7 +75,8 @@ nothing_past view k le = get_or_past view k None le
 -- ---- how many there are
 
 sums_same : (chains : List Chain) (queues : List Queue) → length queues ≡ length chains
-    → ((p : ℕ) → p < length chains → (get_or chains p no_chain).count ≡ length (messages_in (slot (get_or chains p no_chain) (get_or queues p no_queue))))
+    → ((p : ℕ) → p < length chains → (get_or chains p no_chain).count
+    ≡ length (messages_in (slot (get_or chains p no_chain) (get_or queues p no_queue))))
     → sum_by (λ (c : Chain). c.count) chains ≡ message_total (slots chains queues)
 sums_same [] [] many each = refl
 sums_same [] (q ∷ queues) many each = absurd (omega arith)
@@ -73,17 +86,21 @@ sums_same (c ∷ chains) (q ∷ queues) many each =
     let rest = sums_same chains queues (omega arith) (λ p lt. each (suc p) (omega arith)) in
     sum_by-cons (λ (x : Chain). x.count) c chains
     ∙ (ap (λ (n : ℕ). n + sum_by (λ (x : Chain). x.count) chains) here
-    ∙ (ap (λ (n : ℕ). length (messages_in (slot c q)) + n) rest ∙ sym (sum_by-cons (λ (x : Option Queue). length (messages_in x)) (slot c q) (slots chains queues))))
+    ∙ (ap (λ (n : ℕ). length (messages_in (slot c q)) + n) rest
+    ∙ sym (sum_by-cons (λ (x : Option Queue). length (messages_in x)) (slot c q) (slots chains queues))))
 
 -- one number more that doesn't pass
-pub none_up_to : (passes : Option Queue → Bool) (view : List (Option Queue)) (start p : ℕ) → ((k : ℕ) → start ≤ k → k < p → passes (get_or view k None) ≡ false) → passes (get_or view p None) ≡ false
+pub none_up_to : (passes : Option Queue → Bool) (view : List (Option Queue)) (start p : ℕ)
+    → ((k : ℕ) → start ≤ k → k < p → passes (get_or view k None) ≡ false) → passes (get_or view p None) ≡ false
     → (k : ℕ) → start ≤ k → k < p + 1 → passes (get_or view k None) ≡ false
 none_up_to passes view start p before here k le lt = elim (cases_lt k p) [
   | inl less ↦ before k le less
   | inr more ↦ let e : k ≡ p = omega arith in subst (λ (j : ℕ). passes (get_or view j None) ≡ false) (sym e) here
 ]
 
-pub total_is : (s : Slab Node) (chains : List Chain) (sound : IsSound s chains) (view : List (Option Queue)) → map (slot_of s) chains ≡ view → slab_len s ≡ message_total view
+-- the store has as many nodes as all places have messages
+pub total_is : (s : Slab Node) (chains : List Chain) (sound : IsSound s chains) (view : List (Option Queue))
+    → map (slot_of s) chains ≡ view → slab_len s ≡ message_total view
 total_is s chains sound view is =
     let all = sums_same chains sound.queues sound.store.as_many (λ p lt. count_in _ _ _ _ _ (sound.store.each p lt)) in
     rw (view_slots s chains sound view is) (omega (arith, sound.store.counted, all))

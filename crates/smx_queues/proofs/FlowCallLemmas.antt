@@ -1,5 +1,6 @@
 -- What a call on the queue of a number says of the flow and the full places.
-use Rattle.std.proofs.Common.{◌≡◌, ℕ, ◌<◌, arith, false, List, [], ◌∷◌, length, Option, Some, None, IsSome, refl, sym, ap, ◌∙◌, subst}
+use Rattle.std.proofs.Common.{◌≡◌, ℕ, ◌<◌, arith, false, List, [], ◌∷◌, length, Option, Some, None, IsSome, refl, sym}
+use Rattle.std.proofs.Common.{ap, ◌∙◌, subst}
 use Rattle.std.specs.Prelude.{IfNone, OnSome, slice_get}
 use Rattle.std.specs.List.{list_any}
 use Rattle.smx_types.specs.declared.message.Message.{Message}
@@ -12,112 +13,171 @@ use Rattle.smx_queues.specs.QueueTable.{IsPlace, QueueTable, emptied, queue_at, 
 use Rattle.smx_queues.specs.Slots.{is_marked, message_total, messages_in}
 use Rattle.smx_queues.specs.QueueTable.{Queue}
 use Rattle.smx_queues.proofs.FlowLemmas.{queue_found, queue_none}
-use Rattle.smx_queues.proofs.FlowTableLemmas.{IsNow, arrived_now, emptied_now, found, found_at, is_place, left_now, moved_now, nothing_now, seen_now}
+use Rattle.smx_queues.proofs.FlowTableLemmas.{IsNow, arrived_now, emptied_now, found, found_at, is_place, left_now}
+use Rattle.smx_queues.proofs.FlowTableLemmas.{moved_now, nothing_now, seen_now}
 use Rattle.smx_queues.proofs.FullLemmas.{mark_found, mark_none}
 use Rattle.smx_queues.proofs.LeftLemmas.{flow_length, many_queues}
 
 -- ---- what a number says of its place, in lists as which the tables are seen
 
-pub place_there : (p : PlaceList) (all : List (Option Queue)) (place : Place) (i : ℕ) → IsFlow p all → slice_get p.places i ≡ Some place → IsPlace all i
+-- the number of a place has a queue
+pub place_there : (p : PlaceList) (all : List (Option Queue)) (place : Place) (i : ℕ) → IsFlow p all
+    → slice_get p.places i ≡ Some place → IsPlace all i
 place_there p all place i h at = is_place p.drivers p.places all place i h.queues at
 
-pub mark_is : (p : PlaceList) (all : List (Option Queue)) (n : ℕ) (t : FlowLists) (place : Place) (i : ℕ) → IsFlow p all → lists_of p all n ≡ t → slice_get p.places i ≡ Some place
+-- the queue at a place's number is full exactly where the place is among the full ones
+pub mark_is : (p : PlaceList) (all : List (Option Queue)) (n : ℕ) (t : FlowLists) (place : Place) (i : ℕ) → IsFlow p all
+    → lists_of p all n ≡ t → slice_get p.places i ≡ Some place
     → (queue_at all i).full ≡ list_any (same_place place) t.fulls
 mark_is p all n t place i h seen at =
     let f = found p.drivers p.places all place i h.queues at in
     ap (λ (q : Queue). q.full) (found_at p.drivers all place i f)
-    ∙ (sym (mark_found place p.places all i h.rising at ∙ ap is_marked f.slot) ∙ ap (λ (x : FlowLists). list_any (same_place place) x.fulls) seen)
+    ∙ (sym (mark_found place p.places all i h.rising at ∙ ap is_marked f.slot)
+    ∙ ap (λ (x : FlowLists). list_any (same_place place) x.fulls) seen)
 
-pub mark_is_not : (p : PlaceList) (all : List (Option Queue)) (n : ℕ) (t : FlowLists) (place : Place) → lists_of p all n ≡ t → list_any (same_place place) p.places ≡ false
+-- a place that the drivers don't have is not full
+pub mark_is_not : (p : PlaceList) (all : List (Option Queue)) (n : ℕ) (t : FlowLists) (place : Place)
+    → lists_of p all n ≡ t → list_any (same_place place) p.places ≡ false
     → false ≡ list_any (same_place place) t.fulls
-mark_is_not p all n t place seen none = sym (mark_none place p.places all none) ∙ ap (λ (x : FlowLists). list_any (same_place place) x.fulls) seen
+mark_is_not p all n t place seen none =
+    sym (mark_none place p.places all none) ∙ ap (λ (x : FlowLists). list_any (same_place place) x.fulls) seen
 
-pub queue_is : (p : PlaceList) (all : List (Option Queue)) (n : ℕ) (t : FlowLists) (place : Place) (i : ℕ) → IsFlow p all → lists_of p all n ≡ t → slice_get p.places i ≡ Some place
+-- the messages at a place's number are the place's queue in the flow
+pub queue_is : (p : PlaceList) (all : List (Option Queue)) (n : ℕ) (t : FlowLists) (place : Place) (i : ℕ)
+    → IsFlow p all → lists_of p all n ≡ t → slice_get p.places i ≡ Some place
     → (queue_at all i).messages ≡ queue t.flow place
 queue_is p all n t place i h seen at =
     let f = found p.drivers p.places all place i h.queues at in
     ap (λ (q : Queue). q.messages) (found_at p.drivers all place i f)
-    ∙ (sym (queue_found place p.places all i h.rising at ∙ ap messages_in f.slot) ∙ ap (λ (x : FlowLists). queue x.flow place) seen)
+    ∙ (sym (queue_found place p.places all i h.rising at ∙ ap messages_in f.slot)
+    ∙ ap (λ (x : FlowLists). queue x.flow place) seen)
 
-pub queue_is_none : (p : PlaceList) (all : List (Option Queue)) (n : ℕ) (t : FlowLists) (place : Place) → lists_of p all n ≡ t → list_any (same_place place) p.places ≡ false → [] ≡ queue t.flow place
-queue_is_none p all n t place seen none = sym (queue_none place p.places all none) ∙ ap (λ (x : FlowLists). queue x.flow place) seen
+-- a place that the drivers don't have has no messages
+pub queue_is_none : (p : PlaceList) (all : List (Option Queue)) (n : ℕ) (t : FlowLists) (place : Place)
+    → lists_of p all n ≡ t → list_any (same_place place) p.places ≡ false → [] ≡ queue t.flow place
+queue_is_none p all n t place seen none =
+    sym (queue_none place p.places all none) ∙ ap (λ (x : FlowLists). queue x.flow place) seen
 
 -- ---- the law of the model says which message is the first
 
+-- the model's first message of a place is the first of its queue
 abbrev pub IsFirstOfQueue : FlowLists → Place → Type 0
 IsFirstOfQueue t place = first_message t.flow place ≡ slice_get (queue t.flow place) 0
 
-pub first_is : (p : PlaceList) (all : List (Option Queue)) (n : ℕ) (t : FlowLists) (place : Place) (i : ℕ) → IsFlow p all → lists_of p all n ≡ t → slice_get p.places i ≡ Some place → IsFirstOfQueue t place
+-- the first message at a place's number is the model's first message of the place
+pub first_is : (p : PlaceList) (all : List (Option Queue)) (n : ℕ) (t : FlowLists) (place : Place) (i : ℕ)
+    → IsFlow p all → lists_of p all n ≡ t → slice_get p.places i ≡ Some place → IsFirstOfQueue t place
     → slice_get (queue_at all i).messages 0 ≡ first_message t.flow place
-first_is p all n t place i h seen at law = ap (λ (ms : List Message). slice_get ms 0) (queue_is p all n t place i h seen at) ∙ sym law
+first_is p all n t place i h seen at law =
+    ap (λ (ms : List Message). slice_get ms 0) (queue_is p all n t place i h seen at) ∙ sym law
 
-pub first_is_none : (p : PlaceList) (all : List (Option Queue)) (n : ℕ) (t : FlowLists) (place : Place) → lists_of p all n ≡ t → list_any (same_place place) p.places ≡ false → IsFirstOfQueue t place
+-- a place that the drivers don't have has no first message
+pub first_is_none : (p : PlaceList) (all : List (Option Queue)) (n : ℕ) (t : FlowLists) (place : Place)
+    → lists_of p all n ≡ t → list_any (same_place place) p.places ≡ false → IsFirstOfQueue t place
     → None ≡ first_message t.flow place
-first_is_none p all n t place seen none law = ap (λ (ms : List Message). slice_get ms 0) (queue_is_none p all n t place seen none) ∙ sym law
+first_is_none p all n t place seen none law =
+    ap (λ (ms : List Message). slice_get ms 0) (queue_is_none p all n t place seen none) ∙ sym law
 
 -- ---- what the tables are after a call
 
+-- the queues are sound, and are seen as these lists with whatever room there is
 pub record IsAfter (p : PlaceList) (all : List (Option Queue)) (t : FlowLists) : Type 0 where
   pub sound : IsFlow p all
   pub is : (n : ℕ) → lists_of p all n ≡ record t { spare = n }
 
-after_now : (p : PlaceList) (all new : List (Option Queue)) (n : ℕ) (t : FlowLists) (change : FlowLists → FlowLists) → lists_of p all n ≡ t → IsNow p new (change (lists_of p all n)) → IsAfter p new (change t)
+after_now : (p : PlaceList) (all new : List (Option Queue)) (n : ℕ) (t : FlowLists) (change : FlowLists → FlowLists)
+    → lists_of p all n ≡ t → IsNow p new (change (lists_of p all n)) → IsAfter p new (change t)
 after_now p all new n t change seen now =
     let here = subst (λ (x : FlowLists). IsNow p new (change x)) seen now in
     record { sound = now.sound; is = λ m. seen_now p new (change t) m here }
 
-pub put_is : (p : PlaceList) (all new : List (Option Queue)) (n : ℕ) (t : FlowLists) (place : Place) (i : ℕ) (m : Message) → IsFlow p all → lists_of p all n ≡ t → slice_get p.places i ≡ Some place
+-- where a message arrives at the queue of a place's number, it arrives at the place
+pub put_is : (p : PlaceList) (all new : List (Option Queue)) (n : ℕ) (t : FlowLists) (place : Place) (i : ℕ)
+    (m : Message) → IsFlow p all → lists_of p all n ≡ t → slice_get p.places i ≡ Some place
     → new ≡ with_queue all i (with_arrival (queue_at all i) m) → IsAfter p new (after_arrival t place m)
 put_is p all new n t place i m h seen at is =
-    after_now p all new n t (λ x. after_arrival x place m) seen (subst (λ (qs : List (Option Queue)). IsNow p qs (after_arrival (lists_of p all n) place m)) (sym is) (arrived_now p all n place i m h at))
+    after_now p all new n t (λ x. after_arrival x place m) seen
+    (subst (λ (qs : List (Option Queue)). IsNow p qs (after_arrival (lists_of p all n) place m)) (sym is)
+    (arrived_now p all n place i m h at))
 
-pub take_is : (p : PlaceList) (all new : List (Option Queue)) (n : ℕ) (t : FlowLists) (place : Place) (i : ℕ) (m : Message) → IsFlow p all → lists_of p all n ≡ t → slice_get p.places i ≡ Some place
-    → slice_get (queue_at all i).messages 0 ≡ Some m → new ≡ with_queue all i (without_front (queue_at all i)) → IsAfter p new (after_leaving t place)
+-- where the front leaves the queue of a place's number, the first message leaves the place
+pub take_is : (p : PlaceList) (all new : List (Option Queue)) (n : ℕ) (t : FlowLists) (place : Place) (i : ℕ)
+    (m : Message) → IsFlow p all → lists_of p all n ≡ t → slice_get p.places i ≡ Some place
+    → slice_get (queue_at all i).messages 0 ≡ Some m → new ≡ with_queue all i (without_front (queue_at all i))
+    → IsAfter p new (after_leaving t place)
 take_is p all new n t place i m h seen at first is =
-    after_now p all new n t (λ x. after_leaving x place) seen (subst (λ (qs : List (Option Queue)). IsNow p qs (after_leaving (lists_of p all n) place)) (sym is) (left_now p all n place i m h at first))
+    after_now p all new n t (λ x. after_leaving x place) seen
+    (subst (λ (qs : List (Option Queue)). IsNow p qs (after_leaving (lists_of p all n) place)) (sym is)
+    (left_now p all n place i m h at first))
 
-pub move_is : (p : PlaceList) (all new : List (Option Queue)) (n : ℕ) (t : FlowLists) (from to : Place) (i j : ℕ) (m : Message) → IsFlow p all → lists_of p all n ≡ t → slice_get p.places i ≡ Some from → slice_get p.places j ≡ Some to
+-- where the front of one number's queue goes to another's, the first message goes from place to place
+pub move_is : (p : PlaceList) (all new : List (Option Queue)) (n : ℕ) (t : FlowLists) (from to : Place) (i j : ℕ)
+    (m : Message) → IsFlow p all → lists_of p all n ≡ t → slice_get p.places i ≡ Some from
+    → slice_get p.places j ≡ Some to
     → same_place from to ≡ false → slice_get (queue_at all i).messages 0 ≡ Some m
-    → new ≡ with_queue (with_queue all i (without_front (queue_at all i))) j (with_arrival (queue_at all j) m) → IsAfter p new (after_arrival (after_leaving t from) to m)
+    → new ≡ with_queue (with_queue all i (without_front (queue_at all i))) j (with_arrival (queue_at all j) m)
+    → IsAfter p new (after_arrival (after_leaving t from) to m)
 move_is p all new n t from to i j m h seen at there differ first is =
     after_now p all new n t (λ x. after_arrival (after_leaving x from) to m) seen
-    (subst (λ (qs : List (Option Queue)). IsNow p qs (after_arrival (after_leaving (lists_of p all n) from) to m)) (sym is) (moved_now p all n from to i j m h at there differ first))
+    (subst (λ (qs : List (Option Queue)). IsNow p qs (after_arrival (after_leaving (lists_of p all n) from) to m))
+    (sym is) (moved_now p all n from to i j m h at there differ first))
 
-pub drop_is : (p : PlaceList) (all new : List (Option Queue)) (n : ℕ) (t : FlowLists) (place : Place) (i : ℕ) → IsFlow p all → lists_of p all n ≡ t → slice_get p.places i ≡ Some place
+-- where the queue of a place's number is emptied, the flow and the full places are without the place
+pub drop_is : (p : PlaceList) (all new : List (Option Queue)) (n : ℕ) (t : FlowLists) (place : Place) (i : ℕ)
+    → IsFlow p all → lists_of p all n ≡ t → slice_get p.places i ≡ Some place
     → new ≡ with_queue all i (emptied (queue_at all i)) → IsAfter p new (without_place t place)
 drop_is p all new n t place i h seen at is =
-    after_now p all new n t (λ x. without_place x place) seen (subst (λ (qs : List (Option Queue)). IsNow p qs (without_place (lists_of p all n) place)) (sym is) (emptied_now p all n place i h at))
+    after_now p all new n t (λ x. without_place x place) seen
+    (subst (λ (qs : List (Option Queue)). IsNow p qs (without_place (lists_of p all n) place)) (sym is)
+    (emptied_now p all n place i h at))
 
-pub drop_is_none : (p : PlaceList) (all : List (Option Queue)) (n : ℕ) (t : FlowLists) (place : Place) → IsFlow p all → lists_of p all n ≡ t → list_any (same_place place) p.places ≡ false
+-- queues of drivers that don't have a place are seen as the lists without it
+pub drop_is_none : (p : PlaceList) (all : List (Option Queue)) (n : ℕ) (t : FlowLists) (place : Place) → IsFlow p all
+    → lists_of p all n ≡ t → list_any (same_place place) p.places ≡ false
     → IsAfter p all (without_place t place)
-drop_is_none p all n t place h seen none = after_now p all all n t (λ x. without_place x place) seen (nothing_now p all n place h none)
+drop_is_none p all n t place h seen none =
+    after_now p all all n t (λ x. without_place x place) seen (nothing_now p all n place h none)
 
 -- a queue more is read, and nothing changes
-pub same_is : (p : PlaceList) (all : List (Option Queue)) (n m : ℕ) (t : FlowLists) → lists_of p all n ≡ t → lists_of p all m ≡ record t { spare = m }
+pub same_is : (p : PlaceList) (all : List (Option Queue)) (n m : ℕ) (t : FlowLists) → lists_of p all n ≡ t
+    → lists_of p all m ≡ record t { spare = m }
 same_is p all n m t seen = ap (λ (x : FlowLists). record x { spare = m }) seen
 
-pub total_is : (p : PlaceList) (all : List (Option Queue)) (n : ℕ) (t : FlowLists) → IsFlow p all → lists_of p all n ≡ t → message_total all ≡ length t.flow
-total_is p all n t h seen = sym (flow_length p.places all (many_queues p.drivers p.places all h.queues)) ∙ ap (λ (x : FlowLists). length x.flow) seen
+-- all queues have as many messages as the flow
+pub total_is : (p : PlaceList) (all : List (Option Queue)) (n : ℕ) (t : FlowLists) → IsFlow p all → lists_of p all n ≡ t
+    → message_total all ≡ length t.flow
+total_is p all n t h seen = sym (flow_length p.places all (many_queues p.drivers p.places all h.queues))
+    ∙ ap (λ (x : FlowLists). length x.flow) seen
 
 -- ---- a message that leaves, if there is one
 
-pub record IsTaken (p : PlaceList) (all : List (Option Queue)) (n : ℕ) (t : FlowLists) (place : Place) (o : Option Message) : Type 0 where
+-- the queues are sound, and where there was a message it left its place as the first
+pub record IsTaken (p : PlaceList) (all : List (Option Queue)) (n : ℕ) (t : FlowLists) (place : Place)
+    (o : Option Message) : Type 0 where
   pub sound : IsFlow p all
   pub is : OnSome o (lists_of p all n ≡ record (after_leaving t place) { spare = n })
 
-pub taken_by : (p : PlaceList) (old new : QueueTable) (t : FlowLists) (place : Place) (i : ℕ) (o : Option Message) → IsFlow p old.queues → lists_of p old.queues old.spare ≡ t → slice_get p.places i ≡ Some place
-    → o ≡ slice_get (queue_at old.queues i).messages 0 → OnSome o (new.queues ≡ with_queue old.queues i (without_front (queue_at old.queues i))) → IfNone o (new ≡ old) → IsTaken p new.queues new.spare t place o
-taken_by p old new t place i None h seen at first left none = record { sound = subst (λ (x : QueueTable). IsFlow p x.queues) (sym none) h; is = tt }
+-- the front of a number's queue, if it was taken, has left the place as its first message
+pub taken_by : (p : PlaceList) (old new : QueueTable) (t : FlowLists) (place : Place) (i : ℕ) (o : Option Message)
+    → IsFlow p old.queues → lists_of p old.queues old.spare ≡ t → slice_get p.places i ≡ Some place
+    → o ≡ slice_get (queue_at old.queues i).messages 0
+    → OnSome o (new.queues ≡ with_queue old.queues i (without_front (queue_at old.queues i))) → IfNone o (new ≡ old)
+    → IsTaken p new.queues new.spare t place o
+taken_by p old new t place i None h seen at first left none =
+    record { sound = subst (λ (x : QueueTable). IsFlow p x.queues) (sym none) h; is = tt }
 taken_by p old new t place i (Some m) h seen at first left none =
     let a = take_is p old.queues new.queues old.spare t place i m h seen at (sym first) left in
     record { sound = a.sound; is = a.is new.spare }
 
 -- ---- a place that is none of them
 
-pub drop_none_is : (p : PlaceList) (all : List (Option Queue)) (n : ℕ) (t : FlowLists) (place : Place) → IsFlow p all → lists_of p all n ≡ t → list_any (same_place place) p.places ≡ false
+-- without a place that the drivers don't have, the lists are as they were
+pub drop_none_is : (p : PlaceList) (all : List (Option Queue)) (n : ℕ) (t : FlowLists) (place : Place) → IsFlow p all
+    → lists_of p all n ≡ t → list_any (same_place place) p.places ≡ false
     → t ≡ record (without_place t place) { spare = t.spare }
 drop_none_is p all n t place h seen none =
-    subst (λ (x : FlowLists). x ≡ record (without_place x place) { spare = x.spare }) seen (seen_now p all (without_place (lists_of p all n) place) n (nothing_now p all n place h none))
+    subst (λ (x : FlowLists). x ≡ record (without_place x place) { spare = x.spare }) seen
+    (seen_now p all (without_place (lists_of p all n) place) n (nothing_now p all n place h none))
 
 -- ---- a message that moves on
 
@@ -125,25 +185,41 @@ some_there : (ms : List Message) (o : Option Message) → slice_get ms 0 ≡ o �
 some_there [] o e some = let bad = subst (λ (x : Option Message). IsSome x) (sym e) some in absurd cc
 some_there (m ∷ ms) o e some = omega arith
 
-pub some_queued : (p : PlaceList) (all : List (Option Queue)) (n : ℕ) (t : FlowLists) (place : Place) (i : ℕ) → IsFlow p all → lists_of p all n ≡ t → slice_get p.places i ≡ Some place → IsFirstOfQueue t place
+-- where the model has a first message of a place, the queue of the place's number has one
+pub some_queued : (p : PlaceList) (all : List (Option Queue)) (n : ℕ) (t : FlowLists) (place : Place) (i : ℕ)
+    → IsFlow p all → lists_of p all n ≡ t → slice_get p.places i ≡ Some place → IsFirstOfQueue t place
     → IsSome (first_message t.flow place) → 0 < length (queue_at all i).messages
-some_queued p all n t place i h seen at law some = some_there (queue_at all i).messages (first_message t.flow place) (first_is p all n t place i h seen at law) some
+some_queued p all n t place i h seen at law some =
+    some_there (queue_at all i).messages (first_message t.flow place) (first_is p all n t place i h seen at law) some
 
-pub record IsMovedOn (p : PlaceList) (all : List (Option Queue)) (n : ℕ) (t : FlowLists) (from to : Place) : Type 0 where
+-- the queues are sound, and the first message of one place has gone to another
+pub record IsMovedOn (p : PlaceList) (all : List (Option Queue)) (n : ℕ) (t : FlowLists)
+    (from to : Place) : Type 0 where
   pub sound : IsFlow p all
-  pub is : (m : Message) → first_message t.flow from ≡ Some m → lists_of p all n ≡ after_arrival (after_leaving t from) to m
+  pub is : (m : Message) → first_message t.flow from ≡ Some m
+      → lists_of p all n ≡ after_arrival (after_leaving t from) to m
 
-moved_at : (p : PlaceList) (old new : QueueTable) (t : FlowLists) (from to : Place) (i j : ℕ) (m : Message) → IsFlow p old.queues → lists_of p old.queues old.spare ≡ t → slice_get p.places i ≡ Some from → slice_get p.places j ≡ Some to
+moved_at : (p : PlaceList) (old new : QueueTable) (t : FlowLists) (from to : Place) (i j : ℕ) (m : Message)
+    → IsFlow p old.queues → lists_of p old.queues old.spare ≡ t → slice_get p.places i ≡ Some from
+    → slice_get p.places j ≡ Some to
     → same_place from to ≡ false → slice_get (queue_at old.queues i).messages 0 ≡ Some m
-    → new.queues ≡ with_queue (with_queue old.queues i (without_front (queue_at old.queues i))) j (with_arrival (queue_at old.queues j) m) → new.spare ≡ old.spare
+    → new.queues ≡ with_queue (with_queue old.queues i (without_front (queue_at old.queues i))) j
+    (with_arrival (queue_at old.queues j) m) → new.spare ≡ old.spare
     → IsFlow p new.queues × (lists_of p new.queues new.spare ≡ after_arrival (after_leaving t from) to m)
 moved_at p old new t from to i j m h seen at there differ first moved same =
-    let a = move_is p old.queues new.queues old.spare t from to i j m h seen at there differ first moved in
-    (a.sound, a.is new.spare ∙ ap (λ (n : ℕ). record (after_arrival (after_leaving t from) to m) { spare = n }) (same ∙ ap (λ (x : FlowLists). x.spare) seen))
+    let a = move_is p old.queues new.queues old.spare t from to i j m h seen at there differ first moved in (
+      a.sound,
+      a.is new.spare ∙ ap (λ (n : ℕ). record (after_arrival (after_leaving t from) to m) { spare = n })
+          (same ∙ ap (λ (x : FlowLists). x.spare) seen),
+    )
 
-moved_some : (p : PlaceList) (old new : QueueTable) (t : FlowLists) (from to : Place) (i j : ℕ) (o : Option Message) → first_message t.flow from ≡ o → IsSome o → IsFlow p old.queues → lists_of p old.queues old.spare ≡ t
-    → slice_get p.places i ≡ Some from → slice_get p.places j ≡ Some to → same_place from to ≡ false → IsFirstOfQueue t from
-    → ((m : Message) → slice_get (queue_at old.queues i).messages 0 ≡ Some m → new.queues ≡ with_queue (with_queue old.queues i (without_front (queue_at old.queues i))) j (with_arrival (queue_at old.queues j) m))
+moved_some : (p : PlaceList) (old new : QueueTable) (t : FlowLists) (from to : Place) (i j : ℕ) (o : Option Message)
+    → first_message t.flow from ≡ o → IsSome o → IsFlow p old.queues → lists_of p old.queues old.spare ≡ t
+    → slice_get p.places i ≡ Some from → slice_get p.places j ≡ Some to → same_place from to ≡ false
+    → IsFirstOfQueue t from
+    → ((m : Message) → slice_get (queue_at old.queues i).messages 0 ≡ Some m
+    → new.queues ≡ with_queue (with_queue old.queues i (without_front (queue_at old.queues i))) j
+    (with_arrival (queue_at old.queues j) m))
     → new.spare ≡ old.spare → IsMovedOn p new.queues new.spare t from to
 moved_some p old new t from to i j None e some h seen at there differ law moved same = absurd cc
 moved_some p old new t from to i j (Some m) e some h seen at there differ law moved same =
@@ -153,12 +229,19 @@ moved_some p old new t from to i j (Some m) e some h seen at there differ law mo
       is = λ x f. (moved_at p old new t from to i j x h seen at there differ (first ∙ f) (moved x (first ∙ f)) same).1;
     }
 
-pub moved_by : (p : PlaceList) (old new : QueueTable) (t : FlowLists) (from to : Place) (i j : ℕ) → IsSome (first_message t.flow from) → IsFlow p old.queues → lists_of p old.queues old.spare ≡ t
-    → slice_get p.places i ≡ Some from → slice_get p.places j ≡ Some to → same_place from to ≡ false → IsFirstOfQueue t from
-    → ((m : Message) → slice_get (queue_at old.queues i).messages 0 ≡ Some m → new.queues ≡ with_queue (with_queue old.queues i (without_front (queue_at old.queues i))) j (with_arrival (queue_at old.queues j) m))
+-- where the front of one number's queue has gone to another's, the first message has gone from place to place
+pub moved_by : (p : PlaceList) (old new : QueueTable) (t : FlowLists) (from to : Place) (i j : ℕ)
+    → IsSome (first_message t.flow from) → IsFlow p old.queues → lists_of p old.queues old.spare ≡ t
+    → slice_get p.places i ≡ Some from → slice_get p.places j ≡ Some to → same_place from to ≡ false
+    → IsFirstOfQueue t from
+    → ((m : Message) → slice_get (queue_at old.queues i).messages 0 ≡ Some m
+    → new.queues ≡ with_queue (with_queue old.queues i (without_front (queue_at old.queues i))) j
+    (with_arrival (queue_at old.queues j) m))
     → new.spare ≡ old.spare → IsMovedOn p new.queues new.spare t from to
-moved_by p old new t from to i j some h seen at there differ law moved same = moved_some p old new t from to i j (first_message t.flow from) refl some h seen at there differ law moved same
+moved_by p old new t from to i j some h seen at there differ law moved same =
+    moved_some p old new t from to i j (first_message t.flow from) refl some h seen at there differ law moved same
 
+-- what is nothing is not there
 pub none_some : (o : Option Message) → None ≡ o → IsSome o → ⊥
 none_some None e some = cc
 none_some (Some m) e some = cc

@@ -1,5 +1,6 @@
 -- The flow and the full places that the queues of rising places make, where one queue changes.
-use Rattle.std.proofs.Common.{◌≡◌, ℕ, zero, suc, ◌<◌, Bool, true, false, not, List, [], ◌∷◌, ◌++◌, length, filter, set, get_or, Option, Some, None, refl, sym, ap, ◌∙◌, subst, arith}
+use Rattle.std.proofs.Common.{◌≡◌, ℕ, zero, suc, ◌<◌, Bool, true, false, not, List, [], ◌∷◌, ◌++◌, length, filter, set}
+use Rattle.std.proofs.Common.{get_or, Option, Some, None, refl, sym, ap, ◌∙◌, subst, arith}
 use Rattle.std.specs.Prelude.{slice_get}
 use Rattle.std.specs.List.{list_any}
 use Rattle.std.proofs.lemmas.Bool.{or_parts}
@@ -23,7 +24,8 @@ some_is : {X : Type 0} (x y : X) → Some x ≡ Some y → x ≡ y
 some_is x y e = cc
 
 -- a place of a list that rises comes behind the first one
-pub first_before : (p q : Place) (places : List Place) (i : ℕ) → ComesBefore place_before p places → slice_get places i ≡ Some q → place_before p q ≡ true
+pub first_before : (p q : Place) (places : List Place) (i : ℕ) → ComesBefore place_before p places
+    → slice_get places i ≡ Some q → place_before p q ≡ true
 first_before p q [] i h at = absurd cc
 first_before p q (r ∷ places) zero h at = subst (λ (x : Place). place_before p x ≡ true) (some_is r q at) h.0
 first_before p q (r ∷ places) (suc i) h at = first_before p q places i h.1 at
@@ -31,37 +33,48 @@ first_before p q (r ∷ places) (suc i) h at = first_before p q places i h.1 at
 -- ---- a message arrives
 
 skip_insert : (p r : Place) (m : Message) (ms : List Message) (rest : List QueuedMessage) → place_before p r ≡ false
-    → with_inserted queued_before (messages_at r ms ++ rest) (placed p m) ≡ messages_at r ms ++ with_inserted queued_before rest (placed p m)
+    → with_inserted queued_before (messages_at r ms ++ rest) (placed p m)
+    ≡ messages_at r ms ++ with_inserted queued_before rest (placed p m)
 skip_insert p r m [] rest h = refl
-skip_insert p r m (x ∷ ms) rest h = rw h (ap (λ (xs : List QueuedMessage). placed r x ∷ xs) (skip_insert p r m ms rest h))
+skip_insert p r m (x ∷ ms) rest h =
+    rw h (ap (λ (xs : List QueuedMessage). placed r x ∷ xs) (skip_insert p r m ms rest h))
 
 insert_first : (p : Place) (m : Message) (places : List Place) (queues : Queues) → ComesBefore place_before p places
     → with_inserted queued_before (flow_of places queues) (placed p m) ≡ placed p m ∷ flow_of places queues
 insert_first p m [] queues h = refl
 insert_first p m (r ∷ places) [] h = refl
 insert_first p m (r ∷ places) (q ∷ queues) h = by_messages (messages_in q) (insert_first p m places queues h.1) where
-  by_messages : (ms : List Message) → with_inserted queued_before (flow_of places queues) (placed p m) ≡ placed p m ∷ flow_of places queues
-      → with_inserted queued_before (messages_at r ms ++ flow_of places queues) (placed p m) ≡ placed p m ∷ (messages_at r ms ++ flow_of places queues)
+  by_messages : (ms : List Message) → with_inserted queued_before (flow_of places queues) (placed p m)
+      ≡ placed p m ∷ flow_of places queues
+      → with_inserted queued_before (messages_at r ms ++ flow_of places queues) (placed p m)
+      ≡ placed p m ∷ (messages_at r ms ++ flow_of places queues)
   by_messages [] rest = rest
   by_messages (x ∷ ms) rest = rw h.0 refl
 
-one_more : (p : Place) (m : Message) (ms : List Message) (rest : List QueuedMessage) → messages_at p (ms ++ m ∷ []) ++ rest ≡ messages_at p ms ++ (placed p m ∷ rest)
+one_more : (p : Place) (m : Message) (ms : List Message) (rest : List QueuedMessage)
+    → messages_at p (ms ++ m ∷ []) ++ rest ≡ messages_at p ms ++ (placed p m ∷ rest)
 one_more p m [] rest = refl
 one_more p m (x ∷ ms) rest = ap (λ (xs : List QueuedMessage). placed p x ∷ xs) (one_more p m ms rest)
 
-pub flow_arrived : (p : Place) (m : Message) (places : List Place) (queues : Queues) (i : ℕ) (q : Queue) → IsRising place_before places → slice_get places i ≡ Some p → i < length queues
-    → q.messages ≡ messages_in (get_or queues i None) ++ m ∷ [] → flow_of places (set queues i (Some q)) ≡ with_inserted queued_before (flow_of places queues) (placed p m)
+-- with a message more at the end of one queue, the flow has it inserted in its order
+pub flow_arrived : (p : Place) (m : Message) (places : List Place) (queues : Queues) (i : ℕ) (q : Queue)
+    → IsRising place_before places → slice_get places i ≡ Some p → i < length queues
+    → q.messages ≡ messages_in (get_or queues i None) ++ m ∷ []
+    → flow_of places (set queues i (Some q)) ≡ with_inserted queued_before (flow_of places queues) (placed p m)
 flow_arrived p m [] queues i q rise at below is = absurd cc
 flow_arrived p m (r ∷ places) [] i q rise at below is = absurd (omega arith)
 flow_arrived p m (r ∷ places) (old ∷ queues) zero q rise at below is =
     let e = some_is r p at in
     let first : ComesBefore place_before p places = subst (λ (x : Place). ComesBefore place_before x places) e rise.0 in
     rw (is, e) (one_more p m (messages_in old) (flow_of places queues)
-    ∙ (ap (λ (xs : List QueuedMessage). messages_at p (messages_in old) ++ xs) (sym (insert_first p m places queues first))
+    ∙ (ap (λ (xs : List QueuedMessage). messages_at p (messages_in old) ++ xs)
+    (sym (insert_first p m places queues first))
     ∙ sym (skip_insert p p m (messages_in old) (flow_of places queues) (not_before p))))
 flow_arrived p m (r ∷ places) (old ∷ queues) (suc i) q rise at below is =
-    ap (λ (xs : List QueuedMessage). messages_at r (messages_in old) ++ xs) (flow_arrived p m places queues i q rise.1 at (omega arith) is)
-    ∙ sym (skip_insert p r m (messages_in old) (flow_of places queues) (not_after r p (first_before r p places i rise.0 at)))
+    ap (λ (xs : List QueuedMessage). messages_at r (messages_in old) ++ xs)
+    (flow_arrived p m places queues i q rise.1 at (omega arith) is)
+    ∙ sym (skip_insert p r m (messages_in old) (flow_of places queues)
+    (not_after r p (first_before r p places i rise.0 at)))
 
 -- ---- the first message leaves
 
@@ -70,37 +83,51 @@ skip_without : (p r : Place) (ms : List Message) (rest : List QueuedMessage) →
 skip_without p r [] rest h = refl
 skip_without p r (x ∷ ms) rest h = rw h (ap (λ (xs : List QueuedMessage). placed r x ∷ xs) (skip_without p r ms rest h))
 
-pub flow_left : (p : Place) (m : Message) (places : List Place) (queues : Queues) (i : ℕ) (q : Queue) → IsRising place_before places → slice_get places i ≡ Some p → i < length queues
-    → messages_in (get_or queues i None) ≡ m ∷ q.messages → flow_of places (set queues i (Some q)) ≡ without_first (is_at p) (flow_of places queues)
+-- without the front of one queue, the flow is without the first message at its place
+pub flow_left : (p : Place) (m : Message) (places : List Place) (queues : Queues) (i : ℕ) (q : Queue)
+    → IsRising place_before places → slice_get places i ≡ Some p → i < length queues
+    → messages_in (get_or queues i None) ≡ m ∷ q.messages
+    → flow_of places (set queues i (Some q)) ≡ without_first (is_at p) (flow_of places queues)
 flow_left p m [] queues i q rise at below is = absurd cc
 flow_left p m (r ∷ places) [] i q rise at below is = absurd (omega arith)
 flow_left p m (r ∷ places) (old ∷ queues) zero q rise at below is =
     let e = some_is r p at in
-    subst (λ (x : Place). flow_of (x ∷ places) (Some q ∷ queues) ≡ without_first (is_at p) (flow_of (x ∷ places) (old ∷ queues))) (sym e) (rw (is, place_self p) refl)
+    subst (λ (x : Place). flow_of (x ∷ places) (Some q ∷ queues)
+    ≡ without_first (is_at p) (flow_of (x ∷ places) (old ∷ queues))) (sym e) (rw (is, place_self p) refl)
 flow_left p m (r ∷ places) (old ∷ queues) (suc i) q rise at below is =
-    ap (λ (xs : List QueuedMessage). messages_at r (messages_in old) ++ xs) (flow_left p m places queues i q rise.1 at (omega arith) is)
+    ap (λ (xs : List QueuedMessage). messages_at r (messages_in old) ++ xs)
+    (flow_left p m places queues i q rise.1 at (omega arith) is)
     ∙ sym (skip_without p r (messages_in old) (flow_of places queues) (apart r p (first_before r p places i rise.0 at)))
 
 -- ---- a place is emptied
 
+-- the message is queued at another place
 abbrev pub not_at : Place → QueuedMessage → Bool
 not_at p h = not (is_at p h)
 
-pub drop_same : (p : Place) (ms : List Message) (rest : List QueuedMessage) → filter (not_at p) (messages_at p ms ++ rest) ≡ filter (not_at p) rest
+-- of a place's messages and others, those at other places are among the others
+pub drop_same : (p : Place) (ms : List Message) (rest : List QueuedMessage)
+    → filter (not_at p) (messages_at p ms ++ rest) ≡ filter (not_at p) rest
 drop_same p [] rest = refl
 drop_same p (x ∷ ms) rest = rw (place_self p) (drop_same p ms rest)
 
-pub keep_other : (p r : Place) (ms : List Message) (rest : List QueuedMessage) → same_place r p ≡ false → filter (not_at p) (messages_at r ms ++ rest) ≡ messages_at r ms ++ filter (not_at p) rest
+-- the messages of one place are kept where those of another are left out
+pub keep_other : (p r : Place) (ms : List Message) (rest : List QueuedMessage) → same_place r p ≡ false
+    → filter (not_at p) (messages_at r ms ++ rest) ≡ messages_at r ms ++ filter (not_at p) rest
 keep_other p r [] rest h = refl
 keep_other p r (x ∷ ms) rest h = rw h (ap (λ (xs : List QueuedMessage). placed r x ∷ xs) (keep_other p r ms rest h))
 
-keep_behind : (p : Place) (places : List Place) (queues : Queues) → ComesBefore place_before p places → filter (not_at p) (flow_of places queues) ≡ flow_of places queues
+keep_behind : (p : Place) (places : List Place) (queues : Queues) → ComesBefore place_before p places
+    → filter (not_at p) (flow_of places queues) ≡ flow_of places queues
 keep_behind p [] queues h = refl
 keep_behind p (r ∷ places) [] h = refl
 keep_behind p (r ∷ places) (q ∷ queues) h =
-    keep_other p r (messages_in q) (flow_of places queues) (behind p r h.0) ∙ ap (λ (xs : List QueuedMessage). messages_at r (messages_in q) ++ xs) (keep_behind p places queues h.1)
+    keep_other p r (messages_in q) (flow_of places queues) (behind p r h.0)
+    ∙ ap (λ (xs : List QueuedMessage). messages_at r (messages_in q) ++ xs) (keep_behind p places queues h.1)
 
-pub flow_emptied : (p : Place) (places : List Place) (queues : Queues) (i : ℕ) (q : Queue) → IsRising place_before places → slice_get places i ≡ Some p → i < length queues
+-- with one queue emptied, the flow is without the messages at its place
+pub flow_emptied : (p : Place) (places : List Place) (queues : Queues) (i : ℕ) (q : Queue)
+    → IsRising place_before places → slice_get places i ≡ Some p → i < length queues
     → q.messages ≡ [] → flow_of places (set queues i (Some q)) ≡ filter (not_at p) (flow_of places queues)
 flow_emptied p [] queues i q rise at below is = absurd cc
 flow_emptied p (r ∷ places) [] i q rise at below is = absurd (omega arith)
@@ -109,39 +136,51 @@ flow_emptied p (r ∷ places) (old ∷ queues) zero q rise at below is =
     let first : ComesBefore place_before p places = subst (λ (x : Place). ComesBefore place_before x places) e rise.0 in
     rw (is, e) (sym (drop_same p (messages_in old) (flow_of places queues) ∙ keep_behind p places queues first))
 flow_emptied p (r ∷ places) (old ∷ queues) (suc i) q rise at below is =
-    ap (λ (xs : List QueuedMessage). messages_at r (messages_in old) ++ xs) (flow_emptied p places queues i q rise.1 at (omega arith) is)
+    ap (λ (xs : List QueuedMessage). messages_at r (messages_in old) ++ xs)
+    (flow_emptied p places queues i q rise.1 at (omega arith) is)
     ∙ sym (keep_other p r (messages_in old) (flow_of places queues) (apart r p (first_before r p places i rise.0 at)))
 
 -- ---- what is at a place
 
-at_other : (p r : Place) (ms : List Message) (rest : List QueuedMessage) → same_place r p ≡ false → queue (messages_at r ms ++ rest) p ≡ queue rest p
+at_other : (p r : Place) (ms : List Message) (rest : List QueuedMessage) → same_place r p ≡ false
+    → queue (messages_at r ms ++ rest) p ≡ queue rest p
 at_other p r [] rest h = refl
 at_other p r (x ∷ ms) rest h = rw h (at_other p r ms rest h)
 
-at_same : (p : Place) (ms : List Message) (rest : List QueuedMessage) → queue (messages_at p ms ++ rest) p ≡ ms ++ queue rest p
+at_same : (p : Place) (ms : List Message) (rest : List QueuedMessage)
+    → queue (messages_at p ms ++ rest) p ≡ ms ++ queue rest p
 at_same p [] rest = refl
 at_same p (x ∷ ms) rest = rw (place_self p) (ap (λ (xs : List Message). x ∷ xs) (at_same p ms rest))
 
-queue_behind : (p : Place) (places : List Place) (queues : Queues) → ComesBefore place_before p places → queue (flow_of places queues) p ≡ []
+queue_behind : (p : Place) (places : List Place) (queues : Queues) → ComesBefore place_before p places
+    → queue (flow_of places queues) p ≡ []
 queue_behind p [] queues h = refl
 queue_behind p (r ∷ places) [] h = refl
-queue_behind p (r ∷ places) (q ∷ queues) h = at_other p r (messages_in q) (flow_of places queues) (behind p r h.0) ∙ queue_behind p places queues h.1
+queue_behind p (r ∷ places) (q ∷ queues) h =
+    at_other p r (messages_in q) (flow_of places queues) (behind p r h.0) ∙ queue_behind p places queues h.1
 
 append_nil : {X : Type 0} (xs : List X) → xs ++ [] ≡ xs
 append_nil [] = refl
 append_nil (x ∷ xs) = ap (λ (ys : List _). x ∷ ys) (append_nil xs)
 
-pub queue_found : (p : Place) (places : List Place) (queues : Queues) (i : ℕ) → IsRising place_before places → slice_get places i ≡ Some p → queue (flow_of places queues) p ≡ messages_in (get_or queues i None)
+-- what the flow has at a place is the messages of the queue at its number
+pub queue_found : (p : Place) (places : List Place) (queues : Queues) (i : ℕ) → IsRising place_before places
+    → slice_get places i ≡ Some p → queue (flow_of places queues) p ≡ messages_in (get_or queues i None)
 queue_found p [] queues i rise at = absurd cc
 queue_found p (r ∷ places) [] i rise at = refl
 queue_found p (r ∷ places) (q ∷ queues) zero rise at =
     let e = some_is r p at in
     let first : ComesBefore place_before p places = subst (λ (x : Place). ComesBefore place_before x places) e rise.0 in
-    rw e (at_same p (messages_in q) (flow_of places queues) ∙ (ap (λ (xs : List Message). messages_in q ++ xs) (queue_behind p places queues first) ∙ append_nil (messages_in q)))
+    rw e (at_same p (messages_in q) (flow_of places queues)
+    ∙ (ap (λ (xs : List Message). messages_in q ++ xs) (queue_behind p places queues first)
+    ∙ append_nil (messages_in q)))
 queue_found p (r ∷ places) (q ∷ queues) (suc i) rise at =
-    at_other p r (messages_in q) (flow_of places queues) (apart r p (first_before r p places i rise.0 at)) ∙ queue_found p places queues i rise.1 at
+    at_other p r (messages_in q) (flow_of places queues) (apart r p (first_before r p places i rise.0 at))
+    ∙ queue_found p places queues i rise.1 at
 
-pub queue_none : (p : Place) (places : List Place) (queues : Queues) → list_any (same_place p) places ≡ false → queue (flow_of places queues) p ≡ []
+-- at a place that is none of these the flow has nothing
+pub queue_none : (p : Place) (places : List Place) (queues : Queues) → list_any (same_place p) places ≡ false
+    → queue (flow_of places queues) p ≡ []
 queue_none p [] queues h = refl
 queue_none p (r ∷ places) [] h = refl
 queue_none p (r ∷ places) (q ∷ queues) h = let b = or_parts (same_place p r) (list_any (same_place p) places) h in

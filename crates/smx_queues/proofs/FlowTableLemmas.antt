@@ -1,5 +1,6 @@
 -- What a change of the queue of one place comes to in the flow and the full places.
-use Rattle.std.proofs.Common.{◌≡◌, ◌≢◌, ℕ, zero, suc, ◌<◌, Bool, false, not, List, [], ◌∷◌, ◌++◌, length, drop, filter, set, get_or, Option, Some, None, refl, sym, ap, ◌∙◌, subst, arith, inl, inr}
+use Rattle.std.proofs.Common.{◌≡◌, ◌≢◌, ℕ, zero, suc, ◌<◌, Bool, false, not, List, [], ◌∷◌, ◌++◌, length, drop, filter}
+use Rattle.std.proofs.Common.{set, get_or, Option, Some, None, refl, sym, ap, ◌∙◌, subst, arith, inl, inr}
 use Rattle.std.specs.Prelude.{slice_get}
 use Rattle.std.specs.List.{list_any}
 use Rattle.std.proofs.lemmas.Bool.{cases_Bool, false≢true, or_parts}
@@ -11,7 +12,8 @@ use Rattle.smx_types.specs.declared.stream.Place.{Place}
 use Rattle.smx_model.specs.Configuration.{QueuedMessage, same_place}
 use Rattle.smx_model.specs.DriverList.{high_of, low_of}
 use Rattle.smx_model.specs.Queues.{bytes_at, bytes_of, with_mark}
-use Rattle.smx_queues.specs.FlowTables.{AreQueuesOf, FlowLists, IsFlow, after_arrival, after_leaving, flow_of, fulls_of, lists_of, messages_at, without_place}
+use Rattle.smx_queues.specs.FlowTables.{AreQueuesOf, FlowLists, IsFlow, after_arrival, after_leaving, flow_of, fulls_of}
+use Rattle.smx_queues.specs.FlowTables.{lists_of, messages_at, without_place}
 use Rattle.smx_queues.specs.PlaceLists.{PlaceList, new_queues}
 use Rattle.smx_queues.specs.QueueTable.{IsPlace, Queue, emptied, queue_at, with_arrival, with_queue, without_front}
 use Rattle.smx_queues.specs.Slots.{is_marked, messages_in}
@@ -30,7 +32,9 @@ pub record IsFound (drivers : List DriverSpec) (queues : List (Option Queue)) (p
 some_is : {X : Type 0} (x y : X) → Some x ≡ Some y → x ≡ y
 some_is x y e = cc
 
-pub found : (drivers : List DriverSpec) (places : List Place) (queues : List (Option Queue)) (p : Place) (i : ℕ) → AreQueuesOf drivers places queues → slice_get places i ≡ Some p → IsFound drivers queues p i
+-- the number of a place has a queue, with the water marks of the place's driver
+pub found : (drivers : List DriverSpec) (places : List Place) (queues : List (Option Queue)) (p : Place) (i : ℕ)
+    → AreQueuesOf drivers places queues → slice_get places i ≡ Some p → IsFound drivers queues p i
 found drivers [] queues p i h at = absurd cc
 found drivers (r ∷ places) [] p i h at = absurd h
 found drivers (r ∷ places) (None ∷ queues) p i h at = absurd h
@@ -47,22 +51,29 @@ found drivers (r ∷ places) (Some q ∷ queues) p (suc i) h at =
     let f = found drivers places queues p i h.2 at in
     record { q = f.q; slot = f.slot; below = omega (arith, f.below); high = f.high; low = f.low }
 
-pub found_at : (drivers : List DriverSpec) (queues : List (Option Queue)) (p : Place) (i : ℕ) (f : IsFound drivers queues p i) → queue_at queues i ≡ f.q
+-- the queue that was found at a number is the one there
+pub found_at : (drivers : List DriverSpec) (queues : List (Option Queue)) (p : Place) (i : ℕ)
+    (f : IsFound drivers queues p i) → queue_at queues i ≡ f.q
 found_at drivers queues p i f = rw f.slot refl
 
-pub is_place : (drivers : List DriverSpec) (places : List Place) (queues : List (Option Queue)) (p : Place) (i : ℕ) → AreQueuesOf drivers places queues → slice_get places i ≡ Some p → IsPlace queues i
+-- the number of a place is that of a queue
+pub is_place : (drivers : List DriverSpec) (places : List Place) (queues : List (Option Queue)) (p : Place) (i : ℕ)
+    → AreQueuesOf drivers places queues → slice_get places i ≡ Some p → IsPlace queues i
 is_place drivers places queues p i h at = let f = found drivers places queues p i h at in rw f.slot refl
 
 -- another queue with the same water marks
-pub still_queues : (drivers : List DriverSpec) (places : List Place) (queues : List (Option Queue)) (i : ℕ) (q new : Queue) → AreQueuesOf drivers places queues → get_or queues i None ≡ Some q
+pub still_queues : (drivers : List DriverSpec) (places : List Place) (queues : List (Option Queue)) (i : ℕ)
+    (q new : Queue) → AreQueuesOf drivers places queues → get_or queues i None ≡ Some q
     → new.high ≡ q.high → new.low ≡ q.low → AreQueuesOf drivers places (set queues i (Some new))
 still_queues drivers [] [] i q new h at high low = tt
 still_queues drivers [] (x ∷ queues) i q new h at high low = absurd h
 still_queues drivers (r ∷ places) [] i q new h at high low = absurd h
 still_queues drivers (r ∷ places) (None ∷ queues) i q new h at high low = absurd h
 still_queues drivers (r ∷ places) (Some x ∷ queues) zero q new h at high low =
-    let e = some_is x q at in (high ∙ ap (λ (y : Queue). y.high) (sym e) ∙ h.0, low ∙ ap (λ (y : Queue). y.low) (sym e) ∙ h.1, h.2)
-still_queues drivers (r ∷ places) (Some x ∷ queues) (suc i) q new h at high low = (h.0, h.1, still_queues drivers places queues i q new h.2 at high low)
+    let e = some_is x q at in
+    (high ∙ ap (λ (y : Queue). y.high) (sym e) ∙ h.0, low ∙ ap (λ (y : Queue). y.low) (sym e) ∙ h.1, h.2)
+still_queues drivers (r ∷ places) (Some x ∷ queues) (suc i) q new h at high low =
+    (h.0, h.1, still_queues drivers places queues i q new h.2 at high low)
 
 -- ---- what the tables are after a change, seen as lists
 
@@ -73,109 +84,157 @@ pub record IsNow (p : PlaceList) (all : List (Option Queue)) (t : FlowLists) : T
   pub flow : flow_of p.places all ≡ t.flow
   pub fulls : fulls_of p.places all ≡ t.fulls
 
-pub seen_now : (p : PlaceList) (all : List (Option Queue)) (t : FlowLists) (n : ℕ) → IsNow p all t → lists_of p all n ≡ record t { spare = n }
+-- queues that are seen as these lists make them, with their room
+pub seen_now : (p : PlaceList) (all : List (Option Queue)) (t : FlowLists) (n : ℕ) → IsNow p all t
+    → lists_of p all n ≡ record t { spare = n }
 seen_now p all t n h = rw (h.drivers, h.flow, h.fulls) refl
 
 first_is : (ms : List Message) (m : Message) → slice_get ms 0 ≡ Some m → ms ≡ m ∷ drop 1 ms
 first_is [] m e = absurd cc
 first_is (x ∷ ms) m e = ap (λ (y : Message). y ∷ ms) (some_is x m e)
 
-new_slot : (queues : List (Option Queue)) (i : ℕ) (q : Queue) → i < length queues → messages_in (get_or (set queues i (Some q)) i None) ≡ q.messages
+new_slot : (queues : List (Option Queue)) (i : ℕ) (q : Queue) → i < length queues
+    → messages_in (get_or (set queues i (Some q)) i None) ≡ q.messages
 new_slot queues i q below = rw (get_or-set_same queues i (Some q) None below) refl
 
-pub left_now : (p : PlaceList) (all : List (Option Queue)) (n : ℕ) (place : Place) (i : ℕ) (m : Message) → IsFlow p all → slice_get p.places i ≡ Some place → slice_get (queue_at all i).messages 0 ≡ Some m
+-- where the front left the queue of a place's number, the lists are those without its first message
+pub left_now : (p : PlaceList) (all : List (Option Queue)) (n : ℕ) (place : Place) (i : ℕ) (m : Message) → IsFlow p all
+    → slice_get p.places i ≡ Some place → slice_get (queue_at all i).messages 0 ≡ Some m
     → IsNow p (with_queue all i (without_front (queue_at all i))) (after_leaving (lists_of p all n) place)
 left_now p all n place i m h at first =
     let f = found p.drivers p.places all place i h.queues at in
     let e = found_at p.drivers all place i f in
     rw e (now f (first_is f.q.messages m (subst (λ (q : Queue). slice_get q.messages 0 ≡ Some m) e first))) where
-      now : (f : IsFound p.drivers all place i) → f.q.messages ≡ m ∷ drop 1 f.q.messages → IsNow p (with_queue all i (without_front f.q)) (after_leaving (lists_of p all n) place)
+      now : (f : IsFound p.drivers all place i) → f.q.messages ≡ m ∷ drop 1 f.q.messages
+          → IsNow p (with_queue all i (without_front f.q)) (after_leaving (lists_of p all n) place)
       now f some =
-          let flow = flow_left place m p.places all i (without_front f.q) h.rising at f.below (ap messages_in f.slot ∙ some) in
-          let here = queue_found place p.places (set all i (Some (without_front f.q))) i h.rising at ∙ new_slot all i (without_front f.q) f.below in
-          let bytes : bytes_at (flow_of p.places (set all i (Some (without_front f.q)))) place ≡ bytes_of (drop 1 f.q.messages) = ap bytes_of here in
+          let flow = flow_left place m p.places all i (without_front f.q) h.rising at f.below
+          (ap messages_in f.slot ∙ some) in
+          let here = queue_found place p.places (set all i (Some (without_front f.q))) i h.rising at
+          ∙ new_slot all i (without_front f.q) f.below in
+          let bytes : bytes_at (flow_of p.places (set all i (Some (without_front f.q)))) place
+          ≡ bytes_of (drop 1 f.q.messages) = ap bytes_of here in
           let mark = mark_found place p.places all i h.rising at ∙ ap is_marked f.slot in
           record {
-            sound = record { rising = h.rising; queues = still_queues p.drivers p.places all i f.q (without_front f.q) h.queues f.slot refl refl };
+            sound = record {
+              rising = h.rising;
+              queues = still_queues p.drivers p.places all i f.q
+                  (without_front f.q) h.queues f.slot refl refl;
+            };
             drivers = refl;
             flow = flow;
             fulls = fulls_marked place p.places all i (without_front f.q) h.rising at f.below
                 ∙ ap (λ (b : Bool). with_mark place b (fulls_of p.places all)) (rw (mark, ← flow, bytes, ← f.low) refl);
           }
 
-pub arrived_now : (p : PlaceList) (all : List (Option Queue)) (n : ℕ) (place : Place) (i : ℕ) (m : Message) → IsFlow p all → slice_get p.places i ≡ Some place
+-- where a message came to the queue of a place's number, the lists are those with it
+pub arrived_now : (p : PlaceList) (all : List (Option Queue)) (n : ℕ) (place : Place) (i : ℕ) (m : Message)
+    → IsFlow p all → slice_get p.places i ≡ Some place
     → IsNow p (with_queue all i (with_arrival (queue_at all i) m)) (after_arrival (lists_of p all n) place m)
 arrived_now p all n place i m h at =
     let f = found p.drivers p.places all place i h.queues at in
     rw (found_at p.drivers all place i f) (now f) where
-      now : (f : IsFound p.drivers all place i) → IsNow p (with_queue all i (with_arrival f.q m)) (after_arrival (lists_of p all n) place m)
+      now : (f : IsFound p.drivers all place i)
+          → IsNow p (with_queue all i (with_arrival f.q m)) (after_arrival (lists_of p all n) place m)
       now f =
-          let flow = flow_arrived place m p.places all i (with_arrival f.q m) h.rising at f.below (ap (λ (o : Option Queue). messages_in o ++ m ∷ []) (sym f.slot)) in
-          let here = queue_found place p.places (set all i (Some (with_arrival f.q m))) i h.rising at ∙ new_slot all i (with_arrival f.q m) f.below in
-          let bytes : bytes_at (flow_of p.places (set all i (Some (with_arrival f.q m)))) place ≡ bytes_of (f.q.messages ++ m ∷ []) = ap bytes_of here in
+          let flow = flow_arrived place m p.places all i (with_arrival f.q m) h.rising at f.below
+          (ap (λ (o : Option Queue). messages_in o ++ m ∷ []) (sym f.slot)) in
+          let here = queue_found place p.places (set all i (Some (with_arrival f.q m))) i h.rising at
+          ∙ new_slot all i (with_arrival f.q m) f.below in
+          let bytes : bytes_at (flow_of p.places (set all i (Some (with_arrival f.q m)))) place
+          ≡ bytes_of (f.q.messages ++ m ∷ []) = ap bytes_of here in
           let mark = mark_found place p.places all i h.rising at ∙ ap is_marked f.slot in
           record {
-            sound = record { rising = h.rising; queues = still_queues p.drivers p.places all i f.q (with_arrival f.q m) h.queues f.slot refl refl };
+            sound = record {
+              rising = h.rising;
+              queues = still_queues p.drivers p.places all i f.q
+                  (with_arrival f.q m) h.queues f.slot refl refl;
+            };
             drivers = refl;
             flow = flow;
             fulls = fulls_marked place p.places all i (with_arrival f.q m) h.rising at f.below
-                ∙ ap (λ (b : Bool). with_mark place b (fulls_of p.places all)) (rw (mark, ← flow, bytes, ← f.high) refl);
+                ∙ ap (λ (b : Bool). with_mark place b (fulls_of p.places all))
+                (rw (mark, ← flow, bytes, ← f.high) refl);
           }
 
-pub emptied_now : (p : PlaceList) (all : List (Option Queue)) (n : ℕ) (place : Place) (i : ℕ) → IsFlow p all → slice_get p.places i ≡ Some place
+-- where the queue of a place's number was emptied, the lists are those without the place
+pub emptied_now : (p : PlaceList) (all : List (Option Queue)) (n : ℕ) (place : Place) (i : ℕ) → IsFlow p all
+    → slice_get p.places i ≡ Some place
     → IsNow p (with_queue all i (emptied (queue_at all i))) (without_place (lists_of p all n) place)
 emptied_now p all n place i h at =
     let f = found p.drivers p.places all place i h.queues at in
     rw (found_at p.drivers all place i f) (now f) where
-      now : (f : IsFound p.drivers all place i) → IsNow p (with_queue all i (emptied f.q)) (without_place (lists_of p all n) place)
+      now : (f : IsFound p.drivers all place i)
+          → IsNow p (with_queue all i (emptied f.q)) (without_place (lists_of p all n) place)
       now f = record {
-        sound = record { rising = h.rising; queues = still_queues p.drivers p.places all i f.q (emptied f.q) h.queues f.slot refl refl };
+        sound = record {
+          rising = h.rising;
+          queues = still_queues p.drivers p.places all i f.q
+              (emptied f.q) h.queues f.slot refl refl;
+        };
         drivers = refl;
         flow = flow_emptied place p.places all i (emptied f.q) h.rising at f.below refl;
         fulls = fulls_marked place p.places all i (emptied f.q) h.rising at f.below
-            ∙ filter_agree (λ q. not (same_place place q)) (λ q. not (same_place q place)) (λ q. ap not (same_turned place q)) (fulls_of p.places all);
+            ∙ filter_agree (λ q. not (same_place place q)) (λ q. not (same_place q place))
+            (λ q. ap not (same_turned place q)) (fulls_of p.places all);
       }
 
 -- ---- a message moves on
 
-other_at : (queues : List (Option Queue)) (i j : ℕ) (q : Queue) → j ≢ i → queue_at (set queues i (Some q)) j ≡ queue_at queues j
+other_at : (queues : List (Option Queue)) (i j : ℕ) (q : Queue) → j ≢ i
+    → queue_at (set queues i (Some q)) j ≡ queue_at queues j
 other_at queues i j q ne = rw (get_or-set_other queues i j (Some q) None ne) refl
 
 -- numbers of two places differ
-pub numbers_differ : (places : List Place) (p q : Place) (i j : ℕ) → slice_get places i ≡ Some p → slice_get places j ≡ Some q → same_place p q ≡ false → j ≢ i
+pub numbers_differ : (places : List Place) (p q : Place) (i j : ℕ) → slice_get places i ≡ Some p
+    → slice_get places j ≡ Some q → same_place p q ≡ false → j ≢ i
 numbers_differ places p q i j at there differ same =
     let e : Some p ≡ Some q = sym at ∙ (ap (slice_get places) (sym same) ∙ there) in
     let k : same_place p p ≡ false = subst (λ (x : Place). same_place p x ≡ false) (sym (some_is p q e)) differ in
     false≢true (sym k ∙ place_self p)
 
-pub moved_now : (p : PlaceList) (all : List (Option Queue)) (n : ℕ) (from to : Place) (i j : ℕ) (m : Message) → IsFlow p all → slice_get p.places i ≡ Some from → slice_get p.places j ≡ Some to
+-- where a front went from the queue of one number to another's, the lists are those after both
+pub moved_now : (p : PlaceList) (all : List (Option Queue)) (n : ℕ) (from to : Place) (i j : ℕ) (m : Message)
+    → IsFlow p all → slice_get p.places i ≡ Some from → slice_get p.places j ≡ Some to
     → same_place from to ≡ false → slice_get (queue_at all i).messages 0 ≡ Some m
-    → IsNow p (with_queue (with_queue all i (without_front (queue_at all i))) j (with_arrival (queue_at all j) m)) (after_arrival (after_leaving (lists_of p all n) from) to m)
+    → IsNow p (with_queue (with_queue all i (without_front (queue_at all i))) j (with_arrival (queue_at all j) m))
+    (after_arrival (after_leaving (lists_of p all n) from) to m)
 moved_now p all n from to i j m h at there differ first =
     let l = left_now p all n from i m h at first in
     let a = arrived_now p (with_queue all i (without_front (queue_at all i))) n to j m l.sound there in
     let e = other_at all i j (without_front (queue_at all i)) (numbers_differ p.places from to i j at there differ) in
-    let t = seen_now p (with_queue all i (without_front (queue_at all i))) (after_leaving (lists_of p all n) from) n l in
-    let b = subst (λ (q : Queue). IsNow p (with_queue (with_queue all i (without_front (queue_at all i))) j (with_arrival q m)) (after_arrival (lists_of p (with_queue all i (without_front (queue_at all i))) n) to m)) e a in
-    subst (λ (x : FlowLists). IsNow p (with_queue (with_queue all i (without_front (queue_at all i))) j (with_arrival (queue_at all j) m)) (after_arrival x to m)) t b
+    let t = seen_now p (with_queue all i (without_front (queue_at all i)))
+    (after_leaving (lists_of p all n) from) n l in
+    let b = subst
+    (λ (q : Queue). IsNow p (with_queue (with_queue all i (without_front (queue_at all i))) j (with_arrival q m))
+    (after_arrival (lists_of p (with_queue all i (without_front (queue_at all i))) n) to m)) e a in
+    subst (λ (x : FlowLists).
+    IsNow p (with_queue (with_queue all i (without_front (queue_at all i))) j (with_arrival (queue_at all j) m))
+    (after_arrival x to m)) t b
 
 -- ---- at first
 
+-- new queues make a flow without messages
 pub none_yet : (drivers : List DriverSpec) (places : List Place) → flow_of places (new_queues drivers places) ≡ []
 none_yet drivers [] = refl
 none_yet drivers (p ∷ places) = none_yet drivers places
 
+-- new queues make no place full
 pub open_yet : (drivers : List DriverSpec) (places : List Place) → fulls_of places (new_queues drivers places) ≡ []
 open_yet drivers [] = refl
 open_yet drivers (p ∷ places) = open_yet drivers places
 
-pub queues_yet : (drivers : List DriverSpec) (places : List Place) → AreQueuesOf drivers places (new_queues drivers places)
+-- new queues are one for each place, with the water marks of its driver
+pub queues_yet : (drivers : List DriverSpec) (places : List Place)
+    → AreQueuesOf drivers places (new_queues drivers places)
 queues_yet drivers [] = tt
 queues_yet drivers (p ∷ places) = (refl, refl, queues_yet drivers places)
 
 -- ---- a place that is none of them
 
-pub flow_without : (p : Place) (places : List Place) (queues : List (Option Queue)) → list_any (same_place p) places ≡ false → flow_of places queues ≡ filter (not_at p) (flow_of places queues)
+-- the flow has nothing at a place that is none of these, so nothing to leave out
+pub flow_without : (p : Place) (places : List Place) (queues : List (Option Queue))
+    → list_any (same_place p) places ≡ false → flow_of places queues ≡ filter (not_at p) (flow_of places queues)
 flow_without p [] queues h = refl
 flow_without p (r ∷ places) [] h = refl
 flow_without p (r ∷ places) (q ∷ queues) h =
@@ -183,7 +242,10 @@ flow_without p (r ∷ places) (q ∷ queues) h =
     ap (λ (xs : List QueuedMessage). messages_at r (messages_in q) ++ xs) (flow_without p places queues b.1)
     ∙ sym (keep_other p r (messages_in q) (flow_of places queues) (same_turned r p ∙ b.0))
 
-pub fulls_without : (p : Place) (places : List Place) (queues : List (Option Queue)) → list_any (same_place p) places ≡ false → fulls_of places queues ≡ filter (λ q. not (same_place q p)) (fulls_of places queues)
+-- a place that is none of these is not full, so nothing to leave out
+pub fulls_without : (p : Place) (places : List Place) (queues : List (Option Queue))
+    → list_any (same_place p) places ≡ false → fulls_of places queues
+    ≡ filter (λ q. not (same_place q p)) (fulls_of places queues)
 fulls_without p [] queues h = refl
 fulls_without p (r ∷ places) [] h = refl
 fulls_without p (r ∷ places) (q ∷ queues) h =
@@ -194,5 +256,12 @@ fulls_without p (r ∷ places) (q ∷ queues) h =
       | inr f ↦ rw f (fulls_without p places queues b.1)
     ]
 
-pub nothing_now : (p : PlaceList) (all : List (Option Queue)) (n : ℕ) (place : Place) → IsFlow p all → list_any (same_place place) p.places ≡ false → IsNow p all (without_place (lists_of p all n) place)
-nothing_now p all n place h none = record { sound = h; drivers = refl; flow = flow_without place p.places all none; fulls = fulls_without place p.places all none }
+-- queues are seen as the lists without a place that the drivers don't have
+pub nothing_now : (p : PlaceList) (all : List (Option Queue)) (n : ℕ) (place : Place) → IsFlow p all
+    → list_any (same_place place) p.places ≡ false → IsNow p all (without_place (lists_of p all n) place)
+nothing_now p all n place h none = record {
+  sound = h;
+  drivers = refl;
+  flow = flow_without place p.places all none;
+  fulls = fulls_without place p.places all none;
+}

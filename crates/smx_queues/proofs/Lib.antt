@@ -4,7 +4,7 @@ pub mod StoreLemmas
 pub mod SlotLemmas
 pub mod SoundLemmas
 pub mod WalkLemmas
-pub mod TableLemmas
+pub mod QueueTableLemmas
 pub mod CopyLemmas
 pub mod PlaceLemmas
 pub mod NumberLemmas

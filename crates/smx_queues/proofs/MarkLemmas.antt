@@ -1,10 +1,13 @@
 -- The marked places that bytes make, where one byte changes, and what a walk over them meets next.
-use Rattle.std.proofs.Common.{◌≡◌, ℕ, zero, suc, ◌+◌, ◌-◌, ◌<◌, ◌≤◌, Bool, true, false, not, cond, ◌&&◌, eqb, List, [], ◌∷◌, length, map, filter, drop, take, set, replicate, get_or, Option, Some, None, refl, sym, ap, ◌∙◌, subst, arith, inl, inr}
+use Rattle.std.proofs.Common.{◌≡◌, ℕ, zero, suc, ◌+◌, ◌-◌, ◌<◌, ◌≤◌, Bool, true, false, not, cond, ◌&&◌, eqb, List, []}
+use Rattle.std.proofs.Common.{◌∷◌, length, map, filter, drop, take, set, replicate, get_or, Option, Some, None, refl}
+use Rattle.std.proofs.Common.{sym, ap, ◌∙◌, subst, arith, inl, inr}
 use Rattle.std.specs.Prelude.{slice_get}
 use Rattle.std.specs.Iterator.{YieldsFirstBy}
 use Rattle.std.specs.List.{list_any}
 use Rattle.std.proofs.lemmas.Bool.{cases_Bool, cases_eq, cases_lt, false≢true, or_from}
-use Rattle.std.proofs.lemmas.List.{get_or-set_other, get_or-set_same, get_or-take, get_or_default, get_or_past, length-drop, length-map, length-set, length-take, map-set}
+use Rattle.std.proofs.lemmas.List.{get_or-set_other, get_or-set_same, get_or-take, get_or_default, get_or_past}
+use Rattle.std.proofs.lemmas.List.{length-drop, length-map, length-set, length-take, map-set}
 use Rattle.std.proofs.lemmas.Option.{slice_get_within}
 use Rattle.memchr.specs.Find.{IsFirstByte, is_byte}
 use Rattle.smx_types.specs.declared.stream.Place.{Place}
@@ -36,8 +39,10 @@ drop_slots zero bytes = refl
 drop_slots (suc n) [] = refl
 drop_slots (suc n) (b ∷ bytes) = drop_slots n bytes
 
-marked_left : (places : List Place) (bytes : List ℕ) (n : ℕ) → marked_of (drop n places) (drop n bytes) ≡ fulls_of (drop n places) (drop n (map slot bytes))
-marked_left places bytes n = marked_as (drop n places) (drop n bytes) ∙ ap (fulls_of (drop n places)) (sym (drop_slots n bytes))
+marked_left : (places : List Place) (bytes : List ℕ) (n : ℕ)
+    → marked_of (drop n places) (drop n bytes) ≡ fulls_of (drop n places) (drop n (map slot bytes))
+marked_left places bytes n =
+    marked_as (drop n places) (drop n bytes) ∙ ap (fulls_of (drop n places)) (sym (drop_slots n bytes))
 
 byte_slot : (bytes : List ℕ) (i : ℕ) → is_marked (get_or (map slot bytes) i None) ≡ eqb (get_or bytes i 0) 1
 byte_slot [] i = refl
@@ -47,20 +52,26 @@ byte_slot (b ∷ bytes) (suc i) = byte_slot bytes i
 -- ---- one byte is set
 
 -- the place of the byte is marked or not, and each other place as before
-pub marked_set : (p : Place) (places : List Place) (bytes : List ℕ) (i b : ℕ) → IsRising place_before places → slice_get places i ≡ Some p → i < length bytes
+pub marked_set : (p : Place) (places : List Place) (bytes : List ℕ) (i b : ℕ) → IsRising place_before places
+    → slice_get places i ≡ Some p → i < length bytes
     → marked_of places (set bytes i b) ≡ with_mark p (eqb b 1) (marked_of places bytes)
 marked_set p places bytes i b rise at below =
     marked_as places (set bytes i b) ∙ (ap (fulls_of places) (map-set slot bytes i b)
-    ∙ (fulls_marked p places (map slot bytes) i (record { messages = []; full = eqb b 1; high = 0; low = 0 }) rise at (omega (arith, below, length-map bytes slot))
+    ∙ (fulls_marked p places (map slot bytes) i (record { messages = []; full = eqb b 1; high = 0; low = 0 }) rise at
+    (omega (arith, below, length-map bytes slot))
     ∙ ap (with_mark p (eqb b 1)) (sym (marked_as places bytes))))
 
 -- a place has its mark by its byte
-pub marked_found : (p : Place) (places : List Place) (bytes : List ℕ) (i : ℕ) → IsRising place_before places → slice_get places i ≡ Some p → list_any (same_place p) (marked_of places bytes) ≡ eqb (get_or bytes i 0) 1
-marked_found p places bytes i rise at = ap (list_any (same_place p)) (marked_as places bytes) ∙ (mark_found p places (map slot bytes) i rise at ∙ byte_slot bytes i)
+pub marked_found : (p : Place) (places : List Place) (bytes : List ℕ) (i : ℕ) → IsRising place_before places
+    → slice_get places i ≡ Some p → list_any (same_place p) (marked_of places bytes) ≡ eqb (get_or bytes i 0) 1
+marked_found p places bytes i rise at = ap (list_any (same_place p)) (marked_as places bytes)
+    ∙ (mark_found p places (map slot bytes) i rise at ∙ byte_slot bytes i)
 
 -- and none where the drivers have no such place
-pub marked_none : (p : Place) (places : List Place) (bytes : List ℕ) → list_any (same_place p) places ≡ false → list_any (same_place p) (marked_of places bytes) ≡ false
-marked_none p places bytes none = ap (list_any (same_place p)) (marked_as places bytes) ∙ mark_none p places (map slot bytes) none
+pub marked_none : (p : Place) (places : List Place) (bytes : List ℕ) → list_any (same_place p) places ≡ false
+    → list_any (same_place p) (marked_of places bytes) ≡ false
+marked_none p places bytes none =
+    ap (list_any (same_place p)) (marked_as places bytes) ∙ mark_none p places (map slot bytes) none
 
 -- where each byte is 0 nothing is marked
 pub none_marked : (places : List Place) (n : ℕ) (bytes : List ℕ) → bytes ≡ replicate n 0 → marked_of places bytes ≡ []
@@ -74,43 +85,66 @@ none_marked places n bytes zeros = ap (marked_of places) zeros ∙ none_of place
 
 -- marks are of one place
 abbrev pub AreOfOnePlace : Type 0
-AreOfOnePlace = (p q : Place) (full : Bool) (fulls : List Place) → list_any (same_place q) (with_mark p full fulls) ≡ cond (same_place p q) full (list_any (same_place q) fulls)
+AreOfOnePlace = (p q : Place) (full : Bool) (fulls : List Place)
+    → list_any (same_place q) (with_mark p full fulls) ≡ cond (same_place p q) full (list_any (same_place q) fulls)
 
-looks : (p : Place) (places : List Place) (bytes : List ℕ) (i b : ℕ) (t : MarkList) (q : Place) → AreOfOnePlace → IsRising place_before places → slice_get places i ≡ Some p → length bytes ≡ length places
-    → marked_of places bytes ≡ t.marked → list_any (same_place q) (marked_of places (set bytes i b)) ≡ cond (same_place p q) (eqb b 1) (has_mark t q)
+looks : (p : Place) (places : List Place) (bytes : List ℕ) (i b : ℕ) (t : MarkList) (q : Place) → AreOfOnePlace
+    → IsRising place_before places → slice_get places i ≡ Some p → length bytes ≡ length places
+    → marked_of places bytes ≡ t.marked → list_any (same_place q) (marked_of places (set bytes i b))
+    ≡ cond (same_place p q) (eqb b 1) (has_mark t q)
 looks p places bytes i b t q law rise at many seen =
-    ap (list_any (same_place q)) (marked_set p places bytes i b rise at (omega (arith, many, slice_get_within places i p at)) ∙ ap (with_mark p (eqb b 1)) seen) ∙ law p q (eqb b 1) t.marked
+    ap (list_any (same_place q))
+    (marked_set p places bytes i b rise at (omega (arith, many, slice_get_within places i p at))
+    ∙ ap (with_mark p (eqb b 1)) seen) ∙ law p q (eqb b 1) t.marked
 
-pub marked_here : (p : Place) (places : List Place) (bytes : List ℕ) (i : ℕ) (t : MarkList) → AreOfOnePlace → IsRising place_before places → slice_get places i ≡ Some p → length bytes ≡ length places
+-- a place whose byte is set to 1 is marked
+pub marked_here : (p : Place) (places : List Place) (bytes : List ℕ) (i : ℕ) (t : MarkList) → AreOfOnePlace
+    → IsRising place_before places → slice_get places i ≡ Some p → length bytes ≡ length places
     → marked_of places bytes ≡ t.marked → list_any (same_place p) (marked_of places (set bytes i 1)) ≡ true
-marked_here p places bytes i t law rise at many seen = looks p places bytes i 1 t p law rise at many seen ∙ rw (place_self p) refl
+marked_here p places bytes i t law rise at many seen =
+    looks p places bytes i 1 t p law rise at many seen ∙ rw (place_self p) refl
 
-pub marked_others : (p : Place) (places : List Place) (bytes : List ℕ) (i : ℕ) (t : MarkList) (q : Place) → AreOfOnePlace → IsRising place_before places → slice_get places i ≡ Some p → length bytes ≡ length places
-    → marked_of places bytes ≡ t.marked → same_place p q ≡ false → list_any (same_place q) (marked_of places (set bytes i 1)) ≡ has_mark t q
-marked_others p places bytes i t q law rise at many seen apart = looks p places bytes i 1 t q law rise at many seen ∙ ap (λ (s : Bool). cond s true (has_mark t q)) apart
+-- where a byte is set to 1, each other place is marked as before
+pub marked_others : (p : Place) (places : List Place) (bytes : List ℕ) (i : ℕ) (t : MarkList) (q : Place)
+    → AreOfOnePlace → IsRising place_before places → slice_get places i ≡ Some p → length bytes ≡ length places
+    → marked_of places bytes ≡ t.marked → same_place p q ≡ false
+    → list_any (same_place q) (marked_of places (set bytes i 1)) ≡ has_mark t q
+marked_others p places bytes i t q law rise at many seen apart =
+    looks p places bytes i 1 t q law rise at many seen ∙ ap (λ (s : Bool). cond s true (has_mark t q)) apart
 
-pub marked_still : (p : Place) (places : List Place) (bytes : List ℕ) (i : ℕ) (t : MarkList) (q : Place) → AreOfOnePlace → IsRising place_before places → slice_get places i ≡ Some p → length bytes ≡ length places
-    → marked_of places bytes ≡ t.marked → has_mark t q ≡ true → list_any (same_place q) (marked_of places (set bytes i 1)) ≡ true
-marked_still p places bytes i t q law rise at many seen h = looks p places bytes i 1 t q law rise at many seen ∙ (ap (cond (same_place p q) true) h ∙ either (same_place p q)) where
-  either : (s : Bool) → cond s true true ≡ true
-  either true = refl
-  either false = refl
+-- where a byte is set to 1, each place that was marked still is
+pub marked_still : (p : Place) (places : List Place) (bytes : List ℕ) (i : ℕ) (t : MarkList) (q : Place) → AreOfOnePlace
+    → IsRising place_before places → slice_get places i ≡ Some p → length bytes ≡ length places
+    → marked_of places bytes ≡ t.marked → has_mark t q ≡ true
+    → list_any (same_place q) (marked_of places (set bytes i 1)) ≡ true
+marked_still p places bytes i t q law rise at many seen h = looks p places bytes i 1 t q law rise at many seen
+    ∙ (ap (cond (same_place p q) true) h ∙ either (same_place p q)) where
+      either : (s : Bool) → cond s true true ≡ true
+      either true = refl
+      either false = refl
 
-pub cleared_at : (p : Place) (places : List Place) (bytes : List ℕ) (i : ℕ) (t : MarkList) (q : Place) → AreOfOnePlace → IsRising place_before places → slice_get places i ≡ Some p → length bytes ≡ length places
-    → marked_of places bytes ≡ t.marked → list_any (same_place q) (marked_of places (set bytes i 0)) ≡ all_but (has_mark t) p q
-cleared_at p places bytes i t q law rise at many seen = looks p places bytes i 0 t q law rise at many seen ∙ but (same_place p q) (has_mark t q) where
-  but : (s h : Bool) → cond s false h ≡ (h && not s)
-  but true true = refl
-  but true false = refl
-  but false true = refl
-  but false false = refl
+-- where a byte is set to 0, all marks but that of its place are there
+pub cleared_at : (p : Place) (places : List Place) (bytes : List ℕ) (i : ℕ) (t : MarkList) (q : Place) → AreOfOnePlace
+    → IsRising place_before places → slice_get places i ≡ Some p → length bytes ≡ length places
+    → marked_of places bytes ≡ t.marked → list_any (same_place q) (marked_of places (set bytes i 0))
+    ≡ all_but (has_mark t) p q
+cleared_at p places bytes i t q law rise at many seen =
+    looks p places bytes i 0 t q law rise at many seen ∙ but (same_place p q) (has_mark t q) where
+      but : (s h : Bool) → cond s false h ≡ (h && not s)
+      but true true = refl
+      but true false = refl
+      but false true = refl
+      but false false = refl
 
 -- a place that the drivers don't have has no mark to clear
-pub nothing_cleared : (p : Place) (places : List Place) (bytes : List ℕ) (t : MarkList) (q : Place) → list_any (same_place p) places ≡ false → marked_of places bytes ≡ t.marked → has_mark t q ≡ all_but (has_mark t) p q
+pub nothing_cleared : (p : Place) (places : List Place) (bytes : List ℕ) (t : MarkList) (q : Place)
+    → list_any (same_place p) places ≡ false → marked_of places bytes ≡ t.marked
+    → has_mark t q ≡ all_but (has_mark t) p q
 nothing_cleared p places bytes t q none seen = by (same_place p q) refl where
   by : (s : Bool) → same_place p q ≡ s → has_mark t q ≡ (has_mark t q && not s)
   by true e =
-      let gone : has_mark t q ≡ false = subst (λ (x : Place). has_mark t x ≡ false) (place_is p q e) (ap (list_any (same_place p)) (sym seen) ∙ marked_none p places bytes none) in
+      let gone : has_mark t q ≡ false = subst (λ (x : Place). has_mark t x ≡ false) (place_is p q e)
+      (ap (list_any (same_place p)) (sym seen) ∙ marked_none p places bytes none) in
       rw gone refl
   by false e = same (has_mark t q) where
     same : (h : Bool) → h ≡ (h && true)
@@ -126,28 +160,43 @@ left_many p (x ∷ xs) = elim (cases_Bool (same_place p x)) [
   | inr f ↦ rw f (omega (arith, left_many p xs))
 ]
 
-pub left_fewer : (p : Place) (xs : List Place) → list_any (same_place p) xs ≡ true → length (filter (λ q. not (same_place p q)) xs) < length xs
+-- places without one of them are fewer
+pub left_fewer : (p : Place) (xs : List Place) → list_any (same_place p) xs ≡ true
+    → length (filter (λ q. not (same_place p q)) xs) < length xs
 left_fewer p [] h = absurd (false≢true h)
 left_fewer p (x ∷ xs) h = elim (cases_Bool (same_place p x)) [
   | inl t ↦ rw t (omega (arith, left_many p xs))
   | inr f ↦ let k : list_any (same_place p) xs ≡ true = rw f at h in rw f (omega (arith, left_fewer p xs k))
 ]
 
-pub fewer_marks : (p : Place) (places : List Place) (bytes : List ℕ) (i : ℕ) (t : MarkList) → IsRising place_before places → slice_get places i ≡ Some p → length bytes ≡ length places → marked_of places bytes ≡ t.marked
+-- without the mark of a place that had one there are fewer marks
+pub fewer_marks : (p : Place) (places : List Place) (bytes : List ℕ) (i : ℕ) (t : MarkList)
+    → IsRising place_before places → slice_get places i ≡ Some p → length bytes ≡ length places
+    → marked_of places bytes ≡ t.marked
     → has_mark t p ≡ true → length (marked_of places (set bytes i 0)) < length t.marked
 fewer_marks p places bytes i t rise at many seen h =
-    let e : marked_of places (set bytes i 0) ≡ filter (λ q. not (same_place p q)) t.marked = marked_set p places bytes i 0 rise at (omega (arith, many, slice_get_within places i p at)) ∙ ap (with_mark p false) seen in
+    let e : marked_of places (set bytes i 0) ≡ filter (λ q. not (same_place p q)) t.marked = marked_set p places bytes i
+    0 rise at (omega (arith, many, slice_get_within places i p at)) ∙ ap (with_mark p false) seen in
     subst (λ (xs : List Place). length xs < length t.marked) (sym e) (left_fewer p t.marked h)
 
 -- ---- a mark is read
 
-pub no_mark_there : (p : Place) (places : List Place) (bytes : List ℕ) (t : MarkList) → list_any (same_place p) places ≡ false → marked_of places bytes ≡ t.marked → false ≡ has_mark t p
-no_mark_there p places bytes t none seen = sym (ap (list_any (same_place p)) (sym seen) ∙ marked_none p places bytes none)
+-- a place that the drivers don't have is not marked
+pub no_mark_there : (p : Place) (places : List Place) (bytes : List ℕ) (t : MarkList)
+    → list_any (same_place p) places ≡ false → marked_of places bytes ≡ t.marked → false ≡ has_mark t p
+no_mark_there p places bytes t none seen =
+    sym (ap (list_any (same_place p)) (sym seen) ∙ marked_none p places bytes none)
 
-pub none_fewer : (p : Place) (places : List Place) (bytes : List ℕ) (t : MarkList) → list_any (same_place p) places ≡ false → marked_of places bytes ≡ t.marked → has_mark t p ≡ true → length t.marked < length t.marked
+-- a place that the drivers don't have is not marked, so whatever would follow from its mark holds
+pub none_fewer : (p : Place) (places : List Place) (bytes : List ℕ) (t : MarkList)
+    → list_any (same_place p) places ≡ false → marked_of places bytes ≡ t.marked → has_mark t p ≡ true
+    → length t.marked < length t.marked
 none_fewer p places bytes t none seen h = absurd (false≢true (no_mark_there p places bytes t none seen ∙ h))
 
-pub byte_read : (p : Place) (places : List Place) (bytes : List ℕ) (i b : ℕ) (t : MarkList) → IsRising place_before places → slice_get places i ≡ Some p → length bytes ≡ length places → marked_of places bytes ≡ t.marked
+-- the byte that was read of a place is 1 exactly where the place is marked
+pub byte_read : (p : Place) (places : List Place) (bytes : List ℕ) (i b : ℕ) (t : MarkList)
+    → IsRising place_before places → slice_get places i ≡ Some p → length bytes ≡ length places
+    → marked_of places bytes ≡ t.marked
     → b ≡ get_or bytes i b → eqb b 1 ≡ has_mark t p
 byte_read p places bytes i b t rise at many seen is =
     ap (λ (x : ℕ). eqb x 1) (is ∙ get_or_default bytes i b 0 (omega (arith, many, slice_get_within places i p at)))
@@ -155,18 +204,31 @@ byte_read p places bytes i b t rise at many seen is =
 
 -- ---- the marked places, one by one
 
-least_slot : (bytes : List ℕ) (start : ℕ) (r : Option ℕ) → IsFirstOne bytes start r → IsLeastFrom is_marked (map slot bytes) start r
+least_slot : (bytes : List ℕ) (start : ℕ) (r : Option ℕ) → IsFirstOne bytes start r
+    → IsLeastFrom is_marked (map slot bytes) start r
 least_slot bytes start None none = λ k le. byte_slot bytes k ∙ none k le
-least_slot bytes start (Some p) one = (one.0, omega (arith, one.1, length-map bytes slot), byte_slot bytes p ∙ one.2, λ k le lt. byte_slot bytes k ∙ one.3 k le lt)
+least_slot bytes start (Some p) one = (
+  one.0,
+  omega (arith, one.1, length-map bytes slot),
+  byte_slot bytes p ∙ one.2,
+  λ k le lt. byte_slot bytes k ∙ one.3 k le lt,
+)
 
-pub marks_end : (places : List Place) (bytes : List ℕ) (n : ℕ) (now : List Place) → length bytes ≡ length places → marked_of (drop n places) (drop n bytes) ≡ now → IsFirstOne bytes n None → now ≡ []
+-- where no byte from a number on is 1, no marked place is left there
+pub marks_end : (places : List Place) (bytes : List ℕ) (n : ℕ) (now : List Place) → length bytes ≡ length places
+    → marked_of (drop n places) (drop n bytes) ≡ now → IsFirstOne bytes n None → now ≡ []
 marks_end places bytes n now many seen none =
-    sym seen ∙ (marked_left places bytes n ∙ fulls_end places (map slot bytes) n (length-map bytes slot ∙ many) (least_slot bytes n None none))
+    sym seen ∙ (marked_left places bytes n ∙ fulls_end places (map slot bytes) n (length-map bytes slot ∙ many)
+    (least_slot bytes n None none))
 
-pub marks_step : (places : List Place) (bytes : List ℕ) (n i : ℕ) (p : Place) (now : List Place) → length bytes ≡ length places → marked_of (drop n places) (drop n bytes) ≡ now → IsFirstOne bytes n (Some i) → slice_get places i ≡ Some p
+-- from a number on, the marked places begin with that of the first byte there that is 1
+pub marks_step : (places : List Place) (bytes : List ℕ) (n i : ℕ) (p : Place) (now : List Place)
+    → length bytes ≡ length places → marked_of (drop n places) (drop n bytes) ≡ now → IsFirstOne bytes n (Some i)
+    → slice_get places i ≡ Some p
     → now ≡ p ∷ marked_of (drop (i + 1) places) (drop (i + 1) bytes)
 marks_step places bytes n i p now many seen one at =
-    sym seen ∙ (marked_left places bytes n ∙ (fulls_next places (map slot bytes) n i p (length-map bytes slot ∙ many) (least_slot bytes n (Some i) one) at
+    sym seen ∙ (marked_left places bytes n
+    ∙ (fulls_next places (map slot bytes) n i p (length-map bytes slot ∙ many) (least_slot bytes n (Some i) one) at
     ∙ ap (λ (xs : List Place). p ∷ xs) (sym (marked_left places bytes (i + 1)))))
 
 -- ---- the first byte that is 1
@@ -178,44 +240,63 @@ byte_from (b ∷ bytes) (suc start) k = byte_from bytes start k ∙ next (start 
   next : (n m : ℕ) → suc n ≡ m → get_or bytes n 0 ≡ get_or (b ∷ bytes) m 0
   next n m e = ap (λ (x : ℕ). get_or (b ∷ bytes) x 0) e
 
-byte_here : (bytes : List ℕ) (start k : ℕ) → start ≤ k → eqb (get_or (drop start bytes) (k - start) 0) 1 ≡ eqb (get_or bytes k 0) 1
-byte_here bytes start k le = ap (λ (b : ℕ). eqb b 1) (byte_from bytes start (k - start) ∙ ap (λ (n : ℕ). get_or bytes n 0) (omega arith))
+byte_here : (bytes : List ℕ) (start k : ℕ) → start ≤ k
+    → eqb (get_or (drop start bytes) (k - start) 0) 1 ≡ eqb (get_or bytes k 0) 1
+byte_here bytes start k le =
+    ap (λ (b : ℕ). eqb b 1) (byte_from bytes start (k - start) ∙ ap (λ (n : ℕ). get_or bytes n 0) (omega arith))
 
 past_all : (bytes : List ℕ) (k : ℕ) → length bytes ≤ k → eqb (get_or bytes k 0) 1 ≡ false
 past_all bytes k past = ap (λ (b : ℕ). eqb b 1) (get_or_past bytes k 0 past)
 
+-- from the end of the marks on, no byte is 1
 pub none_past : (bytes : List ℕ) (start end : ℕ) → AreWithin 0 end bytes → end ≤ start → IsFirstOne bytes start None
 none_past bytes start end w past = λ k le. w.none_behind k (omega (arith, past, le))
 
 -- the bytes from the start on, up to the end
-byte_between : (bytes : List ℕ) (start end k : ℕ) → start ≤ k → k < end → eqb (get_or (take (end - start) (drop start bytes)) (k - start) 0) 1 ≡ eqb (get_or bytes k 0) 1
-byte_between bytes start end k le lt = ap (λ (b : ℕ). eqb b 1) (get_or-take (end - start) (drop start bytes) (k - start) 0 (omega arith)) ∙ byte_here bytes start k le
+byte_between : (bytes : List ℕ) (start end k : ℕ) → start ≤ k → k < end
+    → eqb (get_or (take (end - start) (drop start bytes)) (k - start) 0) 1 ≡ eqb (get_or bytes k 0) 1
+byte_between bytes start end k le lt = ap (λ (b : ℕ). eqb b 1)
+    (get_or-take (end - start) (drop start bytes) (k - start) 0 (omega arith)) ∙ byte_here bytes start k le
 
-many_between : (bytes : List ℕ) (start end : ℕ) → start ≤ end → end ≤ length bytes → length (take (end - start) (drop start bytes)) ≡ end - start
-many_between bytes start end le within = omega (arith, length-take (end - start) (drop start bytes), length-drop start bytes)
+many_between : (bytes : List ℕ) (start end : ℕ) → start ≤ end → end ≤ length bytes
+    → length (take (end - start) (drop start bytes)) ≡ end - start
+many_between bytes start end le within =
+    omega (arith, length-take (end - start) (drop start bytes), length-drop start bytes)
 
-pub none_from : (bytes : List ℕ) (start end : ℕ) → AreWithin 0 end bytes → start < end → IsFirstByte (is_byte 1) (take (end - start) (drop start bytes)) None → IsFirstOne bytes start None
+-- where no byte from a number up to the end of the marks is 1, none behind it is either
+pub none_from : (bytes : List ℕ) (start end : ℕ) → AreWithin 0 end bytes → start < end
+    → IsFirstByte (is_byte 1) (take (end - start) (drop start bytes)) None → IsFirstOne bytes start None
 none_from bytes start end w less none = λ k le. elim (cases_lt k end) [
   | inl lt ↦ elim (cases_Bool (eqb (get_or bytes k 0) 1)) [
-    | inl t ↦ absurd (none (k - start) (omega arith) (omega (arith, le, lt, many_between bytes start end (omega arith) w.end_in)) (byte_between bytes start end k le lt ∙ t))
+    | inl t ↦
+        absurd (none (k - start) (omega arith)
+        (omega (arith, le, lt, many_between bytes start end (omega arith) w.end_in))
+        (byte_between bytes start end k le lt ∙ t))
     | inr f ↦ f
   ]
   | inr past ↦ w.none_behind k past
 ]
 
-pub one_from : (bytes : List ℕ) (start end i : ℕ) → AreWithin 0 end bytes → start < end → IsFirstByte (is_byte 1) (take (end - start) (drop start bytes)) (Some i) → IsFirstOne bytes start (Some (start + i))
+-- the first byte from a number up to the end of the marks that is 1 is the first one at all
+pub one_from : (bytes : List ℕ) (start end i : ℕ) → AreWithin 0 end bytes → start < end
+    → IsFirstByte (is_byte 1) (take (end - start) (drop start bytes)) (Some i)
+    → IsFirstOne bytes start (Some (start + i))
 one_from bytes start end i w less found =
     let low : i < end - start = omega (arith, found.0.high, many_between bytes start end (omega arith) w.end_in) in (
       omega arith,
       omega (arith, low, w.end_in),
       here (start + i) (omega arith) (omega (arith, low)) (omega arith) found.1,
       λ k le lt. elim (cases_Bool (eqb (get_or bytes k 0) 1)) [
-        | inl t ↦ absurd (found.0.before (k - start) (omega arith) (omega arith) (byte_between bytes start end k le (omega (arith, low)) ∙ t))
+        | inl t ↦
+            absurd (found.0.before (k - start) (omega arith) (omega arith)
+            (byte_between bytes start end k le (omega (arith, low)) ∙ t))
         | inr f ↦ f
       ],
     ) where
-      here : (k : ℕ) → start ≤ k → k < end → i ≡ k - start → eqb (get_or (take (end - start) (drop start bytes)) i 0) 1 ≡ true → eqb (get_or bytes k 0) 1 ≡ true
-      here k le lt is one = sym (byte_between bytes start end k le lt) ∙ (ap (λ (n : ℕ). eqb (get_or (take (end - start) (drop start bytes)) n 0) 1) (sym is) ∙ one)
+      here : (k : ℕ) → start ≤ k → k < end → i ≡ k - start
+          → eqb (get_or (take (end - start) (drop start bytes)) i 0) 1 ≡ true → eqb (get_or bytes k 0) 1 ≡ true
+      here k le lt is one = sym (byte_between bytes start end k le lt)
+          ∙ (ap (λ (n : ℕ). eqb (get_or (take (end - start) (drop start bytes)) n 0) 1) (sym is) ∙ one)
 
 -- ---- where all marks are
 
@@ -224,23 +305,28 @@ no_place_left [] = refl
 no_place_left (p ∷ places) = refl
 
 -- a walk may begin at a number below which no byte is 1
-pub marked_from : (places : List Place) (bytes : List ℕ) (n : ℕ) → ((k : ℕ) → k < n → eqb (get_or bytes k 0) 1 ≡ false) → marked_of (drop n places) (drop n bytes) ≡ marked_of places bytes
+pub marked_from : (places : List Place) (bytes : List ℕ) (n : ℕ) → ((k : ℕ) → k < n → eqb (get_or bytes k 0) 1 ≡ false)
+    → marked_of (drop n places) (drop n bytes) ≡ marked_of places bytes
 marked_from places bytes zero none = refl
 marked_from [] bytes (suc n) none = refl
 marked_from (p ∷ places) [] (suc n) none = no_place_left (drop n places)
-marked_from (p ∷ places) (b ∷ bytes) (suc n) none = rw (none 0 (omega arith)) (marked_from places bytes n (λ k lt. none (suc k) (omega arith)))
+marked_from (p ∷ places) (b ∷ bytes) (suc n) none =
+    rw (none 0 (omega arith)) (marked_from places bytes n (λ k lt. none (suc k) (omega arith)))
 
 other_byte : (bytes : List ℕ) (i b k : ℕ) → (i ≡ k → ⊥) → eqb (get_or (set bytes i b) k 0) 1 ≡ eqb (get_or bytes k 0) 1
 other_byte bytes i b k differ = ap (λ (x : ℕ). eqb x 1) (get_or-set_other bytes i k b 0 (λ e. differ (sym e)))
 
 -- a byte that is 1 lies within
-lies_within : (first end : ℕ) (bytes : List ℕ) (k : ℕ) → AreWithin first end bytes → eqb (get_or bytes k 0) 1 ≡ true → (first ≤ k) × (k < end)
+lies_within : (first end : ℕ) (bytes : List ℕ) (k : ℕ) → AreWithin first end bytes → eqb (get_or bytes k 0) 1 ≡ true
+    → (first ≤ k) × (k < end)
 lies_within first end bytes k w one = (
   elim (cases_lt k first) [ inl lt ↦ absurd (false≢true (sym (w.none_before k lt) ∙ one)) | inr le ↦ le ],
   elim (cases_lt k end) [ inl lt ↦ lt | inr le ↦ absurd (false≢true (sym (w.none_behind k le) ∙ one)) ],
 )
 
-pub marked_within : (first end low high : ℕ) (bytes : List ℕ) (i : ℕ) → AreWithin first end bytes → i < length bytes → low ≤ i → i < high → ((k : ℕ) → first ≤ k → k < end → (low ≤ k) × (k < high)) → high ≤ length bytes
+-- with a byte set to 1, the marks lie within wider bounds that hold it and the old ones
+pub marked_within : (first end low high : ℕ) (bytes : List ℕ) (i : ℕ) → AreWithin first end bytes → i < length bytes
+    → low ≤ i → i < high → ((k : ℕ) → first ≤ k → k < end → (low ≤ k) × (k < high)) → high ≤ length bytes
     → AreWithin low high (set bytes i 1)
 marked_within first end low high bytes i w there le lt kept few = record {
   end_in = omega (arith, few, length-set bytes i 1);
@@ -253,7 +339,9 @@ marked_within first end low high bytes i w there le lt kept few = record {
     | inr f ↦ other_byte bytes i 1 k differ ∙ f
   ]
 
-pub cleared_within : (first end : ℕ) (bytes : List ℕ) (i : ℕ) → AreWithin first end bytes → i < length bytes → AreWithin first end (set bytes i 0)
+-- with a byte set to 0, the marks lie within the bounds that they had
+pub cleared_within : (first end : ℕ) (bytes : List ℕ) (i : ℕ) → AreWithin first end bytes → i < length bytes
+    → AreWithin first end (set bytes i 0)
 cleared_within first end bytes i w there = record {
   end_in = omega (arith, w.end_in, length-set bytes i 0);
   none_before = λ k before. still k (w.none_before k before);
@@ -261,22 +349,26 @@ cleared_within first end bytes i w there = record {
 } where
   still : (k : ℕ) → eqb (get_or bytes k 0) 1 ≡ false → eqb (get_or (set bytes i 0) k 0) 1 ≡ false
   still k none = elim (cases_eq i k) [
-    | inl e ↦ subst (λ (n : ℕ). eqb (get_or (set bytes i 0) n 0) 1 ≡ false) e (ap (λ (x : ℕ). eqb x 1) (get_or-set_same bytes i 0 0 there))
+    | inl e ↦ subst (λ (n : ℕ). eqb (get_or (set bytes i 0) n 0) 1 ≡ false) e
+        (ap (λ (x : ℕ). eqb x 1) (get_or-set_same bytes i 0 0 there))
     | inr differ ↦ other_byte bytes i 0 k differ ∙ none
   ]
 
 -- ---- the first of places that rise is the least of them
 
-before_all : (p q : Place) (rest : List Place) → ComesBefore place_before p rest → place_before q p ≡ true → list_any (same_place q) rest ≡ false
+before_all : (p q : Place) (rest : List Place) → ComesBefore place_before p rest → place_before q p ≡ true
+    → list_any (same_place q) rest ≡ false
 before_all p q [] h before = refl
 before_all p q (r ∷ rest) h before = or_from _ _ differ (before_all p q rest h.1 before) where
   differ : same_place q r ≡ false
   differ = elim (cases_Bool (same_place q r)) [
-    | inl t ↦ let back : place_before p q ≡ true = subst (λ (x : Place). place_before p x ≡ true) (sym (place_is q r t)) h.0 in absurd (false≢true (sym (not_after q p before) ∙ back))
+    | inl t ↦ let back : place_before p q ≡ true = subst (λ (x : Place). place_before p x ≡ true)
+        (sym (place_is q r t)) h.0 in absurd (false≢true (sym (not_after q p before) ∙ back))
     | inr f ↦ f
   ]
 
-behind_marked : (p : Place) (places : List Place) (bytes : List ℕ) → ComesBefore place_before p places → ComesBefore place_before p (marked_of places bytes)
+behind_marked : (p : Place) (places : List Place) (bytes : List ℕ) → ComesBefore place_before p places
+    → ComesBefore place_before p (marked_of places bytes)
 behind_marked p [] bytes h = tt
 behind_marked p (r ∷ places) [] h = tt
 behind_marked p (r ∷ places) (b ∷ bytes) h = elim (cases_Bool (eqb b 1)) [
@@ -284,7 +376,9 @@ behind_marked p (r ∷ places) (b ∷ bytes) h = elim (cases_Bool (eqb b 1)) [
   | inr f ↦ rw f (behind_marked p places bytes h.1)
 ]
 
-pub marked_rise : (places : List Place) (bytes : List ℕ) → IsRising place_before places → IsRising place_before (marked_of places bytes)
+-- where the places rise, the marked ones do
+pub marked_rise : (places : List Place) (bytes : List ℕ) → IsRising place_before places
+    → IsRising place_before (marked_of places bytes)
 marked_rise [] bytes h = tt
 marked_rise (p ∷ places) [] h = tt
 marked_rise (p ∷ places) (b ∷ bytes) h = elim (cases_Bool (eqb b 1)) [
@@ -292,14 +386,21 @@ marked_rise (p ∷ places) (b ∷ bytes) h = elim (cases_Bool (eqb b 1)) [
   | inr f ↦ rw f (marked_rise places bytes h.1)
 ]
 
-pub least_first : (p : Place) (rest : List Place) → IsRising place_before (p ∷ rest) → IsLeastMarked (λ q. list_any (same_place q) (p ∷ rest)) p
-least_first p rest h = record { marked = rw (place_self p) refl; none_before = λ q before. or_from _ _ (apart q p before) (before_all p q rest h.0 before) }
+-- of marked places that rise, the first is the least
+pub least_first : (p : Place) (rest : List Place) → IsRising place_before (p ∷ rest)
+    → IsLeastMarked (λ q. list_any (same_place q) (p ∷ rest)) p
+least_first p rest h = record {
+  marked = rw (place_self p) refl;
+  none_before = λ q before. or_from _ _ (apart q p before) (before_all p q rest h.0 before);
+}
 
 -- what a walk meets first is the least mark
-pub first_mark : (places : List Place) (bytes : List ℕ) (t : MarkList) (r : Option Place) (now rest : List Place) → IsRising place_before places → marked_of places bytes ≡ t.marked → now ≡ t.marked
+pub first_mark : (places : List Place) (bytes : List ℕ) (t : MarkList) (r : Option Place) (now rest : List Place)
+    → IsRising place_before places → marked_of places bytes ≡ t.marked → now ≡ t.marked
     → YieldsFirstBy (λ (x : Place). x) (λ (xs : List Place). xs) now r rest → IsFirstMark t r
 first_mark places bytes t None now rest rise seen is y = λ p. ap (list_any (same_place p)) (sym is ∙ y.0)
 first_mark places bytes t (Some p) now rest rise seen is y =
     let e : t.marked ≡ p ∷ rest = sym is ∙ y in
-    let up : IsRising place_before (p ∷ rest) = subst (IsRising place_before) (seen ∙ e) (marked_rise places bytes rise) in
+    let up : IsRising place_before (p ∷ rest) = subst (IsRising place_before) (seen ∙ e)
+    (marked_rise places bytes rise) in
     subst (λ (xs : List Place). IsLeastMarked (λ q. list_any (same_place q) xs) p) (sym e) (least_first p rest up)

@@ -1,5 +1,6 @@
 -- The places of some drivers, and of one driver more.
-use Rattle.std.proofs.Common.{◌≡◌, ℕ, zero, suc, ◌+◌, ◌*◌, ◌<◌, ◌≤◌, true, false, ◌&&◌, eqb, ltb, List, [], ◌∷◌, ◌++◌, length, get_or, Option, Some, refl, sym, ap, ◌∙◌, subst, arith, length-append, inl, inr}
+use Rattle.std.proofs.Common.{◌≡◌, ℕ, zero, suc, ◌+◌, ◌*◌, ◌<◌, ◌≤◌, true, false, ◌&&◌, eqb, ltb, List, [], ◌∷◌, ◌++◌}
+use Rattle.std.proofs.Common.{length, get_or, Option, Some, refl, sym, ap, ◌∙◌, subst, arith, length-append, inl, inr}
 use Rattle.std.specs.Prelude.{slice_get}
 use Rattle.std.specs.List.{list_any}
 use Rattle.std.specs.Option.{option_map_or}
@@ -23,16 +24,19 @@ place_at driver minor s = record { stream = record { driver = driver; minor = mi
 
 -- ---- elements of two lists
 
+-- what stands in a list stands at the same index with another list behind it
 pub get_left : {X : Type 0} (xs ys : List X) (i : ℕ) (x : X) → slice_get xs i ≡ Some x → slice_get (xs ++ ys) i ≡ Some x
 get_left [] ys i x at = absurd cc
 get_left (y ∷ xs) ys zero x at = at
 get_left (y ∷ xs) ys (suc i) x at = get_left xs ys i x at
 
+-- what stands behind a list stands so many places past the list's end
 pub get_right : {X : Type 0} (xs ys : List X) (n k : ℕ) → n ≡ length xs + k → slice_get (xs ++ ys) n ≡ slice_get ys k
 get_right [] ys n k e = ap (slice_get ys) (omega arith)
 get_right (x ∷ xs) ys zero k e = absurd (omega arith)
 get_right (x ∷ xs) ys (suc n) k e = get_right xs ys n k (omega arith)
 
+-- at an index within a list stands the same with another list behind it
 pub left_only : {X : Type 0} (xs ys : List X) (i : ℕ) → i < length xs → slice_get (xs ++ ys) i ≡ slice_get xs i
 left_only [] ys i lt = absurd (omega arith)
 left_only (x ∷ xs) ys zero lt = refl
@@ -53,35 +57,44 @@ first_last (y ∷ xs) x (suc i) e = first_last xs x i (omega arith)
 
 sides_length : (driver n : ℕ) → length (sides_of driver n) ≡ 2 * n
 sides_length driver zero = refl
-sides_length driver (suc n) = length-append (sides_of driver n) (place_at driver n side.Write ∷ place_at driver n side.Read ∷ []) ∙ omega (arith, sides_length driver n)
+sides_length driver (suc n) = length-append (sides_of driver n)
+    (place_at driver n side.Write ∷ place_at driver n side.Read ∷ []) ∙ omega (arith, sides_length driver n)
 
-last_two : (driver n : ℕ) (s : Side) → slice_get (place_at driver n side.Write ∷ place_at driver n side.Read ∷ []) (side_number s) ≡ Some (place_at driver n s)
+last_two : (driver n : ℕ) (s : Side)
+    → slice_get (place_at driver n side.Write ∷ place_at driver n side.Read ∷ []) (side_number s)
+    ≡ Some (place_at driver n s)
 last_two driver n side.Write = refl
 last_two driver n side.Read = refl
 
-sides_at : (driver n m : ℕ) (s : Side) → m < n → slice_get (sides_of driver n) (2 * m + side_number s) ≡ Some (place_at driver m s)
+sides_at : (driver n m : ℕ) (s : Side) → m < n
+    → slice_get (sides_of driver n) (2 * m + side_number s) ≡ Some (place_at driver m s)
 sides_at driver zero m s lt = absurd (omega arith)
 sides_at driver (suc n) m s lt = elim (cases_lt m n) [
-  | inl less ↦ get_left (sides_of driver n) (place_at driver n side.Write ∷ place_at driver n side.Read ∷ []) (2 * m + side_number s) (place_at driver m s) (sides_at driver n m s less)
+  | inl less ↦ get_left (sides_of driver n) (place_at driver n side.Write ∷ place_at driver n side.Read ∷ [])
+      (2 * m + side_number s) (place_at driver m s) (sides_at driver n m s less)
   | inr more ↦
       let e : m ≡ n = omega arith in
-      rw e (get_right (sides_of driver n) (place_at driver n side.Write ∷ place_at driver n side.Read ∷ []) (2 * n + side_number s) (side_number s) (omega (arith, sides_length driver n)) ∙ last_two driver n s)
+      rw e (get_right (sides_of driver n) (place_at driver n side.Write ∷ place_at driver n side.Read ∷ [])
+      (2 * n + side_number s) (side_number s) (omega (arith, sides_length driver n)) ∙ last_two driver n s)
 ]
 
 -- a place whose driver or minor is another is not among them
 abbrev IsElsewhere : Place → ℕ → ℕ → Type 0
 IsElsewhere p driver n = (m : ℕ) → m < n → (eqb p.stream.driver driver && eqb p.stream.minor m) ≡ false
 
-two_others : (p : Place) (driver m : ℕ) → (eqb p.stream.driver driver && eqb p.stream.minor m) ≡ false → list_any (same_place p) (place_at driver m side.Write ∷ place_at driver m side.Read ∷ []) ≡ false
+two_others : (p : Place) (driver m : ℕ) → (eqb p.stream.driver driver && eqb p.stream.minor m) ≡ false
+    → list_any (same_place p) (place_at driver m side.Write ∷ place_at driver m side.Read ∷ []) ≡ false
 two_others p driver m h = rw h refl
 
-sides_elsewhere : (p : Place) (driver n : ℕ) → IsElsewhere p driver n → list_any (same_place p) (sides_of driver n) ≡ false
+sides_elsewhere : (p : Place) (driver n : ℕ) → IsElsewhere p driver n
+    → list_any (same_place p) (sides_of driver n) ≡ false
 sides_elsewhere p driver zero h = refl
 sides_elsewhere p driver (suc n) h =
     list_any-append (same_place p) (sides_of driver n) (place_at driver n side.Write ∷ place_at driver n side.Read ∷ [])
     ∙ or_from _ _ (sides_elsewhere p driver n (λ m lt. h m (omega arith))) (two_others p driver n (h n (omega arith)))
 
-below_more : (xs ys : List Place) (n : ℕ) → HaveDriversBelow n xs → HaveDriversBelow n ys → HaveDriversBelow n (xs ++ ys)
+below_more : (xs ys : List Place) (n : ℕ) → HaveDriversBelow n xs → HaveDriversBelow n ys
+    → HaveDriversBelow n (xs ++ ys)
 below_more [] ys n h k = k
 below_more (x ∷ xs) ys n h k = (h.0, below_more xs ys n h.1 k)
 
@@ -91,11 +104,13 @@ below_higher (x ∷ xs) n m le h = (omega (arith, h.0), below_higher xs n m le h
 
 sides_below : (driver n m : ℕ) → driver < m → HaveDriversBelow m (sides_of driver n)
 sides_below driver zero m lt = tt
-sides_below driver (suc n) m lt = below_more (sides_of driver n) (place_at driver n side.Write ∷ place_at driver n side.Read ∷ []) m (sides_below driver n m lt) (lt, (lt, tt))
+sides_below driver (suc n) m lt = below_more (sides_of driver n)
+    (place_at driver n side.Write ∷ place_at driver n side.Read ∷ []) m (sides_below driver n m lt) (lt, (lt, tt))
 
 -- ---- lists that rise, one behind the other
 
-before_more : (p : Place) (xs ys : List Place) → ComesBefore place_before p xs → ComesBefore place_before p ys → ComesBefore place_before p (xs ++ ys)
+before_more : (p : Place) (xs ys : List Place) → ComesBefore place_before p xs → ComesBefore place_before p ys
+    → ComesBefore place_before p (xs ++ ys)
 before_more p [] ys h k = k
 before_more p (x ∷ xs) ys h k = (h.0, before_more p xs ys h.1 k)
 
@@ -104,7 +119,8 @@ abbrev AllBefore : List Place → List Place → Type 0
 AllBefore [] ys = Unit {0}
 AllBefore (x ∷ xs) ys = ComesBefore place_before x ys × AllBefore xs ys
 
-rising_more : (xs ys : List Place) → IsRising place_before xs → IsRising place_before ys → AllBefore xs ys → IsRising place_before (xs ++ ys)
+rising_more : (xs ys : List Place) → IsRising place_before xs → IsRising place_before ys → AllBefore xs ys
+    → IsRising place_before (xs ++ ys)
 rising_more [] ys h k b = k
 rising_more (x ∷ xs) ys h k b = (before_more x xs ys h.0 b.0, rising_more xs ys h.1 k b.1)
 
@@ -115,13 +131,17 @@ all_before_more (x ∷ xs) zs ys h k = (h.0, all_before_more xs zs ys h.1 k)
 less : (a b : ℕ) → a < b → ltb a b ≡ true
 less a b lt = grind (arith, nat_tests)
 
-sides_before : (driver n m : ℕ) → n ≤ m → AllBefore (sides_of driver n) (place_at driver m side.Write ∷ place_at driver m side.Read ∷ [])
+sides_before : (driver n m : ℕ) → n ≤ m
+    → AllBefore (sides_of driver n) (place_at driver m side.Write ∷ place_at driver m side.Read ∷ [])
 sides_before driver zero m le = tt
 sides_before driver (suc n) m le =
     let lt = less n m (omega arith) in
-    all_before_more (sides_of driver n) (place_at driver n side.Write ∷ place_at driver n side.Read ∷ []) (place_at driver m side.Write ∷ place_at driver m side.Read ∷ [])
-    (sides_before driver n m (omega arith))
-    ((lower_minor driver n m side.Write side.Write lt, (lower_minor driver n m side.Write side.Read lt, tt)), ((lower_minor driver n m side.Read side.Write lt, (lower_minor driver n m side.Read side.Read lt, tt)), tt))
+    all_before_more (sides_of driver n) (place_at driver n side.Write ∷ place_at driver n side.Read ∷ [])
+    (place_at driver m side.Write ∷ place_at driver m side.Read ∷ [])
+    (sides_before driver n m (omega arith)) (
+      (lower_minor driver n m side.Write side.Write lt, (lower_minor driver n m side.Write side.Read lt, tt)),
+      ((lower_minor driver n m side.Read side.Write lt, (lower_minor driver n m side.Read side.Read lt, tt)), tt),
+    )
 
 two_rise : (driver n : ℕ) → IsRising place_before (place_at driver n side.Write ∷ place_at driver n side.Read ∷ [])
 two_rise driver n = ((write_first driver n, tt), (tt, tt)) where
@@ -130,79 +150,113 @@ two_rise driver n = ((write_first driver n, tt), (tt, tt)) where
 
 sides_rise : (driver n : ℕ) → IsRising place_before (sides_of driver n)
 sides_rise driver zero = tt
-sides_rise driver (suc n) = rising_more (sides_of driver n) (place_at driver n side.Write ∷ place_at driver n side.Read ∷ []) (sides_rise driver n) (two_rise driver n) (sides_before driver n n (omega arith))
+sides_rise driver (suc n) = rising_more (sides_of driver n)
+    (place_at driver n side.Write ∷ place_at driver n side.Read ∷ []) (sides_rise driver n) (two_rise driver n)
+    (sides_before driver n n (omega arith))
 
 before_sides : (p : Place) (driver n : ℕ) → p.stream.driver < driver → ComesBefore place_before p (sides_of driver n)
 before_sides p driver zero lt = tt
 before_sides p driver (suc n) lt =
     let h = less p.stream.driver driver lt in
-    before_more p (sides_of driver n) (place_at driver n side.Write ∷ place_at driver n side.Read ∷ []) (before_sides p driver n lt)
+    before_more p (sides_of driver n) (place_at driver n side.Write ∷ place_at driver n side.Read ∷ [])
+    (before_sides p driver n lt)
     (lower_driver p (place_at driver n side.Write) h, (lower_driver p (place_at driver n side.Read) h, tt))
 
-all_before_sides : (places : List Place) (driver n : ℕ) → HaveDriversBelow driver places → AllBefore places (sides_of driver n)
+all_before_sides : (places : List Place) (driver n : ℕ) → HaveDriversBelow driver places
+    → AllBefore places (sides_of driver n)
 all_before_sides [] driver n h = tt
 all_before_sides (p ∷ places) driver n h = (before_sides p driver n h.0, all_before_sides places driver n h.1)
 
 -- ---- one driver more
 
-minors_left : (ds : List DriverSpec) (d : DriverSpec) (n : ℕ) → n < length ds → minors_of (ds ++ d ∷ []) n ≡ minors_of ds n
+minors_left : (ds : List DriverSpec) (d : DriverSpec) (n : ℕ) → n < length ds
+    → minors_of (ds ++ d ∷ []) n ≡ minors_of ds n
 minors_left ds d n lt = ap (λ (o : Option DriverSpec). option_map_or (λ x. x.minors) o 0) (left_only ds (d ∷ []) n lt)
 
 minors_last : (ds : List DriverSpec) (d : DriverSpec) (n : ℕ) → n ≡ length ds → minors_of (ds ++ d ∷ []) n ≡ d.minors
-minors_last ds d n e = ap (λ (o : Option DriverSpec). option_map_or (λ x. x.minors) o 0) (get_right ds (d ∷ []) n 0 (omega arith))
+minors_last ds d n e =
+    ap (λ (o : Option DriverSpec). option_map_or (λ x. x.minors) o 0) (get_right ds (d ∷ []) n 0 (omega arith))
 
 minors_past : (ds : List DriverSpec) (n : ℕ) → length ds ≤ n → minors_of ds n ≡ 0
 minors_past ds n le = ap (λ (o : Option DriverSpec). option_map_or (λ x. x.minors) o 0) (slice_get_past ds n le)
 
-pub one_driver_more : (ds : List DriverSpec) (firsts : List ℕ) (places : List Place) (d : DriverSpec) → ArePlaces ds firsts places
+-- with one driver more, the places are those before and both sides of each of its minors
+pub one_driver_more : (ds : List DriverSpec) (firsts : List ℕ) (places : List Place) (d : DriverSpec)
+    → ArePlaces ds firsts places
     → ArePlaces (ds ++ d ∷ []) (firsts ++ length places ∷ []) (places ++ sides_of (length ds) d.minors)
 one_driver_more ds firsts places d h = record {
   one_each = omega (arith, length-append firsts (length places ∷ []), length-append ds (d ∷ []), h.one_each);
-  rising = rising_more places (sides_of (length ds) d.minors) h.rising (sides_rise (length ds) d.minors) (all_before_sides places (length ds) d.minors h.drivers_below);
+  rising = rising_more places (sides_of (length ds) d.minors) h.rising (sides_rise (length ds) d.minors)
+      (all_before_sides places (length ds) d.minors h.drivers_below);
   numbered = numbered;
   none_else = none_else;
-  drivers_below = subst (λ (n : ℕ). HaveDriversBelow n (places ++ sides_of (length ds) d.minors)) (sym (length-append ds (d ∷ [])))
-      (below_more places (sides_of (length ds) d.minors) (length ds + 1) (below_higher places (length ds) (length ds + 1) (omega arith) h.drivers_below) (sides_below (length ds) d.minors (length ds + 1) (omega arith)));
+  drivers_below =
+      subst (λ (n : ℕ). HaveDriversBelow n (places ++ sides_of (length ds) d.minors)) (sym (length-append ds (d ∷ [])))
+      (below_more places (sides_of (length ds) d.minors) (length ds + 1)
+      (below_higher places (length ds) (length ds + 1) (omega arith) h.drivers_below)
+      (sides_below (length ds) d.minors (length ds + 1) (omega arith)));
 } where
-  numbered : (p : Place) → p.stream.minor < minors_of (ds ++ d ∷ []) p.stream.driver → slice_get (places ++ sides_of (length ds) d.minors) (number_of (firsts ++ length places ∷ []) p) ≡ Some p
+  numbered : (p : Place) → p.stream.minor < minors_of (ds ++ d ∷ []) p.stream.driver
+      → slice_get (places ++ sides_of (length ds) d.minors) (number_of (firsts ++ length places ∷ []) p) ≡ Some p
   numbered p lt = elim (cases_lt p.stream.driver (length ds)) [
     | inl before ↦
         let e = first_left firsts (length places ∷ []) p.stream.driver (omega (arith, h.one_each)) in
-        rw e (get_left places (sides_of (length ds) d.minors) (number_of firsts p) p (h.numbered p (omega (arith, minors_left ds d p.stream.driver before))))
+        rw e (get_left places (sides_of (length ds) d.minors) (number_of firsts p) p
+        (h.numbered p (omega (arith, minors_left ds d p.stream.driver before))))
     | inr past ↦ elim (cases_eq p.stream.driver (length ds)) [
       | inl is ↦
           let e = first_last firsts (length places) p.stream.driver (omega (arith, h.one_each)) in
-          rw e (get_right places (sides_of (length ds) d.minors) (length places + 2 * p.stream.minor + side_number p.side) (2 * p.stream.minor + side_number p.side) (omega arith)
+          rw e (get_right places (sides_of (length ds) d.minors)
+          (length places + 2 * p.stream.minor + side_number p.side) (2 * p.stream.minor + side_number p.side)
+          (omega arith)
           ∙ (sides_at (length ds) d.minors p.stream.minor p.side (omega (arith, minors_last ds d p.stream.driver is))
           ∙ ap (λ (x : ℕ). Some (place_at x p.stream.minor p.side)) (sym is)))
-      | inr other ↦ absurd (omega (arith, minors_past (ds ++ d ∷ []) p.stream.driver (omega (arith, length-append ds (d ∷ [])))))
+      | inr other ↦
+          absurd (omega (arith, minors_past (ds ++ d ∷ []) p.stream.driver (omega (arith, length-append ds (d ∷ [])))))
     ]
   ]
 
-  none_else : (p : Place) → minors_of (ds ++ d ∷ []) p.stream.driver ≤ p.stream.minor → list_any (same_place p) (places ++ sides_of (length ds) d.minors) ≡ false
-  none_else p le = list_any-append (same_place p) places (sides_of (length ds) d.minors) ∙ elim (cases_lt p.stream.driver (length ds)) [
-    | inl before ↦ or_from _ _ (h.none_else p (omega (arith, minors_left ds d p.stream.driver before)))
-        (sides_elsewhere p (length ds) d.minors (λ m lt. rw (ne_eqb p.stream.driver (length ds) (λ e. omega arith)) refl))
-    | inr past ↦ or_from _ _ (h.none_else p (omega (arith, minors_past ds p.stream.driver past)))
-        (sides_elsewhere p (length ds) d.minors (λ m lt. elim (cases_eq p.stream.driver (length ds)) [
-          | inl is ↦ let k : m < p.stream.minor = omega (arith, minors_last ds d p.stream.driver is) in grind (arith, nat_tests)
-          | inr other ↦ rw (ne_eqb p.stream.driver (length ds) other) refl
-        ]))
-  ]
+  none_else : (p : Place) → minors_of (ds ++ d ∷ []) p.stream.driver ≤ p.stream.minor
+      → list_any (same_place p) (places ++ sides_of (length ds) d.minors) ≡ false
+  none_else p le = list_any-append (same_place p) places (sides_of (length ds) d.minors)
+      ∙ elim (cases_lt p.stream.driver (length ds)) [
+        | inl before ↦ or_from _ _ (h.none_else p (omega (arith, minors_left ds d p.stream.driver before)))
+            (sides_elsewhere p (length ds) d.minors
+            (λ m lt. rw (ne_eqb p.stream.driver (length ds) (λ e. omega arith)) refl))
+        | inr past ↦ or_from _ _ (h.none_else p (omega (arith, minors_past ds p.stream.driver past)))
+            (sides_elsewhere p (length ds) d.minors (λ m lt. elim (cases_eq p.stream.driver (length ds)) [
+              | inl is ↦ let k : m < p.stream.minor = omega (arith, minors_last ds d p.stream.driver is) in
+                  grind (arith, nat_tests)
+              | inr other ↦ rw (ne_eqb p.stream.driver (length ds) other) refl
+            ]))
+      ]
 
+-- no drivers have no places
 pub no_drivers : ArePlaces [] [] []
-no_drivers = record { one_each = refl; rising = tt; numbered = λ p lt. absurd (omega arith); none_else = λ p le. refl; drivers_below = tt }
+no_drivers = record {
+  one_each = refl;
+  rising = tt;
+  numbered = λ p lt. absurd (omega arith);
+  none_else = λ p le. refl;
+  drivers_below = tt;
+}
 
 -- ---- what a place says where its driver has its minor
 
-pub driver_there : (ds : List DriverSpec) (firsts : List ℕ) (places : List Place) (p : Place) → ArePlaces ds firsts places → p.stream.minor < minors_of ds p.stream.driver → p.stream.driver < length firsts
+-- a place whose driver has its minor is of one of the drivers that are numbered
+pub driver_there : (ds : List DriverSpec) (firsts : List ℕ) (places : List Place) (p : Place)
+    → ArePlaces ds firsts places → p.stream.minor < minors_of ds p.stream.driver → p.stream.driver < length firsts
 driver_there ds firsts places p h lt = elim (cases_lt p.stream.driver (length ds)) [
   | inl before ↦ omega (arith, h.one_each)
   | inr past ↦ absurd (omega (arith, minors_past ds p.stream.driver past))
 ]
 
-pub number_below : (ds : List DriverSpec) (firsts : List ℕ) (places : List Place) (p : Place) → ArePlaces ds firsts places → p.stream.minor < minors_of ds p.stream.driver → number_of firsts p < length places
+-- a place whose driver has its minor has a number below how many places there are
+pub number_below : (ds : List DriverSpec) (firsts : List ℕ) (places : List Place) (p : Place)
+    → ArePlaces ds firsts places → p.stream.minor < minors_of ds p.stream.driver → number_of firsts p < length places
 number_below ds firsts places p h lt = slice_get_within places (number_of firsts p) p (h.numbered p lt)
 
-pub first_is : (firsts given : List ℕ) (d x : ℕ) → given ≡ firsts → d < length firsts → x ≡ get_or given d x → x ≡ get_or firsts d 0
+-- the number that was read for a driver within the list is the one there
+pub first_is : (firsts given : List ℕ) (d x : ℕ) → given ≡ firsts → d < length firsts → x ≡ get_or given d x
+    → x ≡ get_or firsts d 0
 first_is firsts given d x e lt is = is ∙ (ap (λ (ns : List ℕ). get_or ns d x) e ∙ get_or_default firsts d x 0 lt)

@@ -1,5 +1,6 @@
 -- Places that are the same, and places of which one comes first.
-use Rattle.std.proofs.Common.{◌≡◌, ℕ, Bool, true, false, ◌&&◌, ◌||◌, eqb, ltb, List, [], ◌∷◌, refl, sym, ap, ◌∙◌, arith, inl, inr}
+use Rattle.std.proofs.Common.{◌≡◌, ℕ, Bool, true, false, ◌&&◌, ◌||◌, eqb, ltb, List, [], ◌∷◌, refl, sym, ap, ◌∙◌, arith}
+use Rattle.std.proofs.Common.{inl, inr}
 use Rattle.std.specs.List.{list_any}
 use Rattle.std.proofs.lemmas.Bool.{and_parts, cases_eq, eq-eqb, eqb-true, ne_eqb, or_from}
 use Rattle.std.proofs.lemmas.Bool.Decides.{nat_tests}
@@ -48,10 +49,12 @@ before3 a b c x y z = (ltb a x || (eqb a x && ltb b y)) || ((eqb a x && eqb b y)
 abbrev same3 : ℕ → ℕ → ℕ → ℕ → ℕ → ℕ → Bool
 same3 a b c x y z = (eqb a x && eqb b y) && eqb c z
 
-before_is : (p q : Place) → place_before p q ≡ before3 p.stream.driver p.stream.minor (side_number p.side) q.stream.driver q.stream.minor (side_number q.side)
+before_is : (p q : Place) → place_before p q
+    ≡ before3 p.stream.driver p.stream.minor (side_number p.side) q.stream.driver q.stream.minor (side_number q.side)
 before_is p q = rw (sides_before p.side q.side) refl
 
-same_is : (p q : Place) → same_place p q ≡ same3 p.stream.driver p.stream.minor (side_number p.side) q.stream.driver q.stream.minor (side_number q.side)
+same_is : (p q : Place) → same_place p q ≡ same3 p.stream.driver p.stream.minor
+    (side_number p.side) q.stream.driver q.stream.minor (side_number q.side)
 same_is p q = rw (sides_same p.side q.side) refl
 
 self3 : (a b c : ℕ) → same3 a b c a b c ≡ true
@@ -69,6 +72,7 @@ apart3 a b c x y z h = grind (arith, nat_tests)
 behind3 : (a b c x y z : ℕ) → before3 a b c x y z ≡ true → same3 x y z a b c ≡ false
 behind3 a b c x y z h = grind (arith, nat_tests)
 
+-- each place is the same as itself
 pub place_self : (p : Place) → same_place p p ≡ true
 place_self p = same_is p p ∙ self3 p.stream.driver p.stream.minor (side_number p.side)
 
@@ -76,29 +80,38 @@ place_self p = same_is p p ∙ self3 p.stream.driver p.stream.minor (side_number
 pub not_before : (p : Place) → place_before p p ≡ false
 not_before p = before_is p p ∙ never3 p.stream.driver p.stream.minor (side_number p.side)
 
+-- of two places, not each comes before the other
 pub not_after : (p q : Place) → place_before p q ≡ true → place_before q p ≡ false
-not_after p q h = before_is q p ∙ after3 p.stream.driver p.stream.minor (side_number p.side) q.stream.driver q.stream.minor (side_number q.side) (sym (before_is p q) ∙ h)
+not_after p q h = before_is q p ∙ after3 p.stream.driver p.stream.minor
+    (side_number p.side) q.stream.driver q.stream.minor (side_number q.side) (sym (before_is p q) ∙ h)
 
 -- a place that comes before another is not that one
 pub apart : (p q : Place) → place_before p q ≡ true → same_place p q ≡ false
-apart p q h = same_is p q ∙ apart3 p.stream.driver p.stream.minor (side_number p.side) q.stream.driver q.stream.minor (side_number q.side) (sym (before_is p q) ∙ h)
+apart p q h = same_is p q ∙ apart3 p.stream.driver p.stream.minor (side_number p.side) q.stream.driver q.stream.minor
+    (side_number q.side) (sym (before_is p q) ∙ h)
 
+-- a place behind another is not that one
 pub behind : (p q : Place) → place_before p q ≡ true → same_place q p ≡ false
-behind p q h = same_is q p ∙ behind3 p.stream.driver p.stream.minor (side_number p.side) q.stream.driver q.stream.minor (side_number q.side) (sym (before_is p q) ∙ h)
+behind p q h = same_is q p ∙ behind3 p.stream.driver p.stream.minor (side_number p.side) q.stream.driver q.stream.minor
+    (side_number q.side) (sym (before_is p q) ∙ h)
 
+-- whether two places are the same is told in either order
 pub same_turned : (p q : Place) → same_place p q ≡ same_place q p
-same_turned p q = same_is p q ∙ (turned3 p.stream.driver p.stream.minor (side_number p.side) q.stream.driver q.stream.minor (side_number q.side) ∙ sym (same_is q p)) where
-  eqb_turned : (a b : ℕ) → eqb a b ≡ eqb b a
-  eqb_turned a b = elim (cases_eq a b) [
-    | inl e ↦ rw (eq-eqb a b e, eq-eqb b a (sym e)) refl
-    | inr ne ↦ rw (ne_eqb a b ne, ne_eqb b a (λ e. ne (sym e))) refl
-  ]
+same_turned p q = same_is p q
+    ∙ (turned3 p.stream.driver p.stream.minor (side_number p.side) q.stream.driver q.stream.minor (side_number q.side)
+    ∙ sym (same_is q p)) where
+      eqb_turned : (a b : ℕ) → eqb a b ≡ eqb b a
+      eqb_turned a b = elim (cases_eq a b) [
+        | inl e ↦ rw (eq-eqb a b e, eq-eqb b a (sym e)) refl
+        | inr ne ↦ rw (ne_eqb a b ne, ne_eqb b a (λ e. ne (sym e))) refl
+      ]
 
-  turned3 : (a b c x y z : ℕ) → same3 a b c x y z ≡ same3 x y z a b c
-  turned3 a b c x y z = rw (eqb_turned a x, eqb_turned b y, eqb_turned c z) refl
+      turned3 : (a b c x y z : ℕ) → same3 a b c x y z ≡ same3 x y z a b c
+      turned3 a b c x y z = rw (eqb_turned a x, eqb_turned b y, eqb_turned c z) refl
 
 -- of places behind it none is this one
-pub none_behind : (p : Place) (places : List Place) → ComesBefore place_before p places → list_any (same_place p) places ≡ false
+pub none_behind : (p : Place) (places : List Place) → ComesBefore place_before p places
+    → list_any (same_place p) places ≡ false
 none_behind p [] h = refl
 none_behind p (q ∷ places) h = or_from _ _ (apart p q h.0) (none_behind p places h.1)
 
@@ -109,8 +122,13 @@ by_driver a b c x y z h = grind (arith, nat_tests)
 by_minor : (a b c y z : ℕ) → ltb b y ≡ true → before3 a b c a y z ≡ true
 by_minor a b c y z h = grind (arith, nat_tests)
 
+-- a place of a lower driver comes first
 pub lower_driver : (p q : Place) → ltb p.stream.driver q.stream.driver ≡ true → place_before p q ≡ true
-lower_driver p q h = before_is p q ∙ by_driver p.stream.driver p.stream.minor (side_number p.side) q.stream.driver q.stream.minor (side_number q.side) h
+lower_driver p q h = before_is p q ∙ by_driver p.stream.driver p.stream.minor
+    (side_number p.side) q.stream.driver q.stream.minor (side_number q.side) h
 
-pub lower_minor : (driver m n : ℕ) (s t : Side) → ltb m n ≡ true → place_before (place_at driver m s) (place_at driver n t) ≡ true
-lower_minor driver m n s t h = before_is (place_at driver m s) (place_at driver n t) ∙ by_minor driver m (side_number s) n (side_number t) h
+-- of places of one driver, that of a lower minor comes first
+pub lower_minor : (driver m n : ℕ) (s t : Side) → ltb m n ≡ true
+    → place_before (place_at driver m s) (place_at driver n t) ≡ true
+lower_minor driver m n s t h =
+    before_is (place_at driver m s) (place_at driver n t) ∙ by_minor driver m (side_number s) n (side_number t) h

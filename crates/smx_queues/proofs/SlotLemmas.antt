@@ -1,5 +1,6 @@
 -- What a contract sees of chains and their queues.
-use Rattle.std.proofs.Common.{◌≡◌, ℕ, zero, suc, ◌<◌, Bool, true, false, if◌then◌else◌, List, [], ◌∷◌, ◌++◌, length, map, get_or, set, Option, Some, None, IsSome, refl, sym, ap, ◌∙◌, arith}
+use Rattle.std.proofs.Common.{◌≡◌, ℕ, zero, suc, ◌<◌, Bool, true, false, if◌then◌else◌, List, [], ◌∷◌, ◌++◌, length}
+use Rattle.std.proofs.Common.{map, get_or, set, Option, Some, None, IsSome, refl, sym, ap, ◌∙◌, arith}
 use Rattle.std.proofs.lemmas.List.{get_or-map, length-map, ext_get_or}
 use Rattle.slab.specs.Slab.{Slab}
 use Rattle.smx_types.specs.declared.message.Message.{Message}
@@ -22,37 +23,46 @@ slots (chain ∷ chains) (q ∷ queues) = slot chain q ∷ slots chains queues
 abbrev queue_from : List Message → Bool → ℕ → ℕ → Queue
 queue_from ms marked above below = record { messages = ms; full = marked; high = above; low = below }
 
+-- queues with the same messages, full mark and water marks are the same
 pub same_queue : (a b : Queue) → a.messages ≡ b.messages → a.full ≡ b.full → a.high ≡ b.high → a.low ≡ b.low → a ≡ b
 same_queue a b m f h l =
     let made : queue_from a.messages a.full a.high a.low ≡ queue_from b.messages b.full b.high b.low = cc in
     made
 
 -- the chains of a store are its queues
-pub store_queues : (own : ℕ → ℕ × ℕ) (s : Slab Node) (chains : List Chain) (queues : List Queue) (loose : ℕ) → IsStore own s chains queues loose → map (queue_of s) chains ≡ queues
+pub store_queues : (own : ℕ → ℕ × ℕ) (s : Slab Node) (chains : List Chain) (queues : List Queue) (loose : ℕ)
+    → IsStore own s chains queues loose → map (queue_of s) chains ≡ queues
 store_queues own s chains queues loose st =
     ext_get_or no_queue _ _ (length-map _ _ ∙ sym st.as_many) (λ i within.
     let h : i < length chains = omega (arith, length-map chains (queue_of s)) in
     let l = st.each i h in
     get_or-map (queue_of s) chains i no_chain no_queue h
-    ∙ same_queue _ _ (ap (λ n. walk s n (get_or chains i no_chain).first) l.count ∙ walk_chain own s i l.rank _ _ _ l.nodes) l.full l.high l.low)
+    ∙ same_queue _ _ (ap (λ n. walk s n (get_or chains i no_chain).first) l.count
+    ∙ walk_chain own s i l.rank _ _ _ l.nodes) l.full l.high l.low)
 
 slots_map : (s : Slab Node) (chains : List Chain) → map (slot_of s) chains ≡ slots chains (map (queue_of s) chains)
 slots_map s [] = refl
 slots_map s (chain ∷ chains) = ap (λ rest. slot_of s chain ∷ rest) (slots_map s chains)
 
 -- and so the view of a store
-pub store_slots : (own : ℕ → ℕ × ℕ) (s : Slab Node) (chains : List Chain) (queues : List Queue) (loose : ℕ) → IsStore own s chains queues loose → map (slot_of s) chains ≡ slots chains queues
+pub store_slots : (own : ℕ → ℕ × ℕ) (s : Slab Node) (chains : List Chain) (queues : List Queue) (loose : ℕ)
+    → IsStore own s chains queues loose → map (slot_of s) chains ≡ slots chains queues
 store_slots own s chains queues loose st =
     slots_map s chains ∙ ap (slots chains) (store_queues own s chains queues loose st)
 
-pub slots-set : (chains : List Chain) (queues : List Queue) (p : ℕ) (after : Chain) (q : Queue) → p < length chains → length queues ≡ length chains → slots (set chains p after) (set queues p q) ≡ set (slots chains queues) p (slot after q)
+-- with another chain and queue at a number, what a contract sees changes at that number alone
+pub slots-set : (chains : List Chain) (queues : List Queue) (p : ℕ) (after : Chain) (q : Queue) → p < length chains
+    → length queues ≡ length chains → slots (set chains p after) (set queues p q)
+    ≡ set (slots chains queues) p (slot after q)
 slots-set [] queues p after q within many = absurd (omega (arith, within))
 slots-set (chain ∷ chains) [] p after q within many = absurd (omega (arith, many))
 slots-set (chain ∷ chains) (x ∷ queues) zero after q within many = refl
 slots-set (chain ∷ chains) (x ∷ queues) (suc p) after q within many =
     ap (λ rest. slot chain x ∷ rest) (slots-set chains queues p after q (omega (arith, within)) (omega (arith, many)))
 
-pub slots-push : (chains : List Chain) (queues : List Queue) (after : Chain) (q : Queue) → length queues ≡ length chains → slots (chains ++ after ∷ []) (queues ++ q ∷ []) ≡ slots chains queues ++ slot after q ∷ []
+-- with a chain and a queue more at the end, a contract sees what they make behind the rest
+pub slots-push : (chains : List Chain) (queues : List Queue) (after : Chain) (q : Queue) → length queues ≡ length chains
+    → slots (chains ++ after ∷ []) (queues ++ q ∷ []) ≡ slots chains queues ++ slot after q ∷ []
 slots-push [] [] after q many = refl
 slots-push [] (x ∷ queues) after q many = absurd (omega (arith, many))
 slots-push (chain ∷ chains) [] after q many = absurd (omega (arith, many))
@@ -72,7 +82,9 @@ slot_there chain q some = by chain.there some
     by true some = refl
     by false some = absurd (cc)
 
-pub place_there : (chains : List Chain) (queues : List Queue) (p : ℕ) → IsPlace (slots chains queues) p → IsThere chains queues p
+-- a place that a contract sees has a chain that is there, and its queue
+pub place_there : (chains : List Chain) (queues : List Queue) (p : ℕ) → IsPlace (slots chains queues) p
+    → IsThere chains queues p
 place_there [] queues p is = absurd (cc)
 place_there (chain ∷ chains) [] p is = absurd (cc)
 place_there (chain ∷ chains) (q ∷ queues) zero is =
@@ -91,7 +103,8 @@ place_there (chain ∷ chains) (q ∷ queues) (suc p) is =
     }
 
 -- a contract sees a place that is there
-pub there_shown : (chains : List Chain) (queues : List Queue) (p : ℕ) → length queues ≡ length chains → p < length chains → (get_or chains p no_chain).there ≡ true → IsPlace (slots chains queues) p
+pub there_shown : (chains : List Chain) (queues : List Queue) (p : ℕ) → length queues ≡ length chains
+    → p < length chains → (get_or chains p no_chain).there ≡ true → IsPlace (slots chains queues) p
 there_shown [] queues p many below there = absurd (omega (arith, below))
 there_shown (chain ∷ chains) [] p many below there = absurd (omega (arith, many))
 there_shown (chain ∷ chains) (q ∷ queues) zero many below there = rw there refl

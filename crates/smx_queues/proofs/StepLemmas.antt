@@ -1,5 +1,6 @@
 -- What a walk over places meets next, in lists as which the tables are seen.
-use Rattle.std.proofs.Common.{◌≡◌, ℕ, zero, suc, ◌+◌, ◌<◌, Bool, true, List, [], ◌∷◌, ◌++◌, length, map, drop, get_or, Option, Some, None, refl, sym, ap, ◌∙◌, subst, arith}
+use Rattle.std.proofs.Common.{◌≡◌, ℕ, zero, suc, ◌+◌, ◌<◌, Bool, true, List, [], ◌∷◌, ◌++◌, length, map, drop, get_or}
+use Rattle.std.proofs.Common.{Option, Some, None, refl, sym, ap, ◌∙◌, subst, arith}
 use Rattle.std.specs.Prelude.{nat_lt, slice_get}
 use Rattle.std.specs.List.{All}
 use Rattle.std.proofs.lemmas.List.Elements.{All-from_recursion}
@@ -12,7 +13,8 @@ use Rattle.smx_queues.specs.PlaceLists.{HaveDriversBelow, PlaceList}
 use Rattle.smx_queues.specs.QueueTable.{Queue, queue_at}
 use Rattle.smx_queues.specs.Slots.{IsLeastFrom, has_messages, is_marked, messages_in}
 use Rattle.smx_queues.proofs.FlowTableLemmas.{found, found_at}
-use Rattle.smx_queues.proofs.LeftLemmas.{AreFirst, flow_ends, flow_next, fronts_end, fronts_first, fronts_found, fronts_next, fulls_end, fulls_next, head_front, many_queues}
+use Rattle.smx_queues.proofs.LeftLemmas.{AreFirst, flow_ends, flow_next, fronts_end, fronts_first, fronts_found}
+use Rattle.smx_queues.proofs.LeftLemmas.{fronts_next, fulls_end, fulls_next, head_front, many_queues}
 
 many : (p : PlaceList) (all : List (Option Queue)) → IsFlow p all → length all ≡ length p.places
 many p all h = many_queues p.drivers p.places all h.queues
@@ -23,36 +25,53 @@ below p all i h lt = omega (arith, many p all h)
 
 -- ---- the first messages
 
-pub front_ends : (p : PlaceList) (all : List (Option Queue)) (n : ℕ) (now : List QueuedMessage) → IsFlow p all → fronts_of (drop n p.places) (drop n all) ≡ now → IsLeastFrom has_messages all n None → now ≡ []
+-- where no place from a number on has messages, the walk meets no first message any more
+pub front_ends : (p : PlaceList) (all : List (Option Queue)) (n : ℕ) (now : List QueuedMessage) → IsFlow p all
+    → fronts_of (drop n p.places) (drop n all) ≡ now → IsLeastFrom has_messages all n None → now ≡ []
 front_ends p all n now h seen none = sym seen ∙ fronts_end p.places all n (many p all h) none
 
-pub front_steps : (p : PlaceList) (all : List (Option Queue)) (n i : ℕ) (place : Place) (m : Message) (now : List QueuedMessage) → IsFlow p all → fronts_of (drop n p.places) (drop n all) ≡ now
-    → IsLeastFrom has_messages all n (Some i) → slice_get p.places i ≡ Some place → Some m ≡ slice_get (queue_at all i).messages 0
+-- the walk meets next the first message of the least place from its number on that has any
+pub front_steps : (p : PlaceList) (all : List (Option Queue)) (n i : ℕ) (place : Place) (m : Message)
+    (now : List QueuedMessage) → IsFlow p all → fronts_of (drop n p.places) (drop n all) ≡ now
+    → IsLeastFrom has_messages all n (Some i) → slice_get p.places i ≡ Some place
+    → Some m ≡ slice_get (queue_at all i).messages 0
     → now ≡ record { place = place; message = m } ∷ fronts_of (drop (i + 1) p.places) (drop (i + 1) all)
 front_steps p all n i place m now h seen least at first =
     let f = found p.drivers p.places all place i h.queues at in
-    let here : slice_get (messages_in (get_or all i None)) 0 ≡ Some m = ap (λ (q : Option Queue). slice_get (messages_in q) 0) f.slot ∙ (sym (ap (λ (q : Queue). slice_get q.messages 0) (found_at p.drivers all place i f)) ∙ sym first) in
-    sym seen ∙ (fronts_next p.places all n i place (many p all h) least at ∙ head_front place (get_or all i None) m (fronts_of (drop (i + 1) p.places) (drop (i + 1) all)) here)
+    let here : slice_get (messages_in (get_or all i None)) 0
+    ≡ Some m = ap (λ (q : Option Queue). slice_get (messages_in q) 0) f.slot
+    ∙ (sym (ap (λ (q : Queue). slice_get q.messages 0) (found_at p.drivers all place i f)) ∙ sym first) in
+    sym seen ∙ (fronts_next p.places all n i place (many p all h) least at
+    ∙ head_front place (get_or all i None) m (fronts_of (drop (i + 1) p.places) (drop (i + 1) all)) here)
 
 -- ---- the full places
 
-pub full_ends : (p : PlaceList) (all : List (Option Queue)) (n : ℕ) (now : List Place) → IsFlow p all → fulls_of (drop n p.places) (drop n all) ≡ now → IsLeastFrom is_marked all n None → now ≡ []
+-- where no place from a number on is full, the walk meets no full place any more
+pub full_ends : (p : PlaceList) (all : List (Option Queue)) (n : ℕ) (now : List Place) → IsFlow p all
+    → fulls_of (drop n p.places) (drop n all) ≡ now → IsLeastFrom is_marked all n None → now ≡ []
 full_ends p all n now h seen none = sym seen ∙ fulls_end p.places all n (many p all h) none
 
-pub full_steps : (p : PlaceList) (all : List (Option Queue)) (n i : ℕ) (place : Place) (now : List Place) → IsFlow p all → fulls_of (drop n p.places) (drop n all) ≡ now → IsLeastFrom is_marked all n (Some i) → slice_get p.places i ≡ Some place
+-- the walk meets next the least full place from its number on
+pub full_steps : (p : PlaceList) (all : List (Option Queue)) (n i : ℕ) (place : Place) (now : List Place) → IsFlow p all
+    → fulls_of (drop n p.places) (drop n all) ≡ now → IsLeastFrom is_marked all n (Some i)
+    → slice_get p.places i ≡ Some place
     → now ≡ place ∷ fulls_of (drop (i + 1) p.places) (drop (i + 1) all)
 full_steps p all n i place now h seen least at = sym seen ∙ fulls_next p.places all n i place (many p all h) least at
 
 -- ---- the first of each place is the first at its place
 
-pub first_fronts : (p : PlaceList) (all : List (Option Queue)) (n : ℕ) (t : FlowLists) → IsFlow p all → lists_of p all n ≡ t → All (λ h. first_message t.flow h.place ≡ Some h.message) (fronts t.flow)
+-- each first message that the flow has for a place is the model's first message of that place
+pub first_fronts : (p : PlaceList) (all : List (Option Queue)) (n : ℕ) (t : FlowLists) → IsFlow p all
+    → lists_of p all n ≡ t → All (λ h. first_message t.flow h.place ≡ Some h.message) (fronts t.flow)
 first_fronts p all n t h seen =
-    let first = subst (AreFirst (flow_of p.places all)) (fronts_found p.places all h.rising) (fronts_first p.places all h.rising) in
+    let first = subst (AreFirst (flow_of p.places all)) (fronts_found p.places all h.rising)
+    (fronts_first p.places all h.rising) in
     let here = subst (λ (x : FlowLists). AreFirst x.flow (fronts x.flow)) seen first in
     All-from_recursion (λ (x : QueuedMessage). first_message t.flow x.place ≡ Some x.message) (fronts t.flow) here
 
 -- ---- nothing at a place that is none of them
 
+-- the serials of no messages, behind others, add none
 pub nothing_added : (xs : List ℕ) (ms : List Message) → [] ≡ ms → xs ≡ xs ++ map (λ m. m.serial) ms
 nothing_added xs ms e = subst (λ (ns : List Message). xs ≡ xs ++ map (λ m. m.serial) ns) e (sym (append_nil xs)) where
   append_nil : (ys : List ℕ) → ys ++ [] ≡ ys
@@ -60,7 +79,8 @@ nothing_added xs ms e = subst (λ (ns : List Message). xs ≡ xs ++ map (λ m. m
   append_nil (y ∷ ys) = ap (λ (zs : List ℕ). y ∷ zs) (append_nil ys)
 
 -- the place of a number is of one of so many drivers
-pub driver_at : (n : ℕ) (places : List Place) (i : ℕ) (d : Place) → HaveDriversBelow n places → i < length places → (get_or places i d).stream.driver < n
+pub driver_at : (n : ℕ) (places : List Place) (i : ℕ) (d : Place) → HaveDriversBelow n places → i < length places
+    → (get_or places i d).stream.driver < n
 driver_at n [] i d h lt = absurd (omega arith)
 driver_at n (p ∷ places) zero d h lt = h.0
 driver_at n (p ∷ places) (suc i) d h lt = driver_at n places i d h.1 (omega arith)
@@ -80,20 +100,32 @@ first_there : (ms : List Message) (o : Option Message) → has_some ms ≡ true 
 first_there [] o some e none = cc
 first_there (m ∷ ms) o some e none = cc
 
-pub front_some : (all : List (Option Queue)) (n i : ℕ) (o : Option Message) → IsLeastFrom has_messages all n (Some i) → o ≡ slice_get (queue_at all i).messages 0 → o ≡ None → ⊥
-front_some all n i o least e none = first_there (queue_at all i).messages o (subst (λ (ms : List Message). has_some ms ≡ true) (slot_messages all i) least.2) e none
+-- a number that was found to have messages has a first one
+pub front_some : (all : List (Option Queue)) (n i : ℕ) (o : Option Message) → IsLeastFrom has_messages all n (Some i)
+    → o ≡ slice_get (queue_at all i).messages 0 → o ≡ None → ⊥
+front_some all n i o least e none = first_there (queue_at all i).messages o
+    (subst (λ (ms : List Message). has_some ms ≡ true) (slot_messages all i) least.2) e none
 
 -- ---- all messages
 
-pub messages_end : (p : PlaceList) (all : List (Option Queue)) (n : ℕ) (place : Place) (left : List Message) (now : List QueuedMessage) → IsFlow p all → messages_at place left ++ flow_of (drop n p.places) (drop n all) ≡ now → left ≡ []
+-- where a place has none left and no later one has any, the walk meets no message any more
+pub messages_end : (p : PlaceList) (all : List (Option Queue)) (n : ℕ) (place : Place) (left : List Message)
+    (now : List QueuedMessage) → IsFlow p all → messages_at place left ++ flow_of (drop n p.places) (drop n all) ≡ now
+    → left ≡ []
     → IsLeastFrom has_messages all n None → now ≡ []
 messages_end p all n place left now h seen none least =
-    sym seen ∙ (ap (λ (ms : List Message). messages_at place ms ++ flow_of (drop n p.places) (drop n all)) none ∙ flow_ends p.places all n (many p all h) least)
+    sym seen ∙ (ap (λ (ms : List Message). messages_at place ms ++ flow_of (drop n p.places) (drop n all)) none
+    ∙ flow_ends p.places all n (many p all h) least)
 
-pub messages_step : (p : PlaceList) (all : List (Option Queue)) (n i : ℕ) (was place : Place) (left : List Message) (now : List QueuedMessage) (m : Message) (rest : List Message) → IsFlow p all
-    → messages_at was left ++ flow_of (drop n p.places) (drop n all) ≡ now → left ≡ [] → IsLeastFrom has_messages all n (Some i) → slice_get p.places i ≡ Some place → (queue_at all i).messages ≡ m ∷ rest
-    → now ≡ record { place = place; message = m } ∷ (messages_at place rest ++ flow_of (drop (i + 1) p.places) (drop (i + 1) all))
+-- where a place has none left, the walk meets next the first message of the least later one that has any
+pub messages_step : (p : PlaceList) (all : List (Option Queue)) (n i : ℕ) (was place : Place) (left : List Message)
+    (now : List QueuedMessage) (m : Message) (rest : List Message) → IsFlow p all
+    → messages_at was left ++ flow_of (drop n p.places) (drop n all) ≡ now → left ≡ []
+    → IsLeastFrom has_messages all n (Some i) → slice_get p.places i ≡ Some place → (queue_at all i).messages ≡ m ∷ rest
+    → now ≡ record { place = place; message = m }
+    ∷ (messages_at place rest ++ flow_of (drop (i + 1) p.places) (drop (i + 1) all))
 messages_step p all n i was place left now m rest h seen none least at here =
     sym seen ∙ (ap (λ (ms : List Message). messages_at was ms ++ flow_of (drop n p.places) (drop n all)) none
     ∙ (flow_next p.places all n i place (many p all h) least at
-    ∙ ap (λ (ms : List Message). messages_at place ms ++ flow_of (drop (i + 1) p.places) (drop (i + 1) all)) (slot_messages all i ∙ here)))
+    ∙ ap (λ (ms : List Message). messages_at place ms ++ flow_of (drop (i + 1) p.places) (drop (i + 1) all))
+    (slot_messages all i ∙ here)))

@@ -1,8 +1,11 @@
 -- What each change of the store and of a chain keeps.
-use Rattle.std.proofs.Common.{◌≡◌, ◌≢◌, ℕ, suc, ◌+◌, ◌<◌, ◌≤◌, ◌-◌, ◌^◌, Bool, true, false, nat_eq, nat_le, nat_lt, ◌||◌, ◌&&◌, List, [], ◌∷◌, ◌++◌, length, get_or, set, Option, Some, None, is_some, count_by, refl, sym, ap, subst, ◌∙◌, inl, inr, arith, add-zero}
+use Rattle.std.proofs.Common.{◌≡◌, ◌≢◌, ℕ, suc, ◌+◌, ◌<◌, ◌≤◌, ◌-◌, ◌^◌, Bool, true, false, nat_eq, nat_le, nat_lt}
+use Rattle.std.proofs.Common.{◌||◌, ◌&&◌, List, [], ◌∷◌, ◌++◌, length, get_or, set, Option, Some, None, is_some}
+use Rattle.std.proofs.Common.{count_by, refl, sym, ap, subst, ◌∙◌, inl, inr, arith, add-zero}
 use Rattle.std.proofs.lemmas.Bool.{cases_eq, cases_lt, cases_Bool}
 use Rattle.std.proofs.lemmas.Bool.Decides.{nat_tests}
-use Rattle.std.proofs.lemmas.List.{get_or-set_same, get_or-set_other, get_or_append_left, get_or_push, length-set, length-append}
+use Rattle.std.proofs.lemmas.List.{get_or-set_same, get_or-set_other, get_or_append_left, get_or_push, length-set}
+use Rattle.std.proofs.lemmas.List.{length-append}
 use Rattle.std.proofs.lemmas.List.Sums.{sum_by-set, sum_by_push, sum_by-append, sum_by-cons}
 use Rattle.slab.specs.Slab.{Slab, get, slab_len, Updates}
 use Rattle.smx_types.specs.declared.message.Message.{Message}
@@ -10,7 +13,8 @@ use Rattle.smx_model.specs.Queues.{bytes_of, full_after_leaving}
 use Rattle.smx_queues.specs.declared.node.Node.{Node}
 use Rattle.smx_queues.specs.declared.chain.Chain.{Chain}
 use Rattle.smx_queues.specs.QueueTable.{Queue, with_arrival}
-use Rattle.smx_queues.specs.Chains.{IsChain, HaveBytes, IsQueue, IsStore, chain_with_last, chain_without_first, no_chain, no_queue, with_follower}
+use Rattle.smx_queues.specs.Chains.{IsChain, HaveBytes, IsQueue, IsStore, chain_with_last, chain_without_first}
+use Rattle.smx_queues.specs.Chains.{no_chain, no_queue, with_follower}
 use Rattle.smx_queues.proofs.ChainLemmas.{owned, owned-same, owned-other, frame, last_owner, chain_more}
 use Rattle.smx_queues.proofs.FollowLemmas.{node_from, follows_none, follower_updates, follower_kept, follower_counted}
 
@@ -23,7 +27,9 @@ abbrev pub left_with : Queue → List Message → Queue
 left_with q rest = record q { messages = rest; full = full_after_leaving q.full q.low (bytes_of rest) }
 
 -- a change that no node of the place sees keeps its queue
-pub queue_kept : (own own' : ℕ → ℕ × ℕ) (s s' : Slab Node) (p : ℕ) (chain : Chain) (q : Queue) → ((x : ℕ) (node : Node) → get s x ≡ Some node → (own x).0 ≡ p → (get s' x ≡ get s x) × (own' x ≡ own x)) → IsQueue own s p chain q → IsQueue own' s' p chain q
+pub queue_kept : (own own' : ℕ → ℕ × ℕ) (s s' : Slab Node) (p : ℕ) (chain : Chain) (q : Queue)
+    → ((x : ℕ) (node : Node) → get s x ≡ Some node → (own x).0 ≡ p → (get s' x ≡ get s x) × (own' x ≡ own x))
+    → IsQueue own s p chain q → IsQueue own' s' p chain q
 queue_kept own own' s s' p chain q kept l =
     record {
       rank = l.rank;
@@ -41,7 +47,9 @@ queue_kept own own' s s' p chain q kept l =
     }
 
 -- a new node that is in no chain yet
-pub store_insert : (own : ℕ → ℕ × ℕ) (s s' : Slab Node) (chains : List Chain) (queues : List Queue) (key : ℕ) (node : Node) → IsStore own s chains queues 0 → get s key ≡ None → Updates s s' key (Some node) → slab_len s' ≡ slab_len s + 1 → IsStore (owned own key (length chains, 0)) s' chains queues 1
+pub store_insert : (own : ℕ → ℕ × ℕ) (s s' : Slab Node) (chains : List Chain) (queues : List Queue) (key : ℕ)
+    (node : Node) → IsStore own s chains queues 0 → get s key ≡ None → Updates s s' key (Some node)
+    → slab_len s' ≡ slab_len s + 1 → IsStore (owned own key (length chains, 0)) s' chains queues 1
 store_insert own s s' chains queues key node st vacant new len =
     record {
       as_many = st.as_many;
@@ -52,7 +60,9 @@ store_insert own s s' chains queues key node st vacant new len =
     }
 
 -- a node that is in no chain goes
-pub store_remove : (own : ℕ → ℕ × ℕ) (s s' : Slab Node) (chains : List Chain) (queues : List Queue) (key : ℕ) → IsStore own s chains queues 1 → (own key).0 ≡ length chains → Updates s s' key None → slab_len s' + 1 ≡ slab_len s → IsStore own s' chains queues 0
+pub store_remove : (own : ℕ → ℕ × ℕ) (s s' : Slab Node) (chains : List Chain) (queues : List Queue) (key : ℕ)
+    → IsStore own s chains queues 1 → (own key).0 ≡ length chains → Updates s s' key None → slab_len s' + 1 ≡ slab_len s
+    → IsStore own s' chains queues 0
 store_remove own s s' chains queues key st apart new len =
     record {
       as_many = st.as_many;
@@ -62,22 +72,39 @@ store_remove own s s' chains queues key st apart new len =
       counted = omega (arith, st.counted);
     }
 
-each_set : (own : ℕ → ℕ × ℕ) (s : Slab Node) (chains : List Chain) (queues : List Queue) (p : ℕ) (chain : Chain) (q : Queue) → p < length chains → length queues ≡ length chains → IsQueue own s p chain q → ((i : ℕ) → i < length chains → i ≢ p → IsQueue own s i (get_or chains i no_chain) (get_or queues i no_queue)) → (i : ℕ) → i < length (set chains p chain) → IsQueue own s i (get_or (set chains p chain) i no_chain) (get_or (set queues p q) i no_queue)
+each_set : (own : ℕ → ℕ × ℕ) (s : Slab Node) (chains : List Chain) (queues : List Queue) (p : ℕ) (chain : Chain)
+    (q : Queue) → p < length chains → length queues ≡ length chains → IsQueue own s p chain q
+    → ((i : ℕ) → i < length chains → i ≢ p → IsQueue own s i (get_or chains i no_chain) (get_or queues i no_queue))
+    → (i : ℕ) → i < length (set chains p chain)
+    → IsQueue own s i (get_or (set chains p chain) i no_chain) (get_or (set queues p q) i no_queue)
 each_set own s chains queues p chain q within many new others i below =
     elim (cases_eq i p) [
-      | inl same ↦ rw (same, get_or-set_same chains p chain no_chain within, get_or-set_same queues p q no_queue (omega (arith, many))) new
-      | inr differs ↦ rw (get_or-set_other chains p i chain no_chain differs, get_or-set_other queues p i q no_queue differs) (others i (omega (arith, length-set chains p chain)) differs)
+      | inl same ↦ rw (
+        same,
+        get_or-set_same chains p chain no_chain within,
+        get_or-set_same queues p q no_queue (omega (arith, many)),
+      ) new
+      | inr differs ↦ rw (
+        get_or-set_other chains p i chain no_chain differs,
+        get_or-set_other queues p i q no_queue differs,
+      ) (others i (omega (arith, length-set chains p chain)) differs)
     ]
 
 -- the first node leaves its chain, and stays in the store
-pub detached_queue : (own own' : ℕ → ℕ × ℕ) (s : Slab Node) (p : ℕ) (chain : Chain) (q : Queue) (m : Message) (rest : List Message) → q.messages ≡ m ∷ rest → IsQueue own s p chain q → ((x : ℕ) → x ≢ chain.first → own' x ≡ own x) → (next : ℕ) × (get s chain.first ≡ Some (record { message = m; next = next })) × ((own chain.first).0 ≡ p) × IsQueue own' s p (chain_without_first chain next (size m)) (left_with q rest)
+pub detached_queue : (own own' : ℕ → ℕ × ℕ) (s : Slab Node) (p : ℕ) (chain : Chain) (q : Queue) (m : Message)
+    (rest : List Message) → q.messages ≡ m ∷ rest → IsQueue own s p chain q
+    → ((x : ℕ) → x ≢ chain.first → own' x ≡ own x)
+    → (next : ℕ) × (get s chain.first ≡ Some (record { message = m; next = next })) × ((own chain.first).0 ≡ p)
+    × IsQueue own' s p (chain_without_first chain next (size m)) (left_with q rest)
 detached_queue own own' s p chain q m rest are l kept =
     by rest are (rw are at l.nodes) (rw are at l.have_bytes)
   where
     bytes_less : (rest : List Message) → q.messages ≡ m ∷ rest → chain.bytes - size m ≡ bytes_of rest
     bytes_less rest are = omega (arith, l.bytes, ap bytes_of are, sum_by-cons size m rest)
 
-    queue_with : (rest : List Message) (next : ℕ) → q.messages ≡ m ∷ rest → (rank : ℕ) → IsChain own' s p rank next rest chain.last → HaveBytes rest → IsQueue own' s p (chain_without_first chain next (size m)) (left_with q rest)
+    queue_with : (rest : List Message) (next : ℕ) → q.messages ≡ m ∷ rest → (rank : ℕ)
+        → IsChain own' s p rank next rest chain.last → HaveBytes rest
+        → IsQueue own' s p (chain_without_first chain next (size m)) (left_with q rest)
     queue_with rest next are rank nodes have =
         record {
           rank = rank;
@@ -94,30 +121,57 @@ detached_queue own own' s p chain q m rest are l kept =
           none_if_gone = λ gone. absurd (let e = sym are ∙ l.none_if_gone gone in cc);
         }
       where
-        opened : (rest : List Message) → q.messages ≡ m ∷ rest → (q.full && nat_lt q.low (bytes_of rest)) ≡ false → bytes_of rest < q.high
+        opened : (rest : List Message) → q.messages ≡ m ∷ rest → (q.full && nat_lt q.low (bytes_of rest)) ≡ false
+            → bytes_of rest < q.high
         opened rest are e = elim (cases_Bool q.full) [
-          | inl marked ↦ let n : nat_lt q.low (bytes_of rest) ≡ false = rw marked at e in grind (arith, nat_tests, l.low_below, n)
+          | inl marked ↦ let n : nat_lt q.low (bytes_of rest) ≡ false = rw marked at e in
+              grind (arith, nat_tests, l.low_below, n)
           | inr unmarked ↦ omega (arith, l.open_below_high unmarked, ap bytes_of are, sum_by-cons size m rest)
         ]
 
-    by : (rest : List Message) → q.messages ≡ m ∷ rest → IsChain own s p l.rank chain.first (m ∷ rest) chain.last → HaveBytes (m ∷ rest) → (next : ℕ) × (get s chain.first ≡ Some (record { message = m; next = next })) × ((own chain.first).0 ≡ p) × IsQueue own' s p (chain_without_first chain next (size m)) (left_with q rest)
+    by : (rest : List Message) → q.messages ≡ m ∷ rest → IsChain own s p l.rank chain.first (m ∷ rest) chain.last
+        → HaveBytes (m ∷ rest) → (next : ℕ) × (get s chain.first ≡ Some (record { message = m; next = next }))
+        × ((own chain.first).0 ≡ p) × IsQueue own' s p (chain_without_first chain next (size m)) (left_with q rest)
     by [] are c have = (c.0, c.1, c.2, queue_with [] c.0 are 0 tt tt)
-    by (m2 ∷ rest) are c have =
-        (c.0, c.1, c.2, queue_with (m2 ∷ rest) c.0 are (suc l.rank) (frame own own' s s p (suc l.rank) c.0 (m2 ∷ rest) _ (λ x node found of above. (refl, kept x (λ e. let r = ap (λ y. (own y).1) e in absurd (omega (arith, r, c.3, above))))) c.4) have.2)
+    by (m2 ∷ rest) are c have = (
+      c.0,
+      c.1,
+      c.2,
+      queue_with (m2 ∷ rest) c.0 are (suc l.rank)
+          (frame own own' s s p (suc l.rank) c.0 (m2 ∷ rest) _
+          (λ x node found of above.
+          (refl, kept x (λ e. let r = ap (λ y. (own y).1) e in absurd (omega (arith, r, c.3, above))))) c.4) have.2,
+    )
 
-pub store_detach : (own : ℕ → ℕ × ℕ) (s : Slab Node) (chains : List Chain) (queues : List Queue) (loose p : ℕ) (m : Message) (rest : List Message) → IsStore own s chains queues loose → p < length chains → (get_or queues p no_queue).messages ≡ m ∷ rest → (next : ℕ) × (get s (get_or chains p no_chain).first ≡ Some (record { message = m; next = next })) × IsStore (owned own (get_or chains p no_chain).first (length chains, 0)) s (set chains p (chain_without_first (get_or chains p no_chain) next (size m))) (set queues p (left_with (get_or queues p no_queue) rest)) (loose + 1)
+-- where the first node of a chain leaves it and stays in the store, one node more is in no chain
+pub store_detach : (own : ℕ → ℕ × ℕ) (s : Slab Node) (chains : List Chain) (queues : List Queue) (loose p : ℕ)
+    (m : Message) (rest : List Message) → IsStore own s chains queues loose → p < length chains
+    → (get_or queues p no_queue).messages ≡ m ∷ rest
+    → (next : ℕ) × (get s (get_or chains p no_chain).first ≡ Some (record { message = m; next = next }))
+    × IsStore (owned own (get_or chains p no_chain).first (length chains, 0)) s
+    (set chains p (chain_without_first (get_or chains p no_chain) next (size m)))
+    (set queues p (left_with (get_or queues p no_queue) rest)) (loose + 1)
 store_detach own s chains queues loose p m rest st within are =
     let key = (get_or chains p no_chain).first in
     let l = st.each p within in
-    let d = detached_queue own (owned own key (length chains, 0)) s p _ _ m rest are l (λ x other. owned-other own key _ x other) in (
+    let d = detached_queue own (owned own key (length chains, 0)) s p _ _ m rest are l
+    (λ x other. owned-other own key _ x other) in (
       d.0,
       d.1,
       record {
         as_many = length-set queues p _ ∙ st.as_many ∙ sym (length-set chains p _);
-        each = each_set _ s chains queues p _ _ within st.as_many d.3 (λ i below differs. queue_kept own _ s s i _ _ (λ x there found of.
+        each = each_set _ s chains queues p _ _ within st.as_many d.3
+            (λ i below differs. queue_kept own _ s s i _ _ (λ x there found of.
             let other : x ≢ key = λ e. let v = ap (λ y. (own y).0) e in absurd (differs (omega (arith, v, d.2, of))) in
             (refl, owned-other own key _ x other)) (st.each i below));
-        counted = omega (arith, st.counted, l.count, ap (λ (ms : List Message). length ms) are, sum_by-set (λ (chain : Chain). chain.count) chains p (chain_without_first (get_or chains p no_chain) d.0 (size m)) no_chain within);
+        counted = omega (
+          arith,
+          st.counted,
+          l.count,
+          ap (λ (ms : List Message). length ms) are,
+          sum_by-set (λ (chain : Chain). chain.count) chains p
+              (chain_without_first (get_or chains p no_chain) d.0 (size m)) no_chain within,
+        );
       },
     )
 
@@ -128,12 +182,17 @@ have_more : (ms : List Message) (m : Message) → HaveBytes ms → 0 < size m �
 have_more [] m have some few = (some, few, tt)
 have_more (x ∷ rest) m have some few = (have.0, have.1, have_more rest m have.2 some few)
 
-attached_chain : (own : ℕ → ℕ × ℕ) (s : Slab Node) (p rank : ℕ) (chain : Chain) (ms : List Message) (key : ℕ) (node : Node) → IsChain own s p rank chain.first ms chain.last → chain.count ≡ length ms → get s key ≡ Some node → (own key).0 ≢ p → IsChain (owned own key (p, rank + length ms)) (with_follower s chain key) p rank (chain_with_last chain key (size node.message)).first (ms ++ node.message ∷ []) key
+attached_chain : (own : ℕ → ℕ × ℕ) (s : Slab Node) (p rank : ℕ) (chain : Chain) (ms : List Message) (key : ℕ)
+    (node : Node) → IsChain own s p rank chain.first ms chain.last → chain.count ≡ length ms → get s key ≡ Some node
+    → (own key).0 ≢ p → IsChain (owned own key (p, rank + length ms)) (with_follower s chain key) p rank
+    (chain_with_last chain key (size node.message)).first (ms ++ node.message ∷ []) key
 attached_chain own s p rank chain [] key node c count found apart =
     let o = owned-same own key (p, rank + 0) in
     let first : (chain_with_last chain key (size node.message)).first ≡ key = rw count refl in
-    let there : get (with_follower s chain key) key ≡ Some node = ap (λ t. get t key) (follows_none s chain key count) ∙ found in
-    subst (λ h. IsChain (owned own key (p, rank + 0)) (with_follower s chain key) p rank h (node.message ∷ []) key) (sym first)
+    let there : get (with_follower s chain key) key ≡ Some node = ap (λ t. get t key) (follows_none s chain key count)
+    ∙ found in
+    subst (λ h. IsChain (owned own key (p, rank + 0)) (with_follower s chain key) p rank h (node.message ∷ []) key)
+    (sym first)
     (node.next, there, ap (λ o. o.0) o, ap (λ o. o.1) o ∙ add-zero rank, refl)
 attached_chain own s p rank chain (m ∷ rest) key node c count found apart =
     let o = owned-same own key (p, rank + suc (length rest)) in
@@ -141,13 +200,20 @@ attached_chain own s p rank chain (m ∷ rest) key node c count found apart =
     let test : nat_eq chain.count 0 ≡ false = grind (arith, nat_tests) in
     let same : (chain_with_last chain key (size node.message)).first ≡ chain.first = rw test refl in
     let u = follower_updates s chain key t.2.0 (omega (arith, count)) t.2.1 in
-    let changed = λ (was : Node) (is : get s chain.last ≡ Some was). let e : was ≡ t.2.0 = cc (t.2.1) in u.changed ∙ ap (λ (n : Node). Some (node_from n.message key)) (sym e) in
-    subst (λ h. IsChain (owned own key (p, rank + suc (length rest))) (with_follower s chain key) p rank h (m ∷ rest ++ node.message ∷ []) key) (sym same)
-    (chain_more own _ s (with_follower s chain key) p rank chain.first m rest chain.last key node c apart found (λ x other. owned-other own key _ x other) (ap (λ o. o.0) o) (ap (λ o. o.1) o) u.others changed)
+    let changed = λ (was : Node) (is : get s chain.last ≡ Some was). let e : was ≡ t.2.0 = cc (t.2.1) in
+    u.changed ∙ ap (λ (n : Node). Some (node_from n.message key)) (sym e) in
+    subst (λ h. IsChain (owned own key (p, rank + suc (length rest))) (with_follower s chain key) p rank h
+    (m ∷ rest ++ node.message ∷ []) key) (sym same)
+    (chain_more own _ s (with_follower s chain key) p rank chain.first m rest chain.last key node c apart found
+    (λ x other. owned-other own key _ x other) (ap (λ o. o.0) o) (ap (λ o. o.1) o) u.others changed)
 
-attached_queue : (own : ℕ → ℕ × ℕ) (s : Slab Node) (p : ℕ) (chain : Chain) (q : Queue) (key : ℕ) (node : Node) (l : IsQueue own s p chain q) → chain.there ≡ true → get s key ≡ Some node → (own key).0 ≢ p → 0 < size node.message → size node.message < 2 ^ 63 → IsQueue (owned own key (p, l.rank + length q.messages)) (with_follower s chain key) p (chain_with_last chain key (size node.message)) (with_arrival q node.message)
+attached_queue : (own : ℕ → ℕ × ℕ) (s : Slab Node) (p : ℕ) (chain : Chain) (q : Queue) (key : ℕ) (node : Node)
+    (l : IsQueue own s p chain q) → chain.there ≡ true → get s key ≡ Some node → (own key).0 ≢ p → 0 < size node.message
+    → size node.message < 2 ^ 63 → IsQueue (owned own key (p, l.rank + length q.messages)) (with_follower s chain key) p
+    (chain_with_last chain key (size node.message)) (with_arrival q node.message)
 attached_queue own s p chain q key node l there found apart some few =
-    let b : chain.bytes + size node.message ≡ bytes_of (q.messages ++ node.message ∷ []) = omega (arith, l.bytes, bytes_more q.messages node.message) in
+    let b : chain.bytes + size node.message ≡ bytes_of (q.messages ++ node.message ∷ []) = omega
+    (arith, l.bytes, bytes_more q.messages node.message) in
     record {
       rank = l.rank;
       nodes = attached_chain own s p l.rank chain q.messages key node l.nodes l.count found apart;
@@ -168,18 +234,32 @@ attached_queue own s p chain q key node l there found apart some few =
     below false high bytes e = grind (arith, nat_tests)
 
 -- a node of no chain becomes the last of one
-pub store_attach : (own : ℕ → ℕ × ℕ) (s : Slab Node) (chains : List Chain) (queues : List Queue) (loose p key : ℕ) (node : Node) → IsStore own s chains queues (loose + 1) → p < length chains → (get_or chains p no_chain).there ≡ true → get s key ≡ Some node → (own key).0 ≡ length chains → 0 < size node.message → size node.message < 2 ^ 63 → (own' : ℕ → ℕ × ℕ) × IsStore own' (with_follower s (get_or chains p no_chain) key) (set chains p (chain_with_last (get_or chains p no_chain) key (size node.message))) (set queues p (with_arrival (get_or queues p no_queue) node.message)) loose
+pub store_attach : (own : ℕ → ℕ × ℕ) (s : Slab Node) (chains : List Chain) (queues : List Queue) (loose p key : ℕ)
+    (node : Node) → IsStore own s chains queues (loose + 1) → p < length chains
+    → (get_or chains p no_chain).there ≡ true → get s key ≡ Some node → (own key).0 ≡ length chains
+    → 0 < size node.message → size node.message < 2 ^ 63 → (own' : ℕ → ℕ × ℕ)
+    × IsStore own' (with_follower s (get_or chains p no_chain) key)
+    (set chains p (chain_with_last (get_or chains p no_chain) key (size node.message)))
+    (set queues p (with_arrival (get_or queues p no_queue) node.message)) loose
 store_attach own s chains queues loose p key node st within there found apart some few =
     let l = st.each p within in
     let away : (own key).0 ≢ p = λ e. absurd (omega (arith, e)) in (
       _,
       record {
         as_many = length-set queues p _ ∙ st.as_many ∙ sym (length-set chains p _);
-        each = each_set _ _ chains queues p _ _ within st.as_many (attached_queue own s p _ _ key node l there found away some few) (λ i below differs. queue_kept own _ s _ i _ _ (λ x there found of.
+        each = each_set _ _ chains queues p _ _ within st.as_many
+            (attached_queue own s p _ _ key node l there found away some few)
+            (λ i below differs. queue_kept own _ s _ i _ _ (λ x there found of.
             let other : x ≢ key = λ e. let v = ap (λ y. (own y).0) e in absurd (omega (arith, v, apart, of)) in
             let elsewhere : (own x).0 ≢ p = λ e. differs (sym of ∙ e) in
             (follower_kept own s p _ _ key l x elsewhere, owned-other own key _ x other)) (st.each i below));
-        counted = omega (arith, st.counted, follower_counted own s p _ _ key l, sum_by-set (λ (chain : Chain). chain.count) chains p (chain_with_last (get_or chains p no_chain) key (size node.message)) no_chain within);
+        counted = omega (
+          arith,
+          st.counted,
+          follower_counted own s p _ _ key l,
+          sum_by-set (λ (chain : Chain). chain.count) chains p
+              (chain_with_last (get_or chains p no_chain) key (size node.message)) no_chain within,
+        );
       },
     )
 
@@ -194,7 +274,9 @@ pub record IsBare (chain : Chain) : Type 0 where
   pub high_bounded : chain.high ≤ 4096
   pub low_below : chain.low < chain.high
 
-pub bare_is : (own : ℕ → ℕ × ℕ) (s : Slab Node) (p : ℕ) (chain : Chain) → IsBare chain → IsQueue own s p chain (bare_queue chain)
+-- a chain without nodes is the queue without messages, with its marks
+pub bare_is : (own : ℕ → ℕ × ℕ) (s : Slab Node) (p : ℕ) (chain : Chain) → IsBare chain
+    → IsQueue own s p chain (bare_queue chain)
 bare_is own s p chain bare =
     record {
       rank = 0;
@@ -212,43 +294,70 @@ bare_is own s p chain bare =
     }
 
 -- a chain without nodes takes the place of one
-pub store_reset : (own : ℕ → ℕ × ℕ) (s : Slab Node) (chains : List Chain) (queues : List Queue) (loose p : ℕ) (after : Chain) → IsStore own s chains queues loose → p < length chains → (get_or queues p no_queue).messages ≡ [] → IsBare after → IsStore own s (set chains p after) (set queues p (bare_queue after)) loose
+pub store_reset : (own : ℕ → ℕ × ℕ) (s : Slab Node) (chains : List Chain) (queues : List Queue) (loose p : ℕ)
+    (after : Chain) → IsStore own s chains queues loose → p < length chains → (get_or queues p no_queue).messages ≡ []
+    → IsBare after → IsStore own s (set chains p after) (set queues p (bare_queue after)) loose
 store_reset own s chains queues loose p after st within none bare =
     let l = st.each p within in
     record {
       as_many = length-set queues p _ ∙ st.as_many ∙ sym (length-set chains p _);
-      each = each_set own s chains queues p after _ within st.as_many (bare_is own s p after bare) (λ i below differs. st.each i below);
-      counted = omega (arith, st.counted, bare.count, l.count, ap (λ (ms : List Message). length ms) none, sum_by-set (λ (chain : Chain). chain.count) chains p after no_chain within);
+      each = each_set own s chains queues p after _ within st.as_many (bare_is own s p after bare)
+          (λ i below differs. st.each i below);
+      counted = omega (
+        arith,
+        st.counted,
+        bare.count,
+        l.count,
+        ap (λ (ms : List Message). length ms) none,
+        sum_by-set (λ (chain : Chain). chain.count) chains p after no_chain within,
+      );
     }
 
 -- and comes behind all of them
-pub store_push : (own : ℕ → ℕ × ℕ) (s : Slab Node) (chains : List Chain) (queues : List Queue) (loose : ℕ) (after : Chain) → IsStore own s chains queues loose → IsBare after → IsStore own s (chains ++ after ∷ []) (queues ++ bare_queue after ∷ []) loose
+pub store_push : (own : ℕ → ℕ × ℕ) (s : Slab Node) (chains : List Chain) (queues : List Queue) (loose : ℕ)
+    (after : Chain) → IsStore own s chains queues loose → IsBare after
+    → IsStore own s (chains ++ after ∷ []) (queues ++ bare_queue after ∷ []) loose
 store_push own s chains queues loose after st bare =
     record {
-      as_many = omega (arith, st.as_many, length-append queues (bare_queue after ∷ []), length-append chains (after ∷ []));
+      as_many =
+          omega (arith, st.as_many, length-append queues (bare_queue after ∷ []), length-append chains (after ∷ []));
       each = λ i below. elim (cases_lt i (length chains)) [
-        | inl old ↦ rw (get_or_append_left chains (after ∷ []) no_chain i old, get_or_append_left queues (bare_queue after ∷ []) no_queue i (omega (arith, st.as_many))) (st.each i old)
+        | inl old ↦ rw (
+          get_or_append_left chains (after ∷ []) no_chain i old,
+          get_or_append_left queues (bare_queue after ∷ []) no_queue i (omega (arith, st.as_many)),
+        ) (st.each i old)
         | inr last ↦
             let e : i ≡ length chains = omega (arith, length-append chains (after ∷ [])) in
-            rw (e, get_or_push chains after no_chain (length chains) refl, get_or_push queues (bare_queue after) no_queue (length chains) st.as_many) (bare_is own s (length chains) after bare)
+            rw (
+              e,
+              get_or_push chains after no_chain (length chains) refl,
+              get_or_push queues (bare_queue after) no_queue (length chains) st.as_many,
+            ) (bare_is own s (length chains) after bare)
       ];
       counted = omega (arith, st.counted, bare.count, sum_by_push (λ (chain : Chain). chain.count) chains after);
     }
 
 -- more room changes nothing
-pub store_grown : (own : ℕ → ℕ × ℕ) (s s' : Slab Node) (chains : List Chain) (queues : List Queue) (loose : ℕ) → s'.slots ≡ s.slots → IsStore own s chains queues loose → IsStore own s' chains queues loose
+pub store_grown : (own : ℕ → ℕ × ℕ) (s s' : Slab Node) (chains : List Chain) (queues : List Queue) (loose : ℕ)
+    → s'.slots ≡ s.slots → IsStore own s chains queues loose → IsStore own s' chains queues loose
 store_grown own s s' chains queues loose same st =
     record {
       as_many = st.as_many;
-      each = λ p below. queue_kept _ _ s s' p _ _ (λ x _ _ _. (ap (λ slots. get_or slots x None) same, refl)) (st.each p below);
+      each = λ p below. queue_kept _ _ s s' p _ _ (λ x _ _ _. (ap (λ slots. get_or slots x None) same, refl))
+          (st.each p below);
       counted = ap (λ (slots : List (Option Node)). count_by is_some slots) same ∙ st.counted;
     }
 
 -- another mark on a chain, which is no mark only where it has few bytes
-pub store_marked : (own : ℕ → ℕ × ℕ) (s : Slab Node) (chains : List Chain) (queues : List Queue) (loose p : ℕ) (full : Bool) → IsStore own s chains queues loose → p < length chains → (full ≡ false → bytes_of (get_or queues p no_queue).messages < (get_or queues p no_queue).high) → IsStore own s (set chains p (record (get_or chains p no_chain) { full = full })) (set queues p (record (get_or queues p no_queue) { full = full })) loose
+pub store_marked : (own : ℕ → ℕ × ℕ) (s : Slab Node) (chains : List Chain) (queues : List Queue) (loose p : ℕ)
+    (full : Bool) → IsStore own s chains queues loose → p < length chains
+    → (full ≡ false → bytes_of (get_or queues p no_queue).messages < (get_or queues p no_queue).high)
+    → IsStore own s (set chains p (record (get_or chains p no_chain) { full = full }))
+    (set queues p (record (get_or queues p no_queue) { full = full })) loose
 store_marked own s chains queues loose p full st within few =
     let l = st.each p within in
-    let marked : IsQueue own s p (record (get_or chains p no_chain) { full = full }) (record (get_or queues p no_queue) { full = full }) = record {
+    let marked : IsQueue own s p (record (get_or chains p no_chain) { full = full })
+    (record (get_or queues p no_queue) { full = full }) = record {
       rank = l.rank;
       nodes = l.nodes;
       count = l.count;
@@ -265,5 +374,10 @@ store_marked own s chains queues loose p full st within few =
     record {
       as_many = length-set queues p _ ∙ st.as_many ∙ sym (length-set chains p _);
       each = each_set own s chains queues p _ _ within st.as_many marked (λ i below differs. st.each i below);
-      counted = omega (arith, st.counted, sum_by-set (λ (chain : Chain). chain.count) chains p (record (get_or chains p no_chain) { full = full }) no_chain within);
+      counted = omega (
+        arith,
+        st.counted,
+        sum_by-set (λ (chain : Chain). chain.count) chains p
+            (record (get_or chains p no_chain) { full = full }) no_chain within,
+      );
     }

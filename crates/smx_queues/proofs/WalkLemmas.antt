@@ -1,5 +1,6 @@
 -- A walk along a chain, step by step.
-use Rattle.std.proofs.Common.{◌≡◌, ℕ, suc, ◌+◌, ◌-◌, ◌<◌, List, [], ◌∷◌, length, drop, get_or, Option, Some, None, refl, sym, ap, ◌∙◌, arith}
+use Rattle.std.proofs.Common.{◌≡◌, ℕ, suc, ◌+◌, ◌-◌, ◌<◌, List, [], ◌∷◌, length, drop, get_or, Option, Some, None, refl}
+use Rattle.std.proofs.Common.{sym, ap, ◌∙◌, arith}
 use Rattle.std.specs.List.{slice_get}
 use Rattle.std.proofs.lemmas.List.{drop_more}
 use Rattle.std.proofs.lemmas.Option.{slice_get-get_or}
@@ -13,11 +14,14 @@ use Rattle.smx_queues.proofs.ChainLemmas.{walk_chain}
 use Rattle.smx_queues.proofs.SoundLemmas.{some_is}
 
 -- a walk along the whole chain of a place meets all its messages
-pub walk_all : (own : ℕ → ℕ × ℕ) (s : Slab Node) (p : ℕ) (chain : Chain) (q : Queue) → IsQueue own s p chain q → walk s chain.count chain.first ≡ q.messages
+pub walk_all : (own : ℕ → ℕ × ℕ) (s : Slab Node) (p : ℕ) (chain : Chain) (q : Queue) → IsQueue own s p chain q
+    → walk s chain.count chain.first ≡ q.messages
 walk_all own s p chain q l =
     ap (λ n. walk s n chain.first) l.count ∙ walk_chain own s p l.rank _ _ _ l.nodes
 
-pub walk_len : (own : ℕ → ℕ × ℕ) (s : Slab Node) (p : ℕ) (chain : Chain) (q : Queue) → IsQueue own s p chain q → length (walk s chain.count chain.first) ≡ chain.count
+-- a walk along a chain meets as many messages as the chain counts
+pub walk_len : (own : ℕ → ℕ × ℕ) (s : Slab Node) (p : ℕ) (chain : Chain) (q : Queue) → IsQueue own s p chain q
+    → length (walk s chain.count chain.first) ≡ chain.count
 walk_len own s p chain q l = ap (λ (ms : List Message). length ms) (walk_all own s p chain q l) ∙ sym l.count
 
 heads_same : (a b : Message) (xs ys : List Message) → a ∷ xs ≡ b ∷ ys → (a ≡ b) × (xs ≡ ys)
@@ -31,7 +35,9 @@ pub record Step (s : Slab Node) (key k : ℕ) (ms : List Message) : Type 0 where
   pub is : slice_get ms k ≡ Some node.message
   pub later : walk s (length ms - (k + 1)) node.next ≡ drop (k + 1) ms
 
-pub walk_step : (s : Slab Node) (key k : ℕ) (ms : List Message) (count : ℕ) → count ≡ length ms → k < count → walk s (count - k) key ≡ drop k ms → Step s key k ms
+-- where a walk has met k messages and there are more, it is at a node with the next one
+pub walk_step : (s : Slab Node) (key k : ℕ) (ms : List Message) (count : ℕ) → count ≡ length ms → k < count
+    → walk s (count - k) key ≡ drop k ms → Step s key k ms
 walk_step s key k ms count many more walked = by (get s key) refl
   where
     by : (o : Option Node) → get s key ≡ o → Step s key k ms
@@ -39,11 +45,14 @@ walk_step s key k ms count many more walked = by (get s key) refl
         let left : ℕ = length ms - (k + 1) in
         let one_more : count - k ≡ suc left = omega (arith, many, more) in
         let fallback : Message = record { serial = 0; addr = 0; bytes = [] } in
-        let parts : drop k ms ≡ get_or ms k fallback ∷ drop (k + 1) ms = drop_more ms k fallback (omega (arith, many)) in
-        let here : walk_on (walk s left) o ≡ get_or ms k fallback ∷ drop (k + 1) ms = ap (walk_on (walk s left)) (sym at) ∙ ap (λ c. walk s c key) (sym one_more) ∙ walked ∙ parts in
+        let parts : drop k ms ≡ get_or ms k fallback
+        ∷ drop (k + 1) ms = drop_more ms k fallback (omega (arith, many)) in
+        let here : walk_on (walk s left) o ≡ get_or ms k fallback ∷ drop (k + 1) ms = ap (walk_on (walk s left))
+        (sym at) ∙ ap (λ c. walk s c key) (sym one_more) ∙ walked ∙ parts in
         case o at here
       where
-        case : (o : Option Node) → get s key ≡ o → walk_on (walk s (length ms - (k + 1))) o ≡ get_or ms k (record { serial = 0; addr = 0; bytes = [] }) ∷ drop (k + 1) ms → Step s key k ms
+        case : (o : Option Node) → get s key ≡ o → walk_on (walk s (length ms - (k + 1))) o
+            ≡ get_or ms k (record { serial = 0; addr = 0; bytes = [] }) ∷ drop (k + 1) ms → Step s key k ms
         case None at here = absurd (cc)
         case (Some node) at here =
             let same = heads_same _ _ _ _ here in
@@ -55,15 +64,21 @@ walk_step s key k ms count many more walked = by (get s key) refl
               later = same.1;
             }
 
-pub walk_start : (own : ℕ → ℕ × ℕ) (s : Slab Node) (p : ℕ) (chain : Chain) (q : Queue) → IsQueue own s p chain q → walk s (length q.messages - 0) chain.first ≡ drop 0 q.messages
+-- a walk begins at the first node, with all messages to come
+pub walk_start : (own : ℕ → ℕ × ℕ) (s : Slab Node) (p : ℕ) (chain : Chain) (q : Queue) → IsQueue own s p chain q
+    → walk s (length q.messages - 0) chain.first ≡ drop 0 q.messages
 walk_start own s p chain q l =
     let same : length q.messages - 0 ≡ length q.messages = omega arith in
     ap (λ n. walk s n chain.first) same ∙ walk_chain own s p l.rank _ _ _ l.nodes
 
-pub step_next : (s : Slab Node) (key k : ℕ) (ms : List Message) (node : Node) → Step s key k ms → get s key ≡ Some node → walk s (length ms - (k + 1)) node.next ≡ drop (k + 1) ms
+-- behind the node that a walk is at, the walk meets the later messages
+pub step_next : (s : Slab Node) (key k : ℕ) (ms : List Message) (node : Node) → Step s key k ms → get s key ≡ Some node
+    → walk s (length ms - (k + 1)) node.next ≡ drop (k + 1) ms
 step_next s key k ms node step found =
     ap (λ (x : Node). walk s (length ms - (k + 1)) x.next) (some_is _ _ (sym found ∙ step.found)) ∙ step.later
 
-pub step_is : (s : Slab Node) (key k i : ℕ) (ms : List Message) (node : Node) → Step s key k ms → get s key ≡ Some node → k ≡ i → Some node.message ≡ slice_get ms i
+-- the message of the node that a walk is at is the next of the queue
+pub step_is : (s : Slab Node) (key k i : ℕ) (ms : List Message) (node : Node) → Step s key k ms → get s key ≡ Some node
+    → k ≡ i → Some node.message ≡ slice_get ms i
 step_is s key k i ms node step found same =
     ap (λ (x : Node). Some x.message) (some_is _ _ (sym found ∙ step.found)) ∙ sym step.is ∙ ap (slice_get ms) same

@@ -1,5 +1,6 @@
 -- How the nodes of the store and the chains of the places make the queues. No public clause needs this.
-use Rattle.std.specs.Prelude.{◌≡◌, ℕ, zero, suc, ◌+◌, ◌-◌, ◌<◌, ◌≤◌, ◌^◌, ◌==◌, true, false, if◌then◌else◌, List, [], ◌∷◌, length, Option, Some, None, slice_index_or}
+use Rattle.std.specs.Prelude.{◌≡◌, ℕ, zero, suc, ◌+◌, ◌-◌, ◌<◌, ◌≤◌, ◌^◌, ◌==◌, true, false, if◌then◌else◌, List, []}
+use Rattle.std.specs.Prelude.{◌∷◌, length, Option, Some, None, slice_index_or}
 use Rattle.std.specs.List.{sum_by}
 use Rattle.slab.specs.Slab.{Slab, get, slab_len, with_value}
 use Rattle.smx_types.specs.declared.message.Message.{Message}
@@ -142,7 +143,8 @@ abbrev pub chain_at : List Chain → ℕ → Chain
 chain_at chains p = slice_index_or chains p no_chain
 
 -- the chains are these queues, and the store has their nodes and so many others
-pub record IsStore (own : ℕ → ℕ × ℕ) (s : Slab Node) (chains : List Chain) (queues : List Queue) (loose : ℕ) : Type 0 where
+pub record IsStore (own : ℕ → ℕ × ℕ) (s : Slab Node) (chains : List Chain) (queues : List Queue)
+    (loose : ℕ) : Type 0 where
   pub as_many : length queues ≡ length chains
   pub each : (p : ℕ) → p < length chains → IsQueue own s p (chain_at chains p) (slice_index_or queues p no_queue)
   pub counted : slab_len s ≡ sum_by (λ (chain : Chain). chain.count) chains + loose

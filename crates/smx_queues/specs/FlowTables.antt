@@ -1,5 +1,6 @@
 -- What a contract sees of the queued messages and full marks of all places, by place.
-use Rattle.std.specs.Prelude.{◌≡◌, ℕ, Bool, false, not, List, [], ◌∷◌, ◌++◌, map, filter, Option, Some, None, if◌then◌else◌}
+use Rattle.std.specs.Prelude.{◌≡◌, ℕ, Bool, false, not, List, [], ◌∷◌, ◌++◌, map, filter, Option, Some, None}
+use Rattle.std.specs.Prelude.{if◌then◌else◌}
 use Rattle.std.specs.List.{list_any}
 use Rattle.smx_types.specs.declared.driver.DriverSpec.{DriverSpec}
 use Rattle.smx_types.specs.declared.message.Message.{Message}
@@ -43,7 +44,8 @@ AreQueuesOf drivers [] (q ∷ queues) = ⊥
 AreQueuesOf drivers (p ∷ places) [] = ⊥
 AreQueuesOf drivers (p ∷ places) (None ∷ queues) = ⊥
 AreQueuesOf drivers (p ∷ places) (Some q ∷ queues) =
-    (q.high ≡ high_of drivers p.stream.driver) × (q.low ≡ low_of drivers p.stream.driver) × AreQueuesOf drivers places queues
+    (q.high ≡ high_of drivers p.stream.driver) × (q.low ≡ low_of drivers p.stream.driver)
+    × AreQueuesOf drivers places queues
 
 -- the places rise, and each has a queue
 pub record IsFlow (p : PlaceList) (all : List (Option Queue)) : Type 0 where
@@ -63,17 +65,28 @@ lists_of p queues spare = record {
 abbrev pub after_arrival : FlowLists → Place → Message → FlowLists
 after_arrival t p m = now (with_inserted queued_before t.flow (record { place = p; message = m })) where
   now : List QueuedMessage → FlowLists
-  now flow = record t { flow = flow; fulls = with_mark p (full_after_arrival (list_any (same_place p) t.fulls) (high_of t.drivers p.stream.driver) (bytes_at flow p)) t.fulls }
+  now flow =
+      record t {
+        flow = flow;
+        fulls = with_mark p (full_after_arrival (list_any (same_place p) t.fulls) (high_of t.drivers p.stream.driver)
+            (bytes_at flow p)) t.fulls;
+      }
 
 -- the first message leaves a place, as in the model
 abbrev pub after_leaving : FlowLists → Place → FlowLists
 after_leaving t p = now (without_first (is_at p) t.flow) where
   now : List QueuedMessage → FlowLists
-  now flow = record t { flow = flow; fulls = with_mark p (full_after_leaving (list_any (same_place p) t.fulls) (low_of t.drivers p.stream.driver) (bytes_at flow p)) t.fulls }
+  now flow =
+      record t {
+        flow = flow;
+        fulls = with_mark p (full_after_leaving (list_any (same_place p) t.fulls) (low_of t.drivers p.stream.driver)
+            (bytes_at flow p)) t.fulls;
+      }
 
 -- without the messages and the mark of a place
 abbrev pub without_place : FlowLists → Place → FlowLists
-without_place t p = record t { flow = filter (λ h. not (is_at p h)) t.flow; fulls = filter (λ q. not (same_place q p)) t.fulls }
+without_place t p =
+    record t { flow = filter (λ h. not (is_at p h)) t.flow; fulls = filter (λ q. not (same_place q p)) t.fulls }
 
 -- it is this place, where there is one
 abbrev pub is_same : Option Place → Place → Bool
@@ -83,7 +96,8 @@ is_same (Some p) q = same_place p q
 -- the first message of each place, since the messages of a place stand together: not of the place before
 abbrev pub fronts_after : Option Place → List QueuedMessage → List QueuedMessage
 fronts_after before [] = []
-fronts_after before (h ∷ flow) = if is_same before h.place then fronts_after before flow else h ∷ fronts_after (Some h.place) flow
+fronts_after before (h ∷ flow) =
+    if is_same before h.place then fronts_after before flow else h ∷ fronts_after (Some h.place) flow
 
 -- the first message of each place that has any
 abbrev pub fronts : List QueuedMessage → List QueuedMessage

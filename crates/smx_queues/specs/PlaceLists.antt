@@ -1,5 +1,6 @@
 -- The places of all streams that some drivers have, and their numbers.
-use Rattle.std.specs.Prelude.{◌≡◌, ℕ, zero, suc, ◌+◌, ◌*◌, ◌<◌, ◌≤◌, false, List, [], ◌∷◌, ◌++◌, length, map, Option, Some, slice_get, slice_index_or}
+use Rattle.std.specs.Prelude.{◌≡◌, ℕ, zero, suc, ◌+◌, ◌*◌, ◌<◌, ◌≤◌, false, List, [], ◌∷◌, ◌++◌, length, map, Option}
+use Rattle.std.specs.Prelude.{Some, slice_get, slice_index_or}
 use Rattle.std.specs.List.{list_any}
 use Rattle.smx_types.specs.declared.driver.DriverSpec.{DriverSpec}
 use Rattle.smx_types.specs.declared.stream.Place.{Place}
@@ -40,10 +41,13 @@ HaveDriversBelow n (p ∷ places) = (p.stream.driver < n) × HaveDriversBelow n 
 pub record ArePlaces (drivers : List DriverSpec) (firsts : List ℕ) (places : List Place) : Type 0 where
   pub one_each : length firsts ≡ length drivers
   pub rising : IsRising place_before places
-  pub numbered : (p : Place) → p.stream.minor < minors_of drivers p.stream.driver → slice_get places (number_of firsts p) ≡ Some p
-  pub none_else : (p : Place) → minors_of drivers p.stream.driver ≤ p.stream.minor → list_any (same_place p) places ≡ false
+  pub numbered : (p : Place) → p.stream.minor < minors_of drivers p.stream.driver
+      → slice_get places (number_of firsts p) ≡ Some p
+  pub none_else : (p : Place) → minors_of drivers p.stream.driver ≤ p.stream.minor
+      → list_any (same_place p) places ≡ false
   pub drivers_below : HaveDriversBelow (length drivers) places
 
 -- a queue for each place, without messages, with the water marks of its driver
 abbrev pub new_queues : List DriverSpec → List Place → List (Option Queue)
-new_queues drivers places = map (λ p. Some (empty_queue (high_of drivers p.stream.driver) (low_of drivers p.stream.driver))) places
+new_queues drivers places =
+    map (λ p. Some (empty_queue (high_of drivers p.stream.driver) (low_of drivers p.stream.driver))) places

@@ -1,5 +1,6 @@
 -- What a contract sees of the queues of all places.
-use Rattle.std.specs.Prelude.{ℕ, suc, Bool, false, List, [], ◌∷◌, ◌++◌, Option, Some, None, IsSome, drop, slice_index_or, slice_set}
+use Rattle.std.specs.Prelude.{ℕ, suc, Bool, false, List, [], ◌∷◌, ◌++◌, Option, Some, None, IsSome, drop}
+use Rattle.std.specs.Prelude.{slice_index_or, slice_set}
 use Rattle.smx_types.specs.declared.message.Message.{Message}
 use Rattle.smx_model.specs.Queues.{bytes_of, full_after_arrival, full_after_leaving}
 

@@ -1,5 +1,6 @@
 -- What stands at a number: a queue, or nothing.
-use Rattle.std.specs.Prelude.{◌≡◌, ℕ, ◌<◌, ◌≤◌, nat_lt, Bool, true, false, List, [], length, Option, Some, None, slice_index_or, if◌then◌else◌}
+use Rattle.std.specs.Prelude.{◌≡◌, ℕ, ◌<◌, ◌≤◌, nat_lt, Bool, true, false, List, [], length, Option, Some, None}
+use Rattle.std.specs.Prelude.{slice_index_or, if◌then◌else◌}
 use Rattle.std.specs.List.{sum_by}
 use Rattle.smx_types.specs.declared.message.Message.{Message}
 use Rattle.smx_queues.specs.QueueTable.{Queue}

@@ -102,7 +102,7 @@ impl Queues {
     }
 
     /// The place goes with its messages, where there is one of this number. Takes no memory.
-    #[tactic(auto, using(crate::proofs::TableLemmas::set_again))]
+    #[tactic(auto, using(crate::proofs::QueueTableLemmas::set_again))]
     pub fn drop_place(&mut self, p: PlaceId)
         ensures gone { self.new.queues ≡ slice_set self.old.queues p None }
         ensures spare { self.new.spare ≡ self.old.spare + length (queue_at self.old.queues p).messages }

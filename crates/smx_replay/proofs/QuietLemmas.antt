@@ -3,7 +3,8 @@ use Rattle.std.proofs.Common.{◌≡◌, ℕ, Bool, true, false, ◌||◌, List,
 use Rattle.std.proofs.lemmas.List.{length-map}
 use Rattle.std.specs.List.{list_any}
 use Rattle.std.specs.Prelude.{nat_lt}
-use Rattle.smx_types.specs.Versions.{are_more_drivers, is_hangup, is_of_hangup, least_of_transcript, tells_of_hangup, version_2_where}
+use Rattle.smx_types.specs.Versions.{are_more_drivers, is_hangup, is_of_hangup, least_of_transcript, tells_of_hangup}
+use Rattle.smx_types.specs.Versions.{version_2_where}
 use Rattle.smx_types.specs.declared.command.Command.{Command}
 use Rattle.smx_types.specs.declared.command.Entry.{Entry}
 use Rattle.smx_types.specs.declared.driver.DriverSpec.{DriverSpec}
@@ -48,17 +49,20 @@ no_command (e ∷ es) h =
     nor (is_hangup e.command) _ (neither (is_hangup e.command) (tells_of_hangup e.reply) p.0).0 (no_command es p.1)
 
 -- which the calls tell
-by_calls : (es : List Entry) → list_any (λ e. is_hangup e.command) es ≡ list_any (λ (call : ℕ × Command). is_hangup call.1) (map call_of es)
+by_calls : (es : List Entry) → list_any (λ e. is_hangup e.command) es
+    ≡ list_any (λ (call : ℕ × Command). is_hangup call.1) (map call_of es)
 by_calls [] = refl
 by_calls (e ∷ es) = ap (λ (b : Bool). is_hangup e.command || b) (by_calls es)
 
 -- what version 1 can tell has a replay that it can tell
-quiet : TellsOfNone → LeavesNone → (t r : Transcript) → IsReplayOf t r → least_of_transcript t ≡ V1 → least_of_transcript r ≡ V1
+quiet : TellsOfNone → LeavesNone → (t r : Transcript) → IsReplayOf t r → least_of_transcript t ≡ V1
+    → least_of_transcript r ≡ V1
 quiet tells leaves t r h least =
     let p = neither (are_more_drivers t.drivers) _ (not_needed _ least) in
     let q = neither (list_any is_of_hangup t.entries) _ p.1 in
     let none : list_any (λ e. is_hangup e.command) r.entries ≡ false =
-    by_calls r.entries ∙ ap (list_any (λ (call : ℕ × Command). is_hangup call.1)) h.calls ∙ sym (by_calls t.entries) ∙ no_command t.entries q.0 in
+    by_calls r.entries ∙ ap (list_any (λ (call : ℕ × Command). is_hangup call.1)) h.calls ∙ sym (by_calls t.entries)
+    ∙ no_command t.entries q.0 in
     let hung : (after t.drivers r.entries).hungs ≡ [] = leaves t.drivers r.entries none in
     let few : are_more_drivers r.drivers ≡ false = ap are_more_drivers h.drivers ∙ p.0 in
     let shown : nat_lt 0 (length r.view.hungs) ≡ false = rw (h.shown, hung) refl in
@@ -68,7 +72,8 @@ quiet tells leaves t r h least =
 pub can_be_told : TellsOfNone → LeavesNone → (t r : Transcript) → IsAllowed t.version t → IsReplayOf t r → IsSpellable r
     → IsAllowed r.version r
 can_be_told tells leaves t r allowed h spellable =
-    let as_many : length (map call_of r.entries) ≡ length (map call_of t.entries) = ap (λ (calls : List (ℕ × Command)). length calls) h.calls in
+    let as_many : length (map call_of r.entries)
+    ≡ length (map call_of t.entries) = ap (λ (calls : List (ℕ × Command)). length calls) h.calls in
     record {
       version_is = refl;
       drivers = rw (h.version, h.drivers) allowed.drivers;

@@ -40,24 +40,29 @@ abbrev pub answers : List DriverSpec → List Entry → List Entry
 answers drivers es = answers_from drivers empty es
 
 -- they are a legal history
-legal_from : (drivers : List DriverSpec) (c : Configuration) (es : List Entry) → IsLegalFrom drivers c (answers_from drivers c es)
+legal_from : (drivers : List DriverSpec) (c : Configuration) (es : List Entry)
+    → IsLegalFrom drivers c (answers_from drivers c es)
 legal_from drivers c [] = tt
 legal_from drivers c (e ∷ es) = (refl, legal_from drivers (step drivers c e.process e.command).0 es)
 
 -- of these calls
-calls_from : (drivers : List DriverSpec) (c : Configuration) (es : List Entry) → map call_of (answers_from drivers c es) ≡ map call_of es
+calls_from : (drivers : List DriverSpec) (c : Configuration) (es : List Entry)
+    → map call_of (answers_from drivers c es) ≡ map call_of es
 calls_from drivers c [] = refl
 calls_from drivers c (e ∷ es) =
-    ap (λ (calls : List (ℕ × Command)). call_of e ∷ calls) (calls_from drivers (step drivers c e.process e.command).0 es)
+    ap (λ (calls : List (ℕ × Command)). call_of e ∷ calls)
+    (calls_from drivers (step drivers c e.process e.command).0 es)
 
 -- they lead where the entries lead, whose replies play no part in it
-led_from : (drivers : List DriverSpec) (c : Configuration) (es : List Entry) → after_from drivers c (answers_from drivers c es) ≡ after_from drivers c es
+led_from : (drivers : List DriverSpec) (c : Configuration) (es : List Entry)
+    → after_from drivers c (answers_from drivers c es) ≡ after_from drivers c es
 led_from drivers c [] = refl
 led_from drivers c (e ∷ es) = led_from drivers (step drivers c e.process e.command).0 es
 
 -- one entry more is answered by the configuration after those before it
 more_from : (drivers : List DriverSpec) (c : Configuration) (es : List Entry) (e : Entry)
-    → answers_from drivers c (es ++ e ∷ []) ≡ answers_from drivers c es ++ answered drivers (after_from drivers c es) e ∷ []
+    → answers_from drivers c (es ++ e ∷ []) ≡ answers_from drivers c es ++ answered drivers (after_from drivers c es) e
+    ∷ []
 more_from drivers c [] e = refl
 more_from drivers c (d ∷ es) e =
     ap (λ (xs : List Entry). answered drivers c d ∷ xs) (more_from drivers (step drivers c d.process d.command).0 es e)
@@ -65,7 +70,8 @@ more_from drivers c (d ∷ es) e =
 -- ---- there is one
 
 -- with such a view they make the replay
-pub replayed : (t : Transcript) (shown : ConfigView) → IsDriverList t.drivers → shown ≡ view t.drivers (after t.drivers t.entries)
+pub replayed : (t : Transcript) (shown : ConfigView) → IsDriverList t.drivers
+    → shown ≡ view t.drivers (after t.drivers t.entries)
     → IsReplayOf t (transcript_with t.version t.drivers (answers t.drivers t.entries) shown)
 replayed t shown can is = record {
   version = refl;
@@ -83,7 +89,8 @@ always t can =
     (transcript_with t.version t.drivers (answers t.drivers t.entries) shown, replayed t shown can refl)
 
 -- transcripts with the same parts are the same
-same_parts : (r s : Transcript) → r.version ≡ s.version → r.drivers ≡ s.drivers → r.entries ≡ s.entries → r.view ≡ s.view → r ≡ s
+same_parts : (r s : Transcript) → r.version ≡ s.version → r.drivers ≡ s.drivers → r.entries ≡ s.entries
+    → r.view ≡ s.view → r ≡ s
 same_parts r s version drivers entries shown =
     ap (λ (v : Version). record r { version = v }) version
     ∙ ap (λ (ds : List DriverSpec). record r { version = s.version; drivers = ds }) drivers
@@ -93,12 +100,14 @@ same_parts r s version drivers entries shown =
 -- and no other
 pub one : AreDetermined → (t r s : Transcript) → IsReplayOf t r → IsReplayOf t s → r ≡ s
 one determined t r s h k =
-    let entries : r.entries ≡ s.entries = determined t.drivers r.entries s.entries h.legal k.legal (h.calls ∙ sym k.calls) in
+    let entries : r.entries ≡ s.entries = determined t.drivers r.entries s.entries h.legal k.legal
+    (h.calls ∙ sym k.calls) in
     same_parts r s (h.version ∙ sym k.version) (h.drivers ∙ sym k.drivers) entries
     (h.shown ∙ ap (λ (es : List Entry). view t.drivers (after t.drivers es)) entries ∙ sym k.shown)
 
 -- replies and views play no part
-pub calls_alone : (t u r : Transcript) → u.version ≡ t.version → u.drivers ≡ t.drivers → map call_of u.entries ≡ map call_of t.entries
+pub calls_alone : (t u r : Transcript) → u.version ≡ t.version → u.drivers ≡ t.drivers
+    → map call_of u.entries ≡ map call_of t.entries
     → IsReplayOf t r → IsReplayOf u r
 calls_alone t u r version drivers calls h = record {
   version = h.version ∙ sym version;
@@ -111,35 +120,43 @@ calls_alone t u r version drivers calls h = record {
 
 -- ---- what was written
 
--- a replay as far as these entries: the configuration is the one after them, and they stand in the text with their replies
-pub record HasCome (version : Version) (drivers : List DriverSpec) (asked : List Entry) (m : Machine) (bytes : List ℕ) : Type 0 where
+-- a replay as far as these entries: the configuration is the one after them, and they stand in the text with their
+-- replies
+pub record HasCome (version : Version) (drivers : List DriverSpec) (asked : List Entry) (m : Machine)
+    (bytes : List ℕ) : Type 0 where
   pub same : m.drivers ≡ drivers
   pub now : m.configuration ≡ after drivers asked
   pub written : BeginsTranscript version drivers (answers drivers asked) bytes
 
 -- as far as one entry more
-pub one_more : OneStepFurther → (version : Version) (drivers : List DriverSpec) (asked : List Entry) (e : Entry) (old new : Machine) (bytes more : List ℕ)
+pub one_more : OneStepFurther → (version : Version) (drivers : List DriverSpec) (asked : List Entry) (e : Entry)
+    (old new : Machine) (bytes more : List ℕ)
     → HasCome version drivers asked old bytes → new.drivers ≡ old.drivers
     → new.configuration ≡ (step old.drivers old.configuration e.process e.command).0
     → ((v : Version) (ds : List DriverSpec) (es : List Entry) → BeginsTranscript v ds es bytes
     → BeginsTranscript v ds (es ++ answered old.drivers old.configuration e ∷ []) more)
     → HasCome version drivers (asked ++ e ∷ []) new more
 one_more further version drivers asked e old new bytes more h same next tells =
-    let here : step old.drivers old.configuration e.process e.command ≡ step drivers (after drivers asked) e.process e.command =
+    let here : step old.drivers old.configuration e.process e.command
+    ≡ step drivers (after drivers asked) e.process e.command =
     rw (h.same, h.now) refl in
-    let behind : answers drivers asked ++ answered old.drivers old.configuration e ∷ [] ≡ answers drivers (asked ++ e ∷ []) =
+    let behind : answers drivers asked ++ answered old.drivers old.configuration e ∷ []
+    ≡ answers drivers (asked ++ e ∷ []) =
     rw (h.same, h.now) (sym (more_from drivers empty asked e)) in
     record {
       same = same ∙ h.same;
       now = next ∙ ap (λ (x : Configuration × Reply). x.0) here ∙ sym (further drivers asked e);
-      written = subst (λ (es : List Entry). BeginsTranscript version drivers es more) behind (tells version drivers (answers drivers asked) h.written);
+      written = subst (λ (es : List Entry). BeginsTranscript version drivers es more) behind
+          (tells version drivers (answers drivers asked) h.written);
     }
 
 -- with the view at the end it is the text of the replay
 pub whole : (t : Transcript) (m : Machine) (bytes output : List ℕ) (shown : ConfigView) → IsDriverList t.drivers
     → HasCome t.version t.drivers t.entries m bytes → shown ≡ view m.drivers m.configuration
-    → ((v : Version) (ds : List DriverSpec) (es : List Entry) → BeginsTranscript v ds es bytes → output ≡ transcript_text (transcript_with v ds es shown))
-    → ((v : Version) (ds : List DriverSpec) (es : List Entry) → BeginsTranscript v ds es bytes → IsSpellable (transcript_with v ds es shown))
+    → ((v : Version) (ds : List DriverSpec) (es : List Entry) → BeginsTranscript v ds es bytes
+    → output ≡ transcript_text (transcript_with v ds es shown))
+    → ((v : Version) (ds : List DriverSpec) (es : List Entry) → BeginsTranscript v ds es bytes
+    → IsSpellable (transcript_with v ds es shown))
     → IsReplayText t output
 whole t m bytes output shown can h is text spelled =
     let at_the_end : shown ≡ view t.drivers (after t.drivers t.entries) =

@@ -1,4 +1,5 @@
--- Fronts of an example that are none: too early, past the end, or of another number of links; and drivers that can't be had.
+-- Fronts of an example that are none: too early, past the end, or of another number of links; and drivers that can't
+-- be had.
 use Rattle.std.proofs.Common.{◌≡◌, ℕ, ◌+◌, ◌≤◌, List, [], ◌∷◌, take, length, refl, sym, ap, ◌∙◌, arith}
 use Rattle.std.proofs.Math.Seq.{take-append_seam}
 use Rattle.std.proofs.lemmas.List.{length-append}
@@ -24,28 +25,37 @@ as_long before history begins =
 -- it has no more of them than there are
 no_longer : (before history : List Entry) → IsBeginningOf before history → length before ≤ length history
 no_longer before history begins =
-    let sum : length before + length begins.0 ≡ length history = sym (length-append before begins.0) ∙ ap (λ (es : List Entry). length es) begins.1 in omega arith
+    let sum : length before + length begins.0 ≡ length history = sym (length-append before begins.0)
+    ∙ ap (λ (es : List Entry). length es) begins.1 in omega arith
 
 -- what a front of so many entries is of
-is_of : (process entries : ℕ) (program : List Command) (front : Front) → front.entries ≡ entries → (h : IsFrontAfter drivers whole process program front) → h.before ≡ take entries whole
+is_of : (process entries : ℕ) (program : List Command) (front : Front) → front.entries ≡ entries
+    → (h : IsFrontAfter drivers whole process program front) → h.before ≡ take entries whole
 is_of process entries program front same h =
     let long : length h.before ≡ entries = sym h.numbers.entries ∙ same in
     as_long h.before whole h.begins ∙ ap (λ (n : ℕ). take n whole) long
 
+-- a front of two entries is none after the program of process 0, whose second command is the third entry
 pub too_early : (front : Front) → front.entries ≡ 2 → IsFrontAfter drivers whole 0 (OpenClone ip ∷ Dup 0 ∷ []) front → ⊥
 too_early front same h =
-    let e : OpenClone ip ∷ [] ≡ OpenClone ip ∷ Dup 0 ∷ [] = ap (λ (es : List Entry). commands_of 0 es) (sym (is_of 0 2 _ front same h)) ∙ h.holds in
+    let e : OpenClone ip ∷ [] ≡ OpenClone ip ∷ Dup 0
+    ∷ [] = ap (λ (es : List Entry). commands_of 0 es) (sym (is_of 0 2 _ front same h)) ∙ h.holds in
     absurd cc
 
-pub past_the_end : (process : ℕ) (program : List Command) (front : Front) → front.entries ≡ 4 → IsFrontAfter drivers whole process program front → ⊥
+-- a front of four entries is none in a history of three
+pub past_the_end : (process : ℕ) (program : List Command) (front : Front) → front.entries ≡ 4
+    → IsFrontAfter drivers whole process program front → ⊥
 past_the_end process program front same h =
     let few : length h.before ≤ 3 = no_longer h.before whole h.begins in
     let long : length h.before ≡ 4 = sym h.numbers.entries ∙ same in
     absurd (omega (arith, few, long))
 
-pub with_a_link : (process : ℕ) (program : List Command) (front : Front) → front.entries ≡ 3 → front.links ≡ 1 → IsFrontAfter drivers whole process program front → ⊥
+-- a front of three entries and a link is none, for no link stands after them
+pub with_a_link : (process : ℕ) (program : List Command) (front : Front) → front.entries ≡ 3 → front.links ≡ 1
+    → IsFrontAfter drivers whole process program front → ⊥
 with_a_link process program front same link h =
-    let e : 0 ≡ 1 = ap (λ (es : List Entry). links_after drivers es) (sym (is_of process 3 program front same h)) ∙ (sym h.numbers.links ∙ link) in
+    let e : 0 ≡ 1 = ap (λ (es : List Entry). links_after drivers es) (sym (is_of process 3 program front same h))
+    ∙ (sym h.numbers.links ∙ link) in
     absurd (omega (arith, e))
 
 -- two drivers have one name

@@ -1,47 +1,59 @@
 -- How many entries of each transcript a history has.
-use Rattle.std.proofs.Common.{◌≡◌, ◌≢◌, ℕ, suc, All, ◌<◌, ◌≤◌, true, false, List, [], ◌∷◌, ◌++◌, length, set, replicate, get_or, Option, Some, None, refl, sym, ap, subst, ◌∙◌, arith, inl, inr}
+use Rattle.std.proofs.Common.{◌≡◌, ◌≢◌, ℕ, suc, All, ◌<◌, ◌≤◌, true, false, List, [], ◌∷◌, ◌++◌, length, set, replicate}
+use Rattle.std.proofs.Common.{get_or, Option, Some, None, refl, sym, ap, subst, ◌∙◌, arith, inl, inr}
 use Rattle.std.specs.Prelude.{◌==◌, ◌↔◌, IfSome}
 use Rattle.std.proofs.lemmas.Bool.{cases_Bool, cases_lt}
 use Rattle.std.proofs.lemmas.Bool.Decides.{nat_tests}
-use Rattle.std.proofs.lemmas.List.{append-nil, get_or-set_same, get_or-set_other, get_or-replicate, get_or_past, length-take-le, take_all}
+use Rattle.std.proofs.lemmas.List.{append-nil, get_or-set_same, get_or-set_other, get_or-replicate, get_or_past}
+use Rattle.std.proofs.lemmas.List.{length-take-le, take_all}
 use Rattle.std.proofs.lemmas.List.Elements.{filter-append}
 use Rattle.smx_types.specs.declared.command.Entry.{Entry}
 use Rattle.smx_types.specs.declared.limits.TheConstants.{MAX_PROCESSES}
 use Rattle.smx_run.specs.Gathering.{entries_of, IsBorneOut, IsLeastStrange, IsMet}
 
 -- nothing was met yet
-pub none_met_yet : (transcripts : List (List Entry)) (met : List (Option ℕ)) → met ≡ replicate MAX_PROCESSES (Some 0) → (p : ℕ) → p < MAX_PROCESSES → IsMet (get_or transcripts p []) [] (get_or met p None)
-none_met_yet transcripts met is p below = rw (is, get_or-replicate {A = Option ℕ} MAX_PROCESSES p (Some 0) None below) (omega arith, refl)
+pub none_met_yet : (transcripts : List (List Entry)) (met : List (Option ℕ)) → met ≡ replicate MAX_PROCESSES (Some 0)
+    → (p : ℕ) → p < MAX_PROCESSES → IsMet (get_or transcripts p []) [] (get_or met p None)
+none_met_yet transcripts met is p below =
+    rw (is, get_or-replicate {A = Option ℕ} MAX_PROCESSES p (Some 0) None below) (omega arith, refl)
 
 -- an entry of the process stands behind those before it
-own_entry : (p : ℕ) (es : List Entry) (e : Entry) → (e.process == p) ≡ true → entries_of p (es ++ e ∷ []) ≡ entries_of p es ++ e ∷ []
+own_entry : (p : ℕ) (es : List Entry) (e : Entry) → (e.process == p) ≡ true
+    → entries_of p (es ++ e ∷ []) ≡ entries_of p es ++ e ∷ []
 own_entry p es e same = filter-append (λ (d : Entry). d.process == p) es (e ∷ []) ∙ rw same refl
 
 -- an entry of another process is none of its own
-other_entry : (p : ℕ) (es : List Entry) (e : Entry) → (e.process == p) ≡ false → entries_of p (es ++ e ∷ []) ≡ entries_of p es
-other_entry p es e other = filter-append (λ (d : Entry). d.process == p) es (e ∷ []) ∙ rw other (append-nil (entries_of p es))
+other_entry : (p : ℕ) (es : List Entry) (e : Entry) → (e.process == p) ≡ false
+    → entries_of p (es ++ e ∷ []) ≡ entries_of p es
+other_entry p es e other =
+    filter-append (λ (d : Entry). d.process == p) es (e ∷ []) ∙ rw other (append-nil (entries_of p es))
 
 -- what was met of each process, with one entry more of the history
-pub one_more_met : (transcripts : List (List Entry)) (es more : List Entry) (e : Entry) (n : ℕ) (met : List (Option ℕ)) (m r : Option ℕ) (transcript : List Entry)
-    → length met ≡ MAX_PROCESSES → n ≡ e.process → n < MAX_PROCESSES → more ≡ es ++ e ∷ [] → transcript ≡ get_or transcripts n [] → m ≡ get_or met n None
+pub one_more_met : (transcripts : List (List Entry)) (es more : List Entry) (e : Entry) (n : ℕ) (met : List (Option ℕ))
+    (m r : Option ℕ) (transcript : List Entry)
+    → length met ≡ MAX_PROCESSES → n ≡ e.process → n < MAX_PROCESSES → more ≡ es ++ e ∷ []
+    → transcript ≡ get_or transcripts n [] → m ≡ get_or met n None
     → ((p : ℕ) → p < MAX_PROCESSES → IsMet (get_or transcripts p []) (entries_of p es) (get_or met p None))
     → ((own : List Entry) → IsMet transcript own m → IsMet transcript (own ++ e ∷ []) r)
     → (p : ℕ) → p < MAX_PROCESSES → IsMet (get_or transcripts p []) (entries_of p more) (get_or (set met n r) p None)
-one_more_met transcripts es more e n met m r transcript counted number within added its was before here p below = rw added (elim (cases_Bool (e.process == p)) [
-  | inl t ↦
-      let same : n ≡ p = grind (arith, nat_tests) in
-      let at : get_or (set met n r) n None ≡ r = get_or-set_same met n r None (omega arith) in
-      let its_own : (e.process == n) ≡ true = ap (λ (q : ℕ). e.process == q) same ∙ t in
-      let now : IsMet (get_or transcripts n []) (entries_of n (es ++ e ∷ [])) (get_or (set met n r) n None) =
-      rw (at, own_entry n es e its_own, ← its) (here (entries_of n es) (rw (its, was) (before n within))) in
-      subst (λ (q : ℕ). IsMet (get_or transcripts q []) (entries_of q (es ++ e ∷ [])) (get_or (set met n r) q None)) same now
-  | inr f ↦
-      let other : p ≢ n = grind (arith, nat_tests) in
-      rw (other_entry p es e f, get_or-set_other met n p r None other) (before p below)
-])
+one_more_met transcripts es more e n met m r transcript counted number within added its was before here p below =
+    rw added (elim (cases_Bool (e.process == p)) [
+      | inl t ↦
+          let same : n ≡ p = grind (arith, nat_tests) in
+          let at : get_or (set met n r) n None ≡ r = get_or-set_same met n r None (omega arith) in
+          let its_own : (e.process == n) ≡ true = ap (λ (q : ℕ). e.process == q) same ∙ t in
+          let now : IsMet (get_or transcripts n []) (entries_of n (es ++ e ∷ [])) (get_or (set met n r) n None) =
+          rw (at, own_entry n es e its_own, ← its) (here (entries_of n es) (rw (its, was) (before n within))) in
+          subst (λ (q : ℕ). IsMet (get_or transcripts q []) (entries_of q (es ++ e ∷ [])) (get_or (set met n r) q None))
+          same now
+      | inr f ↦
+          let other : p ≢ n = grind (arith, nat_tests) in
+          rw (other_entry p es e f, get_or-set_other met n p r None other) (before p below)
+    ])
 
 -- as many entries were met as the transcript has just where they are the transcript
-pub whole_count : (transcript own : List Entry) (n : ℕ) → IsMet transcript own (Some n) → (n ≡ length transcript) ↔ (own ≡ transcript)
+pub whole_count : (transcript own : List Entry) (n : ℕ) → IsMet transcript own (Some n)
+    → (n ≡ length transcript) ↔ (own ≡ transcript)
 whole_count transcript own n h = (
   (λ is. h.1 ∙ take_all n transcript (omega arith)),
   (λ same. omega (arith, h.0, ap (length {A = Entry}) (sym h.1 ∙ same), length-take-le n transcript h.0)),
@@ -52,7 +64,8 @@ pub not_whole : (transcript own : List Entry) → IsMet transcript own None → 
 not_whole transcript own h same = h [] (append-nil own ∙ same)
 
 -- no process past the last has an entry
-no_entries : (p : ℕ) (es : List Entry) → MAX_PROCESSES ≤ p → All (λ (e : Entry). e.process < MAX_PROCESSES) es → entries_of p es ≡ []
+no_entries : (p : ℕ) (es : List Entry) → MAX_PROCESSES ≤ p → All (λ (e : Entry). e.process < MAX_PROCESSES) es
+    → entries_of p es ≡ []
 no_entries p [] past all = refl
 no_entries p (e ∷ es) past all =
     let here : e.process < MAX_PROCESSES = all 0 e (omega arith) in
@@ -60,7 +73,8 @@ no_entries p (e ∷ es) past all =
     rw other (no_entries p es past (λ k d below. all (suc k) d (omega arith)))
 
 -- where no process is strange, none past the last is either
-pub all_borne_out : (history : List Entry) (transcripts : List (List Entry)) → length transcripts ≤ MAX_PROCESSES → All (λ (e : Entry). e.process < MAX_PROCESSES) history
+pub all_borne_out : (history : List Entry) (transcripts : List (List Entry)) → length transcripts ≤ MAX_PROCESSES
+    → All (λ (e : Entry). e.process < MAX_PROCESSES) history
     → ((p : ℕ) → p < MAX_PROCESSES → IsBorneOut history transcripts p) → (p : ℕ) → IsBorneOut history transcripts p
 all_borne_out history transcripts few within each p = elim (cases_lt p MAX_PROCESSES) [
   | inl below ↦ each p below
@@ -68,6 +82,8 @@ all_borne_out history transcripts few within each p = elim (cases_lt p MAX_PROCE
 ]
 
 -- the process of this number is named, where it is the least that is strange
-pub named : (history : List Entry) (transcripts : List (List Entry)) (n : ℕ) (r : Option ℕ) → IfSome r (λ p. p ≡ n) → entries_of n history ≢ get_or transcripts n [] → ((p : ℕ) → p < n → IsBorneOut history transcripts p) → IfSome r (IsLeastStrange history transcripts)
+pub named : (history : List Entry) (transcripts : List (List Entry)) (n : ℕ) (r : Option ℕ) → IfSome r (λ p. p ≡ n)
+    → entries_of n history ≢ get_or transcripts n [] → ((p : ℕ) → p < n → IsBorneOut history transcripts p)
+    → IfSome r (IsLeastStrange history transcripts)
 named history transcripts n None is strange least = tt
 named history transcripts n (Some p) is strange least = rw is (record { strange = strange; least = least })

@@ -1,5 +1,6 @@
 -- What the programs ask, process by process, is what a history holds that was asked so.
-use Rattle.std.proofs.Common.{◌≡◌, ℕ, zero, suc, ◌+◌, ◌<◌, true, false, List, [], ◌∷◌, ◌++◌, map, filter, get_or, refl, sym, ap, ◌∙◌, arith, inl, inr}
+use Rattle.std.proofs.Common.{◌≡◌, ℕ, zero, suc, ◌+◌, ◌<◌, true, false, List, [], ◌∷◌, ◌++◌, map, filter, get_or, refl}
+use Rattle.std.proofs.Common.{sym, ap, ◌∙◌, arith, inl, inr}
 use Rattle.std.specs.Prelude.{◌==◌}
 use Rattle.std.proofs.lemmas.Bool.{cases_Bool}
 use Rattle.std.proofs.lemmas.Bool.Decides.{nat_tests}
@@ -47,26 +48,35 @@ picked_past : (p n : ℕ) (programs : List (List Command)) → p < n → picked 
 picked_past p n [] h = refl
 picked_past p n (cs ∷ programs) h =
     let other : (n == p) ≡ false = grind (arith, nat_tests) in
-    picked_more p (calls_of n cs) (calls_from (n + 1) programs) ∙ rw (picked_other p n cs other, picked_past p (n + 1) programs (omega arith)) refl
+    picked_more p (calls_of n cs) (calls_from (n + 1) programs)
+    ∙ rw (picked_other p n cs other, picked_past p (n + 1) programs (omega arith)) refl
 
 picked_at : (k n : ℕ) (programs : List (List Command)) → picked (k + n) (calls_from n programs) ≡ get_or programs k []
 picked_at k n [] = refl
 picked_at zero n (cs ∷ programs) =
     let here : 0 + n ≡ n = omega arith in
-    rw here (picked_more n (calls_of n cs) (calls_from (n + 1) programs) ∙ rw (picked_own n cs, picked_past n (n + 1) programs (omega arith)) (append-nil cs))
+    rw here (picked_more n (calls_of n cs) (calls_from (n + 1) programs)
+    ∙ rw (picked_own n cs, picked_past n (n + 1) programs (omega arith)) (append-nil cs))
 picked_at (suc k) n (cs ∷ programs) =
     let other : (n == (suc k + n)) ≡ false = grind (arith, nat_tests) in
     let next : suc k + n ≡ k + (n + 1) = omega arith in
-    picked_more (suc k + n) (calls_of n cs) (calls_from (n + 1) programs) ∙ rw (picked_other (suc k + n) n cs other) (ap (λ (p : ℕ). picked p (calls_from (n + 1) programs)) next ∙ picked_at k (n + 1) programs)
+    picked_more (suc k + n) (calls_of n cs) (calls_from (n + 1) programs)
+    ∙ rw (picked_other (suc k + n) n cs other)
+    (ap (λ (p : ℕ). picked p (calls_from (n + 1) programs)) next ∙ picked_at k (n + 1) programs)
 
-pub holds : (es : List Entry) (programs : List (List Command)) → map call_of es ≡ calls_from 0 programs → HoldsPrograms es programs
+-- a history whose calls are those of all programs, one program after the other, holds the programs
+pub holds : (es : List Entry) (programs : List (List Command)) → map call_of es ≡ calls_from 0 programs
+    → HoldsPrograms es programs
 holds es programs e p =
     let here : p + 0 ≡ p = omega arith in
-    picked_is p es ∙ ap (picked p) e ∙ ap (λ (q : ℕ). picked q (calls_from 0 programs)) (sym here) ∙ picked_at p 0 programs
+    picked_is p es ∙ ap (picked p) e ∙ ap (λ (q : ℕ). picked q (calls_from 0 programs)) (sym here)
+    ∙ picked_at p 0 programs
 
 -- ---- the report of a system that was asked all of it
 
-pub report_of : (programs : ProgramLists) (s : Recorded) (version : Version) (t : Report) → Reports s t → AreDropsAllowed s.history → s.drivers ≡ programs.drivers → HoldsPrograms s.history programs.programs
+-- what is reported of a system that holds the programs is a report that is promised for them
+pub report_of : (programs : ProgramLists) (s : Recorded) (version : Version) (t : Report) → Reports s t
+    → AreDropsAllowed s.history → s.drivers ≡ programs.drivers → HoldsPrograms s.history programs.programs
     → IsReportOf programs (transcript_of version t)
 report_of programs s version t h drops same holds = record {
   drivers = h.drivers ∙ same;

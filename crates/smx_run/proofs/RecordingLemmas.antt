@@ -1,5 +1,6 @@
 -- What a recorder was told is a report.
-use Rattle.std.proofs.Common.{◌≡◌, ℕ, ◌+◌, ◌≤◌, List, [], ◌∷◌, ◌++◌, length, map, Result, Ok, Err, refl, sym, ap, subst, ◌∙◌, arith}
+use Rattle.std.proofs.Common.{◌≡◌, ℕ, ◌+◌, ◌≤◌, List, [], ◌∷◌, ◌++◌, length, map, Result, Ok, Err, refl, sym, ap, subst}
+use Rattle.std.proofs.Common.{◌∙◌, arith}
 use Rattle.std.proofs.lemmas.List.{length-append, length-map, map-append}
 use Rattle.std.proofs.lemmas.List.Sums.{sum_by-cons}
 use Rattle.std.specs.List.{sum_by}
@@ -24,8 +25,8 @@ use Rattle.smx_run.specs.Desks.{HasRecorded}
 use Rattle.smx_run.specs.ProgramOrder.{calls_of, calls_from}
 use Rattle.smx_run.specs.RecordedRuns.{IsRecordOf}
 use Rattle.smx_run.specs.RunFaults.{RefusesAlone, RefusesRun}
-use Rattle.smx_run.specs.declared.fault.RunFault.{RunFault}
-use Rattle.smx_run.specs.declared.fault.RunFault.TheVariants as run
+use Rattle.smx_run.specs.declared.run_fault.RunFault.{RunFault}
+use Rattle.smx_run.specs.declared.run_fault.RunFault.TheVariants as run
 use Rattle.smx_run.proofs.ProgramOrderLemmas.{holds}
 
 -- ---- what the laws of histories say
@@ -39,14 +40,16 @@ StaysLegal = (drivers : List DriverSpec) (history : List Entry) (e : Entry) → 
     (step drivers (after drivers history) e.process e.command).1 ≡ e.reply → IsLegal drivers (history ++ e ∷ [])
 
 abbrev LegalIsLawful : Type 0
-LegalIsLawful = (drivers : List DriverSpec) (history : List Entry) → IsLegal drivers history → IsLawfulThroughout drivers history
+LegalIsLawful =
+    (drivers : List DriverSpec) (history : List Entry) → IsLegal drivers history → IsLawfulThroughout drivers history
 
 abbrev FewDrop : Type 0
 FewDrop = (drivers : List DriverSpec) (history : List Entry) → IsLegal drivers history → AreDropsAllowed history
 
 module _ {K : Type 0} (told : List DriverSpec → List Entry → K → Type 0) where
   -- a recorder that was told of no entry, at an empty configuration
-  pub none_recorded : (recorder : K) (m : Machine) (drivers : List DriverSpec) → m.drivers ≡ drivers → m.configuration ≡ empty
+  pub none_recorded : (recorder : K) (m : Machine) (drivers : List DriverSpec) → m.drivers ≡ drivers
+      → m.configuration ≡ empty
       → told drivers [] recorder → HasRecorded told recorder m []
   none_recorded recorder m drivers same is_empty was_told = record {
     entries = [];
@@ -59,13 +62,15 @@ module _ {K : Type 0} (told : List DriverSpec → List Entry → K → Type 0) w
   -- the recorder is told of one entry more, which a step of the configuration made
   pub one_recorded : OneStepFurther → StaysLegal → (old new : Machine) (r s : K) (e : Entry) → new.drivers ≡ old.drivers
       → step old.drivers old.configuration e.process e.command ≡ (new.configuration, e.reply)
-      → ((drivers : List DriverSpec) (entries : List Entry) → told drivers entries r → told drivers (entries ++ e ∷ []) s)
+      → ((drivers : List DriverSpec) (entries : List Entry) → told drivers entries r
+      → told drivers (entries ++ e ∷ []) s)
       → (asked : List (ℕ × Command)) → HasRecorded told r old asked → HasRecorded told s new (asked ++ call_of e ∷ [])
   one_recorded further stays old new r s e same did tells asked h =
       let es : List Entry = h.entries ++ e ∷ [] in
       let now : step old.drivers (after old.drivers h.entries) e.process e.command ≡ (new.configuration, e.reply) =
       ap (λ (c : Configuration). step old.drivers c e.process e.command) (sym h.now) ∙ did in
-      let legal : IsLegal old.drivers es = stays old.drivers h.entries e h.legal (ap (λ (x : Configuration × Reply). x.1) now) in
+      let legal : IsLegal old.drivers es = stays old.drivers h.entries e h.legal
+      (ap (λ (x : Configuration × Reply). x.1) now) in
       let led : new.configuration ≡ after old.drivers es =
       sym (ap (λ (x : Configuration × Reply). x.0) now) ∙ sym (further old.drivers h.entries e) in
       record {
@@ -90,18 +95,22 @@ counted n (cs ∷ programs) = omega (
 )
 
 -- a history in which the programs were asked has as many entries
-within : (programs : ProgramLists) (es : List Entry) → AreWithinLimits programs → map call_of es ≡ calls_from 0 programs.programs → length es ≤ MAX_COMMANDS
+within : (programs : ProgramLists) (es : List Entry) → AreWithinLimits programs
+    → map call_of es ≡ calls_from 0 programs.programs → length es ≤ MAX_COMMANDS
 within programs es few calls =
-    let same : length (map call_of es) ≡ length (calls_from 0 programs.programs) = ap (λ (cs : List (ℕ × Command)). length cs) calls in
+    let same : length (map call_of es) ≡ length
+    (calls_from 0 programs.programs) = ap (λ (cs : List (ℕ × Command)). length cs) calls in
     omega (arith, same, length-map es call_of, counted 0 programs.programs, few.commands)
 
 -- want of memory is answered only for drivers that can be had
-pub memory_refused : {T : Type 0} (drivers : List DriverSpec) (result : Result T RunFault) → IsErrAnd result (λ e. e ≡ run.NoMemory) → IsDriverList drivers → IfErr result (RefusesAlone drivers)
+pub memory_refused : {T : Type 0} (drivers : List DriverSpec) (result : Result T RunFault)
+    → IsErrAnd result (λ e. e ≡ run.NoMemory) → IsDriverList drivers → IfErr result (RefusesAlone drivers)
 memory_refused drivers (Ok x) is can = tt
 memory_refused drivers (Err e) is can = subst (RefusesAlone drivers) (sym is) can
 
 -- a run of several workers is refused for whatever a run on one thread is
-pub alone_refuses : (drivers : List DriverSpec) (fault : RunFault) → RefusesAlone drivers fault → RefusesRun drivers fault
+pub alone_refuses : (drivers : List DriverSpec) (fault : RunFault) → RefusesAlone drivers fault
+    → RefusesRun drivers fault
 alone_refuses drivers run.NoMemory h = h
 alone_refuses drivers (run.Strange p) h = h
 alone_refuses drivers (run.ConfigFault f) h = h
@@ -109,11 +118,15 @@ alone_refuses drivers run.HistoryFull h = absurd h
 alone_refuses drivers run.Held h = absurd h
 
 -- what was told once all programs were asked, with the view at the end
-pub record_of : {K : Type 0} (told : Version → List DriverSpec → List Entry → K → Type 0) → LegalIsLawful → FewDrop → (programs : ProgramLists) (recorder : K) (m : Machine) (shown : ConfigView)
-    → AreWithinLimits programs → IsDriverList programs.drivers → m.drivers ≡ programs.drivers → HasRecorded (told programs.version) recorder m (calls_from 0 programs.programs) → shown ≡ view m.drivers m.configuration
+pub record_of : {K : Type 0} (told : Version → List DriverSpec → List Entry → K → Type 0) → LegalIsLawful → FewDrop
+    → (programs : ProgramLists) (recorder : K) (m : Machine) (shown : ConfigView)
+    → AreWithinLimits programs → IsDriverList programs.drivers → m.drivers ≡ programs.drivers
+    → HasRecorded (told programs.version) recorder m (calls_from 0 programs.programs)
+    → shown ≡ view m.drivers m.configuration
     → IsRecordOf programs told recorder shown
 record_of told lawful drops programs recorder m shown few can same h is =
-    let legal : IsLegal programs.drivers h.entries = subst (λ (ds : List DriverSpec). IsLegal ds h.entries) same h.legal in
+    let legal : IsLegal programs.drivers h.entries = subst
+    (λ (ds : List DriverSpec). IsLegal ds h.entries) same h.legal in
     record {
       entries = h.entries;
       was_told = subst (λ (ds : List DriverSpec). told programs.version ds h.entries recorder) same h.was_told;
@@ -131,9 +144,13 @@ record_of told lawful drops programs recorder m shown few can same h is =
     }
 
 -- a recorder that keeps all that it is told has the report
-pub kept_all : (programs : ProgramLists) (version : Version) (drivers : List DriverSpec) (entries : List Entry) (shown : ConfigView)
-    → IsRecordOf programs (λ (v : Version) (ds : List DriverSpec) (es : List Entry) (k : Version × List DriverSpec × List Entry). k ≡ (v, ds, es)) (version, drivers, entries) shown
-    → (version ≡ programs.version) × IsReportOf programs (record { version = version; drivers = drivers; entries = entries; view = shown })
+pub kept_all : (programs : ProgramLists) (version : Version) (drivers : List DriverSpec) (entries : List Entry)
+    (shown : ConfigView)
+    → IsRecordOf programs
+    (λ (v : Version) (ds : List DriverSpec) (es : List Entry) (k : Version × List DriverSpec × List Entry). k
+    ≡ (v, ds, es)) (version, drivers, entries) shown
+    → (version ≡ programs.version) × IsReportOf programs
+    (record { version = version; drivers = drivers; entries = entries; view = shown })
     × (map call_of entries ≡ calls_from 0 programs.programs) × (length entries ≤ MAX_COMMANDS)
 kept_all programs version drivers entries shown h =
     let v : version ≡ programs.version = ap (λ (k : Version × List DriverSpec × List Entry). k.0) h.was_told in

@@ -1,5 +1,6 @@
 -- What the workers have made, and how far each of them saw the history.
-use Rattle.std.proofs.Common.{◌≡◌, ◌≢◌, ℕ, zero, suc, ◌+◌, ◌<◌, ◌≤◌, false, List, [], ◌∷◌, ◌++◌, All, length, map, get_or, refl, ap, sym, subst, ◌∙◌, arith, inl, inr, append_assoc}
+use Rattle.std.proofs.Common.{◌≡◌, ◌≢◌, ℕ, zero, suc, ◌+◌, ◌<◌, ◌≤◌, false, List, [], ◌∷◌, ◌++◌, All, length, map}
+use Rattle.std.proofs.Common.{get_or, refl, ap, sym, subst, ◌∙◌, arith, inl, inr, append_assoc}
 use Rattle.std.specs.Prelude.{◌==◌}
 use Rattle.std.proofs.lemmas.Bool.{cases_lt}
 use Rattle.std.proofs.lemmas.Bool.Decides.{nat_tests}
@@ -11,14 +12,15 @@ use Rattle.smx_model.specs.Histories.{call_of, commands_of, HoldsPrograms}
 use Rattle.smx_shared.specs.Calls.{HasSeenMore, EndsAs}
 use Rattle.smx_shared.specs.Fronts.{IsFrontOf}
 use Rattle.smx_shared.specs.Recorded.{Recorded}
-use Rattle.smx_shared.specs.Seats.{Known, Seated, SharedId, AreNamedBelow, GoesOnNamed, IsBeginningOf, IsMetBy, AreMetBy, entries_of, first_seat, met_seat}
+use Rattle.smx_shared.specs.Seats.{Known, Seated, SharedId, AreNamedBelow, GoesOnNamed, IsBeginningOf, IsMetBy}
+use Rattle.smx_shared.specs.Seats.{AreMetBy, entries_of, first_seat, met_seat}
 use Rattle.smx_shared.specs.declared.front.Front.{Front}
 use Rattle.smx_shared.specs.declared.seat_view.MetSeat.{MetSeat}
 use Rattle.smx_run.specs.Fronts.{IsFrontAfter, AreFrontsFrom}
 use Rattle.smx_run.specs.Hands.{called, calls_in, known_at, IsFresh, EndsAt}
 use Rattle.smx_run.specs.Meeting.{IsBorneOutBy}
 use Rattle.smx_run.specs.ProgramOrder.{Calls, calls_of, calls_from, numbered}
-use Rattle.smx_run.specs.declared.worker.Done.{Done}
+use Rattle.smx_run.specs.declared.worker.EndedProgram.{EndedProgram}
 use Rattle.smx_run.proofs.HandLemmas.{take_off}
 use Rattle.smx_run.proofs.ProgramOrderLemmas.{holds}
 
@@ -39,12 +41,14 @@ of_program p (c ∷ commands) = ap (λ (cs : List Command). c ∷ cs) (of_progra
 -- ---- seats at the start
 
 -- they are those of the processes in order
-pub first_processes : (name : SharedId) (s : Recorded) (ns : List ℕ) → map (λ (seat : Seated). seat.known.process) (map (first_seat name s) ns) ≡ ns
+pub first_processes : (name : SharedId) (s : Recorded) (ns : List ℕ)
+    → map (λ (seat : Seated). seat.known.process) (map (first_seat name s) ns) ≡ ns
 first_processes name s [] = refl
 first_processes name s (n ∷ ns) = ap (λ (ks : List ℕ). n ∷ ks) (first_processes name s ns)
 
 -- and nothing was called with them
-pub first_fresh : (name : SharedId) (s : Recorded) (ns : List ℕ) → s.history ≡ [] → All (IsFresh name) (map (first_seat name s) ns)
+pub first_fresh : (name : SharedId) (s : Recorded) (ns : List ℕ) → s.history ≡ []
+    → All (IsFresh name) (map (first_seat name s) ns)
 first_fresh name s [] none k d below = absurd (omega arith)
 first_fresh name s (n ∷ ns) none zero d below = (refl, ap (entries_of n) none)
 first_fresh name s (n ∷ ns) none (suc k) d below = first_fresh name s ns none k d (omega arith)
@@ -52,14 +56,18 @@ first_fresh name s (n ∷ ns) none (suc k) d below = first_fresh name s ns none 
 -- ---- a process that has ended
 
 -- where a history has just those entries, it has just those commands
-commands_ended : (h : List Entry) (k : Known) (n : ℕ) (commands : List Command) → ◌≡◌ {A = Calls} (k.process, calls_in k.own) (n, calls_of n commands) → entries_of k.process h ≡ k.own → commands_of n h ≡ commands
+commands_ended : (h : List Entry) (k : Known) (n : ℕ) (commands : List Command)
+    → ◌≡◌ {A = Calls} (k.process, calls_in k.own) (n, calls_of n commands) → entries_of k.process h ≡ k.own
+    → commands_of n h ≡ commands
 commands_ended h k n commands is exact =
     let process : k.process ≡ n = ap (λ (c : Calls). c.0) is in
     let own : entries_of n h ≡ k.own = ap (λ (p : ℕ). entries_of p h) (sym process) ∙ exact in
-    ap (map (λ (e : Entry). e.command)) own ∙ of_entries k.own ∙ ap (λ (c : Calls). commands_in c.1) is ∙ of_program n commands
+    ap (map (λ (e : Entry). e.command)) own ∙ of_entries k.own ∙ ap (λ (c : Calls). commands_in c.1) is
+    ∙ of_program n commands
 
 -- where there are programs, somebody has ended
-pub some_ended : (ended : List (Done Seated)) (programs : List (List Command)) → map (called known_at) ended ≡ numbered 0 programs → 1 ≤ length programs → ended ≢ []
+pub some_ended : (ended : List (EndedProgram Seated)) (programs : List (List Command))
+    → map (called known_at) ended ≡ numbered 0 programs → 1 ≤ length programs → ended ≢ []
 some_ended ended [] is some none = omega arith
 some_ended [] (commands ∷ programs) is some none = cc
 some_ended (d ∷ ended) (commands ∷ programs) is some none = cc
@@ -74,12 +82,14 @@ pub record StillKnows (old new : Known) : Type 0 where
   pub own : new.own ≡ old.own
   pub seen : IsBeginningOf old.seen new.seen
 
+-- where nothing has changed, the process knows as much as it did, and has made nothing since
 pub still_itself : (k : Known) → StillKnows k k
 still_itself k = record { drivers = refl; limit = refl; process = refl; own = refl; seen = ([], append-nil k.seen) }
 
 begins_trans : (xs ys zs : List Entry) → IsBeginningOf xs ys → IsBeginningOf ys zs → IsBeginningOf xs zs
 begins_trans xs ys zs p q = (p.0 ++ q.0, sym (append_assoc xs p.0 q.0) ∙ ap (λ (l : List Entry). l ++ q.0) p.1 ∙ q.1)
 
+-- a process that has seen more, and has made nothing, still knows as much as it did
 pub still_more : (a b c : Known) → StillKnows a b → HasSeenMore b c → c.own ≡ b.own → StillKnows a c
 still_more a b c s more own = record {
   drivers = more.drivers ∙ s.drivers;
@@ -90,7 +100,8 @@ still_more a b c s more own = record {
 }
 
 -- whatever the system ends as bears out the seat that has met all others
-pub bears_out_first : (a b : Known) (met : List MetSeat) (s : Recorded) → StillKnows a b → EndsAs b met s → IsMetBy s (met_seat a)
+pub bears_out_first : (a b : Known) (met : List MetSeat) (s : Recorded) → StillKnows a b → EndsAs b met s
+    → IsMetBy s (met_seat a)
 bears_out_first a b met s still ends = record {
   drivers = sym (ends.drivers ∙ still.drivers);
   limit = sym (ends.limit ∙ still.limit);
@@ -104,7 +115,8 @@ met_behind s [] ys p = p
 met_behind s (x ∷ xs) ys p = met_behind s xs ys p.1
 
 -- and those that it met, one more and those before
-pub bears_out_next : (s : Recorded) (old new others : List MetSeat) (k : Known) → new ≡ met_seat k ∷ others ++ old → AreMetBy s new → IsMetBy s (met_seat k) × AreMetBy s old
+pub bears_out_next : (s : Recorded) (old new others : List MetSeat) (k : Known) → new ≡ met_seat k ∷ others ++ old
+    → AreMetBy s new → IsMetBy s (met_seat k) × AreMetBy s old
 bears_out_next s old new others k is met =
     let now : AreMetBy s (met_seat k ∷ others ++ old) = subst (AreMetBy s) is met in
     (now.0, met_behind s others old now.1)
@@ -115,8 +127,10 @@ all_first P xs x here others zero d below = here
 all_first P xs x here others (suc k) d below = others k d (omega arith)
 
 -- what was taken of a list and what is left, with one more taken
-pub next_taken : {A : Type 0} (taken left rest all : List A) (x : A) → taken ++ left ≡ all → left ≡ x ∷ rest → (taken ++ x ∷ []) ++ rest ≡ all
-next_taken {A = A} taken left rest all x was next = append_assoc taken (x ∷ []) rest ∙ ap (λ (l : List A). taken ++ l) (sym next) ∙ was
+pub next_taken : {A : Type 0} (taken left rest all : List A) (x : A) → taken ++ left ≡ all → left ≡ x ∷ rest
+    → (taken ++ x ∷ []) ++ rest ≡ all
+next_taken {A = A} taken left rest all x was next =
+    append_assoc taken (x ∷ []) rest ∙ ap (λ (l : List A). taken ++ l) (sym next) ∙ was
 
 -- and where nothing is left
 pub all_taken_off : {A : Type 0} (taken left all : List A) → taken ++ left ≡ all → length left ≡ 0 → taken ≡ all
@@ -124,9 +138,11 @@ all_taken_off taken [] all was none = sym (append-nil taken) ∙ was
 all_taken_off taken (x ∷ left) all was none = absurd (omega arith)
 
 -- what stands in a list, and one more behind
-pub map_behind : {A B : Type 0} (f : A → B) (base xs more : List B) (ys : List A) (y : A) → xs ≡ base ++ map f ys → more ≡ xs ++ f y ∷ [] → more ≡ base ++ map f (ys ++ y ∷ [])
+pub map_behind : {A B : Type 0} (f : A → B) (base xs more : List B) (ys : List A) (y : A) → xs ≡ base ++ map f ys
+    → more ≡ xs ++ f y ∷ [] → more ≡ base ++ map f (ys ++ y ∷ [])
 map_behind f base xs more ys y before added =
-    added ∙ ap (λ l. l ++ f y ∷ []) before ∙ append_assoc base (map f ys) (f y ∷ []) ∙ ap (λ l. base ++ l) (sym (map-append f ys (y ∷ [])))
+    added ∙ ap (λ l. l ++ f y ∷ []) before ∙ append_assoc base (map f ys) (f y ∷ [])
+    ∙ ap (λ l. base ++ l) (sym (map-append f ys (y ∷ [])))
 
 -- ---- the whole history
 
@@ -139,7 +155,8 @@ none_named n p (e ∷ es) below past =
     rw other (none_named n p es below.1 past)
 
 -- each program is held by a history that bears out all who have ended
-holds_at : (s : Recorded) (k n p : ℕ) (ended : List (Done Seated)) (programs : List (List Command)) → map (called known_at) ended ≡ numbered n programs → All (IsBorneOutBy s) ended → k < length programs
+holds_at : (s : Recorded) (k n p : ℕ) (ended : List (EndedProgram Seated)) (programs : List (List Command))
+    → map (called known_at) ended ≡ numbered n programs → All (IsBorneOutBy s) ended → k < length programs
     → p ≡ k + n → commands_of p s.history ≡ get_or programs k []
 holds_at s k n p ended [] is borne below at = absurd (omega arith)
 holds_at s k n p [] (commands ∷ programs) is borne below at = absurd cc
@@ -149,21 +166,26 @@ holds_at s zero n p (d ∷ ended) (commands ∷ programs) is borne below at =
     rw here (commands_ended s.history d.seat.known n commands first (borne 0 d (omega arith)).exact)
 holds_at s (suc k) n p (d ∷ ended) (commands ∷ programs) is borne below at =
     let others : map (called known_at) ended ≡ numbered (n + 1) programs = cc in
-    holds_at s k (n + 1) p ended programs others (take_off (IsBorneOutBy s) (d ∷ ended) ended d refl borne).1 (omega arith) (omega arith)
+    holds_at s k (n + 1) p ended programs others (take_off (IsBorneOutBy s) (d ∷ ended) ended d refl borne).1
+    (omega arith) (omega arith)
 
 -- and a process past the last has none
-pub holds_all : (s : Recorded) (ended : List (Done Seated)) (programs : List (List Command)) → map (called known_at) ended ≡ numbered 0 programs → All (IsBorneOutBy s) ended
+pub holds_all : (s : Recorded) (ended : List (EndedProgram Seated)) (programs : List (List Command))
+    → map (called known_at) ended ≡ numbered 0 programs → All (IsBorneOutBy s) ended
     → GoesOnNamed (length programs) [] s.history → HoldsPrograms s.history programs
 holds_all s ended programs is borne named p = elim (cases_lt p (length programs)) [
   | inl below ↦ holds_at s p 0 p ended programs is borne below (omega arith)
   | inr past ↦
-      let none : entries_of p s.history ≡ [] = ap (entries_of p) (sym named.1) ∙ none_named (length programs) p named.0 named.2 past in
+      let none : entries_of p s.history ≡ [] = ap (entries_of p) (sym named.1)
+      ∙ none_named (length programs) p named.0 named.2 past in
       ap (map (λ (e : Entry). e.command)) none ∙ sym (get_or_past programs p [] past)
 ]
 
 -- each front is that of a beginning of the history, after the program
-pub fronts_all : (name : SharedId) (s : Recorded) (n : ℕ) (ended : List (Done Seated)) (programs : List (List Command)) → map (called known_at) ended ≡ numbered n programs → All (EndsAt name) ended → All (IsBorneOutBy s) ended
-    → AreFrontsFrom s.drivers s.history n programs (map (λ (d : Done Seated). d.front) ended)
+pub fronts_all : (name : SharedId) (s : Recorded) (n : ℕ) (ended : List (EndedProgram Seated))
+    (programs : List (List Command)) → map (called known_at) ended ≡ numbered n programs → All (EndsAt name) ended
+    → All (IsBorneOutBy s) ended
+    → AreFrontsFrom s.drivers s.history n programs (map (λ (d : EndedProgram Seated). d.front) ended)
 fronts_all name s n [] [] is ends borne = tt
 fronts_all name s n [] (commands ∷ programs) is ends borne = absurd cc
 fronts_all name s n (d ∷ ended) [] is ends borne = absurd cc
@@ -175,7 +197,8 @@ fronts_all name s n (d ∷ ended) (commands ∷ programs) is ends borne =
       record {
         before = d.seat.known.seen;
         begins = out.0.seen;
-        numbers = subst (λ (ds : List DriverSpec). IsFrontOf d.front ds d.seat.known.seen) out.0.drivers end.0.1.numbers;
+        numbers =
+            subst (λ (ds : List DriverSpec). IsFrontOf d.front ds d.seat.known.seen) out.0.drivers end.0.1.numbers;
         holds = commands_ended d.seat.known.seen d.seat.known n commands first (sym end.0.1.exact);
       },
       fronts_all name s (n + 1) ended programs others end.1 out.1,
@@ -184,14 +207,17 @@ fronts_all name s n (d ∷ ended) (commands ∷ programs) is ends borne =
 -- ---- one worker alone
 
 -- what is asked by one program more
-pub calls_more : (n m : ℕ) (programs : List (List Command)) (commands : List Command) → m ≡ n + length programs → calls_from n (programs ++ commands ∷ []) ≡ calls_from n programs ++ calls_of m commands
+pub calls_more : (n m : ℕ) (programs : List (List Command)) (commands : List Command) → m ≡ n + length programs
+    → calls_from n (programs ++ commands ∷ []) ≡ calls_from n programs ++ calls_of m commands
 calls_more n m [] commands is = let here : n ≡ m = omega arith in rw here (append-nil (calls_of m commands))
 calls_more n m (first ∷ programs) commands is =
     ap (λ (cs : List (ℕ × Command)). calls_of n first ++ cs) (calls_more (n + 1) m programs commands (omega arith))
     ∙ sym (append_assoc (calls_of n first) (calls_from (n + 1) programs) (calls_of m commands))
 
 -- fronts stay fronts where the history goes on
-fronts_stay : (drivers : List DriverSpec) (h h' : List Entry) (n : ℕ) (programs : List (List Command)) (fronts : List Front) → IsBeginningOf h h' → AreFrontsFrom drivers h n programs fronts → AreFrontsFrom drivers h' n programs fronts
+fronts_stay : (drivers : List DriverSpec) (h h' : List Entry) (n : ℕ) (programs : List (List Command))
+    (fronts : List Front) → IsBeginningOf h h' → AreFrontsFrom drivers h n programs fronts
+    → AreFrontsFrom drivers h' n programs fronts
 fronts_stay drivers h h' n [] [] more are = tt
 fronts_stay drivers h h' n [] (f ∷ fronts) more are = are
 fronts_stay drivers h h' n (c ∷ programs) [] more are = are
@@ -206,8 +232,10 @@ fronts_stay drivers h h' n (c ∷ programs) (f ∷ fronts) more are = (
 )
 
 -- and one more goes behind them
-front_behind : (drivers : List DriverSpec) (h : List Entry) (n m : ℕ) (programs : List (List Command)) (fronts : List Front) (commands : List Command) (front : Front) → m ≡ n + length programs
-    → AreFrontsFrom drivers h n programs fronts → IsFrontAfter drivers h m commands front → AreFrontsFrom drivers h n (programs ++ commands ∷ []) (fronts ++ front ∷ [])
+front_behind : (drivers : List DriverSpec) (h : List Entry) (n m : ℕ) (programs : List (List Command))
+    (fronts : List Front) (commands : List Command) (front : Front) → m ≡ n + length programs
+    → AreFrontsFrom drivers h n programs fronts → IsFrontAfter drivers h m commands front
+    → AreFrontsFrom drivers h n (programs ++ commands ∷ []) (fronts ++ front ∷ [])
 front_behind drivers h n m [] [] commands front is are last =
     let here : m ≡ n = omega arith in (subst (λ (k : ℕ). IsFrontAfter drivers h k commands front) here last, tt)
 front_behind drivers h n m [] (f ∷ fronts) commands front is are last = absurd are
@@ -215,15 +243,20 @@ front_behind drivers h n m (c ∷ programs) [] commands front is are last = absu
 front_behind drivers h n m (c ∷ programs) (f ∷ fronts) commands front is are last =
     (are.0, front_behind drivers h (n + 1) m programs fronts commands front (omega arith) are.1 last)
 
-last_program : (programs : List (List Command)) (commands : List Command) → get_or (programs ++ commands ∷ []) (length programs) [] ≡ commands
+last_program : (programs : List (List Command)) (commands : List Command)
+    → get_or (programs ++ commands ∷ []) (length programs) [] ≡ commands
 last_program [] commands = refl
 last_program (c ∷ programs) commands = last_program programs commands
 
 -- a program more was run, and the front seen after it
-pub front_next : (drivers : List DriverSpec) (h h' : List Entry) (programs : List (List Command)) (fronts : List Front) (commands : List Command) (front : Front) → IsBeginningOf h h' → map call_of h' ≡ calls_from 0 (programs ++ commands ∷ [])
-    → IsFrontOf front drivers h' → AreFrontsFrom drivers h 0 programs fronts → AreFrontsFrom drivers h' 0 (programs ++ commands ∷ []) (fronts ++ front ∷ [])
+pub front_next : (drivers : List DriverSpec) (h h' : List Entry) (programs : List (List Command)) (fronts : List Front)
+    (commands : List Command) (front : Front) → IsBeginningOf h h'
+    → map call_of h' ≡ calls_from 0 (programs ++ commands ∷ [])
+    → IsFrontOf front drivers h' → AreFrontsFrom drivers h 0 programs fronts
+    → AreFrontsFrom drivers h' 0 (programs ++ commands ∷ []) (fronts ++ front ∷ [])
 front_next drivers h h' programs fronts commands front more calls numbers are =
-    front_behind drivers h' 0 (length programs) programs fronts commands front (omega arith) (fronts_stay drivers h h' 0 programs fronts more are) record {
+    front_behind drivers h' 0 (length programs) programs fronts commands front (omega arith)
+    (fronts_stay drivers h h' 0 programs fronts more are) record {
       before = h';
       begins = ([], append-nil h');
       numbers = numbers;

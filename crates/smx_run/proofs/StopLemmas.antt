@@ -1,13 +1,14 @@
 -- Where a run on one thread stops: there is room for all commands, so it is want of memory alone that stops it.
-use Rattle.std.proofs.Common.{◌≡◌, ◌≢◌, ℕ, ◌+◌, ◌<◌, List, [], ◌∷◌, ◌++◌, length, map, refl, sym, ap, ◌∙◌, arith, append_assoc, Result, Ok, Err}
+use Rattle.std.proofs.Common.{◌≡◌, ◌≢◌, ℕ, ◌+◌, ◌<◌, List, [], ◌∷◌, ◌++◌, length, map, refl, sym, ap, ◌∙◌, arith}
+use Rattle.std.proofs.Common.{append_assoc, Result, Ok, Err}
 use Rattle.std.specs.Prelude.{OnErr}
 use Rattle.std.proofs.lemmas.List.{length-append, length-map, map-append}
 use Rattle.std.specs.List.{sum_by}
 use Rattle.smx_types.specs.declared.command.Command.{Command}
 use Rattle.smx_types.specs.declared.command.Entry.{Entry}
 use Rattle.smx_model.specs.Histories.{call_of}
-use Rattle.smx_shared.specs.declared.fault.ApplyFault.{ApplyFault}
-use Rattle.smx_shared.specs.declared.fault.ApplyFault.TheVariants as apply
+use Rattle.smx_shared.specs.declared.shared_fault.ApplyFault.{ApplyFault}
+use Rattle.smx_shared.specs.declared.shared_fault.ApplyFault.TheVariants as apply
 use Rattle.smx_run.specs.ProgramOrder.{calls_of, calls_from}
 use Rattle.smx_run.proofs.RecordingLemmas.{counted}
 
@@ -17,16 +18,20 @@ on_err (Ok value) P h = tt
 on_err (Err fault) P h = h
 
 -- what is asked by some programs, and then by those behind them
-calls_apart : (n : ℕ) (programs later : List (List Command)) → calls_from n (programs ++ later) ≡ calls_from n programs ++ calls_from (n + length programs) later
+calls_apart : (n : ℕ) (programs later : List (List Command))
+    → calls_from n (programs ++ later) ≡ calls_from n programs ++ calls_from (n + length programs) later
 calls_apart n [] later = let here : n + 0 ≡ n = omega arith in rw here refl
 calls_apart n (cs ∷ programs) later =
     let next : (n + 1) + length programs ≡ n + length (cs ∷ programs) = omega arith in
-    ap (λ (l : List (ℕ × Command)). calls_of n cs ++ l) (calls_apart (n + 1) programs later ∙ ap (λ (m : ℕ). calls_from (n + 1) programs ++ calls_from m later) next)
+    ap (λ (l : List (ℕ × Command)). calls_of n cs ++ l)
+    (calls_apart (n + 1) programs later ∙ ap (λ (m : ℕ). calls_from (n + 1) programs ++ calls_from m later) next)
     ∙ sym (append_assoc (calls_of n cs) (calls_from (n + 1) programs) (calls_from (n + length (cs ∷ programs)) later))
 
 -- what was asked where one program stopped, and the next command is the first that is left
-pub left_of : (asked : List (ℕ × Command)) (p : ℕ) (programs before later : List (List Command)) (commands done left : List Command) (next : Command)
-    → before ++ commands ∷ later ≡ programs → done ++ next ∷ left ≡ commands → p ≡ 0 + length before → asked ≡ calls_from 0 before ++ calls_of p done
+pub left_of : (asked : List (ℕ × Command)) (p : ℕ) (programs before later : List (List Command))
+    (commands done left : List Command) (next : Command)
+    → before ++ commands ∷ later ≡ programs → done ++ next ∷ left ≡ commands → p ≡ 0 + length before
+    → asked ≡ calls_from 0 before ++ calls_of p done
     → (rest : List (ℕ × Command)) × (asked ++ (p, next) ∷ rest ≡ calls_from 0 programs)
 left_of asked p programs before later commands done left next all some number is =
     let rest : List (ℕ × Command) = calls_of p left ++ calls_from (p + 1) later in
@@ -35,9 +40,11 @@ left_of asked p programs before later commands done left next all some number is
     let whole : calls_from 0 programs ≡ calls_from 0 before ++ (calls_of p commands ++ calls_from (p + 1) later) =
     ap (calls_from 0) (sym all) ∙ calls_apart 0 before (commands ∷ later) ∙ rw number refl in
     let split : calls_of p commands ++ calls_from (p + 1) later ≡ calls_of p done ++ ((p, next) ∷ rest) =
-    ap (λ (l : List (ℕ × Command)). l ++ calls_from (p + 1) later) here ∙ append_assoc (calls_of p done) ((p, next) ∷ calls_of p left) (calls_from (p + 1) later) in (
+    ap (λ (l : List (ℕ × Command)). l ++ calls_from (p + 1) later) here
+    ∙ append_assoc (calls_of p done) ((p, next) ∷ calls_of p left) (calls_from (p + 1) later) in (
       rest,
-      ap (λ (l : List (ℕ × Command)). l ++ (p, next) ∷ rest) is ∙ append_assoc (calls_from 0 before) (calls_of p done) ((p, next) ∷ rest)
+      ap (λ (l : List (ℕ × Command)). l ++ (p, next) ∷ rest) is
+          ∙ append_assoc (calls_from 0 before) (calls_of p done) ((p, next) ∷ rest)
           ∙ ap (λ (l : List (ℕ × Command)). calls_from 0 before ++ l) (sym split) ∙ sym whole,
     )
 
@@ -45,7 +52,8 @@ left_of asked p programs before later commands done left next all some number is
 pub room_left : (es : List Entry) (programs : List (List Command)) (next : ℕ × Command) (rest : List (ℕ × Command))
     → map call_of es ++ next ∷ rest ≡ calls_from 0 programs → length es < sum_by length programs
 room_left es programs next rest is =
-    let many : length (map call_of es ++ next ∷ rest) ≡ length (calls_from 0 programs) = ap (λ (l : List (ℕ × Command)). length l) is in
+    let many : length (map call_of es ++ next ∷ rest)
+    ≡ length (calls_from 0 programs) = ap (λ (l : List (ℕ × Command)). length l) is in
     omega (arith, many, counted 0 programs, length-append (map call_of es) (next ∷ rest), length-map es call_of)
 
 -- a fault that is no full history is want of memory

@@ -10,10 +10,11 @@ use Rattle.smx_shared.specs.Seats.{Known, IsBeginningOf}
 use Rattle.smx_run.specs.ProgramOrder.{calls_of}
 use Rattle.smx_run.specs.declared.desk.Alone.{Alone}
 use Rattle.smx_run.specs.declared.recording.Recording.{Recording}
-use Rattle.smx_run.specs.declared.desk.Seated.{Seated}
+use Rattle.smx_run.specs.declared.desk.SeatDesk.{SeatDesk}
 
 -- some of these commands were performed, from the first on, and the next one was not, nor any behind it
-pub record StopsAmong {S : Type 0} (performed : S → List Command → S → Type 0) (a : S) (commands : List Command) (b : S) : Type 0 where
+pub record StopsAmong {S : Type 0} (performed : S → List Command → S → Type 0) (a : S) (commands : List Command)
+    (b : S) : Type 0 where
   pub done : List Command
   pub next : Command
   pub left : List Command
@@ -33,22 +34,27 @@ pub record PerformedAlone (a : Alone) (commands : List Command) (b : Alone) : Ty
   pub calls : map call_of b.system.history ≡ map call_of a.system.history ++ calls_of a.process commands
 
 -- the recorder was told of a legal history in which this was asked, and the configuration is the one after it
-pub record HasRecorded {K : Type 0} (told : List DriverSpec → List Entry → K → Type 0) (recorder : K) (m : Machine) (asked : List (ℕ × Command)) : Type 0 where
+pub record HasRecorded {K : Type 0} (told : List DriverSpec → List Entry → K → Type 0) (recorder : K) (m : Machine)
+    (asked : List (ℕ × Command)) : Type 0 where
   pub entries : List Entry
   pub was_told : told m.drivers entries recorder
   pub legal : IsLegal m.drivers entries
   pub now : m.configuration ≡ after m.drivers entries
   pub calls : map call_of entries ≡ asked
 
--- whatever was recorded, in whichever version, these commands of the process are now recorded more, and the drivers are the same
-pub record PerformedRecording {K : Type 0} (told : Version → List DriverSpec → List Entry → K → Type 0) (a : Recording K) (commands : List Command) (b : Recording K) : Type 0 where
+-- whatever was recorded, in whichever version, these commands of the process are now recorded more, and the drivers
+-- are the same
+pub record PerformedRecording {K : Type 0} (told : Version → List DriverSpec → List Entry → K → Type 0)
+    (a : Recording K) (commands : List Command) (b : Recording K) : Type 0 where
   pub process : b.process ≡ a.process
   pub drivers : b.config.drivers ≡ a.config.drivers
   pub more : (version : Version) (asked : List (ℕ × Command)) → HasRecorded (told version) a.recorder a.config asked
       → HasRecorded (told version) b.recorder b.config (asked ++ calls_of a.process commands)
 
 -- these commands of the process were made here more, at the same door
-pub record PerformedSeated {D S : Type 0} (known : S → Known) (a : Seated D S) (commands : List Command) (b : Seated D S) : Type 0 where
+pub record PerformedSeated {D S : Type 0} (known : S → Known) (a : SeatDesk D S) (commands : List Command)
+    (b : SeatDesk D S) : Type 0 where
   pub door : b.door ≡ a.door
   pub process : (known b.seat).process ≡ (known a.seat).process
-  pub calls : map call_of (known b.seat).own ≡ map call_of (known a.seat).own ++ calls_of (known a.seat).process commands
+  pub calls : map call_of (known b.seat).own
+      ≡ map call_of (known a.seat).own ++ calls_of (known a.seat).process commands

@@ -3,10 +3,10 @@ use Rattle.std.specs.Prelude.{ℕ, List, ◌++◌, codes}
 use Rattle.std.specs.Fmt.{decimal}
 use Rattle.smx_types.specs.FaultWords.{no_memory_words}
 use Rattle.smx_config.specs.FaultWords.{config_fault_words}
-use Rattle.smx_run.specs.declared.fault.GatherFault.{GatherFault}
-use Rattle.smx_run.specs.declared.fault.GatherFault.TheVariants as gathered
-use Rattle.smx_run.specs.declared.fault.RunFault.{RunFault}
-use Rattle.smx_run.specs.declared.fault.RunFault.TheVariants as run
+use Rattle.smx_run.specs.declared.run_fault.GatherFault.{GatherFault}
+use Rattle.smx_run.specs.declared.run_fault.GatherFault.TheVariants as gathered
+use Rattle.smx_run.specs.declared.run_fault.RunFault.{RunFault}
+use Rattle.smx_run.specs.declared.run_fault.RunFault.TheVariants as run
 
 -- the process whose entries are others
 abbrev pub strange_words : ℕ → List ℕ

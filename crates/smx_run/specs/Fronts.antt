@@ -9,7 +9,8 @@ use Rattle.smx_shared.specs.Seats.{IsBeginningOf}
 use Rattle.smx_shared.specs.declared.front.Front.{Front}
 
 -- a front that was seen once the program of a process had ended
-pub record IsFrontAfter (drivers : List DriverSpec) (history : List Entry) (process : ℕ) (program : List Command) (front : Front) : Type 0 where
+pub record IsFrontAfter (drivers : List DriverSpec) (history : List Entry) (process : ℕ) (program : List Command)
+    (front : Front) : Type 0 where
   -- It is that of a beginning of the history,
   pub before : List Entry
   pub begins : IsBeginningOf before history

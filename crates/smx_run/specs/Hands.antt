@@ -9,11 +9,11 @@ use Rattle.smx_shared.specs.Seats.{Known, Seated, SharedId, entries_of}
 use Rattle.smx_shared.specs.declared.front.Front.{Front}
 use Rattle.smx_run.specs.Desks.{KnowsItFull}
 use Rattle.smx_run.specs.ProgramOrder.{Calls, calls_of}
-use Rattle.smx_run.specs.declared.worker.Job.{Job}
-use Rattle.smx_run.specs.declared.worker.Done.{Done}
+use Rattle.smx_run.specs.declared.worker.SeatedProgram.{SeatedProgram}
+use Rattle.smx_run.specs.declared.worker.EndedProgram.{EndedProgram}
 
 -- the process of a seat, and what it is to call
-abbrev pub given : {S : Type 0} → (S → Known) → Job S → Calls
+abbrev pub given : {S : Type 0} → (S → Known) → SeatedProgram S → Calls
 given known job = ((known job.seat).process, calls_of (known job.seat).process job.commands)
 
 -- the calls that these entries are of
@@ -21,7 +21,7 @@ abbrev pub calls_in : List Entry → List (ℕ × Command)
 calls_in entries = map call_of entries
 
 -- the process of a seat, and what was called with it
-abbrev pub called : {S : Type 0} → (S → Known) → Done S → Calls
+abbrev pub called : {S : Type 0} → (S → Known) → EndedProgram S → Calls
 called known done = ((known done.seat).process, calls_in (known done.seat).own)
 
 -- what is known once a program has ended: what was made here is just what the history has of the process, as far as it
@@ -35,11 +35,11 @@ abbrev pub known_at : Seated → Known
 known_at seat = seat.known
 
 -- what a hand of processes is to call, in order
-abbrev pub given_hand : {A : Type 0} → Vec (Job Seated) A → List Calls
+abbrev pub given_hand : {A : Type 0} → Vec (SeatedProgram Seated) A → List Calls
 given_hand hand = map (given known_at) hand.items
 
 -- what a hand of processes has called, in order
-abbrev pub called_hand : {A : Type 0} → Vec (Done Seated) A → List Calls
+abbrev pub called_hand : {A : Type 0} → Vec (EndedProgram Seated) A → List Calls
 called_hand hand = map (called known_at) hand.items
 
 -- a seat of this shared system, with which nothing was called yet
@@ -47,7 +47,7 @@ abbrev pub IsFresh : SharedId → Seated → Type 0
 IsFresh name seat = (seat.shared ≡ name) × (seat.known.own ≡ [])
 
 -- all seats of a hand are such
-abbrev pub AreFresh : {A : Type 0} → SharedId → Vec (Job Seated) A → Type 0
+abbrev pub AreFresh : {A : Type 0} → SharedId → Vec (SeatedProgram Seated) A → Type 0
 AreFresh name hand = All (λ job. IsFresh name job.seat) hand.items
 
 -- a seat of this shared system has seen its history full
@@ -55,11 +55,11 @@ abbrev pub IsSeenFull : SharedId → Type 0
 IsSeenFull name = (seat : Seated) × (seat.shared ≡ name) × KnowsItFull seat.known
 
 -- a process has ended, at this shared system
-abbrev pub EndsAt : SharedId → Done Seated → Type 0
+abbrev pub EndsAt : SharedId → EndedProgram Seated → Type 0
 EndsAt name done = (done.seat.shared ≡ name) × HasEnded done.seat.known done.front
 
 -- all processes of a hand have
-abbrev pub HaveEnded : {A : Type 0} → SharedId → Vec (Done Seated) A → Type 0
+abbrev pub HaveEnded : {A : Type 0} → SharedId → Vec (EndedProgram Seated) A → Type 0
 HaveEnded name hand = All (EndsAt name) hand.items
 
 -- the processes of one worker of so many: those whose number modulo that many is its own, in their order

@@ -1,8 +1,8 @@
 -- What seats knew that have met.
 use Rattle.smx_shared.specs.Recorded.{Recorded}
 use Rattle.smx_shared.specs.Seats.{Seated, IsMetBy, met_seat}
-use Rattle.smx_run.specs.declared.worker.Done.{Done}
+use Rattle.smx_run.specs.declared.worker.EndedProgram.{EndedProgram}
 
 -- what a seat knew when its program had ended is so of a system
-abbrev pub IsBorneOutBy : Recorded → Done Seated → Type 0
+abbrev pub IsBorneOutBy : Recorded → EndedProgram Seated → Type 0
 IsBorneOutBy s done = IsMetBy s (met_seat done.seat.known)

@@ -10,11 +10,13 @@ use Rattle.smx_model.specs.Headline.{IsReportOf}
 use Rattle.smx_model.specs.Histories.{call_of}
 use Rattle.smx_run.specs.ProgramOrder.{calls_from}
 
--- the version of the programs, the drivers of a report that is promised for them, and all its entries, process by process;
--- and this is its view
-pub record IsRecordOf (programs : ProgramLists) {K : Type 0} (told : Version → List DriverSpec → List Entry → K → Type 0) (recorder : K) (view : ConfigView) : Type 0 where
+-- the version of the programs, the drivers of a report that is promised for them, and all its entries, process by
+-- process; and this is its view
+pub record IsRecordOf (programs : ProgramLists) {K : Type 0}
+    (told : Version → List DriverSpec → List Entry → K → Type 0) (recorder : K) (view : ConfigView) : Type 0 where
   pub entries : List Entry
   pub was_told : told programs.version programs.drivers entries recorder
-  pub promised : IsReportOf programs (record { version = programs.version; drivers = programs.drivers; entries = entries; view = view })
+  pub promised : IsReportOf programs
+      (record { version = programs.version; drivers = programs.drivers; entries = entries; view = view })
   pub asked : map call_of entries ≡ calls_from 0 programs.programs
   pub few : length entries ≤ MAX_COMMANDS

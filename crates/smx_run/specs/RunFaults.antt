@@ -3,12 +3,12 @@ use Rattle.std.specs.Prelude.{◌≢◌, List}
 use Rattle.smx_types.specs.declared.driver.DriverSpec.{DriverSpec}
 use Rattle.smx_model.specs.DriverList.{IsDriverList}
 use Rattle.smx_config.specs.DriverFaults.{RefusesDrivers}
-use Rattle.smx_config.specs.declared.fault.ConfigFault.{ConfigFault}
-use Rattle.smx_config.specs.declared.fault.ConfigFault.TheVariants as config
-use Rattle.smx_shared.specs.declared.fault.ApplyFault.{ApplyFault}
-use Rattle.smx_shared.specs.declared.fault.ApplyFault.TheVariants as apply
-use Rattle.smx_run.specs.declared.fault.RunFault.{RunFault}
-use Rattle.smx_run.specs.declared.fault.RunFault.TheVariants as run
+use Rattle.smx_config.specs.declared.config_fault.ConfigFault.{ConfigFault}
+use Rattle.smx_config.specs.declared.config_fault.ConfigFault.TheVariants as config
+use Rattle.smx_shared.specs.declared.shared_fault.ApplyFault.{ApplyFault}
+use Rattle.smx_shared.specs.declared.shared_fault.ApplyFault.TheVariants as apply
+use Rattle.smx_run.specs.declared.run_fault.RunFault.{RunFault}
+use Rattle.smx_run.specs.declared.run_fault.RunFault.TheVariants as run
 
 -- want of memory is one fault, whoever met it
 abbrev pub run_fault_of : ConfigFault → RunFault

@@ -9,7 +9,7 @@ use std::sync::Wait;
 pub trait Desk {
     ghost use Rattle.std.specs.Prelude.{◌≡◌, ℕ, List, [], ◌∷◌, ◌++◌, OnOk, OnErr, IsErrOf};
     ghost use Rattle.smx_types.specs.declared.command.Command.{Command as Asked};
-    ghost use Rattle.smx_shared.specs.declared.fault.ApplyFault.TheVariants as apply;
+    ghost use Rattle.smx_shared.specs.declared.shared_fault.ApplyFault.TheVariants as apply;
 
     // The process that it is of.
     ghost whose: { Self → ℕ };
@@ -79,7 +79,7 @@ impl Desk for Alone {
 
 /// At a seat of a door. The seat knows what it has made.
 #[derive(Drop)]
-pub struct Seated<'a, D: Door>
+pub struct SeatDesk<'a, D: Door>
 where
     D::Seat: Drop,
 {
@@ -88,7 +88,7 @@ where
     pub seat: D::Seat,
 }
 
-impl<'a, D: Door> Desk for Seated<'a, D>
+impl<'a, D: Door> Desk for SeatDesk<'a, D>
 where
     D::Seat: Drop,
 {

@@ -5,11 +5,11 @@ ghost use Rattle.smx_types.specs.declared.limits.TheConstants.{MAX_PROCESSES};
 ghost use Rattle.smx_types.specs.declared.command.Entry.{Entry as Made};
 ghost use Rattle.smx_shared.specs.Seats.{entries_of};
 ghost use Rattle.smx_run.specs.Gathering.{IsBorneOut, IsLeastStrange, IsMet};
-ghost use Rattle.smx_run.specs.declared.fault.GatherFault.TheVariants as gathered;
+ghost use Rattle.smx_run.specs.declared.run_fault.GatherFault.TheVariants as gathered;
 ghost use Rattle.smx_run.specs.Reports.{Reports};
 
-use crate::fault::GatherFault;
 use crate::report::Report;
+use crate::run_fault::GatherFault;
 use smx_shared::{Fronts, System};
 use smx_types::{
     Copied, DriverSpec, Drivers, Entries, Entry, MAX_PROCESSES, NoMemory, Process, Same,

@@ -6,7 +6,7 @@ ghost use Rattle.smx_run.specs.Hands.{called, known_at, given_hand, called_hand,
 ghost use Rattle.smx_shared.specs.Seats.{SharedId};
 ghost use Rattle.smx_run.specs.ProgramOrder.{calls_of, numbered};
 
-use crate::worker::{Done, Job};
+use crate::worker::{EndedProgram, SeatedProgram};
 use smx_shared::{Door, Seat, Shared};
 use smx_types::{Commands, NoMemory, ProgramList};
 use std::alloc::Global;
@@ -18,7 +18,7 @@ pub fn deal(
     seats: Vec<Seat>,
     programs: ProgramList,
     workers: usize,
-) -> Result<Vec<Vec<Job<Seat>>>, NoMemory>
+) -> Result<Vec<Vec<SeatedProgram<Seat>>>, NoMemory>
     requires workers { 1 ≤ workers }
     requires seats { map (λ s. s.known.process) seats.items ≡ range_with_len 0 (length programs) }
     ensures fresh { IfOk result (λ v. (name : SharedId) → All (IsFresh name) seats.items → All (AreFresh name) v.items) }
@@ -36,7 +36,7 @@ pub fn deal(
 }
 
 // Hands with nothing in them.
-fn empty_hands(alloc: Global, workers: usize) -> Result<Vec<Vec<Job<Seat>>>, NoMemory>
+fn empty_hands(alloc: Global, workers: usize) -> Result<Vec<Vec<SeatedProgram<Seat>>>, NoMemory>
     ensures workers { IfOk result (λ v. vec_len v ≡ workers) }
     ensures none { IfOk result (λ v. map given_hand v.items ≡ hands_of workers []) }
     ensures fresh { IfOk result (λ v. (name : SharedId) → All (AreFresh name) v.items) }
@@ -49,7 +49,11 @@ fn empty_hands(alloc: Global, workers: usize) -> Result<Vec<Vec<Job<Seat>>>, NoM
 }
 
 // One process more for its worker.
-fn give(hands: &mut Vec<Vec<Job<Seat>>>, seat: Seat, commands: Commands) -> Result<(), NoMemory>
+fn give(
+    hands: &mut Vec<Vec<SeatedProgram<Seat>>>,
+    seat: Seat,
+    commands: Commands,
+) -> Result<(), NoMemory>
     requires workers { 1 ≤ vec_len hands.old }
     ensures workers { vec_len hands.new ≡ vec_len hands.old }
     ensures fresh { OnOk result ((name : SharedId) → All (AreFresh name) hands.old.items → IsFresh name seat → All (AreFresh name) hands.new.items) }
@@ -57,17 +61,17 @@ fn give(hands: &mut Vec<Vec<Job<Seat>>>, seat: Seat, commands: Commands) -> Resu
         ≡ slice_index_or (map given_hand hands.old.items) k [] ++ hand_of (vec_len hands.old) ((seat.known.process, calls_of seat.known.process commands) ∷ []) k) }
 {
     let worker = Shared::process(&seat).get() as usize % hands.len();
-    hands[worker].push(Job { seat, commands })?;
+    hands[worker].push(SeatedProgram { seat, commands })?;
     Ok(())
 }
 
 /// What came of the processes of these programs, put back into their order.
 pub fn collect(
     alloc: Global,
-    mut hands: Vec<Vec<Done<Seat>>>,
+    mut hands: Vec<Vec<EndedProgram<Seat>>>,
     processes: usize,
     programs: Snapshot<ProgramList>,
-) -> Result<Vec<Done<Seat>>, NoMemory>
+) -> Result<Vec<EndedProgram<Seat>>, NoMemory>
     requires workers { 1 ≤ vec_len hands }
     requires dealt { map called_hand hands.items ≡ hands_of (vec_len hands) (numbered 0 programs.value) }
     requires processes { length programs.value ≡ processes }
@@ -83,7 +87,7 @@ pub fn collect(
 }
 
 // The first that is left of what a worker did.
-fn take_first(hands: &mut Vec<Vec<Done<Seat>>>, worker: usize) -> Done<Seat>
+fn take_first(hands: &mut Vec<Vec<EndedProgram<Seat>>>, worker: usize) -> EndedProgram<Seat>
     requires worker { worker < vec_len hands.old }
     requires some { slice_index_or (map called_hand hands.old.items) worker [] ≢ [] }
     ensures workers { vec_len hands.new ≡ vec_len hands.old }

@@ -1,7 +1,8 @@
 //! Laws of what runs tell, each the contract of a function that does nothing: an example of each, and what is none.
 
-ghost use Rattle.std.specs.Prelude.{◌≡◌, ◌≤◌, ℕ, List, [], ◌∷◌, length, map, true, false};
+ghost use Rattle.std.specs.Prelude.{◌≡◌, ◌≤◌, ℕ, List, [], ◌∷◌, ◌++◌, length, map, true, false};
 ghost use Rattle.smx_types.specs.ProgramLists.{ProgramLists};
+ghost use Rattle.smx_types.specs.declared.command.Command.{Command};
 ghost use Rattle.smx_types.specs.declared.command.Entry.{Entry};
 ghost use Rattle.smx_types.specs.declared.driver.DriverSpec.{DriverSpec};
 ghost use Rattle.smx_types.specs.declared.limits.TheConstants.{MAX_COMMANDS};
@@ -9,17 +10,18 @@ ghost use Rattle.smx_types.specs.declared.version.Version.{Version};
 ghost use Rattle.smx_types.specs.declared.view.ConfigView.{ConfigView};
 ghost use Rattle.smx_model.specs.Headline.{IsReportOf};
 ghost use Rattle.smx_model.specs.Histories.{call_of};
-ghost use Rattle.smx_model.specs.Worked.Common.{mux, ip};
+ghost use Rattle.smx_model.specs.Worked.Common.{mux, ip, OpenClone, Dup, CloseAll};
 ghost use Rattle.smx_model.specs.Worked.Reports.{copied, drivers, exited, opened, programs};
-ghost use Rattle.smx_config.specs.declared.fault.ConfigFault.TheVariants as config;
-ghost use Rattle.smx_shared.specs.WorkedCalls.{front};
+ghost use Rattle.smx_config.specs.declared.config_fault.ConfigFault.TheVariants as config;
+ghost use Rattle.smx_shared.specs.WorkedCalls.{front, knows};
+ghost use Rattle.smx_run.specs.Desks.{KnowsItFull, StopsAmong};
 ghost use Rattle.smx_run.specs.Fronts.{AreFrontsFrom};
 ghost use Rattle.smx_run.specs.Gathering.{IsLeastStrange};
-ghost use Rattle.smx_run.specs.ProgramOrder.{calls_from};
+ghost use Rattle.smx_run.specs.ProgramOrder.{calls_from, BeginsCalls};
 ghost use Rattle.smx_run.specs.RecordedRuns.{IsRecordOf};
 ghost use Rattle.smx_run.specs.RunFaults.{RefusesAlone, RefusesRun};
-ghost use Rattle.smx_run.specs.declared.fault.RunFault.{RunFault};
-ghost use Rattle.smx_run.specs.declared.fault.RunFault.TheVariants as run;
+ghost use Rattle.smx_run.specs.declared.run_fault.RunFault.{RunFault};
+ghost use Rattle.smx_run.specs.declared.run_fault.RunFault.TheVariants as run;
 
 /// Two programs have two fronts, each of a beginning of the history that holds all commands of the program: none is
 /// left out or added, and none is earlier, past the end, or of another number of links.
@@ -50,6 +52,29 @@ pub fn refusals_have_few_causes()
     ensures not_held { (drivers : List DriverSpec) → RefusesAlone drivers run.Held → ⊥ }
     ensures not_strange_alone { (drivers : List DriverSpec) (p : ℕ) → RefusesAlone drivers (run.Strange p) → ⊥ }
     ensures no_more { (drivers : List DriverSpec) (fault : RunFault) → RefusesAlone drivers fault → RefusesRun drivers fault }
+{}
+
+/// Two programs come one after the other, by rising number, each in its order. What was called of them begins with the first
+/// call, and neither with another process's nor with more than all.
+pub fn calls_of_an_example()
+    ensures in_turn { calls_from 0 programs.programs ≡ (0, OpenClone ip) ∷ (0, Dup 0) ∷ (1, CloseAll) ∷ [] }
+    ensures none_yet { BeginsCalls [] 0 programs.programs }
+    ensures the_first { BeginsCalls ((0, OpenClone ip) ∷ []) 0 programs.programs }
+    ensures not_the_last { BeginsCalls ((1, CloseAll) ∷ []) 0 programs.programs → ⊥ }
+    ensures no_more { BeginsCalls ((0, OpenClone ip) ∷ (0, Dup 0) ∷ (1, CloseAll) ∷ (1, CloseAll) ∷ []) 0 programs.programs → ⊥ }
+{}
+
+/// Who performs commands in order has stopped before the last one, and not behind it, nor behind another one.
+pub fn stops_of_an_example()
+    ensures before_the_last { StopsAmong (λ (a : List Command) (done : List Command) (b : List Command). b ≡ a ++ done) [] (OpenClone ip ∷ Dup 0 ∷ []) (OpenClone ip ∷ []) }
+    ensures not_at_the_end { StopsAmong (λ (a : List Command) (done : List Command) (b : List Command). b ≡ a ++ done) [] (Dup 0 ∷ []) (Dup 0 ∷ []) → ⊥ }
+    ensures not_behind_another { StopsAmong (λ (a : List Command) (done : List Command) (b : List Command). b ≡ a ++ done) [] (OpenClone ip ∷ Dup 0 ∷ []) (Dup 0 ∷ []) → ⊥ }
+{}
+
+/// A history of one entry is known to be full where it may have one, and not where it may have two.
+pub fn a_full_history_of_an_example()
+    ensures full { KnowsItFull (knows 0 1 1) }
+    ensures not_full { KnowsItFull (knows 0 1 2) → ⊥ }
 {}
 
 /// A process is strange whose entries are not its transcript, also one past the list; and no later one is answered.

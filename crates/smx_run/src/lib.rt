@@ -2,7 +2,6 @@
 #![tactic(auto)]
 
 mod desk;
-mod fault;
 mod gate;
 mod gathering;
 mod hands;
@@ -13,14 +12,15 @@ mod recorder;
 mod recording;
 mod report;
 mod run;
+mod run_fault;
 mod threads;
 mod worker;
 
-pub use fault::{GatherFault, RunFault};
 pub use gate::{Gate, NoGate};
 pub use gathering::gather;
 pub use recorded_run::run_recorded;
 pub use recorder::Recorder;
 pub use report::Report;
 pub use run::{MAX_WORKERS, run_programs};
-pub use worker::{Done, Job, work};
+pub use run_fault::{GatherFault, RunFault};
+pub use worker::{EndedProgram, SeatedProgram, work};

@@ -6,7 +6,7 @@ ghost use Rattle.smx_shared.specs.Recorded.{Recorded};
 ghost use Rattle.smx_run.specs.Hands.{HaveEnded};
 ghost use Rattle.smx_run.specs.Meeting.{IsBorneOutBy};
 
-use crate::worker::Done;
+use crate::worker::EndedProgram;
 use smx_shared::{Fronts, Seat, Shared};
 use smx_types::NoMemory;
 use std::alloc::Global;
@@ -16,7 +16,7 @@ use std::alloc::Global;
 pub fn meet_all(
     alloc: Global,
     shared: &Shared,
-    mut ended: Vec<Done<Seat>>,
+    mut ended: Vec<EndedProgram<Seat>>,
 ) -> Result<(Seat, Fronts), NoMemory>
     requires some { ended.items ≢ [] }
     requires ended { HaveEnded shared.now.name ended }
@@ -25,7 +25,7 @@ pub fn meet_all(
     ensures fronts { IfOk result (λ r. r.1 ≡ map (λ d. d.front) ended.items) }
 {
     let mut fronts = Vec::with_capacity(alloc, ended.len())?;
-    let Done {
+    let EndedProgram {
         seat: mut first,
         front,
     } = ended.remove(0);

@@ -4,10 +4,10 @@ ghost use Rattle.std.specs.Prelude.{IfOk, IfErr};
 ghost use Rattle.smx_run.specs.RecordedRuns.{IsRecordOf};
 ghost use Rattle.smx_run.specs.RunFaults.{RefusesAlone};
 
-use crate::fault::RunFault;
 use crate::gate::Gate;
 use crate::recorder::Recorder;
 use crate::recording::Recording;
+use crate::run_fault::RunFault;
 use smx_model::laws::lawful_after_each_entry;
 use smx_model::laws_of_messages::few_commands_drop;
 use smx_types::{ConfigView, Programs};

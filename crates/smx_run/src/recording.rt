@@ -9,9 +9,9 @@ ghost use Rattle.smx_run.specs.Desks.{HasRecorded, PerformedRecording};
 ghost use Rattle.smx_run.specs.ProgramOrder.{calls_from};
 ghost use Rattle.smx_run.specs.RunFaults.{RefusesAlone};
 
-use crate::fault::RunFault;
 use crate::gate::Gate;
 use crate::recorder::Recorder;
+use crate::run_fault::RunFault;
 use smx_config::Config;
 use smx_model::laws::one_entry_more;
 use smx_types::{

@@ -6,17 +6,17 @@ ghost use Rattle.smx_types.specs.declared.limits.TheConstants.{MAX_PROCESSES};
 ghost use Rattle.smx_model.specs.DriverList.{IsDriverList};
 ghost use Rattle.smx_model.specs.Histories.{HoldsPrograms};
 ghost use Rattle.smx_shared.specs.Seats.{SharedId};
-ghost use Rattle.smx_shared.specs.declared.fault.ApplyFault.TheVariants as apply;
+ghost use Rattle.smx_shared.specs.declared.shared_fault.ApplyFault.TheVariants as apply;
 ghost use Rattle.smx_run.specs.Fronts.{AreFrontsFrom};
 ghost use Rattle.smx_run.specs.Hands.{called_hand, given_hand, AreFresh, HaveEnded, IsFresh, IsSeenFull};
 ghost use Rattle.smx_run.specs.ProgramOrder.{Calls, numbered};
 ghost use Rattle.smx_run.specs.RunFaults.{RefusesRun};
 
-use crate::fault::RunFault;
 use crate::gate::Gate;
 use crate::hands::{collect, deal};
 use crate::meeting::meet_all;
-use crate::worker::{Done, Job, work};
+use crate::run_fault::RunFault;
+use crate::worker::{EndedProgram, SeatedProgram, work};
 use smx_shared::{ApplyFault, Fronts, Seat, Shared, System};
 use smx_types::ProgramList;
 use std::alloc::Global;
@@ -59,7 +59,7 @@ fn run_seats<R: Threads + Wait + Sync, G: Gate + Sync>(
     programs: ProgramList,
     workers: usize,
     gate: &G,
-) -> Result<Vec<Done<Seat>>, ApplyFault>
+) -> Result<Vec<EndedProgram<Seat>>, ApplyFault>
     requires seats { map (λ s. s.known.process) seats.items ≡ range_with_len 0 (length programs) }
     requires fresh { All (IsFresh shared.now.name) seats.items }
     requires workers { 1 ≤ workers }
@@ -76,11 +76,11 @@ fn run_seats<R: Threads + Wait + Sync, G: Gate + Sync>(
 
 // What a worker makes of its hand, at a shared system, or why it stops.
 #[derive(Drop)]
-struct Runs(Snapshot<Vec<Job<Seat>>>, Snapshot<Shared>);
+struct Runs(Snapshot<Vec<SeatedProgram<Seat>>>, Snapshot<Shared>);
 
-impl Promise<Result<Vec<Done<Seat>>, ApplyFault>> for Runs {
+impl Promise<Result<Vec<EndedProgram<Seat>>, ApplyFault>> for Runs {
     ghost use Rattle.std.specs.Prelude.{◌≡◌, IfOk, IsErrOf};
-    ghost use Rattle.smx_shared.specs.declared.fault.ApplyFault.TheVariants as apply;
+    ghost use Rattle.smx_shared.specs.declared.shared_fault.ApplyFault.TheVariants as apply;
     ghost use Rattle.smx_run.specs.Hands.{given_hand, called_hand, HaveEnded, IsSeenFull};
 
     ghost kept_by = { λ runs result. IfOk result (λ v. (called_hand v ≡ given_hand runs.0.value) × HaveEnded runs.1.value.name v)
@@ -92,9 +92,9 @@ fn run_hands<R: Threads + Wait + Sync, G: Gate + Sync>(
     rt: &R,
     alloc: Global,
     shared: &Shared,
-    hands: Vec<Vec<Job<Seat>>>,
+    hands: Vec<Vec<SeatedProgram<Seat>>>,
     gate: &G,
-) -> Result<Vec<Vec<Done<Seat>>>, ApplyFault>
+) -> Result<Vec<Vec<EndedProgram<Seat>>>, ApplyFault>
     requires { All (AreFresh shared.now.name) hands.items }
     ensures called { IfOk result (λ v. map called_hand v.items ≡ map given_hand hands.items) }
     ensures ended { IfOk result (λ v. All (HaveEnded shared.now.name) v.items) }
@@ -103,7 +103,7 @@ fn run_hands<R: Threads + Wait + Sync, G: Gate + Sync>(
     thread::scope(
         thread::scope_env(),
         rt,
-        |scope| -> Result<Vec<Vec<Done<Seat>>>, ApplyFault>
+        |scope| -> Result<Vec<Vec<EndedProgram<Seat>>>, ApplyFault>
             requires { All (AreFresh shared.now.name) hands.items }
             ensures called { IfOk result (λ v. map called_hand v.items ≡ map given_hand hands.items) }
             ensures ended { IfOk result (λ v. All (HaveEnded shared.entry.now.name) v.items) }
@@ -119,9 +119,9 @@ fn run_from<'s, E, R: Threads + Wait + Sync, G: Gate + Sync>(
     rt: &'s R,
     alloc: Global,
     shared: &'s Shared,
-    mut hands: Vec<Vec<Job<Seat>>>,
+    mut hands: Vec<Vec<SeatedProgram<Seat>>>,
     gate: &'s G,
-) -> Result<Vec<Vec<Done<Seat>>>, ApplyFault>
+) -> Result<Vec<Vec<EndedProgram<Seat>>>, ApplyFault>
     requires { All (AreFresh shared.now.name) hands.items }
     ensures called { IfOk result (λ v. map called_hand v.items ≡ map given_hand hands.items) }
     ensures ended { IfOk result (λ v. All (HaveEnded shared.now.name) v.items) }
@@ -137,7 +137,7 @@ fn run_from<'s, E, R: Threads + Wait + Sync, G: Gate + Sync>(
     let runs = Runs(Snapshot::of(&hand), Snapshot::of(shared));
     let worker = scope.spawn_with(
         runs,
-        move || -> Result<Vec<Done<Seat>>, ApplyFault>
+        move || -> Result<Vec<EndedProgram<Seat>>, ApplyFault>
             requires { AreFresh shared.now.name hand }
             ensures called { IfOk result (λ v. called_hand v ≡ given_hand hand) }
             ensures ended { IfOk result (HaveEnded shared.entry.now.name) }
@@ -159,9 +159,9 @@ fn run_from<'s, E, R: Threads + Wait + Sync, G: Gate + Sync>(
 // What came of some hands, and of one more. Want of memory precedes a full history, which is answered where one of them
 // met it and the other wanted no memory, and nowhere else.
 fn and_then(
-    before: Result<Vec<Vec<Done<Seat>>>, ApplyFault>,
-    last: Result<Vec<Done<Seat>>, ApplyFault>,
-) -> Result<Vec<Vec<Done<Seat>>>, ApplyFault>
+    before: Result<Vec<Vec<EndedProgram<Seat>>>, ApplyFault>,
+    last: Result<Vec<EndedProgram<Seat>>, ApplyFault>,
+) -> Result<Vec<Vec<EndedProgram<Seat>>>, ApplyFault>
     ensures called { IfOk result (λ v. (all : List (List Calls)) (one : List Calls)
         → IfOk before (λ b. map called_hand b.items ≡ all) → IfOk last (λ d. called_hand d ≡ one) → map called_hand v.items ≡ all ++ one ∷ []) }
     ensures ended { IfOk result (λ v. (name : SharedId)

@@ -1,11 +1,11 @@
 //! A worker: the processes that one thread runs.
 
 ghost use Rattle.std.specs.Prelude.{◌≡◌, [], All, map, IfOk, OnOk, OnErr, IsErrOf};
-ghost use Rattle.smx_shared.specs.declared.fault.ApplyFault.TheVariants as apply;
+ghost use Rattle.smx_shared.specs.declared.shared_fault.ApplyFault.TheVariants as apply;
 ghost use Rattle.smx_run.specs.Desks.{KnowsItFull, StopsAmong};
 ghost use Rattle.smx_run.specs.Hands.{given, called, HasEnded};
 
-use crate::desk::{Desk, Seated};
+use crate::desk::{Desk, SeatDesk};
 use crate::gate::Gate;
 use smx_shared::{ApplyFault, Door, Front};
 use smx_types::Commands;
@@ -14,14 +14,14 @@ use std::sync::Wait;
 
 /// A process that is to be run: its seat and its program.
 #[derive(Drop)]
-pub struct Job<S: Drop> {
+pub struct SeatedProgram<S: Drop> {
     pub seat: S,
     pub commands: Commands,
 }
 
 /// A process whose program was run to its end: its seat, and the front that it saw then.
 #[derive(Drop)]
-pub struct Done<S: Drop> {
+pub struct EndedProgram<S: Drop> {
     pub seat: S,
     pub front: Front,
 }
@@ -32,9 +32,9 @@ pub fn work<D: Door, G: Gate, R: Wait>(
     rt: &R,
     alloc: Global,
     door: &D,
-    hand: Vec<Job<D::Seat>>,
+    hand: Vec<SeatedProgram<D::Seat>>,
     gate: &G,
-) -> Result<Vec<Done<D::Seat>>, ApplyFault>
+) -> Result<Vec<EndedProgram<D::Seat>>, ApplyFault>
 where
     D::Seat: Drop,
     requires { All (λ j. D.is_seat door.now j.seat × ((D.known j.seat).own ≡ [])) hand.items }
@@ -54,9 +54,9 @@ fn run_job<D: Door, G: Gate, R: Wait>(
     rt: &R,
     alloc: Global,
     door: &D,
-    job: Job<D::Seat>,
+    job: SeatedProgram<D::Seat>,
     gate: &G,
-) -> Result<Done<D::Seat>, ApplyFault>
+) -> Result<EndedProgram<D::Seat>, ApplyFault>
 where
     D::Seat: Drop,
     requires { D.is_seat door.now job.seat × ((D.known job.seat).own ≡ []) }
@@ -64,11 +64,11 @@ where
     ensures ended { IfOk result (λ d. D.is_seat door.now d.seat × HasEnded (D.known d.seat) d.front) }
     ensures full { IsErrOf result apply.HistoryFull → (s : D.Seat) × D.is_seat door.now s × KnowsItFull (D.known s) }
 {
-    let Job { seat, commands } = job;
-    let mut desk = Seated { alloc, door, seat };
+    let SeatedProgram { seat, commands } = job;
+    let mut desk = SeatDesk { alloc, door, seat };
     run_program(rt, &mut desk, commands, gate)?;
     let front = door.glance(&mut desk.seat);
-    Ok(Done {
+    Ok(EndedProgram {
         seat: desk.seat,
         front,
     })

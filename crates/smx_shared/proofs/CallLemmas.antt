@@ -1,5 +1,6 @@
 -- What contracts see of what a seat learns.
-use Rattle.std.proofs.Common.{◌≡◌, ℕ, ◌+◌, ◌*◌, ◌%◌, ◌<◌, ◌≤◌, true, List, [], ◌++◌, ◌∷◌, map, Some, None, sym, ap, ◌∙◌, subst, refl, arith}
+use Rattle.std.proofs.Common.{◌≡◌, ℕ, ◌+◌, ◌*◌, ◌%◌, ◌<◌, ◌≤◌, true, List, [], ◌++◌, ◌∷◌, map, Some, None, sym, ap, ◌∙◌}
+use Rattle.std.proofs.Common.{subst, refl, arith}
 use Rattle.std.specs.List.{range_with_len}
 use Rattle.std.proofs.lemmas.List.FromFn.{map-range_with_len_more}
 use Rattle.smx_types.specs.declared.command.Entry.{Entry}
@@ -9,16 +10,18 @@ use Rattle.smx_shared.specs.Calls.{GoesOnFrom, HasSeenMore, SeesFront, Meets, En
 use Rattle.smx_shared.specs.CloseFaults.{ShowsHeld}
 use Rattle.smx_shared.specs.Fronts.{links_after, word_of, turn_bit}
 use Rattle.smx_shared.specs.Recorded.{Recorded, IsSoundSystem}
-use Rattle.smx_shared.specs.Seats.{SharedAs, GoesOnNamed, SharedId, Seated, first_seat, entries_of, AreMetBy, IsBeginningOf}
+use Rattle.smx_shared.specs.Seats.{SharedAs, GoesOnNamed, SharedId, Seated, first_seat, entries_of, AreMetBy}
+use Rattle.smx_shared.specs.Seats.{IsBeginningOf}
 use Rattle.smx_shared.specs.SeatViews.{known_of, seated_of, IsInformed, HasGrown, HasMet, FoundWord, IsWordFrom}
 use Rattle.smx_shared.specs.TurnRule.{Slot, system_with}
 use Rattle.smx_shared.specs.declared.front.Front.{Front}
 use Rattle.smx_shared.specs.declared.seat_view.SeatView.{SeatView}
 use Rattle.smx_shared.proofs.TellLemmas.{grown_trans}
-use Rattle.smx_shared.proofs.WordLemmas.{word_small, reads_front, shows_held}
+use Rattle.smx_shared.proofs.FrontWordLemmas.{word_small, reads_front, shows_held}
 
 -- a seat that has grown, and knows what is so, has seen more
-pub has_seen_more : (v w : SeatView) → HasGrown v w → IsInformed w → v.named ≡ true → HasSeenMore (known_of v) (known_of w)
+pub has_seen_more : (v w : SeatView) → HasGrown v w → IsInformed w → v.named ≡ true
+    → HasSeenMore (known_of v) (known_of w)
 has_seen_more v w grown informed named = record {
   drivers = grown.drivers;
   limit = grown.limit;
@@ -29,11 +32,13 @@ has_seen_more v w grown informed named = record {
 }
 
 -- by two steps
-pub has_seen_more_by : (u v w : SeatView) → HasGrown u v → HasGrown v w → IsInformed w → u.named ≡ true → HasSeenMore (known_of u) (known_of w)
+pub has_seen_more_by : (u v w : SeatView) → HasGrown u v → HasGrown v w → IsInformed w → u.named ≡ true
+    → HasSeenMore (known_of u) (known_of w)
 has_seen_more_by u v w first second = has_seen_more u w (grown_trans u v w first second)
 
 -- by a meeting
-pub has_met_more : (v other w : SeatView) → HasMet v other w → IsInformed w → v.named ≡ true → HasSeenMore (known_of v) (known_of w)
+pub has_met_more : (v other w : SeatView) → HasMet v other w → IsInformed w → v.named ≡ true
+    → HasSeenMore (known_of v) (known_of w)
 has_met_more v other w met informed named = record {
   drivers = met.drivers;
   limit = met.limit;
@@ -44,7 +49,8 @@ has_met_more v other w met informed named = record {
 }
 
 -- and knows of the other what it knew
-pub has_met : (id one : TableId) (v other w : SeatView) → HasMet v other w → Meets (seated_of id v) (seated_of one other) (seated_of id w)
+pub has_met : (id one : TableId) (v other w : SeatView) → HasMet v other w
+    → Meets (seated_of id v) (seated_of one other) (seated_of id w)
 has_met id one v other w met = record {
   own = met.own;
   met = met.met;
@@ -63,7 +69,8 @@ found_small few v w n found informed =
     word_small w.drivers n w.seen found.front (omega arith) (few w.drivers w.seen)
 
 -- what is read of it is the front of what was seen
-pub found_front : AreLinksFew → (v w : SeatView) (n : ℕ) (front : Front) → FoundWord v w n → word_of front ≡ n → front.links < 2048 → SeesFront (known_of v) (known_of w) front × (turn_bit front.held ≡ n % 2)
+pub found_front : AreLinksFew → (v w : SeatView) (n : ℕ) (front : Front) → FoundWord v w n → word_of front ≡ n
+    → front.links < 2048 → SeesFront (known_of v) (known_of w) front × (turn_bit front.held ≡ n % 2)
 found_front few v w n front found word links =
     let read = reads_front w.drivers n w.seen front found.front (few w.drivers w.seen) word links in
     (record { numbers = read.0; own = found.own }, read.1)
@@ -77,8 +84,10 @@ slot_or s (Some x) = x
 slot_or s None = s
 
 -- the system at the end
-pub ends_as : (v : SeatView) (x : Slot) (s : Recorded) (h : List Entry) → x ≡ Some s → x ≡ Some (system_with v.drivers v.limit h) → v.named ≡ true → IsSoundSystem (system_with v.drivers v.limit h)
-    → IsBeginningOf v.seen h → (v.named ≡ true → v.own ≡ entries_of v.process h) → AreMetBy (system_with v.drivers v.limit h) v.met → EndsAs (known_of v) v.met s
+pub ends_as : (v : SeatView) (x : Slot) (s : Recorded) (h : List Entry) → x ≡ Some s
+    → x ≡ Some (system_with v.drivers v.limit h) → v.named ≡ true → IsSoundSystem (system_with v.drivers v.limit h)
+    → IsBeginningOf v.seen h → (v.named ≡ true → v.own ≡ entries_of v.process h)
+    → AreMetBy (system_with v.drivers v.limit h) v.met → EndsAs (known_of v) v.met s
 unfolding slot_or
 ends_as v x s h is there named sound seen own met =
     let same : s ≡ system_with v.drivers v.limit h = ap (slot_or s) (sym is ∙ there) in
@@ -92,13 +101,15 @@ ends_as v x s h is there named sound seen own met =
     }
 
 -- the seat of the next process goes behind those before
-pub one_seat_more : (shared : SharedId) (s : Recorded) (n : ℕ) (seats more : List Seated) (seat : Seated) → seats ≡ map (first_seat shared s) (range_with_len 0 n) → seat ≡ first_seat shared s n → more ≡ seats ++ seat ∷ []
+pub one_seat_more : (shared : SharedId) (s : Recorded) (n : ℕ) (seats more : List Seated) (seat : Seated)
+    → seats ≡ map (first_seat shared s) (range_with_len 0 n) → seat ≡ first_seat shared s n → more ≡ seats ++ seat ∷ []
     → more ≡ map (first_seat shared s) (range_with_len 0 (n + 1))
 one_seat_more shared s n seats more seat before is added =
     added ∙ rw (before, is) (sym (map-range_with_len_more {X = Seated} (first_seat shared s) 0 n n (omega arith)))
 
 -- which is the one that was shared, and more of it
-pub goes_on_from : (shared : SharedAs) (v : SeatView) (x : Slot) (s : Recorded) (h : List Entry) → x ≡ Some s → x ≡ Some (system_with v.drivers v.limit h) → GoesOnNamed shared.processes shared.start.history h
+pub goes_on_from : (shared : SharedAs) (v : SeatView) (x : Slot) (s : Recorded) (h : List Entry) → x ≡ Some s
+    → x ≡ Some (system_with v.drivers v.limit h) → GoesOnNamed shared.processes shared.start.history h
     → v.drivers ≡ shared.start.drivers → v.limit ≡ shared.start.limit → GoesOnFrom shared s
 unfolding slot_or
 goes_on_from shared v x s h is there begun drivers limit =
@@ -113,7 +124,8 @@ from_small few v n word =
     word_small v.drivers n word.history word.front (omega arith) (few v.drivers word.history)
 
 -- and what is read from it, with the turn bit set, shows the turn held
-pub from_held : AreLinksFew → (v : SeatView) (n : ℕ) (front : Front) → n % 2 ≡ 1 → IsWordFrom v n → word_of front ≡ n → front.links < 2048 → ShowsHeld (known_of v) front
+pub from_held : AreLinksFew → (v : SeatView) (n : ℕ) (front : Front) → n % 2 ≡ 1 → IsWordFrom v n → word_of front ≡ n
+    → front.links < 2048 → ShowsHeld (known_of v) front
 from_held few v n front odd word is links =
     let read = reads_front v.drivers n word.history front word.front (few v.drivers word.history) is links in
     record { held = found_held n front read.1 odd; history = word.history; seen = word.seen; numbers = read.0 }

@@ -6,5 +6,5 @@ pub mod SeatListLemmas
 pub mod StepLemmas
 pub mod TellLemmas
 pub mod TurnLemmas
-pub mod WordLemmas
+pub mod FrontWordLemmas
 pub mod WorkedSystemLemmas

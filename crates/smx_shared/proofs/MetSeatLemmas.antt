@@ -1,5 +1,6 @@
 -- The seats that were met, and given up then.
-use Rattle.std.proofs.Common.{◌≡◌, ◌≢◌, ⊎_elim, ℕ, ◌+◌, ◌<◌, List, [], ◌∷◌, ◌++◌, length, set, false, true≢false, sym, ap, ◌∙◌, subst, arith}
+use Rattle.std.proofs.Common.{◌≡◌, ◌≢◌, ⊎_elim, ℕ, ◌+◌, ◌<◌, List, [], ◌∷◌, ◌++◌, length, set, false, true≢false, sym}
+use Rattle.std.proofs.Common.{ap, ◌∙◌, subst, arith}
 use mathlib.Core.Option.{some}
 use lib.ListN.{get_elem?}
 use Rattle.atomic_table.proofs.Lists.{at_set}
@@ -16,6 +17,7 @@ use Rattle.smx_shared.proofs.SeatListLemmas.{at_end}
 
 -- ---- lists of them
 
+-- if what the met seats of two lists knew is so of a system, so it is for both lists together
 pub met_join : (s : Recorded) (xs ys : List MetSeat) → AreMetBy s xs → AreMetBy s ys → AreMetBy s (xs ++ ys)
 met_join s [] ys p q = q
 met_join s (x ∷ xs) ys p q = (p.0, met_join s xs ys p.1 q)
@@ -25,6 +27,7 @@ pub met_behind : (s : Recorded) (xs ys : List MetSeat) → AreMetBy s (xs ++ ys)
 met_behind s [] ys p = p
 met_behind s (x ∷ xs) ys p = met_behind s xs ys p.1
 
+-- if the processes of the seats in two lists are below a name, so they are in both lists together
 pub met_named_join : (n : ℕ) (xs ys : List MetSeat) → AreMetBelow n xs → AreMetBelow n ys → AreMetBelow n (xs ++ ys)
 met_named_join n [] ys p q = q
 met_named_join n (x ∷ xs) ys p q = (p.0, met_named_join n xs ys p.1 q)
@@ -41,10 +44,12 @@ not_met_join p (x ∷ xs) ys f g = (f.0, not_met_join p xs ys f.1 g)
 -- the next name was not met
 pub not_met_next : (n p : ℕ) (xs : List MetSeat) → p ≡ n → AreMetBelow n xs → IsNotMet p xs
 not_met_next n p [] is below = tt
-not_met_next n p (x ∷ xs) is below = let lt : x.process < n = below.0 in ((λ same. absurd (omega arith)), not_met_next n p xs is below.1)
+not_met_next n p (x ∷ xs) is below =
+    let lt : x.process < n = below.0 in ((λ same. absurd (omega arith)), not_met_next n p xs is below.1)
 
 -- what was made under their processes stays, where another process adds
-pub met_stays : (p : ℕ) (d : List DriverSpec) (l : ℕ) (h h' : List Entry) (xs : List MetSeat) → AddsFor p h h' → IsNotMet p xs → AreMetBy (system_with d l h) xs → AreMetBy (system_with d l h') xs
+pub met_stays : (p : ℕ) (d : List DriverSpec) (l : ℕ) (h h' : List Entry) (xs : List MetSeat) → AddsFor p h h'
+    → IsNotMet p xs → AreMetBy (system_with d l h) xs → AreMetBy (system_with d l h') xs
 met_stays p d l h h' [] a apart met = tt
 met_stays p d l h h' (x ∷ xs) a apart met = (
   record {
@@ -66,39 +71,49 @@ pub met_apart_set : (views : List SeatView) (id : ℕ) (w : SeatView) → AreMet
 met_apart_set views id w apart by_others of_others own i j u v at_i at_j named =
     ⊎_elim
     (λ (x : (i ≡ id) × (w ≡ u)). ⊎_elim
-    (λ (y : (j ≡ id) × (w ≡ v)). subst (λ (z : SeatView × SeatView). IsNotMet z.1.process z.0.met) (λ k. (x.1 k, y.1 k)) (own (subst IsNamed (sym y.1) named)))
-    (λ (y : (j ≢ id) × (get_elem? views j ≡ some v)). subst (λ (z : SeatView). IsNotMet v.process z.met) x.1 (by_others j v y.0 y.1 named))
+    (λ (y : (j ≡ id) × (w ≡ v)). subst (λ (z : SeatView × SeatView). IsNotMet z.1.process z.0.met) (λ k. (x.1 k, y.1 k))
+    (own (subst IsNamed (sym y.1) named)))
+    (λ (y : (j ≢ id) × (get_elem? views j ≡ some v)).
+    subst (λ (z : SeatView). IsNotMet v.process z.met) x.1 (by_others j v y.0 y.1 named))
     (at_set views id j w v at_j))
     (λ (x : (i ≢ id) × (get_elem? views i ≡ some u)). ⊎_elim
-    (λ (y : (j ≡ id) × (w ≡ v)). subst (λ (z : SeatView). IsNotMet z.process u.met) y.1 (of_others i u x.0 x.1 (subst IsNamed (sym y.1) named)))
+    (λ (y : (j ≡ id) × (w ≡ v)). subst (λ (z : SeatView). IsNotMet z.process u.met) y.1
+    (of_others i u x.0 x.1 (subst IsNamed (sym y.1) named)))
     (λ (y : (j ≢ id) × (get_elem? views j ≡ some v)). apart i j u v x.1 y.1 named)
     (at_set views id j w v at_j))
     (at_set views id i w u at_i)
 
 -- where it keeps its name, and has met no other
-pub met_apart_kept : (views : List SeatView) (id : ℕ) (v w : SeatView) → AreMetApart views → get_elem? views id ≡ some v → (IsNamed w → IsNamed v) → w.process ≡ v.process → w.met ≡ v.met → AreMetApart (set views id w)
+pub met_apart_kept : (views : List SeatView) (id : ℕ) (v w : SeatView) → AreMetApart views → get_elem? views id ≡ some v
+    → (IsNamed w → IsNamed v) → w.process ≡ v.process → w.met ≡ v.met → AreMetApart (set views id w)
 met_apart_kept views id v w apart at named process met = met_apart_set views id w apart
     (λ j u other e is. subst (IsNotMet u.process) (sym met) (apart id j v u at e is))
     (λ j u other e is. subst (λ (p : ℕ). IsNotMet p u.met) (sym process) (apart j id u v e at (named is)))
-    (λ is. subst (λ (z : ℕ × List MetSeat). IsNotMet z.0 z.1) (λ k. (sym process k, sym met k)) (apart id id v v at at (named is)))
+    (λ is. subst (λ (z : ℕ × List MetSeat). IsNotMet z.0 z.1) (λ k. (sym process k, sym met k))
+    (apart id id v v at at (named is)))
 
 -- where a seat is new
-pub met_apart_end : (views : List SeatView) (w : SeatView) → AreMetApart views → w.named ≡ false → w.met ≡ [] → AreMetApart (views ++ w ∷ [])
+pub met_apart_end : (views : List SeatView) (w : SeatView) → AreMetApart views → w.named ≡ false → w.met ≡ []
+    → AreMetApart (views ++ w ∷ [])
 met_apart_end views w apart unnamed none i j u v at_i at_j named =
     ⊎_elim
     (λ (y : (j ≢ length views) × (get_elem? views j ≡ some v)). ⊎_elim
     (λ (x : (i ≢ length views) × (get_elem? views i ≡ some u)). apart i j u v x.1 y.1 named)
-    (λ (x : (i ≡ length views) × (w ≡ u)). subst (λ (z : SeatView). IsNotMet v.process z.met) x.1 (subst (IsNotMet v.process) (sym none) tt))
+    (λ (x : (i ≡ length views) × (w ≡ u)). subst (λ (z : SeatView). IsNotMet v.process z.met) x.1
+    (subst (IsNotMet v.process) (sym none) tt))
     (at_end views w u i at_i))
-    (λ (y : (j ≡ length views) × (w ≡ v)). absurd (true≢false (sym named.1 ∙ ap (λ (z : SeatView). z.named) (sym y.1) ∙ unnamed)))
+    (λ (y : (j ≡ length views) × (w ≡ v)).
+    absurd (true≢false (sym named.1 ∙ ap (λ (z : SeatView). z.named) (sym y.1) ∙ unnamed)))
     (at_end views w v j at_j)
 
 -- where a seat meets another, which is spent
-pub met_apart_meeting : (views : List SeatView) (id other : ℕ) (v w : SeatView) → AreNamedApart views → AreMetApart views → get_elem? views id ≡ some v → other ≢ id → get_elem? views other ≡ some w → IsNamed w
+pub met_apart_meeting : (views : List SeatView) (id other : ℕ) (v w : SeatView) → AreNamedApart views
+    → AreMetApart views → get_elem? views id ≡ some v → other ≢ id → get_elem? views other ≡ some w → IsNamed w
     → AreMetApart (set (set views id (after_meeting v w)) other spent)
 met_apart_meeting views id other v w apart met_apart at others there named_w i j u x at_i at_j named =
     let both = set views id (after_meeting v w) in
-    let live : (j ≢ other) × (y : SeatView) × (get_elem? views j ≡ some y) × (y.process ≡ x.process) × IsNamed y = ⊎_elim
+    let live : (j ≢ other) × (y : SeatView) × (get_elem? views j ≡ some y) × (y.process ≡ x.process)
+    × IsNamed y = ⊎_elim
     (λ (a : (j ≡ other) × (spent ≡ x)). absurd (true≢false (ap (λ (z : SeatView). z.spent) a.1 ∙ named.0)))
     (λ (a : (j ≢ other) × (get_elem? both j ≡ some x)). ⊎_elim
     (λ (b : (j ≡ id) × (after_meeting v w ≡ x)). (
@@ -112,7 +127,9 @@ met_apart_meeting views id other v w apart met_apart at others there named_w i j
     (at_set views id j (after_meeting v w) x a.1))
     (at_set both other j spent x at_j) in
     let y = live.1 in
-    let not_by : (k : ℕ) (z : SeatView) → get_elem? views k ≡ some z → IsNotMet x.process z.met = λ k z e. subst (λ (p : ℕ). IsNotMet p z.met) live.3 (met_apart k j z y e live.2 live.4) in
+    let not_by : (k : ℕ) (z : SeatView) → get_elem? views k ≡ some z
+    → IsNotMet x.process z.met =
+    λ k z e. subst (λ (p : ℕ). IsNotMet p z.met) live.3 (met_apart k j z y e live.2 live.4) in
     ⊎_elim
     (λ (a : (i ≡ other) × (spent ≡ u)). subst (λ (z : SeatView). IsNotMet x.process z.met) a.1 tt)
     (λ (a : (i ≢ other) × (get_elem? both i ≡ some u)). ⊎_elim

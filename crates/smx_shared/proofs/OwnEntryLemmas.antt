@@ -1,5 +1,6 @@
 -- Histories that begin alike, and the entries of one process in them.
-use Rattle.std.proofs.Common.{◌≡◌, ◌≢◌, ℕ, ◌+◌, ◌<◌, ◌≤◌, List, [], ◌∷◌, ◌++◌, Bool, refl, sym, ap, ◌∙◌, append_assoc, append-nil, arith, eq-eqb, cond}
+use Rattle.std.proofs.Common.{◌≡◌, ◌≢◌, ℕ, ◌+◌, ◌<◌, ◌≤◌, List, [], ◌∷◌, ◌++◌, Bool, refl, sym, ap, ◌∙◌, append_assoc}
+use Rattle.std.proofs.Common.{append-nil, arith, eq-eqb, cond}
 use Rattle.std.specs.Prelude.{◌==◌}
 use Rattle.std.proofs.lemmas.List.Elements.{filter-append}
 use Rattle.std.proofs.lemmas.Bool.{ne_eqb}
@@ -9,20 +10,25 @@ use Rattle.smx_shared.specs.SeatViews.{AddsFor}
 
 -- ---- beginnings
 
+-- a beginning of a beginning of a history is a beginning of it
 pub begins_trans : (xs ys zs : List Entry) → IsBeginningOf xs ys → IsBeginningOf ys zs → IsBeginningOf xs zs
 begins_trans xs ys zs p q = (p.0 ++ q.0, sym (append_assoc xs p.0 q.0) ∙ ap (λ (l : List Entry). l ++ q.0) p.1 ∙ q.1)
 
+-- a history is a beginning of itself
 pub begins_itself : (xs : List Entry) → IsBeginningOf xs xs
 begins_itself xs = ([], append-nil xs)
 
 -- ---- the entries of a process
 
+-- the entries of a process in two histories, one after the other, are those in the first and then in the second
 pub entries_append : (p : ℕ) (xs ys : List Entry) → entries_of p (xs ++ ys) ≡ entries_of p xs ++ entries_of p ys
 entries_append p xs ys = filter-append (λ (e : Entry). e.process == p) xs ys
 
+-- of an entry of a process, that process has just this entry
 pub entries_mine : (p : ℕ) (e : Entry) → e.process ≡ p → entries_of p (e ∷ []) ≡ e ∷ []
 entries_mine p e is = ap (λ (b : Bool). cond b (e ∷ []) []) (eq-eqb e.process p is)
 
+-- of an entry of another process, a process has no entry
 pub entries_other : (p : ℕ) (e : Entry) → e.process ≢ p → entries_of p (e ∷ []) ≡ []
 entries_other p e is = ap (λ (b : Bool). cond b (e ∷ []) []) (ne_eqb e.process p is)
 
@@ -32,7 +38,8 @@ entries_none n p [] below le = refl
 entries_none n p (e ∷ es) below le =
     let lt : e.process < n = below.0 in
     let ne : e.process ≢ p = λ is. absurd (omega arith) in
-    ap (λ (b : Bool). cond b (e ∷ entries_of p es) (entries_of p es)) (ne_eqb e.process p ne) ∙ entries_none n p es below.1 le
+    ap (λ (b : Bool). cond b (e ∷ entries_of p es) (entries_of p es)) (ne_eqb e.process p ne)
+    ∙ entries_none n p es below.1 le
 
 -- ---- histories that go on by named processes
 
@@ -45,18 +52,22 @@ named_more : (n : ℕ) (xs : List Entry) → AreNamedBelow n xs → AreNamedBelo
 named_more n [] p = tt
 named_more n (x ∷ xs) p = let lt : x.process < n = p.0 in ((omega arith), named_more n xs p.1)
 
+-- a history that goes on by named processes from one that does so goes on by them from the first
 pub goes_on_trans : (n : ℕ) (xs ys zs : List Entry) → GoesOnNamed n xs ys → GoesOnNamed n ys zs → GoesOnNamed n xs zs
 unfolding begins_trans
 goes_on_trans n xs ys zs p q =
     let t = begins_trans xs ys zs (p.0, p.1) (q.0, q.1) in
     (t.0, t.1, named_append n p.0 q.0 p.2 q.2)
 
+-- a history goes on by named processes from itself, by no entry
 pub goes_on_itself : (n : ℕ) (xs : List Entry) → GoesOnNamed n xs xs
 goes_on_itself n xs = ([], append-nil xs, tt)
 
+-- a history that goes on by named processes does so with one name more
 pub goes_on_more : (n : ℕ) (xs ys : List Entry) → GoesOnNamed n xs ys → GoesOnNamed (n + 1) xs ys
 goes_on_more n xs ys p = (p.0, p.1, named_more n p.0 p.2)
 
+-- a history that goes on from another by named processes begins with that
 pub goes_on_begins : (n : ℕ) (xs ys : List Entry) → GoesOnNamed n xs ys → IsBeginningOf xs ys
 goes_on_begins n xs ys p = (p.0, p.1)
 

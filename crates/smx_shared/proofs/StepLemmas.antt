@@ -1,24 +1,30 @@
 -- Each kind of step keeps the rule of the turn.
-use Rattle.std.proofs.Common.{◌≡◌, ◌≢◌, inl, inr, ⊎_elim, ℕ, zero, suc, ◌+◌, ◌%◌, ◌^◌, ◌<◌, ◌≤◌, List, [], ◌∷◌, length, set, Bool, true, false, true≢false, Some, refl, sym, ap, ap₂, ◌∙◌, subst, arith, cond}
+use Rattle.std.proofs.Common.{◌≡◌, ◌≢◌, inl, inr, ⊎_elim, ℕ, zero, suc, ◌+◌, ◌%◌, ◌^◌, ◌<◌, ◌≤◌, List, [], ◌∷◌, length}
+use Rattle.std.proofs.Common.{set, Bool, true, false, true≢false, Some, refl, sym, ap, ap₂, ◌∙◌, subst, arith, cond}
 use Rattle.std.specs.Prelude.{slice_index, bit_or}
 use Rattle.std.proofs.Math.Nat.{mod-eq_of_lt}
 use mathlib.Core.Option as maybe
 use mathlib.Core.Option.{none, some, some-injective, some-ne-none}
 use lib.ListN.{get_elem?}
-use Rattle.atomic_table.specs.Table.{State, opening, Act, step, keeps, takes, gives, Valid, carried_after, homes_after, Allows, Splits, Joins}
+use Rattle.atomic_table.specs.Table.{State, opening, Act, step, keeps, takes, gives, Valid, carried_after, homes_after}
+use Rattle.atomic_table.specs.Table.{Allows, Splits, Joins}
 use Rattle.atomic_table.proofs.Lists.{at_set, at_longer}
 use Rattle.smx_types.specs.declared.command.Entry.{Entry}
 use Rattle.smx_types.specs.declared.driver.DriverSpec.{DriverSpec}
 use Rattle.smx_shared.specs.Fronts.{front_of}
 use Rattle.smx_shared.specs.Recorded.{Recorded, IsSoundSystem}
 use Rattle.smx_shared.specs.Seats.{entries_of, AreMetBy, GoesOnNamed}
-use Rattle.smx_shared.specs.SeatViews.{Mine, opened, spent, dealt, left, after_meeting, stepped, called, Shows, Looked, Taken, Published, Called, history_in, HasTurn, AddsFor}
+use Rattle.smx_shared.specs.SeatViews.{Mine, opened, spent, dealt, left, after_meeting, stepped, called, Shows, Looked}
+use Rattle.smx_shared.specs.SeatViews.{Taken, Published, Called, history_in, HasTurn, AddsFor}
 use Rattle.smx_shared.specs.TurnRule.{Slot, Turn, free, held, bit_of, home_of, system_with, Fits, IsNamed, TurnRule}
 use Rattle.smx_shared.specs.declared.seat_view.SeatView.{SeatView}
-use Rattle.smx_shared.proofs.OwnEntryLemmas.{begins_trans, begins_itself, goes_on_trans, goes_on_itself, goes_on_more, goes_on_begins, entries_early, others_stay}
-use Rattle.smx_shared.proofs.MetSeatLemmas.{met_join, met_named_join, met_named_more, met_stays, not_met_next, met_apart_set, met_apart_kept, met_apart_end, met_apart_meeting}
-use Rattle.smx_shared.proofs.SeatListLemmas.{apart_set, apart_kept, at_end, apart_end, HasHolder, holder_stays, holder_same, holder_now, held_same}
-use Rattle.smx_shared.proofs.WordLemmas.{or_free, or_held}
+use Rattle.smx_shared.proofs.OwnEntryLemmas.{begins_trans, begins_itself, goes_on_trans, goes_on_itself, goes_on_more}
+use Rattle.smx_shared.proofs.OwnEntryLemmas.{goes_on_begins, entries_early, others_stay}
+use Rattle.smx_shared.proofs.MetSeatLemmas.{met_join, met_named_join, met_named_more, met_stays, not_met_next}
+use Rattle.smx_shared.proofs.MetSeatLemmas.{met_apart_set, met_apart_kept, met_apart_end, met_apart_meeting}
+use Rattle.smx_shared.proofs.SeatListLemmas.{apart_set, apart_kept, at_end, apart_end, HasHolder, holder_stays}
+use Rattle.smx_shared.proofs.SeatListLemmas.{holder_same, holder_now, held_same}
+use Rattle.smx_shared.proofs.FrontWordLemmas.{or_free, or_held}
 
 abbrev Table : Type 0
 Table = State Slot SeatView
@@ -30,15 +36,19 @@ off : false ≡ true → ⊥
 off e = true≢false (sym e)
 
 -- the first word
-word_is : (d : List DriverSpec) (start : List Entry) (count l : ℕ) (s : Table) (r : TurnRule d l start count s) → slice_index s.words 0 ≡ front_of d r.history + bit_of r.turn
+word_is : (d : List DriverSpec) (start : List Entry) (count l : ℕ) (s : Table) (r : TurnRule d l start count s)
+    → slice_index s.words 0 ≡ front_of d r.history + bit_of r.turn
 word_is d start count l s r = ap (λ (ws : List ℕ). slice_index ws 0) r.words
 
 -- ---- steps on the first word
 
 -- the rule after a step of the seat id on the first word
-moved : (d : List DriverSpec) (start : List Entry) (count l id : ℕ) (s : Table) (r : TurnRule d l start count s) (v w : SeatView) (h : List Entry) (t : Turn) (n : ℕ) (homes : List (maybe.Option Slot))
-    → get_elem? s.views id ≡ some v → n ≡ front_of d h + bit_of t → IsSoundSystem (system_with d l h) → GoesOnNamed count start h → homes ≡ home_of (system_with d l h) t ∷ []
-    → ((j : ℕ) (u : SeatView) → j ≢ id → get_elem? s.views j ≡ some u → Fits d l h t r.names r.namer j u) → Fits d l h t r.names r.namer id w
+moved : (d : List DriverSpec) (start : List Entry) (count l id : ℕ) (s : Table) (r : TurnRule d l start count s)
+    (v w : SeatView) (h : List Entry) (t : Turn) (n : ℕ) (homes : List (maybe.Option Slot))
+    → get_elem? s.views id ≡ some v → n ≡ front_of d h + bit_of t → IsSoundSystem (system_with d l h)
+    → GoesOnNamed count start h → homes ≡ home_of (system_with d l h) t ∷ []
+    → ((j : ℕ) (u : SeatView) → j ≢ id → get_elem? s.views j ≡ some u → Fits d l h t r.names r.namer j u)
+    → Fits d l h t r.names r.namer id w
     → HasHolder t (set s.views id w) → (IsNamed w → IsNamed v) → w.process ≡ v.process → w.met ≡ v.met
     → TurnRule d l start count record { words = set s.words 0 n; homes = homes; views = set s.views id w }
 moved d start count l id s r v w h t n homes at is sound begun home others mine holder named process met = record {
@@ -52,7 +62,8 @@ moved d start count l id s r v w h t n homes at is sound begun home others mine 
   words = ap (λ (ws : List ℕ). set ws 0 n) r.words ∙ ap (λ (k : ℕ). k ∷ r.names ∷ []) is;
   home = home;
   each = λ j u e. ⊎_elim
-      (λ (x : (j ≡ id) × (w ≡ u)). subst (λ (y : ℕ × SeatView). Fits d l h t r.names r.namer y.0 y.1) (λ i. (sym x.0 i, x.1 i)) mine)
+      (λ (x : (j ≡ id) × (w ≡ u)). subst (λ (y : ℕ × SeatView). Fits d l h t r.names r.namer y.0 y.1)
+      (λ i. (sym x.0 i, x.1 i)) mine)
       (λ (x : (j ≢ id) × (get_elem? s.views j ≡ some u)). others j u x.0 x.1)
       (at_set s.views id j w u e);
   holder = holder;
@@ -61,8 +72,11 @@ moved d start count l id s r v w h t n homes at is sound begun home others mine 
 }
 
 -- another seat, where the history has grown by entries that are not its own
-stays : (d : List DriverSpec) (l : ℕ) (h h' : List Entry) (t t' : Turn) (n m j : ℕ) (u : SeatView) → GoesOnNamed n h h' → (IsNamed u → entries_of u.process h ≡ entries_of u.process h')
-    → (u.turn ≡ true → (t' ≡ held j) × (h ≡ h')) → (AreMetBy (system_with d l h) u.met → AreMetBy (system_with d l h') u.met) → Fits d l h t n m j u → Fits d l h' t' n m j u
+stays : (d : List DriverSpec) (l : ℕ) (h h' : List Entry) (t t' : Turn) (n m j : ℕ) (u : SeatView) → GoesOnNamed n h h'
+    → (IsNamed u → entries_of u.process h ≡ entries_of u.process h')
+    → (u.turn ≡ true → (t' ≡ held j) × (h ≡ h'))
+    → (AreMetBy (system_with d l h) u.met → AreMetBy (system_with d l h') u.met) → Fits d l h t n m j u
+    → Fits d l h' t' n m j u
 stays d l h h' t t' n m j u more own turn met f = record {
   same = f.same;
   seen = begins_trans u.seen h h' f.seen (goes_on_begins n h h' more);
@@ -75,16 +89,20 @@ stays d l h h' t t' n m j u more own turn met f = record {
 }
 
 -- what the rule shows to a seat
-shows : (d : List DriverSpec) (l : ℕ) (h : List Entry) (t : Turn) (n m j : ℕ) (v : SeatView) → v.spent ≡ false → Fits d l h t n m j v → IsSoundSystem (system_with d l h) → Shows v h
+shows : (d : List DriverSpec) (l : ℕ) (h : List Entry) (t : Turn) (n m j : ℕ) (v : SeatView) → v.spent ≡ false
+    → Fits d l h t n m j v → IsSoundSystem (system_with d l h) → Shows v h
 shows d l h t n m j v whole f sound = let c = f.same whole in record {
   grown = f.seen;
   sound = subst IsSoundSystem (ap₂ (λ (ds : List DriverSpec) (k : ℕ). system_with ds k h) (sym c.0) (sym c.1)) sound;
-  met = subst (λ (s : Recorded). AreMetBy s v.met) (ap₂ (λ (ds : List DriverSpec) (k : ℕ). system_with ds k h) (sym c.0) (sym c.1)) f.met;
+  met = subst (λ (s : Recorded). AreMetBy s v.met)
+      (ap₂ (λ (ds : List DriverSpec) (k : ℕ). system_with ds k h) (sym c.0) (sym c.1)) f.met;
   own = λ named. (f.own whole named).1;
 }
 
 -- the seat itself, after a step that showed it the history
-seated : (d : List DriverSpec) (l : ℕ) (h : List Entry) (t t' : Turn) (names namer j : ℕ) (v : SeatView) (n : ℕ) (on : Bool) → Fits d l h t names namer j v → (on ≡ true → t' ≡ held j) → Fits d l h t' names namer j (stepped v h n on v.own)
+seated : (d : List DriverSpec) (l : ℕ) (h : List Entry) (t t' : Turn) (names namer j : ℕ) (v : SeatView) (n : ℕ)
+    (on : Bool) → Fits d l h t names namer j v → (on ≡ true → t' ≡ held j)
+    → Fits d l h t' names namer j (stepped v h n on v.own)
 seated d l h t t' names namer j v n on f turn = record {
   same = f.same;
   seen = begins_itself h;
@@ -97,14 +115,17 @@ seated d l h t t' names namer j v n on f turn = record {
 }
 
 -- a load, by a seat without the turn
-pub looks : (d : List DriverSpec) (start : List Entry) (count l slots id : ℕ) (me : Mine) → me.0.spent ≡ false → me.0.turn ≡ false → Allows (TurnRule d l start count) slots id me 0 (λ n. n) (Looked (step slots 0 0 0 none) me)
+pub looks : (d : List DriverSpec) (start : List Entry) (count l slots id : ℕ) (me : Mine) → me.0.spent ≡ false
+    → me.0.turn ≡ false → Allows (TurnRule d l start count) slots id me 0 (λ n. n) (Looked (step slots 0 0 0 none) me)
 looks d start count l slots id me whole idle s r wide at small =
     let n : ℕ = slice_index s.words 0 in let f = r.each id me.0 at in let c = f.same whole in
     let w = stepped me.0 r.history n false me.0.own in (
       w,
       keeps,
       tt,
-      moved d start count l id s r me.0 w r.history r.turn n s.homes at (word_is d start count l s r) r.sound r.begun r.home (λ j u _ e. r.each j u e) (seated d l r.history r.turn r.turn r.names r.namer id me.0 n false f (λ e. absurd (off e)))
+      moved d start count l id s r me.0 w r.history r.turn n s.homes at (word_is d start count l s r) r.sound r.begun
+          r.home (λ j u _ e. r.each j u e)
+          (seated d l r.history r.turn r.turn r.names r.namer id me.0 n false f (λ e. absurd (off e)))
           (holder_stays s.views r.turn id me.0 w at idle r.holder) (λ i. i) refl refl,
       (
         r.history,
@@ -119,29 +140,45 @@ looks d start count l slots id me whole idle s r wide at small =
 abbrev Goes : (d : List DriverSpec) (start : List Entry) (count l id : ℕ) → Table → Mine → ℕ → (Mine → Type 0) → Type 0
 Goes d start count l id s me n told =
     (w : SeatView) × (a : Act Slot) × Valid s.homes me.1 a
-    × TurnRule d l start count record { words = set s.words 0 n; homes = homes_after s.homes me.1 a; views = set s.views id w }
+    × TurnRule d l start count record {
+      words = set s.words 0 n;
+      homes = homes_after s.homes me.1 a;
+      views = set s.views id w;
+    }
     × told (w, carried_after me.1 a)
 
 -- the turn bit is set, whether the turn was free or held
-takes_by : (d : List DriverSpec) (start : List Entry) (count l id : ℕ) (me : Mine) (s : Table) (r : TurnRule d l start count s) (t : Turn) → r.turn ≡ t → me.0.spent ≡ false → me.0.turn ≡ false → get_elem? s.views id ≡ some me.0
-    → (n : ℕ) → n ≡ front_of d r.history + bit_of t → Goes d start count l id s me (bit_or n 1) (Taken (step 0 0 1 0 none) me n)
+takes_by : (d : List DriverSpec) (start : List Entry) (count l id : ℕ) (me : Mine) (s : Table)
+    (r : TurnRule d l start count s) (t : Turn) → r.turn ≡ t → me.0.spent ≡ false → me.0.turn ≡ false
+    → get_elem? s.views id ≡ some me.0
+    → (n : ℕ) → n ≡ front_of d r.history + bit_of t
+    → Goes d start count l id s me (bit_or n 1) (Taken (step 0 0 1 0 none) me n)
 takes_by d start count l id me s r free is whole idle at n found =
     let f = r.each id me.0 at in let c = f.same whole in let w = stepped me.0 r.history n true me.0.own in
-    let home : s.homes ≡ some (Some (system_with d l r.history)) ∷ [] = r.home ∙ ap (λ (t : Turn). home_of (system_with d l r.history) t ∷ []) is in
+    let home : s.homes ≡ some (Some (system_with d l r.history)) ∷ [] = r.home
+    ∙ ap (λ (t : Turn). home_of (system_with d l r.history) t ∷ []) is in
     let zero : front_of d r.history + 0 ≡ front_of d r.history = omega arith in
     let even : n ≡ front_of d r.history = found ∙ zero in (
       w,
       takes 0 (Some (system_with d l r.history)),
       ap (λ (hs : List (maybe.Option Slot)). get_elem? hs 0) home,
-      moved d start count l id s r me.0 w r.history (held id) (bit_or n 1) (set s.homes 0 none) at (ap (λ (k : ℕ). bit_or k 1) even ∙ or_free d r.history) r.sound r.begun (ap (λ (hs : List (maybe.Option Slot)). set hs 0 none) home)
-          (λ j u _ e. stays d l r.history r.history r.turn (held id) r.names r.namer j u (goes_on_itself r.names r.history) (λ _. refl) (λ on. absurd (not_free j (sym is ∙ ((r.each j u e).turn on).0))) (λ x. x) (r.each j u e))
-          (seated d l r.history r.turn (held id) r.names r.namer id me.0 n true f (λ _. refl)) (holder_now s.views id me.0 w at refl) (λ i. i) refl refl,
+      moved d start count l id s r me.0 w r.history (held id) (bit_or n 1) (set s.homes 0 none) at
+          (ap (λ (k : ℕ). bit_or k 1) even ∙ or_free d r.history) r.sound r.begun
+          (ap (λ (hs : List (maybe.Option Slot)). set hs 0 none) home)
+          (λ j u _ e. stays d l r.history r.history r.turn (held id) r.names r.namer j u
+          (goes_on_itself r.names r.history) (λ _. refl)
+          (λ on. absurd (not_free j (sym is ∙ ((r.each j u e).turn on).0))) (λ x. x) (r.each j u e))
+          (seated d l r.history r.turn (held id) r.names r.namer id me.0 n true f (λ _. refl))
+          (holder_now s.views id me.0 w at refl) (λ i. i) refl refl,
       (
         r.history,
         shows d l r.history r.turn r.names r.namer id me.0 whole f r.sound,
         inr (
           even ∙ ap (λ (ds : List DriverSpec). front_of ds r.history) (sym c.0),
-          ap₂ (λ (ds : List DriverSpec) (k : ℕ). (stepped me.0 r.history n true me.0.own, (0, Some (system_with ds k r.history)) ∷ me.1)) (sym c.0) (sym c.1),
+          ap₂ (λ (ds : List DriverSpec) (k : ℕ). (
+            stepped me.0 r.history n true me.0.own,
+            (0, Some (system_with ds k r.history)) ∷ me.1,
+          )) (sym c.0) (sym c.1),
         ),
       ),
     )
@@ -150,8 +187,11 @@ takes_by d start count l id me s r (held k) is whole idle at n found =
       w,
       keeps,
       tt,
-      moved d start count l id s r me.0 w r.history r.turn (bit_or n 1) s.homes at (ap (λ (x : ℕ). bit_or x 1) found ∙ or_held d r.history ∙ ap (λ (t : Turn). front_of d r.history + bit_of t) (sym is)) r.sound r.begun r.home (λ j u _ e. r.each j u e)
-          (seated d l r.history r.turn r.turn r.names r.namer id me.0 n false f (λ e. absurd (off e))) (holder_stays s.views r.turn id me.0 w at idle r.holder) (λ i. i) refl refl,
+      moved d start count l id s r me.0 w r.history r.turn (bit_or n 1) s.homes at
+          (ap (λ (x : ℕ). bit_or x 1) found ∙ or_held d r.history ∙ ap (λ (t : Turn). front_of d r.history + bit_of t)
+          (sym is)) r.sound r.begun r.home (λ j u _ e. r.each j u e)
+          (seated d l r.history r.turn r.turn r.names r.namer id me.0 n false f (λ e. absurd (off e)))
+          (holder_stays s.views r.turn id me.0 w at idle r.holder) (λ i. i) refl refl,
       (
         r.history,
         shows d l r.history r.turn r.names r.namer id me.0 whole f r.sound,
@@ -160,18 +200,24 @@ takes_by d start count l id me s r (held k) is whole idle at n found =
     )
 
 -- the turn bit is set by a seat without the turn
-pub takes_turn : (d : List DriverSpec) (start : List Entry) (count l slots id : ℕ) (me : Mine) → me.0.spent ≡ false → me.0.turn ≡ false → Allows (TurnRule d l start count) slots id me 0 (λ n. bit_or n 1) (Taken (step slots 0 1 0 none) me)
+pub takes_turn : (d : List DriverSpec) (start : List Entry) (count l slots id : ℕ) (me : Mine) → me.0.spent ≡ false
+    → me.0.turn ≡ false → Allows (TurnRule d l start count) slots id me 0 (λ n. bit_or n 1)
+    (Taken (step slots 0 1 0 none) me)
 takes_turn d start count l slots id me whole idle s r wide at small =
     takes_by d start count l id me s r r.turn refl whole idle at (slice_index s.words 0) (word_is d start count l s r)
 
 -- the front of the system that the holder has in the slot is stored, and the slot goes home
-pub publishes : (d : List DriverSpec) (start : List Entry) (count l slots id n : ℕ) (me : Mine) (h : List Entry) → HasTurn me (Some (system_with me.0.drivers me.0.limit h)) → me.0.named ≡ true → AddsFor me.0.process me.0.seen h
-    → IsSoundSystem (system_with me.0.drivers me.0.limit h) → n ≡ front_of me.0.drivers h → Allows (TurnRule d l start count) slots id me 0 (λ _. n) (λ _. Published (step slots 0 n 0 none) me n)
+pub publishes : (d : List DriverSpec) (start : List Entry) (count l slots id n : ℕ) (me : Mine) (h : List Entry)
+    → HasTurn me (Some (system_with me.0.drivers me.0.limit h)) → me.0.named ≡ true → AddsFor me.0.process me.0.seen h
+    → IsSoundSystem (system_with me.0.drivers me.0.limit h) → n ≡ front_of me.0.drivers h
+    → Allows (TurnRule d l start count) slots id me 0 (λ _. n) (λ _. Published (step slots 0 n 0 none) me n)
 publishes d start count l slots id n me h has named more sound front_is s r wide at small =
-    let f = r.each id me.0 at in let c = f.same has.whole in let t = f.turn has.turn in let mine = f.own has.whole named in
+    let f = r.each id me.0 at in let c = f.same has.whole in let t = f.turn has.turn in
+    let mine = f.own has.whole named in
     let w = stepped me.0 (history_in me.1) n false (entries_of me.0.process (history_in me.1)) in
     let entries : history_in me.1 ≡ h = ap history_in has.has in
-    let slot : me.1 ≡ (0, Some (system_with d l h)) ∷ [] = has.has ∙ ap₂ (λ (ds : List DriverSpec) (k : ℕ). (0, Some (system_with ds k h)) ∷ []) c.0 c.1 in
+    let slot : me.1 ≡ (0, Some (system_with d l h)) ∷ [] = has.has
+    ∙ ap₂ (λ (ds : List DriverSpec) (k : ℕ). (0, Some (system_with ds k h)) ∷ []) c.0 c.1 in
     let now : AddsFor me.0.process r.history h = subst (λ (old : List Entry). AddsFor me.0.process old h) t.1 more in
     let longer : GoesOnNamed r.names r.history h = (now.more, now.joins, now.named r.names mine.0) in
     let home : s.homes ≡ none ∷ [] = r.home ∙ ap (λ (t : Turn). home_of (system_with d l r.history) t ∷ []) t.0 in
@@ -179,19 +225,29 @@ publishes d start count l slots id n me h has named more sound front_is s r wide
       w,
       gives,
       tt,
-      moved d start count l id s r me.0 w h free n (homes_after s.homes me.1 gives) at (front_is ∙ ap (λ (ds : List DriverSpec). front_of ds h) c.0 ∙ sym zero)
+      moved d start count l id s r me.0 w h free n (homes_after s.homes me.1 gives) at
+          (front_is ∙ ap (λ (ds : List DriverSpec). front_of ds h) c.0 ∙ sym zero)
           (subst IsSoundSystem (ap₂ (λ (ds : List DriverSpec) (k : ℕ). system_with ds k h) c.0 c.1) sound)
-          (goes_on_trans count start r.history h r.begun (now.more, now.joins, now.named count (let below : me.0.process < r.names = mine.0 in let few : r.names ≤ count = r.few in omega arith)))
+          (goes_on_trans count start r.history h r.begun (
+            now.more,
+            now.joins,
+            now.named count (let below : me.0.process < r.names = mine.0 in
+                let few : r.names ≤ count = r.few in omega arith),
+          ))
           (ap₂ (λ (hs : List (maybe.Option Slot)) (c : List (ℕ × Slot)). homes_after hs c gives) home slot)
           (λ j u other e. stays d l r.history h r.turn free r.names r.namer j u longer
-          (λ is_named. others_stay me.0.process u.process r.history h now (λ same. other (r.apart j id u me.0 e at is_named (has.whole, named) same)))
+          (λ is_named. others_stay me.0.process u.process r.history h now
+          (λ same. other (r.apart j id u me.0 e at is_named (has.whole, named) same)))
           (λ up. absurd (other (held_same j id (sym ((r.each j u e).turn up).0 ∙ t.0))))
-          (met_stays me.0.process d l r.history h u.met now (r.met_apart j id u me.0 e at (has.whole, named))) (r.each j u e))
-          (subst (λ (x : List Entry). Fits d l h free r.names r.namer id (stepped me.0 x n false (entries_of me.0.process x))) (sym entries)
+          (met_stays me.0.process d l r.history h u.met now (r.met_apart j id u me.0 e at (has.whole, named)))
+          (r.each j u e))
+          (subst (λ (x : List Entry). Fits d l h free r.names r.namer id
+          (stepped me.0 x n false (entries_of me.0.process x))) (sym entries)
           record {
             same = f.same;
             seen = begins_itself h;
-            met = met_stays me.0.process d l r.history h me.0.met now (r.met_apart id id me.0 me.0 at at (has.whole, named)) f.met;
+            met = met_stays me.0.process d l r.history h me.0.met now
+                (r.met_apart id id me.0 me.0 at at (has.whole, named)) f.met;
             met_named = f.met_named;
             turn = λ e. absurd (off e);
             later = λ _. goes_on_itself r.names h;
@@ -205,13 +261,15 @@ publishes d start count l slots id n me h has named more sound front_is s r wide
 -- ---- names, new seats, meetings
 
 -- a seat with the right to the next name takes it
-pub calls : (d : List DriverSpec) (start : List Entry) (count l slots id : ℕ) (me : Mine) → me.0.spent ≡ false → me.0.turn ≡ false → me.0.may_name ≡ true → me.0.next < 64 → me.0.next < count
+pub calls : (d : List DriverSpec) (start : List Entry) (count l slots id : ℕ) (me : Mine) → me.0.spent ≡ false
+    → me.0.turn ≡ false → me.0.may_name ≡ true → me.0.next < 64 → me.0.next < count
     → Allows (TurnRule d l start count) slots id me 1 (λ n. (n + 1) % 2 ^ 64) (Called (step slots 1 1 0 none) me)
 calls d start count l slots id me whole idle right small_name one_of s r wide at small =
     let n : ℕ = slice_index s.words 1 in let v = me.0 in let f = r.each id v at in let g = f.right right in
     let found : n ≡ r.names = ap (λ (ws : List ℕ). slice_index ws 1) r.words in
     let next : v.next ≡ r.names = g.1 in
-    let more : (n + 1) % 2 ^ 64 ≡ r.names + 1 = ap (λ (k : ℕ). (k + 1) % 2 ^ 64) found ∙ small_one r.names (subst (λ (k : ℕ). k < 64) next small_name) in
+    let more : (n + 1) % 2 ^ 64 ≡ r.names + 1 = ap (λ (k : ℕ). (k + 1) % 2 ^ 64) found
+    ∙ small_one r.names (subst (λ (k : ℕ). k < 64) next small_name) in
     let w = called v in (
       w,
       keeps,
@@ -224,17 +282,24 @@ calls d start count l slots id me whole idle right small_name one_of s r wide at
         sound = r.sound;
         begun = r.begun;
         few = (let below : r.names < count = subst (λ (k : ℕ). k < count) next one_of in omega arith);
-        words = ap (λ (ws : List ℕ). set ws 1 ((n + 1) % 2 ^ 64)) r.words ∙ ap (λ (k : ℕ). (front_of d r.history + bit_of r.turn) ∷ k ∷ []) more;
+        words = ap (λ (ws : List ℕ). set ws 1 ((n + 1) % 2 ^ 64)) r.words
+            ∙ ap (λ (k : ℕ). (front_of d r.history + bit_of r.turn) ∷ k ∷ []) more;
         home = r.home;
         each = λ j u e. ⊎_elim
-            (λ (x : (j ≡ id) × (w ≡ u)). subst (λ (y : ℕ × SeatView). Fits d l r.history r.turn (r.names + 1) r.namer y.0 y.1) (λ i. (sym x.0 i, x.1 i)) record {
+            (λ (x : (j ≡ id) × (w ≡ u)).
+            subst (λ (y : ℕ × SeatView). Fits d l r.history r.turn (r.names + 1) r.namer y.0 y.1)
+            (λ i. (sym x.0 i, x.1 i)) record {
               same = f.same;
               seen = f.seen;
               met = f.met;
               met_named = met_named_more r.names v.met f.met_named;
               turn = f.turn;
               later = λ whole. goes_on_more r.names v.seen r.history (f.later whole);
-              own = λ whole _. ((let is : v.next ≡ r.names = next in omega arith), entries_early r.names v.next v.seen r.history (f.later whole) (let is : v.next ≡ r.names = next in omega arith));
+              own = λ whole _. (
+                (let is : v.next ≡ r.names = next in omega arith),
+                entries_early r.names v.next v.seen r.history (f.later whole)
+                    (let is : v.next ≡ r.names = next in omega arith),
+              );
               right = λ _. (g.0, ap (λ (k : ℕ). k + 1) next, whole);
             })
             (λ (x : (j ≢ id) × (get_elem? s.views j ≡ some u)). let h = r.each j u x.1 in record {
@@ -244,14 +309,18 @@ calls d start count l slots id me whole idle right small_name one_of s r wide at
               met_named = met_named_more r.names u.met h.met_named;
               turn = h.turn;
               later = λ whole. goes_on_more r.names u.seen r.history (h.later whole);
-              own = λ whole named. let o = h.own whole named in ((let lt : u.process < r.names = o.0 in omega arith), o.1);
+              own = λ whole named. let o = h.own whole named in
+                  ((let lt : u.process < r.names = o.0 in omega arith), o.1);
               right = λ up. absurd (x.0 (sym (h.right up).0 ∙ g.0));
             })
             (at_set s.views id j w u e);
         holder = holder_stays s.views r.turn id v w at idle r.holder;
-        apart = apart_set s.views id w r.apart (λ j u other e named _ same. let lt : u.process < r.names = ((r.each j u e).own named.0 named.1).0 in let is : u.process ≡ r.names = same ∙ next in absurd (omega arith));
+        apart = apart_set s.views id w r.apart (λ j u other e named _ same. let lt : u.process
+            < r.names = ((r.each j u e).own named.0 named.1).0 in let is : u.process ≡ r.names = same ∙ next in
+            absurd (omega arith));
         met_apart = met_apart_set s.views id w r.met_apart (λ j u other e named. r.met_apart id j v u at e named)
-            (λ j u other e named. not_met_next r.names v.next u.met next (r.each j u e).met_named) (λ named. not_met_next r.names v.next v.met next f.met_named);
+            (λ j u other e named. not_met_next r.names v.next u.met next (r.each j u e).met_named)
+            (λ named. not_met_next r.names v.next v.met next f.met_named);
       },
       (found ∙ sym next, refl),
     )
@@ -260,7 +329,8 @@ calls d start count l slots id me whole idle right small_name one_of s r wide at
     small_one k h = mod-eq_of_lt (omega arith)
 
 -- a seat makes another, and gives it the right to the next name
-pub deals : (d : List DriverSpec) (start : List Entry) (count l id : ℕ) (v : SeatView) → Splits (TurnRule d l start count) id v (left v) (dealt v)
+pub deals : (d : List DriverSpec) (start : List Entry) (count l id : ℕ) (v : SeatView)
+    → Splits (TurnRule d l start count) id v (left v) (dealt v)
 deals d start count l id v s r at = let f = r.each id v at in let views = set s.views id (left v) in record {
   history = r.history;
   names = r.names;
@@ -273,8 +343,19 @@ deals d start count l id v s r at = let f = r.each id v at in let views = set s.
   home = r.home;
   each = λ j u e. ⊎_elim
       (λ (x : (j ≢ length views) × (get_elem? views j ≡ some u)). ⊎_elim
-      (λ (y : (j ≡ id) × (left v ≡ u)). subst (λ (z : ℕ × SeatView). Fits d l r.history r.turn r.names (cond v.may_name (length views) r.namer) z.0 z.1) (λ i. (sym y.0 i, y.1 i))
-      record { same = f.same; seen = f.seen; met = f.met; met_named = f.met_named; turn = f.turn; later = f.later; own = f.own; right = λ up. absurd (off up) })
+      (λ (y : (j ≡ id) × (left v ≡ u)).
+      subst (λ (z : ℕ × SeatView). Fits d l r.history r.turn r.names (cond v.may_name (length views) r.namer) z.0 z.1)
+      (λ i. (sym y.0 i, y.1 i))
+      record {
+        same = f.same;
+        seen = f.seen;
+        met = f.met;
+        met_named = f.met_named;
+        turn = f.turn;
+        later = f.later;
+        own = f.own;
+        right = λ up. absurd (off up);
+      })
       (λ (y : (j ≢ id) × (get_elem? s.views j ≡ some u)). let h = r.each j u y.1 in record {
         same = h.same;
         seen = h.seen;
@@ -283,10 +364,12 @@ deals d start count l id v s r at = let f = r.each id v at in let views = set s.
         turn = h.turn;
         later = h.later;
         own = h.own;
-        right = λ up. let g = h.right up in (keeps_right v.may_name (length views) r.namer j (λ mine. y.0 (sym g.0 ∙ (f.right mine).0)) g.0, g.1, g.2);
+        right = λ up. let g = h.right up in
+            (keeps_right v.may_name (length views) r.namer j (λ mine. y.0 (sym g.0 ∙ (f.right mine).0)) g.0, g.1, g.2);
       })
       (at_set s.views id j (left v) u x.1))
-      (λ (x : (j ≡ length views) × (dealt v ≡ u)). subst (Fits d l r.history r.turn r.names (cond v.may_name (length views) r.namer) j) x.1 record {
+      (λ (x : (j ≡ length views) × (dealt v ≡ u)).
+      subst (Fits d l r.history r.turn r.names (cond v.may_name (length views) r.namer) j) x.1 record {
         same = f.same;
         seen = f.seen;
         met = tt;
@@ -297,9 +380,11 @@ deals d start count l id v s r at = let f = r.each id v at in let views = set s.
         right = λ up. let g = f.right up in (ap (λ (c : Bool). cond c (length views) r.namer) up ∙ sym x.0, g.1, g.2);
       })
       (at_end views (dealt v) u j e);
-  holder = λ j is. let h = holder_same s.views r.turn id v (left v) at refl r.holder j is in (h.0, at_longer views (dealt v ∷ []) j h.0 h.1, h.2);
+  holder = λ j is. let h = holder_same s.views r.turn id v (left v) at refl r.holder j is in
+      (h.0, at_longer views (dealt v ∷ []) j h.0 h.1, h.2);
   apart = apart_end views (dealt v) (apart_kept s.views id v (left v) r.apart at (λ i. i) refl) refl;
-  met_apart = met_apart_end views (dealt v) (met_apart_kept s.views id v (left v) r.met_apart at (λ i. i) refl refl) refl refl;
+  met_apart =
+      met_apart_end views (dealt v) (met_apart_kept s.views id v (left v) r.met_apart at (λ i. i) refl refl) refl refl;
 }
   where
     keeps_right : (c : Bool) (n m j : ℕ) → (c ≡ true → ⊥) → m ≡ j → cond c n m ≡ j
@@ -307,8 +392,10 @@ deals d start count l id v s r at = let f = r.each id v at in let views = set s.
     keeps_right false n m j not is = is
 
 -- a seat takes in what another has seen, which is spent
-pub meets : (d : List DriverSpec) (start : List Entry) (count l id other : ℕ) (v w : SeatView) → w.turn ≡ false → IsNamed w → Joins (TurnRule d l start count) id v other w (after_meeting v w) spent
-meets d start count l id other v w idle named s r at apart there = let f = r.each id v at in let views = set s.views id (after_meeting v w) in
+pub meets : (d : List DriverSpec) (start : List Entry) (count l id other : ℕ) (v w : SeatView) → w.turn ≡ false
+    → IsNamed w → Joins (TurnRule d l start count) id v other w (after_meeting v w) spent
+meets d start count l id other v w idle named s r at apart there =
+    let f = r.each id v at in let views = set s.views id (after_meeting v w) in
     let was : get_elem? s.views other ≡ some w = ⊎_elim
     (λ (x : (other ≡ id) × (after_meeting v w ≡ w)). absurd (apart x.0))
     (λ (x : (other ≢ id) × (get_elem? s.views other ≡ some w)). x.1)
@@ -324,14 +411,19 @@ meets d start count l id other v w idle named s r at apart there = let f = r.eac
       words = r.words;
       home = r.home;
       each = λ j u e. ⊎_elim
-          (λ (x : (j ≡ other) × (spent ≡ u)). subst (Fits d l r.history r.turn r.names r.namer j) x.1 (blank r.history r.turn r.names r.namer j))
+          (λ (x : (j ≡ other) × (spent ≡ u)). subst (Fits d l r.history r.turn r.names r.namer j) x.1
+          (blank r.history r.turn r.names r.namer j))
           (λ (x : (j ≢ other) × (get_elem? views j ≡ some u)). ⊎_elim
-          (λ (y : (j ≡ id) × (after_meeting v w ≡ u)). subst (λ (z : ℕ × SeatView). Fits d l r.history r.turn r.names r.namer z.0 z.1) (λ i. (sym y.0 i, y.1 i)) (joined r.history r.turn r.names r.namer f g))
+          (λ (y : (j ≡ id) × (after_meeting v w ≡ u)).
+          subst (λ (z : ℕ × SeatView). Fits d l r.history r.turn r.names r.namer z.0 z.1) (λ i. (sym y.0 i, y.1 i))
+          (joined r.history r.turn r.names r.namer f g))
           (λ (y : (j ≢ id) × (get_elem? s.views j ≡ some u)). r.each j u y.1)
           (at_set s.views id j (after_meeting v w) u x.1))
           (at_set views other j spent u e);
-      holder = holder_stays views r.turn other w spent there idle (holder_same s.views r.turn id v (after_meeting v w) at refl r.holder);
-      apart = apart_set views other spent (apart_kept s.views id v (after_meeting v w) r.apart at (λ i. i) refl) (λ j u _ _ _ named _. true≢false named.0);
+      holder = holder_stays views r.turn other w spent there idle
+          (holder_same s.views r.turn id v (after_meeting v w) at refl r.holder);
+      apart = apart_set views other spent (apart_kept s.views id v (after_meeting v w) r.apart at (λ i. i) refl)
+          (λ j u _ _ _ named _. true≢false named.0);
       met_apart = met_apart_meeting s.views id other v w r.apart r.met_apart at apart was named;
     }
   where
@@ -347,7 +439,8 @@ meets d start count l id other v w idle named s r at apart there = let f = r.eac
       right = λ e. absurd (off e);
     }
 
-    joined : (h : List Entry) (t : Turn) (n m : ℕ) → Fits d l h t n m id v → Fits d l h t n m other w → Fits d l h t n m id (after_meeting v w)
+    joined : (h : List Entry) (t : Turn) (n m : ℕ) → Fits d l h t n m id v → Fits d l h t n m other w
+        → Fits d l h t n m id (after_meeting v w)
     joined h t n m f g = record {
       same = f.same;
       seen = f.seen;
@@ -370,24 +463,27 @@ meets d start count l id other v w idle named s r at apart there = let f = r.eac
 -- ---- the beginning
 
 -- the table, the system at home in it
-pub opens : (s : Recorded) (count n : ℕ) → n ≡ front_of s.drivers s.history → IsSoundSystem s → TurnRule s.drivers s.limit s.history count (opening (n ∷ 0 ∷ []) (Some s ∷ []) (opened s))
-opens s count n is sound = let zero : front_of s.drivers s.history + 0 ≡ front_of s.drivers s.history = omega arith in record {
-  history = s.history;
-  names = 0;
-  namer = 0;
-  turn = free;
-  sound = sound;
-  begun = goes_on_itself count s.history;
-  few = omega arith;
-  words = ap (λ (k : ℕ). k ∷ 0 ∷ []) (is ∙ sym zero);
-  home = refl;
-  each = first;
-  holder = λ j e. absurd (not_free j e);
-  apart = λ i j v w e _ named _ _. absurd (unnamed_yet i v e named.1);
-  met_apart = λ i j v w _ e named. absurd (unnamed_yet j w e named.1);
-}
+pub opens : (s : Recorded) (count n : ℕ) → n ≡ front_of s.drivers s.history → IsSoundSystem s
+    → TurnRule s.drivers s.limit s.history count (opening (n ∷ 0 ∷ []) (Some s ∷ []) (opened s))
+opens s count n is sound =
+    let zero : front_of s.drivers s.history + 0 ≡ front_of s.drivers s.history = omega arith in record {
+      history = s.history;
+      names = 0;
+      namer = 0;
+      turn = free;
+      sound = sound;
+      begun = goes_on_itself count s.history;
+      few = omega arith;
+      words = ap (λ (k : ℕ). k ∷ 0 ∷ []) (is ∙ sym zero);
+      home = refl;
+      each = first;
+      holder = λ j e. absurd (not_free j e);
+      apart = λ i j v w e _ named _ _. absurd (unnamed_yet i v e named.1);
+      met_apart = λ i j v w _ e named. absurd (unnamed_yet j w e named.1);
+    }
   where
-    first : (j : ℕ) (v : SeatView) → get_elem? (opened s ∷ []) j ≡ some v → Fits s.drivers s.limit s.history free 0 0 j v
+    first : (j : ℕ) (v : SeatView) → get_elem? (opened s ∷ []) j ≡ some v
+        → Fits s.drivers s.limit s.history free 0 0 j v
     first zero v e = subst (Fits s.drivers s.limit s.history free 0 0 0) (some-injective (opened s) v e) record {
       same = λ _. (refl, refl);
       seen = begins_itself s.history;

@@ -10,14 +10,17 @@ use Rattle.smx_shared.specs.Recorded.{Recorded, IsSoundSystem}
 use Rattle.smx_shared.specs.TurnRule.{Slot, Turn, TurnRule, free, held, bit_of, home_of, system_with}
 use Rattle.smx_shared.specs.declared.seat_view.SeatView.{SeatView}
 use Rattle.smx_shared.proofs.SeatListLemmas.{held_same}
-use Rattle.smx_shared.proofs.WordLemmas.{front_even, held_odd}
+use Rattle.smx_shared.proofs.FrontWordLemmas.{front_even, held_odd}
 
 -- the first word is the front of the one history, with what the turn adds
-word_is : (d : List DriverSpec) (l : ℕ) (start : List Entry) (count n : ℕ) (s : State Slot SeatView) (r : TurnRule d l start count s) → get_elem? s.words 0 ≡ some n → n ≡ front_of d r.history + bit_of r.turn
-word_is d l start count n s r word = some-injective n (front_of d r.history + bit_of r.turn) (sym word ∙ ap (λ (ws : List ℕ). get_elem? ws 0) r.words)
+word_is : (d : List DriverSpec) (l : ℕ) (start : List Entry) (count n : ℕ) (s : State Slot SeatView)
+    (r : TurnRule d l start count s) → get_elem? s.words 0 ≡ some n → n ≡ front_of d r.history + bit_of r.turn
+word_is d l start count n s r word =
+    some-injective n (front_of d r.history + bit_of r.turn) (sym word ∙ ap (λ (ws : List ℕ). get_elem? ws 0) r.words)
 
 -- an odd word is that of a turn that is held
-held_of : (t : Turn) (d : List DriverSpec) (h : List Entry) (n : ℕ) → n ≡ front_of d h + bit_of t → n % 2 ≡ 1 → (j : ℕ) × (t ≡ held j)
+held_of : (t : Turn) (d : List DriverSpec) (h : List Entry) (n : ℕ) → n ≡ front_of d h + bit_of t → n % 2 ≡ 1
+    → (j : ℕ) × (t ≡ held j)
 held_of free d h n is odd =
     let k : ℕ = front_of d h in
     let even : k % 2 ≡ 0 = front_even d h in
@@ -31,7 +34,8 @@ free_of free d h n is even = refl
 free_of (held j) d h n is even = absurd (let odd = held_odd d n h is in omega arith)
 
 -- then the system is at home
-pub home_at : (d : List DriverSpec) (l : ℕ) (start : List Entry) (count n : ℕ) (s : State Slot SeatView) → TurnRule d l start count s → get_elem? s.words 0 ≡ some n → n % 2 ≡ 0
+pub home_at : (d : List DriverSpec) (l : ℕ) (start : List Entry) (count n : ℕ) (s : State Slot SeatView)
+    → TurnRule d l start count s → get_elem? s.words 0 ≡ some n → n % 2 ≡ 0
     → (x : Recorded) × (s.homes ≡ some (Some x) ∷ []) × (n ≡ front_of x.drivers x.history) × IsSoundSystem x
 home_at d l start count n s r word even =
     let is = word_is d l start count n s r word in
@@ -44,13 +48,15 @@ home_at d l start count n s r word even =
     )
 
 -- and otherwise it is out
-pub out_at : (d : List DriverSpec) (l : ℕ) (start : List Entry) (count n : ℕ) (s : State Slot SeatView) → TurnRule d l start count s → get_elem? s.words 0 ≡ some n → n % 2 ≡ 1 → s.homes ≡ none ∷ []
+pub out_at : (d : List DriverSpec) (l : ℕ) (start : List Entry) (count n : ℕ) (s : State Slot SeatView)
+    → TurnRule d l start count s → get_elem? s.words 0 ≡ some n → n % 2 ≡ 1 → s.homes ≡ none ∷ []
 out_at d l start count n s r word odd =
     let holder = held_of r.turn d r.history n (word_is d l start count n s r word) odd in
     r.home ∙ ap (λ (t : Turn). home_of (system_with d l r.history) t ∷ []) holder.1
 
 -- a seat has the turn where the word has the turn bit
-pub held_by : (d : List DriverSpec) (l : ℕ) (start : List Entry) (count n : ℕ) (s : State Slot SeatView) → TurnRule d l start count s → get_elem? s.words 0 ≡ some n → n % 2 ≡ 1
+pub held_by : (d : List DriverSpec) (l : ℕ) (start : List Entry) (count n : ℕ) (s : State Slot SeatView)
+    → TurnRule d l start count s → get_elem? s.words 0 ≡ some n → n % 2 ≡ 1
     → (j : ℕ) × (v : SeatView) × (get_elem? s.views j ≡ some v) × (v.turn ≡ true)
 held_by d l start count n s r word odd =
     let holder = held_of r.turn d r.history n (word_is d l start count n s r word) odd in
@@ -58,13 +64,16 @@ held_by d l start count n s r word odd =
     (holder.0, seat.0, seat.1, seat.2)
 
 -- and the word has it where a seat has the turn
-pub shown_by : (d : List DriverSpec) (l : ℕ) (start : List Entry) (count n j : ℕ) (v : SeatView) (s : State Slot SeatView) → TurnRule d l start count s → get_elem? s.words 0 ≡ some n → get_elem? s.views j ≡ some v
+pub shown_by : (d : List DriverSpec) (l : ℕ) (start : List Entry) (count n j : ℕ) (v : SeatView)
+    (s : State Slot SeatView) → TurnRule d l start count s → get_elem? s.words 0 ≡ some n → get_elem? s.views j ≡ some v
     → v.turn ≡ true → n % 2 ≡ 1
 shown_by d l start count n j v s r word at on =
     let its : r.turn ≡ held j = ((r.each j v at).turn on).0 in
     held_odd d n r.history (word_is d l start count n s r word ∙ ap (λ (t : Turn). front_of d r.history + bit_of t) its)
 
 -- no two seats have it
-pub one_holder : (d : List DriverSpec) (l : ℕ) (start : List Entry) (count i j : ℕ) (v w : SeatView) (s : State Slot SeatView) → TurnRule d l start count s → get_elem? s.views i ≡ some v → get_elem? s.views j ≡ some w
+pub one_holder : (d : List DriverSpec) (l : ℕ) (start : List Entry) (count i j : ℕ) (v w : SeatView)
+    (s : State Slot SeatView) → TurnRule d l start count s → get_elem? s.views i ≡ some v → get_elem? s.views j ≡ some w
     → v.turn ≡ true → w.turn ≡ true → i ≡ j
-one_holder d l start count i j v w s r at there on too = held_same i j (sym ((r.each i v at).turn on).0 ∙ ((r.each j w there).turn too).0)
+one_holder d l start count i j v w s r at there on too =
+    held_same i j (sym ((r.each i v at).turn on).0 ∙ ((r.each j w there).turn too).0)

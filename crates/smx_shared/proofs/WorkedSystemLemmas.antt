@@ -21,7 +21,8 @@ one_driver = record {
 pub with_one : ((s : Recorded) → IsDriverList s.drivers → s.limit ≤ MAX_COMMANDS → length s.history ≤ s.limit
     → IsLegal s.drivers s.history → IsSoundSystem s)
     → (limit : ℕ) → 1 ≤ limit → limit ≤ MAX_COMMANDS → IsSoundSystem (with_first 1 limit)
-with_one enough limit some few = enough (with_first 1 limit) one_driver few some (legal (mux ip 4 ∷ []) (take 1 history) refl)
+with_one enough limit some few =
+    enough (with_first 1 limit) one_driver few some (legal (mux ip 4 ∷ []) (take 1 history) refl)
 
 -- two drivers have one name
 pub one_name : IsSoundSystem of_one_name → ⊥

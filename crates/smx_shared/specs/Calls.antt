@@ -5,9 +5,10 @@ use Rattle.smx_types.specs.declared.command.Entry.{Entry}
 use Rattle.smx_model.specs.Histories.{call_of}
 use Rattle.smx_shared.specs.Fronts.{word_of, IsFrontOf}
 use Rattle.smx_shared.specs.Recorded.{Recorded, IsSoundSystem}
-use Rattle.smx_shared.specs.Seats.{Known, Seated, SharedAs, GoesOnNamed, seen_by, entries_of, met_seat, AreMetBy, IsBeginningOf}
-use Rattle.smx_shared.specs.declared.fault.ApplyFault.{ApplyFault}
-use Rattle.smx_shared.specs.declared.fault.ApplyFault.TheVariants as apply
+use Rattle.smx_shared.specs.Seats.{Known, Seated, SharedAs, GoesOnNamed, seen_by, entries_of, met_seat, AreMetBy}
+use Rattle.smx_shared.specs.Seats.{IsBeginningOf}
+use Rattle.smx_shared.specs.declared.shared_fault.ApplyFault.{ApplyFault}
+use Rattle.smx_shared.specs.declared.shared_fault.ApplyFault.TheVariants as apply
 use Rattle.smx_shared.specs.declared.front.Front.{Front}
 use Rattle.smx_shared.specs.declared.seat_view.MetSeat.{MetSeat}
 use Rattle.smx_shared.specs.declared.try_fault.TryFault.{TryFault}

@@ -2,8 +2,8 @@
 use Rattle.std.specs.Prelude.{ℕ, List}
 use Rattle.smx_shared.specs.CloseFaults.{turn_held_words}
 use Rattle.smx_shared.specs.FaultWords.{apply_fault_words}
-use Rattle.smx_shared.specs.declared.fault.ApplyFault.{ApplyFault}
-use Rattle.smx_shared.specs.declared.fault.ApplyFault.TheVariants as apply
+use Rattle.smx_shared.specs.declared.shared_fault.ApplyFault.{ApplyFault}
+use Rattle.smx_shared.specs.declared.shared_fault.ApplyFault.TheVariants as apply
 use Rattle.smx_shared.specs.declared.try_fault.TryFault.{TryFault}
 use Rattle.smx_shared.specs.declared.try_fault.TryFault.TheVariants as try
 

@@ -46,7 +46,8 @@ IsNotMet process [] = Unit {0}
 IsNotMet process (m ∷ met) = (m.process ≢ process) × IsNotMet process met
 
 -- what is so of one seat, that of number j with the view v
-pub record Fits (drivers : List DriverSpec) (limit : ℕ) (history : List Entry) (t : Turn) (names namer j : ℕ) (v : SeatView) : Type 0 where
+pub record Fits (drivers : List DriverSpec) (limit : ℕ) (history : List Entry) (t : Turn) (names namer j : ℕ)
+    (v : SeatView) : Type 0 where
   -- The drivers and the limit are the same in every seat that is not spent.
   pub same : v.spent ≡ false → (v.drivers ≡ drivers) × (v.limit ≡ limit)
   -- What it has seen is a beginning of the history. Those that it met were named, and what they knew is so.
@@ -78,7 +79,8 @@ AreMetApart views = (i j : ℕ) (v w : SeatView) →
 
 -- what is so of them all, where a system with these drivers, this limit and this history was shared among so many
 -- processes
-pub record TurnRule (drivers : List DriverSpec) (limit : ℕ) (start : List Entry) (processes : ℕ) (s : State Slot SeatView) : Type 0 where
+pub record TurnRule (drivers : List DriverSpec) (limit : ℕ) (start : List Entry) (processes : ℕ)
+    (s : State Slot SeatView) : Type 0 where
   -- There is one history, of which each seat has seen a beginning; how many names were given, and who may take the
   -- next; and whether somebody has the turn.
   pub history : List Entry

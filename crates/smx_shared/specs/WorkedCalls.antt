@@ -1,4 +1,5 @@
--- What two seats knew of a history of one entry, before that entry and after it, and what is wrong with that in one thing.
+-- What two seats knew of a history of one entry, before that entry and after it, and what is wrong with that in one
+-- thing.
 use Rattle.std.specs.Prelude.{ℕ, Bool, true, false, [], ◌∷◌}
 use Rattle.smx_types.specs.declared.command.Entry.{Entry}
 use Rattle.smx_model.specs.Worked.Common.{OpenClone, CloseAll, Fd, Done, ◌does◌gets◌, ip}

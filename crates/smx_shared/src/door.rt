@@ -3,8 +3,8 @@
 ghost use Rattle.std.specs.Prelude.{◌≡◌, IfErr, IfOk, OnOk};
 ghost use Rattle.smx_shared.specs.Calls.{AddsEntry, AnswersEntry, HasSeenMore, Refuses, SeesFront};
 
-use crate::fault::ApplyFault;
 use crate::front::Front;
+use crate::shared_fault::ApplyFault;
 use smx_types::{Command, Entry, Process};
 use std::alloc::Global;
 use std::sync::Wait;

@@ -10,7 +10,7 @@ ghost use Rattle.smx_shared.specs.Seats.{SharedId, met_seat, shared_as};
 ghost use Rattle.smx_shared.specs.WorkedCalls.{astray, blind, front, idle, keeps, knows, meets, opened, passed, sits, strayed};
 ghost use Rattle.smx_shared.specs.WorkedSystems.{with_first};
 ghost use Rattle.smx_shared.specs.declared.close_fault.CloseFault.TheVariants.{Held};
-ghost use Rattle.smx_shared.specs.declared.fault.ApplyFault.TheVariants as apply;
+ghost use Rattle.smx_shared.specs.declared.shared_fault.ApplyFault.TheVariants as apply;
 ghost use Rattle.smx_shared.specs.declared.try_fault.TryFault.TheVariants as try;
 
 use crate::laws_of_systems::an_example_is_sound;

@@ -3,7 +3,6 @@
 
 mod close_fault;
 mod door;
-mod fault;
 mod front;
 mod hold;
 pub mod laws_of_calls;
@@ -13,16 +12,17 @@ mod parked;
 mod seat;
 mod seat_view;
 mod shared;
+mod shared_fault;
 mod system;
 mod try_fault;
 mod turn_table;
 
 pub use close_fault::CloseFault;
 pub use door::Door;
-pub use fault::ApplyFault;
 pub use front::{Front, Fronts};
 pub use hold::Hold;
 pub use seat::Seat;
 pub use shared::Shared;
+pub use shared_fault::ApplyFault;
 pub use system::System;
 pub use try_fault::TryFault;

@@ -2,9 +2,9 @@
 
 ghost use Rattle.std.specs.Prelude.{◌≡◌, ◌↔◌, length, IfOk, OnOk, OnErr, IsErrOf};
 ghost use Rattle.smx_shared.specs.Recorded.{IsSoundSystem, next_entry, with_entry};
-ghost use Rattle.smx_shared.specs.declared.fault.ApplyFault.TheVariants.{HistoryFull};
+ghost use Rattle.smx_shared.specs.declared.shared_fault.ApplyFault.TheVariants.{HistoryFull};
 
-use crate::fault::ApplyFault;
+use crate::shared_fault::ApplyFault;
 use crate::system::System;
 use smx_types::{Command, Entry, NoMemory, Process};
 use std::alloc::Global;

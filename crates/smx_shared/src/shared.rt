@@ -10,10 +10,10 @@ ghost use Rattle.smx_shared.specs.Seats.{first_seat};
 
 use crate::close_fault::CloseFault;
 use crate::door::Door;
-use crate::fault::ApplyFault;
 use crate::front::Front;
 use crate::hold::Hold;
 use crate::seat::Seat;
+use crate::shared_fault::ApplyFault;
 use crate::system::System;
 use crate::try_fault::TryFault;
 use crate::turn_table::TurnTable;

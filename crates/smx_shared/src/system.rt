@@ -6,9 +6,9 @@ ghost use Rattle.smx_model.specs.DriverList.{IsDriverList};
 ghost use Rattle.smx_model.specs.Histories.{after};
 ghost use Rattle.smx_config.specs.DriverFaults.{RefusesDrivers};
 ghost use Rattle.smx_shared.specs.Recorded.{IsSoundSystem, next_entry, with_entry};
-ghost use Rattle.smx_shared.specs.declared.fault.ApplyFault.TheVariants.{HistoryFull};
+ghost use Rattle.smx_shared.specs.declared.shared_fault.ApplyFault.TheVariants.{HistoryFull};
 
-use crate::fault::ApplyFault;
+use crate::shared_fault::ApplyFault;
 use smx_config::{Config, ConfigFault};
 use smx_model::laws::lawful_after_each_entry;
 use smx_types::{Command, Copied, DriverSpec, Entries, Entry, NoMemory, Process};

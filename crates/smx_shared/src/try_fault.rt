@@ -3,8 +3,8 @@
 ghost use Rattle.std.specs.Prelude.{◌≡◌};
 ghost use Rattle.smx_shared.specs.TryFaults.{try_fault_of};
 
-use crate::fault::ApplyFault;
 use crate::front::Front;
+use crate::shared_fault::ApplyFault;
 use std::fmt;
 
 /// Why a try performed no command; no entry was added then. It prints itself: `turn held`, `history full`, `no memory`.

@@ -8,9 +8,9 @@ ghost use Rattle.smx_shared.specs.declared.turn_table.TheConstants.{MOST_TRIES};
 ghost use Rattle.smx_shared.specs.Seats.{shared_as};
 ghost use Rattle.smx_shared.specs.SeatViews.{opened, dealt, left, called, known_of, system_of, IsAtRest, IsInformed, RestsAfter, HasTurn, HasGrown, HasMet, FoundWord, IsWordFrom, AddsFor};
 
-use crate::fault::ApplyFault;
 use crate::parked::Parked;
 use crate::seat_view::{Call, Deal, Look, Meet, OneTurn, Publish, SeatView, Start, Take};
+use crate::shared_fault::ApplyFault;
 use crate::system::System;
 use atomic_table::Table;
 use smx_types::{Command, Entry, NoMemory, Process};

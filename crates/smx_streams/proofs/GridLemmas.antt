@@ -1,5 +1,6 @@
 -- Numbers and keys by driver and minor.
-use Rattle.std.proofs.Common.{◌≡◌, ℕ, zero, suc, ◌<◌, Bool, true, false, eqb, List, [], ◌∷◌, length, map, get_or, set, replicate, Option, Some, None, if◌then◌else◌, refl, sym, ap, ◌∙◌, inl, inr}
+use Rattle.std.proofs.Common.{◌≡◌, ℕ, zero, suc, ◌<◌, Bool, true, false, eqb, List, [], ◌∷◌, length, map, get_or, set}
+use Rattle.std.proofs.Common.{replicate, Option, Some, None, if◌then◌else◌, refl, sym, ap, ◌∙◌, inl, inr}
 use Rattle.std.specs.Prelude.{nat_lt}
 use Rattle.std.proofs.Math.ListN.{get_or-map}
 use Rattle.std.proofs.lemmas.Bool.{cases_eq, cases_lt, eq-eqb, eqb-true, false_from_ne_true, and_parts, lt-ltb}
@@ -12,6 +13,7 @@ use Rattle.smx_streams.specs.RecordGrids.{Grid, key_at, with_key, record_of_key,
 use Rattle.smx_streams.specs.StreamTables.{number_at, is_in_range}
 use Rattle.smx_streams.specs.HungRows.{flag_at}
 
+-- streams that the test says are the same are equal
 pub same_is : (s t : StreamId) → same_stream s t ≡ true → s ≡ t
 same_is s t h =
     let both = and_parts (eqb s.driver t.driver) (eqb s.minor t.minor) h in
@@ -21,37 +23,67 @@ same_is s t h =
       record_of : ℕ → ℕ → StreamId
       record_of x y = record { driver = x; minor = y }
 
+-- a stream is the same as itself
 pub same_self : (s : StreamId) → same_stream s s ≡ true
 same_self s = rw (eq-eqb s.driver s.driver refl, eq-eqb s.minor s.minor refl) refl
 
 -- what is read at a stream is what its key leads to
 
-pub opens_at : (grid : Grid) (records : Slab Record) (s : StreamId) → number_at (map (map (λ key. opens_of (record_of_key records key))) grid) s ≡ opens_of (record_of_key records (key_at grid s))
+-- a stream has as many descriptors as the record has to which its key leads, or none
+pub opens_at : (grid : Grid) (records : Slab Record) (s : StreamId)
+    → number_at (map (map (λ key. opens_of (record_of_key records key))) grid) s
+    ≡ opens_of (record_of_key records (key_at grid s))
 opens_at grid records s =
     let f : Option ℕ → ℕ = λ key. opens_of (record_of_key records key) in
-    ap (λ (row : List ℕ). get_or row s.minor 0) (get_or-map (map f) grid s.driver []) ∙ get_or-map f (get_or grid s.driver []) s.minor None
+    ap (λ (row : List ℕ). get_or row s.minor 0) (get_or-map (map f) grid s.driver [])
+    ∙ get_or-map f (get_or grid s.driver []) s.minor None
 
-pub holds_at : (grid : Grid) (records : Slab Record) (s : StreamId) → number_at (map (map (λ key. holds_of (record_of_key records key))) grid) s ≡ holds_of (record_of_key records (key_at grid s))
+-- a stream has as many holds as the record has to which its key leads, or none
+pub holds_at : (grid : Grid) (records : Slab Record) (s : StreamId)
+    → number_at (map (map (λ key. holds_of (record_of_key records key))) grid) s
+    ≡ holds_of (record_of_key records (key_at grid s))
 holds_at grid records s =
     let f : Option ℕ → ℕ = λ key. holds_of (record_of_key records key) in
-    ap (λ (row : List ℕ). get_or row s.minor 0) (get_or-map (map f) grid s.driver []) ∙ get_or-map f (get_or grid s.driver []) s.minor None
+    ap (λ (row : List ℕ). get_or row s.minor 0) (get_or-map (map f) grid s.driver [])
+    ∙ get_or-map f (get_or grid s.driver []) s.minor None
 
-pub hungs_at : (grid : Grid) (records : Slab Record) (s : StreamId) → flag_at (map (map (λ key. hung_of (record_of_key records key))) grid) s ≡ hung_of (record_of_key records (key_at grid s))
+-- a stream has hung up just where the record has to which its key leads
+pub hungs_at : (grid : Grid) (records : Slab Record) (s : StreamId)
+    → flag_at (map (map (λ key. hung_of (record_of_key records key))) grid) s
+    ≡ hung_of (record_of_key records (key_at grid s))
 hungs_at grid records s =
     let f : Option ℕ → Bool = λ key. hung_of (record_of_key records key) in
-    ap (λ (row : List Bool). get_or row s.minor false) (get_or-map (map f) grid s.driver []) ∙ get_or-map f (get_or grid s.driver []) s.minor None
+    ap (λ (row : List Bool). get_or row s.minor false) (get_or-map (map f) grid s.driver [])
+    ∙ get_or-map f (get_or grid s.driver []) s.minor None
 
 -- a key that is set
 
-pub key_set : (grid : Grid) (s : StreamId) (key : Option ℕ) (x : StreamId) → s.driver < length grid → s.minor < length (get_or grid s.driver []) → key_at (with_key grid s key) x ≡ (if same_stream x s then key else key_at grid x)
+-- a stream whose key is set has that key, and each other stream has the key that it had
+pub key_set : (grid : Grid) (s : StreamId) (key : Option ℕ) (x : StreamId) → s.driver < length grid
+    → s.minor < length (get_or grid s.driver [])
+    → key_at (with_key grid s key) x ≡ (if same_stream x s then key else key_at grid x)
 key_set grid s key x driver minor = elim (cases_eq x.driver s.driver) [
   | inl d ↦
-      let row : get_or (with_key grid s key) x.driver [] ≡ set (get_or grid s.driver []) s.minor key = ap (λ n. get_or (with_key grid s key) n []) d ∙ get_or-set_same grid s.driver (set (get_or grid s.driver []) s.minor key) [] driver in
+      let row : get_or (with_key grid s key) x.driver []
+      ≡ set (get_or grid s.driver []) s.minor key = ap (λ n. get_or (with_key grid s key) n []) d
+      ∙ get_or-set_same grid s.driver (set (get_or grid s.driver []) s.minor key) [] driver in
       elim (cases_eq x.minor s.minor) [
-        | inl m ↦ rw (eq-eqb x.driver s.driver d, eq-eqb x.minor s.minor m) (ap (λ (r : List (Option ℕ)). get_or r x.minor None) row ∙ ap (λ n. get_or (set (get_or grid s.driver []) s.minor key) n None) m ∙ get_or-set_same (get_or grid s.driver []) s.minor key None minor)
-        | inr m ↦ rw (eq-eqb x.driver s.driver d, false_from_ne_true (eqb x.minor s.minor) (λ t. m (eqb-true x.minor s.minor t))) (ap (λ (r : List (Option ℕ)). get_or r x.minor None) row ∙ get_or-set_other (get_or grid s.driver []) s.minor x.minor key None m ∙ ap (λ n. get_or (get_or grid n []) x.minor None) (sym d))
+        | inl m ↦ rw (eq-eqb x.driver s.driver d, eq-eqb x.minor s.minor m)
+            (ap (λ (r : List (Option ℕ)). get_or r x.minor None) row
+            ∙ ap (λ n. get_or (set (get_or grid s.driver []) s.minor key) n None) m
+            ∙ get_or-set_same (get_or grid s.driver []) s.minor key None minor)
+        | inr m ↦
+            rw (
+              eq-eqb x.driver s.driver d,
+              false_from_ne_true (eqb x.minor s.minor)
+                  (λ t. m (eqb-true x.minor s.minor t)),
+            ) (ap (λ (r : List (Option ℕ)). get_or r x.minor None) row
+            ∙ get_or-set_other (get_or grid s.driver []) s.minor x.minor key None m
+            ∙ ap (λ n. get_or (get_or grid n []) x.minor None) (sym d))
       ]
-  | inr d ↦ rw (false_from_ne_true (eqb x.driver s.driver) (λ t. d (eqb-true x.driver s.driver t))) (ap (λ (r : List (Option ℕ)). get_or r x.minor None) (get_or-set_other grid s.driver x.driver (set (get_or grid s.driver []) s.minor key) [] d))
+  | inr d ↦ rw (false_from_ne_true (eqb x.driver s.driver) (λ t. d (eqb-true x.driver s.driver t)))
+      (ap (λ (r : List (Option ℕ)). get_or r x.minor None)
+      (get_or-set_other grid s.driver x.driver (set (get_or grid s.driver []) s.minor key) [] d))
 ]
 
 -- the minors of each driver stay
@@ -64,23 +96,31 @@ lengths_set grid s key = by grid s.driver where
 
 -- a stream with a key is in range
 
+-- the driver of a stream that has a key is there
 pub has_driver : (grid : Grid) (s : StreamId) (key : ℕ) → key_at grid s ≡ Some key → s.driver < length grid
 has_driver grid s key h = elim (cases_lt s.driver (length grid)) [
   | inl lt ↦ lt
-  | inr past ↦ let none : key_at grid s ≡ None = ap (λ (row : List (Option ℕ)). get_or row s.minor None) (get_or_past grid s.driver [] past) in absurd cc
+  | inr past ↦ let none : key_at grid s ≡ None = ap (λ (row : List (Option ℕ)). get_or row s.minor None)
+      (get_or_past grid s.driver [] past) in absurd cc
 ]
 
-pub has_minor : (grid : Grid) (s : StreamId) (key : ℕ) → key_at grid s ≡ Some key → s.minor < length (get_or grid s.driver [])
+-- the minor of a stream that has a key is in the row of its driver
+pub has_minor : (grid : Grid) (s : StreamId) (key : ℕ) → key_at grid s ≡ Some key
+    → s.minor < length (get_or grid s.driver [])
 has_minor grid s key h = elim (cases_lt s.minor (length (get_or grid s.driver []))) [
   | inl lt ↦ lt
   | inr past ↦ let none : key_at grid s ≡ None = get_or_past (get_or grid s.driver []) s.minor None past in absurd cc
 ]
 
+-- a driver has as many minors as its row is long, and none if there is no row
 pub length_at : (grid : Grid) (d : ℕ) → get_or (map length grid) d 0 ≡ length (get_or grid d [])
 length_at grid d = get_or-map length grid d []
 
-pub in_range_of_key : (grid : Grid) (s : StreamId) (key : ℕ) → key_at grid s ≡ Some key → is_in_range (map length grid) s.driver s.minor ≡ true
-in_range_of_key grid s key h = ap (λ n. nat_lt s.minor n) (length_at grid s.driver) ∙ lt-ltb s.minor (length (get_or grid s.driver [])) (has_minor grid s key h)
+-- a stream that has a key is in range, as its driver's minors say
+pub in_range_of_key : (grid : Grid) (s : StreamId) (key : ℕ) → key_at grid s ≡ Some key
+    → is_in_range (map length grid) s.driver s.minor ≡ true
+in_range_of_key grid s key h = ap (λ n. nat_lt s.minor n) (length_at grid s.driver)
+    ∙ lt-ltb s.minor (length (get_or grid s.driver [])) (has_minor grid s key h)
 
 -- no keys
 
@@ -89,6 +129,7 @@ none_in zero m = refl
 none_in (suc n) zero = refl
 none_in (suc n) (suc m) = none_in n m
 
+-- where there are no keys, no stream has one
 pub no_keys : (minors : List ℕ) (s : StreamId) → key_at (map (λ n. replicate n None) minors) s ≡ None
 no_keys minors s = by minors s.driver where
   by : (ns : List ℕ) (d : ℕ) → get_or {A = Option ℕ} (get_or (map (λ n. replicate n None) ns) d []) s.minor None ≡ None
@@ -96,6 +137,8 @@ no_keys minors s = by minors s.driver where
   by (n ∷ ns) zero = none_in n s.minor
   by (n ∷ ns) (suc d) = by ns d
 
+-- where there are no keys, each driver has the minors that it was given
 pub no_keys_lengths : (minors : List ℕ) → map length (map (λ n. replicate {A = Option ℕ} n None) minors) ≡ minors
 no_keys_lengths [] = refl
-no_keys_lengths (n ∷ ns) = ap (λ m. m ∷ map length (map (λ n. replicate {A = Option ℕ} n None) ns)) (length-replicate {A = Option ℕ} n None) ∙ ap (λ ms. n ∷ ms) (no_keys_lengths ns)
+no_keys_lengths (n ∷ ns) = ap (λ m. m ∷ map length (map (λ n. replicate {A = Option ℕ} n None) ns))
+    (length-replicate {A = Option ℕ} n None) ∙ ap (λ ms. n ∷ ms) (no_keys_lengths ns)

@@ -1,5 +1,6 @@
 -- Which streams have hung up after a change of their records.
-use Rattle.std.proofs.Common.{◌≡◌, ℕ, ◌+◌, ◌<◌, Bool, true, false, ◌&&◌, ◌||◌, not, List, [], ◌∷◌, filter, if◌then◌else◌, refl, sym, ap, subst, ◌∙◌, arith, inl, inr}
+use Rattle.std.proofs.Common.{◌≡◌, ℕ, ◌+◌, ◌<◌, Bool, true, false, ◌&&◌, ◌||◌, not, List, [], ◌∷◌, filter}
+use Rattle.std.proofs.Common.{if◌then◌else◌, refl, sym, ap, subst, ◌∙◌, arith, inl, inr}
 use Rattle.std.specs.Prelude.{nat_lt}
 use Rattle.std.proofs.lemmas.Bool.{cases_Bool, false≢true, lt-ltb, or_cases, or_left, or_right}
 use Rattle.std.proofs.lemmas.Bool.Decides.{nat_tests}
@@ -19,11 +20,16 @@ use Rattle.smx_streams.proofs.NameLemmas.{used_exists}
 
 -- what the law of the model says of hung-up streams in their order
 pub record MakeTheList : Type 0 where
-  pub same : (xs ys : List StreamId) → IsRising stream_before xs → IsRising stream_before ys → ((s : StreamId) → is_hung xs s ≡ is_hung ys s) → xs ≡ ys
-  pub more : (s : StreamId) (hungs : List StreamId) → IsRising stream_before hungs → IsRising stream_before (with_hung s hungs)
-  pub fewer : (keep : StreamId → Bool) (hungs : List StreamId) → IsRising stream_before hungs → IsRising stream_before (filter keep hungs)
-  pub each_of_more : (s t : StreamId) (hungs : List StreamId) → is_hung (with_hung s hungs) t ≡ (same_stream s t || is_hung hungs t)
-  pub each_of_fewer : (keep : StreamId → Bool) (s : StreamId) (hungs : List StreamId) → is_hung (filter keep hungs) s ≡ (keep s && is_hung hungs s)
+  pub same : (xs ys : List StreamId) → IsRising stream_before xs → IsRising stream_before ys
+      → ((s : StreamId) → is_hung xs s ≡ is_hung ys s) → xs ≡ ys
+  pub more : (s : StreamId) (hungs : List StreamId) → IsRising stream_before hungs
+      → IsRising stream_before (with_hung s hungs)
+  pub fewer : (keep : StreamId → Bool) (hungs : List StreamId) → IsRising stream_before hungs
+      → IsRising stream_before (filter keep hungs)
+  pub each_of_more : (s t : StreamId) (hungs : List StreamId)
+      → is_hung (with_hung s hungs) t ≡ (same_stream s t || is_hung hungs t)
+  pub each_of_fewer : (keep : StreamId → Bool) (s : StreamId) (hungs : List StreamId)
+      → is_hung (filter keep hungs) s ≡ (keep s && is_hung hungs s)
 
 -- a stream that has hung up counts some descriptor or hold
 abbrev AreUsed : Uses → Type 0
@@ -34,12 +40,16 @@ abbrev AreNames : Uses → StreamTable → Type 0
 AreNames u t = (s : StreamId) → number_at u.opens s ≡ names_of s t.fds
 
 -- the same number at one place
-pub same_number : (grid : List (List ℕ)) (x s : StreamId) (n : ℕ) → n ≡ number_at grid s → (if same_stream x s then n else number_at grid x) ≡ number_at grid x
-same_number grid x s n e = elim (cases_Bool (same_stream x s)) [ inl t ↦ rw t (e ∙ ap (number_at grid) (sym (same_is x s t))) | inr f ↦ rw f refl ]
+pub same_number : (grid : List (List ℕ)) (x s : StreamId) (n : ℕ) → n ≡ number_at grid s
+    → (if same_stream x s then n else number_at grid x) ≡ number_at grid x
+same_number grid x s n e = elim (cases_Bool (same_stream x s))
+    [ inl t ↦ rw t (e ∙ ap (number_at grid) (sym (same_is x s t))) | inr f ↦ rw f refl ]
 
 -- so a stream with a record exists
-exists_by : (u : Uses) (t : StreamTable) (x : StreamId) → AreNames u t → t.holds ≡ u.holds → exists t x ≡ nat_lt 0 (number_at u.opens x + number_at u.holds x)
-exists_by u t x names holds = sym (used_exists t x (number_at u.opens x) (names x)) ∙ ap (λ (h : List (List ℕ)). nat_lt 0 (number_at u.opens x + number_at h x)) holds
+exists_by : (u : Uses) (t : StreamTable) (x : StreamId) → AreNames u t → t.holds ≡ u.holds
+    → exists t x ≡ nat_lt 0 (number_at u.opens x + number_at u.holds x)
+exists_by u t x names holds = sym (used_exists t x (number_at u.opens x) (names x))
+    ∙ ap (λ (h : List (List ℕ)). nat_lt 0 (number_at u.opens x + number_at h x)) holds
 
 -- of what has hung up and counts some, nothing goes by that test
 and_true : (a b : Bool) → (b ≡ true → a ≡ true) → b ≡ (a && b)
@@ -47,26 +57,35 @@ and_true true b h = refl
 and_true false true h = sym (h refl)
 and_true false false h = refl
 
-used_stays : (u : Uses) (x : StreamId) → AreUsed u → flag_at u.hungs x ≡ (nat_lt 0 (number_at u.opens x + number_at u.holds x) && flag_at u.hungs x)
-used_stays u x used = and_true _ (flag_at u.hungs x) (λ t. lt-ltb 0 (number_at u.opens x + number_at u.holds x) (used x t))
+used_stays : (u : Uses) (x : StreamId) → AreUsed u
+    → flag_at u.hungs x ≡ (nat_lt 0 (number_at u.opens x + number_at u.holds x) && flag_at u.hungs x)
+used_stays u x used =
+    and_true _ (flag_at u.hungs x) (λ t. lt-ltb 0 (number_at u.opens x + number_at u.holds x) (used x t))
 
 -- the list of those that are left
-made : MakeTheList → (old new : StreamTable) → IsRising stream_before new.hungs → IsRising stream_before old.hungs → ((x : StreamId) → is_hung new.hungs x ≡ (exists new x && is_hung old.hungs x)) → LeavesHungs old new
-made law old new rise was each = law.same new.hungs (filter (exists new) old.hungs) rise (law.fewer (exists new) old.hungs was) (λ x. each x ∙ sym (law.each_of_fewer (exists new) x old.hungs))
+made : MakeTheList → (old new : StreamTable) → IsRising stream_before new.hungs → IsRising stream_before old.hungs
+    → ((x : StreamId) → is_hung new.hungs x ≡ (exists new x && is_hung old.hungs x)) → LeavesHungs old new
+made law old new rise was each = law.same new.hungs (filter (exists new) old.hungs) rise
+    (law.fewer (exists new) old.hungs was) (λ x. each x ∙ sym (law.each_of_fewer (exists new) x old.hungs))
 
 -- where the numbers of one stream change, a stream is left that exists
-each_left : (u v : Uses) (old new : StreamTable) (s : StreamId) (o h : ℕ) → AreSet u s o h (nat_lt 0 (o + h) && flag_at u.hungs s) v → AreUsed u → AreNames v new → new.holds ≡ v.holds → new.hungs ≡ hungs_from 0 v.hungs → old.hungs ≡ hungs_from 0 u.hungs → (x : StreamId) → is_hung new.hungs x ≡ (exists new x && is_hung old.hungs x)
+each_left : (u v : Uses) (old new : StreamTable) (s : StreamId) (o h : ℕ)
+    → AreSet u s o h (nat_lt 0 (o + h) && flag_at u.hungs s) v → AreUsed u → AreNames v new → new.holds ≡ v.holds
+    → new.hungs ≡ hungs_from 0 v.hungs → old.hungs ≡ hungs_from 0 u.hungs → (x : StreamId)
+    → is_hung new.hungs x ≡ (exists new x && is_hung old.hungs x)
 each_left u v old new s o h set used names holds now was x =
     ap (λ (hs : List StreamId). is_hung hs x) now ∙ flag_tells v.hungs x ∙ set.hungs_now x
     ∙ elim (cases_Bool (same_stream x s)) [
       | inl t ↦
           let opens : number_at v.opens x ≡ o = rw t at (set.opens_now x) in
           let held : number_at v.holds x ≡ h = rw t at (set.holds_now x) in
-          rw t (both (nat_lt 0 (o + h)) (exists new x) _ _ (sym (exists_by v new x names holds ∙ rw (opens, held) refl)) (ap (flag_at u.hungs) (sym (same_is x s t)) ∙ before))
+          rw t (both (nat_lt 0 (o + h)) (exists new x) _ _ (sym (exists_by v new x names holds ∙ rw (opens, held) refl))
+          (ap (flag_at u.hungs) (sym (same_is x s t)) ∙ before))
       | inr f ↦
           let opens : number_at v.opens x ≡ number_at u.opens x = rw f at (set.opens_now x) in
           let held : number_at v.holds x ≡ number_at u.holds x = rw f at (set.holds_now x) in
-          rw f (used_stays u x used ∙ both (nat_lt 0 (number_at u.opens x + number_at u.holds x)) (exists new x) _ _ (sym (exists_by v new x names holds ∙ rw (opens, held) refl)) before)
+          rw f (used_stays u x used ∙ both (nat_lt 0 (number_at u.opens x + number_at u.holds x)) (exists new x) _ _
+          (sym (exists_by v new x names holds ∙ rw (opens, held) refl)) before)
     ] where
       before : flag_at u.hungs x ≡ is_hung old.hungs x
       before = sym (ap (λ (hs : List StreamId). is_hung hs x) was ∙ flag_tells u.hungs x)
@@ -75,47 +94,77 @@ each_left u v old new s o h set used names holds now was x =
       both a b c d e f = cc
 
 -- so those are left that exist
-pub left : MakeTheList → (u v : Uses) (old new : StreamTable) (s : StreamId) (o h : ℕ) → AreSet u s o h (nat_lt 0 (o + h) && flag_at u.hungs s) v → AreUsed u → AreNames v new → new.holds ≡ v.holds → new.hungs ≡ hungs_from 0 v.hungs → old.hungs ≡ hungs_from 0 u.hungs → LeavesHungs old new
-left law u v old new s o h set used names holds now was = made law old new (rw now (hungs_rise 0 v.hungs)) (rw was (hungs_rise 0 u.hungs)) (each_left u v old new s o h set used names holds now was)
+pub left : MakeTheList → (u v : Uses) (old new : StreamTable) (s : StreamId) (o h : ℕ)
+    → AreSet u s o h (nat_lt 0 (o + h) && flag_at u.hungs s) v → AreUsed u → AreNames v new → new.holds ≡ v.holds
+    → new.hungs ≡ hungs_from 0 v.hungs → old.hungs ≡ hungs_from 0 u.hungs → LeavesHungs old new
+left law u v old new s o h set used names holds now was = made law old new (rw now (hungs_rise 0 v.hungs))
+    (rw was (hungs_rise 0 u.hungs)) (each_left u v old new s o h set used names holds now was)
 
 -- and where none change
-each_kept : (u : Uses) (old new : StreamTable) → AreUsed u → AreNames u new → new.holds ≡ u.holds → new.hungs ≡ hungs_from 0 u.hungs → old.hungs ≡ new.hungs → (x : StreamId) → is_hung new.hungs x ≡ (exists new x && is_hung old.hungs x)
+each_kept : (u : Uses) (old new : StreamTable) → AreUsed u → AreNames u new → new.holds ≡ u.holds
+    → new.hungs ≡ hungs_from 0 u.hungs → old.hungs ≡ new.hungs → (x : StreamId)
+    → is_hung new.hungs x ≡ (exists new x && is_hung old.hungs x)
 each_kept u old new used names holds now was x =
-    let flag : is_hung new.hungs x ≡ flag_at u.hungs x = ap (λ (hs : List StreamId). is_hung hs x) now ∙ flag_tells u.hungs x in
-    flag ∙ used_stays u x used ∙ both _ _ _ _ (sym (exists_by u new x names holds)) (sym (ap (λ (hs : List StreamId). is_hung hs x) was ∙ flag)) where
+    let flag : is_hung new.hungs x ≡ flag_at u.hungs x = ap (λ (hs : List StreamId). is_hung hs x) now
+    ∙ flag_tells u.hungs x in
+    flag ∙ used_stays u x used ∙ both _ _ _ _ (sym (exists_by u new x names holds))
+    (sym (ap (λ (hs : List StreamId). is_hung hs x) was ∙ flag)) where
       both : (a b c d : Bool) → a ≡ b → c ≡ d → (a && c) ≡ (b && d)
       both a b c d e f = cc
 
-pub kept : MakeTheList → (u : Uses) (old new : StreamTable) → AreUsed u → AreNames u new → new.holds ≡ u.holds → new.hungs ≡ hungs_from 0 u.hungs → old.hungs ≡ new.hungs → LeavesHungs old new
-kept law u old new used names holds now was = made law old new (rw now (hungs_rise 0 u.hungs)) (rw (was, now) (hungs_rise 0 u.hungs)) (each_kept u old new used names holds now was)
+-- where no number changes and the same streams have hung up, all of them exist and are left
+pub kept : MakeTheList → (u : Uses) (old new : StreamTable) → AreUsed u → AreNames u new → new.holds ≡ u.holds
+    → new.hungs ≡ hungs_from 0 u.hungs → old.hungs ≡ new.hungs → LeavesHungs old new
+kept law u old new used names holds now was = made law old new (rw now (hungs_rise 0 u.hungs))
+    (rw (was, now) (hungs_rise 0 u.hungs)) (each_kept u old new used names holds now was)
 
 -- where the flag of one stream stays, all stay
-each_same : (u v : Uses) (s : StreamId) (o h : ℕ) → AreSet u s o h (flag_at u.hungs s) v → (x : StreamId) → is_hung (hungs_from 0 v.hungs) x ≡ is_hung (hungs_from 0 u.hungs) x
-each_same u v s o h set x = flag_tells v.hungs x ∙ set.hungs_now x ∙ elim (cases_Bool (same_stream x s)) [ inl t ↦ rw t (ap (flag_at u.hungs) (sym (same_is x s t))) | inr f ↦ rw f refl ] ∙ sym (flag_tells u.hungs x)
+each_same : (u v : Uses) (s : StreamId) (o h : ℕ) → AreSet u s o h (flag_at u.hungs s) v → (x : StreamId)
+    → is_hung (hungs_from 0 v.hungs) x ≡ is_hung (hungs_from 0 u.hungs) x
+each_same u v s o h set x = flag_tells v.hungs x ∙ set.hungs_now x
+    ∙ elim (cases_Bool (same_stream x s)) [
+      | inl t ↦ rw t (ap (flag_at u.hungs) (sym (same_is x s t)))
+      | inr f ↦
+          rw f refl
+    ] ∙ sym (flag_tells u.hungs x)
 
-pub hung_same : MakeTheList → (u v : Uses) (s : StreamId) (o h : ℕ) → AreSet u s o h (flag_at u.hungs s) v → hungs_from 0 v.hungs ≡ hungs_from 0 u.hungs
-hung_same law u v s o h set = law.same (hungs_from 0 v.hungs) (hungs_from 0 u.hungs) (hungs_rise 0 v.hungs) (hungs_rise 0 u.hungs) (each_same u v s o h set)
+-- where the numbers of one stream change, and its flag doesn't, the same streams have hung up
+pub hung_same : MakeTheList → (u v : Uses) (s : StreamId) (o h : ℕ) → AreSet u s o h (flag_at u.hungs s) v
+    → hungs_from 0 v.hungs ≡ hungs_from 0 u.hungs
+hung_same law u v s o h set = law.same (hungs_from 0 v.hungs) (hungs_from 0 u.hungs) (hungs_rise 0 v.hungs)
+    (hungs_rise 0 u.hungs) (each_same u v s o h set)
 
 -- so it is with one hold more
-pub hung_still : MakeTheList → (u v : Uses) (s : StreamId) (o h : ℕ) → AreSet u s o (h + 1) (nat_lt 0 (o + (h + 1)) && flag_at u.hungs s) v → hungs_from 0 v.hungs ≡ hungs_from 0 u.hungs
-hung_still law u v s o h set = hung_same law u v s o (h + 1) (subst (λ (b : Bool). AreSet u s o (h + 1) b v) (counted (flag_at u.hungs s)) set) where
-  counted : (f : Bool) → (nat_lt 0 (o + (h + 1)) && f) ≡ f
-  counted f = rw (lt-ltb 0 (o + (h + 1)) (omega arith)) refl
+pub hung_still : MakeTheList → (u v : Uses) (s : StreamId) (o h : ℕ)
+    → AreSet u s o (h + 1) (nat_lt 0 (o + (h + 1)) && flag_at u.hungs s) v → hungs_from 0 v.hungs ≡ hungs_from 0 u.hungs
+hung_still law u v s o h set = hung_same law u v s o (h + 1)
+    (subst (λ (b : Bool). AreSet u s o (h + 1) b v) (counted (flag_at u.hungs s)) set) where
+      counted : (f : Bool) → (nat_lt 0 (o + (h + 1)) && f) ≡ f
+      counted f = rw (lt-ltb 0 (o + (h + 1)) (omega arith)) refl
 
 -- and where it is set, one more has hung up
-each_now : (u v : Uses) (s : StreamId) (o h : ℕ) → AreSet u s o h true v → (x : StreamId) → is_hung (hungs_from 0 v.hungs) x ≡ (same_stream x s || is_hung (hungs_from 0 u.hungs) x)
-each_now u v s o h set x = flag_tells v.hungs x ∙ set.hungs_now x ∙ elim (cases_Bool (same_stream x s)) [ inl t ↦ rw t refl | inr f ↦ rw f (sym (flag_tells u.hungs x)) ]
+each_now : (u v : Uses) (s : StreamId) (o h : ℕ) → AreSet u s o h true v → (x : StreamId)
+    → is_hung (hungs_from 0 v.hungs) x ≡ (same_stream x s || is_hung (hungs_from 0 u.hungs) x)
+each_now u v s o h set x = flag_tells v.hungs x ∙ set.hungs_now x
+    ∙ elim (cases_Bool (same_stream x s)) [ inl t ↦ rw t refl | inr f ↦ rw f (sym (flag_tells u.hungs x)) ]
 
-pub hung_now : MakeTheList → (u v : Uses) (s : StreamId) (o h : ℕ) → AreSet u s o h true v → hungs_from 0 v.hungs ≡ with_hung s (hungs_from 0 u.hungs)
-hung_now law u v s o h set = law.same (hungs_from 0 v.hungs) (with_hung s (hungs_from 0 u.hungs)) (hungs_rise 0 v.hungs) (law.more s (hungs_from 0 u.hungs) (hungs_rise 0 u.hungs))
-    (λ x. each_now u v s o h set x ∙ ap (λ (b : Bool). b || is_hung (hungs_from 0 u.hungs) x) (turned x s) ∙ sym (law.each_of_more s x (hungs_from 0 u.hungs))) where
+-- where the flag of one stream is set, the same streams have hung up, and that one
+pub hung_now : MakeTheList → (u v : Uses) (s : StreamId) (o h : ℕ) → AreSet u s o h true v
+    → hungs_from 0 v.hungs ≡ with_hung s (hungs_from 0 u.hungs)
+hung_now law u v s o h set = law.same (hungs_from 0 v.hungs) (with_hung s (hungs_from 0 u.hungs)) (hungs_rise 0 v.hungs)
+    (law.more s (hungs_from 0 u.hungs) (hungs_rise 0 u.hungs))
+    (λ x. each_now u v s o h set x ∙ ap (λ (b : Bool). b || is_hung (hungs_from 0 u.hungs) x) (turned x s)
+    ∙ sym (law.each_of_more s x (hungs_from 0 u.hungs))) where
       turned : (x y : StreamId) → same_stream x y ≡ same_stream y x
       turned x y = grind (arith, nat_tests)
 
-pub are_sound : (u : Uses) (t : StreamTable) → AreUsed u → AreNames u t → t.holds ≡ u.holds → t.hungs ≡ hungs_from 0 u.hungs → AreHungsSound t
+-- the streams whose flags are set, each with some descriptor or hold, are in order and exist
+pub are_sound : (u : Uses) (t : StreamTable) → AreUsed u → AreNames u t → t.holds ≡ u.holds
+    → t.hungs ≡ hungs_from 0 u.hungs → AreHungsSound t
 are_sound u t used names holds hungs = record {
   rise = rw hungs (hungs_rise 0 u.hungs);
-  exist = λ x h. exists_by u t x names holds ∙ lt-ltb 0 (number_at u.opens x + number_at u.holds x) (used x (sym (ap (λ (hs : List StreamId). is_hung hs x) hungs ∙ flag_tells u.hungs x) ∙ h));
+  exist = λ x h. exists_by u t x names holds ∙ lt-ltb 0 (number_at u.opens x + number_at u.holds x)
+      (used x (sym (ap (λ (hs : List StreamId). is_hung hs x) hungs ∙ flag_tells u.hungs x) ∙ h));
 }
 
 -- where no flag is set, none has hung up
@@ -128,31 +177,42 @@ none_hung rows h = by (hungs_from 0 rows) (λ s. flag_tells rows s ∙ h s) wher
 -- closing one after the other
 
 -- a test that each passes keeps all
-pub all_pass : (p : StreamId → Bool) (xs : List StreamId) → ((x : StreamId) → is_hung xs x ≡ true → p x ≡ true) → xs ≡ filter p xs
+pub all_pass : (p : StreamId → Bool) (xs : List StreamId) → ((x : StreamId) → is_hung xs x ≡ true → p x ≡ true)
+    → xs ≡ filter p xs
 all_pass p [] h = refl
-all_pass p (x ∷ xs) h = rw (h x (or_left _ _ (same_self x))) (ap (λ (ys : List StreamId). x ∷ ys) (all_pass p xs (λ y t. h y (or_right (same_stream x y) _ t))))
+all_pass p (x ∷ xs) h = rw (h x (or_left _ _ (same_self x)))
+    (ap (λ (ys : List StreamId). x ∷ ys) (all_pass p xs (λ y t. h y (or_right (same_stream x y) _ t))))
 
-named_before : (keep : Descriptor → Bool) (ds : List Descriptor) (s : StreamId) → is_named (filter keep ds) s ≡ true → is_named ds s ≡ true
+named_before : (keep : Descriptor → Bool) (ds : List Descriptor) (s : StreamId) → is_named (filter keep ds) s ≡ true
+    → is_named ds s ≡ true
 named_before keep [] s h = h
 named_before keep (d ∷ ds) s h = elim (cases_Bool (keep d)) [
   | inl k ↦ let t : (same_stream d.stream s || is_named (filter keep ds) s) ≡ true = rw k at h in
-      elim (or_cases (same_stream d.stream s) (is_named (filter keep ds) s) t) [ inl a ↦ or_left _ _ a | inr b ↦ or_right _ _ (named_before keep ds s b) ]
+      elim (or_cases (same_stream d.stream s) (is_named (filter keep ds) s) t)
+      [ inl a ↦ or_left _ _ a | inr b ↦ or_right _ _ (named_before keep ds s b) ]
   | inr k ↦ or_right _ _ (named_before keep ds s (rw k at h))
 ]
 
-exists_before : (old new : StreamTable) (p n : ℕ) (x : StreamId) → HasOneLess old p n new → exists new x ≡ true → exists old x ≡ true
+exists_before : (old new : StreamTable) (p n : ℕ) (x : StreamId) → HasOneLess old p n new → exists new x ≡ true
+    → exists old x ≡ true
 exists_before old new p n x less h = elim (or_cases (is_named new.fds x) (nat_lt 0 (number_at new.holds x)) h) [
-  | inl a ↦ or_left _ _ (named_before (λ d. not (is_fd p n d)) old.fds x (ap (λ (ds : List Descriptor). is_named ds x) (sym less.fds) ∙ a))
+  | inl a ↦
+      or_left _ _ (named_before (λ d. not (is_fd p n d)) old.fds x
+      (ap (λ (ds : List Descriptor). is_named ds x) (sym less.fds) ∙ a))
   | inr b ↦ or_right _ _ (ap (nat_lt 0) (sym (less.holds x)) ∙ b)
 ]
 
 -- a test that is stricter than the one before it keeps the same alone
-twice : (p q : StreamId → Bool) (xs : List StreamId) → ((x : StreamId) → p x ≡ true → q x ≡ true) → filter p (filter q xs) ≡ filter p xs
+twice : (p q : StreamId → Bool) (xs : List StreamId) → ((x : StreamId) → p x ≡ true → q x ≡ true)
+    → filter p (filter q xs) ≡ filter p xs
 twice p q [] h = refl
 twice p q (x ∷ xs) h = elim (cases_Bool (p x)) [
   | inl t ↦ rw (h x t, t) (ap (λ (ys : List StreamId). x ∷ ys) (twice p q xs h))
   | inr f ↦ elim (cases_Bool (q x)) [ inl u ↦ rw (u, f) (twice p q xs h) | inr u ↦ rw (u, f) (twice p q xs h) ]
 ]
 
-pub left_again : (old new : StreamTable) (p n : ℕ) (was first : List StreamId) → HasOneLess old p n new → was ≡ filter (exists old) first → filter (exists new) was ≡ filter (exists new) first
-left_again old new p n was first less e = ap (filter (exists new)) e ∙ twice (exists new) (exists old) first (λ x. exists_before old new p n x less)
+-- where one descriptor more is closed, those of the first hung-up streams are left that exist then
+pub left_again : (old new : StreamTable) (p n : ℕ) (was first : List StreamId) → HasOneLess old p n new
+    → was ≡ filter (exists old) first → filter (exists new) was ≡ filter (exists new) first
+left_again old new p n was first less e =
+    ap (filter (exists new)) e ∙ twice (exists new) (exists old) first (λ x. exists_before old new p n x less)

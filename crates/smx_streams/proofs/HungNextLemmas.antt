@@ -1,5 +1,6 @@
 -- The streams from a minor of a driver on, in lists of streams in their order.
-use Rattle.std.proofs.Common.{◌≡◌, ℕ, ◌+◌, ◌<◌, ◌≤◌, true, false, not, List, [], ◌∷◌, length, get_or, None, refl, ap, arith, inl, inr}
+use Rattle.std.proofs.Common.{◌≡◌, ℕ, ◌+◌, ◌<◌, ◌≤◌, true, false, not, List, [], ◌∷◌, length, get_or, None, refl, ap}
+use Rattle.std.proofs.Common.{arith, inl, inr}
 use Rattle.std.specs.Prelude.{slice_get}
 use Rattle.std.proofs.lemmas.Bool.{cases_Bool, cases_eq, cases_lt, ltb-true, or_left, or_parts, or_right}
 use Rattle.std.proofs.lemmas.Bool.Decides.{nat_tests}
@@ -21,11 +22,13 @@ from_first (x ∷ xs) =
     let first : not (pair_before x.driver x.minor 0 0) ≡ true = grind (arith, nat_tests) in
     rw first (ap (λ (ys : List StreamId). x ∷ ys) (from_first xs))
 
-from_more : (d n : ℕ) (x : StreamId) → same_stream x (stream d n) ≡ false → not (pair_before x.driver x.minor d n) ≡ not (pair_before x.driver x.minor d (n + 1))
+from_more : (d n : ℕ) (x : StreamId) → same_stream x (stream d n) ≡ false
+    → not (pair_before x.driver x.minor d n) ≡ not (pair_before x.driver x.minor d (n + 1))
 from_more d n x other = grind (arith, nat_tests)
 
 -- a stream that is not among them is passed
-pub passed : (d n : ℕ) (xs : List StreamId) → is_hung xs (stream d n) ≡ false → streams_from d n xs ≡ streams_from d (n + 1) xs
+pub passed : (d n : ℕ) (xs : List StreamId) → is_hung xs (stream d n) ≡ false
+    → streams_from d n xs ≡ streams_from d (n + 1) xs
 passed d n [] h = refl
 passed d n (x ∷ xs) h =
     let p = or_parts (same_stream x (stream d n)) (is_hung xs (stream d n)) h in
@@ -36,7 +39,8 @@ passed d n (x ∷ xs) h =
       | inr g ↦ rw (e, g) rest
     ]
 
-later_stays : (d n : ℕ) (xs : List StreamId) → ComesBefore stream_before (stream d n) xs → streams_from d n xs ≡ streams_from d (n + 1) xs
+later_stays : (d n : ℕ) (xs : List StreamId) → ComesBefore stream_before (stream d n) xs
+    → streams_from d n xs ≡ streams_from d (n + 1) xs
 later_stays d n [] h = refl
 later_stays d n (x ∷ xs) h =
     let after : pair_before d n x.driver x.minor ≡ true = h.0 in
@@ -44,7 +48,8 @@ later_stays d n (x ∷ xs) h =
     let b : not (pair_before x.driver x.minor d (n + 1)) ≡ true = grind (arith, nat_tests) in
     rw (a, b) (ap (λ (ys : List StreamId). x ∷ ys) (later_stays d n xs h.1))
 
-none_behind : (d n : ℕ) (x : StreamId) (xs : List StreamId) → not (pair_before x.driver x.minor d n) ≡ true → ComesBefore stream_before x xs → is_hung xs (stream d n) ≡ false
+none_behind : (d n : ℕ) (x : StreamId) (xs : List StreamId) → not (pair_before x.driver x.minor d n) ≡ true
+    → ComesBefore stream_before x xs → is_hung xs (stream d n) ≡ false
 none_behind d n x [] t h = refl
 none_behind d n x (y ∷ ys) t h =
     let after : pair_before x.driver x.minor y.driver y.minor ≡ true = h.0 in
@@ -52,7 +57,8 @@ none_behind d n x (y ∷ ys) t h =
     rw f (none_behind d n x ys t h.1)
 
 -- and one that is among them comes first
-pub found : (d n : ℕ) (xs : List StreamId) → IsRising stream_before xs → is_hung xs (stream d n) ≡ true → streams_from d n xs ≡ stream d n ∷ streams_from d (n + 1) xs
+pub found : (d n : ℕ) (xs : List StreamId) → IsRising stream_before xs → is_hung xs (stream d n) ≡ true
+    → streams_from d n xs ≡ stream d n ∷ streams_from d (n + 1) xs
 found d n [] r h = absurd cc
 found d n (x ∷ xs) r h = elim (cases_Bool (same_stream x (stream d n))) [
   | inl t ↦
@@ -77,39 +83,49 @@ found d n (x ∷ xs) r h = elim (cases_Bool (same_stream x (stream d n))) [
 abbrev pub AreInRange : List ℕ → List StreamId → Type 0
 AreInRange minors xs = (x : StreamId) → is_hung xs x ≡ true → is_in_range minors x.driver x.minor ≡ true
 
-first_in_range : (minors : List ℕ) (x : StreamId) (xs : List StreamId) → AreInRange minors (x ∷ xs) → x.minor < get_or minors x.driver 0
+first_in_range : (minors : List ℕ) (x : StreamId) (xs : List StreamId) → AreInRange minors (x ∷ xs)
+    → x.minor < get_or minors x.driver 0
 first_in_range minors x xs h = ltb-true x.minor (get_or minors x.driver 0) (h x (or_left _ _ (same_self x)))
 
-others_in_range : (minors : List ℕ) (x : StreamId) (xs : List StreamId) → AreInRange minors (x ∷ xs) → AreInRange minors xs
+others_in_range : (minors : List ℕ) (x : StreamId) (xs : List StreamId) → AreInRange minors (x ∷ xs)
+    → AreInRange minors xs
 others_in_range minors x xs h = λ y t. h y (or_right (same_stream x y) _ t)
 
 -- behind the last minor of a driver stands the next driver
-pub next_driver : (minors : List ℕ) (d n : ℕ) (xs : List StreamId) → get_or minors d 0 ≤ n → AreInRange minors xs → streams_from d n xs ≡ streams_from (d + 1) 0 xs
+pub next_driver : (minors : List ℕ) (d n : ℕ) (xs : List StreamId) → get_or minors d 0 ≤ n → AreInRange minors xs
+    → streams_from d n xs ≡ streams_from (d + 1) 0 xs
 next_driver minors d n [] past h = refl
 next_driver minors d n (x ∷ xs) past h =
     let rest = next_driver minors d n xs past (others_in_range minors x xs h) in
-    let e = same_test x.driver x.minor (get_or minors x.driver 0) (first_in_range minors x xs h) (λ e. omega (arith, past, ap (λ (k : ℕ). get_or minors k 0) e)) in
+    let e = same_test x.driver x.minor (get_or minors x.driver 0) (first_in_range minors x xs h)
+    (λ e. omega (arith, past, ap (λ (k : ℕ). get_or minors k 0) e)) in
     elim (cases_Bool (not (pair_before x.driver x.minor (d + 1) 0))) [
       | inl t ↦ rw (e, t) (ap (λ (ys : List StreamId). x ∷ ys) rest)
       | inr g ↦ rw (e, g) rest
     ] where
-      same_test : (driver minor count : ℕ) → minor < count → (driver ≡ d → count ≤ n) → not (pair_before driver minor d n) ≡ not (pair_before driver minor (d + 1) 0)
+      same_test : (driver minor count : ℕ) → minor < count → (driver ≡ d → count ≤ n)
+          → not (pair_before driver minor d n) ≡ not (pair_before driver minor (d + 1) 0)
       same_test driver minor count lt few = elim (cases_eq driver d) [
         | inl e ↦ let le : count ≤ n = few e in grind (arith, nat_tests)
         | inr other ↦ grind (arith, nat_tests)
       ]
 
 past_last : (minors : List ℕ) (d : ℕ) → None ≡ slice_get minors d → length minors ≤ d
-past_last minors d h = elim (slice_get_cases minors d).1 [ inl there ↦ let e = there.2 in absurd cc | inr past ↦ past.0 ]
+past_last minors d h =
+    elim (slice_get_cases minors d).1 [ inl there ↦ let e = there.2 in absurd cc | inr past ↦ past.0 ]
 
 -- behind the last driver stands none
-none_left : (minors : List ℕ) (d n : ℕ) (xs : List StreamId) → length minors ≤ d → AreInRange minors xs → streams_from d n xs ≡ []
+none_left : (minors : List ℕ) (d n : ℕ) (xs : List StreamId) → length minors ≤ d → AreInRange minors xs
+    → streams_from d n xs ≡ []
 none_left minors d n [] past h = refl
 none_left minors d n (x ∷ xs) past h =
     let lt = first_in_range minors x xs h in
-    let below : x.driver < d = elim (cases_lt x.driver (length minors)) [ inl l ↦ omega (arith, l) | inr le ↦ absurd (omega (arith, lt, get_or_past minors x.driver 0 le)) ] in
+    let below : x.driver < d = elim (cases_lt x.driver (length minors))
+    [ inl l ↦ omega (arith, l) | inr le ↦ absurd (omega (arith, lt, get_or_past minors x.driver 0 le)) ] in
     let f : not (pair_before x.driver x.minor d n) ≡ false = grind (arith, nat_tests) in
     rw f (none_left minors d n xs past (others_in_range minors x xs h))
 
-pub no_driver_left : (minors : List ℕ) (d n : ℕ) (xs : List StreamId) → None ≡ slice_get minors d → AreInRange minors xs → streams_from d n xs ≡ []
+-- from a driver on that isn't there, there are no streams
+pub no_driver_left : (minors : List ℕ) (d n : ℕ) (xs : List StreamId) → None ≡ slice_get minors d → AreInRange minors xs
+    → streams_from d n xs ≡ []
 no_driver_left minors d n xs none h = none_left minors d n xs (past_last minors d none) h

@@ -1,5 +1,7 @@
 -- How many descriptors name a stream.
-use Rattle.std.proofs.Common.{◌≡◌, ℕ, zero, suc, ◌+◌, ◌-◌, ◌<◌, ◌≤◌, Bool, true, false, ◌||◌, not, eqb, List, [], ◌∷◌, length, find, filter, get_or, slice_get, Option, Some, None, if◌then◌else◌, refl, sym, ap, arith, inl, inr}
+use Rattle.std.proofs.Common.{◌≡◌, ℕ, zero, suc, ◌+◌, ◌-◌, ◌<◌, ◌≤◌, Bool, true, false, ◌||◌, not, eqb, List, [], ◌∷◌}
+use Rattle.std.proofs.Common.{length, find, filter, get_or, slice_get, Option, Some, None, if◌then◌else◌, refl, sym, ap}
+use Rattle.std.proofs.Common.{arith, inl, inr}
 use Rattle.std.specs.Prelude.{nat_lt}
 use Rattle.std.specs.List.{list_any, range_with_len}
 use Rattle.std.proofs.lemmas.Bool.{cases_Bool, and_parts, both_ways, eqb-true}
@@ -18,7 +20,9 @@ use Rattle.smx_streams.proofs.ListLemmas.{none_goes}
 abbrev pub one_if : Bool → ℕ
 one_if b = if b then 1 else 0
 
-pub names_put : (s : StreamId) (d : Descriptor) (ds : List Descriptor) → names_of s (with_inserted fd_before ds d) ≡ one_if (same_stream d.stream s) + names_of s ds
+-- a descriptor that is inserted names its own stream once more, and no other
+pub names_put : (s : StreamId) (d : Descriptor) (ds : List Descriptor)
+    → names_of s (with_inserted fd_before ds d) ≡ one_if (same_stream d.stream s) + names_of s ds
 names_put s d [] = refl
 names_put s d (e ∷ ds) = elim (cases_Bool (fd_before d e)) [
   | inl t ↦ rw t refl
@@ -26,7 +30,8 @@ names_put s d (e ∷ ds) = elim (cases_Bool (fd_before d e)) [
 ]
 
 -- what comes later is another descriptor
-later_is_other : (p n : ℕ) (d : Descriptor) (ds : List Descriptor) → is_fd p n d ≡ true → ComesBefore fd_before d ds → find (is_fd p n) ds ≡ None
+later_is_other : (p n : ℕ) (d : Descriptor) (ds : List Descriptor) → is_fd p n d ≡ true → ComesBefore fd_before d ds
+    → find (is_fd p n) ds ≡ None
 later_is_other p n d [] t h = refl
 later_is_other p n d (e ∷ ds) t h = elim (cases_Bool (is_fd p n e)) [
   | inl u ↦
@@ -41,7 +46,9 @@ later_is_other p n d (e ∷ ds) t h = elim (cases_Bool (is_fd p n e)) [
   | inr f ↦ rw f (later_is_other p n d ds t h.1)
 ]
 
-pub names_taken : (s t : StreamId) (p n : ℕ) (ds : List Descriptor) → IsRising fd_before ds → stream_at ds p n ≡ Some t → names_of s ds ≡ one_if (same_stream t s) + names_of s (filter (λ d. not (is_fd p n d)) ds)
+-- a descriptor that is taken away names its own stream once less, and no other
+pub names_taken : (s t : StreamId) (p n : ℕ) (ds : List Descriptor) → IsRising fd_before ds → stream_at ds p n ≡ Some t
+    → names_of s ds ≡ one_if (same_stream t s) + names_of s (filter (λ d. not (is_fd p n d)) ds)
 names_taken s t p n [] r h = absurd cc
 names_taken s t p n (d ∷ ds) r h = elim (cases_Bool (is_fd p n d)) [
   | inl here ↦
@@ -51,6 +58,7 @@ names_taken s t p n (d ∷ ds) r h = elim (cases_Bool (is_fd p n d)) [
   | inr other ↦ rw other (let rest = names_taken s t p n ds r.1 (rw other at h) in omega (arith, rest))
 ]
 
+-- a stream is named just where more than 0 descriptors name it
 pub named_is_some : (s : StreamId) (ds : List Descriptor) → is_named ds s ≡ nat_lt 0 (names_of s ds)
 named_is_some s [] = refl
 named_is_some s (d ∷ ds) = elim (cases_Bool (same_stream d.stream s)) [
@@ -58,9 +66,11 @@ named_is_some s (d ∷ ds) = elim (cases_Bool (same_stream d.stream s)) [
   | inr f ↦ let none : 0 + names_of s ds ≡ names_of s ds = omega arith in rw (f, none) (named_is_some s ds)
 ]
 
+-- no more descriptors name a stream than there are
 pub names_few : (s : StreamId) (ds : List Descriptor) → names_of s ds ≤ length ds
 names_few s [] = omega arith
-names_few s (d ∷ ds) = elim (cases_Bool (same_stream d.stream s)) [ inl t ↦ rw t (omega (arith, names_few s ds)) | inr f ↦ rw f (omega (arith, names_few s ds)) ]
+names_few s (d ∷ ds) = elim (cases_Bool (same_stream d.stream s))
+    [ inl t ↦ rw t (omega (arith, names_few s ds)) | inr f ↦ rw f (omega (arith, names_few s ds)) ]
 
 -- a descriptor that names the stream counts
 pub names_some : (s : StreamId) (p n : ℕ) (ds : List Descriptor) → stream_at ds p n ≡ Some s → 0 < names_of s ds
@@ -74,13 +84,15 @@ names_some s p n (d ∷ ds) h = elim (cases_Bool (is_fd p n d)) [
 ]
 
 -- a stream with a record exists
-pub used_exists : (t : StreamTable) (s : StreamId) (opens : ℕ) → opens ≡ names_of s t.fds → nat_lt 0 (opens + number_at t.holds s) ≡ exists t s
+pub used_exists : (t : StreamTable) (s : StreamId) (opens : ℕ) → opens ≡ names_of s t.fds
+    → nat_lt 0 (opens + number_at t.holds s) ≡ exists t s
 used_exists t s opens e = rw (e, named_is_some s t.fds) (either (names_of s t.fds) (number_at t.holds s)) where
   either : (x y : ℕ) → nat_lt 0 (x + y) ≡ (nat_lt 0 x || nat_lt 0 y)
   either x y = grind (arith, nat_tests)
 
 -- minors
 
+-- a number that a search finds in a range is below its end
 pub find_below : (test : ℕ → Bool) (k n m : ℕ) → find test (range_with_len k n) ≡ Some m → m < k + n
 find_below test k zero m h = absurd cc
 find_below test k (suc n) m h = elim (cases_Bool (test k)) [
@@ -88,11 +100,13 @@ find_below test k (suc n) m h = elim (cases_Bool (test k)) [
   | inr f ↦ let rest = find_below test (k + 1) n m (rw f at h) in omega (arith, rest)
 ]
 
+-- a minor of a driver that isn't there is not in range
 pub no_driver : (minors : List ℕ) (d m : ℕ) → None ≡ slice_get minors d → false ≡ is_in_range minors d m
 no_driver [] d m h = grind (arith, nat_tests)
 no_driver (n ∷ ns) zero m h = absurd cc
 no_driver (n ∷ ns) (suc d) m h = no_driver ns d m h
 
+-- a driver that is there has as many minors as a lookup says that gives 0 for any other
 pub minors_at : (minors : List ℕ) (d n : ℕ) → Some n ≡ slice_get minors d → n ≡ get_or minors d 0
 minors_at [] d n h = absurd cc
 minors_at (x ∷ xs) zero n h = cc
@@ -102,12 +116,16 @@ minors_at (x ∷ xs) (suc d) n h = minors_at xs d n h
 
 same_sym : (s t : StreamId) → same_stream s t ≡ false → same_stream t s ≡ false
 same_sym s t f = elim (cases_Bool (same_stream t s)) [
-  | inl e ↦ let k : same_stream s t ≡ true = rw (same_is t s e) (same_self s) in absurd (both_ways (same_stream s t) f k)
+  | inl e ↦ let k : same_stream s t ≡ true = rw (same_is t s e) (same_self s) in
+      absurd (both_ways (same_stream s t) f k)
   | inr g ↦ g
 ]
 
-pub names_after_put : (opens : List (List ℕ)) (s t : StreamId) (p n : ℕ) (fds : List Descriptor) → ((x : StreamId) → number_at opens x ≡ names_of x fds)
-    → (if same_stream s t then number_at opens t + 1 else number_at opens s) ≡ names_of s (with_inserted fd_before fds (record { process = p; fd = n; stream = t }))
+-- with one more for the stream of a new descriptor, the numbers are again how often streams are named
+pub names_after_put : (opens : List (List ℕ)) (s t : StreamId) (p n : ℕ) (fds : List Descriptor)
+    → ((x : StreamId) → number_at opens x ≡ names_of x fds)
+    → (if same_stream s t then number_at opens t + 1 else number_at opens s)
+    ≡ names_of s (with_inserted fd_before fds (record { process = p; fd = n; stream = t }))
 names_after_put opens s t p n fds h = elim (cases_Bool (same_stream s t)) [
   | inl e ↦
       let same = same_is s t e in
@@ -124,8 +142,11 @@ names_after_put opens s t p n fds h = elim (cases_Bool (same_stream s t)) [
       rw f (omega (arith, more, was))
 ]
 
-pub names_after_take : (opens : List (List ℕ)) (s t : StreamId) (p n : ℕ) (fds : List Descriptor) → ((x : StreamId) → number_at opens x ≡ names_of x fds) → IsRising fd_before fds → stream_at fds p n ≡ Some t
-    → (if same_stream s t then number_at opens t - 1 else number_at opens s) ≡ names_of s (filter (λ d. not (is_fd p n d)) fds)
+-- with one less for the stream of a descriptor that goes, the numbers are again how often streams are named
+pub names_after_take : (opens : List (List ℕ)) (s t : StreamId) (p n : ℕ) (fds : List Descriptor)
+    → ((x : StreamId) → number_at opens x ≡ names_of x fds) → IsRising fd_before fds → stream_at fds p n ≡ Some t
+    → (if same_stream s t then number_at opens t - 1 else number_at opens s)
+    ≡ names_of s (filter (λ d. not (is_fd p n d)) fds)
 names_after_take opens s t p n fds h rise there = elim (cases_Bool (same_stream s t)) [
   | inl e ↦
       let same = same_is s t e in
@@ -142,6 +163,8 @@ names_after_take opens s t p n fds h rise there = elim (cases_Bool (same_stream 
 ]
 
 -- a descriptor of the stream is one of the process
-pub named_any : (s : StreamId) (p n : ℕ) (ds : List Descriptor) → stream_at ds p n ≡ Some s → list_any (is_fd p n) ds ≡ true
+pub named_any : (s : StreamId) (p n : ℕ) (ds : List Descriptor) → stream_at ds p n ≡ Some s
+    → list_any (is_fd p n) ds ≡ true
 named_any s p n [] h = absurd cc
-named_any s p n (d ∷ ds) h = elim (cases_Bool (is_fd p n d)) [ inl here ↦ rw here refl | inr other ↦ rw other (named_any s p n ds (rw other at h)) ]
+named_any s p n (d ∷ ds) h = elim (cases_Bool (is_fd p n d))
+    [ inl here ↦ rw here refl | inr other ↦ rw other (named_any s p n ds (rw other at h)) ]

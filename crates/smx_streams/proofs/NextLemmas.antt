@@ -1,5 +1,6 @@
 -- The descriptors from a number of a process on, and those of one process.
-use Rattle.std.proofs.Common.{◌≡◌, ℕ, suc, ◌+◌, ◌<◌, ◌≤◌, Bool, true, false, ◌&&◌, not, eqb, List, [], ◌∷◌, find, filter, Option, Some, None, refl, ap, ◌∙◌, arith, inl, inr}
+use Rattle.std.proofs.Common.{◌≡◌, ℕ, suc, ◌+◌, ◌<◌, ◌≤◌, Bool, true, false, ◌&&◌, not, eqb, List, [], ◌∷◌, find}
+use Rattle.std.proofs.Common.{filter, Option, Some, None, refl, ap, ◌∙◌, arith, inl, inr}
 use Rattle.std.specs.Prelude.{nat_lt}
 use Rattle.std.specs.List.{All}
 use Rattle.std.proofs.lemmas.Bool.{cases_Bool, and_parts, eqb-true}
@@ -23,7 +24,8 @@ kept_same f g (d ∷ ds) h =
       | inr n ↦ rw (here, n) rest
     ]
 
-from_more : (p n : ℕ) (d : Descriptor) → is_fd p n d ≡ false → not (pair_before d.process d.fd p n) ≡ not (pair_before d.process d.fd p (n + 1))
+from_more : (p n : ℕ) (d : Descriptor) → is_fd p n d ≡ false
+    → not (pair_before d.process d.fd p n) ≡ not (pair_before d.process d.fd p (n + 1))
 from_more p n d other = grind (arith, nat_tests)
 
 -- a number with no descriptor is passed
@@ -40,7 +42,8 @@ passed p n (d ∷ ds) h = elim (cases_Bool (is_fd p n d)) [
       ]
 ]
 
-later_stays : (p n : ℕ) (s : StreamId) (ds : List Descriptor) → ComesBefore fd_before (fd_of p n s) ds → fds_from p n ds ≡ fds_from p (n + 1) ds
+later_stays : (p n : ℕ) (s : StreamId) (ds : List Descriptor) → ComesBefore fd_before (fd_of p n s) ds
+    → fds_from p n ds ≡ fds_from p (n + 1) ds
 later_stays p n s [] h = refl
 later_stays p n s (d ∷ ds) h =
     let after : pair_before p n d.process d.fd ≡ true = h.0 in
@@ -48,7 +51,8 @@ later_stays p n s (d ∷ ds) h =
     let y : not (pair_before d.process d.fd p (n + 1)) ≡ true = grind (arith, nat_tests) in
     rw (x, y) (ap (λ (es : List Descriptor). d ∷ es) (later_stays p n s ds h.1))
 
-none_behind : (p n : ℕ) (d : Descriptor) (ds : List Descriptor) → not (pair_before d.process d.fd p n) ≡ true → ComesBefore fd_before d ds → find (is_fd p n) ds ≡ None
+none_behind : (p n : ℕ) (d : Descriptor) (ds : List Descriptor) → not (pair_before d.process d.fd p n) ≡ true
+    → ComesBefore fd_before d ds → find (is_fd p n) ds ≡ None
 none_behind p n d [] t h = refl
 none_behind p n d (e ∷ ds) t h =
     let after : pair_before d.process d.fd e.process e.fd ≡ true = h.0 in
@@ -62,7 +66,8 @@ fd_is d p n s a b e =
     ∙ ap (λ (x : StreamId). record { process = p; fd = n; stream = x }) e
 
 -- a number with a descriptor comes first
-pub found : (p n : ℕ) (s : StreamId) (ds : List Descriptor) → IsRising fd_before ds → stream_at ds p n ≡ Some s → fds_from p n ds ≡ fd_of p n s ∷ fds_from p (n + 1) ds
+pub found : (p n : ℕ) (s : StreamId) (ds : List Descriptor) → IsRising fd_before ds → stream_at ds p n ≡ Some s
+    → fds_from p n ds ≡ fd_of p n s ∷ fds_from p (n + 1) ds
 found p n s [] r h = absurd cc
 found p n s (d ∷ ds) r h = elim (cases_Bool (is_fd p n d)) [
   | inl t ↦
@@ -89,23 +94,27 @@ found p n s (d ∷ ds) r h = elim (cases_Bool (is_fd p n d)) [
 ]
 
 -- behind the last number of a process stands the next process
-pub next_process : (p n : ℕ) (ds : List Descriptor) → MAX_DESCRIPTORS ≤ n → All (λ d. d.fd < MAX_DESCRIPTORS) ds → fds_from p n ds ≡ fds_from (p + 1) 0 ds
+pub next_process : (p n : ℕ) (ds : List Descriptor) → MAX_DESCRIPTORS ≤ n → All (λ d. d.fd < MAX_DESCRIPTORS) ds
+    → fds_from p n ds ≡ fds_from (p + 1) 0 ds
 next_process p n ds past h = kept_same _ _ ds (λ i d lt. let few = h i d lt in grind (arith, nat_tests))
 
 -- behind the last process stands none
-pub no_process : (p n : ℕ) (ds : List Descriptor) → MAX_DESCRIPTORS ≤ n → MAX_PROCESSES ≤ p + 1 → All (λ d. d.fd < MAX_DESCRIPTORS) ds → All (λ d. d.process < MAX_PROCESSES) ds → fds_from p n ds ≡ []
+pub no_process : (p n : ℕ) (ds : List Descriptor) → MAX_DESCRIPTORS ≤ n → MAX_PROCESSES ≤ p + 1
+    → All (λ d. d.fd < MAX_DESCRIPTORS) ds → All (λ d. d.process < MAX_PROCESSES) ds → fds_from p n ds ≡ []
 no_process p n [] past last h k = refl
 no_process p n (d ∷ ds) past last h k =
     let few = h 0 d (omega arith) in
     let below = k 0 d (omega arith) in
     let f : not (pair_before d.process d.fd p n) ≡ false = grind (arith, nat_tests) in
-    rw f (no_process p n ds past last (λ i e lt. h (suc i) e (omega (arith, lt))) (λ i e lt. k (suc i) e (omega (arith, lt))))
+    rw f (no_process p n ds past last (λ i e lt. h (suc i) e (omega (arith, lt)))
+    (λ i e lt. k (suc i) e (omega (arith, lt))))
 
 -- the descriptors of a process that are closed so far
 abbrev pub is_closed : ℕ → ℕ → Descriptor → Bool
 is_closed p n d = eqb d.process p && nat_lt d.fd n
 
-filter_twice : (f g h : Descriptor → Bool) (ds : List Descriptor) → ((d : Descriptor) → h d ≡ (g d && f d)) → filter f (filter g ds) ≡ filter h ds
+filter_twice : (f g h : Descriptor → Bool) (ds : List Descriptor) → ((d : Descriptor) → h d ≡ (g d && f d))
+    → filter f (filter g ds) ≡ filter h ds
 filter_twice f g h [] e = refl
 filter_twice f g h (d ∷ ds) e = elim (cases_Bool (g d)) [
   | inl t ↦ elim (cases_Bool (f d)) [
@@ -116,8 +125,11 @@ filter_twice f g h (d ∷ ds) e = elim (cases_Bool (g d)) [
 ]
 
 -- one number more
-pub closed_more : (p n : ℕ) (ds : List Descriptor) → filter (λ d. not (is_fd p n d)) (filter (λ d. not (is_closed p n d)) ds) ≡ filter (λ d. not (is_closed p (n + 1) d)) ds
-closed_more p n ds = filter_twice (λ d. not (is_fd p n d)) (λ d. not (is_closed p n d)) (λ d. not (is_closed p (n + 1) d)) ds (λ d. grind (arith, nat_tests))
+pub closed_more : (p n : ℕ) (ds : List Descriptor)
+    → filter (λ d. not (is_fd p n d)) (filter (λ d. not (is_closed p n d)) ds)
+    ≡ filter (λ d. not (is_closed p (n + 1) d)) ds
+closed_more p n ds = filter_twice (λ d. not (is_fd p n d)) (λ d. not (is_closed p n d))
+    (λ d. not (is_closed p (n + 1) d)) ds (λ d. grind (arith, nat_tests))
 
 -- none at first
 pub closed_none : (p : ℕ) (ds : List Descriptor) → ds ≡ filter (λ d. not (is_closed p 0 d)) ds
@@ -127,5 +139,6 @@ closed_none p (d ∷ ds) =
     rw f (ap (λ (es : List Descriptor). d ∷ es) (closed_none p ds))
 
 -- all in the end
-pub closed_all : (p n : ℕ) (ds : List Descriptor) → MAX_DESCRIPTORS ≤ n → All (λ d. d.fd < MAX_DESCRIPTORS) ds → filter (λ d. not (is_closed p n d)) ds ≡ filter (λ d. not (eqb d.process p)) ds
+pub closed_all : (p n : ℕ) (ds : List Descriptor) → MAX_DESCRIPTORS ≤ n → All (λ d. d.fd < MAX_DESCRIPTORS) ds
+    → filter (λ d. not (is_closed p n d)) ds ≡ filter (λ d. not (eqb d.process p)) ds
 closed_all p n ds past h = kept_same _ _ ds (λ i d lt. let few = h i d lt in grind (arith, nat_tests))

@@ -1,5 +1,6 @@
 -- Records by driver and minor, changed, made and gone.
-use Rattle.std.proofs.Common.{◌≡◌, ◌≢◌, ℕ, ◌+◌, ◌<◌, ◌≤◌, true, false, List, [], ◌∷◌, length, map, replicate, Option, Some, None, if◌then◌else◌, refl, sym, ap, ◌∙◌, subst, arith, inl, inr}
+use Rattle.std.proofs.Common.{◌≡◌, ◌≢◌, ℕ, ◌+◌, ◌<◌, ◌≤◌, true, false, List, [], ◌∷◌, length, map, replicate, Option}
+use Rattle.std.proofs.Common.{Some, None, if◌then◌else◌, refl, sym, ap, ◌∙◌, subst, arith, inl, inr}
 use Rattle.std.proofs.lemmas.Bool.{cases_Bool, cases_eq, both_ways, ltb-true, lt-ltb}
 use Rattle.std.specs.Prelude.{IfSome, nat_lt}
 use Rattle.std.specs.List.{AllZip}
@@ -11,13 +12,15 @@ use Rattle.smx_types.specs.declared.limits.TheConstants.{MAX_DRIVERS}
 use Rattle.smx_types.specs.declared.stream.StreamId.{StreamId}
 use Rattle.smx_model.specs.Configuration.{same_stream}
 use Rattle.smx_streams.specs.declared.records.Record.{Record}
-use Rattle.smx_streams.specs.RecordGrids.{Grid, key_at, record_of_key, opens_of, holds_of, uses_of, AreSet, AreRecords, IsRecord, IsRecordOf, IsSet, hung_of, is_used_and_hung}
+use Rattle.smx_streams.specs.RecordGrids.{Grid, key_at, record_of_key, opens_of, holds_of, uses_of, AreSet, AreRecords}
+use Rattle.smx_streams.specs.RecordGrids.{IsRecord, IsRecordOf, IsSet, hung_of, is_used_and_hung}
 use Rattle.smx_streams.specs.StreamTables.{number_at, is_in_range}
 use Rattle.smx_streams.proofs.GridLemmas.{same_is, same_self, opens_at, holds_at, in_range_of_key, no_keys, hungs_at}
 use Rattle.smx_streams.specs.HungRows.{flag_at}
 
 -- what a change leaves: the slot of one key, and the key of one stream
-record IsChange (grid : Grid) (old : Slab Record) (s : StreamId) (key : ℕ) (new_key : Option ℕ) (slot : Option Record) (new_grid : Grid) (new : Slab Record) : Type 0 where
+record IsChange (grid : Grid) (old : Slab Record) (s : StreamId) (key : ℕ) (new_key : Option ℕ) (slot : Option Record)
+    (new_grid : Grid) (new : Slab Record) : Type 0 where
   keys : (x : StreamId) → key_at new_grid x ≡ (if same_stream x s then new_key else key_at grid x)
   slots : Updates old new key slot
   -- no other stream has the key
@@ -25,62 +28,76 @@ record IsChange (grid : Grid) (old : Slab Record) (s : StreamId) (key : ℕ) (ne
   -- no other key's record is the stream's
   alone : (k : ℕ) (r : Record) → k ≢ key → get old k ≡ Some r → same_stream r.stream s ≡ false
 
-other_keys : (grid : Grid) (s x : StreamId) (new_key k : Option ℕ) (new_grid : Grid) → ((y : StreamId) → key_at new_grid y ≡ (if same_stream y s then new_key else key_at grid y)) → same_stream x s ≡ false → key_at new_grid x ≡ key_at grid x
+other_keys : (grid : Grid) (s x : StreamId) (new_key k : Option ℕ) (new_grid : Grid)
+    → ((y : StreamId) → key_at new_grid y ≡ (if same_stream y s then new_key else key_at grid y))
+    → same_stream x s ≡ false → key_at new_grid x ≡ key_at grid x
 other_keys grid s x new_key k new_grid h f = h x ∙ rw f refl
 
-same_keys : (grid : Grid) (s x : StreamId) (new_key : Option ℕ) (new_grid : Grid) → ((y : StreamId) → key_at new_grid y ≡ (if same_stream y s then new_key else key_at grid y)) → same_stream x s ≡ true → key_at new_grid x ≡ new_key
+same_keys : (grid : Grid) (s x : StreamId) (new_key : Option ℕ) (new_grid : Grid)
+    → ((y : StreamId) → key_at new_grid y ≡ (if same_stream y s then new_key else key_at grid y))
+    → same_stream x s ≡ true → key_at new_grid x ≡ new_key
 same_keys grid s x new_key new_grid h t = h x ∙ rw t refl
 
 -- the record of another stream stays
-other_record : (grid : Grid) (old : Slab Record) (s x : StreamId) (key : ℕ) (new_key : Option ℕ) (slot : Option Record) (new_grid : Grid) (new : Slab Record) → IsChange grid old s key new_key slot new_grid new → same_stream x s ≡ false
+other_record : (grid : Grid) (old : Slab Record) (s x : StreamId) (key : ℕ) (new_key : Option ℕ) (slot : Option Record)
+    (new_grid : Grid) (new : Slab Record) → IsChange grid old s key new_key slot new_grid new → same_stream x s ≡ false
     → record_of_key new (key_at new_grid x) ≡ record_of_key old (key_at grid x)
-other_record grid old s x key new_key slot new_grid new h f = ap (record_of_key new) (other_keys grid s x new_key None new_grid h.keys f) ∙ by (key_at grid x) refl where
-  by : (o : Option ℕ) → key_at grid x ≡ o → record_of_key new o ≡ record_of_key old o
-  by None is = refl
-  by (Some k) is = h.slots.others k (λ e. both_ways (same_stream x s) f (h.apart x (is ∙ ap Some e)))
+other_record grid old s x key new_key slot new_grid new h f =
+    ap (record_of_key new) (other_keys grid s x new_key None new_grid h.keys f) ∙ by (key_at grid x) refl where
+      by : (o : Option ℕ) → key_at grid x ≡ o → record_of_key new o ≡ record_of_key old o
+      by None is = refl
+      by (Some k) is = h.slots.others k (λ e. both_ways (same_stream x s) f (h.apart x (is ∙ ap Some e)))
 
 -- as many drivers as before
-few_still : (grid new_grid : Grid) → length grid ≤ MAX_DRIVERS → map length new_grid ≡ map length grid → length new_grid ≤ MAX_DRIVERS
+few_still : (grid new_grid : Grid) → length grid ≤ MAX_DRIVERS → map length new_grid ≡ map length grid
+    → length new_grid ≤ MAX_DRIVERS
 few_still grid new_grid few same =
     let lengths : Grid → List ℕ = map length in
     let many : length (lengths new_grid) ≡ length (lengths grid) = ap length same in
     omega (arith, few, many, length-map grid length, length-map new_grid length)
 
 -- a record that stays, or is new
-is_set_some : (grid : Grid) (old : Slab Record) (key : ℕ) (r : Record) (new_grid : Grid) (new : Slab Record) → AreRecords grid old → length new_grid ≤ MAX_DRIVERS → 0 < r.opens + r.holds
+is_set_some : (grid : Grid) (old : Slab Record) (key : ℕ) (r : Record) (new_grid : Grid) (new : Slab Record)
+    → AreRecords grid old → length new_grid ≤ MAX_DRIVERS → 0 < r.opens + r.holds
     → IsChange grid old r.stream key (Some key) (Some r) new_grid new → AreRecords new_grid new
-is_set_some grid old key r new_grid new whole few used h = record { few = few; listed = listed; recorded = recorded } where
-  listed : (x : StreamId) (k : ℕ) → key_at new_grid x ≡ Some k → (q : Record) × (get new k ≡ Some q) × IsRecord x q
-  listed x k is = elim (cases_Bool (same_stream x r.stream)) [
-    | inl t ↦
-        let same : ◌≡◌ {A = Option ℕ} (Some key) (Some k) = sym (same_keys grid r.stream x (Some key) new_grid h.keys t) ∙ is in
-        let e : key ≡ k = cc in
-        (r, ap (get new) (sym e) ∙ h.slots.changed, record { stream = sym (same_is x r.stream t); used = used })
-    | inr f ↦
-        let was = sym (other_keys grid r.stream x (Some key) None new_grid h.keys f) ∙ is in
-        let there = whole.listed x k was in
-        let differs : k ≢ key = λ e. both_ways (same_stream x r.stream) f (h.apart x (was ∙ ap Some e)) in
-        (there.0, h.slots.others k differs ∙ there.1, there.2)
-  ]
+is_set_some grid old key r new_grid new whole few used h =
+    record { few = few; listed = listed; recorded = recorded } where
+      listed : (x : StreamId) (k : ℕ) → key_at new_grid x ≡ Some k → (q : Record) × (get new k ≡ Some q) × IsRecord x q
+      listed x k is = elim (cases_Bool (same_stream x r.stream)) [
+        | inl t ↦
+            let same : ◌≡◌ {A = Option ℕ} (Some key) (Some k) =
+            sym (same_keys grid r.stream x (Some key) new_grid h.keys t) ∙ is in
+            let e : key ≡ k = cc in
+            (r, ap (get new) (sym e) ∙ h.slots.changed, record { stream = sym (same_is x r.stream t); used = used })
+        | inr f ↦
+            let was = sym (other_keys grid r.stream x (Some key) None new_grid h.keys f) ∙ is in
+            let there = whole.listed x k was in
+            let differs : k ≢ key = λ e. both_ways (same_stream x r.stream) f (h.apart x (was ∙ ap Some e)) in
+            (there.0, h.slots.others k differs ∙ there.1, there.2)
+      ]
 
-  recorded : (k : ℕ) (q : Record) → get new k ≡ Some q → key_at new_grid q.stream ≡ Some k
-  recorded k q is = elim (cases_eq k key) [
-    | inl e ↦
-        let same : ◌≡◌ {A = Option Record} (Some r) (Some q) = sym h.slots.changed ∙ ap (get new) (sym e) ∙ is in
-        let eq : r ≡ q = cc in
-        ap (λ (x : Record). key_at new_grid x.stream) (sym eq) ∙ same_keys grid r.stream r.stream (Some key) new_grid h.keys (same_self r.stream) ∙ ap Some (sym e)
-    | inr differs ↦
-        let was = sym (h.slots.others k differs) ∙ is in
-        other_keys grid r.stream q.stream (Some key) None new_grid h.keys (h.alone k q differs was) ∙ whole.recorded k q was
-  ]
+      recorded : (k : ℕ) (q : Record) → get new k ≡ Some q → key_at new_grid q.stream ≡ Some k
+      recorded k q is = elim (cases_eq k key) [
+        | inl e ↦
+            let same : ◌≡◌ {A = Option Record} (Some r) (Some q) = sym h.slots.changed ∙ ap (get new) (sym e) ∙ is in
+            let eq : r ≡ q = cc in
+            ap (λ (x : Record). key_at new_grid x.stream) (sym eq)
+            ∙ same_keys grid r.stream r.stream (Some key) new_grid h.keys (same_self r.stream) ∙ ap Some (sym e)
+        | inr differs ↦
+            let was = sym (h.slots.others k differs) ∙ is in
+            other_keys grid r.stream q.stream (Some key) None new_grid h.keys (h.alone k q differs was)
+            ∙ whole.recorded k q was
+      ]
 
 -- a record that is gone
-is_set_none : (grid : Grid) (old : Slab Record) (s : StreamId) (key : ℕ) (new_grid : Grid) (new : Slab Record) → AreRecords grid old → length new_grid ≤ MAX_DRIVERS
+is_set_none : (grid : Grid) (old : Slab Record) (s : StreamId) (key : ℕ) (new_grid : Grid) (new : Slab Record)
+    → AreRecords grid old → length new_grid ≤ MAX_DRIVERS
     → IsChange grid old s key None None new_grid new → AreRecords new_grid new
 is_set_none grid old s key new_grid new whole few h = record { few = few; listed = listed; recorded = recorded } where
   listed : (x : StreamId) (k : ℕ) → key_at new_grid x ≡ Some k → (q : Record) × (get new k ≡ Some q) × IsRecord x q
   listed x k is = elim (cases_Bool (same_stream x s)) [
-    | inl t ↦ let same : ◌≡◌ {A = Option ℕ} None (Some k) = sym (same_keys grid s x None new_grid h.keys t) ∙ is in absurd cc
+    | inl t ↦ let same : ◌≡◌ {A = Option ℕ} None (Some k) =
+        sym (same_keys grid s x None new_grid h.keys t) ∙ is in absurd cc
     | inr f ↦
         let was = sym (other_keys grid s x None None new_grid h.keys f) ∙ is in
         let there = whole.listed x k was in
@@ -90,29 +107,39 @@ is_set_none grid old s key new_grid new whole few h = record { few = few; listed
 
   recorded : (k : ℕ) (q : Record) → get new k ≡ Some q → key_at new_grid q.stream ≡ Some k
   recorded k q is = elim (cases_eq k key) [
-    | inl e ↦ let same : ◌≡◌ {A = Option Record} None (Some q) = sym h.slots.changed ∙ ap (get new) (sym e) ∙ is in absurd cc
+    | inl e ↦ let same : ◌≡◌ {A = Option Record} None (Some q) =
+        sym h.slots.changed ∙ ap (get new) (sym e) ∙ is in absurd cc
     | inr differs ↦
         let was = sym (h.slots.others k differs) ∙ is in
         other_keys grid s q.stream None None new_grid h.keys (h.alone k q differs was) ∙ whole.recorded k q was
   ]
 
 -- the numbers that are then read
-numbers_set : (grid : Grid) (old : Slab Record) (r : Record) (key : ℕ) (new_key : Option ℕ) (slot : Option Record) (new_grid : Grid) (new : Slab Record) → IsChange grid old r.stream key new_key slot new_grid new
-    → opens_of (record_of_key new new_key) ≡ r.opens → holds_of (record_of_key new new_key) ≡ r.holds → hung_of (record_of_key new new_key) ≡ is_used_and_hung r → (uses_of new_grid new).minors ≡ (uses_of grid old).minors
+numbers_set : (grid : Grid) (old : Slab Record) (r : Record) (key : ℕ) (new_key : Option ℕ) (slot : Option Record)
+    (new_grid : Grid) (new : Slab Record) → IsChange grid old r.stream key new_key slot new_grid new
+    → opens_of (record_of_key new new_key) ≡ r.opens → holds_of (record_of_key new new_key) ≡ r.holds
+    → hung_of (record_of_key new new_key) ≡ is_used_and_hung r
+    → (uses_of new_grid new).minors ≡ (uses_of grid old).minors
     → AreSet (uses_of grid old) r.stream r.opens r.holds (is_used_and_hung r) (uses_of new_grid new)
 numbers_set grid old r key new_key slot new_grid new h opens holds hung minors = record {
   minors = minors;
   opens_now = λ x. opens_at new_grid new x ∙ elim (cases_Bool (same_stream x r.stream)) [
-    | inl t ↦ rw t (ap (λ o. opens_of (record_of_key new o)) (same_keys grid r.stream x new_key new_grid h.keys t) ∙ opens)
-    | inr f ↦ rw f (ap opens_of (other_record grid old r.stream x key new_key slot new_grid new h f) ∙ sym (opens_at grid old x))
+    | inl t ↦ rw t (ap (λ o. opens_of (record_of_key new o)) (same_keys grid r.stream x new_key new_grid h.keys t)
+        ∙ opens)
+    | inr f ↦ rw f (ap opens_of (other_record grid old r.stream x key new_key slot new_grid new h f)
+        ∙ sym (opens_at grid old x))
   ];
   holds_now = λ x. holds_at new_grid new x ∙ elim (cases_Bool (same_stream x r.stream)) [
-    | inl t ↦ rw t (ap (λ o. holds_of (record_of_key new o)) (same_keys grid r.stream x new_key new_grid h.keys t) ∙ holds)
-    | inr f ↦ rw f (ap holds_of (other_record grid old r.stream x key new_key slot new_grid new h f) ∙ sym (holds_at grid old x))
+    | inl t ↦ rw t (ap (λ o. holds_of (record_of_key new o)) (same_keys grid r.stream x new_key new_grid h.keys t)
+        ∙ holds)
+    | inr f ↦ rw f (ap holds_of (other_record grid old r.stream x key new_key slot new_grid new h f)
+        ∙ sym (holds_at grid old x))
   ];
   hungs_now = λ x. hungs_at new_grid new x ∙ elim (cases_Bool (same_stream x r.stream)) [
-    | inl t ↦ rw t (ap (λ o. hung_of (record_of_key new o)) (same_keys grid r.stream x new_key new_grid h.keys t) ∙ hung)
-    | inr f ↦ rw f (ap hung_of (other_record grid old r.stream x key new_key slot new_grid new h f) ∙ sym (hungs_at grid old x))
+    | inl t ↦ rw t (ap (λ o. hung_of (record_of_key new o)) (same_keys grid r.stream x new_key new_grid h.keys t)
+        ∙ hung)
+    | inr f ↦ rw f (ap hung_of (other_record grid old r.stream x key new_key slot new_grid new h f)
+        ∙ sym (hungs_at grid old x))
   ];
 }
 
@@ -125,7 +152,8 @@ flag_of_none r opens holds = rw (opens, holds) refl
 
 -- where the stream had the key
 
-known_apart : (grid : Grid) (old : Slab Record) (s : StreamId) (key : ℕ) → AreRecords grid old → key_at grid s ≡ Some key → (x : StreamId) → key_at grid x ≡ Some key → same_stream x s ≡ true
+known_apart : (grid : Grid) (old : Slab Record) (s : StreamId) (key : ℕ) → AreRecords grid old
+    → key_at grid s ≡ Some key → (x : StreamId) → key_at grid x ≡ Some key → same_stream x s ≡ true
 known_apart grid old s key whole there x is =
     let one = whole.listed s key there in
     let other = whole.listed x key is in
@@ -134,27 +162,39 @@ known_apart grid old s key whole there x is =
     let e : x ≡ s = sym other.2.stream ∙ ap (λ (q : Record). q.stream) (sym eq) ∙ one.2.stream in
     rw e (same_self s)
 
-known_alone : (grid : Grid) (old : Slab Record) (s : StreamId) (key : ℕ) → AreRecords grid old → key_at grid s ≡ Some key → (k : ℕ) (q : Record) → k ≢ key → get old k ≡ Some q → same_stream q.stream s ≡ false
+known_alone : (grid : Grid) (old : Slab Record) (s : StreamId) (key : ℕ) → AreRecords grid old
+    → key_at grid s ≡ Some key → (k : ℕ) (q : Record) → k ≢ key → get old k ≡ Some q → same_stream q.stream s ≡ false
 known_alone grid old s key whole there k q differs is = elim (cases_Bool (same_stream q.stream s)) [
   | inl t ↦
-      let same : ◌≡◌ {A = Option ℕ} (Some k) (Some key) = sym (whole.recorded k q is) ∙ ap (key_at grid) (same_is q.stream s t) ∙ there in
+      let same : ◌≡◌ {A = Option ℕ} (Some k) (Some key) =
+      sym (whole.recorded k q is) ∙ ap (key_at grid) (same_is q.stream s t) ∙ there in
       let e : k ≡ key = cc in
       absurd (differs e)
   | inr f ↦ f
 ]
 
-pub put_back_some : (grid : Grid) (old : Slab Record) (key : ℕ) (r : Record) (new : Slab Record) → AreRecords grid old → key_at grid r.stream ≡ Some key → 0 < r.opens + r.holds → Updates old new key (Some r) → IsSet grid old r grid new
+-- a record that is put back, and counts some descriptor or hold, sets the numbers of its stream alone
+pub put_back_some : (grid : Grid) (old : Slab Record) (key : ℕ) (r : Record) (new : Slab Record) → AreRecords grid old
+    → key_at grid r.stream ≡ Some key → 0 < r.opens + r.holds → Updates old new key (Some r) → IsSet grid old r grid new
 put_back_some grid old key r new whole there used slots =
     let change : IsChange grid old r.stream key (Some key) (Some r) grid new = record {
-      keys = λ x. elim (cases_Bool (same_stream x r.stream)) [ inl t ↦ rw t (ap (key_at grid) (same_is x r.stream t) ∙ there) | inr f ↦ rw f refl ];
+      keys = λ x. elim (cases_Bool (same_stream x r.stream))
+          [ inl t ↦ rw t (ap (key_at grid) (same_is x r.stream t) ∙ there) | inr f ↦ rw f refl ];
       slots = slots;
       apart = known_apart grid old r.stream key whole there;
       alone = known_alone grid old r.stream key whole there;
     } in
-    record { whole = is_set_some grid old key r grid new whole whole.few used change; set = numbers_set grid old r key (Some key) (Some r) grid new change (ap opens_of slots.changed) (ap holds_of slots.changed) (ap hung_of slots.changed ∙ flag_of_used r used) refl }
+    record {
+      whole = is_set_some grid old key r grid new whole whole.few used change;
+      set = numbers_set grid old r key (Some key) (Some r) grid new change (ap opens_of slots.changed)
+          (ap holds_of slots.changed) (ap hung_of slots.changed ∙ flag_of_used r used) refl;
+    }
 
-pub put_back_none : (grid : Grid) (old : Slab Record) (key : ℕ) (r : Record) (new_grid : Grid) (new : Slab Record) → AreRecords grid old → key_at grid r.stream ≡ Some key → r.opens ≡ 0 → r.holds ≡ 0 → Updates old new key None
-    → ((x : StreamId) → key_at new_grid x ≡ (if same_stream x r.stream then None else key_at grid x)) → (uses_of new_grid new).minors ≡ (uses_of grid old).minors → IsSet grid old r new_grid new
+-- where a record that counts nothing goes with its key, the numbers of its stream alone are set, to 0
+pub put_back_none : (grid : Grid) (old : Slab Record) (key : ℕ) (r : Record) (new_grid : Grid) (new : Slab Record)
+    → AreRecords grid old → key_at grid r.stream ≡ Some key → r.opens ≡ 0 → r.holds ≡ 0 → Updates old new key None
+    → ((x : StreamId) → key_at new_grid x ≡ (if same_stream x r.stream then None else key_at grid x))
+    → (uses_of new_grid new).minors ≡ (uses_of grid old).minors → IsSet grid old r new_grid new
 put_back_none grid old key r new_grid new whole there opens holds slots keys minors =
     let change : IsChange grid old r.stream key None None new_grid new = record {
       keys = keys;
@@ -162,77 +202,119 @@ put_back_none grid old key r new_grid new whole there opens holds slots keys min
       apart = known_apart grid old r.stream key whole there;
       alone = known_alone grid old r.stream key whole there;
     } in
-    record { whole = is_set_none grid old r.stream key new_grid new whole (few_still grid new_grid whole.few minors) change; set = numbers_set grid old r key None None new_grid new change (sym opens) (sym holds) (flag_of_none r opens holds) minors }
+    record {
+      whole = is_set_none grid old r.stream key new_grid new whole (few_still grid new_grid whole.few minors)
+          change;
+      set = numbers_set grid old r key None None new_grid new change (sym opens) (sym holds)
+          (flag_of_none r opens holds) minors;
+    }
 
 -- where it had none
 
-pub put_new : (grid : Grid) (old : Slab Record) (key : ℕ) (r : Record) (new_grid : Grid) (new : Slab Record) → AreRecords grid old → key_at grid r.stream ≡ None → get old key ≡ None → 0 < r.opens + r.holds → Updates old new key (Some r)
-    → ((x : StreamId) → key_at new_grid x ≡ (if same_stream x r.stream then Some key else key_at grid x)) → (uses_of new_grid new).minors ≡ (uses_of grid old).minors → IsSet grid old r new_grid new
+-- a record that is new under a free key, and counts some descriptor or hold, sets the numbers of its stream alone
+pub put_new : (grid : Grid) (old : Slab Record) (key : ℕ) (r : Record) (new_grid : Grid) (new : Slab Record)
+    → AreRecords grid old → key_at grid r.stream ≡ None → get old key ≡ None → 0 < r.opens + r.holds
+    → Updates old new key (Some r)
+    → ((x : StreamId) → key_at new_grid x ≡ (if same_stream x r.stream then Some key else key_at grid x))
+    → (uses_of new_grid new).minors ≡ (uses_of grid old).minors → IsSet grid old r new_grid new
 put_new grid old key r new_grid new whole none vacant used slots keys minors =
     let change : IsChange grid old r.stream key (Some key) (Some r) new_grid new = record {
       keys = keys;
       slots = slots;
-      apart = λ x is. let there = whole.listed x key is in let same : ◌≡◌ {A = Option Record} None (Some there.0) = sym vacant ∙ there.1 in absurd cc;
+      apart = λ x is. let there = whole.listed x key is in let same : ◌≡◌ {A = Option Record} None (Some there.0) =
+          sym vacant ∙ there.1 in absurd cc;
       alone = λ k q differs is. elim (cases_Bool (same_stream q.stream r.stream)) [
-        | inl t ↦ let same : ◌≡◌ {A = Option ℕ} (Some k) None = sym (whole.recorded k q is) ∙ ap (key_at grid) (same_is q.stream r.stream t) ∙ none in absurd cc
+        | inl t ↦ let same : ◌≡◌ {A = Option ℕ} (Some k) None =
+            sym (whole.recorded k q is) ∙ ap (key_at grid) (same_is q.stream r.stream t) ∙ none in absurd cc
         | inr f ↦ f
       ];
     } in
-    record { whole = is_set_some grid old key r new_grid new whole (few_still grid new_grid whole.few minors) used change; set = numbers_set grid old r key (Some key) (Some r) new_grid new change (ap opens_of slots.changed) (ap holds_of slots.changed) (ap hung_of slots.changed ∙ flag_of_used r used) minors }
+    record {
+      whole = is_set_some grid old key r new_grid new whole (few_still grid new_grid whole.few minors) used
+          change;
+      set = numbers_set grid old r key (Some key) (Some r) new_grid new change (ap opens_of slots.changed)
+          (ap holds_of slots.changed) (ap hung_of slots.changed ∙ flag_of_used r used) minors;
+    }
 
 -- a stream that has some descriptor is in range
-pub used_is_in_range : (grid : Grid) (records : Slab Record) (s : StreamId) → 0 < number_at (uses_of grid records).opens s → is_in_range (uses_of grid records).minors s.driver s.minor ≡ true
+pub used_is_in_range : (grid : Grid) (records : Slab Record) (s : StreamId)
+    → 0 < number_at (uses_of grid records).opens s → is_in_range (uses_of grid records).minors s.driver s.minor ≡ true
 used_is_in_range grid records s h = by (key_at grid s) refl where
   by : (o : Option ℕ) → key_at grid s ≡ o → is_in_range (uses_of grid records).minors s.driver s.minor ≡ true
   by (Some key) is = in_range_of_key grid s key is
-  by None is = let none : number_at (uses_of grid records).opens s ≡ 0 = opens_at grid records s ∙ ap (λ o. opens_of (record_of_key records o)) is in absurd (omega (arith, none))
+  by None is = let none : number_at (uses_of grid records).opens s ≡ 0 = opens_at grid records s
+      ∙ ap (λ o. opens_of (record_of_key records o)) is in absurd (omega (arith, none))
 
 -- and so is one that has hung up
-pub hung_is_in_range : (grid : Grid) (records : Slab Record) (s : StreamId) → flag_at (uses_of grid records).hungs s ≡ true → is_in_range (uses_of grid records).minors s.driver s.minor ≡ true
+pub hung_is_in_range : (grid : Grid) (records : Slab Record) (s : StreamId)
+    → flag_at (uses_of grid records).hungs s ≡ true → is_in_range (uses_of grid records).minors s.driver s.minor ≡ true
 hung_is_in_range grid records s h = by (key_at grid s) refl where
   by : (o : Option ℕ) → key_at grid s ≡ o → is_in_range (uses_of grid records).minors s.driver s.minor ≡ true
   by (Some key) is = in_range_of_key grid s key is
-  by None is = let none : flag_at (uses_of grid records).hungs s ≡ false = hungs_at grid records s ∙ ap (λ o. hung_of (record_of_key records o)) is in absurd cc
+  by None is = let none : flag_at (uses_of grid records).hungs s ≡ false = hungs_at grid records s
+      ∙ ap (λ o. hung_of (record_of_key records o)) is in absurd cc
 
 -- there are no more drivers than there may be
-pub few_minors : (grid : Grid) (records : Slab Record) → AreRecords grid records → length (uses_of grid records).minors ≤ MAX_DRIVERS
+pub few_minors : (grid : Grid) (records : Slab Record) → AreRecords grid records
+    → length (uses_of grid records).minors ≤ MAX_DRIVERS
 few_minors grid records whole = omega (arith, whole.few, length-map grid length)
 
 -- no records
 
-pub none_recorded : (minors : List ℕ) (records : Slab Record) → length minors ≤ MAX_DRIVERS → ((k : ℕ) → get records k ≡ None) → AreRecords (map (λ n. replicate n None) minors) records
+-- where there are no keys and no records, each key leads to its record, and each record has its key
+pub none_recorded : (minors : List ℕ) (records : Slab Record) → length minors ≤ MAX_DRIVERS
+    → ((k : ℕ) → get records k ≡ None) → AreRecords (map (λ n. replicate n None) minors) records
 none_recorded minors records few none = record {
   few = let rows : ℕ → List (Option ℕ) = λ n. replicate n None in omega (arith, few, length-map minors rows);
   listed = λ s key is. let no : ◌≡◌ {A = Option ℕ} None (Some key) = sym (no_keys minors s) ∙ is in absurd cc;
   recorded = λ key r is. let no : ◌≡◌ {A = Option Record} None (Some r) = sym (none key) ∙ is in absurd cc;
 }
 
-pub no_opens : (minors : List ℕ) (records : Slab Record) (s : StreamId) → number_at (uses_of (map (λ n. replicate n None) minors) records).opens s ≡ 0
-no_opens minors records s = opens_at (map (λ n. replicate n None) minors) records s ∙ ap (λ o. opens_of (record_of_key records o)) (no_keys minors s)
+-- where there are no keys, no stream has a descriptor
+pub no_opens : (minors : List ℕ) (records : Slab Record) (s : StreamId)
+    → number_at (uses_of (map (λ n. replicate n None) minors) records).opens s ≡ 0
+no_opens minors records s = opens_at (map (λ n. replicate n None) minors) records s
+    ∙ ap (λ o. opens_of (record_of_key records o)) (no_keys minors s)
 
-pub no_holds : (minors : List ℕ) (records : Slab Record) (s : StreamId) → number_at (uses_of (map (λ n. replicate n None) minors) records).holds s ≡ 0
-no_holds minors records s = holds_at (map (λ n. replicate n None) minors) records s ∙ ap (λ o. holds_of (record_of_key records o)) (no_keys minors s)
+-- where there are no keys, no stream has a hold
+pub no_holds : (minors : List ℕ) (records : Slab Record) (s : StreamId)
+    → number_at (uses_of (map (λ n. replicate n None) minors) records).holds s ≡ 0
+no_holds minors records s = holds_at (map (λ n. replicate n None) minors) records s
+    ∙ ap (λ o. holds_of (record_of_key records o)) (no_keys minors s)
 
-pub no_hungs : (minors : List ℕ) (records : Slab Record) (s : StreamId) → flag_at (uses_of (map (λ n. replicate n None) minors) records).hungs s ≡ false
-no_hungs minors records s = hungs_at (map (λ n. replicate n None) minors) records s ∙ ap (λ o. hung_of (record_of_key records o)) (no_keys minors s)
+-- where there are no keys, no stream has hung up
+pub no_hungs : (minors : List ℕ) (records : Slab Record) (s : StreamId)
+    → flag_at (uses_of (map (λ n. replicate n None) minors) records).hungs s ≡ false
+no_hungs minors records s = hungs_at (map (λ n. replicate n None) minors) records s
+    ∙ ap (λ o. hung_of (record_of_key records o)) (no_keys minors s)
 
 -- a stream that has hung up counts some descriptor or hold
-pub hung_is_used : (grid : Grid) (records : Slab Record) (s : StreamId) → AreRecords grid records → flag_at (uses_of grid records).hungs s ≡ true → 0 < number_at (uses_of grid records).opens s + number_at (uses_of grid records).holds s
-hung_is_used grid records s whole h = rw (opens_at grid records s, holds_at grid records s) (by (key_at grid s) refl (sym (hungs_at grid records s) ∙ h)) where
-  by : (o : Option ℕ) → key_at grid s ≡ o → hung_of (record_of_key records o) ≡ true → 0 < opens_of (record_of_key records o) + holds_of (record_of_key records o)
-  by None e t = absurd cc
-  by (Some key) e t = let there = whole.listed s key e in rw there.1 there.2.used
+pub hung_is_used : (grid : Grid) (records : Slab Record) (s : StreamId) → AreRecords grid records
+    → flag_at (uses_of grid records).hungs s ≡ true
+    → 0 < number_at (uses_of grid records).opens s + number_at (uses_of grid records).holds s
+hung_is_used grid records s whole h = rw (opens_at grid records s, holds_at grid records s)
+    (by (key_at grid s) refl (sym (hungs_at grid records s) ∙ h)) where
+      by : (o : Option ℕ) → key_at grid s ≡ o → hung_of (record_of_key records o) ≡ true
+          → 0 < opens_of (record_of_key records o) + holds_of (record_of_key records o)
+      by None e t = absurd cc
+      by (Some key) e t = let there = whole.listed s key e in rw there.1 there.2.used
 
 -- the numbers of a stream are those of its record
-
-pub record_read : (grid : Grid) (records : Slab Record) (s : StreamId) (r : Option Record) → AreRecords grid records → r ≡ record_of_key records (key_at grid s) → IsRecordOf (uses_of grid records) s r
-record_read grid records s r whole is = record { opens = ap opens_of is ∙ sym (opens_at grid records s); holds = ap holds_of is ∙ sym (holds_at grid records s); hung = ap hung_of is ∙ sym (hungs_at grid records s); used = subst (λ o. IfSome o (λ x. 0 < x.opens + x.holds)) (sym is) (by (key_at grid s) refl) } where
+pub record_read : (grid : Grid) (records : Slab Record) (s : StreamId) (r : Option Record) → AreRecords grid records
+    → r ≡ record_of_key records (key_at grid s) → IsRecordOf (uses_of grid records) s r
+record_read grid records s r whole is = record {
+  opens = ap opens_of is ∙ sym (opens_at grid records s);
+  holds = ap holds_of is ∙ sym (holds_at grid records s);
+  hung = ap hung_of is ∙ sym (hungs_at grid records s);
+  used = subst (λ o. IfSome o (λ x. 0 < x.opens + x.holds)) (sym is) (by (key_at grid s) refl);
+} where
   by : (o : Option ℕ) → key_at grid s ≡ o → IfSome (record_of_key records o) (λ x. 0 < x.opens + x.holds)
   by None e = tt
   by (Some key) e = let there = whole.listed s key e in rw there.1 there.2.used
 
 -- the same slots
 
+-- slots of which each is a copy of another, with an equal record or none, are the same slots
 pub slots_same : (xs ys : List (Option Record)) → AllZip (IsSlotClone (λ (x y : Record). y ≡ x)) xs ys → ys ≡ xs
 slots_same [] [] h = refl
 slots_same [] (y ∷ ys) h = absurd h
@@ -241,23 +323,29 @@ slots_same (None ∷ xs) (y ∷ ys) h = ap (λ z. z ∷ ys) h.0 ∙ ap (λ zs. N
 slots_same (Some r ∷ xs) (None ∷ ys) h = absurd h.0
 slots_same (Some r ∷ xs) (Some q ∷ ys) h = ap (λ z. Some z ∷ ys) h.0 ∙ ap (λ zs. Some r ∷ zs) (slots_same xs ys h.1)
 
+-- in the same slots the numbers and flags of all streams are the same
 pub uses_same : (grid : Grid) (a b : Slab Record) → b.slots ≡ a.slots → uses_of grid b ≡ uses_of grid a
 uses_same grid a b e = rw e refl
 
 -- a record that counts nothing
 
+-- where descriptors and holds are together not more than 0, there are none of either
 pub counts_none : (x y : ℕ) → nat_lt 0 (x + y) ≡ false → (x ≡ 0) × (y ≡ 0)
 counts_none x y h = (grind (arith, nat_tests), grind (arith, nat_tests))
 
+-- a number that the test says is more than 0 is more than 0
 pub counts_some : (n : ℕ) → nat_lt 0 n ≡ true → 0 < n
 counts_some n h = ltb-true 0 n h
 
 -- a stream with a key has a record, and one without has none
-pub key_tells : (grid : Grid) (records : Slab Record) (s : StreamId) → AreRecords grid records → is_some (key_at grid s) ≡ nat_lt 0 (number_at (uses_of grid records).opens s + number_at (uses_of grid records).holds s)
+pub key_tells : (grid : Grid) (records : Slab Record) (s : StreamId) → AreRecords grid records
+    → is_some (key_at grid s)
+    ≡ nat_lt 0 (number_at (uses_of grid records).opens s + number_at (uses_of grid records).holds s)
 key_tells grid records s whole = rw (opens_at grid records s, holds_at grid records s) (by (key_at grid s) refl) where
   some_used : (opens holds : ℕ) → 0 < opens + holds → true ≡ nat_lt 0 (opens + holds)
   some_used opens holds used = grind (arith, nat_tests)
 
-  by : (o : Option ℕ) → key_at grid s ≡ o → is_some o ≡ nat_lt 0 (opens_of (record_of_key records o) + holds_of (record_of_key records o))
+  by : (o : Option ℕ) → key_at grid s ≡ o → is_some o
+      ≡ nat_lt 0 (opens_of (record_of_key records o) + holds_of (record_of_key records o))
   by None e = refl
   by (Some key) e = let there = whole.listed s key e in rw there.1 (some_used there.0.opens there.0.holds there.2.used)

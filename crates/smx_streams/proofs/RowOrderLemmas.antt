@@ -1,5 +1,6 @@
 -- Descriptors as rows of streams by number: their order, how many there are, and the room for them.
-use Rattle.std.proofs.Common.{◌≡◌, ℕ, zero, suc, ◌+◌, ◌*◌, ◌<◌, ◌≤◌, true, List, [], ◌∷◌, ◌++◌, length, map, get_or, set, replicate, Option, Some, None, refl, sym, ap, ◌∙◌, arith, length-append}
+use Rattle.std.proofs.Common.{◌≡◌, ℕ, zero, suc, ◌+◌, ◌*◌, ◌<◌, ◌≤◌, true, List, [], ◌∷◌, ◌++◌, length, map, get_or}
+use Rattle.std.proofs.Common.{set, replicate, Option, Some, None, refl, sym, ap, ◌∙◌, arith, length-append}
 use Rattle.std.specs.List.{All, list_any}
 use Rattle.std.specs.Option.{is_some}
 use Rattle.std.proofs.lemmas.List.{get_or-set_same, length-set, length-replicate}
@@ -12,20 +13,28 @@ use Rattle.smx_types.specs.declared.stream.StreamId.{StreamId}
 use Rattle.smx_model.specs.Configuration.{is_fd, fd_before}
 use Rattle.smx_model.specs.Ordered.{ComesBefore, IsRising}
 use Rattle.smx_streams.specs.DescriptorRows.{Rows, AreRows, IsListed, with_cell, row_from, rows_from}
-use Rattle.smx_streams.specs.Numbers.{AreAllOrNone, with_room}
+use Rattle.smx_streams.specs.RowRoom.{AreAllOrNone, with_room}
 use Rattle.smx_streams.proofs.ListLemmas.{comes_both}
 use Rattle.smx_streams.proofs.RowLemmas.{fd_of, later_row, later_rows, any_is_cell}
 
 -- in order
 
-rising_row : (q k : ℕ) (cells : List (Option StreamId)) (rest : List Descriptor) → IsRising fd_before rest → ((n : ℕ) (s : StreamId) → ComesBefore fd_before (record { process = q; fd = n; stream = s }) rest) → IsRising fd_before (row_from q k cells ++ rest)
+rising_row : (q k : ℕ) (cells : List (Option StreamId)) (rest : List Descriptor) → IsRising fd_before rest
+    → ((n : ℕ) (s : StreamId) → ComesBefore fd_before (record { process = q; fd = n; stream = s }) rest)
+    → IsRising fd_before (row_from q k cells ++ rest)
 rising_row q k [] rest h after = h
 rising_row q k (None ∷ cells) rest h after = rising_row q (k + 1) cells rest h after
-rising_row q k (Some s ∷ cells) rest h after = (comes_both fd_before (fd_of q k s) (row_from q (k + 1) cells) rest (later_row q k q (k + 1) s cells (grind (arith, nat_tests))) (after k s), rising_row q (k + 1) cells rest h after)
+rising_row q k (Some s ∷ cells) rest h
+    after = (
+      comes_both fd_before (fd_of q k s) (row_from q (k + 1) cells) rest
+          (later_row q k q (k + 1) s cells (grind (arith, nat_tests))) (after k s),
+      rising_row q (k + 1) cells rest h after,
+    )
 
 rising_rows : (q : ℕ) (rows : Rows) → IsRising fd_before (rows_from q rows)
 rising_rows q [] = tt
-rising_rows q (row ∷ rows) = rising_row q 0 row (rows_from (q + 1) rows) (rising_rows (q + 1) rows) (λ n s. later_rows q n (q + 1) s rows (omega arith))
+rising_rows q (row ∷ rows) = rising_row q 0 row (rows_from (q + 1) rows) (rising_rows (q + 1) rows)
+    (λ n s. later_rows q n (q + 1) s rows (omega arith))
 
 -- no more than there is room for
 
@@ -34,6 +43,7 @@ few_in_row q k [] = omega arith
 few_in_row q k (None ∷ cells) = omega (arith, few_in_row q (k + 1) cells)
 few_in_row q k (Some s ∷ cells) = omega (arith, few_in_row q (k + 1) cells)
 
+-- a row with room for all numbers, or for none, is no longer than there are numbers
 pub short : (row : List (Option StreamId)) → AreAllOrNone row → length row ≤ MAX_DESCRIPTORS
 short [] h = omega arith
 short (c ∷ cells) h = omega (arith, h (omega arith))
@@ -41,28 +51,47 @@ short (c ∷ cells) h = omega (arith, h (omega arith))
 few_in_rows : (q : ℕ) (rows : Rows) → All AreAllOrNone rows → length (rows_from q rows) ≤ 16 * length rows
 few_in_rows q [] h = omega arith
 few_in_rows q (row ∷ rows) h =
-    omega (arith, length-append (row_from q 0 row) (rows_from (q + 1) rows), few_in_row q 0 row, short row (h 0 row (omega arith)), few_in_rows (q + 1) rows (λ k d lt. h (suc k) d (omega (arith, lt))))
+    omega (
+      arith,
+      length-append (row_from q 0 row) (rows_from (q + 1) rows),
+      few_in_row q 0 row,
+      short row (h 0 row (omega arith)),
+      few_in_rows (q + 1) rows (λ k d lt. h (suc k) d (omega (arith, lt))),
+    )
 
-numbered_row : (q k : ℕ) (cells : List (Option StreamId)) → k + length cells ≤ MAX_DESCRIPTORS → All (λ d. d.fd < MAX_DESCRIPTORS) (row_from q k cells)
+numbered_row : (q k : ℕ) (cells : List (Option StreamId)) → k + length cells ≤ MAX_DESCRIPTORS
+    → All (λ d. d.fd < MAX_DESCRIPTORS) (row_from q k cells)
 numbered_row q k [] h = All-nil _
 numbered_row q k (None ∷ cells) h = numbered_row q (k + 1) cells (omega arith)
-numbered_row q k (Some s ∷ cells) h = All-cons (λ d. d.fd < MAX_DESCRIPTORS) _ _ (omega arith) (numbered_row q (k + 1) cells (omega arith))
+numbered_row q k (Some s ∷ cells) h =
+    All-cons (λ d. d.fd < MAX_DESCRIPTORS) _ _ (omega arith) (numbered_row q (k + 1) cells (omega arith))
 
 numbered_rows : (q : ℕ) (rows : Rows) → All AreAllOrNone rows → All (λ d. d.fd < MAX_DESCRIPTORS) (rows_from q rows)
 numbered_rows q [] h = All-nil _
-numbered_rows q (row ∷ rows) h = All-append (λ d. d.fd < MAX_DESCRIPTORS) _ _ (numbered_row q 0 row (omega (arith, short row (h 0 row (omega arith))))) (numbered_rows (q + 1) rows (λ k d lt. h (suc k) d (omega (arith, lt))))
+numbered_rows q (row ∷ rows) h = All-append (λ d. d.fd < MAX_DESCRIPTORS) _ _
+    (numbered_row q 0 row (omega (arith, short row (h 0 row (omega arith)))))
+    (numbered_rows (q + 1) rows (λ k d lt. h (suc k) d (omega (arith, lt))))
 
-process_row : (q k : ℕ) (cells : List (Option StreamId)) → q < MAX_PROCESSES → All (λ d. d.process < MAX_PROCESSES) (row_from q k cells)
+process_row : (q k : ℕ) (cells : List (Option StreamId)) → q < MAX_PROCESSES
+    → All (λ d. d.process < MAX_PROCESSES) (row_from q k cells)
 process_row q k [] h = All-nil _
 process_row q k (None ∷ cells) h = process_row q (k + 1) cells h
 process_row q k (Some s ∷ cells) h = All-cons (λ d. d.process < MAX_PROCESSES) _ _ h (process_row q (k + 1) cells h)
 
-process_rows : (q : ℕ) (rows : Rows) → q + length rows ≤ MAX_PROCESSES → All (λ d. d.process < MAX_PROCESSES) (rows_from q rows)
+process_rows : (q : ℕ) (rows : Rows) → q + length rows ≤ MAX_PROCESSES
+    → All (λ d. d.process < MAX_PROCESSES) (rows_from q rows)
 process_rows q [] h = All-nil _
-process_rows q (row ∷ rows) h = All-append (λ d. d.process < MAX_PROCESSES) _ _ (process_row q 0 row (omega arith)) (process_rows (q + 1) rows (omega arith))
+process_rows q (row ∷ rows) h = All-append (λ d. d.process < MAX_PROCESSES) _ _ (process_row q 0 row (omega arith))
+    (process_rows (q + 1) rows (omega arith))
 
+-- the descriptors of rows are in order, none twice, and no more than there may be
 pub are_listed : (rows : Rows) → AreRows rows → IsListed (rows_from 0 rows)
-are_listed rows h = record { rise = rising_rows 0 rows; few = omega (arith, few_in_rows 0 rows h.rooms, h.processes); processes = process_rows 0 rows (omega (arith, h.processes)); numbered = numbered_rows 0 rows h.rooms }
+are_listed rows h = record {
+  rise = rising_rows 0 rows;
+  few = omega (arith, few_in_rows 0 rows h.rooms, h.processes);
+  processes = process_rows 0 rows (omega (arith, h.processes));
+  numbered = numbered_rows 0 rows h.rooms;
+}
 
 -- room
 
@@ -79,7 +108,9 @@ room_in_rows q i [] = refl
 room_in_rows q zero (row ∷ rows) = ap (λ ds. ds ++ rows_from (q + 1) rows) (room_in_row q 0 row)
 room_in_rows q (suc i) (row ∷ rows) = ap (λ ds. row_from q 0 row ++ ds) (room_in_rows (q + 1) i rows)
 
-pub room_shows_the_same : (rows : Rows) (p : ℕ) → rows_from 0 (set rows p (with_room (get_or rows p []))) ≡ rows_from 0 rows
+-- room that is made in a row leaves the descriptors as they are
+pub room_shows_the_same : (rows : Rows) (p : ℕ)
+    → rows_from 0 (set rows p (with_room (get_or rows p []))) ≡ rows_from 0 rows
 room_shows_the_same rows p = room_in_rows 0 p rows
 
 room_of : (row : List (Option StreamId)) → AreAllOrNone row → length (with_room row) ≡ MAX_DESCRIPTORS
@@ -91,12 +122,18 @@ row_at [] p h = λ some. absurd (omega arith)
 row_at (row ∷ rows) zero h = h 0 row (omega arith)
 row_at (row ∷ rows) (suc p) h = row_at rows p (λ k d lt. h (suc k) d (omega (arith, lt)))
 
-pub there_is_room : (rows : Rows) (p : ℕ) → All AreAllOrNone rows → p < length rows → get_or (map length (set rows p (with_room (get_or rows p [])))) p 0 ≡ MAX_DESCRIPTORS
-there_is_room rows p h lt = get_or-map length (set rows p (with_room (get_or rows p []))) p [] ∙ ap length (get_or-set_same rows p (with_room (get_or rows p [])) [] lt) ∙ room_of (get_or rows p []) (row_at rows p h)
+-- a process for which room is made has it for all numbers
+pub there_is_room : (rows : Rows) (p : ℕ) → All AreAllOrNone rows → p < length rows
+    → get_or (map length (set rows p (with_room (get_or rows p [])))) p 0 ≡ MAX_DESCRIPTORS
+there_is_room rows p h lt = get_or-map length (set rows p (with_room (get_or rows p []))) p []
+    ∙ ap length (get_or-set_same rows p (with_room (get_or rows p [])) [] lt)
+    ∙ room_of (get_or rows p []) (row_at rows p h)
 
+-- a process has room for as many numbers as its row is long
 pub row_length : (rows : Rows) (p : ℕ) → get_or (map length rows) p 0 ≡ length (get_or rows p [])
 row_length rows p = get_or-map length rows p []
 
+-- a process that has a descriptor has some room
 pub has_cells : (rows : Rows) (p n : ℕ) → list_any (is_fd p n) (rows_from 0 rows) ≡ true → 0 < length (get_or rows p [])
 has_cells rows p n h = by (get_or rows p []) (sym (any_is_cell rows p n) ∙ h) where
   by : (row : List (Option StreamId)) → is_some (get_or row n None) ≡ true → 0 < length row
@@ -105,20 +142,35 @@ has_cells rows p n h = by (get_or rows p []) (sym (any_is_cell rows p n) ∙ h) 
 
 -- what every table keeps
 
+-- after room is made there is still a row for each process, with room for all numbers or for none
 pub rows_with_room : (rows : Rows) (p : ℕ) → AreRows rows → AreRows (set rows p (with_room (get_or rows p [])))
-rows_with_room rows p h = record { processes = length-set rows p (with_room (get_or rows p [])) ∙ h.processes; rooms = All-set AreAllOrNone rows p (with_room (get_or rows p [])) (λ some. room_of (get_or rows p []) (row_at rows p h.rooms)) h.rooms }
+rows_with_room rows p h = record {
+  processes = length-set rows p (with_room (get_or rows p [])) ∙ h.processes;
+  rooms = All-set AreAllOrNone rows p (with_room (get_or rows p []))
+      (λ some. room_of (get_or rows p []) (row_at rows p h.rooms)) h.rooms;
+}
 
+-- after a cell is set there is still a row for each process, with room for all numbers or for none
 pub rows_with_cell : (rows : Rows) (p n : ℕ) (cell : Option StreamId) → AreRows rows → AreRows (with_cell rows p n cell)
 rows_with_cell rows p n cell h =
     let long = length-set (get_or rows p []) n cell in
-    record { processes = length-set rows p (set (get_or rows p []) n cell) ∙ h.processes; rooms = All-set AreAllOrNone rows p (set (get_or rows p []) n cell) (λ some. long ∙ row_at rows p h.rooms (omega (arith, long))) h.rooms }
+    record {
+      processes = length-set rows p (set (get_or rows p []) n cell) ∙ h.processes;
+      rooms = All-set AreAllOrNone rows p (set (get_or rows p []) n cell)
+          (λ some. long ∙ row_at rows p h.rooms (omega (arith, long))) h.rooms;
+    }
 
+-- an empty row for each process is how rows are at first, without room
 pub rows_empty : AreRows (replicate MAX_PROCESSES [])
-rows_empty = record { processes = length-replicate {A = List (Option StreamId)} MAX_PROCESSES []; rooms = each MAX_PROCESSES } where
+rows_empty = record {
+  processes = length-replicate {A = List (Option StreamId)} MAX_PROCESSES [];
+  rooms = each MAX_PROCESSES;
+} where
   each : (n : ℕ) → All AreAllOrNone (replicate n [])
   each zero = All-nil _
   each (suc n) = All-cons AreAllOrNone _ _ (λ some. absurd (omega arith)) (each n)
 
+-- empty rows have no descriptor
 pub none_listed : (q n : ℕ) → rows_from q (replicate n []) ≡ []
 none_listed q zero = refl
 none_listed q (suc n) = none_listed (q + 1) n

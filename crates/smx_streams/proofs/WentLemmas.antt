@@ -1,5 +1,6 @@
 -- What goes when descriptors are closed.
-use Rattle.std.proofs.Common.{◌≡◌, ℕ, ◌+◌, Bool, true, false, ◌&&◌, ◌||◌, not, eqb, List, [], ◌∷◌, find, filter, Option, Some, None, refl, sym, ap, ◌∙◌, arith, inl, inr}
+use Rattle.std.proofs.Common.{◌≡◌, ℕ, ◌+◌, Bool, true, false, ◌&&◌, ◌||◌, not, eqb, List, [], ◌∷◌, find, filter, Option}
+use Rattle.std.proofs.Common.{Some, None, refl, sym, ap, ◌∙◌, arith, inl, inr}
 use Rattle.std.specs.Prelude.{nat_lt}
 use Rattle.std.specs.Option.{option_map}
 use Rattle.std.proofs.lemmas.Bool.{cases_Bool, eq-eqb, eqb-true, false_from_ne_true, false≢true}
@@ -20,27 +21,32 @@ none_mapped None h = refl
 none_mapped (Some d) h = absurd cc
 
 -- as many names and as many holds as before
-exists_same : (old new : StreamTable) (s : StreamId) → names_of s old.fds ≡ names_of s new.fds → number_at new.holds s ≡ number_at old.holds s → exists old s ≡ exists new s
+exists_same : (old new : StreamTable) (s : StreamId) → names_of s old.fds ≡ names_of s new.fds
+    → number_at new.holds s ≡ number_at old.holds s → exists old s ≡ exists new s
 exists_same old new s names holds = rw (named_is_some s old.fds, named_is_some s new.fds, names, holds) refl
 
 -- where one descriptor is closed, no stream goes but its own
-pub went_is_named : (old new : StreamTable) (s : StreamId) (p n : ℕ) → IsRising fd_before old.fds → HasOneLess old p n new → exists old s ≡ true → exists new s ≡ false → stream_at old.fds p n ≡ Some s
+pub went_is_named : (old new : StreamTable) (s : StreamId) (p n : ℕ) → IsRising fd_before old.fds
+    → HasOneLess old p n new → exists old s ≡ true → exists new s ≡ false → stream_at old.fds p n ≡ Some s
 went_is_named old new s p n rise less was gone = by (stream_at old.fds p n) refl where
   by : (o : Option StreamId) → stream_at old.fds p n ≡ o → o ≡ Some s
   by None e =
-      let same = ap (names_of s) (less.fds ∙ none_goes (is_fd p n) old.fds (none_mapped (find (is_fd p n) old.fds) e)) in
+      let same = ap (names_of s)
+      (less.fds ∙ none_goes (is_fd p n) old.fds (none_mapped (find (is_fd p n) old.fds) e)) in
       absurd (false≢true (sym gone ∙ sym (exists_same old new s (sym same) (less.holds s)) ∙ was))
   by (Some t) e = elim (cases_Bool (same_stream t s)) [
     | inl here ↦ ap (λ (x : StreamId). Some x) (same_is t s here)
     | inr other ↦
-        let taken : names_of s old.fds ≡ 0 + names_of s (filter (λ d. not (is_fd p n d)) old.fds) = rw other at (names_taken s t p n old.fds rise e) in
+        let taken : names_of s old.fds ≡ 0 + names_of s (filter (λ d. not (is_fd p n d)) old.fds) = rw other at
+        (names_taken s t p n old.fds rise e) in
         let less_names = ap (names_of s) less.fds in
         let same : names_of s old.fds ≡ names_of s new.fds = omega (arith, taken, less_names) in
         absurd (false≢true (sym gone ∙ sym (exists_same old new s same (less.holds s)) ∙ was))
   ]
 
 -- the numbers of another descriptor are those of before
-pub at_next : (p n : ℕ) (ds : List Descriptor) → stream_at (filter (λ d. not (is_closed p n d)) ds) p n ≡ stream_at ds p n
+pub at_next : (p n : ℕ) (ds : List Descriptor)
+    → stream_at (filter (λ d. not (is_closed p n d)) ds) p n ≡ stream_at ds p n
 at_next p n [] = refl
 at_next p n (d ∷ ds) = elim (cases_Bool (is_fd p n d)) [
   | inl t ↦
@@ -53,17 +59,21 @@ at_next p n (d ∷ ds) = elim (cases_Bool (is_fd p n d)) [
 ]
 
 -- a stream with one name and no hold is the one that goes
-pub last_is : (t : StreamTable) (s : StreamId) (p n opens : ℕ) → IsRising fd_before t.fds → stream_at t.fds p n ≡ Some s → opens ≡ names_of s t.fds → (eqb opens 1 && eqb (number_at t.holds s) 0) ≡ is_last t p n
+pub last_is : (t : StreamTable) (s : StreamId) (p n opens : ℕ) → IsRising fd_before t.fds → stream_at t.fds p n ≡ Some s
+    → opens ≡ names_of s t.fds → (eqb opens 1 && eqb (number_at t.holds s) 0) ≡ is_last t p n
 last_is t s p n opens rise e same =
     let rest = filter (λ (d : Descriptor). not (is_fd p n d)) t.fds in
     let taken : names_of s t.fds ≡ 1 + names_of s rest = rw (same_self s) at (names_taken s s p n t.fds rise e) in
     rw (e, named_is_some s rest) (one_left (names_of s rest) opens (number_at t.holds s) (same ∙ taken)) where
-      one_left : (less opens holds : ℕ) → opens ≡ 1 + less → (eqb opens 1 && eqb holds 0) ≡ not (nat_lt 0 less || nat_lt 0 holds)
+      one_left : (less opens holds : ℕ) → opens ≡ 1 + less
+          → (eqb opens 1 && eqb holds 0) ≡ not (nat_lt 0 less || nat_lt 0 holds)
       one_left less opens holds h = grind (arith, nat_tests)
 
 -- both tests, the first of which is known
 pub last_then : (opens holds n : ℕ) (r : Bool) → opens ≡ 1 → holds ≡ n → (eqb opens 1 && eqb n 0) ≡ r → eqb holds 0 ≡ r
 last_then opens holds n r one e h = ap (λ (x : ℕ). eqb x 0) e ∙ rw (eq-eqb opens 1 one) at h
 
+-- where the first of both tests is known to fail, it says what both say together
 pub last_else : (opens n : ℕ) (r : Bool) → (opens ≡ 1 → ⊥) → (eqb opens 1 && eqb n 0) ≡ r → eqb opens 1 ≡ r
-last_else opens n r other h = let f : eqb opens 1 ≡ false = false_from_ne_true (eqb opens 1) (λ t. other (eqb-true opens 1 t)) in f ∙ rw f at h
+last_else opens n r other h =
+    let f : eqb opens 1 ≡ false = false_from_ne_true (eqb opens 1) (λ t. other (eqb-true opens 1 t)) in f ∙ rw f at h

@@ -1,12 +1,13 @@
 -- The descriptors of all processes, as rows of streams by number. No public clause needs this.
-use Rattle.std.specs.Prelude.{◌≡◌, ℕ, ◌+◌, ◌<◌, ◌≤◌, List, [], ◌∷◌, ◌++◌, map, length, slice_index_or, slice_set, Option, Some, None}
+use Rattle.std.specs.Prelude.{◌≡◌, ℕ, ◌+◌, ◌<◌, ◌≤◌, List, [], ◌∷◌, ◌++◌, map, length, slice_index_or, slice_set}
+use Rattle.std.specs.Prelude.{Option, Some, None}
 use Rattle.std.specs.List.{All}
 use Rattle.smx_types.specs.declared.limits.TheConstants.{MAX_DESCRIPTORS, MAX_PROCESSES}
 use Rattle.smx_types.specs.declared.stream.Descriptor.{Descriptor}
 use Rattle.smx_types.specs.declared.stream.StreamId.{StreamId}
 use Rattle.smx_model.specs.Configuration.{fd_before}
 use Rattle.smx_model.specs.Ordered.{IsRising}
-use Rattle.smx_streams.specs.Numbers.{AreAllOrNone, with_room}
+use Rattle.smx_streams.specs.RowRoom.{AreAllOrNone, with_room}
 
 -- for each process a row, with a stream or none at each number
 abbrev pub Rows : Type 0

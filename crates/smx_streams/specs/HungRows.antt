@@ -1,5 +1,6 @@
 -- Which streams have hung up, as rows of flags by driver and minor. No public clause needs this.
-use Rattle.std.specs.Prelude.{◌≡◌, ℕ, ◌+◌, ◌<◌, Bool, true, false, not, List, [], ◌∷◌, ◌++◌, filter, slice_index_or, Option, Some, None}
+use Rattle.std.specs.Prelude.{◌≡◌, ℕ, ◌+◌, ◌<◌, Bool, true, false, not, List, [], ◌∷◌, ◌++◌, filter, slice_index_or}
+use Rattle.std.specs.Prelude.{Option, Some, None}
 use Rattle.smx_types.specs.declared.stream.StreamId.{StreamId}
 use Rattle.smx_model.specs.Configuration.{pair_before}
 

@@ -1,4 +1,4 @@
-pub mod Numbers
+pub mod RowRoom
 pub mod DescriptorRows
 pub mod StreamTables
 pub mod HungRows

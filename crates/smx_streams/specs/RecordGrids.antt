@@ -1,5 +1,6 @@
 -- The records of streams, by driver and minor. No public clause needs this.
-use Rattle.std.specs.Prelude.{◌≡◌, ℕ, ◌+◌, ◌<◌, ◌≤◌, nat_lt, Bool, false, ◌&&◌, List, [], map, length, slice_index_or, slice_set, Option, Some, None, if◌then◌else◌, IfSome}
+use Rattle.std.specs.Prelude.{◌≡◌, ℕ, ◌+◌, ◌<◌, ◌≤◌, nat_lt, Bool, false, ◌&&◌, List, [], map, length, slice_index_or}
+use Rattle.std.specs.Prelude.{slice_set, Option, Some, None, if◌then◌else◌, IfSome}
 use Rattle.slab.specs.Slab.{Slab, get}
 use Rattle.smx_types.specs.declared.limits.TheConstants.{MAX_DRIVERS}
 use Rattle.smx_types.specs.declared.stream.StreamId.{StreamId}

@@ -1,5 +1,6 @@
 -- What a contract sees of a table of streams.
-use Rattle.std.specs.Prelude.{◌≡◌, ℕ, ◌+◌, ◌<◌, Bool, true, false, ◌||◌, not, ◌==◌, nat_lt, nat_le, List, [], ◌∷◌, length, find, filter, slice_index, slice_index_or}
+use Rattle.std.specs.Prelude.{◌≡◌, ℕ, ◌+◌, ◌<◌, Bool, true, false, ◌||◌, not, ◌==◌, nat_lt, nat_le, List, [], ◌∷◌}
+use Rattle.std.specs.Prelude.{length, find, filter, slice_index, slice_index_or}
 use Rattle.std.specs.Prelude.{Option, Some, None, Result, Ok, Err, IsOk, ◌⊎◌, if◌then◌else◌}
 use Rattle.std.specs.List.{list_any, range_with_len}
 use Rattle.std.specs.Option.{option_map, option_map_or}
@@ -10,8 +11,8 @@ use Rattle.smx_model.specs.Configuration.{same_stream, is_fd, fd_before, pair_be
 use Rattle.smx_model.specs.Hangups.{is_hung, with_hung}
 use Rattle.smx_model.specs.Ordered.{IsRising, with_inserted}
 use Rattle.smx_model.specs.Standing.{is_named}
-use Rattle.smx_streams.specs.declared.fault.StreamFault.{StreamFault}
-use Rattle.smx_streams.specs.declared.fault.StreamFault.TheVariants as fault
+use Rattle.smx_streams.specs.declared.stream_fault.StreamFault.{StreamFault}
+use Rattle.smx_streams.specs.declared.stream_fault.StreamFault.TheVariants as fault
 
 -- the minors of each driver, the descriptors in order, for each minor of each driver a number of holds, and the streams
 -- that have hung up, in order

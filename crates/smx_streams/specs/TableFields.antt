@@ -14,7 +14,12 @@ names_of s (d ∷ ds) = (if same_stream d.stream s then 1 else 0) + names_of s d
 
 -- the fields as the value that a contract sees
 abbrev pub table_of : Inside → StreamTable
-table_of t = record { minors = t.records.minors; fds = t.descriptors.fds; holds = t.records.holds; hungs = hungs_from 0 t.records.hungs }
+table_of t = record {
+  minors = t.records.minors;
+  fds = t.descriptors.fds;
+  holds = t.records.holds;
+  hungs = hungs_from 0 t.records.hungs;
+}
 
 -- a stream's record has the number of its descriptors
 abbrev pub IsWhole : Inside → Type 0

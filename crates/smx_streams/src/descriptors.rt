@@ -9,7 +9,7 @@ ghost use Rattle.smx_model.specs.Ordered.{with_inserted};
 ghost use Rattle.smx_streams.specs.DescriptorRows.{IsListed, cell_at, with_cell, with_room_at};
 ghost use Rattle.smx_streams.specs.StreamTables.{stream_at, least_fd, IsNext};
 
-use crate::numbers::Numbers;
+use crate::descriptor_row::DescriptorRow;
 use smx_types::{Descriptor, MAX_DESCRIPTORS, MAX_PROCESSES, NoMemory, Process, StreamId};
 use std::alloc::Global;
 use std::marker::Model;
@@ -17,7 +17,7 @@ use std::marker::Model;
 /// Descriptors by process and number. A contract sees the list, and for how many numbers each process has room.
 #[derive(Debug, Drop)]
 pub struct Descriptors {
-    processes: Vec<Numbers>,
+    processes: Vec<DescriptorRow>,
 }
 
 impl Model for Descriptors {
@@ -31,7 +31,7 @@ impl Model for Descriptors {
 }
 
 // The stream at a number of a process.
-fn cell_at(processes: &[Numbers], process: Process, fd: u32) -> Option<StreamId>
+fn cell_at(processes: &[DescriptorRow], process: Process, fd: u32) -> Option<StreamId>
     ensures { result ≡ cell_at processes.now process fd }
 {
     let number = process.get();
@@ -42,7 +42,7 @@ fn cell_at(processes: &[Numbers], process: Process, fd: u32) -> Option<StreamId>
 }
 
 // The rows, with this at a number of a process that has room for it.
-fn set_cell(processes: &mut Vec<Numbers>, process: Process, fd: u32, cell: Option<StreamId>)
+fn set_cell(processes: &mut Vec<DescriptorRow>, process: Process, fd: u32, cell: Option<StreamId>)
     requires process { process < length processes.old.items }
     requires room { fd < length (slice_index_or processes.old.items process []) }
     ensures { processes.new.items ≡ with_cell processes.old.items process fd cell }
@@ -52,7 +52,11 @@ fn set_cell(processes: &mut Vec<Numbers>, process: Process, fd: u32, cell: Optio
 }
 
 // The rows, with room for all numbers of a process.
-fn make_room(processes: &mut Vec<Numbers>, alloc: Global, process: Process) -> Result<(), NoMemory>
+fn make_room(
+    processes: &mut Vec<DescriptorRow>,
+    alloc: Global,
+    process: Process,
+) -> Result<(), NoMemory>
     requires { process < length processes.old.items }
     ensures ok { OnOk result (processes.new.items ≡ with_room_at processes.old.items process) }
     ensures err { OnErr result (processes.new.items ≡ processes.old.items) }
@@ -63,17 +67,17 @@ fn make_room(processes: &mut Vec<Numbers>, alloc: Global, process: Process) -> R
 }
 
 // No descriptors of any process.
-fn new_rows(alloc: Global) -> Result<Vec<Numbers>, NoMemory>
+fn new_rows(alloc: Global) -> Result<Vec<DescriptorRow>, NoMemory>
     ensures { IfOk result (λ v. v.items ≡ replicate MAX_PROCESSES []) }
 {
     let mut processes = Vec::with_capacity(alloc, MAX_PROCESSES as usize)?;
     for process in 0..MAX_PROCESSES {
-        processes.push(Numbers::new(alloc))?;
+        processes.push(DescriptorRow::new(alloc))?;
     }
     Ok(processes)
 }
 
-fn copy_rows(alloc: Global, processes: &[Numbers]) -> Result<Vec<Numbers>, NoMemory>
+fn copy_rows(alloc: Global, processes: &[DescriptorRow]) -> Result<Vec<DescriptorRow>, NoMemory>
     ensures { IfOk result (λ v. v.items ≡ processes.now) }
 {
     let mut made = Vec::with_capacity(alloc, processes.len())?;

@@ -2,15 +2,15 @@
 #![tactic(auto)]
 
 mod closed;
+mod descriptor_row;
 mod descriptors;
-mod fault;
 mod hung_streams;
 mod keys;
-mod numbers;
 mod records;
+mod stream_fault;
 mod streams;
 
 pub use closed::Closed;
-pub use fault::StreamFault;
 pub use hung_streams::HungStreams;
+pub use stream_fault::StreamFault;
 pub use streams::Streams;

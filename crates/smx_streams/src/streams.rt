@@ -13,9 +13,9 @@ ghost use Rattle.smx_streams.specs.StreamTables.{HasOneMore, HasOneLess, HasNone
 
 use crate::closed::Closed;
 use crate::descriptors::Descriptors;
-use crate::fault::StreamFault;
 use crate::hung_streams::HungStreams;
 use crate::records::Records;
+use crate::stream_fault::StreamFault;
 use smx_model::laws_of_hangups::hung_up_streams_make_the_list;
 use smx_types::{Descriptor, MAX_DESCRIPTORS, NoMemory, Process, StreamId};
 use std::alloc::Global;

@@ -1,27 +1,34 @@
 -- At most one link is above a stream, and at most one has an id.
-use Rattle.std.proofs.Common.{◌≡◌, ℕ, suc, ◌<◌, Bool, true, false, ◌&&◌, eqb, List, [], ◌∷◌, length, map, filter, get_or, find, Some, None, refl, sym, ap, ◌∙◌, arith, inl, inr}
+use Rattle.std.proofs.Common.{◌≡◌, ℕ, suc, ◌<◌, Bool, true, false, ◌&&◌, eqb, List, [], ◌∷◌, length, map, filter}
+use Rattle.std.proofs.Common.{get_or, find, Some, None, refl, sym, ap, ◌∙◌, arith, inl, inr}
 use Rattle.std.specs.Prelude.{nat_lt}
 use Rattle.std.specs.List.{list_any}
 use Rattle.std.specs.Option.{option_map_or}
-use Rattle.std.proofs.lemmas.Bool.{cases_Bool, cases_eq, and_parts, and_from, eqb-true, eq-eqb, ltb-true, false≢true, false_from_ne_true}
+use Rattle.std.proofs.lemmas.Bool.{cases_Bool, cases_eq, and_parts, and_from, eqb-true, eq-eqb, ltb-true, false≢true}
+use Rattle.std.proofs.lemmas.Bool.{false_from_ne_true}
 use Rattle.smx_types.specs.declared.link.Link.{Link}
 use Rattle.smx_types.specs.declared.stream.StreamId.{StreamId}
 use Rattle.smx_model.specs.Configuration.{same_stream}
 use Rattle.smx_model.specs.Ordered.{ComesBefore, IsRising}
 use Rattle.smx_model.specs.Paths.{AreLowersApart}
 
+-- streams that pass as the same are one
 pub stream_is : (s t : StreamId) → same_stream s t ≡ true → s ≡ t
 stream_is s t h =
     let b = and_parts _ _ h in
-    ap (λ (x : ℕ). record { driver = x; minor = s.minor }) (eqb-true s.driver t.driver b.0) ∙ ap (λ (x : ℕ). record { driver = t.driver; minor = x }) (eqb-true s.minor t.minor b.1)
+    ap (λ (x : ℕ). record { driver = x; minor = s.minor }) (eqb-true s.driver t.driver b.0)
+    ∙ ap (λ (x : ℕ). record { driver = t.driver; minor = x }) (eqb-true s.minor t.minor b.1)
 
+-- each stream is the same as itself
 pub stream_self : (s : StreamId) → same_stream s s ≡ true
 stream_self s = and_from _ _ (eq-eqb s.driver s.driver refl) (eq-eqb s.minor s.minor refl)
 
+-- whether two numbers are equal is told in either order
 pub eqb_swap : (x y : ℕ) → eqb x y ≡ eqb y x
 eqb_swap x y = elim (cases_eq x y) [
   | inl same ↦ eq-eqb x y same ∙ sym (eq-eqb y x (sym same))
-  | inr other ↦ false_from_ne_true (eqb x y) (λ t. other (eqb-true x y t)) ∙ sym (false_from_ne_true (eqb y x) (λ t. other (sym (eqb-true y x t))))
+  | inr other ↦ false_from_ne_true (eqb x y) (λ t. other (eqb-true x y t))
+      ∙ sym (false_from_ne_true (eqb y x) (λ t. other (sym (eqb-true y x t))))
 ]
 
 -- no two links pass the test
@@ -29,7 +36,8 @@ abbrev pub IsOnce : (Link → Bool) → List Link → Type 0
 IsOnce key [] = Unit {0}
 IsOnce key (l ∷ ls) = (key l ≡ true → list_any key ls ≡ false) × IsOnce key ls
 
-none_also : (key t u : Link → Bool) (ls : List Link) → ((l : Link) → u l ≡ (key l && t l)) → list_any key ls ≡ false → list_any u ls ≡ false
+none_also : (key t u : Link → Bool) (ls : List Link) → ((l : Link) → u l ≡ (key l && t l)) → list_any key ls ≡ false
+    → list_any u ls ≡ false
 none_also key t u [] e h = refl
 none_also key t u (l ∷ ls) e h = elim (cases_Bool (key l)) [
   | inl k ↦ let n : true ≡ false = rw k at h in absurd cc
@@ -37,7 +45,8 @@ none_also key t u (l ∷ ls) e h = elim (cases_Bool (key l)) [
 ]
 
 -- so a further test of those that pass is one of the first
-pub any_once : (key t u : Link → Bool) (ls : List Link) → IsOnce key ls → ((l : Link) → u l ≡ (key l && t l)) → list_any u ls ≡ option_map_or t (find key ls) false
+pub any_once : (key t u : Link → Bool) (ls : List Link) → IsOnce key ls → ((l : Link) → u l ≡ (key l && t l))
+    → list_any u ls ≡ option_map_or t (find key ls) false
 any_once key t u [] o e = refl
 any_once key t u (l ∷ ls) o e = elim (cases_Bool (key l)) [
   | inl k ↦ elim (cases_Bool (t l)) [
@@ -49,42 +58,60 @@ any_once key t u (l ∷ ls) o e = elim (cases_Bool (key l)) [
 
 -- streams below links are apart
 other_lower : (s t : StreamId) → same_stream s t ≡ false → same_stream t s ≡ false
-other_lower s t h = false_from_ne_true _ (λ k. false≢true (sym h ∙ ap (λ (x : StreamId). same_stream x t) (sym (stream_is t s k)) ∙ stream_self t))
+other_lower s t h = false_from_ne_true _
+    (λ k. false≢true (sym h ∙ ap (λ (x : StreamId). same_stream x t) (sym (stream_is t s k)) ∙ stream_self t))
 
-none_below : (s : StreamId) (ls : List Link) → ((j : ℕ) (d : Link) → j < length ls → same_stream s (get_or ls j d).lower ≡ false) → list_any (λ l. same_stream l.lower s) ls ≡ false
+none_below : (s : StreamId) (ls : List Link)
+    → ((j : ℕ) (d : Link) → j < length ls → same_stream s (get_or ls j d).lower ≡ false)
+    → list_any (λ l. same_stream l.lower s) ls ≡ false
 none_below s [] h = refl
-none_below s (l ∷ ls) h = rw (other_lower s l.lower (h 0 l (omega arith))) (none_below s ls (λ j d lt. h (suc j) d (omega arith)))
+none_below s (l ∷ ls) h =
+    rw (other_lower s l.lower (h 0 l (omega arith))) (none_below s ls (λ j d lt. h (suc j) d (omega arith)))
 
+-- where no stream is below two links, at most one link is above a stream
 pub once_below : (s : StreamId) (ls : List Link) → AreLowersApart ls → IsOnce (λ l. same_stream l.lower s) ls
 once_below s [] h = tt
 once_below s (l ∷ ls) h = (
-  (λ k. ap (λ (x : StreamId). list_any (λ m. same_stream m.lower x) ls) (sym (stream_is l.lower s k)) ∙ none_below l.lower ls (λ j d lt. h 0 (suc j) d (omega arith) (omega arith))),
+  (λ k. ap (λ (x : StreamId). list_any (λ m. same_stream m.lower x) ls) (sym (stream_is l.lower s k))
+      ∙ none_below l.lower ls (λ j d lt. h 0 (suc j) d (omega arith) (omega arith))),
   once_below s ls (λ i j d lt in_range. h (suc i) (suc j) d (omega arith) (omega arith)),
 )
 
 -- ids rise
-none_later : (l : Link) (ls : List Link) → ComesBefore (λ l k. nat_lt l.id k.id) l ls → list_any (λ k. eqb k.id l.id) ls ≡ false
+none_later : (l : Link) (ls : List Link) → ComesBefore (λ l k. nat_lt l.id k.id) l ls
+    → list_any (λ k. eqb k.id l.id) ls ≡ false
 none_later l [] h = refl
 none_later l (k ∷ ls) h =
     let up : l.id < k.id = ltb-true l.id k.id h.0 in
-    let f : eqb k.id l.id ≡ false = false_from_ne_true (eqb k.id l.id) (λ t. let same = eqb-true k.id l.id t in absurd (omega arith)) in
+    let f : eqb k.id l.id ≡ false = false_from_ne_true (eqb k.id l.id)
+    (λ t. let same = eqb-true k.id l.id t in absurd (omega arith)) in
     rw f (none_later l ls h.1)
 
+-- where the ids of links rise, at most one link has an id
 pub once_id : (id : ℕ) (ls : List Link) → IsRising (λ l k. nat_lt l.id k.id) ls → IsOnce (λ l. eqb l.id id) ls
 once_id id [] h = tt
-once_id id (l ∷ ls) h = ((λ k. ap (λ (x : ℕ). list_any (λ m. eqb m.id x) ls) (sym (eqb-true l.id id k)) ∙ none_later l ls h.0), once_id id ls h.1)
+once_id id (l ∷ ls) h = (
+  (λ k. ap (λ (x : ℕ). list_any (λ m. eqb m.id x) ls) (sym (eqb-true l.id id k)) ∙ none_later l ls h.0),
+  once_id id ls h.1,
+)
 
 -- a further test of the link with the id
-pub any_with_id : (t : Link → Bool) (id : ℕ) (ls : List Link) → IsRising (λ l k. nat_lt l.id k.id) ls → list_any (λ l. eqb l.id id && t l) ls ≡ option_map_or t (find (λ l. eqb l.id id) ls) false
+pub any_with_id : (t : Link → Bool) (id : ℕ) (ls : List Link) → IsRising (λ l k. nat_lt l.id k.id) ls
+    → list_any (λ l. eqb l.id id && t l) ls ≡ option_map_or t (find (λ l. eqb l.id id) ls) false
 any_with_id t id ls h = any_once (λ l. eqb l.id id) t (λ l. eqb l.id id && t l) ls (once_id id ls h) (λ l. refl)
 
-pub some_with_id : (t : Link → Bool) (id : ℕ) (ls : List Link) (l : Link) → IsRising (λ l k. nat_lt l.id k.id) ls → Some l ≡ find (λ l. eqb l.id id) ls → t l ≡ list_any (λ l. eqb l.id id && t l) ls
+-- the link that is found by an id passes a test exactly where some link with the id does
+pub some_with_id : (t : Link → Bool) (id : ℕ) (ls : List Link) (l : Link) → IsRising (λ l k. nat_lt l.id k.id) ls
+    → Some l ≡ find (λ l. eqb l.id id) ls → t l ≡ list_any (λ l. eqb l.id id && t l) ls
 some_with_id t id ls l h e = sym (any_with_id t id ls h ∙ rw (sym e) refl)
 
-pub none_with_id : (t : Link → Bool) (id : ℕ) (ls : List Link) → IsRising (λ l k. nat_lt l.id k.id) ls → None ≡ find (λ l. eqb l.id id) ls → false ≡ list_any (λ l. eqb l.id id && t l) ls
+-- where no link has an id, none with that id passes a test
+pub none_with_id : (t : Link → Bool) (id : ℕ) (ls : List Link) → IsRising (λ l k. nat_lt l.id k.id) ls
+    → None ≡ find (λ l. eqb l.id id) ls → false ≡ list_any (λ l. eqb l.id id && t l) ls
 none_with_id t id ls h e = sym (any_with_id t id ls h ∙ rw (sym e) refl)
 
-none_kept : (t : Link → Bool) (id : ℕ) (ls : List Link) → list_any (λ l. eqb l.id id) ls ≡ false → filter (λ l. eqb l.id id && t l) ls ≡ []
+none_kept : (t : Link → Bool) (id : ℕ) (ls : List Link) → list_any (λ l. eqb l.id id) ls ≡ false
+    → filter (λ l. eqb l.id id && t l) ls ≡ []
 none_kept t id [] h = refl
 none_kept t id (l ∷ ls) h = elim (cases_Bool (eqb l.id id)) [
   | inl k ↦ let n : true ≡ false = rw k at h in absurd cc
@@ -92,16 +119,21 @@ none_kept t id (l ∷ ls) h = elim (cases_Bool (eqb l.id id)) [
 ]
 
 -- where a link with the id passes a further test, the id is all that there is of such links
-ids_of_one : (t : Link → Bool) (id : ℕ) (ls : List Link) → IsOnce (λ l. eqb l.id id) ls → list_any (λ l. eqb l.id id && t l) ls ≡ true → map (λ l. l.id) (filter (λ l. eqb l.id id && t l) ls) ≡ id ∷ []
+ids_of_one : (t : Link → Bool) (id : ℕ) (ls : List Link) → IsOnce (λ l. eqb l.id id) ls
+    → list_any (λ l. eqb l.id id && t l) ls ≡ true → map (λ l. l.id) (filter (λ l. eqb l.id id && t l) ls) ≡ id ∷ []
 ids_of_one t id [] o h = absurd (false≢true h)
 ids_of_one t id (l ∷ ls) o h = elim (cases_Bool (eqb l.id id)) [
   | inl k ↦ elim (cases_Bool (t l)) [
-    | inl g ↦ rw (k, g) (ap (λ (ks : List Link). l.id ∷ map (λ m. m.id) ks) (none_kept t id ls (o.0 k)) ∙ ap (λ (x : ℕ). x ∷ []) (eqb-true l.id id k))
+    | inl g ↦ rw (k, g) (ap (λ (ks : List Link). l.id ∷ map (λ m. m.id) ks) (none_kept t id ls (o.0 k))
+        ∙ ap (λ (x : ℕ). x ∷ []) (eqb-true l.id id k))
     | inr f ↦ let later : list_any (λ m. eqb m.id id && t m) ls ≡ true = rw (k, f) at h in
-        absurd (false≢true (sym (none_also (λ m. eqb m.id id) t (λ m. eqb m.id id && t m) ls (λ m. refl) (o.0 k)) ∙ later))
+        absurd (false≢true (sym (none_also (λ m. eqb m.id id) t (λ m. eqb m.id id && t m) ls (λ m. refl) (o.0 k))
+        ∙ later))
   ]
   | inr k ↦ rw k (ids_of_one t id ls o.1 (rw k at h))
 ]
 
-pub target_of_id : (t : Link → Bool) (id : ℕ) (ls : List Link) → IsRising (λ l k. nat_lt l.id k.id) ls → list_any (λ l. eqb l.id id && t l) ls ≡ true → map (λ l. l.id) (filter (λ l. eqb l.id id && t l) ls) ≡ id ∷ []
+-- where a link with an id passes a test, the ids of all links with both are this one alone
+pub target_of_id : (t : Link → Bool) (id : ℕ) (ls : List Link) → IsRising (λ l k. nat_lt l.id k.id) ls
+    → list_any (λ l. eqb l.id id && t l) ls ≡ true → map (λ l. l.id) (filter (λ l. eqb l.id id && t l) ls) ≡ id ∷ []
 target_of_id t id ls rise h = ids_of_one t id ls (once_id id ls rise) h

@@ -1,5 +1,6 @@
 -- What the read sides below listed links hold goes, link by link.
-use Rattle.std.proofs.Common.{◌≡◌, ℕ, Bool, true, false, ◌&&◌, ◌||◌, not, eqb, List, [], ◌∷◌, ◌++◌, filter, find, Option, Some, None, refl, sym, ap, ◌∙◌, inl, inr}
+use Rattle.std.proofs.Common.{◌≡◌, ℕ, Bool, true, false, ◌&&◌, ◌||◌, not, eqb, List, [], ◌∷◌, ◌++◌, filter, find}
+use Rattle.std.proofs.Common.{Option, Some, None, refl, sym, ap, ◌∙◌, inl, inr}
 use Rattle.std.specs.List.{AllByRecursion}
 use Rattle.std.specs.Option.{option_map_or}
 use Rattle.std.proofs.lemmas.Bool.{cases_Bool}
@@ -27,17 +28,22 @@ abbrev at_link : List ℕ → List Link → StreamId → Bool
 at_link ids links x = option_map_or (λ l. is_listed ids l.id) (find (λ l. same_stream l.lower x) links) false
 
 -- one id more lists the link above one stream more
-link_more : (ids : List ℕ) (id : ℕ) (s x : StreamId) (links : List Link) → AllByRecursion (IsFoundBy id s) links → at_link (ids ++ id ∷ []) links x ≡ (at_link ids links x || (is_below links x && same_stream x s))
+link_more : (ids : List ℕ) (id : ℕ) (s x : StreamId) (links : List Link) → AllByRecursion (IsFoundBy id s) links
+    → at_link (ids ++ id ∷ []) links x ≡ (at_link ids links x || (is_below links x && same_stream x s))
 link_more ids id s x [] h = refl
 link_more ids id s x (l ∷ ls) h = elim (cases_Bool (same_stream l.lower x)) [
-  | inl t ↦ rw t (listed_more ids id l.id ∙ ap (λ (b : Bool). is_listed ids l.id || b) (h.0 ∙ ap (λ (y : StreamId). same_stream y s) (stream_is l.lower x t)))
+  | inl t ↦
+      rw t (listed_more ids id l.id ∙ ap (λ (b : Bool). is_listed ids l.id || b)
+      (h.0 ∙ ap (λ (y : StreamId). same_stream y s) (stream_is l.lower x t)))
   | inr f ↦ rw f (link_more ids id s x ls h.1)
 ]
 
-below_found : (id : ℕ) (links : List Link) (l : Link) → find (λ k. eqb k.id id) links ≡ Some l → is_below links l.lower ≡ true
+below_found : (id : ℕ) (links : List Link) (l : Link) → find (λ k. eqb k.id id) links ≡ Some l
+    → is_below links l.lower ≡ true
 below_found id [] l e = absurd cc
 below_found id (k ∷ ks) l e = elim (cases_Bool (eqb k.id id)) [
-  | inl t ↦ let f : ◌≡◌ {A = Option Link} (Some k) (Some l) = rw t at e in let same : k ≡ l = cc in rw (ap (λ (m : Link). same_stream m.lower l.lower) same ∙ stream_self l.lower) refl
+  | inl t ↦ let f : ◌≡◌ {A = Option Link} (Some k) (Some l) = rw t at e in let same : k ≡ l = cc in
+      rw (ap (λ (m : Link). same_stream m.lower l.lower) same ∙ stream_self l.lower) refl
   | inr f ↦ or_right' (same_stream k.lower l.lower) (below_found id ks l (rw f at e))
 ] where
   or_right' : (b : Bool) {c : Bool} → c ≡ true → (b || c) ≡ true
@@ -57,22 +63,30 @@ abbrev read_side : StreamId → Place
 read_side s = record { stream = s; side = side.Read }
 
 -- one id more takes one place more
-pub read_more : (links : List Link) (ids : List ℕ) (id : ℕ) (l : Link) → AreLowersApart links → IsIdsRising links → find (λ k. eqb k.id id) links ≡ Some l → (p : Place)
-    → is_read_below_listed links (ids ++ id ∷ []) p ≡ (is_read_below_listed links ids p || same_place p (read_side l.lower))
+pub read_more : (links : List Link) (ids : List ℕ) (id : ℕ) (l : Link) → AreLowersApart links → IsIdsRising links
+    → find (λ k. eqb k.id id) links ≡ Some l → (p : Place)
+    → is_read_below_listed links (ids ++ id ∷ []) p
+    ≡ (is_read_below_listed links ids p || same_place p (read_side l.lower))
 read_more links ids id l apart rise found p =
-    ap (λ (b : Bool). same_side p.side side.Read && b) (link_more ids id l.lower p.stream links (recursion_from_All (IsFoundBy id l.lower) links (found_by links id l apart rise found)))
-    ∙ table (same_side p.side side.Read) (at_link ids links p.stream) (is_below links p.stream) (same_stream p.stream l.lower)
+    ap (λ (b : Bool). same_side p.side side.Read && b)
+    (link_more ids id l.lower p.stream links
+    (recursion_from_All (IsFoundBy id l.lower) links (found_by links id l apart rise found)))
+    ∙ table (same_side p.side side.Read) (at_link ids links p.stream) (is_below links p.stream)
+    (same_stream p.stream l.lower)
     (λ t. ap (is_below links) (stream_is p.stream l.lower t) ∙ below_found id links l found)
 
 -- an id that no link has takes none
-pub read_none : (links : List Link) (ids : List ℕ) (id : ℕ) → find (λ k. eqb k.id id) links ≡ None → (p : Place) → is_read_below_listed links (ids ++ id ∷ []) p ≡ is_read_below_listed links ids p
+pub read_none : (links : List Link) (ids : List ℕ) (id : ℕ) → find (λ k. eqb k.id id) links ≡ None → (p : Place)
+    → is_read_below_listed links (ids ++ id ∷ []) p ≡ is_read_below_listed links ids p
 read_none links ids id none p = ap (λ (b : Bool). same_side p.side side.Read && b) (same links none) where
-  same : (ls : List Link) → find (λ k. eqb k.id id) ls ≡ None → at_link (ids ++ id ∷ []) ls p.stream ≡ at_link ids ls p.stream
+  same : (ls : List Link) → find (λ k. eqb k.id id) ls ≡ None
+      → at_link (ids ++ id ∷ []) ls p.stream ≡ at_link ids ls p.stream
   same [] e = refl
   same (l ∷ ls) e = elim (cases_Bool (eqb l.id id)) [
     | inl t ↦ let k : ◌≡◌ {A = Option Link} (Some l) None = rw t at e in absurd cc
     | inr f ↦ elim (cases_Bool (same_stream l.lower p.stream)) [
-      | inl a ↦ rw a (listed_more ids id l.id ∙ (ap (λ (b : Bool). is_listed ids l.id || b) f ∙ or_none (is_listed ids l.id)))
+      | inl a ↦
+          rw a (listed_more ids id l.id ∙ (ap (λ (b : Bool). is_listed ids l.id || b) f ∙ or_none (is_listed ids l.id)))
       | inr b ↦ rw b (same ls (rw f at e))
     ]
   ] where
@@ -81,19 +95,22 @@ read_none links ids id none p = ap (λ (b : Bool). same_side p.side side.Read &&
     or_none false = refl
 
 -- no id takes none
-pub none_listed_yet : {X : Type 0} (place : X → Place) (links : List Link) (xs : List X) → xs ≡ filter (λ x. not (is_read_below_listed links [] (place x))) xs
+pub none_listed_yet : {X : Type 0} (place : X → Place) (links : List Link) (xs : List X)
+    → xs ≡ filter (λ x. not (is_read_below_listed links [] (place x))) xs
 none_listed_yet place links [] = refl
-none_listed_yet place links (x ∷ xs) = rw (none (place x)) (ap (λ (ys : List _). x ∷ ys) (none_listed_yet place links xs)) where
-  by : (o : Option Link) → option_map_or (λ l. is_listed [] l.id) o false ≡ false
-  by None = refl
-  by (Some l) = refl
+none_listed_yet place links (x ∷ xs) =
+    rw (none (place x)) (ap (λ (ys : List _). x ∷ ys) (none_listed_yet place links xs)) where
+      by : (o : Option Link) → option_map_or (λ l. is_listed [] l.id) o false ≡ false
+      by None = refl
+      by (Some l) = refl
 
-  and_false : (b : Bool) → (b && false) ≡ false
-  and_false true = refl
-  and_false false = refl
+      and_false : (b : Bool) → (b && false) ≡ false
+      and_false true = refl
+      and_false false = refl
 
-  none : (p : Place) → is_read_below_listed links [] p ≡ false
-  none p = ap (λ (b : Bool). same_side p.side side.Read && b) (by (find (λ l. same_stream l.lower p.stream) links)) ∙ and_false (same_side p.side side.Read)
+      none : (p : Place) → is_read_below_listed links [] p ≡ false
+      none p = ap (λ (b : Bool). same_side p.side side.Read && b) (by (find (λ l. same_stream l.lower p.stream) links))
+          ∙ and_false (same_side p.side side.Read)
 
 -- ---- lists without them
 
@@ -104,21 +121,34 @@ not_either false b = refl
 filter_twice : {X : Type 0} (t u : X → Bool) (xs : List X) → filter u (filter t xs) ≡ filter (λ x. t x && u x) xs
 filter_twice t u [] = refl
 filter_twice t u (x ∷ xs) = elim (cases_Bool (t x)) [
-  | inl a ↦ elim (cases_Bool (u x)) [ inl b ↦ rw (a, b) (ap (λ (ys : List _). x ∷ ys) (filter_twice t u xs)) | inr b ↦ rw (a, b) (filter_twice t u xs) ]
+  | inl a ↦ elim (cases_Bool (u x)) [
+    | inl b ↦ rw (a, b) (ap (λ (ys : List _). x ∷ ys) (filter_twice t u xs))
+    | inr b ↦
+        rw (a, b) (filter_twice t u xs)
+  ]
   | inr a ↦ rw a (filter_twice t u xs)
 ]
 
 -- without what passes one test more
-pub tests_less : {X : Type 0} (goes one more : X → Bool) (xs ys zs : List X) → ((x : X) → more x ≡ (goes x || one x)) → ys ≡ filter (λ x. not (goes x)) xs → zs ≡ filter (λ x. not (one x)) ys → zs ≡ filter (λ x. not (more x)) xs
+pub tests_less : {X : Type 0} (goes one more : X → Bool) (xs ys zs : List X) → ((x : X) → more x ≡ (goes x || one x))
+    → ys ≡ filter (λ x. not (goes x)) xs → zs ≡ filter (λ x. not (one x)) ys → zs ≡ filter (λ x. not (more x)) xs
 tests_less goes one more xs ys zs h e f =
     f ∙ (ap (filter (λ x. not (one x))) e
     ∙ (filter_twice (λ x. not (goes x)) (λ x. not (one x)) xs
-    ∙ filter_agree (λ x. not (goes x) && not (one x)) (λ x. not (more x)) (λ x. not_either (goes x) (one x) ∙ ap not (sym (h x))) xs))
+    ∙ filter_agree (λ x. not (goes x) && not (one x)) (λ x. not (more x))
+    (λ x. not_either (goes x) (one x) ∙ ap not (sym (h x))) xs))
 
 -- without a place more
-pub one_less : {X : Type 0} (place : X → Place) (goes more : Place → Bool) (p : Place) (xs ys zs : List X) → ((q : Place) → more q ≡ (goes q || same_place q p))
-    → ys ≡ filter (λ x. not (goes (place x))) xs → zs ≡ filter (λ x. not (same_place (place x) p)) ys → zs ≡ filter (λ x. not (more (place x))) xs
-one_less place goes more p xs ys zs h e f = tests_less (λ x. goes (place x)) (λ x. same_place (place x) p) (λ x. more (place x)) xs ys zs (λ x. h (place x)) e f
+pub one_less : {X : Type 0} (place : X → Place) (goes more : Place → Bool) (p : Place) (xs ys zs : List X)
+    → ((q : Place) → more q ≡ (goes q || same_place q p))
+    → ys ≡ filter (λ x. not (goes (place x))) xs → zs ≡ filter (λ x. not (same_place (place x) p)) ys
+    → zs ≡ filter (λ x. not (more (place x))) xs
+one_less place goes more p xs ys zs h e f =
+    tests_less (λ x. goes (place x)) (λ x. same_place (place x) p) (λ x. more (place x)) xs ys zs (λ x. h (place x)) e f
 
-pub none_less : {X : Type 0} (place : X → Place) (goes more : Place → Bool) (xs ys : List X) → ((q : Place) → more q ≡ goes q) → ys ≡ filter (λ x. not (goes (place x))) xs → ys ≡ filter (λ x. not (more (place x))) xs
-none_less place goes more xs ys h e = e ∙ filter_agree (λ x. not (goes (place x))) (λ x. not (more (place x))) (λ x. ap not (sym (h (place x)))) xs
+-- two tests that take the same places leave the same
+pub none_less : {X : Type 0} (place : X → Place) (goes more : Place → Bool) (xs ys : List X)
+    → ((q : Place) → more q ≡ goes q) → ys ≡ filter (λ x. not (goes (place x))) xs
+    → ys ≡ filter (λ x. not (more (place x))) xs
+none_less place goes more xs ys h e =
+    e ∙ filter_agree (λ x. not (goes (place x))) (λ x. not (more (place x))) (λ x. ap not (sym (h (place x)))) xs

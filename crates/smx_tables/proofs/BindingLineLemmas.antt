@@ -66,6 +66,7 @@ pub binding_lines_tell : (drivers : List DriverSpec) (binds : List Binding) (lin
 binding_lines_tell drivers binds lines r all tell h known rise many =
     let known_each = recursion_from_All (IsWithin drivers) binds known in
     let under_each = each_under driver addr value binds rise in
-    lines_tell (shown_binding drivers binds) bind_before (view_of_bind drivers) (IsUnder binds) (before_on driver addr value) binds lines r
+    lines_tell (shown_binding drivers binds) bind_before (view_of_bind drivers) (IsUnder binds)
+    (before_on driver addr value) binds lines r
     all (λ some rises long under. tell some binds rises rise long under) (binding_line_is drivers binds)
     (binding_lines_again drivers binds binds h known_each under_each) rise many

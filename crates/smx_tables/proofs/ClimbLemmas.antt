@@ -1,5 +1,6 @@
 -- A stream stands by a descriptor, or by the one link above it.
-use Rattle.std.proofs.Common.{◌≡◌, ℕ, zero, suc, Bool, true, false, ◌&&◌, ◌||◌, not, List, find, Option, Some, None, refl, sym}
+use Rattle.std.proofs.Common.{◌≡◌, ℕ, zero, suc, Bool, true, false, ◌&&◌, ◌||◌, not, List, find, Option, Some, None}
+use Rattle.std.proofs.Common.{refl, sym}
 use Rattle.std.specs.Option.{option_map_or}
 use Rattle.std.proofs.lemmas.Bool.{or_left}
 use Rattle.smx_types.specs.declared.link.Link.{Link}
@@ -30,16 +31,19 @@ between false true c = refl
 between false false c = refl
 
 -- one climb more finds what fewer find
-pub more : (fds : List Descriptor) (links : List Link) (n : ℕ) (s : StreamId) → stands_within fds links n s ≡ true → stands_within fds links (suc n) s ≡ true
+pub more : (fds : List Descriptor) (links : List Link) (n : ℕ) (s : StreamId) → stands_within fds links n s ≡ true
+    → stands_within fds links (suc n) s ≡ true
 more fds links n s h = or_left _ _ h
 
-climbed : (named persistent less above : Bool) → (less ≡ true → above ≡ true) → ((named || (persistent || less)) || (not persistent && above)) ≡ (named || (persistent || above))
+climbed : (named persistent less above : Bool) → (less ≡ true → above ≡ true)
+    → ((named || (persistent || less)) || (not persistent && above)) ≡ (named || (persistent || above))
 climbed true persistent less above h = refl
 climbed false true less above h = refl
 climbed false false true above h = sym (h refl)
 climbed false false false above h = refl
 
-first_climb : (named persistent above : Bool) → ((named || persistent) || (not persistent && above)) ≡ (named || (persistent || above))
+first_climb : (named persistent above : Bool)
+    → ((named || persistent) || (not persistent && above)) ≡ (named || (persistent || above))
 first_climb true persistent above = refl
 first_climb false true above = refl
 first_climb false false above = refl
@@ -49,29 +53,40 @@ none_above true = refl
 none_above false = refl
 
 by_more : (fds : List Descriptor) (links : List Link) (n : ℕ) (named : Bool) (o : Option Link)
-    → ((named || stands_by fds links n o) || option_map_or (λ l. not (is_persistent l) && stands_within fds links n l.ctl) o false) ≡ (named || stands_by fds links (suc n) o)
+    → ((named || stands_by fds links n o)
+    || option_map_or (λ l. not (is_persistent l) && stands_within fds links n l.ctl) o false)
+    ≡ (named || stands_by fds links (suc n) o)
 by_more fds links n named None = none_above named
 by_more fds links zero named (Some l) = first_climb named (is_persistent l) (stands_within fds links 0 l.ctl)
-by_more fds links (suc n) named (Some l) = climbed named (is_persistent l) (stands_within fds links n l.ctl) (stands_within fds links (suc n) l.ctl) (more fds links n l.ctl)
+by_more fds links (suc n) named (Some l) = climbed named (is_persistent l) (stands_within fds links n l.ctl)
+    (stands_within fds links (suc n) l.ctl) (more fds links n l.ctl)
 
-by_held : (fds : List Descriptor) (links : List Link) (o : Option Link) → option_map_or is_persistent o false ≡ stands_by fds links 0 o
+by_held : (fds : List Descriptor) (links : List Link) (o : Option Link)
+    → option_map_or is_persistent o false ≡ stands_by fds links 0 o
 by_held fds links None = refl
 by_held fds links (Some l) = refl
 
-pub stands_is : (fds : List Descriptor) (links : List Link) (n : ℕ) (s : StreamId) → AreLowersApart links → stands_within fds links n s ≡ (is_named fds s || stands_by fds links n (find (λ l. same_stream l.lower s) links))
+-- a stream stands within some climbs where a descriptor names it, or by the one link above it
+pub stands_is : (fds : List Descriptor) (links : List Link) (n : ℕ) (s : StreamId) → AreLowersApart links
+    → stands_within fds links n s ≡ (is_named fds s || stands_by fds links n (find (λ l. same_stream l.lower s) links))
 stands_is fds links zero s h =
     rw (
-      any_once (λ l. same_stream l.lower s) is_persistent (λ l. is_persistent l && same_stream l.lower s) links (once_below s links h) (λ l. swapped (is_persistent l) (same_stream l.lower s)),
+      any_once (λ l. same_stream l.lower s) is_persistent (λ l. is_persistent l && same_stream l.lower s) links
+          (once_below s links h) (λ l. swapped (is_persistent l) (same_stream l.lower s)),
       by_held fds links (find (λ l. same_stream l.lower s) links),
     ) refl
 stands_is fds links (suc n) s h =
     rw (
       stands_is fds links n s h,
-      any_once (λ l. same_stream l.lower s) (λ l. not (is_persistent l) && stands_within fds links n l.ctl) (λ l. not (is_persistent l) && (same_stream l.lower s && stands_within fds links n l.ctl)) links (once_below s links h) (λ l. between (not (is_persistent l)) (same_stream l.lower s) (stands_within fds links n l.ctl)),
+      any_once (λ l. same_stream l.lower s) (λ l. not (is_persistent l) && stands_within fds links n l.ctl)
+          (λ l. not (is_persistent l) && (same_stream l.lower s && stands_within fds links n l.ctl)) links
+          (once_below s links h)
+          (λ l. between (not (is_persistent l)) (same_stream l.lower s) (stands_within fds links n l.ctl)),
     )
     (by_more fds links n (is_named fds s) (find (λ l. same_stream l.lower s) links))
 
 -- what a descriptor names stands within any number of climbs
-pub named_stands : (fds : List Descriptor) (links : List Link) (n : ℕ) (s : StreamId) → is_named fds s ≡ true → stands_within fds links n s ≡ true
+pub named_stands : (fds : List Descriptor) (links : List Link) (n : ℕ) (s : StreamId) → is_named fds s ≡ true
+    → stands_within fds links n s ≡ true
 named_stands fds links zero s h = or_left _ _ h
 named_stands fds links (suc n) s h = or_left _ _ (named_stands fds links n s h)

@@ -1,5 +1,6 @@
 -- What dead streams hold goes, stream by stream.
-use Rattle.std.proofs.Common.{◌≡◌, ℕ, ◌+◌, Bool, true, false, ◌&&◌, ◌||◌, not, List, [], ◌∷◌, ◌++◌, filter, take, refl, sym, ap, ◌∙◌, inl, inr}
+use Rattle.std.proofs.Common.{◌≡◌, ℕ, ◌+◌, Bool, true, false, ◌&&◌, ◌||◌, not, List, [], ◌∷◌, ◌++◌, filter, take, refl}
+use Rattle.std.proofs.Common.{sym, ap, ◌∙◌, inl, inr}
 use Rattle.std.specs.List.{list_all, list_any}
 use Rattle.std.proofs.lemmas.Bool.{and_parts, cases_Bool, false≢true}
 use Rattle.std.proofs.lemmas.List.Elements.{filter_agree}
@@ -34,50 +35,67 @@ one_dead stream test t s xs ys gone finds e =
       dead x = table (is_there t x) (same_stream x s) (λ same. ap (is_there t) (stream_is x s same) ∙ gone)
 
 -- one that is there stays
-pub none_of_one : {X : Type 0} (stream : X → StreamId) (t : StreamTable) (s : StreamId) (xs : List X) → is_there t s ≡ true → xs ≡ filter (λ x. not (is_dead t (s ∷ []) (stream x))) xs
+pub none_of_one : {X : Type 0} (stream : X → StreamId) (t : StreamTable) (s : StreamId) (xs : List X)
+    → is_there t s ≡ true → xs ≡ filter (λ x. not (is_dead t (s ∷ []) (stream x))) xs
 none_of_one stream t s [] there = refl
-none_of_one stream t s (x ∷ xs) there = rw (alive (is_there t (stream x)) (same_stream (stream x) s) (λ same. ap (is_there t) (stream_is (stream x) s same) ∙ there)) (ap (λ (ys : List _). x ∷ ys) (none_of_one stream t s xs there)) where
-  alive : (b same : Bool) → (same ≡ true → b ≡ true) → (not b && (same || false)) ≡ false
-  alive true same h = refl
-  alive false true h = absurd (false≢true (h refl))
-  alive false false h = refl
+none_of_one stream t s
+    (x ∷ xs) there =
+    rw (alive (is_there t (stream x)) (same_stream (stream x) s)
+    (λ same. ap (is_there t) (stream_is (stream x) s same) ∙ there))
+    (ap (λ (ys : List _). x ∷ ys) (none_of_one stream t s xs there)) where
+      alive : (b same : Bool) → (same ≡ true → b ≡ true) → (not b && (same || false)) ≡ false
+      alive true same h = refl
+      alive false true h = absurd (false≢true (h refl))
+      alive false false h = refl
 
 -- ---- one stream more
 
 -- without those that are dead of one more
-pub stream_less : {X : Type 0} (stream : X → StreamId) (t : StreamTable) (seen : List StreamId) (i : ℕ) (s : StreamId) (xs ys zs : List X) → take (i + 1) seen ≡ take i seen ++ s ∷ []
-    → ys ≡ filter (λ x. not (is_dead t (take i seen) (stream x))) xs → zs ≡ filter (λ x. not (is_dead t (s ∷ []) (stream x))) ys → zs ≡ filter (λ x. not (is_dead t (take (i + 1) seen) (stream x))) xs
+pub stream_less : {X : Type 0} (stream : X → StreamId) (t : StreamTable) (seen : List StreamId) (i : ℕ) (s : StreamId)
+    (xs ys zs : List X) → take (i + 1) seen ≡ take i seen ++ s ∷ []
+    → ys ≡ filter (λ x. not (is_dead t (take i seen) (stream x))) xs
+    → zs ≡ filter (λ x. not (is_dead t (s ∷ []) (stream x))) ys
+    → zs ≡ filter (λ x. not (is_dead t (take (i + 1) seen) (stream x))) xs
 stream_less stream t seen i s xs ys zs taken_one e f =
-    tests_less (λ x. is_dead t (take i seen) (stream x)) (λ x. is_dead t (s ∷ []) (stream x)) (λ x. is_dead t (take (i + 1) seen) (stream x)) xs ys zs (λ x. more (stream x)) e f where
+    tests_less (λ x. is_dead t (take i seen) (stream x)) (λ x. is_dead t (s ∷ []) (stream x))
+    (λ x. is_dead t (take (i + 1) seen) (stream x)) xs ys zs (λ x. more (stream x)) e f where
       parts : (gone a b : Bool) → (gone && (a || b)) ≡ ((gone && a) || (gone && (b || false)))
       parts true true b = refl
       parts true false b = sym (or_false b)
       parts false a b = refl
 
       more : (x : StreamId) → is_dead t (take (i + 1) seen) x ≡ (is_dead t (take i seen) x || is_dead t (s ∷ []) x)
-      more x = ap (λ (ss : List StreamId). is_dead t ss x) taken_one ∙ (ap (λ (b : Bool). not (is_there t x) && b) (listed_more x (take i seen) s) ∙ parts (not (is_there t x)) (list_any (same_stream x) (take i seen)) (same_stream x s))
+      more x = ap (λ (ss : List StreamId). is_dead t ss x) taken_one
+          ∙ (ap (λ (b : Bool). not (is_there t x) && b) (listed_more x (take i seen) s)
+          ∙ parts (not (is_there t x)) (list_any (same_stream x) (take i seen)) (same_stream x s))
 
 -- none at first
-pub none_dead : {X : Type 0} (stream : X → StreamId) (t : StreamTable) (xs : List X) → xs ≡ filter (λ x. not (is_dead t [] (stream x))) xs
+pub none_dead : {X : Type 0} (stream : X → StreamId) (t : StreamTable) (xs : List X)
+    → xs ≡ filter (λ x. not (is_dead t [] (stream x))) xs
 none_dead stream t [] = refl
-none_dead stream t (x ∷ xs) = rw (and_false (not (is_there t (stream x)))) (ap (λ (ys : List _). x ∷ ys) (none_dead stream t xs)) where
-  and_false : (b : Bool) → (b && false) ≡ false
-  and_false true = refl
-  and_false false = refl
+none_dead stream t (x ∷ xs) =
+    rw (and_false (not (is_there t (stream x)))) (ap (λ (ys : List _). x ∷ ys) (none_dead stream t xs)) where
+      and_false : (b : Bool) → (b && false) ≡ false
+      and_false true = refl
+      and_false false = refl
 
 -- ---- all that went were seen
 
-dead_is_gone : (t : StreamTable) (seen : List StreamId) (s : StreamId) → is_there_or_touched t seen s ≡ true → is_dead t seen s ≡ not (is_there t s)
+dead_is_gone : (t : StreamTable) (seen : List StreamId) (s : StreamId) → is_there_or_touched t seen s ≡ true
+    → is_dead t seen s ≡ not (is_there t s)
 dead_is_gone t seen s h = table (is_there t s) (list_any (same_stream s) seen) h where
   table : (there listed : Bool) → (there || listed) ≡ true → (not there && listed) ≡ not there
   table true listed e = refl
   table false listed e = e
 
-pub dead_are_gone : {X : Type 0} (stream : X → StreamId) (t : StreamTable) (seen : List StreamId) (xs : List X) → list_all (λ x. is_there_or_touched t seen (stream x)) xs ≡ true
+-- where each stream is there or was seen, leaving out the dead ones seen leaves out all that are not there
+pub dead_are_gone : {X : Type 0} (stream : X → StreamId) (t : StreamTable) (seen : List StreamId) (xs : List X)
+    → list_all (λ x. is_there_or_touched t seen (stream x)) xs ≡ true
     → filter (λ x. not (is_dead t seen (stream x))) xs ≡ filter (λ x. not (not (is_there t (stream x)))) xs
 dead_are_gone stream t seen [] h = refl
 dead_are_gone stream t seen (x ∷ xs) h =
-    let p = and_parts (is_there_or_touched t seen (stream x)) (list_all (λ y. is_there_or_touched t seen (stream y)) xs) h in
+    let p = and_parts (is_there_or_touched t seen (stream x))
+    (list_all (λ y. is_there_or_touched t seen (stream y)) xs) h in
     let same = dead_is_gone t seen (stream x) p.0 in
     elim (cases_Bool (is_there t (stream x))) [
       | inl there ↦ rw (same, there) (ap (λ (ys : List _). x ∷ ys) (dead_are_gone stream t seen xs p.1))

@@ -1,5 +1,6 @@
 -- A list of drivers that a configuration can have, driver by driver.
-use Rattle.std.proofs.Common.{◌≡◌, ◌≢◌, ℕ, ◌+◌, ◌<◌, ◌≤◌, ltb, ◌||◌, List, [], ◌∷◌, ◌++◌, length, get_or, take, Ok, sym, ap, subst, ◌∙◌, arith, inl, inr, length-append}
+use Rattle.std.proofs.Common.{◌≡◌, ◌≢◌, ℕ, ◌+◌, ◌<◌, ◌≤◌, ltb, ◌||◌, List, [], ◌∷◌, ◌++◌, length, get_or, take, Ok, sym}
+use Rattle.std.proofs.Common.{ap, subst, ◌∙◌, arith, inl, inr, length-append}
 use Rattle.std.specs.Prelude.{Any}
 use Rattle.std.specs.List.{AllByRecursion}
 use Rattle.std.proofs.lemmas.Bool.{cases_Bool}
@@ -14,24 +15,32 @@ use Rattle.smx_model.specs.DriverList.{IsDriverList}
 
 -- none yet
 pub no_drivers : IsDriverList []
-no_drivers = record { few = omega arith; each = λ k d lt. absurd (omega arith); names = λ i j d lt more. absurd (omega arith) }
+no_drivers =
+    record { few = omega arith; each = λ k d lt. absurd (omega arith); names = λ i j d lt more. absurd (omega arith) }
 
 -- one more, of a name that none has yet
-one_more : (ds : List DriverSpec) (d : DriverSpec) → length ds < MAX_DRIVERS → IsDriverList ds → spec_check d ≡ Ok tt → (Any (λ e. e.name ≡ d.name) ds → ⊥) → IsDriverList (ds ++ d ∷ [])
+one_more : (ds : List DriverSpec) (d : DriverSpec) → length ds < MAX_DRIVERS → IsDriverList ds → spec_check d ≡ Ok tt
+    → (Any (λ e. e.name ≡ d.name) ds → ⊥) → IsDriverList (ds ++ d ∷ [])
 one_more ds d few h can new = record {
   few = omega (arith, length-append ds (d ∷ []));
   each = All-push (λ e. spec_check e ≡ Ok tt) ds d h.each can;
-  names = all_pairs_push (λ e f. e.name ≢ f.name) ds d h.names (λ k e lt same. new (k, get_or ds k e, lt, get_or_default ds k (get_or ds k e) e lt, same));
+  names = all_pairs_push (λ e f. e.name ≢ f.name) ds d h.names
+      (λ k e lt same. new (k, get_or ds k e, lt, get_or_default ds k (get_or ds k e) e lt, same));
 }
 
-pub next_driver : (ds : List DriverSpec) (i : ℕ) (d : DriverSpec) → i < length ds → length ds ≤ MAX_DRIVERS → d ≡ get_or ds i d
-    → IsDriverList (take i ds) → spec_check d ≡ Ok tt → (Any (λ e. e.name ≡ d.name) (take i ds) → ⊥) → IsDriverList (take (i + 1) ds)
+-- the first drivers of a list can be had with the next one, if it can be had and its name is new among them
+pub next_driver : (ds : List DriverSpec) (i : ℕ) (d : DriverSpec) → i < length ds → length ds ≤ MAX_DRIVERS
+    → d ≡ get_or ds i d
+    → IsDriverList (take i ds) → spec_check d ≡ Ok tt → (Any (λ e. e.name ≡ d.name) (take i ds) → ⊥)
+    → IsDriverList (take (i + 1) ds)
 next_driver ds i d lt few here h can new =
-    let next : take (i + 1) ds ≡ take i ds ++ d ∷ [] = take_more ds i d lt ∙ ap (λ (e : DriverSpec). take i ds ++ e ∷ []) (sym here) in
+    let next : take (i + 1) ds ≡ take i ds ++ d ∷ [] = take_more ds i d lt
+    ∙ ap (λ (e : DriverSpec). take i ds ++ e ∷ []) (sym here) in
     subst IsDriverList (sym next) (one_more (take i ds) d (omega (arith, length-take-le i ds (omega arith))) h can new)
 
 -- a name that an earlier driver has spoils the list
-pub taken_name : (ds : List DriverSpec) (i : ℕ) (d : DriverSpec) → i < length ds → d ≡ get_or ds i d → Any (λ e. e.name ≡ d.name) (take i ds) → IsDriverList ds → ⊥
+pub taken_name : (ds : List DriverSpec) (i : ℕ) (d : DriverSpec) → i < length ds → d ≡ get_or ds i d
+    → Any (λ e. e.name ≡ d.name) (take i ds) → IsDriverList ds → ⊥
 taken_name ds i d lt here (k, e, before, at, same) h =
     let len = length-take-le i ds (omega arith) in
     let earlier : k < i = omega arith in
@@ -46,9 +55,11 @@ few_minors d can = elim (cases_Bool (ltb d.minors 1 || ltb MAX_MINORS d.minors))
   | inr f ↦ grind (arith, nat_tests)
 ]
 
-all_few : (ds : List DriverSpec) → AllByRecursion (λ d. spec_check d ≡ Ok tt) ds → AllByRecursion (λ d. d.minors ≤ MAX_MINORS) ds
+all_few : (ds : List DriverSpec) → AllByRecursion (λ d. spec_check d ≡ Ok tt) ds
+    → AllByRecursion (λ d. d.minors ≤ MAX_MINORS) ds
 all_few [] h = tt
 all_few (d ∷ ds) h = (few_minors d h.0, all_few ds h.1)
 
+-- no driver of a list that can be had has more minors than a driver may
 pub minors_within : (ds : List DriverSpec) → IsDriverList ds → AllByRecursion (λ d. d.minors ≤ MAX_MINORS) ds
 minors_within ds h = all_few ds (recursion_from_All (λ d. spec_check d ≡ Ok tt) ds h.each)

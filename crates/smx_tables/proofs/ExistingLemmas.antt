@@ -1,9 +1,12 @@
 -- Which streams exist, by the table of streams: those that a descriptor names, and those that are held.
-use Rattle.std.proofs.Common.{◌≡◌, ℕ, zero, suc, ◌+◌, ◌<◌, ◌≤◌, Bool, true, false, ◌&&◌, ◌||◌, not, List, [], ◌∷◌, length, filter, find, get_or, Option, Some, None, Ok, Err, ◌++◌, if◌then◌else◌, refl, sym, ap, subst, ◌∙◌, arith, inl, inr}
+use Rattle.std.proofs.Common.{◌≡◌, ℕ, zero, suc, ◌+◌, ◌<◌, ◌≤◌, Bool, true, false, ◌&&◌, ◌||◌, not, List, [], ◌∷◌}
+use Rattle.std.proofs.Common.{length, filter, find, get_or, Option, Some, None, Ok, Err, ◌++◌, if◌then◌else◌, refl, sym}
+use Rattle.std.proofs.Common.{ap, subst, ◌∙◌, arith, inl, inr}
 use Rattle.std.specs.Prelude.{IsTrue, ◌↔◌, nat_lt}
 use Rattle.std.specs.Option.{option_map}
 use Rattle.std.specs.List.{All, AllByRecursion, list_any, list_all}
-use Rattle.std.proofs.lemmas.Bool.{cases_Bool, and_parts, and_from, or_cases, or_left, or_right, false_from_ne_true, false≢true}
+use Rattle.std.proofs.lemmas.Bool.{cases_Bool, and_parts, and_from, or_cases, or_left, or_right, false_from_ne_true}
+use Rattle.std.proofs.lemmas.Bool.{false≢true}
 use Rattle.std.proofs.lemmas.List.Elements.{recursion_from_All, Contains-get_or}
 use Rattle.smx_types.specs.declared.driver.DriverSpec.{DriverSpec}
 use Rattle.smx_types.specs.declared.link.Link.{Link}
@@ -20,24 +23,35 @@ use Rattle.smx_model.specs.Standing.{Stands, exists, is_below, is_named, is_pers
 use Rattle.smx_streams.specs.StreamTables.{StreamTable, HasHolds, number_at, stream_at, exists as is_there}
 use Rattle.smx_tables.specs.ExistingStreams.{AreHeld, TellsExisting, holds_of, is_held}
 use Rattle.smx_links.specs.LinkLists.{LinkList, IsLinked, refusal, with_link}
-use Rattle.smx_links.specs.declared.fault.LinkFault.TheVariants as link_fault
+use Rattle.smx_links.specs.declared.link_fault.LinkFault.TheVariants as link_fault
 use Rattle.smx_tables.proofs.AboveLemmas.{stream_is, stream_self}
 use Rattle.smx_tables.proofs.ClimbLemmas.{named_stands}
 
 -- ---- tests
 
-pub any_weaker : {X : Type 0} (t u : X → Bool) (xs : List X) → ((x : X) → t x ≡ true → u x ≡ true) → list_any t xs ≡ true → list_any u xs ≡ true
+-- where one passes a test, one passes any test that follows from it
+pub any_weaker : {X : Type 0} (t u : X → Bool) (xs : List X) → ((x : X) → t x ≡ true → u x ≡ true)
+    → list_any t xs ≡ true → list_any u xs ≡ true
 any_weaker {X = X} t u [] f h = h
-any_weaker {X = X} t u (x ∷ xs) f h = elim (or_cases (t x) (list_any t xs) h) [ inl a ↦ or_left _ _ (f x a) | inr b ↦ or_right _ _ (any_weaker t u xs f b) ]
+any_weaker {X = X} t u (x ∷ xs) f h = elim (or_cases (t x) (list_any t xs) h)
+    [ inl a ↦ or_left _ _ (f x a) | inr b ↦ or_right _ _ (any_weaker t u xs f b) ]
 
-pub all_weaker : {X : Type 0} (t u : X → Bool) (xs : List X) → ((x : X) → t x ≡ true → u x ≡ true) → list_all t xs ≡ true → list_all u xs ≡ true
+-- where all pass a test, all pass any test that follows from it
+pub all_weaker : {X : Type 0} (t u : X → Bool) (xs : List X) → ((x : X) → t x ≡ true → u x ≡ true)
+    → list_all t xs ≡ true → list_all u xs ≡ true
 all_weaker {X = X} t u [] f h = h
-all_weaker {X = X} t u (x ∷ xs) f h = let p = and_parts (t x) (list_all t xs) h in and_from _ _ (f x p.0) (all_weaker t u xs f p.1)
+all_weaker {X = X} t u (x ∷ xs) f h =
+    let p = and_parts (t x) (list_all t xs) h in and_from _ _ (f x p.0) (all_weaker t u xs f p.1)
 
 -- fewer items pass what all did
 pub all_fewer : {X : Type 0} (t u : X → Bool) (xs : List X) → list_all t xs ≡ true → list_all t (filter u xs) ≡ true
 all_fewer t u [] h = refl
-all_fewer t u (x ∷ xs) h = let p = and_parts (t x) (list_all t xs) h in elim (cases_Bool (u x)) [ inl a ↦ rw a (and_from _ _ p.0 (all_fewer t u xs p.1)) | inr b ↦ rw b (all_fewer t u xs p.1) ]
+all_fewer t u (x ∷ xs) h = let p = and_parts (t x) (list_all t xs) h in
+    elim (cases_Bool (u x)) [
+      | inl a ↦ rw a (and_from _ _ p.0 (all_fewer t u xs p.1))
+      | inr b ↦
+          rw b (all_fewer t u xs p.1)
+    ]
 
 -- two tests that follow from one another
 pub same_test : (a b : Bool) → (a ≡ true → b ≡ true) → (b ≡ true → a ≡ true) → a ≡ b
@@ -48,23 +62,36 @@ same_test false false f g = refl
 -- ---- what stands is named, or below a link
 
 -- the stream of a descriptor exists
-pub named_stream : (process fd : ℕ) (fds : List Descriptor) (s : StreamId) → option_map (λ (d : Descriptor). d.stream) (find (is_fd process fd) fds) ≡ Some s → is_named fds s ≡ true
+pub named_stream : (process fd : ℕ) (fds : List Descriptor) (s : StreamId)
+    → option_map (λ (d : Descriptor). d.stream) (find (is_fd process fd) fds) ≡ Some s → is_named fds s ≡ true
 named_stream process fd [] s h = absurd cc
 named_stream process fd (d ∷ ds) s h = elim (cases_Bool (is_fd process fd d)) [
-  | inl t ↦ let k : Some d.stream ≡ Some s = rw t at h in let same : d.stream ≡ s = cc in or_left _ _ (ap (λ (x : StreamId). same_stream x s) same ∙ stream_self s)
+  | inl t ↦ let k : Some d.stream ≡ Some s = rw t at h in let same : d.stream ≡ s = cc in
+      or_left _ _ (ap (λ (x : StreamId). same_stream x s) same ∙ stream_self s)
   | inr f ↦ or_right _ _ (named_stream process fd ds s (rw f at h))
 ]
 
-pub stands_there : (fds : List Descriptor) (links : List Link) (n : ℕ) (s : StreamId) → stands_within fds links n s ≡ true → (is_named fds s || is_below links s) ≡ true
-stands_there fds links zero s h = elim (or_cases (is_named fds s) (list_any (λ l. is_persistent l && same_stream l.lower s) links) h) [
-  | inl a ↦ or_left _ _ a
-  | inr b ↦ or_right _ _ (any_weaker (λ l. is_persistent l && same_stream l.lower s) (λ l. same_stream l.lower s) links (λ l t. (and_parts (is_persistent l) (same_stream l.lower s) t).1) b)
-]
-stands_there fds links (suc n) s h = elim (or_cases (stands_within fds links n s) (list_any (λ l. not (is_persistent l) && (same_stream l.lower s && stands_within fds links n l.ctl)) links) h) [
-  | inl a ↦ stands_there fds links n s a
-  | inr b ↦ or_right _ _ (any_weaker (λ l. not (is_persistent l) && (same_stream l.lower s && stands_within fds links n l.ctl)) (λ l. same_stream l.lower s) links
-      (λ l t. (and_parts (same_stream l.lower s) (stands_within fds links n l.ctl) (and_parts (not (is_persistent l)) (same_stream l.lower s && stands_within fds links n l.ctl) t).1).0) b)
-]
+-- a stream that stands is named by a descriptor, or is below a link
+pub stands_there : (fds : List Descriptor) (links : List Link) (n : ℕ) (s : StreamId)
+    → stands_within fds links n s ≡ true → (is_named fds s || is_below links s) ≡ true
+stands_there fds links zero s h =
+    elim (or_cases (is_named fds s) (list_any (λ l. is_persistent l && same_stream l.lower s) links) h) [
+      | inl a ↦ or_left _ _ a
+      | inr b ↦
+          or_right _ _ (any_weaker (λ l. is_persistent l && same_stream l.lower s) (λ l. same_stream l.lower s) links
+          (λ l t. (and_parts (is_persistent l) (same_stream l.lower s) t).1) b)
+    ]
+stands_there fds links (suc n) s
+    h = elim (or_cases (stands_within fds links n s)
+    (list_any (λ l. not (is_persistent l) && (same_stream l.lower s && stands_within fds links n l.ctl)) links) h) [
+      | inl a ↦ stands_there fds links n s a
+      | inr b ↦
+          or_right _ _
+          (any_weaker (λ l. not (is_persistent l) && (same_stream l.lower s && stands_within fds links n l.ctl))
+          (λ l. same_stream l.lower s) links
+          (λ l t. (and_parts (same_stream l.lower s) (stands_within fds links n l.ctl)
+          (and_parts (not (is_persistent l)) (same_stream l.lower s && stands_within fds links n l.ctl) t).1).0) b)
+    ]
 
 -- ---- a climb comes to a driver that fewer links lead to
 
@@ -72,14 +99,20 @@ stands_there fds links (suc n) s h = elim (or_cases (stands_within fds links n s
 abbrev pub links_to : List Link → ℕ → ℕ
 links_to links d = length (filter (λ l. reaches links l.ctl.driver d) links)
 
-fewer : (f g : Link → Bool) (ls : List Link) → ((l : Link) → f l ≡ true → g l ≡ true) → length (filter f ls) ≤ length (filter g ls)
+fewer : (f g : Link → Bool) (ls : List Link) → ((l : Link) → f l ≡ true → g l ≡ true)
+    → length (filter f ls) ≤ length (filter g ls)
 fewer f g [] h = omega arith
 fewer f g (l ∷ ls) h = elim (cases_Bool (f l)) [
   | inl t ↦ rw (t, h l t) (omega (arith, fewer f g ls h))
-  | inr n ↦ elim (cases_Bool (g l)) [ inl u ↦ rw (n, u) (omega (arith, fewer f g ls h)) | inr u ↦ rw (n, u) (fewer f g ls h) ]
+  | inr n ↦ elim (cases_Bool (g l)) [
+    | inl u ↦ rw (n, u) (omega (arith, fewer f g ls h))
+    | inr u ↦
+        rw (n, u) (fewer f g ls h)
+  ]
 ]
 
-fewer_at : (f g : Link → Bool) (ls : List Link) (i : ℕ) (d : Link) → ((l : Link) → f l ≡ true → g l ≡ true) → i < length ls → f (get_or ls i d) ≡ false → g (get_or ls i d) ≡ true → length (filter f ls) < length (filter g ls)
+fewer_at : (f g : Link → Bool) (ls : List Link) (i : ℕ) (d : Link) → ((l : Link) → f l ≡ true → g l ≡ true)
+    → i < length ls → f (get_or ls i d) ≡ false → g (get_or ls i d) ≡ true → length (filter f ls) < length (filter g ls)
 fewer_at f g [] i d h lt a b = absurd (omega arith)
 fewer_at f g (l ∷ ls) zero d h lt a b = rw (a, b) (omega (arith, fewer f g ls h))
 fewer_at f g (l ∷ ls) (suc i) d h lt a b =
@@ -93,41 +126,57 @@ fewer_at f g (l ∷ ls) (suc i) d h lt a b =
 abbrev pub IsReachPath : Type 0
 IsReachPath = (links : List Link) (a b : ℕ) → IsTrue (reaches links a b) ↔ Path links a b
 
+-- what a law of the model says: where a driver reaches another, it reaches what that one reaches
 abbrev pub DoPathsJoin : Type 0
-DoPathsJoin = (links : List Link) (a b c : ℕ) → IsTrue (reaches links a b) → IsTrue (reaches links b c) → IsTrue (reaches links a c)
+DoPathsJoin = (links : List Link) (a b c : ℕ) → IsTrue (reaches links a b) → IsTrue (reaches links b c)
+    → IsTrue (reaches links a c)
 
 -- the link leads from its upper driver to its lower one
-one_step : (links : List Link) (i : ℕ) (d : Link) → IsReachPath → i < length links → reaches links (get_or links i d).ctl.driver (get_or links i d).lower.driver ≡ true
+one_step : (links : List Link) (i : ℕ) (d : Link) → IsReachPath → i < length links
+    → reaches links (get_or links i d).ctl.driver (get_or links i d).lower.driver ≡ true
 one_step links i d path lt =
-    (path links (get_or links i d).ctl.driver (get_or links i d).lower.driver).1 (record { path = get_or links i d ∷ []; some = omega arith; leads = (Contains-get_or links i d lt, refl, refl) })
+    (path links (get_or links i d).ctl.driver (get_or links i d).lower.driver).1
+    (record { path = get_or links i d ∷ []; some = omega arith; leads = (Contains-get_or links i d lt, refl, refl) })
 
+-- fewer links lead to the upper driver of this link than to its lower one
 abbrev pub ClimbsToFewer : List Link → Link → Type 0
 ClimbsToFewer links l = links_to links l.ctl.driver < links_to links l.lower.driver
 
-pub climbs_to_fewer : (links : List Link) → IsReachPath → DoPathsJoin → HasNoCycle links → All (ClimbsToFewer links) links
+-- where there is no cycle, fewer links lead to each link's upper driver than to its lower one
+pub climbs_to_fewer : (links : List Link) → IsReachPath → DoPathsJoin → HasNoCycle links
+    → All (ClimbsToFewer links) links
 climbs_to_fewer links path join no_cycle = λ i d lt.
-    fewer_at (λ l. reaches links l.ctl.driver (get_or links i d).ctl.driver) (λ l. reaches links l.ctl.driver (get_or links i d).lower.driver) links i d
-    (λ l h. join links l.ctl.driver (get_or links i d).ctl.driver (get_or links i d).lower.driver h (one_step links i d path lt)) lt
-    (false_from_ne_true _ (λ t. no_cycle (get_or links i d).ctl.driver ((path links (get_or links i d).ctl.driver (get_or links i d).ctl.driver).0 t)))
+    fewer_at (λ l. reaches links l.ctl.driver (get_or links i d).ctl.driver)
+    (λ l. reaches links l.ctl.driver (get_or links i d).lower.driver) links i d
+    (λ l h. join links l.ctl.driver (get_or links i d).ctl.driver (get_or links i d).lower.driver h
+    (one_step links i d path lt)) lt
+    (false_from_ne_true _
+    (λ t. no_cycle (get_or links i d).ctl.driver
+    ((path links (get_or links i d).ctl.driver (get_or links i d).ctl.driver).0 t)))
     (one_step links i d path lt)
 
 -- ---- what is there stands
 
 -- a persistent link above a stream holds it, however few the climbs
-persistent_stands : (fds : List Descriptor) (links : List Link) (n : ℕ) (s : StreamId) → list_any (λ l. is_persistent l && same_stream l.lower s) links ≡ true → stands_within fds links n s ≡ true
+persistent_stands : (fds : List Descriptor) (links : List Link) (n : ℕ) (s : StreamId)
+    → list_any (λ l. is_persistent l && same_stream l.lower s) links ≡ true → stands_within fds links n s ≡ true
 persistent_stands fds links zero s h = or_right _ _ h
 persistent_stands fds links (suc n) s h = or_left _ _ (persistent_stands fds links n s h)
 
 -- one of the links above is persistent, or the controlling stream of one stands
-by_link : (t : Link → Bool) (s : StreamId) (ls : List Link) → AllByRecursion (λ l. same_stream l.lower s ≡ true → is_persistent l ≡ false → t l ≡ true) ls → is_below ls s ≡ true
-    → (list_any (λ l. is_persistent l && same_stream l.lower s) ls || list_any (λ l. not (is_persistent l) && (same_stream l.lower s && t l)) ls) ≡ true
+by_link : (t : Link → Bool) (s : StreamId) (ls : List Link)
+    → AllByRecursion (λ l. same_stream l.lower s ≡ true → is_persistent l ≡ false → t l ≡ true) ls
+    → is_below ls s ≡ true
+    → (list_any (λ l. is_persistent l && same_stream l.lower s) ls
+    || list_any (λ l. not (is_persistent l) && (same_stream l.lower s && t l)) ls) ≡ true
 by_link t s [] h b = b
 by_link t s (l ∷ ls) h b = elim (cases_Bool (same_stream l.lower s)) [
   | inl here ↦ elim (cases_Bool (is_persistent l)) [
     | inl p ↦ or_left _ _ (or_left _ _ (and_from _ _ p here))
     | inr o ↦ or_right _ _ (or_left _ _ (and_from _ _ (ap not o) (and_from _ _ here (h.0 here o))))
   ]
-  | inr other ↦ one_less (list_any held_by ls) (list_any climbed ls) (held_by l) (climbed l) (by_link t s ls h.1 (rw other at b))
+  | inr other ↦ one_less (list_any held_by ls) (list_any climbed ls) (held_by l) (climbed l)
+      (by_link t s ls h.1 (rw other at b))
 ] where
   held_by : Link → Bool
   held_by k = is_persistent k && same_stream k.lower s
@@ -151,92 +200,129 @@ IsTight t l = is_held t l ≡ true → is_persistent l ≡ false → is_there t 
 abbrev pub IsHeldBelow : List Link → StreamTable → Type 0
 IsHeldBelow links t = (s : StreamId) → nat_lt 0 (number_at t.holds s) ≡ true → is_below links s ≡ true
 
-mutual_step : (links : List Link) (t : StreamTable) (n : ℕ) (s : StreamId) (ls : List Link) → nat_lt 0 (number_at t.holds s) ≡ true → links_to links s.driver ≤ suc n
+mutual_step : (links : List Link) (t : StreamTable) (n : ℕ) (s : StreamId) (ls : List Link)
+    → nat_lt 0 (number_at t.holds s) ≡ true → links_to links s.driver ≤ suc n
     → ((x : StreamId) → links_to links x.driver ≤ n → is_there t x ≡ true → stands_within t.fds links n x ≡ true)
     → AllByRecursion (IsTight t) ls → AllByRecursion (ClimbsToFewer links) ls
-    → AllByRecursion (λ l. same_stream l.lower s ≡ true → is_persistent l ≡ false → stands_within t.fds links n l.ctl ≡ true) ls
+    → AllByRecursion (λ l. same_stream l.lower s ≡ true → is_persistent l ≡ false
+    → stands_within t.fds links n l.ctl ≡ true) ls
 mutual_step links t n s [] up few ih h r = tt
 mutual_step links t n s (l ∷ ls) up few ih h r = (
   (λ here o.
       let same = stream_is l.lower s here in
       let held : is_held t l ≡ true = ap (λ (x : StreamId). nat_lt 0 (number_at t.holds x)) same ∙ up in
       let less = r.0 in
-      let at : links_to links l.lower.driver ≡ links_to links s.driver = ap (λ (x : StreamId). links_to links x.driver) same in
+      let at : links_to links l.lower.driver ≡ links_to links s.driver = ap (λ (x : StreamId). links_to links x.driver)
+      same in
       ih l.ctl (omega (arith, less, at, few)) (h.0 held o)),
   mutual_step links t n s ls up few ih h.1 r.1,
 )
 
-none_lower : (links : List Link) (s : StreamId) (ls : List Link) → links_to links s.driver ≤ 0 → AllByRecursion (ClimbsToFewer links) ls → is_below ls s ≡ false
+none_lower : (links : List Link) (s : StreamId) (ls : List Link) → links_to links s.driver ≤ 0
+    → AllByRecursion (ClimbsToFewer links) ls → is_below ls s ≡ false
 none_lower links s [] few r = refl
 none_lower links s (l ∷ ls) few r = elim (cases_Bool (same_stream l.lower s)) [
   | inl here ↦
-      let at : links_to links l.lower.driver ≡ links_to links s.driver = ap (λ (x : StreamId). links_to links x.driver) (stream_is l.lower s here) in
+      let at : links_to links l.lower.driver ≡ links_to links s.driver = ap (λ (x : StreamId). links_to links x.driver)
+      (stream_is l.lower s here) in
       let less = r.0 in
       absurd (omega (arith, less, at, few))
   | inr other ↦ rw other (none_lower links s ls few r.1)
 ]
 
-there_stands_within : (links : List Link) (t : StreamTable) (n : ℕ) (s : StreamId) → IsHeldBelow links t → AllByRecursion (IsTight t) links → AllByRecursion (ClimbsToFewer links) links
+there_stands_within : (links : List Link) (t : StreamTable) (n : ℕ) (s : StreamId) → IsHeldBelow links t
+    → AllByRecursion (IsTight t) links → AllByRecursion (ClimbsToFewer links) links
     → links_to links s.driver ≤ n → is_there t s ≡ true → stands_within t.fds links n s ≡ true
-there_stands_within links t zero s up h r few there = elim (or_cases (is_named t.fds s) (nat_lt 0 (number_at t.holds s)) there) [
-  | inl named ↦ named_stands t.fds links 0 s named
-  | inr held ↦ absurd (false≢true (sym (none_lower links s links few r) ∙ up s held))
-]
-there_stands_within links t (suc n) s up h r few there = elim (or_cases (is_named t.fds s) (nat_lt 0 (number_at t.holds s)) there) [
-  | inl named ↦ named_stands t.fds links (suc n) s named
-  | inr held ↦
-      let climb = mutual_step links t n s links held few (λ x less at. there_stands_within links t n x up h r less at) h r in
-      elim (or_cases (list_any (λ l. is_persistent l && same_stream l.lower s) links) (list_any (λ l. not (is_persistent l) && (same_stream l.lower s && stands_within t.fds links n l.ctl)) links) (by_link (λ l. stands_within t.fds links n l.ctl) s links climb (up s held))) [
-        | inl p ↦ persistent_stands t.fds links (suc n) s p
-        | inr o ↦ or_right _ _ o
-      ]
-]
+there_stands_within links t zero s up h r few there =
+    elim (or_cases (is_named t.fds s) (nat_lt 0 (number_at t.holds s)) there) [
+      | inl named ↦ named_stands t.fds links 0 s named
+      | inr held ↦ absurd (false≢true (sym (none_lower links s links few r) ∙ up s held))
+    ]
+there_stands_within links t (suc n) s up h r few there =
+    elim (or_cases (is_named t.fds s) (nat_lt 0 (number_at t.holds s)) there) [
+      | inl named ↦ named_stands t.fds links (suc n) s named
+      | inr held ↦
+          let climb = mutual_step links t n s links held few
+          (λ x less at. there_stands_within links t n x up h r less at) h r in
+          elim (or_cases (list_any (λ l. is_persistent l && same_stream l.lower s) links)
+          (list_any (λ l. not (is_persistent l) && (same_stream l.lower s && stands_within t.fds links n l.ctl)) links)
+          (by_link (λ l. stands_within t.fds links n l.ctl) s links climb (up s held))) [
+            | inl p ↦ persistent_stands t.fds links (suc n) s p
+            | inr o ↦ or_right _ _ o
+          ]
+    ]
 
 -- what the law of the model says: as many climbs as there are drivers suffice
 abbrev pub DoClimbsSuffice : Type 0
-DoClimbsSuffice = (drivers : List DriverSpec) (c : Configuration) (s : StreamId) → AreLinksSound c.links → All (λ l. IsKnown drivers l.ctl) c.links → (IsTrue (exists drivers c s) ↔ Stands c s)
+DoClimbsSuffice = (drivers : List DriverSpec) (c : Configuration) (s : StreamId) → AreLinksSound c.links
+    → All (λ l. IsKnown drivers l.ctl) c.links → (IsTrue (exists drivers c s) ↔ Stands c s)
 
 -- what is there exists
-pub there_exists : (drivers : List DriverSpec) (c : Configuration) (t : StreamTable) (s : StreamId) → DoClimbsSuffice → IsReachPath → DoPathsJoin → AreLinksSound c.links → All (λ l. IsKnown drivers l.ctl) c.links
-    → t.fds ≡ c.fds → IsHeldBelow c.links t → AllByRecursion (IsTight t) c.links → is_there t s ≡ true → exists drivers c s ≡ true
+pub there_exists : (drivers : List DriverSpec) (c : Configuration) (t : StreamTable) (s : StreamId) → DoClimbsSuffice
+    → IsReachPath → DoPathsJoin → AreLinksSound c.links → All (λ l. IsKnown drivers l.ctl) c.links
+    → t.fds ≡ c.fds → IsHeldBelow c.links t → AllByRecursion (IsTight t) c.links → is_there t s ≡ true
+    → exists drivers c s ≡ true
 there_exists drivers c t s climbs path join sound known same up h there =
     let r = recursion_from_All (ClimbsToFewer c.links) c.links (climbs_to_fewer c.links path join sound.no_cycle) in
     let within = there_stands_within c.links t (links_to c.links s.driver) s up h r (omega arith) there in
-    (climbs drivers c s sound known).1 (record { climbs = links_to c.links s.driver; within = subst (λ (fds : List Descriptor). stands_within fds c.links (links_to c.links s.driver) s ≡ true) same within })
+    (climbs drivers c s sound known).1
+    (record {
+      climbs = links_to c.links s.driver;
+      within = subst
+          (λ (fds : List Descriptor). stands_within fds c.links (links_to c.links s.driver) s ≡ true) same within;
+    })
 
 -- ---- the table, where each stream below a link is held
 
 -- a stream is held exactly where it is below a link
-pub held_is_below : (links : List Link) (t : StreamTable) (s : StreamId) → AreHeld links t → nat_lt 0 (number_at t.holds s) ≡ is_below links s
+pub held_is_below : (links : List Link) (t : StreamTable) (s : StreamId) → AreHeld links t
+    → nat_lt 0 (number_at t.holds s) ≡ is_below links s
 held_is_below links t s h = rw (h s) (one (is_below links s)) where
   one : (b : Bool) → nat_lt 0 (if b then 1 else 0) ≡ b
   one true = refl
   one false = refl
 
-pub there_is : (links : List Link) (t : StreamTable) (s : StreamId) → AreHeld links t → is_there t s ≡ (is_named t.fds s || is_below links s)
+-- where each stream below a link has a hold, a stream is there if a descriptor names it or a link is above it
+pub there_is : (links : List Link) (t : StreamTable) (s : StreamId) → AreHeld links t
+    → is_there t s ≡ (is_named t.fds s || is_below links s)
 there_is links t s h = ap (λ (b : Bool). is_named t.fds s || b) (held_is_below links t s h)
 
-all_linked : (t : StreamTable) (ls : List Link) → list_all (λ l. is_persistent l || is_there t l.ctl) ls ≡ true → AllByRecursion (IsTight t) ls
+all_linked : (t : StreamTable) (ls : List Link) → list_all (λ l. is_persistent l || is_there t l.ctl) ls ≡ true
+    → AllByRecursion (IsTight t) ls
 all_linked t [] h = tt
 all_linked t (l ∷ ls) h =
-    let p = and_parts (is_persistent l || is_there t l.ctl) (list_all (λ k. is_persistent k || is_there t k.ctl) ls) h in
-    ((λ held o. elim (or_cases (is_persistent l) (is_there t l.ctl) p.0) [ inl a ↦ absurd (false≢true (sym o ∙ a)) | inr b ↦ b ]), all_linked t ls p.1)
+    let p = and_parts (is_persistent l || is_there t l.ctl)
+    (list_all (λ k. is_persistent k || is_there t k.ctl) ls) h in (
+      (λ held o. elim (or_cases (is_persistent l) (is_there t l.ctl) p.0)
+          [ inl a ↦ absurd (false≢true (sym o ∙ a)) | inr b ↦ b ]),
+      all_linked t ls p.1,
+    )
 
 -- so the table tells which streams exist
-pub tells : (drivers : List DriverSpec) (c : Configuration) (t : StreamTable) → DoClimbsSuffice → IsReachPath → DoPathsJoin → AreLinksSound c.links → All (λ l. IsKnown drivers l.ctl) c.links
-    → t.fds ≡ c.fds → AreHeld c.links t → list_all (λ l. is_persistent l || is_there t l.ctl) c.links ≡ true → TellsExisting drivers c t
+pub tells : (drivers : List DriverSpec) (c : Configuration) (t : StreamTable) → DoClimbsSuffice → IsReachPath
+    → DoPathsJoin → AreLinksSound c.links → All (λ l. IsKnown drivers l.ctl) c.links
+    → t.fds ≡ c.fds → AreHeld c.links t → list_all (λ l. is_persistent l || is_there t l.ctl) c.links ≡ true
+    → TellsExisting drivers c t
 tells drivers c t climbs path join sound known same held linked = λ s.
     same_test (is_there t s) (exists drivers c s)
-    (there_exists drivers c t s climbs path join sound known same (λ x up. sym (held_is_below c.links t x held) ∙ up) (all_linked t c.links linked))
-    (λ e. there_is c.links t s held ∙ subst (λ (fds : List Descriptor). (is_named fds s || is_below c.links s) ≡ true) (sym same) (stands_there c.fds c.links (length drivers) s e))
+    (there_exists drivers c t s climbs path join sound known same (λ x up. sym (held_is_below c.links t x held) ∙ up)
+    (all_linked t c.links linked))
+    (λ e. there_is c.links t s held ∙ subst (λ (fds : List Descriptor). (is_named fds s || is_below c.links s) ≡ true)
+    (sym same) (stands_there c.fds c.links (length drivers) s e))
 
 -- in what is swept the controlling stream of each ordinary link is there
-pub swept_is_linked : (drivers : List DriverSpec) (c : Configuration) (t : StreamTable) → t.fds ≡ c.fds → AreHeld c.links t → list_all (λ l. is_persistent l || exists drivers c l.ctl) c.links ≡ true
+pub swept_is_linked : (drivers : List DriverSpec) (c : Configuration) (t : StreamTable) → t.fds ≡ c.fds
+    → AreHeld c.links t → list_all (λ l. is_persistent l || exists drivers c l.ctl) c.links ≡ true
     → list_all (λ l. is_persistent l || is_there t l.ctl) c.links ≡ true
-swept_is_linked drivers c t same held h = all_weaker (λ l. is_persistent l || exists drivers c l.ctl) (λ l. is_persistent l || is_there t l.ctl) c.links
+swept_is_linked drivers c t same held h =
+    all_weaker (λ l. is_persistent l || exists drivers c l.ctl) (λ l. is_persistent l || is_there t l.ctl) c.links
     (λ l e. elim (or_cases (is_persistent l) (exists drivers c l.ctl) e) [
       | inl p ↦ or_left _ _ p
-      | inr o ↦ or_right _ _ (there_is c.links t l.ctl held ∙ subst (λ (fds : List Descriptor). (is_named fds l.ctl || is_below c.links l.ctl) ≡ true) (sym same) (stands_there c.fds c.links (length drivers) l.ctl o))
+      | inr o ↦
+          or_right _ _
+          (there_is c.links t l.ctl held
+          ∙ subst (λ (fds : List Descriptor). (is_named fds l.ctl || is_below c.links l.ctl) ≡ true) (sym same)
+          (stands_there c.fds c.links (length drivers) l.ctl o))
     ]) h
 
 -- ---- one link more
@@ -248,27 +334,35 @@ holds_few links s = one (is_below links s) where
   one true = let k : 1 ≤ 1 = omega arith in k
   one false = let k : 0 ≤ 1 = omega arith in k
 
-below_more : (links : List Link) (l : Link) (s : StreamId) → is_below (links ++ l ∷ []) s ≡ (is_below links s || same_stream l.lower s)
+below_more : (links : List Link) (l : Link) (s : StreamId)
+    → is_below (links ++ l ∷ []) s ≡ (is_below links s || same_stream l.lower s)
 below_more [] l s = or_none (same_stream l.lower s) where
   or_none : (b : Bool) → (b || false) ≡ b
   or_none true = refl
   or_none false = refl
-below_more (k ∷ ks) l s = elim (cases_Bool (same_stream k.lower s)) [ inl t ↦ rw t refl | inr f ↦ rw f (below_more ks l s) ]
+below_more (k ∷ ks) l s =
+    elim (cases_Bool (same_stream k.lower s)) [ inl t ↦ rw t refl | inr f ↦ rw f (below_more ks l s) ]
 
 -- a link is refused above a stream that is below one
-pub not_below_yet : (t : LinkList) (ctl lower : StreamId) (id : ℕ) → IsLinked (refusal t ctl lower) t (Ok id) → is_below t.links lower ≡ false
-not_below_yet t ctl lower id h = false_from_ne_true _ (λ b. let k : Ok id ≡ Err link_fault.Already = rw b at h in absurd cc)
+pub not_below_yet : (t : LinkList) (ctl lower : StreamId) (id : ℕ) → IsLinked (refusal t ctl lower) t (Ok id)
+    → is_below t.links lower ≡ false
+not_below_yet t ctl lower id h =
+    false_from_ne_true _ (λ b. let k : Ok id ≡ Err link_fault.Already = rw b at h in absurd cc)
 
 -- so its lower stream has one hold from then on
-pub held_by_one_more : (old : LinkList) (new : LinkList) (ctl lower : StreamId) (kind : LinkKind) (t u : StreamTable) → is_below old.links lower ≡ false → new ≡ with_link old ctl lower kind
+pub held_by_one_more : (old : LinkList) (new : LinkList) (ctl lower : StreamId) (kind : LinkKind) (t u : StreamTable)
+    → is_below old.links lower ≡ false → new ≡ with_link old ctl lower kind
     → AreHeld old.links t → HasHolds t lower (number_at t.holds lower + 1) u → AreHeld new.links u
 held_by_one_more old new ctl lower kind t u free is held h = λ s.
     let l : Link = record { id = old.next_id; ctl = ctl; lower = lower; kind = kind } in
     let links : new.links ≡ old.links ++ l ∷ [] = ap (λ (x : LinkList). x.links) is in
-    let more = ap (λ (ls : List Link). is_below ls s) links ∙ below_more old.links l s ∙ ap (λ (b : Bool). is_below old.links s || b) (turned lower s) in
+    let more = ap (λ (ls : List Link). is_below ls s) links ∙ below_more old.links l s
+    ∙ ap (λ (b : Bool). is_below old.links s || b) (turned lower s) in
     h.holds s ∙ by s (same_stream s lower) ∙ ap (λ (b : Bool). if b then 1 else 0) (sym more) where
       turned : (x y : StreamId) → same_stream x y ≡ same_stream y x
-      turned x y = same_test (same_stream x y) (same_stream y x) (λ e. ap (λ (z : StreamId). same_stream z x) (sym (stream_is x y e)) ∙ stream_self x) (λ e. ap (λ (z : StreamId). same_stream z y) (sym (stream_is y x e)) ∙ stream_self y)
+      turned x y = same_test (same_stream x y) (same_stream y x)
+          (λ e. ap (λ (z : StreamId). same_stream z x) (sym (stream_is x y e)) ∙ stream_self x)
+          (λ e. ap (λ (z : StreamId). same_stream z y) (sym (stream_is y x e)) ∙ stream_self y)
 
       none : number_at t.holds lower ≡ 0
       none = held lower ∙ ap (λ (b : Bool). if b then 1 else 0) free
@@ -281,12 +375,14 @@ held_by_one_more old new ctl lower kind t u free is held h = λ s.
       as_before true = refl
       as_before false = refl
 
-      by : (s : StreamId) (v : Bool) → (if v then number_at t.holds lower + 1 else number_at t.holds s) ≡ (if (is_below old.links s || v) then 1 else 0)
+      by : (s : StreamId) (v : Bool) → (if v then number_at t.holds lower + 1 else number_at t.holds s)
+          ≡ (if (is_below old.links s || v) then 1 else 0)
       by s true = ap (λ (n : ℕ). n + 1) none ∙ one (is_below old.links s)
       by s false = held s ∙ as_before (is_below old.links s)
 
 -- the stream of a descriptor is there
-pub fd_is_there : (t : StreamTable) (process fd : ℕ) (s : StreamId) → or_fault BadDescriptor (stream_at t.fds process fd) ≡ Ok s → is_there t s ≡ true
+pub fd_is_there : (t : StreamTable) (process fd : ℕ) (s : StreamId)
+    → or_fault BadDescriptor (stream_at t.fds process fd) ≡ Ok s → is_there t s ≡ true
 fd_is_there t process fd s h = or_left _ _ (named_stream process fd t.fds s (some (stream_at t.fds process fd) h)) where
   some : (o : Option StreamId) → or_fault BadDescriptor o ≡ Ok s → o ≡ Some s
   some None e = absurd cc

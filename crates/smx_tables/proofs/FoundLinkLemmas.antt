@@ -1,5 +1,6 @@
 -- Links that are found.
-use Rattle.std.proofs.Common.{◌≡◌, ℕ, zero, suc, ◌<◌, Bool, true, List, [], ◌∷◌, length, get_or, find, Option, Some, refl, sym, subst, ◌∙◌, arith, inl, inr}
+use Rattle.std.proofs.Common.{◌≡◌, ℕ, zero, suc, ◌<◌, Bool, true, List, [], ◌∷◌, length, get_or, find, Option, Some}
+use Rattle.std.proofs.Common.{refl, sym, subst, ◌∙◌, arith, inl, inr}
 use Rattle.std.specs.List.{AllByRecursion, list_any}
 use Rattle.std.proofs.lemmas.Bool.{cases_Bool, or_left, or_right, false≢true}
 use Rattle.smx_types.specs.declared.link.Link.{Link}
@@ -8,13 +9,15 @@ use Rattle.smx_model.specs.Paths.{AreLowersApart}
 use Rattle.smx_model.specs.Standing.{is_below}
 use Rattle.smx_tables.proofs.AboveLemmas.{IsOnce, once_below, stream_self}
 
-any_at : (test : Link → Bool) (ls : List Link) (i : ℕ) (d : Link) → i < length ls → test (get_or ls i d) ≡ true → list_any test ls ≡ true
+any_at : (test : Link → Bool) (ls : List Link) (i : ℕ) (d : Link) → i < length ls → test (get_or ls i d) ≡ true
+    → list_any test ls ≡ true
 any_at test [] i d lt h = absurd (omega arith)
 any_at test (l ∷ ls) zero d lt h = or_left _ _ h
 any_at test (l ∷ ls) (suc i) d lt h = or_right _ _ (any_at test ls i d (omega arith) h)
 
 -- where one link at most passes, each that passes is the one that is found
-pub found_itself : (test : Link → Bool) (ls : List Link) (i : ℕ) (d : Link) → IsOnce test ls → i < length ls → test (get_or ls i d) ≡ true → find test ls ≡ Some (get_or ls i d)
+pub found_itself : (test : Link → Bool) (ls : List Link) (i : ℕ) (d : Link) → IsOnce test ls → i < length ls
+    → test (get_or ls i d) ≡ true → find test ls ≡ Some (get_or ls i d)
 found_itself test [] i d o lt h = absurd (omega arith)
 found_itself test (l ∷ ls) zero d o lt h = rw h refl
 found_itself test (l ∷ ls) (suc i) d o lt h = elim (cases_Bool (test l)) [
@@ -23,18 +26,23 @@ found_itself test (l ∷ ls) (suc i) d o lt h = elim (cases_Bool (test l)) [
 ]
 
 -- what holds of each link holds of the one that is found
-pub found_has : (P : Link → Type 0) (test : Link → Bool) (ls : List Link) (l : Link) → AllByRecursion P ls → find test ls ≡ Some l → (test l ≡ true) × P l
+pub found_has : (P : Link → Type 0) (test : Link → Bool) (ls : List Link) (l : Link) → AllByRecursion P ls
+    → find test ls ≡ Some l → (test l ≡ true) × P l
 found_has P test [] l h e = absurd cc
 found_has P test (k ∷ ks) l h e = elim (cases_Bool (test k)) [
-  | inl t ↦ let x : ◌≡◌ {A = Option Link} (Some k) (Some l) = rw t at e in let same : k ≡ l = cc in (subst (λ (y : Link). test y ≡ true) same t, subst P same h.0)
+  | inl t ↦ let x : ◌≡◌ {A = Option Link} (Some k) (Some l) =
+      rw t at e in let same : k ≡ l = cc in (subst (λ (y : Link). test y ≡ true) same t, subst P same h.0)
   | inr f ↦ found_has P test ks l h.1 (rw f at e)
 ]
 
+-- the lower stream of each link is below a link
 pub below_at : (ls : List Link) (i : ℕ) (d : Link) → i < length ls → is_below ls (get_or ls i d).lower ≡ true
-below_at ls i d lt = any_at (λ l. same_stream l.lower (get_or ls i d).lower) ls i d lt (stream_self (get_or ls i d).lower)
+below_at ls i d lt =
+    any_at (λ l. same_stream l.lower (get_or ls i d).lower) ls i d lt (stream_self (get_or ls i d).lower)
 
 -- two links with one lower stream are one
-pub one_link : (ls : List Link) (i j : ℕ) (d : Link) → AreLowersApart ls → i < length ls → j < length ls → same_stream (get_or ls j d).lower (get_or ls i d).lower ≡ true → get_or ls j d ≡ get_or ls i d
+pub one_link : (ls : List Link) (i j : ℕ) (d : Link) → AreLowersApart ls → i < length ls → j < length ls
+    → same_stream (get_or ls j d).lower (get_or ls i d).lower ≡ true → get_or ls j d ≡ get_or ls i d
 one_link ls i j d apart lt in_range same =
     let s = (get_or ls i d).lower in
     let once = once_below s ls apart in

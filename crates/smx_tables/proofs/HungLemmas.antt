@@ -1,5 +1,6 @@
 -- What is left of the hung-up streams where streams go.
-use Rattle.std.proofs.Common.{◌≡◌, ℕ, ◌≤◌, Bool, true, false, List, [], ◌∷◌, filter, refl, sym, ap, ◌∙◌, arith, inl, inr}
+use Rattle.std.proofs.Common.{◌≡◌, ℕ, ◌≤◌, Bool, true, false, List, [], ◌∷◌, filter, refl, sym, ap, ◌∙◌, arith, inl}
+use Rattle.std.proofs.Common.{inr}
 use Rattle.std.specs.Prelude.{nat_lt}
 use Rattle.std.specs.List.{list_all}
 use Rattle.std.proofs.lemmas.Bool.{and_from, cases_Bool, or_cases, or_left, or_right}
@@ -9,13 +10,15 @@ use Rattle.smx_types.specs.declared.stream.StreamId.{StreamId}
 use Rattle.smx_model.specs.Configuration.{same_stream}
 use Rattle.smx_model.specs.Hangups.{is_hung}
 use Rattle.smx_model.specs.Standing.{is_named}
-use Rattle.smx_streams.specs.StreamTables.{StreamTable, AreHungsSound, HasHolds, LeavesHungs, number_at, exists as is_there}
+use Rattle.smx_streams.specs.StreamTables.{StreamTable, AreHungsSound, HasHolds, LeavesHungs, number_at}
+use Rattle.smx_streams.specs.StreamTables.{exists as is_there}
 use Rattle.smx_tables.proofs.AboveLemmas.{stream_is, stream_self}
 
 -- ---- tests of streams
 
 -- a stricter test after another keeps what it keeps alone
-pub stricter : (p q : StreamId → Bool) (xs : List StreamId) → ((x : StreamId) → p x ≡ true → q x ≡ true) → filter p (filter q xs) ≡ filter p xs
+pub stricter : (p q : StreamId → Bool) (xs : List StreamId) → ((x : StreamId) → p x ≡ true → q x ≡ true)
+    → filter p (filter q xs) ≡ filter p xs
 stricter p q [] h = refl
 stricter p q (x ∷ xs) h = elim (cases_Bool (p x)) [
   | inl t ↦ rw (h x t, t) (ap (λ (ys : List StreamId). x ∷ ys) (stricter p q xs h))
@@ -31,13 +34,18 @@ kept_same p q (x ∷ xs) h = elim (cases_Bool (q x)) [
 ]
 
 -- a test that each passes keeps all
-pub all_pass : (p : StreamId → Bool) (xs : List StreamId) → ((x : StreamId) → is_hung xs x ≡ true → p x ≡ true) → xs ≡ filter p xs
+pub all_pass : (p : StreamId → Bool) (xs : List StreamId) → ((x : StreamId) → is_hung xs x ≡ true → p x ≡ true)
+    → xs ≡ filter p xs
 all_pass p [] h = refl
-all_pass p (x ∷ xs) h = rw (h x (or_left _ _ (stream_self x))) (ap (λ (ys : List StreamId). x ∷ ys) (all_pass p xs (λ y t. h y (or_right (same_stream x y) _ t))))
+all_pass p (x ∷ xs) h = rw (h x (or_left _ _ (stream_self x)))
+    (ap (λ (ys : List StreamId). x ∷ ys) (all_pass p xs (λ y t. h y (or_right (same_stream x y) _ t))))
 
-pub pass_all : (p : StreamId → Bool) (xs : List StreamId) → ((x : StreamId) → is_hung xs x ≡ true → p x ≡ true) → list_all p xs ≡ true
+-- where each stream that has hung up passes a test, the whole list does
+pub pass_all : (p : StreamId → Bool) (xs : List StreamId) → ((x : StreamId) → is_hung xs x ≡ true → p x ≡ true)
+    → list_all p xs ≡ true
 pass_all p [] h = refl
-pass_all p (x ∷ xs) h = and_from _ _ (h x (or_left _ _ (stream_self x))) (pass_all p xs (λ y t. h y (or_right (same_stream x y) _ t)))
+pass_all p (x ∷ xs) h =
+    and_from _ _ (h x (or_left _ _ (stream_self x))) (pass_all p xs (λ y t. h y (or_right (same_stream x y) _ t)))
 
 -- ---- tables of streams
 
@@ -46,11 +54,13 @@ pub none_went : (t : StreamTable) → AreHungsSound t → LeavesHungs t t
 none_went t sound = all_pass (is_there t) t.hungs sound.exist
 
 -- after two changes those are left that exist then
-pub left_twice : (a b c : StreamTable) → LeavesHungs a b → LeavesHungs b c → ((x : StreamId) → is_there c x ≡ true → is_there b x ≡ true) → LeavesHungs a c
+pub left_twice : (a b c : StreamTable) → LeavesHungs a b → LeavesHungs b c
+    → ((x : StreamId) → is_there c x ≡ true → is_there b x ≡ true) → LeavesHungs a c
 left_twice a b c first second h = second ∙ ap (filter (is_there c)) first ∙ stricter (is_there c) (is_there b) a.hungs h
 
 -- what is there with fewer holds was there
-pub there_before : (t u : StreamTable) (s x : StreamId) (n : ℕ) → HasHolds t s n u → n ≤ number_at t.holds s → is_there u x ≡ true → is_there t x ≡ true
+pub there_before : (t u : StreamTable) (s x : StreamId) (n : ℕ) → HasHolds t s n u → n ≤ number_at t.holds s
+    → is_there u x ≡ true → is_there t x ≡ true
 there_before t u s x n h few there = elim (or_cases (is_named u.fds x) (nat_lt 0 (number_at u.holds x)) there) [
   | inl a ↦ or_left _ _ (ap (λ (fds : List Descriptor). is_named fds x) (sym h.fds) ∙ a)
   | inr b ↦ or_right _ _ (some (number_at u.holds x) (number_at t.holds x) (not_more (same_stream x s) refl) b)

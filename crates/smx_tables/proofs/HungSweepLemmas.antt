@@ -15,28 +15,38 @@ use Rattle.smx_tables.proofs.HungLemmas.{stricter}
 use Rattle.smx_tables.proofs.RemovalLemmas.{any_kept}
 
 -- where a table tells which streams exist, and of the hung-up ones it has left those
-pub dead_of_left : (drivers : List DriverSpec) (c : Configuration) (t : StreamTable) (hungs : List StreamId) → TellsExisting drivers c t → hungs ≡ filter (is_there t) c.hungs
+pub dead_of_left : (drivers : List DriverSpec) (c : Configuration) (t : StreamTable) (hungs : List StreamId)
+    → TellsExisting drivers c t → hungs ≡ filter (is_there t) c.hungs
     → without_dead_streams drivers (record c { hungs = hungs }) ≡ without_dead_streams drivers c
 dead_of_left drivers c t hungs told left =
     ap (λ (hs : List StreamId). record (without_dead_streams drivers c) { hungs = filter (exists drivers c) hs }) left
-    ∙ ap (λ (hs : List StreamId). record (without_dead_streams drivers c) { hungs = hs }) (stricter (exists drivers c) (is_there t) c.hungs (λ x up. told x ∙ up))
+    ∙ ap (λ (hs : List StreamId). record (without_dead_streams drivers c) { hungs = hs })
+    (stricter (exists drivers c) (is_there t) c.hungs (λ x up. told x ∙ up))
 
 -- what exists once some links are removed is there as long as they are held
-exists_there : (drivers : List DriverSpec) (c : Configuration) (t : StreamTable) (goes : Link → Bool) (x : StreamId) → AreHeld c.links t → t.fds ≡ c.fds → exists drivers (without_links c goes) x ≡ true → is_there t x ≡ true
+exists_there : (drivers : List DriverSpec) (c : Configuration) (t : StreamTable) (goes : Link → Bool) (x : StreamId)
+    → AreHeld c.links t → t.fds ≡ c.fds → exists drivers (without_links c goes) x ≡ true → is_there t x ≡ true
 exists_there drivers c t goes x held same up =
     there_is c.links t x held
     ∙ subst (λ (fds : List Descriptor). (is_named fds x || is_below c.links x) ≡ true) (sym same)
-    (elim (or_cases (is_named c.fds x) (is_below (filter (λ l. not (goes l)) c.links) x) (stands_there c.fds (filter (λ l. not (goes l)) c.links) (length drivers) x up)) [
+    (elim (or_cases (is_named c.fds x) (is_below (filter (λ l. not (goes l)) c.links) x)
+    (stands_there c.fds (filter (λ l. not (goes l)) c.links) (length drivers) x up)) [
       | inl a ↦ or_left _ _ a
       | inr b ↦ or_right _ _ (before c.links b)
     ]) where
       before : (ls : List Link) → is_below (filter (λ l. not (goes l)) ls) x ≡ true → is_below ls x ≡ true
-      before ls b = any_weaker (λ l. same_stream l.lower x && not (goes l)) (λ l. same_stream l.lower x) ls (λ l h. (and_parts (same_stream l.lower x) (not (goes l)) h).0) (sym (any_kept (λ l. same_stream l.lower x) (λ l. not (goes l)) ls) ∙ b)
+      before ls b = any_weaker (λ l. same_stream l.lower x && not (goes l)) (λ l. same_stream l.lower x) ls
+          (λ l h. (and_parts (same_stream l.lower x) (not (goes l)) h).0)
+          (sym (any_kept (λ l. same_stream l.lower x) (λ l. not (goes l)) ls) ∙ b)
 
 -- where a table has left those hung-up streams that are there
-pub sweep_of_left : (drivers : List DriverSpec) (c : Configuration) (t : StreamTable) (hungs : List StreamId) → AreHeld c.links t → t.fds ≡ c.fds → c.hungs ≡ filter (is_there t) hungs
+pub sweep_of_left : (drivers : List DriverSpec) (c : Configuration) (t : StreamTable) (hungs : List StreamId)
+    → AreHeld c.links t → t.fds ≡ c.fds → c.hungs ≡ filter (is_there t) hungs
     → after_sweep drivers c ≡ after_sweep drivers (record c { hungs = hungs })
 sweep_of_left drivers c t hungs held same left =
     let orphaned : Link → Bool = λ l. not (is_persistent l) && not (exists drivers c l.ctl) in
-    ap (λ (hs : List StreamId). record (after_sweep drivers c) { hungs = filter (exists drivers (without_links c orphaned)) hs }) left
-    ∙ ap (λ (hs : List StreamId). record (after_sweep drivers c) { hungs = hs }) (stricter (exists drivers (without_links c orphaned)) (is_there t) hungs (λ x up. exists_there drivers c t orphaned x held same up))
+    ap (λ (hs : List StreamId).
+    record (after_sweep drivers c) { hungs = filter (exists drivers (without_links c orphaned)) hs }) left
+    ∙ ap (λ (hs : List StreamId). record (after_sweep drivers c) { hungs = hs })
+    (stricter (exists drivers (without_links c orphaned)) (is_there t) hungs
+    (λ x up. exists_there drivers c t orphaned x held same up))

@@ -1,7 +1,7 @@
 pub mod AboveLemmas
 pub mod HungLemmas
 pub mod FoundLemmas
-pub mod TableLemmas
+pub mod LinkWalkLemmas
 pub mod ClimbLemmas
 pub mod ExistingLemmas
 pub mod DeadStreamLemmas

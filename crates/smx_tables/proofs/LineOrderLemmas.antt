@@ -1,5 +1,6 @@
 -- Lines each of which shows an item, in order, and whether they are all lines of a list.
-use Rattle.std.proofs.Common.{◌≡◌, ℕ, ◌+◌, ◌<◌, ◌≤◌, Bool, true, false, ◌&&◌, List, [], ◌∷◌, length, map, drop, get_or, Option, Some, None, refl, sym, ap, ◌∙◌, add-one, drop-cons}
+use Rattle.std.proofs.Common.{◌≡◌, ℕ, ◌+◌, ◌<◌, ◌≤◌, Bool, true, false, ◌&&◌, List, [], ◌∷◌, length, map, drop, get_or}
+use Rattle.std.proofs.Common.{Option, Some, None, refl, sym, ap, ◌∙◌, add-one, drop-cons}
 use Rattle.std.specs.Prelude.{◌↔◌}
 use Rattle.std.specs.List.{All, AllByRecursion}
 use Rattle.std.specs.Option.{option_map_or}
@@ -25,7 +26,8 @@ module _ {X Y : Type 0} (shown : Y → Option X) (before : X → X → Bool) whe
 
   -- what the next line shows decides, and then the others
   at_line : (last : Option X) (ys : List Y) (i : ℕ) (y : Y) (all : Bool) → i < length ys → y ≡ get_or ys i y
-      → in_order last (drop i ys) ≡ all → option_map_or (λ x. follows last x && in_order (Some x) (drop (i + 1) ys)) (shown y) false ≡ all
+      → in_order last (drop i ys) ≡ all
+      → option_map_or (λ x. follows last x && in_order (Some x) (drop (i + 1) ys)) (shown y) false ≡ all
   at_line last ys i y all lt at e =
       ap (λ z. option_map_or (λ x. follows last x && in_order (Some x) (drop (i + 1) ys)) (shown z) false) at
       ∙ (ap (in_order last) (sym (split i ys y lt)) ∙ e)
@@ -36,7 +38,8 @@ module _ {X Y : Type 0} (shown : Y → Option X) (before : X → X → Bool) whe
   line_of_none last ys i y all lt at is e = sym (rw (sym is) at (at_line last ys i y all lt at e))
 
   -- a line that shows one that doesn't come after the last
-  pub line_too_late : (last : Option X) (ys : List Y) (i : ℕ) (y : Y) (x : X) (all : Bool) → i < length ys → y ≡ get_or ys i y
+  pub line_too_late : (last : Option X) (ys : List Y) (i : ℕ) (y : Y) (x : X) (all : Bool) → i < length ys
+      → y ≡ get_or ys i y
       → Some x ≡ shown y → false ≡ follows last x → in_order last (drop i ys) ≡ all → all ≡ false
   line_too_late last ys i y x all lt at is after e = sym (rw (sym is, sym after) at (at_line last ys i y all lt at e))
 
@@ -76,7 +79,8 @@ module _ {X Y : Type 0} (shown : Y → Option X) (before : X → X → Bool) whe
     follow_none (Some p) = tt
 
     -- where the first does, all come after the last one
-    follow_all : (last : Option X) (x : X) (xs : List X) → follows last x ≡ true → ComesBefore before x xs → Follow last (x ∷ xs)
+    follow_all : (last : Option X) (x : X) (xs : List X) → follows last x ≡ true → ComesBefore before x xs
+        → Follow last (x ∷ xs)
     follow_all None x xs h k = tt
     follow_all (Some p) x xs h k = (h, before_all p x xs h k)
 
@@ -86,7 +90,8 @@ module _ {X Y : Type 0} (shown : Y → Option X) (before : X → X → Bool) whe
     follow_first (Some p) x xs h = h.0
 
     -- what passes a test is there
-    some_of : (o : Option X) (test : X → Bool) → option_map_or test o false ≡ true → (x : X) × (o ≡ Some x) × (test x ≡ true)
+    some_of : (o : Option X) (test : X → Bool) → option_map_or test o false ≡ true
+        → (x : X) × (o ≡ Some x) × (test x ≡ true)
     some_of None test h = absurd cc
     some_of (Some x) test h = (x, refl, h)
 

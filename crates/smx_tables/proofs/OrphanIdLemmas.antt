@@ -1,5 +1,6 @@
 -- The ids of links are collected while the links' lower streams are released.
-use Rattle.std.proofs.Common.{◌≡◌, ℕ, ◌-◌, ◌<◌, ◌≤◌, Bool, true, false, ◌&&◌, ◌||◌, not, eqb, List, [], ◌∷◌, ◌++◌, length, length-append, find, Some, if◌then◌else◌, refl, sym, ap, subst, ◌∙◌, arith}
+use Rattle.std.proofs.Common.{◌≡◌, ℕ, ◌-◌, ◌<◌, ◌≤◌, Bool, true, false, ◌&&◌, ◌||◌, not, eqb, List, [], ◌∷◌, ◌++◌}
+use Rattle.std.proofs.Common.{length, length-append, find, Some, if◌then◌else◌, refl, sym, ap, subst, ◌∙◌, arith}
 use Rattle.std.specs.Prelude.{nat_lt, slice_get}
 use Rattle.std.specs.List.{list_any}
 use Rattle.std.proofs.lemmas.Option.{slice_get_within}
@@ -22,30 +23,38 @@ use Rattle.smx_tables.proofs.TouchLemmas.{few_below, none_free}
 
 -- ---- at first, where each stream below a link is held
 
-pub none_released_yet : (links : List Link) (t : StreamTable) (ids : List ℕ) (room : ℕ) → AreHeld links t → ids ≡ [] → length (ordinary_of links) ≤ room → AreReleased links t ids room
+-- where each stream below a link has a hold, no stream was released, and no id is collected
+pub none_released_yet : (links : List Link) (t : StreamTable) (ids : List ℕ) (room : ℕ) → AreHeld links t → ids ≡ []
+    → length (ordinary_of links) ≤ room → AreReleased links t ids room
 none_released_yet links t ids room held none enough = record {
-  same = λ id. ap (λ (xs : List ℕ). is_listed xs id) none ∙ sym (ap (list_any (λ (l : Link). eqb l.id id)) (none_free links t held));
+  same = λ id. ap (λ (xs : List ℕ). is_listed xs id) none
+      ∙ sym (ap (list_any (λ (l : Link). eqb l.id id)) (none_free links t held));
   enough = omega (arith, ap length none, few_below links t held (ordinary_of links), enough);
 }
 
 -- ---- one more
 
 -- the link at a place is the one above its lower stream
-found_at : (links : List Link) (i : ℕ) (l : Link) → AreLowersApart links → Some l ≡ slice_get links i → find (λ k. same_stream k.lower l.lower) links ≡ Some l
+found_at : (links : List Link) (i : ℕ) (l : Link) → AreLowersApart links → Some l ≡ slice_get links i
+    → find (λ k. same_stream k.lower l.lower) links ≡ Some l
 found_at links i l apart at =
     let here = this_one links i l at in
-    found_itself (λ k. same_stream k.lower l.lower) links i l (once_below l.lower links apart) (slice_get_within links i l (sym at))
+    found_itself (λ k. same_stream k.lower l.lower) links i l (once_below l.lower links apart)
+    (slice_get_within links i l (sym at))
     (ap (λ (k : Link). same_stream k.lower l.lower) here ∙ stream_self l.lower)
     ∙ ap Some here
 
 -- no other link is below the same stream, so its id alone is one more
-own_id : (links : List Link) (i : ℕ) (l : Link) (id : ℕ) → AreLowersApart links → Some l ≡ slice_get links i → list_any (λ k. same_stream k.lower l.lower && eqb k.id id) links ≡ eqb l.id id
+own_id : (links : List Link) (i : ℕ) (l : Link) (id : ℕ) → AreLowersApart links → Some l ≡ slice_get links i
+    → list_any (λ k. same_stream k.lower l.lower && eqb k.id id) links ≡ eqb l.id id
 own_id links i l id apart at =
-    any_once (λ k. same_stream k.lower l.lower) (λ k. eqb k.id id) (λ k. same_stream k.lower l.lower && eqb k.id id) links (once_below l.lower links apart) (λ k. refl)
+    any_once (λ k. same_stream k.lower l.lower) (λ k. eqb k.id id)
+    (λ k. same_stream k.lower l.lower && eqb k.id id) links (once_below l.lower links apart) (λ k. refl)
     ∙ rw (found_at links i l apart at) refl
 
 -- a link whose lower stream was held, or is the one that is released
-held_less : (t new : StreamTable) (s : StreamId) (k : Link) → HasHolds t s 0 new → not (is_held new k) ≡ (not (is_held t k) || same_stream k.lower s)
+held_less : (t new : StreamTable) (s : StreamId) (k : Link) → HasHolds t s 0 new
+    → not (is_held new k) ≡ (not (is_held t k) || same_stream k.lower s)
 held_less t new s k h = by (same_stream k.lower s) (h.holds k.lower) where
   or_true : (b : Bool) → true ≡ (b || true)
   or_true true = refl
@@ -55,17 +64,22 @@ held_less t new s k h = by (same_stream k.lower s) (h.holds k.lower) where
   or_false true = refl
   or_false false = refl
 
-  by : (b : Bool) → number_at new.holds k.lower ≡ (if b then 0 else number_at t.holds k.lower) → not (is_held new k) ≡ (not (is_held t k) || b)
+  by : (b : Bool) → number_at new.holds k.lower ≡ (if b then 0 else number_at t.holds k.lower)
+      → not (is_held new k) ≡ (not (is_held t k) || b)
   by true e = ap (λ (n : ℕ). not (nat_lt 0 n)) e ∙ or_true (not (is_held t k))
   by false e = ap (λ (n : ℕ). not (nat_lt 0 n)) e ∙ or_false (not (is_held t k))
 
 -- ids of either kind
 either_id : (t new : StreamTable) (s : StreamId) (id : ℕ) (ls : List Link) → HasHolds t s 0 new
-    → list_any (λ k. eqb k.id id && not (is_held new k)) ls ≡ (list_any (λ k. eqb k.id id && not (is_held t k)) ls || list_any (λ k. same_stream k.lower s && eqb k.id id) ls)
+    → list_any (λ k. eqb k.id id && not (is_held new k)) ls
+    ≡ (list_any (λ k. eqb k.id id && not (is_held t k)) ls || list_any (λ k. same_stream k.lower s && eqb k.id id) ls)
 either_id t new s id [] h = refl
-either_id t new s id (k ∷ ks) h = ap (λ (b : Bool). (eqb k.id id && b) || list_any (λ k. eqb k.id id && not (is_held new k)) ks) (held_less t new s k h)
+either_id t new s id (k ∷ ks) h = ap (λ (b : Bool). (eqb k.id id && b)
+    || list_any (λ k. eqb k.id id && not (is_held new k)) ks) (held_less t new s k h)
     ∙ ap (λ (b : Bool). (eqb k.id id && (not (is_held t k) || same_stream k.lower s)) || b) (either_id t new s id ks h)
-    ∙ table (eqb k.id id) (not (is_held t k)) (same_stream k.lower s) (list_any (λ k. eqb k.id id && not (is_held t k)) ks) (list_any (λ k. same_stream k.lower s && eqb k.id id) ks) where
+    ∙ table (eqb k.id id) (not (is_held t k)) (same_stream k.lower s)
+    (list_any (λ k. eqb k.id id && not (is_held t k)) ks)
+    (list_any (λ k. same_stream k.lower s && eqb k.id id) ks) where
       table : (e f g x y : Bool) → ((e && (f || g)) || (x || y)) ≡ (((e && f) || x) || ((g && e) || y))
       table true true g x y = refl
       table true false true true y = refl
@@ -77,22 +91,27 @@ either_id t new s id (k ∷ ks) h = ap (λ (b : Bool). (eqb k.id id && b) || lis
       table false f false true y = refl
       table false f false false y = refl
 
-id_more : (links : List Link) (t new : StreamTable) (ids : List ℕ) (i : ℕ) (l : Link) → AreLowersApart links → Some l ≡ slice_get links i → HasHolds t l.lower 0 new
+id_more : (links : List Link) (t new : StreamTable) (ids : List ℕ) (i : ℕ) (l : Link) → AreLowersApart links
+    → Some l ≡ slice_get links i → HasHolds t l.lower 0 new
     → AreIdsOf (λ k. not (is_held t k)) links ids → AreIdsOf (λ k. not (is_held new k)) links (ids ++ l.id ∷ [])
 id_more links t new ids i l apart at h was id =
     listed_one_more ids l.id id
     ∙ ap (λ (b : Bool). b || eqb id l.id) (was id ∙ any_kept (λ k. eqb k.id id) (λ k. not (is_held t k)) links)
-    ∙ ap (λ (b : Bool). list_any (λ k. eqb k.id id && not (is_held t k)) links || b) (eqb_swap id l.id ∙ sym (own_id links i l id apart at))
+    ∙ ap (λ (b : Bool). list_any (λ k. eqb k.id id && not (is_held t k)) links || b)
+    (eqb_swap id l.id ∙ sym (own_id links i l id apart at))
     ∙ sym (any_kept (λ k. eqb k.id id) (λ k. not (is_held new k)) links ∙ either_id t new l.lower id links h)
 
 -- a loose link more, whose lower stream is released
-pub one_released : (links : List Link) (i room : ℕ) (l : Link) (t new : StreamTable) (ids more : List ℕ) → AreLowersApart links → Some l ≡ slice_get links i → is_loose t l ≡ true
+pub one_released : (links : List Link) (i room : ℕ) (l : Link) (t new : StreamTable) (ids more : List ℕ)
+    → AreLowersApart links → Some l ≡ slice_get links i → is_loose t l ≡ true
     → IsReleasing links 0 t → HasHolds t l.lower (number_at t.holds l.lower - 1) new → more ≡ ids ++ l.id ∷ []
-    → holds_below (ordinary_of links) new < holds_below (ordinary_of links) t → AreReleased links t ids room → AreReleased links new more room
+    → holds_below (ordinary_of links) new < holds_below (ordinary_of links) t → AreReleased links t ids room
+    → AreReleased links new more room
 one_released links i room l t new ids more apart at loose releasing h longer less was =
     let few : number_at t.holds l.lower ≤ 1 = omega (arith, releasing.once l.lower, holds_few links l.lower) in
     let none = released_once t new l.lower few (loose_held t l loose) h in
     record {
-      same = subst (AreIdsOf (λ k. not (is_held new k)) links) (sym longer) (id_more links t new ids i l apart at none was.same);
+      same = subst (AreIdsOf (λ k. not (is_held new k)) links) (sym longer)
+          (id_more links t new ids i l apart at none was.same);
       enough = omega (arith, less, ap length longer, length-append ids (l.id ∷ []), was.enough);
     }

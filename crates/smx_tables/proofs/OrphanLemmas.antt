@@ -1,5 +1,6 @@
 -- Once no link is loose, the links whose lower streams are not held are those that are orphaned.
-use Rattle.std.proofs.Common.{◌≡◌, ℕ, zero, suc, ◌≤◌, Bool, true, false, ◌&&◌, ◌||◌, not, List, [], ◌∷◌, length, filter, if◌then◌else◌, refl, sym, ap, subst, ◌∙◌, arith, inl, inr}
+use Rattle.std.proofs.Common.{◌≡◌, ℕ, zero, suc, ◌≤◌, Bool, true, false, ◌&&◌, ◌||◌, not, List, [], ◌∷◌, length, filter}
+use Rattle.std.proofs.Common.{if◌then◌else◌, refl, sym, ap, subst, ◌∙◌, arith, inl, inr}
 use Rattle.std.specs.Prelude.{nat_lt}
 use Rattle.std.specs.List.{All, AllByRecursion, list_any, list_all}
 use Rattle.std.proofs.lemmas.Bool.{cases_Bool, and_from, or_parts}
@@ -32,19 +33,25 @@ all_tight t (l ∷ ls) h =
       tight false true true h u o = refl
       tight false true false h u o = absurd cc
 
-held_below : (links : List Link) (n : ℕ) (t : StreamTable) (s : StreamId) → IsReleasing links n t → nat_lt 0 (number_at t.holds s) ≡ true → is_below links s ≡ true
+held_below : (links : List Link) (n : ℕ) (t : StreamTable) (s : StreamId) → IsReleasing links n t
+    → nat_lt 0 (number_at t.holds s) ≡ true → is_below links s ≡ true
 held_below links n t s h up = let few = h.once s in below (is_below links s) few up where
   below : (b : Bool) → number_at t.holds s ≤ (if b then 1 else 0) → nat_lt 0 (number_at t.holds s) ≡ true → b ≡ true
   below true few up = refl
   below false few up = let none : number_at t.holds s ≤ 0 = few in absurd (grind (arith, nat_tests))
 
 -- the links whose lower streams were released are those that are orphaned
-pub released_are_orphaned : (drivers : List DriverSpec) (c : Configuration) (t : StreamTable) → DoClimbsSuffice → IsReachPath → DoPathsJoin → AreLinksSound c.links → All (λ l. IsKnown drivers l.ctl) c.links
-    → t.fds ≡ c.fds → IsReleasing c.links (length drivers) t → list_any (is_loose t) c.links ≡ false → AllByRecursion (λ l. not (is_held t l) ≡ is_orphaned c.fds c.links (length drivers) l) c.links
+pub released_are_orphaned : (drivers : List DriverSpec) (c : Configuration) (t : StreamTable) → DoClimbsSuffice
+    → IsReachPath → DoPathsJoin → AreLinksSound c.links → All (λ l. IsKnown drivers l.ctl) c.links
+    → t.fds ≡ c.fds → IsReleasing c.links (length drivers) t → list_any (is_loose t) c.links ≡ false
+    → AllByRecursion (λ l. not (is_held t l) ≡ is_orphaned c.fds c.links (length drivers) l) c.links
 released_are_orphaned drivers c t climbs path join sound known same h none =
     let linked = all_tight t c.links none in
-    each c.links (recursion_from_All (λ l. is_held t l ≡ false → is_orphaned t.fds c.links (length drivers) l ≡ true) c.links h.orphaned) linked where
-      each : (ls : List Link) → AllByRecursion (λ l. is_held t l ≡ false → is_orphaned t.fds c.links (length drivers) l ≡ true) ls → AllByRecursion (IsTight t) ls
+    each c.links (recursion_from_All (λ l. is_held t l ≡ false → is_orphaned t.fds c.links (length drivers) l ≡ true)
+    c.links h.orphaned) linked where
+      each : (ls : List Link)
+          → AllByRecursion (λ l. is_held t l ≡ false → is_orphaned t.fds c.links (length drivers) l ≡ true) ls
+          → AllByRecursion (IsTight t) ls
           → AllByRecursion (λ l. not (is_held t l) ≡ is_orphaned c.fds c.links (length drivers) l) ls
       each [] a b = tt
       each (l ∷ ls) a b = (
@@ -52,10 +59,14 @@ released_are_orphaned drivers c t climbs path join sound known same h none =
           | inl held ↦ rw held (elim (cases_Bool (is_persistent l)) [
             | inl p ↦ rw p refl
             | inr o ↦
-                let there : stands_within c.fds c.links (length drivers) l.ctl ≡ true = there_exists drivers c t l.ctl climbs path join sound known same (λ x up. held_below c.links (length drivers) t x h up) (all_tight t c.links none) (b.0 held o) in
+                let there : stands_within c.fds c.links (length drivers) l.ctl
+                ≡ true = there_exists drivers c t l.ctl climbs path join sound known same
+                (λ x up. held_below c.links (length drivers) t x h up) (all_tight t c.links none) (b.0 held o) in
                 rw (o, there) refl
           ])
-          | inr free ↦ rw free (sym (subst (λ (fds : List Descriptor). is_orphaned fds c.links (length drivers) l ≡ true) same (a.0 free)))
+          | inr free ↦
+              rw free (sym (subst (λ (fds : List Descriptor). is_orphaned fds c.links (length drivers) l ≡ true) same
+              (a.0 free)))
         ],
         each ls a.1 b.1,
       )
@@ -69,7 +80,8 @@ kept_alike f g (l ∷ ls) h = elim (cases_Bool (g l)) [
 ]
 
 -- below the links that are held
-below_held : (t : StreamTable) (s : StreamId) (ls : List Link) → is_below (filter (is_held t) ls) s ≡ (is_below ls s && nat_lt 0 (number_at t.holds s))
+below_held : (t : StreamTable) (s : StreamId) (ls : List Link)
+    → is_below (filter (is_held t) ls) s ≡ (is_below ls s && nat_lt 0 (number_at t.holds s))
 below_held t s ls = any_kept (λ l. same_stream l.lower s) (is_held t) ls ∙ both ls where
   twice : (u b : Bool) → (u || (b && u)) ≡ u
   twice true b = refl
@@ -80,22 +92,28 @@ below_held t s ls = any_kept (λ l. same_stream l.lower s) (is_held t) ls ∙ bo
   join true g u b r f e = ap (λ (x : Bool). x || r) (f refl) ∙ ap (λ (x : Bool). u || x) e ∙ twice u b
   join false g u b r f e = e
 
-  both : (ks : List Link) → list_any (λ l. same_stream l.lower s && is_held t l) ks ≡ (is_below ks s && nat_lt 0 (number_at t.holds s))
+  both : (ks : List Link) → list_any (λ l. same_stream l.lower s && is_held t l) ks
+      ≡ (is_below ks s && nat_lt 0 (number_at t.holds s))
   both [] = refl
-  both (k ∷ ks) = join (same_stream k.lower s) (is_held t k) (nat_lt 0 (number_at t.holds s)) (is_below ks s) (list_any (λ l. same_stream l.lower s && is_held t l) ks) (λ here. ap (λ (x : StreamId). nat_lt 0 (number_at t.holds x)) (stream_is k.lower s here)) (both ks)
+  both (k ∷ ks) = join (same_stream k.lower s) (is_held t k) (nat_lt 0 (number_at t.holds s)) (is_below ks s)
+      (list_any (λ l. same_stream l.lower s && is_held t l) ks)
+      (λ here. ap (λ (x : StreamId). nat_lt 0 (number_at t.holds x)) (stream_is k.lower s here)) (both ks)
 
 -- what is left is held
-pub held_is_left : (links : List Link) (n : ℕ) (t : StreamTable) → IsReleasing links n t → AreHeld (filter (is_held t) links) t
-held_is_left links n t h = λ s. at_once (is_below links s) (number_at t.holds s) (h.once s) ∙ ap (λ (b : Bool). if b then 1 else 0) (sym (below_held t s links)) where
-  at_once : (b : Bool) (m : ℕ) → m ≤ (if b then 1 else 0) → m ≡ (if (b && nat_lt 0 m) then 1 else 0)
-  at_once true zero few = refl
-  at_once true (suc zero) few = refl
-  at_once true (suc (suc m)) few = absurd (omega arith)
-  at_once false zero few = refl
-  at_once false (suc m) few = absurd (omega arith)
+pub held_is_left : (links : List Link) (n : ℕ) (t : StreamTable) → IsReleasing links n t
+    → AreHeld (filter (is_held t) links) t
+held_is_left links n t h = λ s. at_once (is_below links s) (number_at t.holds s) (h.once s)
+    ∙ ap (λ (b : Bool). if b then 1 else 0) (sym (below_held t s links)) where
+      at_once : (b : Bool) (m : ℕ) → m ≤ (if b then 1 else 0) → m ≡ (if (b && nat_lt 0 m) then 1 else 0)
+      at_once true zero few = refl
+      at_once true (suc zero) few = refl
+      at_once true (suc (suc m)) few = absurd (omega arith)
+      at_once false zero few = refl
+      at_once false (suc m) few = absurd (omega arith)
 
 -- and none of it is orphaned
-pub left_is_linked : (t : StreamTable) (ls : List Link) → list_any (is_loose t) ls ≡ false → list_all (λ l. is_persistent l || is_there t l.ctl) (filter (is_held t) ls) ≡ true
+pub left_is_linked : (t : StreamTable) (ls : List Link) → list_any (is_loose t) ls ≡ false
+    → list_all (λ l. is_persistent l || is_there t l.ctl) (filter (is_held t) ls) ≡ true
 left_is_linked t [] h = refl
 left_is_linked t (l ∷ ls) h =
     let p = or_parts (is_loose t l) (list_any (is_loose t) ls) h in
@@ -110,7 +128,8 @@ left_is_linked t (l ∷ ls) h =
       tight false false h = absurd cc
 
 -- the links that are left, by the ids of the others
-pub left_links : (links : List Link) (ids : List ℕ) (t : StreamTable) → IsIdsRising links → AreIdsOf (λ l. not (is_held t l)) links ids → filter (λ l. not (is_one_of ids l)) links ≡ filter (is_held t) links
+pub left_links : (links : List Link) (ids : List ℕ) (t : StreamTable) → IsIdsRising links
+    → AreIdsOf (λ l. not (is_held t l)) links ids → filter (λ l. not (is_one_of ids l)) links ≡ filter (is_held t) links
 left_links links ids t rise h =
     links_stay (is_one_of ids) (λ l. not (is_held t l)) links (listed_any (λ l. not (is_held t l)) links ids rise h)
     ∙ kept_alike (λ l. not (not (is_held t l))) (is_held t) links (twice links) where

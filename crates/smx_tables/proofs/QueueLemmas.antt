@@ -17,23 +17,34 @@ with_spare t n = record t { spare = n }
 
 -- ---- arrivals and leavings
 
-pub left_is : (l : Lists) (q : FlowLists) (p : Place) (n : ℕ) → q ≡ with_spare (after_leaving l.queues p) n → configuration_of (with_queues l q) ≡ model_leaving l.queues.drivers (configuration_of l) p
+-- where a first message leaves its place in the table of queues, it does so in the configuration
+pub left_is : (l : Lists) (q : FlowLists) (p : Place) (n : ℕ) → q ≡ with_spare (after_leaving l.queues p) n
+    → configuration_of (with_queues l q) ≡ model_leaving l.queues.drivers (configuration_of l) p
 left_is l q p n e = ap (λ (x : FlowLists). configuration_of (with_queues l x)) e
 
-pub arrived_is : (l : Lists) (q : FlowLists) (p : Place) (m : Message) (n : ℕ) → q ≡ with_spare (after_arrival l.queues p m) n → configuration_of (with_queues l q) ≡ model_arrival l.queues.drivers (configuration_of l) p m
+-- where a message arrives at a place in the table of queues, it does so in the configuration
+pub arrived_is : (l : Lists) (q : FlowLists) (p : Place) (m : Message) (n : ℕ)
+    → q ≡ with_spare (after_arrival l.queues p m) n
+    → configuration_of (with_queues l q) ≡ model_arrival l.queues.drivers (configuration_of l) p m
 arrived_is l q p m n e = ap (λ (x : FlowLists). configuration_of (with_queues l x)) e
 
 -- ---- a message that may leave
 
-pub taken_is : (l : Lists) (q : FlowLists) (p : Place) (o : Option Message) → OnSome o (q ≡ with_spare (after_leaving l.queues p) q.spare)
+-- where a message was taken from the table of queues, the configuration is without it
+pub taken_is : (l : Lists) (q : FlowLists) (p : Place) (o : Option Message)
+    → OnSome o (q ≡ with_spare (after_leaving l.queues p) q.spare)
     → OnSome o (configuration_of (with_queues l q) ≡ model_leaving l.queues.drivers (configuration_of l) p)
 taken_is l q p None some = tt
 taken_is l q p (Some m) some = left_is l q p q.spare some
 
-pub not_taken_is : (l : Lists) (q : FlowLists) (o : Option Message) → IfNone o (q ≡ l.queues) → IfNone o (configuration_of (with_queues l q) ≡ configuration_of l)
+-- where no message was taken from the table of queues, the configuration is as before
+pub not_taken_is : (l : Lists) (q : FlowLists) (o : Option Message) → IfNone o (q ≡ l.queues)
+    → IfNone o (configuration_of (with_queues l q) ≡ configuration_of l)
 not_taken_is l q None none = ap (λ (x : FlowLists). configuration_of (with_queues l x)) none
 not_taken_is l q (Some m) none = tt
 
-pub drivers_taken : (t q : FlowLists) (p : Place) (o : Option Message) → OnSome o (q ≡ with_spare (after_leaving t p) q.spare) → IfNone o (q ≡ t) → q.drivers ≡ t.drivers
+-- whether a message was taken or not, the table of queues is over the same drivers
+pub drivers_taken : (t q : FlowLists) (p : Place) (o : Option Message)
+    → OnSome o (q ≡ with_spare (after_leaving t p) q.spare) → IfNone o (q ≡ t) → q.drivers ≡ t.drivers
 drivers_taken t q p None some none = ap (λ (x : FlowLists). x.drivers) none
 drivers_taken t q p (Some m) some none = ap (λ (x : FlowLists). x.drivers) some

@@ -1,5 +1,7 @@
 -- The lower streams of loose links are released.
-use Rattle.std.proofs.Common.{◌≡◌, ℕ, zero, suc, ◌-◌, ◌<◌, ◌≤◌, Bool, true, false, ◌&&◌, not, List, [], ◌∷◌, length, get_or, find, Option, Some, None, if◌then◌else◌, refl, sym, ap, subst, ◌∙◌, arith, inl, inr}
+use Rattle.std.proofs.Common.{◌≡◌, ℕ, zero, suc, ◌-◌, ◌<◌, ◌≤◌, Bool, true, false, ◌&&◌, not, List, [], ◌∷◌, length}
+use Rattle.std.proofs.Common.{get_or, find, Option, Some, None, if◌then◌else◌, refl, sym, ap, subst, ◌∙◌, arith, inl}
+use Rattle.std.proofs.Common.{inr}
 use Rattle.std.specs.Prelude.{nat_lt, slice_get}
 use Rattle.std.proofs.lemmas.Bool.{cases_Bool, and_parts, and_from, or_parts, false_from_ne_true, false≢true}
 use Rattle.std.proofs.lemmas.Bool.Decides.{nat_tests}
@@ -21,10 +23,12 @@ use Rattle.smx_tables.proofs.FoundLinkLemmas.{below_at, found_has, one_link}
 
 -- ---- at first, where each stream below a link is held
 
+-- where each stream below a link has its hold, streams may begin to be released
 pub starts : (links : List Link) (climbs : ℕ) (t : StreamTable) → AreHeld links t → IsReleasing links climbs t
 starts links climbs t h = record {
   once = λ s. omega (arith, h s);
-  orphaned = λ i d lt free. absurd (false≢true (sym free ∙ held_is_below links t (get_or links i d).lower h ∙ below_at links i d lt));
+  orphaned = λ i d lt free.
+      absurd (false≢true (sym free ∙ held_is_below links t (get_or links i d).lower h ∙ below_at links i d lt));
 }
 
 -- ---- one loose link more
@@ -35,25 +39,34 @@ not_true true e = absurd cc
 not_true false e = refl
 
 -- a stream that is not there doesn't stand, as long as what is released was orphaned
-gone_stands_not : (links : List Link) (n : ℕ) (t : StreamTable) (s : StreamId) → AreLowersApart links → IsReleasing links n t → is_there t s ≡ false → stands_within t.fds links n s ≡ false
+gone_stands_not : (links : List Link) (n : ℕ) (t : StreamTable) (s : StreamId) → AreLowersApart links
+    → IsReleasing links n t → is_there t s ≡ false → stands_within t.fds links n s ≡ false
 gone_stands_not links n t s apart h gone =
     let parts = or_parts (is_named t.fds s) (nat_lt 0 (number_at t.holds s)) gone in
     stands_is t.fds links n s apart ∙ rw parts.0 (by (find (λ l. same_stream l.lower s) links) n refl refl) where
-      above_goes : (m : ℕ) (l : Link) → is_persistent l ≡ false → stands_within t.fds links n l.ctl ≡ false → m ≡ n → stands_by t.fds links m (Some l) ≡ false
+      above_goes : (m : ℕ) (l : Link) → is_persistent l ≡ false → stands_within t.fds links n l.ctl ≡ false → m ≡ n
+          → stands_by t.fds links m (Some l) ≡ false
       above_goes zero l o f e = o
-      above_goes (suc m) l o f e = rw o (false_from_ne_true _ (λ up. let k = more t.fds links m l.ctl up in false≢true (sym f ∙ subst (λ (x : ℕ). stands_within t.fds links x l.ctl ≡ true) e k)))
+      above_goes (suc m) l o f e = rw o
+          (false_from_ne_true _ (λ up. let k = more t.fds links m l.ctl up in
+          false≢true (sym f ∙ subst (λ (x : ℕ). stands_within t.fds links x l.ctl ≡ true) e k)))
 
-      by : (o : Option Link) (m : ℕ) → find (λ l. same_stream l.lower s) links ≡ o → m ≡ n → stands_by t.fds links m o ≡ false
+      by : (o : Option Link) (m : ℕ) → find (λ l. same_stream l.lower s) links ≡ o → m ≡ n
+          → stands_by t.fds links m o ≡ false
       by None m e k = refl
       by (Some l) m e k =
-          let found = found_has (λ l. is_held t l ≡ false → is_orphaned t.fds links n l ≡ true) (λ l. same_stream l.lower s) links l (recursion_from_All (λ l. is_held t l ≡ false → is_orphaned t.fds links n l ≡ true) links h.orphaned) e in
+          let found = found_has (λ l. is_held t l ≡ false → is_orphaned t.fds links n l ≡ true)
+          (λ l. same_stream l.lower s) links l
+          (recursion_from_All (λ l. is_held t l ≡ false → is_orphaned t.fds links n l ≡ true) links h.orphaned) e in
           let parts = or_parts (is_named t.fds s) (nat_lt 0 (number_at t.holds s)) gone in
-          let free : is_held t l ≡ false = ap (λ (x : StreamId). nat_lt 0 (number_at t.holds x)) (stream_is l.lower s found.0) ∙ parts.1 in
+          let free : is_held t l ≡ false = ap (λ (x : StreamId). nat_lt 0 (number_at t.holds x))
+          (stream_is l.lower s found.0) ∙ parts.1 in
           let two = and_parts (not (is_persistent l)) (not (stands_within t.fds links n l.ctl)) (found.1 free) in
           above_goes m l (not_true _ two.0) (not_true _ two.1) k
 
 -- a loose link is orphaned
-loose_orphaned : (links : List Link) (n : ℕ) (t : StreamTable) (l : Link) → AreLowersApart links → IsReleasing links n t → is_loose t l ≡ true → is_orphaned t.fds links n l ≡ true
+loose_orphaned : (links : List Link) (n : ℕ) (t : StreamTable) (l : Link) → AreLowersApart links → IsReleasing links n t
+    → is_loose t l ≡ true → is_orphaned t.fds links n l ≡ true
 loose_orphaned links n t l apart h loose =
     let a = and_parts (not (is_persistent l)) (is_held t l && not (is_there t l.ctl)) loose in
     let b = and_parts (is_held t l) (not (is_there t l.ctl)) a.1 in
@@ -65,14 +78,21 @@ less_held true x y z e same = let k = same refl in let one_less : z ≡ x - 1 = 
 less_held false x y z e same = let as_many : z ≡ y = e in omega (arith, as_many)
 
 -- no stream is held more than before
-pub not_more_held : (t new : StreamTable) (s x : StreamId) → HasHolds t s (number_at t.holds s - 1) new → number_at new.holds x ≤ number_at t.holds x
-not_more_held t new s x h = less_held (same_stream x s) (number_at t.holds s) (number_at t.holds x) (number_at new.holds x) (h.holds x) (λ same. ap (number_at t.holds) (sym (stream_is x s same)))
+pub not_more_held : (t new : StreamTable) (s x : StreamId) → HasHolds t s (number_at t.holds s - 1) new
+    → number_at new.holds x ≤ number_at t.holds x
+not_more_held t new s x h = less_held (same_stream x s) (number_at t.holds s) (number_at t.holds x)
+    (number_at new.holds x) (h.holds x) (λ same. ap (number_at t.holds) (sym (stream_is x s same)))
 
-pub other_held : (t new : StreamTable) (s x : StreamId) → HasHolds t s (number_at t.holds s - 1) new → same_stream x s ≡ false → number_at new.holds x ≡ number_at t.holds x
+-- where one stream is released, each other has the holds that it had
+pub other_held : (t new : StreamTable) (s x : StreamId) → HasHolds t s (number_at t.holds s - 1) new
+    → same_stream x s ≡ false → number_at new.holds x ≡ number_at t.holds x
 other_held t new s x h other = h.holds x ∙ rw other refl
 
-pub releases_one : (links : List Link) (n i : ℕ) (d : Link) (t new : StreamTable) → AreLowersApart links → i < length links → is_loose t (get_or links i d) ≡ true
-    → HasHolds t (get_or links i d).lower (number_at t.holds (get_or links i d).lower - 1) new → IsReleasing links n t → IsReleasing links n new
+-- releasing the lower stream of a loose link keeps what is so while streams are released
+pub releases_one : (links : List Link) (n i : ℕ) (d : Link) (t new : StreamTable) → AreLowersApart links
+    → i < length links → is_loose t (get_or links i d) ≡ true
+    → HasHolds t (get_or links i d).lower (number_at t.holds (get_or links i d).lower - 1) new → IsReleasing links n t
+    → IsReleasing links n new
 releases_one links n i d t new apart lt loose h was =
     let l = get_or links i d in
     record {
@@ -80,9 +100,15 @@ releases_one links n i d t new apart lt loose h was =
       orphaned = λ j e in_range free.
           subst (λ (fds : List Descriptor). is_orphaned fds links n (get_or links j e) ≡ true) (sym h.fds)
           (elim (cases_Bool (same_stream (get_or links j e).lower (get_or links i e).lower)) [
-            | inl same ↦ subst (λ (k : Link). is_orphaned t.fds links n k ≡ true) (sym (one_link links i j e apart lt in_range same)) (loose_orphaned links n t (get_or links i e) apart was (subst (λ (k : Link). is_loose t k ≡ true) (defaults links i d e lt) loose))
+            | inl same ↦ subst (λ (k : Link). is_orphaned t.fds links n k ≡ true)
+                (sym (one_link links i j e apart lt in_range same))
+                (loose_orphaned links n t (get_or links i e) apart was
+                (subst (λ (k : Link). is_loose t k ≡ true) (defaults links i d e lt) loose))
             | inr other ↦ was.orphaned j e in_range
-                (ap (nat_lt 0) (sym (other_held t new l.lower (get_or links j e).lower h (subst (λ (k : Link). same_stream (get_or links j e).lower k.lower ≡ false) (sym (defaults links i d e lt)) other))) ∙ free)
+                (ap (nat_lt 0)
+                (sym (other_held t new l.lower (get_or links j e).lower h
+                (subst (λ (k : Link). same_stream (get_or links j e).lower k.lower ≡ false)
+                (sym (defaults links i d e lt)) other))) ∙ free)
           ]);
     } where
       defaults : (ls : List Link) (i : ℕ) (d e : Link) → i < length ls → get_or ls i d ≡ get_or ls i e
@@ -90,15 +116,19 @@ releases_one links n i d t new apart lt loose h was =
       defaults (l ∷ ls) zero d e lt = refl
       defaults (l ∷ ls) (suc i) d e lt = defaults ls i d e (omega arith)
 
-not_more_below : (ls : List Link) (t new : StreamTable) → ((x : StreamId) → number_at new.holds x ≤ number_at t.holds x) → holds_below ls new ≤ holds_below ls t
+not_more_below : (ls : List Link) (t new : StreamTable) → ((x : StreamId) → number_at new.holds x ≤ number_at t.holds x)
+    → holds_below ls new ≤ holds_below ls t
 not_more_below [] t new h = omega arith
 not_more_below (l ∷ ls) t new h = let a = h l.lower in let b = not_more_below ls t new h in omega (arith, a, b)
 
-less_at : (ls : List Link) (i : ℕ) (d : Link) (t new : StreamTable) → ((x : StreamId) → number_at new.holds x ≤ number_at t.holds x) → i < length ls → number_at new.holds (get_or ls i d).lower < number_at t.holds (get_or ls i d).lower
+less_at : (ls : List Link) (i : ℕ) (d : Link) (t new : StreamTable)
+    → ((x : StreamId) → number_at new.holds x ≤ number_at t.holds x) → i < length ls
+    → number_at new.holds (get_or ls i d).lower < number_at t.holds (get_or ls i d).lower
     → holds_below ls new < holds_below ls t
 less_at [] i d t new h lt less = absurd (omega arith)
 less_at (l ∷ ls) zero d t new h lt less = let b = not_more_below ls t new h in omega (arith, less, b)
-less_at (l ∷ ls) (suc i) d t new h lt less = let a = h l.lower in let b = less_at ls i d t new h (omega arith) less in omega (arith, a, b)
+less_at (l ∷ ls) (suc i) d t new h lt less =
+    let a = h l.lower in let b = less_at ls i d t new h (omega arith) less in omega (arith, a, b)
 
 -- a loose link's lower stream is held
 pub loose_held : (t : StreamTable) (l : Link) → is_loose t l ≡ true → 0 < number_at t.holds l.lower
@@ -108,26 +138,38 @@ loose_held t l loose =
     let up : nat_lt 0 (number_at t.holds l.lower) ≡ true = b.0 in
     grind (arith, nat_tests)
 
-pub less_below : (ls : List Link) (i : ℕ) (d : Link) (t new : StreamTable) → i < length ls → is_loose t (get_or ls i d) ≡ true
-    → HasHolds t (get_or ls i d).lower (number_at t.holds (get_or ls i d).lower - 1) new → holds_below ls new < holds_below ls t
+-- where the lower stream of a loose link is released, the streams below the links have fewer holds
+pub less_below : (ls : List Link) (i : ℕ) (d : Link) (t new : StreamTable) → i < length ls
+    → is_loose t (get_or ls i d) ≡ true
+    → HasHolds t (get_or ls i d).lower (number_at t.holds (get_or ls i d).lower - 1) new
+    → holds_below ls new < holds_below ls t
 less_below ls i d t new lt loose h =
     let l = get_or ls i d in
     let up = loose_held t l loose in
-    let here : number_at new.holds l.lower ≡ number_at t.holds l.lower - 1 = h.holds l.lower ∙ rw (stream_self l.lower) refl in
+    let here : number_at new.holds l.lower ≡ number_at t.holds l.lower - 1 = h.holds l.lower
+    ∙ rw (stream_self l.lower) refl in
     less_at ls i d t new (λ x. not_more_held t new l.lower x h) lt (omega (arith, up, here))
 
+-- the link that was got at an index is the one there
 pub this_one : (ls : List Link) (i : ℕ) (l : Link) → Some l ≡ slice_get ls i → get_or ls i l ≡ l
 this_one ls i l e = get_or_from_slice_get ls i l l (sym e)
 
 -- the same of the link at a place of the table
-pub releases_this : (links : List Link) (n i : ℕ) (l : Link) (t new : StreamTable) → AreLowersApart links → Some l ≡ slice_get links i → is_loose t l ≡ true
+pub releases_this : (links : List Link) (n i : ℕ) (l : Link) (t new : StreamTable) → AreLowersApart links
+    → Some l ≡ slice_get links i → is_loose t l ≡ true
     → HasHolds t l.lower (number_at t.holds l.lower - 1) new → IsReleasing links n t → IsReleasing links n new
 releases_this links n i l t new apart at loose h was =
     let e = this_one links i l at in
-    releases_one links n i l t new apart (slice_get_within links i l (sym at)) (subst (λ (k : Link). is_loose t k ≡ true) (sym e) loose) (subst (λ (k : Link). HasHolds t k.lower (number_at t.holds k.lower - 1) new) (sym e) h) was
+    releases_one links n i l t new apart (slice_get_within links i l (sym at))
+    (subst (λ (k : Link). is_loose t k ≡ true) (sym e) loose)
+    (subst (λ (k : Link). HasHolds t k.lower (number_at t.holds k.lower - 1) new) (sym e) h) was
 
-pub less_this : (links : List Link) (i : ℕ) (l : Link) (t new : StreamTable) → Some l ≡ slice_get links i → is_loose t l ≡ true
+-- where the lower stream of the loose link at an index is released, those below the links have fewer holds
+pub less_this : (links : List Link) (i : ℕ) (l : Link) (t new : StreamTable) → Some l ≡ slice_get links i
+    → is_loose t l ≡ true
     → HasHolds t l.lower (number_at t.holds l.lower - 1) new → holds_below links new < holds_below links t
 less_this links i l t new at loose h =
     let e = this_one links i l at in
-    less_below links i l t new (slice_get_within links i l (sym at)) (subst (λ (k : Link). is_loose t k ≡ true) (sym e) loose) (subst (λ (k : Link). HasHolds t k.lower (number_at t.holds k.lower - 1) new) (sym e) h)
+    less_below links i l t new (slice_get_within links i l (sym at))
+    (subst (λ (k : Link). is_loose t k ≡ true) (sym e) loose)
+    (subst (λ (k : Link). HasHolds t k.lower (number_at t.holds k.lower - 1) new) (sym e) h)

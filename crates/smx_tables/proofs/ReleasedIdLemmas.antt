@@ -1,5 +1,7 @@
 -- The lower streams of links are released by the links' ids.
-use Rattle.std.proofs.Common.{◌≡◌, ℕ, ◌-◌, ◌<◌, ◌≤◌, Bool, true, false, ◌&&◌, ◌||◌, not, eqb, List, [], ◌∷◌, ◌++◌, filter, get_or, find, Option, Some, None, if◌then◌else◌, refl, sym, ap, subst, ◌∙◌, arith, inl, inr}
+use Rattle.std.proofs.Common.{◌≡◌, ℕ, ◌-◌, ◌<◌, ◌≤◌, Bool, true, false, ◌&&◌, ◌||◌, not, eqb, List, [], ◌∷◌, ◌++◌}
+use Rattle.std.proofs.Common.{filter, get_or, find, Option, Some, None, if◌then◌else◌, refl, sym, ap, subst, ◌∙◌, arith}
+use Rattle.std.proofs.Common.{inl, inr}
 use Rattle.std.specs.List.{All, AllByRecursion, list_any}
 use Rattle.std.proofs.lemmas.Bool.{cases_Bool}
 use Rattle.std.proofs.lemmas.List.Elements.{recursion_from_All}
@@ -20,26 +22,34 @@ use Rattle.smx_tables.proofs.FoundLinkLemmas.{found_has, found_itself}
 
 -- ---- a stream that is held once at most is released
 
-pub released_once : (t new : StreamTable) (s : StreamId) → number_at t.holds s ≤ 1 → 0 < number_at t.holds s → HasHolds t s (number_at t.holds s - 1) new → HasHolds t s 0 new
-released_once t new s few some h = let none : number_at t.holds s - 1 ≡ 0 = omega (arith, few, some) in subst (λ (n : ℕ). HasHolds t s n new) none h
+-- a stream with one hold has none once it is released
+pub released_once : (t new : StreamTable) (s : StreamId) → number_at t.holds s ≤ 1 → 0 < number_at t.holds s
+    → HasHolds t s (number_at t.holds s - 1) new → HasHolds t s 0 new
+released_once t new s few some h =
+    let none : number_at t.holds s - 1 ≡ 0 = omega (arith, few, some) in subst (λ (n : ℕ). HasHolds t s n new) none h
 
+-- a stream without a hold has none, and need not be released
 pub released_already : (t : StreamTable) (s : StreamId) → AreHungsSound t → number_at t.holds s ≤ 0 → HasHolds t s 0 t
-released_already t s sound none = record { minors = refl; fds = refl; holds = λ x. by x (same_stream x s) refl; hungs = none_went t sound } where
-  none_there : number_at t.holds s ≡ 0
-  none_there = omega (arith, none)
+released_already t s sound none =
+    record { minors = refl; fds = refl; holds = λ x. by x (same_stream x s) refl; hungs = none_went t sound } where
+      none_there : number_at t.holds s ≡ 0
+      none_there = omega (arith, none)
 
-  by : (x : StreamId) (b : Bool) → same_stream x s ≡ b → number_at t.holds x ≡ (if b then 0 else number_at t.holds x)
-  by x true e = ap (number_at t.holds) (stream_is x s e) ∙ none_there
-  by x false e = refl
+      by : (x : StreamId) (b : Bool) → same_stream x s ≡ b
+          → number_at t.holds x ≡ (if b then 0 else number_at t.holds x)
+      by x true e = ap (number_at t.holds) (stream_is x s e) ∙ none_there
+      by x false e = refl
 
 -- ---- the lower streams of links by their ids
 
+-- with one id more, just that one is listed beside those that were
 pub listed_one_more : (ids : List ℕ) (id x : ℕ) → is_listed (ids ++ id ∷ []) x ≡ (is_listed ids x || eqb x id)
 listed_one_more [] id x = or_none (eqb x id) where
   or_none : (b : Bool) → (b || false) ≡ b
   or_none true = refl
   or_none false = refl
-listed_one_more (i ∷ ids) id x = elim (cases_Bool (eqb x i)) [ inl t ↦ rw t refl | inr f ↦ rw f (listed_one_more ids id x) ]
+listed_one_more (i ∷ ids) id x =
+    elim (cases_Bool (eqb x i)) [ inl t ↦ rw t refl | inr f ↦ rw f (listed_one_more ids id x) ]
 
 one_of_more : (ids : List ℕ) (id : ℕ) (l : Link) → is_one_of (ids ++ id ∷ []) l ≡ (is_one_of ids l || eqb l.id id)
 one_of_more ids id l = listed_one_more ids id l.id
@@ -52,48 +62,65 @@ without ids ls = filter (λ l. not (is_one_of ids l)) ls
 abbrev pub IsFoundBy : ℕ → StreamId → Link → Type 0
 IsFoundBy id s l = eqb l.id id ≡ same_stream l.lower s
 
-drop_one : (a o p g v r less : Bool) → p ≡ (o || g) → (a ≡ true → g ≡ v) → less ≡ (r && not v) → ((a && not p) || less) ≡ (((a && not o) || r) && not v)
+drop_one : (a o p g v r less : Bool) → p ≡ (o || g) → (a ≡ true → g ≡ v) → less ≡ (r && not v)
+    → ((a && not p) || less) ≡ (((a && not o) || r) && not v)
 drop_one false o p g v r less e f h = h
-drop_one true o p g v r less e f h = ap (λ (x : Bool). not x || less) (e ∙ ap (λ (x : Bool). o || x) (f refl)) ∙ ap (λ (x : Bool). not (o || v) || x) h ∙ table o v r where
-  table : (x y z : Bool) → (not (x || y) || (z && not y)) ≡ ((not x || z) && not y)
-  table true true true = refl
-  table true true false = refl
-  table true false true = refl
-  table true false false = refl
-  table false true true = refl
-  table false true false = refl
-  table false false true = refl
-  table false false false = refl
+drop_one true o p g v r less e f h = ap (λ (x : Bool). not x || less) (e ∙ ap (λ (x : Bool). o || x) (f refl))
+    ∙ ap (λ (x : Bool). not (o || v) || x) h ∙ table o v r where
+      table : (x y z : Bool) → (not (x || y) || (z && not y)) ≡ ((not x || z) && not y)
+      table true true true = refl
+      table true true false = refl
+      table true false true = refl
+      table true false false = refl
+      table false true true = refl
+      table false true false = refl
+      table false false true = refl
+      table false false false = refl
 
-below_one_less : (ids : List ℕ) (id : ℕ) (s x : StreamId) (ls : List Link) → AllByRecursion (IsFoundBy id s) ls → is_below (without (ids ++ id ∷ []) ls) x ≡ (is_below (without ids ls) x && not (same_stream x s))
+below_one_less : (ids : List ℕ) (id : ℕ) (s x : StreamId) (ls : List Link) → AllByRecursion (IsFoundBy id s) ls
+    → is_below (without (ids ++ id ∷ []) ls) x ≡ (is_below (without ids ls) x && not (same_stream x s))
 below_one_less ids id s x ls h =
     any_kept (λ l. same_stream l.lower x) (λ l. not (is_one_of (ids ++ id ∷ []) l)) ls
     ∙ each ls h
-    ∙ ap (λ (b : Bool). b && not (same_stream x s)) (sym (any_kept (λ l. same_stream l.lower x) (λ l. not (is_one_of ids l)) ls)) where
+    ∙ ap (λ (b : Bool). b && not (same_stream x s))
+    (sym (any_kept (λ l. same_stream l.lower x) (λ l. not (is_one_of ids l)) ls)) where
       each : (ks : List Link) → AllByRecursion (IsFoundBy id s) ks
-          → list_any (λ l. same_stream l.lower x && not (is_one_of (ids ++ id ∷ []) l)) ks ≡ (list_any (λ l. same_stream l.lower x && not (is_one_of ids l)) ks && not (same_stream x s))
+          → list_any (λ l. same_stream l.lower x && not (is_one_of (ids ++ id ∷ []) l)) ks
+          ≡ (list_any (λ l. same_stream l.lower x && not (is_one_of ids l)) ks && not (same_stream x s))
       each [] k = refl
-      each (l ∷ ks) k = drop_one (same_stream l.lower x) (is_one_of ids l) (is_one_of (ids ++ id ∷ []) l) (eqb l.id id) (same_stream x s)
-          (list_any (λ m. same_stream m.lower x && not (is_one_of ids m)) ks) (list_any (λ m. same_stream m.lower x && not (is_one_of (ids ++ id ∷ []) m)) ks)
-          (one_of_more ids id l) (λ here. k.0 ∙ ap (λ (y : StreamId). same_stream y s) (stream_is l.lower x here)) (each ks k.1)
+      each (l ∷ ks) k = drop_one (same_stream l.lower x) (is_one_of ids l) (is_one_of (ids ++ id ∷ []) l) (eqb l.id id)
+          (same_stream x s)
+          (list_any (λ m. same_stream m.lower x && not (is_one_of ids m)) ks)
+          (list_any (λ m. same_stream m.lower x && not (is_one_of (ids ++ id ∷ []) m)) ks)
+          (one_of_more ids id l) (λ here. k.0 ∙ ap (λ (y : StreamId). same_stream y s) (stream_is l.lower x here))
+          (each ks k.1)
 
 -- a link that is found by its id, in links whose ids rise and whose lower streams are apart
-pub found_by : (links : List Link) (id : ℕ) (l : Link) → AreLowersApart links → IsIdsRising links → find (λ k. eqb k.id id) links ≡ Some l → All (IsFoundBy id l.lower) links
+pub found_by : (links : List Link) (id : ℕ) (l : Link) → AreLowersApart links → IsIdsRising links
+    → find (λ k. eqb k.id id) links ≡ Some l → All (IsFoundBy id l.lower) links
 found_by links id l apart rise found = λ i d lt.
     let k = get_or links i d in
-    let by_id : eqb k.id id ≡ true → k ≡ l = λ t. same_found k (sym (found_itself (λ m. eqb m.id id) links i d (once_id id links rise) lt t) ∙ found) in
-    let has = found_has (λ m. find (λ n. same_stream n.lower m.lower) links ≡ Some m) (λ m. eqb m.id id) links l (recursion_from_All (λ m. find (λ n. same_stream n.lower m.lower) links ≡ Some m) links (λ j e in_range. found_itself (λ n. same_stream n.lower (get_or links j e).lower) links j e (once_below (get_or links j e).lower links apart) in_range (stream_self (get_or links j e).lower))) found in
+    let by_id : eqb k.id id ≡ true → k ≡ l = λ t.
+    same_found k (sym (found_itself (λ m. eqb m.id id) links i d (once_id id links rise) lt t) ∙ found) in
+    let has = found_has (λ m. find (λ n. same_stream n.lower m.lower) links ≡ Some m) (λ m. eqb m.id id) links l
+    (recursion_from_All (λ m. find (λ n. same_stream n.lower m.lower) links ≡ Some m) links
+    (λ j e in_range. found_itself (λ n. same_stream n.lower (get_or links j e).lower) links j e
+    (once_below (get_or links j e).lower links apart) in_range (stream_self (get_or links j e).lower))) found in
     same_test (eqb k.id id) (same_stream k.lower l.lower)
     (λ t. ap (λ (m : Link). same_stream m.lower l.lower) (by_id t) ∙ stream_self l.lower)
-    (λ t. ap (λ (m : Link). eqb m.id id) (same_found k (sym (found_itself (λ n. same_stream n.lower l.lower) links i d (once_below l.lower links apart) lt t) ∙ has.1)) ∙ has.0) where
+    (λ t. ap (λ (m : Link). eqb m.id id)
+    (same_found k (sym (found_itself (λ n. same_stream n.lower l.lower) links i d (once_below l.lower links apart) lt t)
+    ∙ has.1)) ∙ has.0) where
       same_found : (k : Link) → ◌≡◌ {A = Option Link} (Some k) (Some l) → k ≡ l
       same_found k e = cc
 
 -- one id more, whose link's lower stream is released
-pub released_more : (links : List Link) (ids : List ℕ) (id : ℕ) (l : Link) (t new : StreamTable) → AreLowersApart links → IsIdsRising links → find (λ k. eqb k.id id) links ≡ Some l
+pub released_more : (links : List Link) (ids : List ℕ) (id : ℕ) (l : Link) (t new : StreamTable) → AreLowersApart links
+    → IsIdsRising links → find (λ k. eqb k.id id) links ≡ Some l
     → AreHeld (without ids links) t → HasHolds t l.lower 0 new → AreHeld (without (ids ++ id ∷ []) links) new
 released_more links ids id l t new apart rise found held h = λ x.
-    let less = below_one_less ids id l.lower x links (recursion_from_All (IsFoundBy id l.lower) links (found_by links id l apart rise found)) in
+    let less = below_one_less ids id l.lower x links
+    (recursion_from_All (IsFoundBy id l.lower) links (found_by links id l apart rise found)) in
     h.holds x ∙ by x (same_stream x l.lower) ∙ ap (λ (b : Bool). if b then 1 else 0) (sym less) where
       none_of : (b : Bool) → ◌≡◌ {A = ℕ} 0 (if (b && false) then 1 else 0)
       none_of true = refl
@@ -103,12 +130,14 @@ released_more links ids id l t new apart rise found held h = λ x.
       all_of true = refl
       all_of false = refl
 
-      by : (x : StreamId) (v : Bool) → (if v then 0 else number_at t.holds x) ≡ (if (is_below (without ids links) x && not v) then 1 else 0)
+      by : (x : StreamId) (v : Bool) → (if v then 0 else number_at t.holds x)
+          ≡ (if (is_below (without ids links) x && not v) then 1 else 0)
       by x true = none_of (is_below (without ids links) x)
       by x false = held x ∙ all_of (is_below (without ids links) x)
 
 -- one id more, which no link has
-pub released_none : (links : List Link) (ids : List ℕ) (id : ℕ) (t : StreamTable) → find (λ k. eqb k.id id) links ≡ None → AreHeld (without ids links) t → AreHeld (without (ids ++ id ∷ []) links) t
+pub released_none : (links : List Link) (ids : List ℕ) (id : ℕ) (t : StreamTable) → find (λ k. eqb k.id id) links ≡ None
+    → AreHeld (without ids links) t → AreHeld (without (ids ++ id ∷ []) links) t
 released_none links ids id t none held = subst (λ (ls : List Link). AreHeld ls t) (sym (same links none)) held where
   same : (ls : List Link) → find (λ k. eqb k.id id) ls ≡ None → without (ids ++ id ∷ []) ls ≡ without ids ls
   same [] h = refl

@@ -1,5 +1,6 @@
 -- Removing links by their ids removes those that pass the test by which the ids were listed.
-use Rattle.std.proofs.Common.{◌≡◌, ℕ, ◌<◌, ◌≤◌, Bool, true, false, ◌&&◌, not, eqb, List, [], ◌∷◌, length, map, filter, find, refl, sym, ap, subst, ◌∙◌, arith, inl, inr}
+use Rattle.std.proofs.Common.{◌≡◌, ℕ, ◌<◌, ◌≤◌, Bool, true, false, ◌&&◌, not, eqb, List, [], ◌∷◌, length, map, filter}
+use Rattle.std.proofs.Common.{find, refl, sym, ap, subst, ◌∙◌, arith, inl, inr}
 use Rattle.std.specs.Prelude.{nat_lt}
 use Rattle.std.specs.List.{list_any, AllByRecursion}
 use Rattle.std.specs.Option.{option_map_or}
@@ -18,45 +19,62 @@ use Rattle.smx_links.specs.LinkLists.{is_one_of}
 use Rattle.smx_tables.specs.ListedLinks.{is_listed, is_read_below_listed, AreIdsOf}
 use Rattle.smx_tables.proofs.AboveLemmas.{any_once, eqb_swap, once_below}
 
+-- the ids of those links that go
 abbrev pub ids_of : (Link → Bool) → List Link → List ℕ
 ids_of goes ls = map (λ l. l.id) (filter goes ls)
 
+-- the ids of the links rise
 abbrev pub IsIdsRising : List Link → Type 0
 IsIdsRising ls = IsRising (λ l k. nat_lt l.id k.id) ls
 
 -- an id that comes before all others is none of them
-not_later : (goes : Link → Bool) (l : Link) (ls : List Link) → ComesBefore (λ l k. nat_lt l.id k.id) l ls → is_listed (ids_of goes ls) l.id ≡ false
+not_later : (goes : Link → Bool) (l : Link) (ls : List Link) → ComesBefore (λ l k. nat_lt l.id k.id) l ls
+    → is_listed (ids_of goes ls) l.id ≡ false
 not_later goes l [] h = refl
 not_later goes l (k ∷ ls) h =
     let up : l.id < k.id = ltb-true l.id k.id h.0 in
-    let f : eqb l.id k.id ≡ false = false_from_ne_true (eqb l.id k.id) (λ t. let same = eqb-true l.id k.id t in absurd (omega arith)) in
+    let f : eqb l.id k.id ≡ false = false_from_ne_true (eqb l.id k.id)
+    (λ t. let same = eqb-true l.id k.id t in absurd (omega arith)) in
     elim (cases_Bool (goes k)) [ inl t ↦ rw (t, f) (not_later goes l ls h.1) | inr n ↦ rw n (not_later goes l ls h.1) ]
 
 -- the ids list those links that go, and no others
 abbrev pub IsListOf : (Link → Bool) → List ℕ → List Link → Type 0
 IsListOf goes ids ls = AllByRecursion (λ l. is_listed ids l.id ≡ goes l) ls
 
-list_more : (goes : Link → Bool) (l : Link) (ids : List ℕ) (ls : List Link) → ComesBefore (λ l k. nat_lt l.id k.id) l ls → IsListOf goes ids ls → IsListOf goes (l.id ∷ ids) ls
+list_more : (goes : Link → Bool) (l : Link) (ids : List ℕ) (ls : List Link) → ComesBefore (λ l k. nat_lt l.id k.id) l ls
+    → IsListOf goes ids ls → IsListOf goes (l.id ∷ ids) ls
 list_more goes l ids [] h a = tt
 list_more goes l ids (k ∷ ls) h a =
     let up : l.id < k.id = ltb-true l.id k.id h.0 in
-    let f : eqb k.id l.id ≡ false = false_from_ne_true (eqb k.id l.id) (λ t. let same = eqb-true k.id l.id t in absurd (omega arith)) in
+    let f : eqb k.id l.id ≡ false = false_from_ne_true (eqb k.id l.id)
+    (λ t. let same = eqb-true k.id l.id t in absurd (omega arith)) in
     (rw f a.0, list_more goes l ids ls h.1 a.1)
 
-goes_first : (goes : Link → Bool) (l : Link) (ls : List Link) → goes l ≡ true → ids_of goes (l ∷ ls) ≡ l.id ∷ ids_of goes ls
+goes_first : (goes : Link → Bool) (l : Link) (ls : List Link) → goes l ≡ true
+    → ids_of goes (l ∷ ls) ≡ l.id ∷ ids_of goes ls
 goes_first goes l ls h = rw h refl
 
 stays_first : (goes : Link → Bool) (l : Link) (ls : List Link) → goes l ≡ false → ids_of goes (l ∷ ls) ≡ ids_of goes ls
 stays_first goes l ls h = rw h refl
 
+-- where ids rise, the ids of those links that go list these links and no others
 pub listed : (goes : Link → Bool) (ls : List Link) → IsIdsRising ls → IsListOf goes (ids_of goes ls) ls
 listed goes [] h = tt
 listed goes (l ∷ ls) h = elim (cases_Bool (goes l)) [
-  | inl t ↦ (rw (t, eq-eqb l.id l.id refl) refl, subst (λ (ids : List ℕ). IsListOf goes ids ls) (sym (goes_first goes l ls t)) (list_more goes l (ids_of goes ls) ls h.0 (listed goes ls h.1)))
-  | inr f ↦ (rw f (not_later goes l ls h.0), subst (λ (ids : List ℕ). IsListOf goes ids ls) (sym (stays_first goes l ls f)) (listed goes ls h.1))
+  | inl t ↦ (
+    rw (t, eq-eqb l.id l.id refl) refl,
+    subst (λ (ids : List ℕ). IsListOf goes ids ls) (sym (goes_first goes l ls t))
+        (list_more goes l (ids_of goes ls) ls h.0 (listed goes ls h.1)),
+  )
+  | inr f ↦ (
+    rw f (not_later goes l ls h.0),
+    subst (λ (ids : List ℕ). IsListOf goes ids ls) (sym (stays_first goes l ls f)) (listed goes ls h.1),
+  )
 ]
 
-pub links_stay : (f g : Link → Bool) (ls : List Link) → AllByRecursion (λ l. f l ≡ g l) ls → filter (λ l. not (f l)) ls ≡ filter (λ l. not (g l)) ls
+-- where two tests tell of each link the same, the same links stay by both
+pub links_stay : (f g : Link → Bool) (ls : List Link) → AllByRecursion (λ l. f l ≡ g l) ls
+    → filter (λ l. not (f l)) ls ≡ filter (λ l. not (g l)) ls
 links_stay f g [] h = refl
 links_stay f g (l ∷ ls) h = elim (cases_Bool (g l)) [
   | inl t ↦ rw (h.0, t) (links_stay f g ls h.1)
@@ -69,28 +87,41 @@ route_listed [] id = refl
 route_listed (l ∷ ls) id = rw (eqb_swap id l.id, route_listed ls id) refl
 
 -- places
-found_same : (f g key : Link → Bool) (ls : List Link) → AllByRecursion (λ l. f l ≡ g l) ls → option_map_or f (find key ls) false ≡ option_map_or g (find key ls) false
+found_same : (f g key : Link → Bool) (ls : List Link) → AllByRecursion (λ l. f l ≡ g l) ls
+    → option_map_or f (find key ls) false ≡ option_map_or g (find key ls) false
 found_same f g key [] h = refl
-found_same f g key (l ∷ ls) h = elim (cases_Bool (key l)) [ inl t ↦ rw t (h.0) | inr n ↦ rw n (found_same f g key ls h.1) ]
+found_same f g key (l ∷ ls) h =
+    elim (cases_Bool (key l)) [ inl t ↦ rw t (h.0) | inr n ↦ rw n (found_same f g key ls h.1) ]
 
-pub any_kept : (key goes : Link → Bool) (ls : List Link) → list_any key (filter goes ls) ≡ list_any (λ l. key l && goes l) ls
+-- some link that is kept passes a test exactly where some link is kept and passes it
+pub any_kept : (key goes : Link → Bool) (ls : List Link)
+    → list_any key (filter goes ls) ≡ list_any (λ l. key l && goes l) ls
 any_kept key goes [] = refl
 any_kept key goes (l ∷ ls) = elim (cases_Bool (goes l)) [
   | inl t ↦ elim (cases_Bool (key l)) [ inl k ↦ rw (t, k) refl | inr k ↦ rw (t, k) (any_kept key goes ls) ]
-  | inr n ↦ elim (cases_Bool (key l)) [ inl k ↦ rw (n, k) (any_kept key goes ls) | inr k ↦ rw (n, k) (any_kept key goes ls) ]
+  | inr n ↦ elim (cases_Bool (key l)) [
+    | inl k ↦ rw (n, k) (any_kept key goes ls)
+    | inr k ↦
+        rw (n, k) (any_kept key goes ls)
+  ]
 ]
 
-below_listed : (goes : Link → Bool) (ids : List ℕ) (ls : List Link) (s : StreamId) → AreLowersApart ls → IsListOf goes ids ls
+below_listed : (goes : Link → Bool) (ids : List ℕ) (ls : List Link) (s : StreamId) → AreLowersApart ls
+    → IsListOf goes ids ls
     → option_map_or (λ l. is_listed ids l.id) (find (λ l. same_stream l.lower s) ls) false ≡ is_below (filter goes ls) s
 below_listed goes ids ls s apart h =
     found_same (λ l. is_listed ids l.id) goes (λ l. same_stream l.lower s) ls h
-    ∙ sym (any_once (λ l. same_stream l.lower s) goes (λ l. same_stream l.lower s && goes l) ls (once_below s ls apart) (λ l. refl))
+    ∙ sym (any_once (λ l. same_stream l.lower s) goes (λ l. same_stream l.lower s && goes l) ls (once_below s ls apart)
+    (λ l. refl))
     ∙ sym (any_kept (λ l. same_stream l.lower s) goes ls)
 
-read_listed : (goes : Link → Bool) (ids : List ℕ) (ls : List Link) (p : Place) → AreLowersApart ls → IsListOf goes ids ls → is_read_below_listed ls ids p ≡ is_read_below (filter goes ls) p
-read_listed goes ids ls p apart h = ap (λ (x : Bool). same_side p.side side.Read && x) (below_listed goes ids ls p.stream apart h)
+read_listed : (goes : Link → Bool) (ids : List ℕ) (ls : List Link) (p : Place) → AreLowersApart ls
+    → IsListOf goes ids ls → is_read_below_listed ls ids p ≡ is_read_below (filter goes ls) p
+read_listed goes ids ls p apart h =
+    ap (λ (x : Bool). same_side p.side side.Read && x) (below_listed goes ids ls p.stream apart h)
 
-same_kept : {X : Type 0} (f g : X → Bool) (xs : List X) → ((x : X) → f x ≡ g x) → filter (λ x. not (f x)) xs ≡ filter (λ x. not (g x)) xs
+same_kept : {X : Type 0} (f g : X → Bool) (xs : List X) → ((x : X) → f x ≡ g x)
+    → filter (λ x. not (f x)) xs ≡ filter (λ x. not (g x)) xs
 same_kept {X = X} f g [] h = refl
 same_kept {X = X} f g (x ∷ xs) h = elim (cases_Bool (g x)) [
   | inl t ↦ rw (h x, t) (same_kept f g xs h)
@@ -102,7 +133,8 @@ pub ids_in_order : (goes : Link → Bool) (ls : List Link) (ids : List ℕ) → 
 ids_in_order goes ls ids e id = ap (λ (xs : List ℕ). is_listed xs id) e ∙ route_listed (filter goes ls) id
 
 -- ids of the links that go list those and no others
-pub listed_any : (goes : Link → Bool) (ls : List Link) (ids : List ℕ) → IsIdsRising ls → AreIdsOf goes ls ids → IsListOf goes ids ls
+pub listed_any : (goes : Link → Bool) (ls : List Link) (ids : List ℕ) → IsIdsRising ls → AreIdsOf goes ls ids
+    → IsListOf goes ids ls
 listed_any goes ls ids rise h = each ls (listed goes ls rise) where
   each : (ks : List Link) → IsListOf goes (ids_of goes ls) ks → IsListOf goes ids ks
   each [] a = tt
@@ -110,23 +142,35 @@ listed_any goes ls ids rise h = each ls (listed goes ls rise) where
 
 -- without the links with these ids, the routes to them, and what their lower streams' read sides hold
 abbrev pub without_listed : Configuration → List ℕ → Configuration
-without_listed c ids = record c { links = filter (λ l. not (is_one_of ids l)) c.links; routes = filter (λ r. not (is_listed ids r.id)) c.routes; flow = filter (λ h. not (is_read_below_listed c.links ids h.place)) c.flow; fulls = filter (λ p. not (is_read_below_listed c.links ids p)) c.fulls }
+without_listed c ids = record c {
+  links = filter (λ l. not (is_one_of ids l)) c.links;
+  routes = filter (λ r. not (is_listed ids r.id)) c.routes;
+  flow = filter (λ h. not (is_read_below_listed c.links ids h.place)) c.flow;
+  fulls = filter (λ p. not (is_read_below_listed c.links ids p)) c.fulls;
+}
 
 abbrev parts : Configuration → List Link → List Route → List QueuedMessage → List Place → Configuration
 parts c links routes flow fulls = record c { links = links; routes = routes; flow = flow; fulls = fulls }
 
-same_parts : (c : Configuration) (ls ks : List Link) (rs ss : List Route) (hs gs : List QueuedMessage) (ps qs : List Place) → ls ≡ ks → rs ≡ ss → hs ≡ gs → ps ≡ qs → parts c ls rs hs ps ≡ parts c ks ss gs qs
+same_parts : (c : Configuration) (ls ks : List Link) (rs ss : List Route) (hs gs : List QueuedMessage)
+    (ps qs : List Place) → ls ≡ ks → rs ≡ ss → hs ≡ gs → ps ≡ qs → parts c ls rs hs ps ≡ parts c ks ss gs qs
 same_parts c ls ks rs ss hs gs ps qs a b d e = cc
 
-pub removed_is : (c : Configuration) (ids : List ℕ) → AreLowersApart c.links → IsIdsRising c.links → (goes : Link → Bool) → AreIdsOf goes c.links ids → without_listed c ids ≡ without_links c goes
+-- removing links by a list of their ids is removing those that go
+pub removed_is : (c : Configuration) (ids : List ℕ) → AreLowersApart c.links → IsIdsRising c.links
+    → (goes : Link → Bool) → AreIdsOf goes c.links ids → without_listed c ids ≡ without_links c goes
 removed_is c ids apart rise goes h =
     let gone = filter goes c.links in
     let here = listed_any goes c.links ids rise h in
-    same_parts c _ (filter (λ l. not (goes l)) c.links) _ (filter (λ r. not (list_any (λ l. eqb l.id r.id) gone)) c.routes) _ (filter (λ h. not (is_read_below gone h.place)) c.flow) _ (filter (λ p. not (is_read_below gone p)) c.fulls)
+    same_parts c _ (filter (λ l. not (goes l)) c.links) _
+    (filter (λ r. not (list_any (λ l. eqb l.id r.id) gone)) c.routes) _
+    (filter (λ h. not (is_read_below gone h.place)) c.flow) _ (filter (λ p. not (is_read_below gone p)) c.fulls)
     (links_stay (is_one_of ids) goes c.links here)
     (same_kept (λ (r : Route). is_listed ids r.id) (λ r. list_any (λ l. eqb l.id r.id) gone) c.routes (λ r. h r.id))
-    (same_kept (λ (h : QueuedMessage). is_read_below_listed c.links ids h.place) (λ h. is_read_below gone h.place) c.flow (λ h. read_listed goes ids c.links h.place apart here))
-    (same_kept (is_read_below_listed c.links ids) (is_read_below gone) c.fulls (λ p. read_listed goes ids c.links p apart here))
+    (same_kept (λ (h : QueuedMessage). is_read_below_listed c.links ids h.place)
+    (λ h. is_read_below gone h.place) c.flow (λ h. read_listed goes ids c.links h.place apart here))
+    (same_kept (is_read_below_listed c.links ids) (is_read_below gone) c.fulls
+    (λ p. read_listed goes ids c.links p apart here))
 
 -- where no link goes, all stays
 pub is_nothing : (ids : List ℕ) → eqb (length ids) 0 ≡ true → ids ≡ []
@@ -141,7 +185,11 @@ none_goes goes ls h = no_ids (filter goes ls) h where
 
 all_stay : (goes : Link → Bool) (ls : List Link) → filter goes ls ≡ [] → filter (λ l. not (goes l)) ls ≡ ls
 all_stay goes [] h = refl
-all_stay goes (l ∷ ls) h = elim (cases_Bool (goes l)) [ inl t ↦ let k = rw t at h in absurd cc | inr f ↦ rw f (ap (λ (zs : List Link). l ∷ zs) (all_stay goes ls (rw f at h))) ]
+all_stay goes (l ∷ ls) h = elim (cases_Bool (goes l)) [
+  | inl t ↦ let k = rw t at h in
+      absurd cc
+  | inr f ↦ rw f (ap (λ (zs : List Link). l ∷ zs) (all_stay goes ls (rw f at h)))
+]
 
 none_passes : {X : Type 0} (t : X → Bool) (xs : List X) → ((x : X) → t x ≡ false) → filter (λ x. not (t x)) xs ≡ xs
 none_passes {X = X} t [] h = refl
@@ -162,7 +210,8 @@ few_kept {X = X} t u (x ∷ xs) = elim (cases_Bool (u x)) [
 ]
 
 -- those that pass a test are among those that pass a wider one
-pub kept_among : {X : Type 0} (t u : X → Bool) (xs : List X) → ((x : X) → u x ≡ false → t x ≡ false) → filter t (filter u xs) ≡ filter t xs
+pub kept_among : {X : Type 0} (t u : X → Bool) (xs : List X) → ((x : X) → u x ≡ false → t x ≡ false)
+    → filter t (filter u xs) ≡ filter t xs
 kept_among {X = X} t u [] h = refl
 kept_among {X = X} t u (x ∷ xs) h = elim (cases_Bool (u x)) [
   | inl k ↦ elim (cases_Bool (t x)) [
@@ -179,12 +228,19 @@ none_listed ids ls none = sym (none_passes (is_one_of ids) ls (λ l. ap (λ (xs 
 no_read : (p : Place) → is_read_below [] p ≡ false
 no_read p = elim (cases_Bool (same_side p.side side.Read)) [ inl t ↦ rw t refl | inr f ↦ rw f refl ]
 
-pub nothing_removed : (c : Configuration) (ids : List ℕ) → ids ≡ [] → (goes : Link → Bool) → AreIdsOf goes c.links ids → c ≡ without_links c goes
+-- where the list of ids is empty, removing those that go changes nothing
+pub nothing_removed : (c : Configuration) (ids : List ℕ) → ids ≡ [] → (goes : Link → Bool) → AreIdsOf goes c.links ids
+    → c ≡ without_links c goes
 nothing_removed c ids none goes h =
     let gone = filter goes c.links in
     let no_link : gone ≡ [] = none_goes goes c.links (subst (AreIdsOf goes c.links) none h) in
-    sym (same_parts c (filter (λ l. not (goes l)) c.links) c.links (filter (λ r. not (list_any (λ l. eqb l.id r.id) gone)) c.routes) c.routes (filter (λ h. not (is_read_below gone h.place)) c.flow) c.flow (filter (λ p. not (is_read_below gone p)) c.fulls) c.fulls
+    sym (same_parts c (filter (λ l. not (goes l)) c.links) c.links
+    (filter (λ r. not (list_any (λ l. eqb l.id r.id) gone)) c.routes) c.routes
+    (filter (λ h. not (is_read_below gone h.place)) c.flow) c.flow
+    (filter (λ p. not (is_read_below gone p)) c.fulls) c.fulls
     (all_stay goes c.links no_link)
-    (none_passes (λ (r : Route). list_any (λ l. eqb l.id r.id) gone) c.routes (λ r. ap (list_any (λ l. eqb l.id r.id)) no_link))
-    (none_passes (λ (h : QueuedMessage). is_read_below gone h.place) c.flow (λ h. ap (λ (ls : List Link). is_read_below ls h.place) no_link ∙ no_read h.place))
+    (none_passes (λ (r : Route). list_any (λ l. eqb l.id r.id) gone) c.routes
+    (λ r. ap (list_any (λ l. eqb l.id r.id)) no_link))
+    (none_passes (λ (h : QueuedMessage). is_read_below gone h.place) c.flow
+    (λ h. ap (λ (ls : List Link). is_read_below ls h.place) no_link ∙ no_read h.place))
     (none_passes (is_read_below gone) c.fulls (λ p. ap (λ (ls : List Link). is_read_below ls p) no_link ∙ no_read p)))

@@ -66,6 +66,7 @@ pub route_lines_tell : (drivers : List DriverSpec) (routes : List Route) (lines 
 route_lines_tell drivers routes lines r all tell h known rise many =
     let known_each = recursion_from_All (IsWithin drivers) routes known in
     let under_each = each_under driver addr value routes rise in
-    lines_tell (shown_route drivers routes) route_before (view_of_route drivers) (IsUnder routes) (before_on driver addr value) routes lines r
+    lines_tell (shown_route drivers routes) route_before (view_of_route drivers) (IsUnder routes)
+    (before_on driver addr value) routes lines r
     all (λ some rises long under. tell some routes rises rise long under) (route_line_is drivers routes)
     (route_lines_again drivers routes routes h known_each under_each) rise many

@@ -1,5 +1,6 @@
 -- An item that a line shows by the name of a driver, an address and a value.
-use Rattle.std.proofs.Common.{◌≡◌, ℕ, ◌<◌, Bool, true, false, ◌&&◌, cond, eqb, List, [], ◌∷◌, length, get_or, find, Option, Some, None, refl, sym, ap, subst, ◌∙◌, arith}
+use Rattle.std.proofs.Common.{◌≡◌, ℕ, ◌<◌, Bool, true, false, ◌&&◌, cond, eqb, List, [], ◌∷◌, length, get_or, find}
+use Rattle.std.proofs.Common.{Option, Some, None, refl, sym, ap, subst, ◌∙◌, arith}
 use Rattle.std.specs.Prelude.{position, nat_lt}
 use Rattle.std.specs.List.{AllByRecursion}
 use Rattle.std.specs.Option.{option_map_or}
@@ -24,15 +25,18 @@ some_driver : DriverSpec
 some_driver = record { name = []; kind = Leaf; minors = 0; high = 0; low = 0; max = 0 }
 
 -- the name of a driver that there is
-name_at : (drivers : List DriverSpec) (n : ℕ) → n < length drivers → name_of drivers n ≡ (get_or drivers n some_driver).name
-name_at drivers n lt = ap (λ (o : Option DriverSpec). option_map_or (λ d. d.name) o []) (slice_get-get_or drivers n some_driver lt)
+name_at : (drivers : List DriverSpec) (n : ℕ) → n < length drivers
+    → name_of drivers n ≡ (get_or drivers n some_driver).name
+name_at drivers n lt =
+    ap (λ (o : Option DriverSpec). option_map_or (λ d. d.name) o []) (slice_get-get_or drivers n some_driver lt)
 
 -- the number of the driver of this name
 abbrev number_of : List DriverSpec → List ℕ → Option ℕ
 number_of drivers name = position (λ d. bytes_eq d.name name) drivers
 
 -- the driver that is found by a name has it
-named_at : (drivers : List DriverSpec) (name : List ℕ) (n : ℕ) → number_of drivers name ≡ Some n → name_of drivers n ≡ name
+named_at : (drivers : List DriverSpec) (name : List ℕ) (n : ℕ) → number_of drivers name ≡ Some n
+    → name_of drivers n ≡ name
 named_at drivers name n e =
     let p = position-Some (λ (d : DriverSpec). bytes_eq d.name name) drivers n some_driver e in
     name_at drivers n p.0 ∙ (bytes_eq-Decides _ _).0 p.1
@@ -43,7 +47,8 @@ found_by_name : (drivers : List DriverSpec) (n : ℕ) → IsDriverList drivers �
 found_by_name drivers n h lt =
     let here = name_at drivers n lt in
     let Others : Type 0 = (k : ℕ) → k < n → bytes_eq (get_or drivers k some_driver).name (name_of drivers n) ≡ false in
-    let others : Others = λ k below. false_from_ne_true _ (λ t. h.names k n some_driver below lt ((bytes_eq-Decides _ _).0 t ∙ here)) in
+    let others : Others = λ k below. false_from_ne_true _
+    (λ t. h.names k n some_driver below lt ((bytes_eq-Decides _ _).0 t ∙ here)) in
     let first = position_or_len_is (λ (d : DriverSpec). bytes_eq d.name (name_of drivers n)) drivers n some_driver
     (omega arith) others (λ l. (bytes_eq-Decides _ _).1 (sym here)) in
     ap (λ m. cond (nat_lt m (length drivers)) (Some m) None) first
@@ -101,7 +106,8 @@ module _ {X : Type 0} (driver addr value : X → ℕ) where
   pub shown_again : (drivers : List DriverSpec) (xs : List X) (x : X) → IsDriverList drivers → driver x < length drivers
       → IsUnder xs x → shown_by drivers xs (name_of drivers (driver x)) (addr x) (value x) ≡ Some x
   shown_again drivers xs x h lt under =
-      ap (λ (o : Option ℕ). o >>= (λ n. item_at xs n (addr x) >>= with_value (value x))) (found_by_name drivers (driver x) h lt)
+      ap (λ (o : Option ℕ). o >>= (λ n. item_at xs n (addr x) >>= with_value (value x)))
+      (found_by_name drivers (driver x) h lt)
       ∙ (ap (λ (o : Option X). o >>= with_value (value x)) under
       ∙ ap (λ b. cond b (Some x) None) (eq-eqb (value x) (value x) refl))
 

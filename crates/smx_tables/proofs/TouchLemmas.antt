@@ -1,5 +1,6 @@
 -- Streams that a change touches: which went, and what is left of them.
-use Rattle.std.proofs.Common.{◌≡◌, ℕ, suc, ◌+◌, ◌≤◌, Bool, true, ◌&&◌, ◌||◌, not, List, [], ◌∷◌, ◌++◌, length, map, filter, get_or, refl, sym, ap, ◌∙◌, arith, inl, inr}
+use Rattle.std.proofs.Common.{◌≡◌, ℕ, suc, ◌+◌, ◌≤◌, Bool, true, ◌&&◌, ◌||◌, not, List, [], ◌∷◌, ◌++◌, length, map}
+use Rattle.std.proofs.Common.{filter, get_or, refl, sym, ap, ◌∙◌, arith, inl, inr}
 use Rattle.std.specs.List.{All, list_any, list_all}
 use Rattle.std.proofs.lemmas.Bool.{cases_Bool, and_parts, or_cases, or_left, or_right, false≢true}
 use Rattle.std.proofs.lemmas.List.{length-map}
@@ -29,27 +30,42 @@ use Rattle.smx_tables.proofs.WatchLemmas.{listed_last, listed_more, still_listed
 -- ---- where all that were touched are there
 
 -- a stream that was touched is there too
-pub touched_there : (t : StreamTable) (ss : List StreamId) (s : StreamId) → list_all (is_there t) ss ≡ true → is_there_or_touched t ss s ≡ true → is_there t s ≡ true
-touched_there t ss s all h = elim (or_cases (is_there t s) (list_any (same_stream s) ss) h) [ inl a ↦ a | inr b ↦ one ss all b ] where
-  one : (vs : List StreamId) → list_all (is_there t) vs ≡ true → list_any (same_stream s) vs ≡ true → is_there t s ≡ true
-  one [] a b = absurd (false≢true b)
-  one (v ∷ vs) a b =
-      let p = and_parts (is_there t v) (list_all (is_there t) vs) a in
-      elim (or_cases (same_stream s v) (list_any (same_stream s) vs) b) [ inl e ↦ ap (is_there t) (stream_is s v e) ∙ p.0 | inr k ↦ one vs p.1 k ]
+pub touched_there : (t : StreamTable) (ss : List StreamId) (s : StreamId) → list_all (is_there t) ss ≡ true
+    → is_there_or_touched t ss s ≡ true → is_there t s ≡ true
+touched_there t ss s all h =
+    elim (or_cases (is_there t s) (list_any (same_stream s) ss) h) [ inl a ↦ a | inr b ↦ one ss all b ] where
+      one : (vs : List StreamId) → list_all (is_there t) vs ≡ true → list_any (same_stream s) vs ≡ true
+          → is_there t s ≡ true
+      one [] a b = absurd (false≢true b)
+      one (v ∷ vs) a b =
+          let p = and_parts (is_there t v) (list_all (is_there t) vs) a in
+          elim (or_cases (same_stream s v) (list_any (same_stream s) vs) b)
+          [ inl e ↦ ap (is_there t) (stream_is s v e) ∙ p.0 | inr k ↦ one vs p.1 k ]
 
 -- the controlling stream of each ordinary link is there
-pub linked_still : (t : StreamTable) (ss : List StreamId) (c : Configuration) → list_all (is_there t) ss ≡ true → IsTouched t ss c → list_all (λ l. is_persistent l || is_there t l.ctl) c.links ≡ true
-linked_still t ss c all h = all_weaker (λ l. is_persistent l || is_there_or_touched t ss l.ctl) (λ l. is_persistent l || is_there t l.ctl) c.links
-    (λ l e. elim (or_cases (is_persistent l) (is_there_or_touched t ss l.ctl) e) [ inl p ↦ or_left _ _ p | inr o ↦ or_right _ _ (touched_there t ss l.ctl all o) ]) h.links
+pub linked_still : (t : StreamTable) (ss : List StreamId) (c : Configuration) → list_all (is_there t) ss ≡ true
+    → IsTouched t ss c → list_all (λ l. is_persistent l || is_there t l.ctl) c.links ≡ true
+linked_still t ss c all h = all_weaker (λ l. is_persistent l || is_there_or_touched t ss l.ctl)
+    (λ l. is_persistent l || is_there t l.ctl) c.links
+    (λ l e. elim (or_cases (is_persistent l) (is_there_or_touched t ss l.ctl) e)
+    [ inl p ↦ or_left _ _ p | inr o ↦ or_right _ _ (touched_there t ss l.ctl all o) ]) h.links
 
 -- nothing is left to sweep
-pub swept_still : (drivers : List DriverSpec) (c : Configuration) (t : StreamTable) (ss : List StreamId) → TellsExisting drivers c t → list_all (is_there t) ss ≡ true → IsTouched t ss c → ((x : StreamId) → is_hung c.hungs x ≡ true → is_there t x ≡ true) → IsSwept drivers c
+pub swept_still : (drivers : List DriverSpec) (c : Configuration) (t : StreamTable) (ss : List StreamId)
+    → TellsExisting drivers c t → list_all (is_there t) ss ≡ true → IsTouched t ss c
+    → ((x : StreamId) → is_hung c.hungs x ≡ true → is_there t x ≡ true) → IsSwept drivers c
 swept_still drivers c t ss told all h hung = record {
-  links = all_weaker (λ l. is_persistent l || is_there_or_touched t ss l.ctl) (λ l. is_persistent l || exists drivers c l.ctl) c.links
-      (λ l e. elim (or_cases (is_persistent l) (is_there_or_touched t ss l.ctl) e) [ inl p ↦ or_left _ _ p | inr o ↦ or_right _ _ (there l.ctl o) ]) h.links;
-  binds = all_weaker (λ (b : Binding). is_there_or_touched t ss (record { driver = b.driver; minor = b.minor })) (λ b. exists drivers c (record { driver = b.driver; minor = b.minor })) c.binds (λ b. there (record { driver = b.driver; minor = b.minor })) h.binds;
-  flow = all_weaker (λ (m : QueuedMessage). is_there_or_touched t ss m.place.stream) (λ m. exists drivers c m.place.stream) c.flow (λ m. there m.place.stream) h.flow;
-  fulls = all_weaker (λ (p : Place). is_there_or_touched t ss p.stream) (λ p. exists drivers c p.stream) c.fulls (λ p. there p.stream) h.fulls;
+  links = all_weaker (λ l. is_persistent l || is_there_or_touched t ss l.ctl)
+      (λ l. is_persistent l || exists drivers c l.ctl) c.links
+      (λ l e. elim (or_cases (is_persistent l) (is_there_or_touched t ss l.ctl) e)
+      [ inl p ↦ or_left _ _ p | inr o ↦ or_right _ _ (there l.ctl o) ]) h.links;
+  binds = all_weaker (λ (b : Binding). is_there_or_touched t ss (record { driver = b.driver; minor = b.minor }))
+      (λ b. exists drivers c (record { driver = b.driver; minor = b.minor })) c.binds
+      (λ b. there (record { driver = b.driver; minor = b.minor })) h.binds;
+  flow = all_weaker (λ (m : QueuedMessage). is_there_or_touched t ss m.place.stream)
+      (λ m. exists drivers c m.place.stream) c.flow (λ m. there m.place.stream) h.flow;
+  fulls = all_weaker (λ (p : Place). is_there_or_touched t ss p.stream) (λ p. exists drivers c p.stream) c.fulls
+      (λ p. there p.stream) h.fulls;
   hungs = pass_all (exists drivers c) c.hungs (λ x up. sym (told x) ∙ hung x up);
 } where
   there : (s : StreamId) → is_there_or_touched t ss s ≡ true → exists drivers c s ≡ true
@@ -57,83 +73,128 @@ swept_still drivers c t ss told all h hung = record {
 
 -- ---- what was there is there or touched
 
-pub touched_by : (drivers : List DriverSpec) (c : Configuration) (t u : StreamTable) (ss : List StreamId) → TellsExisting drivers c t → IsSwept drivers c → ((s : StreamId) → is_there t s ≡ true → is_there_or_touched u ss s ≡ true) → IsTouched u ss c
+-- where each stream that was there is there or touched, so is each that a swept configuration has something of
+pub touched_by : (drivers : List DriverSpec) (c : Configuration) (t u : StreamTable) (ss : List StreamId)
+    → TellsExisting drivers c t → IsSwept drivers c
+    → ((s : StreamId) → is_there t s ≡ true → is_there_or_touched u ss s ≡ true) → IsTouched u ss c
 touched_by drivers c t u ss told h stays = record {
-  links = all_weaker (λ l. is_persistent l || exists drivers c l.ctl) (λ l. is_persistent l || is_there_or_touched u ss l.ctl) c.links
-      (λ l e. elim (or_cases (is_persistent l) (exists drivers c l.ctl) e) [ inl p ↦ or_left _ _ p | inr o ↦ or_right _ _ (now l.ctl o) ]) h.links;
-  binds = all_weaker (λ (b : Binding). exists drivers c (record { driver = b.driver; minor = b.minor })) (λ b. is_there_or_touched u ss (record { driver = b.driver; minor = b.minor })) c.binds (λ b. now (record { driver = b.driver; minor = b.minor })) h.binds;
-  flow = all_weaker (λ (m : QueuedMessage). exists drivers c m.place.stream) (λ m. is_there_or_touched u ss m.place.stream) c.flow (λ m. now m.place.stream) h.flow;
-  fulls = all_weaker (λ (p : Place). exists drivers c p.stream) (λ p. is_there_or_touched u ss p.stream) c.fulls (λ p. now p.stream) h.fulls;
+  links = all_weaker (λ l. is_persistent l || exists drivers c l.ctl)
+      (λ l. is_persistent l || is_there_or_touched u ss l.ctl) c.links
+      (λ l e. elim (or_cases (is_persistent l) (exists drivers c l.ctl) e)
+      [ inl p ↦ or_left _ _ p | inr o ↦ or_right _ _ (now l.ctl o) ]) h.links;
+  binds = all_weaker (λ (b : Binding). exists drivers c (record { driver = b.driver; minor = b.minor }))
+      (λ b. is_there_or_touched u ss (record { driver = b.driver; minor = b.minor })) c.binds
+      (λ b. now (record { driver = b.driver; minor = b.minor })) h.binds;
+  flow = all_weaker (λ (m : QueuedMessage). exists drivers c m.place.stream)
+      (λ m. is_there_or_touched u ss m.place.stream) c.flow (λ m. now m.place.stream) h.flow;
+  fulls = all_weaker (λ (p : Place). exists drivers c p.stream) (λ p. is_there_or_touched u ss p.stream) c.fulls
+      (λ p. now p.stream) h.fulls;
 } where
   now : (s : StreamId) → exists drivers c s ≡ true → is_there_or_touched u ss s ≡ true
   now s e = stays s (told s ∙ e)
 
 -- with other descriptors, with other hung-up streams, and without some links
-pub touched_fds : (t : StreamTable) (ss : List StreamId) (c : Configuration) (fds : List Descriptor) → IsTouched t ss c → IsTouched t ss (record c { fds = fds })
+pub touched_fds : (t : StreamTable) (ss : List StreamId) (c : Configuration) (fds : List Descriptor) → IsTouched t ss c
+    → IsTouched t ss (record c { fds = fds })
 touched_fds t ss c fds h = record { links = h.links; binds = h.binds; flow = h.flow; fulls = h.fulls }
 
-pub touched_hungs : (t : StreamTable) (ss : List StreamId) (c : Configuration) (hungs : List StreamId) → IsTouched t ss c → IsTouched t ss (record c { hungs = hungs })
+-- with other hung-up streams, what belongs to streams that are there or touched still does
+pub touched_hungs : (t : StreamTable) (ss : List StreamId) (c : Configuration) (hungs : List StreamId)
+    → IsTouched t ss c → IsTouched t ss (record c { hungs = hungs })
 touched_hungs t ss c hungs h = record { links = h.links; binds = h.binds; flow = h.flow; fulls = h.fulls }
 
-pub touched_without : (t : StreamTable) (ss : List StreamId) (c : Configuration) (goes : Link → Bool) → IsTouched t ss c → IsTouched t ss (without_links c goes)
-touched_without t ss c goes h = record { links = all_fewer _ _ c.links h.links; binds = h.binds; flow = all_fewer _ _ c.flow h.flow; fulls = all_fewer _ _ c.fulls h.fulls }
+-- without some links, what belongs to streams that are there or touched still does
+pub touched_without : (t : StreamTable) (ss : List StreamId) (c : Configuration) (goes : Link → Bool) → IsTouched t ss c
+    → IsTouched t ss (without_links c goes)
+touched_without t ss c goes h = record {
+  links = all_fewer _ _ c.links h.links;
+  binds = h.binds;
+  flow = all_fewer _ _ c.flow h.flow;
+  fulls = all_fewer _ _ c.fulls h.fulls;
+}
 
 -- and without the messages of some places
-pub touched_emptied : (t : StreamTable) (ss : List StreamId) (c : Configuration) (goes : Place → Bool) → IsTouched t ss c → IsTouched t ss (without_queues_at c goes)
-touched_emptied t ss c goes h = record { links = h.links; binds = h.binds; flow = all_fewer _ _ c.flow h.flow; fulls = all_fewer _ _ c.fulls h.fulls }
+pub touched_emptied : (t : StreamTable) (ss : List StreamId) (c : Configuration) (goes : Place → Bool)
+    → IsTouched t ss c → IsTouched t ss (without_queues_at c goes)
+touched_emptied t ss c goes h = record {
+  links = h.links;
+  binds = h.binds;
+  flow = all_fewer _ _ c.flow h.flow;
+  fulls = all_fewer _ _ c.fulls h.fulls;
+}
 
 -- what was there or touched still is
-pub touched_on : (t u : StreamTable) (ss vs : List StreamId) (c : Configuration) → IsTouched t ss c → ((s : StreamId) → is_there_or_touched t ss s ≡ true → is_there_or_touched u vs s ≡ true) → IsTouched u vs c
+pub touched_on : (t u : StreamTable) (ss vs : List StreamId) (c : Configuration) → IsTouched t ss c
+    → ((s : StreamId) → is_there_or_touched t ss s ≡ true → is_there_or_touched u vs s ≡ true) → IsTouched u vs c
 touched_on t u ss vs c h on = record {
-  links = all_weaker (λ l. is_persistent l || is_there_or_touched t ss l.ctl) (λ l. is_persistent l || is_there_or_touched u vs l.ctl) c.links
-      (λ l e. elim (or_cases (is_persistent l) (is_there_or_touched t ss l.ctl) e) [ inl p ↦ or_left _ _ p | inr o ↦ or_right _ _ (on l.ctl o) ]) h.links;
-  binds = all_weaker (λ (b : Binding). is_there_or_touched t ss (record { driver = b.driver; minor = b.minor })) (λ b. is_there_or_touched u vs (record { driver = b.driver; minor = b.minor })) c.binds (λ b. on (record { driver = b.driver; minor = b.minor })) h.binds;
-  flow = all_weaker (λ (m : QueuedMessage). is_there_or_touched t ss m.place.stream) (λ m. is_there_or_touched u vs m.place.stream) c.flow (λ m. on m.place.stream) h.flow;
-  fulls = all_weaker (λ (p : Place). is_there_or_touched t ss p.stream) (λ p. is_there_or_touched u vs p.stream) c.fulls (λ p. on p.stream) h.fulls;
+  links = all_weaker (λ l. is_persistent l || is_there_or_touched t ss l.ctl)
+      (λ l. is_persistent l || is_there_or_touched u vs l.ctl) c.links
+      (λ l e. elim (or_cases (is_persistent l) (is_there_or_touched t ss l.ctl) e)
+      [ inl p ↦ or_left _ _ p | inr o ↦ or_right _ _ (on l.ctl o) ]) h.links;
+  binds = all_weaker (λ (b : Binding). is_there_or_touched t ss (record { driver = b.driver; minor = b.minor }))
+      (λ b. is_there_or_touched u vs (record { driver = b.driver; minor = b.minor })) c.binds
+      (λ b. on (record { driver = b.driver; minor = b.minor })) h.binds;
+  flow = all_weaker (λ (m : QueuedMessage). is_there_or_touched t ss m.place.stream)
+      (λ m. is_there_or_touched u vs m.place.stream) c.flow (λ m. on m.place.stream) h.flow;
+  fulls = all_weaker (λ (p : Place). is_there_or_touched t ss p.stream) (λ p. is_there_or_touched u vs p.stream) c.fulls
+      (λ p. on p.stream) h.fulls;
 }
 
 -- a stream is released and touched
-pub release_touches : (t u v : StreamTable) (ss : List StreamId) (s : StreamId) (n : ℕ) → HasHolds u s n v → ((x : StreamId) → is_there t x ≡ true → is_there_or_touched u ss x ≡ true)
+pub release_touches : (t u v : StreamTable) (ss : List StreamId) (s : StreamId) (n : ℕ) → HasHolds u s n v
+    → ((x : StreamId) → is_there t x ≡ true → is_there_or_touched u ss x ≡ true)
     → (x : StreamId) → is_there t x ≡ true → is_there_or_touched v (ss ++ s ∷ []) x ≡ true
-release_touches t u v ss s n h so_far x there = elim (or_cases (is_there u x) (list_any (same_stream x) ss) (so_far x there)) [
-  | inl still ↦ elim (cases_Bool (same_stream x s)) [
-    | inl it ↦ or_right _ _ (ap (λ (y : StreamId). list_any (same_stream y) (ss ++ s ∷ [])) (stream_is x s it) ∙ listed_last ss s)
-    | inr other ↦ or_left _ _ (there_same u v s x n h other ∙ still)
-  ]
-  | inr earlier ↦ or_right _ _ (still_listed x ss s earlier)
-]
+release_touches t u v ss s n h so_far x there =
+    elim (or_cases (is_there u x) (list_any (same_stream x) ss) (so_far x there)) [
+      | inl still ↦ elim (cases_Bool (same_stream x s)) [
+        | inl it ↦ or_right _ _ (ap (λ (y : StreamId). list_any (same_stream y) (ss ++ s ∷ [])) (stream_is x s it)
+            ∙ listed_last ss s)
+        | inr other ↦ or_left _ _ (there_same u v s x n h other ∙ still)
+      ]
+      | inr earlier ↦ or_right _ _ (still_listed x ss s earlier)
+    ]
 
 -- the same of what was there or touched, and of one stream more that is put aside
-pub release_touches_on : (t u v : StreamTable) (first ss : List StreamId) (s : StreamId) (n : ℕ) → HasHolds u s n v → ((x : StreamId) → is_there_or_touched t first x ≡ true → is_there_or_touched u ss x ≡ true)
+pub release_touches_on : (t u v : StreamTable) (first ss : List StreamId) (s : StreamId) (n : ℕ) → HasHolds u s n v
+    → ((x : StreamId) → is_there_or_touched t first x ≡ true → is_there_or_touched u ss x ≡ true)
     → (x : StreamId) → is_there_or_touched t first x ≡ true → is_there_or_touched v (ss ++ s ∷ []) x ≡ true
-release_touches_on t u v first ss s n h so_far x there = elim (or_cases (is_there u x) (list_any (same_stream x) ss) (so_far x there)) [
-  | inl still ↦ elim (cases_Bool (same_stream x s)) [
-    | inl it ↦ or_right _ _ (ap (λ (y : StreamId). list_any (same_stream y) (ss ++ s ∷ [])) (stream_is x s it) ∙ listed_last ss s)
-    | inr other ↦ or_left _ _ (there_same u v s x n h other ∙ still)
-  ]
-  | inr earlier ↦ or_right _ _ (still_listed x ss s earlier)
-]
+release_touches_on t u v first ss s n h so_far x there =
+    elim (or_cases (is_there u x) (list_any (same_stream x) ss) (so_far x there)) [
+      | inl still ↦ elim (cases_Bool (same_stream x s)) [
+        | inl it ↦ or_right _ _ (ap (λ (y : StreamId). list_any (same_stream y) (ss ++ s ∷ [])) (stream_is x s it)
+            ∙ listed_last ss s)
+        | inr other ↦ or_left _ _ (there_same u v s x n h other ∙ still)
+      ]
+      | inr earlier ↦ or_right _ _ (still_listed x ss s earlier)
+    ]
 
 -- a stream that may have gone is put to those that were seen
-pub seen_more : (u v : StreamTable) (left rest now seen : List StreamId) (s x : StreamId) → left ≡ rest ++ s ∷ [] → ((y : StreamId) → is_there_or_touched u rest y ≡ true → is_there_or_touched v now y ≡ true)
-    → (is_there_or_touched u left x || list_any (same_stream x) seen) ≡ true → (is_there_or_touched v now x || list_any (same_stream x) (seen ++ s ∷ [])) ≡ true
-seen_more u v left rest now seen s x last on h = elim (or_cases (is_there_or_touched u left x) (list_any (same_stream x) seen) h) [
-  | inl a ↦ elim (or_cases (is_there u x) (list_any (same_stream x) left) a) [
-    | inl there ↦ or_left _ _ (on x (or_left _ _ there))
-    | inr one ↦ elim (or_cases (list_any (same_stream x) rest) (same_stream x s) (sym (listed_more x rest s) ∙ (ap (list_any (same_stream x)) (sym last) ∙ one))) [
-      | inl earlier ↦ or_left _ _ (on x (or_right _ _ earlier))
-      | inr it ↦ or_right _ _ (listed_more x seen s ∙ or_right _ _ it)
+pub seen_more : (u v : StreamTable) (left rest now seen : List StreamId) (s x : StreamId) → left ≡ rest ++ s ∷ []
+    → ((y : StreamId) → is_there_or_touched u rest y ≡ true → is_there_or_touched v now y ≡ true)
+    → (is_there_or_touched u left x || list_any (same_stream x) seen) ≡ true
+    → (is_there_or_touched v now x || list_any (same_stream x) (seen ++ s ∷ [])) ≡ true
+seen_more u v left rest now seen s x last on h =
+    elim (or_cases (is_there_or_touched u left x) (list_any (same_stream x) seen) h) [
+      | inl a ↦ elim (or_cases (is_there u x) (list_any (same_stream x) left) a) [
+        | inl there ↦ or_left _ _ (on x (or_left _ _ there))
+        | inr one ↦
+            elim (or_cases (list_any (same_stream x) rest) (same_stream x s)
+            (sym (listed_more x rest s) ∙ (ap (list_any (same_stream x)) (sym last) ∙ one))) [
+              | inl earlier ↦ or_left _ _ (on x (or_right _ _ earlier))
+              | inr it ↦ or_right _ _ (listed_more x seen s ∙ or_right _ _ it)
+            ]
+      ]
+      | inr b ↦ or_right _ _ (still_listed x seen s b)
     ]
-  ]
-  | inr b ↦ or_right _ _ (still_listed x seen s b)
-]
 
 -- in the end all of them were seen
-pub all_seen : (u : StreamTable) (left seen : List StreamId) (x : StreamId) → left ≡ [] → (is_there_or_touched u left x || list_any (same_stream x) seen) ≡ true → is_there_or_touched u seen x ≡ true
+pub all_seen : (u : StreamTable) (left seen : List StreamId) (x : StreamId) → left ≡ []
+    → (is_there_or_touched u left x || list_any (same_stream x) seen) ≡ true → is_there_or_touched u seen x ≡ true
 all_seen u left seen x none h = elim (or_cases (is_there_or_touched u left x) (list_any (same_stream x) seen) h) [
   | inl a ↦ elim (or_cases (is_there u x) (list_any (same_stream x) left) a) [
     | inl there ↦ or_left _ _ there
-    | inr one ↦ let bad : list_any (same_stream x) [] ≡ true = ap (list_any (same_stream x)) (sym none) ∙ one in absurd (false≢true bad)
+    | inr one ↦ let bad : list_any (same_stream x) [] ≡ true = ap (list_any (same_stream x)) (sym none) ∙ one in
+        absurd (false≢true bad)
   ]
   | inr b ↦ or_right _ _ b
 ]
@@ -141,11 +202,16 @@ all_seen u left seen x none h = elim (or_cases (is_there_or_touched u left x) (l
 -- ---- the cascade at first
 
 -- where each stream below a link has a hold, there are no more holds than links
-pub few_below : (links : List Link) (t : StreamTable) → AreHeld links t → (ls : List Link) → holds_below ls t ≤ length ls
+pub few_below : (links : List Link) (t : StreamTable) → AreHeld links t → (ls : List Link)
+    → holds_below ls t ≤ length ls
 few_below links t held [] = omega arith
-few_below links t held (l ∷ ls) = let one = holds_few links l.lower in let here = held l.lower in let rest = few_below links t held ls in omega (arith, one, here, rest)
+few_below links t held (l ∷ ls) = let one = holds_few links l.lower in let here = held l.lower in
+    let rest = few_below links t held ls in omega (arith, one, here, rest)
 
-pub cascade_at_first : (links : List Link) (t : StreamTable) (ss : List StreamId) (room : ℕ) → AreHeld links t → list_all (λ l. is_persistent l || is_there_or_touched t ss l.ctl) links ≡ true → length ss + length (ordinary_of links) ≤ room → IsCascade links t ss room
+-- where each ordinary link's controlling stream is there or touched, and there is room, a cascade may begin
+pub cascade_at_first : (links : List Link) (t : StreamTable) (ss : List StreamId) (room : ℕ) → AreHeld links t
+    → list_all (λ l. is_persistent l || is_there_or_touched t ss l.ctl) links ≡ true
+    → length ss + length (ordinary_of links) ≤ room → IsCascade links t ss room
 cascade_at_first links t ss room held h enough = record {
   releasing = λ n. starts links n t held;
   watched = all_weaker (λ l. is_persistent l || is_there_or_touched t ss l.ctl) (is_watched t ss) links watch h;
@@ -157,19 +223,24 @@ cascade_at_first links t ss room held h enough = record {
     | inl loose ↦
         let a = and_parts (not (is_persistent l)) (is_held t l && not (is_there t l.ctl)) loose in
         let gone = not_true _ (and_parts (is_held t l) (not (is_there t l.ctl)) a.1).1 in
-        or_right (not (is_loose t l)) (list_any (same_stream l.ctl) ss) (elim (or_cases (is_persistent l) (is_there_or_touched t ss l.ctl) e) [
+        or_right (not (is_loose t l)) (list_any (same_stream l.ctl) ss)
+        (elim (or_cases (is_persistent l) (is_there_or_touched t ss l.ctl) e) [
           | inl p ↦ absurd (false≢true (sym (not_true _ a.0) ∙ p))
-          | inr o ↦ elim (or_cases (is_there t l.ctl) (list_any (same_stream l.ctl) ss) o) [ inl there ↦ absurd (false≢true (sym gone ∙ there)) | inr one ↦ one ]
+          | inr o ↦ elim (or_cases (is_there t l.ctl) (list_any (same_stream l.ctl) ss) o)
+              [ inl there ↦ absurd (false≢true (sym gone ∙ there)) | inr one ↦ one ]
         ])
   ]
 
 -- where each stream below a link is held, no link's lower stream is free
 pub none_free : (links : List Link) (t : StreamTable) → AreHeld links t → filter (λ l. not (is_held t l)) links ≡ []
-none_free links t held = none links (λ i d lt. held_is_below links t (get_or links i d).lower held ∙ below_at links i d lt) where
-  none : (ls : List Link) → All (λ l. is_held t l ≡ true) ls → filter (λ l. not (is_held t l)) ls ≡ []
-  none [] h = refl
-  none (l ∷ ls) h = rw (h 0 l (omega arith)) (none ls (λ i d lt. h (suc i) d (omega (arith, lt))))
+none_free links t held =
+    none links (λ i d lt. held_is_below links t (get_or links i d).lower held ∙ below_at links i d lt) where
+      none : (ls : List Link) → All (λ l. is_held t l ≡ true) ls → filter (λ l. not (is_held t l)) ls ≡ []
+      none [] h = refl
+      none (l ∷ ls) h = rw (h 0 l (omega arith)) (none ls (λ i d lt. h (suc i) d (omega (arith, lt))))
 
 -- no more ids than links
-pub few_ids : (t : Link → Bool) (ls : List Link) (ids : List ℕ) → ids ≡ map (λ l. l.id) (filter t ls) → length ids ≤ length ls
-few_ids t ls ids e = omega (arith, ap length e, length-map (filter t ls) (λ (l : Link). l.id), not_more t ls (filter t ls) refl)
+pub few_ids : (t : Link → Bool) (ls : List Link) (ids : List ℕ) → ids ≡ map (λ l. l.id) (filter t ls)
+    → length ids ≤ length ls
+few_ids t ls ids e =
+    omega (arith, ap length e, length-map (filter t ls) (λ (l : Link). l.id), not_more t ls (filter t ls) refl)

@@ -1,5 +1,6 @@
 -- Loose links, and the streams that may have gone.
-use Rattle.std.proofs.Common.{◌≡◌, ℕ, zero, suc, ◌+◌, ◌-◌, ◌<◌, ◌≤◌, Bool, true, false, ◌&&◌, ◌||◌, not, eqb, List, [], ◌∷◌, ◌++◌, length, take, get_or, Some, refl, sym, ap, subst, ◌∙◌, arith, inl, inr}
+use Rattle.std.proofs.Common.{◌≡◌, ℕ, zero, suc, ◌+◌, ◌-◌, ◌<◌, ◌≤◌, Bool, true, false, ◌&&◌, ◌||◌, not, eqb, List, []}
+use Rattle.std.proofs.Common.{◌∷◌, ◌++◌, length, take, get_or, Some, refl, sym, ap, subst, ◌∙◌, arith, inl, inr}
 use Rattle.std.specs.Prelude.{nat_lt, slice_get}
 use Rattle.std.specs.List.{list_any, list_all}
 use Rattle.std.proofs.lemmas.Bool.{cases_Bool, and_parts, and_from, or_cases, or_left, or_right, eq-eqb, false≢true}
@@ -17,48 +18,65 @@ use Rattle.smx_tables.specs.TouchedStreams.{is_watched}
 use Rattle.smx_tables.proofs.AboveLemmas.{stream_is, stream_self}
 use Rattle.smx_tables.proofs.ExistingLemmas.{all_weaker, holds_few}
 use Rattle.smx_tables.proofs.ReleaseLemmas.{not_more_held, not_true, this_one}
-use Rattle.smx_tables.proofs.TableLemmas.{take_one_more}
+use Rattle.smx_tables.proofs.LinkWalkLemmas.{take_one_more}
 
 -- ---- streams in a list
 
-pub listed_more : (x : StreamId) (ss : List StreamId) (s : StreamId) → list_any (same_stream x) (ss ++ s ∷ []) ≡ (list_any (same_stream x) ss || same_stream x s)
+-- with one stream more, just that one is listed beside those that were
+pub listed_more : (x : StreamId) (ss : List StreamId) (s : StreamId)
+    → list_any (same_stream x) (ss ++ s ∷ []) ≡ (list_any (same_stream x) ss || same_stream x s)
 listed_more x [] s = or_none (same_stream x s) where
   or_none : (b : Bool) → (b || false) ≡ b
   or_none true = refl
   or_none false = refl
 listed_more x (y ∷ ys) s = elim (cases_Bool (same_stream x y)) [ inl t ↦ rw t refl | inr f ↦ rw f (listed_more x ys s) ]
 
-pub still_listed : (x : StreamId) (ss : List StreamId) (s : StreamId) → list_any (same_stream x) ss ≡ true → list_any (same_stream x) (ss ++ s ∷ []) ≡ true
+-- with one stream more, each that was listed still is
+pub still_listed : (x : StreamId) (ss : List StreamId) (s : StreamId) → list_any (same_stream x) ss ≡ true
+    → list_any (same_stream x) (ss ++ s ∷ []) ≡ true
 still_listed x ss s h = listed_more x ss s ∙ or_left _ _ h
 
 -- and behind another one
-pub still_listed_before : (x : StreamId) (ss : List StreamId) (s last : StreamId) → list_any (same_stream x) (ss ++ last ∷ []) ≡ true → list_any (same_stream x) ((ss ++ s ∷ []) ++ last ∷ []) ≡ true
-still_listed_before x ss s last h = listed_more x (ss ++ s ∷ []) last ∙ elim (or_cases (list_any (same_stream x) ss) (same_stream x last) (sym (listed_more x ss last) ∙ h)) [
-  | inl a ↦ or_left _ _ (still_listed x ss s a)
-  | inr b ↦ or_right _ _ b
-]
+pub still_listed_before : (x : StreamId) (ss : List StreamId) (s last : StreamId)
+    → list_any (same_stream x) (ss ++ last ∷ []) ≡ true → list_any (same_stream x) ((ss ++ s ∷ []) ++ last ∷ []) ≡ true
+still_listed_before x ss s last h = listed_more x (ss ++ s ∷ []) last
+    ∙ elim (or_cases (list_any (same_stream x) ss) (same_stream x last) (sym (listed_more x ss last) ∙ h)) [
+      | inl a ↦ or_left _ _ (still_listed x ss s a)
+      | inr b ↦ or_right _ _ b
+    ]
 
+-- the last stream of a list is listed
 pub listed_last : (ss : List StreamId) (s : StreamId) → list_any (same_stream s) (ss ++ s ∷ []) ≡ true
 listed_last ss s = listed_more s ss s ∙ or_right _ _ (stream_self s)
 
 -- ---- tests of the links up to one
 
-all_get : (test : Link → Bool) (ls : List Link) (i : ℕ) (d : Link) → i < length ls → list_all test ls ≡ true → test (get_or ls i d) ≡ true
+all_get : (test : Link → Bool) (ls : List Link) (i : ℕ) (d : Link) → i < length ls → list_all test ls ≡ true
+    → test (get_or ls i d) ≡ true
 all_get test [] i d lt h = absurd (omega arith)
 all_get test (l ∷ ls) zero d lt h = (and_parts (test l) (list_all test ls) h).0
 all_get test (l ∷ ls) (suc i) d lt h = all_get test ls i d (omega arith) (and_parts (test l) (list_all test ls) h).1
 
-pub all_at : (test : Link → Bool) (ls : List Link) (i : ℕ) (l : Link) → Some l ≡ slice_get ls i → list_all test ls ≡ true → test l ≡ true
-all_at test ls i l at h = subst (λ (k : Link). test k ≡ true) (this_one ls i l at) (all_get test ls i l (slice_get_within ls i l (sym at)) h)
+-- where all links pass a test, the one at an index does
+pub all_at : (test : Link → Bool) (ls : List Link) (i : ℕ) (l : Link) → Some l ≡ slice_get ls i
+    → list_all test ls ≡ true → test l ≡ true
+all_at test ls i l at h =
+    subst (λ (k : Link). test k ≡ true) (this_one ls i l at) (all_get test ls i l (slice_get_within ls i l (sym at)) h)
 
-all_last : (test : Link → Bool) (ls : List Link) (l : Link) → list_all test ls ≡ true → test l ≡ true → list_all test (ls ++ l ∷ []) ≡ true
+all_last : (test : Link → Bool) (ls : List Link) (l : Link) → list_all test ls ≡ true → test l ≡ true
+    → list_all test (ls ++ l ∷ []) ≡ true
 all_last test [] l h t = and_from _ _ t refl
-all_last test (k ∷ ks) l h t = let p = and_parts (test k) (list_all test ks) h in and_from _ _ p.0 (all_last test ks l p.1 t)
+all_last test (k ∷ ks) l h t =
+    let p = and_parts (test k) (list_all test ks) h in and_from _ _ p.0 (all_last test ks l p.1 t)
 
-pub all_more : (test : Link → Bool) (ls : List Link) (i : ℕ) (l : Link) → Some l ≡ slice_get ls i → list_all test (take i ls) ≡ true → test l ≡ true → list_all test (take (i + 1) ls) ≡ true
+-- where the links before an index pass a test, and the one there does, all up to it do
+pub all_more : (test : Link → Bool) (ls : List Link) (i : ℕ) (l : Link) → Some l ≡ slice_get ls i
+    → list_all test (take i ls) ≡ true → test l ≡ true → list_all test (take (i + 1) ls) ≡ true
 all_more test ls i l at h t = ap (list_all test) (take_one_more ls i l at) ∙ all_last test (take i ls) l h t
 
-pub all_in_all : (test : Link → Bool) (ls : List Link) (i : ℕ) → length ls ≤ i → list_all test (take i ls) ≡ true → list_all test ls ≡ true
+-- where the links before an index pass a test, and no link is behind it, all links do
+pub all_in_all : (test : Link → Bool) (ls : List Link) (i : ℕ) → length ls ≤ i → list_all test (take i ls) ≡ true
+    → list_all test ls ≡ true
 all_in_all test ls i past h = ap (list_all test) (sym (take_past ls i past)) ∙ h where
   take_past : (ks : List Link) (j : ℕ) → length ks ≤ j → take j ks ≡ ks
   take_past [] zero le = refl
@@ -69,58 +87,76 @@ all_in_all test ls i past h = ap (list_all test) (sym (take_past ls i past)) ∙
 -- ---- a stream that is released
 
 -- another stream is there as before
-pub there_same : (t u : StreamTable) (s x : StreamId) (n : ℕ) → HasHolds t s n u → same_stream x s ≡ false → is_there u x ≡ is_there t x
+pub there_same : (t u : StreamTable) (s x : StreamId) (n : ℕ) → HasHolds t s n u → same_stream x s ≡ false
+    → is_there u x ≡ is_there t x
 there_same t u s x n h other =
     let as_many : number_at u.holds x ≡ number_at t.holds x = h.holds x ∙ rw other refl in
-    ap (λ (fds : List Descriptor). is_named fds x || nat_lt 0 (number_at u.holds x)) h.fds ∙ ap (λ (m : ℕ). is_named t.fds x || nat_lt 0 m) as_many
+    ap (λ (fds : List Descriptor). is_named fds x || nat_lt 0 (number_at u.holds x)) h.fds
+    ∙ ap (λ (m : ℕ). is_named t.fds x || nat_lt 0 m) as_many
 
 -- so one that went is the one that was released
-went_is_released : (t u : StreamTable) (s x : StreamId) (n : ℕ) → HasHolds t s n u → is_there t x ≡ true → is_there u x ≡ false → same_stream x s ≡ true
-went_is_released t u s x n h there gone = elim (cases_Bool (same_stream x s)) [ inl e ↦ e | inr f ↦ absurd (false≢true (sym gone ∙ there_same t u s x n h f ∙ there)) ]
+went_is_released : (t u : StreamTable) (s x : StreamId) (n : ℕ) → HasHolds t s n u → is_there t x ≡ true
+    → is_there u x ≡ false → same_stream x s ≡ true
+went_is_released t u s x n h there gone = elim (cases_Bool (same_stream x s))
+    [ inl e ↦ e | inr f ↦ absurd (false≢true (sym gone ∙ there_same t u s x n h f ∙ there)) ]
 
 -- what is held was held
-held_before : (t u : StreamTable) (s : StreamId) (l : Link) → HasHolds t s (number_at t.holds s - 1) u → is_held u l ≡ true → is_held t l ≡ true
-held_before t u s l h up = let few = not_more_held t u s l.lower h in more_held (number_at u.holds l.lower) (number_at t.holds l.lower) few up where
-  more_held : (x y : ℕ) → x ≤ y → nat_lt 0 x ≡ true → nat_lt 0 y ≡ true
-  more_held x y few some = grind (arith, nat_tests)
+held_before : (t u : StreamTable) (s : StreamId) (l : Link) → HasHolds t s (number_at t.holds s - 1) u
+    → is_held u l ≡ true → is_held t l ≡ true
+held_before t u s l h up = let few = not_more_held t u s l.lower h in
+    more_held (number_at u.holds l.lower) (number_at t.holds l.lower) few up where
+      more_held : (x y : ℕ) → x ≤ y → nat_lt 0 x ≡ true → nat_lt 0 y ≡ true
+      more_held x y few some = grind (arith, nat_tests)
 
 -- the controlling stream of a held ordinary link that isn't loose is there
-there_if : (t : StreamTable) (l : Link) → not (is_persistent l) ≡ true → is_held t l ≡ true → is_loose t l ≡ false → is_there t l.ctl ≡ true
+there_if : (t : StreamTable) (l : Link) → not (is_persistent l) ≡ true → is_held t l ≡ true → is_loose t l ≡ false
+    → is_there t l.ctl ≡ true
 there_if t l o held tight = elim (cases_Bool (is_there t l.ctl)) [
   | inl y ↦ y
   | inr n ↦ absurd (false≢true (sym tight ∙ and_from _ _ o (and_from _ _ held (ap not n))))
 ]
 
 -- a link is watched further, where the stream that is released is one of those that may have gone
-pub watch_on : (t u : StreamTable) (s : StreamId) (ss vs : List StreamId) (l : Link) → HasHolds t s (number_at t.holds s - 1) u
-    → ((x : StreamId) → list_any (same_stream x) ss ≡ true → list_any (same_stream x) vs ≡ true) → list_any (same_stream s) vs ≡ true
+pub watch_on : (t u : StreamTable) (s : StreamId) (ss vs : List StreamId) (l : Link)
+    → HasHolds t s (number_at t.holds s - 1) u
+    → ((x : StreamId) → list_any (same_stream x) ss ≡ true → list_any (same_stream x) vs ≡ true)
+    → list_any (same_stream s) vs ≡ true
     → is_watched t ss l ≡ true → is_watched u vs l ≡ true
-watch_on t u s ss vs l h further last was = elim (cases_Bool (is_loose u l)) [ inl loose ↦ or_right _ _ (listed loose) | inr tight ↦ or_left _ _ (ap not tight) ] where
-  listed : is_loose u l ≡ true → list_any (same_stream l.ctl) vs ≡ true
-  listed loose =
-      let a = and_parts (not (is_persistent l)) (is_held u l && not (is_there u l.ctl)) loose in
-      let b = and_parts (is_held u l) (not (is_there u l.ctl)) a.1 in
-      elim (or_cases (not (is_loose t l)) (list_any (same_stream l.ctl) ss) was) [
-        | inl tight ↦
-            let there = there_if t l a.0 (held_before t u s l h b.0) (not_true _ tight) in
-            let it = went_is_released t u s l.ctl (number_at t.holds s - 1) h there (not_true _ b.1) in
-            ap (λ (x : StreamId). list_any (same_stream x) vs) (stream_is l.ctl s it) ∙ last
-        | inr one ↦ further l.ctl one
-      ]
+watch_on t u s ss vs l h further last was = elim (cases_Bool (is_loose u l))
+    [ inl loose ↦ or_right _ _ (listed loose) | inr tight ↦ or_left _ _ (ap not tight) ] where
+      listed : is_loose u l ≡ true → list_any (same_stream l.ctl) vs ≡ true
+      listed loose =
+          let a = and_parts (not (is_persistent l)) (is_held u l && not (is_there u l.ctl)) loose in
+          let b = and_parts (is_held u l) (not (is_there u l.ctl)) a.1 in
+          elim (or_cases (not (is_loose t l)) (list_any (same_stream l.ctl) ss) was) [
+            | inl tight ↦
+                let there = there_if t l a.0 (held_before t u s l h b.0) (not_true _ tight) in
+                let it = went_is_released t u s l.ctl (number_at t.holds s - 1) h there (not_true _ b.1) in
+                ap (λ (x : StreamId). list_any (same_stream x) vs) (stream_is l.ctl s it) ∙ last
+            | inr one ↦ further l.ctl one
+          ]
 
-pub all_watch_on : (t u : StreamTable) (s : StreamId) (ss vs : List StreamId) (ls : List Link) → HasHolds t s (number_at t.holds s - 1) u
-    → ((x : StreamId) → list_any (same_stream x) ss ≡ true → list_any (same_stream x) vs ≡ true) → list_any (same_stream s) vs ≡ true
+-- where a stream is released that is among those that may have gone, each link is watched as before
+pub all_watch_on : (t u : StreamTable) (s : StreamId) (ss vs : List StreamId) (ls : List Link)
+    → HasHolds t s (number_at t.holds s - 1) u
+    → ((x : StreamId) → list_any (same_stream x) ss ≡ true → list_any (same_stream x) vs ≡ true)
+    → list_any (same_stream s) vs ≡ true
     → list_all (is_watched t ss) ls ≡ true → list_all (is_watched u vs) ls ≡ true
-all_watch_on t u s ss vs ls h further last was = all_weaker (is_watched t ss) (is_watched u vs) ls (λ l w. watch_on t u s ss vs l h further last w) was
+all_watch_on t u s ss vs ls h further last was =
+    all_weaker (is_watched t ss) (is_watched u vs) ls (λ l w. watch_on t u s ss vs l h further last w) was
 
 -- the link whose lower stream is released isn't loose any longer
-pub released_is_watched : (links : List Link) (t u : StreamTable) (vs : List StreamId) (l : Link) → ((s : StreamId) → number_at t.holds s ≤ holds_of links s) → HasHolds t l.lower (number_at t.holds l.lower - 1) u → is_watched u vs l ≡ true
+pub released_is_watched : (links : List Link) (t u : StreamTable) (vs : List StreamId) (l : Link)
+    → ((s : StreamId) → number_at t.holds s ≤ holds_of links s) → HasHolds t l.lower (number_at t.holds l.lower - 1) u
+    → is_watched u vs l ≡ true
 released_is_watched links t u vs l once h =
     let few = once l.lower in
     let one = holds_few links l.lower in
-    let here : number_at u.holds l.lower ≡ number_at t.holds l.lower - 1 = h.holds l.lower ∙ rw (stream_self l.lower) refl in
+    let here : number_at u.holds l.lower ≡ number_at t.holds l.lower - 1 = h.holds l.lower
+    ∙ rw (stream_self l.lower) refl in
     let none : number_at u.holds l.lower ≡ 0 = omega (arith, few, one, here) in
-    or_left _ _ (ap not (free (not (is_persistent l)) (is_held u l) (not (is_there u l.ctl)) (ap (nat_lt 0) none))) where
+    or_left _ _
+    (ap not (free (not (is_persistent l)) (is_held u l) (not (is_there u l.ctl)) (ap (nat_lt 0) none))) where
       free : (p held gone : Bool) → held ≡ false → (p && (held && gone)) ≡ false
       free true held gone e = rw e refl
       free false held gone e = refl
@@ -128,26 +164,36 @@ released_is_watched links t u vs l once h =
 -- ---- one stream less that may have gone
 
 -- where the link isn't loose by it
-pub watched_less : (t : StreamTable) (ss : List StreamId) (ctl : StreamId) (l : Link) → (same_stream l.ctl ctl && is_loose t l) ≡ false → is_watched t (ss ++ ctl ∷ []) l ≡ true → is_watched t ss l ≡ true
-watched_less t ss ctl l other was = elim (or_cases (not (is_loose t l)) (list_any (same_stream l.ctl) (ss ++ ctl ∷ [])) was) [
-  | inl tight ↦ or_left _ _ tight
-  | inr one ↦ elim (or_cases (list_any (same_stream l.ctl) ss) (same_stream l.ctl ctl) (sym (listed_more l.ctl ss ctl) ∙ one)) [
-    | inl earlier ↦ or_right _ _ earlier
-    | inr it ↦ or_left _ _ (ap not (tight it))
-  ]
-] where
-  tight : same_stream l.ctl ctl ≡ true → is_loose t l ≡ false
-  tight it = let k = rw it at other in k
+pub watched_less : (t : StreamTable) (ss : List StreamId) (ctl : StreamId) (l : Link)
+    → (same_stream l.ctl ctl && is_loose t l) ≡ false → is_watched t (ss ++ ctl ∷ []) l ≡ true
+    → is_watched t ss l ≡ true
+watched_less t ss ctl l other was =
+    elim (or_cases (not (is_loose t l)) (list_any (same_stream l.ctl) (ss ++ ctl ∷ [])) was) [
+      | inl tight ↦ or_left _ _ tight
+      | inr one ↦
+          elim (or_cases (list_any (same_stream l.ctl) ss) (same_stream l.ctl ctl)
+          (sym (listed_more l.ctl ss ctl) ∙ one)) [
+            | inl earlier ↦ or_right _ _ earlier
+            | inr it ↦ or_left _ _ (ap not (tight it))
+          ]
+    ] where
+      tight : same_stream l.ctl ctl ≡ true → is_loose t l ≡ false
+      tight it = let k = rw it at other in k
 
 loose_gone : (t : StreamTable) (l : Link) → is_loose t l ≡ true → not (is_there t l.ctl) ≡ true
-loose_gone t l loose = (and_parts (is_held t l) (not (is_there t l.ctl)) (and_parts (not (is_persistent l)) (is_held t l && not (is_there t l.ctl)) loose).1).1
+loose_gone t l loose = (and_parts (is_held t l) (not (is_there t l.ctl))
+    (and_parts (not (is_persistent l)) (is_held t l && not (is_there t l.ctl)) loose).1).1
 
 -- no link is loose by a stream that is there, or whose driver has no links
-pub none_by : (t : StreamTable) (ss : List StreamId) (ctl : StreamId) (ls : List Link) → (not (is_there t ctl) && is_upper ls ctl.driver) ≡ false → list_all (is_watched t (ss ++ ctl ∷ [])) ls ≡ true → list_all (is_watched t ss) ls ≡ true
+pub none_by : (t : StreamTable) (ss : List StreamId) (ctl : StreamId) (ls : List Link)
+    → (not (is_there t ctl) && is_upper ls ctl.driver) ≡ false → list_all (is_watched t (ss ++ ctl ∷ [])) ls ≡ true
+    → list_all (is_watched t ss) ls ≡ true
 none_by t ss ctl [] none h = refl
 none_by t ss ctl (l ∷ ls) none h =
     let p = and_parts (is_watched t (ss ++ ctl ∷ []) l) (list_all (is_watched t (ss ++ ctl ∷ [])) ls) h in
-    and_from _ _ (watched_less t ss ctl l (not_by (same_stream l.ctl ctl) (is_loose t l) refl refl) p.0) (none_by t ss ctl ls (fewer (not (is_there t ctl)) (eqb l.ctl.driver ctl.driver) (is_upper ls ctl.driver) none) p.1) where
+    and_from _ _ (watched_less t ss ctl l (not_by (same_stream l.ctl ctl) (is_loose t l) refl refl) p.0)
+    (none_by t ss ctl ls (fewer (not (is_there t ctl)) (eqb l.ctl.driver ctl.driver) (is_upper ls ctl.driver) none)
+    p.1) where
       fewer : (g x r : Bool) → (g && (x || r)) ≡ false → (g && r) ≡ false
       fewer true true r e = absurd cc
       fewer true false r e = e
@@ -156,30 +202,37 @@ none_by t ss ctl (l ∷ ls) none h =
       not_by : (it loose : Bool) → same_stream l.ctl ctl ≡ it → is_loose t l ≡ loose → (it && loose) ≡ false
       not_by true true a b =
           let same = stream_is l.ctl ctl a in
-          let gone : not (is_there t ctl) ≡ true = subst (λ (x : StreamId). not (is_there t x) ≡ true) same (loose_gone t l b) in
-          let upper : eqb l.ctl.driver ctl.driver ≡ true = eq-eqb l.ctl.driver ctl.driver (ap (λ (x : StreamId). x.driver) same) in
+          let gone : not (is_there t ctl) ≡ true = subst (λ (x : StreamId). not (is_there t x) ≡ true) same
+          (loose_gone t l b) in
+          let upper : eqb l.ctl.driver ctl.driver
+          ≡ true = eq-eqb l.ctl.driver ctl.driver (ap (λ (x : StreamId). x.driver) same) in
           absurd (false≢true (sym none ∙ and_from _ _ gone (or_left _ _ upper)))
       not_by true false a b = refl
       not_by false loose a b = refl
 
 -- where each ordinary link is watched, each link is
-pub watched_in_all : (t : StreamTable) (ss : List StreamId) (ls : List Link) → list_all (is_watched t ss) (ordinary_of ls) ≡ true → list_all (is_watched t ss) ls ≡ true
+pub watched_in_all : (t : StreamTable) (ss : List StreamId) (ls : List Link)
+    → list_all (is_watched t ss) (ordinary_of ls) ≡ true → list_all (is_watched t ss) ls ≡ true
 watched_in_all t ss [] h = refl
 watched_in_all t ss (l ∷ ls) h = elim (cases_Bool (is_persistent l)) [
   | inl p ↦ and_from _ _ (by_kind p) (watched_in_all t ss ls (rw p at h))
-  | inr o ↦ let b = and_parts (is_watched t ss l) (list_all (is_watched t ss) (ordinary_of ls)) (rw o at h) in and_from _ _ b.0 (watched_in_all t ss ls b.1)
+  | inr o ↦ let b = and_parts (is_watched t ss l) (list_all (is_watched t ss) (ordinary_of ls)) (rw o at h) in
+      and_from _ _ b.0 (watched_in_all t ss ls b.1)
 ] where
   by_kind : is_persistent l ≡ true → is_watched t ss l ≡ true
   by_kind p = rw p refl
 
 -- none is loose once no stream may have gone
-pub none_loose : (t : StreamTable) (ls : List Link) → list_all (is_watched t []) ls ≡ true → list_any (is_loose t) ls ≡ false
+pub none_loose : (t : StreamTable) (ls : List Link) → list_all (is_watched t []) ls ≡ true
+    → list_any (is_loose t) ls ≡ false
 none_loose t [] h = refl
 none_loose t (l ∷ ls) h =
     let p = and_parts (is_watched t [] l) (list_all (is_watched t []) ls) h in
-    let tight : is_loose t l ≡ false = elim (or_cases (not (is_loose t l)) false p.0) [ inl a ↦ not_true _ a | inr b ↦ absurd (false≢true b) ] in
+    let tight : is_loose t l ≡ false = elim (or_cases (not (is_loose t l)) false p.0)
+    [ inl a ↦ not_true _ a | inr b ↦ absurd (false≢true b) ] in
     rw tight (none_loose t ls p.1)
 
+-- where no stream is left of those that may have gone, the list is empty
 pub nothing_left : (ss : List StreamId) → length ss ≡ 0 → ss ≡ []
 nothing_left [] h = refl
 nothing_left (s ∷ ss) h = absurd (omega (arith, h))

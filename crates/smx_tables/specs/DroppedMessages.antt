@@ -17,4 +17,5 @@ pub record AreDropped (old new : List QueuedMessage) (dropped : List ℕ) : Type
 
 -- this side of a stream, where that side is named
 abbrev pub is_flushed_at : StreamId → Sides → Side → Place → Bool
-is_flushed_at stream sides side place = is_side sides side && (same_stream place.stream stream && same_side place.side side)
+is_flushed_at stream sides side place =
+    is_side sides side && (same_stream place.stream stream && same_side place.side side)

@@ -20,7 +20,8 @@ AreIdsOf goes links ids = (id : ℕ) → is_listed ids id ≡ list_any (λ l. l.
 -- the read side of a stream below a link whose id is one of these
 abbrev pub is_read_below_listed : List Link → List ℕ → Place → Bool
 is_read_below_listed links gone p =
-    same_side p.side side.Read && option_map_or (λ l. is_listed gone l.id) (find (λ l. same_stream l.lower p.stream) links) false
+    same_side p.side side.Read && option_map_or (λ l. is_listed gone l.id)
+    (find (λ l. same_stream l.lower p.stream) links) false
 
 -- an ordinary link whose controlling stream doesn't stand
 abbrev pub is_orphaned : List Descriptor → List Link → ℕ → Link → Bool

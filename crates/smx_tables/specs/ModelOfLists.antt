@@ -18,7 +18,7 @@ configuration_of l = record {
   hungs = l.streams.hungs;
 }
 
--- over how many drivers the links are, how many minors each driver has, and over which drivers the queues are: no command
--- changes them
+-- over how many drivers the links are, how many minors each driver has, and over which drivers the queues are: no
+-- command changes them
 abbrev pub sizes_of : Lists → ℕ × List ℕ × List DriverSpec
 sizes_of l = (l.links.drivers, l.streams.minors, l.queues.drivers)

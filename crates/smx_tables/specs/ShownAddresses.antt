@@ -1,5 +1,6 @@
 -- Which binding or route a line of a view shows, and whether lines show some in order. No public clause needs this.
-use Rattle.std.specs.Prelude.{Bool, true, false, ◌&&◌, ◌==◌, List, [], ◌∷◌, find, position, Option, Some, None, if◌then◌else◌}
+use Rattle.std.specs.Prelude.{Bool, true, false, ◌&&◌, ◌==◌, List, [], ◌∷◌, find, position, Option, Some, None}
+use Rattle.std.specs.Prelude.{if◌then◌else◌}
 use Rattle.std.specs.Option.{option_map_or}
 use Rattle.std.specs.Str.{bytes_eq}
 use Rattle.smx_types.specs.declared.driver.DriverSpec.{DriverSpec}
@@ -27,4 +28,5 @@ shown_route drivers routes l = do
 abbrev pub are_shown_in_order : {X Y : Type 0} → (Y → Option X) → (X → X → Bool) → Option X → List Y → Bool
 are_shown_in_order shown before last [] = true
 are_shown_in_order shown before last (y ∷ ys) =
-    option_map_or (λ x. option_map_or (λ p. before p x) last true && are_shown_in_order shown before (Some x) ys) (shown y) false
+    option_map_or (λ x. option_map_or (λ p. before p x) last true && are_shown_in_order shown before (Some x) ys)
+    (shown y) false

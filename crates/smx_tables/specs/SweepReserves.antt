@@ -5,8 +5,8 @@ use Rattle.smx_model.specs.Configuration.{QueuedMessage}
 use Rattle.smx_links.specs.LinkLists.{ordinary_of}
 use Rattle.smx_tables.specs.declared.sweep.SweepReserve.{SweepReserve}
 
--- room for so many streams more and what may go with them, twice, for the ids of the ordinary links, and for the serials
--- of these messages
+-- room for so many streams more and what may go with them, twice, for the ids of the ordinary links, and for the
+-- serials of these messages
 pub record IsReserveFor (streams : ℕ) (links : List Link) (flow : List QueuedMessage) (r : SweepReserve) : Type 0 where
   pub touched_room : length r.touched.items + (streams + length (ordinary_of links)) ≤ vec_capacity r.touched
   pub seen_empty : r.seen.items ≡ []

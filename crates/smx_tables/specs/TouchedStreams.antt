@@ -25,10 +25,12 @@ without_streams c goes = without_queues_at unbound (λ p. goes p.stream) where
   unbound : Configuration
   unbound = record c { binds = filter (λ b. not (goes (record { driver = b.driver; minor = b.minor }))) c.binds }
 
--- there or one of these: so is each ordinary link's controlling stream, and each stream with a binding, a message or a full mark
+-- there or one of these: so is each ordinary link's controlling stream, and each stream with a binding, a message or
+-- a full mark
 pub record IsTouched (t : StreamTable) (touched : List StreamId) (c : Configuration) : Type 0 where
   pub links : list_all (λ l. is_persistent l || is_there_or_touched t touched l.ctl) c.links ≡ true
-  pub binds : list_all (λ b. is_there_or_touched t touched (record { driver = b.driver; minor = b.minor })) c.binds ≡ true
+  pub binds : list_all (λ b. is_there_or_touched t touched (record { driver = b.driver; minor = b.minor })) c.binds
+      ≡ true
   pub flow : list_all (λ h. is_there_or_touched t touched h.place.stream) c.flow ≡ true
   pub fulls : list_all (λ p. is_there_or_touched t touched p.stream) c.fulls ≡ true
 

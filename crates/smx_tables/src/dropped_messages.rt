@@ -7,7 +7,7 @@ ghost use Rattle.smx_model.specs.Configuration.{QueuedMessage, same_place, same_
 ghost use Rattle.smx_model.specs.Removal.{serials, serials_that_left};
 ghost use Rattle.smx_tables.specs.DroppedMessages.{AreDropped, is_flushed_at};
 
-use crate::streams::same_side;
+use crate::comparisons::same_side;
 use smx_model::laws_of_queues::dropped_are_not_kept;
 use smx_queues::FlowTable;
 use smx_types::{Place, Side, Sides, StreamId};

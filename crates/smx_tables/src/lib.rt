@@ -1,16 +1,16 @@
 //! The tables of a configuration as one: what is shown of them, and what goes with a link or a stream.
 #![tactic(auto)]
 
+pub mod arrivals;
+pub mod comparisons;
 pub mod copies;
 pub mod driver_specs;
 pub mod dropped_messages;
 pub mod lists;
 mod orphans;
-pub mod queues;
 pub mod removal;
 pub mod show;
 pub mod shown_addresses;
 pub mod shown_lines;
 pub mod standing;
-pub mod streams;
 pub mod sweep;

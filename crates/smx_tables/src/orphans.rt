@@ -9,8 +9,8 @@ ghost use Rattle.smx_links.specs.LinkLists.{is_upper, ordinary_of};
 ghost use Rattle.smx_tables.specs.ExistingStreams.{is_held, is_loose, holds_below, IsReleasing};
 ghost use Rattle.smx_tables.specs.TouchedStreams.{is_there_or_touched, AreReleased, IsCascade};
 
+use crate::comparisons::same_stream;
 use crate::standing::is_persistent;
-use crate::streams::same_stream;
 use smx_links::LinkTable;
 use smx_streams::Streams;
 use smx_types::{Link, StreamId};

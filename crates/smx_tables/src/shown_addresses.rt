@@ -9,8 +9,8 @@ ghost use Rattle.smx_model.specs.DriverList.{IsDriverList};
 ghost use Rattle.smx_model.specs.Views.{view_of_bind, view_of_route};
 ghost use Rattle.smx_tables.specs.ShownAddresses.{shown_binding, shown_route};
 
+use crate::comparisons::{bind_before, route_before};
 use crate::driver_specs::driver_of;
-use crate::streams::{bind_before, route_before};
 use smx_addresses::laws::{look_ups_tell_bindings, look_ups_tell_routes};
 use smx_addresses::{Bindings, Routes};
 use smx_types::{Binding, BindingLine, DriverSpec, Route, RouteLine};

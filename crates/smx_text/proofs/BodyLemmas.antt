@@ -26,6 +26,7 @@ added_process ds ps k e =
     rw (e, lines_add 0 ps [], append_assoc (map line.Driver ds))
     (ap (λ (m : ℕ). map line.Driver ds ++ (program_lines 0 ps ++ line.Process m ∷ [])) (omega arith))
 
+-- one more command of the last program is one more line, behind those of all programs
 pub lines_more : (n : ℕ) (ps : List (List Command)) (d : List Command) (c : Command) → 0 < length ps
     → program_lines n (set ps (length ps - 1) (get_or ps (length ps - 1) d ++ c ∷ []))
     ≡ program_lines n ps ++ line.Command c ∷ []
@@ -39,6 +40,7 @@ lines_more n (p ∷ q ∷ ps) d c h =
     ∙ ap (λ (ls : List Line). line.Process n ∷ ls)
     (sym (append_assoc (map line.Command p) (program_lines (n + 1) (q ∷ ps)) (line.Command c ∷ []))))
 
+-- with one more command in the last program, the lines of drivers and programs are one more at their end
 pub added_command : (ds : List DriverSpec) (ps : List (List Command)) (last : ℕ) (old new : List Command)
     (c : Command) → 0 < length ps → last ≡ length ps → old ≡ get_or ps (last - 1) old → new ≡ old ++ c ∷ []
     → map line.Driver ds ++ program_lines 0 (set ps (last - 1) new)

@@ -5,9 +5,9 @@ use Rattle.std.specs.List.{AllByRecursion}
 use Rattle.std.specs.Prelude.{◌⊎◌, IfErr}
 use Rattle.std.proofs.lemmas.List.{append-nil}
 use Rattle.smx_words.specs.Words.{LINE_FEED, text_of}
-use Rattle.smx_text.specs.declared.fault.Cause.{Cause}
-use Rattle.smx_text.specs.declared.fault.Cause.TheVariants as cause
-use Rattle.smx_text.specs.declared.fault.TextFault.{TextFault}
+use Rattle.smx_text.specs.declared.text_fault.Cause.{Cause}
+use Rattle.smx_text.specs.declared.text_fault.Cause.TheVariants as cause
+use Rattle.smx_text.specs.declared.text_fault.TextFault.{TextFault}
 use Rattle.smx_text.specs.Grammar.{Grammar, IsOneLine, header, line_text, beginning, full_text, Spells}
 use Rattle.smx_text.specs.Grammar.{IsBegun, GoesOn, IsNoLine, IsOneTooMany, Reaches, IsFault, Reads}
 use Rattle.smx_text.proofs.EachLemmas.{all_left, all_right}
@@ -29,6 +29,7 @@ same_fault f h e k = ap (λ (n : ℕ). record { line = n; cause = f.cause }) e
     ∙ ap (λ (c : Cause). record { line = h.line; cause = c }) k
 
 module _ {V K : Type 0} (g : Grammar V K) (made : IsWellMade g) where
+  -- the bytes of these lines, each with its line feed
   abbrev pub texts : List K → List ℕ
   texts lines = text_of (map g.line_words lines)
 
@@ -44,6 +45,7 @@ module _ {V K : Type 0} (g : Grammar V K) (made : IsWellMade g) where
   HasMore lines rest longer = (k : K) × (more : List K) × (after : List ℕ) × (longer ≡ lines ++ k ∷ more)
       × (rest ≡ line_text g k ++ LINE_FEED ∷ after)
 
+  -- lines that begin the same bytes are the same with the same rest, or one of the lists has more lines
   pub compare : (ls ms : List K) (r s : List ℕ) → AreFit ls → AreFit ms → texts ls ++ r ≡ texts ms ++ s
       → ((ls ≡ ms) × (r ≡ s)) ⊎ (HasMore ls r ms ⊎ HasMore ms s ls)
   compare [] [] r s h k e = inl (refl, e)
@@ -75,6 +77,7 @@ module _ {V K : Type 0} (g : Grammar V K) (made : IsWellMade g) where
 
   -- ---- what can be answered at a whole line behind these lines
 
+  -- why the whole line `text` behind these lines is refused, with the number of the line at fault
   abbrev pub Judges : List K → List ℕ → List ℕ → ℕ → Cause → Type 0
   Judges lines text after n cause.Form = IsNoLine g lines text × (n ≡ length lines + 2)
   Judges lines text after n cause.Many = IsOneTooMany g lines text × (n ≡ length lines + 2)
@@ -85,6 +88,7 @@ module _ {V K : Type 0} (g : Grammar V K) (made : IsWellMade g) where
   Judges lines text after n cause.Cut = ⊥
   Judges lines text after n cause.NoMemory = ⊥
 
+  -- what a reader may answer at the whole line `text` behind these lines, with the bytes `after` behind it
   abbrev pub Answers : List K → List ℕ → List ℕ → Result V TextFault → Type 0
   Answers lines text after (Ok v) = g.IsAllowed v × (g.body v ≡ lines) × (text ≡ line_text g g.end) × (after ≡ [])
   Answers lines text after (Err f) = Judges lines text after f.line f.cause
@@ -180,6 +184,7 @@ module _ {V K : Type 0} (g : Grammar V K) (made : IsWellMade g) where
 
   -- ---- where an answer stands
 
+  -- what a reader may answer where these bytes are left: they are no whole line, or it is at the next line
   abbrev pub Stops : List K → List ℕ → Result V TextFault → Type 0
   Stops lines rest r =
       (IsOneLine rest × (r ≡ Err (record { line = length lines + 2; cause = cause.Cut })))
@@ -199,6 +204,7 @@ module _ {V K : Type 0} (g : Grammar V K) (made : IsWellMade g) where
       (subst (λ (x : List ℕ). Answers lines text' x s) t.1 b) in
       one_answer lines text after r s a b'
 
+  -- each of some lines with which an allowed value begins can be spelled
   pub begun_fits : (lines : List K) → IsBegun g lines → AreFit lines
   begun_fits lines (v, more, allowed, e) = all_left g.FitsLine lines more (subst AreFit e (made.fits v allowed))
 
@@ -214,15 +220,18 @@ module _ {V K : Type 0} (g : Grammar V K) (made : IsWellMade g) where
       let t = one_cut text (line_text g k) after' after one (made.one_line k fits) (sym e' ∙ e) in
       no_stop lines (more ++ others) k v text after' r allowed whole fits t.0 a
 
+  -- the first line is whole and is not the header, and the answer says so
   abbrev pub Header : List ℕ → Result V TextFault → Type 0
   Header bytes r = (text after : List ℕ) × IsOneLine text × (bytes ≡ text ++ LINE_FEED ∷ after)
       × (text ≢ header g) × (r ≡ Err (record { line = 1; cause = cause.Header }))
 
+  -- the answer stands behind the header and some lines with which an allowed value begins
   abbrev pub Behind : List ℕ → Result V TextFault → Type 0
   Behind bytes r =
       (lines : List K) × (rest : List ℕ) × IsBegun g lines
       × (bytes ≡ header g ++ LINE_FEED ∷ (texts lines ++ rest)) × Stops lines rest r
 
+  -- where an answer stands: at a first line that is not whole, at a wrong header, or behind the header
   abbrev pub Place : List ℕ → Result V TextFault → Type 0
   Place bytes r = (IsOneLine bytes × (r ≡ Err (record { line = 1; cause = cause.Cut })))
       ⊎ (Header bytes r ⊎ Behind bytes r)
@@ -239,6 +248,7 @@ module _ {V K : Type 0} (g : Grammar V K) (made : IsWellMade g) where
         | inr (inr more) ↦ absurd (too_early ms ls rest' s begun more stops')
       ]
 
+  -- bytes with a wrong header have no answer behind the header
   pub wrong_header : (bytes : List ℕ) (r s : Result V TextFault) → Header bytes r → Behind bytes s → ⊥
   wrong_header bytes r s (text, after, one, e, differ, _) (ls, rest, begun, e', _) =
       differ (one_cut text (header g) after (texts ls ++ rest) one made.header_line (sym e ∙ e')).0
@@ -260,6 +270,7 @@ module _ {V K : Type 0} (g : Grammar V K) (made : IsWellMade g) where
 
   -- ---- each answer that may be given, but for want of memory, stands in a place
 
+  -- the beginning of a text with bytes behind it is the header, the lines and these bytes
   pub beginning_and : (lines : List K) (rest : List ℕ)
       → beginning g lines ++ rest ≡ header g ++ LINE_FEED ∷ (texts lines ++ rest)
   beginning_and lines rest = simp append_assoc
@@ -331,6 +342,7 @@ module _ {V K : Type 0} (g : Grammar V K) (made : IsWellMade g) where
       ))
   fault_place bytes n cause.NoMemory h ample = absurd (ample refl)
 
+  -- each answer that is not want of memory stands in one of these places
   pub place : (bytes : List ℕ) (r : Result V TextFault) → Reads g bytes r
       → IfErr r (λ f. f.cause ≢ cause.NoMemory) → Place bytes r
   place bytes (Ok v) reads ample = value_place bytes v reads
@@ -338,6 +350,7 @@ module _ {V K : Type 0} (g : Grammar V K) (made : IsWellMade g) where
 
   -- ---- so the laws
 
+  -- any bytes have at most one answer that is not want of memory
   pub one_reading : (bytes : List ℕ) (r s : Result V TextFault) → Reads g bytes r → Reads g bytes s
       → IfErr r (λ f. f.cause ≢ cause.NoMemory) → IfErr s (λ f. f.cause ≢ cause.NoMemory) → r ≡ s
   one_reading bytes r s reads again ample plenty =

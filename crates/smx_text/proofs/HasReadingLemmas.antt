@@ -6,9 +6,9 @@ use Rattle.std.proofs.lemmas.List.{length-append}
 use Rattle.std.proofs.lemmas.Slice.Eq.{bytes_eq-Decides}
 use Rattle.std.specs.Str.{bytes_eq}
 use Rattle.smx_words.specs.Words.{LINE_FEED}
-use Rattle.smx_text.specs.declared.fault.Cause.{Cause}
-use Rattle.smx_text.specs.declared.fault.Cause.TheVariants as cause
-use Rattle.smx_text.specs.declared.fault.TextFault.{TextFault}
+use Rattle.smx_text.specs.declared.text_fault.Cause.{Cause}
+use Rattle.smx_text.specs.declared.text_fault.Cause.TheVariants as cause
+use Rattle.smx_text.specs.declared.text_fault.TextFault.{TextFault}
 use Rattle.smx_text.specs.Grammar.{Grammar, IsOneLine, header, line_text, IsBegun, IsNoLine, IsOneTooMany}
 use Rattle.smx_text.specs.Grammar.{IsOneMore, IsFault, Reads}
 use Rattle.smx_text.proofs.ReadingLemmas.{IsBetween, started, cut_at, refused, one_more, read_to_end}
@@ -63,6 +63,7 @@ module _ {V K : Type 0} (g : Grammar V K) (made : IsWellMade g) (decides : (line
     ]
   ]
 
+  -- where each line behind others is decided, any bytes spell a value or have a first fault
   pub has_reading : IsBegun g [] → (bytes : List ℕ) → HasReading g bytes
   has_reading begun bytes = elim (first_line bytes) [
     | inl one ↦ stops bytes 1 cause.Cut ([], bytes, inl (refl, refl), one, refl) (λ c. cc)

@@ -12,6 +12,7 @@ pub neither : (a b : Bool) → (a || b) ≡ false → (a ≡ false) × (b ≡ fa
 neither true b h = absurd cc
 neither false b h = (refl, h)
 
+-- where version 1 is the first that can tell something, no reason for version 2 holds
 pub is_first : (b : Bool) → version_2_where b ≡ V1 → b ≡ false
 is_first true h = absurd cc
 is_first false h = refl
@@ -22,5 +23,6 @@ few_drivers ds few =
     false_from_ne_true (are_more_drivers ds)
     (λ more. omega (arith, ltb-true MAX_DRIVERS_OF_VERSION_1 (length ds) more, few))
 
+-- drivers that are no reason for version 2 are at most as many as version 1 can tell
 pub not_more : (ds : List DriverSpec) → are_more_drivers ds ≡ false → length ds ≤ most_drivers V1
 not_more ds few = grind (arith, nat_tests)

@@ -1,6 +1,6 @@
 pub mod EachLemmas
 pub mod BodyLemmas
-pub mod WordLemmas
+pub mod LineWordLemmas
 pub mod ReadingLemmas
 pub mod LineLemmas
 pub mod GrammarLemmas

@@ -4,9 +4,9 @@ use Rattle.std.proofs.Common.{sym, ap, subst, ◌∙◌, arith, inl, inr}
 use Rattle.std.specs.Prelude.{IfErr}
 use Rattle.std.proofs.lemmas.List.{length-append}
 use Rattle.smx_words.specs.Words.{LINE_FEED}
-use Rattle.smx_text.specs.declared.fault.Cause.{Cause}
-use Rattle.smx_text.specs.declared.fault.Cause.TheVariants as cause
-use Rattle.smx_text.specs.declared.fault.TextFault.{TextFault}
+use Rattle.smx_text.specs.declared.text_fault.Cause.{Cause}
+use Rattle.smx_text.specs.declared.text_fault.Cause.TheVariants as cause
+use Rattle.smx_text.specs.declared.text_fault.TextFault.{TextFault}
 use Rattle.smx_text.specs.Grammar.{Grammar, IsOneLine, header, IsBegun, IsFault, Reads, last_line}
 use Rattle.smx_text.proofs.LineLemmas.{not_one, one_cut}
 use Rattle.smx_text.proofs.ReadingLemmas.{IsBetween, one_more}

@@ -11,7 +11,7 @@ use Rattle.smx_words.specs.LineReading.{IsReadAs}
 use Rattle.smx_words.specs.Words.{line_of}
 use Rattle.smx_words.specs.Spelling.{command_words, driver_words, process_words}
 use Rattle.smx_words.specs.Spellable.{FitsNumber, FitsDriver, FitsCommandIn}
-use Rattle.smx_text.specs.declared.fault.Cause.TheVariants as cause
+use Rattle.smx_text.specs.declared.text_fault.Cause.TheVariants as cause
 use Rattle.smx_text.specs.Grammar.{IsBegun, line_text}
 use Rattle.smx_text.specs.ProgramLines.{Line}
 use Rattle.smx_text.specs.ProgramLines as line
@@ -107,6 +107,7 @@ decides version lines begun text =
     let own = begun_is_body version lines begun in
     subst (λ (ls : List Line). Decision (programs_grammar version) ls text) own.2 (behind version own.0 own.1 text)
 
+-- before its first line, a text is the beginning of some allowed programs
 pub nothing_begun : (version : Version) → IsBegun (programs_grammar version) []
 nothing_begun version = (
   record { version = version; drivers = []; programs = [] },
@@ -121,6 +122,7 @@ nothing_begun version = (
   refl,
 )
 
+-- any bytes spell programs of this version, or have a first fault that is not want of memory
 pub programs_have_reading : (version : Version) → (bytes : List ℕ) → HasReading (programs_grammar version) bytes
 programs_have_reading version bytes =
     has_reading (programs_grammar version) (well_made version) (decides version) (nothing_begun version) bytes

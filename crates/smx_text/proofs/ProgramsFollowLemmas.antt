@@ -21,18 +21,21 @@ use Rattle.smx_types.specs.declared.version.Version.{Version}
 
 -- ---- what may stand behind the lines of these programs, and of what there are as many as may be
 
+-- a driver may stand before all processes, a process by the next number, a command behind a process, the end
 abbrev pub MayStand : ProgramLists → Line → Type 0
 MayStand v (line.Driver d) = length v.programs ≡ 0
 MayStand v (line.Process number) = number ≡ length v.programs
 MayStand v (line.Command c) = 0 < length v.programs
 MayStand v line.End = Unit {0}
 
+-- there are as many drivers, programs or commands as the version allows, and the line would be one more
 abbrev pub AreMany : Version → ProgramLists → Line → Type 0
 AreMany version v (line.Driver d) = most_drivers version ≤ length v.drivers
 AreMany version v (line.Process number) = MAX_PROCESSES ≤ length v.programs
 AreMany version v (line.Command c) = MAX_COMMANDS ≤ sum_by length v.programs
 AreMany version v line.End = ⊥
 
+-- of lines in order behind all processes of some programs, the first may stand behind these programs
 pub stands : (v : ProgramLists) (n : ℕ) (k : Line) (more : List Line) → n ≡ length v.programs
     → InOrder n (k ∷ more) → MayStand v k
 stands v n (line.Driver d) more e h = sym e ∙ h.0
@@ -40,6 +43,7 @@ stands v n (line.Process m) more e h = h.0 ∙ e
 stands v n (line.Command c) more e h = omega (arith, e, h.0)
 stands v n line.End more e h = tt
 
+-- a line that some text has behind those of these programs may stand there
 pub may_stand : (version : Version) (v : ProgramLists) (k : Line) → MayFollow (programs_grammar version) (body v) k
     → MayStand v k
 may_stand version v k (w, (more, e)) =
@@ -60,6 +64,7 @@ longer w v u k more e =
       sum_by-cons w k more,
     )
 
+-- where there are as many of its kind as may be, no allowed programs go on with the line
 pub are_full : (version : Version) (v : ProgramLists) (k : Line) → AreMany version v k
     → IsFull (programs_grammar version) (body v) k
 are_full version v (line.Driver d) h w allowed (more, e) = let a = counts v in let b = counts w in
@@ -86,6 +91,7 @@ are_full version v line.End h w allowed goes = absurd h
 
 -- ---- one line more
 
+-- the programs with a driver more, with a process that has no command, or with a command of the last process
 abbrev pub with_line : ProgramLists → Line → ProgramLists
 with_line v (line.Driver d) = record v { drivers = v.drivers ++ d ∷ [] }
 with_line v (line.Process number) = record v { programs = v.programs ++ [] ∷ [] }
@@ -102,12 +108,14 @@ version_stays v (line.Process n) = refl
 version_stays v (line.Command c) = refl
 version_stays v line.End = refl
 
+-- where there is no program yet, one more driver is one more line at the end
 pub with_driver : (ds : List DriverSpec) (ps : List (List Command)) (d : DriverSpec) → length ps ≡ 0
     → body (program_lists (ds ++ d ∷ []) ps) ≡ body (program_lists ds ps) ++ line.Driver d ∷ []
 with_driver ds ps d none =
     let empty : ps ≡ [] = nil_from_length ps none in
     rw (empty, map_push line.Driver ds d) (simp append_assoc)
 
+-- programs with one line more, which may stand there and is not the end, have that line behind theirs
 pub body_more : (v : ProgramLists) (k : Line) → MayStand v k → k ≢ line.End → body (with_line v k) ≡ body v ++ k ∷ []
 body_more v (line.Driver d) h other = with_driver v.drivers v.programs d h
 body_more v (line.Process n) h other = added_process v.drivers v.programs n h
@@ -123,6 +131,7 @@ goes_on version w lines k e = (
   ap (λ (ls : List Line). ls ++ line.End ∷ []) e ∙ append_assoc lines (k ∷ []) (line.End ∷ []),
 )
 
+-- a line that may stand behind those of these programs stands there in some text
 pub stand_may : (version : Version) (v : ProgramLists) (k : Line) → MayStand v k
     → MayFollow (programs_grammar version) (body v) k
 stand_may version v (line.Driver d) h = (

@@ -8,7 +8,7 @@ use Rattle.smx_types.specs.declared.driver.DriverSpec.{DriverSpec}
 use Rattle.smx_words.specs.Words.{line_of}
 use Rattle.smx_words.specs.Spelling.{command_words, driver_words, process_words}
 use Rattle.smx_words.specs.Spellable.{FitsNumber, FitsDriver, FitsCommandIn}
-use Rattle.smx_text.specs.declared.fault.Cause.{Cause}
+use Rattle.smx_text.specs.declared.text_fault.Cause.{Cause}
 use Rattle.smx_text.specs.Reading.{Refuses, AddsLine, RefusesLine}
 use Rattle.smx_text.proofs.ReadingLemmas.{refuses, on_added, on_refused}
 use Rattle.smx_text.specs.Grammar.{Continues, IsNoLine, IsOneLine, header, line_text}
@@ -22,7 +22,7 @@ use Rattle.smx_words.specs.Words.{AreWords}
 use Rattle.smx_words.proofs.LawLemmas.{command_spelled, driver_spelled, process_spelled, one_command}
 use Rattle.smx_words.proofs.LawLemmas.{one_driver, one_process}
 use Rattle.smx_text.proofs.VersionLemmas.{AreVersions}
-use Rattle.smx_text.proofs.WordLemmas.{one_spelling, first_word, end_spelled, one_line_of, differ}
+use Rattle.smx_text.proofs.LineWordLemmas.{one_spelling, first_word, end_spelled, one_line_of, differ}
 use Rattle.smx_types.specs.declared.version.Version.{Version}
 use Rattle.smx_types.specs.declared.version.Version.TheVariants.{V1, V2}
 
@@ -95,6 +95,7 @@ words_apart version (line.Process n) line.End fits also ws same = absurd cc
 words_apart version line.End (line.Driver d) fits also ws same = absurd cc
 words_apart version line.End (line.Process n) fits also ws same = absurd cc
 
+-- two lines of programs that can be told in a version and have the same text are the same line
 pub tells_apart : (version : Version) (k l : Line) → FitsLine version k → FitsLine version l
     → line_text (programs_grammar version) k ≡ line_text (programs_grammar version) l → k ≡ l
 tells_apart version k l fits also same =
@@ -108,6 +109,7 @@ pub on_added_line : {A : Type 0} (version : Version) (lines longer : List Line) 
     → OnOk r (Continues (programs_grammar version) lines text longer)
 on_added_line version lines longer k text is r h = on_added (programs_grammar version) lines longer k text is r h
 
+-- if a line that was read is refused, its text is refused for the same cause
 pub on_refused_line : {A : Type 0} (version : Version) (lines : List Line) (k : Line) (text : List ℕ)
     → FitsLine version k
     → text ≡ line_text (programs_grammar version) k → (r : Result A Cause)
@@ -115,6 +117,7 @@ pub on_refused_line : {A : Type 0} (version : Version) (lines : List Line) (k : 
 on_refused_line version lines k text fits is r h =
     on_refused (programs_grammar version) (tells_apart version) lines k text fits is r h
 
+-- the cause for which a line may not follow is one for which its text is refused
 pub refused_line : (version : Version) (lines : List Line) (k : Line) (text : List ℕ) → FitsLine version k
     → text ≡ line_text (programs_grammar version) k → (why : Cause) → RefusesLine (programs_grammar version) lines k why
     → Refuses (programs_grammar version) lines text why
@@ -136,6 +139,7 @@ header_is_line : (version : Version) → IsOneLine (header (programs_grammar ver
 header_is_line V1 = search rules
 header_is_line V2 = search rules
 
+-- the lines of a programs text are told apart, each is one line, and they tell the programs
 pub well_made : (version : Version) → IsWellMade (programs_grammar version)
 well_made version = record {
   header_line = header_is_line version;
@@ -147,5 +151,6 @@ well_made version = record {
   one_value = λ v w allowed also e. one_value v w (allowed.version_is ∙ sym also.version_is) e;
 }
 
+-- the grammars of programs are well made in both versions, and their headers differ
 pub versions : AreVersions programs_grammar
 versions = record { made = well_made; differ = differ (codes "programs 1") (codes "programs 2") refl }

@@ -10,7 +10,7 @@ use Rattle.smx_text.specs.ProgramLines.{Line}
 use Rattle.smx_text.specs.ProgramLines as line
 use Rattle.smx_text.specs.ProgramsText.{FitsLine, body, IsAllowed, programs_grammar}
 use Rattle.smx_text.specs.Reading.{EndsAs, AddsLine, RefusesLine}
-use Rattle.smx_text.specs.declared.fault.Cause.TheVariants as cause
+use Rattle.smx_text.specs.declared.text_fault.Cause.TheVariants as cause
 use Rattle.smx_text.proofs.EachLemmas.{all_push}
 use Rattle.smx_text.proofs.ProgramsOrderLemmas.{a_driver, a_process, a_command, counts}
 use Rattle.smx_text.proofs.ProgramsFollowLemmas.{MayStand, AreMany, with_line, body_more, may_stand, version_stays}
@@ -122,6 +122,7 @@ same_in V2 v w is allowed first second =
     second refl
     ∙ ap (λ (n : Version). record { version = n; drivers = v.drivers; programs = v.programs }) (sym is)
 
+-- lines so far that begin allowed programs end as the programs in their version
 pub finished : (v w : ProgramLists) → IsBegun (programs_grammar v.version) (body v)
     → (v.version ≡ V1 → w ≡ program_lists v.drivers v.programs)
     → (v.version ≡ V2 → w ≡ raised (program_lists v.drivers v.programs))

@@ -12,24 +12,28 @@ use Rattle.smx_text.specs.ProgramsText.{program_lines, body}
 
 -- ---- how many lines there are of each kind
 
+-- 1 for a driver's line, 0 for any other
 abbrev pub a_driver : Line → ℕ
 a_driver (line.Driver d) = 1
 a_driver (line.Process n) = 0
 a_driver (line.Command c) = 0
 a_driver line.End = 0
 
+-- 1 for a line with which a process begins, 0 for any other
 abbrev pub a_process : Line → ℕ
 a_process (line.Driver d) = 0
 a_process (line.Process n) = 1
 a_process (line.Command c) = 0
 a_process line.End = 0
 
+-- 1 for a command's line, 0 for any other
 abbrev pub a_command : Line → ℕ
 a_command (line.Driver d) = 0
 a_command (line.Process n) = 0
 a_command (line.Command c) = 1
 a_command line.End = 0
 
+-- 1 for the end, 0 for any other line
 abbrev pub an_end : Line → ℕ
 an_end (line.Driver d) = 0
 an_end (line.Process n) = 0
@@ -97,6 +101,7 @@ pub record HasCounts (v : ProgramLists) (lines : List Line) : Type 0 where
   pub commands : sum_by a_command lines ≡ sum_by length v.programs
   pub ends : sum_by an_end lines ≡ 0
 
+-- the lines of programs are one for each driver, each program and each command, and none is the end
 pub counts : (v : ProgramLists) → HasCounts v (body v)
 counts v = record {
   drivers =
@@ -144,6 +149,7 @@ end_is_last v lines more e =
 
 -- ---- lines in order, where n processes came before: drivers first, and processes by rising number
 
+-- behind n processes: drivers where n is 0, processes by the next number, commands where n is not 0
 abbrev pub InOrder : ℕ → List Line → Type 0
 InOrder n [] = Unit {0}
 InOrder n (line.Driver d ∷ ls) = (n ≡ 0) × InOrder n ls
@@ -170,12 +176,14 @@ lines_in_order n (p ∷ ps) = (
       (lines_in_order (n + 1) ps)),
 )
 
+-- the lines of any programs, with the end behind them, are in order
 pub body_in_order : (v : ProgramLists) → InOrder 0 (body v ++ line.End ∷ [])
 body_in_order v =
     subst (InOrder 0)
     (sym (append_assoc (map line.Driver v.drivers) (program_lines 0 v.programs) (line.End ∷ [])))
     (drivers_in_order v.drivers (program_lines 0 v.programs ++ line.End ∷ []) (lines_in_order 0 v.programs))
 
+-- where lines are in order, the later ones are so behind the processes of the earlier ones
 pub order_behind : (n : ℕ) (ls ks : List Line) → InOrder n (ls ++ ks) → InOrder (n + sum_by a_process ls) ks
 order_behind n [] ks h = subst (λ (m : ℕ). InOrder m ks) (omega arith) h
 order_behind n (line.Driver d ∷ ls) ks h =
@@ -191,6 +199,7 @@ order_behind n (line.End ∷ ls) ks h =
     subst (λ (m : ℕ). InOrder m ks) (omega (arith, sum_by-cons a_process line.End ls))
     (order_behind n ls ks h)
 
+-- where lines are in order, the earlier ones are so
 pub order_before : (n : ℕ) (ls ks : List Line) → InOrder n (ls ++ ks) → InOrder n ls
 order_before n [] ks h = tt
 order_before n (line.Driver d ∷ ls) ks h = (h.0, order_before n ls ks h.1)

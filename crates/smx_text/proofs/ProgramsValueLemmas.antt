@@ -87,6 +87,7 @@ programs_again n (p ∷ ps) =
 abbrev told_of : Version → List Line → ProgramLists
 told_of version ls = record { version = version; drivers = drivers_of ls; programs = programs_of ls }
 
+-- what the lines of programs tell in their version is the programs themselves
 pub told : (v : ProgramLists) → told_of v.version (body v) ≡ v
 told v = rw (
   drivers_again v.drivers (program_lines 0 v.programs),
@@ -96,6 +97,7 @@ told v = rw (
   programs_again 0 v.programs,
 ) refl
 
+-- programs of one version that have the same lines are the same
 pub one_value : (v w : ProgramLists) → v.version ≡ w.version → body v ≡ body w → v ≡ w
 one_value v w same e = sym (told v) ∙ ap (told_of v.version) e
     ∙ ap (λ (n : Version). told_of n (body w)) same ∙ told w
@@ -132,6 +134,7 @@ lead v (k ∷ ks) order none =
           ∙ append_assoc (body v) (k ∷ []) ks,
     )
 
+-- lines with which allowed programs begin are all the lines of some allowed programs
 pub begun_is_body : (version : Version) (lines : List Line) → IsBegun (programs_grammar version) lines
     → (v : ProgramLists) × IsAllowed version v × (body v ≡ lines)
 begun_is_body version lines (w, more, allowed, e) =

@@ -33,6 +33,7 @@ told_behind : (ds : List DriverSpec) (rest : List Line) → AllByRecursion (Fits
 told_behind [] rest h = h
 told_behind (d ∷ ds) rest h = told_behind ds rest h.1
 
+-- programs that are allowed in version 1 need no later version
 pub least_is_first : (v : ProgramLists) → IsAllowed V1 v → least_of_programs v.drivers v.programs ≡ V1
 least_is_first v allowed =
     let few = few_drivers v.drivers allowed.drivers in
@@ -59,6 +60,7 @@ first_programs n (p ∷ ps) none h =
     let both = neither (list_any is_hangup p) (list_any (list_any is_hangup) ps) none in
     (h.0, first_commands p (program_lines (n + 1) ps) both.0 h.1 (first_programs (n + 1) ps both.1))
 
+-- lines of programs that fit version 2 fit any version that is not before the least one of the programs
 pub programs_fit : (version : Version) (v : ProgramLists) → (version ≡ V1 → least_of_programs v.drivers v.programs ≡ V1)
     → AllByRecursion (FitsLine V2) (program_lines 0 v.programs)
     → AllByRecursion (FitsLine version) (program_lines 0 v.programs)
@@ -68,6 +70,7 @@ programs_fit V1 v told h =
     first_programs 0 v.programs both.1 h
 programs_fit V2 v told h = h
 
+-- programs that need no version after this one have at most as many drivers as it can tell
 pub drivers_few : (version : Version) (v : ProgramLists) → (version ≡ V1 → least_of_programs v.drivers v.programs ≡ V1)
     → length v.drivers ≤ MAX_DRIVERS → length v.drivers ≤ most_drivers version
 drivers_few V1 v told few =

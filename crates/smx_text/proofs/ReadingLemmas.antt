@@ -7,9 +7,9 @@ use Rattle.std.proofs.lemmas.List.Concat.{flat_map-append}
 use Rattle.smx_types.specs.declared.version.Version.{Version}
 use Rattle.smx_types.specs.declared.version.Version.TheVariants.{V1}
 use Rattle.smx_words.specs.Words.{LINE_FEED, line_of, text_of}
-use Rattle.smx_text.specs.declared.fault.Cause.{Cause}
-use Rattle.smx_text.specs.declared.fault.Cause.TheVariants as cause
-use Rattle.smx_text.specs.declared.fault.TextFault.{TextFault}
+use Rattle.smx_text.specs.declared.text_fault.Cause.{Cause}
+use Rattle.smx_text.specs.declared.text_fault.Cause.TheVariants as cause
+use Rattle.smx_text.specs.declared.text_fault.TextFault.{TextFault}
 use Rattle.smx_text.specs.Grammar.{Grammar, IsOneLine, header, line_text, beginning, full_text, IsBegun}
 use Rattle.smx_text.specs.Grammar.{Continues, IsNoLine, MayFollow, Reaches, IsFault, Reads, ReadsAny}
 use Rattle.smx_text.specs.Reading.{Refuses, AddsLine, RefusesLine, EndsText}
@@ -39,11 +39,13 @@ module _ {V K : Type 0} (g : Grammar V K) where
       texts_append (g.header_words ∷ map g.line_words (g.body v)) (g.line_words g.end ∷ [])
       ∙ ap (λ (xs : List ℕ). beginning g (g.body v) ++ xs) (append-nil (line_text g g.end ++ LINE_FEED ∷ []))
 
+  -- the text of a value with bytes behind it is its beginning, the last line and these bytes
   pub full_and : (v : V) (more : List ℕ) → full_text g v ++ more
       ≡ beginning g (g.body v) ++ (line_text g g.end ++ LINE_FEED ∷ more)
   full_and v more = ap (λ (xs : List ℕ). xs ++ more) (full_is v)
       ∙ behind (beginning g (g.body v)) (line_text g g.end) more
 
+  -- a beginning with one line more, and bytes behind it, is the beginning, that line and these bytes
   pub more_and : (lines : List K) (k : K) (after : List ℕ)
       → beginning g (lines ++ k ∷ []) ++ after ≡ beginning g lines ++ (line_text g k ++ LINE_FEED ∷ after)
   more_and lines k after = ap (λ (xs : List ℕ). xs ++ after) (beginning_more lines k)
@@ -55,6 +57,7 @@ module _ {V K : Type 0} (g : Grammar V K) where
     pub parts : bytes ≡ beginning g lines ++ rest
     pub numbered : number ≡ length lines + 2
 
+  -- behind the header, no line was taken in and line 2 comes next
   pub started : (bytes rest : List ℕ) (lines : List K) → IsBegun g [] → lines ≡ []
       → bytes ≡ header g ++ LINE_FEED ∷ rest → IsBetween bytes rest lines 2
   started bytes rest lines begun none e = rw none (record {
@@ -64,6 +67,7 @@ module _ {V K : Type 0} (g : Grammar V K) where
     numbered = refl;
   })
 
+  -- between two lines, where the rest is no whole line, the text is cut at the next one
   pub cut_at : (bytes rest : List ℕ) (lines : List K) (number : ℕ) → IsBetween bytes rest lines number
       → IsOneLine rest → IsFault g bytes number cause.Cut
   cut_at bytes rest lines number at one =
@@ -78,6 +82,7 @@ module _ {V K : Type 0} (g : Grammar V K) where
     reaches : Reaches g bytes lines text number
     reaches = record { begun = at.begun; next = (after, next.0, all); numbered = at.numbered }
 
+    -- the cause for which the next line is refused is the fault of the text at its number
     pub refused : (why : Cause) → Refuses g lines text why → IsFault g bytes number why
     refused cause.Form h = (lines, text, reaches, h)
     refused cause.Many h = (lines, text, reaches, h)
@@ -86,6 +91,7 @@ module _ {V K : Type 0} (g : Grammar V K) where
     refused cause.Cut h = absurd h
     refused cause.Trailing h = absurd h
 
+    -- where the next line goes on behind those before, a reader is between it and the line after it
     pub one_more : (longer : List K) → Continues g lines text longer → IsBetween bytes after longer (number + 1)
     one_more longer (k, is, longer_is, begun) = record {
       begun = begun;
@@ -117,6 +123,7 @@ module _ {V K : Type 0} (g : Grammar V K) where
         omega (arith, at.numbered, ap (length {A = K}) e),
       )
 
+      -- what is answered at the last line is what a reader may answer for the whole text
       pub read_to_end : (r : Result V TextFault) → EndsText g lines after number r → Reads g bytes r
       read_to_end (Ok v) (allowed, e, none) =
           record {
@@ -133,10 +140,12 @@ module _ {V K : Type 0} (g : Grammar V K) where
 
   -- ---- what is done with a line that was read is done with its text
 
+  -- where a line that was read is the last of longer lines, its text goes on so
   pub continues : (lines longer : List K) (k : K) (text : List ℕ) → text ≡ line_text g k
       → AddsLine g lines k longer → Continues g lines text longer
   continues lines longer k text is adds = (k, is, adds.0, adds.1)
 
+  -- where texts tell lines apart, the cause for which a line is refused is one for which its text is
   pub refuses : ((k l : K) → g.FitsLine k → g.FitsLine l → line_text g k ≡ line_text g l → k ≡ l)
       → (lines : List K) (k : K) (text : List ℕ)
       → g.FitsLine k → text ≡ line_text g k → (why : Cause) → RefusesLine g lines k why → Refuses g lines text why
@@ -148,11 +157,13 @@ module _ {V K : Type 0} (g : Grammar V K) where
   refuses tells_apart lines k text fits is cause.Cut h = absurd h
   refuses tells_apart lines k text fits is cause.Trailing h = absurd h
 
+  -- the same of an answer: where it is good, the text of the line goes on
   pub on_added : {A : Type 0} (lines longer : List K) (k : K) (text : List ℕ) → text ≡ line_text g k
       → (r : Result A Cause) → OnOk r (AddsLine g lines k longer) → OnOk r (Continues g lines text longer)
   on_added lines longer k text is (Ok x) adds = continues lines longer k text is adds
   on_added lines longer k text is (Err e) adds = tt
 
+  -- the same of an answer: where it is a fault, the text of the line is refused for it
   pub on_refused : {A : Type 0} → ((k l : K) → g.FitsLine k → g.FitsLine l → line_text g k ≡ line_text g l
       → k ≡ l) → (lines : List K) (k : K) (text : List ℕ)
       → g.FitsLine k → text ≡ line_text g k → (r : Result A Cause) → IfErr r (RefusesLine g lines k)
@@ -169,6 +180,7 @@ module _ {V K : Type 0} (g : Grammar V K) where
   refused_behind lines text cause.Cut h e = absurd h
   refused_behind lines text cause.Trailing h e = absurd h
 
+  -- what is answered at the last line says nothing of the header
   pub ends_behind : (lines : List K) (after : List ℕ) (number : ℕ) (r : Result V TextFault)
       → EndsText g lines after number r → IfErr r (λ f. f.cause ≢ cause.Header)
   ends_behind lines after number (Ok v) h = tt

@@ -23,7 +23,7 @@ use Rattle.smx_words.proofs.DecidedLineLemmas.{driver_reading, next_reading, des
 use Rattle.smx_words.proofs.DecidedLineLemmas.{link_reading, bind_reading, route_reading, message_reading}
 use Rattle.smx_words.proofs.DecidedLineLemmas.{full_reading, hung_reading}
 use Rattle.smx_words.proofs.ToldLemmas.{told_entry}
-use Rattle.smx_text.specs.declared.fault.Cause.TheVariants as cause
+use Rattle.smx_text.specs.declared.text_fault.Cause.TheVariants as cause
 use Rattle.smx_text.specs.declared.transcript.draft.Stage.{Stage}
 use Rattle.smx_text.specs.declared.transcript.draft.Stage.TheVariants as stage
 use Rattle.smx_text.specs.declared.transcript.draft.TranscriptDraft.{TranscriptDraft}
@@ -176,6 +176,7 @@ decides version ls begun text =
     subst (λ (xs : List TranscriptLine). Decision (transcript_grammar version) xs text) own.1
     (subst (λ (v : Version). Decision (transcript_grammar v) (lines own.0) text) own.2 (behind own.0 start text))
 
+-- any bytes spell a transcript of this version, or have a first fault that is not want of memory
 pub transcripts_have_reading : (version : Version) (bytes : List ℕ) → HasReading (transcript_grammar version) bytes
 transcripts_have_reading version bytes =
     has_reading (transcript_grammar version) (well_made version) (decides version) (nothing_begun version) bytes

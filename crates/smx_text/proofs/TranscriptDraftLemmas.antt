@@ -28,9 +28,11 @@ use Rattle.smx_types.specs.declared.view.HungLine.{HungLine}
 
 -- ---- the lines so far
 
+-- a transcript that is being read, and how far its reader came
 abbrev pub draft : Stage → Transcript → TranscriptDraft
 draft s t = record { stage = s; transcript = t }
 
+-- the line is not the end
 abbrev pub is_line : TranscriptLine → Bool
 is_line (line.Driver x) = true
 is_line (line.Entry x) = true
@@ -45,6 +47,7 @@ is_line (line.Full x) = true
 is_line (line.Hung x) = true
 is_line line.End = false
 
+-- a line other than the end is one that can be added
 pub not_end : (k : TranscriptLine) → k ≢ line.End → is_line k ≡ true
 not_end (line.Driver x) h = refl
 not_end (line.Entry x) h = refl
@@ -219,12 +222,14 @@ more_by stage.View t (line.Hung x) h l =
     (view_more t (line.Hung x) h l)
 more_by stage.View t line.End h l = absurd cc
 
+-- a draft with one more line, which it takes and which is not the end, has that line behind its own
 pub lines_more : (d : TranscriptDraft) (k : TranscriptLine) → takes d k ≡ true → is_line k ≡ true
     → lines (with_line d k) ≡ lines d ++ k ∷ []
 lines_more d k h l = more_by d.stage d.transcript k h l
 
 -- ---- lines one by one
 
+-- the draft after these lines, taken one by one, or nothing where one of them may not come
 abbrev pub run : TranscriptDraft → List TranscriptLine → Option TranscriptDraft
 run d [] = Some d
 run d (k ∷ ks) = cond (takes d k && is_line k) (run (with_line d k) ks) None
@@ -233,6 +238,7 @@ cond_then : {A B : Type 0} (b : Bool) (o : Option A) (f : A → Option B) → co
 cond_then true o f = refl
 cond_then false o f = refl
 
+-- joined lines are taken one list after the other
 pub run_append : (d : TranscriptDraft) (ks ls : List TranscriptLine) → run d (ks ++ ls) ≡ run d ks >>= (λ e. run e ls)
 run_append d [] ls = refl
 run_append d (k ∷ ks) ls =
@@ -244,6 +250,7 @@ pub let_through : {A : Type 0} (b : Bool) (o : Option A) (x : A) → cond b o No
 let_through true o x e = (refl, e)
 let_through false o x e = absurd cc
 
+-- where several lines are taken, the first is taken, it is not the end, and the others are taken after it
 pub taken : (d e : TranscriptDraft) (k : TranscriptLine) (ks : List TranscriptLine) → run d (k ∷ ks) ≡ Some e
     → (takes d k ≡ true) × (is_line k ≡ true) × (run (with_line d k) ks ≡ Some e)
 taken d e k ks h =
@@ -251,6 +258,7 @@ taken d e k ks h =
     let p = and_parts (takes d k) (is_line k) t.0 in
     (p.0, p.1, t.1)
 
+-- the lines of a draft that took some more are its own and then these
 pub run_lines : (ks : List TranscriptLine) (d e : TranscriptDraft) → run d ks ≡ Some e → lines e ≡ lines d ++ ks
 run_lines [] d e h = let same : d ≡ e = cc h in rw (← same) (sym (append-nil (lines d)))
 run_lines (k ∷ ks) d e h =
@@ -267,6 +275,7 @@ in_history version ds es =
 push_assoc : {A : Type 0} (xs : List A) (y : A) (ys : List A) → (xs ++ y ∷ []) ++ ys ≡ xs ++ y ∷ ys
 push_assoc xs y ys = append_assoc xs (y ∷ []) ys
 
+-- the lines of some drivers, taken before any entry, put these drivers behind those that were read
 pub run_drivers : (version : Version) (ds0 ds : List DriverSpec) (rest : List TranscriptLine)
     → run (in_history version ds0 []) (map line.Driver ds ++ rest) ≡ run (in_history version (ds0 ++ ds) []) rest
 run_drivers version ds0 [] rest = ap (λ (ds : List DriverSpec). run (in_history version ds []) rest)
@@ -274,6 +283,7 @@ run_drivers version ds0 [] rest = ap (λ (ds : List DriverSpec). run (in_history
 run_drivers version ds0 (d ∷ ds) rest = run_drivers version (ds0 ++ d ∷ []) ds rest
     ∙ ap (λ (es : List DriverSpec). run (in_history version es []) rest) (push_assoc ds0 d ds)
 
+-- the lines of some entries, taken before `config`, put these entries behind those that were read
 pub run_entries : (version : Version) (ds : List DriverSpec) (es0 es : List Entry) (rest : List TranscriptLine)
     → run (in_history version ds es0) (map line.Entry es ++ rest) ≡ run (in_history version ds (es0 ++ es)) rest
 run_entries version ds es0 [] rest = ap (λ (es : List Entry). run (in_history version ds es) rest)
@@ -378,6 +388,7 @@ module _ (version : Version) (ds : List DriverSpec) (es : List Entry) (id serial
       ∙ ap (run (in_view fds links binds routes msgs fulls [])) (sym (append-nil (map line.Hung hungs)))
       ∙ run_hungs fds links binds routes msgs fulls [] hungs []
 
+-- the lines of a transcript, taken one by one from the first, give that transcript
 pub run_body : (t : Transcript) → run (new_draft t.version) (body t) ≡ Some (draft stage.View t)
 run_body t =
     run_drivers t.version [] t.drivers (map line.Entry t.entries ++ line.Config ∷ view_body t.view)

@@ -81,8 +81,8 @@ is_full d (line.Full x) = false
 is_full d (line.Hung x) = false
 is_full d line.End = false
 
--- what may follow, if this is there
 infixl 10 ◌>>=◌
+-- what follows on a value that may be missing: nothing where it is
 abbrev pub ◌>>=◌ : {A B : Type 0} → Option A → (A → Option B) → Option B
 (Some x) >>= f = f x
 None >>= f = None

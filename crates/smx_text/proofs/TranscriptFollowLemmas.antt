@@ -69,6 +69,7 @@ one_grows d (line.Full x) = record { version = refl; drivers = omega arith; entr
 one_grows d (line.Hung x) = record { version = refl; drivers = omega arith; entries = omega arith }
 one_grows d line.End = record { version = refl; drivers = omega arith; entries = omega arith }
 
+-- while lines are taken, the version stays, and drivers and entries don't get fewer
 pub run_grows : (ks : List TranscriptLine) (d e : TranscriptDraft) → run d ks ≡ Some e → Grows d e
 run_grows [] d e h =
     let same : d ≡ e = cc h in rw same (record { version = refl; drivers = omega arith; entries = omega arith })
@@ -82,6 +83,7 @@ run_grows (k ∷ ks) d e h =
       entries = omega (arith, one.entries, more.entries);
     }
 
+-- a draft from which one within the limits grew was within them
 pub within_before : (d e : TranscriptDraft) → Grows d e → IsWithin e → IsWithin d
 within_before d e grows within =
     record {
@@ -200,6 +202,7 @@ full_stops version ls d k t led full allowed (more, e) =
 abbrev pub next_of : TranscriptDraft → TranscriptLine → Transcript
 next_of d k = completed (with_line d k)
 
+-- a line that a draft takes may follow its lines: the least transcript with both goes on so
 pub takes_may : (version : Version) (d : TranscriptDraft) (k : TranscriptLine) → takes d k ≡ true
     → GoesOn (transcript_grammar version) (next_of d k) (lines d) k
 takes_may version d k h = by_kind (is_line k) refl where

@@ -26,8 +26,8 @@ use Rattle.smx_words.specs.Spelling.{driver_words, entry_words, descriptor_words
 use Rattle.smx_words.specs.Spelling.{route_words, message_words, full_words, hung_words, next_words}
 use Rattle.smx_words.specs.Spellable.{FitsDriver, FitsEntryIn, FitsDescriptor, FitsLink, FitsBinding}
 use Rattle.smx_words.specs.Spellable.{FitsRoute, FitsMessage, FitsFull, FitsNext}
-use Rattle.smx_text.specs.declared.fault.Cause.{Cause}
-use Rattle.smx_text.specs.declared.fault.Cause.TheVariants as cause
+use Rattle.smx_text.specs.declared.text_fault.Cause.{Cause}
+use Rattle.smx_text.specs.declared.text_fault.Cause.TheVariants as cause
 use Rattle.smx_text.specs.declared.transcript.draft.Stage.TheVariants as stage
 use Rattle.smx_text.specs.declared.transcript.draft.TranscriptDraft.{TranscriptDraft}
 use Rattle.smx_text.specs.Drafts.{grammar_of, lines}
@@ -43,7 +43,7 @@ use Rattle.smx_text.proofs.TranscriptDraftLemmas.{draft, run, run_append, run_bo
 use Rattle.smx_text.proofs.TranscriptLemmas.{misplaced, some_of}
 use Rattle.smx_text.proofs.TranscriptWholeLemmas.{fits_body}
 use Rattle.smx_text.proofs.VersionLemmas.{AreVersions}
-use Rattle.smx_text.proofs.WordLemmas.{one_spelling, first_word, end_spelled, config_spelled, one_line_of, differ}
+use Rattle.smx_text.proofs.LineWordLemmas.{one_spelling, first_word, end_spelled, config_spelled, one_line_of, differ}
 use Rattle.smx_words.specs.Words.{AreWords}
 use Rattle.smx_words.proofs.LawLemmas.{driver_spelled, entry_spelled, next_spelled, descriptor_spelled}
 use Rattle.smx_words.proofs.LawLemmas.{link_spelled, bind_spelled, route_spelled, message_spelled}
@@ -53,6 +53,7 @@ use Rattle.smx_words.proofs.LawLemmas.{one_route, one_message, one_full, one_hun
 
 -- ---- kinds of lines, by their first words
 
+-- the kind of line with this first word, as a number: 0 for any other word, such as an entry has
 abbrev pub kind_at : List ℕ → ℕ
 kind_at w =
     if bytes_eq w (codes "driver") then 1 else if bytes_eq w (codes "config") then 2 else if bytes_eq w
@@ -63,6 +64,7 @@ kind_at w =
     (codes "full") then 9
     else if bytes_eq w (codes "hung") then 10 else if bytes_eq w (codes "end") then 11 else 0
 
+-- the kind of a line, as a number
 abbrev pub kind_of : TranscriptLine → ℕ
 kind_of (line.Driver d) = 1
 kind_of (line.Entry e) = 0
@@ -110,6 +112,7 @@ number_kind n small =
       no_digits (decimal n) 101 _ digits (omega arith),
     ) refl
 
+-- the first word of a line that can be told tells of which kind it is
 pub kind_first : (version : Version) (k : TranscriptLine) → FitsLine version k
     → kind_at (first_word (line_words k)) ≡ kind_of k
 kind_first version (line.Driver d) fits = refl
@@ -127,6 +130,7 @@ kind_first version line.End fits = refl
 
 -- ---- lines
 
+-- the words of a line that can be told are one or more, of bytes that can be seen
 pub spelling : (version : Version) (k : TranscriptLine) → FitsLine version k → AreWords (line_words k)
 spelling version (line.Driver d) fits = driver_spelled d fits
 spelling version (line.Entry e) fits = entry_spelled e fits.0
@@ -163,6 +167,7 @@ module _ (version : Version) where
   kinds_apart line.End line.End fits also kinds same = refl
   kinds_apart k l fits also kinds same = absurd cc
 
+  -- two lines of a transcript that can be told in a version and have the same text are the same line
   pub tells_apart : (k l : TranscriptLine) → FitsLine version k → FitsLine version l
       → line_text (transcript_grammar version) k ≡ line_text (transcript_grammar version) l → k ≡ l
   tells_apart k l fits also same =
@@ -194,6 +199,7 @@ header_is_line : (version : Version) → IsOneLine (header (transcript_grammar v
 header_is_line V1 = search rules
 header_is_line V2 = search rules
 
+-- the lines of a transcript text are told apart, each is one line, and they tell the transcript
 pub well_made : (version : Version) → IsWellMade (transcript_grammar version)
 well_made version = record {
   header_line = header_is_line version;
@@ -205,17 +211,20 @@ well_made version = record {
   one_value = λ t u allowed also e. one_value t u (allowed.version_is ∙ sym also.version_is) e;
 }
 
+-- the grammars of transcripts are well made in both versions, and their headers differ
 pub versions : AreVersions transcript_grammar
 versions = record { made = well_made; differ = differ (codes "transcript 1") (codes "transcript 2") refl }
 
 -- ---- what is done with a line that was read is done with its text
 
+-- if a line that was read is the last of longer lines, its text goes on so
 pub on_added_line : {A : Type 0} (version : Version) (ls longer : List TranscriptLine) (k : TranscriptLine)
     (text : List ℕ) → text ≡ line_text (transcript_grammar version) k → (r : Result A Cause)
     → OnOk r (AddsLine (transcript_grammar version) ls k longer)
     → OnOk r (Continues (transcript_grammar version) ls text longer)
 on_added_line version ls longer k text is r h = on_added (transcript_grammar version) ls longer k text is r h
 
+-- if a line that was read is refused, its text is refused for the same cause
 pub on_refused_line : {A : Type 0} (version : Version) (ls : List TranscriptLine) (k : TranscriptLine) (text : List ℕ)
     → FitsLine version k → text ≡ line_text (transcript_grammar version) k → (r : Result A Cause)
     → IfErr r (RefusesLine (transcript_grammar version) ls k)
@@ -223,12 +232,14 @@ pub on_refused_line : {A : Type 0} (version : Version) (ls : List TranscriptLine
 on_refused_line version ls k text fits is r h =
     on_refused (transcript_grammar version) (tells_apart version) ls k text fits is r h
 
+-- the cause for which a line may not follow is one for which its text is refused
 pub refused_line : (version : Version) (ls : List TranscriptLine) (k : TranscriptLine) (text : List ℕ)
     → FitsLine version k → text ≡ line_text (transcript_grammar version) k → (why : Cause)
     → RefusesLine (transcript_grammar version) ls k why → Refuses (transcript_grammar version) ls text why
 refused_line version ls k text fits is why h =
     refuses (transcript_grammar version) (tells_apart version) ls k text fits is why h
 
+-- where a draft doesn't take the end, a text may not end behind its lines
 pub not_at_end : (d : TranscriptDraft) → takes d line.End ≡ false → EndsAs (grammar_of d) (lines d) None
 not_at_end d h =
     refused_line d.transcript.version (lines d) line.End (line_text (grammar_of d) line.End) tt refl cause.Form
@@ -248,6 +259,7 @@ module _ (version : Version) (ls : List TranscriptLine) (text : List ℕ)
     (fulls : (x : FullLine) → FitsFull x → text ≢ line_of (full_words x))
     (hungs : (x : HungLine) → FitsHungIn version x → text ≢ line_of (hung_words x))
     (end : text ≢ line_text (transcript_grammar version) line.End) where
+  -- a text that is none of these lines is no line behind any lines of a transcript
   pub no_line : IsNoLine (transcript_grammar version) ls text
   no_line (line.Driver x) fits may is = drivers x fits is
   no_line (line.Entry x) fits may is = entries x fits is

@@ -4,7 +4,7 @@ use Rattle.std.proofs.Common.{refl, sym, ap, subst, ◌∙◌, arith}
 use Rattle.std.specs.List.{AllByRecursion}
 use Rattle.smx_types.specs.declared.transcript.Transcript.{Transcript}
 use Rattle.smx_types.specs.declared.version.Version.{Version}
-use Rattle.smx_text.specs.declared.fault.Cause.TheVariants as cause
+use Rattle.smx_text.specs.declared.text_fault.Cause.TheVariants as cause
 use Rattle.smx_text.specs.declared.transcript.draft.Stage.{Stage}
 use Rattle.smx_text.specs.declared.transcript.draft.Stage.TheVariants as stage
 use Rattle.smx_text.specs.declared.transcript.draft.TranscriptDraft.{TranscriptDraft}
@@ -86,6 +86,7 @@ within_clean_by stage.View t h = h
 
 -- ---- what holds of lines that some allowed transcript begins with
 
+-- each of some lines with which an allowed transcript begins can be told in its version
 pub fits_of : (version : Version) (lines : List TranscriptLine) → IsBegun (transcript_grammar version) lines
     → AllByRecursion (FitsLine version) lines
 fits_of version lines (t, more, allowed, e) =
@@ -99,10 +100,12 @@ within_of version ls d to (t, more, allowed, e) =
     (run_grows more d (draft stage.View u) (rest_leads version t ls more d to e))
     (record { drivers = allowed.drivers; entries = allowed.entries })
 
+-- a draft with whose lines some allowed transcript begins is within the limits
 pub draft_within : (d : TranscriptDraft) → IsBegun (grammar_of d) (lines d) → IsWithin d
 draft_within d begun =
     within_clean_by d.stage d.transcript (within_of d.transcript.version (lines d) (clean d) (led d) begun)
 
+-- where lines are taken after what may be missing, it is there and they are taken after it
 pub some_of : (o : Option TranscriptDraft) (ks : List TranscriptLine) (e : TranscriptDraft)
     → o >>= (λ d. run d ks) ≡ Some e → (d : TranscriptDraft) × (o ≡ Some d) × (run d ks ≡ Some e)
 some_of (Some d) ks e h = (d, refl, h)
@@ -121,6 +124,7 @@ begun_is_draft version ls (t, more, allowed, e) =
 
 -- ---- lines that are taken, and those that are not
 
+-- a line that the draft doesn't take is refused for its form
 pub misplaced : (d : TranscriptDraft) (k : TranscriptLine) → takes d k ≡ false
     → RefusesLine (grammar_of d) (lines d) k cause.Form
 misplaced d k h (t, goes) =
@@ -128,6 +132,7 @@ misplaced d k h (t, goes) =
     let same = takes_clean_by d.stage d.transcript k in
     absurd (cc (h, may, same))
 
+-- a line that the draft takes, but of which there are as many as may be, is refused as one too many
 pub too_many : (d : TranscriptDraft) (k : TranscriptLine) → takes d k ≡ true → is_full d k ≡ true
     → RefusesLine (grammar_of d) (lines d) k cause.Many
 too_many d k may full = (
@@ -218,6 +223,7 @@ in_view_by stage.Config t (line.Full x) group may = absurd cc
 in_view_by stage.Config t (line.Hung x) group may = absurd cc
 in_view_by stage.Config t line.End group may = absurd cc
 
+-- a line of a view's group that the draft takes, and that is not too many, is the last of its lines then
 pub group_added : (d : TranscriptDraft) (t : Transcript) (k : TranscriptLine)
     → IsBegun (grammar_of d) (lines d) → takes d k ≡ true → is_group k ≡ true → is_full d k ≡ false
     → FitsLine d.transcript.version k → k ≢ line.End
@@ -227,6 +233,7 @@ group_added d t k begun may group room fits other is =
     adds d (draft d.stage t) k begun may room fits other (ap (λ (s : Stage). lines (draft s t)) view
     ∙ sym (ap lines is))
 
+-- before its first line, a text is the beginning of some allowed transcript
 pub nothing_begun : (version : Version) → IsBegun (transcript_grammar version) []
 nothing_begun version = (
   record { version = version; drivers = []; entries = []; view = new_view 0 0 },

@@ -40,6 +40,7 @@ none_hung : (hs : List HungLine) → nat_lt 0 (length hs) ≡ false → AreToldH
 none_hung [] h = tt
 none_hung (x ∷ hs) h = let some : nat_lt 0 (length (x ∷ hs)) ≡ true = grind (arith, nat_tests) in absurd cc
 
+-- a version that is not before the least one of a transcript can tell its entries
 pub told_entries : (version : Version) (t : Transcript) → (version ≡ V1 → least_of_transcript t ≡ V1)
     → AreToldEntries version t.entries
 told_entries V1 t told =
@@ -47,6 +48,7 @@ told_entries V1 t told =
     none_of_hangup t.entries (neither (list_any is_of_hangup t.entries) _ two.1).0
 told_entries V2 t told = each_entry t.entries
 
+-- a version that is not before the least one of a transcript can tell its hung-up streams
 pub told_hungs : (version : Version) (t : Transcript) → (version ≡ V1 → least_of_transcript t ≡ V1)
     → AreToldHungs version t.view.hungs
 told_hungs V1 t told =
@@ -64,6 +66,7 @@ no_hung : (hs : List HungLine) → AreToldHungs V1 hs → nat_lt 0 (length hs) �
 no_hung [] h = refl
 no_hung (x ∷ hs) h = absurd (cc h.0)
 
+-- a transcript whose drivers, entries and hung-up streams version 1 can tell needs no later one
 pub needs_no_later : (version : Version) (t : Transcript) → length t.drivers ≤ most_drivers version
     → AreToldEntries version t.entries → AreToldHungs version t.view.hungs
     → version ≡ V1 → least_of_transcript t ≡ V1

@@ -22,11 +22,13 @@ use Rattle.smx_text.proofs.TranscriptVersionLemmas.{AreToldEntries, AreToldHungs
 use Rattle.smx_text.proofs.TranscriptVersionLemmas.{needs_no_later}
 use Rattle.smx_text.specs.Drafts.{shown, lines}
 
+-- the transcript as far as it was read, where the view is empty unless its lines were reached
 abbrev pub ended : Stage → Transcript → Transcript
 ended stage.History t = record t { view = new_view 0 0 }
 ended stage.Config t = record t { view = new_view 0 0 }
 ended stage.View t = t
 
+-- the least lines that are wanting before the end: `config` and the next id and serial, where they have not come
 abbrev pub still : Stage → List TranscriptLine
 still stage.History = line.Config ∷ line.Next 0 0 ∷ []
 still stage.Config = line.Next 0 0 ∷ []
@@ -46,6 +48,7 @@ completes_by stage.Config t =
     behind_both (map line.Driver t.drivers) (map line.Entry t.entries) (line.Config ∷ []) (line.Next 0 0 ∷ [])
 completes_by stage.View t = sym (append-nil (body t))
 
+-- a transcript that was completed has the lines that were read, and the least that were wanting
 pub completes : (d : TranscriptDraft) → body (completed d) ≡ lines d ++ still d.stage
 completes d = completes_by d.stage d.transcript
 
@@ -97,6 +100,7 @@ module _ (version : Version) (t : Transcript) (allowed : IsAllowed version t) wh
       (all_both FitsEntry (λ e. CanTell version (is_of_hangup e)) t.entries allowed.spellable.entries
       (told_entries version t allowed.told))
 
+  -- each line of an allowed transcript can be told in its version
   pub fits_body : AllByRecursion (FitsLine version) (body t)
   fits_body = all_append (FitsLine version) (map line.Driver t.drivers) _
       (all_map (FitsLine version) line.Driver t.drivers allowed.spellable.drivers)

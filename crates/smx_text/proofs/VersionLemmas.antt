@@ -4,9 +4,9 @@ use Rattle.std.specs.Prelude.{◌⊎◌, [], IfErr, MatchResult}
 use Rattle.smx_types.specs.declared.version.Version.{Version}
 use Rattle.smx_types.specs.declared.version.Version.TheVariants.{V1, V2}
 use Rattle.smx_words.specs.Words.{LINE_FEED}
-use Rattle.smx_text.specs.declared.fault.Cause.{Cause}
-use Rattle.smx_text.specs.declared.fault.Cause.TheVariants as cause
-use Rattle.smx_text.specs.declared.fault.TextFault.{TextFault}
+use Rattle.smx_text.specs.declared.text_fault.Cause.{Cause}
+use Rattle.smx_text.specs.declared.text_fault.Cause.TheVariants as cause
+use Rattle.smx_text.specs.declared.text_fault.TextFault.{TextFault}
 use Rattle.smx_text.specs.Grammar.{Grammar, header, full_text, IsFault, Reads, ReadsAny, last_line}
 use Rattle.smx_text.proofs.GrammarLemmas.{IsWellMade, texts, Behind, Place, place, one_reading, beginning_and}
 use Rattle.smx_text.proofs.HasReadingLemmas.{HasReading}
@@ -65,6 +65,7 @@ module _ {V K : Type 0} (g : Version → Grammar V K) (are : AreVersions g) wher
 
   -- ---- so the laws
 
+  -- any bytes have at most one answer in all versions that is not want of memory
   pub one_reading_of_all : (bytes : List ℕ) (r s : Result V TextFault) → ReadsAny g bytes r → ReadsAny g bytes s
       → IfErr r (λ f. f.cause ≢ cause.NoMemory) → IfErr s (λ f. f.cause ≢ cause.NoMemory) → r ≡ s
   one_reading_of_all bytes r s reads (w, again, each) ample plenty =
@@ -78,6 +79,7 @@ module _ {V K : Type 0} (g : Version → Grammar V K) (are : AreVersions g) wher
   spelled : (version : Version) (v : V) → (g version).IsAllowed v → ReadsAny g (full_text (g version) v) (Ok v)
   spelled version v allowed = (version, record { allowed = allowed; text = refl }, tt)
 
+  -- the text of an allowed value in its version is read as that value, unless memory is wanting
   pub written_is_read : (version : Version) (v : V) (r : Result V TextFault) → (g version).IsAllowed v
       → ReadsAny g (full_text (g version) v) r → MatchResult r (λ w. w ≡ v) (λ f. f.cause ≡ cause.NoMemory)
   written_is_read version v (Ok w) allowed reads =

@@ -3,9 +3,9 @@ use Rattle.std.proofs.Common.{◌≡◌, ◌≢◌, ℕ, ◌<◌, List, length, 
 use Rattle.std.proofs.Common.{Err, arith}
 use Rattle.std.specs.List.{AllByRecursion}
 use Rattle.smx_types.specs.declared.version.Version.{Version}
-use Rattle.smx_text.specs.declared.fault.Cause.{Cause}
-use Rattle.smx_text.specs.declared.fault.Cause.TheVariants as cause
-use Rattle.smx_text.specs.declared.fault.TextFault.{TextFault}
+use Rattle.smx_text.specs.declared.text_fault.Cause.{Cause}
+use Rattle.smx_text.specs.declared.text_fault.Cause.TheVariants as cause
+use Rattle.smx_text.specs.declared.text_fault.TextFault.{TextFault}
 use Rattle.smx_words.specs.Words.{AreWords, IsFree, SPACE, line_of}
 use Rattle.smx_words.proofs.LineLemmas.{same_free_words, words_free}
 use Rattle.smx_text.specs.Grammar.{Grammar, IsFault, ReadsAny, Spells}
@@ -34,6 +34,7 @@ wrong_programs version bytes line why other behind fault =
     let reads = any_of programs_grammar bytes version (Err f) fault behind in
     (reads, λ v. spells_none programs_grammar versions bytes f other reads v.version v)
 
+-- bytes that go wrong in each version, at one line for one cause, spell no programs
 pub wrong_in_each : (bytes : List ℕ) (line : ℕ) (why : Cause) → why ≢ cause.NoMemory
     → ((version : Version) → IsFault (programs_grammar version) bytes line why) → AreWrongPrograms bytes line why
 wrong_in_each bytes line why other each =
@@ -49,6 +50,7 @@ wrong_transcript version bytes line why other behind fault =
     let reads = any_of transcript_grammar bytes version (Err f) fault behind in
     (reads, λ t. spells_none transcript_grammar transcript_versions bytes f other reads t.version t)
 
+-- bytes that go wrong in each version, at one line for one cause, spell no transcript
 pub wrong_transcript_in_each : (bytes : List ℕ) (line : ℕ) (why : Cause) → why ≢ cause.NoMemory
     → ((version : Version) → IsFault (transcript_grammar version) bytes line why) → IsWrongTranscript bytes line why
 wrong_transcript_in_each bytes line why other each =

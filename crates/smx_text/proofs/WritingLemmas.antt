@@ -43,6 +43,7 @@ one_more ps i cs lt e =
     ∙ ap (λ (c : List Command). take i ps ++ c ∷ []) (sym e) in
     rw (all, lines_add 0 (take i ps) cs, len) refl
 
+-- the text of some programs with the next one is theirs, the line of its process, and its commands
 pub program_text : (ps : List (List Command)) (i : ℕ) (cs : List Command) → i < length ps → cs ≡ get_or ps i cs
     → text_of (map line_words (program_lines 0 (take (i + 1) ps)))
     ≡ text_of (map line_words (program_lines 0 (take i ps)))
@@ -50,6 +51,7 @@ pub program_text : (ps : List (List Command)) (i : ℕ) (cs : List Command) → 
 program_text ps i cs lt e =
     rw (one_more ps i cs lt e, map-append, texts_append, map-map line_words line.Command cs) refl
 
+-- where the lines of some programs fit, and the commands of the next, the lines with that one fit too
 pub program_fits : (ps : List (List Command)) (i : ℕ) (cs : List Command) → i < length ps
     → cs ≡ get_or ps i cs → FitsNumber i → AllByRecursion (FitsLine V2) (program_lines 0 (take i ps))
     → AllByRecursion FitsCommand cs → AllByRecursion (FitsLine V2) (program_lines 0 (take (i + 1) ps))
@@ -61,6 +63,7 @@ program_fits ps i cs lt e number before commands =
       in_version_2 [] h = tt
       in_version_2 (c ∷ cs) h = ((h.0, tt), in_version_2 cs h.1)
 
+-- the text of programs is the header, the drivers, the lines of each program, and `end`
 pub body_text : (v : ProgramLists) → programs_text v
     ≡ (header (programs_grammar v.version) ++ LINE_FEED ∷ []) ++ text_of (map driver_words v.drivers)
     ++ text_of (map line_words (program_lines 0 v.programs)) ++ codes "end\n"

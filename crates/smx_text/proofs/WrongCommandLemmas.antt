@@ -26,12 +26,12 @@ use Rattle.smx_words.proofs.HexLemmas.{by_digits}
 use Rattle.smx_words.proofs.LawLemmas.{command_spelled, driver_spelled, process_spelled}
 use Rattle.smx_words.proofs.NumberLemmas.{decimal_digits, own}
 use Rattle.smx_words.proofs.SameCommandLemmas.{verb_is, verb_of}
-use Rattle.smx_text.specs.declared.fault.Cause.TheVariants as cause
+use Rattle.smx_text.specs.declared.text_fault.Cause.TheVariants as cause
 use Rattle.smx_text.specs.Grammar.{IsNoLine, IsOneLine, Reaches}
 use Rattle.smx_text.specs.ProgramsText.{IsAllowed, body, programs_grammar}
 use Rattle.smx_text.specs.WorkedFaults.{AreWrongPrograms, with_line_4}
 use Rattle.smx_text.proofs.ProgramsGrammarLemmas.{no_line, not_verb}
-use Rattle.smx_text.proofs.WordLemmas.{first_word, differ}
+use Rattle.smx_text.proofs.LineWordLemmas.{first_word, differ}
 use Rattle.smx_text.proofs.WorkedFaultLemmas.{told, wrong_programs}
 
 -- ---- line 4 of a text
@@ -41,6 +41,7 @@ abbrev pub before : ProgramLists
 before = program_lists (record { name = codes "ip"; kind = kind.Mux; minors = 4; high = 8; low = 3; max = 16 }
     ∷ []) ([] ∷ [])
 
+-- the one driver and the one process before line 4 are allowed in version 1
 pub before_allowed : IsAllowed V1 before
 before_allowed = search (rules, arith)
 
@@ -49,6 +50,7 @@ unfolding digits
 reaches text one =
     record { begun = (before, [], before_allowed, refl); next = (codes "end\n", one, refl); numbered = refl }
 
+-- text that spells no line which may stand behind them makes line 4 go wrong for its form
 pub wrong_at_4 : (text : List ℕ) → IsOneLine text → IsNoLine (programs_grammar V1) (body before) text
     → AreWrongPrograms (with_line_4 text) 4 cause.Form
 wrong_at_4 text one none =
@@ -128,6 +130,7 @@ wrong_words ws free one none driver process end =
     wrong_at_4 (line_of ws) one
     (no_words ws free (λ c fits. none c fits.0) driver process (differ (line_of ws) (codes "end") end))
 
+-- zero is one digit, not two
 pub two_zeros : AreWrongPrograms (with_line_4 (codes "dup 00")) 4 cause.Form
 two_zeros =
     wrong_words (codes "dup" ∷ codes "00" ∷ []) (search rules, omega arith) (search rules)
@@ -136,6 +139,7 @@ two_zeros =
       none (command.Dup n) fits v e = zeros n fits (cc e)
       none c fits v e = absurd (cc v)
 
+-- a number has no sign
 pub a_sign : AreWrongPrograms (with_line_4 (codes "dup +1")) 4 cause.Form
 a_sign = wrong_words (codes "dup" ∷ codes "+1" ∷ []) (search rules, omega arith) (search rules)
     (λ c fits e. none c fits (verb_is c verb.Dup _ e) e) refl refl refl where
@@ -143,6 +147,7 @@ a_sign = wrong_words (codes "dup" ∷ codes "+1" ∷ []) (search rules, omega ar
       none (command.Dup n) fits v e = signed n fits (cc e)
       none c fits v e = absurd (cc v)
 
+-- one space stands between two words, not two
 pub two_spaces : AreWrongPrograms (with_line_4 (codes "close  0")) 4 cause.Form
 two_spaces =
     wrong_words (codes "close" ∷ [] ∷ codes "0" ∷ []) (search rules, omega arith) (search rules)
@@ -152,6 +157,7 @@ two_spaces =
       none (command.Close n) fits v e = omega (arith, ap (length {A = List ℕ}) e)
       none c fits v e = absurd (cc v)
 
+-- no space stands behind the last word
 pub a_last_space : AreWrongPrograms (with_line_4 (codes "close 0 ")) 4 cause.Form
 a_last_space =
     wrong_words (codes "close" ∷ codes "0" ∷ [] ∷ []) (search rules, omega arith) (search rules)
@@ -161,6 +167,7 @@ a_last_space =
       none (command.Close n) fits v e = omega (arith, ap (length {A = List ℕ}) e)
       none c fits v e = absurd (cc v)
 
+-- a number has at most 32 bits
 pub large_number : AreWrongPrograms (with_line_4 (codes "open ip 4294967296")) 4 cause.Form
 large_number =
     wrong_words (codes "open" ∷ codes "ip" ∷ codes "4294967296" ∷ []) (search rules, omega arith)
@@ -170,6 +177,7 @@ large_number =
       none (command.OpenMinor d n) fits v e = too_large n fits.1 (cc e)
       none c fits v e = absurd (cc v)
 
+-- a driver's name begins with no digit
 pub digit_first : AreWrongPrograms (with_line_4 (codes "open 9a 0")) 4 cause.Form
 digit_first =
     wrong_words (codes "open" ∷ codes "9a" ∷ codes "0" ∷ []) (search rules, omega arith) (search rules)
@@ -179,6 +187,7 @@ digit_first =
       none (command.OpenMinor d n) fits v e = no_digit_first d fits.0 (cc e)
       none c fits v e = absurd (cc v)
 
+-- a driver's name has at most eight bytes
 pub nine_letters : AreWrongPrograms (with_line_4 (codes "clone ninelette")) 4 cause.Form
 nine_letters =
     wrong_words (codes "clone" ∷ codes "ninelette" ∷ []) (search rules, omega arith) (search rules)
@@ -188,6 +197,7 @@ nine_letters =
       none (command.OpenClone d) fits v e = no_nine_letters d fits (cc e)
       none c fits v e = absurd (cc v)
 
+-- `link` has two descriptors, not one
 pub word_wanting : AreWrongPrograms (with_line_4 (codes "link 0")) 4 cause.Form
 word_wanting =
     wrong_words (codes "link" ∷ codes "0" ∷ []) (search rules, omega arith) (search rules)
@@ -196,6 +206,7 @@ word_wanting =
       none (command.Link n m) fits v e = omega (arith, ap (length {A = List ℕ}) e)
       none c fits v e = absurd (cc v)
 
+-- the word for all links is in small letters
 pub capitals : AreWrongPrograms (with_line_4 (codes "unlink 0 ALL")) 4 cause.Form
 capitals =
     wrong_words (codes "unlink" ∷ codes "0" ∷ codes "ALL" ∷ []) (search rules, omega arith) (search rules)
@@ -205,6 +216,7 @@ capitals =
       none (command.Unlink n x) fits v e = no_capitals x fits.1 (cc e)
       none c fits v e = absurd (cc v)
 
+-- both sides of a flush are `rw`, not `wr`
 pub sides_turned : AreWrongPrograms (with_line_4 (codes "flush 0 wr")) 4 cause.Form
 sides_turned =
     wrong_words (codes "flush" ∷ codes "0" ∷ codes "wr" ∷ []) (search rules, omega arith) (search rules)
@@ -214,6 +226,7 @@ sides_turned =
       none (command.Flush n s) fits v e = turned s (cc e)
       none c fits v e = absurd (cc v)
 
+-- the digits of bytes are small letters
 pub capital_digits : AreWrongPrograms (with_line_4 (codes "write 0 5 AA")) 4 cause.Form
 capital_digits =
     wrong_words (codes "write" ∷ codes "0" ∷ codes "5" ∷ codes "AA" ∷ []) (search rules, omega arith)
@@ -223,6 +236,7 @@ capital_digits =
       none (command.Write n m bs) fits v e = no_capital_digits bs fits.2 (cc e)
       none c fits v e = absurd (cc v)
 
+-- each byte has two digits
 pub odd_digits : AreWrongPrograms (with_line_4 (codes "write 0 5 aab")) 4 cause.Form
 odd_digits =
     wrong_words (codes "write" ∷ codes "0" ∷ codes "5" ∷ codes "aab" ∷ []) (search rules, omega arith)
@@ -232,6 +246,7 @@ odd_digits =
       none (command.Write n m bs) fits v e = no_odd_digits bs fits.2 (cc e)
       none c fits v e = absurd (cc v)
 
+-- `write` has a word for its bytes even where there are none
 pub bytes_wanting : AreWrongPrograms (with_line_4 (codes "write 0 5")) 4 cause.Form
 bytes_wanting =
     wrong_words (codes "write" ∷ codes "0" ∷ codes "5" ∷ []) (search rules, omega arith) (search rules)
@@ -241,6 +256,7 @@ bytes_wanting =
       none (command.Write n m bs) fits v e = omega (arith, ap (length {A = List ℕ}) e)
       none c fits v e = absurd (cc v)
 
+-- an empty line is no command
 pub no_word : AreWrongPrograms (with_line_4 []) 4 cause.Form
 no_word =
     wrong_words ([] ∷ []) (search rules, omega arith) (search rules)
@@ -248,6 +264,7 @@ no_word =
 
 -- ---- and one that is of version 2 alone
 
+-- version 1 has no hangup
 pub hangup : AreWrongPrograms (with_line_4 (codes "hangup ip 0")) 4 cause.Form
 hangup =
     wrong_at_4 (codes "hangup ip 0") (search rules) (no_words ws (search rules, omega arith)

@@ -14,7 +14,7 @@ use Rattle.smx_types.specs.declared.version.Version.{Version}
 use Rattle.smx_types.specs.declared.version.Version.TheVariants.{V1, V2}
 use Rattle.smx_words.specs.Spellable.{FitsDriver}
 use Rattle.smx_words.specs.Words.{LINE_FEED}
-use Rattle.smx_text.specs.declared.fault.Cause.TheVariants as cause
+use Rattle.smx_text.specs.declared.text_fault.Cause.TheVariants as cause
 use Rattle.smx_text.specs.declared.transcript.draft.Stage.TheVariants as stage
 use Rattle.smx_text.specs.declared.transcript.draft.TranscriptDraft.{TranscriptDraft}
 use Rattle.smx_text.specs.Drafts.{lines}
@@ -136,11 +136,13 @@ too_many_drivers version n most =
           (sym (driver_is version)) cause.Many
           (too_many version (programs version n) (row.Driver ip) refl (omega (arith, many ip n, most))))
 
+-- a 65th driver is one too many of programs in version 1
 pub driver_65 : AreWrongPrograms (with_drivers (codes "programs 1\n") 65) 66 cause.Many
 driver_65 =
     wrong_programs V1 (with_drivers (codes "programs 1\n") 65) 66 cause.Many (λ e. cc) (λ e. cc)
     (too_many_drivers V1 64 refl)
 
+-- a 129th driver is one too many of programs in version 2
 pub driver_129 : AreWrongPrograms (with_drivers (codes "programs 2\n") 129) 130 cause.Many
 driver_129 =
     wrong_programs V2 (with_drivers (codes "programs 2\n") 129) 130 cause.Many (λ e. cc) (λ e. cc)
@@ -199,11 +201,13 @@ too_many_of_transcript version n most as_many =
           (sym (driver_of_transcript_is version)) cause.Many
           (too_many_of_a_transcript (behind_drivers version n) (line.Driver ip) refl as_many))
 
+-- a 65th driver is one too many of a transcript in version 1
 pub driver_65_of_a_transcript : IsWrongTranscript (with_drivers (codes "transcript 1\n") 65) 66 cause.Many
 driver_65_of_a_transcript =
     wrong_transcript V1 (with_drivers (codes "transcript 1\n") 65) 66 cause.Many (λ e. cc) (λ e. cc)
     (too_many_of_transcript V1 64 refl refl)
 
+-- a 129th driver is one too many of a transcript in version 2
 pub driver_129_of_a_transcript : IsWrongTranscript (with_drivers (codes "transcript 2\n") 129) 130 cause.Many
 driver_129_of_a_transcript =
     wrong_transcript V2 (with_drivers (codes "transcript 2\n") 129) 130 cause.Many (λ e. cc) (λ e. cc)

@@ -13,7 +13,7 @@ use Rattle.smx_types.specs.declared.driver.DriverKind.TheVariants as kind
 use Rattle.smx_types.specs.declared.driver.DriverSpec.{DriverSpec}
 use Rattle.smx_types.specs.declared.version.Version.{Version}
 use Rattle.smx_types.specs.declared.version.Version.TheVariants.{V1, V2}
-use Rattle.smx_text.specs.declared.fault.Cause.TheVariants as cause
+use Rattle.smx_text.specs.declared.text_fault.Cause.TheVariants as cause
 use Rattle.smx_text.specs.Grammar.{IsBegun, beginning, header}
 use Rattle.smx_text.specs.ProgramLines.{Line}
 use Rattle.smx_text.specs.ProgramLines as line
@@ -24,15 +24,17 @@ use Rattle.smx_text.proofs.ProgramsGrammarLemmas.{refused_line}
 use Rattle.smx_text.proofs.ProgramsLemmas.{longer_begun, misplaced, too_many}
 use Rattle.smx_text.proofs.BodyLemmas.{added_process}
 use Rattle.smx_text.proofs.ReadingLemmas.{beginning_more}
-use Rattle.smx_text.proofs.WordLemmas.{differ}
+use Rattle.smx_text.proofs.LineWordLemmas.{differ}
 use Rattle.smx_text.proofs.WorkedFaultLemmas.{wrong_programs, wrong_in_each}
 use Rattle.smx_text.proofs.WrongCommandLemmas.{before, before_allowed, wrong_at_4}
 
 -- ---- the header, and nothing behind it
 
+-- an empty text is cut at line 1
 pub nothing : AreWrongPrograms [] 1 cause.Cut
 nothing = wrong_programs V1 [] 1 cause.Cut (λ e. cc) (λ e. cc) ([], [], inl (refl, refl), tt, refl)
 
+-- a header without its line feed is cut
 pub cut_header : AreWrongPrograms (codes "programs 1") 1 cause.Cut
 cut_header =
     wrong_programs V1 (codes "programs 1") 1 cause.Cut (λ e. cc) (λ e. cc) (
@@ -47,11 +49,13 @@ other_number : (version : Version) → codes "programs 3" ≢ header (programs_g
 other_number V1 = differ (codes "programs 3") (codes "programs 1") refl
 other_number V2 = differ (codes "programs 3") (codes "programs 2") refl
 
+-- programs of version 3 have a wrong header
 pub version_3 : AreWrongPrograms (codes "programs 3\n") 1 cause.Header
 version_3 =
     wrong_in_each (codes "programs 3\n") 1 cause.Header (λ e. cc)
     (λ version. (codes "programs 3", ([], search rules, refl), other_number version, refl))
 
+-- a header with nothing behind it is cut at line 2
 pub header_alone : AreWrongPrograms (codes "programs 1\n") 2 cause.Cut
 header_alone =
     wrong_programs V1 (codes "programs 1\n") 2 cause.Cut (λ e. cc) (λ e. cc) (
@@ -62,6 +66,7 @@ header_alone =
       refl,
     )
 
+-- so is the header of version 2
 pub version_2_alone : AreWrongPrograms (codes "programs 2\n") 2 cause.Cut
 version_2_alone =
     wrong_programs V2 (codes "programs 2\n") 2 cause.Cut (λ e. cc) (λ e. cc) (
@@ -77,6 +82,7 @@ version_2_alone =
 abbrev eth : DriverSpec
 eth = record { name = codes "eth"; kind = kind.Leaf; minors = 2; high = 8; low = 3; max = 16 }
 
+-- behind process 0 comes process 1, not 2
 pub out_of_turn : AreWrongPrograms (with_line_4 (codes "process 2")) 4 cause.Form
 unfolding digits
 out_of_turn =
@@ -84,6 +90,7 @@ out_of_turn =
     (refused_line V1 (body before) (line.Process 2) (codes "process 2") (omega arith) refl cause.Form
     (misplaced V1 before (line.Process 2) (λ e. omega (arith, e))))
 
+-- no driver stands behind a process
 pub late_driver : AreWrongPrograms (with_line_4 (codes "driver eth leaf 2 8 3 16")) 4 cause.Form
 unfolding digits
 late_driver =
@@ -94,6 +101,7 @@ late_driver =
 abbrev clone : Line
 clone = line.Command (command.OpenClone (codes "ip"))
 
+-- no command stands before the first process
 pub no_process : AreWrongPrograms (codes "programs 1\nclone ip\nend\n") 2 cause.Form
 no_process =
     wrong_programs V1 (codes "programs 1\nclone ip\nend\n") 2 cause.Form (λ e. cc) (λ e. cc) (
@@ -120,6 +128,7 @@ allowed_none = search (rules, arith)
 allowed_one : IsAllowed V1 one_command
 allowed_one = search (rules, arith)
 
+-- programs without the line `end` are cut at the line behind their last
 pub no_end : AreWrongPrograms (codes "programs 1\ndriver ip mux 4 8 3 16\nprocess 0\nclone ip\n") 5 cause.Cut
 unfolding digits
 no_end =
@@ -132,6 +141,7 @@ no_end =
       refl,
     )
 
+-- a last line without its line feed is cut
 pub cut_line : AreWrongPrograms (codes "programs 1\ndriver ip mux 4 8 3 16\nprocess 0\nclone ip") 4 cause.Cut
 unfolding digits
 cut_line =
@@ -144,6 +154,7 @@ cut_line =
       refl,
     )
 
+-- not even a space stands behind the end
 pub a_space_behind : AreWrongPrograms (codes "programs 1\nprocess 0\nend\n ") 4 cause.Trailing
 unfolding digits
 a_space_behind =
@@ -204,6 +215,7 @@ process_65_is =
     ∙ sym (append_assoc (codes "programs 1\ndriver ip mux 4 8 3 16\n") (process_lines 64) (codes "process 64\nend\n"))
     ∙ ap (λ (xs : List ℕ). xs ++ codes "process 64\nend\n") (sym (text_of_processes 64))
 
+-- a 65th process is one too many
 pub process_65 : AreWrongPrograms (with_processes 65) 67 cause.Many
 unfolding digits
 process_65 =

@@ -28,7 +28,7 @@ use Rattle.smx_words.proofs.NumberLemmas.{own}
 use Rattle.smx_words.proofs.SameCommandLemmas.{verb_first, verb_of}
 use Rattle.smx_words.proofs.SameReplyLemmas.{reply_verb_of, verb_again, verb_at}
 use Rattle.smx_words.proofs.SameWordLemmas.{all_fault, fault_line, first_of_these, found_fault}
-use Rattle.smx_text.specs.declared.fault.Cause.TheVariants as cause
+use Rattle.smx_text.specs.declared.text_fault.Cause.TheVariants as cause
 use Rattle.smx_text.specs.declared.transcript.draft.Stage.TheVariants as stage
 use Rattle.smx_text.specs.declared.transcript.draft.TranscriptDraft.{TranscriptDraft}
 use Rattle.smx_text.specs.Drafts.{lines}
@@ -42,7 +42,7 @@ use Rattle.smx_text.proofs.TranscriptDrafts.{new_view, takes}
 use Rattle.smx_text.proofs.TranscriptGrammarLemmas.{kind_at, kind_first, kind_of, not_at_end, refused_line}
 use Rattle.smx_text.proofs.TranscriptGrammarLemmas.{spelling}
 use Rattle.smx_text.proofs.TranscriptLemmas.{misplaced, nothing_begun}
-use Rattle.smx_text.proofs.WordLemmas.{first_word, differ}
+use Rattle.smx_text.proofs.LineWordLemmas.{first_word, differ}
 use Rattle.smx_text.proofs.WorkedFaultLemmas.{told, wrong_transcript, wrong_transcript_in_each}
 use Rattle.smx_words.proofs.ToldLemmas.{no_told_entry}
 
@@ -154,6 +154,7 @@ no_header : (version : Version) → codes "programs 1" ≢ header (transcript_gr
 no_header V1 = differ (codes "programs 1") (codes "transcript 1") refl
 no_header V2 = differ (codes "programs 1") (codes "transcript 2") refl
 
+-- the header of programs is none of a transcript
 pub other_header : IsWrongTranscript (codes "programs 1\nend\n") 1 cause.Header
 other_header =
     wrong_transcript_in_each (codes "programs 1\nend\n") 1 cause.Header (λ e. cc)
@@ -163,11 +164,13 @@ other_number : (version : Version) → codes "transcript 3" ≢ header (transcri
 other_number V1 = differ (codes "transcript 3") (codes "transcript 1") refl
 other_number V2 = differ (codes "transcript 3") (codes "transcript 2") refl
 
+-- transcripts of version 3 have a wrong header
 pub version_3 : IsWrongTranscript (codes "transcript 3\n") 1 cause.Header
 version_3 =
     wrong_transcript_in_each (codes "transcript 3\n") 1 cause.Header (λ e. cc)
     (λ version. (codes "transcript 3", ([], search rules, refl), other_number version, refl))
 
+-- a header of version 2 with nothing behind it is cut at line 2
 pub version_2_alone : IsWrongTranscript (codes "transcript 2\n") 2 cause.Cut
 version_2_alone =
     wrong_transcript V2 (codes "transcript 2\n") 2 cause.Cut (λ e. cc) (λ e. cc) (
@@ -181,6 +184,7 @@ version_2_alone =
 abbrev descriptor : TranscriptLine
 descriptor = line.Fd (record { process = 0; fd = 0; driver = codes "ip"; minor = 0 })
 
+-- behind `config` the next id and serial come first, and no descriptor before them
 pub next_wanting : IsWrongTranscript (codes "transcript 1\nconfig\nfd 0 0 ip 0\nend\n") 3 cause.Form
 unfolding digits
 next_wanting =
@@ -188,13 +192,16 @@ next_wanting =
     (refused_line V1 (lines below_config) descriptor (codes "fd 0 0 ip 0") (search (rules, arith)) refl
     cause.Form (misplaced below_config descriptor refl))
 
+-- behind `config` the next id and serial are not left out
 pub end_too_early : IsWrongTranscript (codes "transcript 1\nconfig\nend\n") 3 cause.Form
 end_too_early = wrong_below_config (codes "end") [] (search rules) (not_at_end below_config refl)
 
+-- the next id and serial come once
 pub two_nexts : IsWrongTranscript (with_line_5 (codes "next 2 1")) 5 cause.Form
 unfolding digits
 two_nexts = misplaced_at_5 (codes "next 2 1") (search rules) (line.Next 2 1) (search (rules, arith)) refl refl
 
+-- no entry stands behind `config`
 pub late_entry : IsWrongTranscript (with_line_5 (codes "0 exit = done")) 5 cause.Form
 unfolding digits
 late_entry =
@@ -202,10 +209,12 @@ late_entry =
     (line.Entry (record { process = 0; command = command.CloseAll; reply = reply.Done [] }))
     (search (rules, arith)) refl refl
 
+-- no descriptor stands behind a link
 pub late_descriptor : IsWrongTranscript (with_line_5 (codes "fd 0 0 ip 0")) 5 cause.Form
 unfolding digits
 late_descriptor = misplaced_at_5 (codes "fd 0 0 ip 0") (search rules) descriptor (search (rules, arith)) refl refl
 
+-- a transcript without the line `end` is cut at the line behind its last
 pub no_end : IsWrongTranscript (codes "transcript 1\nconfig\nnext 1 1\n") 4 cause.Cut
 unfolding digits
 no_end =
@@ -235,6 +244,7 @@ behind_hung = draft stage.View one_hung
 abbrev full_place : TranscriptLine
 full_place = line.Full (record { driver = codes "eth"; minor = 0; side = side.Read })
 
+-- no full place stands behind a hung-up stream
 pub late_full_place : IsWrongTranscript
     (codes "transcript 2\nconfig\nnext 1 1\nhung eth 0\nfull eth 0 r\nend\n") 5 cause.Form
 unfolding digits
@@ -277,6 +287,7 @@ process_wrong e fits is =
     ∙ digits_value-decimal own e.process (omega (arith, fits.process)) in
     omega (arith, value, fits.process)
 
+-- the processes of entries go up to 63
 pub process_64 : IsWrongTranscript (with_line_3 (codes "64 clone ip = fd 0 0")) 3 cause.Form
 process_64 =
     wrong_at_3 (codes "64 clone ip = fd 0 0") (search rules)
@@ -304,6 +315,7 @@ half_reply c r e = by_kind c (verb_first c verb.Clone _ _ e) e where
   by_kind (command.OpenClone d) v e = no_reply r (cc e)
   by_kind c v e = absurd (cc v)
 
+-- `EINVAL` alone is no reply: a second word tells its cause
 pub half_a_fault : IsWrongTranscript (with_line_3 (codes "0 clone ip = EINVAL")) 3 cause.Form
 half_a_fault =
     wrong_at_3 (codes "0 clone ip = EINVAL") (search rules)
@@ -317,6 +329,7 @@ no_told : (x : AnyEntry) → FitsEntry x → is_of_hangup x ≡ true → (ws : L
 no_told x fits hangup ws is e told same =
     no_told_entry V1 (line_of ws) x fits (ap line_of is) (λ can. absurd (cc (can, hangup))) e told (ap line_of same)
 
+-- version 1 has no entry of a hangup
 pub told_hangup : IsWrongTranscript (with_line_3 (codes "0 hangup ip 0 = done")) 3 cause.Form
 unfolding digits
 told_hangup =
@@ -326,6 +339,7 @@ told_hangup =
     (no_told (record { process = 0; command = command.Hangup (codes "ip") 0; reply = reply.Done [] })
     (search (rules, arith)) refl _ refl))
 
+-- version 1 has no reply `eof`
 pub end_of_file : IsWrongTranscript (with_line_3 (codes "0 read 0 = eof")) 3 cause.Form
 unfolding digits
 end_of_file =
@@ -335,6 +349,7 @@ end_of_file =
     (no_told (record { process = 0; command = command.Read 0; reply = reply.Eof })
     (search (rules, arith)) refl _ refl))
 
+-- version 1 has no refusal for a hangup
 pub refusal : IsWrongTranscript (with_line_3 (codes "0 read 0 = ENXIO hangup")) 3 cause.Form
 unfolding digits
 refusal =
@@ -344,6 +359,7 @@ refusal =
     (no_told (record { process = 0; command = command.Read 0; reply = reply.Fault fault.HungUp })
     (search (rules, arith)) refl _ refl))
 
+-- version 1 has no hung-up stream in a view
 pub hung_up_stream : IsWrongTranscript (with_line_5 (codes "hung eth 0")) 5 cause.Form
 hung_up_stream =
     wrong_at_5 (codes "hung eth 0") (search rules)

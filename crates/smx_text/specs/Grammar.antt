@@ -2,9 +2,9 @@
 use Rattle.std.specs.Prelude.{◌≡◌, ◌≢◌, ℕ, ◌+◌, List, [], ◌∷◌, ◌++◌, length, map, ◌⊎◌, Result, Ok, Err, IfErr}
 use Rattle.smx_types.specs.declared.version.Version.{Version}
 use Rattle.smx_words.specs.Words.{LINE_FEED, IsFree, line_of, text_of}
-use Rattle.smx_text.specs.declared.fault.Cause.{Cause}
-use Rattle.smx_text.specs.declared.fault.Cause.TheVariants as cause
-use Rattle.smx_text.specs.declared.fault.TextFault.{TextFault}
+use Rattle.smx_text.specs.declared.text_fault.Cause.{Cause}
+use Rattle.smx_text.specs.declared.text_fault.Cause.TheVariants as cause
+use Rattle.smx_text.specs.declared.text_fault.TextFault.{TextFault}
 
 -- How values of V are spelled by lines of K: a header, the lines of the value, and a last line.
 pub record Grammar (V K : Type 0) : Type 1 where

@@ -3,7 +3,7 @@ use Rattle.std.specs.Prelude.{ℕ, zero, suc, List, [], ◌++◌, codes, Err}
 use Rattle.std.specs.Fmt.{decimal}
 use Rattle.smx_types.specs.ProgramLists.{ProgramLists}
 use Rattle.smx_types.specs.declared.transcript.Transcript.{Transcript}
-use Rattle.smx_text.specs.declared.fault.Cause.{Cause}
+use Rattle.smx_text.specs.declared.text_fault.Cause.{Cause}
 use Rattle.smx_text.specs.Grammar.{ReadsAny}
 use Rattle.smx_text.specs.ProgramsText.{SpellsPrograms, programs_grammar}
 use Rattle.smx_text.specs.TranscriptText.{SpellsTranscript, transcript_grammar}

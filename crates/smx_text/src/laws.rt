@@ -2,8 +2,8 @@
 
 ghost use Rattle.std.specs.Prelude.{◌≡◌, ◌≢◌, ◌<◌, List, ℕ, Result, Ok, MatchResult, IfErr};
 ghost use Rattle.smx_types.specs.ProgramLists.{ProgramLists};
-ghost use Rattle.smx_text.specs.declared.fault.TextFault.{TextFault};
-ghost use Rattle.smx_text.specs.declared.fault.Cause.TheVariants.{NoMemory};
+ghost use Rattle.smx_text.specs.declared.text_fault.TextFault.{TextFault};
+ghost use Rattle.smx_text.specs.declared.text_fault.Cause.TheVariants.{NoMemory};
 ghost use Rattle.smx_types.specs.declared.transcript.Transcript.{Transcript};
 ghost use Rattle.smx_types.specs.declared.version.Version.{Version};
 ghost use Rattle.smx_text.specs.TranscriptText.{transcript_grammar, transcript_text};

@@ -1,16 +1,15 @@
 //! The texts of a STREAMS multiplexer: what each value's one spelling is, its reader and its writer.
 #![tactic(auto)]
 
-mod fault;
 pub mod laws;
 mod programs;
 mod reading;
+mod text_fault;
 mod transcript;
 mod transcript_writer;
 pub mod worked_texts;
 mod write;
 
-pub use fault::{Cause, TextFault};
 pub use programs::read_programs;
 pub use smx_types::{
     Binding, BindingLine, BindingLines, Bytes, Command, Commands, ConfigView, Copied, Descriptor,
@@ -21,6 +20,7 @@ pub use smx_types::{
     Place, Process, ProgramList, Programs, Reply, Route, RouteLine, RouteLines, Serials, Side,
     Sides, SpecFault, StreamId, Transcript, Version, Which,
 };
+pub use text_fault::{Cause, TextFault};
 pub use transcript::read_transcript;
 pub use transcript_writer::TranscriptWriter;
 pub use write::{write_programs, write_transcript, write_transcript_into};

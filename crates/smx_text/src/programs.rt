@@ -5,8 +5,8 @@ ghost use Rattle.smx_text.specs.ProgramsText.{programs_grammar};
 
 mod draft;
 
-use crate::fault::TextFault;
 use crate::reading::read;
+use crate::text_fault::TextFault;
 use draft::ProgramsDraft;
 use smx_types::Programs;
 use std::alloc::Global;

@@ -8,7 +8,7 @@ ghost use Rattle.smx_text.specs.Grammar.{line_text};
 ghost use Rattle.smx_words.specs.Words.{LINE_FEED};
 ghost use Rattle.smx_text.specs.Reading.{Refuses, EndsAs, EndsText};
 
-use crate::fault::{Cause, TextFault};
+use crate::text_fault::{Cause, TextFault};
 use memchr::memchr;
 use smx_types::Version;
 use std::alloc::Global;

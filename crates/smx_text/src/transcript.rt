@@ -5,8 +5,8 @@ ghost use Rattle.smx_text.specs.TranscriptText.{transcript_grammar};
 
 mod draft;
 
-use crate::fault::TextFault;
 use crate::reading::read;
+use crate::text_fault::TextFault;
 use draft::TranscriptDraft;
 use smx_types::Transcript;
 use std::alloc::Global;

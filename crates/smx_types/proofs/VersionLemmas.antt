@@ -23,12 +23,16 @@ neither_right true b e = cc
 neither_right false b e = e
 
 -- they have no hangup
-pub no_hangup : (p : ProgramLists) → AreWithinLimits p → p.version ≡ V1 → list_any (list_any is_hangup) p.programs ≡ false
-no_hangup p h e = neither_right (are_more_drivers p.drivers) (list_any (list_any is_hangup) p.programs) (not_needed _ (h.version e))
+pub no_hangup : (p : ProgramLists) → AreWithinLimits p → p.version ≡ V1
+    → list_any (list_any is_hangup) p.programs ≡ false
+no_hangup p h e =
+    neither_right (are_more_drivers p.drivers) (list_any (list_any is_hangup) p.programs) (not_needed _ (h.version e))
 
 -- they have no more drivers than it has
 few : (drivers : List DriverSpec) → are_more_drivers drivers ≡ false → length drivers ≤ MAX_DRIVERS_OF_VERSION_1
 few drivers e = grind (arith, nat_tests, e)
 
+-- programs of version 1 within their limits have at most as many drivers as that version can tell
 pub few_drivers : (p : ProgramLists) → AreWithinLimits p → p.version ≡ V1 → length p.drivers ≤ MAX_DRIVERS_OF_VERSION_1
-few_drivers p h e = few p.drivers (neither_left (are_more_drivers p.drivers) (list_any (list_any is_hangup) p.programs) (not_needed _ (h.version e)))
+few_drivers p h e = few p.drivers
+    (neither_left (are_more_drivers p.drivers) (list_any (list_any is_hangup) p.programs) (not_needed _ (h.version e)))

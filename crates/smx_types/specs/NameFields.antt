@@ -15,5 +15,7 @@ abbrev inside : ℕ → List ℕ → Inside
 inside len bytes = record { len = len; bytes = bytes }
 
 -- so the text gives the fields back
-pub padded_view : (n : Inside) → IsPadded n → record { len = length (take n.len n.bytes); bytes = padded (take n.len n.bytes) } ≡ n
-padded_view n h = ap (λ (len : ℕ). inside len (padded (take n.len n.bytes))) (sym h.len) ∙ ap (inside n.len) (sym h.padding)
+pub padded_view : (n : Inside) → IsPadded n
+    → record { len = length (take n.len n.bytes); bytes = padded (take n.len n.bytes) } ≡ n
+padded_view n h =
+    ap (λ (len : ℕ). inside len (padded (take n.len n.bytes))) (sym h.len) ∙ ap (inside n.len) (sym h.padding)

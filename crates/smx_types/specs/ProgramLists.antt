@@ -16,7 +16,8 @@ pub record ProgramLists : Type 0 where
 
 -- these two as one value, in the first version that can tell them
 abbrev pub program_lists : List DriverSpec → List (List Command) → ProgramLists
-program_lists drivers programs = record { version = least_of_programs drivers programs; drivers = drivers; programs = programs }
+program_lists drivers programs =
+    record { version = least_of_programs drivers programs; drivers = drivers; programs = programs }
 
 -- the same in version 2
 abbrev pub raised : ProgramLists → ProgramLists

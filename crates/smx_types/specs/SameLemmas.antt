@@ -87,8 +87,12 @@ pub programs_tell : Tells of_programs.ghosts.eq
 programs_tell a b =
     let both = Decides-and _ _ (drivers_tell a.drivers b.drivers) (program_lists_tell a.programs b.programs) in
     let all = Decides-and _ _ (version_tells a.version b.version) both in (
-      λ h. let k = all.0 h in ap (λ v. lists_of v a.drivers a.programs) k.0 ∙ (ap (λ ds. lists_of b.version ds a.programs) k.1.0 ∙ ap (lists_of b.version b.drivers) k.1.1),
-      λ h. all.1 (ap (λ (p : ProgramLists). p.version) h, (ap (λ (p : ProgramLists). p.drivers) h, ap (λ (p : ProgramLists). p.programs) h)),
+      λ h. let k = all.0 h in ap (λ v. lists_of v a.drivers a.programs) k.0
+          ∙ (ap (λ ds. lists_of b.version ds a.programs) k.1.0 ∙ ap (lists_of b.version b.drivers) k.1.1),
+      λ h. all.1 (
+        ap (λ (p : ProgramLists). p.version) h,
+        (ap (λ (p : ProgramLists). p.drivers) h, ap (λ (p : ProgramLists). p.programs) h),
+      ),
     )
 
 descriptors_tell : Tells (pointwise of_descriptor_line.ghosts.eq)
@@ -113,4 +117,5 @@ hungs_tell : Tells (pointwise of_hung_line.ghosts.eq)
 hungs_tell = pointwise_decides (λ a b. search rules)
 
 pub view_tells : Tells of_view.ghosts.eq
-view_tells a b = search (rules, descriptors_tell, links_tell, bindings_tell, routes_tell, messages_tell, fulls_tell, hungs_tell)
+view_tells a b =
+    search (rules, descriptors_tell, links_tell, bindings_tell, routes_tell, messages_tell, fulls_tell, hungs_tell)

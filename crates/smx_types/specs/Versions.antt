@@ -86,7 +86,8 @@ are_more_drivers drivers = nat_lt MAX_DRIVERS_OF_VERSION_1 (length drivers)
 
 -- the first version that can tell drivers and programs
 abbrev pub least_of_programs : List DriverSpec → List (List Command) → Version
-least_of_programs drivers programs = version_2_where (are_more_drivers drivers || list_any (list_any is_hangup) programs)
+least_of_programs drivers programs =
+    version_2_where (are_more_drivers drivers || list_any (list_any is_hangup) programs)
 
 -- the first version that can tell a transcript
 abbrev pub least_of_transcript : Transcript → Version

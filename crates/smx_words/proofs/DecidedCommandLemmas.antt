@@ -142,8 +142,10 @@ entry_decided = via (first process (joined command_decided (after (codes "=") re
 
 -- ---- so each line has a reading
 
+-- each line is that of a command, or of none
 pub command_reading : (line : List ℕ) → (o : Option Command) × IsReadAs FitsCommand command_words line o
 command_reading = reading command_decided command_spelled
 
+-- each line is that of an entry, or of none
 pub entry_reading : (line : List ℕ) → (o : Option Entry) × IsReadAs FitsEntry entry_words line o
 entry_reading = reading entry_decided entry_spelled

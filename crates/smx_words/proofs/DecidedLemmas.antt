@@ -21,6 +21,7 @@ Answer {X} {S} Fits spelling s = Has Fits spelling s ⊎ ((x : X) → Fits x →
 pub record IsDecided {X S : Type 0} (Fits : X → Type 0) (spelling : X → S) : Type 0 where
   pub answer : (s : S) → Answer Fits spelling s
 
+-- two words are the same or they differ
 pub same_or_not : (w v : List ℕ) → (w ≡ v) ⊎ (w ≢ v)
 same_or_not w v = by_test (bytes_eq w v) refl where
   by_test : (b : Bool) → bytes_eq w v ≡ b → (w ≡ v) ⊎ (w ≢ v)
@@ -29,6 +30,7 @@ same_or_not w v = by_test (bytes_eq w v) refl where
     wrong : true ≡ false → ⊥
     wrong bad = absurd (cc bad)
 
+-- two lists of words are the same or they differ
 pub same_words_or_not : (ws vs : List (List ℕ)) → (ws ≡ vs) ⊎ (ws ≢ vs)
 same_words_or_not [] [] = inl refl
 same_words_or_not [] (v ∷ vs) = inr (λ e. absurd (cc e))

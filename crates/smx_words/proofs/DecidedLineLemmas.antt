@@ -116,32 +116,42 @@ full_decided = via (after (codes "full") (first name (first number (last stream_
 
 -- ---- so each line has a reading
 
+-- each line is that with which a process begins, or is none
 pub process_reading : (line : List ℕ) → (o : Option ℕ) × IsReadAs FitsNumber process_words line o
 process_reading = reading process_decided process_spelled
 
+-- each line is that of a next id and a next serial, or of none
 pub next_reading : (line : List ℕ) → (o : Option (ℕ × ℕ)) × IsReadAs FitsNext next_words line o
 next_reading = reading next_decided next_spelled
 
+-- each line is that of a driver, or of none
 pub driver_reading : (line : List ℕ) → (o : Option DriverSpec) × IsReadAs FitsDriver driver_words line o
 driver_reading = reading driver_decided driver_spelled
 
+-- each line is that of an open descriptor, or of none
 pub descriptor_reading : (line : List ℕ) → (o : Option DescriptorLine) × IsReadAs FitsDescriptor descriptor_words line o
 descriptor_reading = reading descriptor_decided descriptor_spelled
 
+-- each line is that of a link, or of none
 pub link_reading : (line : List ℕ) → (o : Option LinkLine) × IsReadAs FitsLink link_words line o
 link_reading = reading link_decided link_spelled
 
+-- each line is that of a binding, or of none
 pub bind_reading : (line : List ℕ) → (o : Option BindingLine) × IsReadAs FitsBinding bind_words line o
 bind_reading = reading bind_decided bind_spelled
 
+-- each line is that of a route, or of none
 pub route_reading : (line : List ℕ) → (o : Option RouteLine) × IsReadAs FitsRoute route_words line o
 route_reading = reading route_decided route_spelled
 
+-- each line is that of a queued message, or of none
 pub message_reading : (line : List ℕ) → (o : Option MessageLine) × IsReadAs FitsMessage message_words line o
 message_reading = reading message_decided message_spelled
 
+-- each line is that of a full place, or of none
 pub full_reading : (line : List ℕ) → (o : Option FullLine) × IsReadAs FitsFull full_words line o
 full_reading = reading full_decided full_spelled
 
+-- each line is that of a hung-up stream, or of none
 pub hung_reading : (line : List ℕ) → (o : Option HungLine) × IsReadAs FitsHung hung_words line o
 hung_reading = reading hung_decided hung_spelled

@@ -37,12 +37,15 @@ below limit le = record { answer = answer } where
         | inr large ↦ inr (λ n fits e. omega (arith, large, fits, value w n fits e))
       ]
 
+-- each word is that of a number of 32 bits, or of none
 pub number : IsDecided FitsNumber decimal
 number = below (2 ^ 32) (omega arith)
 
+-- each word is that of a process, or of none
 pub process : IsDecided FitsProcess decimal
 process = below _ (omega arith)
 
+-- each word is a driver's name, or is none
 pub name : IsDecided FitsName (λ (w : List ℕ). w)
 name = record { answer = λ w. by_test w (is_name w) refl } where
   by_test : (w : List ℕ) (t : Bool) → is_name w ≡ t → Answer FitsName (λ (w : List ℕ). w) w
@@ -76,6 +79,7 @@ bytes = record { answer = answer } where
 
 -- ---- words of few values
 
+-- each word is that of a driver's kind, or of none
 pub driver_kind : IsDecided FitsAlways kind_word
 driver_kind = record { answer = answer } where
   answer : (w : List ℕ) → Answer FitsAlways kind_word w
@@ -84,6 +88,7 @@ driver_kind = record { answer = answer } where
     | inr none ↦ inr (λ x fits. (elim x as (λ x. w ≢ kind_word x) [ kind.Leaf ↦ none.0 | kind.Mux ↦ none.1.0 ]))
   ]
 
+-- each word is that of a link's kind, or of none
 pub link_kind : IsDecided FitsAlways link_kind_word
 link_kind = record { answer = answer } where
   answer : (w : List ℕ) → Answer FitsAlways link_kind_word w
@@ -94,6 +99,7 @@ link_kind = record { answer = answer } where
         (elim x as (λ x. w ≢ link_kind_word x) [ link.Ordinary ↦ none.0 | link.Persistent ↦ none.1.0 ]))
   ]
 
+-- each word is that of a stream's side, or of none
 pub stream_side : IsDecided FitsAlways side_word
 stream_side = record { answer = answer } where
   answer : (w : List ℕ) → Answer FitsAlways side_word w
@@ -102,6 +108,7 @@ stream_side = record { answer = answer } where
     | inr none ↦ inr (λ x fits. (elim x as (λ x. w ≢ side_word x) [ side.Write ↦ none.0 | side.Read ↦ none.1.0 ]))
   ]
 
+-- each word is that of the sides of a flush, or of none
 pub flush_sides : IsDecided FitsAlways sides_word
 flush_sides = record { answer = answer } where
   answer : (w : List ℕ) → Answer FitsAlways sides_word w
@@ -112,6 +119,7 @@ flush_sides = record { answer = answer } where
         (elim x as (λ x. w ≢ sides_word x) [ sides.R ↦ none.0 | sides.W ↦ none.1.0 | sides.RW ↦ none.1.1.0 ]))
   ]
 
+-- each word is that of an id, or of all, or is none
 pub id_or_all : IsDecided FitsWhich which_word
 id_or_all = record { answer = answer } where
   neither : (w : List ℕ) → w ≢ codes "all" → ((n : ℕ) → FitsNumber n → w ≢ decimal n) → (x : Which)

@@ -67,6 +67,7 @@ line_append (w ∷ v ∷ ws) vs some more =
     ap (λ (x : List ℕ). w ++ SPACE ∷ x) (line_append (v ∷ ws) vs (omega arith) more)
     ∙ sym (append_assoc w (SPACE ∷ line_of (v ∷ ws)) (SPACE ∷ line_of vs))
 
+-- the line of an entry is the number of its process, a space, and its two sides
 pub entry_line : (e : Entry) → line_of (entry_words e) ≡ decimal e.process ++ SPACE ∷ sides_text e
 entry_line e =
     let command = command_words e.command in
@@ -78,6 +79,7 @@ entry_line e =
     ∙ ap (λ (x : List ℕ). decimal e.process ++ SPACE ∷ x)
     (all ∙ sym (append_assoc (line_of command) (codes " = ") (line_of reply)))
 
+-- no equals sign stands in the line of a command
 pub free_command : (c : Command) → FitsCommand c → IsFree EQUALS (line_of (command_words c))
 free_command c fits =
     line_free EQUALS (λ e. cc) (command_words c) (plain_words_free (command_words c) (command_plain c fits))

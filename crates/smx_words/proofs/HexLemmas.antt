@@ -36,9 +36,11 @@ digit_below (suc n) k h lt =
           rw same here
     ]
 
+-- the sixteen lower-case digits of the library are these
 pub digit_is : (k : ℕ) → k < 16 → slice_index lower_digits k ≡ digit k
 digit_is k lt = digit_below 16 k refl lt
 
+-- each of the sixteen digits passes the test of a digit, is from 48 to 102, and is no equals sign
 pub digit_range : (k : ℕ) → k < 16 → (47 < digit k) × (digit k < 103) × (digit k ≢ 61) × (is_digit (digit k) ≡ true)
 digit_range k lt = elim (cases_lt k 10) [
   | inl small ↦ let is : digit k ≡ 48 + k = grind (arith, nat_tests) in
@@ -52,17 +54,20 @@ pub of_number : (d : ℕ) → 48 ≤ d → d ≤ 57 → slice_index lower_digits
 of_number d low high = let small : ltb (d - 48) 10 ≡ true = grind (arith, nat_tests) in
     digit_is (d - 48) (omega arith) ∙ (rw small (omega arith))
 
+-- a letter from `a` to `f` is the digit of its value
 pub of_letter : (d : ℕ) → 97 ≤ d → d ≤ 102 → slice_index lower_digits (d - 97 + 10) ≡ d
 of_letter d low high = let large : ltb (d - 97 + 10) 10 ≡ false = grind (arith, nat_tests) in
     digit_is (d - 97 + 10) (omega arith) ∙ (rw large (omega arith))
 
 -- ---- bytes and their digits
 
+-- bytes that can be spelled are bytes in the words of the library
 pub are_bytes : (bs : List ℕ) → FitsBytes bs → IsBytes bs
 are_bytes [] h i = omega arith
 are_bytes (b ∷ bs) h zero = h.0
 are_bytes (b ∷ bs) h (suc i) = are_bytes bs h.1 i
 
+-- two answers of decoding that are the same have the same value
 pub ok_same : {A : Type 0} (x y : A) → ◌≡◌ {A = Result A FromHexError} (Ok x) (Ok y) → x ≡ y
 ok_same x y e = cc e
 
@@ -71,10 +76,12 @@ pub long : (b : ℕ) (bs : List ℕ) → 1 < length (encode_lower (b ∷ bs))
 unfolding encode_with
 long b bs = omega arith
 
+-- a dash is the word of no bytes, and of no others
 pub dash : (bs : List ℕ) → hex_word bs ≡ codes "-" → bs ≡ []
 dash [] e = refl
 dash (b ∷ bs) e = absurd (omega (arith, long b bs, ap (length {A = ℕ}) e))
 
+-- what bytes are encoded as is digits alone
 pub encoded_digits : (bs : List ℕ) → FitsBytes bs → list_all is_digit (encode_lower bs) ≡ true
 unfolding encode_with
 encoded_digits [] h = refl
@@ -116,6 +123,7 @@ by_digits w (b ∷ bs) other fits e = (
 
 -- ---- one byte more
 
+-- of a word that is digits alone, the byte at each index is a digit
 pub all_at : (w : List ℕ) (i : ℕ) → i < length w → list_all is_digit w ≡ true → is_digit (slice_index w i) ≡ true
 all_at [] i lt h = absurd (omega arith)
 all_at (b ∷ w) zero lt h = (and_parts (is_digit b) (list_all is_digit w) h).0
@@ -129,6 +137,7 @@ two_more w i lt =
     ∙ ap (λ (x : List ℕ). x ++ get_or w (2 * i + 1) 0 ∷ []) (take_more w (2 * i) 0 (omega arith))
     ∙ append_assoc (take (2 * i) w) (get_or w (2 * i) 0 ∷ []) (get_or w (2 * i + 1) 0 ∷ [])
 
+-- a byte set to what the next two digits spell encodes as them, behind the bytes before
 pub one_byte_more : (w bs : List ℕ) (i high low : ℕ) → length w ≡ 2 * length bs → i < length bs → high < 16 → low < 16
     → slice_index lower_digits high ≡ slice_index w (2 * i) → slice_index lower_digits low ≡ slice_index w (2 * i + 1)
     → take (2 * i) w ≡ encode_lower (take i bs)
@@ -193,6 +202,7 @@ spell_some w some even h =
 
 -- ---- what the code's tests say
 
+-- the greatest of three values is below 16 exactly where each of them is
 pub worst_is : (worst high low first last : ℕ) → first ≡ max worst high → last ≡ max first low
     → (last < 16 → (worst < 16) × (high < 16) × (low < 16)) × (worst < 16 → high < 16 → low < 16 → last < 16)
 worst_is worst high low first last a b =
@@ -216,6 +226,7 @@ pub no_digits : (w : List ℕ) → length w % 2 ≢ 1 → list_all is_digit w �
 no_digits w even bad bs fits e = let by = by_digits w bs (no_dash w even) fits e in
     let both : true ≡ false = sym by.1 ∙ bad in absurd (cc both)
 
+-- a word of even length with a byte that has no value below 16 spells no bytes
 pub too_bad : (w : List ℕ) (r : ℕ) → length w % 2 ≢ 1 → (list_all is_digit w ≡ true → r < 16) → 16 ≤ r
     → (bs : List ℕ) → FitsBytes bs → w ≢ hex_word bs
 too_bad w r even good bad bs fits e = let by = by_digits w bs (no_dash w even) fits e in omega (arith, good by.1, bad)
@@ -227,13 +238,16 @@ set_are w new old got n some kept long fits e =
     let same : got ≡ new = kept ∙ ap (λ (k : ℕ). take k (new ++ old)) (sym long) ∙ take-append_seam new old in
     rw same (fits, some_digits w new some e)
 
+-- a word whose length was found not to be 0 has a byte
 pub not_empty : (w : List ℕ) (r : Bool) → r ≡ eqb (length w) 0 → r ≡ false → 0 < length w
 not_empty w r test differs = let e = sym test ∙ differs in grind (arith, nat_tests)
 
+-- what is below 256 at each index is bytes that can be spelled
 pub fits_all : (bs : List ℕ) → ((i : ℕ) → slice_index bs i < 256) → FitsBytes bs
 fits_all [] h = tt
 fits_all (b ∷ bs) h = (h 0, fits_all bs (λ i. h (suc i)))
 
+-- bytes of which one is set to another byte can be spelled as before
 pub set_fits : (bs : List ℕ) (i v : ℕ) → v < 256 → FitsBytes bs → FitsBytes (set bs i v)
 set_fits [] i v small h = tt
 set_fits (b ∷ bs) zero v small h = (small, h.1)

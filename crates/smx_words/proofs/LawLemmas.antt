@@ -63,12 +63,14 @@ side_is_word : (s : Side) → IsWord (side_word s)
 side_is_word side.Write = search rules
 side_is_word side.Read = search rules
 
+-- a command is spelled by words, one or more
 pub command_spelled : (c : Command) → FitsCommand c → AreWords (command_words c)
 command_spelled c fits = (plain_words (command_words c) (command_plain c fits), some_command c)
 
 reply_spelled : (r : Reply) → FitsReply r → AreWords (reply_words r)
 reply_spelled r fits = (plain_words (reply_words r) (reply_plain r fits), some_reply r)
 
+-- a driver is spelled by words, one or more
 pub driver_spelled : (d : DriverSpec) → FitsDriver d → AreWords (driver_words d)
 driver_spelled d fits = (
   (
@@ -87,9 +89,11 @@ driver_spelled d fits = (
   omega arith,
 )
 
+-- the start of a process is spelled by words, one or more
 pub process_spelled : (n : ℕ) → FitsNumber n → AreWords (process_words n)
 process_spelled n fits = ((search rules, (number_word n fits, tt)), omega arith)
 
+-- the next id and the next serial are spelled by words, one or more
 pub next_spelled : (p : ℕ × ℕ) → FitsNext p → AreWords (next_words p)
 next_spelled p fits = ((search rules, (number_word p.0 fits.0, (number_word p.1 fits.1, tt))), omega arith)
 
@@ -98,6 +102,7 @@ words_append : (ws vs : List (List ℕ)) → AllByRecursion IsWord ws → AllByR
 words_append [] vs h k = k
 words_append (w ∷ ws) vs h k = (h.0, words_append ws vs h.1 k)
 
+-- an entry is spelled by words, one or more
 pub entry_spelled : (e : Entry) → FitsEntry e → AreWords (entry_words e)
 entry_spelled e fits =
     let c = command_spelled e.command fits.command in
@@ -110,6 +115,7 @@ entry_spelled e fits =
       omega arith,
     )
 
+-- an open descriptor is spelled by words, one or more
 pub descriptor_spelled : (d : DescriptorLine) → FitsDescriptor d → AreWords (descriptor_words d)
 descriptor_spelled d fits = (
   (
@@ -122,6 +128,7 @@ descriptor_spelled d fits = (
   omega arith,
 )
 
+-- a link is spelled by words, one or more
 pub link_spelled : (l : LinkLine) → FitsLink l → AreWords (link_words l)
 link_spelled l fits = (
   (
@@ -143,6 +150,7 @@ link_spelled l fits = (
   omega arith,
 )
 
+-- a binding is spelled by words, one or more
 pub bind_spelled : (b : BindingLine) → FitsBinding b → AreWords (bind_words b)
 bind_spelled b fits = (
   (
@@ -152,6 +160,7 @@ bind_spelled b fits = (
   omega arith,
 )
 
+-- a route is spelled by words, one or more
 pub route_spelled : (r : RouteLine) → FitsRoute r → AreWords (route_words r)
 route_spelled r fits = (
   (
@@ -161,6 +170,7 @@ route_spelled r fits = (
   omega arith,
 )
 
+-- a queued message is spelled by words, one or more
 pub message_spelled : (m : MessageLine) → FitsMessage m → AreWords (message_words m)
 message_spelled m fits = (
   (
@@ -182,12 +192,14 @@ message_spelled m fits = (
   omega arith,
 )
 
+-- a hung-up stream is spelled by words, one or more
 pub hung_spelled : (h : HungLine) → FitsHung h → AreWords (hung_words h)
 hung_spelled h fits = (
   (search rules, (name_word h.driver fits.driver, (number_word h.minor fits.minor, tt))),
   omega arith,
 )
 
+-- a full place is spelled by words, one or more
 pub full_spelled : (f : FullLine) → FitsFull f → AreWords (full_words f)
 full_spelled f fits = (
   (
@@ -199,23 +211,27 @@ full_spelled f fits = (
 
 -- ---- lines tell values apart
 
+-- no two commands have one line
 pub one_command : (c d : Command) → FitsCommand c → FitsCommand d
     → line_of (command_words c) ≡ line_of (command_words d) → c ≡ d
 one_command c d h k e =
     same_command c d h k (same_words (command_words c) (command_words d) (command_spelled c h).0
     (command_spelled d k).0 e)
 
+-- no two replies have one line
 pub one_reply : (r s : Reply) → FitsReply r → FitsReply s → line_of (reply_words r) ≡ line_of (reply_words s) → r ≡ s
 one_reply r s h k e =
     same_reply r s h k (same_words (reply_words r) (reply_words s) (reply_spelled r h).0
     (reply_spelled s k).0 e)
 
+-- no two processes begin with one line
 pub one_process : (n m : ℕ) → FitsNumber n → FitsNumber m
     → line_of (process_words n) ≡ line_of (process_words m) → n ≡ m
 one_process n m h k e = let words =
     same_words (process_words n) (process_words m) (process_spelled n h).0 (process_spelled m k).0 e in
     same_number n m h k (cc words)
 
+-- no two entries have one line
 pub one_entry : (e f : Entry) → FitsEntry e → FitsEntry f → line_of (entry_words e) ≡ line_of (entry_words f) → e ≡ f
 one_entry e f h k is =
     let both =
@@ -231,6 +247,7 @@ one_entry e f h k is =
     (record { process = f.process; command = f.command; reply = f.reply }) = cc (process, c, r) in
     whole
 
+-- a line of a next id and a next serial is that of no others
 pub one_next : (p p' : ℕ × ℕ) → FitsNext p → FitsNext p' → line_of (next_words p) ≡ line_of (next_words p') → p ≡ p'
 one_next p p' h k e =
     let all = same_words (next_words p) (next_words p') (next_spelled p h).0 (next_spelled p' k).0 e in
@@ -241,6 +258,7 @@ one_next p p' h k e =
     let whole : ◌≡◌ {A = ℕ × ℕ} (p.0, p.1) (p'.0, p'.1) = cc (e_0, e_1) in
     whole
 
+-- no two drivers have one line
 pub one_driver : (d d' : DriverSpec) → FitsDriver d → FitsDriver d'
     → line_of (driver_words d) ≡ line_of (driver_words d') → d ≡ d'
 one_driver d d' h k e =
@@ -274,6 +292,7 @@ one_driver d d' h k e =
     }) = cc (e_name, e_kind, e_minors, e_high, e_low, e_max) in
     whole
 
+-- no two open descriptors have one line
 pub one_descriptor : (d d' : DescriptorLine) → FitsDescriptor d → FitsDescriptor d'
     → line_of (descriptor_words d) ≡ line_of (descriptor_words d') → d ≡ d'
 one_descriptor d d' h k e =
@@ -301,6 +320,7 @@ one_descriptor d d' h k e =
     }) = cc (e_process, e_fd, e_driver, e_minor) in
     whole
 
+-- no two links have one line
 pub one_link : (l l' : LinkLine) → FitsLink l → FitsLink l' → line_of (link_words l) ≡ line_of (link_words l') → l ≡ l'
 one_link l l' h k e =
     let all = same_words (link_words l) (link_words l') (link_spelled l h).0 (link_spelled l' k).0 e in
@@ -333,6 +353,7 @@ one_link l l' h k e =
     (e_id, e_ctl_driver, e_ctl_minor, e_lower_driver, e_lower_minor, e_kind) in
     whole
 
+-- no two bindings have one line
 pub one_bind : (b b' : BindingLine) → FitsBinding b → FitsBinding b'
     → line_of (bind_words b) ≡ line_of (bind_words b') → b ≡ b'
 one_bind b b' h k e =
@@ -346,6 +367,7 @@ one_bind b b' h k e =
     (record { driver = b'.driver; addr = b'.addr; minor = b'.minor }) = cc (e_driver, e_addr, e_minor) in
     whole
 
+-- no two routes have one line
 pub one_route : (r r' : RouteLine) → FitsRoute r → FitsRoute r'
     → line_of (route_words r) ≡ line_of (route_words r') → r ≡ r'
 one_route r r' h k e =
@@ -359,6 +381,7 @@ one_route r r' h k e =
     (record { driver = r'.driver; addr = r'.addr; id = r'.id }) = cc (e_driver, e_addr, e_id) in
     whole
 
+-- no two full places have one line
 pub one_full : (f f' : FullLine) → FitsFull f → FitsFull f' → line_of (full_words f) ≡ line_of (full_words f') → f ≡ f'
 one_full f f' h k e =
     let all = same_words (full_words f) (full_words f') (full_spelled f h).0 (full_spelled f' k).0 e in
@@ -371,6 +394,7 @@ one_full f f' h k e =
     (record { driver = f'.driver; minor = f'.minor; side = f'.side }) = cc (e_driver, e_minor, e_side) in
     whole
 
+-- no two hung-up streams have one line
 pub one_hung : (s t : HungLine) → FitsHung s → FitsHung t → line_of (hung_words s) ≡ line_of (hung_words t) → s ≡ t
 one_hung s t h k e =
     let all = same_words (hung_words s) (hung_words t) (hung_spelled s h).0 (hung_spelled t k).0 e in
@@ -381,6 +405,7 @@ one_hung s t h k e =
     (record { driver = t.driver; minor = t.minor }) = cc (e_driver, e_minor) in
     whole
 
+-- no two queued messages have one line
 pub one_message : (m m' : MessageLine) → FitsMessage m → FitsMessage m'
     → line_of (message_words m) ≡ line_of (message_words m') → m ≡ m'
 one_message m m' h k e =

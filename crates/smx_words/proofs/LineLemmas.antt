@@ -15,11 +15,13 @@ pub seen_free : (byte : ℕ) → byte < 0x21 → (w : List ℕ) → AllByRecursi
 seen_free byte low [] h = tt
 seen_free byte low (b ∷ w) h = (λ e. omega (arith, low, h.0.0, e), seen_free byte low w h.1)
 
+-- a byte below those that can be seen stands in none of some words
 pub words_free : (byte : ℕ) → byte < 0x21 → (ws : List (List ℕ)) → AllByRecursion IsWord ws
     → AllByRecursion (IsFree byte) ws
 words_free byte low [] h = tt
 words_free byte low (w ∷ ws) h = (seen_free byte low w h.0.1, words_free byte low ws h.1)
 
+-- a byte that stands in neither of two lists stands nowhere in both joined
 pub free_append : (byte : ℕ) (xs ys : List ℕ) → IsFree byte xs → IsFree byte ys → IsFree byte (xs ++ ys)
 free_append byte [] ys h k = k
 free_append byte (x ∷ xs) ys h k = (h.0, free_append byte xs ys h.1 k)

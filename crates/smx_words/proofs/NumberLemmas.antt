@@ -20,9 +20,11 @@ use Rattle.smx_words.specs.Spellable.{FitsNumber}
 use Rattle.smx_words.specs.Words.{SPACE, IsFree}
 use Rattle.smx_words.proofs.CutLemmas.{at_seam, apart, is_cut}
 
+-- digits and their value are numerals, as the laws of `decimal` need them
 pub own : IsNumeralModel (λ ds. all_ascii_digits ds ≡ true) (digits_value 10)
 own = numerals_by_value _ tells_all_ascii_digits
 
+-- the word of a number is digits alone
 pub decimal_digits : (n : ℕ) → FitsNumber n → all_ascii_digits (decimal n) ≡ true
 decimal_digits n fits = digits_decimal own n (omega arith)
 
@@ -35,10 +37,12 @@ one_more (b ∷ w) zero lt h k = grind (arith, nat_tests)
 one_more (b ∷ w) (suc i) lt h k = let more = one_more w i (omega arith) (grind (arith, nat_tests)) k in
     grind (arith, nat_tests)
 
+-- where the first bytes of a word are digits, and the next one is, one more of its first bytes are
 pub all_more : (w : List ℕ) (i : ℕ) → i < length w → all_ascii_digits (take i w) ≡ true
     → is_ascii_digit (get_or w i 0) ≡ true → all_ascii_digits (take (i + 1) w) ≡ true
 all_more w i lt h k = rw add-one (one_more w i lt h k)
 
+-- one more digit makes a number ten times what it was, and adds the digit
 pub value_more : (w : List ℕ) (i n : ℕ) → i < length w → is_ascii_digit (get_or w i 0) ≡ true
     → n ≡ digits_value 10 (take i w) → n * 10 + (get_or w i 0 - 48) ≡ digits_value 10 (take (i + 1) w)
 value_more w i n lt k is = let more = digits_value_more 10 w i lt in grind (arith, nat_tests)
@@ -74,6 +78,7 @@ same_digits v w a b h k no_a no_b e =
     let g = digits_front w v b a k no_a (sym e) in
     nothing_more v w f.0 f.1 (omega (arith, ap (length {A = ℕ}) g.1 ∙ length-append w g.0))
 
+-- bytes from an index on begin with no digit where none stands at that index
 pub ends : (w : List ℕ) (i : ℕ) → (i < length w → is_ascii_digit (get_or w i 0) ≡ false) → NoDigitFirst (drop i w)
 ends w i clear = elim (cases_lt i (length w)) [
   | inl lt ↦ rw (drop-cons w i 0 lt) (clear lt)
@@ -106,6 +111,7 @@ good_start n h =
           rw (zero_is, one) (omega arith, λ e. refl)
     ]
 
+-- where bytes begin with the word of a number and no digit behind it, their leading digits are that word
 pub digits_are : (w : List ℕ) (i : ℕ) → all_ascii_digits (take i w) ≡ true → NoDigitFirst (drop i w)
     → (n : ℕ) (after : List ℕ) → FitsNumber n → NoDigitFirst after → w ≡ decimal n ++ after
     → take i w ≡ decimal n
@@ -160,6 +166,7 @@ all_free (b ∷ w) h = (λ e. space_is_none b w e h, all_free w (grind (arith, n
   space_is_none : (b : ℕ) (w : List ℕ) → b ≡ 32 → all_ascii_digits (b ∷ w) ≡ true → ⊥
   space_is_none b w e h = grind (arith, nat_tests)
 
+-- no space stands in the word of a number
 pub number_free : (n : ℕ) → FitsNumber n → IsFree SPACE (decimal n)
 number_free n fits = all_free (decimal n) (decimal_digits n fits)
 

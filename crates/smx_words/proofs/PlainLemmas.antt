@@ -42,6 +42,7 @@ digits_plain (b ∷ w) h = (
   no_sign : (b : ℕ) (w : List ℕ) → b ≡ 61 → all_ascii_digits (b ∷ w) ≡ true → ⊥
   no_sign b w e h = grind (arith, nat_tests)
 
+-- the word of a number is bytes that can be seen, none an equals sign
 pub number_plain : (n : ℕ) → FitsNumber n → IsPlain (decimal n)
 number_plain n fits = (decimal_nonempty n (omega arith), digits_plain (decimal n) (decimal_digits n fits))
 
@@ -59,14 +60,17 @@ and_right true true c h = h
 and_right true false c h = absurd cc
 and_right false b c h = absurd cc
 
+-- a driver's name is bytes that can be seen, none an equals sign
 pub name_plain : (w : List ℕ) → FitsName w → IsPlain w
 name_plain [] h = absurd (cc h)
 name_plain (b ∷ w) h = (omega arith, name_bytes_plain (b ∷ w) (and_right _ _ _ h))
 
+-- the word of an id, or of all, is bytes that can be seen, none an equals sign
 pub which_plain : (x : Which) → FitsWhich x → IsPlain (which_word x)
 which_plain (which.Id id) fits = number_plain id fits
 which_plain which.All fits = search rules
 
+-- the word for the sides of a flush is bytes that can be seen, none an equals sign
 pub sides_plain : (s : Sides) → IsPlain (sides_word s)
 sides_plain sides.R = search rules
 sides_plain sides.W = search rules
@@ -87,12 +91,14 @@ encoded_plain (b ∷ bs) h =
       (digit_plain (b % 16) low, encoded_plain bs h.1),
     )
 
+-- the word of bytes is bytes that can be seen, none an equals sign
 pub hex_plain : (bs : List ℕ) → FitsBytes bs → IsPlain (hex_word bs)
 hex_plain [] fits = search rules
 hex_plain (b ∷ bs) fits = (omega (arith, long b bs), encoded_plain (b ∷ bs) fits)
 
 -- ---- commands and replies
 
+-- each word of a command is bytes that can be seen, none an equals sign
 pub command_plain : (c : Command) → FitsCommand c → AllByRecursion IsPlain (command_words c)
 command_plain (command.OpenClone d) fits = (search rules, (name_plain d fits, tt))
 command_plain (command.OpenMinor d n) fits = (search rules, (name_plain d fits.0, (number_plain n fits.1, tt)))
@@ -119,6 +125,7 @@ command_plain (command.Inject d n m bs) fits = (
 command_plain (command.Transmit d n) fits = (search rules, (name_plain d fits.0, (number_plain n fits.1, tt)))
 command_plain (command.Hangup d n) fits = (search rules, (name_plain d fits.0, (number_plain n fits.1, tt)))
 
+-- a command has at least one word
 pub some_command : (c : Command) → 0 < length (command_words c)
 some_command (command.OpenClone d) = omega arith
 some_command (command.OpenMinor d n) = omega arith
@@ -163,6 +170,7 @@ numbers_plain : (ns : List ℕ) → AllByRecursion FitsNumber ns → AllByRecurs
 numbers_plain [] h = tt
 numbers_plain (n ∷ ns) h = (number_plain n h.0, numbers_plain ns h.1)
 
+-- each word of a reply is bytes that can be seen, none an equals sign
 pub reply_plain : (r : Reply) → FitsReply r → AllByRecursion IsPlain (reply_words r)
 reply_plain (reply.Fd n m) fits = (search rules, (number_plain n fits.0, (number_plain m fits.1, tt)))
 reply_plain (reply.Id n) fits = (search rules, (number_plain n fits, tt))
@@ -173,6 +181,7 @@ reply_plain (reply.Done ns) fits = (search rules, numbers_plain ns fits)
 reply_plain reply.Eof fits = (search rules, tt)
 reply_plain (reply.Fault f) fits = (fault_plain f).1
 
+-- a reply has at least one word
 pub some_reply : (r : Reply) → 0 < length (reply_words r)
 some_reply (reply.Fd n m) = omega arith
 some_reply (reply.Id n) = omega arith
@@ -188,9 +197,11 @@ seen : (w : List ℕ) → AllByRecursion IsPlainByte w → AllByRecursion (λ b.
 seen [] h = tt
 seen (b ∷ w) h = ((h.0.0, h.0.1), seen w h.1)
 
+-- some bytes that can be seen, with no equals sign, are a word
 pub plain_word : (w : List ℕ) → IsPlain w → IsWord w
 plain_word w h = (h.0, seen w h.1)
 
+-- lists of such bytes are words
 pub plain_words : (ws : List (List ℕ)) → AllByRecursion IsPlain ws → AllByRecursion IsWord ws
 plain_words [] h = tt
 plain_words (w ∷ ws) h = (plain_word w h.0, plain_words ws h.1)
@@ -199,6 +210,7 @@ plain_free : (w : List ℕ) → AllByRecursion IsPlainByte w → IsFree EQUALS w
 plain_free [] h = tt
 plain_free (b ∷ w) h = (h.0.2, plain_free w h.1)
 
+-- in lists of such bytes stands no equals sign
 pub plain_words_free : (ws : List (List ℕ)) → AllByRecursion IsPlain ws → AllByRecursion (IsFree EQUALS) ws
 plain_words_free [] h = tt
 plain_words_free (w ∷ ws) h = (plain_free w h.0.1, plain_words_free ws h.1)

@@ -28,6 +28,7 @@ pub record AreThen (line before rest : List ℕ) : Type 0 where
   pub then : (more : List ℕ) → Spell rest more → Spell line (before ++ more)
   pub only : (all : List ℕ) → Spell line all → (more : List ℕ) × (all ≡ before ++ more) × Spell rest more
 
+-- before a serial was read, the rest of a line is all of it
 pub at_first : (line : List ℕ) → AreThen line [] line
 at_first line = record { fit = tt; then = λ more h. h; only = λ all h. (all, refl, h) }
 
@@ -89,6 +90,7 @@ pub went_on : (line before rest : List ℕ) → AreThen line before rest → IsL
     → IsLineOf FitsSerials (map decimal) line
 went_on line before rest h more = let all = h.then more.0 (more.1, more.2) in (before ++ more.0, all.0, all.1)
 
+-- where the rest is not the words of serials, the line is not either
 pub none_left : (line before rest : List ℕ) → AreThen line before rest
     → ((all : List ℕ) → FitsSerials all → rest ≢ line_of (map decimal all))
     → (all : List ℕ) → FitsSerials all → line ≢ line_of (map decimal all)
@@ -105,6 +107,7 @@ last_is_none rest alone one [] fits e = omega (arith, fits.0)
 last_is_none rest alone one (m ∷ []) fits e = one m fits.1.0 e
 last_is_none rest alone one (m ∷ k ∷ more) fits e = alone m (line_of (map decimal (k ∷ more))) fits.1.0 e
 
+-- at the last word of a line, whether it is a serial tells whether the line is the words of serials
 pub tells_last : (line : List ℕ) (before : List ℕ) (rest : List ℕ) (o : Option ℕ) (r : Bool) → r ≡ is_some o
     → AreThen line before rest
     → ((n : ℕ) (after : List ℕ) → FitsNumber n → rest ≢ decimal n ++ SPACE ∷ after)
@@ -127,6 +130,7 @@ done_line rest h = by_serials h.0 h.1 h.2 where
 
 -- ---- a reply that stands alone
 
+-- a line that no verb and space begin is `done`, `eof`, a fault, or no reply
 pub standing_alone : (line : List ℕ) (r : Option Reply)
     → ((v : ReplyVerb) (after : List ℕ) → FitsAlways v → line ≢ reply_verb_word v ++ SPACE ∷ after)
     → MatchOption r ((line ≢ codes "done") × (line ≢ codes "eof") × ((f : Fault) → line ≢ line_of (fault_words f)))
@@ -144,6 +148,7 @@ standing_alone line None none found = nothing where
   nothing reply.Eof fits e = found.1 e
   nothing (reply.Fault f) fits e = found.2 f e
 
+-- where memory was wanting for the last serial alone, the line is the words of serials
 pub last_wanted : {A E : Type 0} (line before rest : List ℕ) (r : Result A E) → AreThen line before rest
     → IfErr r (λ _. (n : ℕ) × FitsNumber n × (rest ≡ decimal n))
     → IfErr r (λ _. IsLineOf FitsSerials (map decimal) line)

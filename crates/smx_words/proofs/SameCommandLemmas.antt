@@ -72,6 +72,7 @@ verb_first c v ws more e =
     sym (e ∙ ap (λ (us : List (List ℕ)). us ++ more) f.1) in
     same_verb (verb_of c) v (cc both)
 
+-- a verb that is the first of a command's words is the verb of that command
 pub verb_is : (c : Command) (v : Verb) (ws : List (List ℕ)) → verb_word v ∷ ws ≡ command_words c → verb_of c ≡ v
 verb_is c v ws e = verb_first c v ws [] (e ∙ sym (append-nil (command_words c)))
 

@@ -52,6 +52,7 @@ fault_verb fault.Empty = refl
 fault_verb fault.BadSize = refl
 fault_verb fault.HungUp = refl
 
+-- the verb that is found in the words of a reply is its own, and none is found where it has none
 pub verb_again : (r : Reply) → verb_at (reply_words r) ≡ reply_verb_of r
 verb_again (reply.Fd n m) = refl
 verb_again (reply.Id n) = refl
@@ -75,7 +76,8 @@ same_numbers (n ∷ ns) (m ∷ ms) h k e =
 -- no fault is the end of file
 no_end : (f : Fault) → fault_words f ≢ codes "eof" ∷ []
 no_end f e =
-    let none : ◌≡◌ {A = Option Fault} (Some f) None = sym (found_fault f) ∙ ap (first_of_these fault_line all_fault) (ap line_of e) in
+    let none : ◌≡◌ {A = Option Fault} (Some f) None =
+    sym (found_fault f) ∙ ap (first_of_these fault_line all_fault) (ap line_of e) in
     absurd (cc none)
 
 by_reply_verb : (r s : Reply) → FitsReply r → FitsReply s → reply_verb_of r ≡ reply_verb_of s

@@ -48,6 +48,7 @@ found_kind : (k : DriverKind) → first_of_these kind_word all_kind (kind_word k
 found_kind kind.Leaf = refl
 found_kind kind.Mux = refl
 
+-- no two kinds of drivers have one word
 pub same_kind : (x y : DriverKind) → kind_word x ≡ kind_word y → x ≡ y
 same_kind = told kind_word all_kind found_kind
 
@@ -58,6 +59,7 @@ found_link_kind : (k : LinkKind) → first_of_these link_kind_word all_link_kind
 found_link_kind link.Ordinary = refl
 found_link_kind link.Persistent = refl
 
+-- no two kinds of links have one word
 pub same_link_kind : (x y : LinkKind) → link_kind_word x ≡ link_kind_word y → x ≡ y
 same_link_kind = told link_kind_word all_link_kind found_link_kind
 
@@ -68,6 +70,7 @@ found_side : (s : Side) → first_of_these side_word all_side (side_word s) ≡ 
 found_side side.Write = refl
 found_side side.Read = refl
 
+-- the two sides of a stream have two words
 pub same_side : (x y : Side) → side_word x ≡ side_word y → x ≡ y
 same_side = told side_word all_side found_side
 
@@ -79,6 +82,7 @@ found_sides sides.R = refl
 found_sides sides.W = refl
 found_sides sides.RW = refl
 
+-- no two choices of a flush have one word
 pub same_sides : (x y : Sides) → sides_word x ≡ sides_word y → x ≡ y
 same_sides = told sides_word all_sides found_sides
 
@@ -109,12 +113,15 @@ found_verb verb.Inject = refl
 found_verb verb.Transmit = refl
 found_verb verb.Hangup = refl
 
+-- no two commands begin with one word
 pub same_verb : (x y : Verb) → verb_word x ≡ verb_word y → x ≡ y
 same_verb = told verb_word all_verb found_verb
 
+-- the words of a fault, as a line
 abbrev pub fault_line : Fault → List ℕ
 fault_line f = line_of (fault_words f)
 
+-- all faults
 abbrev pub all_fault : List Fault
 all_fault =
     fault.BadDescriptor ∷ fault.Below ∷ fault.NotMux ∷ fault.AlreadyBelow ∷ fault.Cycle
@@ -122,6 +129,7 @@ all_fault =
     ∷ fault.AddressInUse ∷ fault.Unbound ∷ fault.Unrouted ∷ fault.Full ∷ fault.Empty
     ∷ fault.BadSize ∷ fault.HungUp ∷ []
 
+-- of all faults, the first with the line of this one is this one
 pub found_fault : (f : Fault) → first_of_these fault_line all_fault (fault_line f) ≡ Some f
 found_fault fault.BadDescriptor = refl
 found_fault fault.Below = refl
@@ -141,11 +149,13 @@ found_fault fault.Empty = refl
 found_fault fault.BadSize = refl
 found_fault fault.HungUp = refl
 
+-- no two faults have one line
 pub same_fault : (x y : Fault) → fault_line x ≡ fault_line y → x ≡ y
 same_fault = told fault_line all_fault found_fault
 
 -- ---- other words
 
+-- no two ids have one word, and none has that of all
 pub same_which : (x y : Which) → FitsWhich x → FitsWhich y → which_word x ≡ which_word y → x ≡ y
 same_which (which.Id n) (which.Id m) h k e = ap which.Id (same_number n m h k e)
 same_which (which.Id n) which.All h k e = let bad : all_ascii_digits (codes "all") ≡ true =
@@ -154,6 +164,7 @@ same_which which.All (which.Id n) h k e = let bad : all_ascii_digits (codes "all
     ap all_ascii_digits e ∙ decimal_digits n k in absurd (cc bad)
 same_which which.All which.All h k e = refl
 
+-- no two lists of bytes have one word
 pub same_bytes : (bs cs : List ℕ) → FitsBytes bs → FitsBytes cs → hex_word bs ≡ hex_word cs → bs ≡ cs
 same_bytes [] cs h k e = sym (dash cs (sym e))
 same_bytes (b ∷ bs) [] h k e = dash (b ∷ bs) e

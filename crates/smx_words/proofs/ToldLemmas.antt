@@ -1,5 +1,6 @@
 -- What a version can tell.
-use Rattle.std.proofs.Common.{◌≡◌, ◌≢◌, Bool, true, false, ◌||◌, ℕ, List, Option, Some, None, ◌++◌, ◌∷◌, codes, refl, sym, ◌∙◌}
+use Rattle.std.proofs.Common.{◌≡◌, ◌≢◌, Bool, true, false, ◌||◌, ℕ, List, Option, Some, None, ◌++◌, ◌∷◌, codes, refl}
+use Rattle.std.proofs.Common.{sym, ◌∙◌}
 use Rattle.std.specs.Fmt.{decimal}
 use Rattle.smx_types.specs.Versions.{is_hangup, is_of_hangup, tells_of_hangup}
 use Rattle.smx_types.specs.declared.command.Command.{Command}
@@ -8,7 +9,8 @@ use Rattle.smx_types.specs.declared.reply.Reply.{Reply}
 use Rattle.smx_types.specs.declared.version.Version.{Version}
 use Rattle.smx_types.specs.declared.version.Version.TheVariants.{V1, V2}
 use Rattle.smx_words.specs.LineReading.{IsLineOf, IsReadAs}
-use Rattle.smx_words.specs.Spellable.{CanTell, FitsCommand, FitsCommandIn, FitsEntry, FitsEntryIn, FitsProcess, FitsReply, FitsReplyIn}
+use Rattle.smx_words.specs.Spellable.{CanTell, FitsCommand, FitsCommandIn, FitsEntry, FitsEntryIn, FitsProcess}
+use Rattle.smx_words.specs.Spellable.{FitsReply, FitsReplyIn}
 use Rattle.smx_words.specs.Spelling.{command_words, entry_words, reply_words}
 use Rattle.smx_words.specs.Words.{SPACE, line_of}
 use Rattle.smx_words.proofs.EntryLemmas.{entry_is}
@@ -19,10 +21,12 @@ pub in_each : (v : Version) (hangup : Bool) → CanTell V1 hangup → CanTell v 
 in_each V1 hangup can = can
 in_each V2 hangup can = tt
 
+-- a line of a command that version 1 can tell is one that each version can tell
 pub command_in_each : (v : Version) (line : List ℕ) → IsLineOf (FitsCommandIn V1) command_words line
     → IsLineOf (FitsCommandIn v) command_words line
 command_in_each v line l = (l.0, (l.1.0, in_each v (is_hangup l.0) l.1.1), l.2)
 
+-- a line of a reply that version 1 can tell is one that each version can tell
 pub reply_in_each : (v : Version) (line : List ℕ) → IsLineOf (FitsReplyIn V1) reply_words line
     → IsLineOf (FitsReplyIn v) reply_words line
 reply_in_each v line l = (l.0, (l.1.0, in_each v (tells_of_hangup l.0) l.1.1), l.2)
@@ -34,12 +38,14 @@ no_told_command v line c fits is cannot x told e =
     let same : c ≡ x = one_command c x fits told.0 (sym is ∙ e) in
     cannot (rw same told.1)
 
+-- a line whose reply can't be told is no told reply's
 pub no_told_reply : (v : Version) (line : List ℕ) (r : Reply) → FitsReply r → line ≡ line_of (reply_words r)
     → (CanTell v (tells_of_hangup r) → ⊥) → (x : Reply) → FitsReplyIn v x → line ≢ line_of (reply_words x)
 no_told_reply v line r fits is cannot x told e =
     let same : r ≡ x = one_reply r x fits told.0 (sym is ∙ e) in
     cannot (rw same told.1)
 
+-- a line whose entry can't be told is no told entry's
 pub no_told_entry : (v : Version) (line : List ℕ) (n : Entry) → FitsEntry n → line ≡ line_of (entry_words n)
     → (CanTell v (is_of_hangup n) → ⊥) → (x : Entry) → FitsEntryIn v x → line ≢ line_of (entry_words x)
 no_told_entry v line n fits is cannot x told e =
@@ -52,14 +58,17 @@ can_tell_both V1 true k a b = absurd (cc a)
 can_tell_both V1 false k a b = b
 can_tell_both V2 h k a b = tt
 
+-- a version that can tell two things together can tell each of them
 pub can_tell_each : (v : Version) (h k : Bool) → CanTell v (h || k) → CanTell v h × CanTell v k
 can_tell_each V1 true k a = absurd (cc a)
 can_tell_each V1 false k a = (refl, a)
 can_tell_each V2 h k a = (tt, tt)
 
+-- the command of an entry that can be told can be told
 pub command_fits : (v : Version) (e : Entry) → FitsEntryIn v e → FitsCommandIn v e.command
 command_fits v e fits = (fits.0.command, (can_tell_each v (is_hangup e.command) (tells_of_hangup e.reply) fits.1).0)
 
+-- the reply of an entry that can be told can be told
 pub reply_fits : (v : Version) (e : Entry) → FitsEntryIn v e → FitsReplyIn v e.reply
 reply_fits v e fits = (fits.0.reply, (can_tell_each v (is_hangup e.command) (tells_of_hangup e.reply) fits.1).1)
 
@@ -94,6 +103,7 @@ can_tell_or V1 true = no (λ e. cc e)
 can_tell_or V1 false = yes refl
 can_tell_or V2 hangup = yes tt
 
+-- where it is known which command a line is, it is known which told one it is
 pub told_command : (v : Version) (line : List ℕ) (o : Option Command) → IsReadAs FitsCommand command_words line o
     → (t : Option Command) × IsReadAs (FitsCommandIn v) command_words line t
 told_command v line None none = (None, λ x told e. none x told.0 e)
@@ -102,6 +112,7 @@ told_command v line (Some c) found = elim (can_tell_or v (is_hangup c)) [
   | no cannot ↦ (None, no_told_command v line c found.0 found.1 cannot)
 ]
 
+-- where it is known which entry a line is, it is known which told one it is
 pub told_entry : (v : Version) (line : List ℕ) (o : Option Entry) → IsReadAs FitsEntry entry_words line o
     → (t : Option Entry) × IsReadAs (FitsEntryIn v) entry_words line t
 told_entry v line None none = (None, λ x told e. none x told.0 e)

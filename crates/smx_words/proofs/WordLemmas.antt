@@ -16,17 +16,21 @@ use Rattle.smx_words.proofs.CutLemmas.{apart}
 use Rattle.smx_words.proofs.LineLemmas.{seen_free}
 use Rattle.smx_words.proofs.PlainLemmas.{name_plain, plain_word}
 
+-- no space stands in a driver's name
 pub name_free : (n : List ℕ) → FitsName n → IsFree SPACE n
 name_free n fits = seen_free SPACE (omega arith) n (plain_word n (name_plain n fits)).1
 
+-- no space stands in the word of a driver's kind
 pub kind_free : (k : DriverKind) → FitsAlways k → IsFree SPACE (kind_word k)
 kind_free kind.Leaf fits = search rules
 kind_free kind.Mux fits = search rules
 
+-- no space stands in the word of a side
 pub side_free : (s : Side) → FitsAlways s → IsFree SPACE (side_word s)
 side_free side.Write fits = search rules
 side_free side.Read fits = search rules
 
+-- no space stands in the word with which a reply begins
 pub reply_verb_free : (v : ReplyVerb) → FitsAlways v → IsFree SPACE (reply_verb_word v)
 reply_verb_free reply_verb.Fd fits = search rules
 reply_verb_free reply_verb.Id fits = search rules
@@ -34,6 +38,7 @@ reply_verb_free reply_verb.Took fits = search rules
 reply_verb_free reply_verb.Got fits = search rules
 reply_verb_free reply_verb.Done fits = search rules
 
+-- no space stands in the word with which a command begins
 pub verb_free : (v : Verb) → FitsAlways v → IsFree SPACE (verb_word v)
 verb_free verb.Clone fits = search rules
 verb_free verb.Open fits = search rules

@@ -16,6 +16,7 @@ numbers_line w (n ∷ ns) = ap (λ (l : List ℕ). w ++ 32 ∷ l) (numbers_line 
 
 -- ---- short numbers, digit by digit
 
+-- a number below 10 is one digit
 pub decimal_one : (n : ℕ) → n < 10 → decimal n ≡ (48 + n % 10) ∷ []
 decimal_one n most = decimal_digit n most ∙ ap (λ (d : ℕ). (48 + d) ∷ []) (omega arith)
 
@@ -24,15 +25,18 @@ one_more : (n : ℕ) (ds : List ℕ) → 10 ≤ n → n < 2 ^ 32 → decimal (n 
 one_more n ds least most before = decimal_step n least (omega arith)
     ∙ ap (λ (l : List ℕ). l ++ (48 + n % 10) ∷ []) before
 
+-- a number from 10 to 99 is two digits
 pub decimal_two : (n : ℕ) → 10 ≤ n → n < 100 → decimal n ≡ (48 + n / 10 % 10) ∷ (48 + n % 10) ∷ []
 decimal_two n least most = one_more n _ least (omega arith) (decimal_one (n / 10) (omega arith))
 
+-- a number from 100 to 999 is three digits
 pub decimal_three : (n : ℕ) → 100 ≤ n → n < 1000
     → decimal n ≡ (48 + n / 100 % 10) ∷ (48 + n / 10 % 10) ∷ (48 + n % 10) ∷ []
 decimal_three n least most =
     let hundreds : n / 10 / 10 ≡ n / 100 = omega arith in
     rw (← hundreds) (one_more n _ (omega arith) (omega arith) (decimal_two (n / 10) (omega arith) (omega arith)))
 
+-- a number from 1,000 to 9,999 is four digits
 pub decimal_four : (n : ℕ) → 1000 ≤ n → n < 10000
     → decimal n ≡ (48 + n / 1000 % 10) ∷ (48 + n / 100 % 10) ∷ (48 + n / 10 % 10) ∷ (48 + n % 10) ∷ []
 decimal_four n least most =
@@ -41,6 +45,7 @@ decimal_four n least most =
     rw (← hundreds, ← thousands) (one_more n _ (omega arith) (omega arith)
     (decimal_three (n / 10) (omega arith) (omega arith)))
 
+-- a number from 10,000 to 99,999 is five digits
 pub decimal_five : (n : ℕ) → 10000 ≤ n → n < 100000
     → decimal n
     ≡ (48 + n / 10000 % 10) ∷ (48 + n / 1000 % 10) ∷ (48 + n / 100 % 10) ∷ (48 + n / 10 % 10) ∷ (48 + n % 10) ∷ []
@@ -53,6 +58,7 @@ decimal_five n least most =
 
 -- ---- bytes as hex digits
 
+-- one byte more is encoded as two digits more, that of its high four bits first
 pub encode_more : (bs : List ℕ) (i : ℕ) → i < length bs
     → encode_lower (take (i + 1) bs) ≡ encode_lower (take i bs)
     ++ slice_index lower_digits (get_or bs i 0 / 16) ∷ slice_index lower_digits (get_or bs i 0 % 16) ∷ []

@@ -51,11 +51,29 @@ fn tries_no_read_again(rt: HostRuntime) {
     }
 }
 
+// A reader that counts how often it is asked.
+#[derive(Drop)]
+struct Counted<R> {
+    reader: R,
+    asked: usize,
+}
+
+impl<R: Read> Read for Counted<R> {
+    ghost remaining = { λ counted. R.remaining counted.reader };
+
+    fn read(&mut self, buffer: &mut [u8]) -> io::Result<usize> {
+        self.asked = self.asked.saturating_add(1);
+        self.reader.read(buffer)
+    }
+}
+
 #[test]
-fn takes_the_longest_input(rt: HostRuntime) -> Result<(), Fail> {
-    let mut feed = Source::new(io::repeat(b'a').take(MAX_INPUT as u64));
+fn takes_the_longest_input_in_few_reads(rt: HostRuntime) -> Result<(), Fail> {
+    let reader = io::repeat(b'a').take(MAX_INPUT as u64);
+    let mut feed = Source::new(Counted { reader, asked: 0 });
     let read = read_all(rt.alloc(), &mut feed)?;
     assert_eq!(rt; read.len(), MAX_INPUT);
+    assert!(rt; feed.reader.asked < 100);
     Ok(())
 }
 

@@ -3,7 +3,11 @@
 use Rattle.std.specs.Prelude.{◌≡◌, List, [], ◌∷◌, ◌++◌, refl}
 use Rattle.smx_types.specs.declared.command.Which.TheVariants as which
 use Rattle.smx_types.specs.declared.stream.Side.TheVariants as side
-use Rattle.smx_model.specs.Worked.Common.{OpenMinor, Close, Link, Unlink, Plink, Punlink, Bind, Route, Write, Read, Flush, Inject, Transmit, Hangup, Fd, Id, Took, Got, Done, Eof, Fault, Empty, Below, NotMux, R, Entry, ConfigView, IsLegal, after, view, legal, ◌does◌gets◌, ip, eth, no_lines, fd_of, link_of, bind_of, hung_of, message_at, ip_over_eth, opened_ip_eth_eth, Persistent}
+use Rattle.smx_model.specs.Worked.Common.{OpenMinor, Close, Link, Unlink, Plink, Punlink, Bind, Route, Write, Read}
+use Rattle.smx_model.specs.Worked.Common.{Flush, Inject, Transmit, Hangup, Fd, Id, Took, Got, Done, Eof, Fault, Empty}
+use Rattle.smx_model.specs.Worked.Common.{Below, NotMux, R, Entry, ConfigView, IsLegal, after, view, legal, ◌does◌gets◌}
+use Rattle.smx_model.specs.Worked.Common.{ip, eth, no_lines, fd_of, link_of, bind_of, hung_of, message_at, ip_over_eth}
+use Rattle.smx_model.specs.Worked.Common.{opened_ip_eth_eth, Persistent}
 
 abbrev pub history : List Entry
 history = opened_ip_eth_eth

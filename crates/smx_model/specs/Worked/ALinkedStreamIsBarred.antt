@@ -1,8 +1,12 @@
--- A stream below a driver takes no read, write or bind; its descriptor can be closed, and another used after the unlink.
+-- A stream below a driver takes no read, write or bind; its descriptor can be closed, and another used after the
+-- unlink.
 use Rattle.std.specs.Prelude.{◌≡◌, List, [], ◌∷◌, ◌++◌, refl}
 use Rattle.smx_types.specs.declared.command.Which.TheVariants as which
 use Rattle.smx_types.specs.declared.stream.Side.TheVariants as side
-use Rattle.smx_model.specs.Worked.Common.{OpenClone, OpenMinor, Dup, Close, Link, Plink, Unlink, Bind, Write, Read, Flush, Fd, Id, Took, Done, Fault, Below, AlreadyBelow, RW, Entry, ConfigView, IsLegal, after, view, legal, ◌does◌gets◌, ip, eth, no_lines, fd_of, message_at, ip_over_eth, opened_ip_eth}
+use Rattle.smx_model.specs.Worked.Common.{OpenClone, OpenMinor, Dup, Close, Link, Plink, Unlink, Bind, Write, Read}
+use Rattle.smx_model.specs.Worked.Common.{Flush, Fd, Id, Took, Done, Fault, Below, AlreadyBelow, RW, Entry, ConfigView}
+use Rattle.smx_model.specs.Worked.Common.{IsLegal, after, view, legal, ◌does◌gets◌, ip, eth, no_lines, fd_of}
+use Rattle.smx_model.specs.Worked.Common.{message_at, ip_over_eth, opened_ip_eth}
 
 abbrev pub history : List Entry
 history = opened_ip_eth

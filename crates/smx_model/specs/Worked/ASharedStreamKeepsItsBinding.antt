@@ -1,6 +1,8 @@
 -- A binding stays as long as its stream.
 use Rattle.std.specs.Prelude.{◌≡◌, List, [], ◌∷◌, refl}
-use Rattle.smx_model.specs.Worked.Common.{OpenClone, OpenMinor, CloseAll, Bind, Unbind, Fd, Done, Fault, AddressInUse, Entry, ConfigView, IsLegal, after, view, legal, ◌does◌gets◌, ip, no_lines, fd_of, ip_over_eth}
+use Rattle.smx_model.specs.Worked.Common.{OpenClone, OpenMinor, CloseAll, Bind, Unbind, Fd, Done, Fault, AddressInUse}
+use Rattle.smx_model.specs.Worked.Common.{Entry, ConfigView, IsLegal, after, view, legal, ◌does◌gets◌, ip, no_lines}
+use Rattle.smx_model.specs.Worked.Common.{fd_of, ip_over_eth}
 
 abbrev pub history : List Entry
 history = 0 does OpenClone ip gets Fd 0 0

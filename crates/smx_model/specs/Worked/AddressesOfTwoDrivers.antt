@@ -1,7 +1,10 @@
 -- Bindings, routes and persistent links are those of one driver, and of none beside it.
 use Rattle.std.specs.Prelude.{◌≡◌, List, [], ◌∷◌, refl}
 use Rattle.smx_types.specs.declared.command.Which.TheVariants as which
-use Rattle.smx_model.specs.Worked.Common.{OpenClone, Link, Plink, Unlink, Punlink, Bind, Unbind, Route, Unroute, Fd, Id, Done, Fault, NoLink, Unbound, Unrouted, Ordinary, Persistent, Entry, ConfigView, DriverSpec, IsLegal, after, view, legal, ◌does◌gets◌, eth, a, b, mux, leaf, no_lines, fd_of, link_of, bind_of, route_of}
+use Rattle.smx_model.specs.Worked.Common.{OpenClone, Link, Plink, Unlink, Punlink, Bind, Unbind, Route, Unroute, Fd, Id}
+use Rattle.smx_model.specs.Worked.Common.{Done, Fault, NoLink, Unbound, Unrouted, Ordinary, Persistent, Entry}
+use Rattle.smx_model.specs.Worked.Common.{ConfigView, DriverSpec, IsLegal, after, view, legal, ◌does◌gets◌, eth, a, b}
+use Rattle.smx_model.specs.Worked.Common.{mux, leaf, no_lines, fd_of, link_of, bind_of, route_of}
 
 abbrev pub drivers : List DriverSpec
 drivers = mux a 2 ∷ mux b 2 ∷ leaf eth 3 ∷ []

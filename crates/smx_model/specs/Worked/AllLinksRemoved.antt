@@ -1,7 +1,9 @@
 -- All ordinary links that are removed are those of one stream, all persistent ones those of the driver.
 use Rattle.std.specs.Prelude.{◌≡◌, List, [], ◌∷◌, ◌++◌, refl}
 use Rattle.smx_types.specs.declared.command.Which.TheVariants as which
-use Rattle.smx_model.specs.Worked.Common.{Link, Plink, Unlink, Punlink, Id, Done, Fault, AlreadyBelow, Ordinary, Entry, ConfigView, IsLegal, after, view, legal, ◌does◌gets◌, ip, eth, no_lines, link_of, ip_over_eth, opened_ip_ip_eth_eth, fds_of_ip_ip_eth_eth}
+use Rattle.smx_model.specs.Worked.Common.{Link, Plink, Unlink, Punlink, Id, Done, Fault, AlreadyBelow, Ordinary, Entry}
+use Rattle.smx_model.specs.Worked.Common.{ConfigView, IsLegal, after, view, legal, ◌does◌gets◌, ip, eth, no_lines}
+use Rattle.smx_model.specs.Worked.Common.{link_of, ip_over_eth, opened_ip_ip_eth_eth, fds_of_ip_ip_eth_eth}
 
 abbrev pub history : List Entry
 history = opened_ip_ip_eth_eth

@@ -1,7 +1,9 @@
 -- A persistent link keeps a stream, whose ordinary link keeps the next one.
 use Rattle.std.specs.Prelude.{◌≡◌, List, [], ◌∷◌, ◌++◌, refl}
 use Rattle.smx_types.specs.declared.command.Which.TheVariants as which
-use Rattle.smx_model.specs.Worked.Common.{OpenClone, CloseAll, Link, Plink, Punlink, Transmit, Fd, Id, Done, Fault, NoMinor, Empty, Entry, ConfigView, IsLegal, after, view, legal, ◌does◌gets◌, eth, top, no_lines, fd_of, top_mid_and_eth, opened_top_mid_eth}
+use Rattle.smx_model.specs.Worked.Common.{OpenClone, CloseAll, Link, Plink, Punlink, Transmit, Fd, Id, Done, Fault}
+use Rattle.smx_model.specs.Worked.Common.{NoMinor, Empty, Entry, ConfigView, IsLegal, after, view, legal, ◌does◌gets◌}
+use Rattle.smx_model.specs.Worked.Common.{eth, top, no_lines, fd_of, top_mid_and_eth, opened_top_mid_eth}
 
 abbrev pub history : List Entry
 history = opened_top_mid_eth

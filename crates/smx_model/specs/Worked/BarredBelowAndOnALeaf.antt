@@ -1,7 +1,9 @@
 -- Each command of a multiplexer is barred on a stream below, and then on a leaf.
 use Rattle.std.specs.Prelude.{◌≡◌, List, [], ◌∷◌, ◌++◌, refl}
 use Rattle.smx_types.specs.declared.command.Which.TheVariants as which
-use Rattle.smx_model.specs.Worked.Common.{Link, Unlink, Punlink, Bind, Unbind, Route, Unroute, Id, Fault, Below, NotMux, Ordinary, Entry, ConfigView, IsLegal, after, view, legal, ◌does◌gets◌, ip, eth, no_lines, link_of, ip_over_eth, opened_ip_eth_eth, fds_of_ip_eth_eth}
+use Rattle.smx_model.specs.Worked.Common.{Link, Unlink, Punlink, Bind, Unbind, Route, Unroute, Id, Fault, Below, NotMux}
+use Rattle.smx_model.specs.Worked.Common.{Ordinary, Entry, ConfigView, IsLegal, after, view, legal, ◌does◌gets◌, ip}
+use Rattle.smx_model.specs.Worked.Common.{eth, no_lines, link_of, ip_over_eth, opened_ip_eth_eth, fds_of_ip_eth_eth}
 
 abbrev pub history : List Entry
 history = opened_ip_eth_eth

@@ -1,6 +1,9 @@
 -- An address is bound once, a stream has one address, and an unbound message waits.
 use Rattle.std.specs.Prelude.{◌≡◌, List, [], ◌∷◌, ◌++◌, refl}
-use Rattle.smx_model.specs.Worked.Common.{Plink, Bind, Unbind, Route, Read, Flush, Inject, Id, Took, Done, Fault, NotMux, NoLink, AddressInUse, Unbound, Empty, R, Persistent, Entry, ConfigView, IsLegal, after, view, legal, ◌does◌gets◌, ip, eth, no_lines, link_of, ip_over_eth, opened_ip_ip_eth, fds_of_ip_ip_eth}
+use Rattle.smx_model.specs.Worked.Common.{Plink, Bind, Unbind, Route, Read, Flush, Inject, Id, Took, Done, Fault}
+use Rattle.smx_model.specs.Worked.Common.{NotMux, NoLink, AddressInUse, Unbound, Empty, R, Persistent, Entry}
+use Rattle.smx_model.specs.Worked.Common.{ConfigView, IsLegal, after, view, legal, ◌does◌gets◌, ip, eth, no_lines}
+use Rattle.smx_model.specs.Worked.Common.{link_of, ip_over_eth, opened_ip_ip_eth, fds_of_ip_ip_eth}
 
 abbrev pub history : List Entry
 history = opened_ip_ip_eth

@@ -1,6 +1,9 @@
 -- A message goes up to the stream that is bound, not to the one that controls the link, and moves whole.
 use Rattle.std.specs.Prelude.{◌≡◌, List, [], ◌∷◌, ◌++◌, refl}
-use Rattle.smx_model.specs.Worked.Common.{Plink, Bind, Route, Write, Read, Inject, Transmit, Id, Took, Got, Done, Fault, Empty, Persistent, Entry, ConfigView, DriverSpec, IsLegal, after, view, legal, ◌does◌gets◌, ip, eth, mux, leaf, no_lines, link_of, bind_of, route_of, opened_ip_ip_eth, fds_of_ip_ip_eth}
+use Rattle.smx_model.specs.Worked.Common.{Plink, Bind, Route, Write, Read, Inject, Transmit, Id, Took, Got, Done, Fault}
+use Rattle.smx_model.specs.Worked.Common.{Empty, Persistent, Entry, ConfigView, DriverSpec, IsLegal, after, view, legal}
+use Rattle.smx_model.specs.Worked.Common.{◌does◌gets◌, ip, eth, mux, leaf, no_lines, link_of, bind_of, route_of}
+use Rattle.smx_model.specs.Worked.Common.{opened_ip_ip_eth, fds_of_ip_ip_eth}
 
 abbrev pub drivers : List DriverSpec
 drivers = mux ip 4 ∷ record (leaf eth 2) { max = 2 } ∷ []

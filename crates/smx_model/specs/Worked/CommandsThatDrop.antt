@@ -3,7 +3,9 @@ use Rattle.std.specs.Prelude.{◌≡◌, List, [], ◌∷◌, filter, refl}
 use Rattle.smx_types.specs.declared.command.Command.{Command}
 use Rattle.smx_types.specs.declared.command.Which.TheVariants as which
 use Rattle.smx_model.specs.LawfulHistories.{may_drop}
-use Rattle.smx_model.specs.Worked.Common.{OpenClone, OpenMinor, Dup, Close, CloseAll, Link, Plink, Unlink, Punlink, Bind, Unbind, Route, Unroute, Write, Read, Flush, Inject, Transmit, Hangup, RW, ip, eth}
+use Rattle.smx_model.specs.Worked.Common.{OpenClone, OpenMinor, Dup, Close, CloseAll, Link, Plink, Unlink, Punlink}
+use Rattle.smx_model.specs.Worked.Common.{Bind, Unbind, Route, Unroute, Write, Read, Flush, Inject, Transmit, Hangup}
+use Rattle.smx_model.specs.Worked.Common.{RW, ip, eth}
 
 abbrev pub opens_and_links : List Command
 opens_and_links = OpenClone ip ∷ OpenMinor ip 0 ∷ Dup 0 ∷ Close 0 ∷ CloseAll ∷ Link 0 1 ∷ Plink 0 1 ∷ []

@@ -1,11 +1,17 @@
 -- What the worked histories share: the words in which they are written, drivers, and openings.
 use Rattle.std.specs.Prelude.{◌≡◌, ℕ, List, [], ◌∷◌, map, codes}
-pub use Rattle.smx_types.specs.declared.command.Command.TheVariants.{OpenClone, OpenMinor, Dup, Close, CloseAll, Link, Plink, Unlink, Punlink, Bind, Unbind, Route, Unroute, Write, Read, Flush, Inject, Transmit, Hangup}
+pub use Rattle.smx_types.specs.declared.command.Command.TheVariants.{OpenClone, OpenMinor, Dup, Close, CloseAll, Link}
+pub use Rattle.smx_types.specs.declared.command.Command.TheVariants.{Plink, Unlink, Punlink, Bind, Unbind, Route}
+pub use Rattle.smx_types.specs.declared.command.Command.TheVariants.{Unroute, Write, Read, Flush, Inject, Transmit}
+pub use Rattle.smx_types.specs.declared.command.Command.TheVariants.{Hangup}
 pub use Rattle.smx_types.specs.declared.command.Entry.{Entry}
 pub use Rattle.smx_types.specs.declared.command.Sides.TheVariants.{R, W, RW}
 pub use Rattle.smx_types.specs.declared.driver.DriverSpec.{DriverSpec}
 pub use Rattle.smx_types.specs.declared.link.LinkKind.TheVariants.{Ordinary, Persistent}
-pub use Rattle.smx_types.specs.declared.reply.Fault.TheVariants.{BadDescriptor, Below, NotMux, NoDriver, NoMinor, TooManyDescriptors, AlreadyBelow, Cycle, TooManyLinks, NoLink, AddressInUse, Unbound, Unrouted, Full, Empty, BadSize, HungUp}
+pub use Rattle.smx_types.specs.declared.reply.Fault.TheVariants.{BadDescriptor, Below, NotMux, NoDriver, NoMinor}
+pub use Rattle.smx_types.specs.declared.reply.Fault.TheVariants.{TooManyDescriptors, AlreadyBelow, Cycle, TooManyLinks}
+pub use Rattle.smx_types.specs.declared.reply.Fault.TheVariants.{NoLink, AddressInUse, Unbound, Unrouted, Full, Empty}
+pub use Rattle.smx_types.specs.declared.reply.Fault.TheVariants.{BadSize, HungUp}
 pub use Rattle.smx_types.specs.declared.reply.Reply.TheVariants.{Fd, Id, Took, Got, Done, Eof, Fault}
 pub use Rattle.smx_types.specs.declared.view.ConfigView.{ConfigView}
 pub use Rattle.smx_types.specs.declared.view.MessageLine.{MessageLine}

@@ -1,6 +1,8 @@
 -- A link that would close a cycle of two drivers is refused, and so is opening a linked minor.
 use Rattle.std.specs.Prelude.{◌≡◌, List, [], ◌∷◌, refl}
-use Rattle.smx_model.specs.Worked.Common.{OpenClone, OpenMinor, Close, Link, Plink, Fd, Id, Done, Fault, Below, Cycle, Persistent, Entry, ConfigView, IsLegal, after, view, legal, ◌does◌gets◌, a, b, no_lines, fd_of, link_of, a_b_and_eth}
+use Rattle.smx_model.specs.Worked.Common.{OpenClone, OpenMinor, Close, Link, Plink, Fd, Id, Done, Fault, Below, Cycle}
+use Rattle.smx_model.specs.Worked.Common.{Persistent, Entry, ConfigView, IsLegal, after, view, legal, ◌does◌gets◌, a, b}
+use Rattle.smx_model.specs.Worked.Common.{no_lines, fd_of, link_of, a_b_and_eth}
 
 abbrev pub history : List Entry
 history = 0 does OpenClone a gets Fd 0 0

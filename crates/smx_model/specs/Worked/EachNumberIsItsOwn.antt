@@ -1,6 +1,8 @@
 -- A driver may be over one before it; drivers, minors and processes are numbered apart.
 use Rattle.std.specs.Prelude.{◌≡◌, List, [], ◌∷◌, refl}
-use Rattle.smx_model.specs.Worked.Common.{OpenClone, OpenMinor, Link, Fd, Id, Fault, Below, Cycle, Ordinary, Entry, ConfigView, DriverSpec, IsLegal, after, view, legal, ◌does◌gets◌, a, b, mux, no_lines, fd_of, link_of}
+use Rattle.smx_model.specs.Worked.Common.{OpenClone, OpenMinor, Link, Fd, Id, Fault, Below, Cycle, Ordinary, Entry}
+use Rattle.smx_model.specs.Worked.Common.{ConfigView, DriverSpec, IsLegal, after, view, legal, ◌does◌gets◌, a, b, mux}
+use Rattle.smx_model.specs.Worked.Common.{no_lines, fd_of, link_of}
 
 abbrev pub drivers : List DriverSpec
 drivers = mux a 4 ∷ mux b 2 ∷ []

@@ -1,7 +1,10 @@
 -- A message that waits goes on once it has a route, a binding or a link.
 use Rattle.std.specs.Prelude.{◌≡◌, List, [], ◌∷◌, ◌++◌, refl}
 use Rattle.smx_types.specs.declared.command.Which.TheVariants as which
-use Rattle.smx_model.specs.Worked.Common.{Link, Plink, Unlink, Bind, Route, Write, Read, Inject, Transmit, Id, Took, Got, Done, Ordinary, Persistent, Entry, ConfigView, IsLegal, after, view, legal, ◌does◌gets◌, ip, eth, no_lines, link_of, bind_of, route_of, ip_over_eth, opened_ip_eth_eth, fds_of_ip_eth_eth}
+use Rattle.smx_model.specs.Worked.Common.{Link, Plink, Unlink, Bind, Route, Write, Read, Inject, Transmit, Id, Took}
+use Rattle.smx_model.specs.Worked.Common.{Got, Done, Ordinary, Persistent, Entry, ConfigView, IsLegal, after, view}
+use Rattle.smx_model.specs.Worked.Common.{legal, ◌does◌gets◌, ip, eth, no_lines, link_of, bind_of, route_of}
+use Rattle.smx_model.specs.Worked.Common.{ip_over_eth, opened_ip_eth_eth, fds_of_ip_eth_eth}
 
 abbrev pub history : List Entry
 history = opened_ip_eth_eth

@@ -1,7 +1,9 @@
 -- What came in before a hangup is read, and then it is the end of file; a second hangup changes nothing, and a hung-up
 -- stream can be linked below.
 use Rattle.std.specs.Prelude.{◌≡◌, List, [], ◌∷◌, refl}
-use Rattle.smx_model.specs.Worked.Common.{OpenClone, Plink, Read, Inject, Hangup, Fd, Id, Took, Got, Done, Eof, Fault, Below, Persistent, Entry, ConfigView, IsLegal, after, view, legal, ◌does◌gets◌, ip, eth, no_lines, fd_of, link_of, hung_of, ip_over_eth}
+use Rattle.smx_model.specs.Worked.Common.{OpenClone, Plink, Read, Inject, Hangup, Fd, Id, Took, Got, Done, Eof, Fault}
+use Rattle.smx_model.specs.Worked.Common.{Below, Persistent, Entry, ConfigView, IsLegal, after, view, legal}
+use Rattle.smx_model.specs.Worked.Common.{◌does◌gets◌, ip, eth, no_lines, fd_of, link_of, hung_of, ip_over_eth}
 
 abbrev pub history : List Entry
 history = 0 does OpenClone eth gets Fd 0 0

@@ -1,7 +1,9 @@
 -- Exit closes all descriptors at once, so that nothing moves between.
 use Rattle.std.specs.Prelude.{◌≡◌, List, [], ◌∷◌, ◌++◌, refl}
 use Rattle.smx_types.specs.declared.stream.Side.TheVariants as side
-use Rattle.smx_model.specs.Worked.Common.{CloseAll, Link, Plink, Bind, Inject, Transmit, Id, Took, Done, Fault, Empty, Persistent, Entry, ConfigView, IsLegal, after, view, legal, ◌does◌gets◌, eth, b, no_lines, link_of, message_at, a_b_and_eth, opened_a_b_eth}
+use Rattle.smx_model.specs.Worked.Common.{CloseAll, Link, Plink, Bind, Inject, Transmit, Id, Took, Done, Fault, Empty}
+use Rattle.smx_model.specs.Worked.Common.{Persistent, Entry, ConfigView, IsLegal, after, view, legal, ◌does◌gets◌, eth}
+use Rattle.smx_model.specs.Worked.Common.{b, no_lines, link_of, message_at, a_b_and_eth, opened_a_b_eth}
 
 abbrev pub history : List Entry
 history = opened_a_b_eth

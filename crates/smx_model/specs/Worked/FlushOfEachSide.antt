@@ -1,6 +1,8 @@
 -- A flush empties the read side, the write side or both, and no other stream.
 use Rattle.std.specs.Prelude.{◌≡◌, List, [], ◌∷◌, refl}
-use Rattle.smx_model.specs.Worked.Common.{OpenClone, Write, Read, Flush, Inject, Fd, Took, Got, Done, R, W, RW, Entry, ConfigView, IsLegal, after, view, legal, ◌does◌gets◌, eth, no_lines, fd_of, ip_over_eth}
+use Rattle.smx_model.specs.Worked.Common.{OpenClone, Write, Read, Flush, Inject, Fd, Took, Got, Done, R, W, RW, Entry}
+use Rattle.smx_model.specs.Worked.Common.{ConfigView, IsLegal, after, view, legal, ◌does◌gets◌, eth, no_lines, fd_of}
+use Rattle.smx_model.specs.Worked.Common.{ip_over_eth}
 
 abbrev pub history : List Entry
 history = 0 does OpenClone eth gets Fd 0 0

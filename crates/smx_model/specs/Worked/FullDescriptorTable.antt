@@ -1,6 +1,8 @@
 -- A process has sixteen descriptors, and no more.
 use Rattle.std.specs.Prelude.{◌≡◌, List, [], ◌∷◌, refl}
-use Rattle.smx_model.specs.Worked.Common.{OpenClone, OpenMinor, Dup, CloseAll, Fd, Done, Fault, BadDescriptor, TooManyDescriptors, Entry, ConfigView, IsLegal, after, view, legal, ◌does◌gets◌, ip, no_lines, ip_over_eth}
+use Rattle.smx_model.specs.Worked.Common.{OpenClone, OpenMinor, Dup, CloseAll, Fd, Done, Fault, BadDescriptor}
+use Rattle.smx_model.specs.Worked.Common.{TooManyDescriptors, Entry, ConfigView, IsLegal, after, view, legal}
+use Rattle.smx_model.specs.Worked.Common.{◌does◌gets◌, ip, no_lines, ip_over_eth}
 
 abbrev pub history : List Entry
 history = 0 does OpenMinor ip 0 gets Fd 0 0

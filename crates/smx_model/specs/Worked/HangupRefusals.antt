@@ -2,7 +2,10 @@
 use Rattle.std.specs.Prelude.{◌≡◌, List, [], ◌∷◌, ◌++◌, refl}
 use Rattle.smx_types.specs.declared.command.Which.TheVariants as which
 use Rattle.smx_types.specs.declared.stream.Side.TheVariants as side
-use Rattle.smx_model.specs.Worked.Common.{OpenClone, Close, Link, Unlink, Route, Write, Read, Flush, Inject, Transmit, Hangup, Fd, Id, Took, Done, Eof, Fault, BadDescriptor, NoDriver, NoMinor, Empty, HungUp, W, Entry, ConfigView, IsLegal, after, view, legal, ◌does◌gets◌, ip, eth, no_lines, fds_of_ip_eth, message_at, ip_over_eth, opened_ip_eth}
+use Rattle.smx_model.specs.Worked.Common.{OpenClone, Close, Link, Unlink, Route, Write, Read, Flush, Inject, Transmit}
+use Rattle.smx_model.specs.Worked.Common.{Hangup, Fd, Id, Took, Done, Eof, Fault, BadDescriptor, NoDriver, NoMinor}
+use Rattle.smx_model.specs.Worked.Common.{Empty, HungUp, W, Entry, ConfigView, IsLegal, after, view, legal, ◌does◌gets◌}
+use Rattle.smx_model.specs.Worked.Common.{ip, eth, no_lines, fds_of_ip_eth, message_at, ip_over_eth, opened_ip_eth}
 
 abbrev pub history : List Entry
 history = opened_ip_eth

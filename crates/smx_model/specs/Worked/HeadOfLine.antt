@@ -1,6 +1,9 @@
 -- A message without a route waits at the head and holds those behind it.
 use Rattle.std.specs.Prelude.{◌≡◌, List, [], ◌∷◌, ◌++◌, refl}
-use Rattle.smx_model.specs.Worked.Common.{Link, Route, Unroute, Write, Transmit, Id, Took, Got, Done, Fault, Unrouted, Empty, Ordinary, Entry, ConfigView, IsLegal, after, view, legal, ◌does◌gets◌, ip, eth, no_lines, link_of, route_of, ip_over_eth, opened_ip_eth, fds_of_ip_eth}
+use Rattle.smx_model.specs.Worked.Common.{Link, Route, Unroute, Write, Transmit, Id, Took, Got, Done, Fault, Unrouted}
+use Rattle.smx_model.specs.Worked.Common.{Empty, Ordinary, Entry, ConfigView, IsLegal, after, view, legal, ◌does◌gets◌}
+use Rattle.smx_model.specs.Worked.Common.{ip, eth, no_lines, link_of, route_of, ip_over_eth, opened_ip_eth}
+use Rattle.smx_model.specs.Worked.Common.{fds_of_ip_eth}
 
 abbrev pub history : List Entry
 history = opened_ip_eth

@@ -1,7 +1,10 @@
 -- Hung-up streams are shown by driver and minor, each once; on one the unlinking commands are refused as on any leaf.
 use Rattle.std.specs.Prelude.{◌≡◌, List, [], ◌∷◌, refl}
 use Rattle.smx_types.specs.declared.command.Which.TheVariants as which
-use Rattle.smx_model.specs.Worked.Common.{OpenClone, Dup, Close, Plink, Unlink, Bind, Route, Flush, Read, Hangup, Fd, Done, Eof, Fault, NotMux, HungUp, RW, Entry, ConfigView, DriverSpec, IsLegal, after, view, legal, ◌does◌gets◌, ip, eth, tr, leaf, mux, no_lines, fd_of, hung_of}
+use Rattle.smx_model.specs.Worked.Common.{OpenClone, Dup, Close, Plink, Unlink, Bind, Route, Flush, Read, Hangup, Fd}
+use Rattle.smx_model.specs.Worked.Common.{Done, Eof, Fault, NotMux, HungUp, RW, Entry, ConfigView, DriverSpec, IsLegal}
+use Rattle.smx_model.specs.Worked.Common.{after, view, legal, ◌does◌gets◌, ip, eth, tr, leaf, mux, no_lines, fd_of}
+use Rattle.smx_model.specs.Worked.Common.{hung_of}
 
 abbrev pub drivers : List DriverSpec
 drivers = leaf tr 2 ∷ mux ip 2 ∷ leaf eth 3 ∷ []

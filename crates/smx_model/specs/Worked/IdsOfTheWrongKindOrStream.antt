@@ -1,7 +1,9 @@
 -- Unlink removes ordinary links of its own stream alone, punlink persistent ones of the driver alone.
 use Rattle.std.specs.Prelude.{◌≡◌, List, [], ◌∷◌, ◌++◌, refl}
 use Rattle.smx_types.specs.declared.command.Which.TheVariants as which
-use Rattle.smx_model.specs.Worked.Common.{Link, Plink, Unlink, Punlink, Id, Done, Fault, NotMux, NoLink, Entry, ConfigView, IsLegal, after, view, legal, ◌does◌gets◌, no_lines, ip_over_eth, opened_ip_ip_eth_eth, fds_of_ip_ip_eth_eth}
+use Rattle.smx_model.specs.Worked.Common.{Link, Plink, Unlink, Punlink, Id, Done, Fault, NotMux, NoLink, Entry}
+use Rattle.smx_model.specs.Worked.Common.{ConfigView, IsLegal, after, view, legal, ◌does◌gets◌, no_lines, ip_over_eth}
+use Rattle.smx_model.specs.Worked.Common.{opened_ip_ip_eth_eth, fds_of_ip_ip_eth_eth}
 
 abbrev pub history : List Entry
 history = opened_ip_ip_eth_eth

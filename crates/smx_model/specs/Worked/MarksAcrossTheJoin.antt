@@ -1,7 +1,10 @@
 -- A queue that is full stays so down to its low water mark, and then messages move on through the multiplexer.
 use Rattle.std.specs.Prelude.{◌≡◌, List, [], ◌∷◌, ◌++◌, refl}
 use Rattle.smx_types.specs.declared.stream.Side.TheVariants as side
-use Rattle.smx_model.specs.Worked.Common.{Link, Route, Write, Transmit, Id, Took, Got, Done, Fault, Full, Ordinary, Entry, ConfigView, IsLegal, after, view, legal, ◌does◌gets◌, ip, eth, no_lines, link_of, route_of, message_at, full_at, ip_over_eth, opened_ip_eth, fds_of_ip_eth}
+use Rattle.smx_model.specs.Worked.Common.{Link, Route, Write, Transmit, Id, Took, Got, Done, Fault, Full, Ordinary}
+use Rattle.smx_model.specs.Worked.Common.{Entry, ConfigView, IsLegal, after, view, legal, ◌does◌gets◌, ip, eth}
+use Rattle.smx_model.specs.Worked.Common.{no_lines, link_of, route_of, message_at, full_at, ip_over_eth, opened_ip_eth}
+use Rattle.smx_model.specs.Worked.Common.{fds_of_ip_eth}
 
 abbrev pub history : List Entry
 history = opened_ip_eth

@@ -1,7 +1,10 @@
 -- Each driver has its own marks and longest message, each side its own queue.
 use Rattle.std.specs.Prelude.{◌≡◌, List, [], ◌∷◌, ◌++◌, refl}
 use Rattle.smx_types.specs.declared.stream.Side.TheVariants as side
-use Rattle.smx_model.specs.Worked.Common.{Write, Read, Inject, Transmit, Took, Got, Fault, NoDriver, Full, BadSize, Entry, ConfigView, DriverSpec, IsLegal, after, view, legal, ◌does◌gets◌, ip, eth, mux, leaf, no_lines, message_at, full_at, opened_ip_ip_eth_eth, fds_of_ip_ip_eth_eth}
+use Rattle.smx_model.specs.Worked.Common.{Write, Read, Inject, Transmit, Took, Got, Fault, NoDriver, Full, BadSize}
+use Rattle.smx_model.specs.Worked.Common.{Entry, ConfigView, DriverSpec, IsLegal, after, view, legal, ◌does◌gets◌, ip}
+use Rattle.smx_model.specs.Worked.Common.{eth, mux, leaf, no_lines, message_at, full_at, opened_ip_ip_eth_eth}
+use Rattle.smx_model.specs.Worked.Common.{fds_of_ip_ip_eth_eth}
 
 abbrev pub drivers : List DriverSpec
 drivers = record (mux ip 2) { low = 0 } ∷ record (leaf eth 2) { high = 6; low = 2; max = 2 } ∷ []

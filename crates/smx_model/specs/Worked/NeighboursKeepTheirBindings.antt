@@ -1,7 +1,10 @@
 -- Bindings are shown by address, serve one driver and one address each, and go one at a time.
 use Rattle.std.specs.Prelude.{◌≡◌, List, [], ◌∷◌, refl}
 use Rattle.smx_types.specs.declared.stream.Side.TheVariants as side
-use Rattle.smx_model.specs.Worked.Common.{OpenClone, Plink, Bind, Unbind, Inject, Fd, Id, Took, Done, Fault, Unbound, Persistent, Entry, ConfigView, DriverSpec, IsLegal, after, view, legal, ◌does◌gets◌, eth, a, b, mux, leaf, no_lines, fd_of, link_of, bind_of, message_at}
+use Rattle.smx_model.specs.Worked.Common.{OpenClone, Plink, Bind, Unbind, Inject, Fd, Id, Took, Done, Fault, Unbound}
+use Rattle.smx_model.specs.Worked.Common.{Persistent, Entry, ConfigView, DriverSpec, IsLegal, after, view, legal}
+use Rattle.smx_model.specs.Worked.Common.{◌does◌gets◌, eth, a, b, mux, leaf, no_lines, fd_of, link_of, bind_of}
+use Rattle.smx_model.specs.Worked.Common.{message_at}
 
 abbrev pub drivers : List DriverSpec
 drivers = mux a 2 ∷ mux b 2 ∷ leaf eth 3 ∷ []

@@ -1,7 +1,10 @@
 -- The end of one link leaves those before and behind it, and their routes.
 use Rattle.std.specs.Prelude.{◌≡◌, List, [], ◌∷◌, ◌++◌, refl}
 use Rattle.smx_types.specs.declared.command.Which.TheVariants as which
-use Rattle.smx_model.specs.Worked.Common.{OpenClone, Link, Plink, Unlink, Punlink, Route, Fd, Id, Done, Ordinary, Persistent, Entry, ConfigView, DriverSpec, IsLegal, after, view, legal, ◌does◌gets◌, eth, a, b, mux, leaf, no_lines, fd_of, link_of, route_of, opened_a_b_eth}
+use Rattle.smx_model.specs.Worked.Common.{OpenClone, Link, Plink, Unlink, Punlink, Route, Fd, Id, Done, Ordinary}
+use Rattle.smx_model.specs.Worked.Common.{Persistent, Entry, ConfigView, DriverSpec, IsLegal, after, view, legal}
+use Rattle.smx_model.specs.Worked.Common.{◌does◌gets◌, eth, a, b, mux, leaf, no_lines, fd_of, link_of, route_of}
+use Rattle.smx_model.specs.Worked.Common.{opened_a_b_eth}
 
 abbrev pub drivers : List DriverSpec
 drivers = mux a 2 ∷ mux b 2 ∷ leaf eth 5 ∷ []

@@ -1,7 +1,10 @@
 -- Routes are shown by address, serve one driver and one address each, and go one at a time.
 use Rattle.std.specs.Prelude.{◌≡◌, List, [], ◌∷◌, refl}
 use Rattle.smx_types.specs.declared.stream.Side.TheVariants as side
-use Rattle.smx_model.specs.Worked.Common.{OpenClone, Link, Route, Unroute, Write, Fd, Id, Took, Done, Fault, Cycle, NoLink, Unrouted, Ordinary, Entry, ConfigView, DriverSpec, IsLegal, after, view, legal, ◌does◌gets◌, eth, a, b, mux, leaf, no_lines, fd_of, link_of, route_of, message_at}
+use Rattle.smx_model.specs.Worked.Common.{OpenClone, Link, Route, Unroute, Write, Fd, Id, Took, Done, Fault, Cycle}
+use Rattle.smx_model.specs.Worked.Common.{NoLink, Unrouted, Ordinary, Entry, ConfigView, DriverSpec, IsLegal, after}
+use Rattle.smx_model.specs.Worked.Common.{view, legal, ◌does◌gets◌, eth, a, b, mux, leaf, no_lines, fd_of, link_of}
+use Rattle.smx_model.specs.Worked.Common.{route_of, message_at}
 
 abbrev pub drivers : List DriverSpec
 drivers = mux a 2 ∷ mux b 2 ∷ leaf eth 3 ∷ []

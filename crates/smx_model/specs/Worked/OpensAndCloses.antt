@@ -1,6 +1,7 @@
 -- A closed descriptor is opened again, and a stream that nothing names is gone.
 use Rattle.std.specs.Prelude.{◌≡◌, List, [], ◌∷◌, refl}
-use Rattle.smx_model.specs.Worked.Common.{OpenClone, Close, Fd, Done, Entry, ConfigView, IsLegal, after, view, legal, ◌does◌gets◌, ip, no_lines, fd_of, ip_over_eth}
+use Rattle.smx_model.specs.Worked.Common.{OpenClone, Close, Fd, Done, Entry, ConfigView, IsLegal, after, view, legal}
+use Rattle.smx_model.specs.Worked.Common.{◌does◌gets◌, ip, no_lines, fd_of, ip_over_eth}
 
 abbrev pub history : List Entry
 history = 0 does OpenClone ip gets Fd 0 0

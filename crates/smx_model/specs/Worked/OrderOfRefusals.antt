@@ -1,7 +1,10 @@
 -- The refusals of link and unlink come in the order of the table.
 use Rattle.std.specs.Prelude.{◌≡◌, List, [], ◌∷◌, ◌++◌, refl}
 use Rattle.smx_types.specs.declared.command.Which.TheVariants as which
-use Rattle.smx_model.specs.Worked.Common.{OpenClone, Link, Plink, Unlink, Fd, Id, Fault, BadDescriptor, Below, NotMux, AlreadyBelow, Cycle, Ordinary, Persistent, Entry, ConfigView, IsLegal, after, view, legal, ◌does◌gets◌, eth, a, b, no_lines, fd_of, link_of, a_b_and_eth, opened_a_b_eth}
+use Rattle.smx_model.specs.Worked.Common.{OpenClone, Link, Plink, Unlink, Fd, Id, Fault, BadDescriptor, Below, NotMux}
+use Rattle.smx_model.specs.Worked.Common.{AlreadyBelow, Cycle, Ordinary, Persistent, Entry, ConfigView, IsLegal, after}
+use Rattle.smx_model.specs.Worked.Common.{view, legal, ◌does◌gets◌, eth, a, b, no_lines, fd_of, link_of, a_b_and_eth}
+use Rattle.smx_model.specs.Worked.Common.{opened_a_b_eth}
 
 abbrev pub history : List Entry
 history = opened_a_b_eth

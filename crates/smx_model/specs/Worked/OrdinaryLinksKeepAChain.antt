@@ -1,6 +1,8 @@
 -- Ordinary links keep a chain of streams while its top is open, close no cycle, and go all at once.
 use Rattle.std.specs.Prelude.{◌≡◌, List, [], ◌∷◌, refl}
-use Rattle.smx_model.specs.Worked.Common.{OpenClone, Close, CloseAll, Link, Transmit, Fd, Id, Done, Fault, NoMinor, Cycle, Empty, Entry, ConfigView, DriverSpec, IsLegal, after, view, legal, ◌does◌gets◌, eth, a, b, c, mux, leaf, no_lines}
+use Rattle.smx_model.specs.Worked.Common.{OpenClone, Close, CloseAll, Link, Transmit, Fd, Id, Done, Fault, NoMinor}
+use Rattle.smx_model.specs.Worked.Common.{Cycle, Empty, Entry, ConfigView, DriverSpec, IsLegal, after, view, legal}
+use Rattle.smx_model.specs.Worked.Common.{◌does◌gets◌, eth, a, b, c, mux, leaf, no_lines}
 
 abbrev pub drivers : List DriverSpec
 drivers = mux a 2 ∷ mux b 2 ∷ mux c 2 ∷ leaf eth 2 ∷ []

@@ -1,7 +1,9 @@
 -- A persistent link stays when its maker closes all, and takes its queued message with it when it is removed.
 use Rattle.std.specs.Prelude.{◌≡◌, List, [], ◌∷◌, ◌++◌, refl}
 use Rattle.smx_types.specs.declared.command.Which.TheVariants as which
-use Rattle.smx_model.specs.Worked.Common.{OpenClone, CloseAll, Plink, Punlink, Route, Inject, Transmit, Fd, Id, Took, Done, Fault, NoMinor, Entry, ConfigView, IsLegal, after, view, legal, ◌does◌gets◌, ip, eth, no_lines, fd_of, ip_over_eth, opened_ip_eth}
+use Rattle.smx_model.specs.Worked.Common.{OpenClone, CloseAll, Plink, Punlink, Route, Inject, Transmit, Fd, Id, Took}
+use Rattle.smx_model.specs.Worked.Common.{Done, Fault, NoMinor, Entry, ConfigView, IsLegal, after, view, legal}
+use Rattle.smx_model.specs.Worked.Common.{◌does◌gets◌, ip, eth, no_lines, fd_of, ip_over_eth, opened_ip_eth}
 
 abbrev pub history : List Entry
 history = opened_ip_eth

@@ -1,7 +1,9 @@
 -- Places go by stream and then by side, dropped serials rise, and full marks stay where no queue was emptied.
 use Rattle.std.specs.Prelude.{◌≡◌, List, [], ◌∷◌, ◌++◌, refl}
 use Rattle.smx_types.specs.declared.stream.Side.TheVariants as side
-use Rattle.smx_model.specs.Worked.Common.{OpenClone, CloseAll, Write, Flush, Inject, Transmit, Fd, Took, Got, Done, Fault, Full, RW, Entry, ConfigView, IsLegal, after, view, legal, ◌does◌gets◌, eth, no_lines, fd_of, message_at, full_at, ip_over_eth, opened_ip_eth_eth}
+use Rattle.smx_model.specs.Worked.Common.{OpenClone, CloseAll, Write, Flush, Inject, Transmit, Fd, Took, Got, Done}
+use Rattle.smx_model.specs.Worked.Common.{Fault, Full, RW, Entry, ConfigView, IsLegal, after, view, legal, ◌does◌gets◌}
+use Rattle.smx_model.specs.Worked.Common.{eth, no_lines, fd_of, message_at, full_at, ip_over_eth, opened_ip_eth_eth}
 
 abbrev pub history : List Entry
 history = opened_ip_eth_eth

@@ -1,6 +1,9 @@
--- With two processes: an open without its driver or a minor is refused, and so is a dup or close without its descriptor; a shared stream stays until its last close.
+-- With two processes: an open without its driver or a minor is refused, and so is a dup or close without its
+-- descriptor; a shared stream stays until its last close.
 use Rattle.std.specs.Prelude.{◌≡◌, List, [], ◌∷◌, refl}
-use Rattle.smx_model.specs.Worked.Common.{OpenClone, OpenMinor, Dup, Close, CloseAll, Fd, Done, Fault, BadDescriptor, NoDriver, NoMinor, Entry, ConfigView, IsLegal, after, view, legal, ◌does◌gets◌, ip, eth, tr, no_lines, fd_of, few_and_small}
+use Rattle.smx_model.specs.Worked.Common.{OpenClone, OpenMinor, Dup, Close, CloseAll, Fd, Done, Fault, BadDescriptor}
+use Rattle.smx_model.specs.Worked.Common.{NoDriver, NoMinor, Entry, ConfigView, IsLegal, after, view, legal}
+use Rattle.smx_model.specs.Worked.Common.{◌does◌gets◌, ip, eth, tr, no_lines, fd_of, few_and_small}
 
 abbrev pub history : List Entry
 history = 0 does OpenClone ip gets Fd 0 0

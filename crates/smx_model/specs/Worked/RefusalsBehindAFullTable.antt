@@ -1,6 +1,9 @@
 -- Behind a full descriptor table the other refusals of an open still come first.
 use Rattle.std.specs.Prelude.{◌≡◌, List, [], ◌∷◌, ◌++◌, refl}
-use Rattle.smx_model.specs.Worked.Common.{OpenClone, OpenMinor, Dup, Link, Fd, Id, Fault, BadDescriptor, Below, NoDriver, NoMinor, TooManyDescriptors, Ordinary, Entry, ConfigView, DriverSpec, IsLegal, after, view, legal, ◌does◌gets◌, ip, eth, tr, mux, leaf, no_lines, fd_of, link_of, opened_ip_eth}
+use Rattle.smx_model.specs.Worked.Common.{OpenClone, OpenMinor, Dup, Link, Fd, Id, Fault, BadDescriptor, Below}
+use Rattle.smx_model.specs.Worked.Common.{NoDriver, NoMinor, TooManyDescriptors, Ordinary, Entry, ConfigView}
+use Rattle.smx_model.specs.Worked.Common.{DriverSpec, IsLegal, after, view, legal, ◌does◌gets◌, ip, eth, tr, mux, leaf}
+use Rattle.smx_model.specs.Worked.Common.{no_lines, fd_of, link_of, opened_ip_eth}
 
 abbrev pub drivers : List DriverSpec
 drivers = mux ip 2 ∷ leaf eth 2 ∷ []

@@ -3,7 +3,8 @@ use Rattle.std.specs.Prelude.{List, [], ◌∷◌}
 use Rattle.smx_types.specs.ProgramLists.{ProgramLists}
 use Rattle.smx_types.specs.declared.transcript.Transcript.{Transcript}
 use Rattle.smx_types.specs.declared.version.Version.TheVariants.{V1}
-use Rattle.smx_model.specs.Worked.Common.{OpenClone, Dup, CloseAll, Fd, Done, Fault, BadDescriptor, Entry, ConfigView, DriverSpec, ◌does◌gets◌, ip, mux, no_lines, fd_of}
+use Rattle.smx_model.specs.Worked.Common.{OpenClone, Dup, CloseAll, Fd, Done, Fault, BadDescriptor, Entry, ConfigView}
+use Rattle.smx_model.specs.Worked.Common.{DriverSpec, ◌does◌gets◌, ip, mux, no_lines, fd_of}
 
 abbrev pub drivers : List DriverSpec
 drivers = mux ip 4 ∷ []

@@ -1,7 +1,9 @@
 -- Messages of no bytes or too many, and the ends of minors, queues and numbers.
 use Rattle.std.specs.Prelude.{◌≡◌, List, [], ◌∷◌, refl}
 use Rattle.smx_types.specs.declared.stream.Side.TheVariants as side
-use Rattle.smx_model.specs.Worked.Common.{OpenClone, OpenMinor, Write, Read, Flush, Inject, Fd, Took, Got, Done, Fault, NoDriver, NoMinor, Full, BadSize, W, Entry, ConfigView, IsLegal, after, view, legal, ◌does◌gets◌, eth, tr, no_lines, fd_of, message_at, few_and_small}
+use Rattle.smx_model.specs.Worked.Common.{OpenClone, OpenMinor, Write, Read, Flush, Inject, Fd, Took, Got, Done, Fault}
+use Rattle.smx_model.specs.Worked.Common.{NoDriver, NoMinor, Full, BadSize, W, Entry, ConfigView, IsLegal, after, view}
+use Rattle.smx_model.specs.Worked.Common.{legal, ◌does◌gets◌, eth, tr, no_lines, fd_of, message_at, few_and_small}
 
 abbrev pub history : List Entry
 history = 0 does OpenClone eth gets Fd 0 0

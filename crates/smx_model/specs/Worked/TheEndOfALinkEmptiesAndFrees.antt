@@ -1,7 +1,9 @@
 -- The end of a link empties the read side below it, which is then not full.
 use Rattle.std.specs.Prelude.{◌≡◌, List, [], ◌∷◌, ◌++◌, refl}
 use Rattle.smx_types.specs.declared.command.Which.TheVariants as which
-use Rattle.smx_model.specs.Worked.Common.{Close, Link, Unlink, Read, Inject, Id, Took, Got, Done, Fault, Full, Entry, ConfigView, IsLegal, after, view, legal, ◌does◌gets◌, eth, no_lines, fd_of, ip_over_eth, opened_ip_eth}
+use Rattle.smx_model.specs.Worked.Common.{Close, Link, Unlink, Read, Inject, Id, Took, Got, Done, Fault, Full, Entry}
+use Rattle.smx_model.specs.Worked.Common.{ConfigView, IsLegal, after, view, legal, ◌does◌gets◌, eth, no_lines, fd_of}
+use Rattle.smx_model.specs.Worked.Common.{ip_over_eth, opened_ip_eth}
 
 abbrev pub history : List Entry
 history = opened_ip_eth

@@ -2,7 +2,9 @@
 use Rattle.std.specs.Prelude.{List, [], ◌∷◌, ◌++◌, refl}
 use Rattle.smx_types.specs.declared.command.Which.TheVariants as which
 use Rattle.smx_model.specs.Configuration.{Configuration, empty}
-use Rattle.smx_model.specs.Worked.Common.{Link, Plink, Unlink, Write, Inject, Id, Took, Done, Fault, AlreadyBelow, Cycle, TooManyLinks, Full, BadSize, Entry, IsLegalFrom, legal_from, ◌does◌gets◌, eth, ip_over_eth, opened_ip_eth_eth}
+use Rattle.smx_model.specs.Worked.Common.{Link, Plink, Unlink, Write, Inject, Id, Took, Done, Fault, AlreadyBelow}
+use Rattle.smx_model.specs.Worked.Common.{Cycle, TooManyLinks, Full, BadSize, Entry, IsLegalFrom, legal_from}
+use Rattle.smx_model.specs.Worked.Common.{◌does◌gets◌, eth, ip_over_eth, opened_ip_eth_eth}
 
 -- nothing is open, and one id and one serial are left
 abbrev pub nearly_used_up : Configuration

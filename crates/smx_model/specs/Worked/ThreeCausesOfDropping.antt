@@ -1,7 +1,9 @@
 -- Unlinking, the end of a link with its controlling stream and the last close each name what they drop.
 use Rattle.std.specs.Prelude.{◌≡◌, List, [], ◌∷◌, ◌++◌, refl}
 use Rattle.smx_types.specs.declared.command.Which.TheVariants as which
-use Rattle.smx_model.specs.Worked.Common.{Close, Link, Unlink, Route, Write, Inject, Id, Took, Done, Entry, ConfigView, IsLegal, after, view, legal, ◌does◌gets◌, eth, no_lines, ip_over_eth, opened_ip_eth}
+use Rattle.smx_model.specs.Worked.Common.{Close, Link, Unlink, Route, Write, Inject, Id, Took, Done, Entry, ConfigView}
+use Rattle.smx_model.specs.Worked.Common.{IsLegal, after, view, legal, ◌does◌gets◌, eth, no_lines, ip_over_eth}
+use Rattle.smx_model.specs.Worked.Common.{opened_ip_eth}
 
 abbrev pub history : List Entry
 history = opened_ip_eth

@@ -1,5 +1,6 @@
 -- Which places some commands of worked histories turn and free, and the moves of settling that come of it.
-use Rattle.std.specs.Prelude.{◌≡◌, ℕ, Bool, true, false, List, [], ◌∷◌, Option, Some, None, filter, if◌then◌else◌, map, refl, take}
+use Rattle.std.specs.Prelude.{◌≡◌, ℕ, Bool, true, false, List, [], ◌∷◌, Option, Some, None, filter, if◌then◌else◌, map}
+use Rattle.std.specs.Prelude.{refl, take}
 use Rattle.std.specs.List.{list_all}
 use Rattle.smx_types.specs.declared.command.Command.{Command}
 use Rattle.smx_types.specs.declared.command.Which.TheVariants as which
@@ -168,7 +169,8 @@ pub both_move : moves_of_settling ip_over_eth drained ≡ ip_0_write ∷ ip_1_wr
 both_move = refl
 
 -- a move turns the place that it takes from, and the place that it goes to, if that was empty
-pub a_first_move_turns_two : filter (turned_by_move ip_over_eth drained ip_0_write) places ≡ ip_0_write ∷ eth_0_write ∷ []
+pub a_first_move_turns_two : filter (turned_by_move ip_over_eth drained ip_0_write) places
+    ≡ ip_0_write ∷ eth_0_write ∷ []
 a_first_move_turns_two = refl
 
 abbrev pub once_moved : Configuration
@@ -192,7 +194,8 @@ pub a_freed_place_is_wanted_no_longer : filter (wanted_after full drained (λ p.
 a_freed_place_is_wanted_no_longer = refl
 
 -- the write sides above can feed a write side below, and the read sides below a read side above; nothing else can
-pub what_can_feed : map (λ q. filter (can_feed full q) places) (eth_0_write ∷ ip_0_read ∷ eth_1_write ∷ eth_0_read ∷ ip_0_write ∷ [])
+pub what_can_feed : map (λ q. filter (can_feed full q) places)
+    (eth_0_write ∷ ip_0_read ∷ eth_1_write ∷ eth_0_read ∷ ip_0_write ∷ [])
     ≡ (ip_0_write ∷ ip_1_write ∷ []) ∷ (eth_0_read ∷ []) ∷ [] ∷ [] ∷ [] ∷ []
 what_can_feed = refl
 
@@ -200,5 +203,6 @@ what_can_feed = refl
 abbrev pub known_in_it : Place → Option Place
 known_in_it p = if same_place p ip_0_write then Some eth_0_write else None
 
-pub one_awaits : map (λ q. filter (awaits known_in_it q) places) (eth_0_write ∷ eth_1_write ∷ []) ≡ (ip_0_write ∷ []) ∷ [] ∷ []
+pub one_awaits : map (λ q. filter (awaits known_in_it q) places) (eth_0_write ∷ eth_1_write ∷ [])
+    ≡ (ip_0_write ∷ []) ∷ [] ∷ []
 one_awaits = refl

@@ -1,6 +1,8 @@
 -- Messages go down and up through two levels of multiplexers, and all links go with their last close.
 use Rattle.std.specs.Prelude.{◌≡◌, List, [], ◌∷◌, ◌++◌, refl}
-use Rattle.smx_model.specs.Worked.Common.{Close, Link, Bind, Route, Write, Read, Inject, Transmit, Id, Took, Got, Done, Fault, Below, Entry, ConfigView, IsLegal, after, view, legal, ◌does◌gets◌, eth, no_lines, fd_of, top_mid_and_eth, opened_top_mid_eth}
+use Rattle.smx_model.specs.Worked.Common.{Close, Link, Bind, Route, Write, Read, Inject, Transmit, Id, Took, Got, Done}
+use Rattle.smx_model.specs.Worked.Common.{Fault, Below, Entry, ConfigView, IsLegal, after, view, legal, ◌does◌gets◌}
+use Rattle.smx_model.specs.Worked.Common.{eth, no_lines, fd_of, top_mid_and_eth, opened_top_mid_eth}
 
 abbrev pub history : List Entry
 history = opened_top_mid_eth

@@ -1,7 +1,10 @@
 -- Of two streams that wait on one queue the lesser goes first, and none is forgotten.
 use Rattle.std.specs.Prelude.{◌≡◌, List, [], ◌∷◌, take, ◌++◌, refl}
 use Rattle.smx_types.specs.declared.stream.Side.TheVariants as side
-use Rattle.smx_model.specs.Worked.Common.{Link, Route, Write, Transmit, Id, Took, Got, Done, Fault, Empty, Ordinary, Entry, ConfigView, IsLegal, after, view, legal, ◌does◌gets◌, ip, eth, no_lines, link_of, route_of, message_at, MessageLine, ip_over_eth, opened_ip_ip_eth, fds_of_ip_ip_eth}
+use Rattle.smx_model.specs.Worked.Common.{Link, Route, Write, Transmit, Id, Took, Got, Done, Fault, Empty, Ordinary}
+use Rattle.smx_model.specs.Worked.Common.{Entry, ConfigView, IsLegal, after, view, legal, ◌does◌gets◌, ip, eth}
+use Rattle.smx_model.specs.Worked.Common.{no_lines, link_of, route_of, message_at, MessageLine, ip_over_eth}
+use Rattle.smx_model.specs.Worked.Common.{opened_ip_ip_eth, fds_of_ip_ip_eth}
 
 abbrev pub history : List Entry
 history = opened_ip_ip_eth

@@ -4,7 +4,7 @@ ghost use Rattle.std.specs.Prelude.{◌≡◌, [], All, IfSome};
 
 use super::gates::Told::{After, Before};
 use super::gates::{Log, Told, by_worker};
-use smx_run::{Job, work};
+use smx_run::{SeatedProgram, work};
 use smx_shared::{ApplyFault, Door, Front, System};
 use smx_types::{Command, Commands, DriverKind, DriverSpec, Entry, Name, Process};
 use std::alloc::Global;
@@ -110,16 +110,16 @@ fn seat_of(alloc: Global, process: u32) -> Option<OwnSeat>
 }
 
 // Three opens for a process, with a seat of its own.
-fn job_of(alloc: Global, process: u32) -> Option<Job<OwnSeat>>
+fn job_of(alloc: Global, process: u32) -> Option<SeatedProgram<OwnSeat>>
     ensures { IfSome result (λ j. j.seat.system.history ≡ []) }
 {
     let commands = three_opens(alloc)?;
     let seat = seat_of(alloc, process)?;
-    Some(Job { seat, commands })
+    Some(SeatedProgram { seat, commands })
 }
 
 // The hand of a worker who has these two processes.
-fn hand_of(alloc: Global, processes: [u32; 2]) -> Option<Vec<Job<OwnSeat>>>
+fn hand_of(alloc: Global, processes: [u32; 2]) -> Option<Vec<SeatedProgram<OwnSeat>>>
     ensures { IfSome result (λ v. All (λ j. j.seat.system.history ≡ []) v.items) }
 {
     let [earlier, later] = processes;

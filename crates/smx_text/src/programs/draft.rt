@@ -16,8 +16,8 @@ ghost use Rattle.smx_text.specs.ProgramLines.{Driver as DriverLine, Process as P
 ghost use Rattle.smx_text.specs.ProgramLines.{Command as CommandLine, End};
 ghost use Rattle.smx_text.specs.ProgramsText.{body, programs_grammar};
 
-use crate::fault::Cause;
 use crate::reading::Draft;
+use crate::text_fault::Cause;
 use smx_types::{
     Command, Commands, DriverSpec, Drivers, MAX_COMMANDS, MAX_PROCESSES, NoMemory, ProgramList,
     Programs, Version,

@@ -21,8 +21,8 @@ ghost use Rattle.smx_text.specs.TranscriptLines.{Next as NextLine, Fd as FdLine,
 ghost use Rattle.smx_text.specs.TranscriptLines.{Route as AnyRoute, Msg as MsgLine, Full as AnyFull};
 ghost use Rattle.smx_text.specs.TranscriptLines.{Hung as AnyHung, End};
 
-use crate::fault::Cause;
 use crate::reading::Draft;
+use crate::text_fault::Cause;
 use smx_types::{
     BindingLine, ConfigView, DescriptorLine, DriverSpec, Entry, FullLine, HungLine, Items,
     LinkLine, MAX_COMMANDS, MessageLine, NoMemory, RouteLine, Transcript, Version,

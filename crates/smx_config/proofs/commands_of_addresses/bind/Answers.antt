@@ -6,7 +6,9 @@ use Rattle.smx_config.proofs.commands_of_addresses.bind.Goals as goal
 
 pub returns-clause-refines : goal.returns-clause-refines
 returns-clause-refines c =
-    bind_does c.args.drivers.now (configuration_of c.args.lists.now) c.args.process c.args.fd c.args.addr c.in_ok-stream.stream _ _ (c.idle_changes_drop_none.ensures c.args.drivers.now) c.requires.swept_already (sym c.mux_stream.ensures ∙ c.in_ok-stream.was)
+    bind_does c.args.drivers.now (configuration_of c.args.lists.now) c.args.process c.args.fd c.args.addr
+    c.in_ok-stream.stream _ _ (c.idle_changes_drop_none.ensures c.args.drivers.now) c.requires.swept_already
+    (sym c.mux_stream.ensures ∙ c.in_ok-stream.was)
     (sym c.refuse_taken_address.ensures ∙ c.in_ok-refuse_taken_address.was)
     (rw c.in_ok-bind.ensures.ok refl) (rw c.new.ensures refl)
 

@@ -3,7 +3,9 @@ use Rattle.smx_tables.proofs.AboveLemmas.{some_with_id, none_with_id}
 use Rattle.smx_config.proofs.commands_of_addresses.has_link.Goals as goal
 
 pub returns-in-Some : goal.returns-in-Some
-returns-in-Some c = some_with_id (λ l. eqb l.ctl.driver c.args.driver) c.args.id c.args.links.now.links c.in-Some.link.now c.is_sound.ensures.ids.rise c.in-Some.ensures
+returns-in-Some c = some_with_id (λ l. eqb l.ctl.driver c.args.driver) c.args.id c.args.links.now.links
+    c.in-Some.link.now c.is_sound.ensures.ids.rise c.in-Some.ensures
 
 pub returns-in-None : goal.returns-in-None
-returns-in-None c = none_with_id (λ l. eqb l.ctl.driver c.args.driver) c.args.id c.args.links.now.links c.is_sound.ensures.ids.rise c.in-None.ensures
+returns-in-None c = none_with_id (λ l. eqb l.ctl.driver c.args.driver) c.args.id c.args.links.now.links
+    c.is_sound.ensures.ids.rise c.in-None.ensures

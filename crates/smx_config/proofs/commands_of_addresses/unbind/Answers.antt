@@ -5,6 +5,8 @@ use Rattle.smx_config.proofs.commands_of_addresses.unbind.Goals as goal
 
 pub returns-clause-refines : goal.returns-clause-refines
 returns-clause-refines c =
-    unbind_does c.args.drivers.now (configuration_of c.args.lists.now) c.args.process c.args.fd c.in_ok-stream.stream _ _ (c.idle_changes_drop_none.ensures c.args.drivers.now) c.requires.swept_already (sym c.mux_stream.ensures ∙ c.in_ok-stream.was)
+    unbind_does c.args.drivers.now (configuration_of c.args.lists.now) c.args.process c.args.fd c.in_ok-stream.stream _
+    _ (c.idle_changes_drop_none.ensures c.args.drivers.now) c.requires.swept_already
+    (sym c.mux_stream.ensures ∙ c.in_ok-stream.was)
     (sym c.refuse_unbound.ensures ∙ c.in_ok-refuse_unbound.was)
     (rw c.unbind-binding.ensures.rest refl) (rw c.new.ensures refl)

@@ -19,7 +19,10 @@ sweep_and_reply-requires-clause-touched c =
     let t = c.args.lists.now.streams in
     let ss = c.in_ok-room.room.touched.items in
     let goes = λ (p : Place). same_stream p.stream c.in_ok-stream.stream && is_side c.args.sides p.side in
-    rw (c.drop_sides.ensures.flow, c.drop_sides.ensures.fulls) (touched_emptied t ss old goes (touched_by c.args.drivers.now old t t ss c.requires.existing c.requires.swept_already (λ s there. or_left _ _ there)))
+    rw (c.drop_sides.ensures.flow, c.drop_sides.ensures.fulls)
+    (touched_emptied t ss old goes
+    (touched_by c.args.drivers.now old t t ss c.requires.existing c.requires.swept_already
+    (λ s there. or_left _ _ there)))
 
 pub sweep_and_reply-requires-clause-room : goal.sweep_and_reply-requires-clause-room
 sweep_and_reply-requires-clause-room c = record {

@@ -4,7 +4,8 @@ use Rattle.smx_config.proofs.ClosingLemmas.{fd_at}
 use Rattle.smx_config.proofs.commands_of_streams.close.Goals as goal
 
 pub close_last-requires-clause-there : goal.close_last-requires-clause-there
-close_last-requires-clause-there c = fd_at (stream_at c.args.lists.now.streams.fds c.args.process c.args.fd) c.in_ok-stream.stream (sym c.stream_of.ensures ∙ c.in_ok-stream.was)
+close_last-requires-clause-there c = fd_at (stream_at c.args.lists.now.streams.fds c.args.process c.args.fd)
+    c.in_ok-stream.stream (sym c.stream_of.ensures ∙ c.in_ok-stream.was)
 
 pub close_shared-requires-clause-stays : goal.close_shared-requires-clause-stays
 close_shared-requires-clause-stays c = sym c.is_last.ensures ∙ c.if-is_last.false

@@ -23,12 +23,14 @@ sweep_and_reply-requires-clause-touched c =
     let t = c.args.lists.now.streams in
     let u = c.close_process.new.self in
     let ss = c.touch_each.new.touched.items in
-    touched_hungs u ss (record old { fds = u.fds }) u.hungs (touched_fds u ss old u.fds (touched_by c.args.drivers.now old t u ss c.requires.existing c.requires.swept_already
+    touched_hungs u ss (record old { fds = u.fds }) u.hungs
+    (touched_fds u ss old u.fds (touched_by c.args.drivers.now old t u ss c.requires.existing c.requires.swept_already
     (all_closed_touch t u c.args.process ss c.touch_each.ensures.named c.close_process.ensures.went)))
 
 pub sweep_and_reply-requires-clause-room : goal.sweep_and_reply-requires-clause-room
 sweep_and_reply-requires-clause-room c = record {
-  touched_room = omega (arith, c.touch_each.ensures.few, c.touch_each.ensures.capacity, c.in_ok-room.ensures.room.touched_room);
+  touched_room =
+      omega (arith, c.touch_each.ensures.few, c.touch_each.ensures.capacity, c.in_ok-room.ensures.room.touched_room);
   seen_empty = c.in_ok-room.ensures.room.seen_empty;
   seen_room = omega (arith, c.touch_each.ensures.few, c.in_ok-room.ensures.room.seen_room);
   orphaned_empty = c.in_ok-room.ensures.room.orphaned_empty;
@@ -40,6 +42,8 @@ pub returns-clause-refines : goal.returns-clause-refines
 returns-clause-refines c =
     let old = configuration_of c.args.lists.now in
     let u = c.close_process.new.self in
-    let left = sweep_of_left c.args.drivers.now (record old { fds = u.fds; hungs = u.hungs }) u old.hungs (λ s. c.close_process.ensures.rest.holds s ∙ c.requires.kept.held s) refl c.close_process.ensures.rest.hungs in
-    done_is c.args.drivers.now old _ (configuration_of c.sweep_and_reply.new.lists) c.sweep_and_reply.result (c.sweep_and_reply.ensures.value ∙ left ∙ rw c.close_process.ensures.rest.fds refl)
+    let left = sweep_of_left c.args.drivers.now (record old { fds = u.fds; hungs = u.hungs }) u old.hungs
+    (λ s. c.close_process.ensures.rest.holds s ∙ c.requires.kept.held s) refl c.close_process.ensures.rest.hungs in
+    done_is c.args.drivers.now old _ (configuration_of c.sweep_and_reply.new.lists) c.sweep_and_reply.result
+    (c.sweep_and_reply.ensures.value ∙ left ∙ rw c.close_process.ensures.rest.fds refl)
     (c.sweep_and_reply.ensures.reply c.args.lists.now.queues.flow c.requires.serials.apart c.in_ok-room.ensures.none)

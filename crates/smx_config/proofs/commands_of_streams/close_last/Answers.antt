@@ -27,15 +27,30 @@ sweep_and_reply-requires-clause-touched c =
     let t = c.args.lists.now.streams in
     let u = c.close_fd-closed.new.self in
     let ss = c.push_reserved.new.self.items in
-    let last = ap (λ (xs : List StreamId). list_any (same_stream c.args.stream) xs) c.push_reserved.ensures.items ∙ listed_last c.in_ok-room.room.touched.items c.args.stream in
-    touched_hungs u ss (record old { fds = u.fds }) u.hungs (touched_fds u ss old u.fds (touched_by c.args.drivers.now old t u ss c.requires.invariant.existing c.requires.invariant.swept_already
-    (closed_touches t u c.args.process c.args.fd c.args.stream ss c.requires.there last c.close_fd-closed.ensures.went)))
+    let last = ap (λ (xs : List StreamId). list_any (same_stream c.args.stream) xs) c.push_reserved.ensures.items
+    ∙ listed_last c.in_ok-room.room.touched.items c.args.stream in
+    touched_hungs u ss (record old { fds = u.fds }) u.hungs
+    (touched_fds u ss old u.fds
+    (touched_by c.args.drivers.now old t u ss c.requires.invariant.existing c.requires.invariant.swept_already
+    (closed_touches t u c.args.process c.args.fd c.args.stream ss c.requires.there last
+    c.close_fd-closed.ensures.went)))
 
 pub sweep_and_reply-requires-clause-room : goal.sweep_and_reply-requires-clause-room
 sweep_and_reply-requires-clause-room c = record {
-  touched_room = omega (arith, ap length c.push_reserved.ensures.items, length-append c.in_ok-room.room.touched.items (c.args.stream ∷ []), c.push_reserved.ensures.capacity, c.in_ok-room.ensures.room.touched_room);
+  touched_room = omega (
+    arith,
+    ap length c.push_reserved.ensures.items,
+    length-append c.in_ok-room.room.touched.items (c.args.stream ∷ []),
+    c.push_reserved.ensures.capacity,
+    c.in_ok-room.ensures.room.touched_room,
+  );
   seen_empty = c.in_ok-room.ensures.room.seen_empty;
-  seen_room = omega (arith, ap length c.push_reserved.ensures.items, length-append c.in_ok-room.room.touched.items (c.args.stream ∷ []), c.in_ok-room.ensures.room.seen_room);
+  seen_room = omega (
+    arith,
+    ap length c.push_reserved.ensures.items,
+    length-append c.in_ok-room.room.touched.items (c.args.stream ∷ []),
+    c.in_ok-room.ensures.room.seen_room,
+  );
   orphaned_empty = c.in_ok-room.ensures.room.orphaned_empty;
   orphaned_room = c.in_ok-room.ensures.room.orphaned_room;
   dropped_room = c.in_ok-room.ensures.room.dropped_room;
@@ -45,6 +60,10 @@ pub returns-clause-outcome : goal.returns-clause-outcome
 returns-clause-outcome c =
     let old = configuration_of c.args.lists.now in
     let u = c.close_fd-closed.new.self in
-    let left = sweep_of_left c.args.drivers.now (record old { fds = u.fds; hungs = u.hungs }) u old.hungs (λ s. c.close_fd-closed.ensures.rest.holds s ∙ c.requires.invariant.kept.held s) refl c.close_fd-closed.ensures.rest.hungs in
-    done_is c.args.drivers.now old _ (configuration_of c.sweep_and_reply.new.lists) c.sweep_and_reply.result (c.sweep_and_reply.ensures.value ∙ left ∙ rw c.close_fd-closed.ensures.rest.fds refl)
-    (c.sweep_and_reply.ensures.reply c.args.lists.now.queues.flow c.requires.invariant.serials.apart c.in_ok-room.ensures.none)
+    let left = sweep_of_left c.args.drivers.now (record old { fds = u.fds; hungs = u.hungs }) u old.hungs
+    (λ s. c.close_fd-closed.ensures.rest.holds s ∙ c.requires.invariant.kept.held s) refl
+    c.close_fd-closed.ensures.rest.hungs in
+    done_is c.args.drivers.now old _ (configuration_of c.sweep_and_reply.new.lists) c.sweep_and_reply.result
+    (c.sweep_and_reply.ensures.value ∙ left ∙ rw c.close_fd-closed.ensures.rest.fds refl)
+    (c.sweep_and_reply.ensures.reply c.args.lists.now.queues.flow c.requires.invariant.serials.apart
+    c.in_ok-room.ensures.none)

@@ -8,7 +8,8 @@ use Rattle.smx_config.proofs.commands_of_streams.touch_each.Given as goal
 
 abbrev pub invariant-loop-fd : goal.invariant-loop-fd
 invariant-loop-fd l = record {
-  named : (n : ℕ) (s : StreamId) → n < l.fd → stream_at l.streams.fds l.process n ≡ Some s → list_any (same_stream s) l.touched.items ≡ true;
+  named : (n : ℕ) (s : StreamId) → n < l.fd → stream_at l.streams.fds l.process n ≡ Some s
+      → list_any (same_stream s) l.touched.items ≡ true;
   few : length l.touched.items ≤ length l.initial.touched.items + l.fd;
   capacity : vec_capacity l.touched ≡ vec_capacity l.initial.touched;
 }

@@ -17,7 +17,8 @@ returns c = λ drivers old p q m n sound marks next woken.
       known = λ r. c.places_are_known.ensures.with_messages drivers new r still;
       turns = λ r. move_turns drivers old p q r next;
       frees = λ r f. f;
-      turns_only = turned_is drivers old new p q next (c.moves_turn_two.ensures drivers old p q sound.ordered.flow next);
+      turns_only =
+          turned_is drivers old new p q next (c.moves_turn_two.ensures drivers old p q sound.ordered.flow next);
       frees_only = λ r. c.moves_free_one.ensures drivers old p r;
     } in
     record {
@@ -25,8 +26,11 @@ returns c = λ drivers old p q m n sound marks next woken.
       run = woken.released.run_drivers ∙ marks.run;
       wanted = woken.released.wanted_drivers ∙ marks.wanted;
       waits = rw woken.released.waits marks.waits;
-      waiting = c.moves_keep_marks.ensures drivers p (marked_configuration old m) (marked_configuration new n) sound.ordered.flow marks.waiting refl
-          (marked_after drivers old new (turned_by_move drivers old p) (same_place p) ends (same_place p) m n marks among woken);
+      waiting = c.moves_keep_marks.ensures drivers p (marked_configuration old m)
+          (marked_configuration new n) sound.ordered.flow marks.waiting refl
+          (marked_after drivers old new (turned_by_move drivers old p) (same_place p) ends
+          (same_place p) m n marks among woken);
       full = full_again drivers old new ends (same_place p) (same_place p) m n marks among.frees_only among.frees woken;
-      held_up = held_up_still drivers old new (turned_by_move drivers old p) (same_place p) ends (same_place p) m n marks among woken;
+      held_up = held_up_still drivers old new (turned_by_move drivers old p) (same_place p) ends
+          (same_place p) m n marks among woken;
     }

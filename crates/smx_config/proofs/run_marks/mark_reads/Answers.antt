@@ -4,8 +4,10 @@ use Rattle.smx_config.proofs.RunMarkLemmas.{one_left, one_passed}
 use Rattle.smx_config.proofs.run_marks.mark_reads.Goals as goal
 
 pub loop-first-preserved-then-is_read_below : goal.loop-first-preserved-then-is_read_below
-loop-first-preserved-then-is_read_below c = one_passed _ _ _ _ _ _ _ _ c.in-Some.ensures c.loop-first.invariant c.mark.ensures.here c.mark.ensures.kept c.mark.ensures.drivers
+loop-first-preserved-then-is_read_below c = one_passed _ _ _ _ _ _ _ _ c.in-Some.ensures c.loop-first.invariant
+    c.mark.ensures.here c.mark.ensures.kept c.mark.ensures.drivers
 
 pub loop-first-preserved : goal.loop-first-preserved
 loop-first-preserved c =
-    one_left _ _ _ _ _ _ _ c.in-Some.ensures c.loop-first.invariant (sym (c.is_read_below.ensures (configuration_of c.args.lists.now) refl) ∙ c.if-is_read_below.false)
+    one_left _ _ _ _ _ _ _ c.in-Some.ensures c.loop-first.invariant
+    (sym (c.is_read_below.ensures (configuration_of c.args.lists.now) refl) ∙ c.if-is_read_below.false)

@@ -8,4 +8,5 @@ abbrev pub decreases-loop-first : goal.decreases-loop-first
 decreases-loop-first l = length l.rest
 
 abbrev pub invariant-loop-first : goal.invariant-loop-first
-invariant-loop-first l = ArePassed l.lists.queues.flow l.rest (is_read_below_driver (configuration_of l.lists) l.driver) l.initial.run l.run
+invariant-loop-first l =
+    ArePassed l.lists.queues.flow l.rest (is_read_below_driver (configuration_of l.lists) l.driver) l.initial.run l.run

@@ -26,4 +26,7 @@ returns-in_ok-stream-in-Transmit-clause-in_place c =
 pub returns-in-OpenClone-clause-makes : goal.returns-in-OpenClone-clause-makes
 returns-in-OpenClone-clause-makes c =
     let plain : carries_nothing c.args.command.now ≡ true = search rules in
-    nothing_fits c.args.drivers.now (configuration_of c.args.lists.now) c.args.process c.args.command.now c.no_room.result plain (c.other_commands_drop_none.ensures c.args.drivers.now (configuration_of c.args.lists.now) c.args.process c.args.command.now c.requires.swept_already) c.no_room.ensures
+    nothing_fits c.args.drivers.now (configuration_of c.args.lists.now) c.args.process c.args.command.now
+    c.no_room.result plain
+    (c.other_commands_drop_none.ensures c.args.drivers.now (configuration_of c.args.lists.now) c.args.process
+    c.args.command.now c.requires.swept_already) c.no_room.ensures

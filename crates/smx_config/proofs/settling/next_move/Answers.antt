@@ -1,18 +1,11 @@
 use Rattle.smx_queues.specs.PlaceMarks.{has_mark}
 use Rattle.smx_tables.specs.ModelOfLists.{configuration_of}
-use Rattle.smx_config.proofs.NextMoveLemmas.{least_none, movable_to, moves_to}
+use Rattle.smx_config.proofs.NextMoveLemmas.{least_none}
 use Rattle.smx_config.proofs.settling.next_move.Goals as goal
 
-pub returns-in-Some-if_open-clause-least : goal.returns-in-Some-if_open-clause-least
-returns-in-Some-if_open-clause-least c =
+pub returns-in-None-clause-least : goal.returns-in-None-clause-least
+returns-in-None-clause-least c =
     let now = configuration_of c.args.lists.now in
-    let moves = moves_to c.args.drivers.now now c.in-Some.from c.in-Some-if_open.to c.next_of_first-next.result c.next_of_first-next.ensures c.in-Some-if_open.ensures in (
-      c.the_least_marked_is_the_least.ensures c.args.drivers.now now (has_mark c.loop-from.marks.run) (has_mark c.loop-from.marks.wanted) c.in-Some.from c.requires.sound.ordered.flow c.loop-from.invariant.waiting c.in-Some.ensures.none_before
-          (movable_to c.args.drivers.now now c.in-Some.from c.in-Some-if_open.to moves),
-      moves,
-    )
-
-pub returns-clause-least : goal.returns-clause-least
-returns-clause-least c =
-    let now = configuration_of c.args.lists.now in
-    least_none c.args.drivers.now now (c.without_marks_it_is_settled.ensures c.args.drivers.now now (has_mark c.loop-from.marks.run) (has_mark c.loop-from.marks.wanted) c.loop-from.invariant.waiting c.in_default.ensures)
+    least_none c.args.drivers.now now
+    (c.without_marks_it_is_settled.ensures c.args.drivers.now now (has_mark c.args.marks.now.run)
+    (has_mark c.args.marks.now.wanted) c.requires.marks.waiting c.in-None.ensures)

@@ -11,7 +11,8 @@ decreases-loop-left l = l.left
 
 abbrev pub invariant-loop-left : goal.invariant-loop-left
 invariant-loop-left l = record {
-  comes_to : after_settling_within l.drivers l.left (configuration_of l.lists) ≡ after_settling l.drivers (configuration_of l.initial.lists);
+  comes_to : after_settling_within l.drivers l.left (configuration_of l.lists)
+      ≡ after_settling l.drivers (configuration_of l.initial.lists);
   kept : KeepsHolds l.lists;
   sound : IsSound l.drivers (configuration_of l.lists);
   marks : AreMarks l.drivers (configuration_of l.lists) l.marks;

@@ -5,12 +5,15 @@ use Rattle.smx_config.proofs.wakes.message_stream.Goals as goal
 
 pub returns-in-Inject-clause-known : goal.returns-in-Inject-clause-known
 returns-in-Inject-clause-known c = answers_known c.args.drivers.now _ (λ s is.
-    live_leaf_known c.args.drivers.now (configuration_of c.args.lists.now) _ _ s c.requires.known (sym c.live_leaf.ensures ∙ is))
+    live_leaf_known c.args.drivers.now (configuration_of c.args.lists.now) _ _ s c.requires.known
+    (sym c.live_leaf.ensures ∙ is))
 
 pub returns-in-Write-clause-known : goal.returns-in-Write-clause-known
 returns-in-Write-clause-known c = answers_known c.args.drivers.now _ (λ s is.
-    live_known c.args.drivers.now (configuration_of c.args.lists.now) _ _ s c.requires.known (sym c.live_stream.ensures ∙ is))
+    live_known c.args.drivers.now (configuration_of c.args.lists.now) _ _ s c.requires.known
+    (sym c.live_stream.ensures ∙ is))
 
 pub returns-in-Read-clause-known : goal.returns-in-Read-clause-known
 returns-in-Read-clause-known c = answers_known c.args.drivers.now _ (λ s is.
-    free_known c.args.drivers.now (configuration_of c.args.lists.now) _ _ s c.requires.known (sym c.free_stream.ensures ∙ is))
+    free_known c.args.drivers.now (configuration_of c.args.lists.now) _ _ s c.requires.known
+    (sym c.free_stream.ensures ∙ is))

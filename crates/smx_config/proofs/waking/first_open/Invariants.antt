@@ -13,5 +13,6 @@ decreases-loop-place l = length l.rest
 abbrev pub invariant-loop-place : goal.invariant-loop-place
 invariant-loop-place l = record {
   marked : (p : Place) → list_any (same_place p) l.rest ≡ true → has_mark l.wanted p ≡ true;
-  left : (p : Place) → has_mark l.wanted p ≡ true → is_full (configuration_of l.lists) p ≡ false → list_any (same_place p) l.rest ≡ true;
+  left : (p : Place) → has_mark l.wanted p ≡ true → is_full (configuration_of l.lists) p ≡ false
+      → list_any (same_place p) l.rest ≡ true;
 }

@@ -9,4 +9,5 @@ returns-in_err-verdict g c =
     let input = c.in_ok-input.ensures in
     let fault = c.in_err-verdict.field-0.0 in
     let said = subst (λ bytes. Answers checking bytes (Err fault)) c.as_slice.ensures.value c.in_err-verdict.ensures in
-    passed_on checking _ _ _ _ _ _ _ c.in_ok-input.input input.0 input.1 c.requires.sunk fault _ c.from_residual-in_err-verdict.ensures.1 said
+    passed_on checking _ _ _ _ _ _ _ c.in_ok-input.input input.0 input.1 c.requires.sunk fault _
+    c.from_residual-in_err-verdict.ensures.1 said

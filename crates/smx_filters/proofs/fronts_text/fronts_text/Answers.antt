@@ -9,8 +9,10 @@ loop-front-preserved c =
     let before = c.loop-front.invariant in
     let fronts = c.args.fronts.now in
     let i = c.loop-front.front-index in
-    let number : c.loop-front.process ≡ length (take i fronts) = omega (arith, before.process, c.loop-front-test.true, length-take-le i fronts (omega (arith, c.loop-front-test.true))) in
+    let number : c.loop-front.process ≡ length (take i fronts) = omega
+    (arith, before.process, c.loop-front-test.true, length-take-le i fronts (omega (arith, c.loop-front-test.true))) in
     record {
       process = search rules;
-      text = line_behind fronts_header _ _ c.loop-front.process _ _ _ before.text c.in_ok-add_front.ensures number (take_more fronts i _ c.loop-front-test.true);
+      text = line_behind fronts_header _ _ c.loop-front.process _ _ _ before.text c.in_ok-add_front.ensures number
+          (take_more fronts i _ c.loop-front-test.true);
     }

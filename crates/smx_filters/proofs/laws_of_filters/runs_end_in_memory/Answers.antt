@@ -5,7 +5,9 @@ pub returns-clause-ends : goal.returns-clause-ends
 returns-clause-ends c = λ input left output workers fronts ended flushed. memory.ends _ input left output ended flushed
 
 pub returns-clause-unread : goal.returns-clause-unread
-returns-clause-unread c = λ input left output workers fronts ended flushed. memory.unread _ input left output ended flushed
+returns-clause-unread c =
+    λ input left output workers fronts ended flushed. memory.unread _ input left output ended flushed
 
 pub returns-clause-cut_short : goal.returns-clause-cut_short
-returns-clause-cut_short c = λ input left output workers fronts ended flushed. memory.cut_short _ input left output ended flushed
+returns-clause-cut_short c =
+    λ input left output workers fronts ended flushed. memory.cut_short _ input left output ended flushed

@@ -1,13 +1,18 @@
-use Rattle.smx_filters.proofs.ReplayTextLemmas.{gives, replay_refused, text_refused}
+use Rattle.smx_filters.proofs.ReplayTextLemmas.{gives, replay_refused}
+use Rattle.smx_filters.proofs.WritingFilterLemmas.{text_refused}
 use Rattle.smx_filters.proofs.replay.text_of_replay.Goals as goal
+use Rattle.smx_filters.specs.ReplayText.{replaying}
 
 pub returns-in_err-transcript : goal.returns-in_err-transcript
-returns-in_err-transcript c = text_refused _ _ c.as_slice.ensures.value c.in_err-transcript.field-0.0 _ c.from_residual.ensures.1 c.in_err-transcript.ensures
+returns-in_err-transcript c = text_refused replaying _ _ c.as_slice.ensures.value c.in_err-transcript.field-0.0 _
+    c.from_residual.ensures.1 c.in_err-transcript.ensures
 
 pub returns-in_err-text : goal.returns-in_err-text
 returns-in_err-text c =
-    replay_refused _ _ c.as_slice.ensures.value c.in_ok-transcript.transcript c.in_ok-transcript.ensures c.in_err-text.field-0.0 _
+    replay_refused _ _ c.as_slice.ensures.value c.in_ok-transcript.transcript c.in_ok-transcript.ensures
+    c.in_err-text.field-0.0 _
     c.from_residual-in_err-text.ensures.1 c.in_err-text.ensures.refused
 
 pub returns : goal.returns
-returns c = gives c.replays_can_be_told.ensures _ _ c.as_slice.ensures.value c.in_ok-transcript.transcript c.in_ok-transcript.ensures c.in_ok-text.text c.in_ok-text.ensures.written
+returns c = gives c.replays_can_be_told.ensures _ _ c.as_slice.ensures.value c.in_ok-transcript.transcript
+    c.in_ok-transcript.ensures c.in_ok-text.text c.in_ok-text.ensures.written

@@ -1,4 +1,4 @@
-use Rattle.std.proofs.Common.{List, not, take, sym, ◌∙◌}
+use Rattle.std.proofs.Common.{List, not, take, refl, sym, ◌∙◌}
 use Rattle.std.specs.Prelude.{nat_lt}
 use Rattle.std.specs.List.{All}
 use Rattle.std.proofs.lemmas.List.Elements.{All-filter}
@@ -19,6 +19,7 @@ loop-id-init c = record {
   rest = sym (none_of_none c.args.links.now.items);
   ordinary = c.requires.ordinary;
   ids = c.requires.ids;
+  rows = refl;
   pairs = c.requires.pairs;
   same = none_lost c.args.links.now.items;
 }
@@ -65,9 +66,12 @@ loop-id-preserved c =
             rest = rest;
             ordinary = c.take.ensures.ordinary;
             ids = c.take.ensures.ids;
+            rows = c.take.ensures.rows ∙ c.loop-id.invariant.rows;
             pairs = rw w.pairs-is counts;
-            same = rw (w.lost-is, w.lose-lost.ensures.lost) (lost_more c.one_link_more_joins.ensures c.paths_join.ensures
-                c.args.drivers c.loop-id.lost links earlier c.take.new.links.items w.lose-lost.new.pairs w.in-Some.link _ rise
+            same = rw (w.lost-is, w.lose-lost.ensures.lost)
+                (lost_more c.one_link_more_joins.ensures c.paths_join.ensures
+                c.args.drivers c.loop-id.lost links earlier c.take.new.links.items w.lose-lost.new.pairs w.in-Some.link
+                _ rise
                 found c.take.ensures.rest counts own c.loop-id.invariant.same);
           }
       | in_default w ↦
@@ -75,6 +79,7 @@ loop-id-preserved c =
             rest = rest;
             ordinary = c.take.ensures.ordinary;
             ids = c.take.ensures.ids;
+            rows = c.take.ensures.rows ∙ c.loop-id.invariant.rows;
             pairs = rw (w.pairs-is, all) c.loop-id.invariant.pairs;
             same = rw (w.lost-is, all) c.loop-id.invariant.same;
           }

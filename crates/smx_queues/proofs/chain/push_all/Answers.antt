@@ -7,6 +7,13 @@ pub loop-i-preserved : goal.loop-i-preserved
 loop-i-preserved c =
     let items = c.push_reserved.ensures.items in
     record {
-      pushed = items ∙ ap (λ xs. xs ++ c.args.chain ∷ []) c.loop-i.invariant.pushed ∙ repeat_more c.args.chains.now.items c.loop-i._i c.args.chain;
-      room = omega (arith, c.loop-i.invariant.room, c.push_reserved.ensures.capacity, ap length items, length-append c.loop-i.chains.items (c.args.chain ∷ []));
+      pushed = items ∙ ap (λ xs. xs ++ c.args.chain ∷ []) c.loop-i.invariant.pushed
+          ∙ repeat_more c.args.chains.now.items c.loop-i._i c.args.chain;
+      room = omega (
+        arith,
+        c.loop-i.invariant.room,
+        c.push_reserved.ensures.capacity,
+        ap length items,
+        length-append c.loop-i.chains.items (c.args.chain ∷ []),
+      );
     }

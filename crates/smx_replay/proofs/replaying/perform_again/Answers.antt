@@ -8,4 +8,5 @@ pub returns-clause-written : goal.returns-clause-written
 returns-clause-written c = λ version drivers before was.
     let told = rw c.from_ref.ensures.value at (c.in_ok-add.ensures version drivers before was) in
     let gets = sym (ap (λ (x : Configuration × Reply). x.1) c.in_ok-reply.ensures.ok) in
-    subst (λ (reply : Reply). BeginsTranscript version drivers (before ++ record c.args.entry { reply = reply } ∷ []) c.add.new.self) gets told
+    subst (λ (reply : Reply). BeginsTranscript version drivers
+    (before ++ record c.args.entry { reply = reply } ∷ []) c.add.new.self) gets told

@@ -20,7 +20,11 @@ returns-clause-written c =
     let shown : c.in_ok-view.view ≡ view config.drivers config.configuration = search rules in
     let gives = c.into_iter-entry-iterator.ensures.into_iter_gives in
     let items = c.into_vec-entry-items.ensures in
-    let listed = YieldsList-from_vec t.entries (gives.0 ∙ items) (omega (arith, gives.1, c.into_vec-entry-items.result.ok.0, ap length items)) in
-    let all = YieldsList-end listed c.loop-entry.yielded c.loop-entry.entry-iterator c.loop-entry.yielded_by _ c.next.new.self c.in-None.is c.next.ensures.steps in
-    let come = subst (λ entries. HasCome t.version t.drivers entries config c.loop-entry.writer) (sym (map-id _) ∙ all.0) c.loop-entry.invariant in
-    whole t config c.loop-entry.writer _ c.in_ok-view.view can come shown c.in_ok-finish.ensures.written c.in_ok-finish.ensures.spellable
+    let listed = YieldsList-from_vec t.entries (gives.0 ∙ items)
+    (omega (arith, gives.1, c.into_vec-entry-items.result.ok.0, ap length items)) in
+    let all = YieldsList-end listed c.loop-entry.yielded c.loop-entry.entry-iterator c.loop-entry.yielded_by _
+    c.next.new.self c.in-None.is c.next.ensures.steps in
+    let come = subst (λ entries. HasCome t.version t.drivers entries config c.loop-entry.writer)
+    (sym (map-id _) ∙ all.0) c.loop-entry.invariant in
+    whole t config c.loop-entry.writer _ c.in_ok-view.view can come shown c.in_ok-finish.ensures.written
+    c.in_ok-finish.ensures.spellable

@@ -9,8 +9,10 @@ returns-then-not-is_whole-clause-strange c =
     let n : ℕ = c.loop-number.number in
     let own : List Entry = entries_of n c.args.history.now in
     let its = c.transcript_at-transcript.ensures in
-    let met : IsMet c.transcript_at-transcript.result.now own (get_or c.meet_all-met.result n None) = rw its (c.meet_all-met.ensures.met n c.loop-number-test.true) in
-    let strange : own ≢ get_or c.args.transcripts.now n [] = λ same. let yes = (c.is_whole.ensures own met).1 (same ∙ sym its) in cc (yes, c.if-not-is_whole.true) in
+    let met : IsMet c.transcript_at-transcript.result.now own (get_or c.meet_all-met.result n None) = rw its
+    (c.meet_all-met.ensures.met n c.loop-number-test.true) in
+    let strange : own ≢ get_or c.args.transcripts.now n [] = λ same.
+    let yes = (c.is_whole.ensures own met).1 (same ∙ sym its) in cc (yes, c.if-not-is_whole.true) in
     named c.args.history.now c.args.transcripts.now n c.new.result c.new.ensures.value strange c.loop-number.invariant
 
 pub loop-number-preserved : goal.loop-number-preserved
@@ -18,8 +20,11 @@ loop-number-preserved c =
     let n : ℕ = c.loop-number.number in
     let own : List Entry = entries_of n c.args.history.now in
     let its = c.transcript_at-transcript.ensures in
-    let met : IsMet c.transcript_at-transcript.result.now own (get_or c.meet_all-met.result n None) = rw its (c.meet_all-met.ensures.met n c.loop-number-test.true) in
-    below_more (IsBorneOut c.args.history.now c.args.transcripts.now) n c.loop-number.invariant ((c.is_whole.ensures own met).0 c.if-not-is_whole.false ∙ its)
+    let met : IsMet c.transcript_at-transcript.result.now own (get_or c.meet_all-met.result n None) = rw its
+    (c.meet_all-met.ensures.met n c.loop-number-test.true) in
+    below_more (IsBorneOut c.args.history.now c.args.transcripts.now) n c.loop-number.invariant
+    ((c.is_whole.ensures own met).0 c.if-not-is_whole.false ∙ its)
 
 pub returns-clause-none : goal.returns-clause-none
-returns-clause-none c = all_borne_out c.args.history.now c.args.transcripts.now c.requires c.meet_all-met.ensures.processes (λ p below. c.loop-number.invariant p (omega arith))
+returns-clause-none c = all_borne_out c.args.history.now c.args.transcripts.now c.requires
+    c.meet_all-met.ensures.processes (λ p below. c.loop-number.invariant p (omega arith))

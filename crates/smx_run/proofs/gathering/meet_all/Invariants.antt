@@ -8,5 +8,7 @@ abbrev pub invariant-loop-entry : goal.invariant-loop-entry
 invariant-loop-entry l = record {
   counted : length l.met ≡ MAX_PROCESSES;
   processes : All (λ (e : Entry). e.process < MAX_PROCESSES) (take l.entry-index l.history);
-  met : (p : ℕ) → p < MAX_PROCESSES → IsMet (slice_index_or l.transcripts p []) (entries_of p (take l.entry-index l.history)) (slice_index_or l.met p None);
+  met : (p : ℕ) → p < MAX_PROCESSES
+      → IsMet (slice_index_or l.transcripts p []) (entries_of p (take l.entry-index l.history))
+      (slice_index_or l.met p None);
 }

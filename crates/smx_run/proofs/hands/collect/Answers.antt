@@ -21,8 +21,10 @@ take_first-requires-clause-some c none =
     let p : ℕ = c.loop-process.process in
     let workers : ℕ = vec_len c.args.hands in
     let len : c.len.result ≡ workers = c.len.ensures ∙ before.workers in
-    let programs = drop_more c.args.programs.value p [] (omega (arith, c.loop-process-test.true, c.requires.processes)) in
-    let hand = rw (← len) at (before.dealt (p % workers) (mod-lt p c.requires.workers) ∙ next_in_hand workers p _ _ _ programs) in
+    let programs = drop_more c.args.programs.value p []
+    (omega (arith, c.loop-process-test.true, c.requires.processes)) in
+    let hand = rw (← len) at (before.dealt (p % workers) (mod-lt p c.requires.workers)
+    ∙ next_in_hand workers p _ _ _ programs) in
     cc
 
 pub loop-process-preserved : goal.loop-process-preserved
@@ -31,9 +33,11 @@ loop-process-preserved c =
     let p : ℕ = c.loop-process.process in
     let workers : ℕ = vec_len c.args.hands in
     let len : c.len.result ≡ workers = c.len.ensures ∙ before.workers in
-    let programs = drop_more c.args.programs.value p [] (omega (arith, c.loop-process-test.true, c.requires.processes)) in
+    let programs = drop_more c.args.programs.value p []
+    (omega (arith, c.loop-process-test.true, c.requires.processes)) in
     let one = called known_at c.take_first.result in
-    let taken = take_next workers p (p + 1) _ _ _ _ _ one programs refl before.dealt (mod-lt p c.requires.workers) (rw len at c.take_first.ensures.first) (rw len at c.take_first.ensures.others) in
+    let taken = take_next workers p (p + 1) _ _ _ _ _ one programs refl before.dealt (mod-lt p c.requires.workers)
+    (rw len at c.take_first.ensures.first) (rw len at c.take_first.ensures.others) in
     record {
       room = search rules;
       counted = search rules;
@@ -43,5 +47,6 @@ loop-process-preserved c =
           let next = c.take_first.ensures.ended name was.0 in
           (next.1, all_more (EndsAt name) _ _ _ was.1 next.0 c.push_reserved.ensures.items);
       dealt = taken.1;
-      called = collect_next p (p + 1) _ _ _ one _ _ _ before.called (pushed (called known_at) _ _ _ _ _ c.push_reserved.ensures.items refl refl) taken.0 refl programs;
+      called = collect_next p (p + 1) _ _ _ one _ _ _ before.called
+          (pushed (called known_at) _ _ _ _ _ c.push_reserved.ensures.items refl refl) taken.0 refl programs;
     }

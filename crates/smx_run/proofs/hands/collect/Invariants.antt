@@ -10,7 +10,9 @@ invariant-loop-process l = record {
   room : l.processes ≤ vec_capacity l.ended;
   counted : vec_len l.ended ≡ l.process;
   workers : vec_len l.hands ≡ vec_len l.fn.hands;
-  ended : (name : SharedId) → All (HaveEnded name) l.fn.hands.items → All (HaveEnded name) l.hands.items × HaveEnded name l.ended;
-  dealt : (k : ℕ) → k < vec_len l.fn.hands → get_or (map called_hand l.hands.items) k [] ≡ hand_of (vec_len l.fn.hands) (numbered l.process (drop l.process l.programs.value)) k;
+  ended : (name : SharedId) → All (HaveEnded name) l.fn.hands.items
+      → All (HaveEnded name) l.hands.items × HaveEnded name l.ended;
+  dealt : (k : ℕ) → k < vec_len l.fn.hands → get_or (map called_hand l.hands.items) k []
+      ≡ hand_of (vec_len l.fn.hands) (numbered l.process (drop l.process l.programs.value)) k;
   called : called_hand l.ended ++ numbered l.process (drop l.process l.programs.value) ≡ numbered 0 l.programs.value;
 }

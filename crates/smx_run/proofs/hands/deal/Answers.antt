@@ -8,7 +8,8 @@ use Rattle.smx_run.proofs.hands.deal.Goals as goal
 
 pub loop-seat-init : goal.loop-seat-init
 loop-seat-init c =
-    let programs : into_iter_items c.into_iter-programs.result ≡ c.args.programs = c.into_iter-programs.ensures.rest ∙ c.into_vec.ensures in
+    let programs : into_iter_items c.into_iter-programs.result ≡ c.args.programs = c.into_iter-programs.ensures.rest
+    ∙ c.into_vec.ensures in
     let seats = c.into_iter-seat-iterator.ensures.into_iter_gives.0 in
     record {
       workers = search rules;
@@ -16,7 +17,9 @@ loop-seat-init c =
       left = search rules;
       seats = rw (seats, programs) c.requires.seats;
       fresh = λ name all. (rw seats all, c.in_ok-hands.ensures.fresh name);
-      dealt = λ k below. rw programs (none_dealt c.args.workers _ c.in_ok-hands.ensures.none k below (hand_of c.args.workers (numbered 0 c.args.programs) k));
+      dealt = λ k below. rw programs
+          (none_dealt c.args.workers _ c.in_ok-hands.ensures.none k below
+          (hand_of c.args.workers (numbered 0 c.args.programs) k));
     }
 
 pub loop-seat-preserved : goal.loop-seat-preserved
@@ -24,8 +27,10 @@ loop-seat-preserved c =
     let before = c.loop-seat.invariant in
     let n : ℕ = length c.loop-seat.yielded in
     let items = c.in-Some-next.ensures.items in
-    let next = next_seat n _ _ c.in-Some.seat _ _ c.in-Some-next.commands c.in-Some.ensures.steps.0 items before.seats in
-    let more : length (c.loop-seat.yielded ++ c.in-Some.seat ∷ []) ≡ n + 1 = omega (arith, length-append c.loop-seat.yielded (c.in-Some.seat ∷ [])) in
+    let next = next_seat n _ _ c.in-Some.seat _ _ c.in-Some-next.commands c.in-Some.ensures.steps.0 items
+    before.seats in
+    let more : length (c.loop-seat.yielded ++ c.in-Some.seat ∷ [])
+    ≡ n + 1 = omega (arith, length-append c.loop-seat.yielded (c.in-Some.seat ∷ [])) in
     record {
       workers = search rules;
       counted = search rules;
@@ -35,7 +40,10 @@ loop-seat-preserved c =
           let was = before.fresh name all in
           let first = take_off (IsFresh name) _ _ c.in-Some.seat c.in-Some.ensures.steps.0 was.0 in
           (first.1, c.in_ok-give.ensures.fresh name was.1 first.0);
-      dealt = λ k below. deal_next c.args.workers n _ c.in-Some.seat.known.process k _ _ _ c.in-Some-next.commands _ _ (before.dealt k below) (rw before.workers at (c.in_ok-give.ensures.given k (omega (arith, below, before.workers)))) next.0 more items;
+      dealt = λ k below. deal_next c.args.workers n _ c.in-Some.seat.known.process k _ _ _ c.in-Some-next.commands _ _
+          (before.dealt k below)
+          (rw before.workers at (c.in_ok-give.ensures.given k (omega (arith, below, before.workers)))) next.0 more
+          items;
     }
 
 pub returns : goal.returns
@@ -44,5 +52,7 @@ returns c =
     let none = none_left _ _ _ end.seats (omega (arith, end.counted, c.in-None.ensures.steps.0)) in
     record {
       fresh = λ name all. (end.fresh name all).1;
-      dealt = hands_are c.args.workers (numbered 0 c.args.programs) (map given_hand c.loop-seat.hands.items) (omega (arith, end.workers, length-map c.loop-seat.hands.items given_hand)) (λ k below. all_dealt _ _ _ _ k _ (end.dealt k below) none);
+      dealt = hands_are c.args.workers (numbered 0 c.args.programs) (map given_hand c.loop-seat.hands.items)
+          (omega (arith, end.workers, length-map c.loop-seat.hands.items given_hand))
+          (λ k below. all_dealt _ _ _ _ k _ (end.dealt k below) none);
     }

@@ -11,8 +11,11 @@ invariant-loop-seat l = record {
   workers : vec_len l.hands ≡ l.workers;
   counted : into_iter_len l.seat-iterator ≡ length (into_iter_items l.seat-iterator);
   left : into_iter_len l.programs ≡ length (into_iter_items l.programs);
-  seats : map (λ (s : Seated). s.known.process) (into_iter_items l.seat-iterator) ≡ range_with_len (length l.yielded) (length (into_iter_items l.programs));
-  fresh : (name : SharedId) → All (IsFresh name) l.fn.seats.items → All (IsFresh name) (into_iter_items l.seat-iterator) × All (AreFresh name) l.hands.items;
+  seats : map (λ (s : Seated). s.known.process) (into_iter_items l.seat-iterator)
+      ≡ range_with_len (length l.yielded) (length (into_iter_items l.programs));
+  fresh : (name : SharedId) → All (IsFresh name) l.fn.seats.items
+      → All (IsFresh name) (into_iter_items l.seat-iterator) × All (AreFresh name) l.hands.items;
   dealt : (k : ℕ) → k < l.workers
-      → get_or (map given_hand l.hands.items) k [] ++ hand_of l.workers (numbered (length l.yielded) (into_iter_items l.programs)) k ≡ hand_of l.workers (numbered 0 l.fn.programs) k;
+      → get_or (map given_hand l.hands.items) k [] ++ hand_of l.workers
+      (numbered (length l.yielded) (into_iter_items l.programs)) k ≡ hand_of l.workers (numbered 0 l.fn.programs) k;
 }

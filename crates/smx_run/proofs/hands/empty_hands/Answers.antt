@@ -7,6 +7,8 @@ pub loop-preserved : goal.loop-preserved
 loop-preserved c = record {
   room = search rules;
   counted = search rules;
-  fresh = λ name. all_more (AreFresh name) _ _ _ (c.loop.invariant.fresh name) (all_of_none (λ job. IsFresh name job.seat) _ c.new.ensures.items) c.push_reserved.ensures.items;
-  none = pushed given_hand _ _ _ _ _ c.push_reserved.ensures.items c.loop.invariant.none (ap (map (given known_at)) c.new.ensures.items) ∙ sym (one_empty_more c.loop.counter);
+  fresh = λ name. all_more (AreFresh name) _ _ _ (c.loop.invariant.fresh name)
+      (all_of_none (λ job. IsFresh name job.seat) _ c.new.ensures.items) c.push_reserved.ensures.items;
+  none = pushed given_hand _ _ _ _ _ c.push_reserved.ensures.items c.loop.invariant.none
+      (ap (map (given known_at)) c.new.ensures.items) ∙ sym (one_empty_more c.loop.counter);
 }

@@ -9,16 +9,20 @@ pub returns-clause-given : goal.returns-clause-given
 returns-clause-given c =
     let workers : ℕ = vec_len c.args.hands.now in
     let one : Calls = (c.args.seat.known.process, calls_of c.args.seat.known.process c.args.commands) in
-    let at : c.get.result % c.len.result ≡ one.0 % workers = rw (c.get.ensures.value, c.process.ensures, c.len.ensures) refl in
+    let at : c.get.result % c.len.result ≡ one.0 % workers = rw (c.get.ensures.value, c.process.ensures, c.len.ensures)
+    refl in
     let within : c.get.result % c.len.result < workers = rw at (mod-lt one.0 c.requires.workers) in
-    put_more given_hand workers c.args.hands.now.items (c.get.result % c.len.result) c.push.new.self c.index_mut.result.now one (search rules) at within
+    put_more given_hand workers c.args.hands.now.items
+    (c.get.result % c.len.result) c.push.new.self c.index_mut.result.now one (search rules) at within
     (pushed (given known_at) _ _ _ _ _ c.in_ok-push.ensures.items (ap given_hand c.index_mut.ensures.value) refl)
 
 pub returns-clause-fresh : goal.returns-clause-fresh
 returns-clause-fresh c name all seat =
     let workers : ℕ = vec_len c.args.hands.now in
-    let at : c.get.result % c.len.result ≡ c.args.seat.known.process % workers = rw (c.get.ensures.value, c.process.ensures, c.len.ensures) refl in
+    let at : c.get.result % c.len.result
+    ≡ c.args.seat.known.process % workers = rw (c.get.ensures.value, c.process.ensures, c.len.ensures) refl in
     let below : c.get.result % c.len.result < workers = rw at (mod-lt c.args.seat.known.process c.requires.workers) in
     let many : length c.args.hands.now.items ≡ workers = search rules in
     let within : c.get.result % c.len.result < length c.args.hands.now.items = rw many below in
-    all_put (λ hand. hand.items) (λ job. IsFresh name job.seat) c.args.hands.now.items (c.get.result % c.len.result) c.index_mut.result.now c.push.new.self _ within c.index_mut.ensures.value c.in_ok-push.ensures.items all seat
+    all_put (λ hand. hand.items) (λ job. IsFresh name job.seat) c.args.hands.now.items (c.get.result % c.len.result)
+    c.index_mut.result.now c.push.new.self _ within c.index_mut.ensures.value c.in_ok-push.ensures.items all seat

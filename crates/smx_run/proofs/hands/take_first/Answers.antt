@@ -7,7 +7,8 @@ pub returns-clause-first : goal.returns-clause-first
 returns-clause-first c =
     let done = c.remove.ensures in
     let within : c.args.worker < length c.args.hands.now.items = search rules in
-    take_from called_hand c.args.hands.now.items c.args.worker c.index_mut.result.now c.remove.new.self (called known_at c.remove.result) within c.index_mut.ensures.value
+    take_from called_hand c.args.hands.now.items c.args.worker c.index_mut.result.now c.remove.new.self
+    (called known_at c.remove.result) within c.index_mut.ensures.value
     (first_and_rest (called known_at) _ _ c.remove.result done.value done.items (search rules))
 
 pub returns-clause-others : goal.returns-clause-others
@@ -17,5 +18,6 @@ pub returns-clause-ended : goal.returns-clause-ended
 returns-clause-ended c name all =
     let done = c.remove.ensures in
     let within : c.args.worker < length c.args.hands.now.items = search rules in
-    all_taken (λ hand. hand.items) (EndsAt name) c.args.hands.now.items c.args.worker c.index_mut.result.now c.remove.new.self c.remove.result within c.index_mut.ensures.value
+    all_taken (λ hand. hand.items) (EndsAt name) c.args.hands.now.items c.args.worker c.index_mut.result.now
+    c.remove.new.self c.remove.result within c.index_mut.ensures.value
     (first_then_rest _ _ c.remove.result done.value done.items (search rules)) all

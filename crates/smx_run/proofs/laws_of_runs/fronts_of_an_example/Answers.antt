@@ -5,8 +5,21 @@ use Rattle.smx_run.proofs.laws_of_runs.fronts_of_an_example.Goals as goal
 
 pub returns-clause-fronts : goal.returns-clause-fronts
 returns-clause-fronts c = (
-  record { before = opened ∷ exited ∷ copied ∷ []; begins = ([], refl); numbers = record { entries = refl; links = refl }; holds = refl },
-  (record { before = opened ∷ exited ∷ []; begins = (copied ∷ [], refl); numbers = record { entries = refl; links = refl }; holds = refl }, tt),
+  record {
+    before = opened ∷ exited ∷ copied ∷ [];
+    begins = ([], refl);
+    numbers = record { entries = refl; links = refl };
+    holds = refl;
+  },
+  (
+    record {
+      before = opened ∷ exited ∷ [];
+      begins = (copied ∷ [], refl);
+      numbers = record { entries = refl; links = refl };
+      holds = refl;
+    },
+    tt,
+  ),
 )
 
 pub returns-clause-not_earlier : goal.returns-clause-not_earlier

@@ -4,7 +4,7 @@ use Rattle.std.specs.Vec.Iter.{into_iter_items, into_iter_len}
 use Rattle.smx_shared.specs.Recorded.{Recorded}
 use Rattle.smx_shared.specs.Seats.{Seated, AreMetBy}
 use Rattle.smx_run.specs.Meeting.{IsBorneOutBy}
-use Rattle.smx_run.specs.declared.worker.Done.{Done}
+use Rattle.smx_run.specs.declared.worker.EndedProgram.{EndedProgram}
 use Rattle.smx_run.proofs.RunLemmas.{StillKnows}
 use Rattle.smx_run.proofs.meeting.meet_all.Given as goal
 
@@ -17,5 +17,5 @@ invariant-loop-done l = record {
   rest : l.yielded ++ into_iter_items l.done-iterator ≡ drop 1 l.fn.ended.items;
   room : vec_len l.fn.ended ≤ vec_capacity l.fronts;
   counted : vec_len l.fronts ≡ length l.yielded + 1;
-  fronts : l.fronts.items ≡ l.initial.fronts.items ++ map (λ (d : Done Seated). d.front) l.yielded;
+  fronts : l.fronts.items ≡ l.initial.fronts.items ++ map (λ (d : EndedProgram Seated). d.front) l.yielded;
 }

@@ -22,10 +22,15 @@ returns-clause-report g c =
     let parts = c.into_parts-drivers.ensures in
     let end = c.run_all.new.self in
     let can : IsDriverList c.args.programs.drivers = search rules in
-    let begun : HasRecorded (g.K.Recorder.told c.args.programs.version) c.in_ok-recording.recording.recorder c.in_ok-recording.recording.config [] = search rules in
+    let begun : HasRecorded
+    (g.K.Recorder.told c.args.programs.version) c.in_ok-recording.recording.recorder c.in_ok-recording.recording.config
+    [] = search rules in
     let same : end.config.drivers ≡ c.args.programs.drivers = search rules in
     let told : c.in_ok-finish.field-0.0 ≡ end.recorder = search rules in
     let shown : c.in_ok-finish.field-0.1 ≡ view end.config.drivers end.config.configuration = search rules in
     let version = c.args.programs.version in
-    let recorded = subst (λ (programs : List (List Command)). HasRecorded (g.K.Recorder.told version) end.recorder end.config (calls_from 0 programs)) parts.programs (c.in_ok-run_all.ensures.calls version begun) in
-    rw told (record_of g.K.Recorder.told c.lawful_after_each_entry.ensures c.few_commands_drop.ensures c.args.programs end.recorder end.config _ parts.within can same recorded shown)
+    let recorded = subst
+    (λ (programs : List (List Command)). HasRecorded (g.K.Recorder.told version) end.recorder end.config
+    (calls_from 0 programs)) parts.programs (c.in_ok-run_all.ensures.calls version begun) in
+    rw told (record_of g.K.Recorder.told c.lawful_after_each_entry.ensures c.few_commands_drop.ensures c.args.programs
+    end.recorder end.config _ parts.within can same recorded shown)

@@ -1,11 +1,12 @@
-use Rattle.std.proofs.Common.{rules, ◌≡◌, ◌≢◌, ◌+◌, ◌++◌, ◌∷◌, [], List, ℕ, length, map, ap, sym, subst, arith, ◌∙◌, Err}
+use Rattle.std.proofs.Common.{rules, ◌≡◌, ◌≢◌, ◌+◌, ◌++◌, ◌∷◌, [], List, ℕ, length, map, ap, sym, subst, arith, ◌∙◌}
+use Rattle.std.proofs.Common.{Err}
 use Rattle.std.specs.Vec.Iter.{into_iter_items}
 use Rattle.std.proofs.lemmas.List.{length-append}
 use Rattle.smx_types.specs.declared.driver.DriverSpec.{DriverSpec}
 use Rattle.smx_types.specs.declared.command.Command.{Command}
 use Rattle.smx_types.specs.declared.command.Entry.{Entry}
 use Rattle.smx_model.specs.Histories.{call_of}
-use Rattle.smx_shared.specs.declared.fault.ApplyFault.TheVariants as apply
+use Rattle.smx_shared.specs.declared.shared_fault.ApplyFault.TheVariants as apply
 use Rattle.smx_run.specs.Fronts.{AreFrontsFrom}
 use Rattle.smx_run.specs.ProgramOrder.{BeginsCalls, calls_of, calls_from}
 use Rattle.smx_run.proofs.StopLemmas.{left_of, memory_left, on_err, room_left}
@@ -19,8 +20,11 @@ loop-commands-preserved g c =
     let commands = c.in-Some.commands in
     let p : ℕ = c.unwrap-desk.result in
     let number : p ≡ 0 + length c.loop-commands.yielded = search rules in
-    let calls = did.calls ∙ ap (λ (cs : List (ℕ × Command)). cs ++ calls_of p commands) before.calls ∙ sym (calls_more 0 p c.loop-commands.yielded commands number) in
-    let was = subst (λ (ds : List DriverSpec). AreFrontsFrom ds c.loop-commands.desk.system.history 0 c.loop-commands.yielded c.loop-commands.fronts.items) (sym did.drivers) before.fronts in
+    let calls = did.calls ∙ ap (λ (cs : List (ℕ × Command)). cs ++ calls_of p commands) before.calls
+    ∙ sym (calls_more 0 p c.loop-commands.yielded commands number) in
+    let was = subst
+    (λ (ds : List DriverSpec). AreFrontsFrom ds c.loop-commands.desk.system.history 0 c.loop-commands.yielded
+    c.loop-commands.fronts.items) (sym did.drivers) before.fronts in
     record {
       drivers = did.drivers ∙ before.drivers;
       limit = did.limit ∙ before.limit;
@@ -29,9 +33,15 @@ loop-commands-preserved g c =
       within = search rules;
       number = omega (arith, before.number, length-append c.loop-commands.yielded (commands ∷ []));
       room = search rules;
-      seen = omega (arith, before.seen, c.push_reserved.ensures.len, length-append c.loop-commands.yielded (commands ∷ []));
+      seen = omega (
+        arith,
+        before.seen,
+        c.push_reserved.ensures.len,
+        length-append c.loop-commands.yielded (commands ∷ []),
+      );
       calls = calls;
-      fronts = rw c.push_reserved.ensures.items (front_next _ _ _ _ _ commands _ did.begins calls c.front_of.ensures was);
+      fronts = rw c.push_reserved.ensures.items
+          (front_next _ _ _ _ _ commands _ did.begins calls c.front_of.ensures was);
     }
 
 pub returns-in_err-fronts-clause-stops : goal.returns-in_err-fronts-clause-stops
@@ -48,10 +58,16 @@ returns-in_err-run_program-clause-stops g c =
     let did = c.in_err-run_program.ensures.stops in
     let p : ℕ = c.unwrap-desk.result in
     let number : p ≡ 0 + length yielded = search rules in
-    let all = ap (λ (programs : List (List Command)). yielded ++ programs) (sym c.in-Some.ensures.steps.0) ∙ before.all in
+    let all = ap (λ (programs : List (List Command)). yielded ++ programs) (sym c.in-Some.ensures.steps.0)
+    ∙ before.all in
     let calls = did.came.calls ∙ ap (λ (cs : List (ℕ × Command)). cs ++ calls_of p did.done) before.calls in
-    let left = left_of (map call_of c.run_program.new.desk.system.history) p c.args.programs yielded (into_iter_items c.next.new.self) c.in-Some.commands did.done did.left did.next all did.all number calls in
-    let begins : BeginsCalls (map call_of c.run_program.new.desk.system.history) 0 c.args.programs = ((p, did.next) ∷ left.0, left.1) in
+    let left = left_of (map call_of c.run_program.new.desk.system.history) p c.args.programs yielded
+    (into_iter_items c.next.new.self) c.in-Some.commands did.done did.left did.next all did.all number calls in
+    let begins : BeginsCalls (map call_of c.run_program.new.desk.system.history) 0 c.args.programs = (
+      (p, did.next)
+          ∷ left.0,
+      left.1,
+    ) in
     on_err _ _ begins
 
 pub returns-in_err-run_program-clause-refused : goal.returns-in_err-run_program-clause-refused
@@ -61,11 +77,14 @@ returns-in_err-run_program-clause-refused g c =
     let did = c.in_err-run_program.ensures.stops in
     let p : ℕ = c.unwrap-desk.result in
     let number : p ≡ 0 + length yielded = search rules in
-    let all = ap (λ (programs : List (List Command)). yielded ++ programs) (sym c.in-Some.ensures.steps.0) ∙ before.all in
+    let all = ap (λ (programs : List (List Command)). yielded ++ programs) (sym c.in-Some.ensures.steps.0)
+    ∙ before.all in
     let calls = did.came.calls ∙ ap (λ (cs : List (ℕ × Command)). cs ++ calls_of p did.done) before.calls in
-    let left = left_of (map call_of c.run_program.new.desk.system.history) p c.args.programs yielded (into_iter_items c.next.new.self) c.in-Some.commands did.done did.left did.next all did.all number calls in
+    let left = left_of (map call_of c.run_program.new.desk.system.history) p c.args.programs yielded
+    (into_iter_items c.next.new.self) c.in-Some.commands did.done did.left did.next all did.all number calls in
     let fewer = room_left c.run_program.new.desk.system.history c.args.programs (p, did.next) left.0 left.1 in
     let room : c.run_program.new.desk.system.limit ≡ c.args.desk.now.system.limit = did.came.limit ∙ before.limit in
-    let other : c.in_err-run_program.field-0.0 ≢ apply.HistoryFull = λ is. omega (arith, fewer, room, c.requires.room, c.in_err-run_program.ensures.full (ap Err is)) in
+    let other : c.in_err-run_program.field-0.0 ≢ apply.HistoryFull = λ is.
+    omega (arith, fewer, room, c.requires.room, c.in_err-run_program.ensures.full (ap Err is)) in
     let fault = memory_left c.in_err-run_program.field-0.0 other in
     search rules

@@ -16,4 +16,5 @@ pub returns-clause-fronts : goal.returns-clause-fronts
 returns-clause-fronts g c =
     let run = c.in_ok-system-2.ensures in
     let report = c.in_ok-report.ensures.report in
-    rw (report.drivers, report.entries, c.in_ok-report.ensures.fronts, ← c.into_parts-drivers.ensures.programs) run.fronts
+    rw (report.drivers, report.entries, c.in_ok-report.ensures.fronts, ← c.into_parts-drivers.ensures.programs)
+    run.fronts

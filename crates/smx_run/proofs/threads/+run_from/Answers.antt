@@ -10,7 +10,9 @@ use Rattle.smx_run.proofs.threads.+run_from.Goals as goal
 pub returns-then-is_empty-clause-ended : goal.returns-then-is_empty-clause-ended
 returns-then-is_empty-clause-ended g n c =
     let name = c.args.shared.now.name in
-    IfOk-weaker c.and_then.result _ _ (λ v both. both name (all_of_none (HaveEnded name) _ c.new-then-is_empty.ensures.items) c.work-first.ensures.ended) c.and_then.ensures.ended
+    IfOk-weaker c.and_then.result _ _
+    (λ v both. both name (all_of_none (HaveEnded name) _ c.new-then-is_empty.ensures.items) c.work-first.ensures.ended)
+    c.and_then.ensures.ended
 
 pub spawn_with-worker-requires-clause-runs : goal.spawn_with-worker-requires-clause-runs
 spawn_with-worker-requires-clause-runs g n c κs within =
@@ -26,13 +28,20 @@ run_from-requires-after_bounds g n c κs within =
 
 pub returns-in-Ok-clause-called : goal.returns-in-Ok-clause-called
 returns-in-Ok-clause-called g n c =
-    let kept : IfOk c.join.result (λ v. (called_hand v ≡ given_hand c.in-Some.hand) × HaveEnded c.args.shared.now.name v) = search rules in
-    let whole : map given_hand c.args.hands.items ≡ map given_hand c.pop.new.self.items ++ given_hand c.in-Some.hand ∷ [] =
+    let kept : IfOk c.join.result (λ v. (called_hand v ≡ given_hand c.in-Some.hand)
+    × HaveEnded c.args.shared.now.name v) = search rules in
+    let whole : map given_hand c.args.hands.items
+    ≡ map given_hand c.pop.new.self.items ++ given_hand c.in-Some.hand ∷ [] =
     ap (map given_hand) c.in-Some.ensures.items ∙ map-append given_hand c.pop.new.self.items (c.in-Some.hand ∷ []) in
-    IfOk-weaker c.and_then-in-Ok.result _ _ (λ v both. both _ _ c.run_from-before.ensures.called (IfOk-weaker c.join.result _ _ (λ d k. k.0) kept) ∙ sym whole) c.and_then-in-Ok.ensures.called
+    IfOk-weaker c.and_then-in-Ok.result _ _
+    (λ v both. both _ _ c.run_from-before.ensures.called (IfOk-weaker c.join.result _ _ (λ d k. k.0) kept) ∙ sym whole)
+    c.and_then-in-Ok.ensures.called
 
 pub returns-in-Ok-clause-ended : goal.returns-in-Ok-clause-ended
 returns-in-Ok-clause-ended g n c =
     let name = c.args.shared.now.name in
-    let kept : IfOk c.join.result (λ v. (called_hand v ≡ given_hand c.in-Some.hand) × HaveEnded name v) = search rules in
-    IfOk-weaker c.and_then-in-Ok.result _ _ (λ v both. both name c.run_from-before.ensures.ended (IfOk-weaker c.join.result _ _ (λ d k. k.1) kept)) c.and_then-in-Ok.ensures.ended
+    let kept : IfOk c.join.result (λ v. (called_hand v ≡ given_hand c.in-Some.hand) × HaveEnded name v) = search
+    rules in
+    IfOk-weaker c.and_then-in-Ok.result _ _
+    (λ v both. both name c.run_from-before.ensures.ended (IfOk-weaker c.join.result _ _ (λ d k. k.1) kept))
+    c.and_then-in-Ok.ensures.ended

@@ -7,7 +7,8 @@ use Rattle.smx_run.proofs.threads.run_seats.Goals as goal
 pub collect-requires-clause-dealt : goal.collect-requires-clause-dealt
 collect-requires-clause-dealt g c =
     let dealt = c.in_ok-hands-2.ensures.called ∙ c.in_ok-hands.ensures.dealt in
-    let count : vec_len c.in_ok-hands-2.hands ≡ c.args.workers = omega (arith, hand_count _ _ _ dealt, length-map c.in_ok-hands-2.hands.items called_hand) in
+    let count : vec_len c.in_ok-hands-2.hands
+    ≡ c.args.workers = omega (arith, hand_count _ _ _ dealt, length-map c.in_ok-hands-2.hands.items called_hand) in
     rw (count, c.of-asked.ensures) dealt
 
 pub run_hands-requires-after_bounds : goal.run_hands-requires-after_bounds

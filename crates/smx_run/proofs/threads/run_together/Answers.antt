@@ -12,11 +12,13 @@ use Rattle.smx_run.proofs.threads.run_together.Goals as goal
 pub run_seats-requires-clause-seats : goal.run_seats-requires-clause-seats
 run_seats-requires-clause-seats g c κs within =
     let many : length c.as_slice.result.now ≡ length c.args.programs = search rules in
-    ap (map (λ (s : Seated). s.known.process)) c.in_ok-shared.ensures.seats ∙ first_processes _ _ _ ∙ ap (λ (n : ℕ). range_with_len 0 n) many
+    ap (map (λ (s : Seated). s.known.process)) c.in_ok-shared.ensures.seats ∙ first_processes _ _ _
+    ∙ ap (λ (n : ℕ). range_with_len 0 n) many
 
 pub run_seats-requires-clause-fresh : goal.run_seats-requires-clause-fresh
 run_seats-requires-clause-fresh g c κs within =
-    subst (All (IsFresh c.in_ok-shared.shared.name)) (sym c.in_ok-shared.ensures.seats) (first_fresh _ _ _ c.requires.system.0)
+    subst (All (IsFresh c.in_ok-shared.shared.name)) (sym c.in_ok-shared.ensures.seats)
+    (first_fresh _ _ _ c.requires.system.0)
 
 pub meet_all-requires-clause-some : goal.meet_all-requires-clause-some
 meet_all-requires-clause-some g c = some_ended _ _ c.in_ok-ended.ensures.called c.requires.processes.0
@@ -30,8 +32,10 @@ returns-clause-holds g c =
     let s = c.in_ok-system.system in
     let end = c.in_ok-system.ensures in
     let many : c.in_ok-shared.shared.processes ≡ length c.args.programs = search rules in
-    let none : c.in_ok-shared.shared.start.history ≡ [] = ap (λ (s : Recorded). s.history) c.in_ok-shared.ensures.shared.0 ∙ c.requires.system.0 in
-    let named : GoesOnNamed (length c.args.programs) [] s.history = subst (λ (x : ℕ × List Entry). GoesOnNamed x.0 x.1 s.history) (λ i. (many i, none i)) end.begun.history in
+    let none : c.in_ok-shared.shared.start.history
+    ≡ [] = ap (λ (s : Recorded). s.history) c.in_ok-shared.ensures.shared.0 ∙ c.requires.system.0 in
+    let named : GoesOnNamed (length c.args.programs) [] s.history = subst
+    (λ (x : ℕ × List Entry). GoesOnNamed x.0 x.1 s.history) (λ i. (many i, none i)) end.begun.history in
     holds_all s _ _ c.in_ok-ended.ensures.called (c.in_ok-seat.ensures.met s end.ends) named
 
 pub returns-clause-fronts : goal.returns-clause-fronts
@@ -39,4 +43,5 @@ returns-clause-fronts g c =
     let s = c.in_ok-system.system in
     let met = c.in_ok-seat.ensures in
     subst (λ (fronts : List Front). AreFrontsFrom s.drivers s.history 0 c.args.programs fronts) (sym met.fronts)
-    (fronts_all c.in_ok-shared.shared.name s 0 _ _ c.in_ok-ended.ensures.called c.in_ok-ended.ensures.ended (met.met s c.in_ok-system.ensures.ends))
+    (fronts_all c.in_ok-shared.shared.name s 0 _ _ c.in_ok-ended.ensures.called c.in_ok-ended.ensures.ended
+    (met.met s c.in_ok-system.ensures.ends))

@@ -17,7 +17,8 @@ returns-in_err-outcome-clause-stops g c =
       next = c.in-Some.command;
       left = into_iter_items c.next.new.self;
       all = ap (λ (cs : List Command). done ++ cs) (sym c.in-Some.ensures.steps.0) ∙ before.all;
-      came = subst (λ (cs : List Command). g.K.Desk.performed c.args.desk.now cs c.perform-outcome.new.self) (append-nil done)
+      came = subst (λ (cs : List Command). g.K.Desk.performed c.args.desk.now cs c.perform-outcome.new.self)
+          (append-nil done)
           (g.met.K.Desk.performed_more _ _ _ _ _ before.performed c.in_err-outcome.ensures.none);
     } in
     on_err _ _ stops

@@ -1,7 +1,7 @@
 use Rattle.std.proofs.Common.{rules, arith, ◌∷◌, []}
 use Rattle.std.proofs.lemmas.List.{length-append}
 use Rattle.smx_run.specs.Hands.{given, called, HasEnded}
-use Rattle.smx_run.specs.declared.worker.Done.{Done}
+use Rattle.smx_run.specs.declared.worker.EndedProgram.{EndedProgram}
 use Rattle.smx_run.proofs.HandLemmas.{one_more, all_more}
 use Rattle.smx_run.proofs.worker.work.Goals as goal
 
@@ -9,10 +9,17 @@ pub loop-job-preserved : goal.loop-job-preserved
 loop-job-preserved g c =
     let before = c.loop-job.invariant in
     let here = c.in_ok-run_job.ensures in
-    let has_ended : Done g.row.D-Seat.Denot → Type 0 = λ d. g.D.Door.is_seat c.args.door.now d.seat × HasEnded (g.D.Door.known d.seat) d.front in
+    let has_ended : EndedProgram g.row.D-Seat.Denot
+    → Type 0 = λ d. g.D.Door.is_seat c.args.door.now d.seat × HasEnded (g.D.Door.known d.seat) d.front in
     record {
       room = search rules;
-      counted = omega (arith, before.counted, c.push_reserved.ensures.len, length-append c.loop-job.yielded (c.in-Some.job ∷ []));
-      called = one_more (called g.D.Door.known) (given g.D.Door.known) _ _ _ _ _ before.called here.called c.push_reserved.ensures.items;
+      counted = omega (
+        arith,
+        before.counted,
+        c.push_reserved.ensures.len,
+        length-append c.loop-job.yielded (c.in-Some.job ∷ []),
+      );
+      called = one_more (called g.D.Door.known)
+          (given g.D.Door.known) _ _ _ _ _ before.called here.called c.push_reserved.ensures.items;
       ended = all_more has_ended _ _ _ before.ended here.ended c.push_reserved.ensures.items;
     }

@@ -10,13 +10,16 @@ loop-minors-preserved-then-number-minors c =
     let u = c.args.records.now in
     let minors = minors_at u.minors c.loop-minors.at c.in-Some.minors c.in-Some.ensures in
     c.loop-minors.invariant
-    ∙ next_driver u.minors c.loop-minors.at c.loop-minors.number (hungs_from 0 u.hungs) (omega (arith, minors)) (λ x h. c.is_sound.ensures.flagged x (sym (flag_tells u.hungs x) ∙ h))
+    ∙ next_driver u.minors c.loop-minors.at c.loop-minors.number (hungs_from 0 u.hungs) (omega (arith, minors))
+    (λ x h. c.is_sound.ensures.flagged x (sym (flag_tells u.hungs x) ∙ h))
 
 pub returns-then-is_hung : goal.returns-then-is_hung
 returns-then-is_hung c =
     let u = c.args.records.now in (
       c.loop-minors.invariant
-          ∙ found c.loop-minors.at c.loop-minors.number (hungs_from 0 u.hungs) (hungs_rise 0 u.hungs) (flag_tells u.hungs (stream c.loop-minors.at c.loop-minors.number) ∙ sym c.is_hung.ensures ∙ c.if-is_hung.true),
+          ∙ found c.loop-minors.at c.loop-minors.number (hungs_from 0 u.hungs) (hungs_rise 0 u.hungs)
+          (flag_tells u.hungs (stream c.loop-minors.at c.loop-minors.number) ∙ sym c.is_hung.ensures
+          ∙ c.if-is_hung.true),
       omega arith,
     )
 
@@ -24,10 +27,12 @@ pub loop-minors-preserved : goal.loop-minors-preserved
 loop-minors-preserved c =
     let u = c.args.records.now in
     c.loop-minors.invariant
-    ∙ passed c.loop-minors.at c.loop-minors.number (hungs_from 0 u.hungs) (flag_tells u.hungs (stream c.loop-minors.at c.loop-minors.number) ∙ sym c.is_hung.ensures ∙ c.if-is_hung.false)
+    ∙ passed c.loop-minors.at c.loop-minors.number (hungs_from 0 u.hungs)
+    (flag_tells u.hungs (stream c.loop-minors.at c.loop-minors.number) ∙ sym c.is_hung.ensures ∙ c.if-is_hung.false)
 
 pub returns : goal.returns
 returns c =
     let u = c.args.records.now in
     c.loop-minors.invariant
-    ∙ no_driver_left u.minors c.loop-minors.at c.loop-minors.number (hungs_from 0 u.hungs) c.in_default.ensures (λ x h. c.is_sound.ensures.flagged x (sym (flag_tells u.hungs x) ∙ h))
+    ∙ no_driver_left u.minors c.loop-minors.at c.loop-minors.number (hungs_from 0 u.hungs) c.in_default.ensures
+    (λ x h. c.is_sound.ensures.flagged x (sym (flag_tells u.hungs x) ∙ h))

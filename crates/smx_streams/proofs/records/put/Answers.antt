@@ -4,6 +4,9 @@ use Rattle.smx_streams.proofs.RecordLemmas.{put_new}
 use Rattle.smx_streams.proofs.records.put.Goals as goal
 
 pub returns-clause-ok : goal.returns-clause-ok
-returns-clause-ok c = put_new c.args.drivers.now.items c.args.records.now c.in_ok-key.key c.args.added c.set_key.new.drivers.items c.insert.new.self c.requires.whole c.requires.none c.in_ok-key.ensures.was_vacant c.requires.used c.in_ok-key.ensures.updates
-    (λ x. rw c.set_key.ensures (key_set c.args.drivers.now.items c.args.added.stream (Some c.in_ok-key.key) x c.requires.driver c.requires.minor))
+returns-clause-ok c = put_new c.args.drivers.now.items c.args.records.now c.in_ok-key.key c.args.added
+    c.set_key.new.drivers.items c.insert.new.self c.requires.whole c.requires.none c.in_ok-key.ensures.was_vacant
+    c.requires.used c.in_ok-key.ensures.updates
+    (λ x. rw c.set_key.ensures
+    (key_set c.args.drivers.now.items c.args.added.stream (Some c.in_ok-key.key) x c.requires.driver c.requires.minor))
     (rw c.set_key.ensures (lengths_set c.args.drivers.now.items c.args.added.stream (Some c.in_ok-key.key)))

@@ -20,7 +20,8 @@ returns-clause-drivers c = ap (λ (t : FlowLists). t.drivers) c.drop_at.ensures.
 
 pub returns-clause-dropped : goal.returns-clause-dropped
 returns-clause-dropped c = λ old h.
-    dropped_more old c.args.queues.now.flow c.drop_at.new.self.flow c.args.place c.args.dropped.now.items c.drop_at.new.dropped.items (ap (λ (t : FlowLists). t.flow) c.drop_at.ensures.gone) c.drop_at.ensures.serials h
+    dropped_more old c.args.queues.now.flow c.drop_at.new.self.flow c.args.place c.args.dropped.now.items
+    c.drop_at.new.dropped.items (ap (λ (t : FlowLists). t.flow) c.drop_at.ensures.gone) c.drop_at.ensures.serials h
 
 pub returns-clause-room : goal.returns-clause-room
 returns-clause-room c =

@@ -18,7 +18,9 @@ invariant-loop-i l = record {
   all : list_all (is_watched l.streams (l.touched.items ++ l.ctl ∷ [])) l.links.links ≡ true;
   so_far : list_all (is_watched l.streams l.touched.items) (take l.i (ordinary_of l.links.links)) ≡ true;
   enough : length l.touched.items + holds_below (ordinary_of l.links.links) l.streams ≤ vec_capacity l.touched;
-  less : length l.touched.items + holds_below (ordinary_of l.links.links) l.streams ≤ length l.initial.touched.items + holds_below (ordinary_of l.links.links) l.initial.streams;
-  touched : (s : StreamId) → is_there_or_touched l.initial.streams l.initial.touched.items s ≡ true → is_there_or_touched l.streams l.touched.items s ≡ true;
+  less : length l.touched.items + holds_below (ordinary_of l.links.links) l.streams
+      ≤ length l.initial.touched.items + holds_below (ordinary_of l.links.links) l.initial.streams;
+  touched : (s : StreamId) → is_there_or_touched l.initial.streams l.initial.touched.items s ≡ true
+      → is_there_or_touched l.streams l.touched.items s ≡ true;
   gone : AreReleased l.links.links l.streams l.gone.items (vec_capacity l.gone);
 }

@@ -1,4 +1,5 @@
-use Rattle.std.proofs.Common.{◌≡◌, List, ℕ, [], ◌∷◌, true, length, length-append, refl, ap, sym, subst, ◌∙◌, arith, rules}
+use Rattle.std.proofs.Common.{◌≡◌, List, ℕ, [], ◌∷◌, true, length, length-append, refl, ap, sym, subst, ◌∙◌, arith}
+use Rattle.std.proofs.Common.{rules}
 use Rattle.std.proofs.lemmas.Bool.{or_left}
 use Rattle.std.specs.List.{list_all}
 use Rattle.std.specs.Prelude.{vec_capacity}
@@ -11,8 +12,10 @@ use Rattle.smx_tables.proofs.orphans.release_orphans.Goals as goal
 
 pub release_below-requires-clause-cascade : goal.release_below-requires-clause-cascade
 release_below-requires-clause-cascade c =
-    subst (λ (ss : List StreamId). IsCascade c.args.links.now.links c.loop-stream.streams ss (vec_capacity c.pop.new.self)) c.in-Some.ensures.items
-    (subst (λ (n : ℕ). IsCascade c.args.links.now.links c.loop-stream.streams c.loop-stream.left.items n) (sym c.pop.ensures.capacity) c.loop-stream.invariant.cascade)
+    subst (λ (ss : List StreamId). IsCascade c.args.links.now.links c.loop-stream.streams ss
+    (vec_capacity c.pop.new.self)) c.in-Some.ensures.items
+    (subst (λ (n : ℕ). IsCascade c.args.links.now.links c.loop-stream.streams c.loop-stream.left.items n)
+    (sym c.pop.ensures.capacity) c.loop-stream.invariant.cascade)
 
 pub loop-stream-init : goal.loop-stream-init
 loop-stream-init c = record {
@@ -26,29 +29,54 @@ loop-stream-init c = record {
 }
 
 pub loop-stream-smaller : goal.loop-stream-smaller
-loop-stream-smaller c = omega (arith, c.release_below.ensures.less, ap length c.in-Some.ensures.items, length-append c.pop.new.self.items (c.in-Some.stream ∷ []))
+loop-stream-smaller c = omega (
+  arith,
+  c.release_below.ensures.less,
+  ap length c.in-Some.ensures.items,
+  length-append c.pop.new.self.items (c.in-Some.stream ∷ []),
+)
 
 pub loop-stream-preserved : goal.loop-stream-preserved
 loop-stream-preserved c = record {
   fds = c.release_below.ensures.fds ∙ c.loop-stream.invariant.fds;
   minors = c.release_below.ensures.minors ∙ c.loop-stream.invariant.minors;
-  hungs = left_twice c.args.streams.now c.loop-stream.streams c.release_below.new.streams c.loop-stream.invariant.hungs c.release_below.ensures.hungs c.release_below.ensures.there;
+  hungs = left_twice c.args.streams.now c.loop-stream.streams c.release_below.new.streams c.loop-stream.invariant.hungs
+      c.release_below.ensures.hungs c.release_below.ensures.there;
   cascade = c.release_below.ensures.cascade;
-  room = omega (arith, c.loop-stream.invariant.room, c.release_below.ensures.less, ap length c.in-Some.ensures.items, length-append c.pop.new.self.items (c.in-Some.stream ∷ []), ap length c.push_reserved.ensures.items, length-append c.loop-stream.seen.items (c.in-Some.stream ∷ []), c.push_reserved.ensures.capacity);
-  seen = λ s h. rw c.push_reserved.ensures.items (seen_more c.loop-stream.streams c.release_below.new.streams c.loop-stream.left.items c.pop.new.self.items c.release_below.new.touched.items c.loop-stream.seen.items c.in-Some.stream s c.in-Some.ensures.items c.release_below.ensures.touched (c.loop-stream.invariant.seen s h));
+  room = omega (
+    arith,
+    c.loop-stream.invariant.room,
+    c.release_below.ensures.less,
+    ap length c.in-Some.ensures.items,
+    length-append c.pop.new.self.items (c.in-Some.stream ∷ []),
+    ap length c.push_reserved.ensures.items,
+    length-append c.loop-stream.seen.items (c.in-Some.stream ∷ []),
+    c.push_reserved.ensures.capacity,
+  );
+  seen = λ s h. rw c.push_reserved.ensures.items
+      (seen_more c.loop-stream.streams c.release_below.new.streams c.loop-stream.left.items c.pop.new.self.items
+      c.release_below.new.touched.items c.loop-stream.seen.items c.in-Some.stream s c.in-Some.ensures.items
+      c.release_below.ensures.touched (c.loop-stream.invariant.seen s h));
   gone = c.release_below.ensures.gone;
 }
 
 pub push_reserved-requires : goal.push_reserved-requires
-push_reserved-requires c = omega (arith, c.loop-stream.invariant.room, ap length c.in-Some.ensures.items, length-append c.pop.new.self.items (c.in-Some.stream ∷ []))
+push_reserved-requires c = omega (
+  arith,
+  c.loop-stream.invariant.room,
+  ap length c.in-Some.ensures.items,
+  length-append c.pop.new.self.items (c.in-Some.stream ∷ []),
+)
 
 pub returns-clause-seen : goal.returns-clause-seen
 returns-clause-seen c = λ s h.
     let none : length c.loop-stream.left.items ≡ 0 = search rules in
-    all_seen c.loop-stream.streams c.loop-stream.left.items c.loop-stream.seen.items s (nothing_left c.loop-stream.left.items none) (c.loop-stream.invariant.seen s h)
+    all_seen c.loop-stream.streams c.loop-stream.left.items c.loop-stream.seen.items s
+    (nothing_left c.loop-stream.left.items none) (c.loop-stream.invariant.seen s h)
 
 pub returns-clause-none : goal.returns-clause-none
 returns-clause-none c =
     let none : length c.loop-stream.left.items ≡ 0 = search rules in
     none_loose c.loop-stream.streams c.args.links.now.links
-    (subst (λ (ss : List StreamId). list_all (is_watched c.loop-stream.streams ss) c.args.links.now.links ≡ true) (nothing_left c.loop-stream.left.items none) c.loop-stream.invariant.cascade.watched)
+    (subst (λ (ss : List StreamId). list_all (is_watched c.loop-stream.streams ss) c.args.links.now.links ≡ true)
+    (nothing_left c.loop-stream.left.items none) c.loop-stream.invariant.cascade.watched)

@@ -18,7 +18,9 @@ invariant-loop-stream l = record {
   minors : l.streams.minors ≡ l.initial.streams.minors;
   hungs : LeavesHungs l.initial.streams l.streams;
   cascade : IsCascade l.links.links l.streams l.left.items (vec_capacity l.left);
-  room : length l.seen.items + (length l.left.items + holds_below (ordinary_of l.links.links) l.streams) ≤ vec_capacity l.seen;
-  seen : (s : StreamId) → is_there_or_touched l.initial.streams l.fn.touched.items s ≡ true → (is_there_or_touched l.streams l.left.items s || list_any (same_stream s) l.seen.items) ≡ true;
+  room : length l.seen.items + (length l.left.items + holds_below (ordinary_of l.links.links) l.streams)
+      ≤ vec_capacity l.seen;
+  seen : (s : StreamId) → is_there_or_touched l.initial.streams l.fn.touched.items s ≡ true
+      → (is_there_or_touched l.streams l.left.items s || list_any (same_stream s) l.seen.items) ≡ true;
   gone : AreReleased l.links.links l.streams l.gone.items (vec_capacity l.gone);
 }

@@ -24,19 +24,31 @@ loop-id-preserved c =
     let more = take_more c.args.gone.now c.loop-id.id-index 0 (omega arith) in
     elim c.match-get.branch [
       | in-Some w ↦
-          let below = λ (p : Place). ap (λ (ids : List ℕ). is_read_below_listed links ids p) more ∙ read_more links so_far _ w.in-Some.link.now c.is_sound.ensures.sound.lowers c.is_sound.ensures.ids.rise (sym w.in-Some.ensures) p in
+          let below = λ (p : Place). ap (λ (ids : List ℕ). is_read_below_listed links ids p) more
+          ∙ read_more links so_far _ w.in-Some.link.now c.is_sound.ensures.sound.lowers c.is_sound.ensures.ids.rise
+          (sym w.in-Some.ensures) p in
           rw (w.queues-is, w.dropped-is) (record {
-            flow = one_less (λ (h : QueuedMessage). h.place) (is_read_below_listed links so_far) (is_read_below_listed links (take (c.loop-id.id-index + 1) c.args.gone.now)) _ c.args.queues.now.flow c.loop-id.queues.flow w.drop_at.new.queues.flow below c.loop-id.invariant.flow w.drop_at.ensures.flow;
-            fulls = one_less (λ (p : Place). p) (is_read_below_listed links so_far) (is_read_below_listed links (take (c.loop-id.id-index + 1) c.args.gone.now)) _ c.args.queues.now.fulls c.loop-id.queues.fulls w.drop_at.new.queues.fulls below c.loop-id.invariant.fulls w.drop_at.ensures.fulls;
+            flow = one_less (λ (h : QueuedMessage). h.place) (is_read_below_listed links so_far)
+                (is_read_below_listed links (take (c.loop-id.id-index + 1) c.args.gone.now)) _ c.args.queues.now.flow
+                c.loop-id.queues.flow w.drop_at.new.queues.flow below c.loop-id.invariant.flow w.drop_at.ensures.flow;
+            fulls = one_less (λ (p : Place). p) (is_read_below_listed links so_far)
+                (is_read_below_listed links (take (c.loop-id.id-index + 1) c.args.gone.now)) _ c.args.queues.now.fulls
+                c.loop-id.queues.fulls w.drop_at.new.queues.fulls below c.loop-id.invariant.fulls
+                w.drop_at.ensures.fulls;
             drivers = w.drop_at.ensures.drivers ∙ c.loop-id.invariant.drivers;
             dropped = λ old h. w.drop_at.ensures.dropped old (c.loop-id.invariant.dropped old h);
             room = w.drop_at.ensures.room;
           })
       | in_default w ↦
-          let below = λ (p : Place). ap (λ (ids : List ℕ). is_read_below_listed links ids p) more ∙ read_none links so_far _ (sym w.in_default.ensures) p in
+          let below = λ (p : Place). ap (λ (ids : List ℕ). is_read_below_listed links ids p) more
+          ∙ read_none links so_far _ (sym w.in_default.ensures) p in
           rw (w.queues-is, w.dropped-is) (record {
-            flow = none_less (λ (h : QueuedMessage). h.place) (is_read_below_listed links so_far) (is_read_below_listed links (take (c.loop-id.id-index + 1) c.args.gone.now)) c.args.queues.now.flow c.loop-id.queues.flow below c.loop-id.invariant.flow;
-            fulls = none_less (λ (p : Place). p) (is_read_below_listed links so_far) (is_read_below_listed links (take (c.loop-id.id-index + 1) c.args.gone.now)) c.args.queues.now.fulls c.loop-id.queues.fulls below c.loop-id.invariant.fulls;
+            flow = none_less (λ (h : QueuedMessage). h.place) (is_read_below_listed links so_far)
+                (is_read_below_listed links (take (c.loop-id.id-index + 1) c.args.gone.now)) c.args.queues.now.flow
+                c.loop-id.queues.flow below c.loop-id.invariant.flow;
+            fulls = none_less (λ (p : Place). p) (is_read_below_listed links so_far)
+                (is_read_below_listed links (take (c.loop-id.id-index + 1) c.args.gone.now)) c.args.queues.now.fulls
+                c.loop-id.queues.fulls below c.loop-id.invariant.fulls;
             drivers = c.loop-id.invariant.drivers;
             dropped = c.loop-id.invariant.dropped;
             room = c.loop-id.invariant.room;
@@ -45,4 +57,6 @@ loop-id-preserved c =
 
 pub returns-clause-fulls : goal.returns-clause-fulls
 returns-clause-fulls c =
-    subst (λ (ids : List ℕ). c.loop-id.queues.fulls ≡ filter (λ (p : Place). not (is_read_below_listed c.args.links.now.links ids p)) c.args.queues.now.fulls) (taken_all c.args.gone.now c.loop-id.id-index (omega arith)) c.loop-id.invariant.fulls
+    subst (λ (ids : List ℕ). c.loop-id.queues.fulls
+    ≡ filter (λ (p : Place). not (is_read_below_listed c.args.links.now.links ids p)) c.args.queues.now.fulls)
+    (taken_all c.args.gone.now c.loop-id.id-index (omega arith)) c.loop-id.invariant.fulls

@@ -27,19 +27,28 @@ loop-id-preserved c = elim c.match-get.branch [
       let longer = ap length pushed in
       let one_more = length-append c.loop-id.touched.items (w.in-Some.link.now.lower ∷ []) in
       rw (w.streams-is, w.touched-is) (record {
-        held = subst (λ (ids : List ℕ). AreHeld (without ids c.args.links.now.links) w.release_held.new.streams) (sym (take_more c.args.gone.now c.loop-id.id-index 0 (omega arith)))
-            (released_more c.args.links.now.links (take c.loop-id.id-index c.args.gone.now) _ w.in-Some.link.now c.loop-id.streams w.release_held.new.streams c.is_sound.ensures.sound.lowers c.is_sound.ensures.ids.rise (sym w.in-Some.ensures) c.loop-id.invariant.held w.release_held.ensures);
+        held = subst (λ (ids : List ℕ). AreHeld (without ids c.args.links.now.links) w.release_held.new.streams)
+            (sym (take_more c.args.gone.now c.loop-id.id-index 0 (omega arith)))
+            (released_more c.args.links.now.links (take c.loop-id.id-index c.args.gone.now) _ w.in-Some.link.now
+            c.loop-id.streams w.release_held.new.streams c.is_sound.ensures.sound.lowers c.is_sound.ensures.ids.rise
+            (sym w.in-Some.ensures) c.loop-id.invariant.held w.release_held.ensures);
         fds = w.release_held.ensures.fds ∙ c.loop-id.invariant.fds;
         minors = w.release_held.ensures.minors ∙ c.loop-id.invariant.minors;
-        hungs = left_twice c.args.streams.now c.loop-id.streams w.release_held.new.streams c.loop-id.invariant.hungs w.release_held.ensures.hungs
-            (λ x. there_before c.loop-id.streams w.release_held.new.streams w.in-Some.link.now.lower x 0 w.release_held.ensures (omega arith));
-        touched = rw pushed (release_touches c.args.streams.now c.loop-id.streams w.release_held.new.streams c.loop-id.touched.items w.in-Some.link.now.lower 0 w.release_held.ensures c.loop-id.invariant.touched);
+        hungs = left_twice c.args.streams.now c.loop-id.streams w.release_held.new.streams c.loop-id.invariant.hungs
+            w.release_held.ensures.hungs
+            (λ x. there_before c.loop-id.streams w.release_held.new.streams w.in-Some.link.now.lower x 0
+            w.release_held.ensures (omega arith));
+        touched = rw pushed
+            (release_touches c.args.streams.now c.loop-id.streams w.release_held.new.streams c.loop-id.touched.items
+            w.in-Some.link.now.lower 0 w.release_held.ensures c.loop-id.invariant.touched);
         few = omega (arith, longer, one_more, c.loop-id.invariant.few);
         capacity = w.push_reserved.ensures.capacity ∙ c.loop-id.invariant.capacity;
       })
   | in_default w ↦ rw (w.streams-is, w.touched-is) (record {
-    held = subst (λ (ids : List ℕ). AreHeld (without ids c.args.links.now.links) c.loop-id.streams) (sym (take_more c.args.gone.now c.loop-id.id-index 0 (omega arith)))
-        (released_none c.args.links.now.links (take c.loop-id.id-index c.args.gone.now) _ c.loop-id.streams (sym w.in_default.ensures) c.loop-id.invariant.held);
+    held = subst (λ (ids : List ℕ). AreHeld (without ids c.args.links.now.links) c.loop-id.streams)
+        (sym (take_more c.args.gone.now c.loop-id.id-index 0 (omega arith)))
+        (released_none c.args.links.now.links (take c.loop-id.id-index c.args.gone.now) _ c.loop-id.streams
+        (sym w.in_default.ensures) c.loop-id.invariant.held);
     fds = c.loop-id.invariant.fds;
     minors = c.loop-id.invariant.minors;
     hungs = c.loop-id.invariant.hungs;
@@ -53,4 +62,5 @@ pub push_reserved-requires : goal.push_reserved-requires
 push_reserved-requires c = omega (arith, c.loop-id.invariant.few, c.loop-id.invariant.capacity, c.requires.room)
 
 pub returns-clause-held : goal.returns-clause-held
-returns-clause-held c = subst (λ (ids : List ℕ). AreHeld (without ids c.args.links.now.links) c.loop-id.streams) (taken_all c.args.gone.now c.loop-id.id-index (omega arith)) c.loop-id.invariant.held
+returns-clause-held c = subst (λ (ids : List ℕ). AreHeld (without ids c.args.links.now.links) c.loop-id.streams)
+    (taken_all c.args.gone.now c.loop-id.id-index (omega arith)) c.loop-id.invariant.held

@@ -13,7 +13,8 @@ invariant-loop-id l = record {
   fds : l.streams.fds ≡ l.initial.streams.fds;
   minors : l.streams.minors ≡ l.initial.streams.minors;
   hungs : LeavesHungs l.initial.streams l.streams;
-  touched : (s : StreamId) → is_there l.initial.streams s ≡ true → is_there_or_touched l.streams l.touched.items s ≡ true;
+  touched : (s : StreamId) → is_there l.initial.streams s ≡ true
+      → is_there_or_touched l.streams l.touched.items s ≡ true;
   few : length l.touched.items ≤ length l.initial.touched.items + l.id-index;
   capacity : vec_capacity l.touched ≡ vec_capacity l.initial.touched;
 }

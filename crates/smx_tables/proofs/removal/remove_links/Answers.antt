@@ -5,7 +5,9 @@ use Rattle.smx_tables.proofs.RemovalLemmas.{few_kept, ids_in_order}
 use Rattle.smx_tables.proofs.removal.remove_links.Goals as goal
 
 pub returns-clause-value : goal.returns-clause-value
-returns-clause-value c = λ goes e. c.drop_links.ensures.value goes (ids_in_order goes c.args.lists.now.links.links c.args.gone.now e) ∙ rw (c.release_each.ensures.fds, c.drop_links.ensures.streams) refl
+returns-clause-value c = λ goes e. c.drop_links.ensures.value goes
+    (ids_in_order goes c.args.lists.now.links.links c.args.gone.now e)
+    ∙ rw (c.release_each.ensures.fds, c.drop_links.ensures.streams) refl
 
 pub returns-clause-kept : goal.returns-clause-kept
 returns-clause-kept c = record {
@@ -13,4 +15,5 @@ returns-clause-kept c = record {
 }
 
 pub returns-clause-fewer : goal.returns-clause-fewer
-returns-clause-fewer c = rw c.drop_links.ensures.links (few_kept (λ l. not (is_persistent l)) (λ l. not (is_one_of c.args.gone.now l)) c.args.lists.now.links.links)
+returns-clause-fewer c = rw c.drop_links.ensures.links
+    (few_kept (λ l. not (is_persistent l)) (λ l. not (is_one_of c.args.gone.now l)) c.args.lists.now.links.links)

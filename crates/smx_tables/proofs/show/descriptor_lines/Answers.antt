@@ -10,7 +10,10 @@ loop-next-preserved c =
     let d = c.in-Some.d in
     let next = c.next_fd-next.result in
     record {
-      so_far = rw (c.in_ok-push.ensures.items, c.descriptor_line.ensures) (lines_more f fds c.loop-next.lines.items d next (map f fds) c.next_fd-next.ensures (rw c.in-Some.is at c.loop-next.invariant.so_far));
-      known = left_all (λ e. e.stream.driver < length c.args.drivers.now) fds d.process (d.fd + 1) next c.next_fd-next.ensures c.requires;
+      so_far = rw (c.in_ok-push.ensures.items, c.descriptor_line.ensures)
+          (lines_more f fds c.loop-next.lines.items d next (map f fds) c.next_fd-next.ensures
+          (rw c.in-Some.is at c.loop-next.invariant.so_far));
+      known = left_all (λ e. e.stream.driver < length c.args.drivers.now) fds d.process
+          (d.fd + 1) next c.next_fd-next.ensures c.requires;
       numbered = numbered fds d.process (d.fd + 1) next c.next_fd-next.ensures;
     }

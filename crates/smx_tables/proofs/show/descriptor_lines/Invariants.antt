@@ -9,7 +9,8 @@ decreases-loop-next l = length (left_of l.streams.fds l.next)
 
 abbrev pub invariant-loop-next : goal.invariant-loop-next
 invariant-loop-next l = record {
-  so_far : l.lines.items ++ map (view_of_fd l.drivers) (left_of l.streams.fds l.next) ≡ map (view_of_fd l.drivers) l.streams.fds;
+  so_far : l.lines.items ++ map (view_of_fd l.drivers) (left_of l.streams.fds l.next)
+      ≡ map (view_of_fd l.drivers) l.streams.fds;
   known : All (λ d. d.stream.driver < length l.drivers) (left_of l.streams.fds l.next);
   numbered : IsNumbered l.next;
 }

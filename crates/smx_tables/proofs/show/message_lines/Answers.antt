@@ -8,6 +8,9 @@ pub loop-queued-preserved : goal.loop-queued-preserved
 loop-queued-preserved c =
     let f = view_of_message c.args.drivers.now in
     record {
-      lines = rw (c.in_ok-push.ensures.items, c.in_ok-message_line.ensures) (line_more f c.loop-queued.lines.items _ c.loop-queued.rest c.next.new.self _ c.in-Some.ensures c.loop-queued.invariant.lines);
-      known = (left_has (λ (h : QueuedMessage). h.place.stream.driver < length c.args.drivers.now) c.loop-queued.rest c.next.new.self _ c.in-Some.ensures c.loop-queued.invariant.known).1;
+      lines = rw (c.in_ok-push.ensures.items, c.in_ok-message_line.ensures)
+          (line_more f c.loop-queued.lines.items _ c.loop-queued.rest c.next.new.self _ c.in-Some.ensures
+          c.loop-queued.invariant.lines);
+      known = (left_has (λ (h : QueuedMessage). h.place.stream.driver < length c.args.drivers.now) c.loop-queued.rest
+          c.next.new.self _ c.in-Some.ensures c.loop-queued.invariant.known).1;
     }

@@ -24,8 +24,10 @@ loop-stream-preserved c =
     let i = c.loop-stream.stream-index in
     let more = take_more c.args.seen.now i (record { driver = 0; minor = 0 }) (omega arith) in
     record {
-      value = one_more_gone (configuration_of old) (configuration_of c.loop-stream.lists) (configuration_of c.drop_if_dead.new.lists)
-          old.streams _ c.args.seen.now i _ c.loop-stream.invariant.streams more c.loop-stream.invariant.value c.drop_if_dead.ensures.value;
+      value = one_more_gone (configuration_of old) (configuration_of c.loop-stream.lists)
+          (configuration_of c.drop_if_dead.new.lists)
+          old.streams _ c.args.seen.now i _ c.loop-stream.invariant.streams more c.loop-stream.invariant.value
+          c.drop_if_dead.ensures.value;
       streams = c.drop_if_dead.ensures.streams ∙ c.loop-stream.invariant.streams;
       drivers = c.drop_if_dead.ensures.drivers ∙ c.loop-stream.invariant.drivers;
       dropped = λ old h. c.drop_if_dead.ensures.dropped old (c.loop-stream.invariant.dropped old h);
@@ -38,7 +40,8 @@ returns-clause-value c =
     let seen = taken_all c.args.seen.now c.loop-stream.stream-index (omega arith) in
     c.loop-stream.invariant.value
     ∙ ap (λ (ss : List StreamId). without_streams (configuration_of old) (is_dead old.streams ss)) seen
-    ∙ all_gone c.args.drivers.now (configuration_of old) old.streams c.args.seen.now c.requires.existing c.requires.seen c.is_sound.ensures.exist
+    ∙ all_gone c.args.drivers.now (configuration_of old) old.streams c.args.seen.now c.requires.existing c.requires.seen
+    c.is_sound.ensures.exist
 
 pub returns-clause-kept : goal.returns-clause-kept
 returns-clause-kept c = record {

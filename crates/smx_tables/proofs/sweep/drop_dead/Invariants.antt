@@ -9,7 +9,8 @@ use Rattle.smx_tables.proofs.sweep.drop_dead.Given as goal
 abbrev pub invariant-loop-stream : goal.invariant-loop-stream
 invariant-loop-stream l = record {
   value : configuration_of l.lists
-      ≡ without_streams (configuration_of l.initial.lists) (is_dead l.initial.lists.streams (take l.stream-index l.seen));
+      ≡ without_streams (configuration_of l.initial.lists)
+      (is_dead l.initial.lists.streams (take l.stream-index l.seen));
   streams : l.lists.streams ≡ l.initial.lists.streams;
   drivers : sizes_of l.lists ≡ sizes_of l.initial.lists;
   dropped : (old : List QueuedMessage) → AreDropped old l.initial.lists.queues.flow l.initial.dropped.items

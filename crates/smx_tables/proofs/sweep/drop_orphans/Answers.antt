@@ -14,31 +14,39 @@ use Rattle.smx_tables.proofs.OrphanIdLemmas.{none_released_yet}
 use Rattle.smx_tables.proofs.sweep.drop_orphans.Goals as goal
 
 pub release_orphans-requires-clause-gone : goal.release_orphans-requires-clause-gone
-release_orphans-requires-clause-gone c = none_released_yet c.args.lists.now.links.links c.args.lists.now.streams c.args.room.items _ c.requires.kept.held c.requires.empty c.requires.room
+release_orphans-requires-clause-gone c = none_released_yet c.args.lists.now.links.links c.args.lists.now.streams
+    c.args.room.items _ c.requires.kept.held c.requires.empty c.requires.room
 
 pub tells_existing-requires-clause-held : goal.tells_existing-requires-clause-held
 tells_existing-requires-clause-held c =
     let links = c.args.lists.now.links.links in
     let t = c.release_orphans.new.streams in
-    let left = c.drop_links.ensures.links ∙ left_links links _ t c.is_sound.ensures.ids.rise (subst (AreIdsOf (λ l. not (is_held t l)) links) (sym c.deref.ensures.value) c.release_orphans.ensures.gone.same) in
+    let left = c.drop_links.ensures.links ∙ left_links links _ t c.is_sound.ensures.ids.rise
+    (subst (AreIdsOf (λ l. not (is_held t l)) links) (sym c.deref.ensures.value) c.release_orphans.ensures.gone.same) in
     subst (λ (ls : List Link). AreHeld ls c.drop_links.new.lists.streams) (sym left)
     (subst (λ (u : StreamTable). AreHeld (filter (is_held t) links) u) (sym c.drop_links.ensures.streams)
-    (held_is_left links (length c.args.drivers.now) t (c.release_orphans.ensures.releasing (length c.args.drivers.now))))
+    (held_is_left links (length c.args.drivers.now) t
+    (c.release_orphans.ensures.releasing (length c.args.drivers.now))))
 
 pub tells_existing-requires-clause-known : goal.tells_existing-requires-clause-known
 tells_existing-requires-clause-known c =
     let links = c.args.lists.now.links.links in
     let t = c.release_orphans.new.streams in
-    let left = c.drop_links.ensures.links ∙ left_links links _ t c.is_sound.ensures.ids.rise (subst (AreIdsOf (λ l. not (is_held t l)) links) (sym c.deref.ensures.value) c.release_orphans.ensures.gone.same) in
-    subst (λ (ls : List Link). All (λ l. IsKnown c.args.drivers.now l.ctl) ls) (sym left) (All-filter (is_held t) (λ l. IsKnown c.args.drivers.now l.ctl) links c.requires.known)
+    let left = c.drop_links.ensures.links ∙ left_links links _ t c.is_sound.ensures.ids.rise
+    (subst (AreIdsOf (λ l. not (is_held t l)) links) (sym c.deref.ensures.value) c.release_orphans.ensures.gone.same) in
+    subst (λ (ls : List Link). All (λ l. IsKnown c.args.drivers.now l.ctl) ls) (sym left)
+    (All-filter (is_held t) (λ l. IsKnown c.args.drivers.now l.ctl) links c.requires.known)
 
 pub tells_existing-requires-clause-linked : goal.tells_existing-requires-clause-linked
 tells_existing-requires-clause-linked c =
     let links = c.args.lists.now.links.links in
     let t = c.release_orphans.new.streams in
-    let left = c.drop_links.ensures.links ∙ left_links links _ t c.is_sound.ensures.ids.rise (subst (AreIdsOf (λ l. not (is_held t l)) links) (sym c.deref.ensures.value) c.release_orphans.ensures.gone.same) in
-    subst (λ (ls : List Link). list_all (λ l. is_persistent l || is_there c.drop_links.new.lists.streams l.ctl) ls ≡ true) (sym left)
-    (subst (λ (u : StreamTable). list_all (λ l. is_persistent l || is_there u l.ctl) (filter (is_held t) links) ≡ true) (sym c.drop_links.ensures.streams)
+    let left = c.drop_links.ensures.links ∙ left_links links _ t c.is_sound.ensures.ids.rise
+    (subst (AreIdsOf (λ l. not (is_held t l)) links) (sym c.deref.ensures.value) c.release_orphans.ensures.gone.same) in
+    subst (λ (ls : List Link). list_all (λ l. is_persistent l || is_there c.drop_links.new.lists.streams l.ctl) ls
+    ≡ true) (sym left)
+    (subst (λ (u : StreamTable). list_all (λ l. is_persistent l || is_there u l.ctl) (filter (is_held t) links) ≡ true)
+    (sym c.drop_links.ensures.streams)
     (left_is_linked t links c.release_orphans.ensures.none))
 
 pub returns-clause-value : goal.returns-clause-value
@@ -47,23 +55,32 @@ returns-clause-value c =
     let n = length c.args.drivers.now in
     let t = c.release_orphans.new.streams in
     let goes = is_orphaned c.args.lists.now.streams.fds links n in
-    let alike = released_are_orphaned c.args.drivers.now (configuration_of c.args.lists.now) t c.climbs_suffice.ensures c.reaches_is_path.ensures c.paths_join.ensures c.is_sound.ensures.sound c.requires.known
+    let alike = released_are_orphaned c.args.drivers.now (configuration_of c.args.lists.now) t c.climbs_suffice.ensures
+    c.reaches_is_path.ensures c.paths_join.ensures c.is_sound.ensures.sound c.requires.known
     c.release_orphans.ensures.fds (c.release_orphans.ensures.releasing n) c.release_orphans.ensures.none in
-    c.drop_links.ensures.value goes (subst (λ (ls : List Link). (id : ℕ) → is_listed c.deref.result.now id ≡ list_any (λ l. eqb l.id id) ls) (kept_alike _ goes links alike) (subst (AreIdsOf (λ l. not (is_held t l)) links) (sym c.deref.ensures.value) c.release_orphans.ensures.gone.same)) ∙ rw (c.release_orphans.ensures.fds, c.drop_links.ensures.streams) refl
+    c.drop_links.ensures.value goes
+    (subst (λ (ls : List Link). (id : ℕ) → is_listed c.deref.result.now id ≡ list_any (λ l. eqb l.id id) ls)
+    (kept_alike _ goes links alike)
+    (subst (AreIdsOf (λ l. not (is_held t l)) links) (sym c.deref.ensures.value) c.release_orphans.ensures.gone.same))
+    ∙ rw (c.release_orphans.ensures.fds, c.drop_links.ensures.streams) refl
 
 pub returns-clause-kept : goal.returns-clause-kept
 returns-clause-kept c =
     let links = c.args.lists.now.links.links in
     let t = c.release_orphans.new.streams in
-    let left = c.drop_links.ensures.links ∙ left_links links _ t c.is_sound.ensures.ids.rise (subst (AreIdsOf (λ l. not (is_held t l)) links) (sym c.deref.ensures.value) c.release_orphans.ensures.gone.same) in
+    let left = c.drop_links.ensures.links ∙ left_links links _ t c.is_sound.ensures.ids.rise
+    (subst (AreIdsOf (λ l. not (is_held t l)) links) (sym c.deref.ensures.value) c.release_orphans.ensures.gone.same) in
     let held =
     subst (λ (ls : List Link). AreHeld ls c.drop_links.new.lists.streams) (sym left)
     (subst (λ (u : StreamTable). AreHeld (filter (is_held t) links) u) (sym c.drop_links.ensures.streams)
-    (held_is_left links (length c.args.drivers.now) t (c.release_orphans.ensures.releasing (length c.args.drivers.now)))) in
+    (held_is_left links (length c.args.drivers.now) t
+    (c.release_orphans.ensures.releasing (length c.args.drivers.now)))) in
     record { held = held }
 
 pub returns-clause-seen : goal.returns-clause-seen
-returns-clause-seen c = λ s h. subst (λ (t : StreamTable). is_there_or_touched t c.release_orphans.new.seen.items s ≡ true) (sym c.drop_links.ensures.streams) (c.release_orphans.ensures.seen s h)
+returns-clause-seen c = λ s h. subst (λ (t : StreamTable). is_there_or_touched t c.release_orphans.new.seen.items s
+    ≡ true) (sym c.drop_links.ensures.streams) (c.release_orphans.ensures.seen s h)
 
 pub returns-clause-hungs : goal.returns-clause-hungs
-returns-clause-hungs c = subst (LeavesHungs c.args.lists.now.streams) (sym c.drop_links.ensures.streams) c.release_orphans.ensures.hungs
+returns-clause-hungs c =
+    subst (LeavesHungs c.args.lists.now.streams) (sym c.drop_links.ensures.streams) c.release_orphans.ensures.hungs

@@ -9,24 +9,34 @@ use Rattle.smx_tables.specs.ListedLinks.{is_orphaned}
 use Rattle.smx_tables.specs.ModelOfLists.{configuration_of}
 use Rattle.smx_tables.specs.TouchedStreams.{IsTouched}
 use Rattle.smx_tables.proofs.HungSweepLemmas.{dead_of_left}
-use Rattle.smx_tables.proofs.TouchLemmas.{cascade_at_first, linked_still, swept_still, touched_hungs, touched_on, touched_without}
+use Rattle.smx_tables.proofs.TouchLemmas.{cascade_at_first, linked_still, swept_still, touched_hungs, touched_on}
+use Rattle.smx_tables.proofs.TouchLemmas.{touched_without}
 use Rattle.smx_tables.proofs.sweep.sweep.Goals as goal
 
 pub tells_existing-requires-clause-linked : goal.tells_existing-requires-clause-linked
 tells_existing-requires-clause-linked c =
-    linked_still c.args.lists.now.streams c.args.room.touched.items (configuration_of c.args.lists.now) (ap (list_all (is_there c.args.lists.now.streams)) (sym c.deref.ensures.value) ∙ sym c.are_there.ensures ∙ c.if-are_there.true) c.requires.touched
+    linked_still c.args.lists.now.streams c.args.room.touched.items (configuration_of c.args.lists.now)
+    (ap (list_all (is_there c.args.lists.now.streams)) (sym c.deref.ensures.value) ∙ sym c.are_there.ensures
+    ∙ c.if-are_there.true) c.requires.touched
 
 pub returns-then-are_there-clause-value : goal.returns-then-are_there-clause-value
 returns-then-are_there-clause-value c =
     sym (c.sweeping_again_changes_nothing.ensures c.args.drivers.now (configuration_of c.args.lists.now)
-    (swept_still c.args.drivers.now (configuration_of c.args.lists.now) c.args.lists.now.streams c.args.room.touched.items c.tells_existing.ensures (ap (list_all (is_there c.args.lists.now.streams)) (sym c.deref.ensures.value) ∙ sym c.are_there.ensures ∙ c.if-are_there.true) c.requires.touched c.is_sound.ensures.exist))
+    (swept_still c.args.drivers.now (configuration_of c.args.lists.now) c.args.lists.now.streams
+    c.args.room.touched.items c.tells_existing.ensures
+    (ap (list_all (is_there c.args.lists.now.streams)) (sym c.deref.ensures.value) ∙ sym c.are_there.ensures
+    ∙ c.if-are_there.true) c.requires.touched c.is_sound.ensures.exist))
 
 pub drop_orphans-requires-clause-cascade : goal.drop_orphans-requires-clause-cascade
-drop_orphans-requires-clause-cascade c = cascade_at_first c.args.lists.now.links.links c.args.lists.now.streams c.args.room.touched.items _ c.requires.kept.held c.requires.touched.links (omega (arith, c.requires.room.touched_room))
+drop_orphans-requires-clause-cascade c = cascade_at_first c.args.lists.now.links.links c.args.lists.now.streams
+    c.args.room.touched.items _ c.requires.kept.held c.requires.touched.links
+    (omega (arith, c.requires.room.touched_room))
 
 pub drop_orphans-requires-clause-seen : goal.drop_orphans-requires-clause-seen
 drop_orphans-requires-clause-seen c =
-    let cascade = cascade_at_first c.args.lists.now.links.links c.args.lists.now.streams c.args.room.touched.items (vec_capacity c.args.room.seen) c.requires.kept.held c.requires.touched.links (omega (arith, c.requires.room.seen_room)) in
+    let cascade = cascade_at_first c.args.lists.now.links.links c.args.lists.now.streams c.args.room.touched.items
+    (vec_capacity c.args.room.seen) c.requires.kept.held c.requires.touched.links
+    (omega (arith, c.requires.room.seen_room)) in
     omega (arith, cascade.enough, ap length c.requires.room.seen_empty)
 
 pub drop_dead-requires-clause-seen : goal.drop_dead-requires-clause-seen
@@ -37,7 +47,9 @@ drop_dead-requires-clause-seen c =
     let goes = is_orphaned t.fds c.args.lists.now.links.links (length c.args.drivers.now) in
     let seen = c.drop_orphans.new.seen.items in
     rw c.deref-2.ensures.value (subst (λ (x : Configuration). IsTouched u seen x) (sym c.drop_orphans.ensures.value)
-    (touched_hungs u seen (without_links old goes) u.hungs (touched_on t u c.args.room.touched.items seen (without_links old goes) (touched_without t c.args.room.touched.items old goes c.requires.touched) c.drop_orphans.ensures.seen)))
+    (touched_hungs u seen (without_links old goes) u.hungs
+    (touched_on t u c.args.room.touched.items seen (without_links old goes)
+    (touched_without t c.args.room.touched.items old goes c.requires.touched) c.drop_orphans.ensures.seen)))
 
 pub returns-clause-value : goal.returns-clause-value
 returns-clause-value c =
@@ -46,4 +58,6 @@ returns-clause-value c =
     let goes = is_orphaned c.args.lists.now.streams.fds c.args.lists.now.links.links (length c.args.drivers.now) in
     c.drop_dead.ensures.value
     ∙ ap (without_dead_streams c.args.drivers.now) c.drop_orphans.ensures.value
-    ∙ dead_of_left c.args.drivers.now (without_links old goes) u u.hungs (subst (λ (x : Configuration). TellsExisting c.args.drivers.now x u) c.drop_orphans.ensures.value c.drop_orphans.ensures.existing) c.drop_orphans.ensures.hungs
+    ∙ dead_of_left c.args.drivers.now (without_links old goes) u u.hungs
+    (subst (λ (x : Configuration). TellsExisting c.args.drivers.now x u) c.drop_orphans.ensures.value
+    c.drop_orphans.ensures.existing) c.drop_orphans.ensures.hungs

@@ -13,9 +13,13 @@ pub returns : goal.returns
 returns c =
     let es = c.self.inside.minors.entries in
     let all : c.loop-key.list.items ≡ map binding_of es =
-    sym (append-nil _) ∙ ap (λ (rest : List (Key × ℕ)). c.loop-key.list.items ++ map binding_of rest) (sym c.in-None.ensures.steps.0) ∙ c.loop-key.invariant
+    sym (append-nil _) ∙ ap (λ (rest : List (Key × ℕ)). c.loop-key.list.items ++ map binding_of rest)
+    (sym c.in-None.ensures.steps.0) ∙ c.loop-key.invariant
     ∙ ap (map binding_of) (c.into_iter-key-iterator.ensures.into_iter_gives ∙ c.iter-key-items.ensures.rest) in
-    sorted_lines address_of (λ x. x.minor) binding_exact binding_of (λ e. refl) es c.args.self.now c.sort_unstable_by_key.new.self.items
-    (subst (λ (xs : List Binding). IsPermutation xs c.sort_unstable_by_key.new.self.items) all c.sort_unstable_by_key.ensures.permutation)
-    (c.sort_unstable_by_key.ensures.sorted address_of (answers_always _ _ _ (λ f a r g h. search rules))) c.iter-key-items.ensures.unique
+    sorted_lines address_of (λ x. x.minor) binding_exact binding_of
+    (λ e. refl) es c.args.self.now c.sort_unstable_by_key.new.self.items
+    (subst (λ (xs : List Binding). IsPermutation xs c.sort_unstable_by_key.new.self.items) all
+    c.sort_unstable_by_key.ensures.permutation)
+    (c.sort_unstable_by_key.ensures.sorted address_of (answers_always _ _ _ (λ f a r g h. search rules)))
+    c.iter-key-items.ensures.unique
     (subst (HasList es) c.self.view_is (has_list es c.self.invariant.unique))

@@ -6,4 +6,5 @@ pub loop-id-init : goal.loop-id-init
 loop-id-init c = sym (unlinked_none c.args.self.now)
 
 pub loop-id-preserved : goal.loop-id-preserved
-loop-id-preserved c = rw c.loop-id.invariant at c.unroute_link.ensures ∙ unlinked_next c.args.self.now c.args.ids.now c.loop-id.id-index c.loop-id-test.true
+loop-id-preserved c = rw c.loop-id.invariant at c.unroute_link.ensures
+    ∙ unlinked_next c.args.self.now c.args.ids.now c.loop-id.id-index c.loop-id-test.true

@@ -4,7 +4,7 @@ use Rattle.smx_links.specs.Masks.{IsWithin}
 use Rattle.smx_links.specs.Pairs.{AreCounts}
 use Rattle.smx_links.proofs.CountLemmas.{counts_less, some_counted}
 use Rattle.smx_links.proofs.LowerLemmas.{found_has}
-use Rattle.smx_links.proofs.TableLemmas.{parts_less, lent}
+use Rattle.smx_links.proofs.LinkTableLemmas.{parts_less, lent}
 use Rattle.smx_links.proofs.StaleLemmas.{lost_more, none_lost}
 use Rattle.smx_links.proofs.table.LinkTable.remove.Goals as goal
 
@@ -40,13 +40,15 @@ invariant_of-self-2 c =
     let long : length c.renew.new.words ≡ length ws = c.renew.ensures.length ∙ ap length c.deref_mut-2.ensures.value in
     rw (lent c.self.inside.masks.len c.renew.new.words ws long c.self.inside.masks.ok.0, back)
     (parts_less ws c.renew.new.words ls c.take.new.links.items c.self.inside.ordinary.items c.take.new.ordinary.items
-    c.self.inside.ids.entries c.take.new.ids.entries
+    c.self.inside.ids.items c.take.new.ids.items
     c.self.inside.pairs.items c.lose-lost.new.pairs c.self.inside.next_id stays c.lose-lost.result
     c.self.invariant c.in_ok-link.ensures.rest c.in_ok-link.ensures.ordinary c.in_ok-link.ensures.ids
+    c.in_ok-link.ensures.rows
     (c.fewer_links_stay_sound.ensures.sound ls stays c.self.invariant.list.sound)
     (c.fewer_links_stay_sound.ensures.ids ls stays c.self.inside.next_id c.self.invariant.list.ids)
     long counts
-    (rw c.lose-lost.ensures.lost (rw wide (lost_more c.one_link_more_joins.ensures c.paths_join.ensures (length ws) 0 ls ls
+    (rw c.lose-lost.ensures.lost
+    (rw wide (lost_more c.one_link_more_joins.ensures c.paths_join.ensures (length ws) 0 ls ls
     c.take.new.links.items c.lose-lost.new.pairs c.in_ok-link.link c.args.id c.self.invariant.list.ids.rise
     (sym c.in_ok-link.ensures.link) c.in_ok-link.ensures.rest counts own (none_lost ls))))
     (rw (c.deref_mut-2.ensures.value, c.deref.ensures.value, back) at c.renew.ensures.masks))

@@ -2,7 +2,7 @@ use Rattle.std.proofs.Common.{◌≡◌, ◌<◌, length, sym, ap, ◌∙◌, su
 use Rattle.smx_types.specs.declared.link.Link.{Link}
 use Rattle.smx_links.specs.LinkLists.{LinkList, refusal}
 use Rattle.smx_links.specs.TableFields.{list_of_parts}
-use Rattle.smx_links.proofs.TableLemmas.{IsFree, is_free, parts_push, lent}
+use Rattle.smx_links.proofs.LinkTableLemmas.{IsFree, is_free, parts_push, lent}
 use Rattle.smx_links.proofs.CountLemmas.{count_few, counts_more, entry_is}
 use Rattle.smx_links.proofs.table.LinkTable.try_link.Goals as goal
 
@@ -46,9 +46,16 @@ invariant_of-self-2 c =
       c.in_ok-put.ensures.ok,
     )
     (parts_push c.one_link_more_joins.ensures c.self.inside.masks.items c.join.new.words c.self.inside.links.items
-    c.self.inside.ordinary.items c.put.new.ordinary.items c.self.inside.ids.entries c.put.new.ids.entries c.self.inside.pairs.items c.self.inside.next_id c.args.ctl
+    c.self.inside.ordinary.items c.put.new.ordinary.items c.self.inside.ids.items c.put.new.ids.items
+    c.self.inside.pairs.items c.self.inside.next_id c.args.ctl
     c.args.lower c.args.kind c.self.invariant free up low
     (c.linking_keeps_soundness.ensures c.self.inside.links.items link c.self.invariant.list.sound free.below free.apart)
     (c.linking_takes_the_next_id.ensures c.self.inside.links.items link c.self.invariant.list.ids)
-    (rw c.in_ok-put.ensures.ok at c.in_ok-put.ensures.ids) (rw c.in_ok-put.ensures.ok at c.in_ok-put.ensures.ordinary) long
+    (rw c.in_ok-put.ensures.ok at c.in_ok-put.ensures.ids) c.in_ok-put.ensures.rows
+    (rw c.in_ok-put.ensures.ok at c.in_ok-put.ensures.ordinary) long
     (rw c.deref_mut-2.ensures.value at c.join.ensures.joined))
+
+pub put-requires-clause-driver : goal.put-requires-clause-driver
+put-requires-clause-driver c =
+    rw c.self.invariant.rows
+    (subst (λ (t : LinkList). c.args.lower.driver < t.drivers) (sym c.self.view_is) c.requires.lower)

@@ -9,16 +9,28 @@ pub move_front-requires-clause-to : goal.move_front-requires-clause-to
 move_front-requires-clause-to c = place_there _ _ _ _ c.self.invariant c.in-Some-number.ensures.found
 
 pub move_front-requires-clause-some : goal.move_front-requires-clause-some
-move_front-requires-clause-some c = some_queued _ _ _ _ _ _ c.self.invariant c.self.view_is c.in-Some.ensures.found (c.the_first_leaves.ensures.first c.args.self.now.flow c.args.from) c.requires.some
+move_front-requires-clause-some c = some_queued _ _ _ _ _ _ c.self.invariant c.self.view_is c.in-Some.ensures.found
+    (c.the_first_leaves.ensures.first c.args.self.now.flow c.args.from) c.requires.some
 
 pub move_front-requires-clause-open : goal.move_front-requires-clause-open
-move_front-requires-clause-open c = mark_is _ _ _ _ _ _ c.self.invariant c.self.view_is c.in-Some-number.ensures.found ∙ c.requires.open
+move_front-requires-clause-open c =
+    mark_is _ _ _ _ _ _ c.self.invariant c.self.view_is c.in-Some-number.ensures.found ∙ c.requires.open
 
 pub invariant_of-self : goal.invariant_of-self
-invariant_of-self c = (moved_by _ c.self.inside.queues c.move_front.new.self _ _ _ _ _ c.requires.some c.self.invariant c.self.view_is c.in-Some.ensures.found c.in-Some-number.ensures.found c.requires.differ (c.the_first_leaves.ensures.first c.args.self.now.flow c.args.from) c.move_front.ensures.moved c.move_front.ensures.spare).sound
+invariant_of-self c =
+    (moved_by _ c.self.inside.queues c.move_front.new.self _ _ _ _ _ c.requires.some c.self.invariant c.self.view_is
+    c.in-Some.ensures.found c.in-Some-number.ensures.found c.requires.differ
+    (c.the_first_leaves.ensures.first c.args.self.now.flow c.args.from) c.move_front.ensures.moved
+    c.move_front.ensures.spare).sound
 
 pub returns-in-Some-number : goal.returns-in-Some-number
-returns-in-Some-number c = (moved_by _ c.self.inside.queues c.move_front.new.self _ _ _ _ _ c.requires.some c.self.invariant c.self.view_is c.in-Some.ensures.found c.in-Some-number.ensures.found c.requires.differ (c.the_first_leaves.ensures.first c.args.self.now.flow c.args.from) c.move_front.ensures.moved c.move_front.ensures.spare).is
+returns-in-Some-number c =
+    (moved_by _ c.self.inside.queues c.move_front.new.self _ _ _ _ _ c.requires.some c.self.invariant c.self.view_is
+    c.in-Some.ensures.found c.in-Some-number.ensures.found c.requires.differ
+    (c.the_first_leaves.ensures.first c.args.self.now.flow c.args.from) c.move_front.ensures.moved
+    c.move_front.ensures.spare).is
 
 pub returns-in_default : goal.returns-in_default
-returns-in_default c = λ m e. absurd (none_some _ (first_is_none _ _ _ _ _ c.self.view_is c.in_default.ensures.none (c.the_first_leaves.ensures.first c.args.self.now.flow c.args.from)) c.requires.some)
+returns-in_default c = λ m e.
+    absurd (none_some _ (first_is_none _ _ _ _ _ c.self.view_is c.in_default.ensures.none
+    (c.the_first_leaves.ensures.first c.args.self.now.flow c.args.from)) c.requires.some)

@@ -6,13 +6,20 @@ pub take-requires : goal.take-requires
 take-requires c = place_there _ _ _ _ c.self.invariant c.in-Some.ensures.found
 
 pub invariant_of-self : goal.invariant_of-self
-invariant_of-self c = (taken_by _ c.self.inside.queues c.take.new.self _ _ _ _ c.self.invariant c.self.view_is c.in-Some.ensures.found c.take.ensures.taken c.take.ensures.left c.take.ensures.none).sound
+invariant_of-self c =
+    (taken_by _ c.self.inside.queues c.take.new.self _ _ _ _ c.self.invariant c.self.view_is c.in-Some.ensures.found
+    c.take.ensures.taken c.take.ensures.left c.take.ensures.none).sound
 
 pub returns-in-Some-clause-taken : goal.returns-in-Some-clause-taken
-returns-in-Some-clause-taken c = c.take.ensures.taken ∙ first_is _ _ _ _ _ _ c.self.invariant c.self.view_is c.in-Some.ensures.found (c.the_first_leaves.ensures.first c.args.self.now.flow c.args.place)
+returns-in-Some-clause-taken c = c.take.ensures.taken
+    ∙ first_is _ _ _ _ _ _ c.self.invariant c.self.view_is c.in-Some.ensures.found
+    (c.the_first_leaves.ensures.first c.args.self.now.flow c.args.place)
 
 pub returns-in-Some-clause-left : goal.returns-in-Some-clause-left
-returns-in-Some-clause-left c = (taken_by _ c.self.inside.queues c.take.new.self _ _ _ _ c.self.invariant c.self.view_is c.in-Some.ensures.found c.take.ensures.taken c.take.ensures.left c.take.ensures.none).is
+returns-in-Some-clause-left
+    c = (taken_by _ c.self.inside.queues c.take.new.self _ _ _ _ c.self.invariant c.self.view_is c.in-Some.ensures.found
+    c.take.ensures.taken c.take.ensures.left c.take.ensures.none).is
 
 pub returns-in-None-clause-taken : goal.returns-in-None-clause-taken
-returns-in-None-clause-taken c = first_is_none _ _ _ _ _ c.self.view_is c.in-None.ensures.none (c.the_first_leaves.ensures.first c.args.self.now.flow c.args.place)
+returns-in-None-clause-taken c = first_is_none _ _ _ _ _ c.self.view_is c.in-None.ensures.none
+    (c.the_first_leaves.ensures.first c.args.self.now.flow c.args.place)

@@ -7,15 +7,20 @@ use Rattle.smx_queues.proofs.place_marks.PlaceMarks.mark.Goals as goal
 
 pub returns-in-Some-clause-here : goal.returns-in-Some-clause-here
 returns-in-Some-clause-here c = λ known.
-    marked_here c.args.place _ _ c.in-Some.p c.args.self.now c.marks_are_of_one_place.ensures c.self.invariant.0.rising c.in-Some.ensures.found c.self.invariant.0.one_each (ap (λ (t : MarkList). t.marked) c.self.view_is)
+    marked_here c.args.place _ _ c.in-Some.p c.args.self.now c.marks_are_of_one_place.ensures c.self.invariant.0.rising
+    c.in-Some.ensures.found c.self.invariant.0.one_each (ap (λ (t : MarkList). t.marked) c.self.view_is)
 
 pub returns-in-Some-clause-others : goal.returns-in-Some-clause-others
 returns-in-Some-clause-others c = λ q apart.
-    marked_others c.args.place _ _ c.in-Some.p c.args.self.now q c.marks_are_of_one_place.ensures c.self.invariant.0.rising c.in-Some.ensures.found c.self.invariant.0.one_each (ap (λ (t : MarkList). t.marked) c.self.view_is) apart
+    marked_others c.args.place _ _ c.in-Some.p c.args.self.now q c.marks_are_of_one_place.ensures
+    c.self.invariant.0.rising c.in-Some.ensures.found c.self.invariant.0.one_each
+    (ap (λ (t : MarkList). t.marked) c.self.view_is) apart
 
 pub returns-in-Some-clause-kept : goal.returns-in-Some-clause-kept
 returns-in-Some-clause-kept c = λ q h.
-    marked_still c.args.place _ _ c.in-Some.p c.args.self.now q c.marks_are_of_one_place.ensures c.self.invariant.0.rising c.in-Some.ensures.found c.self.invariant.0.one_each (ap (λ (t : MarkList). t.marked) c.self.view_is) h
+    marked_still c.args.place _ _ c.in-Some.p c.args.self.now q c.marks_are_of_one_place.ensures
+    c.self.invariant.0.rising c.in-Some.ensures.found c.self.invariant.0.one_each
+    (ap (λ (t : MarkList). t.marked) c.self.view_is) h
 
 pub invariant_of-self : goal.invariant_of-self
 invariant_of-self c =
@@ -23,6 +28,10 @@ invariant_of-self c =
     let below = slice_get_within c.self.inside.places.places c.in-Some.p c.args.place c.in-Some.ensures.found in
     let w = c.with-self-inside.ensures in
     let there : c.in-Some.p < length c.self.inside.bytes.items = omega (arith, below, h.0.one_each) in (
-      record { rising = h.0.rising; one_each = omega (arith, h.0.one_each, length-set c.self.inside.bytes.items c.in-Some.p 1) },
+      record {
+        rising = h.0.rising;
+        one_each = omega
+            (arith, h.0.one_each, length-set c.self.inside.bytes.items c.in-Some.p 1);
+      },
       marked_within _ _ _ _ _ _ h.1 there w.there.0 w.there.1 w.kept (w.few _ h.1.end_in there),
     )

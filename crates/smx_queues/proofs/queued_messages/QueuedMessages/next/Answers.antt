@@ -4,8 +4,10 @@ use Rattle.smx_queues.proofs.queued_messages.QueuedMessages.next.Goals as goal
 
 pub returns-in_err-p : goal.returns-in_err-p
 returns-in_err-p c =
-    let none = messages_end _ _ _ _ _ _ c.self.invariant c.self.view_is c.in_default.ensures.steps.0 c.in_err-p.ensures in
-    let still = messages_end _ _ _ c.self.inside.place c.next.new.self _ c.self.invariant refl c.in_default.ensures.steps.1 c.in_err-p.ensures in
+    let none = messages_end _ _ _ _ _ _ c.self.invariant c.self.view_is c.in_default.ensures.steps.0
+    c.in_err-p.ensures in
+    let still = messages_end _ _ _ c.self.inside.place c.next.new.self _ c.self.invariant refl
+    c.in_default.ensures.steps.1 c.in_err-p.ensures in
     rw c.from_residual.ensures (none, still)
 
 pub at-self-inside-requires : goal.at-self-inside-requires
@@ -16,4 +18,5 @@ overflow_add-self c = omega (arith, below _ _ _ c.self.invariant c.in_ok-p.ensur
 
 pub returns : goal.returns
 returns c =
-    messages_step _ _ _ _ _ _ _ _ _ _ c.self.invariant c.self.view_is c.in_default.ensures.steps.0 c.in_ok-p.ensures c.at-self-inside.ensures (sym c.messages-self-inside.ensures ∙ c.in_ok-message.ensures.steps)
+    messages_step _ _ _ _ _ _ _ _ _ _ c.self.invariant c.self.view_is c.in_default.ensures.steps.0 c.in_ok-p.ensures
+    c.at-self-inside.ensures (sym c.messages-self-inside.ensures ∙ c.in_ok-message.ensures.steps)

@@ -1,6 +1,6 @@
 use Rattle.std.proofs.Common.{length}
 use Rattle.smx_queues.specs.QueueTable.{queue_at}
-use Rattle.smx_queues.proofs.TableLemmas.{IsClearing}
+use Rattle.smx_queues.proofs.QueueTableLemmas.{IsClearing}
 use Rattle.smx_queues.proofs.queues.Queues.clear.Given as goal
 
 abbrev pub invariant-loop-message : goal.invariant-loop-message

@@ -4,8 +4,10 @@ use Rattle.smx_queues.proofs.queues.Queues.drop_empty.Goals as goal
 
 pub invariant_of-self : goal.invariant_of-self
 invariant_of-self c =
-    (seen_gone _ _ c.self.invariant _ (ap queues_of c.self.view_is) _ c.requires.place c.requires.none _ c.index_mut.ensures.value).sound
+    (seen_gone _ _ c.self.invariant _ (ap queues_of c.self.view_is) _ c.requires.place c.requires.none _
+    c.index_mut.ensures.value).sound
 
 pub returns-clause-gone : goal.returns-clause-gone
 returns-clause-gone c =
-    (seen_gone _ _ c.self.invariant _ (ap queues_of c.self.view_is) _ c.requires.place c.requires.none _ c.index_mut.ensures.value).is
+    (seen_gone _ _ c.self.invariant _ (ap queues_of c.self.view_is) _ c.requires.place c.requires.none _
+    c.index_mut.ensures.value).is

@@ -16,5 +16,7 @@ loop-commands-preserved g c =
       counted = search rules;
       within = search rules;
       number = omega (arith, before.number, length-append c.loop-commands.yielded (commands ∷ []));
-      calls = λ version none. subst (HasRecorded (g.K.Recorder.told version) _ _) (sym (calls_more 0 p c.loop-commands.yielded commands number)) (did.more version _ (before.calls version none));
+      calls = λ version none. subst (HasRecorded (g.K.Recorder.told version) _ _)
+          (sym (calls_more 0 p c.loop-commands.yielded commands number))
+          (did.more version _ (before.calls version none));
     }

@@ -7,4 +7,5 @@ read-requires c = from_small c.limits_hold.ensures.links _ _ c.in-Err.ensures.he
 pub returns-in-Err-clause-held : goal.returns-in-Err-clause-held
 returns-in-Err-clause-held c =
     let held = c.in-Err.ensures.held in
-    rw (← c.seat.view_is) (from_held c.limits_hold.ensures.links _ _ c.read.result held.0 held.1 c.read.ensures.word c.read.ensures.links)
+    rw (← c.seat.view_is)
+    (from_held c.limits_hold.ensures.links _ _ c.read.result held.0 held.1 c.read.ensures.word c.read.ensures.links)

@@ -26,13 +26,17 @@ loop-number-preserved c =
     let before = c.loop-number.invariant in
     let named = c.name.ensures.same in
     let dealt_now = c.deal-next.ensures in
-    let was : c.name.new.token.me ≡ (called (unnamed c.args.system true c.loop-number.number), []) = named.1 ∙ ap (λ (m : Mine). (called m.0, m.1)) before.next in
-    let seat : c.deal-next.new.token.me.0 ≡ left (called (unnamed c.args.system true c.loop-number.number)) = ap (λ (m : Mine). m.0) dealt_now.same.1 ∙ ap (λ (m : Mine). left m.0) was in
+    let was : c.name.new.token.me ≡ (called (unnamed c.args.system true c.loop-number.number), []) = named.1
+    ∙ ap (λ (m : Mine). (called m.0, m.1)) before.next in
+    let seat : c.deal-next.new.token.me.0
+    ≡ left (called (unnamed c.args.system true c.loop-number.number)) =
+    ap (λ (m : Mine). m.0) dealt_now.same.1 ∙ ap (λ (m : Mine). left m.0) was in
     let number : c.unwrap-process.result ≡ c.loop-number.number = search rules in
     record {
       room = search rules;
       counted = search rules;
-      seats = one_seat_more _ _ _ _ _ _ before.seats (ap₂ seated_of (dealt_now.same.0 ∙ named.0 ∙ before.table) seat) c.push_reserved.ensures.items;
+      seats = one_seat_more _ _ _ _ _ _ before.seats
+          (ap₂ seated_of (dealt_now.same.0 ∙ named.0 ∙ before.table) seat) c.push_reserved.ensures.items;
       table = dealt_now.other.0 ∙ named.0 ∙ before.table;
       next = dealt_now.other.1 ∙ ap (λ (m : Mine). (dealt m.0, [])) was;
     }

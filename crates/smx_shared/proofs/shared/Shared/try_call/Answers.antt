@@ -12,7 +12,10 @@ returns-in-Err-clause-refused c =
     let held = c.in-Err.ensures.held in
     let word = c.read.ensures.word in
     let read = found_front c.limits_hold.ensures.links _ _ _ c.read.result held.1 word c.read.ensures.links in
-    rw (← c.seat.view_is) (record { looks = held.1.looks; last = rw word held.1.last; sees = read.0 }, found_held _ c.read.result read.1 held.2)
+    rw (← c.seat.view_is) (
+      record { looks = held.1.looks; last = rw word held.1.last; sees = read.0 },
+      found_held _ c.read.result read.1 held.2,
+    )
 
 pub returns-in_err-serve-clause-seen : goal.returns-in_err-serve-clause-seen
 returns-in_err-serve-clause-seen c =

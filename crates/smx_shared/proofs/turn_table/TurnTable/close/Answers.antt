@@ -6,13 +6,15 @@ use Rattle.smx_shared.proofs.turn_table.TurnTable.close.Goals as goal
 pub returns-then-word-ne0-clause-held : goal.returns-then-word-ne0-clause-held
 returns-then-word-ne0-clause-held c =
     let v = c.args.token.me.0 in
-    let end = closes _ _ _ _ _ v _ _ c.word-word.result c.take-slot.result c.close_with-closed.ensures.values.2 c.requires.rest.0.2 c.word-word.ensures c.take-slot.ensures.value in
+    let end = closes _ _ _ _ _ v _ _ c.word-word.result c.take-slot.result c.close_with-closed.ensures.values.2
+    c.requires.rest.0.2 c.word-word.ensures c.take-slot.ensures.value in
     (omega (arith, c.if-word-ne0.true), record { history = end.0; seen = end.2; sound = end.1; front = end.5 })
 
 pub unreachable-requires : goal.unreachable-requires
 unreachable-requires c =
     let v = c.args.token.me.0 in
-    let end = closes _ _ _ _ _ v _ _ c.word-word.result c.take-slot.result c.close_with-closed.ensures.values.2 c.requires.rest.0.2 c.word-word.ensures c.take-slot.ensures.value in
+    let end = closes _ _ _ _ _ v _ _ c.word-word.result c.take-slot.result c.close_with-closed.ensures.values.2
+    c.requires.rest.0.2 c.word-word.ensures c.take-slot.ensures.value in
     let there = end.6 c.if-word-ne0.false in
     let none = c.in-None.is in
     cc
@@ -20,11 +22,17 @@ unreachable-requires c =
 pub returns-clause-ends : goal.returns-clause-ends
 returns-clause-ends c =
     let v = c.args.token.me.0 in
-    let end = closes _ _ _ _ _ v _ _ c.word-word.result c.take-slot.result c.close_with-closed.ensures.values.2 c.requires.rest.0.2 c.word-word.ensures c.take-slot.ensures.value in
-    rw c.into_system.ensures (ends_as v c.take-slot.result c.in-Some.system end.0 c.in-Some.is (end.6 c.if-word-ne0.false) c.requires.rest.1 end.1 end.2 end.3 end.4)
+    let end = closes _ _ _ _ _ v _ _ c.word-word.result c.take-slot.result c.close_with-closed.ensures.values.2
+    c.requires.rest.0.2 c.word-word.ensures c.take-slot.ensures.value in
+    rw c.into_system.ensures
+    (ends_as v c.take-slot.result c.in-Some.system end.0 c.in-Some.is
+    (end.6 c.if-word-ne0.false) c.requires.rest.1 end.1 end.2 end.3 end.4)
 
 pub returns-clause-begun : goal.returns-clause-begun
 returns-clause-begun c =
     let v = c.args.token.me.0 in
-    let end = closes _ _ _ _ _ v _ _ c.word-word.result c.take-slot.result c.close_with-closed.ensures.values.2 c.requires.rest.0.2 c.word-word.ensures c.take-slot.ensures.value in
-    rw c.into_system.ensures (goes_on_from _ v c.take-slot.result c.in-Some.system end.0 c.in-Some.is (end.6 c.if-word-ne0.false) end.7 end.8 end.9)
+    let end = closes _ _ _ _ _ v _ _ c.word-word.result c.take-slot.result c.close_with-closed.ensures.values.2
+    c.requires.rest.0.2 c.word-word.ensures c.take-slot.ensures.value in
+    rw c.into_system.ensures
+    (goes_on_from _ v c.take-slot.result c.in-Some.system end.0 c.in-Some.is
+    (end.6 c.if-word-ne0.false) end.7 end.8 end.9)

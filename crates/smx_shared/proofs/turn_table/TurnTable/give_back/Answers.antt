@@ -13,8 +13,11 @@ store-requires c =
     let r = c.requires in
     let sound = subst IsSoundSystem c.system.ensures c.front_word-front.ensures.sound in
     let word = c.front_word-front.ensures.word ∙ ap (λ (s : Recorded). front_of s.drivers s.history) c.system.ensures in
-    let is = ready _ _ c.args.system _ r.turn.0 r.turn.1 r.same.0 r.same.1 r.more sound word c.exchange.ensures.3 in
-    (c.exchange.ensures.0 ∙ r.table, search rules, publishes _ _ _ _ _ _ _ _ c.args.system.history is.has is.named is.more is.sound is.front)
+    let is = ready _ _ c.args.system _ r.turn.0 r.turn.1 r.same.0 r.same.1 r.more sound word c.exchange.ensures.3 in (
+      c.exchange.ensures.0 ∙ r.table,
+      search rules,
+      publishes _ _ _ _ _ _ _ _ c.args.system.history is.has is.named is.more is.sound is.front,
+    )
 
 pub returns : goal.returns
 returns c =

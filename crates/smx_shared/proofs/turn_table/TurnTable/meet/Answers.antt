@@ -11,8 +11,12 @@ join_seat-requires c =
 pub load-requires : goal.load-requires
 load-requires c =
     let r = c.requires.rest.0 in
-    let joined = c.join_seat.ensures.2 in
-    (search rules, search rules, looks _ _ _ _ _ _ _ (ap (λ m. m.0.spent) joined ∙ r.2) (ap (λ m. m.0.turn) joined ∙ r.1))
+    let joined = c.join_seat.ensures.2 in (
+      search rules,
+      search rules,
+      looks _ _ _ _ _ _ _ (ap (λ m. m.0.spent) joined ∙ r.2)
+          (ap (λ m. m.0.turn) joined ∙ r.1),
+    )
 
 pub returns : goal.returns
 returns c =

@@ -5,4 +5,5 @@ use Rattle.smx_shared.proofs.turn_table.TurnTable.open.Goals as goal
 pub new-requires : goal.new-requires
 new-requires c =
     let items : c.push_reserved.new.self.items ≡ Some c.args.system ∷ [] = search rules in
-    rw (c.of.ensures, items) (opens c.args.system c.args.processes _ c.front_word-front.ensures.word c.front_word-front.ensures.sound)
+    rw (c.of.ensures, items)
+    (opens c.args.system c.args.processes _ c.front_word-front.ensures.word c.front_word-front.ensures.sound)

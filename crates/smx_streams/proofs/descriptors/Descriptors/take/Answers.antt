@@ -7,17 +7,25 @@ use Rattle.smx_streams.proofs.RowOrderLemmas.{rows_with_cell}
 use Rattle.smx_streams.proofs.descriptors.Descriptors.take.Goals as goal
 
 pub returns-in_err-stream-clause-stream : goal.returns-in_err-stream-clause-stream
-returns-in_err-stream-clause-stream c = c.from_residual.ensures ∙ rw c.deref.ensures.value at c.in_err-stream.ensures ∙ stream_is_cell c.self.inside.processes.items c.args.process c.args.fd ∙ ap (λ (l : Listed). stream_at l.fds c.args.process c.args.fd) c.self.view_is
+returns-in_err-stream-clause-stream c = c.from_residual.ensures ∙ rw c.deref.ensures.value at c.in_err-stream.ensures
+    ∙ stream_is_cell c.self.inside.processes.items c.args.process c.args.fd
+    ∙ ap (λ (l : Listed). stream_at l.fds c.args.process c.args.fd) c.self.view_is
 
 pub returns-in_err-stream-clause-rest : goal.returns-in_err-stream-clause-rest
-returns-in_err-stream-clause-rest c = subst (λ (l : Listed). l.fds ≡ filter (λ d. not (is_fd c.args.process c.args.fd d)) l.fds) c.self.view_is
-    (sym (take_none c.self.inside.processes.items c.args.process c.args.fd (sym (rw c.deref.ensures.value at c.in_err-stream.ensures))))
+returns-in_err-stream-clause-rest c =
+    subst (λ (l : Listed). l.fds ≡ filter (λ d. not (is_fd c.args.process c.args.fd d)) l.fds) c.self.view_is
+    (sym (take_none c.self.inside.processes.items c.args.process c.args.fd
+    (sym (rw c.deref.ensures.value at c.in_err-stream.ensures))))
 
 pub invariant_of-self : goal.invariant_of-self
-invariant_of-self c = rw c.set_cell.ensures (rows_with_cell c.self.inside.processes.items c.args.process c.args.fd _ c.self.invariant)
+invariant_of-self c =
+    rw c.set_cell.ensures (rows_with_cell c.self.inside.processes.items c.args.process c.args.fd _ c.self.invariant)
 
 pub returns-clause-stream : goal.returns-clause-stream
-returns-clause-stream c = rw c.deref.ensures.value at c.in_ok-stream.ensures ∙ stream_is_cell c.self.inside.processes.items c.args.process c.args.fd ∙ ap (λ (l : Listed). stream_at l.fds c.args.process c.args.fd) c.self.view_is
+returns-clause-stream c = rw c.deref.ensures.value at c.in_ok-stream.ensures
+    ∙ stream_is_cell c.self.inside.processes.items c.args.process c.args.fd
+    ∙ ap (λ (l : Listed). stream_at l.fds c.args.process c.args.fd) c.self.view_is
 
 pub returns-clause-rest : goal.returns-clause-rest
-returns-clause-rest c = rw c.set_cell.ensures (sym (take_cell c.self.inside.processes.items c.args.process c.args.fd)) ∙ ap (λ (l : Listed). filter (λ d. not (is_fd c.args.process c.args.fd d)) l.fds) c.self.view_is
+returns-clause-rest c = rw c.set_cell.ensures (sym (take_cell c.self.inside.processes.items c.args.process c.args.fd))
+    ∙ ap (λ (l : Listed). filter (λ d. not (is_fd c.args.process c.args.fd d)) l.fds) c.self.view_is

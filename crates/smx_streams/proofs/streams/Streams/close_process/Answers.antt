@@ -20,14 +20,19 @@ loop-fd-init c = record {
 pub loop-fd-preserved : goal.loop-fd-preserved
 loop-fd-preserved c = record {
   minors = c.close_fd-closed.ensures.rest.minors ∙ c.loop-fd.invariant.minors;
-  fds = c.close_fd-closed.ensures.rest.fds ∙ ap (λ (ds : List Descriptor). filter (λ d. not (is_fd c.args.process c.loop-fd.fd d)) ds) c.loop-fd.invariant.fds ∙ closed_more c.args.process c.loop-fd.fd c.args.self.now.fds;
+  fds = c.close_fd-closed.ensures.rest.fds
+      ∙ ap (λ (ds : List Descriptor). filter (λ d. not (is_fd c.args.process c.loop-fd.fd d)) ds)
+      c.loop-fd.invariant.fds ∙ closed_more c.args.process c.loop-fd.fd c.args.self.now.fds;
   holds = λ x. c.close_fd-closed.ensures.rest.holds x ∙ c.loop-fd.invariant.holds x;
-  hungs = c.close_fd-closed.ensures.rest.hungs ∙ left_again c.loop-fd.self c.close_fd-closed.new.self c.args.process c.loop-fd.fd _ _ c.close_fd-closed.ensures.rest c.loop-fd.invariant.hungs;
+  hungs = c.close_fd-closed.ensures.rest.hungs ∙ left_again c.loop-fd.self c.close_fd-closed.new.self c.args.process
+      c.loop-fd.fd _ _ c.close_fd-closed.ensures.rest c.loop-fd.invariant.hungs;
   went = λ s there gone. elim (cases_Bool (exists c.loop-fd.self s)) [
     | inl still ↦ (
       c.loop-fd.fd,
       omega arith,
-      sym (at_next c.args.process c.loop-fd.fd c.args.self.now.fds) ∙ ap (λ (ds : List Descriptor). stream_at ds c.args.process c.loop-fd.fd) (sym c.loop-fd.invariant.fds) ∙ c.close_fd-closed.ensures.went s still gone,
+      sym (at_next c.args.process c.loop-fd.fd c.args.self.now.fds)
+          ∙ ap (λ (ds : List Descriptor). stream_at ds c.args.process c.loop-fd.fd) (sym c.loop-fd.invariant.fds)
+          ∙ c.close_fd-closed.ensures.went s still gone,
     )
     | inr before ↦ let at = c.loop-fd.invariant.went s there before in let lt = at.1 in (at.0, omega (arith, lt), at.2)
   ];
@@ -36,7 +41,8 @@ loop-fd-preserved c = record {
 pub returns-clause-rest : goal.returns-clause-rest
 returns-clause-rest c = record {
   minors = c.loop-fd.invariant.minors;
-  fds = c.loop-fd.invariant.fds ∙ closed_all c.args.process c.loop-fd.fd c.args.self.now.fds (omega arith) c.is_listed.ensures.numbered;
+  fds = c.loop-fd.invariant.fds ∙ closed_all c.args.process c.loop-fd.fd c.args.self.now.fds
+      (omega arith) c.is_listed.ensures.numbered;
   holds = c.loop-fd.invariant.holds;
   hungs = c.loop-fd.invariant.hungs;
 }

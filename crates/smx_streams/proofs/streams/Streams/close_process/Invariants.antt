@@ -10,5 +10,6 @@ invariant-loop-fd l = record {
   fds : l.self.fds ≡ filter (λ d. not (is_closed l.process l.fd d)) l.initial.self.fds;
   holds : (x : StreamId) → number_at l.self.holds x ≡ number_at l.initial.self.holds x;
   hungs : l.self.hungs ≡ filter (exists l.self) l.initial.self.hungs;
-  went : (s : StreamId) → exists l.initial.self s ≡ true → exists l.self s ≡ false → (n : ℕ) × (n < l.fd) × (stream_at l.initial.self.fds l.process n ≡ Some s);
+  went : (s : StreamId) → exists l.initial.self s ≡ true → exists l.self s ≡ false
+      → (n : ℕ) × (n < l.fd) × (stream_at l.initial.self.fds l.process n ≡ Some s);
 }

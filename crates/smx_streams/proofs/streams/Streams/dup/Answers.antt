@@ -5,6 +5,10 @@ use Rattle.smx_streams.proofs.streams.Streams.dup.Goals as goal
 
 pub give-requires : goal.give-requires
 give-requires c =
-    let some = names_some c.in-Some.stream c.args.process c.args.fd c.self.inside.descriptors.fds (sym c.in-Some.ensures) in
+    let some = names_some c.in-Some.stream c.args.process c.args.fd c.self.inside.descriptors.fds
+    (sym c.in-Some.ensures) in
     let same = c.self.invariant c.in-Some.stream in
-    record { range = subst (λ (t : StreamTable). is_in_range t.minors c.in-Some.stream.driver c.in-Some.stream.minor ≡ true) c.self.view_is (c.is_sound.ensures.range c.in-Some.stream (omega (arith, some, same))) }
+    record {
+      range = subst (λ (t : StreamTable). is_in_range t.minors c.in-Some.stream.driver c.in-Some.stream.minor
+          ≡ true) c.self.view_is (c.is_sound.ensures.range c.in-Some.stream (omega (arith, some, same)));
+    }

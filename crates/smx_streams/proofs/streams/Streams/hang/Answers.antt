@@ -7,12 +7,25 @@ use Rattle.smx_streams.proofs.RecordLemmas.{counts_some}
 use Rattle.smx_streams.proofs.streams.Streams.hang.Goals as goal
 
 pub hang-requires : goal.hang-requires
-hang-requires c = counts_some _ (used_exists (table_of c.self.inside) c.args.stream (number_at c.self.inside.records.opens c.args.stream) (c.self.invariant c.args.stream) ∙ ap (λ (t : StreamTable). exists t c.args.stream) c.self.view_is ∙ c.requires)
+hang-requires c = counts_some _
+    (used_exists (table_of c.self.inside) c.args.stream (number_at c.self.inside.records.opens c.args.stream)
+    (c.self.invariant c.args.stream) ∙ ap (λ (t : StreamTable). exists t c.args.stream) c.self.view_is ∙ c.requires)
 
 pub returns : goal.returns
-returns c = subst (λ (t : StreamTable). HasHungUp t c.args.stream (table_of (record { alloc = c.self.inside.alloc; descriptors = c.self.inside.descriptors; records = c.hang.new.self }))) c.self.view_is (record {
-  minors = c.hang.ensures.minors;
-  fds = refl;
-  holds = λ x. c.hang.ensures.holds_now x ∙ same_number c.self.inside.records.holds x c.args.stream _ refl;
-  hungs = hung_now (record { same = c.hung_up_streams_make_the_list.ensures.same; more = c.hung_up_streams_make_the_list.ensures.more; fewer = c.hung_up_streams_make_the_list.ensures.fewer; each_of_more = c.hung_up_streams_make_the_list.ensures.each_of_more; each_of_fewer = c.hung_up_streams_make_the_list.ensures.each_of_fewer }) c.self.inside.records c.hang.new.self c.args.stream _ _ c.hang.ensures;
-})
+returns c = subst
+    (λ (t : StreamTable). HasHungUp t c.args.stream
+    (table_of
+    (record { alloc = c.self.inside.alloc; descriptors = c.self.inside.descriptors; records = c.hang.new.self })))
+    c.self.view_is (record {
+      minors = c.hang.ensures.minors;
+      fds = refl;
+      holds = λ x. c.hang.ensures.holds_now x ∙ same_number c.self.inside.records.holds x c.args.stream _ refl;
+      hungs = hung_now
+          (record {
+            same = c.hung_up_streams_make_the_list.ensures.same;
+            more = c.hung_up_streams_make_the_list.ensures.more;
+            fewer = c.hung_up_streams_make_the_list.ensures.fewer;
+            each_of_more = c.hung_up_streams_make_the_list.ensures.each_of_more;
+            each_of_fewer = c.hung_up_streams_make_the_list.ensures.each_of_fewer;
+          }) c.self.inside.records c.hang.new.self c.args.stream _ _ c.hang.ensures;
+    })

@@ -8,25 +8,46 @@ use Rattle.smx_streams.proofs.streams.Streams.open.Goals as goal
 
 pub returns-in_err-make_room-clause-in_place : goal.returns-in_err-make_room-clause-in_place
 returns-in_err-make_room-clause-in_place c = λ n there.
-    absurd (false≢true (c.in_err-make_room.ensures.in_place n (named_any c.args.stream c.args.process n c.self.inside.descriptors.fds (subst (λ (t : StreamTable). stream_at t.fds c.args.process n ≡ Some c.args.stream) (sym c.self.view_is) there))))
+    absurd (false≢true
+    (c.in_err-make_room.ensures.in_place n
+    (named_any c.args.stream c.args.process n c.self.inside.descriptors.fds
+    (subst (λ (t : StreamTable). stream_at t.fds c.args.process n ≡ Some c.args.stream) (sym c.self.view_is) there))))
 
 pub open-requires-clause-few : goal.open-requires-clause-few
-open-requires-clause-few c = omega (arith, names_few c.args.stream c.self.inside.descriptors.fds, c.self.invariant c.args.stream, c.is_sound.ensures.few)
+open-requires-clause-few c = omega (
+  arith,
+  names_few c.args.stream c.self.inside.descriptors.fds,
+  c.self.invariant c.args.stream,
+  c.is_sound.ensures.few,
+)
 
 pub returns-in_err-open-clause-in_place : goal.returns-in_err-open-clause-in_place
 returns-in_err-open-clause-in_place c = λ n there.
-    let some = names_some c.args.stream c.args.process n c.self.inside.descriptors.fds (subst (λ (t : StreamTable). stream_at t.fds c.args.process n ≡ Some c.args.stream) (sym c.self.view_is) there) in
+    let some = names_some c.args.stream c.args.process n c.self.inside.descriptors.fds
+    (subst (λ (t : StreamTable). stream_at t.fds c.args.process n ≡ Some c.args.stream) (sym c.self.view_is) there) in
     absurd (false≢true (c.in_err-open.ensures.in_place (omega (arith, some, c.self.invariant c.args.stream))))
 
 pub invariant_of-self-2 : goal.invariant_of-self-2
 invariant_of-self-2 c = λ s.
     c.in_ok-open.ensures.ok.opens_now s
-    ∙ rw (c.put.ensures, c.in_ok-make_room.ensures.fds) (names_after_put c.self.inside.records.opens s c.args.stream c.args.process c.args.fd c.self.inside.descriptors.fds c.self.invariant)
+    ∙ rw (c.put.ensures, c.in_ok-make_room.ensures.fds)
+    (names_after_put c.self.inside.records.opens s c.args.stream c.args.process c.args.fd c.self.inside.descriptors.fds
+    c.self.invariant)
 
 pub returns-clause-ok : goal.returns-clause-ok
-returns-clause-ok c = subst (λ (t : StreamTable). HasOneMore t c.args.process c.args.fd c.args.stream (table_of (record { alloc = c.self.inside.alloc; descriptors = c.put.new.self; records = c.open.new.self }))) c.self.view_is (record {
-  minors = c.in_ok-open.ensures.ok.minors;
-  fds = rw (c.put.ensures, c.in_ok-make_room.ensures.fds) refl;
-  holds = λ x. c.in_ok-open.ensures.ok.holds_now x ∙ same_number c.self.inside.records.holds x c.args.stream _ refl;
-  hungs = hung_same (record { same = c.hung_up_streams_make_the_list.ensures.same; more = c.hung_up_streams_make_the_list.ensures.more; fewer = c.hung_up_streams_make_the_list.ensures.fewer; each_of_more = c.hung_up_streams_make_the_list.ensures.each_of_more; each_of_fewer = c.hung_up_streams_make_the_list.ensures.each_of_fewer }) c.self.inside.records c.open.new.self c.args.stream _ _ c.in_ok-open.ensures.ok;
-})
+returns-clause-ok c = subst
+    (λ (t : StreamTable). HasOneMore t c.args.process c.args.fd c.args.stream
+    (table_of (record { alloc = c.self.inside.alloc; descriptors = c.put.new.self; records = c.open.new.self })))
+    c.self.view_is (record {
+      minors = c.in_ok-open.ensures.ok.minors;
+      fds = rw (c.put.ensures, c.in_ok-make_room.ensures.fds) refl;
+      holds = λ x. c.in_ok-open.ensures.ok.holds_now x ∙ same_number c.self.inside.records.holds x c.args.stream _ refl;
+      hungs = hung_same
+          (record {
+            same = c.hung_up_streams_make_the_list.ensures.same;
+            more = c.hung_up_streams_make_the_list.ensures.more;
+            fewer = c.hung_up_streams_make_the_list.ensures.fewer;
+            each_of_more = c.hung_up_streams_make_the_list.ensures.each_of_more;
+            each_of_fewer = c.hung_up_streams_make_the_list.ensures.each_of_fewer;
+          }) c.self.inside.records c.open.new.self c.args.stream _ _ c.in_ok-open.ensures.ok;
+    })

@@ -7,33 +7,66 @@ use Rattle.smx_streams.proofs.streams.Streams.take_fd.Goals as goal
 
 pub overflow_sub-opens : goal.overflow_sub-opens
 overflow_sub-opens c =
-    let some = names_some c.in_ok-stream.stream c.args.process c.args.fd c.self.inside.descriptors.fds (sym c.in_ok-stream.ensures.stream) in
+    let some = names_some c.in_ok-stream.stream c.args.process c.args.fd c.self.inside.descriptors.fds
+    (sym c.in_ok-stream.ensures.stream) in
     omega (arith, some, c.self.invariant c.in_ok-stream.stream, c.opens_of-opens.ensures)
 
 pub set-requires : goal.set-requires
 set-requires c =
-    let some = names_some c.in_ok-stream.stream c.args.process c.args.fd c.self.inside.descriptors.fds (sym c.in_ok-stream.ensures.stream) in
+    let some = names_some c.in_ok-stream.stream c.args.process c.args.fd c.self.inside.descriptors.fds
+    (sym c.in_ok-stream.ensures.stream) in
     omega (arith, some, c.self.invariant c.in_ok-stream.stream)
 
 pub invariant_of-self-2 : goal.invariant_of-self-2
 invariant_of-self-2 c = λ s.
     c.set.ensures.opens_now s
-    ∙ rw (c.opens_of-opens.ensures, c.in_ok-stream.ensures.rest) (names_after_take c.self.inside.records.opens s c.in_ok-stream.stream c.args.process c.args.fd c.self.inside.descriptors.fds c.self.invariant c.is_sound.ensures.rise (sym c.in_ok-stream.ensures.stream))
+    ∙ rw (c.opens_of-opens.ensures, c.in_ok-stream.ensures.rest)
+    (names_after_take c.self.inside.records.opens s c.in_ok-stream.stream c.args.process c.args.fd
+    c.self.inside.descriptors.fds c.self.invariant c.is_sound.ensures.rise (sym c.in_ok-stream.ensures.stream))
 
 pub returns-in_err-stream-clause-rest : goal.returns-in_err-stream-clause-rest
-returns-in_err-stream-clause-rest c = subst (λ (t : StreamTable). HasOneLess t c.args.process c.args.fd (table_of (record { alloc = c.self.inside.alloc; descriptors = c.take.new.self; records = c.self.inside.records }))) c.self.view_is (record {
-  minors = refl;
-  fds = c.in_err-stream.ensures.rest;
-  holds = λ x. refl;
-  hungs = kept (record { same = c.hung_up_streams_make_the_list.ensures.same; more = c.hung_up_streams_make_the_list.ensures.more; fewer = c.hung_up_streams_make_the_list.ensures.fewer; each_of_more = c.hung_up_streams_make_the_list.ensures.each_of_more; each_of_fewer = c.hung_up_streams_make_the_list.ensures.each_of_fewer }) c.self.inside.records (table_of c.self.inside) (table_of (record { alloc = c.self.inside.alloc; descriptors = c.take.new.self; records = c.self.inside.records })) c.is_sound-2.ensures.hung (λ x. rw c.in_err-stream.ensures.unchanged (c.self.invariant x)) refl refl refl;
-})
+returns-in_err-stream-clause-rest c = subst
+    (λ (t : StreamTable). HasOneLess t c.args.process c.args.fd
+    (table_of (record { alloc = c.self.inside.alloc; descriptors = c.take.new.self; records = c.self.inside.records })))
+    c.self.view_is (record {
+      minors = refl;
+      fds = c.in_err-stream.ensures.rest;
+      holds = λ x. refl;
+      hungs = kept
+          (record {
+            same = c.hung_up_streams_make_the_list.ensures.same;
+            more = c.hung_up_streams_make_the_list.ensures.more;
+            fewer = c.hung_up_streams_make_the_list.ensures.fewer;
+            each_of_more = c.hung_up_streams_make_the_list.ensures.each_of_more;
+            each_of_fewer = c.hung_up_streams_make_the_list.ensures.each_of_fewer;
+          }) c.self.inside.records (table_of c.self.inside)
+          (table_of
+          (record { alloc = c.self.inside.alloc; descriptors = c.take.new.self; records = c.self.inside.records }))
+          c.is_sound-2.ensures.hung (λ x. rw c.in_err-stream.ensures.unchanged (c.self.invariant x)) refl refl refl;
+    })
 
 pub returns-clause-rest : goal.returns-clause-rest
-returns-clause-rest c = subst (λ (t : StreamTable). HasOneLess t c.args.process c.args.fd (table_of (record { alloc = c.self.inside.alloc; descriptors = c.take.new.self; records = c.set.new.self }))) c.self.view_is (record {
-  minors = c.set.ensures.minors;
-  fds = c.in_ok-stream.ensures.rest;
-  holds = λ x. c.set.ensures.holds_now x ∙ same_number c.self.inside.records.holds x c.in_ok-stream.stream _ c.holds_of-holds.ensures;
-  hungs = left (record { same = c.hung_up_streams_make_the_list.ensures.same; more = c.hung_up_streams_make_the_list.ensures.more; fewer = c.hung_up_streams_make_the_list.ensures.fewer; each_of_more = c.hung_up_streams_make_the_list.ensures.each_of_more; each_of_fewer = c.hung_up_streams_make_the_list.ensures.each_of_fewer }) c.self.inside.records c.set.new.self (table_of c.self.inside) (table_of (record { alloc = c.self.inside.alloc; descriptors = c.take.new.self; records = c.set.new.self })) c.in_ok-stream.stream _ _ c.set.ensures c.is_sound-2.ensures.hung (λ s.
-      c.set.ensures.opens_now s
-      ∙ rw (c.opens_of-opens.ensures, c.in_ok-stream.ensures.rest) (names_after_take c.self.inside.records.opens s c.in_ok-stream.stream c.args.process c.args.fd c.self.inside.descriptors.fds c.self.invariant c.is_sound.ensures.rise (sym c.in_ok-stream.ensures.stream))) refl refl refl;
-})
+returns-clause-rest c = subst
+    (λ (t : StreamTable). HasOneLess t c.args.process c.args.fd
+    (table_of (record { alloc = c.self.inside.alloc; descriptors = c.take.new.self; records = c.set.new.self })))
+    c.self.view_is (record {
+      minors = c.set.ensures.minors;
+      fds = c.in_ok-stream.ensures.rest;
+      holds = λ x. c.set.ensures.holds_now x ∙ same_number c.self.inside.records.holds x c.in_ok-stream.stream _
+          c.holds_of-holds.ensures;
+      hungs = left
+          (record {
+            same = c.hung_up_streams_make_the_list.ensures.same;
+            more = c.hung_up_streams_make_the_list.ensures.more;
+            fewer = c.hung_up_streams_make_the_list.ensures.fewer;
+            each_of_more = c.hung_up_streams_make_the_list.ensures.each_of_more;
+            each_of_fewer = c.hung_up_streams_make_the_list.ensures.each_of_fewer;
+          }) c.self.inside.records c.set.new.self (table_of c.self.inside)
+          (table_of (record { alloc = c.self.inside.alloc; descriptors = c.take.new.self; records = c.set.new.self }))
+          c.in_ok-stream.stream _ _ c.set.ensures c.is_sound-2.ensures.hung (λ s.
+          c.set.ensures.opens_now s
+          ∙ rw (c.opens_of-opens.ensures, c.in_ok-stream.ensures.rest)
+          (names_after_take c.self.inside.records.opens s c.in_ok-stream.stream c.args.process c.args.fd
+          c.self.inside.descriptors.fds c.self.invariant c.is_sound.ensures.rise (sym c.in_ok-stream.ensures.stream)))
+          refl refl refl;
+    })

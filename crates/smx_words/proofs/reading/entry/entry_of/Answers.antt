@@ -38,7 +38,8 @@ returns-in-Ok-None-clause-reading c = λ x fits e.
 pub returns-in-Err-clause-wanted : goal.returns-in-Err-clause-wanted
 returns-in-Err-clause-wanted c =
     let process = c.in-Some-new.ensures.value in
-    told_entry_spelled c.args.version c.args.line.now c.in-Some.rest.now c.in-Some-sides.command.now c.in-Some-sides.reply.now
+    told_entry_spelled c.args.version c.args.line.now c.in-Some.rest.now c.in-Some-sides.command.now
+    c.in-Some-sides.reply.now
     c.in-Some-new.process
     (omega (arith, process, c.in-Some-new.ensures.valid.0 refl)) (c.in-Some.ensures.1
     ∙ ap (λ (n : ℕ). decimal n ++ SPACE ∷ c.in-Some.rest.now) (sym process)) c.in-Some-sides.ensures.1
@@ -48,7 +49,8 @@ pub returns-in-Ok-Some-clause-reading : goal.returns-in-Ok-Some-clause-reading
 returns-in-Ok-Some-clause-reading c =
     let process = c.in-Some-new.ensures.value in
     let read = rw c.in-Ok-Some.field-0-is at c.in-Ok-Some.ensures.reading in
-    told_entry_is c.args.version c.args.line.now c.in-Some.rest.now c.in-Some-sides.command.now c.in-Some-sides.reply.now
+    told_entry_is c.args.version c.args.line.now c.in-Some.rest.now c.in-Some-sides.command.now
+    c.in-Some-sides.reply.now
     c.in-Some-new.process c.in-Ok-Some.command c.in-Ok-Some.reply
     (omega (arith, process, c.in-Some-new.ensures.valid.0 refl)) (c.in-Some.ensures.1
     ∙ ap (λ (n : ℕ). decimal n ++ SPACE ∷ c.in-Some.rest.now) (sym process)) c.in-Some-sides.ensures.1

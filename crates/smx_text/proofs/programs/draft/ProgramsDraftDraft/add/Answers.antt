@@ -12,9 +12,11 @@ use Rattle.smx_text.proofs.programs.draft.ProgramsDraftDraft.add.Goals as goal
 pub returns-in-Ok-Some-clause-added : goal.returns-in-Ok-Some-clause-added
 returns-in-Ok-Some-clause-added c =
     let same : c.self.inside.version ≡ c.args.self.now.version = ap (λ (p : ProgramLists). p.version) c.self.view_is in
-    let read = subst (λ (v : Version). IsReadAs (FitsCommandIn v) command_words c.args.text.now c.in-Ok-Some.field-0) same
+    let read = subst (λ (v : Version). IsReadAs (FitsCommandIn v) command_words c.args.text.now c.in-Ok-Some.field-0)
+    same
     c.in-Ok-Some.ensures.reading in
-    let is = subst (IsReadAs (FitsCommandIn c.args.self.now.version) command_words c.args.text.now) c.in-Ok-Some.field-0-is
+    let is = subst (IsReadAs (FitsCommandIn c.args.self.now.version) command_words c.args.text.now)
+    c.in-Ok-Some.field-0-is
     read in
     on_added_line c.args.self.now.version (body c.args.self.now) (body c.add_command.new.self)
     (line.Command c.in-Ok-Some.command) c.args.text.now is.1 c.add_command.result c.add_command.ensures.added
@@ -22,9 +24,11 @@ returns-in-Ok-Some-clause-added c =
 pub returns-in-Ok-Some-clause-refused : goal.returns-in-Ok-Some-clause-refused
 returns-in-Ok-Some-clause-refused c =
     let same : c.self.inside.version ≡ c.args.self.now.version = ap (λ (p : ProgramLists). p.version) c.self.view_is in
-    let read = subst (λ (v : Version). IsReadAs (FitsCommandIn v) command_words c.args.text.now c.in-Ok-Some.field-0) same
+    let read = subst (λ (v : Version). IsReadAs (FitsCommandIn v) command_words c.args.text.now c.in-Ok-Some.field-0)
+    same
     c.in-Ok-Some.ensures.reading in
-    let is = subst (IsReadAs (FitsCommandIn c.args.self.now.version) command_words c.args.text.now) c.in-Ok-Some.field-0-is
+    let is = subst (IsReadAs (FitsCommandIn c.args.self.now.version) command_words c.args.text.now)
+    c.in-Ok-Some.field-0-is
     read in
     on_refused_line c.args.self.now.version (body c.args.self.now) (line.Command c.in-Ok-Some.command)
     c.args.text.now is.0 is.1 c.add_command.result c.add_command.ensures.refused

@@ -1,0 +1,20 @@
+use Rattle.muxsim.proofs.EndLemmas.{draw_not_4, failed, no_words, replay_not_4, run_not_4, unwritten}
+use Rattle.muxsim.proofs.laws_of_ends.a_status_tells_what_failed.Goals as goal
+
+pub returns-clause-failed : goal.returns-clause-failed
+returns-clause-failed c = failed
+
+pub returns-clause-unwritten : goal.returns-clause-unwritten
+returns-clause-unwritten c = unwritten
+
+pub returns-clause-no_words : goal.returns-clause-no_words
+returns-clause-no_words c = no_words
+
+pub returns-clause-no_verdict_of_a_run : goal.returns-clause-no_verdict_of_a_run
+returns-clause-no_verdict_of_a_run c = run_not_4
+
+pub returns-clause-no_verdict_of_a_replay : goal.returns-clause-no_verdict_of_a_replay
+returns-clause-no_verdict_of_a_replay c = replay_not_4
+
+pub returns-clause-no_verdict_of_a_drawing : goal.returns-clause-no_verdict_of_a_drawing
+returns-clause-no_verdict_of_a_drawing c = draw_not_4

@@ -1,0 +1,2 @@
+pub mod HandleLemmas
+pub mod LooseLemmas

@@ -1,0 +1,124 @@
+//! The calls of a handle.
+
+ghost use Rattle.std.specs.Prelude.{◌≡◌, ◌⊎◌, None, IfOk, IfErr};
+ghost use Rattle.muxsim_c.specs.Calls.{Closes, IsLastLine, Opens, Performs, Shows, Tells};
+ghost use Rattle.muxsim_c.specs.declared.trouble.Trouble.TheVariants.{Line, NoEntry, NoMemory};
+ghost use Rattle.smx_session.specs.declared.trouble.Trouble.TheVariants.{Line as SessionLine};
+
+use crate::handle::Handle;
+use crate::slots::{put, take};
+use crate::texts::copy_out;
+use crate::trouble::{Trouble, told};
+use smx_session::Session;
+use std::alloc::Global;
+
+/// Makes a session over the drivers of a programs text.
+pub fn open(alloc: Global, handle: &mut Handle, programs: &[u8]) -> Result<(), Trouble>
+    ensures { Opens handle.old.value programs.now handle.new.value result }
+{
+    if let Some(session) = take(alloc, handle) {
+        put(handle, session);
+        return Err(Trouble::IsOpen);
+    }
+    match Session::new(alloc, programs) {
+        Ok(session) => match Box::new(alloc, session) {
+            Ok(session) => {
+                put(handle, session);
+                Ok(())
+            }
+            Err(_) => Err(Trouble::NoMemory),
+        },
+        Err(trouble) => Err(told(trouble)),
+    }
+}
+
+/// Performs the command of a line.
+pub fn perform(alloc: Global, handle: &mut Handle, line: &[u8]) -> Result<(), Trouble>
+    ensures { Performs handle.old.value line.now handle.new.value result }
+{
+    let Some(mut session) = take(alloc, handle) else {
+        return Err(Trouble::Closed);
+    };
+    let outcome = session.perform(alloc, line);
+    put(handle, session);
+    match outcome {
+        Ok(()) => Ok(()),
+        Err(trouble) => Err(line_or_memory(trouble)),
+    }
+}
+
+// A session performs every line that has a command, unless memory is wanting.
+fn line_or_memory(trouble: smx_session::Trouble) -> Trouble
+    ensures { (result ≡ NoMemory) ⊎ ((result ≡ Line) × (trouble ≡ SessionLine)) }
+{
+    match trouble {
+        smx_session::Trouble::Line => Trouble::Line,
+        smx_session::Trouble::NoMemory
+        | smx_session::Trouble::Text(_)
+        | smx_session::Trouble::Drivers(_)
+        | smx_session::Trouble::NoEntry => Trouble::NoMemory,
+    }
+}
+
+// The line of the entry that was made last. A session has it wherever there is an entry, unless memory is wanting.
+fn last_line(alloc: Global, session: &Session) -> Result<Vec<u8>, Trouble>
+    ensures line { IfOk result (λ v. IsLastLine session.now v.items) }
+    ensures none { IfErr result (λ t. (t ≡ NoMemory) ⊎ ((t ≡ NoEntry) × (session.now.last ≡ None))) }
+{
+    if session.last().is_none() {
+        return Err(Trouble::NoEntry);
+    }
+    match session.entry(alloc) {
+        Ok(line) => Ok(line),
+        Err(_) => Err(Trouble::NoMemory),
+    }
+}
+
+/// Writes the line of the entry that was made last.
+pub fn entry(
+    alloc: Global,
+    handle: &mut Handle,
+    text: &mut [u8],
+    len: &mut usize,
+) -> Result<(), Trouble>
+    ensures same { handle.new.value ≡ handle.old.value }
+    ensures told { Tells handle.old.value text.old text.new len.new result }
+{
+    let Some(session) = take(alloc, handle) else {
+        return Err(Trouble::Closed);
+    };
+    let line = last_line(alloc, &session);
+    put(handle, session);
+    copy_out(line?.as_slice(), text, len)
+}
+
+/// Writes the lines of the configuration.
+pub fn show(
+    alloc: Global,
+    handle: &mut Handle,
+    text: &mut [u8],
+    len: &mut usize,
+) -> Result<(), Trouble>
+    ensures same { handle.new.value ≡ handle.old.value }
+    ensures shown { Shows handle.old.value text.old text.new len.new result }
+{
+    let Some(session) = take(alloc, handle) else {
+        return Err(Trouble::Closed);
+    };
+    let lines = session.shown(alloc);
+    put(handle, session);
+    copy_out(lines?.as_slice(), text, len)
+}
+
+/// Gives the session up.
+pub fn close(alloc: Global, handle: &mut Handle) -> Result<(), Trouble>
+    ensures { Closes handle.old.value handle.new.value result }
+{
+    match take(alloc, handle) {
+        Some(session) => {
+            drop(session);
+            Ok(())
+        }
+        None => Err(Trouble::Closed),
+    }
+}

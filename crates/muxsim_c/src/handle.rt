@@ -1,0 +1,72 @@
+//! A session as its pointer, which C has.
+
+ghost use Rattle.std.specs.Prelude.{◌≡◌, None, Some, MatchOption, Option};
+ghost use Rattle.smx_session.specs.Sessions.{State};
+
+use crate::loose::Loose;
+use smx_session::Session;
+use std::alloc::Global;
+use std::marker::{Model, Send};
+use std::ptr::null_mut;
+
+/// A session on the heap, or null. A contract sees the session, or that there is none.
+#[repr(C)]
+pub struct Handle {
+    at: *mut u8,
+    alloc: Global,
+    pub ghost value: { Option State },
+}
+
+impl Model for Handle {
+    ghost use Rattle.muxsim_c.specs.Owned.{held};
+
+    ghost also_owns = { λ h. held h.alloc h.at h.value };
+}
+
+unsafe impl Send for Handle {}
+
+impl Drop for Handle {
+    fn drop(self) {
+        if let Some(loose) = self.into_loose() {
+            drop(loose.into_box());
+        }
+    }
+}
+
+impl Handle {
+    /// No session.
+    pub fn closed(alloc: Global) -> Handle
+        ensures { result.value ≡ None }
+    {
+        Handle {
+            at: null_mut(),
+            alloc,
+        }
+    }
+
+    /// The session of a box that was taken apart.
+    pub fn of(loose: Loose<Session, Global>) -> Handle
+        ensures { result.value ≡ Some loose.value }
+    {
+        let Loose { at, alloc } = loose;
+        Handle {
+            at: at as *mut u8,
+            alloc,
+        }
+    }
+
+    /// The box, taken apart, if there is one.
+    pub fn into_loose(self) -> Option<Loose<Session, Global>>
+        ensures { MatchOption result (self.value ≡ None) (λ l. self.value ≡ Some l.value) }
+    {
+        let Handle { at, alloc } = self;
+        if at.is_null() {
+            None
+        } else {
+            Some(Loose {
+                at: at as *mut Session,
+                alloc,
+            })
+        }
+    }
+}

@@ -1,0 +1,56 @@
+-- The pieces that a line of a picture is made of, as text.
+use Rattle.std.specs.Prelude.{ℕ, List, length, min, codes}
+use Rattle.std.specs.Fmt.{decimal}
+use Rattle.std.specs.List.{flat_map}
+use Rattle.smx_types.specs.declared.driver.DriverKind.{DriverKind}
+use Rattle.smx_types.specs.declared.driver.DriverKind.TheVariants as kind
+use Rattle.smx_types.specs.declared.link.LinkKind.{LinkKind}
+use Rattle.smx_types.specs.declared.link.LinkKind.TheVariants as link
+use Rattle.smx_types.specs.declared.stream.Side.{Side}
+use Rattle.smx_types.specs.declared.stream.Side.TheVariants as side
+use Rattle.smx_draw.specs.declared.pieces.Piece.{Piece}
+use Rattle.smx_draw.specs.declared.pieces.Piece.TheVariants as piece
+
+-- the kind of a driver
+abbrev pub driver_word : DriverKind → List ℕ
+driver_word kind.Leaf = codes "leaf"
+driver_word kind.Mux = codes "mux"
+
+-- the kind of a link
+abbrev pub link_word : LinkKind → List ℕ
+link_word link.Ordinary = codes "ordinary"
+link_word link.Persistent = codes "persistent"
+
+-- how Graphviz draws a link of this kind
+abbrev pub stroke : LinkKind → List ℕ
+stroke link.Ordinary = codes "color=steelblue"
+stroke link.Persistent = codes "color=darkorange penwidth=3"
+
+-- the side of a queue
+abbrev pub side_word : Side → List ℕ
+side_word side.Write = codes "write"
+side_word side.Read = codes "read"
+
+-- how many bytes these are, as far as a number goes
+abbrev pub shown_length : List ℕ → ℕ
+shown_length bytes = min (length bytes) 4294967295
+
+-- a text as it stands, a number in decimal, a name, a word
+abbrev pub piece_text : Piece → List ℕ
+piece_text (piece.Text text) = text.now
+piece_text (piece.Number n) = decimal n
+piece_text (piece.Process process) = decimal process.now
+piece_text (piece.Length bytes) = decimal (shown_length bytes.now)
+piece_text (piece.Name name) = name.now
+piece_text (piece.Driver kind) = driver_word kind
+piece_text (piece.Link kind) = link_word kind
+piece_text (piece.Stroke kind) = stroke kind
+piece_text (piece.Side side) = side_word side
+
+-- pieces, one behind the other
+abbrev pub pieces_text : List Piece → List ℕ
+pieces_text pieces = flat_map piece_text pieces
+
+-- texts, one behind the other
+abbrev pub joined : List (List ℕ) → List ℕ
+joined texts = flat_map (λ text. text) texts

@@ -1,0 +1,10 @@
+//! The two forms of a picture.
+
+/// In which language a picture is written.
+#[derive(Clone, Copy, Debug, PartialEq, Eq)]
+pub enum Form {
+    /// SVG 1.1, for browsers and viewers.
+    Svg,
+    /// The language of Graphviz, for `dot`.
+    Dot,
+}

@@ -1,0 +1,12 @@
+//! Pictures of a configuration: its drivers in layers, its streams, links and queues, as SVG or as Graphviz's text.
+#![tactic(auto)]
+
+mod dot;
+mod form;
+pub mod laws_of_pictures;
+mod pictures;
+mod pieces;
+mod svg;
+
+pub use form::Form;
+pub use pictures::draw;

@@ -1,0 +1,117 @@
+//! A configuration as SVG: first a plan of the picture, then an element for each part of it.
+
+ghost use Rattle.std.specs.Prelude.{◌≡◌, ℕ, ◌++◌, List, IfOk, OnOk};
+ghost use Rattle.smx_draw.specs.Drawing.{Draws};
+ghost use Rattle.smx_draw.specs.SvgText.{DrawsBoxes, DrawsView, IsSvgOf};
+
+mod area;
+mod boxes;
+mod column;
+mod counting;
+mod ends;
+mod frame;
+mod layers;
+mod mark_elements;
+mod placing;
+mod plan;
+mod strokes;
+mod view_elements;
+
+use crate::svg::area::Area;
+use crate::svg::boxes::{gauges_of, streams_of};
+use crate::svg::counting::count_all;
+use crate::svg::ends::{put_foot, put_head};
+use crate::svg::plan::Plan;
+use smx_types::{ConfigView, DriverSpec, NoMemory, Side};
+use std::alloc::Global;
+
+/// A part of a picture, which has one element.
+pub trait Drawn {
+    ghost use Rattle.smx_draw.specs.declared.svg.area.Area.{Area};
+
+    // Its element at some place.
+    ghost element: { Self → Area → List ℕ };
+
+    /// Where it is drawn.
+    fn place(&self, plan: &mut Plan) -> Area;
+
+    /// Its element, behind `out`. Where memory runs out, `out` may have a part of it.
+    fn put_at(&self, at: Area, out: &mut Vec<u8>) -> Result<(), NoMemory>
+        ensures { OnOk result (out.new.items ≡ out.old.items ++ element self.now at) };
+}
+
+/// The picture of a configuration over these drivers that is shown so. Fails only for want of memory.
+pub fn write_svg(
+    alloc: Global,
+    drivers: &[DriverSpec],
+    view: &ConfigView,
+) -> Result<Vec<u8>, NoMemory>
+    ensures { IfOk result (λ v. IsSvgOf drivers.now view.now v.items) }
+{
+    let mut plan = plan_of(alloc, drivers, view)?;
+    let mut out = Vec::new(alloc);
+    put_head(&mut out, plan.width, plan.height)?;
+    put_boxes(alloc, &mut plan, &mut out, drivers)?;
+    put_view(&mut plan, &mut out, view)?;
+    put_foot(&mut out, view.next_id, view.next_serial)?;
+    Ok(out)
+}
+
+// The plan of the picture.
+fn plan_of(alloc: Global, drivers: &[DriverSpec], view: &ConfigView) -> Result<Plan, NoMemory> {
+    let mut plan = Plan::new(alloc, drivers)?;
+    count_all(&mut plan, view.fds.as_slice());
+    count_all(&mut plan, view.links.as_slice());
+    count_all(&mut plan, view.binds.as_slice());
+    count_all(&mut plan, view.routes.as_slice());
+    count_all(&mut plan, view.msgs.as_slice());
+    count_all(&mut plan, view.fulls.as_slice());
+    count_all(&mut plan, view.hungs.as_slice());
+    plan.sink(alloc, view.links.as_slice())?;
+    plan.place_all();
+    Ok(plan)
+}
+
+// The drivers, and the streams and queues that the view names.
+fn put_boxes(
+    alloc: Global,
+    plan: &mut Plan,
+    out: &mut Vec<u8>,
+    drivers: &[DriverSpec],
+) -> Result<(), NoMemory>
+    ensures { OnOk result (DrawsBoxes drivers.now out.old.items out.new.items) }
+{
+    let streams = streams_of(alloc, plan)?;
+    let written = gauges_of(alloc, plan, Side::Write)?;
+    let read = gauges_of(alloc, plan, Side::Read)?;
+    draw_all(plan, out, drivers)?;
+    draw_all(plan, out, streams.as_slice())?;
+    draw_all(plan, out, written.as_slice())?;
+    draw_all(plan, out, read.as_slice())?;
+    Ok(())
+}
+
+// The parts of a view, the links above the others.
+fn put_view(plan: &mut Plan, out: &mut Vec<u8>, view: &ConfigView) -> Result<(), NoMemory>
+    ensures { OnOk result (DrawsView view.now out.old.items out.new.items) }
+{
+    draw_all(plan, out, view.hungs.as_slice())?;
+    draw_all(plan, out, view.fds.as_slice())?;
+    draw_all(plan, out, view.binds.as_slice())?;
+    draw_all(plan, out, view.routes.as_slice())?;
+    draw_all(plan, out, view.msgs.as_slice())?;
+    draw_all(plan, out, view.fulls.as_slice())?;
+    draw_all(plan, out, view.links.as_slice())?;
+    Ok(())
+}
+
+// An element for each of these.
+fn draw_all<T: Drawn>(plan: &mut Plan, out: &mut Vec<u8>, items: &[T]) -> Result<(), NoMemory>
+    ensures { OnOk result (Draws T.element items.now out.old.items out.new.items) }
+{
+    for item in items {
+        let at = item.place(plan);
+        item.put_at(at, out)?;
+    }
+    Ok(())
+}

@@ -1,0 +1,169 @@
+//! The column of a stream: what hangs below its head, and where.
+
+use crate::svg::area::Area;
+use smx_types::{Name, Side};
+
+/// How wide a column is.
+pub const WIDTH: u32 = 144;
+
+/// How high a row of text is.
+pub const ROW: u32 = 14;
+
+// How high the head of a column is, and the gauge of a queue.
+const HEAD: u32 = 18;
+
+const GAUGE: u32 = 16;
+
+/// The rows of one kind in a column: how many there are, and where the next one is drawn.
+#[derive(Clone, Copy, Debug)]
+pub struct Rows {
+    pub count: u32,
+    pub next: u32,
+}
+
+/// A stream that the view names, and the rows that are drawn in its column.
+#[derive(Clone, Copy, Debug)]
+pub struct Column {
+    /// Its driver and minor, once a line of the view names it.
+    pub stream: Option<(Name, u32)>,
+    /// Whether it is linked below a driver. The two lines of the link then stand below its name.
+    pub linked: bool,
+    pub left: u32,
+    pub top: u32,
+    pub descriptors: Rows,
+    pub bindings: Rows,
+    pub written: Queue,
+    pub read: Queue,
+}
+
+/// A queue of a stream: its bytes, where its gauge is drawn, and its messages.
+#[derive(Clone, Copy, Debug)]
+pub struct Queue {
+    pub bytes: u32,
+    pub top: u32,
+    pub messages: Rows,
+}
+
+impl Rows {
+    const NONE: Rows = Rows { count: 0, next: 0 };
+
+    /// One row more.
+    pub fn add(&mut self) {
+        self.count = self.count.saturating_add(1);
+    }
+
+    /// Where the next row is drawn, which is then behind it.
+    pub fn take(&mut self) -> u32 {
+        let top = self.next;
+        self.next = top.saturating_add(ROW);
+        top
+    }
+
+    // Puts the first row here, and says where the last one ends.
+    fn put_at(&mut self, top: u32) -> u32 {
+        self.next = top;
+        top.saturating_add(self.count.saturating_mul(ROW))
+    }
+}
+
+impl Queue {
+    const EMPTY: Queue = Queue {
+        bytes: 0,
+        top: 0,
+        messages: Rows::NONE,
+    };
+
+    // One message more.
+    fn add(&mut self, bytes: u32) {
+        self.bytes = self.bytes.saturating_add(bytes);
+        self.messages.add();
+    }
+
+    // Puts the gauge here and the messages behind it, and says where the last one ends.
+    fn put_at(&mut self, top: u32) -> u32 {
+        self.top = top;
+        self.messages.put_at(top.saturating_add(GAUGE))
+    }
+}
+
+impl Column {
+    /// The column of a stream that no line names yet.
+    pub const UNNAMED: Column = Column {
+        stream: None,
+        linked: false,
+        left: 0,
+        top: 0,
+        descriptors: Rows::NONE,
+        bindings: Rows::NONE,
+        written: Queue::EMPTY,
+        read: Queue::EMPTY,
+    };
+
+    /// One message more in the queue of a side.
+    pub fn add_message(&mut self, side: Side, bytes: u32) {
+        match side {
+            Side::Write => self.written.add(bytes),
+            Side::Read => self.read.add(bytes),
+        }
+    }
+
+    /// Where the next message of a side is drawn.
+    pub fn take_message(&mut self, side: Side) -> u32 {
+        match side {
+            Side::Write => self.written.messages.take(),
+            Side::Read => self.read.messages.take(),
+        }
+    }
+
+    /// How many bytes the queue of a side has.
+    pub fn bytes(&self, side: Side) -> u32 {
+        match side {
+            Side::Write => self.written.bytes,
+            Side::Read => self.read.bytes,
+        }
+    }
+
+    /// How high it is.
+    pub fn height(&self) -> u32 {
+        let rows = self.descriptors.count.saturating_add(self.bindings.count);
+        let messages = self
+            .written
+            .messages
+            .count
+            .saturating_add(self.read.messages.count);
+        rows.saturating_add(messages)
+            .saturating_mul(ROW)
+            .saturating_add(self.head())
+            .saturating_add(2 * GAUGE)
+    }
+
+    // How high its name is, with the lines of a link.
+    fn head(&self) -> u32 {
+        if self.linked { HEAD + 2 * ROW } else { HEAD }
+    }
+
+    /// Puts it here, with its rows: descriptors, bindings, and each queue with its messages.
+    pub fn put_at(&mut self, left: u32, top: u32) {
+        self.left = left;
+        self.top = top;
+        let head = top.saturating_add(self.head());
+        let bindings = self.descriptors.put_at(head);
+        let written = self.bindings.put_at(bindings);
+        let read = self.written.put_at(written);
+        let _end = self.read.put_at(read);
+    }
+
+    /// All of it.
+    pub fn area(&self) -> Area {
+        Area::at(self.left, self.top, WIDTH, self.height())
+    }
+
+    /// The gauge of a side.
+    pub fn gauge(&self, side: Side) -> Area {
+        let top = match side {
+            Side::Write => self.written.top,
+            Side::Read => self.read.top,
+        };
+        Area::at(self.left, top, WIDTH, GAUGE)
+    }
+}

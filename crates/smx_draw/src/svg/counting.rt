@@ -1,0 +1,71 @@
+//! What the lines of a view add to the plan of its picture.
+
+use crate::pieces::shown_length;
+use crate::svg::plan::Plan;
+use smx_types::{
+    BindingLine, DescriptorLine, FullLine, HungLine, LinkLine, MessageLine, RouteLine,
+};
+
+/// A line of a view that takes room.
+pub trait Counted {
+    /// Adds it to the plan.
+    fn count(&self, plan: &mut Plan);
+}
+
+/// Adds these to the plan.
+pub fn count_all<T: Counted>(plan: &mut Plan, items: &[T]) {
+    for item in items {
+        item.count(plan);
+    }
+}
+
+impl Counted for DescriptorLine {
+    fn count(&self, plan: &mut Plan) {
+        let column = plan.name(&self.driver, self.minor);
+        plan.add_descriptor(column);
+    }
+}
+
+impl Counted for LinkLine {
+    fn count(&self, plan: &mut Plan) {
+        // The controlling stream of a persistent link may be gone; where it isn't, another line names it.
+        let lower = plan.name(&self.lower_driver, self.lower_minor);
+        plan.add_lower(lower);
+        let upper = plan.frame_of(&self.ctl_driver);
+        plan.add_link(upper);
+    }
+}
+
+impl Counted for BindingLine {
+    fn count(&self, plan: &mut Plan) {
+        let column = plan.name(&self.driver, self.minor);
+        plan.add_binding(column);
+    }
+}
+
+impl Counted for RouteLine {
+    fn count(&self, plan: &mut Plan) {
+        let frame = plan.frame_of(&self.driver);
+        plan.add_route(frame);
+    }
+}
+
+impl Counted for MessageLine {
+    fn count(&self, plan: &mut Plan) {
+        let column = plan.name(&self.driver, self.minor);
+        let bytes = shown_length(self.message.bytes.as_slice());
+        plan.add_message(column, self.side, bytes);
+    }
+}
+
+impl Counted for FullLine {
+    fn count(&self, plan: &mut Plan) {
+        let _column = plan.name(&self.driver, self.minor);
+    }
+}
+
+impl Counted for HungLine {
+    fn count(&self, plan: &mut Plan) {
+        let _column = plan.name(&self.driver, self.minor);
+    }
+}

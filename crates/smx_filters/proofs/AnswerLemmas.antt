@@ -1,0 +1,302 @@
+-- An input has one answer, and what a run writes spells one report.
+use Rattle.std.proofs.Common.{◌≡◌, ◌≢◌, ℕ, zero, suc, ◌≤◌, ◌⊎◌, Bool, true, false, List, length, map, Result, Ok, Err}
+use Rattle.std.proofs.Common.{refl, sym, ap, subst, ◌∙◌, arith, inl, inr}
+use Rattle.std.specs.Prelude.{IfErr}
+use Rattle.smx_types.specs.ProgramLists.{ProgramLists}
+use Rattle.smx_types.specs.declared.command.Entry.{Entry}
+use Rattle.smx_types.specs.declared.driver.DriverSpec.{DriverSpec}
+use Rattle.smx_types.specs.declared.transcript.Transcript.{Transcript}
+use Rattle.smx_types.specs.declared.version.Version.{Version}
+use Rattle.smx_types.specs.declared.view.ConfigView.{ConfigView}
+use Rattle.smx_model.specs.DriverList.{IsDriverList}
+use Rattle.smx_model.specs.Headline.{IsReportOf}
+use Rattle.smx_model.specs.Histories.{call_of}
+use Rattle.smx_text.specs.Grammar.{Grammar, ReadsAny, Spells}
+use Rattle.smx_text.specs.ProgramsText.{programs_grammar}
+use Rattle.smx_text.specs.TranscriptText.{SpellsTranscript, transcript_grammar, transcript_text}
+use Rattle.smx_text.specs.declared.text_fault.Cause.TheVariants as cause
+use Rattle.smx_text.specs.declared.text_fault.TextFault.{TextFault}
+use Rattle.smx_config.specs.DriverFaults.{RefusesDrivers}
+use Rattle.smx_config.specs.Verdicts.{IsVerdict}
+use Rattle.smx_config.specs.declared.config_fault.ConfigFault.{ConfigFault}
+use Rattle.smx_config.specs.declared.config_fault.ConfigFault.TheVariants as config
+use Rattle.smx_config.specs.declared.verdict.Verdict.{Verdict}
+use Rattle.smx_config.specs.declared.verdict.Verdict.TheVariants.{Legal}
+use Rattle.smx_replay.specs.Replays.{IsReplayOf}
+use Rattle.smx_run.specs.RunFaults.{RefusesAlone, RefusesRun}
+use Rattle.smx_run.specs.declared.run_fault.RunFault.{RunFault}
+use Rattle.smx_run.specs.declared.run_fault.RunFault.TheVariants as run
+use Rattle.smx_filters.proofs.OneProcessLemmas.{in_turn}
+use Rattle.smx_filters.proofs.ReadingLemmas.{HasOneReading, no_fault, one_fault, one_value}
+use Rattle.smx_filters.specs.CheckText.{checking, verdict_line}
+use Rattle.smx_filters.specs.Filters.{Answers, Filter, GivesFor, IsWantOfMemory, RefusesFor}
+use Rattle.smx_filters.specs.ReplayText.{replaying}
+use Rattle.smx_filters.specs.RunText.{IsRefusedFor, IsTranscriptInTurn, IsWrittenFor, running}
+use Rattle.smx_filters.specs.declared.main_fault.MainFault.{MainFault}
+use Rattle.smx_filters.specs.declared.main_fault.MainFault.TheVariants.{Refused, Text, TooLong, ReadFailed, WriteFailed}
+
+-- ---- what other crates' laws say
+
+abbrev pub HaveOneFault : Type 0
+HaveOneFault =
+    (drivers : List DriverSpec) (f g : ConfigFault) → RefusesDrivers drivers f → RefusesDrivers drivers g → f ≡ g
+
+abbrev pub HasOneVerdict : Type 0
+HasOneVerdict = (drivers : List DriverSpec) (entries : List Entry) (shown : ConfigView) (v w : Verdict)
+    → IsVerdict drivers entries shown v → IsVerdict drivers entries shown w → v ≡ w
+
+abbrev pub HasOneReplay : Type 0
+HasOneReplay = (t r s : Transcript) → IsReplayOf t r → IsReplayOf t s → r ≡ s
+
+abbrev pub HaveOneReport : Type 0
+HaveOneReport = (programs : ProgramLists) (one other : Transcript) → IsReportOf programs one → IsReportOf programs other
+    → map call_of one.entries ≡ map call_of other.entries → one ≡ record other { version = one.version }
+
+abbrev pub AreJudgedLegal : Type 0
+AreJudgedLegal = (programs : ProgramLists) (report : Transcript) → IsReportOf programs report
+    → IsVerdict report.drivers report.entries report.view Legal
+
+-- ---- one answer
+
+-- what a filter answers where memory is not wanting, if it gives one thing for a value that fits, refuses it for one
+-- fault, and not both
+module _ {V K T : Type 0} (filter : Filter V K T) (reading : HasOneReading filter.grammar) (Fits : V → Type 0)
+    (given : (v : V) → Fits v → (a b : T) (x y : List ℕ) → filter.Gives v a x → filter.Gives v b y → (a ≡ b) × (x ≡ y))
+    (refused : (v : V) → Fits v → (r s : RunFault) → filter.Refuses v r → filter.Refuses v s → r ≢ run.NoMemory
+    → s ≢ run.NoMemory → r ≡ s)
+    (not_both : (v : V) → Fits v → (a : T) (x : List ℕ) (r : RunFault) → filter.Gives v a x → filter.Refuses v r
+    → r ≡ run.NoMemory)
+    (input : List ℕ) (fits : (version : Version) (v : V) → Spells (filter.grammar version) input v → Fits v) where
+  -- it gives one thing
+  given_once : (a b : T) (x y : List ℕ) → GivesFor filter input a x → GivesFor filter input b y → (a ≡ b) × (x ≡ y)
+  given_once a b x y (v, p, spells, gives) (w, q, spells_too, gives_too) =
+      let same : p ≡ q = one_value filter.grammar reading input v w p q spells spells_too in
+      given q (fits w q spells_too) a b x y (subst (λ (u : V). filter.Gives u a x) same gives) gives_too
+
+  -- it refuses for one fault
+  refused_once : (r s : RunFault) → RefusesFor filter input r → RefusesFor filter input s → r ≢ run.NoMemory
+      → s ≢ run.NoMemory → r ≡ s
+  refused_once r s (v, p, spells, refuses) (w, q, spells_too, refuses_too) known known_too =
+      let same : p ≡ q = one_value filter.grammar reading input v w p q spells spells_too in
+      refused q (fits w q spells_too) r s (subst (λ (u : V). filter.Refuses u r) same refuses) refuses_too known
+      known_too
+
+  -- it doesn't refuse what it gives something for
+  pub given_or_refused : (a : T) (x : List ℕ) (r : RunFault) → GivesFor filter input a x → RefusesFor filter input r
+      → r ≡ run.NoMemory
+  given_or_refused a x r (v, p, spells, gives) (w, q, spells_too, refuses) =
+      let same : p ≡ q = one_value filter.grammar reading input v w p q spells spells_too in
+      not_both q (fits w q spells_too) a x r (subst (λ (u : V). filter.Gives u a x) same gives) refuses
+
+  -- so it has one answer
+  pub one_answer : (one other : Result (T × List ℕ) MainFault) → Answers filter input one → Answers filter input other
+      → IfErr one (λ e. IsWantOfMemory e → ⊥) → IfErr other (λ e. IsWantOfMemory e → ⊥) → one ≡ other
+  one_answer (Ok (a, x)) (Ok (b, y)) h k known known_too =
+      let (answer, output) = given_once a b x y h k in
+      let rest : Result (T × List ℕ) MainFault = Ok (b, y) in
+      rw (answer, output) refl
+  one_answer (Ok (a, x)) (Err (Text f)) (v, p, spells, gives) k known known_too =
+      absurd (no_fault filter.grammar reading input v p f spells k known_too)
+  one_answer (Ok (a, x)) (Err (Refused r)) h k known known_too = absurd (known_too (given_or_refused a x r h k))
+  one_answer (Err (Text f)) (Ok (a, x)) h (v, p, spells, gives) known known_too =
+      absurd (no_fault filter.grammar reading input v p f spells h known)
+  one_answer (Err (Refused r)) (Ok (a, x)) h k known known_too = absurd (known (given_or_refused a x r k h))
+  one_answer (Err (Text f)) (Err (Text e)) h k known known_too =
+      ap (λ (t : TextFault). Err (Text t)) (one_fault filter.grammar reading input f e h k known known_too)
+  one_answer (Err (Text f)) (Err (Refused r)) h (v, p, spells, refuses) known known_too =
+      absurd (no_fault filter.grammar reading input v p f spells h known)
+  one_answer (Err (Refused r)) (Err (Text f)) (v, p, spells, refuses) k known known_too =
+      absurd (no_fault filter.grammar reading input v p f spells k known_too)
+  one_answer (Err (Refused r)) (Err (Refused s)) h k known known_too =
+      ap (λ (t : RunFault). Err (Refused t)) (refused_once r s h k known known_too)
+  one_answer (Err TooLong) other h k known known_too = absurd h
+  one_answer (Err ReadFailed) other h k known known_too = absurd h
+  one_answer (Err WriteFailed) other h k known known_too = absurd h
+  one_answer (Ok x) (Err TooLong) h k known known_too = absurd k
+  one_answer (Ok x) (Err ReadFailed) h k known known_too = absurd k
+  one_answer (Ok x) (Err WriteFailed) h k known known_too = absurd k
+  one_answer (Err (Text f)) (Err TooLong) h k known known_too = absurd k
+  one_answer (Err (Text f)) (Err ReadFailed) h k known known_too = absurd k
+  one_answer (Err (Text f)) (Err WriteFailed) h k known known_too = absurd k
+  one_answer (Err (Refused r)) (Err TooLong) h k known known_too = absurd k
+  one_answer (Err (Refused r)) (Err ReadFailed) h k known known_too = absurd k
+  one_answer (Err (Refused r)) (Err WriteFailed) h k known known_too = absurd k
+
+-- ---- refusals
+
+-- drivers that can be had are refused for want of memory alone
+drivers_had : HaveOneFault → (drivers : List DriverSpec) → IsDriverList drivers → (r : RunFault)
+    → RefusesAlone drivers r → r ≡ run.NoMemory
+drivers_had determined drivers had run.NoMemory h = refl
+drivers_had determined drivers had (run.Strange p) h = absurd h
+drivers_had determined drivers had (run.ConfigFault f) h = absurd (h.1 (determined drivers f config.NoMemory h.0 had))
+drivers_had determined drivers had run.HistoryFull h = absurd h
+drivers_had determined drivers had run.Held h = absurd h
+
+-- and else for one fault
+refused_alone : HaveOneFault → (drivers : List DriverSpec) (r s : RunFault) → RefusesAlone drivers r
+    → RefusesAlone drivers s → r ≢ run.NoMemory → s ≢ run.NoMemory → r ≡ s
+refused_alone determined drivers (run.ConfigFault f) (run.ConfigFault g) h k known known_too =
+    ap run.ConfigFault (determined drivers f g h.0 k.0)
+refused_alone determined drivers run.NoMemory s h k known known_too = absurd (known refl)
+refused_alone determined drivers (run.Strange p) s h k known known_too = absurd h
+refused_alone determined drivers run.HistoryFull s h k known known_too = absurd h
+refused_alone determined drivers run.Held s h k known known_too = absurd h
+refused_alone determined drivers (run.ConfigFault f) run.NoMemory h k known known_too = absurd (known_too refl)
+refused_alone determined drivers (run.ConfigFault f) (run.Strange p) h k known known_too = absurd k
+refused_alone determined drivers (run.ConfigFault f) run.HistoryFull h k known known_too = absurd k
+refused_alone determined drivers (run.ConfigFault f) run.Held h k known known_too = absurd k
+
+-- ---- the three filters
+
+-- a check
+pub checked : HasOneReading transcript_grammar → HaveOneFault → HasOneVerdict
+    → (input : List ℕ) (one other : Result (Verdict × List ℕ) MainFault)
+    → Answers checking input one → Answers checking input other
+    → IfErr one (λ e. IsWantOfMemory e → ⊥) → IfErr other (λ e. IsWantOfMemory e → ⊥) → one ≡ other
+checked reading determined judged input = one_answer checking reading (λ t. Unit {0})
+    (λ t fits v w x y h k. let same = judged t.drivers t.entries t.view v w h.judged k.judged in
+    (same, h.written ∙ ap (verdict_line (length t.entries)) same ∙ sym k.written))
+    (λ t fits r s. refused_alone determined t.drivers r s)
+    (λ t fits v x r h refuses. drivers_had determined t.drivers h.can_be_had r refuses)
+    input (λ version t spells. tt)
+
+-- a replay
+pub replayed : HasOneReading transcript_grammar → HaveOneFault → HasOneReplay
+    → (input : List ℕ) (one other : Result (Unit {0} × List ℕ) MainFault)
+    → Answers replaying input one → Answers replaying input other
+    → IfErr one (λ e. IsWantOfMemory e → ⊥) → IfErr other (λ e. IsWantOfMemory e → ⊥) → one ≡ other
+replayed reading determined replay input = one_answer replaying reading (λ t. Unit {0})
+    (λ t fits a b x y h k. (
+      refl,
+      h.written.text ∙ ap transcript_text (replay t h.replay k.replay h.replays k.replays)
+          ∙ sym k.written.text,
+    ))
+    (λ t fits r s. refused_alone determined t.drivers r s)
+    (λ t fits a x r h refuses. drivers_had determined t.drivers h.replays.can_be_had r refuses)
+    input (λ version t spells. tt)
+
+-- ---- what a run writes
+
+-- what any number of workers write for a transcript spells a report
+abbrev SpellsReport : ProgramLists → List ℕ → Type 0
+SpellsReport programs output = (report : Transcript) × IsReportOf programs report × (report.version ≡ programs.version)
+    × SpellsTranscript output report
+
+report_of : (workers : ℕ) (programs : ProgramLists) (output : List ℕ) → IsWrittenFor false workers programs output
+    → SpellsReport programs output
+report_of zero programs output h = (h.report, h.promised, h.version, h.written)
+report_of (suc zero) programs output h = (h.report, h.promised, h.version, h.written)
+report_of (suc (suc more)) programs output h = (h.report, h.promised, h.version, h.written)
+
+-- what is written of two reports with the same calls is the same
+told_once : HaveOneReport → (programs : ProgramLists) (one other : List ℕ) (a : SpellsReport programs one)
+    (b : SpellsReport programs other)
+    → map call_of a.0.entries ≡ map call_of b.0.entries → one ≡ other
+told_once determined programs one other (r, promised, version, spells)
+    (s, promised_too, version_too, spells_too) calls =
+    let alike = determined programs r s promised promised_too calls in
+    let same = alike ∙ ap (λ (v : Version). record s { version = v }) (version ∙ sym version_too) in
+    spells.text ∙ ap transcript_text same ∙ sym spells_too.text
+
+-- so it is of one worker
+pub in_turn_once : HaveOneReport → (programs : ProgramLists) (one other : List ℕ) → IsTranscriptInTurn programs one
+    → IsTranscriptInTurn programs other → one ≡ other
+in_turn_once determined programs one other a b =
+    told_once determined programs one other (a.report, a.promised, a.version, a.written)
+    (b.report, b.promised, b.version, b.written) (a.in_turn ∙ sym b.in_turn)
+
+-- and of one process, by however many workers
+one_process_once : HaveOneReport → (workers : ℕ) (programs : ProgramLists) → length programs.programs ≤ 1
+    → (one other : List ℕ)
+    → IsWrittenFor false workers programs one → IsWrittenFor false workers programs other → one ≡ other
+one_process_once determined workers programs few one other h k =
+    let a = report_of workers programs one h in
+    let b = report_of workers programs other k in
+    told_once determined programs one other a b (in_turn programs.programs a.0.entries few a.1.holds
+    ∙ sym (in_turn programs.programs b.0.entries few b.1.holds))
+
+-- what is written of a run is of drivers that can be had
+run_had : (fronts : Bool) (workers : ℕ) (programs : ProgramLists) (output : List ℕ)
+    → IsWrittenFor fronts workers programs output → IsDriverList programs.drivers
+run_had true workers programs output h = h.promised.can_be_had
+run_had false workers programs output h = (report_of workers programs output h).1.can_be_had
+
+-- ---- a run
+
+-- one worker alone refuses what a run alone does, and so does any number of one process
+run_alone : (workers : ℕ) (programs : ProgramLists) → (workers ≤ 1) ⊎ (length programs.programs ≤ 1) → (r : RunFault)
+    → IsRefusedFor workers programs r → RefusesAlone programs.drivers r
+run_alone workers programs few r h = h.1 few
+
+-- a run on one worker
+pub run_by_one : HasOneReading programs_grammar → HaveOneFault → HaveOneReport
+    → (input : List ℕ) (one other : Result (Unit {0} × List ℕ) MainFault)
+    → Answers (running false 1) input one → Answers (running false 1) input other
+    → IfErr one (λ e. IsWantOfMemory e → ⊥) → IfErr other (λ e. IsWantOfMemory e → ⊥) → one ≡ other
+run_by_one reading determined reports input = one_answer (running false 1) reading (λ p. Unit {0})
+    (λ p fits a b x y h k. (refl, in_turn_once reports p x y h k))
+    (λ p fits r s h k. refused_alone determined p.drivers r s (run_alone 1 p (inl (omega arith)) r h)
+    (run_alone 1 p (inl (omega arith)) s k))
+    (λ p fits a x r h refuses. drivers_had determined p.drivers h.promised.can_be_had r
+    (run_alone 1 p (inl (omega arith)) r refuses))
+    input (λ version p spells. tt)
+
+-- a run of one process
+pub run_of_one : HasOneReading programs_grammar → HaveOneFault → HaveOneReport
+    → (workers : ℕ) (input : List ℕ) (one other : Result (Unit {0} × List ℕ) MainFault)
+    → ((version : Version) (p : ProgramLists) → Spells (programs_grammar version) input p → length p.programs ≤ 1)
+    → Answers (running false workers) input one → Answers (running false workers) input other
+    → IfErr one (λ e. IsWantOfMemory e → ⊥) → IfErr other (λ e. IsWantOfMemory e → ⊥) → one ≡ other
+run_of_one reading determined reports workers input one other few =
+    one_answer (running false workers) reading (λ p. length p.programs ≤ 1)
+    (λ p fits a b x y h k. (refl, one_process_once reports workers p fits x y h k))
+    (λ p fits r s h k. refused_alone determined p.drivers r s (run_alone workers p (inr fits) r h)
+    (run_alone workers p (inr fits) s k))
+    (λ p fits a x r h refuses. drivers_had determined p.drivers (run_had false workers p x h) r
+    (run_alone workers p (inr fits) r refuses))
+    input few one other
+
+-- drivers of what is run are not refused
+pub run_or_refused : HasOneReading programs_grammar → HaveOneFault
+    → (fronts : Bool) (workers : ℕ) (input output : List ℕ) (done : Unit {0}) (fault : ConfigFault)
+    → GivesFor (running fronts workers) input done output
+    → RefusesFor (running fronts workers) input (run.ConfigFault fault) → ⊥
+run_or_refused reading determined fronts workers input output done fault (v, p, spells, gives)
+    (w, q, spells_too, refuses) =
+    let same : p ≡ q = one_value programs_grammar reading input v w p q spells spells_too in
+    let had : IsDriverList q.drivers = subst (λ (u : ProgramLists). IsDriverList u.drivers) same
+    (run_had fronts workers p output gives) in
+    refuses.0.1 (determined q.drivers fault config.NoMemory refuses.0.0 had)
+
+-- ---- what is written of it
+
+-- what is written for a transcript a check judges legal
+pub run_is_legal : AreJudgedLegal → (workers : ℕ) (programs : ProgramLists) (output : List ℕ)
+    → IsWrittenFor false workers programs output
+    → (line : List ℕ) × GivesFor checking output Legal line
+run_is_legal legal workers programs output h =
+    let (report, promised, version, spells) = report_of workers programs output h in (
+      verdict_line (length report.entries) Legal,
+      (
+        report.version,
+        report,
+        spells,
+        record {
+          can_be_had = rw promised.drivers promised.can_be_had;
+          judged = legal programs report promised;
+          written = refl;
+        },
+      ),
+    )
+
+-- and it spells no other
+pub run_spells_one : HasOneReading transcript_grammar
+    → (workers : ℕ) (programs : ProgramLists) (output : List ℕ) (version : Version) (t : Transcript)
+    → IsWrittenFor false workers programs output → Spells (transcript_grammar version) output t
+    → (t.version ≡ programs.version) × IsReportOf programs t
+run_spells_one reading workers programs output version t h spells_too =
+    let (report, promised, told, spells) = report_of workers programs output h in
+    let same : report ≡ t = one_value transcript_grammar reading output report.version version report t spells
+    spells_too in
+    subst (λ (u : Transcript). (u.version ≡ programs.version) × IsReportOf programs u) same (told, promised)

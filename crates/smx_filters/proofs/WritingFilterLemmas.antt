@@ -1,0 +1,75 @@
+-- What is said of a filter that answers nothing but that it is done: of an input that was read whole, its text is
+-- refused, or what it gives is written.
+use Rattle.std.proofs.Common.{◌≡◌, ℕ, Bool, true, List, Option, Vec, Result, Ok, Err, sym, ap, subst, ◌∙◌, arith}
+use Rattle.std.specs.Prelude.{IfErr, IsErrAnd, OnErr, OnOk}
+use Rattle.std.specs.Global.{Global}
+use Rattle.std.specs.Io.KnownBytes.{Appends}
+use Rattle.smx_text.specs.declared.text_fault.TextFault.{TextFault}
+use Rattle.smx_filters.specs.Filters.{Answers, Filter, FiltersText, GivesFor, IsFaultOf}
+use Rattle.smx_filters.specs.Input.{IsInput, IsWhole}
+use Rattle.smx_filters.specs.Output.{AppendsBeginning}
+use Rattle.smx_filters.specs.RunText.{items_of}
+use Rattle.smx_filters.specs.declared.main_fault.MainFault.{MainFault}
+use Rattle.smx_filters.specs.declared.main_fault.MainFault.TheVariants.{Refused, Text, TooLong, ReadFailed, WriteFailed}
+
+-- where the text is refused, its fault is the answer
+pub text_refused : {V K : Type 0} (filter : Filter V K (Unit {0})) (bytes input : List ℕ) → bytes ≡ input
+    → (f : TextFault) (answer : Result (Vec ℕ Global) MainFault) → IsErrAnd answer (λ e. e ≡ Text f)
+    → IsFaultOf filter bytes f → Answers filter input (items_of answer)
+text_refused filter bytes input same f (Ok v) is a = absurd is
+text_refused filter bytes input same f (Err e) is a =
+    subst (λ (x : MainFault). Answers filter input (Err x)) (sym is)
+    (subst (λ (given : List ℕ). IsFaultOf filter given f) same a)
+
+module _ {V K : Type 0} (f : Filter V K (Unit {0})) (had left : Option (List ℕ)) (ended : Bool) (failures : ℕ)
+    (before after : Option (List ℕ)) (flushed : Bool) (written : ℕ) (v : Vec ℕ Global)
+    (read : List ℕ) (h : IsInput had left ended failures (Ok v) read) (bytes : List ℕ)
+    (given : GivesFor f v.items tt bytes) where
+  whole : IsWhole had ended read
+  whole = h.whole
+
+  abbrev ok : Result (Vec ℕ Global) MainFault
+  ok = Ok v
+
+  gives_read : GivesFor f read tt bytes
+  gives_read = subst (λ (input : List ℕ). GivesFor f input tt bytes) h.answered given
+
+  -- what was given was written, or writing failed
+  pub written_out : (answer : Result (Unit {0}) MainFault) → OnOk answer (Appends before after bytes)
+      → OnOk answer (flushed ≡ true) → OnOk answer (written ≡ 0)
+      → OnErr answer (AppendsBeginning before after bytes) → IfErr answer (λ fault. fault ≡ WriteFailed)
+      → OnErr answer (written ≡ 1)
+      → FiltersText f had left ended failures before after flushed written answer
+  written_out (Ok done) appended out fine beginning fault failed = record {
+    read = read;
+    consumed = h.consumed;
+    few = h.few;
+    done = (whole, out, bytes, gives_read, appended);
+    text = tt;
+    refused = tt;
+    too_long = (λ is. absurd cc, λ long. let over : ok ≡ Err TooLong = h.too_long.1 long in absurd cc);
+    read_failed = (λ is. absurd cc, λ broken. let over : ok ≡ Err ReadFailed = h.read_failed.1 broken in absurd cc);
+    write_failed = (λ is. absurd cc, λ broken. absurd (omega (arith, fine, broken)));
+    cut_short = tt;
+    unwritten = tt;
+  }
+  written_out (Err e) appended out fine beginning fault failed = record {
+    read = read;
+    consumed = h.consumed;
+    few = h.few;
+    done = tt;
+    text = λ g is. let other : WriteFailed ≡ Text g = sym fault ∙ is in absurd cc;
+    refused = λ g is. let other : WriteFailed ≡ Refused g = sym fault ∙ is in absurd cc;
+    too_long = (
+      λ is. let same : Err e ≡ Err TooLong = is in let other : WriteFailed ≡ TooLong = sym fault ∙ cc in absurd cc,
+      λ long. let over : ok ≡ Err TooLong = h.too_long.1 long in absurd cc,
+    );
+    read_failed = (
+      λ is. let same : Err e ≡ Err ReadFailed = is in let other : WriteFailed ≡ ReadFailed = sym fault ∙ cc in
+          absurd cc,
+      λ broken. let over : ok ≡ Err ReadFailed = h.read_failed.1 broken in absurd cc,
+    );
+    write_failed = (λ is. failed, λ broken. ap Err fault);
+    cut_short = λ is. (whole, tt, bytes, gives_read, beginning);
+    unwritten = λ differs. absurd (differs fault);
+  }

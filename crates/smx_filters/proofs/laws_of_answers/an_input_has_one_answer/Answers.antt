@@ -1,0 +1,14 @@
+use Rattle.smx_filters.proofs.AnswerLemmas.{checked, replayed, run_by_one}
+use Rattle.smx_filters.proofs.laws_of_answers.an_input_has_one_answer.Goals as goal
+
+pub returns-clause-checked : goal.returns-clause-checked
+returns-clause-checked c =
+    checked c.one_transcript_has_one_reading.ensures c.drivers_have_one_fault.ensures c.there_is_one_verdict.ensures.one
+
+pub returns-clause-replayed : goal.returns-clause-replayed
+returns-clause-replayed c = replayed c.one_transcript_has_one_reading.ensures c.drivers_have_one_fault.ensures
+    c.a_transcript_has_one_replay.ensures.one
+
+pub returns-clause-run : goal.returns-clause-run
+returns-clause-run c =
+    run_by_one c.one_text_has_one_reading.ensures c.drivers_have_one_fault.ensures c.reports_are_determined.ensures

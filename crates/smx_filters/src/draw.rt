@@ -1,0 +1,44 @@
+//! A drawing from bytes to bytes.
+
+ghost use Rattle.std.specs.Prelude.{◌≡◌, false};
+ghost use Rattle.smx_filters.specs.DrawText.{DrawsText, drawing};
+ghost use Rattle.smx_filters.specs.Filters.{Answers};
+ghost use Rattle.smx_filters.specs.RunText.{items_of};
+
+use crate::device::{Feed, Sink};
+use crate::input::read_all;
+use crate::main_fault::MainFault;
+use crate::output::write_all;
+use smx_draw::{Form, draw};
+use smx_text::read_transcript;
+use std::alloc::Global;
+
+/// Reads the transcript that `feed` has, whether it is legal or not, and writes a picture of the configuration that it
+/// shows to `sink`, in this form. Neither device has failed before, and no read has shown the end. At most 16,777,217
+/// bytes are read. Faults are found in this order: reading, text, drawing, writing.
+pub fn draw_text<F: Feed, S: Sink>(
+    alloc: Global,
+    feed: &mut F,
+    sink: &mut S,
+    form: Form,
+) -> Result<(), MainFault>
+    requires before_the_end { F.ended feed.old ≡ false }
+    requires fed { F.failures feed.old ≡ 0 }
+    requires sunk { S.failures sink.old ≡ 0 }
+    ensures { DrawsText form (F.remaining feed.old) (F.remaining feed.new) (F.ended feed.new)
+        (F.failures feed.new) (S.contents sink.old) (S.contents sink.new) (S.flushed sink.new)
+        (S.failures sink.new) result }
+{
+    let input = read_all(alloc, feed)?;
+    let output = text_of_picture(alloc, input, form)?;
+    write_all(sink, output.as_slice())
+}
+
+// The picture of the transcript that the input spells. The input is given up with it.
+fn text_of_picture(alloc: Global, input: Vec<u8>, form: Form) -> Result<Vec<u8>, MainFault>
+    ensures { Answers (drawing form) input.items (items_of result) }
+{
+    let transcript = read_transcript(alloc, input.as_slice())?;
+    let text = draw(alloc, &transcript, form)?;
+    Ok(text)
+}

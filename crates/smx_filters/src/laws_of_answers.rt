@@ -1,0 +1,91 @@
+//! Laws of what is answered to an input, each the contract of a function that does nothing.
+
+ghost use Rattle.std.specs.Prelude.{◌≡◌, ◌≤◌, ℕ, Bool, true, false, List, All, length, Result, IfErr};
+ghost use Rattle.smx_types.specs.ProgramLists.{ProgramLists};
+ghost use Rattle.smx_types.specs.declared.transcript.Transcript.{Transcript};
+ghost use Rattle.smx_types.specs.declared.version.Version.{Version};
+ghost use Rattle.smx_model.specs.Headline.{IsReportOf};
+ghost use Rattle.smx_text.specs.Grammar.{Spells};
+ghost use Rattle.smx_text.specs.ProgramsText.{programs_grammar};
+ghost use Rattle.smx_text.specs.TranscriptText.{transcript_grammar};
+ghost use Rattle.smx_config.specs.declared.config_fault.ConfigFault.{ConfigFault};
+ghost use Rattle.smx_config.specs.declared.verdict.Verdict.{Verdict};
+ghost use Rattle.smx_config.specs.declared.verdict.Verdict.TheVariants.{Legal};
+ghost use Rattle.smx_shared.specs.declared.front.Front.{Front};
+ghost use Rattle.smx_run.specs.declared.run_fault.RunFault.TheVariants as run;
+ghost use Rattle.smx_filters.specs.CheckText.{checking};
+ghost use Rattle.smx_filters.specs.Filters.{Answers, GivesFor, IsWantOfMemory, RefusesFor};
+ghost use Rattle.smx_filters.specs.FrontsText.{fronts_text};
+ghost use Rattle.smx_filters.specs.ReplayText.{replaying};
+ghost use Rattle.smx_filters.specs.RunText.{IsWrittenFor, running};
+ghost use Rattle.smx_filters.specs.declared.main_fault.MainFault.{MainFault};
+
+use smx_config::laws_of_drivers::drivers_have_one_fault;
+use smx_config::laws_of_verdicts::{reports_are_judged_legal, there_is_one_verdict};
+use smx_model::laws_of_reports::reports_are_determined;
+use smx_replay::laws_of_replays::a_transcript_has_one_replay;
+use smx_text::laws::{one_text_has_one_reading, one_transcript_has_one_reading};
+
+/// A check, a replay and a run on one worker have one answer to an input, and one output, unless memory was wanting: what
+/// is done isn't refused, and what is refused is refused for one fault.
+pub fn an_input_has_one_answer()
+    ensures checked { (input : List ℕ) (one other : Result (Verdict × List ℕ) MainFault)
+        → Answers checking input one → Answers checking input other
+        → IfErr one (λ e. IsWantOfMemory e → ⊥) → IfErr other (λ e. IsWantOfMemory e → ⊥) → one ≡ other }
+    ensures replayed { (input : List ℕ) (one other : Result (Unit {0} × List ℕ) MainFault)
+        → Answers replaying input one → Answers replaying input other
+        → IfErr one (λ e. IsWantOfMemory e → ⊥) → IfErr other (λ e. IsWantOfMemory e → ⊥) → one ≡ other }
+    ensures run { (input : List ℕ) (one other : Result (Unit {0} × List ℕ) MainFault)
+        → Answers (running false 1) input one → Answers (running false 1) input other
+        → IfErr one (λ e. IsWantOfMemory e → ⊥) → IfErr other (λ e. IsWantOfMemory e → ⊥) → one ≡ other }
+{
+    drivers_have_one_fault();
+    there_is_one_verdict();
+    reports_are_determined();
+    a_transcript_has_one_replay();
+    one_text_has_one_reading();
+    one_transcript_has_one_reading();
+}
+
+/// So has a run of one process, or of none, by however many workers.
+pub fn a_run_of_one_process_has_one_answer()
+    ensures { (workers : ℕ) (input : List ℕ) (one other : Result (Unit {0} × List ℕ) MainFault)
+        → ((version : Version) (p : ProgramLists) → Spells (programs_grammar version) input p → length p.programs ≤ 1)
+        → Answers (running false workers) input one → Answers (running false workers) input other
+        → IfErr one (λ e. IsWantOfMemory e → ⊥) → IfErr other (λ e. IsWantOfMemory e → ⊥) → one ≡ other }
+{
+    drivers_have_one_fault();
+    reports_are_determined();
+    one_text_has_one_reading();
+}
+
+/// Programs that several workers have run aren't refused for their drivers, whether their fronts or a transcript came of
+/// them.
+pub fn what_is_run_has_drivers()
+    ensures { (fronts : Bool) (workers : ℕ) (input output : List ℕ) (done : Unit {0}) (fault : ConfigFault)
+        → GivesFor (running fronts workers) input done output
+        → RefusesFor (running fronts workers) input (run.ConfigFault fault) → ⊥ }
+{
+    drivers_have_one_fault();
+    one_text_has_one_reading();
+}
+
+/// What a run writes for its transcript, by however many workers, spells a report of the programs in their version, and
+/// nothing else. A check judges it legal.
+pub fn a_run_writes_one_legal_transcript()
+    ensures legal { (workers : ℕ) (programs : ProgramLists) (output : List ℕ)
+        → IsWrittenFor false workers programs output → (line : List ℕ) × GivesFor checking output Legal line }
+    ensures no_other { (workers : ℕ) (programs : ProgramLists) (output : List ℕ) (version : Version) (t : Transcript)
+        → IsWrittenFor false workers programs output → Spells (transcript_grammar version) output t
+        → (t.version ≡ programs.version) × IsReportOf programs t }
+{
+    reports_are_judged_legal();
+    one_transcript_has_one_reading();
+}
+
+/// The fronts that a run writes are of one report of the programs: one for each process, and none past its end.
+pub fn a_run_writes_the_fronts_of_one_report()
+    ensures { (workers : ℕ) (programs : ProgramLists) (output : List ℕ) → IsWrittenFor true workers programs output
+        → (report : Transcript) × (fronts : List Front) × IsReportOf programs report × (output ≡ fronts_text fronts)
+        × (length fronts ≡ length programs.programs) × All (λ f. f.entries ≤ length report.entries) fronts }
+{}

@@ -1,0 +1,188 @@
+-- Queues by their numbers, where one of them changes.
+use Rattle.std.proofs.Common.{◌≡◌, ℕ, zero, suc, ◌+◌, ◌<◌, ◌≤◌, nat_lt, not, Bool, true, false, List, [], ◌∷◌, ◌++◌}
+use Rattle.std.proofs.Common.{length, drop, get_or, set, cond, position, Option, Some, None, refl, sym, ap, ◌∙◌, arith}
+use Rattle.std.specs.List.{slice_get, position_or_len}
+use Rattle.std.proofs.lemmas.Bool.Decides.{nat_tests}
+use Rattle.std.proofs.lemmas.List.Sums.{prefix_len_passes}
+use Rattle.std.proofs.lemmas.List.Quantifiers.{position-Some}
+use Rattle.std.proofs.lemmas.List.{get_or-set_same, set-set, length-drop}
+use Rattle.smx_types.specs.declared.message.Message.{Message}
+use Rattle.smx_model.specs.Queues.{bytes_of, full_after_leaving}
+use Rattle.smx_queues.specs.declared.chain.Chain.{Chain}
+use Rattle.smx_queues.specs.QueueTable.{Queue, QueueTable, IsPlace, queue_at, least_vacant, with_place, without_front}
+use Rattle.smx_queues.specs.QueueTable.{emptied}
+use Rattle.smx_queues.specs.Chains.{no_chain}
+use Rattle.smx_queues.proofs.SlotLemmas.{slot, slots}
+
+-- a place has a number below that of any other to come
+pub place_below : (queues : List (Option Queue)) (p : ℕ) → IsPlace queues p → p < length queues
+place_below [] p is = absurd (cc)
+place_below (x ∷ queues) zero is = omega arith
+place_below (x ∷ queues) (suc p) is = omega (arith, place_below queues p is)
+
+-- what was set is there
+pub set_there : (queues : List (Option Queue)) (p : ℕ) (q : Queue) → p < length queues
+    → IsPlace (set queues p (Some q)) p
+set_there queues p q below = rw (get_or-set_same queues p (Some q) None below) refl
+
+-- the queue that was set at a number is the one there
+pub set_at : (queues : List (Option Queue)) (p : ℕ) (q : Queue) → p < length queues
+    → queue_at (set queues p (Some q)) p ≡ q
+set_at queues p q below = rw (get_or-set_same queues p (Some q) None below) refl
+
+-- where a place gets the queue that it has, nothing changes
+pub set_itself : (queues : List (Option Queue)) (p : ℕ) → IsPlace queues p
+    → set queues p (Some (queue_at queues p)) ≡ queues
+set_itself [] p is = absurd (cc)
+set_itself (Some q ∷ queues) zero is = refl
+set_itself (None ∷ queues) zero is = absurd (cc)
+set_itself (x ∷ queues) (suc p) is = ap (λ rest. x ∷ rest) (set_itself queues p is)
+
+-- place p has these messages left and this mark, and nothing else has changed
+pub record IsClearing (old new : QueueTable) (p : ℕ) : Type 0 where
+  pub messages : List Message
+  pub full : Bool
+  pub queues : new.queues ≡ set old.queues p
+      (Some (record (queue_at old.queues p) { messages = messages; full = full }))
+  pub spare : new.spare + length messages ≡ old.spare + length (queue_at old.queues p).messages
+
+-- before the first message leaves, a place that is cleared has all its messages and its mark
+pub clearing_starts : (q : QueueTable) (p : ℕ) → IsPlace q.queues p → IsClearing q q p
+clearing_starts q p is =
+    record {
+      messages = (queue_at q.queues p).messages;
+      full = (queue_at q.queues p).full;
+      queues = sym (set_itself q.queues p is);
+      spare = refl;
+    }
+
+now_at : (old new : QueueTable) (p : ℕ) (c : IsClearing old new p) → p < length old.queues
+    → queue_at new.queues p ≡ record (queue_at old.queues p) { messages = c.messages; full = c.full }
+now_at old new p c below = ap (λ qs. queue_at qs p) c.queues ∙ set_at old.queues p _ below
+
+first_some : (ms : List Message) (m : Message) → Some m ≡ slice_get ms 0 → 0 < length ms
+first_some [] m e = absurd (cc)
+first_some (x ∷ ms) m e = omega arith
+
+first_none : (ms : List Message) → None ≡ slice_get ms 0 → ms ≡ []
+first_none [] e = refl
+first_none (x ∷ ms) e = absurd (cc)
+
+-- the same queue set at the same number of the same queues gives the same
+pub same_set : (queues queues' : List (Option Queue)) (p : ℕ) (q q' : Queue) → queues ≡ queues' → q ≡ q'
+    → set queues p (Some q) ≡ set queues' p (Some q')
+same_set queues queues' p q q' e f = rw (e, f) refl
+
+-- one more has left
+pub clearing_goes_on : (old mid new : QueueTable) (p : ℕ) (m : Message) → p < length old.queues → IsClearing old mid p
+    → Some m ≡ slice_get (queue_at mid.queues p).messages 0
+    → new.queues ≡ set mid.queues p (Some (without_front (queue_at mid.queues p))) → new.spare ≡ mid.spare + 1
+    → IsClearing old new p
+clearing_goes_on old mid new p m below c taken gone room =
+    let e = now_at old mid p c below in
+    let some = first_some c.messages m (taken ∙ ap (λ (q : Queue). slice_get q.messages 0) e) in
+    record {
+      messages = drop 1 c.messages;
+      full = full_after_leaving c.full (queue_at old.queues p).low (bytes_of (drop 1 c.messages));
+      queues = gone ∙ same_set _ _ p _ _ c.queues (ap without_front e) ∙ set-set old.queues p _ _;
+      spare = omega (arith, room, c.spare, some, length-drop 1 c.messages);
+    }
+
+-- none is left
+pub clearing_ends : (old mid : QueueTable) (p : ℕ) → p < length old.queues → IsClearing old mid p
+    → None ≡ slice_get (queue_at mid.queues p).messages 0 → set mid.queues p (Some (emptied (queue_at mid.queues p)))
+    ≡ set old.queues p (Some (emptied (queue_at old.queues p)))
+clearing_ends old mid p below c none =
+    same_set _ _ p _ _ c.queues (ap emptied (now_at old mid p c below)) ∙ set-set old.queues p _ _
+
+-- the number of the first chain whose place is gone is the least that no place has
+pub record IsVacant (chains : List Chain) (queues : List Queue) (p : ℕ) : Type 0 where
+  pub least : p ≡ least_vacant (slots chains queues)
+  pub added : (q : Queue) → set (slots chains queues) p (Some q) ≡ with_place (slots chains queues) q
+
+-- a number whose place is gone, while each lower one is there, is the least without a queue
+pub vacant_at : (chains : List Chain) (queues : List Queue) (p : ℕ) → length queues ≡ length chains → p < length chains
+    → (get_or chains p no_chain).there ≡ false → ((k : ℕ) → k < p → (get_or chains k no_chain).there ≡ true)
+    → IsVacant chains queues p
+vacant_at [] queues p many below gone others = absurd (omega (arith, below))
+vacant_at (chain ∷ chains) [] p many below gone others = absurd (omega (arith, many))
+vacant_at (chain ∷ chains) (q ∷ queues) zero many below gone others =
+    let here : slot chain q ≡ None = rw gone refl in
+    record {
+      least = rw here refl;
+      added = λ new. rw here refl;
+    }
+vacant_at (chain ∷ chains) (q ∷ queues) (suc p) many below gone others =
+    let r = vacant_at chains queues p (omega (arith, many)) (omega (arith, below)) gone
+    (λ k less. others (suc k) (omega (arith, less))) in
+    let here : slot chain q ≡ Some q = let t : chain.there ≡ true = others 0 (omega arith) in rw t refl in
+    record {
+      least = rw here (ap suc r.least);
+      added = λ new. rw here (ap (λ rest. Some q ∷ rest) (r.added new));
+    }
+
+-- where no place is gone, the next number is that
+pub record IsFull (chains : List Chain) (queues : List Queue) : Type 0 where
+  pub least : length chains ≡ least_vacant (slots chains queues)
+  pub added : (q : Queue) → slots chains queues ++ Some q ∷ [] ≡ with_place (slots chains queues) q
+
+-- where the place of each chain is there, the next number is the least without a queue
+pub none_vacant : (chains : List Chain) (queues : List Queue) → length queues ≡ length chains
+    → ((k : ℕ) → k < length chains → (get_or chains k no_chain).there ≡ true) → IsFull chains queues
+none_vacant [] queues many there = record { least = refl; added = λ q. refl }
+none_vacant (chain ∷ chains) [] many there = absurd (omega (arith, many))
+none_vacant (chain ∷ chains) (q ∷ queues) many there =
+    let r = none_vacant chains queues (omega (arith, many)) (λ k less. there (suc k) (omega (arith, less))) in
+    let here : slot chain q ≡ Some q = let t : chain.there ≡ true = there 0 (omega arith) in rw t refl in
+    record {
+      least = rw here (ap suc r.least);
+      added = λ new. rw here (ap (λ rest. Some q ∷ rest) (r.added new));
+    }
+
+is_there : (b : Bool) → not (not b) ≡ true → b ≡ true
+is_there true e = refl
+is_there false e = absurd (cc)
+
+is_gone : (b : Bool) → not b ≡ true → b ≡ false
+is_gone true e = absurd (cc)
+is_gone false e = refl
+
+still_there : (b : Bool) → not b ≡ false → b ≡ true
+still_there true e = refl
+still_there false e = absurd (cc)
+
+-- the place of the chain is gone
+abbrev pub goes : Chain → Bool
+goes chain = not chain.there
+
+-- where a first chain was found whose place is gone, its number is the least without a queue
+pub vacant_found : (chains : List Chain) (queues : List Queue) (p : ℕ) → length queues ≡ length chains
+    → Some p ≡ position goes chains → (p < length chains) × ((get_or chains p no_chain).there ≡ false)
+    × IsVacant chains queues p
+vacant_found chains queues p many found =
+    let f = position-Some goes chains p no_chain (sym found) in
+    let gone = is_gone _ f.1 in
+    (f.0, gone, vacant_at chains queues p many f.0 gone (λ k less. still_there _ (f.2 k less)))
+
+-- where no chain was found whose place is gone, the next number is the least without a queue
+pub vacant_not_found : (chains : List Chain) (queues : List Queue) → length queues ≡ length chains
+    → None ≡ position goes chains → IsFull chains queues
+vacant_not_found chains queues many none =
+    none_vacant chains queues many
+    (λ k less. is_there _ (prefix_len_passes (λ (c : Chain). not (goes c)) chains k no_chain
+    (omega (arith, less, far (nat_lt (position_or_len goes chains) (length chains)) refl none))))
+  where
+    far : (b : Bool) → nat_lt (position_or_len goes chains) (length chains) ≡ b
+        → None ≡ cond b (Some (position_or_len goes chains)) None → length chains ≤ position_or_len goes chains
+    far true is none = absurd (cc)
+    far false is none = grind (arith, nat_tests)
+
+-- a place from which all messages have left, and then its mark is taken, is emptied
+pub cleared_queues : (old mid : QueueTable) (p : ℕ) → IsPlace old.queues p → IsClearing old mid p
+    → None ≡ slice_get (queue_at mid.queues p).messages 0 → set mid.queues p (Some (emptied (queue_at mid.queues p)))
+    ≡ set old.queues p (Some (emptied (queue_at old.queues p)))
+cleared_queues old mid p there c none = clearing_ends old mid p (place_below old.queues p there) c none
+
+-- what was set and set again
+pub set_again : (queues : List (Option Queue)) (p : ℕ) (a b : Option Queue) → set (set queues p a) p b ≡ set queues p b
+set_again queues p a b = set-set queues p a b

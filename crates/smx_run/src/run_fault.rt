@@ -1,0 +1,129 @@
+//! Why a run is refused, in the words that a program prints.
+
+use smx_config::ConfigFault;
+use smx_shared::{ApplyFault, CloseFault};
+use smx_types::{NoMemory, Process};
+use std::fmt;
+
+/// Why a run was refused.
+#[derive(Clone, Copy, Debug, PartialEq, Eq)]
+pub enum RunFault {
+    /// A growth was refused, or a worker could not be started.
+    NoMemory,
+    /// The entries of the process of this number in the history are not those that it was answered, or what came back
+    /// of the system has other drivers.
+    Strange(u32),
+    /// There is no configuration of these drivers.
+    ConfigFault(ConfigFault),
+    /// The history has as many entries as it may.
+    HistoryFull,
+    /// A worker never gave the turn back.
+    Held,
+}
+
+/// Why no report was made of a system and the transcripts of its callers.
+#[derive(Clone, Copy, Debug, PartialEq, Eq)]
+pub enum GatherFault {
+    /// The entries of this process in the history are not its transcript.
+    Strange(Process),
+    /// A growth was refused.
+    NoMemory,
+}
+
+impl From<ConfigFault> for RunFault {
+    ghost use Rattle.std.specs.Prelude.{◌≡◌};
+    ghost use Rattle.smx_run.specs.RunFaults.{run_fault_of};
+
+    ghost from_gives = { λ f e. e ≡ run_fault_of f };
+
+    fn from(fault: ConfigFault) -> RunFault {
+        match fault {
+            ConfigFault::NoMemory => RunFault::NoMemory,
+            ConfigFault::BadSpec(_, _) | ConfigFault::SameName(_) | ConfigFault::TooMany => {
+                RunFault::ConfigFault(fault)
+            }
+        }
+    }
+}
+
+impl From<NoMemory> for RunFault {
+    ghost use Rattle.std.specs.Prelude.{◌≡◌};
+    ghost use Rattle.smx_run.specs.declared.run_fault.RunFault.TheVariants as run;
+
+    ghost from_gives = { λ _ e. e ≡ run.NoMemory };
+
+    fn from(_error: NoMemory) -> RunFault {
+        RunFault::NoMemory
+    }
+}
+
+impl From<ApplyFault> for RunFault {
+    ghost use Rattle.std.specs.Prelude.{◌≡◌};
+    ghost use Rattle.smx_run.specs.RunFaults.{fault_of_worker};
+
+    ghost from_gives = { λ f e. e ≡ fault_of_worker f };
+
+    fn from(fault: ApplyFault) -> RunFault {
+        match fault {
+            ApplyFault::HistoryFull => RunFault::HistoryFull,
+            ApplyFault::NoMemory => RunFault::NoMemory,
+        }
+    }
+}
+
+impl From<CloseFault> for RunFault {
+    ghost use Rattle.std.specs.Prelude.{◌≡◌};
+    ghost use Rattle.smx_run.specs.declared.run_fault.RunFault.TheVariants as run;
+
+    ghost from_gives = { λ _ e. e ≡ run.Held };
+
+    fn from(fault: CloseFault) -> RunFault {
+        match fault {
+            CloseFault::Held(_) => RunFault::Held,
+        }
+    }
+}
+
+impl From<NoMemory> for GatherFault {
+    ghost use Rattle.std.specs.Prelude.{◌≡◌};
+    ghost use Rattle.smx_run.specs.declared.run_fault.GatherFault.TheVariants as gathered;
+
+    ghost from_gives = { λ _ e. e ≡ gathered.NoMemory };
+
+    fn from(_error: NoMemory) -> GatherFault {
+        GatherFault::NoMemory
+    }
+}
+
+impl fmt::Display for RunFault {
+    ghost use Rattle.std.specs.Prelude.{Some};
+    ghost use Rattle.smx_run.specs.FaultWords.{run_fault_words};
+
+    ghost output = { λ fault. Some (run_fault_words fault) };
+
+    fn fmt<W: fmt::Write>(&self, f: &mut fmt::Formatter<W>) -> fmt::Result {
+        match self {
+            RunFault::NoMemory => f.write_str("no memory"),
+            RunFault::Strange(process) => write!(f, "strange {process}"),
+            RunFault::ConfigFault(fault) => write!(f, "{fault}"),
+            RunFault::HistoryFull => f.write_str("history full"),
+            RunFault::Held => f.write_str("turn held"),
+        }
+    }
+}
+
+impl fmt::Display for GatherFault {
+    ghost use Rattle.std.specs.Prelude.{Some};
+    ghost use Rattle.smx_run.specs.FaultWords.{gather_fault_words};
+
+    ghost output = { λ fault. Some (gather_fault_words fault) };
+
+    fn fmt<W: fmt::Write>(&self, f: &mut fmt::Formatter<W>) -> fmt::Result {
+        match self {
+            GatherFault::Strange(process) => write!(f, "strange {}", process.get()),
+            GatherFault::NoMemory => f.write_str("no memory"),
+        }
+    }
+}
+
+impl std::error::Error for GatherFault {}

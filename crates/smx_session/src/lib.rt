@@ -1,0 +1,12 @@
+//! Sessions: a configuration that performs one line after the other, and is shown in between.
+#![tactic(auto)]
+
+mod session;
+mod text;
+mod trouble;
+
+pub use session::Session;
+pub use trouble::Trouble;
+
+#[cfg(test)]
+mod tests;

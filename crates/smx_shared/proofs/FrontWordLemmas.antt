@@ -1,0 +1,78 @@
+-- The first word: a front, and the turn bit.
+use Rattle.std.proofs.Common.{◌≡◌, refl, ℕ, ◌+◌, ◌*◌, ◌/◌, ◌%◌, ◌<◌, ◌≤◌, List, length, Bool, true, false, ap, ap₂, sym}
+use Rattle.std.proofs.Common.{◌∙◌, arith, max}
+use Rattle.std.specs.Prelude.{bit_or}
+use Rattle.std.specs.Int.Bits.{or_step}
+use Rattle.std.proofs.lemmas.Nat.{or_shifted}
+use Rattle.smx_types.specs.declared.command.Entry.{Entry}
+use Rattle.smx_types.specs.declared.driver.DriverSpec.{DriverSpec}
+use Rattle.smx_shared.specs.Fronts.{front_of, links_after, word_of, turn_bit, IsFrontOf}
+use Rattle.smx_shared.specs.TurnRule.{Turn, free, held, bit_of}
+use Rattle.smx_shared.specs.declared.front.Front.{Front}
+
+or_zero : (a : ℕ) → bit_or a 0 ≡ a
+or_zero a = let e : bit_or (a * 1) 0 ≡ a * 1 + 0 = or_shifted a 0 0 (omega arith) in
+    let one : a * 1 ≡ a = omega arith in ap (λ (k : ℕ). bit_or k 0) (sym one) ∙ (e ∙ (omega arith))
+
+-- the turn bit, set
+or_one : (n : ℕ) → bit_or n 1 ≡ n / 2 * 2 + 1
+or_one n = let e : bit_or n 1 ≡ bit_or (n / 2) (1 / 2) * 2 + max (n % 2) (1 % 2) = or_step n 1 in
+    let z = or_zero (n / 2) in let p : max (n % 2) 1 ≡ 1 = omega arith in e ∙ ap₂ (λ (x y : ℕ). x * 2 + y) z p
+
+-- a front has the turn bit free
+pub front_even : (drivers : List DriverSpec) (h : List Entry) → front_of drivers h % 2 ≡ 0
+unfolding front_of
+front_even drivers h = omega arith
+
+-- the turn is taken where it was free
+pub or_free : (drivers : List DriverSpec) (h : List Entry) → bit_or (front_of drivers h) 1 ≡ front_of drivers h + 1
+or_free drivers h =
+    let n : ℕ = front_of drivers h in let e : n % 2 ≡ 0 = front_even drivers h in or_one n ∙ (omega arith)
+
+-- the word stays where the turn was held
+pub or_held : (drivers : List DriverSpec) (h : List Entry) → bit_or (front_of drivers h + 1) 1 ≡ front_of drivers h + 1
+or_held drivers h =
+    let n : ℕ = front_of drivers h in let e : n % 2 ≡ 0 = front_even drivers h in or_one (n + 1) ∙ (omega arith)
+
+-- a word that shows the turn held is not even
+pub held_odd : (drivers : List DriverSpec) (n : ℕ) (h : List Entry) → n ≡ front_of drivers h + 1 → n % 2 ≡ 1
+held_odd drivers n h e =
+    let k : ℕ = front_of drivers h in let f : k % 2 ≡ 0 = front_even drivers h in let is : n ≡ k + 1 = e in omega arith
+
+-- a word that shows the turn free is even
+pub free_even : (drivers : List DriverSpec) (n : ℕ) (h : List Entry) → n ≡ front_of drivers h → n % 2 ≡ 0
+free_even drivers n h e = ap (λ (k : ℕ). k % 2) e ∙ front_even drivers h
+
+-- a word is the front and its own turn bit
+pub front_and_bit : (drivers : List DriverSpec) (n : ℕ) (h : List Entry) (t : Turn) → n ≡ front_of drivers h + bit_of t
+    → n ≡ front_of drivers h + n % 2
+front_and_bit drivers n h free e =
+    let k : ℕ = front_of drivers h in let f : k % 2 ≡ 0 = front_even drivers h in let is : n ≡ k + 0 = e in omega arith
+front_and_bit drivers n h (held j) e =
+    let k : ℕ = front_of drivers h in let f : k % 2 ≡ 0 = front_even drivers h in let is : n ≡ k + 1 = e in omega arith
+
+-- a history of so few entries and links has a small word
+pub word_small : (drivers : List DriverSpec) (n : ℕ) (h : List Entry) → n ≡ front_of drivers h + n % 2
+    → length h ≤ 100000 → links_after drivers h ≤ 1024 → n < 4096 * 4294967296
+unfolding front_of
+word_small drivers n h is few links = omega arith
+
+-- what is read from a word is what went into it
+pub reads_front : (drivers : List DriverSpec) (n : ℕ) (h : List Entry) (front : Front) → n ≡ front_of drivers h + n % 2
+    → links_after drivers h ≤ 1024 → word_of front ≡ n → front.links < 2048
+    → IsFrontOf front drivers h × (turn_bit front.held ≡ n % 2)
+unfolding front_of
+reads_front drivers n h front is links word few =
+    let bit : turn_bit front.held ≤ 1 = bit_small front.held in
+    let e : 4096 * front.entries + 2 * front.links + turn_bit front.held ≡ n = word in
+    let same : n ≡ 4096 * length h + 2 * links_after drivers h + n % 2 = is in
+    (record { entries = omega arith; links = omega arith }, omega arith)
+  where
+    bit_small : (b : Bool) → turn_bit b ≤ 1
+    bit_small true = omega arith
+    bit_small false = omega arith
+
+-- a front whose turn bit is set shows it
+pub shows_held : (b : Bool) → turn_bit b ≡ 1 → b ≡ true
+shows_held true e = refl
+shows_held false e = absurd (omega arith)

@@ -1,0 +1,49 @@
+//! Why a command was not performed, in the words that a program prints.
+
+ghost use Rattle.std.specs.Prelude.{◌≡◌};
+ghost use Rattle.smx_shared.specs.declared.shared_fault.ApplyFault.TheVariants as apply;
+
+use smx_types::NoMemory;
+use std::alloc::{AllocError, AllocFailed};
+use std::fmt;
+
+/// Why a command was not performed; nothing has changed then. It prints itself: `history full`, `no memory`.
+#[derive(Clone, Copy, Debug, PartialEq, Eq)]
+pub enum ApplyFault {
+    /// There are as many entries as the limit allows.
+    HistoryFull,
+    /// A growth was refused.
+    NoMemory,
+}
+
+impl From<NoMemory> for ApplyFault {
+    ghost from_gives = { λ _ e. e ≡ apply.NoMemory };
+
+    fn from(_error: NoMemory) -> ApplyFault {
+        ApplyFault::NoMemory
+    }
+}
+
+impl From<AllocError> for ApplyFault {
+    ghost from_gives = { λ _ e. e ≡ apply.NoMemory };
+
+    fn from(_error: AllocError) -> ApplyFault {
+        ApplyFault::NoMemory
+    }
+}
+
+impl fmt::Display for ApplyFault {
+    ghost use Rattle.std.specs.Prelude.{Some};
+    ghost use Rattle.smx_shared.specs.FaultWords.{apply_fault_words};
+
+    ghost output = { λ fault. Some (apply_fault_words fault) };
+
+    fn fmt<W: fmt::Write>(&self, f: &mut fmt::Formatter<W>) -> fmt::Result {
+        match self {
+            ApplyFault::HistoryFull => f.write_str("history full"),
+            ApplyFault::NoMemory => f.write_str("no memory"),
+        }
+    }
+}
+
+impl std::error::Error for ApplyFault {}

@@ -1,0 +1,29 @@
+//! Why no descriptor was given.
+
+use smx_types::NoMemory;
+
+/// Why no descriptor was given.
+#[derive(Clone, Copy, Debug, PartialEq, Eq)]
+pub enum StreamFault {
+    /// The process has no such descriptor.
+    BadDescriptor,
+    /// There is no such driver.
+    NoDriver,
+    /// The driver has no such minor, or all of its minors are in use.
+    NoMinor,
+    /// The process has 16 descriptors.
+    TooManyDescriptors,
+    /// A growth was refused.
+    NoMemory,
+}
+
+impl From<NoMemory> for StreamFault {
+    ghost use Rattle.std.specs.Prelude.{◌≡◌};
+    ghost use Rattle.smx_streams.specs.declared.stream_fault.StreamFault.TheVariants as fault;
+
+    ghost from_gives = { λ _ e. e ≡ fault.NoMemory };
+
+    fn from(_e: NoMemory) -> StreamFault {
+        StreamFault::NoMemory
+    }
+}

@@ -1,0 +1,36 @@
+-- What the texts take from the words of lines.
+use Rattle.std.proofs.Common.{◌≡◌, ◌≢◌, ℕ, true, false, List, [], ◌∷◌, sym, ◌∙◌, arith, rules}
+use Rattle.std.specs.Prelude.{codes}
+use Rattle.std.specs.Str.{bytes_eq}
+use Rattle.std.proofs.lemmas.Slice.Eq.{bytes_eq-Decides}
+use Rattle.smx_words.specs.Words.{AreWords, LINE_FEED, line_of}
+use Rattle.smx_words.proofs.LineLemmas.{line_free, same_words, words_free}
+use Rattle.smx_text.specs.Grammar.{IsOneLine}
+
+-- the first of some words, and no bytes where there is none
+abbrev pub first_word : List (List ℕ) → List ℕ
+first_word [] = []
+first_word (w ∷ ws) = w
+
+-- words that make the same line are the same words
+pub one_spelling : (ws vs : List (List ℕ)) → AreWords ws → AreWords vs → line_of ws ≡ line_of vs → ws ≡ vs
+one_spelling ws vs h k e = same_words ws vs h.0 k.0 e
+
+-- `config` is a word
+pub config_spelled : AreWords (codes "config" ∷ [])
+config_spelled = (search rules, omega arith)
+
+-- `end` is a word
+pub end_spelled : AreWords (codes "end" ∷ [])
+end_spelled = (search rules, omega arith)
+
+-- a line of words has no line feed in it
+pub one_line_of : (ws : List (List ℕ)) → AreWords ws → IsOneLine (line_of ws)
+one_line_of ws h = line_free LINE_FEED (λ e. cc) ws (words_free LINE_FEED (omega arith) ws h.0)
+
+-- bytes that a test tells apart
+pub differ : (w v : List ℕ) → bytes_eq w v ≡ false → w ≢ v
+differ w v other e =
+    let same = (bytes_eq-Decides w v).1 e in
+    let bad : true ≡ false = sym same ∙ other in
+    absurd (cc bad)

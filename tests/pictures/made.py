@@ -1,0 +1,64 @@
+"""Transcripts that show more than examples do: many links, many drivers, cycles, and what no configuration shows."""
+
+
+def transcript(drivers, lines, version=1, following="next 9 9"):
+    return "\n".join([f"transcript {version}", *drivers, "config", following, *lines, "end", ""]).encode()
+
+
+def many_links():
+    """A multiplexer above three drivers, with 180 links of both kinds below it."""
+    drivers = ["driver top mux 64 4096 1024 1024"]
+    drivers += [f"driver eth{i} leaf 64 4096 1024 1024" for i in range(3)]
+    lines = ["fd 0 0 top 0"]
+    lines += [f"link {i + 1} top 0 eth{i % 3} {i // 3} {'plink' if i % 4 == 0 else 'link'}" for i in range(180)]
+    return transcript(drivers, lines, following="next 181 1")
+
+
+def pyramid():
+    """Eight layers of sixteen drivers, each linked below two of the layer above."""
+    drivers, lines, number = [], [], 0
+    for layer in range(8):
+        for i in range(16):
+            drivers.append(f"driver d{layer}x{i} {'leaf' if layer == 7 else 'mux'} 8 64 16 32")
+    for layer in range(7):
+        for i in range(16):
+            for step in 0, 1:
+                number += 1
+                lines.append(f"link {number} d{layer}x{i} 0 d{layer + 1}x{(i + step) % 16} {step} link")
+    return transcript(drivers, lines, version=2, following=f"next {number + 1} 1")
+
+
+def long_queues():
+    """Queues of many messages, full and not, on both sides."""
+    drivers = ["driver ip mux 2 4096 8 1024", "driver eth leaf 2 64 8 1024"]
+    lines = ["link 1 ip 0 eth 1 plink"]
+    lines += [f"msg ip 1 r {i} 4294967295 {'ab' * (i % 7 + 1)}" for i in range(1, 40)]
+    lines += [f"msg eth 1 w {i} 5 {'00' * 8}" for i in range(40, 49)]
+    lines += ["full eth 1 w", "hung eth 1"]
+    return transcript(drivers, lines, version=2, following="next 2 49")
+
+
+def cycle():
+    """Links that no history has: two drivers, each below the other, and one below itself."""
+    drivers = [f"driver {name} mux 4 8 3 16" for name in ("a", "b", "c")]
+    lines = ["link 1 a 0 b 0 link", "link 2 b 1 a 1 plink", "link 3 c 0 c 1 link"]
+    return transcript(drivers, lines)
+
+
+def of_no_driver():
+    """Streams of what is no driver of the transcript, minors that no driver has, and lines that stand twice."""
+    lines = ["fd 0 0 node 4294967295", "fd 63 4294967295 graph 64", "fd 0 0 node 4294967295"]
+    lines += ["link 4294967295 edge 65 subgraph 66 link", "link 4294967295 edge 65 eth 99 plink"]
+    lines += ["bind strict 4294967295 7", "route digraph 1 1", "msg node 0 w 4294967295 0 ff", "msg eth 70 r 0 0 -"]
+    lines += ["full eth 1 w", "hung digraph 4294967295"]
+    return transcript(["driver eth leaf 2 8 3 16"], lines, version=2, following="next 4294967295 4294967295")
+
+
+def transcripts():
+    yield "nothing at all", transcript([], [])
+    yield "180 links", many_links()
+    yield "eight layers", pyramid()
+    yield "long queues", long_queues()
+    yield "cycle", cycle()
+    yield "strange names", of_no_driver()
+    yield "strange many", transcript(["driver eth leaf 2 8 3 16"], [f"fd 0 0 eth {minor}" for minor in range(200_000)])
