@@ -4,6 +4,7 @@ use Rattle.std.specs.Process.{exit_status}
 use Rattle.std.specs.declared.process.ExitCode.{ExitCode}
 use Rattle.smx_config.specs.declared.verdict.Verdict.{Verdict}
 use Rattle.smx_filters.specs.CheckText.{ChecksText}
+use Rattle.smx_filters.specs.LiveText.{LivesText}
 use Rattle.smx_filters.specs.ReplayText.{ReplaysText}
 use Rattle.smx_filters.specs.RunText.{RunsText}
 use Rattle.smx_filters.specs.Statuses.{status_of_outcome}
@@ -11,9 +12,9 @@ use Rattle.smx_filters.specs.declared.done.Done.{Done}
 use Rattle.smx_filters.specs.declared.done.Done.TheVariants.{Finished, Judged}
 use Rattle.smx_filters.specs.declared.fault.MainFault.{MainFault}
 use Rattle.muxsim.specs.declared.jobs.Job.{Job}
-use Rattle.muxsim.specs.declared.jobs.Job.TheVariants.{Run, Check, Replay}
+use Rattle.muxsim.specs.declared.jobs.Job.TheVariants.{Run, Check, Replay, Live}
 
--- a run or a replay that was done is finished
+-- a run, a replay or a live session that was done is finished
 abbrev pub outcome_of_writing : Result (Unit {0}) MainFault → Result Done MainFault
 outcome_of_writing (Ok done) = Ok Finished
 outcome_of_writing (Err fault) = Err fault
@@ -52,8 +53,15 @@ pub record EndsReplay (d : Devices) (code : ExitCode) : Type 0 where
   pub replayed : ReplaysText d.had d.left d.ended d.read_failures d.before d.after d.flushed d.write_failures answer
   pub status : exit_status code ≡ status_of_outcome (outcome_of_writing answer)
 
+-- the lines were answered, and the status is that of what came of it
+pub record EndsLive (d : Devices) (code : ExitCode) : Type 0 where
+  pub answer : Result (Unit {0}) MainFault
+  pub lived : LivesText d.had d.left d.ended d.read_failures d.before d.after d.flushed d.write_failures answer
+  pub status : exit_status code ≡ status_of_outcome (outcome_of_writing answer)
+
 -- the job was done, and the status is that of what came of it
 abbrev pub EndsJob : Job → Devices → ExitCode → Type 0
 EndsJob (Run workers fronts) d code = EndsRun fronts workers d code
 EndsJob Check d code = EndsCheck d code
 EndsJob Replay d code = EndsReplay d code
+EndsJob Live d code = EndsLive d code

@@ -24,7 +24,7 @@ The texts, in both versions, are in docs/FORMATS.md, commands and replies in doc
 and more in docs/MUXSIM.md. 'muxsim help commands' lists the commands of a program.";
 
 /// What the words ask for, of which the first is the program's name. Any other words than `run`, with
-/// `--workers` and `--fronts` or without, `check` and `replay` are clap's error, and so is a request for help or the
+/// `--workers` and `--fronts` or without, `check`, `replay` and `live` are clap's error, and so is a request for help or the
 /// version; want of memory is its kind `OutOfMemory`.
 pub fn job<'a, S: AsStr>(alloc: Global, words: &'a [S]) -> Result<Job, Error>
     ensures { IfOk result CanRun }
@@ -39,6 +39,7 @@ pub fn job<'a, S: AsStr>(alloc: Global, words: &'a [S]) -> Result<Job, Error>
             fronts: run.get_flag("fronts"),
         }),
         Some(("replay", _)) => Ok(Job::Replay),
+        Some(("live", _)) => Ok(Job::Live),
         Some(_) | None => Ok(Job::Check),
     }
 }
@@ -80,6 +81,12 @@ fn program<'a>(alloc: Global) -> Result<Command<'a>, AllocError> {
         "Replay the transcript on standard input and write the transcript that its commands give",
     )
     .override_usage("muxsim replay < TRANSCRIPT");
+    let live = subcommand(
+        alloc,
+        "live",
+        "Answer each line of standard input at once: a driver table, then commands of processes",
+    )
+    .override_usage("muxsim live < LINES");
     let commands = Command::new(alloc, "commands")
         .override_help(COMMANDS)
         .hide(true);
@@ -92,6 +99,7 @@ fn program<'a>(alloc: Global) -> Result<Command<'a>, AllocError> {
         .subcommand(run.arg(workers(alloc))?.arg(fronts(alloc))?)?
         .subcommand(check)?
         .subcommand(replay)?
+        .subcommand(live)?
         .subcommand(commands)
 }
 

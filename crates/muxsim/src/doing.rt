@@ -2,12 +2,12 @@
 
 ghost use Rattle.std.specs.Prelude.{◌≡◌, false};
 ghost use Rattle.std.specs.Process.{exit_status};
-ghost use Rattle.muxsim.specs.Ends.{EndsCheck, EndsJob, EndsReplay, EndsRun};
+ghost use Rattle.muxsim.specs.Ends.{EndsCheck, EndsJob, EndsLive, EndsReplay, EndsRun};
 ghost use Rattle.muxsim.specs.Jobs.{CanRun};
 ghost use Rattle.smx_filters.specs.Statuses.{status_of_outcome};
 
 use crate::jobs::Job;
-use smx_filters::{Done, Feed, MainFault, Sink, check_text, replay_text, run_text};
+use smx_filters::{Done, Feed, MainFault, Sink, check_text, live_text, replay_text, run_text};
 use smx_run::NoGate;
 use std::alloc::Global;
 use std::process::ExitCode;
@@ -42,6 +42,7 @@ pub fn do_job<R: Threads + Wait + Sync + Eprint, F: Feed, S: Sink>(
         Job::Run { workers, fronts } => run(rt, alloc, feed, sink, workers, fronts),
         Job::Check => check(rt, alloc, feed, sink),
         Job::Replay => replay(rt, alloc, feed, sink),
+        Job::Live => live(rt, alloc, feed, sink),
     }
 }
 
@@ -119,6 +120,33 @@ fn replay<R: Eprint, F: Feed, S: Sink>(
     }) result }
 {
     match replay_text(alloc, feed, sink) {
+        Ok(()) => ended(rt, Ok(Done::Finished)),
+        Err(fault) => ended(rt, Err(fault)),
+    }
+}
+
+// Answers the lines.
+fn live<R: Eprint, F: Feed, S: Sink>(
+    rt: &R,
+    alloc: Global,
+    feed: &mut F,
+    sink: &mut S,
+) -> ExitCode
+    requires before_the_end { F.ended feed.old ≡ false }
+    requires fed { F.failures feed.old ≡ 0 }
+    requires sunk { S.failures sink.old ≡ 0 }
+    ensures { EndsLive (record {
+      had = F.remaining feed.old;
+      left = F.remaining feed.new;
+      ended = F.ended feed.new;
+      read_failures = F.failures feed.new;
+      before = S.contents sink.old;
+      after = S.contents sink.new;
+      flushed = S.flushed sink.new;
+      write_failures = S.failures sink.new;
+    }) result }
+{
+    match live_text(alloc, feed, sink) {
         Ok(()) => ended(rt, Ok(Done::Finished)),
         Err(fault) => ended(rt, Err(fault)),
     }

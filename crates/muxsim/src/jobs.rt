@@ -14,4 +14,6 @@ pub enum Job {
     Check,
     /// To perform the commands of the transcript of the input and to write the transcript that they give.
     Replay,
+    /// To answer the lines of the input one by one, at once.
+    Live,
 }

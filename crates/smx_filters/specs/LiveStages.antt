@@ -1,0 +1,65 @@
+-- The stages of a live session: its table, its beginning, a turn, all turns, its end.
+use Rattle.std.specs.Prelude.{◌≡◌, ℕ, ◌⊎◌, Bool, true, false, List, [], ◌++◌, take, Option, Result, Vec, Ok, Err, IfOk, IfErr, OnOk, codes}
+use Rattle.std.specs.Global.{Global}
+use Rattle.std.specs.Io.KnownBytes.{Consumes, Appends, Keeps}
+use Rattle.smx_run.specs.RunFaults.{RefusesAlone}
+use Rattle.smx_run.specs.declared.fault.RunFault.TheVariants.{NoMemory}
+use Rattle.smx_text.specs.Grammar.{ReadsAny}
+use Rattle.smx_text.specs.ProgramsText.{programs_grammar}
+use Rattle.smx_session.specs.Sessions.{HasBadDrivers, IsStartOf, State}
+use Rattle.smx_filters.specs.LiveText.{HasComeSoFar, IsLive, IsOutcome, IsOver}
+use Rattle.smx_filters.specs.Output.{AppendsBeginning}
+use Rattle.smx_filters.specs.declared.fault.MainFault.{MainFault}
+use Rattle.smx_filters.specs.declared.fault.MainFault.TheVariants.{Refused, Text, TooLong, ReadFailed, WriteFailed}
+use Rattle.smx_filters.specs.declared.inbox.Inbox.{Inbox}
+use Rattle.smx_filters.specs.declared.talk.Talk.{Talk}
+
+-- a table was read, and what was read behind it is held
+pub record HasTable (had left : Option (List ℕ)) (ended : Bool) (failures : ℕ) (old new : Inbox) (read : List ℕ)
+    (result : Result (Vec ℕ Global) MainFault) : Type 0 where
+  pub consumed : Consumes had left read
+  pub parts : IfOk result (λ table. old.held.items ++ read ≡ table.items ++ new.held.items)
+  pub end : OnOk result (ended ≡ new.ended)
+  pub fine : OnOk result (failures ≡ 0)
+  pub fault : IfErr result (λ e. ((e ≡ TooLong) × (failures ≡ 0)) ⊎ ((e ≡ ReadFailed) × (failures ≡ 1))
+      ⊎ ((e ≡ Refused NoMemory) × (failures ≡ 0)))
+
+-- a session begins over the drivers of a table, or the table or its drivers are at fault, or memory was wanting
+abbrev pub Begins : List ℕ → Result Talk MainFault → Type 0
+Begins table (Ok talk) = IsStartOf (table ++ codes "end\n") talk.session × (talk.count ≡ 0)
+Begins table (Err (Text fault)) = ReadsAny programs_grammar (table ++ codes "end\n") (Err fault)
+Begins table (Err (Refused fault)) = (fault ≡ NoMemory)
+    ⊎ HasBadDrivers (table ++ codes "end\n") (λ drivers. RefusesAlone drivers fault)
+Begins table (Err TooLong) = ⊥
+Begins table (Err ReadFailed) = ⊥
+Begins table (Err WriteFailed) = ⊥
+
+module _ (read output : List ℕ) (ended : Bool) (s : State) (count : ℕ) (held : List ℕ) (before after : Option (List ℕ))
+    (flushed : Bool) (failures : ℕ) where
+  -- A session that had come so far has taken a turn, and now stands so; or it is over.
+  abbrev pub TurnsOn : Result Bool MainFault → Type 0
+  TurnsOn (Ok true) = (failures ≡ 0) × (flushed ≡ true)
+      × (said : List ℕ) × Appends before after said × IsOver read ended (output ++ said)
+  TurnsOn (Ok false) = (failures ≡ 0)
+      × (said : List ℕ) × Appends before after said × IsLive read (output ++ said) s count held
+  TurnsOn (Err (Refused fault)) = (failures ≡ 0) × (fault ≡ NoMemory) × Keeps before after
+  TurnsOn (Err WriteFailed) = (failures ≡ 1) × (said : List ℕ) × AppendsBeginning before after said
+      × (HasComeSoFar read (output ++ said) ⊎ IsOver read ended (output ++ said))
+  TurnsOn (Err (Text fault)) = ⊥
+  TurnsOn (Err TooLong) = ⊥
+  TurnsOn (Err ReadFailed) = ⊥
+
+-- a session that had come so far is over, at the end of its input
+abbrev pub Finishes : List ℕ → List ℕ → Bool → List ℕ → Option (List ℕ) → Option (List ℕ) → Bool → ℕ
+    → Result (Unit {0}) MainFault → Type 0
+Finishes read output ended held before after flushed failures (Ok done) = ⊥
+Finishes read output ended held before after flushed failures (Err e) = ⊥
+
+-- a session that had come so far goes on, and answers so
+pub record Converses (read output : List ℕ) (had left : Option (List ℕ)) (ended : Bool) (read_failures : ℕ)
+    (before after : Option (List ℕ)) (flushed : Bool) (write_failures : ℕ) (answer : Result (Unit {0}) MainFault) : Type 0 where
+  pub more : List ℕ
+  pub consumed : Consumes had left more
+  pub said : List ℕ
+  pub appended : Appends before after said
+  pub outcome : IsOutcome (read ++ more) (output ++ said) ended flushed read_failures write_failures answer

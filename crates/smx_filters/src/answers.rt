@@ -1,0 +1,89 @@
+//! The answers of a live session.
+
+ghost use Rattle.std.specs.Prelude.{◌≡◌, codes};
+ghost use Rattle.smx_filters.specs.LiveTurns.{TakesTurn};
+ghost use Rattle.smx_filters.specs.Turns.{AsksToShow};
+
+use crate::device::Sink;
+use crate::fault::MainFault;
+use crate::output::write_all;
+use crate::talk::{Asked, Talk, asked_by, shown_with};
+use crate::wrong::{Wrong, line_of_wrong};
+use smx_run::RunFault;
+use std::alloc::Global;
+
+/// Answers a line, and flushes. Whether the session is over, by `end`.
+pub fn answer<S: Sink>(
+    alloc: Global,
+    sink: &mut S,
+    talk: &mut Talk,
+    line: &[u8],
+) -> Result<bool, MainFault>
+    requires { S.failures sink.old ≡ 0 }
+    ensures { TakesTurn talk.old.session talk.old.count line.now talk.new.session talk.new.count
+        (S.contents sink.old) (S.contents sink.new) (S.flushed sink.new) (S.failures sink.new) result }
+{
+    match asked_by(line) {
+        Asked::Show => show(alloc, sink, talk, line),
+        Asked::End => end(alloc, sink, talk, line),
+        Asked::Call => call(alloc, sink, talk, line),
+    }
+}
+
+// Shows the configuration.
+fn show<S: Sink>(
+    alloc: Global,
+    sink: &mut S,
+    talk: &Talk,
+    line: &[u8],
+) -> Result<bool, MainFault>
+    requires asked { AsksToShow line.now }
+    requires sunk { S.failures sink.old ≡ 0 }
+    ensures { TakesTurn talk.now.session talk.now.count line.now talk.now.session talk.now.count
+        (S.contents sink.old) (S.contents sink.new) (S.flushed sink.new) (S.failures sink.new) result }
+{
+    match shown_with(alloc, &talk.session, b"shown\n") {
+        Ok(text) => write_all(sink, text.as_slice())?,
+        Err(_) => write_all(sink, line_of_wrong(Wrong::NoMemory))?,
+    }
+    Ok(false)
+}
+
+// Writes the rest of the transcript.
+fn end<S: Sink>(
+    alloc: Global,
+    sink: &mut S,
+    talk: &Talk,
+    line: &[u8],
+) -> Result<bool, MainFault>
+    requires asked { line.now ≡ codes "end" }
+    requires sunk { S.failures sink.old ≡ 0 }
+    ensures { TakesTurn talk.now.session talk.now.count line.now talk.now.session talk.now.count
+        (S.contents sink.old) (S.contents sink.new) (S.flushed sink.new) (S.failures sink.new) result }
+{
+    let Ok(text) = shown_with(alloc, &talk.session, b"end\n") else {
+        write_all(sink, line_of_wrong(Wrong::NoMemory))?;
+        return Ok(false);
+    };
+    write_all(sink, text.as_slice())?;
+    Ok(true)
+}
+
+// Performs the command of a line.
+fn call<S: Sink>(
+    alloc: Global,
+    sink: &mut S,
+    talk: &mut Talk,
+    line: &[u8],
+) -> Result<bool, MainFault>
+    requires { S.failures sink.old ≡ 0 }
+    ensures { TakesTurn talk.old.session talk.old.count line.now talk.new.session talk.new.count
+        (S.contents sink.old) (S.contents sink.new) (S.flushed sink.new) (S.failures sink.new) result }
+{
+    match talk.perform(alloc, line) {
+        Ok(None) => write_all(sink, talk.text.as_slice())?,
+        Ok(Some(wrong)) => write_all(sink, line_of_wrong(wrong))?,
+        Err(_) => return Err(MainFault::Refused(RunFault::NoMemory)),
+    }
+    Ok(false)
+}

@@ -1,0 +1,165 @@
+//! A live session from bytes to bytes: each line is answered at once.
+
+ghost use Rattle.std.specs.Prelude.{◌≡◌, ◌++◌, ◌<◌, List, ℕ, [], false, length};
+ghost use Rattle.smx_filters.specs.Inboxes.{HasLine};
+ghost use Rattle.smx_filters.specs.LiveStages.{Begins, Converses, Finishes, HasTable, TurnsOn};
+ghost use Rattle.smx_filters.specs.LiveText.{IsLive, LivesText, cut_words};
+
+use crate::answers::answer;
+use crate::device::{Feed, Sink};
+use crate::fault::MainFault;
+use crate::inbox::Inbox;
+use crate::input::MAX_INPUT;
+use crate::output::write_all;
+use crate::talk::{Talk, shown_with};
+use smx_run::RunFault;
+use smx_session::{Session, Trouble};
+use std::alloc::Global;
+
+/// Reads a driver table, and then lines, each of which is a process and a command, `show`, nothing or `end`; each is
+/// answered at once. What is written is the transcript of the commands that were performed, with the configuration
+/// behind `show` and an empty line, and a line beginning with `?` for each line that is refused, which changes nothing.
+/// `end` and the end of the input end the transcript. Neither device has failed before, and no read has shown the end.
+/// Faults are found in this order: reading, text, drivers, writing; want of memory comes where it is of no command.
+pub fn live_text<F: Feed, S: Sink>(
+    alloc: Global,
+    feed: &mut F,
+    sink: &mut S,
+) -> Result<(), MainFault>
+    requires before_the_end { F.ended feed.old ≡ false }
+    requires fed { F.failures feed.old ≡ 0 }
+    requires sunk { S.failures sink.old ≡ 0 }
+    ensures { LivesText (F.remaining feed.old) (F.remaining feed.new) (F.ended feed.new)
+        (F.failures feed.new) (S.contents sink.old) (S.contents sink.new) (S.flushed sink.new)
+        (S.failures sink.new) result }
+{
+    let mut inbox = Inbox::new(alloc);
+    let table = read_table(alloc, feed, &mut inbox)?;
+    let mut talk = begin(alloc, table)?;
+    let opening = talk.session.opening(alloc)?;
+    write_all(sink, opening.as_slice())?;
+    converse(alloc, feed, sink, &mut inbox, &mut talk)
+}
+
+// The lines of the driver table: the first one, and those behind it that begin with `driver`.
+fn read_table<F: Feed>(
+    alloc: Global,
+    feed: &mut F,
+    inbox: &mut Inbox,
+) -> Result<Vec<u8>, MainFault>
+    requires end { F.ended feed.old ≡ inbox.old.ended }
+    requires fine_so_far { F.failures feed.old ≡ 0 }
+    ensures { (read : List ℕ) × HasTable (F.remaining feed.old) (F.remaining feed.new) (F.ended feed.new)
+        (F.failures feed.new) inbox.old inbox.new read result }
+{
+    let mut table = Vec::new(alloc);
+    'lines: while table.len() <= MAX_INPUT {
+        let Some(n) = inbox.next_line(feed)? else {
+            return Ok(table);
+        };
+        if !is_of_table(table.len(), &inbox.held[..n]) {
+            return Ok(table);
+        }
+        table.extend_from_slice(&inbox.held[..n + 1])?;
+        inbox.drop_line(n);
+    }
+    Err(MainFault::TooLong)
+}
+
+// Whether a line is of the table, behind so many bytes of it.
+fn is_of_table(before: usize, line: &[u8]) -> bool {
+    before == 0 || line.starts_with(b"driver")
+}
+
+// A session over the drivers of a table.
+fn begin(alloc: Global, table: Vec<u8>) -> Result<Talk, MainFault>
+    ensures { Begins table.items result }
+{
+    let mut text = table;
+    text.extend_from_slice(b"end\n")?;
+    match Session::new(alloc, text.as_slice()) {
+        Ok(session) => Ok(Talk {
+            session,
+            count: 0,
+            text: Vec::new(alloc),
+        }),
+        Err(Trouble::Text(fault)) => Err(MainFault::Text(fault)),
+        Err(Trouble::Drivers(fault)) => Err(MainFault::Refused(RunFault::from(fault))),
+        Err(_) => Err(MainFault::Refused(RunFault::NoMemory)),
+    }
+}
+
+// Answers line after line, up to `end` or the end of the input.
+fn converse<F: Feed, S: Sink>(
+    alloc: Global,
+    feed: &mut F,
+    sink: &mut S,
+    inbox: &mut Inbox,
+    talk: &mut Talk,
+) -> Result<(), MainFault>
+    requires end { F.ended feed.old ≡ inbox.old.ended }
+    requires fed { F.failures feed.old ≡ 0 }
+    requires sunk { S.failures sink.old ≡ 0 }
+    ensures { (read output : List ℕ) → IsLive read output talk.old.session talk.old.count inbox.old.held.items
+        → Converses read output (F.remaining feed.old) (F.remaining feed.new) (F.ended feed.new)
+        (F.failures feed.new) (S.contents sink.old) (S.contents sink.new) (S.flushed sink.new)
+        (S.failures sink.new) result }
+{
+    'lines: for _ in 0..u64::MAX {
+        let Some(n) = inbox.next_line(feed)? else {
+            return finish(alloc, sink, talk, inbox.held.as_slice());
+        };
+        if take_turn(alloc, sink, inbox, talk, n)? {
+            return Ok(());
+        }
+    }
+    Err(MainFault::TooLong)
+}
+
+// Answers the line at the front, which has so many bytes. Whether the session is over.
+fn take_turn<S: Sink>(
+    alloc: Global,
+    sink: &mut S,
+    inbox: &mut Inbox,
+    talk: &mut Talk,
+    n: usize,
+) -> Result<bool, MainFault>
+    requires line { HasLine n inbox.old.held.items }
+    requires sunk { S.failures sink.old ≡ 0 }
+    ensures end { inbox.new.ended ≡ inbox.old.ended }
+    ensures turn { (read output : List ℕ) (ended : _)
+        → IsLive read output talk.old.session talk.old.count inbox.old.held.items
+        → TurnsOn read output ended talk.new.session talk.new.count inbox.new.held.items (S.contents sink.old)
+        (S.contents sink.new) (S.flushed sink.new) (S.failures sink.new) result }
+{
+    let over = answer(alloc, sink, talk, &inbox.held[..n])?;
+    if !over {
+        inbox.drop_line(n);
+    }
+    Ok(over)
+}
+
+// What is said of a last line that is not whole.
+fn cut_words(held: &[u8]) -> &'static [u8]
+    ensures { result.now ≡ cut_words held.now }
+{
+    if held.is_empty() { b"" } else { b"? cut\n" }
+}
+
+// Ends the session at the end of the input, where so much is held.
+fn finish<S: Sink>(
+    alloc: Global,
+    sink: &mut S,
+    talk: &Talk,
+    held: &[u8],
+) -> Result<(), MainFault>
+    requires { S.failures sink.old ≡ 0 }
+    ensures { (read output : List ℕ) (ended : _) → IsLive read output talk.now.session talk.now.count held.now
+        → Finishes read output ended held.now (S.contents sink.old)
+        (S.contents sink.new) (S.flushed sink.new) (S.failures sink.new) result }
+{
+    let shown = shown_with(alloc, &talk.session, b"end\n")?;
+    let mut text = Vec::from_slice(alloc, cut_words(held))?;
+    text.extend_from_slice(shown.as_slice())?;
+    write_all(sink, text.as_slice())
+}
