@@ -8,6 +8,7 @@ mod damaged;
 mod devices;
 mod faults;
 mod limits;
+mod lives;
 mod reading;
 mod replays;
 mod runs;

@@ -7,7 +7,7 @@ use Rattle.smx_run.specs.declared.fault.RunFault.TheVariants.{NoMemory}
 use Rattle.smx_text.specs.Grammar.{ReadsAny}
 use Rattle.smx_text.specs.ProgramsText.{programs_grammar}
 use Rattle.smx_session.specs.Sessions.{HasBadDrivers, IsStartOf, State}
-use Rattle.smx_filters.specs.LiveText.{HasComeSoFar, IsLive, IsOutcome, IsOver}
+use Rattle.smx_filters.specs.LiveText.{HasComeSoFar, IsLive, IsOutcome, IsOver, table_text}
 use Rattle.smx_filters.specs.Output.{AppendsBeginning}
 use Rattle.smx_filters.specs.declared.fault.MainFault.{MainFault}
 use Rattle.smx_filters.specs.declared.fault.MainFault.TheVariants.{Refused, Text, TooLong, ReadFailed, WriteFailed}
@@ -26,10 +26,10 @@ pub record HasTable (had left : Option (List ℕ)) (ended : Bool) (failures : �
 
 -- a session begins over the drivers of a table, or the table or its drivers are at fault, or memory was wanting
 abbrev pub Begins : List ℕ → Result Talk MainFault → Type 0
-Begins table (Ok talk) = IsStartOf (table ++ codes "end\n") talk.session × (talk.count ≡ 0)
-Begins table (Err (Text fault)) = ReadsAny programs_grammar (table ++ codes "end\n") (Err fault)
+Begins table (Ok talk) = IsStartOf (table_text table) talk.session × (talk.count ≡ 0)
+Begins table (Err (Text fault)) = ReadsAny programs_grammar (table_text table) (Err fault)
 Begins table (Err (Refused fault)) = (fault ≡ NoMemory)
-    ⊎ HasBadDrivers (table ++ codes "end\n") (λ drivers. RefusesAlone drivers fault)
+    ⊎ HasBadDrivers (table_text table) (λ drivers. RefusesAlone drivers fault)
 Begins table (Err TooLong) = ⊥
 Begins table (Err ReadFailed) = ⊥
 Begins table (Err WriteFailed) = ⊥
@@ -49,11 +49,17 @@ module _ (read output : List ℕ) (ended : Bool) (s : State) (count : ℕ) (held
   TurnsOn (Err TooLong) = ⊥
   TurnsOn (Err ReadFailed) = ⊥
 
--- a session that had come so far is over, at the end of its input
-abbrev pub Finishes : List ℕ → List ℕ → Bool → List ℕ → Option (List ℕ) → Option (List ℕ) → Bool → ℕ
-    → Result (Unit {0}) MainFault → Type 0
-Finishes read output ended held before after flushed failures (Ok done) = ⊥
-Finishes read output ended held before after flushed failures (Err e) = ⊥
+module _ (read output : List ℕ) (ended : Bool) (before after : Option (List ℕ)) (flushed : Bool) (failures : ℕ) where
+  -- A session that had come so far is over, at the end of its input.
+  abbrev pub Finishes : Result (Unit {0}) MainFault → Type 0
+  Finishes (Ok done) = (failures ≡ 0) × (flushed ≡ true)
+      × (said : List ℕ) × Appends before after said × IsOver read ended (output ++ said)
+  Finishes (Err (Refused fault)) = (failures ≡ 0) × (fault ≡ NoMemory) × Keeps before after
+  Finishes (Err WriteFailed) = (failures ≡ 1) × (said : List ℕ) × AppendsBeginning before after said
+      × IsOver read ended (output ++ said)
+  Finishes (Err (Text fault)) = ⊥
+  Finishes (Err TooLong) = ⊥
+  Finishes (Err ReadFailed) = ⊥
 
 -- a session that had come so far goes on, and answers so
 pub record Converses (read output : List ℕ) (had left : Option (List ℕ)) (ended : Bool) (read_failures : ℕ)

@@ -26,6 +26,13 @@ use Rattle.smx_filters.specs.Turns.{AreAnswered, Turn, asked_text, entries_of, s
 use Rattle.smx_filters.specs.declared.fault.MainFault.{MainFault}
 use Rattle.smx_filters.specs.declared.fault.MainFault.TheVariants.{Refused, Text, TooLong, ReadFailed, WriteFailed}
 
+-- ---- the driver table
+
+-- a driver table as a programs text: with the line `end` behind it, unless it has no line
+abbrev pub table_text : List ℕ → List ℕ
+table_text [] = []
+table_text (b ∷ bs) = b ∷ (bs ++ codes "end\n")
+
 -- ---- a session as far as it has come
 
 -- What was read and written so far, of a session that stands so, with so many entries, where so much is held.
@@ -34,9 +41,9 @@ pub record IsLive (read output : List ℕ) (s : State) (count : ℕ) (held : Lis
   pub table : List ℕ
   pub turns : List Turn
   pub read_is : read ≡ table ++ (asked_text turns ++ held)
-  -- The table with the line `end` spells programs, whose drivers a configuration can have.
+  -- The table spells programs, whose drivers a configuration can have.
   pub programs : ProgramLists
-  pub spelled : Spells (programs_grammar s.version) (table ++ codes "end\n") programs
+  pub spelled : Spells (programs_grammar s.version) (table_text table) programs
   pub drivers : s.drivers ≡ programs.drivers
   pub can_be_had : IsDriverList s.drivers
   -- Each line is answered as its command is, or by the configuration, or by why it is refused.
@@ -101,10 +108,10 @@ module _ {read : List ℕ} {ended : Bool} {output : List ℕ} (o : IsOver read e
 
 -- ---- from bytes to bytes
 
--- a driver table stands at the beginning which with the line `end` behind it goes wrong there
+-- a driver table stands at the beginning, which goes wrong there
 abbrev pub HasBadTable : List ℕ → TextFault → Type 0
 HasBadTable read fault = (table more : List ℕ) × (read ≡ table ++ more)
-    × ReadsAny programs_grammar (table ++ codes "end\n") (Err fault)
+    × ReadsAny programs_grammar (table_text table) (Err fault)
 
 -- nothing was written yet, or a session has come so far
 abbrev pub IsBroken : List ℕ → List ℕ → Type 0
@@ -125,7 +132,7 @@ module _ (read output : List ℕ) (ended flushed : Bool) (read_failures write_fa
   IsOutcome (Err (Refused fault)) = AreFine read_failures write_failures
       × (((fault ≡ NoMemory) × IsBroken read output)
       ⊎ ((output ≡ []) × (table more : List ℕ) × (read ≡ table ++ more)
-      × HasBadDrivers (table ++ codes "end\n") (λ drivers. RefusesAlone drivers fault)))
+      × HasBadDrivers (table_text table) (λ drivers. RefusesAlone drivers fault)))
   -- A line is longer than 16,777,216 bytes, or the table is.
   IsOutcome (Err TooLong) = AreFine read_failures write_failures × IsBroken read output
   -- The reader failed.

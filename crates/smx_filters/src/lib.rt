@@ -11,6 +11,7 @@ mod inbox;
 mod input;
 pub mod laws_of_filters;
 pub mod laws_of_replays;
+pub mod laws_of_live;
 mod live;
 mod output;
 mod replay;

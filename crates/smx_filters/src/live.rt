@@ -1,9 +1,10 @@
 //! A live session from bytes to bytes: each line is answered at once.
 
-ghost use Rattle.std.specs.Prelude.{◌≡◌, ◌++◌, ◌<◌, List, ℕ, [], false, length};
+ghost use Rattle.std.specs.Prelude.{◌≡◌, List, ℕ, [], Bool, true, false, IfOk};
 ghost use Rattle.smx_filters.specs.Inboxes.{HasLine};
 ghost use Rattle.smx_filters.specs.LiveStages.{Begins, Converses, Finishes, HasTable, TurnsOn};
-ghost use Rattle.smx_filters.specs.LiveText.{IsLive, LivesText, cut_words};
+ghost use Rattle.smx_text.specs.Grammar.{IsOneLine};
+ghost use Rattle.smx_filters.specs.LiveText.{IsLive, LivesText, cut_words, table_text};
 
 use crate::answers::answer;
 use crate::device::{Feed, Sink};
@@ -14,7 +15,7 @@ use crate::output::write_all;
 use crate::talk::{Talk, shown_with};
 use smx_run::RunFault;
 use smx_session::{Session, Trouble};
-use std::alloc::Global;
+use std::alloc::{AllocError, Global};
 
 /// Reads a driver table, and then lines, each of which is a process and a command, `show`, nothing or `end`; each is
 /// answered at once. What is written is the transcript of the commands that were performed, with the configuration
@@ -71,12 +72,22 @@ fn is_of_table(before: usize, line: &[u8]) -> bool {
     before == 0 || line.starts_with(b"driver")
 }
 
+// The table as a programs text.
+fn text_of_table(table: Vec<u8>) -> Result<Vec<u8>, AllocError>
+    ensures { IfOk result (λ v. v.items ≡ table_text table.items) }
+{
+    let mut text = table;
+    if !text.is_empty() {
+        text.extend_from_slice(b"end\n")?;
+    }
+    Ok(text)
+}
+
 // A session over the drivers of a table.
 fn begin(alloc: Global, table: Vec<u8>) -> Result<Talk, MainFault>
     ensures { Begins table.items result }
 {
-    let mut text = table;
-    text.extend_from_slice(b"end\n")?;
+    let text = text_of_table(table)?;
     match Session::new(alloc, text.as_slice()) {
         Ok(session) => Ok(Talk {
             session,
@@ -127,7 +138,7 @@ fn take_turn<S: Sink>(
     requires line { HasLine n inbox.old.held.items }
     requires sunk { S.failures sink.old ≡ 0 }
     ensures end { inbox.new.ended ≡ inbox.old.ended }
-    ensures turn { (read output : List ℕ) (ended : _)
+    ensures turn { (read output : List ℕ) (ended : Bool)
         → IsLive read output talk.old.session talk.old.count inbox.old.held.items
         → TurnsOn read output ended talk.new.session talk.new.count inbox.new.held.items (S.contents sink.old)
         (S.contents sink.new) (S.flushed sink.new) (S.failures sink.new) result }
@@ -154,8 +165,8 @@ fn finish<S: Sink>(
     held: &[u8],
 ) -> Result<(), MainFault>
     requires { S.failures sink.old ≡ 0 }
-    ensures { (read output : List ℕ) (ended : _) → IsLive read output talk.now.session talk.now.count held.now
-        → Finishes read output ended held.now (S.contents sink.old)
+    ensures { (read output : List ℕ) (ended : Bool) → IsLive read output talk.now.session talk.now.count held.now
+        → ended ≡ true → IsOneLine held.now → Finishes read output ended (S.contents sink.old)
         (S.contents sink.new) (S.flushed sink.new) (S.failures sink.new) result }
 {
     let shown = shown_with(alloc, &talk.session, b"end\n")?;
