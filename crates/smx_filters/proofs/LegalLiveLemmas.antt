@@ -47,7 +47,7 @@ legal_from : StaysLegal → (v : Version) (ds : List DriverSpec) (h : List Entry
 legal_from stays v ds h [] was legal = subst (IsLegal ds) (sym (append-nil h)) legal
 legal_from stays v ds h (t ∷ ts) was legal =
     subst (IsLegal ds) (append_assoc h (entries_in t.answer) (entries_of ts))
-    (legal_from stays v ds (h ++ entries_in t.answer) ts was.1.1 (one t.answer was.1.0)) where
+    (legal_from stays v ds (h ++ entries_in t.answer) ts was.2 (one t.answer was.1)) where
       one : (a : Answer) → IsAnswer v ds h t.line a → IsLegal ds (h ++ entries_in a)
       one (Entered e) is = stays ds h e legal is.legal
       one (Shown s) is = subst (IsLegal ds) (sym (append-nil h)) legal
@@ -57,9 +57,9 @@ legal_from stays v ds h (t ∷ ts) was legal =
 all_fit : (v : Version) (ds : List DriverSpec) (h : List Entry) (ts : List Turn) → AreAnswered v ds h ts
     → AllByRecursion FitsEntry (entries_of ts)
 all_fit v ds h [] was = tt
-all_fit v ds h (t ∷ ts) was = one t.answer was.1.0 where
+all_fit v ds h (t ∷ ts) was = one t.answer was.1 where
   behind : AllByRecursion FitsEntry (entries_of ts)
-  behind = all_fit v ds (h ++ entries_in t.answer) ts was.1.1
+  behind = all_fit v ds (h ++ entries_in t.answer) ts was.2
 
   one : (a : Answer) → IsAnswer v ds h t.line a → AllByRecursion FitsEntry (entries_in a ++ entries_of ts)
   one (Entered e) is = (is.spelled, behind)
@@ -78,9 +78,9 @@ nor a b p q = rw (p, q) refl
 quiet : (ds : List DriverSpec) (h : List Entry) (ts : List Turn) → AreAnswered V1 ds h ts
     → list_any (λ e. is_hangup e.command) (entries_of ts) ≡ false
 quiet ds h [] was = refl
-quiet ds h (t ∷ ts) was = one t.answer was.1.0 where
+quiet ds h (t ∷ ts) was = one t.answer was.1 where
   behind : list_any (λ e. is_hangup e.command) (entries_of ts) ≡ false
-  behind = quiet ds (h ++ entries_in t.answer) ts was.1.1
+  behind = quiet ds (h ++ entries_in t.answer) ts was.2
 
   one : (a : Answer) → IsAnswer V1 ds h t.line a → list_any (λ e. is_hangup e.command) (entries_in a ++ entries_of ts) ≡ false
   one (Entered e) is =

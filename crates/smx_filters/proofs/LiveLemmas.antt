@@ -37,10 +37,10 @@ flat_more f (y ∷ xs) x = ap (λ l. f y ++ l) (flat_more f xs x) ∙ sym (appen
 -- one line more, which is answered so
 answered_more : (v : Version) (ds : List DriverSpec) (h : List Entry) (ts : List Turn) (t : Turn) → AreAnswered v ds h ts
     → IsOneLine t.line → IsAnswer v ds (h ++ entries_of ts) t.line t.answer → AreAnswered v ds h (ts ++ t ∷ [])
-answered_more v ds h [] t was one a = (one, (subst (λ (es : List Entry). IsAnswer v ds es t.line t.answer) (append-nil h) a, tt))
+answered_more v ds h [] t was one a = (one, subst (λ (es : List Entry). IsAnswer v ds es t.line t.answer) (append-nil h) a, tt)
 answered_more v ds h (u ∷ ts) t was one a =
-    (was.0, (was.1.0, answered_more v ds (h ++ entries_in u.answer) ts t was.1.1 one
-    (subst (λ (es : List Entry). IsAnswer v ds es t.line t.answer) (sym (append_assoc h (entries_in u.answer) (entries_of ts))) a)))
+    (was.0, was.1, answered_more v ds (h ++ entries_in u.answer) ts t was.2 one
+    (subst (λ (es : List Entry). IsAnswer v ds es t.line t.answer) (sym (append_assoc h (entries_in u.answer) (entries_of ts))) a))
 
 -- the lines with one more, before what is held behind it
 line_more : (table : List ℕ) (ts : List Turn) (line rest : List ℕ) (a : Answer)
@@ -149,10 +149,10 @@ module _ (further : OneFurther) (read output : List ℕ) (s : State) (count n : 
       → IsLive read (output ++ answer_text a) next more (drop (n + 1) held)
   turned (Entered e) next more h = enters e next more h
   turned (Shown v) next more h =
-      let shown = (h.0, h.1.0 ∙ ap (view s.drivers) l.now) in
-      rw (h.1.1.0, h.1.1.1) (stays (Shown v) refl shown)
+      let shown = (h.0, h.1 ∙ ap (view s.drivers) l.now) in
+      rw (h.2, h.3) (stays (Shown v) refl shown)
   turned (NotDone w) next more h =
-      rw (h.1.0, h.1.1) (stays (NotDone w) refl (subst (λ (k : ℕ). IsWrong s.version k (take n held) w) l.counted h.0))
+      rw (h.1, h.2) (stays (NotDone w) refl (subst (λ (k : ℕ). IsWrong s.version k (take n held) w) l.counted h.0))
 
   -- the line asks for the end
   pub ended_by_line : (ended : Bool) (whole : List ℕ) → IsClosing s (take n held) whole → IsOver read ended (output ++ whole)
@@ -163,9 +163,9 @@ module _ (further : OneFurther) (read output : List ℕ) (s : State) (count n : 
     held = held;
     live = l;
     words = [];
-    at_end = inl (drop (n + 1) held, (line.parts ∙ ap (λ (t : List ℕ). t ++ LINE_FEED ∷ drop (n + 1) held) h.0, refl));
-    written = ap (λ (t : List ℕ). output ++ t) h.1.1;
-    spellable = h.1.0;
+    at_end = inl (drop (n + 1) held, line.parts ∙ ap (λ (t : List ℕ). t ++ LINE_FEED ∷ drop (n + 1) held) h.0, refl);
+    written = ap (λ (t : List ℕ). output ++ t) h.2;
+    spellable = h.1;
   }
 
 -- the input is at its end, within a line or not
@@ -179,7 +179,7 @@ ended_by_input read output s count held ended l is one fits = record {
   held = held;
   live = l;
   words = cut_words held;
-  at_end = inr (is, (one, refl));
+  at_end = inr (is, one, refl);
   written = refl;
   spellable = fits;
 }

@@ -1,5 +1,8 @@
 //! Why a call of a session did nothing.
 
+ghost use Rattle.std.specs.Prelude.{◌≡◌, ◌⊎◌};
+ghost use Rattle.smx_session.specs.declared.trouble.Trouble.TheVariants.{NoMemory as memory, Text, Drivers};
+
 use smx_config::ConfigFault;
 use smx_text::{Cause, TextFault};
 use smx_types::NoMemory;
@@ -22,7 +25,9 @@ pub enum Trouble {
 }
 
 /// Want of memory by itself, and every other fault of a text as it is.
-pub(crate) fn of_text(fault: TextFault) -> Trouble {
+pub(crate) fn of_text(fault: TextFault) -> Trouble
+    ensures { (result ≡ memory) ⊎ (result ≡ Text fault) }
+{
     match fault.cause {
         Cause::NoMemory => Trouble::NoMemory,
         Cause::Header | Cause::Form | Cause::Many | Cause::Cut | Cause::Trailing => {
@@ -32,7 +37,9 @@ pub(crate) fn of_text(fault: TextFault) -> Trouble {
 }
 
 /// Want of memory by itself, and every other fault of drivers as it is.
-pub(crate) fn of_drivers(fault: ConfigFault) -> Trouble {
+pub(crate) fn of_drivers(fault: ConfigFault) -> Trouble
+    ensures { (result ≡ memory) ⊎ (result ≡ Drivers fault) }
+{
     match fault {
         ConfigFault::NoMemory => Trouble::NoMemory,
         ConfigFault::BadSpec(_, _) | ConfigFault::SameName(_) | ConfigFault::TooMany => {

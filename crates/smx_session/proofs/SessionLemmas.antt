@@ -1,0 +1,49 @@
+-- How a session starts over a text, or why it doesn't.
+use Rattle.std.proofs.Common.{◌≡◌, ℕ, List, Ok, Err, None, inl, inr, refl, sym, subst, ◌∙◌}
+use Rattle.std.specs.Prelude.{◌⊎◌}
+use Rattle.smx_types.specs.ProgramLists.{ProgramLists}
+use Rattle.smx_types.specs.declared.driver.DriverSpec.{DriverSpec}
+use Rattle.smx_types.specs.declared.version.Version.{Version}
+use Rattle.smx_config.specs.DriverFaults.{RefusesDrivers}
+use Rattle.smx_config.specs.Machine.{Machine}
+use Rattle.smx_config.specs.declared.fault.ConfigFault.{ConfigFault}
+use Rattle.smx_model.specs.Configuration.{empty}
+use Rattle.smx_model.specs.DriverList.{IsDriverList}
+use Rattle.smx_text.specs.Grammar.{ReadsAny, Spells}
+use Rattle.smx_text.specs.ProgramsText.{programs_grammar}
+use Rattle.smx_text.specs.declared.fault.TextFault.{TextFault}
+use Rattle.smx_session.specs.Sessions.{IsStartOf, StartsAs}
+use Rattle.smx_session.specs.declared.trouble.Trouble.{Trouble}
+use Rattle.smx_session.specs.declared.trouble.Trouble.TheVariants.{NoMemory, Text, Drivers}
+
+-- the text is at fault, or memory was wanting
+pub at_fault : (text : List ℕ) (fault : TextFault) (t : Trouble) → ReadsAny programs_grammar text (Err fault)
+    → (t ≡ NoMemory) ⊎ (t ≡ Text fault) → StartsAs text (Err t)
+at_fault text fault t read (inl is) = subst (λ (x : Trouble). StartsAs text (Err x)) (sym is) tt
+at_fault text fault t read (inr is) = subst (λ (x : Trouble). StartsAs text (Err x)) (sym is) read
+
+-- its drivers are refused, or memory was wanting
+pub refused : (text : List ℕ) (p : ProgramLists) (ds : List DriverSpec) (fault : ConfigFault) (t : Trouble)
+    → ReadsAny programs_grammar text (Ok p) → ds ≡ p.drivers → RefusesDrivers ds fault
+    → (t ≡ NoMemory) ⊎ (t ≡ Drivers fault) → StartsAs text (Err t)
+refused text p ds fault t read same bad (inl is) = subst (λ (x : Trouble). StartsAs text (Err x)) (sym is) tt
+refused text p ds fault t read same bad (inr is) =
+    let why : RefusesDrivers p.drivers fault = subst (λ (xs : List DriverSpec). RefusesDrivers xs fault) same bad in
+    subst (λ (x : Trouble). StartsAs text (Err x)) (sym is) (read.0, p, read.1, why)
+
+-- nothing is open over its drivers
+pub started : (text : List ℕ) (p : ProgramLists) (v : Version) (ds : List DriverSpec) (m : Machine)
+    → ReadsAny programs_grammar text (Ok p) → v ≡ p.version → ds ≡ p.drivers → m.drivers ≡ ds → IsDriverList ds
+    → m.configuration ≡ empty
+    → IsStartOf text (record { version = v; drivers = m.drivers; configuration = m.configuration; last = None })
+started text p v ds m read version drivers same can nothing =
+    let spelled : Spells (programs_grammar read.0) text p = read.1 in
+    let is : read.0 ≡ v = sym spelled.allowed.version_is ∙ sym version in
+    record {
+      programs = p;
+      spelled = subst (λ (x : Version). Spells (programs_grammar x) text p) is spelled;
+      drivers = same ∙ drivers;
+      can_be_had = rw same can;
+      nothing = nothing;
+      no_entry = refl;
+    }
