@@ -5,5 +5,3 @@ pub mod InMemoryLemmas
 pub mod FrontsTextLemmas
 pub mod ToldLemmas
 pub mod ReplayTextLemmas
-pub mod LiveLemmas
-pub mod LegalLiveLemmas

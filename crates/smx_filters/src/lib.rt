@@ -2,31 +2,23 @@
 #![tactic(auto)]
 
 mod check;
-mod answers;
 mod device;
 mod done;
 mod fault;
 mod fronts_text;
-mod inbox;
 mod input;
 pub mod laws_of_filters;
 pub mod laws_of_replays;
-pub mod laws_of_live;
-mod live;
 mod output;
 mod replay;
-mod talk;
 mod text;
 mod text_recorder;
-mod wrong;
 
 pub use check::check_text;
 pub use device::{Failed, Feed, Sink, Source, Target};
 pub use done::Done;
 pub use fault::MainFault;
 pub use input::{MAX_INPUT, read_all};
-pub use live::live_text;
 pub use output::write_all;
 pub use replay::replay_text;
 pub use text::run_text;
-pub use wrong::Wrong;

@@ -15,8 +15,8 @@ use Rattle.smx_words.specs.Words.{LINE_FEED, line_of, text_of}
 use Rattle.smx_text.specs.Grammar.{IsOneLine}
 use Rattle.smx_text.specs.TranscriptText.{line_words, view_body}
 use Rattle.smx_session.specs.Sessions.{IsNoCall, Performs, State, done_behind}
-use Rattle.smx_filters.specs.declared.wrong.Wrong.{Wrong}
-use Rattle.smx_filters.specs.declared.wrong.Wrong.TheVariants.{NoCommand, NoMemory, Full}
+use Rattle.smx_live.specs.declared.wrong.Wrong.{Wrong}
+use Rattle.smx_live.specs.declared.wrong.Wrong.TheVariants.{NoCommand, NoMemory, Full}
 
 -- ---- what is written
 

@@ -1,14 +1,12 @@
 //! Lines that come from a feed piece by piece.
 
 ghost use Rattle.std.specs.Prelude.{◌≡◌, ℕ, ◌+◌, ◌<◌, ◌∷◌, ◌++◌, [], List, false, length, take, drop, MatchOption};
-ghost use Rattle.smx_filters.specs.Inboxes.{IsNextLine, IsPiece};
+ghost use Rattle.smx_live.specs.Inboxes.{IsNextLine, IsPiece};
 ghost use Rattle.smx_text.specs.Grammar.{IsOneLine};
 ghost use Rattle.smx_words.specs.Words.{LINE_FEED};
 
-use crate::device::Feed;
-use crate::fault::MainFault;
-use crate::input::MAX_INPUT;
 use memchr::memchr;
+use smx_filters::{Feed, MAX_INPUT, MainFault};
 use std::alloc::Global;
 
 // How many bytes are asked for at once.

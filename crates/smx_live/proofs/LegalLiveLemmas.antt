@@ -22,8 +22,8 @@ use Rattle.smx_words.specs.Words.{text_of}
 use Rattle.smx_text.specs.GrowingTranscripts.{BeginsTranscript, transcript_with}
 use Rattle.smx_text.specs.TranscriptText.{line_words, transcript_text, view_body, IsAllowed, IsSpellable}
 use Rattle.smx_text.proofs.GrowingLemmas.{grown, finished, finished_fits}
-use Rattle.smx_filters.specs.LiveText.{IsLive, IsOver, IsLegalTranscript, closing_text, transcript_of, transcript_part}
-use Rattle.smx_filters.specs.Turns.{Entered, Shown, NotDone, Turn, Answer, AreAnswered, IsAnswer, entries_in, entries_of}
+use Rattle.smx_live.specs.LiveText.{IsLive, IsOver, IsLegalTranscript, closing_text, transcript_of, transcript_part}
+use Rattle.smx_live.specs.Turns.{Entered, Shown, NotDone, Turn, Answer, AreAnswered, IsAnswer, entries_in, entries_of}
 
 -- ---- what the laws of histories say
 

@@ -1,7 +1,7 @@
 //! Why a line of a live session is refused.
 
 ghost use Rattle.std.specs.Prelude.{◌≡◌};
-ghost use Rattle.smx_filters.specs.Turns.{wrong_line};
+ghost use Rattle.smx_live.specs.Turns.{wrong_line};
 
 /// Why a line is refused, which changes nothing.
 #[derive(Clone, Copy, Debug, PartialEq, Eq)]

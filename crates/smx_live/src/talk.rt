@@ -1,8 +1,8 @@
 //! A live session: its configuration, how many entries it has, and the texts that it answers.
 
 ghost use Rattle.std.specs.Prelude.{◌≡◌, ◌+◌, ◌++◌, ◌<◌, [], Some, None, IfOk, IfSome, OnOk};
-ghost use Rattle.smx_filters.specs.LiveTurns.{IsAsked};
-ghost use Rattle.smx_filters.specs.Turns.{IsPerformed, entry_line, view_lines};
+ghost use Rattle.smx_live.specs.LiveTurns.{IsAsked};
+ghost use Rattle.smx_live.specs.Turns.{IsPerformed, entry_line, view_lines};
 ghost use Rattle.smx_model.specs.Views.{view};
 ghost use Rattle.smx_text.specs.TranscriptText.{IsSpellableView};
 ghost use Rattle.smx_types.specs.declared.limits.TheConstants.{MAX_COMMANDS};

@@ -1,18 +1,15 @@
 //! A live session from bytes to bytes: each line is answered at once.
 
 ghost use Rattle.std.specs.Prelude.{◌≡◌, List, ℕ, [], Bool, true, false, IfOk};
-ghost use Rattle.smx_filters.specs.Inboxes.{HasLine};
-ghost use Rattle.smx_filters.specs.LiveStages.{Begins, Converses, Finishes, HasTable, TurnsOn};
+ghost use Rattle.smx_live.specs.Inboxes.{HasLine};
+ghost use Rattle.smx_live.specs.LiveStages.{Begins, Converses, Finishes, HasTable, TurnsOn};
 ghost use Rattle.smx_text.specs.Grammar.{IsOneLine};
-ghost use Rattle.smx_filters.specs.LiveText.{IsLive, LivesText, cut_words, table_text};
+ghost use Rattle.smx_live.specs.LiveText.{IsLive, LivesText, cut_words, table_text};
 
 use crate::answers::answer;
-use crate::device::{Feed, Sink};
-use crate::fault::MainFault;
 use crate::inbox::Inbox;
-use crate::input::MAX_INPUT;
-use crate::output::write_all;
 use crate::talk::{Talk, shown_with};
+use smx_filters::{Feed, MAX_INPUT, MainFault, Sink, write_all};
 use smx_run::RunFault;
 use smx_session::{Session, Trouble};
 use std::alloc::{AllocError, Global};

@@ -22,7 +22,7 @@ use Rattle.smx_config.specs.Verdicts.{IsVerdict}
 use Rattle.smx_config.specs.declared.verdict.Verdict.TheVariants.{Legal}
 use Rattle.smx_session.specs.Sessions.{State, HasBadDrivers}
 use Rattle.smx_filters.specs.Output.{AppendsBeginning}
-use Rattle.smx_filters.specs.Turns.{AreAnswered, Turn, asked_text, entries_of, said_text, view_lines}
+use Rattle.smx_live.specs.Turns.{AreAnswered, Turn, asked_text, entries_of, said_text, view_lines}
 use Rattle.smx_filters.specs.declared.fault.MainFault.{MainFault}
 use Rattle.smx_filters.specs.declared.fault.MainFault.TheVariants.{Refused, Text, TooLong, ReadFailed, WriteFailed}
 

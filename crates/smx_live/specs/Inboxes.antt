@@ -6,7 +6,7 @@ use Rattle.smx_words.specs.Words.{LINE_FEED}
 use Rattle.smx_text.specs.Grammar.{IsOneLine}
 use Rattle.smx_filters.specs.declared.fault.MainFault.{MainFault}
 use Rattle.smx_filters.specs.declared.fault.MainFault.TheVariants.{Refused, TooLong, ReadFailed}
-use Rattle.smx_filters.specs.declared.inbox.Inbox.{Inbox}
+use Rattle.smx_live.specs.declared.inbox.Inbox.{Inbox}
 
 -- a line of so many bytes stands at the front, and its line feed behind it
 pub record HasLine (n : ℕ) (bytes : List ℕ) : Type 0 where

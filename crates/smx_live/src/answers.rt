@@ -1,14 +1,12 @@
 //! The answers of a live session.
 
 ghost use Rattle.std.specs.Prelude.{◌≡◌, codes};
-ghost use Rattle.smx_filters.specs.LiveTurns.{TakesTurn};
-ghost use Rattle.smx_filters.specs.Turns.{AsksToShow};
+ghost use Rattle.smx_live.specs.LiveTurns.{TakesTurn};
+ghost use Rattle.smx_live.specs.Turns.{AsksToShow};
 
-use crate::device::Sink;
-use crate::fault::MainFault;
-use crate::output::write_all;
 use crate::talk::{Asked, Talk, asked_by, shown_with};
 use crate::wrong::{Wrong, line_of_wrong};
+use smx_filters::{MainFault, Sink, write_all};
 use smx_run::RunFault;
 use std::alloc::Global;
 

@@ -1,7 +1,7 @@
 //! The law of live sessions, the contract of a function that does nothing.
 
 ghost use Rattle.std.specs.Prelude.{ℕ, Bool, List};
-ghost use Rattle.smx_filters.specs.LiveText.{IsLegalTranscript, IsOver};
+ghost use Rattle.smx_live.specs.LiveText.{IsLegalTranscript, IsOver};
 
 use smx_model::laws::one_entry_more;
 use smx_model::laws_of_hangups::without_a_hangup_none_is_told;

@@ -18,10 +18,10 @@ use Rattle.smx_text.specs.GrowingTranscripts.{BeginsTranscript}
 use Rattle.smx_text.specs.ProgramsText.{programs_grammar}
 use Rattle.smx_text.specs.TranscriptText.{IsSpellableView}
 use Rattle.smx_session.specs.Sessions.{IsStartOf, Performs, State}
-use Rattle.smx_filters.specs.Inboxes.{HasLine}
-use Rattle.smx_filters.specs.LiveText.{IsLive, IsOver, IsAtEnd, closing_text, cut_words, table_text}
-use Rattle.smx_filters.specs.LiveTurns.{IsClosing}
-use Rattle.smx_filters.specs.Turns.{Answer, Entered, Shown, NotDone, Turn, AreAnswered, IsAnswer, IsEntered, IsEntryOf, IsTaken, IsWrong, answer_text, asked_text, entries_in, entries_of, entry_line, said_text}
+use Rattle.smx_live.specs.Inboxes.{HasLine}
+use Rattle.smx_live.specs.LiveText.{IsLive, IsOver, IsAtEnd, closing_text, cut_words, table_text}
+use Rattle.smx_live.specs.LiveTurns.{IsClosing}
+use Rattle.smx_live.specs.Turns.{Answer, Entered, Shown, NotDone, Turn, AreAnswered, IsAnswer, IsEntered, IsEntryOf, IsTaken, IsWrong, answer_text, asked_text, entries_in, entries_of, entry_line, said_text}
 
 abbrev pub OneFurther : Type 0
 OneFurther = (drivers : List DriverSpec) (history : List Entry) (e : Entry)

@@ -5,13 +5,13 @@ use Rattle.smx_model.specs.Views.{view}
 use Rattle.smx_run.specs.declared.fault.RunFault.TheVariants as run
 use Rattle.smx_text.specs.TranscriptText.{IsSpellableView}
 use Rattle.smx_session.specs.Sessions.{State}
-use Rattle.smx_filters.specs.LiveText.{closing_text}
+use Rattle.smx_live.specs.LiveText.{closing_text}
 use Rattle.smx_filters.specs.Output.{AppendsBeginning}
-use Rattle.smx_filters.specs.Turns.{Answer, AsksToShow, IsTaken, answer_text}
+use Rattle.smx_live.specs.Turns.{Answer, AsksToShow, IsTaken, answer_text}
 use Rattle.smx_filters.specs.declared.fault.MainFault.{MainFault}
 use Rattle.smx_filters.specs.declared.fault.MainFault.TheVariants.{Refused, Text, TooLong, ReadFailed, WriteFailed}
-use Rattle.smx_filters.specs.declared.talk.Asked.{Asked}
-use Rattle.smx_filters.specs.declared.talk.Asked.TheVariants.{Show, End, Call}
+use Rattle.smx_live.specs.declared.talk.Asked.{Asked}
+use Rattle.smx_live.specs.declared.talk.Asked.TheVariants.{Show, End, Call}
 
 -- what a line asks for
 abbrev pub IsAsked : List ℕ → Asked → Type 0

@@ -7,12 +7,12 @@ use Rattle.smx_run.specs.declared.fault.RunFault.TheVariants.{NoMemory}
 use Rattle.smx_text.specs.Grammar.{ReadsAny}
 use Rattle.smx_text.specs.ProgramsText.{programs_grammar}
 use Rattle.smx_session.specs.Sessions.{HasBadDrivers, IsStartOf, State}
-use Rattle.smx_filters.specs.LiveText.{HasComeSoFar, IsLive, IsOutcome, IsOver, table_text}
+use Rattle.smx_live.specs.LiveText.{HasComeSoFar, IsLive, IsOutcome, IsOver, table_text}
 use Rattle.smx_filters.specs.Output.{AppendsBeginning}
 use Rattle.smx_filters.specs.declared.fault.MainFault.{MainFault}
 use Rattle.smx_filters.specs.declared.fault.MainFault.TheVariants.{Refused, Text, TooLong, ReadFailed, WriteFailed}
-use Rattle.smx_filters.specs.declared.inbox.Inbox.{Inbox}
-use Rattle.smx_filters.specs.declared.talk.Talk.{Talk}
+use Rattle.smx_live.specs.declared.inbox.Inbox.{Inbox}
+use Rattle.smx_live.specs.declared.talk.Talk.{Talk}
 
 -- a table was read, and what was read behind it is held
 pub record HasTable (had left : Option (List ℕ)) (ended : Bool) (failures : ℕ) (old new : Inbox) (read : List ℕ)

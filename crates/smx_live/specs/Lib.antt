@@ -1,0 +1,5 @@
+pub mod Inboxes
+pub mod LiveStages
+pub mod LiveText
+pub mod LiveTurns
+pub mod Turns
