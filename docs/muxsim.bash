@@ -12,12 +12,12 @@ _muxsim() {
         --workers) return ;;
     esac
     if ((COMP_CWORD == 1)); then
-        words='run check replay help --help --version'
+        words='run check replay live help --help --version'
     else
         case ${COMP_WORDS[1]} in
             run) words='--workers --fronts --help' ;;
-            check | replay) words='--help' ;;
-            help) words='run check replay commands' ;;
+            check | replay | live) words='--help' ;;
+            help) words='run check replay live commands' ;;
         esac
     fi
     mapfile -t COMPREPLY < <(compgen -W "$words" -- "$word")

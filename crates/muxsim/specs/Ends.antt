@@ -4,7 +4,7 @@ use Rattle.std.specs.Process.{exit_status}
 use Rattle.std.specs.declared.process.ExitCode.{ExitCode}
 use Rattle.smx_config.specs.declared.verdict.Verdict.{Verdict}
 use Rattle.smx_filters.specs.CheckText.{ChecksText}
-use Rattle.smx_filters.specs.LiveText.{LivesText}
+use Rattle.smx_live.specs.LiveText.{LivesText}
 use Rattle.smx_filters.specs.ReplayText.{ReplaysText}
 use Rattle.smx_filters.specs.RunText.{RunsText}
 use Rattle.smx_filters.specs.Statuses.{status_of_outcome}

@@ -7,7 +7,8 @@ ghost use Rattle.muxsim.specs.Jobs.{CanRun};
 ghost use Rattle.smx_filters.specs.Statuses.{status_of_outcome};
 
 use crate::jobs::Job;
-use smx_filters::{Done, Feed, MainFault, Sink, check_text, live_text, replay_text, run_text};
+use smx_filters::{Done, Feed, MainFault, Sink, check_text, replay_text, run_text};
+use smx_live::live_text;
 use smx_run::NoGate;
 use std::alloc::Global;
 use std::process::ExitCode;

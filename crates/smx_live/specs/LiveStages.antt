@@ -5,6 +5,7 @@ use Rattle.std.specs.Io.KnownBytes.{Consumes, Appends, Keeps}
 use Rattle.smx_run.specs.RunFaults.{RefusesAlone}
 use Rattle.smx_run.specs.declared.fault.RunFault.TheVariants.{NoMemory}
 use Rattle.smx_text.specs.Grammar.{ReadsAny}
+use Rattle.smx_text.specs.GrowingTranscripts.{BeginsTranscript}
 use Rattle.smx_text.specs.ProgramsText.{programs_grammar}
 use Rattle.smx_session.specs.Sessions.{HasBadDrivers, IsStartOf, State}
 use Rattle.smx_live.specs.LiveText.{HasComeSoFar, IsLive, IsOutcome, IsOver, table_text}
@@ -48,6 +49,26 @@ module _ (read output : List ℕ) (ended : Bool) (s : State) (count : ℕ) (held
   TurnsOn (Err (Text fault)) = ⊥
   TurnsOn (Err TooLong) = ⊥
   TurnsOn (Err ReadFailed) = ⊥
+
+-- a text was written and flushed, or a beginning of it
+abbrev pub Writes : List ℕ → Option (List ℕ) → Option (List ℕ) → Bool → ℕ → Result (Unit {0}) MainFault → Type 0
+Writes text before after flushed failures (Ok done) = (failures ≡ 0) × (flushed ≡ true) × Appends before after text
+Writes text before after flushed failures (Err WriteFailed) = (failures ≡ 1) × AppendsBeginning before after text
+Writes text before after flushed failures (Err (Refused fault)) = ⊥
+Writes text before after flushed failures (Err (Text fault)) = ⊥
+Writes text before after flushed failures (Err TooLong) = ⊥
+Writes text before after flushed failures (Err ReadFailed) = ⊥
+
+-- the beginning of the transcript was written, or a beginning of that
+abbrev pub Opens : State → Option (List ℕ) → Option (List ℕ) → ℕ → Result (Unit {0}) MainFault → Type 0
+Opens s before after failures (Ok done) = (failures ≡ 0) × (opening : List ℕ) × BeginsTranscript s.version s.drivers [] opening
+    × Appends before after opening
+Opens s before after failures (Err WriteFailed) = (failures ≡ 1) × (opening : List ℕ)
+    × BeginsTranscript s.version s.drivers [] opening × AppendsBeginning before after opening
+Opens s before after failures (Err (Refused fault)) = (failures ≡ 0) × (fault ≡ NoMemory) × Keeps before after
+Opens s before after failures (Err (Text fault)) = ⊥
+Opens s before after failures (Err TooLong) = ⊥
+Opens s before after failures (Err ReadFailed) = ⊥
 
 module _ (read output : List ℕ) (ended : Bool) (before after : Option (List ℕ)) (flushed : Bool) (failures : ℕ) where
   -- A session that had come so far is over, at the end of its input.

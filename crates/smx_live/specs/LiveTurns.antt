@@ -19,6 +19,15 @@ IsAsked line Show = AsksToShow line
 IsAsked line End = line ≡ codes "end"
 IsAsked line Call = Unit {0}
 
+-- a text was written and flushed, or a beginning of it
+abbrev pub Says : List ℕ → Bool → Option (List ℕ) → Option (List ℕ) → Bool → ℕ → Result Bool MainFault → Type 0
+Says text over before after flushed failures (Ok b) = (b ≡ over) × (failures ≡ 0) × (flushed ≡ true) × Appends before after text
+Says text over before after flushed failures (Err WriteFailed) = (failures ≡ 1) × AppendsBeginning before after text
+Says text over before after flushed failures (Err (Refused fault)) = ⊥
+Says text over before after flushed failures (Err (Text fault)) = ⊥
+Says text over before after flushed failures (Err TooLong) = ⊥
+Says text over before after flushed failures (Err ReadFailed) = ⊥
+
 -- the line asks for the rest of the transcript, which is this
 abbrev pub IsClosing : State → List ℕ → List ℕ → Type 0
 IsClosing s line whole =

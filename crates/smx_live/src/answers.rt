@@ -1,7 +1,7 @@
 //! The answers of a live session.
 
 ghost use Rattle.std.specs.Prelude.{◌≡◌, codes};
-ghost use Rattle.smx_live.specs.LiveTurns.{TakesTurn};
+ghost use Rattle.smx_live.specs.LiveTurns.{Says, TakesTurn};
 ghost use Rattle.smx_live.specs.Turns.{AsksToShow};
 
 use crate::talk::{Asked, Talk, asked_by, shown_with};
@@ -28,6 +28,17 @@ pub fn answer<S: Sink>(
     }
 }
 
+// Writes a text, and flushes; whether the session is over then is handed on.
+fn say<S: Sink>(sink: &mut S, text: &[u8], over: bool) -> Result<bool, MainFault>
+    requires { S.failures sink.old ≡ 0 }
+    ensures { Says text.now over (S.contents sink.old) (S.contents sink.new) (S.flushed sink.new) (S.failures sink.new) result }
+{
+    match write_all(sink, text) {
+        Ok(()) => Ok(over),
+        Err(_) => Err(MainFault::WriteFailed),
+    }
+}
+
 // Shows the configuration.
 fn show<S: Sink>(
     alloc: Global,
@@ -41,10 +52,9 @@ fn show<S: Sink>(
         (S.contents sink.old) (S.contents sink.new) (S.flushed sink.new) (S.failures sink.new) result }
 {
     match shown_with(alloc, &talk.session, b"shown\n") {
-        Ok(text) => write_all(sink, text.as_slice())?,
-        Err(_) => write_all(sink, line_of_wrong(Wrong::NoMemory))?,
+        Ok(text) => say(sink, text.as_slice(), false),
+        Err(_) => say(sink, line_of_wrong(Wrong::NoMemory), false),
     }
-    Ok(false)
 }
 
 // Writes the rest of the transcript.
@@ -59,12 +69,10 @@ fn end<S: Sink>(
     ensures { TakesTurn talk.now.session talk.now.count line.now talk.now.session talk.now.count
         (S.contents sink.old) (S.contents sink.new) (S.flushed sink.new) (S.failures sink.new) result }
 {
-    let Ok(text) = shown_with(alloc, &talk.session, b"end\n") else {
-        write_all(sink, line_of_wrong(Wrong::NoMemory))?;
-        return Ok(false);
-    };
-    write_all(sink, text.as_slice())?;
-    Ok(true)
+    match shown_with(alloc, &talk.session, b"end\n") {
+        Ok(text) => say(sink, text.as_slice(), true),
+        Err(_) => say(sink, line_of_wrong(Wrong::NoMemory), false),
+    }
 }
 
 // Performs the command of a line.
@@ -79,9 +87,8 @@ fn call<S: Sink>(
         (S.contents sink.old) (S.contents sink.new) (S.flushed sink.new) (S.failures sink.new) result }
 {
     match talk.perform(alloc, line) {
-        Ok(None) => write_all(sink, talk.text.as_slice())?,
-        Ok(Some(wrong)) => write_all(sink, line_of_wrong(wrong))?,
-        Err(_) => return Err(MainFault::Refused(RunFault::NoMemory)),
+        Ok(None) => say(sink, talk.text.as_slice(), false),
+        Ok(Some(wrong)) => say(sink, line_of_wrong(wrong), false),
+        Err(_) => Err(MainFault::Refused(RunFault::NoMemory)),
     }
-    Ok(false)
 }

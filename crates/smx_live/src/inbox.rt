@@ -7,6 +7,7 @@ ghost use Rattle.smx_words.specs.Words.{LINE_FEED};
 
 use memchr::memchr;
 use smx_filters::{Feed, MAX_INPUT, MainFault};
+use smx_run::RunFault;
 use std::alloc::Global;
 
 // How many bytes are asked for at once.
@@ -45,14 +46,21 @@ impl Inbox {
             if let Some(n) = line_in(&self.held[seen..]) {
                 return Ok(Some(seen + n));
             }
+            seen = self.held.len();
             if self.ended {
                 return Ok(None);
             }
-            seen = self.held.len();
             if seen > MAX_INPUT {
                 return Err(MainFault::TooLong);
             }
-            self.ended = !read_piece(feed, &mut self.held)?;
+            match read_piece(feed, &mut self.held) {
+                Ok(true) => {}
+                Ok(false) => {
+                    self.ended = true;
+                    return Ok(None);
+                }
+                Err(fault) => return Err(fault),
+            }
         }
     }
 
@@ -85,7 +93,9 @@ fn read_piece<F: Feed>(feed: &mut F, held: &mut Vec<u8>) -> Result<bool, MainFau
     match feed.read(&mut piece) {
         Ok(0) => Ok(false),
         Ok(n) => {
-            held.extend_from_slice(&piece[..n])?;
+            if held.extend_from_slice(&piece[..n]).is_err() {
+                return Err(MainFault::Refused(RunFault::NoMemory));
+            }
             Ok(true)
         }
         Err(_) => Err(MainFault::ReadFailed),

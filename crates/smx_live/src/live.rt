@@ -1,17 +1,21 @@
 //! A live session from bytes to bytes: each line is answered at once.
 
-ghost use Rattle.std.specs.Prelude.{◌≡◌, List, ℕ, [], Bool, true, false, IfOk};
+ghost use Rattle.std.specs.Prelude.{◌≡◌, ◌++◌, List, ℕ, Bool, true, false, IfOk, OnOk};
 ghost use Rattle.smx_live.specs.Inboxes.{HasLine};
-ghost use Rattle.smx_live.specs.LiveStages.{Begins, Converses, Finishes, HasTable, TurnsOn};
+ghost use Rattle.smx_live.specs.LiveStages.{Begins, Converses, Finishes, HasTable, Opens, TurnsOn, Writes};
 ghost use Rattle.smx_text.specs.Grammar.{IsOneLine};
-ghost use Rattle.smx_live.specs.LiveText.{IsLive, LivesText, cut_words, table_text};
+ghost use Rattle.smx_live.specs.LiveText.{IsLive, LivesText, closing_text, cut_words, table_text};
+ghost use Rattle.smx_model.specs.Views.{view};
+ghost use Rattle.smx_text.specs.TranscriptText.{IsSpellableView};
 
 use crate::answers::answer;
 use crate::inbox::Inbox;
 use crate::talk::{Talk, shown_with};
 use smx_filters::{Feed, MAX_INPUT, MainFault, Sink, write_all};
+use smx_model::laws::one_entry_more;
 use smx_run::RunFault;
 use smx_session::{Session, Trouble};
+use smx_types::NoMemory;
 use std::alloc::{AllocError, Global};
 
 /// Reads a driver table, and then lines, each of which is a process and a command, `show`, nothing or `end`; each is
@@ -32,11 +36,18 @@ pub fn live_text<F: Feed, S: Sink>(
         (S.failures sink.new) result }
 {
     let mut inbox = Inbox::new(alloc);
-    let table = read_table(alloc, feed, &mut inbox)?;
-    let mut talk = begin(alloc, table)?;
-    let opening = talk.session.opening(alloc)?;
-    write_all(sink, opening.as_slice())?;
-    converse(alloc, feed, sink, &mut inbox, &mut talk)
+    let table = match read_table(alloc, feed, &mut inbox) {
+        Ok(table) => table,
+        Err(fault) => return Err(fault),
+    };
+    let mut talk = match begin(alloc, table) {
+        Ok(talk) => talk,
+        Err(fault) => return Err(fault),
+    };
+    match open(alloc, sink, &talk.session) {
+        Ok(()) => converse(alloc, feed, sink, &mut inbox, &mut talk),
+        Err(fault) => Err(fault),
+    }
 }
 
 // The lines of the driver table: the first one, and those behind it that begin with `driver`.
@@ -52,13 +63,17 @@ fn read_table<F: Feed>(
 {
     let mut table = Vec::new(alloc);
     'lines: while table.len() <= MAX_INPUT {
-        let Some(n) = inbox.next_line(feed)? else {
-            return Ok(table);
+        let n = match inbox.next_line(feed) {
+            Ok(Some(n)) => n,
+            Ok(None) => return Ok(table),
+            Err(fault) => return Err(fault),
         };
         if !is_of_table(table.len(), &inbox.held[..n]) {
             return Ok(table);
         }
-        table.extend_from_slice(&inbox.held[..n + 1])?;
+        if table.extend_from_slice(&inbox.held[..n + 1]).is_err() {
+            return Err(MainFault::Refused(RunFault::NoMemory));
+        }
         inbox.drop_line(n);
     }
     Err(MainFault::TooLong)
@@ -84,7 +99,9 @@ fn text_of_table(table: Vec<u8>) -> Result<Vec<u8>, AllocError>
 fn begin(alloc: Global, table: Vec<u8>) -> Result<Talk, MainFault>
     ensures { Begins table.items result }
 {
-    let text = text_of_table(table)?;
+    let Ok(text) = text_of_table(table) else {
+        return Err(MainFault::Refused(RunFault::NoMemory));
+    };
     match Session::new(alloc, text.as_slice()) {
         Ok(session) => Ok(Talk {
             session,
@@ -93,6 +110,17 @@ fn begin(alloc: Global, table: Vec<u8>) -> Result<Talk, MainFault>
         }),
         Err(Trouble::Text(fault)) => Err(MainFault::Text(fault)),
         Err(Trouble::Drivers(fault)) => Err(MainFault::Refused(RunFault::from(fault))),
+        Err(_) => Err(MainFault::Refused(RunFault::NoMemory)),
+    }
+}
+
+// Writes the beginning of the transcript.
+fn open<S: Sink>(alloc: Global, sink: &mut S, session: &Session) -> Result<(), MainFault>
+    requires { S.failures sink.old ≡ 0 }
+    ensures { Opens session.now (S.contents sink.old) (S.contents sink.new) (S.failures sink.new) result }
+{
+    match session.opening(alloc) {
+        Ok(text) => write_last(sink, text.as_slice()),
         Err(_) => Err(MainFault::Refused(RunFault::NoMemory)),
     }
 }
@@ -113,12 +141,15 @@ fn converse<F: Feed, S: Sink>(
         (F.failures feed.new) (S.contents sink.old) (S.contents sink.new) (S.flushed sink.new)
         (S.failures sink.new) result }
 {
-    'lines: for _ in 0..u64::MAX {
-        let Some(n) = inbox.next_line(feed)? else {
-            return finish(alloc, sink, talk, inbox.held.as_slice());
-        };
-        if take_turn(alloc, sink, inbox, talk, n)? {
-            return Ok(());
+    for _turn in 0..u64::MAX {
+        match inbox.next_line(feed) {
+            Ok(Some(n)) => match take_turn(alloc, sink, inbox, talk, n) {
+                Ok(false) => {}
+                Ok(true) => return Ok(()),
+                Err(fault) => return Err(fault),
+            },
+            Ok(None) => return finish(alloc, sink, talk, inbox.held.as_slice()),
+            Err(fault) => return Err(fault),
         }
     }
     Err(MainFault::TooLong)
@@ -140,11 +171,15 @@ fn take_turn<S: Sink>(
         → TurnsOn read output ended talk.new.session talk.new.count inbox.new.held.items (S.contents sink.old)
         (S.contents sink.new) (S.flushed sink.new) (S.failures sink.new) result }
 {
-    let over = answer(alloc, sink, talk, &inbox.held[..n])?;
-    if !over {
-        inbox.drop_line(n);
+    one_entry_more();
+    match answer(alloc, sink, talk, &inbox.held[..n]) {
+        Ok(false) => {
+            inbox.drop_line(n);
+            Ok(false)
+        }
+        Ok(true) => Ok(true),
+        Err(fault) => Err(fault),
     }
-    Ok(over)
 }
 
 // What is said of a last line that is not whole.
@@ -152,6 +187,28 @@ fn cut_words(held: &[u8]) -> &'static [u8]
     ensures { result.now ≡ cut_words held.now }
 {
     if held.is_empty() { b"" } else { b"? cut\n" }
+}
+
+// The last lines at the end of the input, where so much is held.
+fn closing(alloc: Global, session: &Session, held: &[u8]) -> Result<Vec<u8>, NoMemory>
+    ensures written { IfOk result (λ v. v.items ≡ cut_words held.now ++ closing_text session.now) }
+    ensures spellable { OnOk result (IsSpellableView (view session.now.drivers session.now.configuration)) }
+{
+    let shown = shown_with(alloc, session, b"end\n")?;
+    let mut text = Vec::from_slice(alloc, cut_words(held))?;
+    text.extend_from_slice(shown.as_slice())?;
+    Ok(text)
+}
+
+// Writes a text, and flushes.
+fn write_last<S: Sink>(sink: &mut S, text: &[u8]) -> Result<(), MainFault>
+    requires { S.failures sink.old ≡ 0 }
+    ensures { Writes text.now (S.contents sink.old) (S.contents sink.new) (S.flushed sink.new) (S.failures sink.new) result }
+{
+    match write_all(sink, text) {
+        Ok(()) => Ok(()),
+        Err(_) => Err(MainFault::WriteFailed),
+    }
 }
 
 // Ends the session at the end of the input, where so much is held.
@@ -166,8 +223,8 @@ fn finish<S: Sink>(
         → ended ≡ true → IsOneLine held.now → Finishes read output ended (S.contents sink.old)
         (S.contents sink.new) (S.flushed sink.new) (S.failures sink.new) result }
 {
-    let shown = shown_with(alloc, &talk.session, b"end\n")?;
-    let mut text = Vec::from_slice(alloc, cut_words(held))?;
-    text.extend_from_slice(shown.as_slice())?;
-    write_all(sink, text.as_slice())
+    match closing(alloc, &talk.session, held) {
+        Ok(text) => write_last(sink, text.as_slice()),
+        Err(_) => Err(MainFault::Refused(RunFault::NoMemory)),
+    }
 }

@@ -2,7 +2,8 @@
 
 use super::devices::{ERRORS, Stop, TWO_ERRORS, one_byte_feed, one_byte_sink};
 use super::runs::{Ran, has_refused, run_ending};
-use smx_filters::{MAX_INPUT, Source, Target, live_text};
+use smx_filters::{MAX_INPUT, Source, Target};
+use smx_live::live_text;
 use std::alloc::Global;
 use std::io::ErrorKind;
 use std::process::Abort;

@@ -1,0 +1,138 @@
+-- The stages of a live session, by what each answers.
+use Rattle.std.proofs.Common.{◌≡◌, ℕ, ◌+◌, Bool, true, false, List, [], ◌∷◌, ◌++◌, length, take, drop, Option, Result, Ok, Err, refl, sym, ap, subst, ◌∙◌, append_assoc, inl, inr}
+use Rattle.std.proofs.KnownBytes.{Appends-nil, Appends-trans, Consumes-nil, Consumes-trans, Keeps-refl}
+use Rattle.std.proofs.Math.Seq.{take-append-add}
+use Rattle.std.proofs.lemmas.List.{append-nil}
+use Rattle.std.specs.Io.KnownBytes.{Appends, Consumes, Keeps}
+use Rattle.std.specs.Prelude.{◌⊎◌}
+use Rattle.smx_model.specs.Views.{view}
+use Rattle.smx_run.specs.declared.fault.RunFault.TheVariants.{NoMemory}
+use Rattle.smx_text.specs.Grammar.{IsOneLine}
+use Rattle.smx_text.specs.TranscriptText.{IsSpellableView}
+use Rattle.smx_session.specs.Sessions.{State}
+use Rattle.smx_filters.specs.Output.{AppendsBeginning}
+use Rattle.smx_filters.specs.declared.fault.MainFault.{MainFault}
+use Rattle.smx_filters.specs.declared.fault.MainFault.TheVariants.{Refused, Text, TooLong, ReadFailed, WriteFailed}
+use Rattle.smx_live.specs.Inboxes.{HasLine}
+use Rattle.smx_live.specs.LiveStages.{Converses, Finishes, TurnsOn, Writes}
+use Rattle.smx_live.specs.LiveText.{HasComeSoFar, IsLive, IsOutcome, IsOver, closing_text, cut_words}
+use Rattle.smx_live.specs.LiveTurns.{IsClosing, MaySay, Says, TakesTurn}
+use Rattle.smx_live.specs.Turns.{Answer, IsTaken, answer_text}
+use Rattle.smx_live.proofs.LiveLemmas.{OneFurther, ended_by_input, ended_by_line, turned, with_more}
+
+-- ---- one turn
+
+module _ (s next : State) (count more : ℕ) (line text : List ℕ) (before after : Option (List ℕ)) (flushed : Bool) (failures : ℕ) where
+  -- the line is answered by this text
+  pub answered : (a : Answer) (r : Result Bool MainFault) → Says text false before after flushed failures r
+      → IsTaken s count line a next more → text ≡ answer_text a → TakesTurn s count line next more before after flushed failures r
+  answered a (Ok true) h taken is = let wrong : true ≡ false = h.0 in absurd cc
+  answered a (Ok false) h taken is = (h.1, a, taken, subst (Appends before after) is h.3)
+  answered a (Err WriteFailed) h taken is = (h.0, text, h.1, inl (a, next, more, taken, is))
+  answered a (Err (Refused f)) h taken is = absurd h
+  answered a (Err (Text f)) h taken is = absurd h
+  answered a (Err TooLong) h taken is = absurd h
+  answered a (Err ReadFailed) h taken is = absurd h
+
+  -- the rest of the transcript is this text
+  pub closed : (r : Result Bool MainFault) → Says text true before after flushed failures r → IsClosing s line text
+      → TakesTurn s count line next more before after flushed failures r
+  closed (Ok true) h is = (h.1, h.2, text, is, h.3)
+  closed (Ok false) h is = let wrong : false ≡ true = h.0 in absurd cc
+  closed (Err WriteFailed) h is = (h.0, text, h.1, inr is)
+  closed (Err (Refused f)) h is = absurd h
+  closed (Err (Text f)) h is = absurd h
+  closed (Err TooLong) h is = absurd h
+  closed (Err ReadFailed) h is = absurd h
+
+-- ---- a session after a turn, and at the end of its input
+
+module _ (further : OneFurther) (read output : List ℕ) (ended : Bool) (s : State) (count n : ℕ) (held : List ℕ)
+    (l : IsLive read output s count held) (line : HasLine n held) (next : State) (more : ℕ) (before after : Option (List ℕ))
+    (flushed : Bool) (failures : ℕ) where
+  rest : List ℕ
+  rest = drop (n + 1) held
+
+  goes_on : (a : Answer) (later : State) (many : ℕ) → IsTaken s count (take n held) a later many
+      → IsLive read (output ++ answer_text a) later many rest
+  goes_on a later many taken = turned further read output s count n held l line a later many taken
+
+  either : (text : List ℕ) → MaySay s count (take n held) text ⊎ IsClosing s (take n held) text
+      → HasComeSoFar read (output ++ text) ⊎ IsOver read ended (output ++ text)
+  either text (inl x) = inl (x.1, x.2, rest,
+      subst (λ (t : List ℕ). IsLive read (output ++ t) x.1 x.2 rest) (sym x.4) (goes_on x.0 x.1 x.2 x.3))
+  either text (inr is) = inr (ended_by_line further read output s count n held l line ended text is)
+
+  pub turned_on : (r : Result Bool MainFault) → TakesTurn s count (take n held) next more before after flushed failures r
+      → TurnsOn read output ended next more (drop (n + 1) held) before after flushed failures r
+  turned_on (Ok true) h = (h.0, h.1, h.2, h.4, ended_by_line further read output s count n held l line ended h.2 h.3)
+  turned_on (Ok false) h = (h.0, answer_text h.1, h.3, goes_on h.1 next more h.2)
+  turned_on (Err (Refused f)) h = h
+  turned_on (Err WriteFailed) h = (h.0, h.1, h.2, either h.1 h.3)
+  turned_on (Err (Text f)) h = absurd h
+  turned_on (Err TooLong) h = absurd h
+  turned_on (Err ReadFailed) h = absurd h
+
+-- its last lines were written
+pub finished_on : (read output : List ℕ) (ended : Bool) (s : State) (count : ℕ) (held text : List ℕ) (before after : Option (List ℕ))
+    (flushed : Bool) (failures : ℕ) (r : Result (Unit {0}) MainFault) → Writes text before after flushed failures r
+    → text ≡ cut_words held ++ closing_text s → IsLive read output s count held → ended ≡ true → IsOneLine held
+    → IsSpellableView (view s.drivers s.configuration) → Finishes read output ended before after flushed failures r
+finished_on read output ended s count held text before after flushed failures (Ok done) h is l end one fits =
+    (h.0, h.1, cut_words held ++ closing_text s, subst (Appends before after) is h.2,
+    ended_by_input read output s count held ended l end one fits)
+finished_on read output ended s count held text before after flushed failures (Err WriteFailed) h is l end one fits =
+    (h.0, cut_words held ++ closing_text s, subst (λ (t : List ℕ). AppendsBeginning before after t) is h.1,
+    ended_by_input read output s count held ended l end one fits)
+finished_on read output ended s count held text before after flushed failures (Err (Refused f)) h is l end one fits = absurd h
+finished_on read output ended s count held text before after flushed failures (Err (Text f)) h is l end one fits = absurd h
+finished_on read output ended s count held text before after flushed failures (Err TooLong) h is l end one fits = absurd h
+finished_on read output ended s count held text before after flushed failures (Err ReadFailed) h is l end one fits = absurd h
+
+-- ---- turn after turn
+
+-- a session that had come so far has read and written more, and stands so
+pub record HasGone (read output : List ℕ) (had left before after : Option (List ℕ)) (s : State) (count : ℕ) (held : List ℕ) : Type 0 where
+  pub more : List ℕ
+  pub consumed : Consumes had left more
+  pub said : List ℕ
+  pub appended : Appends before after said
+  pub live : IsLive (read ++ more) (output ++ said) s count held
+
+-- nothing yet
+pub begins : (read output : List ℕ) (had before : Option (List ℕ)) (s : State) (count : ℕ) (held : List ℕ)
+    → IsLive read output s count held → HasGone read output had had before before s count held
+begins read output had before s count held l = record {
+  more = [];
+  consumed = Consumes-nil had;
+  said = [];
+  appended = Appends-nil before;
+  live = subst (λ (r : List ℕ). IsLive r (output ++ []) s count held) (sym (append-nil read))
+      (subst (λ (o : List ℕ). IsLive read o s count held) (sym (append-nil output)) l);
+}
+
+module _ (read output : List ℕ) (had left before after : Option (List ℕ)) (s : State) (count : ℕ) (held : List ℕ)
+    (g : HasGone read output had left before after s count held) where
+  -- more was read
+  pub reads : (now : Option (List ℕ)) (piece longer : List ℕ) → Consumes left now piece → longer ≡ held ++ piece
+      → HasGone read output had now before after s count longer
+  reads now piece longer c is = record {
+    more = g.more ++ piece;
+    consumed = Consumes-trans had left now g.more piece g.consumed c;
+    said = g.said;
+    appended = g.appended;
+    live = subst (λ (h : List ℕ). IsLive (read ++ (g.more ++ piece)) (output ++ g.said) s count h) (sym is)
+        (subst (λ (r : List ℕ). IsLive r (output ++ g.said) s count (held ++ piece)) (append_assoc read g.more piece)
+        (with_more (read ++ g.more) piece (output ++ g.said) s count held g.live));
+  }
+
+  -- a turn was taken
+  pub turns : (now : Option (List ℕ)) (text : List ℕ) (next : State) (many : ℕ) (rest : List ℕ) → Appends after now text
+      → IsLive (read ++ g.more) ((output ++ g.said) ++ text) next many rest → HasGone read output had left before now next many rest
+  turns now text next many rest p l = record {
+    more = g.more;
+    consumed = g.consumed;
+    said = g.said ++ text;
+    appended = Appends-trans before after now g.said text g.appended p;
+    live = subst (λ (o : List ℕ). IsLive (read ++ g.more) o next many rest) (append_assoc output g.said text) l;
+  }
