@@ -166,6 +166,7 @@ fn take_turn<S: Sink>(
     requires line { HasLine n inbox.old.held.items }
     requires sunk { S.failures sink.old ≡ 0 }
     ensures end { inbox.new.ended ≡ inbox.old.ended }
+    ensures fine { OnOk result (S.failures sink.new ≡ 0) }
     ensures turn { (read output : List ℕ) (ended : Bool)
         → IsLive read output talk.old.session talk.old.count inbox.old.held.items
         → TurnsOn read output ended talk.new.session talk.new.count inbox.new.held.items (S.contents sink.old)
