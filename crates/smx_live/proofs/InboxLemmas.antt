@@ -19,7 +19,9 @@ pub found_behind : (held : List ℕ) (seen n : ℕ) → seen ≤ length held →
 found_behind held seen n within none line =
     let rest : List ℕ = drop seen held in
     let front : take (seen + n) held ≡ take seen held ++ take n rest = take-add seen n held in
-    let back : drop (n + 1) rest ≡ drop (seen + (n + 1)) held = drop-drop (n + 1) seen held in
+    let count : seen + (n + 1) ≡ seen + n + 1 = omega arith in
+    let back : drop (n + 1) rest ≡ drop (seen + n + 1) held =
+    drop-drop (n + 1) seen held ∙ ap (λ (k : ℕ). drop k held) count in
     record {
       within = omega (arith, line.within, length-drop seen held, within);
       one = subst IsOneLine (sym front) (all_append (λ (x : ℕ). x ≢ LINE_FEED) (take seen held) (take n rest) none line.one);

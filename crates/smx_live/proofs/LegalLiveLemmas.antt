@@ -1,5 +1,5 @@
 -- What was written of a live session is a legal transcript, but for what is no entry.
-use Rattle.std.proofs.Common.{◌≡◌, ℕ, ◌≤◌, Bool, true, false, ◌||◌, List, [], ◌∷◌, ◌++◌, length, map, refl, sym, ap, subst, ◌∙◌, append_assoc}
+use Rattle.std.proofs.Common.{◌≡◌, ℕ, ◌≤◌, Bool, true, false, ◌||◌, List, [], ◌∷◌, ◌++◌, length, map, refl, sym, ap, subst, ◌∙◌, append_assoc, rules}
 use Rattle.std.proofs.lemmas.List.{append-nil}
 use Rattle.std.specs.List.{AllByRecursion, list_any}
 use Rattle.std.specs.Prelude.{codes, nat_lt}
@@ -57,14 +57,12 @@ legal_from stays v ds h (t ∷ ts) was legal =
 all_fit : (v : Version) (ds : List DriverSpec) (h : List Entry) (ts : List Turn) → AreAnswered v ds h ts
     → AllByRecursion FitsEntry (entries_of ts)
 all_fit v ds h [] was = tt
-all_fit v ds h (t ∷ ts) was = one t.answer was.1 where
-  behind : AllByRecursion FitsEntry (entries_of ts)
-  behind = all_fit v ds (h ++ entries_in t.answer) ts was.2
-
-  one : (a : Answer) → IsAnswer v ds h t.line a → AllByRecursion FitsEntry (entries_in a ++ entries_of ts)
-  one (Entered e) is = (is.spelled, behind)
-  one (Shown s) is = behind
-  one (NotDone w) is = behind
+all_fit v ds h (t ∷ ts) was = one t.answer was.1 (all_fit v ds (h ++ entries_in t.answer) ts was.2) where
+  one : (a : Answer) → IsAnswer v ds h t.line a → AllByRecursion FitsEntry (entries_of ts)
+      → AllByRecursion FitsEntry (entries_in a ++ entries_of ts)
+  one (Entered e) is behind = (is.spelled, behind)
+  one (Shown s) is behind = behind
+  one (NotDone w) is behind = behind
 
 -- where neither holds
 neither : (a b : Bool) → (a || b) ≡ false → (a ≡ false) × (b ≡ false)
@@ -78,24 +76,26 @@ nor a b p q = rw (p, q) refl
 quiet : (ds : List DriverSpec) (h : List Entry) (ts : List Turn) → AreAnswered V1 ds h ts
     → list_any (λ e. is_hangup e.command) (entries_of ts) ≡ false
 quiet ds h [] was = refl
-quiet ds h (t ∷ ts) was = one t.answer was.1 where
-  behind : list_any (λ e. is_hangup e.command) (entries_of ts) ≡ false
-  behind = quiet ds (h ++ entries_in t.answer) ts was.2
-
-  one : (a : Answer) → IsAnswer V1 ds h t.line a → list_any (λ e. is_hangup e.command) (entries_in a ++ entries_of ts) ≡ false
-  one (Entered e) is =
+quiet ds h (t ∷ ts) was = one t.answer was.1 (quiet ds (h ++ entries_in t.answer) ts was.2) where
+  one : (a : Answer) → IsAnswer V1 ds h t.line a → list_any (λ e. is_hangup e.command) (entries_of ts) ≡ false
+      → list_any (λ e. is_hangup e.command) (entries_in a ++ entries_of ts) ≡ false
+  one (Entered e) is behind =
       let asked = (neither (is_hangup is.asked.command) (tells_of_hangup is.asked.reply) is.told.1).0 in
       let same = ap (λ (c : ℕ × Command). is_hangup c.1) is.call in
       nor (is_hangup e.command) _ (same ∙ asked) behind
-  one (Shown s) is = behind
-  one (NotDone w) is = behind
+  one (Shown s) is behind = behind
+  one (NotDone w) is behind = behind
+
+-- where no stream has hung up, none is shown
+none_shown : (ds : List DriverSpec) (c : Configuration) → c.hungs ≡ [] → nat_lt 0 (length (view ds c).hungs) ≡ false
+none_shown ds c none = rw none refl
 
 -- version 1 has few drivers
 few_drivers : (n : ℕ) → n ≤ MAX_DRIVERS_OF_VERSION_1 → nat_lt MAX_DRIVERS_OF_VERSION_1 n ≡ false
 few_drivers n few = search rules
 
 module _ (stays : StaysLegal) (tells : TellsOfNone) (leaves : LeavesNone) {read : List ℕ} {ended : Bool} {output : List ℕ} (o : IsOver read ended output) where
-  es : List Entry
+  abbrev es : List Entry
   es = entries_of o.live.turns
 
   legal : IsLegal o.s.drivers es
@@ -104,7 +104,7 @@ module _ (stays : StaysLegal) (tells : TellsOfNone) (leaves : LeavesNone) {read 
   fit : AllByRecursion FitsEntry es
   fit = all_fit o.s.version o.s.drivers [] o.live.turns o.live.answered
 
-  shown : ConfigView
+  abbrev shown : ConfigView
   shown = view o.s.drivers o.s.configuration
 
   begins : BeginsTranscript o.s.version o.s.drivers es (o.live.opening ++ text_of (map entry_words es))
@@ -125,15 +125,15 @@ module _ (stays : StaysLegal) (tells : TellsOfNone) (leaves : LeavesNone) {read 
       let hung : o.s.configuration.hungs ≡ [] = ap (λ (c : Configuration). c.hungs) o.live.now ∙ leaves o.s.drivers es none in
       let few : are_more_drivers o.s.drivers ≡ false =
       few_drivers (length o.s.drivers) (subst (λ (v : Version). length o.s.drivers ≤ most_drivers v) first drivers_few) in
-      let shown_none : nat_lt 0 (length shown.hungs) ≡ false = rw hung refl in
+      let shown_none : nat_lt 0 (length shown.hungs) ≡ false = none_shown o.s.drivers o.s.configuration hung in
       ap version_2_where (nor _ _ few (nor _ _ (tells o.s.drivers es legal none) shown_none)) where
         drivers_few : length o.s.drivers ≤ most_drivers o.s.version
-        drivers_few = rw o.live.drivers o.live.spelled.allowed.drivers
+        drivers_few = subst (λ (ds : List DriverSpec). length ds ≤ most_drivers o.s.version) (sym o.live.drivers) o.live.spelled.allowed.drivers
 
   allowed : IsAllowed o.s.version (transcript_of o)
   allowed = record {
     version_is = refl;
-    drivers = rw o.live.drivers o.live.spelled.allowed.drivers;
+    drivers = subst (λ (ds : List DriverSpec). length ds ≤ most_drivers o.s.version) (sym o.live.drivers) o.live.spelled.allowed.drivers;
     entries = o.live.few;
     spellable = record { drivers = o.live.begins.drivers_fit; entries = fit; view = o.spellable };
     told = told;

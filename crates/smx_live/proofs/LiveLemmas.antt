@@ -21,7 +21,7 @@ use Rattle.smx_session.specs.Sessions.{IsStartOf, Performs, State}
 use Rattle.smx_live.specs.Inboxes.{HasLine}
 use Rattle.smx_live.specs.LiveText.{IsLive, IsOver, IsAtEnd, closing_text, cut_words, table_text}
 use Rattle.smx_live.specs.LiveTurns.{IsClosing}
-use Rattle.smx_live.specs.Turns.{Answer, Entered, Shown, NotDone, Turn, AreAnswered, IsAnswer, IsEntered, IsEntryOf, IsTaken, IsWrong, answer_text, asked_text, entries_in, entries_of, entry_line, said_text}
+use Rattle.smx_live.specs.Turns.{Answer, AsksToShow, Entered, Shown, NotDone, Turn, AreAnswered, IsAnswer, IsEntered, IsEntryOf, IsTaken, IsWrong, answer_text, asked_text, entries_in, entries_of, entry_line, said_text}
 
 abbrev pub OneFurther : Type 0
 OneFurther = (drivers : List DriverSpec) (history : List Entry) (e : Entry)
@@ -66,7 +66,7 @@ said_more opening output ts t was =
 module _ (further : OneFurther) (read output : List ℕ) (s : State) (count n : ℕ) (held : List ℕ)
     (l : IsLive read output s count held) (line : HasLine n held) where
   -- the line that stands there, with its answer
-  turn : Answer → Turn
+  abbrev turn : Answer → Turn
   turn a = record { line = take n held; answer = a }
 
   -- what was read, with this line
@@ -149,7 +149,8 @@ module _ (further : OneFurther) (read output : List ℕ) (s : State) (count n : 
       → IsLive read (output ++ answer_text a) next more (drop (n + 1) held)
   turned (Entered e) next more h = enters e next more h
   turned (Shown v) next more h =
-      let shown = (h.0, h.1 ∙ ap (view s.drivers) l.now) in
+      let shown : AsksToShow (take n held) × (v ≡ view s.drivers (after s.drivers (entries_of l.turns))) =
+      (h.0, h.1 ∙ ap (view s.drivers) l.now) in
       rw (h.2, h.3) (stays (Shown v) refl shown)
   turned (NotDone w) next more h =
       rw (h.1, h.2) (stays (NotDone w) refl (subst (λ (k : ℕ). IsWrong s.version k (take n held) w) l.counted h.0))

@@ -12,8 +12,7 @@ use Rattle.smx_filters.specs.declared.fault.MainFault.{MainFault}
 use Rattle.smx_filters.specs.declared.fault.MainFault.TheVariants.{Refused, Text, TooLong, ReadFailed, WriteFailed}
 use Rattle.smx_live.specs.LiveStages.{Converses, Finishes, TurnsOn}
 use Rattle.smx_live.specs.LiveText.{HasComeSoFar, IsOutcome, IsOver}
-use Rattle.smx_live.proofs.LiveStageLemmas.{HasGone}
-use Rattle.smx_live.proofs.LiveStageLemmas.{reads as reads_on}
+use Rattle.smx_live.proofs.LiveStageLemmas.{HasGone, live_on}
 
 -- a sink that keeps its bytes still holds what was said
 kept_on : (old mid new : Option (List ℕ)) (said : List ℕ) → Appends old mid said → Keeps mid new → Appends old new said
@@ -109,7 +108,7 @@ no_line read output had left now before after s count held piece g ended flushed
   outcome = by_fault why;
 } where
   so_far : HasComeSoFar (read ++ (g.more ++ piece)) (output ++ g.said)
-  so_far = (s, count, held ++ piece, (reads_on read output had left before after s count held g now piece (held ++ piece) c refl).live)
+  so_far = (s, count, held ++ piece, live_on read output had left before after s count held g piece (held ++ piece) refl)
 
   by_fault : ((e ≡ TooLong) × (reads ≡ 0)) ⊎ (((e ≡ ReadFailed) × (reads ≡ 1)) ⊎ ((e ≡ Refused NoMemory) × (reads ≡ 0)))
       → IsOutcome (read ++ (g.more ++ piece)) (output ++ g.said) ended flushed reads writes (Err e)

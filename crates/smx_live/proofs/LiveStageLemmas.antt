@@ -50,7 +50,7 @@ module _ (s next : State) (count more : ℕ) (line text : List ℕ) (before afte
 module _ (further : OneFurther) (read output : List ℕ) (ended : Bool) (s : State) (count n : ℕ) (held : List ℕ)
     (l : IsLive read output s count held) (line : HasLine n held) (next : State) (more : ℕ) (before after : Option (List ℕ))
     (flushed : Bool) (failures : ℕ) where
-  rest : List ℕ
+  abbrev rest : List ℕ
   rest = drop (n + 1) held
 
   goes_on : (a : Answer) (later : State) (many : ℕ) → IsTaken s count (take n held) a later many
@@ -113,6 +113,13 @@ begins read output had before s count held l = record {
 
 module _ (read output : List ℕ) (had left before after : Option (List ℕ)) (s : State) (count : ℕ) (held : List ℕ)
     (g : HasGone read output had left before after s count held) where
+  -- it stands so with more that was read
+  pub live_on : (piece longer : List ℕ) → longer ≡ held ++ piece → IsLive (read ++ (g.more ++ piece)) (output ++ g.said) s count longer
+  live_on piece longer is =
+      subst (λ (h : List ℕ). IsLive (read ++ (g.more ++ piece)) (output ++ g.said) s count h) (sym is)
+      (subst (λ (r : List ℕ). IsLive r (output ++ g.said) s count (held ++ piece)) (append_assoc read g.more piece)
+      (with_more (read ++ g.more) piece (output ++ g.said) s count held g.live))
+
   -- more was read
   pub reads : (now : Option (List ℕ)) (piece longer : List ℕ) → Consumes left now piece → longer ≡ held ++ piece
       → HasGone read output had now before after s count longer
@@ -121,9 +128,7 @@ module _ (read output : List ℕ) (had left before after : Option (List ℕ)) (s
     consumed = Consumes-trans had left now g.more piece g.consumed c;
     said = g.said;
     appended = g.appended;
-    live = subst (λ (h : List ℕ). IsLive (read ++ (g.more ++ piece)) (output ++ g.said) s count h) (sym is)
-        (subst (λ (r : List ℕ). IsLive r (output ++ g.said) s count (held ++ piece)) (append_assoc read g.more piece)
-        (with_more (read ++ g.more) piece (output ++ g.said) s count held g.live));
+    live = live_on piece longer is;
   }
 
   -- a turn was taken

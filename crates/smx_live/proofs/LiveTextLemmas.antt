@@ -61,7 +61,7 @@ module _ (had left : Option (List ℕ)) (ended : Bool) (reads : ℕ) (read : Lis
       outcome = by_fault e why;
     } where
       by_fault : (f : MainFault) → Begins table (Err f) → IsOutcome read [] ended flushed reads writes (Err f)
-      by_fault (Text f) bad = ((fed, fine), refl, table, held, parts, bad)
+      by_fault (Text f) bad = ((fed, fine), refl, (table, held, parts, bad))
       by_fault (Refused f) (inl is) = ((fed, fine), inl (is, inl refl))
       by_fault (Refused f) (inr bad) = ((fed, fine), inr (refl, table, held, parts, bad))
       by_fault TooLong bad = absurd bad

@@ -3,8 +3,8 @@ use Rattle.smx_live.specs.LiveText.{IsLive}
 use Rattle.smx_live.proofs.LiveStageLemmas.{HasGone}
 use Rattle.smx_live.proofs.live.converse.Given as goal
 
-abbrev pub invariant-loop-_turn : goal.invariant-loop-_turn
-invariant-loop-_turn g l = record {
+abbrev pub invariant-loop-turn : goal.invariant-loop-turn
+invariant-loop-turn g l = record {
   gone : (read output : List ℕ) → IsLive read output l.fn.talk.session l.fn.talk.count l.fn.inbox.held.items
       → HasGone read output (g.F.Feed.remaining l.fn.feed) (g.F.Feed.remaining l.feed) (g.S.Sink.contents l.fn.sink)
       (g.S.Sink.contents l.sink) l.talk.session l.talk.count l.inbox.held.items;
