@@ -5,6 +5,6 @@ use Rattle.muxsim.specs.declared.jobs.Job.TheVariants.{Run, Check, Replay}
 
 -- a run has 1 to 64 workers; a check and a replay ask for nothing
 abbrev pub CanRun : Job → Type 0
-CanRun (Run workers fronts) = (1 ≤ workers) × (workers ≤ 64)
-CanRun Check = Unit {0}
+CanRun (Run workers fronts explain) = (1 ≤ workers) × (workers ≤ 64)
+CanRun (Check explain) = Unit {0}
 CanRun Replay = Unit {0}

@@ -6,5 +6,6 @@ pub mod FrontsText
 pub mod RunText
 pub mod CheckText
 pub mod ReplayText
+pub mod ExplainText
 pub mod WorkedVerdicts
 pub mod InMemory
