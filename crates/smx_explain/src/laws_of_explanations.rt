@@ -37,7 +37,6 @@ pub fn an_illegal_entry_is_told()
         → output ≡ difference_text (length t.drivers + number + 1) (line_of (entry_words first.entry))
         (line_of (entry_words (answered t.drivers (after t.drivers (take first.before t.entries)) first.entry))) }
 {
-    histories_are_determined();
     one_value_each();
     spellings_are_words();
 }
