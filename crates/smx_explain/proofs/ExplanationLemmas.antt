@@ -1,8 +1,8 @@
 -- What is told of a transcript, and what that is by the verdict on it.
-use Rattle.std.proofs.Common.{◌≡◌, ◌≢◌, ℕ, zero, suc, ◌+◌, ◌<◌, Some, List, [], ◌∷◌, ◌++◌, length, map, take, Result, Ok, Err, refl, sym, ap, subst, ◌∙◌, append_assoc, arith, inl, inr}
+use Rattle.std.proofs.Common.{◌≡◌, ◌≢◌, ℕ, zero, suc, ◌+◌, ◌<◌, Some, List, [], ◌∷◌, ◌++◌, length, map, take, Result, Ok, Err, refl, sym, ap, subst, ◌∙◌, append_assoc, arith, inl, inr, rules}
 use Rattle.std.specs.List.{AllByRecursion}
 use Rattle.std.specs.Prelude.{IfErr, slice_get}
-use Rattle.std.proofs.lemmas.List.{append-nil, length-append, length-map, length-take-le}
+use Rattle.std.proofs.lemmas.List.{append-nil, length-append, length-map}
 use Rattle.smx_types.specs.declared.command.Entry.{Entry}
 use Rattle.smx_types.specs.declared.driver.DriverSpec.{DriverSpec}
 use Rattle.smx_types.specs.declared.transcript.Transcript.{Transcript}
@@ -26,8 +26,8 @@ use Rattle.smx_config.specs.Verdicts.{IsVerdict}
 use Rattle.smx_config.specs.declared.verdict.Verdict.TheVariants.{ConfigDiffers, Legal}
 use Rattle.smx_replay.specs.Answers.{answered}
 use Rattle.smx_replay.specs.Replays.{IsReplayOf, IsReplayText}
-use Rattle.smx_explain.specs.Differences.{AreAlike, Begin, IsFirstDifference, whole_lines}
-use Rattle.smx_explain.specs.Explanations.{IsExplanation, TellsDifference, difference_text}
+use Rattle.smx_explain.specs.Differences.{AreAlike, IsFirstDifference, whole_lines}
+use Rattle.smx_explain.specs.Explanations.{IsExplanation, difference_text}
 use Rattle.smx_explain.proofs.HistoryLemmas.{stands_in}
 use Rattle.smx_explain.proofs.LineLemmas.{no_difference, no_rest, one_difference, past_front}
 use Rattle.smx_explain.proofs.TextLemmas.{are_lines, lines_before, text_at, text_behind, text_ends, words_line}
@@ -162,8 +162,8 @@ nothing_told judged t output h none =
 
 -- the header is a line
 header_line : (version : Version) → IsOneLine (line_of (transcript_grammar version).header_words)
-header_line V1 = (λ is. cc, λ is. cc, λ is. cc, λ is. cc, λ is. cc, λ is. cc, λ is. cc, λ is. cc, λ is. cc, λ is. cc, λ is. cc, λ is. cc, tt)
-header_line V2 = (λ is. cc, λ is. cc, λ is. cc, λ is. cc, λ is. cc, λ is. cc, λ is. cc, λ is. cc, λ is. cc, λ is. cc, λ is. cc, λ is. cc, tt)
+header_line V1 = search rules
+header_line V2 = search rules
 
 -- so are drivers and entries that can be spelled
 abbrev IsLine : TranscriptLine → Type 0
@@ -311,7 +311,7 @@ module _ (driver : DriversAreWords) (entry : EntriesAreWords) (t : Transcript) (
       )
 
   config_line : IsLine line.Config
-  config_line = (λ is. cc, λ is. cc, λ is. cc, λ is. cc, λ is. cc, λ is. cc, tt)
+  config_line = search rules
 
   above_are : AllByRecursion IsOneLine (lines_before (transcript_grammar t.version) (lines_above t.drivers t.entries))
   above_are =

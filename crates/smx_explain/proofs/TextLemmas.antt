@@ -1,9 +1,9 @@
 -- A text by its lines: where it ends, and where a line of it stands.
-use Rattle.std.proofs.Common.{◌≡◌, ℕ, ◌≤◌, List, [], ◌∷◌, ◌++◌, length, map, refl, sym, ap, subst, ◌∙◌, append_assoc, arith}
+use Rattle.std.proofs.Common.{◌≡◌, ℕ, ◌≤◌, List, [], ◌∷◌, ◌++◌, map, refl, sym, ap, ◌∙◌, append_assoc, arith}
 use Rattle.std.specs.List.{AllByRecursion}
 use Rattle.std.proofs.lemmas.List.{append-nil}
-use Rattle.smx_words.specs.Words.{AreWords, IsWord, LINE_FEED, SPACE, line_of, text_of}
-use Rattle.smx_text.specs.Grammar.{Grammar, IsOneLine, beginning, full_text, line_text}
+use Rattle.smx_words.specs.Words.{IsWord, LINE_FEED, SPACE, line_of, text_of}
+use Rattle.smx_text.specs.Grammar.{Grammar, IsOneLine, full_text, line_text}
 use Rattle.smx_explain.specs.Differences.{whole_lines}
 use Rattle.smx_explain.proofs.LineLemmas.{whole_map}
 
