@@ -1,5 +1,5 @@
 -- Texts that are made of lines: they have one first difference.
-use Rattle.std.proofs.Common.{◌≡◌, ◌≢◌, ℕ, ◌≤◌, List, [], ◌∷◌, ◌++◌, length, map, refl, sym, ap, subst, ◌∙◌, append_assoc, arith}
+use Rattle.std.proofs.Common.{◌≡◌, ◌≢◌, ℕ, ◌+◌, ◌<◌, ◌≤◌, List, [], ◌∷◌, ◌++◌, length, map, refl, sym, ap, subst, ◌∙◌, append_assoc, arith}
 use Rattle.std.specs.List.{AllByRecursion, flat_map}
 use Rattle.smx_words.specs.Words.{LINE_FEED}
 use Rattle.smx_text.specs.Grammar.{IsOneLine}
@@ -106,3 +106,41 @@ pub no_difference : (one other : List ℕ) (n : ℕ) (told has : List ℕ) → I
 no_difference one other n told has h same =
     let rests = same_rest (whole_lines h.before) _ _ (sym h.begin.one_is ∙ same ∙ h.begin.other_is) in
     h.differ (one_cut told has h.more h.rest h.told_is_one h.has_is_one rests).0
+
+-- ---- a line by its number
+
+-- what the lines from this one on are, whatever lines come before and behind
+abbrev pub IsFrom : List ℕ → ℕ → ℕ → List ℕ → Type 0
+IsFrom text number at bytes = (before : List (List ℕ)) (rest : List ℕ) → AllByRecursion IsOneLine before → number ≡ length before + 1
+    → text ≡ whole_lines before ++ rest
+    → (behind : List (List ℕ)) × AllByRecursion IsOneLine behind × (length behind + at ≡ number) × (bytes ≡ whole_lines behind ++ rest)
+
+-- all lines, from the first on
+pub from_first : (text : List ℕ) (number : ℕ) → IsFrom text number 1 text
+from_first text number = λ before rest all count is. (before, all, omega (arith, count), is)
+
+-- one further
+pub one_further : (text : List ℕ) (number at : ℕ) (bytes line after : List ℕ) → IsFrom text number at bytes → at < number → IsOneLine line
+    → bytes ≡ line ++ LINE_FEED ∷ after → IsFrom text number (at + 1) after
+one_further text number at bytes line after h less one is = λ before rest all count e. behind_one (h before rest all count e) where
+  behind_one : {rest : List ℕ} → ((behind : List (List ℕ)) × AllByRecursion IsOneLine behind × (length behind + at ≡ number) × (bytes ≡ whole_lines behind ++ rest))
+      → (behind : List (List ℕ)) × AllByRecursion IsOneLine behind × (length behind + (at + 1) ≡ number) × (after ≡ whole_lines behind ++ rest)
+  behind_one ([], all, long, e) = absurd (omega (arith, long, less))
+  behind_one {rest} (b ∷ behind, all, long, e) =
+      (behind, all.1, omega (arith, long), (one_cut line b after (whole_lines behind ++ rest) one all.0 (sym is ∙ e ∙ cons b behind rest)).1)
+
+-- there is no line feed, and so no line more
+pub none_further : (text : List ℕ) (number at : ℕ) (bytes : List ℕ) → IsFrom text number at bytes → at < number → IsOneLine bytes
+    → (before : List (List ℕ)) (rest : List ℕ) → AllByRecursion IsOneLine before → number ≡ length before + 1 → text ≡ whole_lines before ++ rest → ⊥
+none_further text number at bytes h less one before rest all count e = no_lines (h before rest all count e) where
+  no_lines : ((behind : List (List ℕ)) × AllByRecursion IsOneLine behind × (length behind + at ≡ number) × (bytes ≡ whole_lines behind ++ rest)) → ⊥
+  no_lines ([], all, long, e) = omega (arith, long, less)
+  no_lines (b ∷ behind, all, long, e) = not_one b (whole_lines behind ++ rest) (subst IsOneLine (e ∙ cons b behind rest) one)
+
+-- where as many were passed as come before, the bytes are what follows them
+pub all_passed : (text : List ℕ) (number at : ℕ) (bytes : List ℕ) → IsFrom text number at bytes → number ≤ at
+    → (before : List (List ℕ)) (rest : List ℕ) → AllByRecursion IsOneLine before → number ≡ length before + 1 → text ≡ whole_lines before ++ rest → bytes ≡ rest
+all_passed text number at bytes h past before rest all count e = no_lines (h before rest all count e) where
+  no_lines : ((behind : List (List ℕ)) × AllByRecursion IsOneLine behind × (length behind + at ≡ number) × (bytes ≡ whole_lines behind ++ rest)) → bytes ≡ rest
+  no_lines ([], all, long, e) = e
+  no_lines (b ∷ behind, all, long, e) = absurd (omega (arith, long, past))

@@ -8,6 +8,10 @@ use Rattle.smx_text.specs.Grammar.{IsOneLine}
 abbrev pub whole_lines : List (List ℕ) → List ℕ
 whole_lines lines = flat_map (λ line. line ++ LINE_FEED ∷ []) lines
 
+-- the first line of some bytes, whole or not
+abbrev pub IsFirstLine : List ℕ → List ℕ → Type 0
+IsFirstLine line bytes = IsOneLine line × ((bytes ≡ line) ⊎ ((after : List ℕ) × (bytes ≡ line ++ LINE_FEED ∷ after)))
+
 -- both texts begin with these lines
 pub record Begin (one other : List ℕ) (lines : List (List ℕ)) (rest behind : List ℕ) : Type 0 where
   pub are_lines : AllByRecursion IsOneLine lines

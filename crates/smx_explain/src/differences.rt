@@ -6,7 +6,7 @@ ghost use Rattle.smx_explain.specs.Explanations.{difference_text};
 ghost use Rattle.smx_text.specs.Grammar.{IsOneLine};
 ghost use Rattle.smx_words.specs.Words.{LINE_FEED};
 
-use memchr::memchr;
+use crate::lines::next_line;
 use smx_types::NoMemory;
 use std::alloc::Global;
 
@@ -43,15 +43,6 @@ pub fn first_difference<'a>(one: &'a [u8], other: &'a [u8]) -> Option<Difference
         behind = after;
         number += 1;
     }
-}
-
-// The first line, and what follows it; nothing where no line is whole.
-fn next_line(bytes: &[u8]) -> Option<(&[u8], &[u8])>
-    ensures { MatchOption result (IsOneLine bytes.now)
-        (λ x. IsOneLine x.0.now × (bytes.now ≡ x.0.now ++ LINE_FEED ∷ x.1.now)) }
-{
-    let at = memchr(b'\n', bytes)?;
-    Some((&bytes[..at], &bytes[at + 1..]))
 }
 
 /// The two lines that tell of a difference. Fails only for want of memory.
