@@ -7,9 +7,11 @@ ghost use Rattle.muxsim.specs.Jobs.{CanRun};
 ghost use Rattle.smx_filters.specs.Statuses.{status_of, status_of_outcome};
 
 use crate::jobs::Job;
+use smx_explain::{FaultExplanation, TextKind};
 use smx_filters::{Done, Feed, MainFault, Refusal, Sink};
 use smx_filters::{check_explained, check_text, replay_text, run_explained, run_text};
 use smx_run::NoGate;
+use smx_text::{Cause, TextFault};
 use std::alloc::Global;
 use std::process::ExitCode;
 use std::sync::Wait;
@@ -134,7 +136,7 @@ fn explained_run<R: Threads + Wait + Sync + Eprint, F: Feed, S: Sink>(
 {
     match run_explained(rt, alloc, feed, sink, workers, fronts, &NoGate) {
         Ok(()) => ended(rt, Ok(Done::Finished)),
-        Err(refusal) => refused(rt, refusal),
+        Err(refusal) => refused(rt, TextKind::Programs, refusal),
     }
 }
 
@@ -161,16 +163,43 @@ fn explained_check<R: Eprint, F: Feed, S: Sink>(
 {
     match check_explained(alloc, feed, sink) {
         Ok(verdict) => ended(rt, Ok(Done::Judged(verdict))),
-        Err(refusal) => refused(rt, refusal),
+        Err(refusal) => refused(rt, TextKind::Transcript, refusal),
     }
 }
 
-// The status of a fault, with its line on standard error.
-fn refused<R: Eprint>(rt: &R, refusal: Refusal) -> ExitCode
+// The status of a fault, with its line on standard error, and below it what is wrong with a text that is refused.
+fn refused<R: Eprint>(rt: &R, kind: TextKind, refusal: Refusal) -> ExitCode
     ensures { exit_status result ≡ status_of refusal.fault }
 {
-    let Refusal { fault, .. } = refusal;
-    ended(rt, Err(fault))
+    let Refusal { fault, text } = refusal;
+    let of_text = fault_of_text(&fault);
+    let code = ended(rt, Err(fault));
+    if let Some(text) = text {
+        show(rt, kind, text.as_slice(), of_text);
+    }
+    code
+}
+
+// Shows what is wrong with a text, if anything is.
+fn show<R: Eprint>(rt: &R, kind: TextKind, text: &[u8], fault: Option<TextFault>) {
+    if let Some(fault) = fault {
+        let explanation = FaultExplanation { kind, text, fault };
+        let _ = eprint!(rt; "{explanation}");
+    }
+}
+
+// What is wrong with the text, where that is the fault. Want of memory is none of the text's.
+fn fault_of_text(fault: &MainFault) -> Option<TextFault> {
+    match fault {
+        MainFault::Text(fault) => match fault.cause {
+            Cause::NoMemory => None,
+            Cause::Header | Cause::Form | Cause::Many | Cause::Cut | Cause::Trailing => Some(*fault),
+        },
+        MainFault::Refused(_)
+        | MainFault::TooLong
+        | MainFault::ReadFailed
+        | MainFault::WriteFailed => None,
+    }
 }
 
 // Replays the transcript.

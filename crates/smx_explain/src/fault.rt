@@ -67,13 +67,13 @@ impl fmt::Display for FaultExplanation<'_> {
 // A line up to the last column that is shown, and two dots where it goes on. A byte that can't be seen, and a backslash,
 // are shown by their hex digits.
 fn write_cut<W: fmt::Write>(f: &mut fmt::Formatter<W>, line: &[u8]) -> fmt::Result {
-    let mut columns = 0usize;
+    let mut left = COLUMNS;
     for byte in line {
         let width = if is_shown(*byte) { 1 } else { 4 };
-        if columns + width > COLUMNS {
+        if left < width {
             return f.write_str("..");
         }
-        columns += width;
+        left -= width;
         write_byte(f, *byte)?;
     }
     Ok(())

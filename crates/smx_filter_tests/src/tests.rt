@@ -6,6 +6,7 @@ mod broken_replays;
 mod checks;
 mod damaged;
 mod devices;
+mod explained;
 mod faults;
 mod limits;
 mod reading;

@@ -1,4 +1,4 @@
-use Rattle.std.proofs.Common.{◌-◌, ◌≤◌}
+use Rattle.std.proofs.Common.{◌-◌}
 use Rattle.smx_explain.proofs.LineLemmas.{IsFrom}
 use Rattle.smx_explain.proofs.lines.line_at.Given as goal
 
