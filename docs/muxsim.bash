@@ -15,8 +15,9 @@ _muxsim() {
         words='run check replay draw help --help --version'
     else
         case ${COMP_WORDS[1]} in
-            run) words='--workers --fronts --help' ;;
-            check | replay) words='--help' ;;
+            run) words='--workers --fronts --explain --help' ;;
+            check) words='--explain --help' ;;
+            replay) words='--help' ;;
             draw) words='--dot --help' ;;
             help) words='run check replay draw commands' ;;
         esac

@@ -1,17 +1,19 @@
 -- How the program ends: what came of the job, and the exit status that tells it.
-use Rattle.std.specs.Prelude.{◌≡◌, ℕ, Bool, List, [], Option, Some, Result, Ok, Err}
+use Rattle.std.specs.Prelude.{◌≡◌, ℕ, Bool, true, false, List, [], Option, Some, Result, Ok, Err}
 use Rattle.std.specs.Process.{exit_status}
 use Rattle.std.specs.declared.process.ExitCode.{ExitCode}
 use Rattle.smx_config.specs.declared.verdict.Verdict.{Verdict}
 use Rattle.smx_draw.specs.declared.form.Form.{Form}
 use Rattle.smx_filters.specs.CheckText.{ChecksText}
 use Rattle.smx_filters.specs.DrawText.{DrawsText}
+use Rattle.smx_filters.specs.ExplainText.{ExplainsCheck, answer_of}
 use Rattle.smx_filters.specs.ReplayText.{ReplaysText}
 use Rattle.smx_filters.specs.RunText.{RunsText}
 use Rattle.smx_filters.specs.Statuses.{status_of_outcome}
 use Rattle.smx_filters.specs.declared.done.Done.{Done}
 use Rattle.smx_filters.specs.declared.done.Done.TheVariants.{Finished, Judged}
 use Rattle.smx_filters.specs.declared.main_fault.MainFault.{MainFault}
+use Rattle.smx_filters.specs.declared.refusal.Refusal.{Refusal}
 use Rattle.muxsim.specs.declared.jobs.Job.{Job}
 use Rattle.muxsim.specs.declared.jobs.Job.TheVariants.{Run, Check, Replay, Draw}
 
@@ -55,6 +57,12 @@ pub record EndsCheck (d : Devices) (code : ExitCode) : Type 0 where
   pub judged : ChecksText d.had d.left d.ended d.read_failures d.before d.after d.flushed d.write_failures answer
   pub status : exit_status code ≡ status_of_outcome (outcome_of_check answer)
 
+-- the transcript was judged and the verdict explained, and the status is that of the verdict
+pub record EndsExplainedCheck (d : Devices) (code : ExitCode) : Type 0 where
+  pub answer : Result Verdict Refusal
+  pub judged : ExplainsCheck d.had d.left d.ended d.read_failures d.before d.after d.flushed d.write_failures answer
+  pub status : exit_status code ≡ status_of_outcome (outcome_of_check (answer_of answer))
+
 -- the transcript was replayed, and the status is that of what came of it
 pub record EndsReplay (d : Devices) (code : ExitCode) : Type 0 where
   pub answer : Result (Unit {0}) MainFault
@@ -69,7 +77,8 @@ pub record EndsDraw (form : Form) (d : Devices) (code : ExitCode) : Type 0 where
 
 -- the job was done, and the status is that of what came of it
 abbrev pub EndsJob : Job → Devices → ExitCode → Type 0
-EndsJob (Run workers fronts) d code = EndsRun fronts workers d code
-EndsJob Check d code = EndsCheck d code
+EndsJob (Run workers fronts explain) d code = EndsRun fronts workers d code
+EndsJob (Check false) d code = EndsCheck d code
+EndsJob (Check true) d code = EndsExplainedCheck d code
 EndsJob Replay d code = EndsReplay d code
 EndsJob (Draw form) d code = EndsDraw form d code

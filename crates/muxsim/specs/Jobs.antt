@@ -5,7 +5,7 @@ use Rattle.muxsim.specs.declared.jobs.Job.TheVariants.{Run, Check, Replay, Draw}
 
 -- a run has 1 to 64 workers; a check, a replay and a drawing can always be done
 abbrev pub CanRun : Job → Type 0
-CanRun (Run workers fronts) = (1 ≤ workers) × (workers ≤ 64)
-CanRun Check = Unit {0}
+CanRun (Run workers fronts explain) = (1 ≤ workers) × (workers ≤ 64)
+CanRun (Check explain) = Unit {0}
 CanRun Replay = Unit {0}
 CanRun (Draw form) = Unit {0}

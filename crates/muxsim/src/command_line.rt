@@ -25,8 +25,9 @@ The texts, in both versions, are in docs/FORMATS.md, commands and replies in doc
 and more in docs/MUXSIM.md. 'muxsim help commands' lists the commands of a program.";
 
 /// What the words ask for, of which the first is the program's name. Any other words than `run`, with
-/// `--workers` and `--fronts` or without, `check`, `replay` and `draw`, with `--dot` or without, are clap's error, and so is
-/// a request for help or the version; want of memory is its kind `OutOfMemory`.
+/// `--workers`, `--fronts` and `--explain` or without, `check`, with `--explain` or without, `replay`, and `draw`, with
+/// `--dot` or without, are clap's error, and so is a request for help or the version; want of memory is its kind
+/// `OutOfMemory`.
 pub fn job<'a, S: AsStr>(alloc: Global, words: &'a [S]) -> Result<Job, Error>
     ensures { IfOk result CanRun }
 {
@@ -38,12 +39,16 @@ pub fn job<'a, S: AsStr>(alloc: Global, words: &'a [S]) -> Result<Job, Error>
         Some(("run", run)) => Ok(Job::Run {
             workers: workers_of(run),
             fronts: run.get_flag("fronts"),
+            explain: run.get_flag("explain"),
         }),
         Some(("replay", _)) => Ok(Job::Replay),
         Some(("draw", draw)) => Ok(Job::Draw {
             form: form_of(draw),
         }),
-        Some(_) | None => Ok(Job::Check),
+        Some((_, check)) => Ok(Job::Check {
+            explain: check.get_flag("explain"),
+        }),
+        None => Ok(Job::Check { explain: false }),
     }
 }
 
@@ -80,13 +85,13 @@ fn program<'a>(alloc: Global) -> Result<Command<'a>, AllocError> {
         "run",
         "Run the programs on standard input and write the transcript to standard output",
     )
-    .override_usage("muxsim run [--workers N] [--fronts] < PROGRAMS");
+    .override_usage("muxsim run [--workers N] [--fronts] [--explain] < PROGRAMS");
     let check = subcommand(
         alloc,
         "check",
         "Judge the transcript on standard input and write the verdict to standard output",
     )
-    .override_usage("muxsim check < TRANSCRIPT");
+    .override_usage("muxsim check [--explain] < TRANSCRIPT");
     let replay = subcommand(
         alloc,
         "replay",
@@ -108,8 +113,15 @@ fn program<'a>(alloc: Global) -> Result<Command<'a>, AllocError> {
         .about("Simulate a STREAMS multiplexer configuration with persistent links")
         .after_help(SEE)
         .subcommand_required(true)
-        .subcommand(run.arg(workers(alloc))?.arg(fronts(alloc))?)?
-        .subcommand(check)?
+        .subcommand(
+            run.arg(workers(alloc))?
+                .arg(fronts(alloc))?
+                .arg(explain(alloc, "Show what is wrong with a text that is refused"))?,
+        )?
+        .subcommand(check.arg(explain(
+            alloc,
+            "Show what is wrong with a transcript, or with a text that is refused",
+        ))?)?
         .subcommand(replay)?
         .subcommand(draw.arg(dot(alloc))?)?
         .subcommand(commands)
@@ -143,5 +155,13 @@ fn dot<'a>(alloc: Global) -> Arg<'a> {
     Arg::new(alloc, "dot")
         .long("dot")
         .help("Write the language of Graphviz in place of SVG")
+        .action(ArgAction::SetTrue)
+}
+
+// The option that has faults explained.
+fn explain<'a>(alloc: Global, help: &'a str) -> Arg<'a> {
+    Arg::new(alloc, "explain")
+        .long("explain")
+        .help(help)
         .action(ArgAction::SetTrue)
 }

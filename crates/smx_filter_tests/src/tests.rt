@@ -7,6 +7,7 @@ mod checks;
 mod damaged;
 mod devices;
 mod drawings;
+mod explained;
 mod faults;
 mod limits;
 mod reading;
