@@ -114,9 +114,10 @@ fn program<'a>(alloc: Global) -> Result<Command<'a>, AllocError> {
         .after_help(SEE)
         .subcommand_required(true)
         .subcommand(
-            run.arg(workers(alloc))?
-                .arg(fronts(alloc))?
-                .arg(explain(alloc, "Show what is wrong with a text that is refused"))?,
+            run.arg(workers(alloc))?.arg(fronts(alloc))?.arg(explain(
+                alloc,
+                "Show what is wrong with a text that is refused",
+            ))?,
         )?
         .subcommand(check.arg(explain(
             alloc,

@@ -9,8 +9,10 @@ ghost use Rattle.smx_filters.specs.Statuses.{status_of, status_of_outcome};
 use crate::jobs::Job;
 use smx_draw::Form;
 use smx_explain::{FaultExplanation, TextKind};
-use smx_filters::{Done, Feed, MainFault, Refusal, Sink};
-use smx_filters::{check_explained, check_text, draw_text, replay_text, run_explained, run_text};
+use smx_filters::{
+    Done, Feed, MainFault, Refusal, Sink, check_explained, check_text, draw_text, replay_text,
+    run_explained, run_text,
+};
 use smx_run::NoGate;
 use smx_text::{Cause, TextFault};
 use std::alloc::Global;
@@ -195,7 +197,9 @@ fn fault_of_text(fault: &MainFault) -> Option<TextFault> {
     match fault {
         MainFault::Text(fault) => match fault.cause {
             Cause::NoMemory => None,
-            Cause::Header | Cause::Form | Cause::Many | Cause::Cut | Cause::Trailing => Some(*fault),
+            Cause::Header | Cause::Form | Cause::Many | Cause::Cut | Cause::Trailing => Some(
+                *fault,
+            ),
         },
         MainFault::Refused(_)
         | MainFault::TooLong

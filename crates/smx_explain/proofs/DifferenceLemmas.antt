@@ -1,5 +1,6 @@
 -- Two texts that are read line by line, as long as their lines are the same.
-use Rattle.std.proofs.Common.{◌≡◌, ◌≢◌, ℕ, ◌+◌, List, [], ◌∷◌, ◌++◌, length, refl, sym, ap, ◌∙◌, append_assoc, arith, inl, inr}
+use Rattle.std.proofs.Common.{◌≡◌, ◌≢◌, ℕ, ◌+◌, List, [], ◌∷◌, ◌++◌, length, refl, sym, ap, ◌∙◌, append_assoc, arith}
+use Rattle.std.proofs.Common.{inl, inr}
 use Rattle.std.specs.List.{AllByRecursion}
 use Rattle.std.proofs.lemmas.List.{length-append}
 use Rattle.smx_words.specs.Words.{LINE_FEED}
@@ -9,20 +10,27 @@ use Rattle.smx_explain.specs.Differences.{AreAlike, Begin, IsFirstDifference, wh
 -- ---- lines
 
 -- with one line more
-whole_more : (lines : List (List ℕ)) (line : List ℕ) → whole_lines (lines ++ line ∷ []) ≡ whole_lines lines ++ (line ++ LINE_FEED ∷ [])
+whole_more : (lines : List (List ℕ)) (line : List ℕ)
+    → whole_lines (lines ++ line ∷ []) ≡ whole_lines lines ++ (line ++ LINE_FEED ∷ [])
 whole_more [] line = append_nothing (line ++ LINE_FEED ∷ []) where
   append_nothing : (xs : List ℕ) → xs ++ [] ≡ xs
   append_nothing [] = refl
   append_nothing (x ∷ xs) = ap (λ (ys : List ℕ). x ∷ ys) (append_nothing xs)
-whole_more (l ∷ lines) line = ap (λ (xs : List ℕ). (l ++ LINE_FEED ∷ []) ++ xs) (whole_more lines line) ∙ sym (append_assoc (l ++ LINE_FEED ∷ []) (whole_lines lines) (line ++ LINE_FEED ∷ []))
+whole_more (l ∷ lines) line = ap (λ (xs : List ℕ). (l ++ LINE_FEED ∷ []) ++ xs) (whole_more lines line)
+    ∙ sym (append_assoc (l ++ LINE_FEED ∷ []) (whole_lines lines) (line ++ LINE_FEED ∷ []))
 
 -- what follows the lines goes on with one of them
 shifted : (lines : List (List ℕ)) (line more bytes : List ℕ) → bytes ≡ whole_lines lines ++ (line ++ LINE_FEED ∷ more)
     → bytes ≡ whole_lines (lines ++ line ∷ []) ++ more
 shifted lines line more bytes is =
-    rw (whole_more lines line, append_assoc (whole_lines lines) (line ++ LINE_FEED ∷ []) more, append_assoc line (LINE_FEED ∷ []) more) is
+    rw (
+      whole_more lines line,
+      append_assoc (whole_lines lines) (line ++ LINE_FEED ∷ []) more,
+      append_assoc line (LINE_FEED ∷ []) more,
+    ) is
 
-all_more : (lines : List (List ℕ)) (line : List ℕ) → AllByRecursion IsOneLine lines → IsOneLine line → AllByRecursion IsOneLine (lines ++ line ∷ [])
+all_more : (lines : List (List ℕ)) (line : List ℕ) → AllByRecursion IsOneLine lines → IsOneLine line
+    → AllByRecursion IsOneLine (lines ++ line ∷ [])
 all_more [] line all one = (one, tt)
 all_more (l ∷ lines) line all one = (all.0, all_more lines line all.1 one)
 
@@ -36,11 +44,13 @@ pub record HasCome (one other rest behind : List ℕ) (number : ℕ) : Type 0 wh
 
 -- none yet
 pub none_yet : (one other : List ℕ) → HasCome one other one other 1
-none_yet one other = record { lines = []; begin = record { are_lines = tt; one_is = refl; other_is = refl }; counted = refl }
+none_yet one other =
+    record { lines = []; begin = record { are_lines = tt; one_is = refl; other_is = refl }; counted = refl }
 
 module _ (one other rest behind : List ℕ) (number : ℕ) (h : HasCome one other rest behind number) where
   -- one more
-  pub one_more : (told has more after : List ℕ) → IsOneLine told → rest ≡ told ++ LINE_FEED ∷ more → behind ≡ has ++ LINE_FEED ∷ after
+  pub one_more : (told has more after : List ℕ) → IsOneLine told → rest ≡ told ++ LINE_FEED ∷ more
+      → behind ≡ has ++ LINE_FEED ∷ after
       → told ≡ has → HasCome one other more after (number + 1)
   one_more told has more after is_one is also same = record {
     lines = h.lines ++ told ∷ [];
@@ -53,7 +63,8 @@ module _ (one other rest behind : List ℕ) (number : ℕ) (h : HasCome one othe
   }
 
   -- the next ones differ
-  pub found : (told has more after : List ℕ) → IsOneLine told → IsOneLine has → rest ≡ told ++ LINE_FEED ∷ more → behind ≡ has ++ LINE_FEED ∷ after
+  pub found : (told has more after : List ℕ) → IsOneLine told → IsOneLine has → rest ≡ told ++ LINE_FEED ∷ more
+      → behind ≡ has ++ LINE_FEED ∷ after
       → told ≢ has → IsFirstDifference one other number told has
   found told has more after is_one also_one is also differ = record {
     before = h.lines;

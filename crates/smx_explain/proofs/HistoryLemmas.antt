@@ -18,7 +18,8 @@ same_entry d e call reply =
     ∙ ap (λ (r : Reply). record e { reply = r }) reply
 
 -- where this entry stands, what follows it, and the same of the replay
-pub record StandsIn (drivers : List DriverSpec) (c : Configuration) (es rs : List Entry) (b : ℕ) (e : Entry) : Type 0 where
+pub record StandsIn (drivers : List DriverSpec) (c : Configuration) (es rs : List Entry) (b : ℕ)
+    (e : Entry) : Type 0 where
   pub more : List Entry
   pub more_too : List Entry
   pub it : es ≡ take b es ++ e ∷ more
@@ -26,12 +27,15 @@ pub record StandsIn (drivers : List DriverSpec) (c : Configuration) (es rs : Lis
 
 module _ (drivers : List DriverSpec) where
   -- a call that was answered
-  answers : (c : Configuration) (x y : Entry) → (step drivers c y.process y.command).1 ≡ y.reply → call_of y ≡ call_of x → y ≡ answered drivers c x
+  answers : (c : Configuration) (x y : Entry) → (step drivers c y.process y.command).1 ≡ y.reply → call_of y ≡ call_of x
+      → y ≡ answered drivers c x
   answers c x y legal call =
-      same_entry y (answered drivers c x) call (sym legal ∙ ap (λ (call : ℕ × Command). (step drivers c call.0 call.1).1) call)
+      same_entry y (answered drivers c x) call
+      (sym legal ∙ ap (λ (call : ℕ × Command). (step drivers c call.0 call.1).1) call)
 
   -- an entry behind a legal history stands there, and its replay where it does
-  pub stands_in : (c : Configuration) (es rs : List Entry) (b : ℕ) (e : Entry) → IsLegalFrom drivers c rs → map call_of rs ≡ map call_of es
+  pub stands_in : (c : Configuration) (es rs : List Entry) (b : ℕ) (e : Entry) → IsLegalFrom drivers c rs
+      → map call_of rs ≡ map call_of es
       → IsLegalFrom drivers c (take b es) → slice_get es b ≡ Some e → StandsIn drivers c es rs b e
   stands_in c [] rs b e legal calls before here = absurd (cc here)
   stands_in c (x ∷ es) [] b e legal calls before here = absurd (cc calls)
@@ -47,7 +51,8 @@ module _ (drivers : List DriverSpec) where
   stands_in c (x ∷ es) (y ∷ rs) (suc b) e legal calls before here =
       let call : call_of y ≡ call_of x = cc calls in
       let rest : map call_of rs ≡ map call_of es = cc calls in
-      let is : y ≡ x = same_entry y x call (sym legal.0 ∙ ap (λ (call : ℕ × Command). (step drivers c call.0 call.1).1) call ∙ before.0) in
+      let is : y ≡ x = same_entry y x call (sym legal.0
+      ∙ ap (λ (call : ℕ × Command). (step drivers c call.0 call.1).1) call ∙ before.0) in
       let on : IsLegalFrom drivers (step drivers c x.process x.command).0 rs =
       subst (λ (call : ℕ × Command). IsLegalFrom drivers (step drivers c call.0 call.1).0 rs) call legal.1 in
       let t = stands_in (step drivers c x.process x.command).0 es rs b e on rest before.1 here in

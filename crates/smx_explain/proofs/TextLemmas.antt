@@ -12,7 +12,8 @@ use Rattle.smx_explain.proofs.LineLemmas.{whole_map}
 -- the text of lines and then others
 pub text_front : (ls ms : List (List (List ℕ))) → text_of (ls ++ ms) ≡ text_of ls ++ text_of ms
 text_front [] ms = refl
-text_front (l ∷ ls) ms = ap (λ (rest : List ℕ). (line_of l ++ LINE_FEED ∷ []) ++ rest) (text_front ls ms) ∙ sym (append_assoc (line_of l ++ LINE_FEED ∷ []) (text_of ls) (text_of ms))
+text_front (l ∷ ls) ms = ap (λ (rest : List ℕ). (line_of l ++ LINE_FEED ∷ []) ++ rest) (text_front ls ms)
+    ∙ sym (append_assoc (line_of l ++ LINE_FEED ∷ []) (text_of ls) (text_of ms))
 
 -- maps of lists and then others
 map_front : {A B : Type 0} (f : A → B) (xs ys : List A) → map f (xs ++ ys) ≡ map f xs ++ map f ys
@@ -31,7 +32,8 @@ both_lines (x ∷ xs) ys h k = (h.0, both_lines xs ys h.1 k)
 pub words_line : (ws : List (List ℕ)) → AllByRecursion IsWord ws → IsOneLine (line_of ws)
 words_line [] h = tt
 words_line (w ∷ []) h = word_line w h.0.1
-words_line (w ∷ v ∷ ws) h = both_lines w (SPACE ∷ line_of (v ∷ ws)) (word_line w h.0.1) (λ is. absurd (omega (arith, is)), words_line (v ∷ ws) h.1)
+words_line (w ∷ v ∷ ws) h = both_lines w (SPACE ∷ line_of (v ∷ ws)) (word_line w h.0.1)
+    (λ is. absurd (omega (arith, is)), words_line (v ∷ ws) h.1)
 
 -- ---- texts
 
@@ -39,10 +41,12 @@ module _ {V K : Type 0} (g : Grammar V K) where
   -- a text ends in a line feed
   pub text_ends : (v : V) → (front : List ℕ) × (full_text g v ≡ front ++ LINE_FEED ∷ [])
   text_ends v =
-      let lines = g.header_words ∷ map g.line_words (g.body v) in
-      (text_of lines ++ line_text g g.end, text_front lines (g.line_words g.end ∷ [])
-      ∙ ap (λ (last : List ℕ). text_of lines ++ last) (append-nil (line_text g g.end ++ LINE_FEED ∷ []))
-      ∙ sym (append_assoc (text_of lines) (line_text g g.end) (LINE_FEED ∷ [])))
+      let lines = g.header_words ∷ map g.line_words (g.body v) in (
+        text_of lines ++ line_text g g.end,
+        text_front lines (g.line_words g.end ∷ [])
+            ∙ ap (λ (last : List ℕ). text_of lines ++ last) (append-nil (line_text g g.end ++ LINE_FEED ∷ []))
+            ∙ sym (append_assoc (text_of lines) (line_text g g.end) (LINE_FEED ∷ [])),
+      )
 
   -- the lines before one, each as bytes
   abbrev pub lines_before : List K → List (List ℕ)
@@ -54,13 +58,18 @@ module _ {V K : Type 0} (g : Grammar V K) where
   text_at v lines k more is =
       let rest = map g.line_words more ++ g.line_words g.end ∷ [] in
       let before = g.header_words ∷ map g.line_words lines in
-      let split : g.header_words ∷ map g.line_words (g.body v) ++ g.line_words g.end ∷ [] ≡ before ++ g.line_words k ∷ rest =
+      let split : g.header_words ∷ map g.line_words (g.body v) ++ g.line_words g.end ∷ []
+      ≡ before ++ g.line_words k ∷ rest =
       ap (λ (ks : List K). g.header_words ∷ map g.line_words ks ++ g.line_words g.end ∷ []) is
-      ∙ ap (λ (ws : List (List (List ℕ))). g.header_words ∷ ws ++ g.line_words g.end ∷ []) (map_front g.line_words lines (k ∷ more))
-      ∙ append_assoc before (g.line_words k ∷ map g.line_words more) (g.line_words g.end ∷ []) in
-      (text_of rest, ap (λ (ws : List (List (List ℕ))). text_of ws) split ∙ text_front before (g.line_words k ∷ rest)
-      ∙ ap (λ (bytes : List ℕ). bytes ++ text_of (g.line_words k ∷ rest)) (whole_map line_of before)
-      ∙ ap (λ (bytes : List ℕ). whole_lines (lines_before lines) ++ bytes) (append_assoc (line_text g k) (LINE_FEED ∷ []) (text_of rest)))
+      ∙ ap (λ (ws : List (List (List ℕ))). g.header_words ∷ ws ++ g.line_words g.end ∷ [])
+      (map_front g.line_words lines (k ∷ more))
+      ∙ append_assoc before (g.line_words k ∷ map g.line_words more) (g.line_words g.end ∷ []) in (
+        text_of rest,
+        ap (λ (ws : List (List (List ℕ))). text_of ws) split ∙ text_front before (g.line_words k ∷ rest)
+            ∙ ap (λ (bytes : List ℕ). bytes ++ text_of (g.line_words k ∷ rest)) (whole_map line_of before)
+            ∙ ap (λ (bytes : List ℕ). whole_lines (lines_before lines) ++ bytes)
+            (append_assoc (line_text g k) (LINE_FEED ∷ []) (text_of rest)),
+      )
 
   -- behind some lines of the value, whatever comes
   pub text_behind : (v : V) (lines more : List K) → g.body v ≡ lines ++ more
@@ -70,15 +79,20 @@ module _ {V K : Type 0} (g : Grammar V K) where
       let before = g.header_words ∷ map g.line_words lines in
       let split : g.header_words ∷ map g.line_words (g.body v) ++ g.line_words g.end ∷ [] ≡ before ++ rest =
       ap (λ (ks : List K). g.header_words ∷ map g.line_words ks ++ g.line_words g.end ∷ []) is
-      ∙ ap (λ (ws : List (List (List ℕ))). g.header_words ∷ ws ++ g.line_words g.end ∷ []) (map_front g.line_words lines more)
-      ∙ append_assoc before (map g.line_words more) (g.line_words g.end ∷ []) in
-      (text_of rest, ap (λ (ws : List (List (List ℕ))). text_of ws) split ∙ text_front before rest
-      ∙ ap (λ (bytes : List ℕ). bytes ++ text_of rest) (whole_map line_of before))
+      ∙ ap (λ (ws : List (List (List ℕ))). g.header_words ∷ ws ++ g.line_words g.end ∷ [])
+      (map_front g.line_words lines more)
+      ∙ append_assoc before (map g.line_words more) (g.line_words g.end ∷ []) in (
+        text_of rest,
+        ap (λ (ws : List (List (List ℕ))). text_of ws) split ∙ text_front before rest
+            ∙ ap (λ (bytes : List ℕ). bytes ++ text_of rest) (whole_map line_of before),
+      )
 
   -- these are lines where each of them can be spelled
-  pub are_lines : IsOneLine (line_of g.header_words) → (lines : List K) → AllByRecursion (λ k. IsOneLine (line_text g k)) lines
+  pub are_lines : IsOneLine (line_of g.header_words) → (lines : List K)
+      → AllByRecursion (λ k. IsOneLine (line_text g k)) lines
       → AllByRecursion IsOneLine (lines_before lines)
   are_lines header lines all = (header, each lines all) where
-    each : (ks : List K) → AllByRecursion (λ k. IsOneLine (line_text g k)) ks → AllByRecursion IsOneLine (map line_of (map g.line_words ks))
+    each : (ks : List K) → AllByRecursion (λ k. IsOneLine (line_text g k)) ks
+        → AllByRecursion IsOneLine (map line_of (map g.line_words ks))
     each [] all = tt
     each (k ∷ ks) all = (all.0, each ks all.1)

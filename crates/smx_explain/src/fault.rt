@@ -47,7 +47,8 @@ impl FaultExplanation<'_> {
                 "these are programs, for 'muxsim run'"
             }
             (TextKind::Programs, _) => "the first line has to be 'programs 1' or 'programs 2'",
-            (TextKind::Transcript, _) => "the first line has to be 'transcript 1' or 'transcript 2'",
+            (TextKind::Transcript, _) =>
+                "the first line has to be 'transcript 1' or 'transcript 2'",
         }
     }
 }

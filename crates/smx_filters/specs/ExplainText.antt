@@ -4,14 +4,14 @@ use Rattle.std.specs.Global.{Global}
 use Rattle.smx_types.specs.declared.transcript.Transcript.{Transcript}
 use Rattle.smx_text.specs.TranscriptLines.{TranscriptLine}
 use Rattle.smx_text.specs.TranscriptText.{transcript_grammar}
-use Rattle.smx_text.specs.declared.fault.TextFault.{TextFault}
+use Rattle.smx_text.specs.declared.text_fault.TextFault.{TextFault}
 use Rattle.smx_config.specs.declared.verdict.Verdict.{Verdict}
 use Rattle.smx_explain.specs.Explanations.{IsExplanation}
 use Rattle.smx_run.specs.RunFaults.{RefusesAlone}
 use Rattle.smx_filters.specs.CheckText.{IsJudged, verdict_line}
 use Rattle.smx_filters.specs.Filters.{Filter, FiltersText}
-use Rattle.smx_filters.specs.declared.fault.MainFault.{MainFault}
-use Rattle.smx_filters.specs.declared.fault.MainFault.TheVariants.{Text}
+use Rattle.smx_filters.specs.declared.main_fault.MainFault.{MainFault}
+use Rattle.smx_filters.specs.declared.main_fault.MainFault.TheVariants.{Text}
 use Rattle.smx_filters.specs.declared.refusal.Refusal.{Refusal}
 
 -- ---- a verdict
@@ -26,8 +26,8 @@ pub record IsExplained (t : Transcript) (verdict : Verdict) (output : List ℕ) 
   -- The output is both, and nothing else.
   pub written : output ≡ verdict_line (length t.entries) verdict ++ told
 
--- a check that explains itself reads a transcript, answers the verdict on it, and writes that with what is told below it;
--- or it refuses the drivers, or memory was wanting
+-- a check that explains itself reads a transcript, answers the verdict on it, and writes that with what is told below
+-- it; or it refuses the drivers, or memory was wanting
 abbrev pub explaining : Filter Transcript TranscriptLine Verdict
 explaining = record {
   grammar = transcript_grammar;

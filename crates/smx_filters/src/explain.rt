@@ -7,8 +7,8 @@ ghost use Rattle.smx_filters.specs.RunText.{running};
 
 use crate::check::verdict_line;
 use crate::device::{Feed, Sink};
-use crate::fault::MainFault;
 use crate::input::read_all;
+use crate::main_fault::MainFault;
 use crate::output::write_all;
 use crate::refusal::Refusal;
 use crate::text::text_of_run;

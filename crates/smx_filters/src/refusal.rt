@@ -1,6 +1,6 @@
 //! A fault that is to be explained.
 
-use crate::fault::MainFault;
+use crate::main_fault::MainFault;
 
 /// Why nothing came of a filter, and the text in which a fault is to be shown.
 #[derive(Drop)]

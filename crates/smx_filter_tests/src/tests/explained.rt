@@ -108,7 +108,10 @@ fn shows_faults(rt: HostRuntime) {
             },
         };
         let printed = format!(in rt.alloc(); "{explanation}");
-        assert!(rt; matches!(&printed, Ok(printed) if printed.as_str() == *shown), "{shown}");
+        assert!(rt;
+            matches!(&printed, Ok(printed) if printed.as_str() == *shown),
+            "{shown}"
+        );
     }
 }
 
@@ -141,5 +144,8 @@ fn runs_as_it_would(rt: HostRuntime) {
     let mut feed = Source::new(b"programs 1\nend\n".as_slice());
     let outcome = run_explained(&rt, rt.alloc(), &mut feed, &mut sink, 2, false, &NoGate);
     assert!(rt; outcome.is_ok());
-    assert_eq!(rt; sink.writer.as_slice(), b"transcript 1\nconfig\nnext 1 1\nend\n");
+    assert_eq!(rt;
+        sink.writer.as_slice(),
+        b"transcript 1\nconfig\nnext 1 1\nend\n"
+    );
 }

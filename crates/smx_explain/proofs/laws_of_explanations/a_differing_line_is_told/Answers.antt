@@ -3,4 +3,5 @@ use Rattle.smx_explain.proofs.laws_of_explanations.a_differing_line_is_told.Goal
 
 pub returns : goal.returns
 returns c = λ t output allowed h.
-    differs_told c.spellings_are_words.ensures.driver c.spellings_are_words.ensures.entry t allowed output h c.histories_are_determined.ensures
+    differs_told c.spellings_are_words.ensures.driver c.spellings_are_words.ensures.entry t allowed output h
+    c.histories_are_determined.ensures

@@ -3,4 +3,5 @@ use Rattle.smx_explain.proofs.laws_of_explanations.an_illegal_entry_is_told.Goal
 
 pub returns : goal.returns
 returns c = λ t output allowed h.
-    illegal_told c.spellings_are_words.ensures.driver c.spellings_are_words.ensures.entry t allowed output h c.one_value_each.ensures.entry
+    illegal_told c.spellings_are_words.ensures.driver c.spellings_are_words.ensures.entry t allowed output h
+    c.one_value_each.ensures.entry
