@@ -37,7 +37,8 @@ enum {
     MUXSIM_NO_ROOM = 6,   /* the text is longer than the buffer, which is as it was; its length is told */
     MUXSIM_CLOSED = 7,    /* there is no session */
     MUXSIM_IS_OPEN = 8,   /* there is a session already */
-    MUXSIM_NO_LOCK = 9    /* the lock can't be had */
+    MUXSIM_NO_LOCK = 9,   /* the lock can't be had */
+    MUXSIM_NO_LINE = 10   /* the command was performed, and memory was wanting for its line */
 };
 
 /* What the library itself takes: a session, or null. These calls are proved, and take no lock: one at a time. Where the
@@ -100,13 +101,15 @@ static inline int32_t muxsim_open(struct muxsim *shared, const char *programs, s
 }
 
 /* Performs the command of a line, as "0 clone ip", which has no line feed, and writes the line of its entry, which has the
- * reply and a line feed: "0 clone ip = fd 0 0\n". A command that is refused is performed too: its reply says why. Where
- * nothing is written, and the code is MUXSIM_NO_MEMORY, muxsim_entry tells whether it was performed. */
+ * reply and a line feed: "0 clone ip = fd 0 0\n". A command that is refused is performed too: its reply says why. With
+ * MUXSIM_NO_LINE it was performed, and nothing is written: muxsim_entry is asked again for its line. With any other code
+ * but MUXSIM_DONE nothing has changed. */
 static inline int32_t muxsim_perform(struct muxsim *shared, const char *line, size_t len, struct muxsim_text *text) {
     text->len = 0;
     if (pthread_mutex_lock(&shared->lock) != 0) return MUXSIM_NO_LOCK;
     int32_t code = muxsim_session_perform(&shared->session, (const uint8_t *)line, len);
-    if (code == MUXSIM_DONE) code = muxsim_text_fill(text, &shared->session, muxsim_session_entry);
+    if (code == MUXSIM_DONE && muxsim_text_fill(text, &shared->session, muxsim_session_entry) != MUXSIM_DONE)
+        code = MUXSIM_NO_LINE;
     pthread_mutex_unlock(&shared->lock);
     return code;
 }

@@ -1,8 +1,10 @@
-// usage: stack PROGRAMS [leave|unlocked|race]   performs the commands of a programs text by the library, and writes their transcript
+// usage: stack PROGRAMS [leave|unlocked|scarce|race]   performs the commands of a programs text by the library, and writes
+// their transcript
 //
 // Before that, each call is made where it has to answer another code than 0. Two threads share the session, and each performs
 // every other command. With `leave` the session is not closed. With `unlocked` they go past the session's lock, by turns that
-// a sanitizer of threads can't see. With `race` nothing is written: eight threads perform commands at once, and each has to
+// a sanitizer of threads can't see. With `scarce` one thread performs them, once for each growth, which is refused: the call
+// says so, and is made again, and the transcript has to be the same. With `race` nothing is written: eight threads perform commands at once, and each has to
 // get the replies to its own. The status is 1 where a call answers what it shouldn't.
 #include <pthread.h>
 #include <sched.h>
@@ -14,7 +16,26 @@
 
 #include "muxsim.h"
 
-static char input[1 << 20];
+enum { ROOM = 1 << 20 };
+
+static char input[ROOM];
+static char transcripts[2][ROOM];
+
+// Which growth is refused, from 1 on, or 0 for none; and how many were asked for. The program is linked so that malloc and
+// realloc are the two below.
+static size_t refused;
+static size_t asked;
+
+void *__real_malloc(size_t size);
+void *__real_realloc(void *block, size_t size);
+
+void *__wrap_malloc(size_t size) {
+    return refused != 0 && ++asked == refused ? NULL : __real_malloc(size);
+}
+
+void *__wrap_realloc(void *block, size_t size) {
+    return refused != 0 && ++asked == refused ? NULL : __real_realloc(block, size);
+}
 
 static void wants(int32_t code, int32_t wanted, const char *what) {
     if (code != wanted) {
@@ -196,6 +217,52 @@ static void performs_all(struct work *work) {
     for (size_t i = 0; i < work->count; i++) free(work->lines[i]);
 }
 
+// Behind the bytes of a transcript so far.
+static size_t append(char *transcript, size_t at, const struct muxsim_text *text) {
+    if (ROOM - at < text->len) exit(2);
+    memcpy(transcript + at, text->bytes, text->len);
+    return at + text->len;
+}
+
+// Entries and configuration, where this growth is refused. A call that says so is made again.
+static size_t performs_scarce(struct work *work, size_t len, size_t number, char *transcript) {
+    struct muxsim_text text = {0};
+    size_t at = 0;
+    int32_t code;
+    asked = 0;
+    refused = number;
+    while ((code = muxsim_open(&work->shared, input, len)) == MUXSIM_NO_MEMORY) continue;
+    wants(code, MUXSIM_DONE, "open");
+    for (size_t i = 0; i < work->count; i++) {
+        while ((code = perform(&work->shared, work->lines[i], &text)) == MUXSIM_NO_MEMORY) continue;
+        if (code == MUXSIM_NO_LINE) code = muxsim_entry(&work->shared, &text);
+        wants(code, MUXSIM_DONE, work->lines[i]);
+        at = append(transcript, at, &text);
+    }
+    while ((code = muxsim_show(&work->shared, &text)) == MUXSIM_NO_MEMORY) continue;
+    wants(code, MUXSIM_DONE, "show");
+    refused = 0;
+    wants(muxsim_close(&work->shared), MUXSIM_DONE, "close");
+    at = append(transcript, at, &text);
+    free(text.bytes);
+    return at;
+}
+
+static void performs_each_scarce(struct work *work, size_t len) {
+    static char programs[ROOM];
+    memcpy(programs, input, sizeof programs);
+    read_lines(work, programs);
+    size_t number = 0, length = performs_scarce(work, len, 0, transcripts[0]);
+    do {
+        number++;
+        size_t other = performs_scarce(work, len, number, transcripts[1]);
+        wants(other == length && memcmp(transcripts[0], transcripts[1], length) == 0, 1, "another transcript");
+    } while (asked >= number);
+    wants(number > 100, 1, "so few growths");
+    printf("%.*send\n", (int)length, transcripts[0]);
+    for (size_t i = 0; i < work->count; i++) free(work->lines[i]);
+}
+
 int main(int argc, char **argv) {
     static struct work work = {.shared = MUXSIM_CLOSED_SESSION};
     FILE *file = argc == 2 || argc == 3 ? fopen(argv[1], "rb") : NULL;
@@ -206,6 +273,10 @@ int main(int argc, char **argv) {
     work.is_locked = strcmp(how, "unlocked") != 0;
     other_codes();
     buffers();
+    if (strcmp(how, "scarce") == 0) {
+        performs_each_scarce(&work, len);
+        return 0;
+    }
     wants(muxsim_open(&work.shared, input, len), MUXSIM_DONE, "open");
     if (strcmp(how, "race") == 0)
         on_threads(at_once, &work, 8);
