@@ -2,6 +2,7 @@ pub mod Pieces
 pub mod DotLines
 pub mod DotText
 pub mod Drawing
+pub mod SvgStrokes
 pub mod SvgElements
 pub mod SvgFrame
 pub mod SvgText

@@ -10,6 +10,7 @@ use Rattle.smx_types.specs.declared.view.LinkLine.{LinkLine}
 use Rattle.smx_types.specs.declared.view.MessageLine.{MessageLine}
 use Rattle.smx_types.specs.declared.view.RouteLine.{RouteLine}
 use Rattle.smx_draw.specs.Pieces.{driver_word, joined, link_word, shown_length, side_word}
+use Rattle.smx_draw.specs.SvgStrokes.{box, curve}
 use Rattle.smx_draw.specs.declared.svg.area.Area.{Area}
 use Rattle.smx_draw.specs.declared.svg.boxes.Gauge.{Gauge}
 use Rattle.smx_draw.specs.declared.svg.boxes.StreamBox.{StreamBox}
@@ -17,34 +18,28 @@ use Rattle.smx_draw.specs.declared.svg.boxes.StreamBox.{StreamBox}
 -- a driver: its name and kind, its minors, its longest message, and its marks
 abbrev pub driver_element : DriverSpec → Area → List ℕ
 driver_element d at =
-    joined (codes "<g class=\"" ∷ driver_word d.kind ∷ codes "\"><path d=\"M" ∷ decimal at.left ∷ codes " " ∷
-    decimal at.top ∷ codes "H" ∷ decimal at.right ∷ codes "V" ∷ decimal at.bottom ∷ codes "H" ∷ decimal at.left ∷
-    codes "Z\"/><text class=\"name\" x=\"" ∷ decimal at.left ∷ codes "\" y=\"" ∷ decimal at.bottom ∷
-    codes "\" dx=\"8\" dy=\"-34\">" ∷ d.name ∷ codes " " ∷ driver_word d.kind ∷ codes "</text><text x=\"" ∷
-    decimal at.left ∷ codes "\" y=\"" ∷ decimal at.bottom ∷ codes "\" dx=\"8\" dy=\"-20\">minors " ∷
-    decimal d.minors ∷ codes ", longest " ∷ decimal d.max ∷ codes "</text><text x=\"" ∷ decimal at.left ∷
-    codes "\" y=\"" ∷ decimal at.bottom ∷ codes "\" dx=\"8\" dy=\"-8\">high " ∷ decimal d.high ∷ codes ", low " ∷
-    decimal d.low ∷ codes "</text></g>\n" ∷ [])
+    joined (box (driver_word d.kind) at ∷ codes "<text class=\"name\" x=\"" ∷ decimal at.left ∷
+    codes "\" y=\"" ∷ decimal at.bottom ∷ codes "\" dx=\"8\" dy=\"-34\">" ∷ d.name ∷ codes " " ∷
+    driver_word d.kind ∷ codes "</text><text x=\"" ∷ decimal at.left ∷ codes "\" y=\"" ∷ decimal at.bottom ∷
+    codes "\" dx=\"8\" dy=\"-20\">minors " ∷ decimal d.minors ∷ codes ", longest " ∷ decimal d.max ∷
+    codes "</text><text x=\"" ∷ decimal at.left ∷ codes "\" y=\"" ∷ decimal at.bottom ∷
+    codes "\" dx=\"8\" dy=\"-8\">high " ∷ decimal d.high ∷ codes ", low " ∷ decimal d.low ∷
+    codes "</text></g>\n" ∷ [])
 
 -- a stream: its driver and its minor
 abbrev pub stream_element : StreamBox → Area → List ℕ
 stream_element s at =
-    joined (codes "<g class=\"stream\"><path d=\"M" ∷ decimal at.left ∷ codes " " ∷ decimal at.top ∷ codes "H" ∷
-    decimal at.right ∷ codes "V" ∷ decimal at.bottom ∷ codes "H" ∷ decimal at.left ∷ codes "Z\"/><text x=\"" ∷
-    decimal at.left ∷ codes "\" y=\"" ∷ decimal at.top ∷ codes "\" dx=\"5\" dy=\"13\">" ∷ s.driver ∷ codes " " ∷
-    decimal s.minor ∷ codes "</text></g>\n" ∷ [])
+    joined (box (codes "stream") at ∷ codes "<text x=\"" ∷ decimal at.left ∷ codes "\" y=\"" ∷ decimal at.top ∷
+    codes "\" dx=\"5\" dy=\"13\">" ∷ s.driver ∷ codes " " ∷ decimal s.minor ∷ codes "</text></g>\n" ∷ [])
 
 -- a queue: its side, its bytes and its marks, in numbers and as a gauge
 abbrev pub gauge_element : Gauge → Area → List ℕ
 gauge_element g at =
-    joined (codes "<g class=\"queue\"><path d=\"M" ∷ decimal at.left ∷ codes " " ∷ decimal at.top ∷ codes "H" ∷
-    decimal at.right ∷ codes "V" ∷ decimal at.bottom ∷ codes "H" ∷ decimal at.left ∷
-    codes "Z\"/><path class=\"bytes\" d=\"M" ∷ decimal at.left ∷ codes " " ∷ decimal at.top ∷ codes "H" ∷
-    decimal g.level ∷ codes "V" ∷ decimal at.bottom ∷ codes "H" ∷ decimal at.left ∷
-    codes "Z\"/><path class=\"mark\" d=\"M" ∷ decimal g.mark ∷ codes " " ∷ decimal at.top ∷ codes "V" ∷
-    decimal at.bottom ∷ codes "\"/><text x=\"" ∷ decimal at.left ∷ codes "\" y=\"" ∷ decimal at.top ∷
-    codes "\" dx=\"5\" dy=\"11\">" ∷ side_word g.side ∷ codes " " ∷ decimal g.bytes ∷ codes " of " ∷
-    decimal g.high ∷ codes ", low " ∷ decimal g.low ∷ codes "</text></g>\n" ∷ [])
+    joined (box (codes "queue") at ∷ codes "<path class=\"bytes\" d=\"M" ∷ decimal at.left ∷ codes " " ∷
+    decimal at.bottom ∷ codes "H" ∷ decimal g.level ∷ codes "\"/><path class=\"mark\" d=\"M" ∷ decimal g.mark ∷
+    codes " " ∷ decimal at.top ∷ codes "V" ∷ decimal at.bottom ∷ codes "\"/><text x=\"" ∷ decimal at.left ∷
+    codes "\" y=\"" ∷ decimal at.top ∷ codes "\" dx=\"5\" dy=\"11\">" ∷ side_word g.side ∷ codes " " ∷
+    decimal g.bytes ∷ codes " of " ∷ decimal g.high ∷ codes "</text></g>\n" ∷ [])
 
 -- a descriptor: its process and its number
 abbrev pub descriptor_element : DescriptorLine → Area → List ℕ
@@ -69,37 +64,27 @@ route_element r at =
 -- a link: a way from its upper driver to its lower stream, its id and kind, and its controlling stream
 abbrev pub link_element : LinkLine → Area → List ℕ
 link_element l at =
-    joined (codes "<g class=\"" ∷ link_word l.kind ∷ codes "\"><path d=\"M" ∷ decimal at.left ∷ codes " " ∷
-    decimal at.top ∷ codes "C" ∷ decimal at.left ∷ codes " " ∷ decimal at.bottom ∷ codes " " ∷ decimal at.right ∷
-    codes " " ∷ decimal at.top ∷ codes " " ∷ decimal at.right ∷ codes " " ∷ decimal at.bottom ∷
-    codes "\"/><circle cx=\"" ∷ decimal at.left ∷ codes "\" cy=\"" ∷ decimal at.top ∷
-    codes "\" r=\"3\"/><circle cx=\"" ∷ decimal at.right ∷ codes "\" cy=\"" ∷ decimal at.bottom ∷
-    codes "\" r=\"3\"/><text class=\"id\" x=\"" ∷ decimal at.left ∷ codes "\" y=\"" ∷ decimal at.top ∷
-    codes "\" dx=\"6\" dy=\"13\">" ∷ decimal l.id ∷ codes " " ∷ link_word l.kind ∷ codes "</text><text x=\"" ∷
-    decimal at.left ∷ codes "\" y=\"" ∷ decimal at.top ∷ codes "\" dx=\"6\" dy=\"25\">by " ∷ l.ctl_driver ∷
-    codes " " ∷ decimal l.ctl_minor ∷ codes "</text></g>\n" ∷ [])
+    joined (curve l.kind at ∷ codes "<text class=\"id\" x=\"" ∷ decimal at.right ∷ codes "\" y=\"" ∷
+    decimal at.bottom ∷ codes "\" dx=\"9\" dy=\"20\">link " ∷ decimal l.id ∷ codes " " ∷ link_word l.kind ∷
+    codes "</text><text x=\"" ∷ decimal at.right ∷ codes "\" y=\"" ∷ decimal at.bottom ∷
+    codes "\" dx=\"9\" dy=\"34\">by " ∷ l.ctl_driver ∷ codes " " ∷ decimal l.ctl_minor ∷
+    codes "</text></g>\n" ∷ [])
 
 -- a message: its serial, its address and its length
 abbrev pub message_element : MessageLine → Area → List ℕ
 message_element m at =
-    joined (codes "<g class=\"message\"><path d=\"M" ∷ decimal at.left ∷ codes " " ∷ decimal at.top ∷ codes "H" ∷
-    decimal at.right ∷ codes "V" ∷ decimal at.bottom ∷ codes "H" ∷ decimal at.left ∷ codes "Z\"/><text x=\"" ∷
-    decimal at.left ∷ codes "\" y=\"" ∷ decimal at.top ∷ codes "\" dx=\"5\" dy=\"10\">message " ∷
-    decimal m.message.serial ∷ codes " to " ∷ decimal m.message.addr ∷ codes ", " ∷
-    decimal (shown_length m.message.bytes) ∷ codes " B</text></g>\n" ∷ [])
+    joined (box (codes "message") at ∷ codes "<text x=\"" ∷ decimal at.left ∷ codes "\" y=\"" ∷ decimal at.top ∷
+    codes "\" dx=\"5\" dy=\"10\">message " ∷ decimal m.message.serial ∷ codes " to " ∷ decimal m.message.addr ∷
+    codes ", " ∷ decimal (shown_length m.message.bytes) ∷ codes " B</text></g>\n" ∷ [])
 
 -- the mark of a full queue
 abbrev pub full_element : FullLine → Area → List ℕ
 full_element f at =
-    joined (codes "<g class=\"full\"><path d=\"M" ∷ decimal at.left ∷ codes " " ∷ decimal at.top ∷ codes "H" ∷
-    decimal at.right ∷ codes "V" ∷ decimal at.bottom ∷ codes "H" ∷ decimal at.left ∷ codes "Z\"/><text x=\"" ∷
-    decimal at.right ∷ codes "\" y=\"" ∷ decimal at.top ∷ codes "\" dx=\"-4\" dy=\"11\">full</text></g>\n" ∷
-    [])
+    joined (box (codes "full") at ∷ codes "<text x=\"" ∷ decimal at.right ∷ codes "\" y=\"" ∷ decimal at.top ∷
+    codes "\" dx=\"-4\" dy=\"11\">full</text></g>\n" ∷ [])
 
 -- the mark of a stream whose device has hung up
 abbrev pub hung_element : HungLine → Area → List ℕ
 hung_element h at =
-    joined (codes "<g class=\"hung\"><path d=\"M" ∷ decimal at.left ∷ codes " " ∷ decimal at.top ∷ codes "H" ∷
-    decimal at.right ∷ codes "V" ∷ decimal at.bottom ∷ codes "H" ∷ decimal at.left ∷ codes "Z\"/><text x=\"" ∷
-    decimal at.right ∷ codes "\" y=\"" ∷ decimal at.top ∷ codes "\" dx=\"-4\" dy=\"13\">hung up</text></g>\n" ∷
-    [])
+    joined (box (codes "hung") at ∷ codes "<text x=\"" ∷ decimal at.right ∷ codes "\" y=\"" ∷ decimal at.top ∷
+    codes "\" dx=\"-4\" dy=\"13\">hung up</text></g>\n" ∷ [])

@@ -18,7 +18,7 @@ svg_looks =
     codes ".mux path { fill: #eef4fb; stroke: #57606a }\n" ∷
     codes ".leaf path { fill: #eef7ee; stroke: #57606a }\n" ∷ codes ".name { font: bold 13px sans-serif }\n" ∷
     codes ".stream path { fill: #ffffff }\n" ∷ codes ".stream text { font-weight: bold }\n" ∷
-    codes ".queue .bytes { fill: #ffd479; stroke: none }\n" ∷
+    codes ".queue .bytes { stroke: #d9a017; stroke-width: 5 }\n" ∷
     codes ".queue .mark { stroke: #b0b7bf; stroke-dasharray: 2 2 }\n" ∷
     codes ".message path { fill: #fff8e1; stroke: #d9c27a }\n" ∷ codes ".address { fill: #57606a }\n" ∷
     codes ".full path { stroke: #cf222e; stroke-width: 2 }\n" ∷
@@ -35,10 +35,14 @@ svg_looks =
 abbrev pub svg_head : ℕ → ℕ → List ℕ
 svg_head width height =
     joined (svg_size width height ∷ svg_looks ∷ codes "<rect class=\"page\" width=\"100%\" height=\"100%\"/>\n" ∷
-    codes "<g class=\"ordinary\"><path d=\"M24 20H64\"/><text class=\"id\" x=\"70\" y=\"24\">ordinary link</text></g>\n" ∷
-    codes "<g class=\"persistent\"><path d=\"M150 20H190\"/><text class=\"id\" x=\"196\" y=\"24\">persistent link</text></g>\n" ∷
-    codes "<g class=\"full\"><path d=\"M290 12H320V28H290Z\"/></g><text x=\"326\" y=\"24\">full queue</text>\n" ∷
-    codes "<g class=\"hung\"><path d=\"M390 12H420V28H390Z\"/></g><text x=\"426\" y=\"24\">stream hung up</text>\n" ∷
+    codes "<g class=\"ordinary\"><path d=\"M24 20H64\"/>" ∷
+    codes "<text class=\"id\" x=\"70\" y=\"24\">ordinary link</text></g>\n" ∷
+    codes "<g class=\"persistent\"><path d=\"M150 20H190\"/>" ∷
+    codes "<text class=\"id\" x=\"196\" y=\"24\">persistent link</text></g>\n" ∷
+    codes "<g class=\"full\"><path d=\"M290 12H320V28H290Z\"/></g>" ∷
+    codes "<text x=\"326\" y=\"24\">full queue</text>\n" ∷
+    codes "<g class=\"hung\"><path d=\"M390 12H420V28H390Z\"/></g>" ∷
+    codes "<text x=\"426\" y=\"24\">stream hung up</text>\n" ∷
     [])
 
 -- its foot, with the id of the next link and the serial of the next message

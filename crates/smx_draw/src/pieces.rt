@@ -2,7 +2,8 @@
 
 ghost use Rattle.std.specs.Prelude.{◌≡◌, ◌++◌, OnOk};
 ghost use Rattle.std.specs.Fmt.{decimal};
-ghost use Rattle.smx_draw.specs.Pieces.{driver_word, link_word, piece_text, pieces_text, shown_length, side_word, stroke};
+ghost use Rattle.smx_draw.specs.Pieces.{driver_word, link_word, side_word, stroke};
+ghost use Rattle.smx_draw.specs.Pieces.{piece_text, pieces_text, shown_length};
 
 use itoa::Buffer;
 use smx_types::{Bytes, DriverKind, LinkKind, Name, NoMemory, Process, Side};
@@ -69,7 +70,8 @@ fn put_number(out: &mut Vec<u8>, number: u32) -> Result<(), NoMemory>
     put_text(out, Buffer::new().format(number).as_bytes())
 }
 
-fn word_of_driver(kind: DriverKind) -> &'static [u8]
+/// The word for a kind of driver.
+pub fn word_of_driver(kind: DriverKind) -> &'static [u8]
     ensures { result.now ≡ driver_word kind }
 {
     match kind {

@@ -14,6 +14,7 @@ mod layers;
 mod mark_elements;
 mod placing;
 mod plan;
+mod strokes;
 mod view_elements;
 
 use crate::svg::area::Area;
@@ -66,7 +67,7 @@ fn plan_of(alloc: Global, drivers: &[DriverSpec], view: &ConfigView) -> Result<P
     count_all(&mut plan, view.msgs.as_slice());
     count_all(&mut plan, view.fulls.as_slice());
     count_all(&mut plan, view.hungs.as_slice());
-    plan.sink(view.links.as_slice());
+    plan.sink(alloc, view.links.as_slice())?;
     plan.place_all();
     Ok(plan)
 }

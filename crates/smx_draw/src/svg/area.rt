@@ -2,13 +2,15 @@
 
 use crate::svg::column::{ROW, WIDTH};
 
-/// A rectangle in pixels, from its upper left corner to its lower right one; or a way from the first point to the second.
+/// A rectangle in pixels, from its upper left corner to its lower right one. Or the way of a link: from the first point
+/// it comes down to `bend`, and from there to the height of the second, right beside it.
 #[derive(Clone, Copy, Debug, PartialEq, Eq)]
 pub struct Area {
     pub left: u32,
     pub top: u32,
     pub right: u32,
     pub bottom: u32,
+    pub bend: u32,
 }
 
 impl Area {
@@ -18,6 +20,7 @@ impl Area {
         top: 0,
         right: 0,
         bottom: 0,
+        bend: 0,
     };
 
     /// The row of a column that begins at a point.
@@ -32,6 +35,7 @@ impl Area {
             top,
             right: left.saturating_add(width),
             bottom: top.saturating_add(height),
+            bend: top,
         }
     }
 }

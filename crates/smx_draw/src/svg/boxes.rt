@@ -2,11 +2,12 @@
 
 ghost use Rattle.smx_draw.specs.SvgElements.{driver_element, gauge_element, stream_element};
 
-use crate::pieces::{Piece, put};
+use crate::pieces::{Piece, put, word_of_driver};
 use crate::svg::Drawn;
 use crate::svg::area::Area;
 use crate::svg::column::WIDTH;
 use crate::svg::plan::Plan;
+use crate::svg::strokes::put_box;
 use smx_types::{DriverSpec, Name, NoMemory, Side};
 use std::alloc::Global;
 
@@ -18,13 +19,12 @@ pub struct StreamBox {
     pub area: Area,
 }
 
-/// A queue in the picture, whose gauge goes up to the high water mark.
+/// A queue in the picture, whose gauge goes up to its high water mark.
 #[derive(Clone, Copy, Debug)]
 pub struct Gauge {
     pub side: Side,
     pub bytes: u32,
     pub high: u32,
-    pub low: u32,
     /// Where its bytes end in the gauge, and where its low water mark is.
     pub level: u32,
     pub mark: u32,
@@ -73,7 +73,6 @@ fn gauge_at(plan: &Plan, at: usize, side: Side) -> Option<Gauge> {
         side,
         bytes,
         high,
-        low,
         level: level_of(area, bytes, high),
         mark: level_of(area, low, high),
         area,
@@ -109,22 +108,11 @@ impl Drawn for DriverSpec {
     }
 
     fn put_at(&self, at: Area, out: &mut Vec<u8>) -> Result<(), NoMemory> {
+        put_box(out, word_of_driver(self.kind), at)?;
         put(
             out,
             &[
-                Piece::Text(b"<g class=\""),
-                Piece::Driver(self.kind),
-                Piece::Text(b"\"><path d=\"M"),
-                Piece::Number(at.left),
-                Piece::Text(b" "),
-                Piece::Number(at.top),
-                Piece::Text(b"H"),
-                Piece::Number(at.right),
-                Piece::Text(b"V"),
-                Piece::Number(at.bottom),
-                Piece::Text(b"H"),
-                Piece::Number(at.left),
-                Piece::Text(b"Z\"/><text class=\"name\" x=\""),
+                Piece::Text(b"<text class=\"name\" x=\""),
                 Piece::Number(at.left),
                 Piece::Text(b"\" y=\""),
                 Piece::Number(at.bottom),
@@ -162,20 +150,11 @@ impl Drawn for StreamBox {
     }
 
     fn put_at(&self, at: Area, out: &mut Vec<u8>) -> Result<(), NoMemory> {
+        put_box(out, b"stream", at)?;
         put(
             out,
             &[
-                Piece::Text(b"<g class=\"stream\"><path d=\"M"),
-                Piece::Number(at.left),
-                Piece::Text(b" "),
-                Piece::Number(at.top),
-                Piece::Text(b"H"),
-                Piece::Number(at.right),
-                Piece::Text(b"V"),
-                Piece::Number(at.bottom),
-                Piece::Text(b"H"),
-                Piece::Number(at.left),
-                Piece::Text(b"Z\"/><text x=\""),
+                Piece::Text(b"<text x=\""),
                 Piece::Number(at.left),
                 Piece::Text(b"\" y=\""),
                 Piece::Number(at.top),
@@ -197,30 +176,17 @@ impl Drawn for Gauge {
     }
 
     fn put_at(&self, at: Area, out: &mut Vec<u8>) -> Result<(), NoMemory> {
+        put_box(out, b"queue", at)?;
         put(
             out,
             &[
-                Piece::Text(b"<g class=\"queue\"><path d=\"M"),
+                Piece::Text(b"<path class=\"bytes\" d=\"M"),
                 Piece::Number(at.left),
                 Piece::Text(b" "),
-                Piece::Number(at.top),
-                Piece::Text(b"H"),
-                Piece::Number(at.right),
-                Piece::Text(b"V"),
                 Piece::Number(at.bottom),
-                Piece::Text(b"H"),
-                Piece::Number(at.left),
-                Piece::Text(b"Z\"/><path class=\"bytes\" d=\"M"),
-                Piece::Number(at.left),
-                Piece::Text(b" "),
-                Piece::Number(at.top),
                 Piece::Text(b"H"),
                 Piece::Number(self.level),
-                Piece::Text(b"V"),
-                Piece::Number(at.bottom),
-                Piece::Text(b"H"),
-                Piece::Number(at.left),
-                Piece::Text(b"Z\"/><path class=\"mark\" d=\"M"),
+                Piece::Text(b"\"/><path class=\"mark\" d=\"M"),
                 Piece::Number(self.mark),
                 Piece::Text(b" "),
                 Piece::Number(at.top),
@@ -236,8 +202,6 @@ impl Drawn for Gauge {
                 Piece::Number(self.bytes),
                 Piece::Text(b" of "),
                 Piece::Number(self.high),
-                Piece::Text(b", low "),
-                Piece::Number(self.low),
                 Piece::Text(b"</text></g>\n"),
             ],
         )

@@ -4,7 +4,7 @@ use crate::svg::area::Area;
 use smx_types::{Name, Side};
 
 /// How wide a column is.
-pub const WIDTH: u32 = 176;
+pub const WIDTH: u32 = 144;
 
 /// How high a row of text is.
 pub const ROW: u32 = 14;
@@ -26,6 +26,8 @@ pub struct Rows {
 pub struct Column {
     /// Its driver and minor, once a line of the view names it.
     pub stream: Option<(Name, u32)>,
+    /// Whether it is linked below a driver. The two lines of the link then stand below its name.
+    pub linked: bool,
     pub left: u32,
     pub top: u32,
     pub descriptors: Rows,
@@ -88,6 +90,7 @@ impl Column {
     /// The column of a stream that no line names yet.
     pub const UNNAMED: Column = Column {
         stream: None,
+        linked: false,
         left: 0,
         top: 0,
         descriptors: Rows::NONE,
@@ -130,14 +133,21 @@ impl Column {
             .saturating_add(self.read.messages.count);
         rows.saturating_add(messages)
             .saturating_mul(ROW)
-            .saturating_add(HEAD + 2 * GAUGE)
+            .saturating_add(self.head())
+            .saturating_add(2 * GAUGE)
+    }
+
+    // How high its name is, with the lines of a link.
+    fn head(&self) -> u32 {
+        if self.linked { HEAD + 2 * ROW } else { HEAD }
     }
 
     /// Puts it here, with its rows: descriptors, bindings, and each queue with its messages.
     pub fn put_at(&mut self, left: u32, top: u32) {
         self.left = left;
         self.top = top;
-        let bindings = self.descriptors.put_at(top.saturating_add(HEAD));
+        let head = top.saturating_add(self.head());
+        let bindings = self.descriptors.put_at(head);
         let written = self.bindings.put_at(bindings);
         let read = self.written.put_at(written);
         let _end = self.read.put_at(read);

@@ -29,7 +29,8 @@ impl Counted for DescriptorLine {
 impl Counted for LinkLine {
     fn count(&self, plan: &mut Plan) {
         // The controlling stream of a persistent link may be gone; where it isn't, another line names it.
-        let _lower = plan.name(&self.lower_driver, self.lower_minor);
+        let lower = plan.name(&self.lower_driver, self.lower_minor);
+        plan.add_lower(lower);
         let upper = plan.frame_of(&self.ctl_driver);
         plan.add_link(upper);
     }

@@ -16,18 +16,14 @@ pub fn put_head(out: &mut Vec<u8>, width: u32, height: u32) -> Result<(), NoMemo
         out,
         &[
             Piece::Text(b"<rect class=\"page\" width=\"100%\" height=\"100%\"/>\n"),
-            Piece::Text(
-                b"<g class=\"ordinary\"><path d=\"M24 20H64\"/><text class=\"id\" x=\"70\" y=\"24\">ordinary link</text></g>\n",
-            ),
-            Piece::Text(
-                b"<g class=\"persistent\"><path d=\"M150 20H190\"/><text class=\"id\" x=\"196\" y=\"24\">persistent link</text></g>\n",
-            ),
-            Piece::Text(
-                b"<g class=\"full\"><path d=\"M290 12H320V28H290Z\"/></g><text x=\"326\" y=\"24\">full queue</text>\n",
-            ),
-            Piece::Text(
-                b"<g class=\"hung\"><path d=\"M390 12H420V28H390Z\"/></g><text x=\"426\" y=\"24\">stream hung up</text>\n",
-            ),
+            Piece::Text(b"<g class=\"ordinary\"><path d=\"M24 20H64\"/>"),
+            Piece::Text(b"<text class=\"id\" x=\"70\" y=\"24\">ordinary link</text></g>\n"),
+            Piece::Text(b"<g class=\"persistent\"><path d=\"M150 20H190\"/>"),
+            Piece::Text(b"<text class=\"id\" x=\"196\" y=\"24\">persistent link</text></g>\n"),
+            Piece::Text(b"<g class=\"full\"><path d=\"M290 12H320V28H290Z\"/></g>"),
+            Piece::Text(b"<text x=\"326\" y=\"24\">full queue</text>\n"),
+            Piece::Text(b"<g class=\"hung\"><path d=\"M390 12H420V28H390Z\"/></g>"),
+            Piece::Text(b"<text x=\"426\" y=\"24\">stream hung up</text>\n"),
         ],
     )
 }
@@ -66,7 +62,7 @@ fn put_looks(out: &mut Vec<u8>) -> Result<(), NoMemory>
             Piece::Text(b".name { font: bold 13px sans-serif }\n"),
             Piece::Text(b".stream path { fill: #ffffff }\n"),
             Piece::Text(b".stream text { font-weight: bold }\n"),
-            Piece::Text(b".queue .bytes { fill: #ffd479; stroke: none }\n"),
+            Piece::Text(b".queue .bytes { stroke: #d9a017; stroke-width: 5 }\n"),
             Piece::Text(b".queue .mark { stroke: #b0b7bf; stroke-dasharray: 2 2 }\n"),
             Piece::Text(b".message path { fill: #fff8e1; stroke: #d9c27a }\n"),
             Piece::Text(b".address { fill: #57606a }\n"),

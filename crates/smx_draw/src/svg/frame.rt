@@ -6,10 +6,13 @@ use crate::svg::column::{ROW, WIDTH};
 // The room round the columns, and between two.
 const PADDING: u32 = 8;
 
-// How wide a frame is at least, and what each link below it takes.
-const LEAST: u32 = 192;
+// How many columns stand beside one another.
+const BESIDE: u32 = 12;
 
-const LINK: u32 = 96;
+// How wide a frame is at least, and how far apart links leave it.
+const LEAST: u32 = 168;
+
+const LINK: u32 = 10;
 
 // How high the lines of a driver are.
 const TITLE: u32 = 48;
@@ -55,31 +58,36 @@ impl Frame {
 
     /// How wide it is.
     pub fn width(&self) -> u32 {
-        let columns = self.columns.saturating_mul(WIDTH + PADDING);
+        let columns = self.columns.min(BESIDE) * (WIDTH + PADDING);
         let links = self.links.saturating_mul(LINK);
         columns.max(links).saturating_add(PADDING).max(LEAST)
     }
 
     /// How high it is.
     pub fn height(&self) -> u32 {
-        self.rows_end().saturating_add(TITLE)
+        self.columns_height()
+            .saturating_add(self.routes.saturating_mul(ROW))
+            .saturating_add(TITLE)
     }
 
-    // Where the rows of its routes end, from its top.
-    fn rows_end(&self) -> u32 {
-        self.routes
-            .saturating_mul(ROW)
-            .saturating_add(self.highest)
+    // How high its columns are, in rows of twelve.
+    fn columns_height(&self) -> u32 {
+        let rows = self.columns.saturating_add(BESIDE - 1) / BESIDE;
+        self.row_height()
+            .saturating_mul(rows)
             .saturating_add(PADDING)
+    }
+
+    fn row_height(&self) -> u32 {
+        self.highest.saturating_add(PADDING)
     }
 
     /// Puts it here.
     pub fn put_at(&mut self, left: u32, top: u32) {
         self.left = left;
         self.top = top;
-        self.next_column = left.saturating_add(PADDING);
         self.next_link = left.saturating_add(PADDING);
-        self.next_route = top.saturating_add(PADDING).saturating_add(self.highest);
+        self.next_route = top.saturating_add(self.columns_height());
     }
 
     /// All of it.
@@ -89,15 +97,20 @@ impl Frame {
 
     /// The upper left corner of its next column.
     pub fn take_column(&mut self) -> (u32, u32) {
-        let left = self.next_column;
-        self.next_column = left.saturating_add(WIDTH + PADDING);
-        (left, self.top.saturating_add(PADDING))
+        let at = self.next_column;
+        self.next_column = at.saturating_add(1);
+        let left = at % BESIDE * (WIDTH + PADDING) + PADDING;
+        let top = self
+            .row_height()
+            .saturating_mul(at / BESIDE)
+            .saturating_add(PADDING);
+        (self.left.saturating_add(left), self.top.saturating_add(top))
     }
 
     /// Where its next link leaves it: links share its width.
     pub fn take_link(&mut self) -> (u32, u32) {
         let left = self.next_link;
-        let share = self.width() / self.links.max(1);
+        let share = self.width().saturating_sub(PADDING) / self.links.max(1);
         self.next_link = left.saturating_add(share.max(LINK));
         (left, self.top.saturating_add(self.height()))
     }

@@ -1,23 +1,44 @@
 //! The layers of the drivers: each stands below those that have it linked below them.
 
 use crate::svg::plan::Plan;
-use smx_types::LinkLine;
+use smx_types::{LinkLine, NoMemory};
+use std::alloc::Global;
+
+// A link between the frames of two drivers.
+#[derive(Clone, Copy, Debug)]
+struct Way {
+    upper: usize,
+    lower: usize,
+}
 
 impl Plan {
     /// Sinks each lower driver below the upper ones of its links. Each pass settles one link more of the longest way
-    /// down, so as many passes as there are drivers are enough. Where links form a cycle, it ends all the same.
-    pub fn sink(&mut self, links: &[LinkLine]) {
+    /// down, so as many passes as there are drivers are enough. Where links form a cycle, it ends all the same. Fails
+    /// only for want of memory.
+    pub fn sink(&mut self, alloc: Global, links: &[LinkLine]) -> Result<(), NoMemory> {
+        let ways = self.ways_of(alloc, links)?;
         for _pass in 0..self.drivers.len() {
-            self.sink_once(links);
+            self.sink_once(ways.as_slice());
         }
+        Ok(())
     }
 
-    fn sink_once(&mut self, links: &[LinkLine]) {
+    // The frames of each link, which are looked up once.
+    fn ways_of(&self, alloc: Global, links: &[LinkLine]) -> Result<Vec<Way>, NoMemory> {
+        let mut ways = Vec::new(alloc);
         for link in links {
-            let upper = self.frame_of(&link.ctl_driver);
-            let lower = self.frame_of(&link.lower_driver);
-            let above = self.layer_of(upper);
-            self.sink_below(lower, above);
+            ways.push(Way {
+                upper: self.frame_of(&link.ctl_driver),
+                lower: self.frame_of(&link.lower_driver),
+            })?;
+        }
+        Ok(ways)
+    }
+
+    fn sink_once(&mut self, ways: &[Way]) {
+        for way in ways {
+            let above = self.layer_of(way.upper);
+            self.sink_below(way.lower, above);
         }
     }
 

@@ -6,6 +6,7 @@ use crate::pieces::{Piece, put};
 use crate::svg::Drawn;
 use crate::svg::area::Area;
 use crate::svg::plan::Plan;
+use crate::svg::strokes::put_box;
 use smx_types::{FullLine, HungLine, NoMemory};
 
 impl Drawn for FullLine {
@@ -20,20 +21,11 @@ impl Drawn for FullLine {
     }
 
     fn put_at(&self, at: Area, out: &mut Vec<u8>) -> Result<(), NoMemory> {
+        put_box(out, b"full", at)?;
         put(
             out,
             &[
-                Piece::Text(b"<g class=\"full\"><path d=\"M"),
-                Piece::Number(at.left),
-                Piece::Text(b" "),
-                Piece::Number(at.top),
-                Piece::Text(b"H"),
-                Piece::Number(at.right),
-                Piece::Text(b"V"),
-                Piece::Number(at.bottom),
-                Piece::Text(b"H"),
-                Piece::Number(at.left),
-                Piece::Text(b"Z\"/><text x=\""),
+                Piece::Text(b"<text x=\""),
                 Piece::Number(at.right),
                 Piece::Text(b"\" y=\""),
                 Piece::Number(at.top),
@@ -55,20 +47,11 @@ impl Drawn for HungLine {
     }
 
     fn put_at(&self, at: Area, out: &mut Vec<u8>) -> Result<(), NoMemory> {
+        put_box(out, b"hung", at)?;
         put(
             out,
             &[
-                Piece::Text(b"<g class=\"hung\"><path d=\"M"),
-                Piece::Number(at.left),
-                Piece::Text(b" "),
-                Piece::Number(at.top),
-                Piece::Text(b"H"),
-                Piece::Number(at.right),
-                Piece::Text(b"V"),
-                Piece::Number(at.bottom),
-                Piece::Text(b"H"),
-                Piece::Number(at.left),
-                Piece::Text(b"Z\"/><text x=\""),
+                Piece::Text(b"<text x=\""),
                 Piece::Number(at.right),
                 Piece::Text(b"\" y=\""),
                 Piece::Number(at.top),

@@ -5,25 +5,71 @@ use crate::svg::plan::Plan;
 // The room round all frames, and between two.
 const MARGIN: u32 = 24;
 
-// What is above the first layer, and what lies between two: the curves of links.
+// What is above the first layer.
 const HEADER: u32 = 60;
 
-const BETWEEN: u32 = 120;
+/// What lies between two layers: the curves of links.
+pub const BETWEEN: u32 = 90;
 
 // The legend takes this.
 const LEAST_WIDTH: u32 = 640;
+
+// No further frame of a layer begins behind this, but below the others.
+const MOST_WIDTH: u32 = 2_400;
+
+/// Where the next frame of a layer stands, and where the highest one so far ends.
+#[derive(Clone, Copy, Debug)]
+struct Corner {
+    left: u32,
+    top: u32,
+    end: u32,
+}
+
+impl Corner {
+    // The first one of a layer that begins here.
+    fn below(top: u32) -> Corner {
+        Corner {
+            left: MARGIN,
+            top,
+            end: top,
+        }
+    }
+
+    // The one behind a frame of this size.
+    fn behind(self, width: u32, height: u32) -> Corner {
+        let left = self.left.saturating_add(width).saturating_add(MARGIN);
+        let end = self.end.max(self.top.saturating_add(height));
+        if left > MOST_WIDTH {
+            return Corner::below(end.saturating_add(MARGIN)).with_end(end);
+        }
+        Corner {
+            left,
+            top: self.top,
+            end,
+        }
+    }
+
+    fn with_end(self, end: u32) -> Corner {
+        Corner {
+            left: self.left,
+            top: self.top,
+            end,
+        }
+    }
+}
 
 impl Plan {
     /// Gives each frame and each column its place, layer by layer, once all lines are counted.
     pub fn place_all(&mut self) {
         self.measure();
         self.width = LEAST_WIDTH;
+        self.height = HEADER;
         let mut top = HEADER;
         for layer in 0..self.frames.len() {
-            let height = self.place_layer(layer, top);
-            if height > 0 {
-                self.height = top.saturating_add(height).saturating_add(MARGIN);
-                top = top.saturating_add(height).saturating_add(BETWEEN);
+            let end = self.place_layer(layer, top);
+            if end > top {
+                self.height = end.saturating_add(MARGIN);
+                top = end.saturating_add(BETWEEN);
             }
         }
         self.place_columns();
@@ -54,30 +100,29 @@ impl Plan {
         }
     }
 
-    // Puts the frames of a layer beside one another, and says how high the highest one is.
+    // Puts the frames of a layer beside and below one another, and says where the lowest one ends.
     fn place_layer(&mut self, layer: usize, top: u32) -> u32 {
-        let mut left = MARGIN;
-        let mut highest = 0;
+        let mut corner = Corner::below(top);
         for at in 0..self.frames.len() {
-            let (width, height) = self.place_frame(at, layer, left, top);
-            left = left.saturating_add(width);
-            highest = highest.max(height);
+            corner = self.place_frame(at, layer, corner);
         }
-        self.width = self.width.max(left);
-        highest
+        corner.end
     }
 
-    // Puts a frame here if it is of this layer, and says how much it takes. What names no driver has a frame only
-    // where there is such.
-    fn place_frame(&mut self, at: usize, layer: usize, left: u32, top: u32) -> (u32, u32) {
+    // Puts a frame here if it is of this layer, and says where the next one stands. What names no driver has a frame
+    // only where there is such.
+    fn place_frame(&mut self, at: usize, layer: usize, corner: Corner) -> Corner {
         let known = at < self.drivers.len();
-        match self.frames.get_mut(at) {
+        let (width, height) = match self.frames.get_mut(at) {
             Some(frame) if frame.layer == layer && (known || frame.columns > 0) => {
-                frame.put_at(left, top);
-                (frame.width().saturating_add(MARGIN), frame.height())
+                frame.put_at(corner.left, corner.top);
+                (frame.width(), frame.height())
             }
-            Some(_) | None => (0, 0),
-        }
+            Some(_) | None => return corner,
+        };
+        let right = corner.left.saturating_add(width).saturating_add(MARGIN);
+        self.width = self.width.max(right);
+        corner.behind(width, height)
     }
 
     fn place_columns(&mut self) {

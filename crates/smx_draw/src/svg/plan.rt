@@ -1,6 +1,6 @@
 //! The plan of a picture: the frames of the drivers and the columns of the streams.
 
-use crate::svg::column::{Column, WIDTH};
+use crate::svg::column::Column;
 use crate::svg::frame::Frame;
 use smx_types::{DriverSpec, Name, NoMemory, Side};
 use std::alloc::Global;
@@ -68,6 +68,13 @@ impl Plan {
         at
     }
 
+    /// A link to this column.
+    pub fn add_lower(&mut self, column: usize) {
+        if let Some(column) = self.columns.get_mut(column) {
+            column.linked = true;
+        }
+    }
+
     /// A descriptor more in this column.
     pub fn add_descriptor(&mut self, column: usize) {
         if let Some(column) = self.columns.get_mut(column) {
@@ -111,10 +118,10 @@ impl Plan {
         }
     }
 
-    /// Where a link comes to this column: the middle of its top.
-    pub fn head_of(&self, column: usize) -> (u32, u32) {
+    /// Where a link comes to this column: beside its name.
+    pub fn side_of(&self, column: usize) -> (u32, u32) {
         match self.columns.get(column) {
-            Some(column) => (column.left.saturating_add(WIDTH / 2), column.top),
+            Some(column) => (column.left.saturating_sub(4), column.top.saturating_add(9)),
             None => (0, 0),
         }
     }

@@ -6,7 +6,9 @@ ghost use Rattle.smx_draw.specs.SvgElements.{message_element, route_element};
 use crate::pieces::{Piece, put};
 use crate::svg::Drawn;
 use crate::svg::area::Area;
+use crate::svg::placing::BETWEEN;
 use crate::svg::plan::Plan;
+use crate::svg::strokes::{put_box, put_curve};
 use smx_types::{BindingLine, DescriptorLine, LinkLine, MessageLine, NoMemory, RouteLine};
 
 impl Drawn for DescriptorLine {
@@ -104,58 +106,34 @@ impl Drawn for LinkLine {
         let upper = plan.frame_of(&self.ctl_driver);
         let lower = plan.column_of(&self.lower_driver, self.lower_minor);
         let (left, top) = plan.take_link(upper);
-        let (right, bottom) = plan.head_of(lower);
+        let (right, bottom) = plan.side_of(lower);
         Area {
             left,
             top,
             right,
             bottom,
+            bend: top.saturating_add(BETWEEN),
         }
     }
 
     fn put_at(&self, at: Area, out: &mut Vec<u8>) -> Result<(), NoMemory> {
+        put_curve(out, self.kind, at)?;
         put(
             out,
             &[
-                Piece::Text(b"<g class=\""),
-                Piece::Link(self.kind),
-                Piece::Text(b"\"><path d=\"M"),
-                Piece::Number(at.left),
-                Piece::Text(b" "),
-                Piece::Number(at.top),
-                Piece::Text(b"C"),
-                Piece::Number(at.left),
-                Piece::Text(b" "),
-                Piece::Number(at.bottom),
-                Piece::Text(b" "),
+                Piece::Text(b"<text class=\"id\" x=\""),
                 Piece::Number(at.right),
-                Piece::Text(b" "),
-                Piece::Number(at.top),
-                Piece::Text(b" "),
-                Piece::Number(at.right),
-                Piece::Text(b" "),
-                Piece::Number(at.bottom),
-                Piece::Text(b"\"/><circle cx=\""),
-                Piece::Number(at.left),
-                Piece::Text(b"\" cy=\""),
-                Piece::Number(at.top),
-                Piece::Text(b"\" r=\"3\"/><circle cx=\""),
-                Piece::Number(at.right),
-                Piece::Text(b"\" cy=\""),
-                Piece::Number(at.bottom),
-                Piece::Text(b"\" r=\"3\"/><text class=\"id\" x=\""),
-                Piece::Number(at.left),
                 Piece::Text(b"\" y=\""),
-                Piece::Number(at.top),
-                Piece::Text(b"\" dx=\"6\" dy=\"13\">"),
+                Piece::Number(at.bottom),
+                Piece::Text(b"\" dx=\"9\" dy=\"20\">link "),
                 Piece::Number(self.id),
                 Piece::Text(b" "),
                 Piece::Link(self.kind),
                 Piece::Text(b"</text><text x=\""),
-                Piece::Number(at.left),
+                Piece::Number(at.right),
                 Piece::Text(b"\" y=\""),
-                Piece::Number(at.top),
-                Piece::Text(b"\" dx=\"6\" dy=\"25\">by "),
+                Piece::Number(at.bottom),
+                Piece::Text(b"\" dx=\"9\" dy=\"34\">by "),
                 Piece::Name(&self.ctl_driver),
                 Piece::Text(b" "),
                 Piece::Number(self.ctl_minor),
@@ -177,20 +155,11 @@ impl Drawn for MessageLine {
     }
 
     fn put_at(&self, at: Area, out: &mut Vec<u8>) -> Result<(), NoMemory> {
+        put_box(out, b"message", at)?;
         put(
             out,
             &[
-                Piece::Text(b"<g class=\"message\"><path d=\"M"),
-                Piece::Number(at.left),
-                Piece::Text(b" "),
-                Piece::Number(at.top),
-                Piece::Text(b"H"),
-                Piece::Number(at.right),
-                Piece::Text(b"V"),
-                Piece::Number(at.bottom),
-                Piece::Text(b"H"),
-                Piece::Number(at.left),
-                Piece::Text(b"Z\"/><text x=\""),
+                Piece::Text(b"<text x=\""),
                 Piece::Number(at.left),
                 Piece::Text(b"\" y=\""),
                 Piece::Number(at.top),
