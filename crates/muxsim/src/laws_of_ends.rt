@@ -16,25 +16,31 @@ ghost use Rattle.muxsim.specs.declared.jobs.Job.{Job as AnyJob};
 /// The status 0 tells that the job was done: what was written for the input is what was asked for, all of it, and flushed.
 /// Of a check it tells that the transcript is legal, and the status 4 that it is judged otherwise.
 pub fn a_status_tells_what_was_done()
-    ensures run { (fronts : Bool) (workers : ℕ) (d : Devices) (code : ExitCode) (input output : List ℕ) → EndsRun fronts workers d code
-        → Writes d input output → exit_status code ≡ 0 → (d.flushed ≡ true) × GivesFor (running fronts workers) input tt output }
+    ensures run { (fronts : Bool) (workers : ℕ) (d : Devices) (code : ExitCode) (input output : List ℕ)
+        → EndsRun fronts workers d code → Writes d input output → exit_status code ≡ 0
+        → (d.flushed ≡ true) × GivesFor (running fronts workers) input tt output }
     ensures replay { (d : Devices) (code : ExitCode) (input output : List ℕ) → EndsReplay d code
-        → Writes d input output → exit_status code ≡ 0 → (d.flushed ≡ true) × GivesFor replaying input tt output }
+        → Writes d input output → exit_status code ≡ 0
+        → (d.flushed ≡ true) × GivesFor replaying input tt output }
     ensures legal { (d : Devices) (code : ExitCode) (input output : List ℕ) → EndsCheck d code
-        → Writes d input output → exit_status code ≡ 0 → (d.flushed ≡ true) × GivesFor checking input Legal output }
+        → Writes d input output → exit_status code ≡ 0
+        → (d.flushed ≡ true) × GivesFor checking input Legal output }
     ensures not_legal { (d : Devices) (code : ExitCode) (input output : List ℕ) → EndsCheck d code
         → Writes d input output → exit_status code ≡ 4
         → (d.flushed ≡ true) × (v : Verdict) × (v ≢ Legal) × GivesFor checking input v output }
 {}
 
-/// The status 5 tells that a device failed, and no other does; 1 and 3 tell that nothing was written; 2 is that of no job, and 4
-/// that of no run and no replay.
+/// The status 5 tells that a device failed, and no other does; 1 and 3 tell that nothing was written; 2 is that of no job,
+/// and 4 that of no run and no replay.
 pub fn a_status_tells_what_failed()
     ensures failed { (job : AnyJob) (d : Devices) (code : ExitCode) → EndsJob job d code
         → (exit_status code ≡ 5) ↔ ((d.read_failures ≡ 1) ⊎ (d.write_failures ≡ 1)) }
     ensures unwritten { (job : AnyJob) (d : Devices) (code : ExitCode) → EndsJob job d code
         → (exit_status code ≡ 1) ⊎ (exit_status code ≡ 3) → Keeps d.before d.after }
-    ensures no_words { (job : AnyJob) (d : Devices) (code : ExitCode) → EndsJob job d code → exit_status code ≡ 2 → ⊥ }
-    ensures no_verdict_of_a_run { (fronts : Bool) (workers : ℕ) (d : Devices) (code : ExitCode) → EndsRun fronts workers d code → exit_status code ≡ 4 → ⊥ }
-    ensures no_verdict_of_a_replay { (d : Devices) (code : ExitCode) → EndsReplay d code → exit_status code ≡ 4 → ⊥ }
+    ensures no_words { (job : AnyJob) (d : Devices) (code : ExitCode) → EndsJob job d code
+        → exit_status code ≡ 2 → ⊥ }
+    ensures no_verdict_of_a_run { (fronts : Bool) (workers : ℕ) (d : Devices) (code : ExitCode)
+        → EndsRun fronts workers d code → exit_status code ≡ 4 → ⊥ }
+    ensures no_verdict_of_a_replay { (d : Devices) (code : ExitCode) → EndsReplay d code
+        → exit_status code ≡ 4 → ⊥ }
 {}

@@ -28,9 +28,9 @@ use Rattle.smx_run.specs.declared.run_fault.RunFault.{RunFault}
 use Rattle.smx_run.specs.declared.run_fault.RunFault.TheVariants as run
 use Rattle.smx_filters.proofs.OneProcessLemmas.{in_turn}
 use Rattle.smx_filters.proofs.ReadingLemmas.{HasOneReading, no_fault, one_fault, one_value}
-use Rattle.smx_filters.specs.CheckText.{IsJudged, checking, verdict_line}
-use Rattle.smx_filters.specs.Filters.{Answers, Filter, GivesFor, IsFaultOf, IsWantOfMemory, RefusesFor}
-use Rattle.smx_filters.specs.ReplayText.{IsReplayed, replaying}
+use Rattle.smx_filters.specs.CheckText.{checking, verdict_line}
+use Rattle.smx_filters.specs.Filters.{Answers, Filter, GivesFor, IsWantOfMemory, RefusesFor}
+use Rattle.smx_filters.specs.ReplayText.{replaying}
 use Rattle.smx_filters.specs.RunText.{IsRefusedFor, IsTranscriptInTurn, IsWrittenFor, running}
 use Rattle.smx_filters.specs.declared.main_fault.MainFault.{MainFault}
 use Rattle.smx_filters.specs.declared.main_fault.MainFault.TheVariants.{Refused, Text, TooLong, ReadFailed, WriteFailed}

@@ -26,8 +26,8 @@ use smx_model::laws_of_reports::reports_are_determined;
 use smx_replay::laws_of_replays::a_transcript_has_one_replay;
 use smx_text::laws::{one_text_has_one_reading, one_transcript_has_one_reading};
 
-/// A check, a replay and a run on one worker have one answer to an input, and one output, unless memory was wanting: what is
-/// done isn't refused, and what is refused is refused for one fault.
+/// A check, a replay and a run on one worker have one answer to an input, and one output, unless memory was wanting: what
+/// is done isn't refused, and what is refused is refused for one fault.
 pub fn an_input_has_one_answer()
     ensures checked { (input : List ℕ) (one other : Result (Verdict × List ℕ) MainFault)
         → Answers checking input one → Answers checking input other
@@ -59,10 +59,12 @@ pub fn a_run_of_one_process_has_one_answer()
     one_text_has_one_reading();
 }
 
-/// Programs that several workers have run aren't refused for their drivers, whether their fronts or a transcript came of them.
+/// Programs that several workers have run aren't refused for their drivers, whether their fronts or a transcript came of
+/// them.
 pub fn what_is_run_has_drivers()
     ensures { (fronts : Bool) (workers : ℕ) (input output : List ℕ) (done : Unit {0}) (fault : ConfigFault)
-        → GivesFor (running fronts workers) input done output → RefusesFor (running fronts workers) input (run.ConfigFault fault) → ⊥ }
+        → GivesFor (running fronts workers) input done output
+        → RefusesFor (running fronts workers) input (run.ConfigFault fault) → ⊥ }
 {
     drivers_have_one_fault();
     one_text_has_one_reading();
@@ -71,8 +73,8 @@ pub fn what_is_run_has_drivers()
 /// What a run writes for its transcript, by however many workers, spells a report of the programs in their version, and
 /// nothing else. A check judges it legal.
 pub fn a_run_writes_one_legal_transcript()
-    ensures legal { (workers : ℕ) (programs : ProgramLists) (output : List ℕ) → IsWrittenFor false workers programs output
-        → (line : List ℕ) × GivesFor checking output Legal line }
+    ensures legal { (workers : ℕ) (programs : ProgramLists) (output : List ℕ)
+        → IsWrittenFor false workers programs output → (line : List ℕ) × GivesFor checking output Legal line }
     ensures no_other { (workers : ℕ) (programs : ProgramLists) (output : List ℕ) (version : Version) (t : Transcript)
         → IsWrittenFor false workers programs output → Spells (transcript_grammar version) output t
         → (t.version ≡ programs.version) × IsReportOf programs t }
