@@ -11,7 +11,7 @@ use Rattle.smx_run.specs.ProgramOrder.{calls_of}
 use Rattle.smx_run.specs.Desks.{HasRecorded, PerformedAlone, PerformedRecording, PerformedSeated}
 use Rattle.smx_run.specs.declared.desk.Alone.{Alone}
 use Rattle.smx_run.specs.declared.recording.Recording.{Recording}
-use Rattle.smx_run.specs.declared.desk.Seated.{Seated}
+use Rattle.smx_run.specs.declared.desk.SeatDesk.{SeatDesk}
 
 -- the calls of two lists of commands, one after the other
 calls_more : (p : ℕ) (xs ys : List Command) → calls_of p (xs ++ ys) ≡ calls_of p xs ++ calls_of p ys
@@ -50,11 +50,11 @@ alone_more a b c xs ys p q = record {
 }
 
 -- the same at a seat
-pub seated_none : {D S : Type 0} (known : S → Known) → (a : Seated D S) → PerformedSeated known a [] a
+pub seated_none : {D S : Type 0} (known : S → Known) → (a : SeatDesk D S) → PerformedSeated known a [] a
 seated_none known a = record { door = refl; process = refl; calls = sym (append-nil (map call_of (known a.seat).own)) }
 
 -- the same at a seat
-pub seated_more : {D S : Type 0} (known : S → Known) → (a b c : Seated D S) (xs ys : List Command)
+pub seated_more : {D S : Type 0} (known : S → Known) → (a b c : SeatDesk D S) (xs ys : List Command)
     → PerformedSeated known a xs b → PerformedSeated known b ys c → PerformedSeated known a (xs ++ ys) c
 seated_more known a b c xs ys p q = record {
   door = q.door ∙ p.door;

@@ -10,7 +10,7 @@ use Rattle.smx_shared.specs.Seats.{Known, IsBeginningOf}
 use Rattle.smx_run.specs.ProgramOrder.{calls_of}
 use Rattle.smx_run.specs.declared.desk.Alone.{Alone}
 use Rattle.smx_run.specs.declared.recording.Recording.{Recording}
-use Rattle.smx_run.specs.declared.desk.Seated.{Seated}
+use Rattle.smx_run.specs.declared.desk.SeatDesk.{SeatDesk}
 
 -- some of these commands were performed, from the first on, and the next one was not, nor any behind it
 pub record StopsAmong {S : Type 0} (performed : S → List Command → S → Type 0) (a : S) (commands : List Command)
@@ -52,8 +52,8 @@ pub record PerformedRecording {K : Type 0} (told : Version → List DriverSpec �
       → HasRecorded (told version) b.recorder b.config (asked ++ calls_of a.process commands)
 
 -- these commands of the process were made here more, at the same door
-pub record PerformedSeated {D S : Type 0} (known : S → Known) (a : Seated D S) (commands : List Command)
-    (b : Seated D S) : Type 0 where
+pub record PerformedSeated {D S : Type 0} (known : S → Known) (a : SeatDesk D S) (commands : List Command)
+    (b : SeatDesk D S) : Type 0 where
   pub door : b.door ≡ a.door
   pub process : (known b.seat).process ≡ (known a.seat).process
   pub calls : map call_of (known b.seat).own
