@@ -66,7 +66,7 @@ pub fn replays_end_in_memory()
 pub fn drawings_end_in_memory()
     ensures ends { (input left output : List ℕ) (form : Form) (ended flushed : Bool) (answer : Result (Unit {0}) MainFault)
         → DrawsText form (Some input) (Some left) ended 0 (Some []) (Some output) flushed 0 answer
-        → EndsInMemory (drawing form) input left output flushed answer }
+        → EndsInMemory (drawing form) input left ended output flushed answer }
     ensures unread { (input left output : List ℕ) (form : Form) (ended flushed : Bool) (answer : Result (Unit {0}) MainFault)
         → DrawsText form (Some input) (Some left) ended 1 (Some []) (Some output) flushed 0 answer
         → (answer ≡ Err ReadFailed) × (output ≡ []) }
