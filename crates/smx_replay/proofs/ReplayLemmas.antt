@@ -15,7 +15,7 @@ use Rattle.smx_model.specs.Views.{view}
 use Rattle.smx_config.specs.Machine.{Machine}
 use Rattle.smx_text.specs.GrowingTranscripts.{BeginsTranscript, transcript_with}
 use Rattle.smx_text.specs.TranscriptText.{IsSpellable, transcript_text}
-use Rattle.smx_replay.specs.Answers.{answered}
+use Rattle.smx_replay.specs.Answers.{answered, answers_from, answers, HasCome}
 use Rattle.smx_replay.specs.Replays.{IsReplayOf, IsReplayText}
 
 -- ---- what the laws of histories say
@@ -29,15 +29,6 @@ AreDetermined = (drivers : List DriverSpec) (one other : List Entry) → IsLegal
     → map call_of one ≡ map call_of other → one ≡ other
 
 -- ---- the entries of a replay
-
--- the same calls, each with the reply that it gets, from this configuration on
-abbrev answers_from : List DriverSpec → Configuration → List Entry → List Entry
-answers_from drivers c [] = []
-answers_from drivers c (e ∷ es) = answered drivers c e ∷ answers_from drivers (step drivers c e.process e.command).0 es
-
--- and from the empty one on
-abbrev pub answers : List DriverSpec → List Entry → List Entry
-answers drivers es = answers_from drivers empty es
 
 -- they are a legal history
 legal_from : (drivers : List DriverSpec) (c : Configuration) (es : List Entry)
@@ -120,13 +111,11 @@ calls_alone t u r version drivers calls h = record {
 
 -- ---- what was written
 
--- a replay as far as these entries: the configuration is the one after them, and they stand in the text with their
--- replies
-pub record HasCome (version : Version) (drivers : List DriverSpec) (asked : List Entry) (m : Machine)
-    (bytes : List ℕ) : Type 0 where
-  pub same : m.drivers ≡ drivers
-  pub now : m.configuration ≡ after drivers asked
-  pub written : BeginsTranscript version drivers (answers drivers asked) bytes
+-- at first it has come as far as no entry
+pub begun : (version : Version) (drivers : List DriverSpec) (m : Machine) (bytes : List ℕ)
+    → m.drivers ≡ drivers → m.configuration ≡ empty → BeginsTranscript version drivers [] bytes
+    → HasCome version drivers [] m bytes
+begun version drivers m bytes same now written = record { same = same; now = now; written = written }
 
 -- as far as one entry more
 pub one_more : OneStepFurther → (version : Version) (drivers : List DriverSpec) (asked : List Entry) (e : Entry)

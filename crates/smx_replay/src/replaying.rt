@@ -3,17 +3,18 @@
 ghost use Rattle.std.specs.Prelude.{◌≡◌, ◌++◌, ◌∷◌, [], List, IfOk, IfErr, OnOk};
 ghost use Rattle.smx_types.specs.declared.command.Entry.{Entry as AnyEntry};
 ghost use Rattle.smx_types.specs.declared.driver.DriverSpec.{DriverSpec as AnyDriver};
+ghost use Rattle.smx_types.specs.declared.transcript.Transcript.{Transcript as AnyTranscript};
 ghost use Rattle.smx_types.specs.declared.version.Version.{Version as AnyVersion};
 ghost use Rattle.smx_config.specs.DriverFaults.{RefusesDrivers};
 ghost use Rattle.smx_model.specs.Commands.{step};
-ghost use Rattle.smx_replay.specs.Answers.{answered};
+ghost use Rattle.smx_replay.specs.Answers.{answered, HasCome};
 ghost use Rattle.smx_replay.specs.Replays.{IsReplayText};
 ghost use Rattle.smx_text.specs.GrowingTranscripts.{BeginsTranscript};
 
 use smx_config::{Config, ConfigFault};
 use smx_model::laws::one_entry_more;
 use smx_text::TranscriptWriter;
-use smx_types::{Entry, NoMemory, Transcript};
+use smx_types::{DriverSpec, Entries, Entry, NoMemory, Transcript, Version};
 use std::alloc::Global;
 use std::slice;
 
@@ -26,20 +27,49 @@ pub fn replay(alloc: Global, transcript: Transcript, room: Vec<u8>) -> Result<Ve
     ensures written { IfOk result (λ text. IsReplayText transcript text.items) }
     ensures refused { IfErr result (RefusesDrivers transcript.drivers) }
 {
-    one_entry_more();
     let Transcript {
         version,
         drivers,
         entries,
         ..
     } = transcript;
-    let mut config = Config::new(alloc, drivers.as_slice())?;
-    let mut writer = TranscriptWriter::begin(room, version, drivers.as_slice())?;
-    for entry in entries.into_vec() {
-        perform_again(&mut config, &mut writer, entry)?;
-    }
+    replay_entries(alloc, version, drivers.as_slice(), entries, room)
+}
+
+// The same for the parts of a transcript that play one.
+fn replay_entries(
+    alloc: Global,
+    version: Version,
+    drivers: &[DriverSpec],
+    entries: Entries,
+    room: Vec<u8>,
+) -> Result<Vec<u8>, ConfigFault>
+    ensures written { IfOk result (λ text. (t : AnyTranscript) → t.version ≡ version → t.drivers ≡ drivers.now
+        → t.entries ≡ entries → IsReplayText t text.items) }
+    ensures refused { IfErr result (RefusesDrivers drivers.now) }
+{
+    let mut config = Config::new(alloc, drivers)?;
+    let mut writer = TranscriptWriter::begin(room, version, drivers)?;
+    perform_all(&mut config, &mut writer, entries)?;
     let view = config.show()?;
     Ok(writer.finish(&view)?)
+}
+
+// Performs the commands of all entries, and writes each entry with the reply that it gets. Fails only for want of
+// memory.
+fn perform_all(
+    config: &mut Config,
+    writer: &mut TranscriptWriter,
+    entries: Entries,
+) -> Result<(), NoMemory>
+    ensures come { OnOk result ((version : AnyVersion) (drivers : List AnyDriver)
+        → HasCome version drivers [] config.old writer.old → HasCome version drivers entries config.new writer.new) }
+{
+    one_entry_more();
+    for entry in entries.into_vec() {
+        perform_again(config, writer, entry)?;
+    }
+    Ok(())
 }
 
 // Performs the command of an entry again, and writes the entry with the reply that it gets. Fails only for want of

@@ -1,0 +1,10 @@
+use Rattle.std.specs.Prelude.{List, []}
+use Rattle.smx_types.specs.declared.driver.DriverSpec.{DriverSpec}
+use Rattle.smx_types.specs.declared.version.Version.{Version}
+use Rattle.smx_replay.specs.Answers.{HasCome}
+use Rattle.smx_replay.proofs.replaying.perform_all.Given as goal
+
+abbrev pub invariant-loop-entry : goal.invariant-loop-entry
+invariant-loop-entry l = (version : Version) (drivers : List DriverSpec)
+    → HasCome version drivers [] l.fn.config l.fn.writer
+    → HasCome version drivers l.yielded l.config l.writer
