@@ -86,7 +86,8 @@ impl Tables {
     }
 
     // The least movable place, with where its first message goes. Only places with a run mark are looked at, and the
-    // marks of those that come before it are cleared.
+    // marks of those that come before it are cleared. Apart, so that the test before it is inlined.
+    #[inline(never)]
     fn marked_move(&self, marks: &mut Marks) -> Option<Move>
         requires sound { IsSound self.now.drivers self.now.configuration }
         requires marks { AreMarks self.now.drivers self.now.configuration marks.old }
