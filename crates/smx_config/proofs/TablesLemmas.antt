@@ -1,25 +1,25 @@
 -- What is known of the value of some tables, and of their fields.
 use Rattle.smx_config.specs.declared.tables.Tables.TheInside.{Inside}
-use Rattle.std.proofs.Common.{◌≡◌, ℕ, List, length, map, Result, ap, subst, sym, ◌∙◌}
+use Rattle.std.proofs.Common.{◌≡◌, ℕ, List, length, map, Ok, ap, subst, sym, ◌∙◌}
 use Rattle.smx_types.specs.declared.driver.DriverSpec.{DriverSpec}
 use Rattle.smx_types.specs.declared.reply.Reply.{Reply}
+use Rattle.smx_model.specs.Configuration.{Configuration}
 use Rattle.smx_model.specs.KeptConfigurations.{IsSound}
 use Rattle.smx_model.specs.Outcomes.{Outcome}
 use Rattle.smx_tables.specs.ModelOfLists.{configuration_of}
 use Rattle.smx_config.specs.Machine.{Machine}
 use Rattle.smx_config.specs.ModelOfTables.{machine_of, TablesInvariant}
-use Rattle.smx_config.specs.Refinement.{HasOutcome}
-use Rattle.smx_config.specs.declared.step_error.StepError.{StepError}
 
 -- where the value is sound, the fields are
 pub sound_inside : (t : Inside) (m : Machine) → machine_of t ≡ m → IsSound m.drivers m.configuration
     → IsSound t.drivers.items (configuration_of t.lists)
 sound_inside t m e h = subst (λ (x : Machine). IsSound x.drivers x.configuration) (sym e) h
 
--- an outcome over the fields is one over the value
-pub over_value : (t : Inside) (m new : Machine) (o : Machine → Outcome) (r : Result Reply StepError) → machine_of t ≡ m
-    → HasOutcome (machine_of t) new (o (machine_of t)) r → HasOutcome m new (o m) r
-over_value t m new o r e h = subst (λ (x : Machine). HasOutcome x new (o x) r) e h
+-- what is accepted over the fields is accepted over the value
+pub accepted : (t : Inside) (m : Machine) (new : Configuration) (o : Machine → Outcome) (r : Reply) → machine_of t ≡ m
+    → o (machine_of t) ≡ Ok (new, r) → (t.drivers.items ≡ m.drivers) × (o m ≡ Ok (new, r))
+accepted t m new o r e h =
+    (ap (λ (x : Machine). x.drivers) e, subst (λ (x : Machine). o x ≡ Ok (new, r)) e h)
 
 -- the table of links is over the drivers
 pub table_over : (t : Inside) (m : Machine) → machine_of t ≡ m → TablesInvariant t

@@ -57,10 +57,9 @@ impl Config {
         empty_is_kept();
         empty_needs_no_mark();
         check_drivers(drivers)?;
-        Ok(Config {
-            tables: Tables::new(alloc, drivers)?,
-            marks: no_marks(alloc, drivers)?,
-        })
+        let tables = Tables::new(alloc, drivers)?;
+        let marks = no_marks(alloc, drivers)?;
+        Ok(Config { tables, marks })
     }
 
     /// Does a command of a process: its reply and the new configuration are those of the command table. A fault for a

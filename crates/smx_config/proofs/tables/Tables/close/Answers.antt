@@ -6,7 +6,7 @@ use Rattle.smx_tables.proofs.HungLemmas.{all_pass}
 use Rattle.smx_tables.proofs.TouchLemmas.{linked_still, swept_still, touched_by, touched_fds}
 use Rattle.smx_config.specs.Closing.{closing}
 use Rattle.smx_config.proofs.ClosingLemmas.{all_stay, closed_stays, closes_shared, fd_at}
-use Rattle.smx_config.proofs.TablesLemmas.{over_value, sound_inside}
+use Rattle.smx_config.proofs.TablesLemmas.{accepted, sound_inside}
 use Rattle.smx_config.proofs.tables.Tables.close.Goals as goal
 
 pub close_last-requires-clause-there : goal.close_last-requires-clause-there
@@ -16,17 +16,8 @@ close_last-requires-clause-there c = fd_at (stream_at c.args.self.now.configurat
 pub returns-then-is_last : goal.returns-then-is_last
 returns-then-is_last c = rw (sym c.stream_of.ensures ∙ c.in_ok-stream.was) c.close_last.ensures
 
-pub tells_existing-2-requires-clause-held : goal.tells_existing-2-requires-clause-held
-tells_existing-2-requires-clause-held c =
-    λ s. c.close_fd-stays.ensures.rest.holds s ∙ c.self.invariant.kept.held s
-
-pub tells_existing-2-requires-clause-known : goal.tells_existing-2-requires-clause-known
-tells_existing-2-requires-clause-known c =
-    let sound = sound_inside c.self.inside c.args.self.now c.self.view_is c.requires in
-    rw c.deref-2.ensures.value sound.known.controlling
-
-pub tells_existing-2-requires-clause-linked : goal.tells_existing-2-requires-clause-linked
-tells_existing-2-requires-clause-linked c =
+pub tells_existing-requires-2-clause-linked : goal.tells_existing-requires-2-clause-linked
+tells_existing-requires-2-clause-linked c =
     let old = configuration_of c.self.inside.lists in
     let t = c.self.inside.lists.streams in
     let u = c.close_fd-stays.new.self in
@@ -49,12 +40,10 @@ returns c =
     let stays = all_stay t u old.hungs c.is_sound.ensures.exist still in
     let hungs = c.close_fd-stays.ensures.rest.hungs ∙ sym (all_pass (is_there u) old.hungs stays) in
     rw (sym c.stream_of.ensures ∙ c.in_ok-stream.was)
-    (over_value c.self.inside c.args.self.now _ (λ m. closing m.drivers m.configuration c.args.process c.args.fd) _
-    c.self.view_is (
-      refl,
-      closes_shared ds old c.args.process c.args.fd u.fds _ _ (c.idle_changes_drop_none.ensures ds)
-          (swept_still ds (record old { fds = u.fds }) u []
-          (rw (← c.deref-2.ensures.value) c.tells_existing-2.ensures) refl (touched_fds u [] old u.fds touched) stays)
-          c.close_fd-stays.ensures.rest.fds
-          (ap (λ (hs : List StreamId). record old { fds = u.fds; hungs = hs }) hungs) c.done.ensures,
-    ))
+    (accepted c.self.inside c.args.self.now _ (λ m. closing m.drivers m.configuration c.args.process c.args.fd) _
+    c.self.view_is
+    (closes_shared ds old c.args.process c.args.fd u.fds _ _ (c.idle_changes_drop_none.ensures ds)
+    (swept_still ds (record old { fds = u.fds }) u []
+    (rw (← c.deref-2.ensures.value) c.tells_existing-2.ensures) refl (touched_fds u [] old u.fds touched) stays)
+    c.close_fd-stays.ensures.rest.fds
+    (ap (λ (hs : List StreamId). record old { fds = u.fds; hungs = hs }) hungs) c.done.ensures))

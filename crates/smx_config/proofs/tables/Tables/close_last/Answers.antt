@@ -9,7 +9,7 @@ use Rattle.smx_tables.proofs.WatchLemmas.{listed_last}
 use Rattle.smx_config.specs.Closing.{closing}
 use Rattle.smx_config.proofs.ClosingLemmas.{closed_touches}
 use Rattle.smx_config.proofs.DoneLemmas.{swept_is}
-use Rattle.smx_config.proofs.TablesLemmas.{over_value, sound_inside}
+use Rattle.smx_config.proofs.TablesLemmas.{accepted, sound_inside}
 use Rattle.smx_config.proofs.tables.Tables.close_last.Goals as goal
 
 pub sweep_and_reply-requires-clause-touched : goal.sweep_and_reply-requires-clause-touched
@@ -35,11 +35,8 @@ returns c =
     let left = sweep_of_left c.self.inside.drivers.items (record old { fds = u.fds; hungs = u.hungs }) u old.hungs
     (λ s. c.close_fd-closed.ensures.rest.holds s ∙ c.self.invariant.kept.held s) refl
     c.close_fd-closed.ensures.rest.hungs in
-    over_value c.self.inside c.args.self.now _ (λ m. closing m.drivers m.configuration c.args.process c.args.fd) _
-    c.self.view_is (
-      refl,
-      swept_is c.self.inside.drivers.items c.deref-2.result.now old _ _ _ c.sweep_and_reply.result
-          c.deref-2.ensures.value c.sweep_and_reply.ensures.value
-          (left ∙ rw c.close_fd-closed.ensures.rest.fds refl)
-          (c.sweep_and_reply.ensures.reply old.flow sound.serials.apart c.in_ok-room.ensures.none),
-    )
+    accepted c.self.inside c.args.self.now _ (λ m. closing m.drivers m.configuration c.args.process c.args.fd) _
+    c.self.view_is
+    (swept_is c.self.inside.drivers.items c.deref-2.result.now old _ _ _ c.sweep_and_reply.result
+    c.deref-2.ensures.value c.sweep_and_reply.ensures.value (left ∙ rw c.close_fd-closed.ensures.rest.fds refl)
+    (c.sweep_and_reply.ensures.reply old.flow sound.serials.apart c.in_ok-room.ensures.none))

@@ -1,13 +1,7 @@
 use Rattle.std.proofs.Common.{refl, sym, ap, ◌∙◌}
 use Rattle.smx_config.specs.Machine.{Machine}
-use Rattle.smx_config.proofs.DoneLemmas.{hangup_does, leaf_exists}
+use Rattle.smx_config.proofs.DoneLemmas.{hangup_does}
 use Rattle.smx_config.proofs.tables.Tables.hangup.Goals as goal
-
-pub hang-requires : goal.hang-requires
-hang-requires c = c.tells_existing.ensures c.in_ok-stream.stream
-    ∙ rw c.deref.ensures.value (rw (← c.self.view_is) at
-    (leaf_exists c.args.self.now.drivers c.args.self.now.configuration c.args.name.now c.args.minor
-    c.in_ok-stream.stream (sym c.leaf_stream.ensures ∙ c.in_ok-stream.was)))
 
 pub returns : goal.returns
 returns c = λ process. (
