@@ -64,7 +64,8 @@ impl Shared {
     }
 
     /// Performs a command as `call` does, where nobody has the turn; it waits for nobody. Refused, with no entry added,
-    /// where somebody has it, as the front shows that was seen; or as `call` is.
+    /// where somebody has it, as the front shows that was seen; or as `call` is. The allocator is the one of a door's
+    /// calls, and isn't asked: the system grows by that which it was made with.
     pub fn try_call(
         &self,
         _alloc: Global,
@@ -86,7 +87,8 @@ impl Shared {
         Ok(self.turns.serve(&mut seat.token, seat.process, command)?)
     }
 
-    /// Performs a command as `call` does, and calls `hold` once while it has the turn.
+    /// Performs a command as `call` does, and calls `hold` once while it has the turn. The allocator isn't asked, as in
+    /// `try_call`.
     pub fn call_holding<R: Wait, H: Hold>(
         &self,
         rt: &R,

@@ -17,16 +17,7 @@ pub fn same_stream(s: StreamId, t: StreamId) -> bool
 pub fn same_side(a: Side, b: Side) -> bool
     ensures { result ≡ same_side a b }
 {
-    match a {
-        Side::Write => match b {
-            Side::Write => true,
-            Side::Read => false,
-        },
-        Side::Read => match b {
-            Side::Write => false,
-            Side::Read => true,
-        },
-    }
+    a == b
 }
 
 /// Whether they are the same side of the same stream.
