@@ -11,5 +11,5 @@ loop-minor-preserved c = writes_more _ _ _ _ _ _ c.loop-minor.invariant c.mark_w
 pub returns : goal.returns
 returns c =
     let many : c.loop-minor.minor ≡ c.minors_of-minors.result = omega arith in
-    writes_all _ _ c.loop-minor.minor c.args.self.now.drivers _ _ c.requires.same
+    writes_all _ _ c.loop-minor.minor c.args.self.now.drivers _ _ c.requires
     (many ∙ c.minors_of-minors.ensures) c.loop-minor.invariant

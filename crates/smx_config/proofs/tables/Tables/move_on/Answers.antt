@@ -1,7 +1,9 @@
-use Rattle.std.proofs.Common.{ℕ, List, ap, subst, sym, ◌∙◌}
+use Rattle.std.proofs.Common.{◌≡◌, List, Some, ap, subst, sym, ◌∙◌}
 use Rattle.smx_types.specs.declared.driver.DriverSpec.{DriverSpec}
 use Rattle.smx_model.specs.KnownStreams.{IsKnown}
+use Rattle.smx_model.specs.Settling.{next_open_place}
 use Rattle.smx_tables.specs.ModelOfLists.{configuration_of}
+use Rattle.smx_config.specs.Machine.{Machine}
 use Rattle.smx_config.proofs.MoveLemmas.{drivers_moved}
 use Rattle.smx_config.proofs.NextPlaceLemmas.{open_next}
 use Rattle.smx_config.proofs.TablesLemmas.{queues_over, sound_inside}
@@ -23,7 +25,8 @@ invariant_of-self c =
     let lists = c.self.inside.lists in
     let next = open_next c.self.inside.drivers.items (configuration_of lists) c.args.next.from c.args.next.to
     (sound_inside c.self.inside c.args.self.now c.self.view_is c.requires.sound)
-    (rw (← c.self.view_is) at c.requires.open) in
+    (subst (λ (m : Machine). next_open_place m.drivers m.configuration c.args.next.from ≡ Some c.args.next.to)
+    (sym c.self.view_is) c.requires.open) in
     record {
       can = c.self.invariant.can;
       sizes = ap (λ (ds : List DriverSpec). (lists.links.drivers, lists.streams.minors, ds))
