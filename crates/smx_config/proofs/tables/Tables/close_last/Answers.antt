@@ -1,4 +1,4 @@
-use Rattle.std.proofs.Common.{[], ◌∷◌, List, ap, refl, ◌∙◌}
+use Rattle.std.proofs.Common.{List, ap, refl, ◌∙◌}
 use Rattle.std.specs.List.{list_any}
 use Rattle.smx_types.specs.declared.stream.StreamId.{StreamId}
 use Rattle.smx_model.specs.Configuration.{same_stream}

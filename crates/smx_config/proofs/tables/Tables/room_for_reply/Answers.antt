@@ -37,7 +37,9 @@ returns-in_err-check_unlink-in-Unlink-clause-makes c =
     let p = err_from_is_err_and c.from_residual-in_err-check_unlink-in-Unlink.result
     c.from_residual-in_err-check_unlink-in-Unlink.ensures.1 in
     rw (
-      p.1, p.2, c.in-Unlink.is,
+      p.1,
+      p.2,
+      c.in-Unlink.is,
       unlink_is c.args.self.now.drivers c.args.self.now.configuration c.args.process c.in-Unlink.fd c.in-Unlink.which,
     ) c.in_err-check_unlink-in-Unlink.ensures.refused
 
@@ -46,6 +48,8 @@ returns-in_err-check_unlink-in-Punlink-clause-makes c =
     let p = err_from_is_err_and c.from_residual-in_err-check_unlink-in-Punlink.result
     c.from_residual-in_err-check_unlink-in-Punlink.ensures.1 in
     rw (
-      p.1, p.2, c.in-Punlink.is,
+      p.1,
+      p.2,
+      c.in-Punlink.is,
       punlink_is c.args.self.now.drivers c.args.self.now.configuration c.args.process c.in-Punlink.fd c.in-Punlink.which,
     ) c.in_err-check_unlink-in-Punlink.ensures.refused
