@@ -3,7 +3,7 @@
 
 ghost use Rattle.std.specs.Prelude.{◌≡◌, All, IfSome};
 
-use smx_config::check_history;
+use smx_config::{Verdict, check_history};
 use smx_shared::{Door, Seat, Shared, System};
 use smx_types::{Command, DriverKind, DriverSpec, Name};
 use std::alloc::Global;
@@ -83,7 +83,33 @@ fn all_link<R: Threads + Wait + Sync>(
     }
 }
 
-// What three processes made of it on three threads, as one line. The seat of a fourth gets the system back.
+// Shares the system among three processes on three threads. Whether they did all, and the system, which the seat of a
+// fourth gets back.
+fn shared_by_three<R: Threads + Wait + Sync>(
+    rt: &R,
+    alloc: Global,
+    system: System,
+    ip: Name,
+    eth: Name,
+) -> Option<(bool, System)> {
+    let Ok((shared, seats)) = Shared::start(alloc, system, 4) else {
+        return None;
+    };
+    let (seats, last) = last_of(&shared, seats)?;
+    let all = all_link(rt, &shared, seats, alloc, ip, eth);
+    match shared.close(last) {
+        Ok(system) => Some((all, system)),
+        Err(_) => None,
+    }
+}
+
+// The verdict on the history of the system, with its own view.
+fn verdict_of(alloc: Global, drivers: &[DriverSpec], system: &System) -> Option<Verdict> {
+    let view = system.config().show().ok()?;
+    check_history(alloc, drivers, system.entries(), &view).ok()
+}
+
+// What three processes made of it, as one line.
 fn history_of_three<R: Threads + Wait + Sync + Print>(
     rt: &R,
     alloc: Global,
@@ -91,14 +117,8 @@ fn history_of_three<R: Threads + Wait + Sync + Print>(
     let (ip, eth) = (Name::new("ip")?, Name::new("eth")?);
     let drivers = [driver(ip, DriverKind::Mux), driver(eth, DriverKind::Leaf)];
     let system = System::new(alloc, &drivers, 100).ok()?;
-    let Ok((shared, seats)) = Shared::start(alloc, system, 4) else {
-        return None;
-    };
-    let (seats, last) = last_of(&shared, seats)?;
-    let all = all_link(rt, &shared, seats, alloc, ip, eth);
-    let system = shared.close(last).ok()?;
-    let view = system.config().show().ok()?;
-    let verdict = check_history(alloc, &drivers, system.entries(), &view).ok()?;
+    let (all, system) = shared_by_three(rt, alloc, system, ip, eth)?;
+    let verdict = verdict_of(alloc, &drivers, &system)?;
     let (entries, links) = (system.entries().len(), system.config().link_count());
     Some(println!(rt; "{all}: {entries} entries, {links} links, {verdict:?}"))
 }

@@ -21,12 +21,11 @@ use Rattle.smx_streams.specs.StreamTables.{Answer, StreamTable, IsRefused, is_in
 use Rattle.smx_streams.specs.StreamTables.{minor_answer, least_fd, least_minor, stream_at, exists as is_there}
 use Rattle.smx_streams.specs.declared.stream_fault.StreamFault.{StreamFault}
 use Rattle.smx_streams.specs.declared.stream_fault.StreamFault.TheVariants as stream_fault
-use Rattle.smx_tables.specs.declared.lists.Lists.{Lists}
 use Rattle.smx_config.specs.declared.step_error.StepError.{StepError}
 use Rattle.smx_config.specs.declared.step_error.StepError.TheVariants as step_error
 use Rattle.smx_tables.specs.ExistingStreams.{TellsExisting}
-use Rattle.smx_tables.specs.ModelOfLists.{configuration_of}
-use Rattle.smx_config.specs.Refinement.{HasOutcomeOrNoMemory}
+use Rattle.smx_config.specs.Machine.{Machine}
+use Rattle.smx_config.specs.Refinement.{HasOutcome}
 use Rattle.smx_config.specs.StreamFaults.{as_step_error}
 
 -- a refusal with this fault; or none, where memory is wanted
@@ -35,8 +34,8 @@ IsRefusedBy o (step_error.Refused f) = o ≡ Err f
 IsRefusedBy o step_error.NoMemory = IsOk o
 
 -- where an outcome is refused with this fault, or memory is wanted, and nothing has changed, that is what came of it
-pub refused_by : (old new : Lists) (o : Outcome) (e : StepError) → configuration_of new ≡ configuration_of old
-    → IsRefusedBy o e → HasOutcomeOrNoMemory old new o (Err e)
+pub refused_by : (old new : Machine) (o : Outcome) (e : StepError) → new ≡ old → IsRefusedBy o e
+    → HasOutcome old new o (Err e)
 refused_by old new o (step_error.Refused f) same h = (same, h)
 refused_by old new o step_error.NoMemory same h = (same, h)
 

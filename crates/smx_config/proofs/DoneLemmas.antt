@@ -1,5 +1,5 @@
 -- What a swept change comes to.
-use Rattle.std.proofs.Common.{◌≡◌, ℕ, Bool, true, false, ◌&&◌, ◌||◌, not, eqb, List, [], ◌∷◌, length, filter, find}
+use Rattle.std.proofs.Common.{◌≡◌, ℕ, Bool, true, false, ◌&&◌, not, eqb, List, [], ◌∷◌, length, filter, find}
 use Rattle.std.proofs.Common.{Option, Some, None, Result, Ok, Err, if◌then◌else◌, refl, sym, ap, ◌∙◌, inl, inr}
 use Rattle.std.specs.Option.{option_map}
 use Rattle.std.proofs.lemmas.Bool.{cases_Bool, and_parts, and_from}
@@ -12,7 +12,7 @@ use Rattle.smx_types.specs.declared.link.LinkKind.{LinkKind}
 use Rattle.smx_types.specs.declared.link.LinkKind.TheVariants as kind
 use Rattle.smx_types.specs.declared.link.Route.{Route}
 use Rattle.smx_types.specs.declared.reply.Fault.{Fault}
-use Rattle.smx_types.specs.declared.reply.Fault.TheVariants.{AddressInUse, BadDescriptor, Below, NoDriver, NoLink}
+use Rattle.smx_types.specs.declared.reply.Fault.TheVariants.{BadDescriptor, Below, NoDriver}
 use Rattle.smx_types.specs.declared.reply.Fault.TheVariants.{NoMinor, NotMux, Unbound, Unrouted}
 use Rattle.smx_types.specs.declared.stream.Descriptor.{Descriptor}
 use Rattle.smx_types.specs.declared.stream.StreamId.{StreamId}
@@ -29,14 +29,18 @@ use Rattle.smx_model.specs.Outcomes.{◌>>=◌, or_fault, refuse}
 use Rattle.smx_model.specs.Removal.{serials_that_left, after_sweep, without_links}
 use Rattle.smx_model.specs.Standing.{is_below, exists}
 use Rattle.smx_model.specs.Swept.{IsSwept}
+use Rattle.smx_addresses.specs.BindingLists.{is_taken}
 use Rattle.smx_tables.proofs.ClimbLemmas.{named_stands}
 use Rattle.smx_tables.proofs.ExistingLemmas.{all_fewer, named_stream}
 use Rattle.smx_config.specs.UnlinkTargets.{is_target, are_there, unlinks}
 
--- a change that was swept, with a reply that names the serials that left, is what the change comes to
-pub done_is : (drivers : List DriverSpec) (c new d : Configuration) (r : Reply) → d ≡ after_sweep drivers new
+-- what a body has swept, by drivers that it was given, with a reply that names the serials that left, is what the change
+-- comes to, where their sweeps come to the same
+pub swept_is : (drivers given : List DriverSpec) (c new changed d : Configuration) (r : Reply) → given ≡ drivers
+    → d ≡ after_sweep given changed → after_sweep drivers changed ≡ after_sweep drivers new
     → r ≡ Done (serials_that_left c.flow d.flow) → done_outcome drivers c new ≡ Ok (d, r)
-done_is drivers c new d r is gone = rw (gone, is) refl
+swept_is drivers given c new changed d r same is left gone =
+    let swept = is ∙ ap (λ (ds : List DriverSpec). after_sweep ds changed) same ∙ left in rw (gone, swept) refl
 
 -- ---- the same, behind the refusals of a command
 
@@ -68,7 +72,7 @@ IdleDropsNone drivers =
 pub route_does : (drivers : List DriverSpec) (c : Configuration) (process fd addr id : ℕ) (s : StreamId)
     (new : Configuration) (r : Reply) → IdleDropsNone drivers → IsSwept drivers c
     → mux_stream drivers c process fd ≡ Ok s
-    → refuse NoLink (not (list_any (λ l. eqb l.id id && eqb l.ctl.driver s.driver) c.links)) ≡ Ok tt
+    → list_any (λ l. eqb l.id id && eqb l.ctl.driver s.driver) c.links ≡ true
     → new ≡ record c {
       routes = with_inserted route_before
           (filter (λ x. not (eqb x.driver s.driver && eqb x.addr addr)) c.routes)
@@ -129,8 +133,7 @@ one_more_bind drivers c b there h = record {
 pub bind_does : (drivers : List DriverSpec) (c : Configuration) (process fd addr : ℕ) (s : StreamId)
     (new : Configuration) (r : Reply) → IdleDropsNone drivers → IsSwept drivers c
     → mux_stream drivers c process fd ≡ Ok s
-    → refuse AddressInUse (list_any (λ b. eqb b.driver s.driver && (eqb b.addr addr || eqb b.minor s.minor)) c.binds)
-    ≡ Ok tt
+    → is_taken c.binds s addr ≡ false
     → new ≡ record c {
       binds = with_inserted bind_before c.binds
           (record { driver = s.driver; addr = addr; minor = s.minor });
@@ -148,7 +151,7 @@ bind_does drivers c process fd addr s new r idle clean e there is none = rw (e, 
 -- an unbind that is not refused takes the binding of its stream away, and drops no message
 pub unbind_does : (drivers : List DriverSpec) (c : Configuration) (process fd : ℕ) (s : StreamId) (new : Configuration)
     (r : Reply) → IdleDropsNone drivers → IsSwept drivers c → mux_stream drivers c process fd ≡ Ok s
-    → refuse Unbound (not (list_any (λ b. eqb b.driver s.driver && eqb b.minor s.minor) c.binds)) ≡ Ok tt
+    → list_any (λ b. eqb b.driver s.driver && eqb b.minor s.minor) c.binds ≡ true
     → new ≡ record c { binds = filter (λ b. not (eqb b.driver s.driver && eqb b.minor s.minor)) c.binds } → r ≡ Done []
     → outcome drivers c process (command.Unbind fd) ≡ Ok (new, r)
 unbind_does drivers c process fd s new r idle clean e there is none =
@@ -159,17 +162,31 @@ unbind_does drivers c process fd s new r idle clean e there is none =
       rest : Configuration
       rest = record c { binds = filter other c.binds }
 
+-- where nothing is bound to the stream an unbind is refused
+pub unbind_refused : (drivers : List DriverSpec) (c : Configuration) (process fd : ℕ) (s : StreamId)
+    → mux_stream drivers c process fd ≡ Ok s
+    → list_any (λ b. eqb b.driver s.driver && eqb b.minor s.minor) c.binds ≡ false
+    → outcome drivers c process (command.Unbind fd) ≡ Err Unbound
+unbind_refused drivers c process fd s e none = rw (e, none) refl
+
 -- an unroute that is not refused takes its driver's route for the address away, and drops no message
 pub unroute_does : (drivers : List DriverSpec) (c : Configuration) (process fd addr : ℕ) (s : StreamId)
     (new : Configuration) (r : Reply) → IdleDropsNone drivers → IsSwept drivers c
     → mux_stream drivers c process fd ≡ Ok s
-    → refuse Unrouted (not (list_any (λ x. eqb x.driver s.driver && eqb x.addr addr) c.routes)) ≡ Ok tt
+    → list_any (λ x. eqb x.driver s.driver && eqb x.addr addr) c.routes ≡ true
     → new ≡ record c { routes = filter (λ x. not (eqb x.driver s.driver && eqb x.addr addr)) c.routes } → r ≡ Done []
     → outcome drivers c process (command.Unroute fd addr) ≡ Ok (new, r)
 unroute_does drivers c process fd addr s new r idle clean e there is none =
     rw (e, there, is, none) (idle c rest (other_routes drivers c rest.routes clean) refl) where
       rest : Configuration
       rest = record c { routes = filter (λ x. not (eqb x.driver s.driver && eqb x.addr addr)) c.routes }
+
+-- where the driver has no route for the address an unroute is refused
+pub unroute_refused : (drivers : List DriverSpec) (c : Configuration) (process fd addr : ℕ) (s : StreamId)
+    → mux_stream drivers c process fd ≡ Ok s
+    → list_any (λ x. eqb x.driver s.driver && eqb x.addr addr) c.routes ≡ false
+    → outcome drivers c process (command.Unroute fd addr) ≡ Err Unrouted
+unroute_refused drivers c process fd addr s e none = rw (e, none) refl
 
 -- ---- a hangup
 

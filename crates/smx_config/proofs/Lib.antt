@@ -16,3 +16,4 @@ pub mod MoveLemmas
 pub mod NextPlaceLemmas
 pub mod DoneLemmas
 pub mod ClosingLemmas
+pub mod TablesLemmas

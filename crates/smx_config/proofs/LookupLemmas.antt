@@ -1,6 +1,6 @@
 -- What a leaf stream's words come to, and whether anything is found.
-use Rattle.std.proofs.Common.{◌≡◌, ℕ, Bool, true, false, not, List, [], ◌∷◌, find, Ok, Err, refl, sym, ap, ◌∙◌, inl}
-use Rattle.std.proofs.Common.{inr}
+use Rattle.std.proofs.Common.{◌≡◌, ℕ, Bool, true, false, not, List, [], ◌∷◌, find, Some, None, Ok, Err, refl, sym, ap}
+use Rattle.std.proofs.Common.{◌∙◌, inl, inr}
 use Rattle.std.specs.List.{list_any}
 use Rattle.std.specs.Option.{is_some}
 use Rattle.std.proofs.lemmas.Bool.{cases_Bool}
@@ -18,6 +18,11 @@ pub not_refused : (f : Fault) (test : Bool) → refuse f test ≡ Ok tt → test
 not_refused f true h = absurd cc
 not_refused f false h = refl
 
+-- and what is not refused unless it holds, holds
+pub is_there : (f : Fault) (test : Bool) → refuse f (not test) ≡ Ok tt → test ≡ true
+is_there f true h = refl
+is_there f false h = absurd cc
+
 -- a leaf driver's stream that doesn't exist is refused with `NoMinor`
 pub no_leaf : (drivers : List DriverSpec) (c : Configuration) (name : List ℕ) (n minor : ℕ)
     → driver_of drivers name ≡ Ok n → is_mux drivers n ≡ false
@@ -30,8 +35,11 @@ found_any : {X : Type 0} (test : X → Bool) (xs : List X) → is_some (find tes
 found_any test [] = refl
 found_any test (x ∷ xs) = elim (cases_Bool (test x)) [ inl t ↦ rw t refl | inr f ↦ rw f (found_any test xs) ]
 
--- nothing is found where none passes
-pub none_found : {X : Type 0} (test : X → Bool) (xs : List X) (none : Bool) → is_some (find test xs) ≡ not none
-    → none ≡ not (list_any test xs)
-none_found test xs true h = ap not (sym h ∙ found_any test xs)
-none_found test xs false h = ap not (sym h ∙ found_any test xs)
+-- where one is found, one passes
+pub any_found : {X : Type 0} (test : X → Bool) (xs : List X) (x : X) → find test xs ≡ Some x
+    → list_any test xs ≡ true
+any_found test xs x e = sym (found_any test xs) ∙ ap is_some e
+
+-- and where none is found, none passes
+pub none_found : {X : Type 0} (test : X → Bool) (xs : List X) → find test xs ≡ None → list_any test xs ≡ false
+none_found test xs e = sym (found_any test xs) ∙ ap is_some e

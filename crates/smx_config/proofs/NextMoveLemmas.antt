@@ -1,28 +1,25 @@
 -- The least place with a run mark, and what is left of the marks where it can't be moved from.
-use Rattle.std.proofs.Common.{◌≡◌, ℕ, zero, suc, ◌≤◌, Bool, true, false, cond, List, [], ◌∷◌, find, Option, Some, None}
-use Rattle.std.proofs.Common.{refl, sym, ap, ◌∙◌, subst, arith, inl, inr}
+use Rattle.std.proofs.Common.{◌≡◌, Bool, true, false, cond, List, [], ◌∷◌, find, Option, Some, None}
+use Rattle.std.proofs.Common.{refl, sym, ap, ◌∙◌, subst, inl, inr}
 use Rattle.std.specs.Prelude.{◌≢◌, ◌⊎◌, IfNone}
-use Rattle.std.specs.List.{AllByRecursion, list_any}
+use Rattle.std.specs.List.{list_any}
 use Rattle.std.specs.Option.{is_some, option_map}
 use Rattle.std.proofs.lemmas.Bool.{cases_Bool, false≢true}
 use Rattle.smx_types.specs.declared.driver.DriverSpec.{DriverSpec}
-use Rattle.smx_types.specs.declared.limits.TheConstants.{MAX_MINORS}
 use Rattle.smx_types.specs.declared.message.Message.{Message}
 use Rattle.smx_types.specs.declared.stream.Place.{Place}
 use Rattle.smx_model.specs.Configuration.{Configuration, QueuedMessage, empty, same_place}
-use Rattle.smx_model.specs.DriverList.{IsDriverList, minors_of}
 use Rattle.smx_model.specs.KnownStreams.{IsKnown}
 use Rattle.smx_model.specs.Queues.{first_message, is_full}
 use Rattle.smx_model.specs.RunMarks.{all_but, is_held_up, is_next_of_first, is_one_of, nowhere, next_of, next_of_first}
 use Rattle.smx_model.specs.Settling.{◌>>=◌, IsSettled, is_movable, least_movable, next_open_place, next_place}
-use Rattle.smx_model.specs.SettlingByMarks.{HasItsMarks, IsAtRest, IsCleared, IsLeastMarked}
+use Rattle.smx_model.specs.SettlingByMarks.{HasItsMarks, HasNoRunMark, IsAtRest, IsCleared, IsLeastMarked}
 use Rattle.smx_queues.specs.PlaceMarks.{MarkList, has_mark}
 use Rattle.smx_queues.specs.Waiters.{WaitList, target_of}
 use Rattle.smx_config.specs.declared.marks.Marks.{Marks}
 use Rattle.smx_config.specs.declared.settling.Move.{Move}
 use Rattle.smx_config.specs.Marking.{AreMarks, IsNotedFor, marked_configuration}
 use Rattle.smx_config.specs.Moves.{IsLeastMove, if_open}
-use Rattle.smx_tables.proofs.DriverListLemmas.{minors_within}
 use Rattle.smx_tables.proofs.PlaceLemmas.{place_is}
 
 -- what is settled has nothing to move
@@ -146,7 +143,6 @@ pub cleared_marks : (drivers : List DriverSpec) (c : Configuration) (next : Opti
     → new.run.drivers ≡ old.run.drivers → new.wanted.drivers ≡ old.wanted.drivers → IsNoted drivers c old new
     → AreMarks drivers c new
 cleared_marks drivers c next old new h waiting stays few run wanted noted = record {
-  few = h.few;
   run = run ∙ h.run;
   wanted = wanted ∙ h.wanted;
   waiting = waiting;
@@ -161,7 +157,6 @@ pub emptied_marks : (drivers : List DriverSpec) (c : Configuration) (p : Place) 
     → ((q : Place) → has_mark new.run q ≡ all_but (has_mark old.run) p q)
     → new.run.drivers ≡ old.run.drivers → new.wanted ≡ old.wanted → new.waits ≡ old.waits → AreMarks drivers c new
 emptied_marks drivers c p old new none h gone run wanted waits = record {
-  few = h.few;
   run = run ∙ h.run;
   wanted = ap (λ (m : MarkList). m.drivers) wanted ∙ h.wanted;
   waiting = λ q clear. elim (cases_Bool (same_place p q)) [
@@ -189,7 +184,6 @@ pub forgotten : (drivers : List DriverSpec) (c : Configuration) (p : Place) (old
     → ((q : Place) → same_place p q ≡ false → target_of new.waits q ≡ target_of old.waits q)
     → new.waits.drivers ≡ old.waits.drivers → AreMarks drivers c new
 forgotten drivers c p old new h here run wanted others same = record {
-  few = h.few;
   run = ap (λ (m : MarkList). m.drivers) run ∙ h.run;
   wanted = ap (λ (m : MarkList). m.drivers) wanted ∙ h.wanted;
   waits = same ∙ h.waits;
@@ -233,63 +227,29 @@ there_too to q m next drivers is here at known = let e : to ≡ q = same (sym is
 
 -- ---- at first
 
-few_of : (drivers : List DriverSpec) → AllByRecursion (λ d. d.minors ≤ MAX_MINORS) drivers → (n : ℕ)
-    → minors_of drivers n ≤ 64
-few_of [] h n = omega arith
-few_of (d ∷ ds) h zero = h.0
-few_of (d ∷ ds) h (suc n) = few_of ds h.1 n
-
 -- no marks beside the empty configuration
-pub marks_at_first : (drivers given : List DriverSpec) (c : Configuration) (m : Marks) → given ≡ drivers
-    → IsDriverList drivers → c ≡ empty → m.run.drivers ≡ drivers → m.wanted.drivers ≡ drivers
+pub marks_at_first : (drivers : List DriverSpec) (m : Marks) → m.run.drivers ≡ drivers → m.wanted.drivers ≡ drivers
     → m.waits.drivers ≡ drivers → m.run.marked ≡ [] → m.wanted.marked ≡ []
     → IsAtRest drivers (record { configuration = empty; run = nowhere; wanted = nowhere })
-    → AreMarks given c m × IsAtRest given (marked_configuration c m)
-marks_at_first drivers given c m same can none run wanted waits no_run no_wanted rest =
-    let at_rest = none_marked in
-    let here : AreMarks drivers c m = record {
-      few = few_of drivers (minors_within drivers can);
-      run = run;
-      wanted = wanted;
-      waiting = at_rest.marks;
-      full = λ p h. absurd (false≢true (sym (ap (list_any (same_place p)) no_wanted) ∙ h));
-      waits = waits;
-      held_up = λ p q clear e.
-          absurd (nothing p q (subst (λ (x : Configuration). next_of_first drivers x p ≡ Some q) none e));
-    } in
-    subst (λ (ds : List DriverSpec). AreMarks ds c m × IsAtRest ds (marked_configuration c m)) (sym same)
-    (here, at_rest) where
-      rested : (xs ys : List Place) → xs ≡ [] → ys ≡ []
-          → IsAtRest drivers
-          (record {
-            configuration = c;
-            run = λ p. list_any (same_place p) xs;
-            wanted = λ p. list_any (same_place p) ys;
-          })
-      rested xs ys e f =
-          let now : IsAtRest drivers
-          (record {
-            configuration = c;
-            run = λ p. list_any (same_place p) [];
-            wanted = λ p. list_any (same_place p) [];
-          }) =
-          subst (λ (x : Configuration). IsAtRest drivers
-          (record { configuration = x; run = nowhere; wanted = nowhere })) (sym none) rest in
-          subst (λ (zs : List Place). IsAtRest drivers
-          (record {
-            configuration = c;
-            run = λ p. list_any (same_place p) zs;
-            wanted = λ p. list_any (same_place p) ys;
-          })) (sym e)
-          (subst (λ (zs : List Place). IsAtRest drivers
-          (record {
-            configuration = c;
-            run = λ p. list_any (same_place p) [];
-            wanted = λ p. list_any (same_place p) zs;
-          })) (sym f) now)
+    → AreMarks drivers empty m × HasNoRunMark (has_mark m.run)
+marks_at_first drivers m run wanted waits no_run no_wanted rest = (
+  record {
+    run = run;
+    wanted = wanted;
+    waits = waits;
+    waiting = at_rest.marks;
+    full = λ p h. absurd (false≢true (sym (ap (list_any (same_place p)) no_wanted) ∙ h));
+    held_up = λ p q clear e. absurd (nothing p q e);
+  },
+  at_rest.none,
+) where
+  rested : (xs ys : List Place) → xs ≡ [] → ys ≡ []
+      → IsAtRest drivers
+      (record { configuration = empty; run = λ p. list_any (same_place p) xs; wanted = λ p. list_any (same_place p) ys })
+  rested xs ys e f = rw (e, f) rest
 
-      nothing : (p q : Place) → ◌≡◌ {A = Option Place} None (Some q) → ⊥
-      nothing p q k = cc
+  at_rest : IsAtRest drivers (marked_configuration empty m)
+  at_rest = rested m.run.marked m.wanted.marked no_run no_wanted
 
-      none_marked : IsAtRest drivers (marked_configuration c m)
-      none_marked = rested m.run.marked m.wanted.marked no_run no_wanted
+  nothing : (p q : Place) → ◌≡◌ {A = Option Place} None (Some q) → ⊥
+  nothing p q k = cc

@@ -3,6 +3,7 @@ use Rattle.std.proofs.Common.{◌≡◌, ℕ, zero, suc, ◌-◌, ◌<◌, List,
 use Rattle.smx_types.specs.declared.driver.DriverSpec.{DriverSpec}
 use Rattle.smx_types.specs.declared.stream.Place.{Place}
 use Rattle.smx_model.specs.Configuration.{Configuration}
+use Rattle.smx_config.specs.Machine.{Machine}
 use Rattle.smx_model.specs.Settling.{least_movable, after_move, after_settling_within}
 
 -- one round, by what the least movable place is
@@ -32,3 +33,8 @@ pub within_zero : (drivers : List DriverSpec) (n : ℕ) (c d : Configuration) �
     → after_settling_within drivers n c ≡ d → c ≡ d
 within_zero drivers zero c d z e = e
 within_zero drivers (suc n) c d z e = absurd (omega arith)
+
+-- a machine with the same drivers, and the configuration that was wanted
+pub settled_to : (m old : Machine) (c : Configuration) → m.drivers ≡ old.drivers → m.configuration ≡ c
+    → m ≡ record old { configuration = c }
+settled_to m old c same is = rw (← same, ← is) refl

@@ -29,12 +29,11 @@ use Rattle.smx_model.specs.SettlingByMarks.{is_first_there, turned_by_move}
 use Rattle.smx_model.specs.Standing.{exists, is_persistent}
 use Rattle.smx_model.specs.Swept.{IsSwept}
 use Rattle.smx_model.specs.TurnedPlaces.{of_stream, turned_by}
-use Rattle.smx_tables.specs.declared.lists.Lists.{Lists}
 use Rattle.smx_config.specs.declared.marks.Marks.{Marks}
 use Rattle.smx_config.specs.declared.step_error.StepError.{StepError}
 use Rattle.smx_config.specs.Marking.{AreMarks, IsWoken}
-use Rattle.smx_tables.specs.ModelOfLists.{configuration_of}
-use Rattle.smx_config.specs.Refinement.{RefinesOrNoMemory}
+use Rattle.smx_config.specs.Machine.{Machine}
+use Rattle.smx_config.specs.Refinement.{Refines}
 use Rattle.smx_config.specs.Wakes.{freed_under, on_stream, turned_under, wakes_of}
 use Rattle.smx_config.specs.declared.wakes.Wakes.{Wakes}
 
@@ -207,18 +206,14 @@ enough_at drivers c process k m n x enough e =
     (freed_under (wakes_of drivers c process k)) m n → AreMarks drivers y.0 n) (outcome drivers c process k) x e enough
 
 -- where it is enough to wake what a command may turn and free, and that is done after it, the marks are right
-pub woken_after : (drivers told done : List DriverSpec) (old new : Lists) (process : ℕ) (k : Command)
-    (result : Result Reply StepError) (r : Reply) (w : Wakes) (m n : Marks) → told ≡ drivers → done ≡ drivers
-    → result ≡ Ok r
-    → RefinesOrNoMemory done old new process k result → w ≡ wakes_of told (configuration_of old) process k
-    → IsEnough drivers (configuration_of old) process k m n
-    → IsWoken (configuration_of new) (turned_under (configuration_of new) w) (freed_under w) m n
-    → AreMarks drivers (configuration_of new) n
-woken_after drivers told done old new process k result r w m n same same_too is refines tells enough woken =
-    let here = subst (λ (x : Result Reply StepError). RefinesOrNoMemory drivers old new process k x) is
-    (subst (λ (ds : List DriverSpec). RefinesOrNoMemory ds old new process k result) same_too refines) in
-    let told_so : w ≡ wakes_of drivers (configuration_of old) process k = tells
-    ∙ ap (λ (ds : List DriverSpec). wakes_of ds (configuration_of old) process k) same in
-    enough_at drivers (configuration_of old) process k m n (configuration_of new, r) enough here
-    (subst (λ (x : Wakes). IsWoken (configuration_of new) (turned_under (configuration_of new) x) (freed_under x) m n)
-    told_so woken)
+pub woken_after : (old new : Machine) (process : ℕ) (k : Command) (result : Result Reply StepError) (r : Reply)
+    (w : Wakes) (m n : Marks) → result ≡ Ok r → Refines old new process k result
+    → w ≡ wakes_of old.drivers old.configuration process k → IsEnough old.drivers old.configuration process k m n
+    → IsWoken new.configuration (turned_under new.configuration w) (freed_under w) m n
+    → AreMarks new.drivers new.configuration n
+woken_after old new process k result r w m n is refines tells enough woken =
+    let here = subst (λ (x : Result Reply StepError). Refines old new process k x) is refines in
+    subst (λ (ds : List DriverSpec). AreMarks ds new.configuration n) (sym here.0)
+    (enough_at old.drivers old.configuration process k m n (new.configuration, r) enough here.1
+    (subst (λ (x : Wakes). IsWoken new.configuration (turned_under new.configuration x) (freed_under x) m n) tells
+    woken))

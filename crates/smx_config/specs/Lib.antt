@@ -6,11 +6,11 @@ pub mod Moves
 pub mod LinkFaults
 pub mod StreamFaults
 pub mod Sending
-pub mod FewMinors
 pub mod Marking
 pub mod MessageStreams
 pub mod Wakes
 pub mod Refinement
+pub mod ModelOfTables
 pub mod SecondReplies
 pub mod ModelOfConfig
 pub mod Verdicts

@@ -11,7 +11,6 @@ use Rattle.smx_model.specs.RunMarks.{all_but, is_below_driver, next_of_first}
 use Rattle.smx_model.specs.SettlingByMarks.{HasItsMarks, MarkedConfiguration}
 use Rattle.smx_queues.specs.PlaceMarks.{MarkList, has_mark}
 use Rattle.smx_queues.specs.Waiters.{WaitList, target_of}
-use Rattle.smx_config.specs.FewMinors.{HaveFewMinors}
 use Rattle.smx_config.specs.declared.marks.Marks.{Marks}
 
 -- the configuration with its marks
@@ -25,7 +24,6 @@ IsNotedFor m p q = target_of m.waits p ≡ Some q
 -- over these drivers, each place without a run mark waits, a wanted mark stands at full places alone, and where there
 -- is no run mark and the first message has a next place, that it waits for that place is noted
 pub record AreMarks (drivers : List DriverSpec) (c : Configuration) (m : Marks) : Type 0 where
-  pub few : HaveFewMinors drivers
   pub run : m.run.drivers ≡ drivers
   pub wanted : m.wanted.drivers ≡ drivers
   pub waits : m.waits.drivers ≡ drivers

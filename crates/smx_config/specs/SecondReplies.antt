@@ -1,12 +1,11 @@
 -- Room for a second reply. No public clause needs this.
 use Rattle.std.specs.Prelude.{◌≡◌, ℕ, ◌≤◌, List, [], length, vec_capacity, Result, Ok, Err, IsOk}
-use Rattle.smx_types.specs.declared.driver.DriverSpec.{DriverSpec}
 use Rattle.smx_types.specs.declared.reply.Reply.{Reply}
 use Rattle.smx_types.specs.declared.reply.Reply.TheVariants as reply
 use Rattle.smx_model.specs.Commands.{after_outcome}
-use Rattle.smx_model.specs.Configuration.{Configuration}
 use Rattle.smx_model.specs.LawfulHistories.{dropped_by}
 use Rattle.smx_model.specs.Outcomes.{Outcome}
+use Rattle.smx_config.specs.Machine.{Machine}
 use Rattle.smx_config.specs.declared.second_reply.ReplyRoom.{ReplyRoom}
 use Rattle.smx_config.specs.declared.step_error.StepError.{StepError}
 use Rattle.smx_config.specs.declared.step_error.StepError.TheVariants as step_error
@@ -33,7 +32,7 @@ abbrev pub HasRoomForReply : Reply → ReplyRoom → Type 0
 HasRoomForReply r room = HasRoomFor (length (bytes_of r)) (length (dropped_by r)) room
 
 -- room for the reply of the outcome; or it is a refusal, with this fault; or it is none, and a growth was refused
-abbrev pub MakesRoom : List DriverSpec → Configuration → Outcome → Result ReplyRoom StepError → Type 0
-MakesRoom drivers c o (Ok room) = HasRoomForReply (after_outcome drivers c o).1 room
-MakesRoom drivers c o (Err (step_error.Refused f)) = o ≡ Err f
-MakesRoom drivers c o (Err step_error.NoMemory) = IsOk o
+abbrev pub MakesRoom : Machine → Outcome → Result ReplyRoom StepError → Type 0
+MakesRoom m o (Ok room) = HasRoomForReply (after_outcome m.drivers m.configuration o).1 room
+MakesRoom m o (Err (step_error.Refused f)) = o ≡ Err f
+MakesRoom m o (Err step_error.NoMemory) = IsOk o

@@ -6,83 +6,21 @@ ghost use Rattle.smx_types.specs.declared.command.Command.TheVariants as command
 ghost use Rattle.smx_types.specs.declared.command.Which.TheVariants as which;
 ghost use Rattle.smx_types.specs.declared.stream.StreamId.{StreamId as StreamValue};
 ghost use Rattle.smx_model.specs.Commands.{link_outcome};
-ghost use Rattle.smx_tables.specs.KeptHolds.{KeepsHolds};
-ghost use Rattle.smx_tables.specs.ModelOfLists.{configuration_of, sizes_of};
+ghost use Rattle.smx_model.specs.KeptConfigurations.{IsSound};
 ghost use Rattle.smx_config.specs.UnlinkTargets.{may_have_links, may_unlink, is_target, are_there, unlinks};
-ghost use Rattle.smx_config.specs.Refinement.{StepInvariant, RefinesOrNoMemory, HasOutcomeOrNoMemory};
+ghost use Rattle.smx_config.specs.Refinement.{HasOutcome, Refines};
 
-use crate::lookups::{mux_stream, stream_of};
-use crate::refuse::refuse;
+use crate::answers::refuse;
 use crate::step_error::StepError;
+use crate::tables::{Tables, tells_existing};
 use smx_links::LinkTable;
 use smx_tables::comparisons::same_stream;
 use smx_tables::driver_specs::is_mux;
-use smx_tables::lists::Lists;
 use smx_tables::removal::remove_links;
 use smx_tables::standing::is_persistent;
 use smx_tables::sweep::{reserve_for_sweep, sweep_and_reply};
-use smx_types::{DriverSpec, Fault, Link, LinkKind, Process, Reply, StreamId, Which};
+use smx_types::{Fault, Link, LinkKind, Process, Reply, StreamId, Which};
 use std::alloc::{AllocError, Global};
-
-// Whether streams may be linked below this one; the first refusal that applies.
-fn check_upper(drivers: &[DriverSpec], lists: &Lists, upper: StreamId) -> Result<(), Fault>
-    ensures { result ≡ may_have_links drivers.now (configuration_of lists.now) upper }
-{
-    refuse(Fault::Below, lists.links.is_below(upper))?;
-    refuse(Fault::HungUp, lists.streams.is_hung(upper))?;
-    refuse(Fault::NotMux, !is_mux(drivers, upper.driver as usize))
-}
-
-fn link_as(
-    drivers: &[DriverSpec],
-    lists: &mut Lists,
-    process: Process,
-    fd: u32,
-    arg: u32,
-    kind: LinkKind,
-) -> Result<Reply, StepError>
-    requires { StepInvariant drivers.now lists.old }
-    ensures refines { HasOutcomeOrNoMemory lists.old lists.new (link_outcome drivers.now (configuration_of lists.old) process fd arg kind) result }
-    ensures kept { KeepsHolds lists.new }
-    ensures drivers { sizes_of lists.new ≡ sizes_of lists.old }
-{
-    let upper = stream_of(lists, process, fd)?;
-    let lower = stream_of(lists, process, arg)?;
-    check_upper(drivers, lists, upper)?;
-    let id = lists.links.try_link(upper, lower, kind)?;
-    lists.streams.hold(lower);
-    Ok(Reply::Id(id))
-}
-
-pub fn link(
-    drivers: &[DriverSpec],
-    lists: &mut Lists,
-    process: Process,
-    fd: u32,
-    arg: u32,
-) -> Result<Reply, StepError>
-    requires { StepInvariant drivers.now lists.old }
-    ensures refines { RefinesOrNoMemory drivers.now lists.old lists.new process (command.Link fd arg) result }
-    ensures kept { KeepsHolds lists.new }
-    ensures drivers { sizes_of lists.new ≡ sizes_of lists.old }
-{
-    link_as(drivers, lists, process, fd, arg, LinkKind::Ordinary)
-}
-
-pub fn plink(
-    drivers: &[DriverSpec],
-    lists: &mut Lists,
-    process: Process,
-    fd: u32,
-    arg: u32,
-) -> Result<Reply, StepError>
-    requires { StepInvariant drivers.now lists.old }
-    ensures refines { RefinesOrNoMemory drivers.now lists.old lists.new process (command.Plink fd arg) result }
-    ensures kept { KeepsHolds lists.new }
-    ensures drivers { sizes_of lists.new ≡ sizes_of lists.old }
-{
-    link_as(drivers, lists, process, fd, arg, LinkKind::Persistent)
-}
 
 // Whether a command for links of this kind on this stream is for the link.
 fn may_unlink(kind: LinkKind, stream: StreamId, link: &Link) -> bool
@@ -154,75 +92,95 @@ fn has_target(links: &LinkTable, id: u32, kind: LinkKind, stream: StreamId) -> b
     }
 }
 
-// Whether links are there that are named; links of no id need not be.
-pub fn check_targets(
-    lists: &Lists,
-    which: Which,
-    kind: LinkKind,
-    stream: StreamId,
-) -> Result<(), Fault>
-    ensures { result ≡ are_there which kind stream lists.now.links.links }
-{
-    match which {
-        Which::All => Ok(()),
-        Which::Id(id) => refuse(Fault::NoLink, !has_target(&lists.links, id, kind, stream)),
+impl Tables {
+    // Whether streams may be linked below this one; the first refusal that applies.
+    fn check_upper(&self, upper: StreamId) -> Result<(), Fault>
+        ensures { result ≡ may_have_links self.now.drivers self.now.configuration upper }
+    {
+        refuse(Fault::Below, self.lists.links.is_below(upper))?;
+        refuse(Fault::HungUp, self.lists.streams.is_hung(upper))?;
+        refuse(Fault::NotMux, !is_mux(&self.drivers, upper.driver as usize))
     }
-}
 
-// Removes links of this kind.
-fn unlink_as(
-    alloc: Global,
-    drivers: &[DriverSpec],
-    lists: &mut Lists,
-    process: Process,
-    fd: u32,
-    which: Which,
-    kind: LinkKind,
-) -> Result<Reply, StepError>
-    requires { StepInvariant drivers.now lists.old }
-    ensures refines { HasOutcomeOrNoMemory lists.old lists.new (unlinks drivers.now (configuration_of lists.old) process fd which kind) result }
-    ensures kept { KeepsHolds lists.new }
-    ensures drivers { sizes_of lists.new ≡ sizes_of lists.old }
-{
-    let stream = mux_stream(drivers, lists, process, fd)?;
-    check_targets(lists, which, kind, stream)?;
-    lists.links.is_sound();
-    let gone = targets(alloc, &lists.links, which, kind, stream)?;
-    let mut room = reserve_for_sweep(alloc, lists, gone.len())?;
-    remove_links(lists, &gone, &mut room.touched, &mut room.dropped);
-    Ok(sweep_and_reply(drivers, lists, room))
-}
+    fn link_as(
+        &mut self,
+        process: Process,
+        fd: u32,
+        arg: u32,
+        kind: LinkKind,
+    ) -> Result<Reply, StepError>
+        requires { IsSound self.old.drivers self.old.configuration }
+        ensures { HasOutcome self.old self.new
+            (link_outcome self.old.drivers self.old.configuration process fd arg kind) result }
+    {
+        let upper = self.stream_of(process, fd)?;
+        let lower = self.stream_of(process, arg)?;
+        self.check_upper(upper)?;
+        let id = self.lists.links.try_link(upper, lower, kind)?;
+        self.lists.streams.hold(lower);
+        Ok(Reply::Id(id))
+    }
 
-pub fn unlink(
-    alloc: Global,
-    drivers: &[DriverSpec],
-    lists: &mut Lists,
-    process: Process,
-    fd: u32,
-    which: Which,
-) -> Result<Reply, StepError>
-    requires { StepInvariant drivers.now lists.old }
-    ensures refines { RefinesOrNoMemory drivers.now lists.old lists.new process (command.Unlink fd which) result }
-    ensures kept { KeepsHolds lists.new }
-    ensures drivers { sizes_of lists.new ≡ sizes_of lists.old }
-{
-    let kind = LinkKind::Ordinary;
-    unlink_as(alloc, drivers, lists, process, fd, which, kind)
-}
+    pub fn link(&mut self, process: Process, fd: u32, arg: u32) -> Result<Reply, StepError>
+        requires { IsSound self.old.drivers self.old.configuration }
+        ensures { Refines self.old self.new process (command.Link fd arg) result }
+    {
+        self.link_as(process, fd, arg, LinkKind::Ordinary)
+    }
 
-pub fn punlink(
-    alloc: Global,
-    drivers: &[DriverSpec],
-    lists: &mut Lists,
-    process: Process,
-    fd: u32,
-    which: Which,
-) -> Result<Reply, StepError>
-    requires { StepInvariant drivers.now lists.old }
-    ensures refines { RefinesOrNoMemory drivers.now lists.old lists.new process (command.Punlink fd which) result }
-    ensures kept { KeepsHolds lists.new }
-    ensures drivers { sizes_of lists.new ≡ sizes_of lists.old }
-{
-    let kind = LinkKind::Persistent;
-    unlink_as(alloc, drivers, lists, process, fd, which, kind)
+    pub fn plink(&mut self, process: Process, fd: u32, arg: u32) -> Result<Reply, StepError>
+        requires { IsSound self.old.drivers self.old.configuration }
+        ensures { Refines self.old self.new process (command.Plink fd arg) result }
+    {
+        self.link_as(process, fd, arg, LinkKind::Persistent)
+    }
+
+    // Whether links are there that are named; links of no id need not be.
+    pub fn check_targets(&self, which: Which, kind: LinkKind, stream: StreamId) -> Result<(), Fault>
+        ensures { result ≡ are_there which kind stream self.now.configuration.links }
+    {
+        match which {
+            Which::All => Ok(()),
+            Which::Id(id) => refuse(
+                Fault::NoLink,
+                !has_target(&self.lists.links, id, kind, stream),
+            ),
+        }
+    }
+
+    // Removes links of this kind.
+    fn unlink_as(
+        &mut self,
+        process: Process,
+        fd: u32,
+        which: Which,
+        kind: LinkKind,
+    ) -> Result<Reply, StepError>
+        requires { IsSound self.old.drivers self.old.configuration }
+        ensures { HasOutcome self.old self.new
+            (unlinks self.old.drivers self.old.configuration process fd which kind) result }
+    {
+        let stream = self.mux_stream(process, fd)?;
+        self.check_targets(which, kind, stream)?;
+        tells_existing(&self.drivers, &self.lists);
+        self.lists.links.is_sound();
+        let gone = targets(self.alloc, &self.lists.links, which, kind, stream)?;
+        let mut room = reserve_for_sweep(self.alloc, &self.lists, gone.len())?;
+        remove_links(&mut self.lists, &gone, &mut room.touched, &mut room.dropped);
+        Ok(sweep_and_reply(&self.drivers, &mut self.lists, room))
+    }
+
+    pub fn unlink(&mut self, process: Process, fd: u32, which: Which) -> Result<Reply, StepError>
+        requires { IsSound self.old.drivers self.old.configuration }
+        ensures { Refines self.old self.new process (command.Unlink fd which) result }
+    {
+        self.unlink_as(process, fd, which, LinkKind::Ordinary)
+    }
+
+    pub fn punlink(&mut self, process: Process, fd: u32, which: Which) -> Result<Reply, StepError>
+        requires { IsSound self.old.drivers self.old.configuration }
+        ensures { Refines self.old self.new process (command.Punlink fd which) result }
+    {
+        self.unlink_as(process, fd, which, LinkKind::Persistent)
+    }
 }

@@ -1,6 +1,6 @@
 //! The sequential configuration.
 
-ghost use Rattle.std.specs.Prelude.{◌≡◌, ◌≤◌, ◌↔◌, [], length, IfOk, IfErr, IsOk, IsErr, IsTrue};
+ghost use Rattle.std.specs.Prelude.{◌≡◌, ◌↔◌, [], length, IfOk, IfErr, IsOk, IsErr, IsTrue};
 ghost use Rattle.smx_types.specs.declared.reply.Fault.{Fault};
 ghost use Rattle.smx_types.specs.declared.reply.Reply.TheVariants as reply;
 ghost use Rattle.smx_model.specs.Commands.{outcome, step};
@@ -16,39 +16,20 @@ use crate::config_fault::ConfigFault;
 use crate::driver_list::check_drivers;
 use crate::laws_of_waking::woken_marks_are_enough;
 use crate::marks::{Marks, copy_marks, no_marks};
-use crate::perform::perform;
-use crate::second_reply::room_for_reply;
-use crate::settling::finish_step;
 use crate::step_error::StepError;
-use crate::wakes::{message_stream, wakes_of};
-use crate::waking::wake;
+use crate::tables::Tables;
 use smx_model::laws_of_marked_commands::empty_needs_no_mark;
 use smx_model::laws_of_steps::{
     commands_keep, empty_is_kept, outcomes_are_sound, refusals_change_nothing,
 };
-use smx_tables::copies::{copy_lists, empty_lists};
-use smx_tables::lists::Lists;
-use smx_tables::show::{
-    binding_lines, descriptor_lines, full_lines, hung_lines, link_lines, message_lines, route_lines,
-};
-use smx_tables::shown_addresses::{are_bindings_shown, are_routes_shown};
-use smx_tables::shown_lines::{
-    are_fds_shown, are_fulls_shown, are_hungs_shown, are_links_shown, are_messages_shown,
-};
-use smx_tables::standing::tells_existing;
-use smx_types::{
-    BindingLines, Command, ConfigView, DescriptorLines, DriverSpec, FullLines, HungLines,
-    LinkLines, MessageLines, NoMemory, Process, Reply, RouteLines,
-};
+use smx_types::{Command, ConfigView, DriverSpec, NoMemory, Process, Reply};
 use std::alloc::Global;
 use std::marker::Model;
 
 /// Drivers and the configuration over them. A contract sees both as one value.
 #[derive(Debug, Drop)]
 pub struct Config {
-    alloc: Global,
-    drivers: Vec<DriverSpec>,
-    lists: Lists,
+    tables: Tables,
     marks: Marks,
 }
 
@@ -64,19 +45,10 @@ impl Model for Config {
     ghost invariant = { ConfigInvariant };
 }
 
-// Links are no more than 1,024.
-fn count_links(lists: &Lists) -> u32
-    ensures { result ≡ length lists.now.links.links }
-{
-    lists.links.is_sound();
-    lists.links.len() as u32
-}
-
 impl Config {
     /// The empty configuration over these drivers, which keeps the allocator for all that it makes. Refused where there
     /// are more than 128; or else at the least number of a driver that can't be had, or that has the name of an earlier
     /// one; or else for want of memory.
-    #[tactic(auto, using(smx_tables::proofs::KeptLemmas::tells_again))]
     pub fn new(alloc: Global, drivers: &[DriverSpec]) -> Result<Config, ConfigFault>
         ensures drivers { IfOk result (λ c. (c.drivers ≡ drivers.now) × IsDriverList drivers.now) }
         ensures empty { IfOk result (λ c. c.configuration ≡ empty) }
@@ -85,28 +57,14 @@ impl Config {
         empty_is_kept();
         empty_needs_no_mark();
         check_drivers(drivers)?;
-        let Ok(lists) = empty_lists(alloc, drivers) else {
-            return Err(ConfigFault::NoMemory);
-        };
-        let Ok(marks) = no_marks(alloc, drivers) else {
-            return Err(ConfigFault::NoMemory);
-        };
-        tells_existing(drivers, &lists);
-        let Ok(drivers) = Vec::from_slice(alloc, drivers) else {
-            return Err(ConfigFault::NoMemory);
-        };
-        Ok(Config {
-            alloc,
-            drivers,
-            lists,
-            marks,
-        })
+        let tables = Tables::new(alloc, drivers)?;
+        let marks = no_marks(alloc, drivers)?;
+        Ok(Config { tables, marks })
     }
 
     /// Does a command of a process: its reply and the new configuration are those of the command table. A fault for a
     /// reply changes nothing, and neither does want of memory. `dup`, `unbind`, `unroute`, `read`, `transmit`, `hangup`
     /// and every refusal take no memory, so they are always answered.
-    #[tactic(auto, using(smx_tables::proofs::KeptLemmas::table_stays, smx_tables::proofs::KeptLemmas::minors_stay, smx_tables::proofs::KeptLemmas::queues_stay, smx_tables::proofs::KeptLemmas::tells_again))]
     pub fn step(&mut self, process: Process, command: &Command) -> Result<Reply, NoMemory>
         // What it does.
         ensures drivers { self.new.drivers ≡ self.old.drivers }
@@ -122,19 +80,12 @@ impl Config {
         outcomes_are_sound();
         refusals_change_nothing();
         woken_marks_are_enough();
-        let named = message_stream(&self.drivers, &self.lists, process, command);
-        let wakes = wakes_of(&self.drivers, &self.lists, process, command, named);
-        match perform(
-            self.alloc,
-            &self.drivers,
-            &mut self.lists,
-            process,
-            command,
-            named,
-        ) {
+        let named = self.tables.message_stream(process, command);
+        let wakes = self.tables.wakes_of(process, command, named);
+        match self.tables.perform(process, command, named) {
             Ok(reply) => {
-                wake(&self.drivers, &self.lists, &mut self.marks, wakes);
-                finish_step(&self.drivers, &mut self.lists, &mut self.marks);
+                self.tables.wake(&mut self.marks, wakes);
+                self.tables.settle(&mut self.marks);
                 Ok(reply)
             }
             Err(StepError::Refused(fault)) => Ok(Reply::Fault(fault)),
@@ -163,7 +114,7 @@ impl Config {
             → delivered_by (step self.old.drivers self.old.configuration process command.now).1 ≡ [] → IsOk result }
         ensures refused { IsErr (outcome self.old.drivers self.old.configuration process command.now) → IsOk result }
     {
-        match room_for_reply(self.alloc, &self.drivers, &self.lists, process, command) {
+        match self.tables.room_for_reply(process, command) {
             Ok(room) => {
                 let reply = self.step(process, command)?;
                 let again = room.copy_of(&reply);
@@ -178,49 +129,21 @@ impl Config {
     pub fn show(&self) -> Result<ConfigView, NoMemory>
         ensures { IfOk result (λ v. v ≡ view self.now.drivers self.now.configuration) }
     {
-        let alloc = self.alloc;
-        let drivers: &[DriverSpec] = &self.drivers;
-        let fds = descriptor_lines(alloc, drivers, &self.lists.streams)?;
-        let links = link_lines(alloc, drivers, &self.lists.links)?;
-        let binds = binding_lines(alloc, drivers, &self.lists.binds)?;
-        let routes = route_lines(alloc, drivers, &self.lists.routes)?;
-        let msgs = message_lines(alloc, drivers, &self.lists.queues)?;
-        let fulls = full_lines(alloc, drivers, &self.lists.queues)?;
-        let hungs = hung_lines(alloc, drivers, &self.lists.streams)?;
-        Ok(ConfigView {
-            next_id: self.lists.links.next_id(),
-            next_serial: self.lists.next_serial,
-            fds: DescriptorLines::from_vec(fds),
-            links: LinkLines::from_vec(links),
-            binds: BindingLines::from_vec(binds),
-            routes: RouteLines::from_vec(routes),
-            msgs: MessageLines::from_vec(msgs),
-            fulls: FullLines::from_vec(fulls),
-            hungs: HungLines::from_vec(hungs),
-        })
+        self.tables.show()
     }
 
     /// Whether `show` would answer just this view. It is compared line by line where it stands: that takes no memory.
     pub fn shows(&self, shown: &ConfigView) -> bool
         ensures { IsTrue result ↔ (shown.now ≡ view self.now.drivers self.now.configuration) }
     {
-        let drivers: &[DriverSpec] = &self.drivers;
-        shown.next_id == self.lists.links.next_id()
-            && shown.next_serial == self.lists.next_serial
-            && are_fds_shown(drivers, &self.lists.streams, shown.fds.as_slice())
-            && are_links_shown(drivers, &self.lists.links, shown.links.as_slice())
-            && are_bindings_shown(drivers, &self.lists.binds, shown.binds.as_slice())
-            && are_routes_shown(drivers, &self.lists.routes, shown.routes.as_slice())
-            && are_messages_shown(drivers, &self.lists.queues, shown.msgs.as_slice())
-            && are_fulls_shown(drivers, &self.lists.queues, shown.fulls.as_slice())
-            && are_hungs_shown(drivers, &self.lists.streams, shown.hungs.as_slice())
+        self.tables.shows(shown)
     }
 
     /// How many links stand. Takes no memory.
     pub fn link_count(&self) -> u32
         ensures { result ≡ length self.now.configuration.links }
     {
-        count_links(&self.lists)
+        self.tables.link_count()
     }
 
     /// The drivers that it was made with, which no command changes. Takes no memory.
@@ -228,7 +151,7 @@ impl Config {
         ensures value { result.now ≡ self.now.drivers }
         ensures list { IsDriverList self.now.drivers }
     {
-        self.drivers.as_slice()
+        self.tables.drivers()
     }
 
     /// What every configuration is, whichever commands came before: its links form no cycle and no stream is below two
@@ -238,23 +161,17 @@ impl Config {
         ensures drivers { IsDriverList self.now.drivers }
         ensures kept { IsKept self.now.drivers self.now.configuration }
     {
-        let _drivers = &self.drivers;
+        let _drivers = self.tables.drivers();
     }
 
     /// The same configuration again, by the allocator that this one has. Fails only for want of memory.
-    #[tactic(auto, using(smx_tables::proofs::KeptLemmas::tells_again))]
     pub fn copy(&self) -> Result<Config, NoMemory>
         ensures { IfOk result (λ c. c ≡ self.now) }
     {
-        let alloc = self.alloc;
-        let drivers = Vec::from_slice(alloc, &self.drivers)?;
-        let lists = copy_lists(alloc, &self.lists)?;
-        let marks = copy_marks(alloc, &self.marks)?;
+        let alloc = self.tables.alloc;
         Ok(Config {
-            alloc,
-            drivers,
-            lists,
-            marks,
+            tables: self.tables.copy()?,
+            marks: copy_marks(alloc, &self.marks)?,
         })
     }
 }

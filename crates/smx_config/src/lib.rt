@@ -1,6 +1,7 @@
 //! The sequential configuration: each command does what the model's command table says.
 #![tactic(auto)]
 
+mod answers;
 mod commands_of_addresses;
 mod commands_of_links;
 mod commands_of_messages;
@@ -16,12 +17,13 @@ mod lookups;
 mod marks;
 mod next_places;
 mod perform;
-mod refuse;
 mod run_marks;
 mod second_reply;
 mod settling;
 mod step_error;
+mod tables;
 mod verdict;
+mod views;
 mod wakes;
 mod waking;
 

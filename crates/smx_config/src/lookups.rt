@@ -1,98 +1,110 @@
 //! What the words of a command name in a configuration, and the refusals where they name nothing.
 
-ghost use Rattle.std.specs.Prelude.{◌≡◌};
-ghost use Rattle.smx_model.specs.Lookups.{stream_of, free_stream, live_stream, mux_stream, leaf_stream, live_leaf};
+ghost use Rattle.std.specs.Prelude.{◌≡◌, ◌<◌, length, IfOk};
+ghost use Rattle.smx_model.specs.KeptConfigurations.{IsSound};
+ghost use Rattle.smx_model.specs.DriverList.{minors_of};
+ghost use Rattle.smx_model.specs.Lookups.{driver_of, stream_of, free_stream, live_stream, mux_stream, leaf_stream, live_leaf};
+ghost use Rattle.smx_model.specs.Queues.{is_full};
 ghost use Rattle.smx_model.specs.Standing.{exists};
-ghost use Rattle.smx_tables.specs.ExistingStreams.{TellsExisting};
-ghost use Rattle.smx_tables.specs.ModelOfLists.{configuration_of};
-ghost use Rattle.smx_config.specs.Refinement.{StepInvariant};
 
-use crate::refuse::refuse;
+use crate::answers::refuse;
+use crate::tables::{Tables, tells_existing};
 use smx_tables::driver_specs::{driver_of, is_mux, minors_of};
-use smx_tables::lists::Lists;
-use smx_types::{DriverSpec, Fault, Name, Process, StreamId};
+use smx_types::{Fault, Name, Place, Process, StreamId};
 
-pub fn stream_of(lists: &Lists, process: Process, fd: u32) -> Result<StreamId, Fault>
-    ensures { result ≡ stream_of (configuration_of lists.now) process fd }
-{
-    match lists.streams.stream_of(process, fd) {
-        Some(stream) => Ok(stream),
-        None => Err(Fault::BadDescriptor),
+impl Tables {
+    // The number of the driver of this name.
+    pub fn driver_of(&self, name: &Name) -> Result<u8, Fault>
+        ensures found { result ≡ driver_of self.now.drivers name.now }
+        ensures in_range { IfOk result (λ n. n < length self.now.drivers) }
+    {
+        Ok(driver_of(&self.drivers, name)? as u8)
     }
-}
 
-pub fn free_stream(lists: &Lists, process: Process, fd: u32) -> Result<StreamId, Fault>
-    ensures { result ≡ free_stream (configuration_of lists.now) process fd }
-{
-    let stream = stream_of(lists, process, fd)?;
-    refuse(Fault::Below, lists.links.is_below(stream))?;
-    Ok(stream)
-}
-
-// The same, where its device has not hung up.
-pub fn live_stream(lists: &Lists, process: Process, fd: u32) -> Result<StreamId, Fault>
-    ensures { result ≡ live_stream (configuration_of lists.now) process fd }
-{
-    let free = free_stream(lists, process, fd)?;
-    refuse(Fault::HungUp, lists.streams.is_hung(free))?;
-    Ok(free)
-}
-
-pub fn mux_stream(
-    drivers: &[DriverSpec],
-    lists: &Lists,
-    process: Process,
-    fd: u32,
-) -> Result<StreamId, Fault>
-    ensures { result ≡ mux_stream drivers.now (configuration_of lists.now) process fd }
-{
-    let stream = free_stream(lists, process, fd)?;
-    refuse(Fault::NotMux, !is_mux(drivers, stream.driver as usize))?;
-    Ok(stream)
-}
-
-// Whether the stream exists, by the table.
-fn exists(drivers: &[DriverSpec], lists: &Lists, stream: StreamId) -> bool
-    requires { TellsExisting drivers.now (configuration_of lists.now) lists.now.streams }
-    ensures { result ≡ exists drivers.now (configuration_of lists.now) stream }
-{
-    let _drivers = drivers;
-    lists.streams.exists(stream)
-}
-
-pub fn leaf_stream(
-    drivers: &[DriverSpec],
-    lists: &Lists,
-    name: &Name,
-    minor: u32,
-) -> Result<StreamId, Fault>
-    requires { StepInvariant drivers.now lists.now }
-    ensures { result ≡ leaf_stream drivers.now (configuration_of lists.now) name.now minor }
-{
-    let driver = driver_of(drivers, name)?;
-    refuse(Fault::NoDriver, is_mux(drivers, driver))?;
-    if minor >= minors_of(drivers, driver) {
-        return Err(Fault::NoMinor);
+    // How many minors the driver has; 0 where there is no such driver.
+    pub fn minors_of(&self, driver: u8) -> u8
+        ensures { result ≡ minors_of self.now.drivers driver }
+    {
+        minors_of(&self.drivers, driver as usize) as u8
     }
-    let stream = StreamId {
-        driver: driver as u8,
-        minor: minor as u8,
-    };
-    refuse(Fault::NoMinor, !exists(drivers, lists, stream))?;
-    Ok(stream)
-}
 
-// The same, where its device has not hung up.
-pub fn live_leaf(
-    drivers: &[DriverSpec],
-    lists: &Lists,
-    name: &Name,
-    minor: u32,
-) -> Result<StreamId, Fault>
-    requires { StepInvariant drivers.now lists.now }
-    ensures { result ≡ live_leaf drivers.now (configuration_of lists.now) name.now minor }
-{
-    let leaf = leaf_stream(drivers, lists, name, minor)?;
-    refuse(Fault::HungUp, lists.streams.is_hung(leaf))?;
-    Ok(leaf)
+    // Whether the place is full.
+    pub fn is_full(&self, place: Place) -> bool
+        ensures { result ≡ is_full self.now.configuration place }
+    {
+        self.lists.queues.is_full(place)
+    }
+
+    pub fn stream_of(&self, process: Process, fd: u32) -> Result<StreamId, Fault>
+        ensures { result ≡ stream_of self.now.configuration process fd }
+    {
+        match self.lists.streams.stream_of(process, fd) {
+            Some(stream) => Ok(stream),
+            None => Err(Fault::BadDescriptor),
+        }
+    }
+
+    pub fn free_stream(&self, process: Process, fd: u32) -> Result<StreamId, Fault>
+        ensures { result ≡ free_stream self.now.configuration process fd }
+    {
+        let stream = self.stream_of(process, fd)?;
+        refuse(Fault::Below, self.lists.links.is_below(stream))?;
+        Ok(stream)
+    }
+
+    // The same, where its device has not hung up.
+    pub fn live_stream(&self, process: Process, fd: u32) -> Result<StreamId, Fault>
+        ensures { result ≡ live_stream self.now.configuration process fd }
+    {
+        let free = self.free_stream(process, fd)?;
+        refuse(Fault::HungUp, self.lists.streams.is_hung(free))?;
+        Ok(free)
+    }
+
+    pub fn mux_stream(&self, process: Process, fd: u32) -> Result<StreamId, Fault>
+        ensures { result ≡ mux_stream self.now.drivers self.now.configuration process fd }
+    {
+        let stream = self.free_stream(process, fd)?;
+        refuse(
+            Fault::NotMux,
+            !is_mux(&self.drivers, stream.driver as usize),
+        )?;
+        Ok(stream)
+    }
+
+    // Whether the stream exists, by the table.
+    fn exists(&self, stream: StreamId) -> bool
+        requires { IsSound self.now.drivers self.now.configuration }
+        ensures { result ≡ exists self.now.drivers self.now.configuration stream }
+    {
+        tells_existing(&self.drivers, &self.lists);
+        self.lists.streams.exists(stream)
+    }
+
+    pub fn leaf_stream(&self, name: &Name, minor: u32) -> Result<StreamId, Fault>
+        requires { IsSound self.now.drivers self.now.configuration }
+        ensures { result ≡ leaf_stream self.now.drivers self.now.configuration name.now minor }
+    {
+        let driver = self.driver_of(name)?;
+        refuse(Fault::NoDriver, is_mux(&self.drivers, driver as usize))?;
+        if minor >= u32::from(self.minors_of(driver)) {
+            return Err(Fault::NoMinor);
+        }
+        let stream = StreamId {
+            driver,
+            minor: minor as u8,
+        };
+        refuse(Fault::NoMinor, !self.exists(stream))?;
+        Ok(stream)
+    }
+
+    // The same, where its device has not hung up.
+    pub fn live_leaf(&self, name: &Name, minor: u32) -> Result<StreamId, Fault>
+        requires { IsSound self.now.drivers self.now.configuration }
+        ensures { result ≡ live_leaf self.now.drivers self.now.configuration name.now minor }
+    {
+        let leaf = self.leaf_stream(name, minor)?;
+        refuse(Fault::HungUp, self.lists.streams.is_hung(leaf))?;
+        Ok(leaf)
+    }
 }

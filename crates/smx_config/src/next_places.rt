@@ -3,73 +3,70 @@
 ghost use Rattle.std.specs.Prelude.{◌≡◌};
 ghost use Rattle.smx_model.specs.RunMarks.{next_of_first};
 ghost use Rattle.smx_model.specs.Settling.{live_write_side, place_below, place_above, next_place};
-ghost use Rattle.smx_tables.specs.ModelOfLists.{configuration_of};
 
-use smx_addresses::Bindings;
-use smx_links::LinkTable;
-use smx_streams::Streams;
+use crate::tables::Tables;
 use smx_tables::driver_specs::is_mux;
-use smx_tables::lists::Lists;
-use smx_types::{DriverSpec, Place, Side, StreamId};
+use smx_types::{Place, Side, StreamId};
 
-// The write side of the stream, unless its device has hung up.
-fn live_write_side(streams: &Streams, stream: StreamId) -> Option<Place>
-    ensures { result ≡ live_write_side streams.now.hungs stream }
-{
-    if streams.is_hung(stream) {
-        return None;
-    }
-    Some(Place {
-        stream,
-        side: Side::Write,
-    })
-}
-
-// The write side of the stream below the link of the driver's route, unless that has hung up.
-fn down(lists: &Lists, driver: u8, addr: u32) -> Option<Place>
-    ensures { result ≡ place_below lists.now.links.links lists.now.routes lists.now.streams.hungs driver addr }
-{
-    let route = lists.routes.at(driver, addr)?;
-    let link = lists.links.get(route.id)?;
-    live_write_side(&lists.streams, link.lower)
-}
-
-// The read side of the stream that is bound to the address on the upper driver.
-fn up(links: &LinkTable, binds: &Bindings, stream: StreamId, addr: u32) -> Option<Place>
-    ensures { result ≡ place_above links.now.links binds.now stream addr }
-{
-    let link = links.above(stream)?;
-    let binding = binds.at(link.ctl.driver, addr)?;
-    Some(Place {
-        stream: StreamId {
-            driver: binding.driver,
-            minor: binding.minor,
-        },
-        side: Side::Read,
-    })
-}
-
-// The next place of a message of this address.
-fn next_place(drivers: &[DriverSpec], lists: &Lists, place: Place, addr: u32) -> Option<Place>
-    ensures { result ≡ next_place drivers.now (configuration_of lists.now) place addr }
-{
-    let stream = place.stream;
-    match place.side {
-        Side::Write => {
-            if is_mux(drivers, stream.driver as usize) {
-                down(lists, stream.driver, addr)
-            } else {
-                None
-            }
+impl Tables {
+    // The write side of the stream, unless its device has hung up.
+    fn live_write_side(&self, stream: StreamId) -> Option<Place>
+        ensures { result ≡ live_write_side self.now.configuration.hungs stream }
+    {
+        if self.lists.streams.is_hung(stream) {
+            return None;
         }
-        Side::Read => up(&lists.links, &lists.binds, stream, addr),
+        let side = Side::Write;
+        Some(Place { stream, side })
     }
-}
 
-// Where the first message of the place goes next, if there is one, whether that is full or not.
-pub fn next_of_first(drivers: &[DriverSpec], lists: &Lists, place: Place) -> Option<Place>
-    ensures { result ≡ next_of_first drivers.now (configuration_of lists.now) place }
-{
-    let message = lists.queues.front(place)?;
-    next_place(drivers, lists, place, message.addr)
+    // The write side of the stream below the link of the driver's route, unless that has hung up.
+    fn down(&self, driver: u8, addr: u32) -> Option<Place>
+        ensures { result ≡ place_below self.now.configuration.links self.now.configuration.routes
+            self.now.configuration.hungs driver addr }
+    {
+        let route = self.lists.routes.at(driver, addr)?;
+        let link = self.lists.links.get(route.id)?;
+        self.live_write_side(link.lower)
+    }
+
+    // The read side of the stream that is bound to the address on the upper driver.
+    fn up(&self, stream: StreamId, addr: u32) -> Option<Place>
+        ensures { result ≡ place_above self.now.configuration.links self.now.configuration.binds stream addr }
+    {
+        let link = self.lists.links.above(stream)?;
+        let binding = self.lists.binds.at(link.ctl.driver, addr)?;
+        Some(Place {
+            stream: StreamId {
+                driver: binding.driver,
+                minor: binding.minor,
+            },
+            side: Side::Read,
+        })
+    }
+
+    // The next place of a message of this address.
+    fn next_place(&self, place: Place, addr: u32) -> Option<Place>
+        ensures { result ≡ next_place self.now.drivers self.now.configuration place addr }
+    {
+        let stream = place.stream;
+        match place.side {
+            Side::Write => {
+                if is_mux(&self.drivers, stream.driver as usize) {
+                    self.down(stream.driver, addr)
+                } else {
+                    None
+                }
+            }
+            Side::Read => self.up(stream, addr),
+        }
+    }
+
+    // Where the first message of the place goes next, if there is one, whether that is full or not.
+    pub fn next_of_first(&self, place: Place) -> Option<Place>
+        ensures { result ≡ next_of_first self.now.drivers self.now.configuration place }
+    {
+        let message = self.lists.queues.front(place)?;
+        self.next_place(place, message.addr)
+    }
 }

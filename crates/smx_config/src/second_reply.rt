@@ -1,26 +1,20 @@
 //! A reply a second time, in room that is made before the step.
 
-ghost use Rattle.std.specs.Prelude.{◌≡◌, ◌≢◌, ◌≤◌, List, [], length, vec_capacity};
+ghost use Rattle.std.specs.Prelude.{◌≡◌, ◌≢◌, ◌≤◌, [], length, vec_capacity};
 ghost use Rattle.std.specs.Prelude.{IfOk, IfErr, IsOk, IsTrue, Err};
-ghost use Rattle.smx_types.specs.declared.driver.DriverSpec.{DriverSpec};
 ghost use Rattle.smx_model.specs.Commands.{after_outcome, outcome, read_outcome, receive_outcome, step};
+ghost use Rattle.smx_model.specs.KeptConfigurations.{IsSound};
 ghost use Rattle.smx_model.specs.LawfulHistories.{delivered_by};
 ghost use Rattle.smx_config.specs.declared.step_error.StepError.TheVariants as step_error;
 ghost use Rattle.smx_config.specs.Machine.{takes_no_memory};
-ghost use Rattle.smx_tables.specs.ModelOfLists.{configuration_of};
-ghost use Rattle.smx_config.specs.Refinement.{StepInvariant};
 ghost use Rattle.smx_config.specs.SecondReplies.{HasRoomFor, HasRoomForReply, MakesRoom};
 ghost use Rattle.smx_config.specs.UnlinkTargets.{unlinks};
 
-use crate::commands_of_links::check_targets;
-use crate::commands_of_messages::is_at_end;
-use crate::lookups::{free_stream, live_leaf, live_stream, mux_stream, stream_of};
 use crate::step_error::StepError;
+use crate::tables::Tables;
 use smx_model::laws_of_steps::other_commands_drop_none;
-use smx_tables::lists::Lists;
 use smx_types::{
-    Bytes, Command, DriverSpec, Fault, LinkKind, Place, Process, Reply, Serials, Side, StreamId,
-    Which,
+    Bytes, Command, Fault, LinkKind, Place, Process, Reply, Serials, Side, StreamId, Which,
 };
 use std::alloc::{AllocError, Global};
 
@@ -50,121 +44,110 @@ fn no_room(alloc: Global) -> ReplyRoom
     }
 }
 
-// Room for the bytes of the first message on a side of a stream.
-fn room_for_first(
-    alloc: Global,
-    lists: &Lists,
-    stream: StreamId,
-    side: Side,
-) -> Result<ReplyRoom, StepError>
-    ensures makes { (drivers : List DriverSpec) → MakesRoom drivers (configuration_of lists.now)
-        (receive_outcome drivers (configuration_of lists.now) (record { stream = stream; side = side })) result }
-    ensures in_place { (drivers : List DriverSpec)
-        → delivered_by (after_outcome drivers (configuration_of lists.now)
-        (receive_outcome drivers (configuration_of lists.now) (record { stream = stream; side = side }))).1 ≡ []
-        → result ≢ Err step_error.NoMemory }
-{
-    let Some(message) = lists.queues.front(Place { stream, side }) else {
-        return Err(StepError::Refused(Fault::Empty));
-    };
-    Ok(room_for(alloc, message.bytes.as_slice().len(), 0)?)
-}
-
-// The same of what is read from a stream; the end of file needs none.
-fn room_for_read(alloc: Global, lists: &Lists, stream: StreamId) -> Result<ReplyRoom, StepError>
-    ensures makes { (drivers : List DriverSpec) → MakesRoom drivers (configuration_of lists.now)
-        (read_outcome drivers (configuration_of lists.now) stream) result }
-    ensures in_place { (drivers : List DriverSpec)
-        → delivered_by (after_outcome drivers (configuration_of lists.now)
-        (read_outcome drivers (configuration_of lists.now) stream)).1 ≡ []
-        → result ≢ Err step_error.NoMemory }
-{
-    if is_at_end(lists, stream) {
-        return Ok(no_room(alloc));
+impl Tables {
+    // Room for the bytes of the first message on a side of a stream.
+    fn room_for_first(&self, place: Place) -> Result<ReplyRoom, StepError>
+        ensures makes { MakesRoom self.now (receive_outcome self.now.drivers self.now.configuration place) result }
+        ensures in_place { delivered_by (after_outcome self.now.drivers self.now.configuration
+            (receive_outcome self.now.drivers self.now.configuration place)).1 ≡ [] → result ≢ Err step_error.NoMemory }
+    {
+        let Some(message) = self.lists.queues.front(place) else {
+            return Err(StepError::Refused(Fault::Empty));
+        };
+        Ok(room_for(self.alloc, message.bytes.as_slice().len(), 0)?)
     }
-    room_for_first(alloc, lists, stream, Side::Read)
-}
 
-// Room for the serials of all messages.
-fn room_for_all(alloc: Global, lists: &Lists) -> Result<ReplyRoom, StepError>
-    ensures ok { IfOk result (HasRoomFor 0 (length lists.now.queues.flow)) }
-    ensures err { IfErr result (λ e. e ≡ step_error.NoMemory) }
-{
-    Ok(room_for(alloc, 0, lists.queues.len())?)
-}
+    // The same of what is read from a stream; the end of file needs none.
+    fn room_for_read(&self, stream: StreamId) -> Result<ReplyRoom, StepError>
+        ensures makes { MakesRoom self.now (read_outcome self.now.drivers self.now.configuration stream) result }
+        ensures in_place { delivered_by (after_outcome self.now.drivers self.now.configuration
+            (read_outcome self.now.drivers self.now.configuration stream)).1 ≡ [] → result ≢ Err step_error.NoMemory }
+    {
+        if self.is_at_end(stream) {
+            return Ok(no_room(self.alloc));
+        }
+        let side = Side::Read;
+        self.room_for_first(Place { stream, side })
+    }
 
-// Whether links may be removed; the first refusal that applies.
-fn check_unlink(
-    drivers: &[DriverSpec],
-    lists: &Lists,
-    process: Process,
-    fd: u32,
-    which: Which,
-    kind: LinkKind,
-) -> Result<(), Fault>
-    ensures ok { IsOk result → IsOk (unlinks drivers.now (configuration_of lists.now) process fd which kind) }
-    ensures refused { IfErr result (λ f.
-        unlinks drivers.now (configuration_of lists.now) process fd which kind ≡ Err f) }
-{
-    let stream = mux_stream(drivers, lists, process, fd)?;
-    check_targets(lists, which, kind, stream)
-}
+    // Room for the serials of all messages.
+    fn room_for_all(&self) -> Result<ReplyRoom, StepError>
+        ensures ok { IfOk result (HasRoomFor 0 (length self.now.configuration.flow)) }
+        ensures err { IfErr result (λ e. e ≡ step_error.NoMemory) }
+    {
+        Ok(room_for(self.alloc, 0, self.lists.queues.len())?)
+    }
 
-/// Room for the reply to a command, unless that is refused. Takes memory only for what the reply may carry.
-#[tactic(auto, using(crate::proofs::DroppedLemmas::few_left))]
-pub fn room_for_reply(
-    alloc: Global,
-    drivers: &[DriverSpec],
-    lists: &Lists,
-    process: Process,
-    command: &Command,
-) -> Result<ReplyRoom, StepError>
-    requires { StepInvariant drivers.now lists.now }
-    ensures makes { MakesRoom drivers.now (configuration_of lists.now)
-        (outcome drivers.now (configuration_of lists.now) process command.now) result }
-    ensures in_place { IsTrue (takes_no_memory command.now)
-        → delivered_by (step drivers.now (configuration_of lists.now) process command.now).1 ≡ []
-        → result ≢ Err step_error.NoMemory }
-{
-    other_commands_drop_none();
-    match command {
-        Command::Read { fd } => {
-            let stream = free_stream(lists, process, *fd)?;
-            room_for_read(alloc, lists, stream)
+    // Whether links may be removed; the first refusal that applies.
+    fn check_unlink(
+        &self,
+        process: Process,
+        fd: u32,
+        which: Which,
+        kind: LinkKind,
+    ) -> Result<(), Fault>
+        ensures ok { IsOk result → IsOk (unlinks self.now.drivers self.now.configuration process fd which kind) }
+        ensures refused { IfErr result (λ f.
+            unlinks self.now.drivers self.now.configuration process fd which kind ≡ Err f) }
+    {
+        let stream = self.mux_stream(process, fd)?;
+        self.check_targets(which, kind, stream)
+    }
+
+    /// Room for the reply to a command, unless that is refused. Takes memory only for what the reply may carry.
+    #[tactic(auto, using(crate::proofs::DroppedLemmas::few_left))]
+    pub fn room_for_reply(
+        &self,
+        process: Process,
+        command: &Command,
+    ) -> Result<ReplyRoom, StepError>
+        requires { IsSound self.now.drivers self.now.configuration }
+        ensures makes { MakesRoom self.now (outcome self.now.drivers self.now.configuration process command.now) result }
+        ensures in_place { IsTrue (takes_no_memory command.now)
+            → delivered_by (step self.now.drivers self.now.configuration process command.now).1 ≡ []
+            → result ≢ Err step_error.NoMemory }
+    {
+        other_commands_drop_none();
+        match command {
+            Command::Read { fd } => {
+                let stream = self.free_stream(process, *fd)?;
+                self.room_for_read(stream)
+            }
+            Command::Transmit { driver, minor } => {
+                let stream = self.live_leaf(driver, *minor)?;
+                let side = Side::Write;
+                self.room_for_first(Place { stream, side })
+            }
+            Command::Close { fd } => {
+                let _stream = self.stream_of(process, *fd)?;
+                self.room_for_all()
+            }
+            Command::CloseAll => self.room_for_all(),
+            Command::Unlink { fd, which } => {
+                self.check_unlink(process, *fd, *which, LinkKind::Ordinary)?;
+                self.room_for_all()
+            }
+            Command::Punlink { fd, which } => {
+                self.check_unlink(process, *fd, *which, LinkKind::Persistent)?;
+                self.room_for_all()
+            }
+            Command::Flush { fd, .. } => {
+                let _stream = self.live_stream(process, *fd)?;
+                self.room_for_all()
+            }
+            Command::OpenClone { .. }
+            | Command::OpenMinor { .. }
+            | Command::Dup { .. }
+            | Command::Link { .. }
+            | Command::Plink { .. }
+            | Command::Bind { .. }
+            | Command::Unbind { .. }
+            | Command::Route { .. }
+            | Command::Unroute { .. }
+            | Command::Write { .. }
+            | Command::Inject { .. }
+            | Command::Hangup { .. } => Ok(no_room(self.alloc)),
         }
-        Command::Transmit { driver, minor } => {
-            let stream = live_leaf(drivers, lists, driver, *minor)?;
-            room_for_first(alloc, lists, stream, Side::Write)
-        }
-        Command::Close { fd } => {
-            let _stream = stream_of(lists, process, *fd)?;
-            room_for_all(alloc, lists)
-        }
-        Command::CloseAll => room_for_all(alloc, lists),
-        Command::Unlink { fd, which } => {
-            check_unlink(drivers, lists, process, *fd, *which, LinkKind::Ordinary)?;
-            room_for_all(alloc, lists)
-        }
-        Command::Punlink { fd, which } => {
-            check_unlink(drivers, lists, process, *fd, *which, LinkKind::Persistent)?;
-            room_for_all(alloc, lists)
-        }
-        Command::Flush { fd, .. } => {
-            let _stream = live_stream(lists, process, *fd)?;
-            room_for_all(alloc, lists)
-        }
-        Command::OpenClone { .. }
-        | Command::OpenMinor { .. }
-        | Command::Dup { .. }
-        | Command::Link { .. }
-        | Command::Plink { .. }
-        | Command::Bind { .. }
-        | Command::Unbind { .. }
-        | Command::Route { .. }
-        | Command::Unroute { .. }
-        | Command::Write { .. }
-        | Command::Inject { .. }
-        | Command::Hangup { .. } => Ok(no_room(alloc)),
     }
 }
 

@@ -2,16 +2,14 @@
 
 ghost use Rattle.std.specs.Prelude.{◌≡◌, IfOk};
 ghost use Rattle.smx_types.specs.declared.stream.Place.{Place as PlaceValue};
+ghost use Rattle.smx_model.specs.KeptConfigurations.{IsSound};
 ghost use Rattle.smx_model.specs.KnownStreams.{IsKnown};
 ghost use Rattle.smx_config.specs.MessageStreams.{message_stream};
-ghost use Rattle.smx_tables.specs.ModelOfLists.{configuration_of};
-ghost use Rattle.smx_config.specs.Refinement.{StepInvariant};
 ghost use Rattle.smx_config.specs.Wakes.{on_stream, wakes_of};
 ghost use Rattle.smx_config.specs.declared.wakes.Wakes.TheVariants as wakes;
 
-use crate::lookups::{free_stream, live_leaf, live_stream, mux_stream, stream_of};
-use smx_tables::lists::Lists;
-use smx_types::{Command, DriverSpec, Fault, Place, Process, Side, StreamId};
+use crate::tables::Tables;
+use smx_types::{Command, Fault, Place, Process, Side, StreamId};
 
 /// What a command may wake, if it is accepted.
 #[derive(Clone, Copy, Debug)]
@@ -66,71 +64,67 @@ fn turns_reads(stream: Result<StreamId, Fault>) -> Wakes
     }
 }
 
-// The stream at which a command sends or takes a message. Takes no memory.
-pub fn message_stream(
-    drivers: &[DriverSpec],
-    lists: &Lists,
-    process: Process,
-    command: &Command,
-) -> Result<StreamId, Fault>
-    requires { StepInvariant drivers.now lists.now }
-    ensures value { result ≡ message_stream drivers.now (configuration_of lists.now) process command.now }
-    ensures known { IfOk result (IsKnown drivers.now) }
-{
-    match command {
-        Command::Write { fd, .. } => live_stream(lists, process, *fd),
-        Command::Read { fd } => free_stream(lists, process, *fd),
-        Command::Inject { driver, minor, .. } | Command::Transmit { driver, minor } => {
-            live_leaf(drivers, lists, driver, *minor)
+impl Tables {
+    // The stream at which a command sends or takes a message. Takes no memory.
+    pub fn message_stream(&self, process: Process, command: &Command) -> Result<StreamId, Fault>
+        requires { IsSound self.now.drivers self.now.configuration }
+        ensures value { result ≡ message_stream self.now.drivers self.now.configuration process command.now }
+        ensures known { IfOk result (IsKnown self.now.drivers) }
+    {
+        match command {
+            Command::Write { fd, .. } => self.live_stream(process, *fd),
+            Command::Read { fd } => self.free_stream(process, *fd),
+            Command::Inject { driver, minor, .. } | Command::Transmit { driver, minor } => {
+                self.live_leaf(driver, *minor)
+            }
+            Command::OpenClone { .. }
+            | Command::OpenMinor { .. }
+            | Command::Dup { .. }
+            | Command::Close { .. }
+            | Command::CloseAll
+            | Command::Link { .. }
+            | Command::Plink { .. }
+            | Command::Unlink { .. }
+            | Command::Punlink { .. }
+            | Command::Bind { .. }
+            | Command::Unbind { .. }
+            | Command::Route { .. }
+            | Command::Unroute { .. }
+            | Command::Flush { .. }
+            | Command::Hangup { .. } => Err(Fault::BadDescriptor),
         }
-        Command::OpenClone { .. }
-        | Command::OpenMinor { .. }
-        | Command::Dup { .. }
-        | Command::Close { .. }
-        | Command::CloseAll
-        | Command::Link { .. }
-        | Command::Plink { .. }
-        | Command::Unlink { .. }
-        | Command::Punlink { .. }
-        | Command::Bind { .. }
-        | Command::Unbind { .. }
-        | Command::Route { .. }
-        | Command::Unroute { .. }
-        | Command::Flush { .. }
-        | Command::Hangup { .. } => Err(Fault::BadDescriptor),
     }
-}
 
-// By the command table. Takes no memory.
-pub fn wakes_of(
-    drivers: &[DriverSpec],
-    lists: &Lists,
-    process: Process,
-    command: &Command,
-    named: Result<StreamId, Fault>,
-) -> Wakes
-    requires { named ≡ message_stream drivers.now (configuration_of lists.now) process command.now }
-    ensures { result ≡ wakes_of drivers.now (configuration_of lists.now) process command.now }
-{
-    match command {
-        Command::OpenClone { .. }
-        | Command::OpenMinor { .. }
-        | Command::Dup { .. }
-        | Command::Unbind { .. }
-        | Command::Unroute { .. }
-        | Command::Hangup { .. } => Wakes::Nothing,
-        Command::Close { .. }
-        | Command::CloseAll
-        | Command::Unlink { .. }
-        | Command::Punlink { .. }
-        | Command::Flush { .. } => Wakes::Frees,
-        Command::Link { arg, .. } => turns(stream_of(lists, process, *arg), Side::Read),
-        Command::Plink { arg, .. } => turns(stream_of(lists, process, *arg), Side::Read),
-        Command::Bind { fd, .. } => turns_reads(mux_stream(drivers, lists, process, *fd)),
-        Command::Route { fd, .. } => turns_writes(mux_stream(drivers, lists, process, *fd)),
-        Command::Write { .. } => turns(named, Side::Write),
-        Command::Read { .. } => leaves(named, Side::Read),
-        Command::Inject { .. } => turns(named, Side::Read),
-        Command::Transmit { .. } => leaves(named, Side::Write),
+    // By the command table. Takes no memory.
+    pub fn wakes_of(
+        &self,
+        process: Process,
+        command: &Command,
+        named: Result<StreamId, Fault>,
+    ) -> Wakes
+        requires { named ≡ message_stream self.now.drivers self.now.configuration process command.now }
+        ensures { result ≡ wakes_of self.now.drivers self.now.configuration process command.now }
+    {
+        match command {
+            Command::OpenClone { .. }
+            | Command::OpenMinor { .. }
+            | Command::Dup { .. }
+            | Command::Unbind { .. }
+            | Command::Unroute { .. }
+            | Command::Hangup { .. } => Wakes::Nothing,
+            Command::Close { .. }
+            | Command::CloseAll
+            | Command::Unlink { .. }
+            | Command::Punlink { .. }
+            | Command::Flush { .. } => Wakes::Frees,
+            Command::Link { arg, .. } => turns(self.stream_of(process, *arg), Side::Read),
+            Command::Plink { arg, .. } => turns(self.stream_of(process, *arg), Side::Read),
+            Command::Bind { fd, .. } => turns_reads(self.mux_stream(process, *fd)),
+            Command::Route { fd, .. } => turns_writes(self.mux_stream(process, *fd)),
+            Command::Write { .. } => turns(named, Side::Write),
+            Command::Read { .. } => leaves(named, Side::Read),
+            Command::Inject { .. } => turns(named, Side::Read),
+            Command::Transmit { .. } => leaves(named, Side::Write),
+        }
     }
 }

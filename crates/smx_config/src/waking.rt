@@ -2,21 +2,18 @@
 
 ghost use Rattle.std.specs.Prelude.{◌≡◌, ◌<◌, false, true, length, IfSome, IfNone};
 ghost use Rattle.smx_types.specs.declared.stream.Place.{Place as PlaceValue};
-ghost use Rattle.smx_model.specs.Configuration.{same_place};
+ghost use Rattle.smx_model.specs.Configuration.{Configuration, same_place};
 ghost use Rattle.smx_model.specs.Queues.{is_full};
 ghost use Rattle.smx_queues.specs.PlaceMarks.{has_mark};
-ghost use Rattle.smx_config.specs.FewMinors.{HaveFewMinors};
 ghost use Rattle.smx_config.specs.Marking.{AreWaitersMarked, IsMarkedWhere, IsReleased, IsWoken};
-ghost use Rattle.smx_tables.specs.ModelOfLists.{configuration_of};
 ghost use Rattle.smx_config.specs.Wakes.{everywhere, freed_under, turned_under};
 
 use crate::marks::Marks;
-use crate::run_marks::{mark_reads, mark_waiting, mark_writes};
+use crate::tables::Tables;
 use crate::wakes::Wakes;
 use smx_queues::{PlaceMarks, Waiters};
 use smx_tables::comparisons::same_place;
-use smx_tables::lists::Lists;
-use smx_types::{DriverSpec, Place};
+use smx_types::Place;
 
 // Marks those of the waiting places that wait for this one.
 fn mark_waiters(waits: &Waiters, run: &mut PlaceMarks, place: Place)
@@ -29,77 +26,76 @@ fn mark_waiters(waits: &Waiters, run: &mut PlaceMarks, place: Place)
     }
 }
 
-// The place is wanted no more, and what waits for it has a run mark.
-fn release(lists: &Lists, marks: &mut Marks, place: Place)
-    requires open { is_full (configuration_of lists.now) place ≡ false }
-    ensures released { IsReleased (configuration_of lists.now) (same_place place) marks.old marks.new }
+// A place that is not full is wanted no more, and what waits for it has a run mark.
+fn release(marks: &mut Marks, place: Place)
+    ensures released { (c : Configuration) → is_full c place ≡ false → IsReleased c (same_place place) marks.old marks.new }
     ensures fewer { has_mark marks.old.wanted place ≡ true → length marks.new.wanted.marked < length marks.old.wanted.marked }
 {
     marks.wanted.clear(place);
     mark_waiters(&marks.waits, &mut marks.run, place);
 }
 
-// So it is with the place, if it is wanted and not full.
-pub fn release_if_open(lists: &Lists, marks: &mut Marks, place: Place)
-    ensures { IsReleased (configuration_of lists.now) (same_place place) marks.old marks.new }
-{
-    if marks.wanted.is_marked(place) && !lists.queues.is_full(place) {
-        release(lists, marks, place);
-    }
-}
-
-// A wanted place that is not full, if there is one.
-fn first_open(lists: &Lists, wanted: &PlaceMarks) -> Option<Place>
-    ensures some { IfSome result (λ p. (has_mark wanted.now p ≡ true) × (is_full (configuration_of lists.now) p ≡ false)) }
-    ensures none { IfNone result ((p : PlaceValue) → has_mark wanted.now p ≡ true → is_full (configuration_of lists.now) p ≡ true) }
-{
-    let mut rest = wanted.marked();
-    while let Some(place) = rest.next() {
-        if !lists.queues.is_full(place) {
-            return Some(place);
+impl Tables {
+    // So it is with the place, if it is wanted and not full.
+    pub fn release_if_open(&self, marks: &mut Marks, place: Place)
+        ensures { IsReleased self.now.configuration (same_place place) marks.old marks.new }
+    {
+        if marks.wanted.is_marked(place) && !self.is_full(place) {
+            release(marks, place);
         }
     }
-    None
-}
 
-// So it is with each place.
-fn release_all(lists: &Lists, marks: &mut Marks)
-    ensures { IsReleased (configuration_of lists.now) everywhere marks.old marks.new }
-{
-    while let Some(place) = first_open(lists, &marks.wanted) {
-        release(lists, marks, place);
+    // A wanted place that is not full, if there is one.
+    fn first_open(&self, wanted: &PlaceMarks) -> Option<Place>
+        ensures some { IfSome result (λ p. (has_mark wanted.now p ≡ true) × (is_full self.now.configuration p ≡ false)) }
+        ensures none { IfNone result ((p : PlaceValue) → has_mark wanted.now p ≡ true → is_full self.now.configuration p ≡ true) }
+    {
+        let mut rest = wanted.marked();
+        while let Some(place) = rest.next() {
+            if !self.is_full(place) {
+                return Some(place);
+            }
+        }
+        None
     }
-}
 
-fn release_freed(lists: &Lists, marks: &mut Marks, wakes: Wakes)
-    ensures { IsReleased (configuration_of lists.now) (freed_under wakes) marks.old marks.new }
-{
-    match wakes {
-        Wakes::Leaves(place) => release_if_open(lists, marks, place),
-        Wakes::Frees => release_all(lists, marks),
-        Wakes::Nothing | Wakes::Turns(_) | Wakes::TurnsWrites(_) | Wakes::TurnsReads(_) => {}
+    // So it is with each place.
+    fn release_all(&self, marks: &mut Marks)
+        ensures { IsReleased self.now.configuration everywhere marks.old marks.new }
+    {
+        while let Some(place) = self.first_open(&marks.wanted) {
+            release(marks, place);
+        }
     }
-}
 
-fn mark_turned(drivers: &[DriverSpec], lists: &Lists, run: &mut PlaceMarks, wakes: Wakes)
-    requires few { HaveFewMinors drivers.now }
-    requires same { run.old.drivers ≡ drivers.now }
-    ensures { IsMarkedWhere lists.now.queues.flow (turned_under (configuration_of lists.now) wakes) run.old run.new }
-{
-    match wakes {
-        Wakes::Turns(place) | Wakes::Leaves(place) => mark_waiting(&lists.queues, run, place),
-        Wakes::TurnsWrites(driver) => mark_writes(drivers, &lists.queues, run, driver),
-        Wakes::TurnsReads(driver) => mark_reads(lists, run, driver),
-        Wakes::Nothing | Wakes::Frees => {}
+    fn release_freed(&self, marks: &mut Marks, wakes: Wakes)
+        ensures { IsReleased self.now.configuration (freed_under wakes) marks.old marks.new }
+    {
+        match wakes {
+            Wakes::Leaves(place) => self.release_if_open(marks, place),
+            Wakes::Frees => self.release_all(marks),
+            Wakes::Nothing | Wakes::Turns(_) | Wakes::TurnsWrites(_) | Wakes::TurnsReads(_) => {}
+        }
     }
-}
 
-// Marks what a command woke, and takes the wanted marks of the places that it freed.
-pub fn wake(drivers: &[DriverSpec], lists: &Lists, marks: &mut Marks, wakes: Wakes)
-    requires few { HaveFewMinors drivers.now }
-    requires same { marks.old.run.drivers ≡ drivers.now }
-    ensures { IsWoken (configuration_of lists.now) (turned_under (configuration_of lists.now) wakes) (freed_under wakes) marks.old marks.new }
-{
-    release_freed(lists, marks, wakes);
-    mark_turned(drivers, lists, &mut marks.run, wakes);
+    fn mark_turned(&self, run: &mut PlaceMarks, wakes: Wakes)
+        requires { run.old.drivers ≡ self.now.drivers }
+        ensures { IsMarkedWhere self.now.configuration.flow (turned_under self.now.configuration wakes) run.old run.new }
+    {
+        match wakes {
+            Wakes::Turns(place) | Wakes::Leaves(place) => self.mark_waiting(run, place),
+            Wakes::TurnsWrites(driver) => self.mark_writes(run, driver),
+            Wakes::TurnsReads(driver) => self.mark_reads(run, driver),
+            Wakes::Nothing | Wakes::Frees => {}
+        }
+    }
+
+    // Marks what a command woke, and takes the wanted marks of the places that it freed.
+    pub fn wake(&self, marks: &mut Marks, wakes: Wakes)
+        requires { marks.old.run.drivers ≡ self.now.drivers }
+        ensures { IsWoken self.now.configuration (turned_under self.now.configuration wakes) (freed_under wakes) marks.old marks.new }
+    {
+        self.release_freed(marks, wakes);
+        self.mark_turned(&mut marks.run, wakes);
+    }
 }

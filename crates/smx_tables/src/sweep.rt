@@ -2,6 +2,7 @@
 
 ghost use Rattle.std.specs.Prelude.{◌≡◌, ◌≢◌, ◌+◌, ◌≤◌, true, length, vec_capacity, IfOk, [], ◌∷◌, List};
 ghost use Rattle.std.specs.List.{All, AllPairs, list_all};
+ghost use Rattle.smx_types.specs.declared.driver.DriverSpec.{DriverSpec as DriverValue};
 ghost use Rattle.smx_types.specs.declared.reply.Reply.TheVariants.{Done};
 ghost use Rattle.smx_types.specs.declared.stream.StreamId.{StreamId};
 ghost use Rattle.smx_model.specs.Configuration.{QueuedMessage};
@@ -46,18 +47,17 @@ fn drop_if_dead(lists: &mut Lists, stream: StreamId, dropped: &mut Vec<u32>)
 }
 
 // Takes away the bindings, messages and full marks of streams that don't exist, all of which are among these.
-fn drop_dead(drivers: &[DriverSpec], lists: &mut Lists, seen: &[StreamId], dropped: &mut Vec<u32>)
+fn drop_dead(lists: &mut Lists, seen: &[StreamId], dropped: &mut Vec<u32>)
     requires kept { KeepsHolds lists.old }
-    requires existing { TellsExisting drivers.now (configuration_of lists.old) lists.old.streams }
     requires seen { IsTouched lists.old.streams seen.now (configuration_of lists.old) }
     requires room { length dropped.old.items + length lists.old.queues.flow ≤ vec_capacity dropped.old }
-    ensures value { configuration_of lists.new ≡ without_dead_streams drivers.now (configuration_of lists.old) }
+    ensures value { (drivers : List DriverValue) → TellsExisting drivers (configuration_of lists.old) lists.old.streams
+        → configuration_of lists.new ≡ without_dead_streams drivers (configuration_of lists.old) }
     ensures dropped { (old : List QueuedMessage) → AreDropped old lists.old.queues.flow dropped.old.items
         → AreDropped old lists.new.queues.flow dropped.new.items }
     ensures kept { KeepsHolds lists.new }
     ensures drivers { sizes_of lists.new ≡ sizes_of lists.old }
 {
-    let _drivers = drivers;
     lists.streams.is_sound();
     for stream in seen {
         drop_if_dead(lists, *stream, dropped);
@@ -150,7 +150,7 @@ fn sweep(drivers: &[DriverSpec], lists: &mut Lists, room: SweepReserve) -> Vec<u
         room.orphaned,
         &mut dropped,
     );
-    drop_dead(drivers, lists, &seen, &mut dropped);
+    drop_dead(lists, &seen, &mut dropped);
     dropped
 }
 

@@ -22,7 +22,6 @@ returns c = λ drivers old p q m n sound marks next woken.
       frees_only = λ r. c.moves_free_one.ensures drivers old p r;
     } in
     record {
-      few = marks.few;
       run = woken.released.run_drivers ∙ marks.run;
       wanted = woken.released.wanted_drivers ∙ marks.wanted;
       waits = rw woken.released.waits marks.waits;

@@ -29,7 +29,6 @@ returns c = λ drivers old process command m n sound marks.
       frees_only = frees_only;
     } in
     record {
-      few = marks.few;
       run = woken.released.run_drivers ∙ marks.run;
       wanted = woken.released.wanted_drivers ∙ marks.wanted;
       waits = rw woken.released.waits marks.waits;

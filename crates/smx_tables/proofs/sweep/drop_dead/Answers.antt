@@ -35,12 +35,12 @@ loop-stream-preserved c =
     }
 
 pub returns-clause-value : goal.returns-clause-value
-returns-clause-value c =
+returns-clause-value c = λ drivers told.
     let old = c.args.lists.now in
     let seen = taken_all c.args.seen.now c.loop-stream.stream-index (omega arith) in
     c.loop-stream.invariant.value
     ∙ ap (λ (ss : List StreamId). without_streams (configuration_of old) (is_dead old.streams ss)) seen
-    ∙ all_gone c.args.drivers.now (configuration_of old) old.streams c.args.seen.now c.requires.existing c.requires.seen
+    ∙ all_gone drivers (configuration_of old) old.streams c.args.seen.now told c.requires.seen
     c.is_sound.ensures.exist
 
 pub returns-clause-kept : goal.returns-clause-kept

@@ -56,7 +56,7 @@ returns-clause-value c =
     let old = configuration_of c.args.lists.now in
     let u = c.drop_orphans.new.lists.streams in
     let goes = is_orphaned c.args.lists.now.streams.fds c.args.lists.now.links.links (length c.args.drivers.now) in
-    c.drop_dead.ensures.value
+    c.drop_dead.ensures.value c.args.drivers.now c.drop_orphans.ensures.existing
     ∙ ap (without_dead_streams c.args.drivers.now) c.drop_orphans.ensures.value
     ∙ dead_of_left c.args.drivers.now (without_links old goes) u u.hungs
     (subst (λ (x : Configuration). TellsExisting c.args.drivers.now x u) c.drop_orphans.ensures.value

@@ -1,6 +1,0 @@
-use Rattle.smx_config.specs.Marking.{IsMarkedWhere}
-use Rattle.smx_config.proofs.RunMarkLemmas.{writes_below}
-use Rattle.smx_config.proofs.run_marks.mark_writes.Given as goal
-
-abbrev pub invariant-loop-minor : goal.invariant-loop-minor
-invariant-loop-minor l = IsMarkedWhere l.queues.flow (writes_below l.driver l.minor) l.initial.run l.run

@@ -1,0 +1,93 @@
+//! The tables of a configuration, over its drivers.
+
+ghost use Rattle.std.specs.Prelude.{◌≡◌, length, IfOk};
+ghost use Rattle.smx_model.specs.Configuration.{empty};
+ghost use Rattle.smx_model.specs.DriverList.{IsDriverList};
+ghost use Rattle.smx_model.specs.KeptConfigurations.{IsSound};
+ghost use Rattle.smx_tables.specs.ExistingStreams.{TellsExisting};
+ghost use Rattle.smx_tables.specs.KeptHolds.{KeepsHolds};
+ghost use Rattle.smx_tables.specs.ModelOfLists.{configuration_of};
+
+use smx_tables::copies::{copy_lists, empty_lists};
+use smx_tables::lists::Lists;
+use smx_tables::standing;
+use smx_types::{DriverSpec, NoMemory};
+use std::alloc::Global;
+use std::marker::Model;
+
+/// Drivers, and the tables of a configuration over them. A contract sees both as one value. What each table keeps by
+/// itself its own type says; that they fit one another is kept here.
+#[derive(Debug, Drop)]
+pub struct Tables {
+    pub alloc: Global,
+    pub drivers: Vec<DriverSpec>,
+    pub lists: Lists,
+}
+
+impl Model for Tables {
+    ghost use Rattle.smx_config.specs.Machine.{Machine};
+
+    ghost Value = { Machine };
+
+    ghost use Rattle.smx_config.specs.ModelOfTables.{machine_of, TablesInvariant};
+
+    ghost view = { machine_of };
+
+    ghost invariant = { TablesInvariant };
+}
+
+// In a sound configuration the table of streams has a stream exactly where it exists. It does nothing: a body that needs
+// this calls it.
+pub fn tells_existing(drivers: &[DriverSpec], lists: &Lists)
+    requires kept { KeepsHolds lists.now }
+    requires sound { IsSound drivers.now (configuration_of lists.now) }
+    ensures { TellsExisting drivers.now (configuration_of lists.now) lists.now.streams }
+{
+    standing::tells_existing(drivers, lists);
+}
+
+impl Tables {
+    /// Empty tables over these drivers. Fails only for want of memory.
+    pub fn new(alloc: Global, drivers: &[DriverSpec]) -> Result<Tables, NoMemory>
+        requires { IsDriverList drivers.now }
+        ensures { IfOk result (λ t. t ≡ record { drivers = drivers.now; configuration = empty }) }
+    {
+        let lists = empty_lists(alloc, drivers)?;
+        let drivers = Vec::from_slice(alloc, drivers)?;
+        Ok(Tables {
+            alloc,
+            drivers,
+            lists,
+        })
+    }
+
+    /// The drivers, which no command changes.
+    pub fn drivers(&self) -> &[DriverSpec]
+        ensures value { result.now ≡ self.now.drivers }
+        ensures list { IsDriverList self.now.drivers }
+    {
+        self.drivers.as_slice()
+    }
+
+    /// How many links stand, which are no more than 1,024.
+    pub fn link_count(&self) -> u32
+        ensures { result ≡ length self.now.configuration.links }
+    {
+        self.lists.links.is_sound();
+        self.lists.links.len() as u32
+    }
+
+    /// The same tables again, by the allocator that these have. Fails only for want of memory.
+    pub fn copy(&self) -> Result<Tables, NoMemory>
+        ensures { IfOk result (λ t. t ≡ self.now) }
+    {
+        let alloc = self.alloc;
+        let drivers = Vec::from_slice(alloc, &self.drivers)?;
+        let lists = copy_lists(alloc, &self.lists)?;
+        Ok(Tables {
+            alloc,
+            drivers,
+            lists,
+        })
+    }
+}

@@ -1,0 +1,64 @@
+//! The configuration as it is shown.
+
+ghost use Rattle.std.specs.Prelude.{◌≡◌, ◌↔◌, IfOk, IsTrue};
+ghost use Rattle.smx_model.specs.KeptConfigurations.{IsSound};
+ghost use Rattle.smx_model.specs.Views.{view};
+
+use crate::tables::Tables;
+use smx_tables::show::{
+    binding_lines, descriptor_lines, full_lines, hung_lines, link_lines, message_lines, route_lines,
+};
+use smx_tables::shown_addresses::{are_bindings_shown, are_routes_shown};
+use smx_tables::shown_lines::{
+    are_fds_shown, are_fulls_shown, are_hungs_shown, are_links_shown, are_messages_shown,
+};
+use smx_types::{
+    BindingLines, ConfigView, DescriptorLines, DriverSpec, FullLines, HungLines, LinkLines,
+    MessageLines, NoMemory, RouteLines,
+};
+
+impl Tables {
+    /// The configuration as it is shown. Fails only for want of memory.
+    pub fn show(&self) -> Result<ConfigView, NoMemory>
+        requires { IsSound self.now.drivers self.now.configuration }
+        ensures { IfOk result (λ v. v ≡ view self.now.drivers self.now.configuration) }
+    {
+        let alloc = self.alloc;
+        let drivers: &[DriverSpec] = &self.drivers;
+        let fds = descriptor_lines(alloc, drivers, &self.lists.streams)?;
+        let links = link_lines(alloc, drivers, &self.lists.links)?;
+        let binds = binding_lines(alloc, drivers, &self.lists.binds)?;
+        let routes = route_lines(alloc, drivers, &self.lists.routes)?;
+        let msgs = message_lines(alloc, drivers, &self.lists.queues)?;
+        let fulls = full_lines(alloc, drivers, &self.lists.queues)?;
+        let hungs = hung_lines(alloc, drivers, &self.lists.streams)?;
+        Ok(ConfigView {
+            next_id: self.lists.links.next_id(),
+            next_serial: self.lists.next_serial,
+            fds: DescriptorLines::from_vec(fds),
+            links: LinkLines::from_vec(links),
+            binds: BindingLines::from_vec(binds),
+            routes: RouteLines::from_vec(routes),
+            msgs: MessageLines::from_vec(msgs),
+            fulls: FullLines::from_vec(fulls),
+            hungs: HungLines::from_vec(hungs),
+        })
+    }
+
+    /// Whether `show` would answer just this view. It is compared line by line where it stands: that takes no memory.
+    pub fn shows(&self, shown: &ConfigView) -> bool
+        requires { IsSound self.now.drivers self.now.configuration }
+        ensures { IsTrue result ↔ (shown.now ≡ view self.now.drivers self.now.configuration) }
+    {
+        let drivers: &[DriverSpec] = &self.drivers;
+        shown.next_id == self.lists.links.next_id()
+            && shown.next_serial == self.lists.next_serial
+            && are_fds_shown(drivers, &self.lists.streams, shown.fds.as_slice())
+            && are_links_shown(drivers, &self.lists.links, shown.links.as_slice())
+            && are_bindings_shown(drivers, &self.lists.binds, shown.binds.as_slice())
+            && are_routes_shown(drivers, &self.lists.routes, shown.routes.as_slice())
+            && are_messages_shown(drivers, &self.lists.queues, shown.msgs.as_slice())
+            && are_fulls_shown(drivers, &self.lists.queues, shown.fulls.as_slice())
+            && are_hungs_shown(drivers, &self.lists.streams, shown.hungs.as_slice())
+    }
+}
