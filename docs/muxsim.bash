@@ -12,13 +12,14 @@ _muxsim() {
         --workers) return ;;
     esac
     if ((COMP_CWORD == 1)); then
-        words='run check replay draw help --help --version'
+        words='run check replay draw live help --help --version'
     else
         case ${COMP_WORDS[1]} in
-            run) words='--workers --fronts --help' ;;
-            check | replay) words='--help' ;;
+            run) words='--workers --fronts --explain --help' ;;
+            check) words='--explain --help' ;;
+            replay | live) words='--help' ;;
             draw) words='--dot --help' ;;
-            help) words='run check replay draw commands' ;;
+            help) words='run check replay draw live commands' ;;
         esac
     fi
     mapfile -t COMPREPLY < <(compgen -W "$words" -- "$word")

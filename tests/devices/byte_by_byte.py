@@ -4,7 +4,7 @@ import errno
 import os
 import subprocess
 
-from ends import MUXSIM, READ, ROOT, SECONDS, WRITE, contents, is_so
+from ends import LIVE, MUXSIM, READ, ROOT, SECONDS, WRITE, contents, is_so
 
 HERE = os.path.dirname(os.path.realpath(__file__))
 
@@ -47,6 +47,26 @@ def each_call(library, word, given, wanted):
     is_so(f"{word} of {given}, byte by byte", end == (0, wanted, b""), end)
 
 
+def each_call_of_live(library, lines):
+    """A session answers each line before it reads on: where a read fails, the lines before it were answered, and where a
+    write does, what was taken before it stands there. Behind the line `end` nothing is read, so that no read fails there."""
+    text, wanted = contents(f"{lines}/stdin"), contents(f"{lines}/stdout")
+    end_line = text.index(b"\nend\n") + len(b"\nend\n")
+    table = len([line for line in text.split(b"\n") if line.startswith((b"programs", b"driver"))])
+    for nth in range(1, end_line + 1):
+        # The opening has as many lines as the table, and the answer to each command is one line.
+        whole = text[:nth - 1].count(b"\n")
+        answered = b"".join(wanted.splitlines(keepends=True)[:whole if whole > table else 0])
+        end = ended(library, "live", f"{lines}/stdin", FAIL_READ=nth, FAIL_AS=errno.EINTR)
+        is_so(f"live of {lines}, read {nth}", end == (5, answered, READ.encode()), end)
+    for error in [errno.EINTR, 0]:
+        for nth in range(1, len(wanted) + 1):
+            end = ended(library, "live", f"{lines}/stdin", FAIL_WRITE=nth, FAIL_AS=error)
+            is_so(f"live of {lines}, write {nth} as {error}", end == (5, wanted[:nth - 1], WRITE.encode()), end)
+    end = ended(library, "live", f"{lines}/stdin", FAIL_READ=end_line + 1, FAIL_WRITE=len(wanted) + 1, FAIL_AS=errno.EINTR)
+    is_so(f"live of {lines}, byte by byte", end == (0, wanted, b""), end)
+
+
 def more_than_asked(library, word, given):
     """What a read answers beyond its room is not taken, but its room is: there, some bytes stand behind the end of the
     text, and so nothing is written."""
@@ -72,4 +92,6 @@ def each_job(folder):
         for word, given, wanted in jobs:
             each_call(one_byte, word, given, wanted)
             more_than_asked(more, word, given)
+    for lines in LIVE:
+        each_call_of_live(one_byte, lines)
     written_more(more, "--help")

@@ -7,6 +7,8 @@ import tempfile
 ROOT = os.path.realpath(f"{os.path.dirname(os.path.realpath(__file__))}/../..")
 MUXSIM = f"{ROOT}/crates/muxsim/out/muxsim"
 EXAMPLE, OF_VERSION_2 = "examples/opens_and_closes", "examples/lost_carrier"
+# Live sessions, one in each version.
+LIVE = ["tests/rows/live_ends_by_end", "tests/rows/live_hangup_end_of_file"]
 READ, WRITE = "muxsim: read failed\n", "muxsim: write failed\n"
 SECONDS = 30
 

@@ -4,7 +4,7 @@ import shutil
 import subprocess
 import tempfile
 
-from ends import EXAMPLE, MUXSIM, OF_VERSION_2, READ, ROOT, WRITE, is_so
+from ends import EXAMPLE, LIVE, MUXSIM, OF_VERSION_2, READ, ROOT, WRITE, is_so
 
 ON_READS = ["EINTR", "EIO", "EAGAIN", "EBADF", "ECONNRESET"]
 ON_WRITES = ["EINTR", "EIO", "EAGAIN", "ENOSPC", "EPIPE", "EDQUOT", "EFBIG"]
@@ -52,11 +52,13 @@ def by_strace():
     jobs = [(["run", "--workers", "3"], "examples/shared_multiplexer.mux")]
     for text in [EXAMPLE, OF_VERSION_2]:
         jobs += [(["run"], f"{text}.mux"), (["check"], f"{text}.transcript"), (["replay"], f"{text}.transcript"),
-                 (["draw"], f"{text}.transcript"),
+                 (["draw"], f"{text}.transcript"), (["check", "--explain"], f"{text}.transcript"),
                  (["run", "--workers", "2"], f"{text}.mux"), (["run", "--fronts"], f"{text}.mux")]
     for words, given in jobs:
         refused("read", [f"error={error}" for error in ON_READS], words, given)
         refused("write", [f"error={error}" for error in ON_WRITES] + ["retval=0"], words, given)
+    for lines in LIVE:
+        refused("read", [f"error={error}" for error in ON_READS], ["live"], f"{lines}/stdin")
     for words in [["--help"], ["--version"]]:
         refused("write", [f"error={error}" for error in ON_WRITES[1:]] + ["retval=0"], words, f"{EXAMPLE}.mux")
         ran, _ = traced(["-e", "trace=write", "-e", "inject=write:error=EINTR:when=1"], words, f"{EXAMPLE}.mux")

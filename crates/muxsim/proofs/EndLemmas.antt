@@ -1,28 +1,28 @@
 -- What a status tells of what was answered.
-use Rattle.std.proofs.Common.{◌≡◌, ◌≢◌, ◌⊎◌, ◌↔◌, ℕ, Bool, true, false, List, [], Option, Some, Result, Ok, Err, refl}
-use Rattle.std.proofs.Common.{sym, ap, subst, ◌∙◌, arith, inl, inr}
+use Rattle.std.proofs.Common.{◌≡◌, ◌≢◌, ◌⊎◌, ◌↔◌, ℕ, Bool, true, false, List, [], ◌++◌, Option, Some, None, Result, Ok}
+use Rattle.std.proofs.Common.{Err, refl, sym, ap, subst, ◌∙◌, arith, inl, inr}
 use Rattle.std.specs.Prelude.{IfSome}
-use Rattle.std.specs.Io.KnownBytes.{Appends, Keeps}
+use Rattle.std.specs.Io.KnownBytes.{Appends, Consumes, Keeps}
 use Rattle.std.specs.Process.{exit_status}
 use Rattle.std.specs.declared.process.ExitCode.{ExitCode}
 use Rattle.smx_config.specs.declared.verdict.Verdict.{Verdict}
 use Rattle.smx_config.specs.declared.verdict.Verdict.TheVariants.{Legal, Illegal, ConfigDiffers}
 use Rattle.smx_text.specs.declared.text_fault.Cause.{Cause}
 use Rattle.smx_text.specs.declared.text_fault.Cause.TheVariants as cause
-use Rattle.smx_text.specs.declared.text_fault.TextFault.{TextFault}
 use Rattle.smx_draw.specs.declared.form.Form.{Form}
-use Rattle.smx_filters.specs.CheckText.{checking}
 use Rattle.smx_filters.specs.DrawText.{drawing}
+use Rattle.smx_filters.specs.ExplainText.{judging}
 use Rattle.smx_filters.specs.Filters.{Filter, FiltersText, GivesFor}
 use Rattle.smx_filters.specs.ReplayText.{replaying}
 use Rattle.smx_filters.specs.RunText.{running}
 use Rattle.smx_filters.specs.Statuses.{status_of, status_of_cause, status_of_outcome, status_of_verdict}
 use Rattle.smx_filters.specs.declared.main_fault.MainFault.{MainFault}
 use Rattle.smx_filters.specs.declared.main_fault.MainFault.TheVariants.{Refused, Text, TooLong, ReadFailed, WriteFailed}
-use Rattle.muxsim.specs.Ends.{Devices, EndsCheck, EndsDraw, EndsJob, EndsReplay, EndsRun, Writes}
+use Rattle.smx_live.specs.LiveText.{AreFine, IsOutcome, IsOver, LivesText}
+use Rattle.muxsim.specs.Ends.{Devices, EndsCheck, EndsDraw, EndsJob, EndsLive, EndsReplay, EndsRun, Writes}
 use Rattle.muxsim.specs.Ends.{outcome_of_check, outcome_of_writing}
 use Rattle.muxsim.specs.declared.jobs.Job.{Job}
-use Rattle.muxsim.specs.declared.jobs.Job.TheVariants.{Run, Check, Replay, Draw}
+use Rattle.muxsim.specs.declared.jobs.Job.TheVariants.{Run, Check, Replay, Draw, Live}
 
 -- ---- numbers
 
@@ -147,24 +147,45 @@ module _ (d : Devices) (code : ExitCode) (input output : List ℕ) (w : Writes d
   drawn form (Err e) h is zero = absurd (fault_not_0 e _ is zero)
 
   -- of a check
-  judged : (answer : Result Verdict MainFault) → Filtered checking d answer
+  judged : (explain : Bool) (answer : Result Verdict MainFault) → Filtered (judging explain) d answer
       → exit_status code ≡ status_of_outcome (outcome_of_check answer) → exit_status code ≡ 0
-      → (d.flushed ≡ true) × GivesFor checking input Legal output
-  judged (Ok v) h is zero = elim (verdict_is v) [
-    | inl (legal, same) ↦ subst (λ (x : Verdict). (d.flushed ≡ true) × GivesFor checking input x output) legal
-        (gave checking d v h input output w)
+      → (d.flushed ≡ true) × GivesFor (judging explain) input Legal output
+  judged explain (Ok v) h is zero = elim (verdict_is v) [
+    | inl (legal, same) ↦ subst (λ (x : Verdict). (d.flushed ≡ true) × GivesFor (judging explain) input x output) legal
+        (gave (judging explain) d v h input output w)
     | inr (other, same) ↦ absurd (omega (arith, is, zero, same))
   ]
-  judged (Err e) h is zero = absurd (fault_not_0 e _ is zero)
+  judged explain (Err e) h is zero = absurd (fault_not_0 e _ is zero)
 
-  otherwise : (answer : Result Verdict MainFault) → Filtered checking d answer
+  otherwise : (explain : Bool) (answer : Result Verdict MainFault) → Filtered (judging explain) d answer
       → exit_status code ≡ status_of_outcome (outcome_of_check answer) → exit_status code ≡ 4
-      → (d.flushed ≡ true) × (v : Verdict) × (v ≢ Legal) × GivesFor checking input v output
-  otherwise (Ok v) h is four = elim (verdict_is v) [
+      → (d.flushed ≡ true) × (v : Verdict) × (v ≢ Legal) × GivesFor (judging explain) input v output
+  otherwise explain (Ok v) h is four = elim (verdict_is v) [
     | inl (legal, same) ↦ absurd (omega (arith, is, four, same))
-    | inr (other, same) ↦ let (flushed, gives) = gave checking d v h input output w in (flushed, v, other, gives)
+    | inr (other, same) ↦ let (flushed, gives) = gave (judging explain) d v h input output w in
+        (flushed, v, other, gives)
   ]
-  otherwise (Err e) h is four = absurd (fault_not_4 e _ is four)
+  otherwise explain (Err e) h is four = absurd (fault_not_4 e _ is four)
+
+-- what was read of these bytes is their beginning
+beginning : (left : Option (List ℕ)) (input read : List ℕ) → Consumes (Some input) left read
+    → (rest : List ℕ) × (input ≡ read ++ rest)
+beginning None input read consumed = absurd consumed
+beginning (Some rest) input read consumed = (rest, consumed)
+
+-- a live session that is done is over
+lived : (d : Devices) (input output : List ℕ) → Writes d input output
+    → LivesText d.had d.left d.ended d.read_failures d.before d.after d.flushed d.write_failures (Ok tt)
+    → (d.flushed ≡ true) × (read rest : List ℕ) × (input ≡ read ++ rest) × IsOver read d.ended output
+lived d input output w h =
+    let (fine, flushed, over) = h.outcome in
+    let consumed : Consumes (Some input) d.left h.read =
+    subst (λ (o : Option (List ℕ)). Consumes o d.left h.read) w.had h.consumed in
+    let wrote : Appends (Some []) (Some output) h.output = subst (λ (o : Option (List ℕ)). Appends (Some []) o h.output)
+    w.after (subst (λ (o : Option (List ℕ)). Appends o d.after h.output) w.before h.appended) in
+    let out : output ≡ h.output = wrote in
+    let front : (rest : List ℕ) × (input ≡ h.read ++ rest) = beginning d.left input h.read consumed in
+    (flushed, h.read, front.0, front.1, subst (λ (o : List ℕ). IsOver h.read d.ended o) (sym out) over)
 
 -- a run with the status 0 wrote what it was asked for
 pub run_done : (fronts : Bool) (workers : ℕ) (d : Devices) (code : ExitCode) (input output : List ℕ)
@@ -184,28 +205,41 @@ pub draw_done : (form : Form) (d : Devices) (code : ExitCode) (input output : Li
     → (d.flushed ≡ true) × GivesFor (drawing form) input tt output
 draw_done form d code input output h w = drawn d code input output w form h.answer h.drawn h.status
 
+-- a live session is over, and wrote its answers
+pub live_done : (d : Devices) (code : ExitCode) (input output : List ℕ) → EndsLive d code
+    → Writes d input output → exit_status code ≡ 0
+    → (d.flushed ≡ true) × (read rest : List ℕ) × (input ≡ read ++ rest) × IsOver read d.ended output
+live_done d code input output h w zero = by_answer h.answer h.lived h.status where
+  by_answer : (answer : Result (Unit {0}) MainFault)
+      → LivesText d.had d.left d.ended d.read_failures d.before d.after d.flushed d.write_failures answer
+      → exit_status code ≡ status_of_outcome (outcome_of_writing answer)
+      → (d.flushed ≡ true) × (read rest : List ℕ) × (input ≡ read ++ rest) × IsOver read d.ended output
+  by_answer (Ok done) l is = lived d input output w l
+  by_answer (Err e) l is = absurd (fault_not_0 e _ is zero)
+
 -- a check with the status 0 judged the transcript legal
-pub judged_legal : (d : Devices) (code : ExitCode) (input output : List ℕ) → EndsCheck d code
-    → Writes d input output → exit_status code ≡ 0 → (d.flushed ≡ true) × GivesFor checking input Legal output
-judged_legal d code input output h w = judged d code input output w h.answer h.judged h.status
+pub judged_legal : (explain : Bool) (d : Devices) (code : ExitCode) (input output : List ℕ)
+    → EndsCheck explain d code → Writes d input output → exit_status code ≡ 0
+    → (d.flushed ≡ true) × GivesFor (judging explain) input Legal output
+judged_legal explain d code input output h w = judged d code input output w explain h.answer h.judged h.status
 
 -- a check with the status 4 judged it otherwise
-pub judged_otherwise : (d : Devices) (code : ExitCode) (input output : List ℕ) → EndsCheck d code
-    → Writes d input output → exit_status code ≡ 4
-    → (d.flushed ≡ true) × (v : Verdict) × (v ≢ Legal) × GivesFor checking input v output
-judged_otherwise d code input output h w = otherwise d code input output w h.answer h.judged h.status
+pub judged_otherwise : (explain : Bool) (d : Devices) (code : ExitCode) (input output : List ℕ)
+    → EndsCheck explain d code → Writes d input output → exit_status code ≡ 4
+    → (d.flushed ≡ true) × (v : Verdict) × (v ≢ Legal) × GivesFor (judging explain) input v output
+judged_otherwise explain d code input output h w = otherwise d code input output w explain h.answer h.judged h.status
 
 -- ---- what failed
 
--- what a status tells of any answer
-record Tells (d : Devices) (n : ℕ) : Type 0 where
+-- what a status tells of any answer, where 1 and 3 tell this
+record Tells (Low : Type 0) (d : Devices) (n : ℕ) : Type 0 where
   failed : (n ≡ 5) ↔ ((d.read_failures ≡ 1) ⊎ (d.write_failures ≡ 1))
-  unwritten : (n ≡ 1) ⊎ (n ≡ 3) → Keeps d.before d.after
+  unwritten : (n ≡ 1) ⊎ (n ≡ 3) → Low
   no_words : n ≡ 2 → ⊥
 
 -- where it is 0 or 4, there was one
 of_answer : {V K T : Type 0} (f : Filter V K T) (d : Devices) (a : T) → Filtered f d (Ok a) → (n : ℕ)
-    → (n ≡ 0) ⊎ (n ≡ 4) → Tells d n
+    → (n ≡ 0) ⊎ (n ≡ 4) → Tells (Keeps d.before d.after) d n
 of_answer f d a h n (inl zero) = record {
   failed = (λ is. absurd (omega (arith, zero, is)), λ broke. absurd (fine f d a h broke));
   unwritten =
@@ -221,7 +255,7 @@ of_answer f d a h n (inr four) = record {
 
 -- else there was a fault
 of_fault : {V K T : Type 0} (f : Filter V K T) (d : Devices) (e : MainFault) → Filtered f d (Err e) → (n : ℕ)
-    → n ≡ status_of e → Tells d n
+    → n ≡ status_of e → Tells (Keeps d.before d.after) d n
 of_fault f d e h n is = record {
   failed = broken f d e h n is;
   unwritten = nothing f d e h n is;
@@ -230,22 +264,69 @@ of_fault f d e h n is = record {
 
 of_writing : {V K : Type 0} (f : Filter V K (Unit {0})) (d : Devices) (n : ℕ) (answer : Result (Unit {0}) MainFault)
     → Filtered f d answer
-    → n ≡ status_of_outcome (outcome_of_writing answer) → Tells d n
+    → n ≡ status_of_outcome (outcome_of_writing answer) → Tells (Keeps d.before d.after) d n
 of_writing f d n (Ok done) h is = of_answer f d done h n (inl is)
 of_writing f d n (Err e) h is = of_fault f d e h n is
 
-of_judging : (d : Devices) (n : ℕ) (answer : Result Verdict MainFault) → Filtered checking d answer
-    → n ≡ status_of_outcome (outcome_of_check answer) → Tells d n
-of_judging d n (Ok v) h is = elim (verdict_is v) [
-  | inl (legal, same) ↦ of_answer checking d v h n (inl (is ∙ same))
-  | inr (other, same) ↦ of_answer checking d v h n (inr (is ∙ same))
+of_judging : {V K : Type 0} (f : Filter V K Verdict) (d : Devices) (n : ℕ) (answer : Result Verdict MainFault)
+    → Filtered f d answer
+    → n ≡ status_of_outcome (outcome_of_check answer) → Tells (Keeps d.before d.after) d n
+of_judging f d n (Ok v) h is = elim (verdict_is v) [
+  | inl (legal, same) ↦ of_answer f d v h n (inl (is ∙ same))
+  | inr (other, same) ↦ of_answer f d v h n (inr (is ∙ same))
 ]
-of_judging d n (Err e) h is = of_fault checking d e h n is
+of_judging f d n (Err e) h is = of_fault f d e h n is
+
+-- where none failed, none did
+none_failed : (a b : ℕ) → AreFine a b → (a ≡ 1) ⊎ (b ≡ 1) → ⊥
+none_failed a b fine (inl one) = omega (arith, fine.0, one)
+none_failed a b fine (inr one) = omega (arith, fine.1, one)
+
+-- a fault of a live session has the status 5 just where a device failed
+live_broken : (d : Devices) (read output : List ℕ) (e : MainFault)
+    → IsOutcome read output d.ended d.flushed d.read_failures d.write_failures (Err e) → (n : ℕ) → n ≡ status_of e
+    → (n ≡ 5) ↔ ((d.read_failures ≡ 1) ⊎ (d.write_failures ≡ 1))
+live_broken d read output (Refused f) h n is =
+    (λ five. absurd (omega (arith, is, five)), λ broke. absurd (none_failed _ _ h.0 broke))
+live_broken d read output TooLong h n is =
+    (λ five. absurd (omega (arith, is, five)), λ broke. absurd (none_failed _ _ h.0 broke))
+live_broken d read output ReadFailed h n is = (λ five. inl h.0, λ broke. is)
+live_broken d read output WriteFailed h n is = (λ five. inr h.1, λ broke. is)
+live_broken d read output (Text f) h n is = (λ five. low (cause_is f.cause) five, λ broke. absurd (none_failed _ _ h.0 broke))
+  where
+    low : (status_of_cause f.cause ≡ 1) ⊎ (status_of_cause f.cause ≡ 3) → n ≡ 5
+        → (d.read_failures ≡ 1) ⊎ (d.write_failures ≡ 1)
+    low (inl one) five = absurd (omega (arith, is, one, five))
+    low (inr three) five = absurd (omega (arith, is, three, five))
+
+-- of a live session, which may have written something before
+of_living : (d : Devices) (n : ℕ) (answer : Result (Unit {0}) MainFault)
+    → LivesText d.had d.left d.ended d.read_failures d.before d.after d.flushed d.write_failures answer
+    → n ≡ status_of_outcome (outcome_of_writing answer) → Tells (Unit {0}) d n
+of_living d n (Ok done) h is = record {
+  failed = (λ five. absurd (omega (arith, is, five)), λ broke. absurd (none_failed _ _ h.outcome.0 broke));
+  unwritten = λ low. tt;
+  no_words = λ two. absurd (omega (arith, is, two));
+}
+of_living d n (Err e) h is = record {
+  failed = live_broken d h.read h.output e h.outcome n is;
+  unwritten = λ low. tt;
+  no_words = fault_not_2 e n is;
+}
+
+-- what the statuses 1 and 3 tell of a job: but for a live session, that nothing was written
+abbrev Low : Job → Devices → Type 0
+Low (Run workers fronts explain) d = Keeps d.before d.after
+Low (Check explain) d = Keeps d.before d.after
+Low Replay d = Keeps d.before d.after
+Low (Draw form) d = Keeps d.before d.after
+Low Live d = Unit {0}
 
 -- of any job
-tells : (job : Job) (d : Devices) (code : ExitCode) → EndsJob job d code → Tells d (exit_status code)
-tells (Run workers fronts) d code h = of_writing (running fronts workers) d _ h.answer h.ran h.status
-tells Check d code h = of_judging d _ h.answer h.judged h.status
+tells : (job : Job) (d : Devices) (code : ExitCode) → EndsJob job d code → Tells (Low job d) d (exit_status code)
+tells Live d code h = of_living d _ h.answer h.lived h.status
+tells (Run workers fronts explain) d code h = of_writing (running fronts workers) d _ h.answer h.ran h.status
+tells (Check explain) d code h = of_judging (judging explain) d _ h.answer h.judged h.status
 tells Replay d code h = of_writing replaying d _ h.answer h.replayed h.status
 tells (Draw form) d code h = of_writing (drawing form) d _ h.answer h.drawn h.status
 
@@ -254,10 +335,14 @@ pub failed : (job : Job) (d : Devices) (code : ExitCode) → EndsJob job d code
     → (exit_status code ≡ 5) ↔ ((d.read_failures ≡ 1) ⊎ (d.write_failures ≡ 1))
 failed job d code h = (tells job d code h).failed
 
--- behind the statuses 1 and 3 nothing was written
-pub unwritten : (job : Job) (d : Devices) (code : ExitCode) → EndsJob job d code
+-- behind the statuses 1 and 3 nothing was written, unless by a live session
+pub unwritten : (job : Job) (d : Devices) (code : ExitCode) → job ≢ Live → EndsJob job d code
     → (exit_status code ≡ 1) ⊎ (exit_status code ≡ 3) → Keeps d.before d.after
-unwritten job d code h = (tells job d code h).unwritten
+unwritten (Run workers fronts explain) d code other h = (tells (Run workers fronts explain) d code h).unwritten
+unwritten (Check explain) d code other h = (tells (Check explain) d code h).unwritten
+unwritten Replay d code other h = (tells Replay d code h).unwritten
+unwritten (Draw form) d code other h = (tells (Draw form) d code h).unwritten
+unwritten Live d code other h = absurd (other refl)
 
 -- no job that was begun has the status 2
 pub no_words : (job : Job) (d : Devices) (code : ExitCode) → EndsJob job d code → exit_status code ≡ 2 → ⊥
@@ -280,3 +365,7 @@ replay_not_4 d code h = not_4 _ h.answer h.status
 -- no drawing has it
 pub draw_not_4 : (form : Form) (d : Devices) (code : ExitCode) → EndsDraw form d code → exit_status code ≡ 4 → ⊥
 draw_not_4 form d code h = not_4 _ h.answer h.status
+
+-- no live session has it
+pub live_not_4 : (d : Devices) (code : ExitCode) → EndsLive d code → exit_status code ≡ 4 → ⊥
+live_not_4 d code h = not_4 _ h.answer h.status

@@ -4,8 +4,10 @@ use Rattle.std.specs.Process.{exit_status}
 use Rattle.std.specs.declared.process.ExitCode.{ExitCode}
 use Rattle.smx_config.specs.declared.verdict.Verdict.{Verdict}
 use Rattle.smx_draw.specs.declared.form.Form.{Form}
-use Rattle.smx_filters.specs.CheckText.{ChecksText}
 use Rattle.smx_filters.specs.DrawText.{DrawsText}
+use Rattle.smx_filters.specs.ExplainText.{judging}
+use Rattle.smx_filters.specs.Filters.{FiltersText}
+use Rattle.smx_live.specs.LiveText.{LivesText}
 use Rattle.smx_filters.specs.ReplayText.{ReplaysText}
 use Rattle.smx_filters.specs.RunText.{RunsText}
 use Rattle.smx_filters.specs.Statuses.{status_of_outcome}
@@ -13,9 +15,9 @@ use Rattle.smx_filters.specs.declared.done.Done.{Done}
 use Rattle.smx_filters.specs.declared.done.Done.TheVariants.{Finished, Judged}
 use Rattle.smx_filters.specs.declared.main_fault.MainFault.{MainFault}
 use Rattle.muxsim.specs.declared.jobs.Job.{Job}
-use Rattle.muxsim.specs.declared.jobs.Job.TheVariants.{Run, Check, Replay, Draw}
+use Rattle.muxsim.specs.declared.jobs.Job.TheVariants.{Run, Check, Replay, Draw, Live}
 
--- a run, a replay or a drawing that was done is finished
+-- a run, a replay, a drawing or a live session that was done is finished
 abbrev pub outcome_of_writing : Result (Unit {0}) MainFault → Result Done MainFault
 outcome_of_writing (Ok done) = Ok Finished
 outcome_of_writing (Err fault) = Err fault
@@ -49,10 +51,11 @@ pub record EndsRun (fronts : Bool) (workers : ℕ) (d : Devices) (code : ExitCod
       answer
   pub status : exit_status code ≡ status_of_outcome (outcome_of_writing answer)
 
--- the transcript was judged, and the status is that of what came of it
-pub record EndsCheck (d : Devices) (code : ExitCode) : Type 0 where
+-- the transcript was judged, and the verdict explained or not, and the status is that of what came of it
+pub record EndsCheck (explain : Bool) (d : Devices) (code : ExitCode) : Type 0 where
   pub answer : Result Verdict MainFault
-  pub judged : ChecksText d.had d.left d.ended d.read_failures d.before d.after d.flushed d.write_failures answer
+  pub judged : FiltersText (judging explain) d.had d.left d.ended d.read_failures d.before d.after d.flushed
+      d.write_failures answer
   pub status : exit_status code ≡ status_of_outcome (outcome_of_check answer)
 
 -- the transcript was replayed, and the status is that of what came of it
@@ -67,9 +70,16 @@ pub record EndsDraw (form : Form) (d : Devices) (code : ExitCode) : Type 0 where
   pub drawn : DrawsText form d.had d.left d.ended d.read_failures d.before d.after d.flushed d.write_failures answer
   pub status : exit_status code ≡ status_of_outcome (outcome_of_writing answer)
 
+-- the lines were answered, and the status is that of what came of it
+pub record EndsLive (d : Devices) (code : ExitCode) : Type 0 where
+  pub answer : Result (Unit {0}) MainFault
+  pub lived : LivesText d.had d.left d.ended d.read_failures d.before d.after d.flushed d.write_failures answer
+  pub status : exit_status code ≡ status_of_outcome (outcome_of_writing answer)
+
 -- the job was done, and the status is that of what came of it
 abbrev pub EndsJob : Job → Devices → ExitCode → Type 0
-EndsJob (Run workers fronts) d code = EndsRun fronts workers d code
-EndsJob Check d code = EndsCheck d code
+EndsJob (Run workers fronts explain) d code = EndsRun fronts workers d code
+EndsJob (Check explain) d code = EndsCheck explain d code
 EndsJob Replay d code = EndsReplay d code
 EndsJob (Draw form) d code = EndsDraw form d code
+EndsJob Live d code = EndsLive d code

@@ -1,15 +1,21 @@
 //! A job that is done on two devices, and the exit status that tells what came of it.
 
-ghost use Rattle.std.specs.Prelude.{◌≡◌, false};
+ghost use Rattle.std.specs.Prelude.{◌≡◌, false, true};
 ghost use Rattle.std.specs.Process.{exit_status};
-ghost use Rattle.muxsim.specs.Ends.{EndsCheck, EndsDraw, EndsJob, EndsReplay, EndsRun};
+ghost use Rattle.muxsim.specs.Ends.{EndsCheck, EndsDraw, EndsJob, EndsLive, EndsReplay, EndsRun};
 ghost use Rattle.muxsim.specs.Jobs.{CanRun};
-ghost use Rattle.smx_filters.specs.Statuses.{status_of_outcome};
+ghost use Rattle.smx_filters.specs.Statuses.{status_of, status_of_outcome};
 
 use crate::jobs::Job;
 use smx_draw::Form;
-use smx_filters::{Done, Feed, MainFault, Sink, check_text, draw_text, replay_text, run_text};
+use smx_explain::{FaultExplanation, TextKind};
+use smx_filters::{
+    Done, Feed, MainFault, Refusal, Sink, check_explained, check_text, draw_text, replay_text,
+    run_explained, run_text,
+};
+use smx_live::live_text;
 use smx_run::NoGate;
+use smx_text::{Cause, TextFault};
 use std::alloc::Global;
 use std::process::ExitCode;
 use std::sync::Wait;
@@ -40,10 +46,21 @@ pub fn do_job<R: Threads + Wait + Sync + Eprint, F: Feed, S: Sink>(
     }) result }
 {
     match job {
-        Job::Run { workers, fronts } => run(rt, alloc, feed, sink, workers, fronts),
-        Job::Check => check(rt, alloc, feed, sink),
+        Job::Run {
+            workers,
+            fronts,
+            explain: false,
+        } => run(rt, alloc, feed, sink, workers, fronts),
+        Job::Run {
+            workers,
+            fronts,
+            explain: true,
+        } => explained_run(rt, alloc, feed, sink, workers, fronts),
+        Job::Check { explain: false } => check(rt, alloc, feed, sink),
+        Job::Check { explain: true } => explained_check(rt, alloc, feed, sink),
         Job::Replay => replay(rt, alloc, feed, sink),
         Job::Draw { form } => draw(rt, alloc, feed, sink, form),
+        Job::Live => live(rt, alloc, feed, sink),
     }
 }
 
@@ -56,7 +73,7 @@ fn run<R: Threads + Wait + Sync + Eprint, F: Feed, S: Sink>(
     workers: usize,
     fronts: bool,
 ) -> ExitCode
-    requires workers { CanRun (Job.Run workers fronts) }
+    requires workers { CanRun (Job.Run workers fronts false) }
     requires before_the_end { F.ended feed.old ≡ false }
     requires fed { F.failures feed.old ≡ 0 }
     requires sunk { S.failures sink.old ≡ 0 }
@@ -82,7 +99,7 @@ fn check<R: Eprint, F: Feed, S: Sink>(rt: &R, alloc: Global, feed: &mut F, sink:
     requires before_the_end { F.ended feed.old ≡ false }
     requires fed { F.failures feed.old ≡ 0 }
     requires sunk { S.failures sink.old ≡ 0 }
-    ensures { EndsCheck (record {
+    ensures { EndsCheck false (record {
       had = F.remaining feed.old;
       left = F.remaining feed.new;
       ended = F.ended feed.new;
@@ -96,6 +113,100 @@ fn check<R: Eprint, F: Feed, S: Sink>(rt: &R, alloc: Global, feed: &mut F, sink:
     match check_text(alloc, feed, sink) {
         Ok(verdict) => ended(rt, Ok(Done::Judged(verdict))),
         Err(fault) => ended(rt, Err(fault)),
+    }
+}
+
+// Runs the programs, and shows what is wrong with a text that is none.
+fn explained_run<R: Threads + Wait + Sync + Eprint, F: Feed, S: Sink>(
+    rt: &R,
+    alloc: Global,
+    feed: &mut F,
+    sink: &mut S,
+    workers: usize,
+    fronts: bool,
+) -> ExitCode
+    requires workers { CanRun (Job.Run workers fronts true) }
+    requires before_the_end { F.ended feed.old ≡ false }
+    requires fed { F.failures feed.old ≡ 0 }
+    requires sunk { S.failures sink.old ≡ 0 }
+    ensures { EndsRun fronts workers (record {
+      had = F.remaining feed.old;
+      left = F.remaining feed.new;
+      ended = F.ended feed.new;
+      read_failures = F.failures feed.new;
+      before = S.contents sink.old;
+      after = S.contents sink.new;
+      flushed = S.flushed sink.new;
+      write_failures = S.failures sink.new;
+    }) result }
+{
+    match run_explained(rt, alloc, feed, sink, workers, fronts, &NoGate) {
+        Ok(()) => ended(rt, Ok(Done::Finished)),
+        Err(refusal) => refused(rt, TextKind::Programs, refusal),
+    }
+}
+
+// Judges the transcript, and shows where it departs from its replay, or what is wrong with a text that is none.
+fn explained_check<R: Eprint, F: Feed, S: Sink>(
+    rt: &R,
+    alloc: Global,
+    feed: &mut F,
+    sink: &mut S,
+) -> ExitCode
+    requires before_the_end { F.ended feed.old ≡ false }
+    requires fed { F.failures feed.old ≡ 0 }
+    requires sunk { S.failures sink.old ≡ 0 }
+    ensures { EndsCheck true (record {
+      had = F.remaining feed.old;
+      left = F.remaining feed.new;
+      ended = F.ended feed.new;
+      read_failures = F.failures feed.new;
+      before = S.contents sink.old;
+      after = S.contents sink.new;
+      flushed = S.flushed sink.new;
+      write_failures = S.failures sink.new;
+    }) result }
+{
+    match check_explained(alloc, feed, sink) {
+        Ok(verdict) => ended(rt, Ok(Done::Judged(verdict))),
+        Err(refusal) => refused(rt, TextKind::Transcript, refusal),
+    }
+}
+
+// The status of a fault, with its line on standard error, and below it what is wrong with a text that is refused.
+fn refused<R: Eprint>(rt: &R, kind: TextKind, refusal: Refusal) -> ExitCode
+    ensures { exit_status result ≡ status_of refusal.fault }
+{
+    let Refusal { fault, text } = refusal;
+    let of_text = fault_of_text(&fault);
+    let code = ended(rt, Err(fault));
+    if let Some(text) = text {
+        show(rt, kind, text.as_slice(), of_text);
+    }
+    code
+}
+
+// Shows what is wrong with a text, if anything is.
+fn show<R: Eprint>(rt: &R, kind: TextKind, text: &[u8], fault: Option<TextFault>) {
+    if let Some(fault) = fault {
+        let explanation = FaultExplanation { kind, text, fault };
+        let _ = eprint!(rt; "{explanation}");
+    }
+}
+
+// What is wrong with the text, where that is the fault. Want of memory is none of the text's.
+fn fault_of_text(fault: &MainFault) -> Option<TextFault> {
+    match fault {
+        MainFault::Text(fault) => match fault.cause {
+            Cause::NoMemory => None,
+            Cause::Header | Cause::Form | Cause::Many | Cause::Cut | Cause::Trailing => Some(
+                *fault,
+            ),
+        },
+        MainFault::Refused(_)
+        | MainFault::TooLong
+        | MainFault::ReadFailed
+        | MainFault::WriteFailed => None,
     }
 }
 
@@ -149,6 +260,28 @@ fn draw<R: Eprint, F: Feed, S: Sink>(
     }) result }
 {
     match draw_text(alloc, feed, sink, form) {
+        Ok(()) => ended(rt, Ok(Done::Finished)),
+        Err(fault) => ended(rt, Err(fault)),
+    }
+}
+
+// Answers the lines.
+fn live<R: Eprint, F: Feed, S: Sink>(rt: &R, alloc: Global, feed: &mut F, sink: &mut S) -> ExitCode
+    requires before_the_end { F.ended feed.old ≡ false }
+    requires fed { F.failures feed.old ≡ 0 }
+    requires sunk { S.failures sink.old ≡ 0 }
+    ensures { EndsLive (record {
+      had = F.remaining feed.old;
+      left = F.remaining feed.new;
+      ended = F.ended feed.new;
+      read_failures = F.failures feed.new;
+      before = S.contents sink.old;
+      after = S.contents sink.new;
+      flushed = S.flushed sink.new;
+      write_failures = S.failures sink.new;
+    }) result }
+{
+    match live_text(alloc, feed, sink) {
         Ok(()) => ended(rt, Ok(Done::Finished)),
         Err(fault) => ended(rt, Err(fault)),
     }

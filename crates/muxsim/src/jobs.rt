@@ -11,9 +11,14 @@ pub enum Job {
         workers: usize,
         /// Whether the fronts are written in place of the transcript.
         fronts: bool,
+        /// Whether a fault of the text is explained.
+        explain: bool,
     },
     /// To judge the transcript of the input and to write the verdict.
-    Check,
+    Check {
+        /// Whether the verdict, or a fault of the text, is explained.
+        explain: bool,
+    },
     /// To perform the commands of the transcript of the input and to write the transcript that they give.
     Replay,
     /// To draw the configuration that the transcript of the input shows.
@@ -21,4 +26,6 @@ pub enum Job {
         /// In which language.
         form: Form,
     },
+    /// To answer the lines of the input one by one, at once.
+    Live,
 }

@@ -1,22 +1,25 @@
 //! Laws of how the program ends, each the contract of a function that does nothing.
 
-ghost use Rattle.std.specs.Prelude.{◌≡◌, ◌≢◌, ◌⊎◌, ◌↔◌, ℕ, Bool, true, List, [], Some};
+ghost use Rattle.std.specs.Prelude.{◌≡◌, ◌≢◌, ◌⊎◌, ◌↔◌, ◌++◌, ℕ, Bool, true, List, [], Some};
 ghost use Rattle.std.specs.Io.KnownBytes.{Keeps};
 ghost use Rattle.std.specs.Process.{exit_status};
 ghost use Rattle.std.specs.declared.process.ExitCode.{ExitCode};
 ghost use Rattle.smx_config.specs.declared.verdict.Verdict.{Verdict};
 ghost use Rattle.smx_config.specs.declared.verdict.Verdict.TheVariants.{Legal};
 ghost use Rattle.smx_draw.specs.declared.form.Form.{Form};
-ghost use Rattle.smx_filters.specs.CheckText.{checking};
 ghost use Rattle.smx_filters.specs.DrawText.{drawing};
+ghost use Rattle.smx_filters.specs.ExplainText.{judging};
 ghost use Rattle.smx_filters.specs.Filters.{GivesFor};
 ghost use Rattle.smx_filters.specs.ReplayText.{replaying};
 ghost use Rattle.smx_filters.specs.RunText.{running};
-ghost use Rattle.muxsim.specs.Ends.{Devices, EndsCheck, EndsDraw, EndsJob, EndsReplay, EndsRun, Writes};
+ghost use Rattle.smx_live.specs.LiveText.{IsOver};
+ghost use Rattle.muxsim.specs.Ends.{Devices, EndsCheck, EndsDraw, EndsJob, EndsLive, EndsReplay, EndsRun, Writes};
 ghost use Rattle.muxsim.specs.declared.jobs.Job.{Job as AnyJob};
+ghost use Rattle.muxsim.specs.declared.jobs.Job.TheVariants.{Live};
 
 /// The status 0 tells that the job was done: what was written for the input is what was asked for, all of it, and flushed.
-/// Of a check it tells that the transcript is legal, and the status 4 that it is judged otherwise.
+/// Of a check it tells that the transcript is legal, and the status 4 that it is judged otherwise, whether that is explained
+/// or not. Of a live session it tells that it is over, and that what was written is its answers.
 pub fn a_status_tells_what_was_done()
     ensures run { (fronts : Bool) (workers : ℕ) (d : Devices) (code : ExitCode) (input output : List ℕ)
         → EndsRun fronts workers d code → Writes d input output → exit_status code ≡ 0
@@ -27,20 +30,23 @@ pub fn a_status_tells_what_was_done()
     ensures draw { (form : Form) (d : Devices) (code : ExitCode) (input output : List ℕ) → EndsDraw form d code
         → Writes d input output → exit_status code ≡ 0
         → (d.flushed ≡ true) × GivesFor (drawing form) input tt output }
-    ensures legal { (d : Devices) (code : ExitCode) (input output : List ℕ) → EndsCheck d code
+    ensures live { (d : Devices) (code : ExitCode) (input output : List ℕ) → EndsLive d code
         → Writes d input output → exit_status code ≡ 0
-        → (d.flushed ≡ true) × GivesFor checking input Legal output }
-    ensures not_legal { (d : Devices) (code : ExitCode) (input output : List ℕ) → EndsCheck d code
-        → Writes d input output → exit_status code ≡ 4
-        → (d.flushed ≡ true) × (v : Verdict) × (v ≢ Legal) × GivesFor checking input v output }
+        → (d.flushed ≡ true) × (read rest : List ℕ) × (input ≡ read ++ rest) × IsOver read d.ended output }
+    ensures legal { (explain : Bool) (d : Devices) (code : ExitCode) (input output : List ℕ)
+        → EndsCheck explain d code → Writes d input output → exit_status code ≡ 0
+        → (d.flushed ≡ true) × GivesFor (judging explain) input Legal output }
+    ensures not_legal { (explain : Bool) (d : Devices) (code : ExitCode) (input output : List ℕ)
+        → EndsCheck explain d code → Writes d input output → exit_status code ≡ 4
+        → (d.flushed ≡ true) × (v : Verdict) × (v ≢ Legal) × GivesFor (judging explain) input v output }
 {}
 
-/// The status 5 tells that a device failed, and no other does; 1 and 3 tell that nothing was written; 2 is that of no job,
-/// and 4 that of no run, no replay and no drawing.
+/// The status 5 tells that a device failed, and no other does; 1 and 3 tell that nothing was written, unless by a live session;
+/// 2 is that of no job, and 4 that of no run, no replay, no drawing and no live session.
 pub fn a_status_tells_what_failed()
     ensures failed { (job : AnyJob) (d : Devices) (code : ExitCode) → EndsJob job d code
         → (exit_status code ≡ 5) ↔ ((d.read_failures ≡ 1) ⊎ (d.write_failures ≡ 1)) }
-    ensures unwritten { (job : AnyJob) (d : Devices) (code : ExitCode) → EndsJob job d code
+    ensures unwritten { (job : AnyJob) (d : Devices) (code : ExitCode) → job ≢ Live → EndsJob job d code
         → (exit_status code ≡ 1) ⊎ (exit_status code ≡ 3) → Keeps d.before d.after }
     ensures no_words { (job : AnyJob) (d : Devices) (code : ExitCode) → EndsJob job d code
         → exit_status code ≡ 2 → ⊥ }
@@ -50,4 +56,5 @@ pub fn a_status_tells_what_failed()
         → exit_status code ≡ 4 → ⊥ }
     ensures no_verdict_of_a_drawing { (form : Form) (d : Devices) (code : ExitCode) → EndsDraw form d code
         → exit_status code ≡ 4 → ⊥ }
+    ensures no_verdict_of_a_session { (d : Devices) (code : ExitCode) → EndsLive d code → exit_status code ≡ 4 → ⊥ }
 {}

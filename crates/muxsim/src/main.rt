@@ -1,4 +1,5 @@
-//! Runs programs against a STREAMS multiplexer and writes the transcript, or judges, replays or draws a transcript.
+//! Runs programs against a STREAMS multiplexer and writes the transcript, judges, replays or draws a transcript, or answers
+//! commands line by line.
 #![tactic(auto)]
 
 mod command_line;
@@ -6,6 +7,7 @@ mod command_list;
 mod doing;
 mod jobs;
 mod laws_of_ends;
+mod subcommands;
 
 ghost use Rattle.std.specs.Prelude.{◌≡◌, ◌≢◌, ◌⊎◌};
 ghost use Rattle.std.specs.IoError.{error_kind};

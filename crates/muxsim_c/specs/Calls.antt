@@ -1,12 +1,6 @@
 -- What each call does with a handle, which has a session or none.
-use Rattle.std.specs.Prelude.{◌≡◌, ◌<◌, ◌≤◌, ◌⊎◌, ℕ, ℤ, List, [], ◌∷◌, ◌++◌, map, drop, length, codes, Option, Some}
-use Rattle.std.specs.Prelude.{None, Ok, Err}
-use Rattle.smx_types.specs.declared.command.Entry.{Entry}
-use Rattle.smx_model.specs.Views.{view}
-use Rattle.smx_words.specs.Spelling.{entry_words}
-use Rattle.smx_words.specs.Words.{LINE_FEED, line_of, text_of}
-use Rattle.smx_text.specs.TranscriptText.{view_body, line_words}
-use Rattle.smx_session.specs.Sessions.{State, StartsAs, IsNoCall}
+use Rattle.std.specs.Prelude.{◌≡◌, ◌<◌, ◌≤◌, ◌⊎◌, ℕ, ℤ, List, ◌++◌, drop, length, Option, Some, None, Ok, Err}
+use Rattle.smx_session.specs.Sessions.{IsLastLine, IsNoCall, StartsAs, State, shown_lines}
 use Rattle.smx_session.specs.Sessions.{Performs as Steps}
 use Rattle.smx_session.specs.declared.trouble.Trouble.{Trouble as SessionTrouble}
 use Rattle.muxsim_c.specs.Codes.{Outcome, code, told_of}
@@ -42,29 +36,27 @@ Copies text old new len (Ok _) =
 Copies text old new len (Err t) =
     (len ≡ length text) × (length old < length text) × (new ≡ old) × (t ≡ NoRoom)
 
+-- nothing is written, and no length is told
+abbrev pub WritesNothing : List ℕ → List ℕ → ℕ → ℕ → Type 0
+WritesNothing old new was len = (new ≡ old) × (len ≡ was)
+
 -- a text of which this is so is copied; or memory was wanting for it
-abbrev pub Writes : (List ℕ → Type 0) → List ℕ → List ℕ → ℕ → Outcome → Type 0
-Writes IsText old new len outcome =
-    ((text : List ℕ) × IsText text × Copies text old new len outcome) ⊎ ((new ≡ old) × (outcome ≡ Err NoMemory))
+abbrev pub Writes : (List ℕ → Type 0) → List ℕ → List ℕ → ℕ → ℕ → Outcome → Type 0
+Writes IsText old new was len outcome =
+    ((text : List ℕ) × IsText text × Copies text old new len outcome)
+    ⊎ (WritesNothing old new was len × (outcome ≡ Err NoMemory))
 
--- the line of the entry that was made last
-abbrev pub IsLastLine : State → List ℕ → Type 0
-IsLastLine s line = (e : Entry) × (s.last ≡ Some e) × (line ≡ line_of (entry_words e) ++ LINE_FEED ∷ [])
+-- the line of the entry that was made last is written; or there is no entry, or no session
+abbrev pub Tells : Option State → List ℕ → List ℕ → ℕ → ℕ → Outcome → Type 0
+Tells None old new was len outcome = WritesNothing old new was len × (outcome ≡ Err Closed)
+Tells (Some s) old new was len outcome =
+    Writes (IsLastLine s) old new was len outcome
+    ⊎ ((s.last ≡ None) × WritesNothing old new was len × (outcome ≡ Err NoEntry))
 
--- that line is written; or there is no entry, or no session
-abbrev pub Tells : Option State → List ℕ → List ℕ → ℕ → Outcome → Type 0
-Tells None old new len outcome = (new ≡ old) × (outcome ≡ Err Closed)
-Tells (Some s) old new len outcome =
-    Writes (IsLastLine s) old new len outcome ⊎ ((s.last ≡ None) × (new ≡ old) × (outcome ≡ Err NoEntry))
-
--- the lines of the configuration, as they stand in a transcript
-abbrev pub IsShown : State → List ℕ → Type 0
-IsShown s lines = lines ≡ codes "config\n" ++ text_of (map line_words (view_body (view s.drivers s.configuration)))
-
--- those lines are written; or there is no session
-abbrev pub Shows : Option State → List ℕ → List ℕ → ℕ → Outcome → Type 0
-Shows None old new len outcome = (new ≡ old) × (outcome ≡ Err Closed)
-Shows (Some s) old new len outcome = Writes (IsShown s) old new len outcome
+-- the lines of the configuration are written, as they stand in a transcript; or there is no session
+abbrev pub Shows : Option State → List ℕ → List ℕ → ℕ → ℕ → Outcome → Type 0
+Shows None old new was len outcome = WritesNothing old new was len × (outcome ≡ Err Closed)
+Shows (Some s) old new was len outcome = Writes (λ lines. lines ≡ shown_lines s) old new was len outcome
 
 -- there is no session any more
 abbrev pub Closes : Option State → Option State → Outcome → Type 0

@@ -1,7 +1,8 @@
 //! The calls of a handle.
 
 ghost use Rattle.std.specs.Prelude.{◌≡◌, ◌⊎◌, None, IfOk, IfErr};
-ghost use Rattle.muxsim_c.specs.Calls.{Closes, IsLastLine, Opens, Performs, Shows, Tells};
+ghost use Rattle.smx_session.specs.Sessions.{IsLastLine};
+ghost use Rattle.muxsim_c.specs.Calls.{Closes, Opens, Performs, Shows, Tells};
 ghost use Rattle.muxsim_c.specs.declared.trouble.Trouble.TheVariants.{Line, NoEntry, NoMemory};
 ghost use Rattle.smx_session.specs.declared.trouble.Trouble.TheVariants.{Line as SessionLine};
 
@@ -82,7 +83,7 @@ pub fn entry(
     len: &mut usize,
 ) -> Result<(), Trouble>
     ensures same { handle.new.value ≡ handle.old.value }
-    ensures told { Tells handle.old.value text.old text.new len.new result }
+    ensures told { Tells handle.old.value text.old text.new len.old len.new result }
 {
     let Some(session) = take(alloc, handle) else {
         return Err(Trouble::Closed);
@@ -100,7 +101,7 @@ pub fn show(
     len: &mut usize,
 ) -> Result<(), Trouble>
     ensures same { handle.new.value ≡ handle.old.value }
-    ensures shown { Shows handle.old.value text.old text.new len.new result }
+    ensures shown { Shows handle.old.value text.old text.new len.old len.new result }
 {
     let Some(session) = take(alloc, handle) else {
         return Err(Trouble::Closed);

@@ -3,6 +3,7 @@
 
 mod calls;
 mod handle;
+pub mod laws_of_calls;
 mod loose;
 mod slots;
 mod texts;
@@ -41,7 +42,7 @@ pub extern "C" fn muxsim_session_entry(
     len: &mut usize,
 ) -> i32
     ensures same { handle.new.value ≡ handle.old.value }
-    ensures told { Answers result (Tells handle.old.value text.old text.new len.new) }
+    ensures told { Answers result (Tells handle.old.value text.old text.new len.old len.new) }
 {
     code_of(&entry(alloc, handle, text, len))
 }
@@ -55,7 +56,7 @@ pub extern "C" fn muxsim_session_show(
     len: &mut usize,
 ) -> i32
     ensures same { handle.new.value ≡ handle.old.value }
-    ensures shown { Answers result (Shows handle.old.value text.old text.new len.new) }
+    ensures shown { Answers result (Shows handle.old.value text.old text.new len.old len.new) }
 {
     code_of(&show(alloc, handle, text, len))
 }

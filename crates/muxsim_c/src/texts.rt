@@ -1,6 +1,5 @@
 //! Texts for a buffer of C.
 
-ghost use Rattle.std.specs.Prelude.{◌≡◌};
 ghost use Rattle.muxsim_c.specs.Calls.{Copies};
 
 use crate::trouble::Trouble;

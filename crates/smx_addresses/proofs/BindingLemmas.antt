@@ -210,7 +210,3 @@ pub not_bound : (xs ys : Entries) (d m : ℕ) → AreBindings xs ys → lookup (
 not_bound xs ys d m h none =
     filter_all (λ b. is_key (stream_of b) (d, m)) (bindings_of xs)
     (sym (found_any stream_of (λ b. b.addr) (bindings_of xs) (d, m)) ∙ ap is_some (sym (h.addresses (d, m)) ∙ none))
-
--- nothing is bound
-pub no_bindings : (xs ys : Entries) → IsDistinct is_key (keys_of xs) → xs ≡ [] → ys ≡ [] → AreBindings xs ys
-no_bindings xs ys u e f = record { unique = u; streams = rw e tt; addresses = λ k. rw (e, f) refl }

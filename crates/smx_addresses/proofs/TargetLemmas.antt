@@ -1,6 +1,6 @@
 -- The sets of keys under the links, after each change of the table of routes.
-use Rattle.std.proofs.Common.{◌≡◌, ℕ, ◌<◌, ◌+◌, Bool, true, false, cond, ◌||◌, ◌==◌, not, List, [], ◌∷◌, ◌++◌, length}
-use Rattle.std.proofs.Common.{get_or, take, Option, Some, None, Result, Ok, Err, OnErr, refl, sym, ap, ◌∙◌, arith}
+use Rattle.std.proofs.Common.{◌≡◌, ℕ, Bool, true, false, cond, ◌==◌, not, List, [], ◌∷◌}
+use Rattle.std.proofs.Common.{Option, Some, None, Result, Ok, Err, OnErr, refl, sym, ap, ◌∙◌, arith}
 use Rattle.std.proofs.Common.{if◌then◌else◌, inl, inr}
 use Rattle.std.specs.HashSet.{HashSet}
 use Rattle.std.specs.List.{list_any, AllZip, IsDistinct}
@@ -8,13 +8,12 @@ use Rattle.std.specs.Map.{lookup, keys_of}
 use Rattle.std.specs.Option.{option_map_or}
 use Rattle.std.proofs.lemmas.Bool.{cases_Bool, eqb-true}
 use Rattle.std.proofs.lemmas.Bool.Decides.{nat_tests}
-use Rattle.std.proofs.lemmas.List.{take_more}
 use Rattle.std.proofs.lemmas.Map.Entries.{option_filter}
 use Rattle.smx_addresses.specs.Keys.{Key, is_key, left_of}
 use Rattle.smx_addresses.specs.TableFields.{Entries, AreRoutes}
 use Rattle.smx_addresses.specs.Targets.{is_target, IsTargetSet}
 use Rattle.smx_addresses.proofs.ChangeLemmas.{Sets}
-use Rattle.smx_addresses.proofs.KeyLemmas.{is_key_sym, key_same}
+use Rattle.smx_addresses.proofs.KeyLemmas.{key_same}
 use Rattle.smx_addresses.proofs.RouteLemmas.{Unlinks}
 
 -- what is under an address leads to the link
@@ -25,23 +24,6 @@ other_number : (a b i : ℕ) → (a == b) ≡ false → (a == i) ≡ true → (b
 other_number a b i h k = grind (arith, nat_tests)
 
 -- keys that are taken out one by one
-
-any_more : (ks : List Key) (k q : Key) → list_any (is_key q) (ks ++ k ∷ []) ≡ (list_any (is_key q) ks || is_key k q)
-any_more [] k q = rw (is_key_sym q k) (elim (cases_Bool (is_key k q)) [ inl t ↦ rw t refl | inr f ↦ rw f refl ])
-any_more (x ∷ ks) k q = elim (cases_Bool (is_key q x)) [ inl t ↦ rw t refl | inr f ↦ rw f (any_more ks k q) ]
-
--- taking one key more out, after some, is taking out these keys with that one behind
-pub left_more : (ks : List Key) (k q : Key) (r : Option ℕ)
-    → cond (is_key k q) None (left_of ks q r) ≡ left_of (ks ++ k ∷ []) q r
-left_more ks k q r = rw (any_more ks k q) (elim (cases_Bool (is_key k q)) [
-  | inl t ↦ elim (cases_Bool (list_any (is_key q) ks)) [ inl a ↦ rw (t, a) refl | inr a ↦ rw (t, a) refl ]
-  | inr f ↦ elim (cases_Bool (list_any (is_key q) ks)) [ inl a ↦ rw (f, a) refl | inr a ↦ rw (f, a) refl ]
-])
-
--- taking the key at an index out, after those before it, is taking out all up to it
-pub left_next : (ks : List Key) (i : ℕ) (d q : Key) (r : Option ℕ) → i < length ks
-    → cond (is_key (get_or ks i d) q) None (left_of (take i ks) q r) ≡ left_of (take (i + 1) ks) q r
-left_next ks i d q r lt = rw (take_more ks i d lt) (left_more (take i ks) (get_or ks i d) q r)
 
 -- what is left without the keys of a link
 left_filtered : (id : ℕ) (b : Bool) (r : Option ℕ) → b ≡ leads_to id r
@@ -83,11 +65,6 @@ when_true true = refl
 when_true false = refl
 
 module _ {S : Type 0} where
-  -- no route and no key
-  pub no_targets : (xs : Entries) (ts : List (ℕ × HashSet Key S)) → IsDistinct is_key (keys_of xs) → xs ≡ [] → ts ≡ []
-      → AreRoutes xs ts
-  no_targets xs ts u e f = record { unique = u; targets = λ i q. rw (e, f) refl }
-
   module _ (xs us : Entries) (ts vs : List (ℕ × HashSet Key S)) (k : Key) (id : ℕ) (h : AreRoutes xs ts)
       (unique : IsDistinct is_key (keys_of us)) (s : Sets xs us k (Some id)) (t : IsTargetSet ts vs id k true) where
     now_there : (i : ℕ) (q : Key) → is_key k q ≡ true → leads_to i (lookup (is_key q) us) ≡ (id == i)
@@ -135,33 +112,6 @@ module _ {S : Type 0} where
         | inr a ↦ elim (cases_Bool (old == i)) [ inl b ↦ rw (a, b) (as_before i q a) | inr b ↦ rw b (as_before i q a) ]
       ];
     }
-
-  -- a key without its route
-  pub unrouted_whole : (xs us : Entries) (ts vs : List (ℕ × HashSet Key S)) (k : Key) (old : ℕ) → AreRoutes xs ts
-      → IsDistinct is_key (keys_of us)
-      → lookup (is_key k) xs ≡ Some old → Sets xs us k None → IsTargetSet ts vs old k false → AreRoutes us vs
-  unrouted_whole xs us ts vs k old h unique at s t = record {
-    unique = unique;
-    targets = λ i q. t i q ∙ elim (cases_Bool (is_key k q)) [
-      | inl a ↦
-          let now : leads_to i (lookup (is_key q) us) ≡ false = ap (leads_to i) (s q) ∙ rw a refl in
-          let was : is_target ts i q ≡ leads_to i (lookup (is_key k) xs) = h.targets i q
-          ∙ ap (λ (p : Key). leads_to i (lookup (is_key p) xs)) (sym (key_same k q a)) in
-          elim (cases_Bool (old == i)) [
-            | inl b ↦ rw (a, b) (sym now)
-            | inr b ↦
-                rw b (was ∙ ap (leads_to i) at ∙ b ∙ sym now)
-          ]
-      | inr a ↦
-          let now : leads_to i (lookup (is_key q) us) ≡ leads_to i (lookup (is_key q) xs) = ap (leads_to i) (s q)
-          ∙ rw a refl in
-          elim (cases_Bool (old == i)) [
-            | inl b ↦ rw (a, b) (h.targets i q ∙ sym now)
-            | inr b ↦
-                rw b (h.targets i q ∙ sym now)
-          ]
-    ];
-  }
 
   -- without the keys of a link its routes are gone
   pub link_unlinks : (xs us : Entries) (ts : List (ℕ × HashSet Key S)) (id : ℕ) (keys : HashSet Key S) → AreRoutes xs ts

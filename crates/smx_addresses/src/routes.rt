@@ -1,12 +1,12 @@
 //! The routes of all drivers.
 
-ghost use Rattle.std.specs.Prelude.{◌≡◌, ◌==◌, ◌&&◌, not, [], filter, find, length, IfOk, OnOk, OnErr};
+ghost use Rattle.std.specs.Prelude.{◌≡◌, ◌==◌, not, [], filter, find, length, IfOk, OnOk, OnErr};
 ghost use Rattle.std.specs.List.{list_any, IsDistinct};
 ghost use Rattle.std.specs.Map.{keys_of, lookup};
 ghost use Rattle.smx_model.specs.Configuration.{route_before};
 ghost use Rattle.smx_model.specs.Ordered.{with_inserted};
 ghost use Rattle.smx_addresses.specs.Keys.{Key as AnyKey, is_key, left_of};
-ghost use Rattle.smx_addresses.specs.RouteLists.{IsRouteList};
+ghost use Rattle.smx_addresses.specs.RouteLists.{is_route, IsRouteList};
 
 use crate::key::{Key, Numbers};
 use crate::targets::{Targets, drop_target, put_target};
@@ -62,7 +62,7 @@ impl Routes {
 
     /// The route of a driver's address. One look-up.
     pub fn at(&self, driver: u8, addr: u32) -> Option<Route>
-        ensures { result ≡ find (λ r. (r.driver == driver) && (r.addr == addr)) self.now }
+        ensures { result ≡ find (is_route driver addr) self.now }
     {
         let id = *self.ids.get(&(driver, addr))?;
         Some(Route { driver, addr, id })
@@ -70,7 +70,7 @@ impl Routes {
 
     /// Whether the driver has a route for the address. One look-up.
     pub fn is_routed(&self, driver: u8, addr: u32) -> bool
-        ensures { result ≡ list_any (λ r. (r.driver == driver) && (r.addr == addr)) self.now }
+        ensures { result ≡ list_any (is_route driver addr) self.now }
     {
         self.ids.contains_key(&(driver, addr))
     }
@@ -79,7 +79,7 @@ impl Routes {
     /// nothing has then changed.
     pub fn route(&mut self, driver: u8, addr: u32, id: u32) -> Result<(), NoMemory>
         ensures ok { OnOk result (self.new ≡ with_inserted route_before
-            (filter (λ r. not ((r.driver == driver) && (r.addr == addr))) self.old)
+            (filter (λ r. not (is_route driver addr r)) self.old)
             (record { driver = driver; addr = addr; id = id })) }
         ensures err { OnErr result (self.new ≡ self.old) }
     {
@@ -96,8 +96,8 @@ impl Routes {
 
     /// Takes the address's route away, and no other; None where it has none. Takes no memory.
     pub fn unroute(&mut self, driver: u8, addr: u32) -> Option<Route>
-        ensures route { result ≡ find (λ r. (r.driver == driver) && (r.addr == addr)) self.old }
-        ensures rest { self.new ≡ filter (λ r. not ((r.driver == driver) && (r.addr == addr))) self.old }
+        ensures route { result ≡ find (is_route driver addr) self.old }
+        ensures rest { self.new ≡ filter (λ r. not (is_route driver addr r)) self.old }
     {
         let key = (driver, addr);
         let id = self.ids.swap_remove(&key)?;

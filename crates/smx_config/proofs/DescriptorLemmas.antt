@@ -7,18 +7,18 @@ use Rattle.std.proofs.lemmas.Bool.{cases_Bool}
 use Rattle.std.proofs.lemmas.Bool.Decides.{nat_tests}
 use Rattle.smx_types.specs.declared.command.Command.TheVariants as command
 use Rattle.smx_types.specs.declared.driver.DriverSpec.{DriverSpec}
-use Rattle.smx_types.specs.declared.reply.Fault.TheVariants.{BadDescriptor, NoMinor, TooManyDescriptors}
+use Rattle.smx_types.specs.declared.reply.Fault.TheVariants.{NoMinor, TooManyDescriptors}
 use Rattle.smx_types.specs.declared.reply.Reply.TheVariants.{Fd}
 use Rattle.smx_types.specs.declared.stream.Descriptor.{Descriptor}
 use Rattle.smx_types.specs.declared.stream.StreamId.{StreamId}
 use Rattle.smx_model.specs.Commands.{outcome, with_fd}
 use Rattle.smx_model.specs.Configuration.{Configuration}
 use Rattle.smx_model.specs.DriverList.{minors_of}
-use Rattle.smx_model.specs.Lookups.{driver_of, free_fd, free_minor, stream_of}
+use Rattle.smx_model.specs.Lookups.{driver_of, free_fd, free_minor}
 use Rattle.smx_model.specs.Outcomes.{Outcome, or_fault}
 use Rattle.smx_model.specs.Standing.{exists, is_below}
-use Rattle.smx_streams.specs.StreamTables.{Answer, StreamTable, IsRefused, is_in_range, clone_answer, dup_answer}
-use Rattle.smx_streams.specs.StreamTables.{minor_answer, least_fd, least_minor, stream_at, exists as is_there}
+use Rattle.smx_streams.specs.StreamTables.{Answer, StreamTable, IsRefused, is_in_range, clone_answer}
+use Rattle.smx_streams.specs.StreamTables.{minor_answer, least_fd, least_minor, exists as is_there}
 use Rattle.smx_streams.specs.declared.stream_fault.StreamFault.{StreamFault}
 use Rattle.smx_streams.specs.declared.stream_fault.StreamFault.TheVariants as stream_fault
 use Rattle.smx_config.specs.declared.step_error.StepError.{StepError}
@@ -143,42 +143,3 @@ minor_agrees drivers c t process n minor name minors same found lt few free = by
       (rw (has_driver drivers t n minors lt, inside, g) refl) (rw (found, few, free, number None g) refl) refl
   by (Some k) g = agree c process _ (Ok (k, record { driver = n; minor = minor })) _ _
       (rw (has_driver drivers t n minors lt, inside, g) refl) (rw (found, few, free, number (Some k) g) refl) refl
-
--- what the table of streams answers a dup agrees with the outcome of the command
-pub dup_agrees : (drivers : List DriverSpec) (c : Configuration) (t : StreamTable) (process fd : ℕ) → t.fds ≡ c.fds
-    → Agrees c process (dup_answer t process fd) (outcome drivers c process (command.Dup fd))
-dup_agrees drivers c t process fd same = by (stream_at t.fds process fd) (least_fd t.fds process) refl refl where
-  number : (k : Option ℕ) → least_fd t.fds process ≡ k → free_fd c process ≡ or_fault TooManyDescriptors k
-  number k e = ap (or_fault TooManyDescriptors) (ap (λ (fds : List Descriptor). least_fd fds process) (sym same) ∙ e)
-
-  stream : (o : Option StreamId) → stream_at t.fds process fd ≡ o → stream_of c process fd ≡ or_fault BadDescriptor o
-  stream o e = ap (or_fault BadDescriptor) (ap (λ (fds : List Descriptor). stream_at fds process fd) (sym same) ∙ e)
-
-  by : (o : Option StreamId) (k : Option ℕ) → stream_at t.fds process fd ≡ o → least_fd t.fds process ≡ k
-      → Agrees c process (dup_answer t process fd) (outcome drivers c process (command.Dup fd))
-  by None k e g = agree c process _ (Err stream_fault.BadDescriptor) _ (Err BadDescriptor) (rw e refl)
-      (rw (stream None e) refl) refl
-  by (Some s) None e g = agree c process _ (Err stream_fault.TooManyDescriptors) _ (Err TooManyDescriptors)
-      (rw (e, g) refl) (rw (stream (Some s) e, number None g) refl) refl
-  by (Some s) (Some k) e g =
-      agree c process _ (Ok (k, s)) _ _ (rw (e, g) refl) (rw (stream (Some s) e, number (Some k) g) refl) refl
-
--- a dup never wants memory
-pub dup_in_place : (t : StreamTable) (process fd : ℕ) → dup_answer t process fd ≡ Err stream_fault.NoMemory → ⊥
-dup_in_place t process fd h = by (stream_at t.fds process fd) (least_fd t.fds process) refl refl where
-  by : (o : Option StreamId) (k : Option ℕ) → stream_at t.fds process fd ≡ o → least_fd t.fds process ≡ k → ⊥
-  by None k e g =
-      let x : ◌≡◌ {A = Answer} (Err stream_fault.BadDescriptor) (Err stream_fault.NoMemory) = rw e at h in absurd cc
-  by (Some s) None e g = let x : ◌≡◌ {A = Answer} (Err stream_fault.TooManyDescriptors) (Err stream_fault.NoMemory) =
-      rw (e, g) at h in absurd cc
-  by (Some s) (Some k) e g =
-      let x : ◌≡◌ {A = Answer} (Ok (k, s)) (Err stream_fault.NoMemory) = rw (e, g) at h in absurd cc
-
--- the fault of a dup that is refused is not want of memory
-pub dup_refused_in_place : (t : StreamTable) (process fd : ℕ) (f : StreamFault) → dup_answer t process fd ≡ Err f
-    → as_step_error f ≡ step_error.NoMemory → ⊥
-dup_refused_in_place t process fd stream_fault.BadDescriptor h e = absurd cc
-dup_refused_in_place t process fd stream_fault.NoDriver h e = absurd cc
-dup_refused_in_place t process fd stream_fault.NoMinor h e = absurd cc
-dup_refused_in_place t process fd stream_fault.TooManyDescriptors h e = absurd cc
-dup_refused_in_place t process fd stream_fault.NoMemory h e = dup_in_place t process fd h

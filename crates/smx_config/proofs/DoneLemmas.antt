@@ -8,7 +8,6 @@ use Rattle.smx_types.specs.declared.command.Command.TheVariants as command
 use Rattle.smx_types.specs.declared.command.Which.{Which}
 use Rattle.smx_types.specs.declared.command.Which.TheVariants as which
 use Rattle.smx_types.specs.declared.link.Binding.{Binding}
-use Rattle.smx_types.specs.declared.link.LinkKind.{LinkKind}
 use Rattle.smx_types.specs.declared.link.LinkKind.TheVariants as kind
 use Rattle.smx_types.specs.declared.link.Route.{Route}
 use Rattle.smx_types.specs.declared.reply.Fault.{Fault}
@@ -26,30 +25,21 @@ use Rattle.smx_model.specs.Hangups.{is_hung, with_hung}
 use Rattle.smx_model.specs.Ordered.{with_inserted}
 use Rattle.smx_model.specs.Lookups.{driver_of, leaf_stream, mux_stream}
 use Rattle.smx_model.specs.Outcomes.{◌>>=◌, or_fault, refuse}
-use Rattle.smx_model.specs.Removal.{serials_that_left, after_sweep, without_links}
+use Rattle.smx_model.specs.Removal.{serials_that_left, after_sweep}
 use Rattle.smx_model.specs.Standing.{is_below, exists}
 use Rattle.smx_model.specs.Swept.{IsSwept}
 use Rattle.smx_addresses.specs.BindingLists.{is_taken}
 use Rattle.smx_tables.proofs.ClimbLemmas.{named_stands}
 use Rattle.smx_tables.proofs.ExistingLemmas.{all_fewer, named_stream}
-use Rattle.smx_config.specs.UnlinkTargets.{is_target, are_there, unlinks}
+use Rattle.smx_config.specs.UnlinkTargets.{unlinks}
 
--- what a body has swept, by drivers that it was given, with a reply that names the serials that left, is what the change
--- comes to, where their sweeps come to the same
+-- what a body has swept, by drivers that it was given, with a reply that names the serials that left, is what the
+-- change comes to, where their sweeps come to the same
 pub swept_is : (drivers given : List DriverSpec) (c new changed d : Configuration) (r : Reply) → given ≡ drivers
     → d ≡ after_sweep given changed → after_sweep drivers changed ≡ after_sweep drivers new
     → r ≡ Done (serials_that_left c.flow d.flow) → done_outcome drivers c new ≡ Ok (d, r)
 swept_is drivers given c new changed d r same is left gone =
     let swept = is ∙ ap (λ (ds : List DriverSpec). after_sweep ds changed) same ∙ left in rw (gone, swept) refl
-
--- ---- the same, behind the refusals of a command
-
--- an unlinking that is not refused comes to what the configuration without its links comes to
-pub unlink_does : (drivers : List DriverSpec) (c : Configuration) (process fd : ℕ) (w : Which) (k : LinkKind)
-    (s : StreamId) (x : Configuration × Reply) → mux_stream drivers c process fd ≡ Ok s
-    → are_there w k s c.links ≡ Ok tt
-    → done_outcome drivers c (without_links c (is_target w k s)) ≡ Ok x → unlinks drivers c process fd w k ≡ Ok x
-unlink_does drivers c process fd w k s x e there h = rw (e, there) h
 
 -- ---- without a few bindings, or with other routes, nothing is left to sweep
 

@@ -5,7 +5,7 @@ use Rattle.std.proofs.lemmas.List.{length-map}
 use Rattle.smx_model.specs.Configuration.{QueuedMessage}
 use Rattle.smx_model.specs.Ordered.{in_rising_order}
 use Rattle.smx_model.specs.Removal.{serials, serials_that_left}
-use Rattle.smx_tables.proofs.PlaceLemmas.{longer_by_one, not_more}
+use Rattle.smx_tables.proofs.LengthLemmas.{longer_by_one, not_more}
 
 as_many : (ns : List ℕ) → length (in_rising_order ns) ≡ length ns
 as_many [] = refl

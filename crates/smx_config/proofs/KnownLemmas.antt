@@ -6,19 +6,17 @@ use Rattle.std.specs.List.{list_any, AllByRecursion}
 use Rattle.std.proofs.lemmas.Bool.{cases_Bool, and_parts, or_cases, false_from_ne_true}
 use Rattle.std.proofs.lemmas.List.Elements.{recursion_from_All}
 use Rattle.smx_types.specs.declared.driver.DriverSpec.{DriverSpec}
-use Rattle.smx_types.specs.declared.limits.TheConstants.{MAX_MINORS}
 use Rattle.smx_types.specs.declared.link.Link.{Link}
 use Rattle.smx_types.specs.declared.reply.Fault.TheVariants.{BadDescriptor}
 use Rattle.smx_types.specs.declared.stream.Descriptor.{Descriptor}
 use Rattle.smx_types.specs.declared.stream.StreamId.{StreamId}
 use Rattle.smx_model.specs.Configuration.{Configuration, is_fd, same_stream}
-use Rattle.smx_model.specs.DriverList.{IsDriverList, minors_of}
+use Rattle.smx_model.specs.DriverList.{minors_of}
 use Rattle.smx_model.specs.KnownStreams.{IsKnown, AreStreamsKnown}
 use Rattle.smx_model.specs.Lookups.{stream_of}
 use Rattle.smx_model.specs.Outcomes.{or_fault}
 use Rattle.smx_model.specs.Standing.{is_persistent, is_named, stands_within, exists}
 use Rattle.smx_tables.proofs.AboveLemmas.{stream_is}
-use Rattle.smx_tables.proofs.DriverListLemmas.{minors_within}
 
 -- the stream that a passing element has is known
 any_known : {X : Type 0} (drivers : List DriverSpec) (stream : X → StreamId) (t : X → Bool) (s : StreamId) (xs : List X)
@@ -83,13 +81,3 @@ pub driver_known : (drivers : List DriverSpec) (c : Configuration) (process fd :
     → AreStreamsKnown drivers c → stream_of c process fd ≡ Ok s → s.driver < length drivers
 driver_known drivers c process fd s k h =
     (found_known drivers process fd c.fds s (recursion_from_All (λ d. IsKnown drivers d.stream) c.fds k.fds) h).0
-
-few_of : (drivers : List DriverSpec) → AllByRecursion (λ d. d.minors ≤ MAX_MINORS) drivers → (n : ℕ)
-    → minors_of drivers n ≤ 64
-few_of [] h n = omega arith
-few_of (d ∷ ds) h zero = h.0
-few_of (d ∷ ds) h (suc n) = few_of ds h.1 n
-
--- no driver has more than 64 minors, so that a minor fits into a byte
-pub few_minors : (drivers : List DriverSpec) (n : ℕ) → IsDriverList drivers → minors_of drivers n ≤ 64
-few_minors drivers n can = few_of drivers (minors_within drivers can) n

@@ -5,10 +5,10 @@ pub mod KnownLemmas
 pub mod SendLemmas
 pub mod LookupLemmas
 pub mod DriverFaultLemmas
-pub mod PerformLemmas
 pub mod VerdictLemmas
 pub mod RunMarkLemmas
 pub mod WakeLemmas
+pub mod StayingLemmas
 pub mod WokenLemmas
 pub mod NextMoveLemmas
 pub mod SettleLemmas

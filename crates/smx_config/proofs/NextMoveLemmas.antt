@@ -20,7 +20,7 @@ use Rattle.smx_config.specs.declared.marks.Marks.{Marks}
 use Rattle.smx_config.specs.declared.settling.Move.{Move}
 use Rattle.smx_config.specs.Marking.{AreMarks, IsNotedFor, marked_configuration}
 use Rattle.smx_config.specs.Moves.{IsLeastMove, if_open}
-use Rattle.smx_tables.proofs.PlaceLemmas.{place_is}
+use Rattle.smx_queues.proofs.PlaceLemmas.{place_is}
 
 -- what is settled has nothing to move
 none_found : (t : Place → Bool) (flow : List QueuedMessage) → ((p : Place) → t p ≡ false)
@@ -245,7 +245,11 @@ marks_at_first drivers m run wanted waits no_run no_wanted rest = (
 ) where
   rested : (xs ys : List Place) → xs ≡ [] → ys ≡ []
       → IsAtRest drivers
-      (record { configuration = empty; run = λ p. list_any (same_place p) xs; wanted = λ p. list_any (same_place p) ys })
+      (record {
+        configuration = empty;
+        run = λ p. list_any (same_place p) xs;
+        wanted = λ p. list_any (same_place p) ys;
+      })
   rested xs ys e f = rw (e, f) rest
 
   at_rest : IsAtRest drivers (marked_configuration empty m)

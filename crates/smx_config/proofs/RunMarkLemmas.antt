@@ -1,38 +1,24 @@
 -- Places that are marked, one after another.
-use Rattle.std.proofs.Common.{◌≡◌, ℕ, ◌+◌, ◌<◌, Bool, true, false, ◌&&◌, ◌||◌, eqb, ltb, List, [], ◌∷◌, find, Option}
-use Rattle.std.proofs.Common.{Some, None, refl, sym, ap, ◌∙◌, subst, arith, inl, inr}
+use Rattle.std.proofs.Common.{◌≡◌, ℕ, Bool, true, false, ◌&&◌, ◌||◌, eqb, List, [], ◌∷◌, find, Option}
+use Rattle.std.proofs.Common.{Some, None, refl, sym, ap, ◌∙◌, subst, inl, inr}
 use Rattle.std.specs.Prelude.{◌≢◌, ◌⊎◌}
 use Rattle.std.specs.List.{list_any}
 use Rattle.std.specs.Option.{option_map_or}
-use Rattle.std.proofs.lemmas.Bool.{and_from, and_parts, cases_Bool, cases_eq, eqb-true, eq-eqb, false≢true, lt-ltb}
-use Rattle.std.proofs.lemmas.Bool.{ltb-true}
+use Rattle.std.proofs.lemmas.Bool.{cases_Bool, false≢true}
 use Rattle.smx_types.specs.declared.driver.DriverSpec.{DriverSpec}
 use Rattle.smx_types.specs.declared.link.Link.{Link}
 use Rattle.smx_types.specs.declared.stream.Place.{Place}
-use Rattle.smx_types.specs.declared.stream.Side.{Side}
 use Rattle.smx_types.specs.declared.stream.Side.TheVariants as side
 use Rattle.smx_types.specs.declared.stream.StreamId.{StreamId}
 use Rattle.smx_model.specs.Configuration.{Configuration, QueuedMessage, same_place, same_side, same_stream}
-use Rattle.smx_model.specs.DriverList.{minors_of}
 use Rattle.smx_model.specs.KnownStreams.{IsKnown}
 use Rattle.smx_model.specs.Paths.{AreLowersApart}
 use Rattle.smx_model.specs.Queues.{first_message}
 use Rattle.smx_model.specs.RunMarks.{both}
 use Rattle.smx_queues.specs.PlaceMarks.{MarkList, has_mark}
-use Rattle.smx_config.specs.Marking.{IsMarkedWhere, is_read_below_driver, is_write_of}
-use Rattle.smx_tables.proofs.AboveLemmas.{any_once, eqb_swap, once_below}
-use Rattle.smx_tables.proofs.PlaceLemmas.{place_is}
-
-or_from_left : (a b : Bool) → a ≡ true → (a || b) ≡ true
-or_from_left a b h = rw h refl
-
-or_from_right : (a b : Bool) → b ≡ true → (a || b) ≡ true
-or_from_right true b h = refl
-or_from_right false b h = h
-
-side_swap : (s : Side) → same_side s side.Write ≡ true → same_side side.Write s ≡ true
-side_swap side.Write h = refl
-side_swap side.Read h = absurd (false≢true h)
+use Rattle.smx_config.specs.Marking.{IsMarkedWhere, is_read_below_driver}
+use Rattle.smx_tables.proofs.AboveLemmas.{any_once, once_below}
+use Rattle.smx_queues.proofs.PlaceLemmas.{place_is}
 
 -- nothing is marked where no place with a message passes the test
 pub none_marked : (flow : List QueuedMessage) (test : Place → Bool) (m : MarkList)
@@ -88,58 +74,6 @@ swapped flow one other old new h =
       turn false true t = refl
       turn false false t = t
 
--- ---- the write sides of a driver
-
--- the write sides of the driver's streams with minors below n
-abbrev pub writes_below : ℕ → ℕ → Place → Bool
-writes_below driver n p = is_write_of driver p && ltb p.stream.minor n
-
-abbrev write_at : ℕ → ℕ → Place
-write_at driver minor = record { stream = record { driver = driver; minor = minor }; side = side.Write }
-
--- none is below 0
-pub no_writes : (flow : List QueuedMessage) (driver : ℕ) (m : MarkList) → IsMarkedWhere flow (writes_below driver 0) m m
-no_writes flow driver m = none_marked flow (writes_below driver 0) m
-    (λ p t. let lt : p.stream.minor < 0 = ltb-true p.stream.minor 0 (and_parts (is_write_of driver p) _ t).1 in
-    absurd (omega arith))
-
--- one minor more
-pub writes_more : (flow : List QueuedMessage) (driver n : ℕ) (old mid new : MarkList)
-    → IsMarkedWhere flow (writes_below driver n) old mid → IsMarkedWhere flow (same_place (write_at driver n)) mid new
-    → IsMarkedWhere flow (writes_below driver (n + 1)) old new
-writes_more flow driver n old mid new a b =
-    fewer_marked flow (both (writes_below driver n) (same_place (write_at driver n)))
-    (writes_below driver (n + 1)) old new one_or_other
-    (both_marked flow (writes_below driver n) (same_place (write_at driver n)) old mid new a b) where
-      one_or_other : (p : Place) → writes_below driver (n + 1) p ≡ true
-          → both (writes_below driver n) (same_place (write_at driver n)) p ≡ true
-      one_or_other p t =
-          let parts = and_parts (is_write_of driver p) (ltb p.stream.minor (n + 1)) t in
-          let write = and_parts (same_side p.side side.Write) (eqb p.stream.driver driver) parts.0 in
-          let lt : p.stream.minor < n + 1 = ltb-true p.stream.minor (n + 1) parts.1 in
-          elim (cases_eq p.stream.minor n) [
-            | inl same ↦ or_from_right (writes_below driver n p) _
-                (and_from _ _ (and_from _ _ (eqb_swap driver p.stream.driver ∙ write.1)
-                (eq-eqb n p.stream.minor (sym same))) (side_swap p.side write.0))
-            | inr other ↦ or_from_left _ _ (and_from _ _ parts.0 (lt-ltb p.stream.minor n (omega (arith, lt, other))))
-          ]
-
--- all that the driver has
-pub writes_all : (flow : List QueuedMessage) (driver n : ℕ) (drivers : List DriverSpec) (old new : MarkList)
-    → old.drivers ≡ drivers → n ≡ minors_of drivers driver → IsMarkedWhere flow (writes_below driver n) old new
-    → IsMarkedWhere flow (is_write_of driver) old new
-writes_all flow driver n drivers old new same many h = record {
-  kept = h.kept;
-  marked = λ p known some t.
-      let here : p.stream.driver ≡ driver = eqb-true p.stream.driver driver
-      (and_parts (same_side p.side side.Write) _ t).1 in
-      let minors : minors_of old.drivers p.stream.driver
-      ≡ n = ap (λ (ds : List DriverSpec). minors_of ds p.stream.driver) same
-      ∙ (ap (minors_of drivers) here ∙ sym many) in
-      h.marked p known some (and_from _ _ t (lt-ltb p.stream.minor n (omega (arith, known.1, minors))));
-  drivers = h.drivers;
-}
-
 -- ---- the driver above a stream
 
 above_is : (links : List Link) (s : StreamId) (d : ℕ) (o : Option Link) → AreLowersApart links
@@ -167,11 +101,6 @@ below_none c p driver apart e =
       and_false true none = none
       and_false false none = refl
 
--- a write side is no read side below a driver
-pub below_not : (c : Configuration) (p : Place) (driver : ℕ) → p.side ≡ side.Write
-    → false ≡ is_read_below_driver c driver p
-below_not c p driver is = rw is refl
-
 -- what is marked of the first messages that were passed: of places that pass the test each has a mark, or is still to
 -- come
 pub record ArePassed (flow rest : List QueuedMessage) (test : Place → Bool) (old new : MarkList) : Type 0 where
@@ -179,13 +108,6 @@ pub record ArePassed (flow rest : List QueuedMessage) (test : Place → Bool) (o
   pub marked : (p : Place) → IsKnown old.drivers p.stream → first_message flow p ≢ None → test p ≡ true
       → (has_mark new p ≡ true) ⊎ (list_any (λ h. same_place h.place p) rest ≡ true)
   pub drivers : new.drivers ≡ old.drivers
-
--- before any message was passed, each place with a message is still to come
-pub none_passed : (flow rest : List QueuedMessage) (test : Place → Bool) (m : MarkList)
-    → ((p : Place) → first_message flow p ≢ None → list_any (λ h. same_place h.place p) rest ≡ true)
-    → ArePassed flow rest test m m
-none_passed flow rest test m all =
-    record { kept = λ p h. h; marked = λ p known some t. inr (all p some); drivers = refl }
 
 -- one that passes the test was marked
 pub one_passed : (flow now rest : List QueuedMessage) (h : QueuedMessage) (test : Place → Bool) (old mid new : MarkList)
@@ -228,18 +150,6 @@ one_left flow now rest h test old mid is a not_it = record {
   behind : (p : Place) → same_place h.place p ≡ false → list_any (λ k. same_place k.place p) now ≡ true
       → list_any (λ k. same_place k.place p) rest ≡ true
   behind p n later = rw n at (rw is at later)
-
--- all were passed
-pub all_passed : (flow rest : List QueuedMessage) (test : Place → Bool) (old new : MarkList) → rest ≡ []
-    → ArePassed flow rest test old new → IsMarkedWhere flow test old new
-all_passed flow rest test old new none a = record {
-  kept = a.kept;
-  marked = λ p known some t. elim (a.marked p known some t) [
-    | inl m ↦ m
-    | inr later ↦ absurd (false≢true (rw none at later))
-  ];
-  drivers = a.drivers;
-}
 
 -- ---- a place that a message has left
 

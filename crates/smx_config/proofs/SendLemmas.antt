@@ -1,23 +1,18 @@
 -- A message that may be sent: where it goes, and what it has.
-use Rattle.std.proofs.Common.{◌≡◌, ℕ, ◌<◌, Bool, true, false, ◌||◌, not, eqb, List, [], ◌∷◌, length, Result, Ok, Err}
-use Rattle.std.proofs.Common.{refl, sym, ◌∙◌, subst, arith}
-use Rattle.std.specs.Prelude.{nat_le, nat_lt, IfOk}
-use Rattle.std.proofs.lemmas.Bool.{or_parts, false≢true}
+use Rattle.std.proofs.Common.{◌≡◌, ℕ, Bool, true, false, not, List, [], Result, Ok, Err}
+use Rattle.std.proofs.Common.{refl, ◌∙◌, subst}
+use Rattle.std.specs.Prelude.{IfOk}
 use Rattle.smx_types.specs.declared.driver.DriverSpec.{DriverSpec}
-use Rattle.smx_types.specs.declared.limits.TheConstants.{NUMBER_END}
 use Rattle.smx_types.specs.declared.reply.Fault.{Fault}
-use Rattle.smx_types.specs.declared.reply.Fault.TheVariants.{BadSize, Below, Full, HungUp, NoDriver, NoMinor}
-use Rattle.smx_types.specs.declared.stream.Place.{Place}
+use Rattle.smx_types.specs.declared.reply.Fault.TheVariants.{Below, HungUp, NoDriver, NoMinor}
 use Rattle.smx_types.specs.declared.stream.StreamId.{StreamId}
 use Rattle.smx_model.specs.Configuration.{Configuration}
-use Rattle.smx_model.specs.DriverList.{is_mux, max_of}
+use Rattle.smx_model.specs.DriverList.{is_mux}
 use Rattle.smx_model.specs.Hangups.{is_hung}
 use Rattle.smx_model.specs.KnownStreams.{AreStreamsKnown, IsKnown}
 use Rattle.smx_model.specs.Lookups.{driver_of, free_stream, leaf_stream, live_leaf, live_stream, stream_of}
 use Rattle.smx_model.specs.Outcomes.{◌>>=◌, refuse}
-use Rattle.smx_model.specs.Queues.{is_full}
 use Rattle.smx_model.specs.Standing.{exists, is_below}
-use Rattle.smx_config.specs.Sending.{may_send}
 use Rattle.smx_config.proofs.KnownLemmas.{exists_known, stream_known}
 
 -- what came before an accepted result
@@ -32,21 +27,6 @@ passed f false x e = refl
 
 ok_is : (s t : StreamId) → ◌≡◌ {A = Result StreamId Fault} (Ok s) (Ok t) → s ≡ t
 ok_is s t e = cc
-
-some_bytes : (bytes : List ℕ) → eqb (length bytes) 0 ≡ false → 0 < length bytes
-some_bytes [] h = absurd (false≢true (sym h))
-some_bytes (b ∷ bytes) h = omega arith
-
--- the place is not full, and there are bytes
-pub sent : (drivers : List DriverSpec) (c : Configuration) (p : Place) (bytes : List ℕ)
-    → may_send drivers c p bytes ≡ Ok tt → (is_full c p ≡ false) × (0 < length bytes)
-sent drivers c p bytes e =
-    let size = bound (refuse BadSize (eqb (length bytes) 0 || nat_lt (max_of drivers p.stream.driver) (length bytes)))
-    (λ z. refuse Full (is_full c p || nat_le NUMBER_END c.next_serial)) tt e in
-    let sizes = or_parts _ _
-    (passed BadSize (eqb (length bytes) 0 || nat_lt (max_of drivers p.stream.driver) (length bytes)) size.0 size.1) in
-    let room = or_parts _ _ (passed Full (is_full c p || nat_le NUMBER_END c.next_serial) tt size.2) in
-    (room.0, some_bytes bytes sizes.0)
 
 -- the stream of a descriptor is known
 pub free_known : (drivers : List DriverSpec) (c : Configuration) (process fd : ℕ) (s : StreamId)

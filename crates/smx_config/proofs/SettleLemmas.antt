@@ -13,12 +13,6 @@ round : (drivers : List DriverSpec) (n : ℕ) (c : Configuration) (o : Option Pl
 round drivers n c o e = ap (λ (x : Option Place).
     elim x as (λ _. Configuration) [ None ↦ c | Some p ↦ after_settling_within drivers n (after_move drivers c p) ]) e
 
--- settling, where there is no least movable place, changes nothing
-pub settled_none : (drivers : List DriverSpec) (n : ℕ) (c : Configuration) → least_movable drivers c ≡ None
-    → after_settling_within drivers n c ≡ c
-settled_none drivers zero c e = refl
-settled_none drivers (suc n) c e = round drivers n c None e
-
 -- settling is the move from the least movable place, and then settling within one move less
 pub settled_one : (drivers : List DriverSpec) (n : ℕ) (c d : Configuration) (p : Place) → 0 < n
     → least_movable drivers c ≡ Some p → d ≡ after_move drivers c p

@@ -1,5 +1,5 @@
 -- Full places that are wanted no more, and what a change keeps of the marks.
-use Rattle.std.proofs.Common.{◌≡◌, Bool, true, false, ◌&&◌, ◌||◌, not, List, [], ◌∷◌, find, Option, None, Some, refl}
+use Rattle.std.proofs.Common.{◌≡◌, Bool, true, false, ◌&&◌, not, List, [], ◌∷◌, find, Option, None, Some, refl}
 use Rattle.std.proofs.Common.{sym, ap, ◌∙◌, subst, inl, inr}
 use Rattle.std.specs.Prelude.{◌≢◌, ◌⊎◌}
 use Rattle.std.specs.List.{list_any}
@@ -19,9 +19,8 @@ use Rattle.smx_queues.specs.Waiters.{WaitList, target_of}
 use Rattle.smx_config.specs.Marking.{AreMarks, AreWaitersMarked, IsMarkedWhere, IsNotedFor, IsReleased, IsWoken}
 use Rattle.smx_config.specs.Marking.{marked_configuration}
 use Rattle.smx_config.specs.declared.marks.Marks.{Marks}
-use Rattle.smx_config.specs.Wakes.{everywhere}
 use Rattle.smx_config.proofs.NextMoveLemmas.{next_has_message}
-use Rattle.smx_tables.proofs.PlaceLemmas.{place_is, place_self}
+use Rattle.smx_queues.proofs.PlaceLemmas.{place_is, place_self}
 
 never : {A : Type 0} (b : Bool) → b ≡ true → b ≡ false → A
 never b t f = absurd (false≢true (sym f ∙ t))
@@ -53,82 +52,11 @@ released_one c place old new vacant gone same waits h = record {
   waits = waits;
 }
 
--- it is full, or it wasn't wanted
-pub released_none : (c : Configuration) (freed : Place → Bool) (m : Marks)
-    → ((q : Place) → freed q ≡ true → has_mark m.wanted q ≡ true → is_full c q ≡ true) → IsReleased c freed m m
-released_none c freed m full = record {
-  kept = λ p h. h;
-  waiters = λ q p f nf w known noted. never (is_full c q) (full q f w) nf;
-  wanted = λ q w f. w;
-  gone = full;
-  left = λ q f w. w;
-  fewer = λ q w. w;
-  run_drivers = refl;
-  wanted_drivers = refl;
-  waits = refl;
-}
-
--- a place that is full, or that wasn't wanted, is released with no change
-pub not_released : (c : Configuration) (place : Place) (m : Marks)
-    → (has_mark m.wanted place ≡ true → is_full c place ≡ true) → IsReleased c (same_place place) m m
-not_released c place m full = released_none c (same_place place) m (λ q f w. let e = place_is place q f in
-    subst (λ (x : Place). is_full c x ≡ true) e (full (subst (λ (x : Place). has_mark m.wanted x ≡ true) (sym e) w)))
-
--- where no place is freed, to release what was freed changes nothing
-pub nothing_released : (c : Configuration) (m : Marks) → IsReleased c nowhere m m
-nothing_released c m = released_none c nowhere m (λ q f w. absurd (false≢true f))
-
 -- ---- each place
 
 -- those that are wanted no more
 abbrev pub unwanted : Marks → Place → Bool
 unwanted m q = not (has_mark m.wanted q)
-
--- the places that aren't wanted are released with no change
-pub released_at_first : (c : Configuration) (m : Marks) → IsReleased c (unwanted m) m m
-released_at_first c m = released_none c (unwanted m) m (λ q f w. never (unwanted m q) f (ap not w))
-
--- where all places that weren't wanted were released, and one more is, all that aren't wanted then are
-pub released_more : (c : Configuration) (place : Place) (old mid new : Marks) → IsReleased c (unwanted mid) old mid
-    → IsReleased c (same_place place) mid new → IsReleased c (unwanted new) old new
-released_more c place old mid new a b = record {
-  kept = λ p h. b.kept p (a.kept p h);
-  waiters = λ q p f nf w known noted. elim (cases_Bool (has_mark mid.wanted q)) [
-    | inl still ↦ elim (cases_Bool (same_place place q)) [
-      | inl here ↦
-          b.waiters q p here nf still (subst (λ (ds : List DriverSpec). IsKnown ds p.stream) (sym a.run_drivers) known)
-          (noted_still old mid p q a.waits noted)
-      | inr other ↦ never (unwanted new q) f (ap not (b.left q other still))
-    ]
-    | inr none ↦ b.kept p (a.waiters q p (ap not none) nf w known noted)
-  ];
-  wanted = λ q w full. b.wanted q (a.wanted q w full) full;
-  gone = λ q f w. never (unwanted new q) f (ap not w);
-  left = λ q f w. elim (cases_Bool (has_mark new.wanted q)) [ inl t ↦ t | inr n ↦ never (unwanted new q) (ap not n) f ];
-  fewer = λ q w. a.fewer q (b.fewer q w);
-  run_drivers = b.run_drivers ∙ a.run_drivers;
-  wanted_drivers = b.wanted_drivers ∙ a.wanted_drivers;
-  waits = b.waits ∙ a.waits;
-}
-
--- where each place that is still wanted is full, and all others are released, every place is
-pub released_all : (c : Configuration) (old new : Marks)
-    → ((p : Place) → has_mark new.wanted p ≡ true → is_full c p ≡ true) → IsReleased c (unwanted new) old new
-    → IsReleased c everywhere old new
-released_all c old new full h = record {
-  kept = h.kept;
-  waiters = λ q p f nf w known noted. elim (cases_Bool (has_mark new.wanted q)) [
-    | inl still ↦ never (is_full c q) (full q still) nf
-    | inr none ↦ h.waiters q p (ap not none) nf w known noted
-  ];
-  wanted = h.wanted;
-  gone = λ q f w. full q w;
-  left = λ q f w. absurd (false≢true (sym f));
-  fewer = h.fewer;
-  run_drivers = h.run_drivers;
-  wanted_drivers = h.wanted_drivers;
-  waits = h.waits;
-}
 
 -- ---- and then the turned places
 
@@ -154,35 +82,6 @@ woken c turned freed old mid run a b = record {
   turned_ones = λ p known some t. b.marked p
       (subst (λ (ds : List DriverSpec). IsKnown ds p.stream) (sym a.run_drivers) known) some t;
 }
-
--- ---- a wanted place that is open
-
--- where the first place to come is full, an open one that is to come is among those behind it
-pub open_next : (c : Configuration) (place : Place) (rest next : List Place) (p : Place) → rest ≡ place ∷ next
-    → is_full c place ≡ true → is_full c p ≡ false → list_any (same_place p) rest ≡ true
-    → list_any (same_place p) next ≡ true
-open_next c place rest next p step full vacant here = elim (cases_Bool (same_place p place)) [
-  | inl t ↦ never (is_full c p) (ap (is_full c) (place_is p place t) ∙ full) vacant
-  | inr f ↦ let k : list_any (same_place p) (place ∷ next)
-      ≡ true = subst (λ (ps : List Place). list_any (same_place p) ps ≡ true) step here in rw f at k
-]
-
--- what is behind the first place to come is among all that are to come
-pub marked_next : (place : Place) (rest next : List Place) (p : Place) → rest ≡ place ∷ next
-    → list_any (same_place p) next ≡ true → list_any (same_place p) rest ≡ true
-marked_next place rest next p step h =
-    subst (λ (ps : List Place). list_any (same_place p) ps ≡ true) (sym step) (or_right (same_place p place) _ h) where
-      or_right : (a b : Bool) → b ≡ true → (a || b) ≡ true
-      or_right true b k = refl
-      or_right false b k = k
-
--- where each open place is still to come, and none is, each place is full
-pub none_open : (c : Configuration) (rest : List Place) (p : Place) → rest ≡ []
-    → (is_full c p ≡ false → list_any (same_place p) rest ≡ true) → is_full c p ≡ true
-none_open c rest p none h = elim (cases_Bool (is_full c p)) [
-  | inl t ↦ t
-  | inr f ↦ absurd (false≢true (subst (λ (ps : List Place). list_any (same_place p) ps ≡ true) none (h f)))
-]
 
 -- ---- what a change keeps
 

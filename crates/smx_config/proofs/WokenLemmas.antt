@@ -1,9 +1,11 @@
 -- What a command turns and frees is among what it may wake.
 use Rattle.std.proofs.Common.{◌≡◌, ℕ, Bool, true, false, ◌&&◌, ◌||◌, not, eqb, List, [], ◌∷◌, filter, Option, Some}
-use Rattle.std.proofs.Common.{Result, Ok, Err, refl, sym, ap, ◌∙◌, subst}
-use Rattle.std.specs.Prelude.{IfOk}
+use Rattle.std.proofs.Common.{None, Result, Ok, Err, refl, sym, ap, ◌∙◌, subst, inl, inr}
+use Rattle.std.specs.Prelude.{◌⊎◌, IfOk, if◌then◌else◌}
 use Rattle.std.specs.List.{list_all, list_any}
-use Rattle.std.proofs.lemmas.Bool.{and_parts, false≢true}
+use Rattle.std.specs.Option.{is_some}
+use Rattle.std.specs.Result.{is_ok}
+use Rattle.std.proofs.lemmas.Bool.{and_parts, cases_Bool, false≢true}
 use Rattle.smx_types.specs.declared.command.Command.{Command}
 use Rattle.smx_types.specs.declared.command.Command.TheVariants as command
 use Rattle.smx_types.specs.declared.driver.DriverSpec.{DriverSpec}
@@ -12,30 +14,33 @@ use Rattle.smx_types.specs.declared.link.Link.{Link}
 use Rattle.smx_types.specs.declared.reply.Fault.{Fault}
 use Rattle.smx_types.specs.declared.reply.Fault.TheVariants.{AddressInUse}
 use Rattle.smx_types.specs.declared.reply.Reply.{Reply}
+use Rattle.smx_types.specs.declared.reply.Reply.TheVariants as reply
 use Rattle.smx_types.specs.declared.stream.Place.{Place}
 use Rattle.smx_types.specs.declared.stream.Side.TheVariants as side
 use Rattle.smx_types.specs.declared.stream.StreamId.{StreamId}
-use Rattle.smx_model.specs.Commands.{done_outcome, outcome}
+use Rattle.smx_model.specs.Commands.{done_outcome, outcome, step}
 use Rattle.smx_model.specs.Configuration.{Configuration, bind_before, same_place, same_side, same_stream}
 use Rattle.smx_model.specs.FreedPlaces.{freed_by}
 use Rattle.smx_model.specs.Lookups.{free_stream, live_leaf, live_stream, mux_stream, stream_of}
 use Rattle.smx_model.specs.Ordered.{with_inserted}
 use Rattle.smx_model.specs.Outcomes.{Outcome, ◌>>=◌, refuse}
-use Rattle.smx_model.specs.Queues.{after_leaving}
+use Rattle.smx_model.specs.Queues.{after_leaving, first_message}
 use Rattle.smx_model.specs.Removal.{after_sweep}
-use Rattle.smx_model.specs.RunMarks.{TurnsOnly, both, is_below_driver, is_first_at}
-use Rattle.smx_model.specs.Settling.{next_open_place}
+use Rattle.smx_model.specs.RunMarks.{TurnsOnly, both, is_below_driver, is_first_at, next_of_first}
+use Rattle.smx_model.specs.Settling.{after_settling, next_open_place}
 use Rattle.smx_model.specs.SettlingByMarks.{is_first_there, turned_by_move}
 use Rattle.smx_model.specs.Standing.{exists, is_persistent}
 use Rattle.smx_model.specs.Swept.{IsSwept}
-use Rattle.smx_model.specs.TurnedPlaces.{of_stream, turned_by}
+use Rattle.smx_model.specs.TurnedPlaces.{of_stream, read_side, turned_by, write_side}
 use Rattle.smx_config.specs.declared.marks.Marks.{Marks}
 use Rattle.smx_config.specs.declared.step_error.StepError.{StepError}
 use Rattle.smx_config.specs.Marking.{AreMarks, IsWoken}
 use Rattle.smx_config.specs.Machine.{Machine}
 use Rattle.smx_config.specs.Refinement.{Refines}
-use Rattle.smx_config.specs.Wakes.{freed_under, on_stream, turned_under, wakes_of}
+use Rattle.smx_config.specs.Wakes.{arrives, freed_under, on_stream, turned_under, wakes_of}
 use Rattle.smx_config.specs.declared.wakes.Wakes.{Wakes}
+use Rattle.smx_config.specs.declared.wakes.Wakes.TheVariants as wakes
+use Rattle.smx_config.proofs.StayingLemmas.{read_stays, transmit_stays}
 
 -- ---- a binding changes no link
 
@@ -87,21 +92,35 @@ turned_on (Err e) f g d p h t = absurd (false≢true t)
 first_part : (a b : Bool) → (a && b) ≡ true → a ≡ true
 first_part a b h = (and_parts a b h).0
 
--- each place that an accepted command turns is one that `wakes_of` says may be turned
-pub turns : (drivers : List DriverSpec) (c : Configuration) (process : ℕ) (k : Command) (x : Configuration × Reply)
+-- an arrival that gives a place its first message turns it
+arrived : (c d : Configuration) (q p : Place) → is_first_at c q p ≡ true → turned_under d (arrives c q) p ≡ true
+arrived c d q p h = by (is_some (first_message c.flow q)) (and_parts (same_place q p) _ h) where
+  by : (b : Bool) → (same_place q p ≡ true) × (not b ≡ true)
+      → turned_under d (if b then wakes.Nothing else wakes.Turns q) p ≡ true
+  by true k = absurd (false≢true k.1)
+  by false k = k.0
+
+-- it may be turned, or its first message goes nowhere next
+abbrev IsTurnedOrStays : List DriverSpec → Configuration → Wakes → Place → Type 0
+IsTurnedOrStays drivers d w p = (turned_under d w p ≡ true) ⊎ (next_of_first drivers d p ≡ None)
+
+-- each place that an accepted command turns is one that `wakes_of` says may be turned, or no message goes on from it
+turns : (drivers : List DriverSpec) (c : Configuration) (process : ℕ) (k : Command) (x : Configuration × Reply)
     → IsSwept drivers c → outcome drivers c process k ≡ Ok x → (p : Place) → turned_by drivers c process k p ≡ true
-    → turned_under x.0 (wakes_of drivers c process k) p ≡ true
+    → IsTurnedOrStays drivers x.0 (wakes_of drivers c process k) p
 turns drivers c process (command.OpenClone name) x h e p t = absurd (false≢true t)
 turns drivers c process (command.OpenMinor name minor) x h e p t = absurd (false≢true t)
 turns drivers c process (command.Dup fd) x h e p t = absurd (false≢true t)
 turns drivers c process (command.Close fd) x h e p t = absurd (false≢true t)
 turns drivers c process command.CloseAll x h e p t = absurd (false≢true t)
-turns drivers c process (command.Link fd arg) x h e p t = turned_on (stream_of c process arg) _ _ x.0 p (λ s u. u) t
-turns drivers c process (command.Plink fd arg) x h e p t = turned_on (stream_of c process arg) _ _ x.0 p (λ s u. u) t
+turns drivers c process (command.Link fd arg) x h e p t =
+    inl (turned_on (stream_of c process arg) _ _ x.0 p (λ s u. u) t)
+turns drivers c process (command.Plink fd arg) x h e p t =
+    inl (turned_on (stream_of c process arg) _ _ x.0 p (λ s u. u) t)
 turns drivers c process (command.Unlink fd w) x h e p t = absurd (false≢true t)
 turns drivers c process (command.Punlink fd w) x h e p t = absurd (false≢true t)
 turns drivers c process (command.Bind fd addr) x h e p t =
-    turned_on (mux_stream drivers c process fd) _ _ x.0 p (λ s u. still s (first_part _ _ u)) t where
+    inl (turned_on (mux_stream drivers c process fd) _ _ x.0 p (λ s u. still s (first_part _ _ u)) t) where
       still : (s : StreamId) → (same_side p.side side.Read && is_below_driver c s.driver p.stream) ≡ true
           → (same_side p.side side.Read && is_below_driver x.0 s.driver p.stream) ≡ true
       still s u = subst
@@ -110,17 +129,30 @@ turns drivers c process (command.Bind fd addr) x h e p t =
           links) ≡ true) (sym (bind_keeps_links drivers c process fd addr x h e)) u
 turns drivers c process (command.Unbind fd) x h e p t = absurd (false≢true t)
 turns drivers c process (command.Route fd addr id) x h e p t =
-    turned_on (mux_stream drivers c process fd) _ _ x.0 p (λ s u. first_part _ _ u) t
+    inl (turned_on (mux_stream drivers c process fd) _ _ x.0 p (λ s u. first_part _ _ u) t)
 turns drivers c process (command.Unroute fd addr) x h e p t = absurd (false≢true t)
 turns drivers c process (command.Write fd addr bytes) x h e p t =
-    turned_on (live_stream c process fd) _ _ x.0 p (λ s u. first_part _ _ u) t
-turns drivers c process (command.Read fd) x h e p t = turned_on (free_stream c process fd) _ _ x.0 p (λ s u. u) t
+    inl (turned_on (live_stream c process fd) _ _ x.0 p (λ s u. arrived c x.0 (write_side s) p u) t)
+turns drivers c process (command.Read fd) x h e p t = inr (read_stays drivers c process fd x p e t)
 turns drivers c process (command.Flush fd w) x h e p t = absurd (false≢true t)
 turns drivers c process (command.Inject name minor addr bytes) x h e p t =
-    turned_on (live_leaf drivers c name minor) _ _ x.0 p (λ s u. first_part _ _ u) t
+    inl (turned_on (live_leaf drivers c name minor) _ _ x.0 p (λ s u. arrived c x.0 (read_side s) p u) t)
 turns drivers c process (command.Transmit name minor) x h e p t =
-    turned_on (live_leaf drivers c name minor) _ _ x.0 p (λ s u. u) t
+    inr (transmit_stays drivers c process name minor x p e t)
 turns drivers c process (command.Hangup name minor) x h e p t = absurd (false≢true t)
+
+-- but for the places that `wakes_of` says may be turned, an accepted command turns none
+pub turns_few : (drivers : List DriverSpec) (c : Configuration) (process : ℕ) (k : Command) (x : Configuration × Reply)
+    → IsSwept drivers c → outcome drivers c process k ≡ Ok x
+    → TurnsOnly drivers c x.0 (turned_by drivers c process k)
+    → TurnsOnly drivers c x.0 (turned_under x.0 (wakes_of drivers c process k))
+turns_few drivers c process k x h e only p f = elim (cases_Bool (turned_by drivers c process k p)) [
+  | inl t ↦ elim (turns drivers c process k x h e p t) [
+    | inl turned ↦ absurd (false≢true (sym f ∙ turned))
+    | inr stays ↦ inr stays
+  ]
+  | inr n ↦ only p n
+]
 
 -- ---- the freed places
 
@@ -217,3 +249,28 @@ woken_after old new process k result r w m n is refines tells enough woken =
     (enough_at old.drivers old.configuration process k m n (new.configuration, r) enough here.1
     (subst (λ (x : Wakes). IsWoken new.configuration (turned_under new.configuration x) (freed_under x) m n) tells
     woken))
+
+-- the same, by the test that it was accepted
+pub woken_if : (old new : Machine) (process : ℕ) (k : Command) (result : Result Reply StepError)
+    (w : Wakes) (m n : Marks) → is_ok result ≡ true → Refines old new process k result
+    → w ≡ wakes_of old.drivers old.configuration process k → IsEnough old.drivers old.configuration process k m n
+    → IsWoken new.configuration (turned_under new.configuration w) (freed_under w) m n
+    → AreMarks new.drivers new.configuration n
+woken_if old new process k (Ok r) w m n is refines tells enough woken =
+    woken_after old new process k (Ok r) r w m n refl refines tells enough woken
+woken_if old new process k (Err e) w m n is refines tells enough woken = absurd (false≢true is)
+
+-- where its reply is a fault, nothing has changed once messages have moved on
+pub fault_keeps : (old mid new : Machine) (process : ℕ) (k : Command) (result : Result Reply StepError) (r : Reply)
+    (f : Fault) → result ≡ Ok r → Refines old mid process k result
+    → new ≡ record mid { configuration = after_settling mid.drivers mid.configuration }
+    → ((step old.drivers old.configuration process k).1 ≡ reply.Fault f
+    → (step old.drivers old.configuration process k).0 ≡ old.configuration)
+    → r ≡ reply.Fault f → new ≡ old
+fault_keeps old mid new process k result r f is refines settled law fault =
+    let here = subst (λ (x : Result Reply StepError). Refines old mid process k x) is refines in
+    let left : after_settling old.drivers mid.configuration ≡ old.configuration = (rw here.1 at law) fault in
+    let with : Configuration → Machine = λ c. record { drivers = old.drivers; configuration = c } in
+    settled ∙ (ap moved here.0 ∙ ap with left) where
+      moved : List DriverSpec → Machine
+      moved ds = record { drivers = ds; configuration = after_settling ds mid.configuration }

@@ -1,5 +1,6 @@
 -- What a command may wake, as it is told before the command is done. No public clause needs this.
-use Rattle.std.specs.Prelude.{ℕ, Bool, true, List, Result, Ok, Err}
+use Rattle.std.specs.Prelude.{ℕ, Bool, true, if◌then◌else◌, List, Result, Ok, Err}
+use Rattle.std.specs.Option.{is_some}
 use Rattle.smx_types.specs.declared.command.Command.{Command}
 use Rattle.smx_types.specs.declared.command.Command.TheVariants as command
 use Rattle.smx_types.specs.declared.driver.DriverSpec.{DriverSpec}
@@ -8,6 +9,7 @@ use Rattle.smx_types.specs.declared.stream.Place.{Place}
 use Rattle.smx_types.specs.declared.stream.StreamId.{StreamId}
 use Rattle.smx_model.specs.Configuration.{Configuration, same_place}
 use Rattle.smx_model.specs.Lookups.{free_stream, live_leaf, live_stream, mux_stream, stream_of}
+use Rattle.smx_model.specs.Queues.{first_message}
 use Rattle.smx_model.specs.RunMarks.{nowhere}
 use Rattle.smx_model.specs.TurnedPlaces.{read_side, write_side}
 use Rattle.smx_config.specs.Marking.{is_read_below_driver, is_write_of}
@@ -22,7 +24,7 @@ everywhere p = true
 abbrev pub turned_under : Configuration → Wakes → Place → Bool
 turned_under c wakes.Nothing = nowhere
 turned_under c (wakes.Turns p) = same_place p
-turned_under c (wakes.Leaves p) = same_place p
+turned_under c (wakes.Leaves p) = nowhere
 turned_under c (wakes.TurnsWrites driver) = is_write_of driver
 turned_under c (wakes.TurnsReads driver) = is_read_below_driver c driver
 turned_under c wakes.Frees = nowhere
@@ -40,6 +42,10 @@ freed_under wakes.Frees = everywhere
 abbrev pub on_stream : Result StreamId Fault → (StreamId → Wakes) → Wakes
 on_stream (Ok s) f = f s
 on_stream (Err fault) f = wakes.Nothing
+
+-- an arrival may wake the place, if it has no message yet
+abbrev pub arrives : Configuration → Place → Wakes
+arrives c p = if is_some (first_message c.flow p) then wakes.Nothing else wakes.Turns p
 
 -- what a command may wake, if it is accepted
 abbrev pub wakes_of : List DriverSpec → Configuration → ℕ → Command → Wakes
@@ -59,11 +65,11 @@ wakes_of drivers c process (command.Route fd addr id) =
     on_stream (mux_stream drivers c process fd) (λ s. wakes.TurnsWrites s.driver)
 wakes_of drivers c process (command.Unroute fd addr) = wakes.Nothing
 wakes_of drivers c process (command.Write fd addr bytes) =
-    on_stream (live_stream c process fd) (λ s. wakes.Turns (write_side s))
+    on_stream (live_stream c process fd) (λ s. arrives c (write_side s))
 wakes_of drivers c process (command.Read fd) = on_stream (free_stream c process fd) (λ s. wakes.Leaves (read_side s))
 wakes_of drivers c process (command.Flush fd w) = wakes.Frees
 wakes_of drivers c process (command.Inject name minor addr bytes) =
-    on_stream (live_leaf drivers c name minor) (λ s. wakes.Turns (read_side s))
+    on_stream (live_leaf drivers c name minor) (λ s. arrives c (read_side s))
 wakes_of drivers c process (command.Transmit name minor) =
     on_stream (live_leaf drivers c name minor) (λ s. wakes.Leaves (write_side s))
 wakes_of drivers c process (command.Hangup name minor) = wakes.Nothing

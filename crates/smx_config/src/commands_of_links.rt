@@ -52,12 +52,9 @@ fn all_targets(
     ensures { IfOk result (λ v. v.items ≡ map (λ l. l.id) (filter (may_unlink kind stream) links.now.links)) }
 {
     let mut ids = Vec::new(alloc);
-    let listed = links_of(links, kind);
-    for i in 0..listed.len() {
-        if let Some(link) = listed.get(i) {
-            if may_unlink(kind, stream, link) {
-                ids.push(link.id)?;
-            }
+    for link in links_of(links, kind) {
+        if may_unlink(kind, stream, link) {
+            ids.push(link.id)?;
         }
     }
     Ok(ids)

@@ -1,6 +1,6 @@
 //! Writing, reading, flushing, and the device's side.
 
-ghost use Rattle.std.specs.Prelude.{◌≡◌, ◌==◌, ◌||◌, nat_lt, nat_le, length, IfOk};
+ghost use Rattle.std.specs.Prelude.{◌≡◌, ◌≢◌, ◌==◌, ◌||◌, nat_lt, nat_le, length, IfOk, Err};
 ghost use Rattle.smx_types.specs.declared.command.Command.TheVariants.{Flush};
 ghost use Rattle.smx_types.specs.declared.limits.TheConstants.{NUMBER_END};
 ghost use Rattle.smx_model.specs.Commands.{send_outcome, receive_outcome};
@@ -8,7 +8,8 @@ ghost use Rattle.smx_model.specs.DriverList.{max_of};
 ghost use Rattle.smx_model.specs.KeptConfigurations.{IsSound};
 ghost use Rattle.smx_model.specs.KnownStreams.{IsKnown};
 ghost use Rattle.smx_model.specs.Queues.{is_full};
-ghost use Rattle.smx_config.specs.Refinement.{HasOutcome, Refines, as_step_error};
+ghost use Rattle.smx_config.specs.Refinement.{HasOutcome, Refines};
+ghost use Rattle.smx_config.specs.declared.step_error.StepError.TheVariants as step_error;
 ghost use Rattle.smx_config.specs.Sending.{is_at_end, may_send, read_from, received_from, sent_to};
 
 use crate::answers::refuse;
@@ -81,12 +82,13 @@ impl Tables {
         self.send_to(Place { stream, side }, addr, bytes)
     }
 
-    fn receive_from(&mut self, place: Place) -> Result<Reply, Fault>
-        ensures { HasOutcome self.old self.new
-            (receive_outcome self.old.drivers self.old.configuration place) (as_step_error result) }
+    fn receive_from(&mut self, place: Place) -> Result<Reply, StepError>
+        ensures outcome { HasOutcome self.old self.new
+            (receive_outcome self.old.drivers self.old.configuration place) result }
+        ensures in_place { result ≢ Err step_error.NoMemory }
     {
         let Some(message) = leave(&mut self.lists, place) else {
-            return Err(Fault::Empty);
+            return Err(StepError::Refused(Fault::Empty));
         };
         Ok(Reply::Got {
             serial: message.serial,
@@ -106,9 +108,10 @@ impl Tables {
 
     /// The first message of the read side of the stream that a command names; the end of file, where that has hung up
     /// and has none.
-    pub fn read(&mut self, named: Result<StreamId, Fault>) -> Result<Reply, Fault>
-        ensures { HasOutcome self.old self.new
-            (read_from self.old.drivers self.old.configuration named) (as_step_error result) }
+    pub fn read(&mut self, named: Result<StreamId, Fault>) -> Result<Reply, StepError>
+        ensures outcome { HasOutcome self.old self.new
+            (read_from self.old.drivers self.old.configuration named) result }
+        ensures in_place { result ≢ Err step_error.NoMemory }
     {
         let stream = named?;
         if self.is_at_end(stream) {
@@ -119,9 +122,14 @@ impl Tables {
     }
 
     /// The message that a command takes from a side of the stream that it names.
-    pub fn receive(&mut self, named: Result<StreamId, Fault>, side: Side) -> Result<Reply, Fault>
-        ensures { HasOutcome self.old self.new
-            (received_from self.old.drivers self.old.configuration named side) (as_step_error result) }
+    pub fn receive(
+        &mut self,
+        named: Result<StreamId, Fault>,
+        side: Side,
+    ) -> Result<Reply, StepError>
+        ensures outcome { HasOutcome self.old self.new
+            (received_from self.old.drivers self.old.configuration named side) result }
+        ensures in_place { result ≢ Err step_error.NoMemory }
     {
         let stream = named?;
         self.receive_from(Place { stream, side })

@@ -82,12 +82,13 @@ impl Config {
         woken_marks_are_enough();
         let named = self.tables.message_stream(process, command);
         let wakes = self.tables.wakes_of(process, command, named);
-        match self.tables.perform(process, command, named) {
-            Ok(reply) => {
-                self.tables.wake(&mut self.marks, wakes);
-                self.tables.settle(&mut self.marks);
-                Ok(reply)
-            }
+        let answer = self.tables.perform(process, command, named);
+        if answer.is_ok() {
+            self.tables.wake(&mut self.marks, wakes);
+            self.tables.settle(&mut self.marks);
+        }
+        match answer {
+            Ok(reply) => Ok(reply),
             Err(StepError::Refused(fault)) => Ok(Reply::Fault(fault)),
             Err(StepError::NoMemory) => Err(NoMemory),
         }

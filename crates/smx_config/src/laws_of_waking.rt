@@ -13,9 +13,10 @@ ghost use Rattle.smx_config.specs.Marking.{AreMarks, IsWoken};
 ghost use Rattle.smx_config.specs.Wakes.{freed_under, turned_under, wakes_of};
 ghost use Rattle.smx_config.specs.declared.marks.Marks.{Marks};
 
-use smx_model::laws_of_marked_commands::{commands_free_few, commands_keep_marks};
+use smx_model::laws_of_marked_commands::commands_free_few;
 use smx_model::laws_of_run_marks::{
-    commands_turn_few, moves_free_one, moves_turn_two, places_are_known,
+    a_change_wakes_few, commands_turn_few, more_marks_do, moves_free_one, moves_turn_two,
+    places_are_known,
 };
 use smx_model::laws_of_settling_by_marks::moves_keep_marks;
 use smx_model::laws_of_steps::{moves_keep_soundness, outcomes_are_sound};
@@ -27,9 +28,10 @@ pub fn woken_marks_are_enough()
         IsWoken x.0 (turned_under x.0 (wakes_of drivers c process command)) (freed_under (wakes_of drivers c process command)) old new
         → AreMarks drivers x.0 new) }
 {
+    a_change_wakes_few();
     commands_free_few();
-    commands_keep_marks();
     commands_turn_few();
+    more_marks_do();
     places_are_known();
     outcomes_are_sound();
 }

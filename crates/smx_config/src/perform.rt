@@ -49,10 +49,10 @@ impl Tables {
             Command::Route { fd, addr, id } => self.route(process, *fd, *addr, *id),
             Command::Unroute { fd, addr } => as_step_error(self.unroute(process, *fd, *addr)),
             Command::Write { addr, bytes, .. } => self.send(named, Side::Write, *addr, bytes),
-            Command::Read { .. } => as_step_error(self.read(named)),
+            Command::Read { .. } => self.read(named),
             Command::Flush { fd, sides } => self.flush(process, *fd, *sides),
             Command::Inject { addr, bytes, .. } => self.send(named, Side::Read, *addr, bytes),
-            Command::Transmit { .. } => as_step_error(self.receive(named, Side::Write)),
+            Command::Transmit { .. } => self.receive(named, Side::Write),
             Command::Hangup { driver, minor } => as_step_error(self.hangup(driver, *minor)),
         }
     }

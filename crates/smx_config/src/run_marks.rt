@@ -9,6 +9,16 @@ use crate::tables::Tables;
 use smx_queues::PlaceMarks;
 use smx_types::{Place, Side, StreamId};
 
+// Whether the place is a write side of the driver's streams.
+fn is_write_of(driver: u8, place: Place) -> bool
+    ensures { result ≡ is_write_of driver place }
+{
+    match place.side {
+        Side::Write => place.stream.driver == driver,
+        Side::Read => false,
+    }
+}
+
 impl Tables {
     // Marks the place, if it has a message.
     pub fn mark_waiting(&self, run: &mut PlaceMarks, place: Place)
@@ -31,19 +41,18 @@ impl Tables {
         }
     }
 
-    // Marks the write sides of the driver's streams that have a message, if there is any message.
+    // Marks the write sides of the driver's streams that have a message. It looks at no stream that has none.
     pub fn mark_writes(&self, run: &mut PlaceMarks, driver: u8)
-        requires { run.old.drivers ≡ self.now.drivers }
         ensures { IsMarkedWhere self.now.configuration.flow (is_write_of driver) run.old run.new }
     {
         if self.lists.queues.len() == 0 {
             return;
         }
-        let minors = self.minors_of(driver);
-        for minor in 0..minors {
-            let stream = StreamId { driver, minor };
-            let side = Side::Write;
-            self.mark_waiting(run, Place { stream, side });
+        let mut rest = self.lists.queues.fronts();
+        while let Some(first) = rest.next() {
+            if is_write_of(driver, first.place) {
+                run.mark(first.place);
+            }
         }
     }
 
@@ -66,6 +75,9 @@ impl Tables {
     pub fn mark_reads(&self, run: &mut PlaceMarks, driver: u8)
         ensures { IsMarkedWhere self.now.configuration.flow (is_read_below_driver self.now.configuration driver) run.old run.new }
     {
+        if self.lists.queues.len() == 0 {
+            return;
+        }
         let mut rest = self.lists.queues.fronts();
         while let Some(first) = rest.next() {
             if self.is_read_below(first.place, driver) {

@@ -5,7 +5,7 @@ ghost use Rattle.smx_types.specs.declared.stream.Place.{Place as PlaceValue};
 ghost use Rattle.smx_model.specs.KeptConfigurations.{IsSound};
 ghost use Rattle.smx_model.specs.KnownStreams.{IsKnown};
 ghost use Rattle.smx_config.specs.MessageStreams.{message_stream};
-ghost use Rattle.smx_config.specs.Wakes.{on_stream, wakes_of};
+ghost use Rattle.smx_config.specs.Wakes.{arrives, on_stream, wakes_of};
 ghost use Rattle.smx_config.specs.declared.wakes.Wakes.TheVariants as wakes;
 
 use crate::tables::Tables;
@@ -18,7 +18,7 @@ pub enum Wakes {
     Nothing,
     // A place may have another first message, or that may have another place to go to.
     Turns(Place),
-    // The first message leaves a place.
+    // The first message leaves a place, from which none goes on to another.
     Leaves(Place),
     // So it may be with the write sides of a driver,
     TurnsWrites(u8),
@@ -65,6 +65,26 @@ fn turns_reads(stream: Result<StreamId, Fault>) -> Wakes
 }
 
 impl Tables {
+    // What a message wakes that arrives at a side of the stream.
+    fn arrives(&self, stream: Result<StreamId, Fault>, side: Side) -> Wakes
+        ensures { result ≡ on_stream stream (λ s. arrives self.now.configuration (record { stream = s; side = side })) }
+    {
+        match stream {
+            Ok(stream) => self.arrives_at(Place { stream, side }),
+            Err(_) => Wakes::Nothing,
+        }
+    }
+
+    // The first message of a place that has one stays the first.
+    fn arrives_at(&self, place: Place) -> Wakes
+        ensures { result ≡ arrives self.now.configuration place }
+    {
+        match self.lists.queues.front(place) {
+            Some(_first) => Wakes::Nothing,
+            None => Wakes::Turns(place),
+        }
+    }
+
     // The stream at which a command sends or takes a message. Takes no memory.
     pub fn message_stream(&self, process: Process, command: &Command) -> Result<StreamId, Fault>
         requires { IsSound self.now.drivers self.now.configuration }
@@ -121,9 +141,9 @@ impl Tables {
             Command::Plink { arg, .. } => turns(self.stream_of(process, *arg), Side::Read),
             Command::Bind { fd, .. } => turns_reads(self.mux_stream(process, *fd)),
             Command::Route { fd, .. } => turns_writes(self.mux_stream(process, *fd)),
-            Command::Write { .. } => turns(named, Side::Write),
+            Command::Write { .. } => self.arrives(named, Side::Write),
             Command::Read { .. } => leaves(named, Side::Read),
-            Command::Inject { .. } => turns(named, Side::Read),
+            Command::Inject { .. } => self.arrives(named, Side::Read),
             Command::Transmit { .. } => leaves(named, Side::Write),
         }
     }

@@ -79,20 +79,18 @@ impl Tables {
     }
 
     fn mark_turned(&self, run: &mut PlaceMarks, wakes: Wakes)
-        requires { run.old.drivers ≡ self.now.drivers }
         ensures { IsMarkedWhere self.now.configuration.flow (turned_under self.now.configuration wakes) run.old run.new }
     {
         match wakes {
-            Wakes::Turns(place) | Wakes::Leaves(place) => self.mark_waiting(run, place),
+            Wakes::Turns(place) => self.mark_waiting(run, place),
             Wakes::TurnsWrites(driver) => self.mark_writes(run, driver),
             Wakes::TurnsReads(driver) => self.mark_reads(run, driver),
-            Wakes::Nothing | Wakes::Frees => {}
+            Wakes::Nothing | Wakes::Leaves(_) | Wakes::Frees => {}
         }
     }
 
     // Marks what a command woke, and takes the wanted marks of the places that it freed.
     pub fn wake(&self, marks: &mut Marks, wakes: Wakes)
-        requires { marks.old.run.drivers ≡ self.now.drivers }
         ensures { IsWoken self.now.configuration (turned_under self.now.configuration wakes) (freed_under wakes) marks.old marks.new }
     {
         self.release_freed(marks, wakes);

@@ -2,6 +2,7 @@
 use Rattle.std.proofs.Common.{◌≡◌, ℕ, ◌+◌, ◌<◌, List, [], ◌∷◌, ◌++◌, length, get_or, take, append-nil, append_assoc}
 use Rattle.std.proofs.Common.{Result, Ok, Err, sym, ap, ◌∙◌, subst}
 use Rattle.std.specs.Prelude.{OnOk}
+use Rattle.std.proofs.Math.Nat.{suc-ne-zero}
 use Rattle.std.proofs.lemmas.List.{take_more}
 use Rattle.std.specs.List.{AllByRecursion, flat_map}
 use Rattle.smx_draw.specs.Drawing.{Draws, HasPart}
@@ -74,3 +75,13 @@ pub then_put : {E : Type 0} (answer : Result (Unit {0}) E) (old middle new first
 then_put (Ok done) old middle new first second e h =
     h ∙ (ap (λ (t : List ℕ). t ++ second) e ∙ append_assoc old first second)
 then_put (Err fault) old middle new first second e h = tt
+
+-- five texts that were written one behind the other
+pub five_put : (a b c d e one two three four five : List ℕ) → one ≡ a → two ≡ one ++ b → three ≡ two ++ c
+    → four ≡ three ++ d → five ≡ four ++ e → five ≡ a ++ (b ++ (c ++ (d ++ e)))
+five_put a b c d e one two three four five e1 e2 e3 e4 e5 = rw (e5, e4, e3, e2, e1) (simp append_assoc)
+
+-- a part that isn't empty doesn't stand in the empty text
+pub nothing_has_no_part : (c : ℕ) (part : List ℕ) → HasPart [] (c ∷ part) → ⊥
+nothing_has_no_part c part ([], after, e) = suc-ne-zero _ (sym (ap length e))
+nothing_has_no_part c part (b ∷ before, after, e) = suc-ne-zero _ (sym (ap length e))

@@ -1,11 +1,11 @@
 -- A configuration in the language of Graphviz.
-use Rattle.std.specs.Prelude.{◌≡◌, ℕ, List, ◌++◌, codes}
+use Rattle.std.specs.Prelude.{ℕ, List, ◌++◌, codes}
 use Rattle.std.specs.List.{flat_map}
 use Rattle.smx_types.specs.declared.driver.DriverSpec.{DriverSpec}
 use Rattle.smx_types.specs.declared.view.ConfigView.{ConfigView}
 use Rattle.smx_draw.specs.DotLines.{binding_line, descriptor_line, driver_line, full_line, hung_line}
 use Rattle.smx_draw.specs.DotLines.{link_line, message_line, queue_line, route_line}
-use Rattle.smx_draw.specs.declared.dot.queues.DotQueue.{DotQueue}
+use Rattle.smx_draw.specs.DotQueues.{queues_of}
 
 -- the graph, which merges edges that are drawn twice, and how nodes and edges look
 abbrev pub dot_head : List ℕ
@@ -25,8 +25,8 @@ dot_view v =
     ++ (flat_map route_line v.routes ++ (flat_map message_line v.msgs ++ (flat_map full_line v.fulls
     ++ flat_map hung_line v.hungs)))))
 
--- the text: a line for each driver, for some queues with their bytes, and for each part of the view
-pub record IsDotOf (drivers : List DriverSpec) (v : ConfigView) (output : List ℕ) : Type 0 where
-  pub queues : List DotQueue
-  pub text : output ≡ dot_head ++ (flat_map driver_line drivers
-      ++ (flat_map queue_line queues ++ (dot_view v ++ dot_foot)))
+-- the text: a line for each driver, for each queue that has messages, and for each part of the view
+abbrev pub dot_text : List DriverSpec → ConfigView → List ℕ
+dot_text drivers v =
+    dot_head ++ (flat_map driver_line drivers
+    ++ (flat_map queue_line (queues_of drivers v.msgs) ++ (dot_view v ++ dot_foot)))

@@ -1,5 +1,6 @@
 pub mod Pieces
 pub mod DotLines
+pub mod DotQueues
 pub mod DotText
 pub mod Drawing
 pub mod SvgStrokes
@@ -7,3 +8,7 @@ pub mod SvgElements
 pub mod SvgFrame
 pub mod SvgText
 pub mod Pictures
+pub mod WorkedViews
+pub mod WorkedDotTexts
+pub mod WorkedSvgText
+pub mod WorkedMissing

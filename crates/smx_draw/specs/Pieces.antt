@@ -31,9 +31,13 @@ abbrev pub side_word : Side → List ℕ
 side_word side.Write = codes "write"
 side_word side.Read = codes "read"
 
+-- a number, as far as one goes
+abbrev pub shown_number : ℕ → ℕ
+shown_number n = min n 4294967295
+
 -- how many bytes these are, as far as a number goes
 abbrev pub shown_length : List ℕ → ℕ
-shown_length bytes = min (length bytes) 4294967295
+shown_length bytes = shown_number (length bytes)
 
 -- a text as it stands, a number in decimal, a name, a word
 abbrev pub piece_text : Piece → List ℕ

@@ -2,7 +2,7 @@
 
 ghost use Rattle.std.specs.Prelude.{◌≡◌, ℕ, ◌++◌, List, IfOk, OnOk};
 ghost use Rattle.std.specs.List.{flat_map};
-ghost use Rattle.smx_draw.specs.DotText.{IsDotOf, dot_view, dot_head, dot_foot};
+ghost use Rattle.smx_draw.specs.DotText.{dot_foot, dot_head, dot_text, dot_view};
 
 mod lines;
 mod queues;
@@ -28,7 +28,7 @@ pub fn write_dot(
     drivers: &[DriverSpec],
     view: &ConfigView,
 ) -> Result<Vec<u8>, NoMemory>
-    ensures { IfOk result (λ v. IsDotOf drivers.now view.now v.items) }
+    ensures { IfOk result (λ v. v.items ≡ dot_text drivers.now view.now) }
 {
     let queues = queues_of(alloc, drivers, view.msgs.as_slice())?;
     let mut out = Vec::new(alloc);

@@ -1,7 +1,6 @@
 -- An input has one answer, and what a run writes spells one report.
 use Rattle.std.proofs.Common.{◌≡◌, ◌≢◌, ℕ, zero, suc, ◌≤◌, ◌⊎◌, Bool, true, false, List, length, map, Result, Ok, Err}
 use Rattle.std.proofs.Common.{refl, sym, ap, subst, ◌∙◌, arith, inl, inr}
-use Rattle.std.specs.Prelude.{IfErr}
 use Rattle.smx_types.specs.ProgramLists.{ProgramLists}
 use Rattle.smx_types.specs.declared.command.Entry.{Entry}
 use Rattle.smx_types.specs.declared.driver.DriverSpec.{DriverSpec}
@@ -11,10 +10,9 @@ use Rattle.smx_types.specs.declared.view.ConfigView.{ConfigView}
 use Rattle.smx_model.specs.DriverList.{IsDriverList}
 use Rattle.smx_model.specs.Headline.{IsReportOf}
 use Rattle.smx_model.specs.Histories.{call_of}
-use Rattle.smx_text.specs.Grammar.{Grammar, ReadsAny, Spells}
+use Rattle.smx_text.specs.Grammar.{Spells}
 use Rattle.smx_text.specs.ProgramsText.{programs_grammar}
 use Rattle.smx_text.specs.TranscriptText.{SpellsTranscript, transcript_grammar, transcript_text}
-use Rattle.smx_text.specs.declared.text_fault.Cause.TheVariants as cause
 use Rattle.smx_text.specs.declared.text_fault.TextFault.{TextFault}
 use Rattle.smx_config.specs.DriverFaults.{RefusesDrivers}
 use Rattle.smx_config.specs.Verdicts.{IsVerdict}
@@ -23,13 +21,13 @@ use Rattle.smx_config.specs.declared.config_fault.ConfigFault.TheVariants as con
 use Rattle.smx_config.specs.declared.verdict.Verdict.{Verdict}
 use Rattle.smx_config.specs.declared.verdict.Verdict.TheVariants.{Legal}
 use Rattle.smx_replay.specs.Replays.{IsReplayOf}
-use Rattle.smx_run.specs.RunFaults.{RefusesAlone, RefusesRun}
+use Rattle.smx_run.specs.RunFaults.{RefusesAlone}
 use Rattle.smx_run.specs.declared.run_fault.RunFault.{RunFault}
 use Rattle.smx_run.specs.declared.run_fault.RunFault.TheVariants as run
 use Rattle.smx_filters.proofs.OneProcessLemmas.{in_turn}
 use Rattle.smx_filters.proofs.ReadingLemmas.{HasOneReading, no_fault, one_fault, one_value}
 use Rattle.smx_filters.specs.CheckText.{checking, verdict_line}
-use Rattle.smx_filters.specs.Filters.{Answers, Filter, GivesFor, IsWantOfMemory, RefusesFor}
+use Rattle.smx_filters.specs.Filters.{Answers, Filter, GivesFor, HadMemory, RefusesFor}
 use Rattle.smx_filters.specs.ReplayText.{replaying}
 use Rattle.smx_filters.specs.RunText.{IsRefusedFor, IsTranscriptInTurn, IsWrittenFor, running}
 use Rattle.smx_filters.specs.declared.main_fault.MainFault.{MainFault}
@@ -90,7 +88,7 @@ module _ {V K T : Type 0} (filter : Filter V K T) (reading : HasOneReading filte
 
   -- so it has one answer
   pub one_answer : (one other : Result (T × List ℕ) MainFault) → Answers filter input one → Answers filter input other
-      → IfErr one (λ e. IsWantOfMemory e → ⊥) → IfErr other (λ e. IsWantOfMemory e → ⊥) → one ≡ other
+      → HadMemory one → HadMemory other → one ≡ other
   one_answer (Ok (a, x)) (Ok (b, y)) h k known known_too =
       let (answer, output) = given_once a b x y h k in
       let rest : Result (T × List ℕ) MainFault = Ok (b, y) in
@@ -153,7 +151,7 @@ refused_alone determined drivers (run.ConfigFault f) run.Held h k known known_to
 pub checked : HasOneReading transcript_grammar → HaveOneFault → HasOneVerdict
     → (input : List ℕ) (one other : Result (Verdict × List ℕ) MainFault)
     → Answers checking input one → Answers checking input other
-    → IfErr one (λ e. IsWantOfMemory e → ⊥) → IfErr other (λ e. IsWantOfMemory e → ⊥) → one ≡ other
+    → HadMemory one → HadMemory other → one ≡ other
 checked reading determined judged input = one_answer checking reading (λ t. Unit {0})
     (λ t fits v w x y h k. let same = judged t.drivers t.entries t.view v w h.judged k.judged in
     (same, h.written ∙ ap (verdict_line (length t.entries)) same ∙ sym k.written))
@@ -165,7 +163,7 @@ checked reading determined judged input = one_answer checking reading (λ t. Uni
 pub replayed : HasOneReading transcript_grammar → HaveOneFault → HasOneReplay
     → (input : List ℕ) (one other : Result (Unit {0} × List ℕ) MainFault)
     → Answers replaying input one → Answers replaying input other
-    → IfErr one (λ e. IsWantOfMemory e → ⊥) → IfErr other (λ e. IsWantOfMemory e → ⊥) → one ≡ other
+    → HadMemory one → HadMemory other → one ≡ other
 replayed reading determined replay input = one_answer replaying reading (λ t. Unit {0})
     (λ t fits a b x y h k. (
       refl,
@@ -233,7 +231,7 @@ run_alone workers programs few r h = h.1 few
 pub run_by_one : HasOneReading programs_grammar → HaveOneFault → HaveOneReport
     → (input : List ℕ) (one other : Result (Unit {0} × List ℕ) MainFault)
     → Answers (running false 1) input one → Answers (running false 1) input other
-    → IfErr one (λ e. IsWantOfMemory e → ⊥) → IfErr other (λ e. IsWantOfMemory e → ⊥) → one ≡ other
+    → HadMemory one → HadMemory other → one ≡ other
 run_by_one reading determined reports input = one_answer (running false 1) reading (λ p. Unit {0})
     (λ p fits a b x y h k. (refl, in_turn_once reports p x y h k))
     (λ p fits r s h k. refused_alone determined p.drivers r s (run_alone 1 p (inl (omega arith)) r h)
@@ -247,7 +245,7 @@ pub run_of_one : HasOneReading programs_grammar → HaveOneFault → HaveOneRepo
     → (workers : ℕ) (input : List ℕ) (one other : Result (Unit {0} × List ℕ) MainFault)
     → ((version : Version) (p : ProgramLists) → Spells (programs_grammar version) input p → length p.programs ≤ 1)
     → Answers (running false workers) input one → Answers (running false workers) input other
-    → IfErr one (λ e. IsWantOfMemory e → ⊥) → IfErr other (λ e. IsWantOfMemory e → ⊥) → one ≡ other
+    → HadMemory one → HadMemory other → one ≡ other
 run_of_one reading determined reports workers input one other few =
     one_answer (running false workers) reading (λ p. length p.programs ≤ 1)
     (λ p fits a b x y h k. (refl, one_process_once reports workers p fits x y h k))

@@ -62,7 +62,8 @@ module _ {V K T : Type 0} (filter : Filter V K T) (had left : Option (List ℕ))
     ok : Result (Vec ℕ Global) MainFault
     ok = Ok v
 
-  at_answer : (e : MainFault) → Answers filter v.items (Err e)
+  -- where nothing came of what was read, that is the answer
+  pub at_answer : (e : MainFault) → Answers filter v.items (Err e)
       → FiltersText filter had left ended failures held held flushed written (Err e)
   at_answer (Text f) a = said (Text f) (λ is. cc) (λ is. cc) (λ is. cc) (λ g is. let same : f ≡ g = cc in
       subst (λ (x : TextFault). IsFaultOf filter read x) same
@@ -74,6 +75,15 @@ module _ {V K T : Type 0} (filter : Filter V K T) (had left : Option (List ℕ))
   at_answer TooLong a = absurd a
   at_answer ReadFailed a = absurd a
   at_answer WriteFailed a = absurd a
+
+  -- and these bytes are all that it says to be read
+  pub are_read : (e : MainFault) (a : Answers filter v.items (Err e)) → v.items ≡ (at_answer e a).read
+  unfolding at_answer said
+  are_read (Text f) a = h.answered
+  are_read (Refused f) a = h.answered
+  are_read TooLong a = absurd a
+  are_read ReadFailed a = absurd a
+  are_read WriteFailed a = absurd a
 
   -- and a `?` passes the fault on as it is
   pub passed_on : (e : MainFault) (answer : Result T MainFault) → IsErrAnd answer (λ f. f ≡ e)

@@ -8,6 +8,7 @@ pub mod ReadingLemmas
 pub mod ReplayTextLemmas
 pub mod WritingFilterLemmas
 pub mod DrawTextLemmas
+pub mod ExplainTextLemmas
 pub mod OneProcessLemmas
 pub mod AnswerLemmas
 pub mod FrontsLawLemmas

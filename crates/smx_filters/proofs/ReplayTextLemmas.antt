@@ -1,16 +1,13 @@
 -- What a replay says of the input that was read whole, and the laws of replays over bytes.
-use Rattle.std.proofs.Common.{◌≡◌, ◌≢◌, ℕ, Bool, true, List, length, Option, Vec, Result, Ok, Err, refl, sym, ap, subst}
-use Rattle.std.proofs.Common.{◌∙◌, arith}
-use Rattle.std.specs.Prelude.{IfErr, IsErrAnd, OnErr, OnOk}
+use Rattle.std.proofs.Common.{◌≡◌, ℕ, List, length, Vec, Result, Ok, Err, refl, sym, ap, subst}
+use Rattle.std.proofs.Common.{◌∙◌}
+use Rattle.std.specs.Prelude.{IsErrAnd}
 use Rattle.std.specs.Global.{Global}
-use Rattle.std.specs.Io.KnownBytes.{Appends}
 use Rattle.smx_types.specs.declared.transcript.Transcript.{Transcript}
 use Rattle.smx_types.specs.declared.version.Version.{Version}
 use Rattle.smx_model.specs.DriverList.{IsDriverList}
 use Rattle.smx_text.specs.Grammar.{ReadsAny, Spells, full_text}
 use Rattle.smx_text.specs.TranscriptText.{IsAllowed, IsSpellable, transcript_grammar, transcript_text}
-use Rattle.smx_text.specs.declared.text_fault.Cause.TheVariants.{NoMemory}
-use Rattle.smx_text.specs.declared.text_fault.TextFault.{TextFault}
 use Rattle.smx_config.specs.DriverFaults.{RefusesDrivers}
 use Rattle.smx_config.specs.Verdicts.{IsVerdict}
 use Rattle.smx_config.specs.declared.config_fault.ConfigFault.{ConfigFault}
@@ -18,13 +15,11 @@ use Rattle.smx_config.specs.declared.verdict.Verdict.TheVariants.{Legal}
 use Rattle.smx_replay.specs.Replays.{IsReplayOf, IsReplayText}
 use Rattle.smx_run.specs.RunFaults.{run_fault_of}
 use Rattle.smx_filters.specs.CheckText.{checking, verdict_line}
-use Rattle.smx_filters.specs.Filters.{Answers, FiltersText, GivesFor, IsFaultOf}
-use Rattle.smx_filters.specs.Input.{IsInput, IsWhole}
-use Rattle.smx_filters.specs.Output.{AppendsBeginning}
+use Rattle.smx_filters.specs.Filters.{Answers, GivesFor}
 use Rattle.smx_filters.specs.ReplayText.{replaying}
 use Rattle.smx_filters.specs.RunText.{items_of}
 use Rattle.smx_filters.specs.declared.main_fault.MainFault.{MainFault}
-use Rattle.smx_filters.specs.declared.main_fault.MainFault.TheVariants.{Refused, Text, TooLong, ReadFailed, WriteFailed}
+use Rattle.smx_filters.specs.declared.main_fault.MainFault.TheVariants.{Refused}
 use Rattle.smx_filters.proofs.FilterLemmas.{alone_of}
 use Rattle.smx_filters.proofs.ReadingLemmas.{HasOneReading, one_value}
 

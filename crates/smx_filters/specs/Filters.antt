@@ -22,6 +22,10 @@ IsWantOfMemory TooLong = ⊥
 IsWantOfMemory ReadFailed = ⊥
 IsWantOfMemory WriteFailed = ⊥
 
+-- memory was not wanting
+abbrev pub HadMemory : {T : Type 0} → Result T MainFault → Type 0
+HadMemory answer = IfErr answer (λ fault. IsWantOfMemory fault → ⊥)
+
 -- One kind of filter. Its inputs spell values of V in lines of K, and its answers are of T.
 pub record Filter (V K T : Type 0) : Type 1 where
   -- how an input of each version spells its value

@@ -7,6 +7,7 @@ pub mod RunText
 pub mod CheckText
 pub mod ReplayText
 pub mod DrawText
+pub mod ExplainText
 pub mod WorkedVerdicts
 pub mod WorkedFronts
 pub mod InMemory

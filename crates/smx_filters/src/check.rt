@@ -50,7 +50,11 @@ fn judge(alloc: Global, input: &[u8]) -> Result<(Verdict, String), MainFault>
 }
 
 // The line of a verdict on so many entries.
-fn verdict_line(alloc: Global, entries: usize, verdict: Verdict) -> Result<String, AllocError>
+pub(crate) fn verdict_line(
+    alloc: Global,
+    entries: usize,
+    verdict: Verdict,
+) -> Result<String, AllocError>
     ensures { IfOk result (λ line. string_bytes line ≡ verdict_line entries verdict) }
 {
     match verdict {

@@ -1,6 +1,6 @@
 //! Reading the whole input.
 
-ghost use Rattle.std.specs.Prelude.{◌≡◌, ℕ, ◌+◌, ◌<◌, ◌≤◌, List, false, length, take, OnOk, vec_len};
+ghost use Rattle.std.specs.Prelude.{◌≡◌, ℕ, ◌+◌, ◌<◌, ◌≤◌, List, false, take, OnOk, vec_len};
 ghost use Rattle.smx_filters.specs.Input.{IsInput};
 
 use crate::device::Feed;

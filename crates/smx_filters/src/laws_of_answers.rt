@@ -1,6 +1,6 @@
 //! Laws of what is answered to an input, each the contract of a function that does nothing.
 
-ghost use Rattle.std.specs.Prelude.{◌≡◌, ◌≤◌, ℕ, Bool, true, false, List, All, length, Result, IfErr};
+ghost use Rattle.std.specs.Prelude.{◌≡◌, ◌≤◌, ℕ, Bool, true, false, List, All, length, Result};
 ghost use Rattle.smx_types.specs.ProgramLists.{ProgramLists};
 ghost use Rattle.smx_types.specs.declared.transcript.Transcript.{Transcript};
 ghost use Rattle.smx_types.specs.declared.version.Version.{Version};
@@ -14,7 +14,7 @@ ghost use Rattle.smx_config.specs.declared.verdict.Verdict.TheVariants.{Legal};
 ghost use Rattle.smx_shared.specs.declared.front.Front.{Front};
 ghost use Rattle.smx_run.specs.declared.run_fault.RunFault.TheVariants as run;
 ghost use Rattle.smx_filters.specs.CheckText.{checking};
-ghost use Rattle.smx_filters.specs.Filters.{Answers, GivesFor, IsWantOfMemory, RefusesFor};
+ghost use Rattle.smx_filters.specs.Filters.{Answers, GivesFor, HadMemory, RefusesFor};
 ghost use Rattle.smx_filters.specs.FrontsText.{fronts_text};
 ghost use Rattle.smx_filters.specs.ReplayText.{replaying};
 ghost use Rattle.smx_filters.specs.RunText.{IsWrittenFor, running};
@@ -31,13 +31,13 @@ use smx_text::laws::{one_text_has_one_reading, one_transcript_has_one_reading};
 pub fn an_input_has_one_answer()
     ensures checked { (input : List ℕ) (one other : Result (Verdict × List ℕ) MainFault)
         → Answers checking input one → Answers checking input other
-        → IfErr one (λ e. IsWantOfMemory e → ⊥) → IfErr other (λ e. IsWantOfMemory e → ⊥) → one ≡ other }
+        → HadMemory one → HadMemory other → one ≡ other }
     ensures replayed { (input : List ℕ) (one other : Result (Unit {0} × List ℕ) MainFault)
         → Answers replaying input one → Answers replaying input other
-        → IfErr one (λ e. IsWantOfMemory e → ⊥) → IfErr other (λ e. IsWantOfMemory e → ⊥) → one ≡ other }
+        → HadMemory one → HadMemory other → one ≡ other }
     ensures run { (input : List ℕ) (one other : Result (Unit {0} × List ℕ) MainFault)
         → Answers (running false 1) input one → Answers (running false 1) input other
-        → IfErr one (λ e. IsWantOfMemory e → ⊥) → IfErr other (λ e. IsWantOfMemory e → ⊥) → one ≡ other }
+        → HadMemory one → HadMemory other → one ≡ other }
 {
     drivers_have_one_fault();
     there_is_one_verdict();
@@ -52,7 +52,7 @@ pub fn a_run_of_one_process_has_one_answer()
     ensures { (workers : ℕ) (input : List ℕ) (one other : Result (Unit {0} × List ℕ) MainFault)
         → ((version : Version) (p : ProgramLists) → Spells (programs_grammar version) input p → length p.programs ≤ 1)
         → Answers (running false workers) input one → Answers (running false workers) input other
-        → IfErr one (λ e. IsWantOfMemory e → ⊥) → IfErr other (λ e. IsWantOfMemory e → ⊥) → one ≡ other }
+        → HadMemory one → HadMemory other → one ≡ other }
 {
     drivers_have_one_fault();
     reports_are_determined();

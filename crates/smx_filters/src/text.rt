@@ -70,7 +70,7 @@ fn text_for<R: Threads + Wait + Sync, G: Gate + Sync>(
 
 // The fronts of a run by so many workers, or its transcript in the room that is given. Where a second worker would have
 // no process, it is run on this thread alone.
-fn text_of_run<R: Threads + Wait + Sync, G: Gate + Sync>(
+pub(crate) fn text_of_run<R: Threads + Wait + Sync, G: Gate + Sync>(
     rt: &R,
     alloc: Global,
     room: Vec<u8>,

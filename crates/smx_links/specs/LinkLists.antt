@@ -62,6 +62,10 @@ without_id t id = record t { links = filter (λ l. not (l.id == id)) t.links }
 abbrev pub is_one_of : List ℕ → Link → Bool
 is_one_of ids l = list_any (λ id. l.id == id) ids
 
+-- the links of other ids than these
+abbrev pub others_of : List ℕ → List Link → List Link
+others_of ids links = filter (λ l. not (is_one_of ids l)) links
+
 -- without the links of these ids
 abbrev pub without_ids : LinkList → List ℕ → LinkList
-without_ids t ids = record t { links = filter (λ l. not (is_one_of ids l)) t.links }
+without_ids t ids = record t { links = others_of ids t.links }

@@ -9,7 +9,7 @@ ghost use Rattle.smx_model.specs.Ordered.{IsRising};
 ghost use Rattle.smx_model.specs.SoundLinks.{AreLinksSound};
 ghost use Rattle.smx_model.specs.Standing.{is_below};
 ghost use Rattle.smx_links.specs.Ids.{id_at, HasIds, IsPlace};
-ghost use Rattle.smx_links.specs.LinkLists.{is_one_of, ordinary_of};
+ghost use Rattle.smx_links.specs.LinkLists.{ordinary_of, others_of};
 ghost use Rattle.smx_links.specs.Masks.{with_bit, IsWithin, LeadAlikeBut};
 ghost use Rattle.smx_links.specs.Pairs.{entry_of, with_one_less, AreCounts};
 
@@ -166,7 +166,7 @@ pub fn take_each(
     requires few { drivers ≤ MAX_DRIVERS }
     requires within { All (IsWithin drivers) links.old.items }
     requires pairs { AreCounts drivers links.old.items pairs.old }
-    ensures rest { links.new.items ≡ filter (λ l. not (is_one_of gone.now l)) links.old.items }
+    ensures rest { links.new.items ≡ others_of gone.now links.old.items }
     ensures ordinary { ordinary.new.items ≡ ordinary_of links.new.items }
     ensures ids { HasIds ids.new.items links.new.items }
     ensures rows { length ids.new.items ≡ length ids.old.items }

@@ -1,81 +1,28 @@
 -- A flow in order is what its queues are.
-use Rattle.std.proofs.Common.{◌≡◌, ℕ, Bool, true, false, ◌&&◌, ◌||◌, eqb, ltb, List, [], ◌∷◌, ◌++◌, filter, refl, sym}
+use Rattle.std.proofs.Common.{◌≡◌, Bool, true, false, List, [], ◌∷◌, ◌++◌, filter, refl, sym}
 use Rattle.std.proofs.Common.{ap, ◌∙◌, subst, arith, inl, inr}
 use Rattle.std.proofs.lemmas.Bool.{both_ways, cases_Bool}
 use Rattle.std.proofs.lemmas.Bool.Decides.{nat_tests}
 use Rattle.smx_types.specs.declared.message.Message.{Message}
 use Rattle.smx_types.specs.declared.stream.Place.{Place}
-use Rattle.smx_types.specs.declared.stream.Side.{Side}
-use Rattle.smx_types.specs.declared.stream.Side.TheVariants as side
-use Rattle.smx_model.specs.Configuration.{QueuedMessage, is_at, queued_before, place_before, same_place, same_side}
-use Rattle.smx_model.specs.Configuration.{side_before, pair_before}
+use Rattle.smx_model.specs.Configuration.{QueuedMessage, is_at, queued_before, place_before, same_place}
 use Rattle.smx_model.specs.FlowOrder.{NoneBefore, IsInOrder}
 use Rattle.smx_model.specs.Ordered.{with_inserted, without_first}
 use Rattle.smx_model.specs.Queues.{queue}
 use Rattle.smx_model.proofs.SettlingLemmas.{same_place_is}
 
--- a side as a number
-abbrev number : Side → ℕ
-number side.Write = 0
-number side.Read = 1
-
-sides_before : (s t : Side) → side_before s t ≡ ltb (number s) (number t)
-sides_before side.Write side.Write = refl
-sides_before side.Write side.Read = refl
-sides_before side.Read side.Write = refl
-sides_before side.Read side.Read = refl
-
-sides_same : (s t : Side) → same_side s t ≡ eqb (number s) (number t)
-sides_same side.Write side.Write = refl
-sides_same side.Write side.Read = refl
-sides_same side.Read side.Write = refl
-sides_same side.Read side.Read = refl
-
-abbrev before3 : ℕ → ℕ → ℕ → ℕ → ℕ → ℕ → Bool
-before3 a b c x y z = pair_before a b x y || ((eqb a x && eqb b y) && ltb c z)
-
-abbrev same3 : ℕ → ℕ → ℕ → ℕ → ℕ → ℕ → Bool
-same3 a b c x y z = (eqb a x && eqb b y) && eqb c z
-
-trichotomy : (a b c x y z : ℕ) → same3 a b c x y z ≡ false → before3 a b c x y z ≡ false → before3 x y z a b c ≡ true
-trichotomy a b c x y z h k = grind (arith, nat_tests)
-
-apart : (a b c x y z u v w : ℕ) → before3 a b c x y z ≡ true → before3 u v w x y z ≡ false → same3 u v w a b c ≡ false
-apart a b c x y z u v w h k = grind (arith, nat_tests)
-
-not_after : (a b c x y z : ℕ) → before3 a b c x y z ≡ true → before3 x y z a b c ≡ false
-not_after a b c x y z h = grind (arith, nat_tests)
-
-trans3 : (a b c x y z u v w : ℕ) → before3 a b c x y z ≡ true → before3 u v w x y z ≡ false
-    → before3 u v w a b c ≡ false
-trans3 a b c x y z u v w h k = grind (arith, nat_tests)
-
-before_is : (p q : Place) → place_before p q
-    ≡ before3 p.stream.driver p.stream.minor (number p.side) q.stream.driver q.stream.minor (number q.side)
-before_is p q = rw (sides_before p.side q.side) refl
-
-same_is : (p q : Place) → same_place p q ≡ same3 p.stream.driver p.stream.minor
-    (number p.side) q.stream.driver q.stream.minor (number q.side)
-same_is p q = rw (sides_same p.side q.side) refl
-
 -- of two places that differ, one comes before the other
 pub place_either : (p q : Place) → same_place p q ≡ false → place_before p q ≡ false → place_before q p ≡ true
-place_either p q h k = before_is q p ∙ trichotomy p.stream.driver p.stream.minor
-    (number p.side) q.stream.driver q.stream.minor (number q.side) (sym (same_is p q) ∙ h) (sym (before_is p q) ∙ k)
+place_either p q h k = grind (arith, nat_tests)
 
 place_apart : (p q r : Place) → place_before p q ≡ true → place_before r q ≡ false → same_place r p ≡ false
-place_apart p q r h k = same_is r p ∙ apart p.stream.driver p.stream.minor (number p.side) q.stream.driver
-    q.stream.minor (number q.side) r.stream.driver r.stream.minor (number r.side) (sym (before_is p q) ∙ h)
-    (sym (before_is r q) ∙ k)
+place_apart p q r h k = grind (arith, nat_tests)
 
 place_trans : (p q r : Place) → place_before p q ≡ true → place_before r q ≡ false → place_before r p ≡ false
-place_trans p q r h k = before_is r p ∙ trans3 p.stream.driver p.stream.minor (number p.side) q.stream.driver
-    q.stream.minor (number q.side) r.stream.driver r.stream.minor (number r.side) (sym (before_is p q) ∙ h)
-    (sym (before_is r q) ∙ k)
+place_trans p q r h k = grind (arith, nat_tests)
 
 place_not_after : (p q : Place) → place_before p q ≡ true → place_before q p ≡ false
-place_not_after p q h = before_is q p ∙ not_after p.stream.driver p.stream.minor
-    (number p.side) q.stream.driver q.stream.minor (number q.side) (sym (before_is p q) ∙ h)
+place_not_after p q h = grind (arith, nat_tests)
 
 -- the order of places is transitive
 pub place_before_trans : (p q r : Place) → place_before p q ≡ true → place_before q r ≡ true → place_before p r ≡ true
@@ -91,15 +38,11 @@ place_before_trans p q r h k = elim (cases_Bool (place_before p r)) [
 
 -- a place is the same as itself
 pub same_self : (p : Place) → same_place p p ≡ true
-same_self p = same_is p p ∙ self3 p.stream.driver p.stream.minor (number p.side) where
-  self3 : (a b c : ℕ) → same3 a b c a b c ≡ true
-  self3 a b c = grind (arith, nat_tests)
+same_self p = grind (arith, nat_tests)
 
 -- no place comes before itself
 pub same_not_before : (p : Place) → place_before p p ≡ false
-same_not_before p = before_is p p ∙ self3 p.stream.driver p.stream.minor (number p.side) where
-  self3 : (a b c : ℕ) → before3 a b c a b c ≡ false
-  self3 a b c = grind (arith, nat_tests)
+same_not_before p = grind (arith, nat_tests)
 
 abbrev made_of : Place → Message → QueuedMessage
 made_of p m = record { place = p; message = m }

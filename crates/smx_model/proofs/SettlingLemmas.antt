@@ -94,10 +94,6 @@ record CanSettle (drivers : List DriverSpec) (c : Configuration) : Type 0 where
   below : AreBelow (length drivers) c.links
   routed : AreRouted drivers c
 
--- the next place has a lower rank
-record Falls (links : List Link) (n : ℕ) (p q : Place) : Type 0 where
-  falls : rank links n q < rank links n p
-
 -- what came of two steps came of the first
 pub bound : {A B : Type 0} (o : Option A) (f : A → Option B) (y : B) → (o >>= f) ≡ Some y
     → (x : A) × (o ≡ Some x) × (f x ≡ Some y)

@@ -69,7 +69,8 @@ standing_known drivers c zero s h e =
     ]
 standing_known drivers c (suc n) s h
     e = elim (or_cases (stands_within c.fds c.links n s)
-    (list_any (λ l. not (is_persistent l) && (same_stream l.lower s && stands_within c.fds c.links n l.ctl)) c.links) e) [
+    (list_any (λ l. not (is_persistent l) && (same_stream l.lower s && stands_within c.fds c.links n l.ctl))
+    c.links) e) [
       | inl k ↦ standing_known drivers c n s h k
       | inr k ↦
           lower_known drivers (λ l. not (is_persistent l)

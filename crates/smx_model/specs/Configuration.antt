@@ -1,5 +1,5 @@
 -- What a configuration consists of, and the order in which each of its lists is kept and shown.
-use Rattle.std.specs.Prelude.{ℕ, Bool, true, false, ◌&&◌, ◌||◌, ◌==◌, nat_lt, List, []}
+use Rattle.std.specs.Prelude.{ℕ, Bool, ◌&&◌, ◌||◌, ◌==◌, nat_lt, List, []}
 use Rattle.smx_types.specs.declared.link.Binding.{Binding}
 use Rattle.smx_types.specs.declared.link.Link.{Link}
 use Rattle.smx_types.specs.declared.link.Route.{Route}
@@ -46,12 +46,14 @@ empty = record {
 abbrev pub same_stream : StreamId → StreamId → Bool
 same_stream s t = (s.driver == t.driver) && (s.minor == t.minor)
 
+-- the write side comes first
+abbrev pub side_number : Side → ℕ
+side_number side.Write = 0
+side_number side.Read = 1
+
 -- both the write side, or both the read side
 abbrev pub same_side : Side → Side → Bool
-same_side side.Write side.Write = true
-same_side side.Write side.Read = false
-same_side side.Read side.Write = false
-same_side side.Read side.Read = true
+same_side s t = side_number s == side_number t
 
 -- the same side of the same stream
 abbrev pub same_place : Place → Place → Bool
@@ -83,10 +85,7 @@ route_before r s = pair_before r.driver r.addr s.driver s.addr
 
 -- the write side comes before the read side
 abbrev pub side_before : Side → Side → Bool
-side_before side.Write side.Write = false
-side_before side.Write side.Read = true
-side_before side.Read side.Write = false
-side_before side.Read side.Read = false
+side_before s t = nat_lt (side_number s) (side_number t)
 
 -- by driver and minor
 abbrev pub stream_before : StreamId → StreamId → Bool

@@ -2,6 +2,7 @@
 use Rattle.std.specs.Prelude.{◌<◌, List, length}
 use Rattle.std.specs.List.{All}
 use Rattle.smx_types.specs.declared.driver.DriverSpec.{DriverSpec}
+use Rattle.smx_types.specs.declared.link.Link.{Link}
 use Rattle.smx_types.specs.declared.stream.StreamId.{StreamId}
 use Rattle.smx_model.specs.Configuration.{Configuration}
 use Rattle.smx_model.specs.DriverList.{minors_of}
@@ -10,10 +11,14 @@ use Rattle.smx_model.specs.DriverList.{minors_of}
 abbrev pub IsKnown : List DriverSpec → StreamId → Type 0
 IsKnown drivers s = (s.driver < length drivers) × (s.minor < minors_of drivers s.driver)
 
+-- so it is with the controlling stream of each link
+abbrev pub AreControllingKnown : List DriverSpec → List Link → Type 0
+AreControllingKnown drivers links = All (λ l. IsKnown drivers l.ctl) links
+
 -- so it is with each stream of each list, and with the driver of each route
 pub record AreStreamsKnown (drivers : List DriverSpec) (c : Configuration) : Type 0 where
   pub fds : All (λ d. IsKnown drivers d.stream) c.fds
-  pub controlling : All (λ l. IsKnown drivers l.ctl) c.links
+  pub controlling : AreControllingKnown drivers c.links
   pub lowers : All (λ l. IsKnown drivers l.lower) c.links
   pub binds : All (λ b. IsKnown drivers (record { driver = b.driver; minor = b.minor })) c.binds
   pub routes : All (λ r. r.driver < length drivers) c.routes

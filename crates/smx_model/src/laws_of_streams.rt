@@ -1,13 +1,12 @@
 //! Laws of streams and what they hold, each the contract of a function that does nothing.
 
 ghost use Rattle.std.specs.Prelude.{◌≡◌, ◌↔◌, List, IsTrue};
-ghost use Rattle.std.specs.List.{All};
 ghost use Rattle.smx_types.specs.declared.command.Entry.{Entry};
 ghost use Rattle.smx_types.specs.declared.driver.DriverSpec.{DriverSpec};
 ghost use Rattle.smx_types.specs.declared.stream.StreamId.{StreamId};
 ghost use Rattle.smx_model.specs.Configuration.{Configuration};
 ghost use Rattle.smx_model.specs.Histories.{after};
-ghost use Rattle.smx_model.specs.KnownStreams.{AreStreamsKnown, IsKnown};
+ghost use Rattle.smx_model.specs.KnownStreams.{AreControllingKnown, AreStreamsKnown};
 ghost use Rattle.smx_model.specs.Removal.{after_sweep};
 ghost use Rattle.smx_model.specs.SoundLinks.{AreLinksSound};
 ghost use Rattle.smx_model.specs.Standing.{exists, Stands};
@@ -17,7 +16,7 @@ ghost use Rattle.smx_model.specs.Swept.{IsSwept};
 /// drivers suffice. It needs no sweep before.
 pub fn climbs_suffice()
     ensures { (drivers : List DriverSpec) (c : Configuration) (s : StreamId) → AreLinksSound c.links
-        → All (λ l. IsKnown drivers l.ctl) c.links
+        → AreControllingKnown drivers c.links
         → (IsTrue (exists drivers c s) ↔ Stands c s) }
 {}
 

@@ -1,13 +1,13 @@
 -- The bytes that tell which places have messages.
-use Rattle.std.proofs.Common.{◌≡◌, ◌≢◌, ℕ, ◌+◌, ◌-◌, ◌<◌, ◌≤◌, eqb, List, [], ◌∷◌, ◌++◌, length, map, drop, take}
+use Rattle.std.proofs.Common.{◌≡◌, ◌≢◌, ℕ, ◌+◌, ◌-◌, ◌<◌, ◌≤◌, eqb, List, [], ◌∷◌, length, map, drop, take}
 use Rattle.std.proofs.Common.{get_or, set, Option, Some, None, refl, sym, ap, ◌∙◌, subst, arith, inl, inr}
 use Rattle.std.specs.Prelude.{IsSome, slice_get}
 use Rattle.std.proofs.lemmas.Bool.{cases_Bool, cases_lt}
 use Rattle.std.proofs.lemmas.List.{get_or-drop, get_or-map, get_or-set_other, get_or-set_same, get_or_past, length-drop}
-use Rattle.std.proofs.lemmas.List.{length-map, length-set, map-append, map-set}
+use Rattle.std.proofs.lemmas.List.{length-map, length-set, map-set}
 use Rattle.memchr.specs.Find.{IsFirstByte, is_byte}
 use Rattle.smx_types.specs.declared.message.Message.{Message}
-use Rattle.smx_queues.specs.QueueTable.{IsPlace, Queue, QueueTable, empty_queue, queue_at, with_arrival, with_queue}
+use Rattle.smx_queues.specs.QueueTable.{IsPlace, Queue, QueueTable, queue_at, with_arrival, with_queue}
 use Rattle.smx_queues.specs.QueueTable.{without_front}
 use Rattle.smx_queues.specs.Slots.{IsLeastFrom, busy_byte, has_messages}
 
@@ -18,21 +18,9 @@ place_below queues p there = elim (cases_lt p (length queues)) [
   | inr past ↦ let bad = subst (λ (o : Option Queue). IsSome o) (get_or_past queues p None past) there in absurd cc
 ]
 
--- a place that is there has one of the bytes
-pub byte_below : (queues : List (Option Queue)) (busy : List ℕ) (p : ℕ) → busy ≡ map busy_byte queues → IsPlace queues p
-    → p < length busy
-byte_below queues busy p is there = omega (arith, place_below queues p there, ap length is, length-map queues busy_byte)
-
 -- as the table is seen, so it is inside
 pub place_inside : (inside seen : QueueTable) (p : ℕ) → inside ≡ seen → IsPlace seen.queues p → IsPlace inside.queues p
 place_inside inside seen p is there = subst (λ (t : QueueTable). IsPlace t.queues p) (sym is) there
-
--- a place with another queue is still there
-pub still_place : (old new : List (Option Queue)) (p : ℕ) (q : Queue) → IsPlace old p → new ≡ set old p (Some q)
-    → IsPlace new p
-still_place old new p q there is = subst (λ (o : Option Queue). IsSome o)
-    (sym (ap (λ (qs : List (Option Queue)). get_or qs p None) is
-    ∙ get_or-set_same old p (Some q) None (place_below old p there))) refl
 
 -- the byte of a place is set anew
 pub busy_again : (old new : List (Option Queue)) (busy more : List ℕ) (p : ℕ) (q : Option Queue)
@@ -99,14 +87,6 @@ busy_moved old new busy mid more i j differ from to is h mid_is more_is =
     (ap (λ (bs : List ℕ). set bs j (busy_byte (Some h.second))) (sym (map-set busy_byte old i (Some h.first)))
     ∙ sym (map-set busy_byte (set old i (Some h.first)) j (Some h.second)))
 
--- ---- a place more, without messages
-
--- with a byte 0 more, the bytes tell so of the queues with an empty one more
-pub busy_more : (old new : List (Option Queue)) (busy more : List ℕ) (high low : ℕ) → busy ≡ map busy_byte old
-    → new ≡ old ++ Some (empty_queue high low) ∷ [] → more ≡ busy ++ 0 ∷ [] → more ≡ map busy_byte new
-busy_more old new busy more high low is longer more_is =
-    rw (more_is, is, longer) (sym (map-append busy_byte old (Some (empty_queue high low) ∷ [])))
-
 -- ---- the least number that is busy
 
 byte_is : (queues : List (Option Queue)) (busy : List ℕ) (k : ℕ) → busy ≡ map busy_byte queues
@@ -125,12 +105,6 @@ byte_at : (queues : List (Option Queue)) (busy : List ℕ) (start k : ℕ) → b
     → eqb (get_or (drop start busy) k 0) 1 ≡ has_messages (get_or queues (start + k) None)
 byte_at queues busy start k is = ap (λ (n : ℕ). eqb n 1)
     (get_or-drop start busy k 0 ∙ byte_is queues busy (start + k) is) ∙ is_one (get_or queues (start + k) None)
-
--- behind all numbers none has messages
-pub none_past : (queues : List (Option Queue)) (busy : List ℕ) (start : ℕ) → busy ≡ map busy_byte queues
-    → length busy ≤ start → IsLeastFrom has_messages queues start None
-none_past queues busy start is past =
-    λ k le. rw (get_or_past queues k None (omega (arith, past, le, ap length is, length-map queues busy_byte))) refl
 
 -- where no byte from a number on is 1, no place from there on has messages
 pub none_found : (queues : List (Option Queue)) (busy : List ℕ) (start : ℕ) → busy ≡ map busy_byte queues

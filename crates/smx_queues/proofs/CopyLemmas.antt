@@ -1,6 +1,6 @@
 -- Messages that are copied one after the other to a place that had none.
 use Rattle.std.proofs.Common.{◌≡◌, ℕ, zero, suc, ◌+◌, add-one, ◌<◌, ◌^◌, Bool, true, List, [], ◌∷◌, ◌++◌, length}
-use Rattle.std.proofs.Common.{get_or, set, Option, Some, None, refl, sym, ap, ◌∙◌, arith, append_assoc, append-nil}
+use Rattle.std.proofs.Common.{get_or, set, Option, Some, None, refl, sym, ap, ◌∙◌, arith, append_assoc}
 use Rattle.std.specs.List.{repeat}
 use Rattle.std.proofs.lemmas.List.{set-set}
 use Rattle.std.proofs.lemmas.List.Sums.{sum_by-append, sum_by-cons}
@@ -9,7 +9,7 @@ use Rattle.smx_model.specs.Queues.{bytes_of}
 use Rattle.smx_queues.specs.QueueTable.{Queue, IsPlace, queue_at, with_arrival}
 use Rattle.smx_queues.specs.Chains.{HaveBytes}
 use Rattle.smx_queues.proofs.StoreLemmas.{size}
-use Rattle.smx_queues.proofs.QueueTableLemmas.{place_below, set_there, set_at, set_itself, same_set}
+use Rattle.smx_queues.proofs.QueueTableLemmas.{place_below, set_at, set_itself, same_set}
 
 -- place `to` has all messages but these, and nothing else has changed
 pub record IsCopying (old new : List (Option Queue)) (to : ℕ) (all rest : List Message) : Type 0 where
@@ -37,11 +37,6 @@ pub copying_at : (old new : List (Option Queue)) (to : ℕ) (all rest : List Mes
 copying_at old new to all rest c there =
     ap (λ qs. queue_at qs to) c.queues ∙ set_at old to _ (place_below old to there)
 
--- a place that is copied to is still there
-pub copying_there : (old new : List (Option Queue)) (to : ℕ) (all rest : List Message) → IsCopying old new to all rest
-    → IsPlace old to → IsPlace new to
-copying_there old new to all rest c there = rw c.queues (set_there old to _ (place_below old to there))
-
 arrives_full : (q : Queue) (ms : List Message) (m : Message) → q.full ≡ true
     → with_arrival (record q { messages = ms }) m ≡ record q { messages = ms ++ m ∷ [] }
 arrives_full q ms m full = rw full refl
@@ -58,13 +53,6 @@ copying_goes_on old mid new to all rest m later there full c are put =
       queues = put ∙ same_set _ _ to _ _ c.queues
           (ap (λ q. with_arrival q m) e ∙ arrives_full (queue_at old to) c.done m full) ∙ set-set old to _ _;
     }
-
--- all have come
-pub copying_ends : (old new : List (Option Queue)) (to : ℕ) (all rest : List Message) → IsCopying old new to all rest
-    → rest ≡ [] → new ≡ set old to (Some (record (queue_at old to) { messages = all }))
-copying_ends old new to all rest c none =
-    let whole : c.done ≡ all = sym (append-nil c.done) ∙ ap (λ ms. c.done ++ ms) (sym none) ∙ c.parts in
-    c.queues ∙ ap (λ ms. set old to (Some (record (queue_at old to) { messages = ms }))) whole
 
 one_has : (done : List Message) (m : Message) (later : List Message) → HaveBytes (done ++ m ∷ later)
     → (0 < size m) × (size m < 2 ^ 63)

@@ -4,7 +4,7 @@ use Rattle.std.proofs.Common.{Option, None, refl, sym, ap, ◌∙◌, subst, ari
 use Rattle.std.specs.List.{sum_by}
 use Rattle.std.proofs.lemmas.Bool.{cases_Bool, cases_lt}
 use Rattle.std.proofs.lemmas.List.Sums.{sum_by-cons}
-use Rattle.std.proofs.lemmas.List.{get_or_default, get_or_past}
+use Rattle.std.proofs.lemmas.List.{get_or_default}
 use Rattle.slab.specs.Slab.{Slab, slab_len}
 use Rattle.smx_types.specs.declared.message.Message.{Message}
 use Rattle.smx_queues.specs.declared.chain.Chain.{Chain}
@@ -21,13 +21,6 @@ slots_at [] queues p many below = absurd (omega arith)
 slots_at (c ∷ chains) [] p many below = absurd (omega arith)
 slots_at (c ∷ chains) (q ∷ queues) zero many below = refl
 slots_at (c ∷ chains) (q ∷ queues) (suc p) many below = slots_at chains queues p (omega arith) (omega arith)
-
-slots_length : (chains : List Chain) (queues : List Queue) → length queues ≡ length chains
-    → length (slots chains queues) ≡ length chains
-slots_length [] [] many = refl
-slots_length [] (q ∷ queues) many = absurd (omega arith)
-slots_length (c ∷ chains) [] many = absurd (omega arith)
-slots_length (c ∷ chains) (q ∷ queues) many = omega (arith, slots_length chains queues (omega arith))
 
 count_in : (own : ℕ → ℕ × ℕ) (s : Slab Node) (p : ℕ) (chain : Chain) (q : Queue) → IsQueue own s p chain q
     → chain.count ≡ length (messages_in (slot chain q))
@@ -61,16 +54,6 @@ slot_at s chains sound view is p chain below read =
       count = rw (e, at) (count_in _ _ _ _ _ l);
       mark = rw (e, at) (mark_in _ _ _ _ _ l);
     }
-
--- there are as many chains as numbers that a contract sees
-pub view_length : (s : Slab Node) (chains : List Chain) (sound : IsSound s chains) (view : List (Option Queue))
-    → map (slot_of s) chains ≡ view → length view ≡ length chains
-view_length s chains sound view is = ap (λ (v : List (Option Queue)). length v) (view_slots s chains sound view is)
-    ∙ slots_length chains sound.queues sound.store.as_many
-
--- behind all numbers there is nothing
-pub nothing_past : (view : List (Option Queue)) (k : ℕ) → length view ≤ k → get_or view k None ≡ None
-nothing_past view k le = get_or_past view k None le
 
 -- ---- how many there are
 

@@ -131,18 +131,6 @@ drop_is p all new n t place i h seen at is =
     (subst (λ (qs : List (Option Queue)). IsNow p qs (without_place (lists_of p all n) place)) (sym is)
     (emptied_now p all n place i h at))
 
--- queues of drivers that don't have a place are seen as the lists without it
-pub drop_is_none : (p : PlaceList) (all : List (Option Queue)) (n : ℕ) (t : FlowLists) (place : Place) → IsFlow p all
-    → lists_of p all n ≡ t → list_any (same_place place) p.places ≡ false
-    → IsAfter p all (without_place t place)
-drop_is_none p all n t place h seen none =
-    after_now p all all n t (λ x. without_place x place) seen (nothing_now p all n place h none)
-
--- a queue more is read, and nothing changes
-pub same_is : (p : PlaceList) (all : List (Option Queue)) (n m : ℕ) (t : FlowLists) → lists_of p all n ≡ t
-    → lists_of p all m ≡ record t { spare = m }
-same_is p all n m t seen = ap (λ (x : FlowLists). record x { spare = m }) seen
-
 -- all queues have as many messages as the flow
 pub total_is : (p : PlaceList) (all : List (Option Queue)) (n : ℕ) (t : FlowLists) → IsFlow p all → lists_of p all n ≡ t
     → message_total all ≡ length t.flow
@@ -240,6 +228,11 @@ pub moved_by : (p : PlaceList) (old new : QueueTable) (t : FlowLists) (from to :
     → new.spare ≡ old.spare → IsMovedOn p new.queues new.spare t from to
 moved_by p old new t from to i j some h seen at there differ law moved same =
     moved_some p old new t from to i j (first_message t.flow from) refl some h seen at there differ law moved same
+
+-- a place of no number has no message
+pub has_number : {A : Type 0} (o : Option ℕ) → IfNone o A → (A → ⊥) → IsSome o
+has_number None none some = absurd (some none)
+has_number (Some i) none some = refl
 
 -- what is nothing is not there
 pub none_some : (o : Option Message) → None ≡ o → IsSome o → ⊥

@@ -5,8 +5,8 @@ use Rattle.std.proofs.Common.{sym, ap, ◌∙◌, subst, arith, inl, inr}
 use Rattle.std.specs.Prelude.{slice_get}
 use Rattle.std.specs.Iterator.{YieldsFirstBy}
 use Rattle.std.specs.List.{list_any}
-use Rattle.std.proofs.lemmas.Bool.{cases_Bool, cases_eq, cases_lt, false≢true, or_from}
-use Rattle.std.proofs.lemmas.List.{get_or-set_other, get_or-set_same, get_or-take, get_or_default, get_or_past}
+use Rattle.std.proofs.lemmas.Bool.{cases_Bool, cases_lt, false≢true, or_from}
+use Rattle.std.proofs.lemmas.List.{get_or-set_other, get_or-take, get_or_default}
 use Rattle.std.proofs.lemmas.List.{length-drop, length-map, length-set, length-take, map-set}
 use Rattle.std.proofs.lemmas.Option.{slice_get_within}
 use Rattle.memchr.specs.Find.{IsFirstByte, is_byte}
@@ -245,13 +245,6 @@ byte_here : (bytes : List ℕ) (start k : ℕ) → start ≤ k
 byte_here bytes start k le =
     ap (λ (b : ℕ). eqb b 1) (byte_from bytes start (k - start) ∙ ap (λ (n : ℕ). get_or bytes n 0) (omega arith))
 
-past_all : (bytes : List ℕ) (k : ℕ) → length bytes ≤ k → eqb (get_or bytes k 0) 1 ≡ false
-past_all bytes k past = ap (λ (b : ℕ). eqb b 1) (get_or_past bytes k 0 past)
-
--- from the end of the marks on, no byte is 1
-pub none_past : (bytes : List ℕ) (start end : ℕ) → AreWithin 0 end bytes → end ≤ start → IsFirstOne bytes start None
-none_past bytes start end w past = λ k le. w.none_behind k (omega (arith, past, le))
-
 -- the bytes from the start on, up to the end
 byte_between : (bytes : List ℕ) (start end k : ℕ) → start ≤ k → k < end
     → eqb (get_or (take (end - start) (drop start bytes)) (k - start) 0) 1 ≡ eqb (get_or bytes k 0) 1
@@ -337,21 +330,6 @@ marked_within first end low high bytes i w there le lt kept few = record {
   out k differ outside = elim (cases_Bool (eqb (get_or bytes k 0) 1)) [
     | inl t ↦ let l = lies_within first end bytes k w t in absurd (outside (kept k l.0 l.1))
     | inr f ↦ other_byte bytes i 1 k differ ∙ f
-  ]
-
--- with a byte set to 0, the marks lie within the bounds that they had
-pub cleared_within : (first end : ℕ) (bytes : List ℕ) (i : ℕ) → AreWithin first end bytes → i < length bytes
-    → AreWithin first end (set bytes i 0)
-cleared_within first end bytes i w there = record {
-  end_in = omega (arith, w.end_in, length-set bytes i 0);
-  none_before = λ k before. still k (w.none_before k before);
-  none_behind = λ k behind. still k (w.none_behind k behind);
-} where
-  still : (k : ℕ) → eqb (get_or bytes k 0) 1 ≡ false → eqb (get_or (set bytes i 0) k 0) 1 ≡ false
-  still k none = elim (cases_eq i k) [
-    | inl e ↦ subst (λ (n : ℕ). eqb (get_or (set bytes i 0) n 0) 1 ≡ false) e
-        (ap (λ (x : ℕ). eqb x 1) (get_or-set_same bytes i 0 0 there))
-    | inr differ ↦ other_byte bytes i 0 k differ ∙ none
   ]
 
 -- ---- the first of places that rise is the least of them

@@ -6,17 +6,16 @@ use Rattle.std.specs.List.{list_any}
 use Rattle.std.specs.Option.{option_map_or}
 use Rattle.std.proofs.lemmas.Bool.{cases_eq, cases_lt, or_from, ne_eqb}
 use Rattle.std.proofs.lemmas.Bool.Decides.{nat_tests}
-use Rattle.std.proofs.lemmas.List.{get_or_default}
 use Rattle.std.proofs.lemmas.List.Folds.{list_any-append}
-use Rattle.std.proofs.lemmas.Option.{slice_get_past, slice_get_within}
+use Rattle.std.proofs.lemmas.Option.{slice_get_past}
 use Rattle.smx_types.specs.declared.driver.DriverSpec.{DriverSpec}
 use Rattle.smx_types.specs.declared.stream.Place.{Place}
 use Rattle.smx_types.specs.declared.stream.Side.{Side}
 use Rattle.smx_types.specs.declared.stream.Side.TheVariants as side
-use Rattle.smx_model.specs.Configuration.{place_before, same_place}
+use Rattle.smx_model.specs.Configuration.{place_before, same_place, side_number}
 use Rattle.smx_model.specs.DriverList.{minors_of}
 use Rattle.smx_model.specs.Ordered.{ComesBefore, IsRising}
-use Rattle.smx_queues.specs.PlaceLists.{ArePlaces, HaveDriversBelow, number_of, side_number, sides_of}
+use Rattle.smx_queues.specs.PlaceLists.{ArePlaces, HaveDriversBelow, number_of, sides_of}
 use Rattle.smx_queues.proofs.PlaceLemmas.{lower_driver, lower_minor}
 
 abbrev place_at : ℕ → ℕ → Side → Place
@@ -231,32 +230,4 @@ one_driver_more ds firsts places d h = record {
             ]))
       ]
 
--- no drivers have no places
-pub no_drivers : ArePlaces [] [] []
-no_drivers = record {
-  one_each = refl;
-  rising = tt;
-  numbered = λ p lt. absurd (omega arith);
-  none_else = λ p le. refl;
-  drivers_below = tt;
-}
-
 -- ---- what a place says where its driver has its minor
-
--- a place whose driver has its minor is of one of the drivers that are numbered
-pub driver_there : (ds : List DriverSpec) (firsts : List ℕ) (places : List Place) (p : Place)
-    → ArePlaces ds firsts places → p.stream.minor < minors_of ds p.stream.driver → p.stream.driver < length firsts
-driver_there ds firsts places p h lt = elim (cases_lt p.stream.driver (length ds)) [
-  | inl before ↦ omega (arith, h.one_each)
-  | inr past ↦ absurd (omega (arith, minors_past ds p.stream.driver past))
-]
-
--- a place whose driver has its minor has a number below how many places there are
-pub number_below : (ds : List DriverSpec) (firsts : List ℕ) (places : List Place) (p : Place)
-    → ArePlaces ds firsts places → p.stream.minor < minors_of ds p.stream.driver → number_of firsts p < length places
-number_below ds firsts places p h lt = slice_get_within places (number_of firsts p) p (h.numbered p lt)
-
--- the number that was read for a driver within the list is the one there
-pub first_is : (firsts given : List ℕ) (d x : ℕ) → given ≡ firsts → d < length firsts → x ≡ get_or given d x
-    → x ≡ get_or firsts d 0
-first_is firsts given d x e lt is = is ∙ (ap (λ (ns : List ℕ). get_or ns d x) e ∙ get_or_default firsts d x 0 lt)

@@ -20,11 +20,6 @@ place_below [] p is = absurd (cc)
 place_below (x ∷ queues) zero is = omega arith
 place_below (x ∷ queues) (suc p) is = omega (arith, place_below queues p is)
 
--- what was set is there
-pub set_there : (queues : List (Option Queue)) (p : ℕ) (q : Queue) → p < length queues
-    → IsPlace (set queues p (Some q)) p
-set_there queues p q below = rw (get_or-set_same queues p (Some q) None below) refl
-
 -- the queue that was set at a number is the one there
 pub set_at : (queues : List (Option Queue)) (p : ℕ) (q : Queue) → p < length queues
     → queue_at (set queues p (Some q)) p ≡ q
@@ -63,10 +58,6 @@ now_at old new p c below = ap (λ qs. queue_at qs p) c.queues ∙ set_at old.que
 first_some : (ms : List Message) (m : Message) → Some m ≡ slice_get ms 0 → 0 < length ms
 first_some [] m e = absurd (cc)
 first_some (x ∷ ms) m e = omega arith
-
-first_none : (ms : List Message) → None ≡ slice_get ms 0 → ms ≡ []
-first_none [] e = refl
-first_none (x ∷ ms) e = absurd (cc)
 
 -- the same queue set at the same number of the same queues gives the same
 pub same_set : (queues queues' : List (Option Queue)) (p : ℕ) (q q' : Queue) → queues ≡ queues' → q ≡ q'

@@ -6,7 +6,7 @@ use Rattle.smx_types.specs.declared.driver.DriverSpec.{DriverSpec}
 use Rattle.smx_types.specs.declared.stream.Place.{Place}
 use Rattle.smx_types.specs.declared.stream.Side.{Side}
 use Rattle.smx_types.specs.declared.stream.Side.TheVariants as side
-use Rattle.smx_model.specs.Configuration.{place_before, same_place}
+use Rattle.smx_model.specs.Configuration.{place_before, same_place, side_number}
 use Rattle.smx_model.specs.DriverList.{high_of, low_of, minors_of}
 use Rattle.smx_model.specs.Ordered.{IsRising}
 use Rattle.smx_queues.specs.QueueTable.{Queue, empty_queue}
@@ -15,11 +15,6 @@ use Rattle.smx_queues.specs.QueueTable.{Queue, empty_queue}
 pub record PlaceList : Type 0 where
   pub drivers : List DriverSpec
   pub places : List Place
-
--- the write side comes first
-abbrev pub side_number : Side → ℕ
-side_number side.Write = 0
-side_number side.Read = 1
 
 -- both sides of so many minors of a driver
 abbrev pub sides_of : ℕ → ℕ → List Place

@@ -101,9 +101,8 @@ impl FlowTable {
         requires spare { 0 < self.old.spare }
         ensures { self.new ≡ record (after_arrival self.old place message) { spare = self.new.spare } }
     {
-        if let Some(p) = self.places.number(place) {
-            self.queues.put(p, message);
-        }
+        let p = self.places.number(place).unwrap();
+        self.queues.put(p, message);
     }
 
     /// The first message leaves the place, if there is one. Takes no memory.
@@ -129,11 +128,9 @@ impl FlowTable {
             → self.new ≡ after_arrival (after_leaving self.old from) to m }
     {
         the_first_leaves();
-        if let Some(p) = self.places.number(from) {
-            if let Some(q) = self.places.number(to) {
-                self.queues.move_front(p, q);
-            }
-        }
+        let p = self.places.number(from).unwrap();
+        let q = self.places.number(to).unwrap();
+        self.queues.move_front(p, q);
     }
 
     /// The messages at the place are dropped, and it is not full. Their serials come behind those of a list that has

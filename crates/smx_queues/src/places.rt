@@ -3,11 +3,11 @@
 ghost use Rattle.std.specs.Prelude.{◌≡◌, ◌≤◌, ◌++◌, ◌<◌, false, Some, IfOk, OnOk, IfSome, IsSome, IfNone, length};
 ghost use Rattle.std.specs.Prelude.{slice_get, slice_index_or};
 ghost use Rattle.std.specs.List.{list_any};
-ghost use Rattle.smx_model.specs.Configuration.{place_before, same_place};
+ghost use Rattle.smx_model.specs.Configuration.{place_before, same_place, side_number};
 ghost use Rattle.smx_model.specs.DriverList.{high_of, low_of, minors_of, IsDriverList};
 ghost use Rattle.smx_model.specs.KnownStreams.{IsKnown};
 ghost use Rattle.smx_model.specs.Ordered.{IsRising};
-ghost use Rattle.smx_queues.specs.PlaceLists.{new_queues, side_number, sides_of};
+ghost use Rattle.smx_queues.specs.PlaceLists.{new_queues, sides_of};
 
 use crate::busy_queues::BusyQueues;
 use smx_types::{DriverSpec, NoMemory, Place, Side, StreamId};
@@ -39,15 +39,6 @@ fn side_number(side: Side) -> usize
     match side {
         Side::Write => 0,
         Side::Read => 1,
-    }
-}
-
-fn minors_of(drivers: &[DriverSpec], driver: u8) -> u32
-    ensures { result ≡ minors_of drivers.now driver }
-{
-    match drivers.get(driver as usize) {
-        Some(d) => d.minors,
-        None => 0,
     }
 }
 
@@ -132,7 +123,8 @@ impl Places {
         ensures known { IsKnown self.now.drivers place.stream → IsSome result }
     {
         let StreamId { driver, minor } = place.stream;
-        if u32::from(minor) >= minors_of(&self.drivers, driver) {
+        let of = self.drivers.get(driver as usize)?;
+        if u32::from(minor) >= of.minors {
             return None;
         }
         let firsts: &[usize] = &self.firsts;

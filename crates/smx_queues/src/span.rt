@@ -1,6 +1,6 @@
 //! Numbers that stand together.
 
-ghost use Rattle.std.specs.Prelude.{◌≡◌, ℕ, ◌+◌, ◌<◌, ◌≤◌, ◌^◌};
+ghost use Rattle.std.specs.Prelude.{ℕ, ◌+◌, ◌<◌, ◌≤◌, ◌^◌};
 
 /// The numbers from the first one on that are below the end; none where that is no more.
 #[derive(Clone, Copy, Debug, Drop)]

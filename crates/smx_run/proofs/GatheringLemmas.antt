@@ -1,11 +1,10 @@
 -- How many entries of each transcript a history has.
 use Rattle.std.proofs.Common.{◌≡◌, ◌≢◌, ℕ, suc, All, ◌<◌, ◌≤◌, true, false, List, [], ◌∷◌, ◌++◌, length, set, replicate}
 use Rattle.std.proofs.Common.{get_or, Option, Some, None, refl, sym, ap, subst, ◌∙◌, arith, inl, inr}
-use Rattle.std.specs.Prelude.{◌==◌, ◌↔◌, IfSome}
+use Rattle.std.specs.Prelude.{◌==◌, IfSome}
 use Rattle.std.proofs.lemmas.Bool.{cases_Bool, cases_lt}
 use Rattle.std.proofs.lemmas.Bool.Decides.{nat_tests}
 use Rattle.std.proofs.lemmas.List.{append-nil, get_or-set_same, get_or-set_other, get_or-replicate, get_or_past}
-use Rattle.std.proofs.lemmas.List.{length-take-le, take_all}
 use Rattle.std.proofs.lemmas.List.Elements.{filter-append}
 use Rattle.smx_types.specs.declared.command.Entry.{Entry}
 use Rattle.smx_types.specs.declared.limits.TheConstants.{MAX_PROCESSES}
@@ -50,14 +49,6 @@ one_more_met transcripts es more e n met m r transcript counted number within ad
           let other : p ≢ n = grind (arith, nat_tests) in
           rw (other_entry p es e f, get_or-set_other met n p r None other) (before p below)
     ])
-
--- as many entries were met as the transcript has just where they are the transcript
-pub whole_count : (transcript own : List Entry) (n : ℕ) → IsMet transcript own (Some n)
-    → (n ≡ length transcript) ↔ (own ≡ transcript)
-whole_count transcript own n h = (
-  (λ is. h.1 ∙ take_all n transcript (omega arith)),
-  (λ same. omega (arith, h.0, ap (length {A = Entry}) (sym h.1 ∙ same), length-take-le n transcript h.0)),
-)
 
 -- where others were met, they are not the transcript
 pub not_whole : (transcript own : List Entry) → IsMet transcript own None → own ≢ transcript

@@ -52,11 +52,6 @@ pub hands_are : (workers : ℕ) (all : List Calls) (hands : List (List Calls)) �
     → ((k : ℕ) → k < workers → get_or hands k [] ≡ hand_of workers all k) → hands ≡ hands_of workers all
 hands_are workers all hands many each = fill_by_all (hand_of workers all) hands workers [] many each
 
--- a process more at the end
-pub hand_more : (workers : ℕ) (all : List Calls) (one : Calls) (k : ℕ)
-    → hand_of workers (all ++ one ∷ []) k ≡ hand_of workers all k ++ hand_of workers (one ∷ []) k
-hand_more workers all one k = filter-append (λ (c : Calls). c.0 % workers == k) all (one ∷ [])
-
 -- a process more in the hand of its worker, and the other hands as they were
 pub put_more : {H : Type 0} (f : H → List Calls) (workers : ℕ) (hands : List H) (at : ℕ) (new d : H) (one : Calls)
     → length hands ≡ workers → at ≡ one.0 % workers → at < workers → f new ≡ f (get_or hands at d) ++ one ∷ []

@@ -1,7 +1,7 @@
 -- What a recorder was told is a report.
-use Rattle.std.proofs.Common.{◌≡◌, ℕ, ◌+◌, ◌≤◌, List, [], ◌∷◌, ◌++◌, length, map, Result, Ok, Err, refl, sym, ap, subst}
+use Rattle.std.proofs.Common.{◌≡◌, ℕ, ◌+◌, ◌≤◌, List, [], ◌∷◌, length, map, Result, Ok, Err, refl, sym, ap, subst}
 use Rattle.std.proofs.Common.{◌∙◌, arith}
-use Rattle.std.proofs.lemmas.List.{length-append, length-map, map-append}
+use Rattle.std.proofs.lemmas.List.{length-append, length-map}
 use Rattle.std.proofs.lemmas.List.Sums.{sum_by-cons}
 use Rattle.std.specs.List.{sum_by}
 use Rattle.std.specs.Prelude.{IfErr, IsErrAnd}
@@ -10,11 +10,8 @@ use Rattle.smx_types.specs.declared.command.Command.{Command}
 use Rattle.smx_types.specs.declared.command.Entry.{Entry}
 use Rattle.smx_types.specs.declared.driver.DriverSpec.{DriverSpec}
 use Rattle.smx_types.specs.declared.limits.TheConstants.{MAX_COMMANDS}
-use Rattle.smx_types.specs.declared.reply.Reply.{Reply}
 use Rattle.smx_types.specs.declared.version.Version.{Version}
 use Rattle.smx_types.specs.declared.view.ConfigView.{ConfigView}
-use Rattle.smx_model.specs.Commands.{step}
-use Rattle.smx_model.specs.Configuration.{Configuration, empty}
 use Rattle.smx_model.specs.DriverList.{IsDriverList}
 use Rattle.smx_model.specs.Headline.{IsReportOf}
 use Rattle.smx_model.specs.Histories.{after, call_of, IsLegal}
@@ -31,55 +28,12 @@ use Rattle.smx_run.proofs.ProgramOrderLemmas.{holds}
 
 -- ---- what the laws of histories say
 
-abbrev OneStepFurther : Type 0
-OneStepFurther = (drivers : List DriverSpec) (history : List Entry) (e : Entry) →
-    after drivers (history ++ e ∷ []) ≡ (step drivers (after drivers history) e.process e.command).0
-
-abbrev StaysLegal : Type 0
-StaysLegal = (drivers : List DriverSpec) (history : List Entry) (e : Entry) → IsLegal drivers history →
-    (step drivers (after drivers history) e.process e.command).1 ≡ e.reply → IsLegal drivers (history ++ e ∷ [])
-
 abbrev LegalIsLawful : Type 0
 LegalIsLawful =
     (drivers : List DriverSpec) (history : List Entry) → IsLegal drivers history → IsLawfulThroughout drivers history
 
 abbrev FewDrop : Type 0
 FewDrop = (drivers : List DriverSpec) (history : List Entry) → IsLegal drivers history → AreDropsAllowed history
-
-module _ {K : Type 0} (told : List DriverSpec → List Entry → K → Type 0) where
-  -- a recorder that was told of no entry, at an empty configuration
-  pub none_recorded : (recorder : K) (m : Machine) (drivers : List DriverSpec) → m.drivers ≡ drivers
-      → m.configuration ≡ empty
-      → told drivers [] recorder → HasRecorded told recorder m []
-  none_recorded recorder m drivers same is_empty was_told = record {
-    entries = [];
-    was_told = subst (λ (ds : List DriverSpec). told ds [] recorder) (sym same) was_told;
-    legal = tt;
-    now = is_empty;
-    calls = refl;
-  }
-
-  -- the recorder is told of one entry more, which a step of the configuration made
-  pub one_recorded : OneStepFurther → StaysLegal → (old new : Machine) (r s : K) (e : Entry) → new.drivers ≡ old.drivers
-      → step old.drivers old.configuration e.process e.command ≡ (new.configuration, e.reply)
-      → ((drivers : List DriverSpec) (entries : List Entry) → told drivers entries r
-      → told drivers (entries ++ e ∷ []) s)
-      → (asked : List (ℕ × Command)) → HasRecorded told r old asked → HasRecorded told s new (asked ++ call_of e ∷ [])
-  one_recorded further stays old new r s e same did tells asked h =
-      let es : List Entry = h.entries ++ e ∷ [] in
-      let now : step old.drivers (after old.drivers h.entries) e.process e.command ≡ (new.configuration, e.reply) =
-      ap (λ (c : Configuration). step old.drivers c e.process e.command) (sym h.now) ∙ did in
-      let legal : IsLegal old.drivers es = stays old.drivers h.entries e h.legal
-      (ap (λ (x : Configuration × Reply). x.1) now) in
-      let led : new.configuration ≡ after old.drivers es =
-      sym (ap (λ (x : Configuration × Reply). x.0) now) ∙ sym (further old.drivers h.entries e) in
-      record {
-        entries = es;
-        was_told = subst (λ (ds : List DriverSpec). told ds es s) (sym same) (tells old.drivers h.entries h.was_told);
-        legal = subst (λ (ds : List DriverSpec). IsLegal ds es) (sym same) legal;
-        now = led ∙ ap (λ (ds : List DriverSpec). after ds es) (sym same);
-        calls = map-append call_of h.entries (e ∷ []) ∙ ap (λ (cs : List (ℕ × Command)). cs ++ call_of e ∷ []) h.calls;
-      }
 
 -- ---- the whole
 

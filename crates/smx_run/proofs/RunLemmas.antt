@@ -82,10 +82,6 @@ pub record StillKnows (old new : Known) : Type 0 where
   pub own : new.own ≡ old.own
   pub seen : IsBeginningOf old.seen new.seen
 
--- where nothing has changed, the process knows as much as it did, and has made nothing since
-pub still_itself : (k : Known) → StillKnows k k
-still_itself k = record { drivers = refl; limit = refl; process = refl; own = refl; seen = ([], append-nil k.seen) }
-
 begins_trans : (xs ys zs : List Entry) → IsBeginningOf xs ys → IsBeginningOf ys zs → IsBeginningOf xs zs
 begins_trans xs ys zs p q = (p.0 ++ q.0, sym (append_assoc xs p.0 q.0) ∙ ap (λ (l : List Entry). l ++ q.0) p.1 ∙ q.1)
 

@@ -1,6 +1,6 @@
 //! Which worker runs which process: process p is run by worker p modulo the number of workers.
 
-ghost use Rattle.std.specs.Prelude.{◌≡◌, ◌≢◌, ◌≤◌, ◌<◌, ℕ, [], ◌∷◌, ◌++◌, List, All, length, map, slice_index_or, vec_len, IfOk, OnOk};
+ghost use Rattle.std.specs.Prelude.{◌≡◌, ◌≢◌, ◌≤◌, ◌<◌, ℕ, [], ◌∷◌, ◌++◌, All, length, map, slice_index_or, vec_len, IfOk, OnOk};
 ghost use Rattle.std.specs.List.{range_with_len};
 ghost use Rattle.smx_run.specs.Hands.{called, known_at, given_hand, called_hand, hand_of, hands_of, AreFresh, EndsAt, HaveEnded, IsFresh};
 ghost use Rattle.smx_shared.specs.Seats.{SharedId};

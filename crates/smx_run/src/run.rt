@@ -1,6 +1,6 @@
 //! A run: the programs of all processes, by so many workers.
 
-ghost use Rattle.std.specs.Prelude.{◌≡◌, ◌≤◌, ◌<◌, ◌⊎◌, ◌++◌, [], length, map, IfOk, IfErr, OnOk, OnErr};
+ghost use Rattle.std.specs.Prelude.{◌≡◌, ◌≤◌, ◌<◌, ◌⊎◌, [], length, map, IfOk, IfErr, OnOk, OnErr};
 ghost use Rattle.std.specs.List.{sum_by};
 ghost use Rattle.smx_model.specs.Headline.{IsReportOf};
 ghost use Rattle.smx_model.specs.DriverList.{IsDriverList};

@@ -1,1 +1,4 @@
 pub mod SessionLemmas
+pub mod LawLemmas
+pub mod HistoryLemmas
+pub mod WorkedLemmas

@@ -1,16 +1,18 @@
 -- How a session starts over a text, or why it doesn't.
 use Rattle.std.proofs.Common.{◌≡◌, ℕ, List, Ok, Err, None, inl, inr, refl, sym, subst, ◌∙◌}
-use Rattle.std.specs.Prelude.{◌⊎◌}
+use Rattle.std.specs.Prelude.{◌≢◌, ◌⊎◌}
 use Rattle.smx_types.specs.ProgramLists.{ProgramLists}
 use Rattle.smx_types.specs.declared.driver.DriverSpec.{DriverSpec}
 use Rattle.smx_types.specs.declared.version.Version.{Version}
 use Rattle.smx_config.specs.DriverFaults.{RefusesDrivers}
 use Rattle.smx_config.specs.Machine.{Machine}
 use Rattle.smx_config.specs.declared.config_fault.ConfigFault.{ConfigFault}
+use Rattle.smx_config.specs.declared.config_fault.ConfigFault.TheVariants as config
 use Rattle.smx_model.specs.Configuration.{empty}
 use Rattle.smx_model.specs.DriverList.{IsDriverList}
 use Rattle.smx_text.specs.Grammar.{ReadsAny, Spells}
 use Rattle.smx_text.specs.ProgramsText.{programs_grammar}
+use Rattle.smx_text.specs.declared.text_fault.Cause.TheVariants as cause
 use Rattle.smx_text.specs.declared.text_fault.TextFault.{TextFault}
 use Rattle.smx_session.specs.Sessions.{IsStartOf, StartsAs}
 use Rattle.smx_session.specs.declared.trouble.Trouble.{Trouble}
@@ -18,18 +20,25 @@ use Rattle.smx_session.specs.declared.trouble.Trouble.TheVariants.{NoMemory, Tex
 
 -- the text is at fault, or memory was wanting
 pub at_fault : (text : List ℕ) (fault : TextFault) (t : Trouble) → ReadsAny programs_grammar text (Err fault)
-    → (t ≡ NoMemory) ⊎ (t ≡ Text fault) → StartsAs text (Err t)
-at_fault text fault t read (inl is) = subst (λ (x : Trouble). StartsAs text (Err x)) (sym is) tt
-at_fault text fault t read (inr is) = subst (λ (x : Trouble). StartsAs text (Err x)) (sym is) read
+    → ((t ≡ NoMemory) × (fault.cause ≡ cause.NoMemory)) ⊎ ((t ≡ Text fault) × (fault.cause ≢ cause.NoMemory))
+    → StartsAs text (Err t)
+at_fault text fault t read (inl (is, wanting)) =
+    subst (λ (x : Trouble). StartsAs text (Err x)) (sym is) (inl (fault, read, wanting))
+at_fault text fault t read (inr (is, other)) =
+    subst (λ (x : Trouble). StartsAs text (Err x)) (sym is) (read, other)
 
 -- its drivers are refused, or memory was wanting
 pub refused : (text : List ℕ) (p : ProgramLists) (ds : List DriverSpec) (fault : ConfigFault) (t : Trouble)
     → ReadsAny programs_grammar text (Ok p) → ds ≡ p.drivers → RefusesDrivers ds fault
-    → (t ≡ NoMemory) ⊎ (t ≡ Drivers fault) → StartsAs text (Err t)
-refused text p ds fault t read same bad (inl is) = subst (λ (x : Trouble). StartsAs text (Err x)) (sym is) tt
-refused text p ds fault t read same bad (inr is) =
+    → ((t ≡ NoMemory) × (fault ≡ config.NoMemory)) ⊎ ((t ≡ Drivers fault) × (fault ≢ config.NoMemory))
+    → StartsAs text (Err t)
+refused text p ds fault t read same bad (inl (is, wanting)) =
     let why : RefusesDrivers p.drivers fault = subst (λ (xs : List DriverSpec). RefusesDrivers xs fault) same bad in
-    subst (λ (x : Trouble). StartsAs text (Err x)) (sym is) (read.0, p, read.1, why)
+    let can : IsDriverList p.drivers = subst (RefusesDrivers p.drivers) wanting why in
+    subst (λ (x : Trouble). StartsAs text (Err x)) (sym is) (inr (read.0, p, read.1, can))
+refused text p ds fault t read same bad (inr (is, other)) =
+    let why : RefusesDrivers p.drivers fault = subst (λ (xs : List DriverSpec). RefusesDrivers xs fault) same bad in
+    subst (λ (x : Trouble). StartsAs text (Err x)) (sym is) ((read.0, p, read.1, why), other)
 
 -- nothing is open over its drivers
 pub started : (text : List ℕ) (p : ProgramLists) (v : Version) (ds : List DriverSpec) (m : Machine)

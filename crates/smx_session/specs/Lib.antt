@@ -1,1 +1,3 @@
 pub mod Sessions
+pub mod TroubleWords
+pub mod WorkedSessions

@@ -1,12 +1,12 @@
 //! A configuration, with the version of its texts and the entry that was made last.
 
-ghost use Rattle.std.specs.Prelude.{◌≡◌, ◌++◌, IfOk, IfErr, OnOk, OnErr, option_copied};
+ghost use Rattle.std.specs.Prelude.{◌≡◌, ◌⊎◌, ◌++◌, IfOk, IfErr, OnOk, OnErr, option_copied};
 ghost use Rattle.smx_model.specs.Views.{view};
 ghost use Rattle.smx_words.specs.Spellable.{FitsEntryIn};
 ghost use Rattle.smx_words.specs.Words.{line_of};
 ghost use Rattle.smx_words.specs.Spelling.{entry_words};
 ghost use Rattle.smx_session.specs.Sessions.{IsNoCall, Performs, StartsAs, done_behind};
-ghost use Rattle.smx_session.specs.declared.trouble.Trouble.TheVariants.{Line};
+ghost use Rattle.smx_session.specs.declared.trouble.Trouble.TheVariants.{Line, NoMemory as memory};
 
 use crate::trouble::{Trouble, of_drivers, of_text};
 use smx_config::Config;
@@ -43,6 +43,7 @@ fn asked(alloc: Global, version: Version, line: &[u8]) -> Result<Entry, Trouble>
     ensures fits { IfOk result (FitsEntryIn version) }
     ensures read { IfOk result (λ e. line.now ++ done_behind ≡ line_of (entry_words e)) }
     ensures none { IfErr result (λ t. t ≡ Line → IsNoCall version line.now) }
+    ensures why { IfErr result (λ t. (t ≡ memory) ⊎ (t ≡ Line)) }
 {
     let mut text = Vec::from_slice(alloc, line)?;
     text.extend_from_slice(b" = done")?;
@@ -79,6 +80,7 @@ impl Session {
         ensures ok { OnOk result (Performs self.old line.now self.new) }
         ensures err { OnErr result (self.new ≡ self.old) }
         ensures none { IfErr result (λ t. t ≡ Line → IsNoCall self.old.version line.now) }
+        ensures why { IfErr result (λ t. (t ≡ memory) ⊎ (t ≡ Line)) }
     {
         let Entry {
             process,

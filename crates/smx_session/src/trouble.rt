@@ -1,7 +1,9 @@
 //! Why a call of a session did nothing.
 
-ghost use Rattle.std.specs.Prelude.{◌≡◌, ◌⊎◌};
+ghost use Rattle.std.specs.Prelude.{◌≡◌, ◌≢◌, ◌⊎◌};
+ghost use Rattle.smx_config.specs.declared.config_fault.ConfigFault.TheVariants as config;
 ghost use Rattle.smx_session.specs.declared.trouble.Trouble.TheVariants.{NoMemory as memory, Text, Drivers};
+ghost use Rattle.smx_text.specs.declared.text_fault.Cause.TheVariants as cause;
 
 use smx_config::ConfigFault;
 use smx_text::{Cause, TextFault};
@@ -26,7 +28,8 @@ pub enum Trouble {
 
 /// Want of memory by itself, and every other fault of a text as it is.
 pub(crate) fn of_text(fault: TextFault) -> Trouble
-    ensures { (result ≡ memory) ⊎ (result ≡ Text fault) }
+    ensures { ((result ≡ memory) × (fault.cause ≡ cause.NoMemory))
+        ⊎ ((result ≡ Text fault) × (fault.cause ≢ cause.NoMemory)) }
 {
     match fault.cause {
         Cause::NoMemory => Trouble::NoMemory,
@@ -38,7 +41,8 @@ pub(crate) fn of_text(fault: TextFault) -> Trouble
 
 /// Want of memory by itself, and every other fault of drivers as it is.
 pub(crate) fn of_drivers(fault: ConfigFault) -> Trouble
-    ensures { (result ≡ memory) ⊎ (result ≡ Drivers fault) }
+    ensures { ((result ≡ memory) × (fault ≡ config.NoMemory))
+        ⊎ ((result ≡ Drivers fault) × (fault ≢ config.NoMemory)) }
 {
     match fault {
         ConfigFault::NoMemory => Trouble::NoMemory,
@@ -49,6 +53,11 @@ pub(crate) fn of_drivers(fault: ConfigFault) -> Trouble
 }
 
 impl fmt::Display for Trouble {
+    ghost use Rattle.std.specs.Prelude.{Some};
+    ghost use Rattle.smx_session.specs.TroubleWords.{trouble_words};
+
+    ghost output = { λ trouble. Some (trouble_words trouble) };
+
     fn fmt<W: fmt::Write>(&self, f: &mut fmt::Formatter<W>) -> fmt::Result {
         match self {
             Trouble::NoMemory => f.write_str("no memory"),

@@ -5,14 +5,13 @@ use Rattle.std.specs.List.{range_with_len}
 use Rattle.std.proofs.lemmas.List.FromFn.{map-range_with_len_more}
 use Rattle.smx_types.specs.declared.command.Entry.{Entry}
 use Rattle.smx_types.specs.declared.driver.DriverSpec.{DriverSpec}
-use Rattle.atomic_table.specs.Seated.{TableId}
-use Rattle.smx_shared.specs.Calls.{GoesOnFrom, HasSeenMore, SeesFront, Meets, EndsAs}
+use Rattle.smx_shared.specs.Calls.{GoesOnFrom, HasSeenMore, SeesFront, EndsAs}
 use Rattle.smx_shared.specs.CloseFaults.{ShowsHeld}
 use Rattle.smx_shared.specs.Fronts.{links_after, word_of, turn_bit}
 use Rattle.smx_shared.specs.Recorded.{Recorded, IsSoundSystem}
 use Rattle.smx_shared.specs.Seats.{SharedAs, GoesOnNamed, SharedId, Seated, first_seat, entries_of, AreMetBy}
 use Rattle.smx_shared.specs.Seats.{IsBeginningOf}
-use Rattle.smx_shared.specs.SeatViews.{known_of, seated_of, IsInformed, HasGrown, HasMet, FoundWord, IsWordFrom}
+use Rattle.smx_shared.specs.SeatViews.{known_of, IsInformed, HasGrown, FoundWord, IsWordFrom}
 use Rattle.smx_shared.specs.TurnRule.{Slot, system_with}
 use Rattle.smx_shared.specs.declared.front.Front.{Front}
 use Rattle.smx_shared.specs.declared.seat_view.SeatView.{SeatView}
@@ -35,27 +34,6 @@ has_seen_more v w grown informed named = record {
 pub has_seen_more_by : (u v w : SeatView) → HasGrown u v → HasGrown v w → IsInformed w → u.named ≡ true
     → HasSeenMore (known_of u) (known_of w)
 has_seen_more_by u v w first second = has_seen_more u w (grown_trans u v w first second)
-
--- by a meeting
-pub has_met_more : (v other w : SeatView) → HasMet v other w → IsInformed w → v.named ≡ true
-    → HasSeenMore (known_of v) (known_of w)
-has_met_more v other w met informed named = record {
-  drivers = met.drivers;
-  limit = met.limit;
-  process = met.process;
-  seen = met.seen;
-  sound = informed.sound;
-  exact = informed.own (met.named ∙ named);
-}
-
--- and knows of the other what it knew
-pub has_met : (id one : TableId) (v other w : SeatView) → HasMet v other w
-    → Meets (seated_of id v) (seated_of one other) (seated_of id w)
-has_met id one v other w met = record {
-  own = met.own;
-  met = met.met;
-  known = met.told;
-}
 
 -- the law of the limits, of links
 abbrev AreLinksFew : Type 0

@@ -22,11 +22,6 @@ pub met_join : (s : Recorded) (xs ys : List MetSeat) → AreMetBy s xs → AreMe
 met_join s [] ys p q = q
 met_join s (x ∷ xs) ys p q = (p.0, met_join s xs ys p.1 q)
 
--- those behind others
-pub met_behind : (s : Recorded) (xs ys : List MetSeat) → AreMetBy s (xs ++ ys) → AreMetBy s ys
-met_behind s [] ys p = p
-met_behind s (x ∷ xs) ys p = met_behind s xs ys p.1
-
 -- if the processes of the seats in two lists are below a name, so they are in both lists together
 pub met_named_join : (n : ℕ) (xs ys : List MetSeat) → AreMetBelow n xs → AreMetBelow n ys → AreMetBelow n (xs ++ ys)
 met_named_join n [] ys p q = q

@@ -19,7 +19,7 @@ use Rattle.smx_shared.specs.SeatViews.{FoundWord, AddsFor}
 use Rattle.smx_shared.specs.TurnRule.{Slot, Turn, free, held, bit_of, home_of, system_with, TurnRule}
 use Rattle.smx_shared.specs.declared.shared_fault.ApplyFault.{ApplyFault}
 use Rattle.smx_shared.specs.declared.seat_view.SeatView.{SeatView}
-use Rattle.smx_shared.proofs.OwnEntryLemmas.{begins_trans, begins_itself, entries_append, entries_mine, adds_one}
+use Rattle.smx_shared.proofs.OwnEntryLemmas.{begins_trans, entries_append, entries_mine, adds_one}
 use Rattle.smx_shared.proofs.OwnEntryLemmas.{adds_none}
 use Rattle.smx_shared.proofs.FrontWordLemmas.{held_odd, free_even, front_and_bit}
 
@@ -35,18 +35,6 @@ grown_trans u v w p q = record {
   named = q.named ∙ p.named;
   process = q.process ∙ p.process;
   seen = begins_trans u.seen v.seen w.seen p.seen q.seen;
-}
-
--- a seat has seen as much as it has, and is the same
-pub grown_same : (v : SeatView) → HasGrown v v
-grown_same v = record {
-  drivers = refl;
-  limit = refl;
-  met = refl;
-  spent = refl;
-  named = refl;
-  process = refl;
-  seen = begins_itself v.seen;
 }
 
 -- by a step that showed it a history
@@ -119,27 +107,9 @@ same_system : (s : Recorded) (drivers : List DriverSpec) (limit : ℕ) → s.dri
     → s ≡ system_with drivers limit s.history
 same_system s drivers limit d l = ap₂ (λ (ds : List DriverSpec) (k : ℕ). system_with ds k s.history) d l
 
-slot_in : List (ℕ × Slot) → Slot
-slot_in [] = None
-slot_in (x ∷ xs) = x.1
-
--- what the holder finds in the slot is what it has seen
-pub found_system : (m : Mine) (slot x : Slot) → HasTurn m slot → m.1 ≡ (0, x) ∷ rest m.1 → x ≡ slot
-unfolding slot_in
-found_system m slot x h at = ap slot_in (sym at ∙ h.has)
-
 -- the slot of a seat that has the turn is the first that is out with it
 pub has_slot : (m : Mine) (slot : Slot) → HasTurn m slot → m.1 ≡ (0, slot) ∷ rest m.1
 has_slot m slot h = h.has ∙ ap (λ (l : List (ℕ × Slot)). (0, slot) ∷ rest l) (sym h.has)
-
--- with another thing in the slot it has the turn still
-pub other_slot : (m m1 : Mine) (slot x : Slot) → HasTurn m slot → m1 ≡ (m.0, (0, x) ∷ rest m.1)
-    → HasTurn m1 x × (m1.0 ≡ m.0)
-other_slot m m1 slot x h is =
-    let none_left : rest m.1 ≡ [] = ap rest h.has in
-    let same : m1 ≡ (m.0, (0, x) ∷ []) = is ∙ ap (λ (l : List (ℕ × Slot)). (m.0, (0, x) ∷ l)) none_left in
-    subst (λ (k : Mine). HasTurn k x × (k.0 ≡ m.0)) (sym same)
-    (record { turn = h.turn; whole = h.whole; has = refl; informed = h.informed }, refl)
 
 -- the seat before it gives the turn back: m1 is what m has become, with this system in the slot
 pub record IsReady (m m1 : Mine) (s : Recorded) (n : ℕ) : Type 0 where

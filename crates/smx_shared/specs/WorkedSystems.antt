@@ -1,7 +1,5 @@
 -- A system that is sound, and four that are not.
-use Rattle.std.specs.Prelude.{ℕ, List, [], ◌∷◌, take}
-use Rattle.smx_types.specs.declared.command.Entry.{Entry}
-use Rattle.smx_types.specs.declared.driver.DriverSpec.{DriverSpec}
+use Rattle.std.specs.Prelude.{ℕ, [], ◌∷◌, take}
 use Rattle.smx_model.specs.Worked.Common.{ip, mux}
 use Rattle.smx_model.specs.Worked.SecondIsIllegal.{history}
 use Rattle.smx_shared.specs.Recorded.{Recorded}

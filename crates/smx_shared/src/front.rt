@@ -1,6 +1,6 @@
 //! What is seen of a shared system from outside.
 
-ghost use Rattle.std.specs.Prelude.{◌≡◌, ◌*◌, ◌<◌, ◌^◌, IfOk};
+ghost use Rattle.std.specs.Prelude.{◌≡◌, ◌*◌, ◌<◌, ◌^◌};
 ghost use Rattle.smx_shared.specs.Fronts.{word_of};
 
 use smx_types::{Copied, Items, NoMemory};

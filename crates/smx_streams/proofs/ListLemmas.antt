@@ -1,5 +1,5 @@
 -- Lists in general.
-use Rattle.std.proofs.Common.{◌≡◌, ℕ, zero, suc, Bool, not, List, [], ◌∷◌, ◌++◌, find, filter, replicate, Some, None}
+use Rattle.std.proofs.Common.{◌≡◌, Bool, not, List, [], ◌∷◌, ◌++◌, find, filter, Some, None}
 use Rattle.std.proofs.Common.{refl, ap, inl, inr}
 use Rattle.std.specs.List.{list_any}
 use Rattle.std.specs.Option.{is_some}
@@ -53,8 +53,3 @@ pub inserted_first : {X : Type 0} (before : X → X → Bool) (x : X) (ys : List
     → with_inserted before ys x ≡ x ∷ ys
 inserted_first before x [] h = refl
 inserted_first before x (y ∷ ys) h = rw h.0 refl
-
--- so many times the same, with one more at the end, is once more the same
-pub replicate_push : {X : Type 0} (n : ℕ) (x : X) → replicate n x ++ x ∷ [] ≡ replicate (suc n) x
-replicate_push zero x = refl
-replicate_push (suc n) x = ap (λ xs. x ∷ xs) (replicate_push n x)

@@ -1,8 +1,8 @@
 -- Records by driver and minor, changed, made and gone.
 use Rattle.std.proofs.Common.{◌≡◌, ◌≢◌, ℕ, ◌+◌, ◌<◌, ◌≤◌, true, false, List, [], ◌∷◌, length, map, replicate, Option}
-use Rattle.std.proofs.Common.{Some, None, if◌then◌else◌, refl, sym, ap, ◌∙◌, subst, arith, inl, inr}
+use Rattle.std.proofs.Common.{Some, None, if◌then◌else◌, refl, sym, ap, ◌∙◌, arith, inl, inr}
 use Rattle.std.proofs.lemmas.Bool.{cases_Bool, cases_eq, both_ways, ltb-true, lt-ltb}
-use Rattle.std.specs.Prelude.{IfSome, nat_lt}
+use Rattle.std.specs.Prelude.{nat_lt}
 use Rattle.std.specs.List.{AllZip}
 use Rattle.std.specs.Option.{is_some}
 use Rattle.std.proofs.lemmas.Bool.Decides.{nat_tests}
@@ -13,7 +13,7 @@ use Rattle.smx_types.specs.declared.stream.StreamId.{StreamId}
 use Rattle.smx_model.specs.Configuration.{same_stream}
 use Rattle.smx_streams.specs.declared.records.Record.{Record}
 use Rattle.smx_streams.specs.RecordGrids.{Grid, key_at, record_of_key, opens_of, holds_of, uses_of, AreSet, AreRecords}
-use Rattle.smx_streams.specs.RecordGrids.{IsRecord, IsRecordOf, IsSet, hung_of, is_used_and_hung}
+use Rattle.smx_streams.specs.RecordGrids.{IsRecord, IsSet, hung_of, is_used_and_hung}
 use Rattle.smx_streams.specs.StreamTables.{number_at, is_in_range}
 use Rattle.smx_streams.proofs.GridLemmas.{same_is, same_self, opens_at, holds_at, in_range_of_key, no_keys, hungs_at}
 use Rattle.smx_streams.specs.HungRows.{flag_at}
@@ -298,19 +298,6 @@ hung_is_used grid records s whole h = rw (opens_at grid records s, holds_at grid
           → 0 < opens_of (record_of_key records o) + holds_of (record_of_key records o)
       by None e t = absurd cc
       by (Some key) e t = let there = whole.listed s key e in rw there.1 there.2.used
-
--- the numbers of a stream are those of its record
-pub record_read : (grid : Grid) (records : Slab Record) (s : StreamId) (r : Option Record) → AreRecords grid records
-    → r ≡ record_of_key records (key_at grid s) → IsRecordOf (uses_of grid records) s r
-record_read grid records s r whole is = record {
-  opens = ap opens_of is ∙ sym (opens_at grid records s);
-  holds = ap holds_of is ∙ sym (holds_at grid records s);
-  hung = ap hung_of is ∙ sym (hungs_at grid records s);
-  used = subst (λ o. IfSome o (λ x. 0 < x.opens + x.holds)) (sym is) (by (key_at grid s) refl);
-} where
-  by : (o : Option ℕ) → key_at grid s ≡ o → IfSome (record_of_key records o) (λ x. 0 < x.opens + x.holds)
-  by None e = tt
-  by (Some key) e = let there = whole.listed s key e in rw there.1 there.2.used
 
 -- the same slots
 

@@ -26,10 +26,6 @@ abbrev pub record_of_key : Slab Record → Option ℕ → Option Record
 record_of_key records None = None
 record_of_key records (Some key) = get records key
 
--- the stream's record
-abbrev pub record_at : Grid → Slab Record → StreamId → Option Record
-record_at grid records s = record_of_key records (key_at grid s)
-
 -- its number of descriptors, or 0 where there is no record
 abbrev pub opens_of : Option Record → ℕ
 opens_of None = 0

@@ -1,6 +1,6 @@
 //! The descriptors of one process, by their numbers.
 
-ghost use Rattle.std.specs.Prelude.{◌≡◌, ◌<◌, ◌↔◌, [], None, length, slice_set, slice_index_or, IfOk, OnOk, OnErr, IsOk};
+ghost use Rattle.std.specs.Prelude.{◌≡◌, ◌<◌, [], None, length, slice_set, slice_index_or, IfOk, OnOk, OnErr, IsOk};
 ghost use Rattle.smx_streams.specs.RowRoom.{with_room};
 
 use smx_types::{MAX_DESCRIPTORS, NoMemory, StreamId};

@@ -1,6 +1,6 @@
 //! The records of streams, found by driver and minor.
 
-ghost use Rattle.std.specs.Prelude.{◌≡◌, ◌≢◌, ℕ, ◌+◌, ◌<◌, ◌≤◌, nat_lt, ◌&&◌, true, false, [], None, Some, map, length, replicate};
+ghost use Rattle.std.specs.Prelude.{◌≡◌, ◌≢◌, ◌+◌, ◌<◌, ◌≤◌, nat_lt, ◌&&◌, true, false, [], None, Some, map, length, replicate};
 ghost use Rattle.std.specs.Prelude.{slice_get, slice_index_or, IfOk, IsOk, OnOk, OnErr};
 ghost use Rattle.slab.specs.Slab.{get, Updates};
 ghost use Rattle.smx_types.specs.declared.limits.TheConstants.{MAX_DRIVERS};

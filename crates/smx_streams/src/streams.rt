@@ -284,10 +284,7 @@ impl Streams {
     pub fn first_fd(&self) -> Option<Descriptor>
         ensures { IsNext self.now.fds 0 0 result }
     {
-        match Process::new(0) {
-            Some(process) => self.next_fd(process, 0),
-            None => None,
-        }
+        self.next_fd(Process::new(0).unwrap(), 0)
     }
 
     // What every list of descriptors is.

@@ -13,11 +13,6 @@ use Rattle.smx_types.specs.declared.driver.DriverSpec.{DriverSpec}
 use Rattle.smx_types.specs.declared.limits.TheConstants.{MAX_DRIVERS, MAX_MINORS}
 use Rattle.smx_model.specs.DriverList.{IsDriverList}
 
--- none yet
-pub no_drivers : IsDriverList []
-no_drivers =
-    record { few = omega arith; each = λ k d lt. absurd (omega arith); names = λ i j d lt more. absurd (omega arith) }
-
 -- one more, of a name that none has yet
 one_more : (ds : List DriverSpec) (d : DriverSpec) → length ds < MAX_DRIVERS → IsDriverList ds → spec_check d ≡ Ok tt
     → (Any (λ e. e.name ≡ d.name) ds → ⊥) → IsDriverList (ds ++ d ∷ [])

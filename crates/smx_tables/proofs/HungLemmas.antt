@@ -25,14 +25,6 @@ stricter p q (x ∷ xs) h = elim (cases_Bool (p x)) [
   | inr f ↦ elim (cases_Bool (q x)) [ inl u ↦ rw (u, f) (stricter p q xs h) | inr u ↦ rw (u, f) (stricter p q xs h) ]
 ]
 
--- tests that agree keep the same
-pub kept_same : (p q : StreamId → Bool) (xs : List StreamId) → ((x : StreamId) → p x ≡ q x) → filter p xs ≡ filter q xs
-kept_same p q [] h = refl
-kept_same p q (x ∷ xs) h = elim (cases_Bool (q x)) [
-  | inl t ↦ rw (h x, t) (ap (λ (ys : List StreamId). x ∷ ys) (kept_same p q xs h))
-  | inr f ↦ rw (h x, f) (kept_same p q xs h)
-]
-
 -- a test that each passes keeps all
 pub all_pass : (p : StreamId → Bool) (xs : List StreamId) → ((x : StreamId) → is_hung xs x ≡ true → p x ≡ true)
     → xs ≡ filter p xs

@@ -12,7 +12,7 @@ pub mod OrphanLemmas
 pub mod ReleasedIdLemmas
 pub mod TouchLemmas
 pub mod OrphanIdLemmas
-pub mod PlaceLemmas
+pub mod LengthLemmas
 pub mod RemovalLemmas
 pub mod HungSweepLemmas
 pub mod BelowLemmas

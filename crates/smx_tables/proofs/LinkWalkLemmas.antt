@@ -1,21 +1,23 @@
 -- Going over the links of a table, from the first on.
-use Rattle.std.proofs.Common.{◌≡◌, ℕ, zero, suc, ◌+◌, ◌<◌, Bool, true, false, List, [], ◌∷◌, ◌++◌, length, map, filter}
-use Rattle.std.proofs.Common.{take, get_or, Some, None, refl, sym, ap, ◌∙◌, arith, inl, inr}
+use Rattle.std.proofs.Common.{◌≡◌, ℕ, zero, suc, ◌+◌, ◌<◌, Bool, List, [], ◌∷◌, ◌++◌, length, filter}
+use Rattle.std.proofs.Common.{take, get_or, Some, sym, ap, ◌∙◌, inl, inr}
 use Rattle.std.specs.Prelude.{slice_get}
 use Rattle.std.proofs.lemmas.Bool.{cases_Bool}
-use Rattle.std.proofs.lemmas.List.{map-append, take_more}
+use Rattle.std.proofs.lemmas.List.{take_more}
 use Rattle.std.proofs.lemmas.Option.{get_or_from_slice_get, slice_get-get_or, slice_get_within}
+use Rattle.smx_types.specs.declared.link.Link.{Link}
+use Rattle.smx_types.specs.declared.link.LinkKind.TheVariants as kind
+use Rattle.smx_types.specs.declared.stream.StreamId.{StreamId}
 
--- there is one at each place
-pub none_past : {X : Type 0} (xs : List X) (i : ℕ) → None ≡ slice_get xs i → i < length xs → ⊥
-none_past [] i e lt = absurd (omega arith)
-none_past (x ∷ xs) i e lt = let k = e ∙ slice_get-get_or (x ∷ xs) i x lt in cc
+-- the link at which a loop over links is
+abbrev pub link_at : List Link → ℕ → Link
+link_at links i = get_or links i (record { id = 0; ctl = none; lower = none; kind = kind.Ordinary }) where
+  none : StreamId
+  none = record { driver = 0; minor = 0 }
 
--- and one that was got out of the same items elsewhere
-pub one_got : {X : Type 0} (xs ys : List X) (i : ℕ) (x : X) → ys ≡ xs → i < length ys → x ≡ get_or ys i x
-    → Some x ≡ slice_get xs i
-one_got {X = X} xs ys i x same lt is =
-    ap Some is ∙ sym (slice_get-get_or ys i x lt) ∙ ap (λ (zs : List X). slice_get zs i) same
+-- it is there, and so among the same links
+pub one_at : (xs ys : List Link) (i : ℕ) → ys ≡ xs → i < length ys → Some (link_at ys i) ≡ slice_get xs i
+one_at xs ys i same lt = sym (slice_get-get_or ys i _ lt) ∙ ap (λ (zs : List Link). slice_get zs i) same
 
 -- one of those that pass a test is one of all
 pub among_all : {X : Type 0} (t : X → Bool) (xs : List X) (i : ℕ) (x : X) → Some x ≡ slice_get (filter t xs) i
@@ -38,39 +40,3 @@ pub take_one_more : {X : Type 0} (xs : List X) (i : ℕ) (x : X) → Some x ≡ 
     → take (i + 1) xs ≡ take i xs ++ x ∷ []
 take_one_more {X = X} xs i x e = take_more xs i x (slice_get_within xs i x (sym e))
     ∙ ap (λ (y : X). take i xs ++ y ∷ []) (get_or_from_slice_get xs i x x (sym e))
-
--- the images of one item more are those before and its own
-pub mapped_more : {X Y : Type 0} (f : X → Y) (xs : List X) (i : ℕ) (x : X) → Some x ≡ slice_get xs i
-    → map f (take (i + 1) xs) ≡ map f (take i xs) ++ f x ∷ []
-mapped_more f xs i x e = ap (map f) (take_one_more xs i x e) ∙ map-append f (take i xs) (x ∷ [])
-
-kept_last : {X : Type 0} (t : X → Bool) (xs : List X) (x : X) → t x ≡ true
-    → filter t (xs ++ x ∷ []) ≡ filter t xs ++ x ∷ []
-kept_last {X = X} t [] x h = rw h refl
-kept_last {X = X} t (y ∷ ys) x h = elim (cases_Bool (t y))
-    [ inl a ↦ rw a (ap (λ (zs : List X). y ∷ zs) (kept_last t ys x h)) | inr b ↦ rw b (kept_last t ys x h) ]
-
-left_last : {X : Type 0} (t : X → Bool) (xs : List X) (x : X) → t x ≡ false → filter t (xs ++ x ∷ []) ≡ filter t xs
-left_last {X = X} t [] x h = rw h refl
-left_last {X = X} t (y ∷ ys) x h = elim (cases_Bool (t y))
-    [ inl a ↦ rw a (ap (λ (zs : List X). y ∷ zs) (left_last t ys x h)) | inr b ↦ rw b (left_last t ys x h) ]
-
--- one more that passes, and one that doesn't
-pub kept_more : {X Y : Type 0} (f : X → Y) (t : X → Bool) (xs : List X) (i : ℕ) (x : X) → Some x ≡ slice_get xs i
-    → t x ≡ true → map f (filter t (take (i + 1) xs)) ≡ map f (filter t (take i xs)) ++ f x ∷ []
-kept_more {X = X} f t xs i x e h = ap (λ (ys : List X). map f (filter t ys)) (take_one_more xs i x e)
-    ∙ ap (map f) (kept_last t (take i xs) x h) ∙ map-append f (filter t (take i xs)) (x ∷ [])
-
--- with one item more that doesn't pass the test, the images of those that pass are the same
-pub left_more : {X Y : Type 0} (f : X → Y) (t : X → Bool) (xs : List X) (i : ℕ) (x : X) → Some x ≡ slice_get xs i
-    → t x ≡ false → map f (filter t (take (i + 1) xs)) ≡ map f (filter t (take i xs))
-left_more {X = X} f t xs i x e h =
-    ap (λ (ys : List X). map f (filter t ys)) (take_one_more xs i x e) ∙ ap (map f) (left_last t (take i xs) x h)
-
--- one line more that is the right one
-pub shown_more : {X Y : Type 0} (f : X → Y) (xs : List X) (ys : List Y) (i : ℕ) (x : X) (y : Y)
-    → Some x ≡ slice_get xs i → i < length ys → y ≡ get_or ys i y → y ≡ f x → take i ys ≡ map f (take i xs)
-    → take (i + 1) ys ≡ map f (take (i + 1) xs)
-shown_more {X = X} {Y = Y} f xs ys i x y e lt is same so_far =
-    take_more ys i y lt ∙ ap (λ (z : Y). take i ys ++ z ∷ []) (sym is ∙ same)
-    ∙ ap (λ (zs : List Y). zs ++ f x ∷ []) so_far ∙ sym (mapped_more f xs i x e)

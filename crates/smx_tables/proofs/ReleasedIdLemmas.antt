@@ -1,6 +1,6 @@
 -- The lower streams of links are released by the links' ids.
 use Rattle.std.proofs.Common.{◌≡◌, ℕ, ◌-◌, ◌<◌, ◌≤◌, Bool, true, false, ◌&&◌, ◌||◌, not, eqb, List, [], ◌∷◌, ◌++◌}
-use Rattle.std.proofs.Common.{filter, get_or, find, Option, Some, None, if◌then◌else◌, refl, sym, ap, subst, ◌∙◌, arith}
+use Rattle.std.proofs.Common.{get_or, find, Option, Some, None, if◌then◌else◌, refl, sym, ap, subst, ◌∙◌, arith}
 use Rattle.std.proofs.Common.{inl, inr}
 use Rattle.std.specs.List.{All, AllByRecursion, list_any}
 use Rattle.std.proofs.lemmas.Bool.{cases_Bool}
@@ -13,7 +13,7 @@ use Rattle.smx_model.specs.Standing.{is_below}
 use Rattle.smx_streams.specs.StreamTables.{StreamTable, AreHungsSound, HasHolds, number_at}
 use Rattle.smx_tables.specs.ExistingStreams.{AreHeld}
 use Rattle.smx_tables.specs.ListedLinks.{is_listed}
-use Rattle.smx_links.specs.LinkLists.{is_one_of}
+use Rattle.smx_links.specs.LinkLists.{is_one_of, others_of}
 use Rattle.smx_tables.proofs.AboveLemmas.{once_below, once_id, stream_is, stream_self}
 use Rattle.smx_tables.proofs.ExistingLemmas.{same_test}
 use Rattle.smx_tables.proofs.HungLemmas.{none_went}
@@ -54,10 +54,6 @@ listed_one_more (i ∷ ids) id x =
 one_of_more : (ids : List ℕ) (id : ℕ) (l : Link) → is_one_of (ids ++ id ∷ []) l ≡ (is_one_of ids l || eqb l.id id)
 one_of_more ids id l = listed_one_more ids id l.id
 
--- the links that none of the ids names
-abbrev pub without : List ℕ → List Link → List Link
-without ids ls = filter (λ l. not (is_one_of ids l)) ls
-
 -- by id and by lower stream the same link is found
 abbrev pub IsFoundBy : ℕ → StreamId → Link → Type 0
 IsFoundBy id s l = eqb l.id id ≡ same_stream l.lower s
@@ -78,7 +74,7 @@ drop_one true o p g v r less e f h = ap (λ (x : Bool). not x || less) (e ∙ ap
       table false false false = refl
 
 below_one_less : (ids : List ℕ) (id : ℕ) (s x : StreamId) (ls : List Link) → AllByRecursion (IsFoundBy id s) ls
-    → is_below (without (ids ++ id ∷ []) ls) x ≡ (is_below (without ids ls) x && not (same_stream x s))
+    → is_below (others_of (ids ++ id ∷ []) ls) x ≡ (is_below (others_of ids ls) x && not (same_stream x s))
 below_one_less ids id s x ls h =
     any_kept (λ l. same_stream l.lower x) (λ l. not (is_one_of (ids ++ id ∷ []) l)) ls
     ∙ each ls h
@@ -117,7 +113,7 @@ found_by links id l apart rise found = λ i d lt.
 -- one id more, whose link's lower stream is released
 pub released_more : (links : List Link) (ids : List ℕ) (id : ℕ) (l : Link) (t new : StreamTable) → AreLowersApart links
     → IsIdsRising links → find (λ k. eqb k.id id) links ≡ Some l
-    → AreHeld (without ids links) t → HasHolds t l.lower 0 new → AreHeld (without (ids ++ id ∷ []) links) new
+    → AreHeld (others_of ids links) t → HasHolds t l.lower 0 new → AreHeld (others_of (ids ++ id ∷ []) links) new
 released_more links ids id l t new apart rise found held h = λ x.
     let less = below_one_less ids id l.lower x links
     (recursion_from_All (IsFoundBy id l.lower) links (found_by links id l apart rise found)) in
@@ -131,15 +127,15 @@ released_more links ids id l t new apart rise found held h = λ x.
       all_of false = refl
 
       by : (x : StreamId) (v : Bool) → (if v then 0 else number_at t.holds x)
-          ≡ (if (is_below (without ids links) x && not v) then 1 else 0)
-      by x true = none_of (is_below (without ids links) x)
-      by x false = held x ∙ all_of (is_below (without ids links) x)
+          ≡ (if (is_below (others_of ids links) x && not v) then 1 else 0)
+      by x true = none_of (is_below (others_of ids links) x)
+      by x false = held x ∙ all_of (is_below (others_of ids links) x)
 
 -- one id more, which no link has
 pub released_none : (links : List Link) (ids : List ℕ) (id : ℕ) (t : StreamTable) → find (λ k. eqb k.id id) links ≡ None
-    → AreHeld (without ids links) t → AreHeld (without (ids ++ id ∷ []) links) t
+    → AreHeld (others_of ids links) t → AreHeld (others_of (ids ++ id ∷ []) links) t
 released_none links ids id t none held = subst (λ (ls : List Link). AreHeld ls t) (sym (same links none)) held where
-  same : (ls : List Link) → find (λ k. eqb k.id id) ls ≡ None → without (ids ++ id ∷ []) ls ≡ without ids ls
+  same : (ls : List Link) → find (λ k. eqb k.id id) ls ≡ None → others_of (ids ++ id ∷ []) ls ≡ others_of ids ls
   same [] h = refl
   same (l ∷ ls) h = elim (cases_Bool (eqb l.id id)) [
     | inl t ↦ let k : Some l ≡ None = rw t at h in absurd cc
@@ -150,8 +146,8 @@ released_none links ids id t none held = subst (λ (ls : List Link). AreHeld ls 
   ]
 
 -- none yet
-pub released_at_first : (links : List Link) (t : StreamTable) → AreHeld links t → AreHeld (without [] links) t
+pub released_at_first : (links : List Link) (t : StreamTable) → AreHeld links t → AreHeld (others_of [] links) t
 released_at_first links t h = subst (λ (ls : List Link). AreHeld ls t) (sym (all links)) h where
-  all : (ls : List Link) → without [] ls ≡ ls
+  all : (ls : List Link) → others_of [] ls ≡ ls
   all [] = refl
   all (l ∷ ls) = ap (λ (ks : List Link). l ∷ ks) (all ls)

@@ -23,7 +23,7 @@ use Rattle.smx_tables.proofs.AboveLemmas.{stream_is}
 use Rattle.smx_tables.proofs.ExistingLemmas.{all_fewer, all_weaker, held_is_below, holds_few}
 use Rattle.smx_tables.proofs.FoundLinkLemmas.{below_at}
 use Rattle.smx_tables.proofs.HungLemmas.{pass_all}
-use Rattle.smx_tables.proofs.PlaceLemmas.{not_more}
+use Rattle.smx_tables.proofs.LengthLemmas.{not_more}
 use Rattle.smx_tables.proofs.ReleaseLemmas.{not_true, starts}
 use Rattle.smx_tables.proofs.WatchLemmas.{listed_last, listed_more, still_listed, there_same}
 

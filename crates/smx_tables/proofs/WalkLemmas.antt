@@ -1,7 +1,6 @@
 -- A walk over the descriptors of a table, from the first on.
 use Rattle.std.proofs.Common.{◌≡◌, ℕ, suc, ◌+◌, ◌<◌, ◌≤◌, true, not, List, [], ◌∷◌, ◌++◌, length, map, take, get_or}
-use Rattle.std.proofs.Common.{Option, Some, None, zero, refl, sym, ap, subst, ◌∙◌, arith, length-append}
-use Rattle.std.specs.Option.{is_none}
+use Rattle.std.proofs.Common.{Option, Some, None, zero, refl, sym, ap, subst, ◌∙◌, arith, append_assoc}
 use Rattle.std.specs.List.{All}
 use Rattle.std.proofs.lemmas.Bool.Decides.{nat_tests}
 use Rattle.std.proofs.lemmas.List.{take_more}
@@ -54,46 +53,14 @@ left_all P fds process fd next h all = subst (All P) (sym (left_is fds process f
 pub lines_more : {Y : Type 0} (f : Descriptor → Y) (fds : List Descriptor) (lines : List Y) (d : Descriptor)
     (next : Option Descriptor) (all : List Y) → IsNext fds d.process (d.fd + 1) next
     → lines ++ map f (left_of fds (Some d)) ≡ all → (lines ++ f d ∷ []) ++ map f (left_of fds next) ≡ all
-lines_more {Y = Y} f fds lines d next all h e =
-    append_one lines (f d) (map f (left_of fds next))
-    ∙ ap (λ (ds : List Descriptor). lines ++ f d ∷ map f ds) (left_is fds d.process (d.fd + 1) next h) ∙ e where
-      append_one : (xs : List Y) (y : Y) (ys : List Y) → (xs ++ y ∷ []) ++ ys ≡ xs ++ y ∷ ys
-      append_one [] y ys = refl
-      append_one (x ∷ xs) y ys = ap (λ (zs : List Y). x ∷ zs) (append_one xs y ys)
+lines_more f fds lines d next all h e =
+    append_assoc lines (f d ∷ []) (map f (left_of fds next))
+    ∙ ap (λ (ds : List Descriptor). lines ++ f d ∷ map f ds) (left_is fds d.process (d.fd + 1) next h) ∙ e
 
 -- fewer are left
 pub fewer_left : (fds : List Descriptor) (d : Descriptor) (next : Option Descriptor)
     → IsNext fds d.process (d.fd + 1) next → length (left_of fds next) < length (left_of fds (Some d))
 fewer_left fds d next h = let e = ap length (left_is fds d.process (d.fd + 1) next h) in omega (arith, e)
-
-append_none : {Y : Type 0} (xs : List Y) → xs ++ [] ≡ xs
-append_none {Y = Y} [] = refl
-append_none {Y = Y} (x ∷ xs) = ap (λ (zs : List Y). x ∷ zs) (append_none xs)
-
--- no more lines than descriptors
-pub no_line_more : {Y : Type 0} (f : Descriptor → Y) (fds : List Descriptor) (lines : List Y) (i : ℕ) → i < length lines
-    → take i lines ++ map f (left_of fds None) ≡ map f fds → lines ≡ map f fds → ⊥
-no_line_more {Y = Y} f fds lines i lt e same =
-    let short = ap length (sym (append_none (take i lines)) ∙ e ∙ sym same) in
-    omega (arith, lt, short, take_short i lines) where
-      take_short : (n : ℕ) (xs : List Y) → length (take n xs) ≤ n
-      take_short zero [] = omega arith
-      take_short zero (x ∷ xs) = omega arith
-      take_short (suc n) [] = omega arith
-      take_short (suc n) (x ∷ xs) = omega (arith, take_short n xs)
-
--- the line is that of the next descriptor
-pub line_is : {Y : Type 0} (f : Descriptor → Y) (fds : List Descriptor) (lines : List Y) (i : ℕ) (d : Descriptor)
-    (y : Y) → i < length lines → take i lines ++ map f (left_of fds (Some d)) ≡ map f fds → lines ≡ map f fds
-    → y ≡ get_or lines i y → y ≡ f d
-line_is {Y = Y} f fds lines i d y lt e same at =
-    at ∙ ap (λ (ls : List Y). get_or ls i y) (same ∙ sym e) ∙ behind i lines lt where
-      behind : (n : ℕ) (ls : List Y) → n < length ls
-          → get_or (take n ls ++ f d ∷ map f (fds_from d.process (d.fd + 1) fds)) n y ≡ f d
-      behind zero [] lt = absurd (omega arith)
-      behind zero (l ∷ ls) lt = refl
-      behind (suc n) [] lt = absurd (omega arith)
-      behind (suc n) (l ∷ ls) lt = behind n ls (omega arith)
 
 -- all of them
 pub taken_all : {Y : Type 0} (lines : List Y) (i : ℕ) → length lines ≤ i → take i lines ≡ lines
@@ -101,24 +68,6 @@ taken_all {Y = Y} [] zero le = refl
 taken_all {Y = Y} [] (suc j) le = refl
 taken_all {Y = Y} (l ∷ ls) zero le = absurd (omega arith)
 taken_all {Y = Y} (l ∷ ls) (suc j) le = ap (λ (zs : List Y). l ∷ zs) (taken_all ls j (omega arith))
-
--- all lines, and no descriptor is left
-pub all_shown : {Y : Type 0} (f : Descriptor → Y) (fds : List Descriptor) (lines : List Y) (i : ℕ)
-    (next : Option Descriptor) → length lines ≤ i → take i lines ++ map f (left_of fds next) ≡ map f fds
-    → is_none next ≡ true → lines ≡ map f fds
-all_shown {Y = Y} f fds lines i None past e none = sym (append_none (take i lines) ∙ taken_all lines i past) ∙ e
-all_shown {Y = Y} f fds lines i (Some d) past e none = absurd cc
-
--- all lines, and one is left
-pub one_hidden : {Y : Type 0} (f : Descriptor → Y) (fds : List Descriptor) (lines : List Y) (i : ℕ)
-    (next : Option Descriptor) → length lines ≤ i → take i lines ++ map f (left_of fds next) ≡ map f fds
-    → lines ≡ map f fds → is_none next ≡ true
-one_hidden {Y = Y} f fds lines i None past e same = refl
-one_hidden {Y = Y} f fds lines i (Some d) past e same =
-    let rest = map f (fds_from d.process (d.fd + 1) fds) in
-    let long : lines ≡ lines ++ f d ∷ rest = same ∙ sym e
-    ∙ ap (λ (ls : List Y). ls ++ f d ∷ rest) (taken_all lines i past) in
-    absurd (omega (arith, ap length long, length-append lines (f d ∷ rest)))
 
 -- one line more that is the right one
 pub shown_more : {Y : Type 0} (f : Descriptor → Y) (fds : List Descriptor) (lines : List Y) (i : ℕ) (d : Descriptor)

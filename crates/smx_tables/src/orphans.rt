@@ -68,14 +68,11 @@ fn release_below(
     if !may_have_loose(streams, links, ctl) {
         return;
     }
-    let listed = links.ordinary();
-    for i in 0..listed.len() {
-        if let Some(link) = listed.get(i) {
-            if is_loose_by(streams, ctl, link) {
-                let _gone = streams.release(link.lower);
-                touched.push_reserved(link.lower);
-                gone.push_reserved(link.id);
-            }
+    for link in links.ordinary() {
+        if is_loose_by(streams, ctl, link) {
+            let _gone = streams.release(link.lower);
+            touched.push_reserved(link.lower);
+            gone.push_reserved(link.id);
         }
     }
 }

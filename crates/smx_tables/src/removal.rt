@@ -5,7 +5,7 @@ ghost use Rattle.smx_types.specs.declared.link.Link.{Link};
 ghost use Rattle.smx_types.specs.declared.stream.StreamId.{StreamId};
 ghost use Rattle.smx_model.specs.Configuration.{QueuedMessage};
 ghost use Rattle.smx_model.specs.Removal.{without_links};
-ghost use Rattle.smx_links.specs.LinkLists.{is_one_of, ordinary_of};
+ghost use Rattle.smx_links.specs.LinkLists.{ordinary_of, others_of};
 ghost use Rattle.smx_streams.specs.StreamTables.{HasHolds, LeavesHungs, exists as is_there, number_at};
 ghost use Rattle.smx_tables.specs.DroppedMessages.{AreDropped};
 ghost use Rattle.smx_tables.specs.ExistingStreams.{AreHeld};
@@ -58,7 +58,7 @@ fn release_held(streams: &mut Streams, stream: StreamId)
 fn release_each(streams: &mut Streams, links: &LinkTable, gone: &[u32], touched: &mut Vec<StreamId>)
     requires held { AreHeld links.now.links streams.old }
     requires room { length touched.old.items + length gone.now ≤ vec_capacity touched.old }
-    ensures held { AreHeld (filter (λ l. not (is_one_of gone.now l)) links.now.links) streams.new }
+    ensures held { AreHeld (others_of gone.now links.now.links) streams.new }
     ensures fds { streams.new.fds ≡ streams.old.fds }
     ensures minors { streams.new.minors ≡ streams.old.minors }
     ensures hungs { LeavesHungs streams.old streams.new }
@@ -83,7 +83,7 @@ pub fn drop_links(lists: &mut Lists, gone: &[u32], dropped: &mut Vec<u32>)
     requires { length dropped.old.items + length lists.old.queues.flow ≤ vec_capacity dropped.old }
     ensures value { (goes : Link → Bool) → AreIdsOf goes lists.old.links.links gone.now
         → configuration_of lists.new ≡ without_links (configuration_of lists.old) goes }
-    ensures links { lists.new.links.links ≡ filter (λ l. not (is_one_of gone.now l)) lists.old.links.links }
+    ensures links { lists.new.links.links ≡ others_of gone.now lists.old.links.links }
     ensures streams { lists.new.streams ≡ lists.old.streams }
     ensures dropped { (old : List QueuedMessage) → AreDropped old lists.old.queues.flow dropped.old.items
         → AreDropped old lists.new.queues.flow dropped.new.items }

@@ -27,14 +27,13 @@ pub fn are_links_shown(drivers: &[DriverSpec], links: &LinkTable, lines: &[LinkL
     requires lower { All (λ l. l.lower.driver < length drivers.now) links.now.links }
     ensures { IsTrue result ↔ (lines.now ≡ map (view_of_link drivers.now) links.now.links) }
 {
-    if links.len() != lines.len() {
+    let listed = links.links();
+    if listed.len() != lines.len() {
         return false;
     }
-    for i in 0..links.len() {
-        if let Some(link) = links.at(i) {
-            if !is_link_shown(drivers, link, &lines[i]) {
-                return false;
-            }
+    for i in 0..listed.len() {
+        if !is_link_shown(drivers, &listed[i], &lines[i]) {
+            return false;
         }
     }
     true

@@ -1,8 +1,8 @@
 //! Which streams exist.
 
 ghost use Rattle.std.specs.Prelude.{◌≡◌, true, ◌||◌};
-ghost use Rattle.std.specs.List.{All, list_all};
-ghost use Rattle.smx_model.specs.KnownStreams.{IsKnown};
+ghost use Rattle.std.specs.List.{list_all};
+ghost use Rattle.smx_model.specs.KnownStreams.{AreControllingKnown};
 ghost use Rattle.smx_model.specs.Standing.{is_persistent};
 ghost use Rattle.smx_streams.specs.StreamTables.{exists as is_there};
 ghost use Rattle.smx_tables.specs.ExistingStreams.{AreHeld, TellsExisting};
@@ -27,7 +27,7 @@ pub fn is_persistent(link: &Link) -> bool
 /// does nothing: a caller who needs this calls it.
 pub fn tells_existing(drivers: &[DriverSpec], lists: &Lists)
     requires held { AreHeld lists.now.links.links lists.now.streams }
-    requires known { All (λ l. IsKnown drivers.now l.ctl) lists.now.links.links }
+    requires known { AreControllingKnown drivers.now lists.now.links.links }
     requires linked { list_all (λ l. is_persistent l || is_there lists.now.streams l.ctl) lists.now.links.links ≡ true }
     ensures { TellsExisting drivers.now (configuration_of lists.now) lists.now.streams }
 {

@@ -1,12 +1,12 @@
 //! The sweep: what goes with streams that don't exist any longer, and the reply that names it.
 
 ghost use Rattle.std.specs.Prelude.{◌≡◌, ◌≢◌, ◌+◌, ◌≤◌, true, length, vec_capacity, IfOk, [], ◌∷◌, List};
-ghost use Rattle.std.specs.List.{All, AllPairs, list_all};
+ghost use Rattle.std.specs.List.{AllPairs, list_all};
 ghost use Rattle.smx_types.specs.declared.driver.DriverSpec.{DriverSpec as DriverValue};
 ghost use Rattle.smx_types.specs.declared.reply.Reply.TheVariants.{Done};
 ghost use Rattle.smx_types.specs.declared.stream.StreamId.{StreamId};
 ghost use Rattle.smx_model.specs.Configuration.{QueuedMessage};
-ghost use Rattle.smx_model.specs.KnownStreams.{IsKnown};
+ghost use Rattle.smx_model.specs.KnownStreams.{AreControllingKnown};
 ghost use Rattle.smx_model.specs.Removal.{serials, serials_that_left, without_dead_streams, without_links, after_sweep};
 ghost use Rattle.smx_streams.specs.StreamTables.{LeavesHungs, exists as is_there};
 ghost use Rattle.smx_links.specs.LinkLists.{ordinary_of};
@@ -75,7 +75,7 @@ fn drop_orphans(
     dropped: &mut Vec<u32>,
 )
     requires kept { KeepsHolds lists.old }
-    requires known { All (λ l. IsKnown drivers.now l.ctl) lists.old.links.links }
+    requires known { AreControllingKnown drivers.now lists.old.links.links }
     requires cascade { IsCascade lists.old.links.links lists.old.streams touched.items (vec_capacity touched) }
     requires seen { length seen.old.items + (length touched.items + holds_below (ordinary_of lists.old.links.links) lists.old.streams)
         ≤ vec_capacity seen.old }
@@ -125,7 +125,7 @@ pub struct SweepReserve {
 // were touched may have gone. The serials of what was dropped since room was made.
 fn sweep(drivers: &[DriverSpec], lists: &mut Lists, room: SweepReserve) -> Vec<u32>
     requires kept { KeepsHolds lists.old }
-    requires known { All (λ l. IsKnown drivers.now l.ctl) lists.old.links.links }
+    requires known { AreControllingKnown drivers.now lists.old.links.links }
     requires touched { IsTouched lists.old.streams room.touched.items (configuration_of lists.old) }
     requires room { IsReserveFor 0 lists.old.links.links lists.old.queues.flow room }
     ensures value { configuration_of lists.new ≡ after_sweep drivers.now (configuration_of lists.old) }
@@ -178,7 +178,7 @@ pub fn reserve_for_sweep(
 /// Sweeps after a change, and names the messages that were dropped since room was made.
 pub fn sweep_and_reply(drivers: &[DriverSpec], lists: &mut Lists, room: SweepReserve) -> Reply
     requires kept { KeepsHolds lists.old }
-    requires known { All (λ l. IsKnown drivers.now l.ctl) lists.old.links.links }
+    requires known { AreControllingKnown drivers.now lists.old.links.links }
     requires touched { IsTouched lists.old.streams room.touched.items (configuration_of lists.old) }
     requires room { IsReserveFor 0 lists.old.links.links lists.old.queues.flow room }
     ensures value { configuration_of lists.new ≡ after_sweep drivers.now (configuration_of lists.old) }

@@ -42,7 +42,7 @@ impl TranscriptWriter {
     {
         let mut text = room;
         text.clear();
-        text.extend_from_slice(first_line(version))?;
+        text.extend_from_slice(transcript_header(version))?;
         write_lines(&mut text, drivers)?;
         Ok(TranscriptWriter { text })
     }
@@ -75,8 +75,8 @@ impl TranscriptWriter {
     }
 }
 
-// The header, with its line feed.
-fn first_line(version: Version) -> &'static [u8]
+/// The header of a transcript of this version, with its line feed. Takes no memory.
+pub fn transcript_header(version: Version) -> &'static [u8]
     ensures { result.now ≡ header (transcript_grammar version) ++ LINE_FEED ∷ [] }
 {
     match version {
@@ -85,8 +85,9 @@ fn first_line(version: Version) -> &'static [u8]
     }
 }
 
-// The lines of a view, its groups in their order.
-fn write_view(out: &mut Vec<u8>, view: &ConfigView) -> Result<(), NoMemory>
+/// The lines of a view, its groups in their order, behind `out`. Fails only for want of memory, and then `out` may have
+/// a part of them.
+pub fn write_view(out: &mut Vec<u8>, view: &ConfigView) -> Result<(), NoMemory>
     ensures written { OnOk result (out.new.items ≡ out.old.items ++ text_of (map view_words (view_body view.now))) }
     ensures spellable { OnOk result (IsSpellableView view.now) }
 {

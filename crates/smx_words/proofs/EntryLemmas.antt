@@ -6,7 +6,6 @@ use Rattle.std.proofs.lemmas.List.{append_cancel_right, length-append}
 use Rattle.smx_types.specs.declared.command.Command.{Command}
 use Rattle.smx_types.specs.declared.command.Entry.{Entry}
 use Rattle.smx_types.specs.declared.reply.Reply.{Reply}
-use Rattle.smx_words.specs.LineReading.{IsLineOf}
 use Rattle.smx_words.specs.Spellable.{FitsCommand, FitsEntry, FitsNumber, FitsProcess, FitsReply}
 use Rattle.smx_words.specs.Spelling.{command_words, entry_words, reply_words}
 use Rattle.smx_words.specs.Words.{EQUALS, SPACE, IsFree, line_of}
@@ -121,13 +120,3 @@ entry_is line rest command reply p c r process is sides asked answered e made =
       record { process = process; command = asked.0; reply = answered.0 },
       is ∙ ap (λ (x : List ℕ). decimal p ++ SPACE ∷ x) whole ∙ sym (entry_line entry),
     )
-
--- a process, a command's line and a reply's line are an entry's
-pub entry_spelled : (line rest command reply : List ℕ) (p : ℕ) → FitsProcess p
-    → line ≡ decimal p ++ SPACE ∷ rest → rest ≡ command ++ codes " = " ++ reply
-    → IsLineOf FitsCommand command_words command → IsLineOf FitsReply reply_words reply
-    → IsLineOf FitsEntry entry_words line
-entry_spelled line rest command reply p process is sides c r =
-    let entry : Entry = record { process = p; command = c.0; reply = r.0 } in
-    let all = entry_is line rest command reply p c.0 r.0 process is sides (c.1, c.2) (r.1, r.2) entry refl in
-    (entry, all.0, all.1)

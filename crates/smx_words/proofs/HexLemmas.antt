@@ -4,10 +4,11 @@ use Rattle.std.proofs.Common.{◌≡◌, ◌≢◌, ℕ, zero, suc, ◌+◌, ◌
 use Rattle.std.proofs.Common.{cond, eqb, ltb, ◌&&◌, List, [], ◌∷◌, ◌++◌, length, slice_index, get_or, take}
 use Rattle.std.proofs.Common.{set, Result, Ok, refl, sym, ap, ◌∙◌, append_assoc, arith, inl, inr}
 use Rattle.std.specs.List.{list_all}
-use Rattle.std.specs.Prelude.{codes, max}
+use Rattle.std.specs.Prelude.{bit_or, codes}
 use Rattle.std.proofs.lemmas.Bool.{and_parts, cases_lt}
 use Rattle.std.proofs.lemmas.Bool.Decides.{nat_tests}
 use Rattle.std.proofs.lemmas.List.{take_more, take_more_set}
+use Rattle.std.proofs.lemmas.Nat.{le_or_l, le_or_r, or_lt}
 use Rattle.hex.specs.Hex.{IsBytes, encode_lower, encode_with, lower_digits}
 use Rattle.hex.specs.declared.error.FromHexError.{FromHexError}
 use Rattle.smx_words.specs.HexWords.{hex_word, is_digit}
@@ -202,11 +203,19 @@ spell_some w some even h =
 
 -- ---- what the code's tests say
 
--- the greatest of three values is below 16 exactly where each of them is
-pub worst_is : (worst high low first last : ℕ) → first ≡ max worst high → last ≡ max first low
-    → (last < 16 → (worst < 16) × (high < 16) × (low < 16)) × (worst < 16 → high < 16 → low < 16 → last < 16)
-worst_is worst high low first last a b =
-    (λ h. (omega (arith, a, b), omega (arith, a, b), omega (arith, a, b)), λ h k l. omega (arith, a, b))
+-- three values joined bit by bit are below 16 exactly where each of them is
+pub worst_is : (worst high low : ℕ)
+    → (bit_or worst (bit_or high low) < 16 → (worst < 16) × (high < 16) × (low < 16))
+    × (worst < 16 → high < 16 → low < 16 → bit_or worst (bit_or high low) < 16)
+worst_is worst high low = (
+  λ small.
+      let one = le_or_l worst (bit_or high low) in
+      let both = le_or_r worst (bit_or high low) in
+      let first = le_or_l high low in
+      let last = le_or_r high low in
+      (omega (arith, one, small), omega (arith, both, first, small), omega (arith, both, last, small)),
+  λ w h l. or_lt 4 worst (bit_or high low) w (or_lt 4 high low h l),
+)
 
 -- an empty word, or one of odd length, spells no bytes unless it is a dash
 pub odd_is_none : (w : List ℕ) → ((0 < length w → length w % 2 ≡ 1)) → w ≢ codes "-" → (bs : List ℕ)
@@ -241,6 +250,10 @@ set_are w new old got n some kept long fits e =
 -- a word whose length was found not to be 0 has a byte
 pub not_empty : (w : List ℕ) (r : Bool) → r ≡ eqb (length w) 0 → r ≡ false → 0 < length w
 not_empty w r test differs = let e = sym test ∙ differs in grind (arith, nat_tests)
+
+-- and one whose length was found to be 0 has none
+pub when_empty : (w : List ℕ) (r : Bool) → r ≡ eqb (length w) 0 → r ≡ true → 0 < length w → ⊥
+when_empty w r test same some = let e = sym test ∙ same in grind (arith, nat_tests)
 
 -- what is below 256 at each index is bytes that can be spelled
 pub fits_all : (bs : List ℕ) → ((i : ℕ) → slice_index bs i < 256) → FitsBytes bs

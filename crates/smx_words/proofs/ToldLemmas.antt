@@ -10,39 +10,17 @@ use Rattle.smx_types.specs.declared.version.Version.{Version}
 use Rattle.smx_types.specs.declared.version.Version.TheVariants.{V1, V2}
 use Rattle.smx_words.specs.LineReading.{IsLineOf, IsReadAs}
 use Rattle.smx_words.specs.Spellable.{CanTell, FitsCommand, FitsCommandIn, FitsEntry, FitsEntryIn, FitsProcess}
-use Rattle.smx_words.specs.Spellable.{FitsReply, FitsReplyIn}
+use Rattle.smx_words.specs.Spellable.{FitsReplyIn}
 use Rattle.smx_words.specs.Spelling.{command_words, entry_words, reply_words}
 use Rattle.smx_words.specs.Words.{SPACE, line_of}
 use Rattle.smx_words.proofs.EntryLemmas.{entry_is}
-use Rattle.smx_words.proofs.LawLemmas.{one_command, one_entry, one_reply}
-
--- what the first version can tell, each can
-pub in_each : (v : Version) (hangup : Bool) → CanTell V1 hangup → CanTell v hangup
-in_each V1 hangup can = can
-in_each V2 hangup can = tt
-
--- a line of a command that version 1 can tell is one that each version can tell
-pub command_in_each : (v : Version) (line : List ℕ) → IsLineOf (FitsCommandIn V1) command_words line
-    → IsLineOf (FitsCommandIn v) command_words line
-command_in_each v line l = (l.0, (l.1.0, in_each v (is_hangup l.0) l.1.1), l.2)
-
--- a line of a reply that version 1 can tell is one that each version can tell
-pub reply_in_each : (v : Version) (line : List ℕ) → IsLineOf (FitsReplyIn V1) reply_words line
-    → IsLineOf (FitsReplyIn v) reply_words line
-reply_in_each v line l = (l.0, (l.1.0, in_each v (tells_of_hangup l.0) l.1.1), l.2)
+use Rattle.smx_words.proofs.LawLemmas.{one_command, one_entry}
 
 -- a line whose command can't be told is no told command's
 pub no_told_command : (v : Version) (line : List ℕ) (c : Command) → FitsCommand c → line ≡ line_of (command_words c)
     → (CanTell v (is_hangup c) → ⊥) → (x : Command) → FitsCommandIn v x → line ≢ line_of (command_words x)
 no_told_command v line c fits is cannot x told e =
     let same : c ≡ x = one_command c x fits told.0 (sym is ∙ e) in
-    cannot (rw same told.1)
-
--- a line whose reply can't be told is no told reply's
-pub no_told_reply : (v : Version) (line : List ℕ) (r : Reply) → FitsReply r → line ≡ line_of (reply_words r)
-    → (CanTell v (tells_of_hangup r) → ⊥) → (x : Reply) → FitsReplyIn v x → line ≢ line_of (reply_words x)
-no_told_reply v line r fits is cannot x told e =
-    let same : r ≡ x = one_reply r x fits told.0 (sym is ∙ e) in
     cannot (rw same told.1)
 
 -- a line whose entry can't be told is no told entry's

@@ -6,6 +6,9 @@ pub mod laws_of_reading;
 mod reading;
 mod writing;
 
+pub use reading::hex_word::spells_bytes;
+pub use reading::number::number;
+pub use reading::word::{driver_kind, link_kind, name, side, sides, which};
 pub use reading::{
     bind_of, command_of, descriptor_of, driver_of, entry_of, full_of, hung_of, link_of, message_of,
     next_of, process_of, route_of,

@@ -3,13 +3,13 @@
 mod command;
 mod cutting;
 mod entry;
-mod hex_word;
+pub mod hex_word;
 mod line;
-mod number;
+pub mod number;
 mod reply;
 mod verb;
 mod view;
-mod word;
+pub mod word;
 
 pub use command::command_of;
 pub use entry::entry_of;

@@ -1,6 +1,9 @@
 //! The queues that have messages, for Graphviz.
 
+ghost use Rattle.std.specs.Prelude.{◌≡◌, IfOk, option_copied};
+ghost use Rattle.std.specs.Option.{option_map_or};
 ghost use Rattle.smx_draw.specs.DotLines.{queue_line};
+ghost use Rattle.smx_draw.specs.DotQueues.{driver_named, is_in, queue_of, queues_from, queues_of, same_side, with_message};
 
 use super::DotLine;
 use crate::pieces::{Piece, put, shown_length};
@@ -18,54 +21,98 @@ pub struct DotQueue {
     pub low: u32,
 }
 
-/// The queues of messages that are in the order of their places. Fails only for want of memory.
+/// The queues of messages that are in the order of their places, each with its bytes and the marks of its driver. Fails
+/// only for want of memory.
 pub fn queues_of(
     alloc: Global,
     drivers: &[DriverSpec],
     messages: &[MessageLine],
-) -> Result<Vec<DotQueue>, NoMemory> {
+) -> Result<Vec<DotQueue>, NoMemory>
+    ensures { IfOk result (λ v. v.items ≡ queues_of drivers.now messages.now) }
+{
+    match messages.split_first() {
+        Some((first, rest)) => queues_from(alloc, drivers, queue_of(drivers, first), rest),
+        None => Ok(Vec::new(alloc)),
+    }
+}
+
+// A queue, and those of the messages behind it.
+fn queues_from(
+    alloc: Global,
+    drivers: &[DriverSpec],
+    first: DotQueue,
+    messages: &[MessageLine],
+) -> Result<Vec<DotQueue>, NoMemory>
+    ensures { IfOk result (λ v. v.items ≡ queues_from drivers.now first messages.now) }
+{
     let mut queues = Vec::new(alloc);
+    let mut last = first;
     for message in messages {
-        let bytes = shown_length(message.message.bytes.as_slice());
-        if !is_added(&mut queues, message, bytes) {
-            queues.push(queue_of(drivers, message, bytes))?;
+        if is_in(message, &last) {
+            last = with_message(last, message);
+        } else {
+            queues.push(last)?;
+            last = queue_of(drivers, message);
         }
     }
+    queues.push(last)?;
     Ok(queues)
 }
 
-// Adds the bytes of a message to the last queue, and says whether that is its queue.
-fn is_added(queues: &mut Vec<DotQueue>, message: &MessageLine, bytes: u32) -> bool {
-    match queues.last_mut() {
-        Some(queue)
-            if queue.driver == message.driver
-                && queue.minor == message.minor
-                && queue.side == message.side => {
-            queue.bytes = queue.bytes.saturating_add(bytes);
-            true
-        }
-        Some(_) | None => false,
+fn is_in(message: &MessageLine, queue: &DotQueue) -> bool
+    ensures { result ≡ is_in message.now queue.now }
+{
+    queue.driver == message.driver
+        && queue.minor == message.minor
+        && is_same(queue.side, message.side)
+}
+
+fn is_same(one: Side, other: Side) -> bool
+    ensures { result ≡ same_side one other }
+{
+    one == other
+}
+
+// The queue with a message more.
+fn with_message(queue: DotQueue, message: &MessageLine) -> DotQueue
+    ensures { result ≡ with_message queue message.now }
+{
+    let bytes = shown_length(message.message.bytes.as_slice());
+    DotQueue {
+        bytes: queue.bytes.saturating_add(bytes),
+        ..queue
     }
 }
 
-// A queue of one message. A driver that nobody knows has no marks.
-fn queue_of(drivers: &[DriverSpec], message: &MessageLine, bytes: u32) -> DotQueue {
+// The queue of one message. A driver that nobody knows has no marks.
+fn queue_of(drivers: &[DriverSpec], message: &MessageLine) -> DotQueue
+    ensures { result ≡ queue_of drivers.now message.now }
+{
     let (high, low) = marks_of(drivers, &message.driver);
     DotQueue {
         driver: message.driver,
         minor: message.minor,
         side: message.side,
-        bytes,
+        bytes: shown_length(message.message.bytes.as_slice()),
         high,
         low,
     }
 }
 
-fn marks_of(drivers: &[DriverSpec], name: &Name) -> (u32, u32) {
-    match drivers.iter().find(|driver| driver.name == *name) {
+fn marks_of(drivers: &[DriverSpec], name: &Name) -> (u32, u32)
+    ensures high { result.0 ≡ option_map_or (λ d. d.high) (driver_named drivers.now name.now) 0 }
+    ensures low { result.1 ≡ option_map_or (λ d. d.low) (driver_named drivers.now name.now) 0 }
+{
+    match driver_named(drivers, name) {
         Some(driver) => (driver.high, driver.low),
         None => (0, 0),
     }
+}
+
+fn driver_named<'a>(drivers: &'a [DriverSpec], name: &Name) -> Option<&'a DriverSpec>
+    ensures { option_copied result ≡ driver_named drivers.now name.now }
+{
+    drivers.iter().find(|driver| driver.name == *name)
 }
 
 impl DotLine for DotQueue {

@@ -1,6 +1,7 @@
 //! Bytes in a word.
 
-ghost use Rattle.std.specs.Prelude.{◌≡◌, ◌≢◌, ◌<◌, ◌≤◌, ◌*◌, ◌%◌, true, length, slice_index, IfOk, IfErr};
+ghost use Rattle.std.specs.Prelude.{◌≡◌, ◌≢◌, ◌<◌, ◌≤◌, ◌*◌, ◌%◌, true, List, ℕ, length, slice_index, IfOk, IfErr};
+ghost use Rattle.std.specs.Prelude.{MatchBool};
 ghost use Rattle.std.specs.List.{list_all};
 ghost use Rattle.std.specs.Vec.{vec_len};
 ghost use Rattle.hex.specs.Hex.{encode_lower, lower_digits};
@@ -28,6 +29,23 @@ pub fn bytes_of(alloc: Global, word: &[u8]) -> Result<Option<Bytes>, NoMemory>
     } else {
         Ok(None)
     }
+}
+
+/// Whether a word spells bytes. Takes no memory.
+pub fn spells_bytes(word: &[u8]) -> bool
+    ensures { MatchBool result (IsSpelled FitsBytes hex_word word.now)
+        ((bytes : List ℕ) → FitsBytes bytes → word.now ≢ hex_word bytes) }
+{
+    if word == b"-".as_slice() {
+        return true;
+    }
+    if word.is_empty() || word.len() % 2 == 1 {
+        return false;
+    }
+    if are_digits(word) {
+        return true;
+    }
+    false
 }
 
 // So many bytes, in a block that has no room for more.
@@ -76,7 +94,7 @@ fn set_bytes(bytes: &mut [u8], digits: &[u8]) -> u8
         let high = value_of(digits[2 * i]);
         let low = value_of(digits[2 * i + 1]);
         bytes[i] = (high % 16) * 16 + low % 16;
-        worst = worst.max(high).max(low);
+        worst |= high | low;
     }
     worst
 }

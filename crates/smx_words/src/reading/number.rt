@@ -9,7 +9,7 @@ ghost use Rattle.smx_words.specs.Spellable.{FitsNumber, FitsProcess};
 
 use smx_types::Process;
 
-// The number that a word spells.
+/// The number that a word spells.
 pub fn number(word: &[u8]) -> Option<u32>
     ensures { IsFoundIn FitsNumber decimal word.now result }
 {

@@ -8,7 +8,7 @@ use crate::reading::cutting::cut;
 use crate::reading::number::number;
 use smx_types::{DriverKind, LinkKind, Name, Side, Sides, Which};
 
-// The name that a word is.
+/// The name that a word is.
 pub fn name(word: &[u8]) -> Option<Name>
     ensures { IsFoundIn FitsName (λ n. n) word.now result }
 {
@@ -28,8 +28,8 @@ pub fn first_name(text: &[u8]) -> Option<(Name, &[u8])>
     }
 }
 
-// The kind of driver that a word names.
-fn kind(word: &[u8]) -> Option<DriverKind>
+/// The kind of driver that a word names.
+pub fn driver_kind(word: &[u8]) -> Option<DriverKind>
     ensures { IsFoundIn FitsAlways kind_word word.now result }
 {
     match word {
@@ -46,13 +46,13 @@ pub fn first_kind(text: &[u8]) -> Option<(DriverKind, &[u8])>
     let Some((word, rest)) = cut(text, b' ') else {
         return None;
     };
-    match kind(word) {
+    match driver_kind(word) {
         Some(kind) => Some((kind, rest)),
         None => None,
     }
 }
 
-// The links that a word names: one by its id, or all.
+/// The links that a word names: one by its id, or all.
 pub fn which(word: &[u8]) -> Option<Which>
     ensures { IsFoundIn FitsWhich which_word word.now result }
 {
@@ -63,7 +63,7 @@ pub fn which(word: &[u8]) -> Option<Which>
     Some(Which::Id(id))
 }
 
-// The sides that a flush names.
+/// The sides that a flush names.
 pub fn sides(word: &[u8]) -> Option<Sides>
     ensures { IsFoundIn FitsAlways sides_word word.now result }
 {
@@ -75,7 +75,7 @@ pub fn sides(word: &[u8]) -> Option<Sides>
     }
 }
 
-// The side of a place.
+/// The side of a place.
 pub fn side(word: &[u8]) -> Option<Side>
     ensures { IsFoundIn FitsAlways side_word word.now result }
 {
@@ -99,7 +99,7 @@ pub fn first_side(text: &[u8]) -> Option<(Side, &[u8])>
     }
 }
 
-// The kind of a link.
+/// The kind of a link.
 pub fn link_kind(word: &[u8]) -> Option<LinkKind>
     ensures { IsFoundIn FitsAlways link_kind_word word.now result }
 {

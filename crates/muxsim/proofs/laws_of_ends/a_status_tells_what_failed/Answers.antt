@@ -1,4 +1,4 @@
-use Rattle.muxsim.proofs.EndLemmas.{draw_not_4, failed, no_words, replay_not_4, run_not_4, unwritten}
+use Rattle.muxsim.proofs.EndLemmas.{draw_not_4, failed, live_not_4, no_words, replay_not_4, run_not_4, unwritten}
 use Rattle.muxsim.proofs.laws_of_ends.a_status_tells_what_failed.Goals as goal
 
 pub returns-clause-failed : goal.returns-clause-failed
@@ -18,3 +18,6 @@ returns-clause-no_verdict_of_a_replay c = replay_not_4
 
 pub returns-clause-no_verdict_of_a_drawing : goal.returns-clause-no_verdict_of_a_drawing
 returns-clause-no_verdict_of_a_drawing c = draw_not_4
+
+pub returns-clause-no_verdict_of_a_session : goal.returns-clause-no_verdict_of_a_session
+returns-clause-no_verdict_of_a_session c = live_not_4

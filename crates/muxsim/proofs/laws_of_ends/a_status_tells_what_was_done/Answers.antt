@@ -1,4 +1,4 @@
-use Rattle.muxsim.proofs.EndLemmas.{draw_done, judged_legal, judged_otherwise, replay_done, run_done}
+use Rattle.muxsim.proofs.EndLemmas.{draw_done, judged_legal, judged_otherwise, live_done, replay_done, run_done}
 use Rattle.muxsim.proofs.laws_of_ends.a_status_tells_what_was_done.Goals as goal
 
 pub returns-clause-run : goal.returns-clause-run
@@ -9,6 +9,9 @@ returns-clause-replay c = replay_done
 
 pub returns-clause-draw : goal.returns-clause-draw
 returns-clause-draw c = draw_done
+
+pub returns-clause-live : goal.returns-clause-live
+returns-clause-live c = live_done
 
 pub returns-clause-legal : goal.returns-clause-legal
 returns-clause-legal c = judged_legal

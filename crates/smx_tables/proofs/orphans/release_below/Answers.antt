@@ -8,14 +8,13 @@ use Rattle.smx_tables.specs.TouchedStreams.{is_watched, AreReleased}
 use Rattle.smx_tables.proofs.HungLemmas.{left_twice, none_went, there_before}
 use Rattle.smx_tables.proofs.OrphanIdLemmas.{one_released}
 use Rattle.smx_tables.proofs.ReleaseLemmas.{less_this, loose_held, releases_this}
-use Rattle.smx_tables.proofs.LinkWalkLemmas.{among_all, one_got}
+use Rattle.smx_tables.proofs.LinkWalkLemmas.{among_all, link_at, one_at}
 use Rattle.smx_tables.proofs.TouchLemmas.{release_touches_on}
 use Rattle.smx_tables.proofs.WatchLemmas.{all_at, all_in_all, all_more, all_watch_on, listed_last, none_by}
 use Rattle.smx_tables.proofs.WatchLemmas.{released_is_watched, still_listed, still_listed_before, watched_in_all}
 use Rattle.smx_tables.proofs.WatchLemmas.{watched_less}
 use Rattle.smx_tables.proofs.orphans.release_below.Goals as goal
-use Rattle.smx_tables.proofs.orphans.release_below.Goals.{in-Some+then-is_loose_by, in-Some+else-is_loose_by}
-use Rattle.smx_tables.proofs.orphans.release_below.Goals.{in_default}
+use Rattle.smx_tables.proofs.orphans.release_below.Goals.{then-is_loose_by, else-is_loose_by}
 
 pub returns-then-not-may_have_loose-clause-cascade : goal.returns-then-not-may_have_loose-clause-cascade
 returns-then-not-may_have_loose-clause-cascade c = record {
@@ -29,32 +28,36 @@ pub returns-then-not-may_have_loose-clause-hungs : goal.returns-then-not-may_hav
 returns-then-not-may_have_loose-clause-hungs c = none_went c.args.streams.now c.is_sound-2.ensures
 
 pub release-gone-requires : goal.release-gone-requires
-release-gone-requires c = loose_held c.loop-i.streams c.in-Some.link.now
-    (and_parts (same_stream c.in-Some.link.now.ctl c.args.ctl) (is_loose c.loop-i.streams c.in-Some.link.now)
+release-gone-requires c =
+    let link = link_at c.ordinary-link-items.result.now c.loop-link.link-index in
+    loose_held c.loop-link.streams link
+    (and_parts (same_stream link.ctl c.args.ctl) (is_loose c.loop-link.streams link)
     (sym c.is_loose_by.ensures ∙ c.if-is_loose_by.true)).1
 
 pub push_reserved-requires : goal.push_reserved-requires
 push_reserved-requires c =
-    let loose = (and_parts (same_stream c.in-Some.link.now.ctl c.args.ctl)
-    (is_loose c.loop-i.streams c.in-Some.link.now) (sym c.is_loose_by.ensures ∙ c.if-is_loose_by.true)).1 in
-    let less = less_this (ordinary_of c.args.links.now.links) c.loop-i.i c.in-Some.link.now c.loop-i.streams
+    let link = link_at c.ordinary-link-items.result.now c.loop-link.link-index in
+    let loose = (and_parts (same_stream link.ctl c.args.ctl)
+    (is_loose c.loop-link.streams link) (sym c.is_loose_by.ensures ∙ c.if-is_loose_by.true)).1 in
+    let less = less_this (ordinary_of c.args.links.now.links) c.loop-link.link-index link c.loop-link.streams
     c.release-gone.new.self
-    (one_got (ordinary_of c.args.links.now.links) c.ordinary-listed.result.now c.loop-i.i c.in-Some.link.now
-    c.ordinary-listed.ensures (omega arith) c.in-Some.ensures.lookup.1) loose c.release-gone.ensures.rest in
-    omega (arith, less, c.loop-i.invariant.enough)
+    (one_at (ordinary_of c.args.links.now.links) c.ordinary-link-items.result.now c.loop-link.link-index
+    c.ordinary-link-items.ensures (omega arith)) loose c.release-gone.ensures.rest in
+    omega (arith, less, c.loop-link.invariant.enough)
 
 pub push_reserved-requires-then-is_loose_by : goal.push_reserved-requires-then-is_loose_by
 push_reserved-requires-then-is_loose_by c =
-    let loose = (and_parts (same_stream c.in-Some.link.now.ctl c.args.ctl)
-    (is_loose c.loop-i.streams c.in-Some.link.now) (sym c.is_loose_by.ensures ∙ c.if-is_loose_by.true)).1 in
-    let less = less_this (ordinary_of c.args.links.now.links) c.loop-i.i c.in-Some.link.now c.loop-i.streams
+    let link = link_at c.ordinary-link-items.result.now c.loop-link.link-index in
+    let loose = (and_parts (same_stream link.ctl c.args.ctl)
+    (is_loose c.loop-link.streams link) (sym c.is_loose_by.ensures ∙ c.if-is_loose_by.true)).1 in
+    let less = less_this (ordinary_of c.args.links.now.links) c.loop-link.link-index link c.loop-link.streams
     c.release-gone.new.self
-    (one_got (ordinary_of c.args.links.now.links) c.ordinary-listed.result.now c.loop-i.i c.in-Some.link.now
-    c.ordinary-listed.ensures (omega arith) c.in-Some.ensures.lookup.1) loose c.release-gone.ensures.rest in
-    omega (arith, less, c.loop-i.invariant.gone.enough)
+    (one_at (ordinary_of c.args.links.now.links) c.ordinary-link-items.result.now c.loop-link.link-index
+    c.ordinary-link-items.ensures (omega arith)) loose c.release-gone.ensures.rest in
+    omega (arith, less, c.loop-link.invariant.gone.enough)
 
-pub loop-i-init : goal.loop-i-init
-loop-i-init c = record {
+pub loop-link-init : goal.loop-link-init
+loop-link-init c = record {
   fds = refl;
   minors = refl;
   hungs = none_went c.args.streams.now c.is_sound-2.ensures;
@@ -68,93 +71,99 @@ loop-i-init c = record {
   gone = c.requires.gone;
 }
 
-pub loop-i-preserved : goal.loop-i-preserved
-loop-i-preserved c = elim c.match-get.branch [
-  | in-Some+then-is_loose_by w ↦
-      let loose = (and_parts (same_stream w.in-Some.link.now.ctl c.args.ctl)
-      (is_loose c.loop-i.streams w.in-Some.link.now) (sym w.is_loose_by.ensures ∙ w.if-is_loose_by.true)).1 in
-      let at = one_got (ordinary_of c.args.links.now.links) c.ordinary-listed.result.now c.loop-i.i w.in-Some.link.now
-      c.ordinary-listed.ensures (omega arith) w.in-Some.ensures.lookup.1 in
-      let all = among_all (λ l. not (is_persistent l)) c.args.links.now.links c.loop-i.i w.in-Some.link.now at in
-      let less = less_this (ordinary_of c.args.links.now.links) c.loop-i.i w.in-Some.link.now c.loop-i.streams
-      w.release-gone.new.self at loose w.release-gone.ensures.rest in
-      let pushed = w.push_reserved.ensures.items in
-      let longer = ap length pushed in
-      let one_more = length-append c.loop-i.touched.items (w.in-Some.link.now.lower ∷ []) in
-      rw (w.streams-is, w.touched-is, w.gone-is) (record {
-        fds = w.release-gone.ensures.rest.fds ∙ c.loop-i.invariant.fds;
-        minors = w.release-gone.ensures.rest.minors ∙ c.loop-i.invariant.minors;
-        hungs = left_twice c.args.streams.now c.loop-i.streams w.release-gone.new.self c.loop-i.invariant.hungs
-            w.release-gone.ensures.rest.hungs
-            (λ x. there_before c.loop-i.streams w.release-gone.new.self w.in-Some.link.now.lower x _
-            w.release-gone.ensures.rest (omega arith));
-        there = λ x h. c.loop-i.invariant.there x
-            (there_before c.loop-i.streams w.release-gone.new.self w.in-Some.link.now.lower x _
-            w.release-gone.ensures.rest (omega arith) h);
-        releasing = λ n. releases_this c.args.links.now.links n all.0 w.in-Some.link.now c.loop-i.streams
-            w.release-gone.new.self c.is_sound.ensures.sound.lowers all.1 loose w.release-gone.ensures.rest
-            (c.loop-i.invariant.releasing n);
-        all = rw pushed (all_watch_on c.loop-i.streams w.release-gone.new.self w.in-Some.link.now.lower
-            (c.loop-i.touched.items ++ c.args.ctl ∷ [])
-            ((c.loop-i.touched.items ++ w.in-Some.link.now.lower ∷ []) ++ c.args.ctl ∷ []) c.args.links.now.links
-            w.release-gone.ensures.rest
-            (λ x. still_listed_before x c.loop-i.touched.items w.in-Some.link.now.lower c.args.ctl)
-            (still_listed w.in-Some.link.now.lower (c.loop-i.touched.items ++ w.in-Some.link.now.lower ∷ []) c.args.ctl
-            (listed_last c.loop-i.touched.items w.in-Some.link.now.lower)) c.loop-i.invariant.all);
-        so_far = rw pushed
-            (all_more (is_watched w.release-gone.new.self (c.loop-i.touched.items ++ w.in-Some.link.now.lower ∷ []))
-            (ordinary_of c.args.links.now.links) c.loop-i.i w.in-Some.link.now at
-            (all_watch_on c.loop-i.streams w.release-gone.new.self w.in-Some.link.now.lower c.loop-i.touched.items
-            (c.loop-i.touched.items ++ w.in-Some.link.now.lower ∷ [])
-            (take c.loop-i.i (ordinary_of c.args.links.now.links)) w.release-gone.ensures.rest
-            (λ x. still_listed x c.loop-i.touched.items w.in-Some.link.now.lower)
-            (listed_last c.loop-i.touched.items w.in-Some.link.now.lower) c.loop-i.invariant.so_far)
-            (released_is_watched c.args.links.now.links c.loop-i.streams w.release-gone.new.self
-            (c.loop-i.touched.items ++ w.in-Some.link.now.lower ∷ []) w.in-Some.link.now
-            (c.loop-i.invariant.releasing 0).once w.release-gone.ensures.rest));
-        enough = omega (arith, less, longer, one_more, c.loop-i.invariant.enough, w.push_reserved.ensures.capacity);
-        less = omega (arith, less, longer, one_more, c.loop-i.invariant.less);
-        touched = rw pushed
-            (release_touches_on c.args.streams.now c.loop-i.streams w.release-gone.new.self c.args.touched.now.items
-            c.loop-i.touched.items w.in-Some.link.now.lower _ w.release-gone.ensures.rest c.loop-i.invariant.touched);
-        gone = subst
-            (AreReleased c.args.links.now.links w.release-gone.new.self w.push_reserved-then-is_loose_by.new.self.items)
-            (sym w.push_reserved-then-is_loose_by.ensures.capacity)
-            (one_released c.args.links.now.links all.0 _ w.in-Some.link.now c.loop-i.streams w.release-gone.new.self
-            c.loop-i.gone.items w.push_reserved-then-is_loose_by.new.self.items c.is_sound.ensures.sound.lowers
-            all.1 loose (c.loop-i.invariant.releasing 0) w.release-gone.ensures.rest
-            w.push_reserved-then-is_loose_by.ensures.items less c.loop-i.invariant.gone);
-      })
-  | in-Some+else-is_loose_by w ↦
-      let at = one_got (ordinary_of c.args.links.now.links) c.ordinary-listed.result.now c.loop-i.i w.in-Some.link.now
-      c.ordinary-listed.ensures (omega arith) w.in-Some.ensures.lookup.1 in
-      let all = among_all (λ l. not (is_persistent l)) c.args.links.now.links c.loop-i.i w.in-Some.link.now at in
-      rw (w.streams-is, w.touched-is, w.gone-is) (record {
-        fds = c.loop-i.invariant.fds;
-        minors = c.loop-i.invariant.minors;
-        hungs = c.loop-i.invariant.hungs;
-        there = c.loop-i.invariant.there;
-        releasing = c.loop-i.invariant.releasing;
-        all = c.loop-i.invariant.all;
-        so_far = all_more (is_watched c.loop-i.streams c.loop-i.touched.items)
-            (ordinary_of c.args.links.now.links) c.loop-i.i w.in-Some.link.now at c.loop-i.invariant.so_far
-            (watched_less c.loop-i.streams c.loop-i.touched.items c.args.ctl w.in-Some.link.now
-            (sym w.is_loose_by.ensures ∙ w.if-is_loose_by.false)
-            (all_at (is_watched c.loop-i.streams (c.loop-i.touched.items ++ c.args.ctl ∷ [])) c.args.links.now.links
-            all.0 w.in-Some.link.now all.1 c.loop-i.invariant.all));
-        enough = c.loop-i.invariant.enough;
-        less = c.loop-i.invariant.less;
-        touched = c.loop-i.invariant.touched;
-        gone = c.loop-i.invariant.gone;
-      })
-  | in_default w ↦ absurd (omega (arith, w.in_default.ensures.lookup.3))
-]
+pub loop-link-preserved : goal.loop-link-preserved
+loop-link-preserved c =
+    let link = link_at c.ordinary-link-items.result.now c.loop-link.link-index in
+    elim c.if-is_loose_by.branch [
+      | then-is_loose_by w ↦
+          let loose = (and_parts (same_stream link.ctl c.args.ctl)
+          (is_loose c.loop-link.streams link) (sym c.is_loose_by.ensures ∙ w.if-is_loose_by.true)).1 in
+          let at = one_at (ordinary_of c.args.links.now.links) c.ordinary-link-items.result.now c.loop-link.link-index
+          c.ordinary-link-items.ensures (omega arith) in
+          let all = among_all (λ l. not (is_persistent l)) c.args.links.now.links c.loop-link.link-index link at in
+          let less = less_this (ordinary_of c.args.links.now.links) c.loop-link.link-index link c.loop-link.streams
+          w.release-gone.new.self at loose w.release-gone.ensures.rest in
+          let pushed = w.push_reserved.ensures.items in
+          let longer = ap length pushed in
+          let one_more = length-append c.loop-link.touched.items (link.lower ∷ []) in
+          rw (w.streams-is, w.touched-is, w.gone-is) (record {
+            fds = w.release-gone.ensures.rest.fds ∙ c.loop-link.invariant.fds;
+            minors = w.release-gone.ensures.rest.minors ∙ c.loop-link.invariant.minors;
+            hungs = left_twice c.args.streams.now c.loop-link.streams w.release-gone.new.self
+                c.loop-link.invariant.hungs
+                w.release-gone.ensures.rest.hungs
+                (λ x. there_before c.loop-link.streams w.release-gone.new.self link.lower x _
+                w.release-gone.ensures.rest (omega arith));
+            there = λ x h. c.loop-link.invariant.there x
+                (there_before c.loop-link.streams w.release-gone.new.self link.lower x _
+                w.release-gone.ensures.rest (omega arith) h);
+            releasing = λ n. releases_this c.args.links.now.links n all.0 link c.loop-link.streams
+                w.release-gone.new.self c.is_sound.ensures.sound.lowers all.1 loose w.release-gone.ensures.rest
+                (c.loop-link.invariant.releasing n);
+            all = rw pushed (all_watch_on c.loop-link.streams w.release-gone.new.self link.lower
+                (c.loop-link.touched.items ++ c.args.ctl ∷ [])
+                ((c.loop-link.touched.items ++ link.lower ∷ []) ++ c.args.ctl ∷ []) c.args.links.now.links
+                w.release-gone.ensures.rest
+                (λ x. still_listed_before x c.loop-link.touched.items link.lower c.args.ctl)
+                (still_listed link.lower (c.loop-link.touched.items ++ link.lower ∷ []) c.args.ctl
+                (listed_last c.loop-link.touched.items link.lower)) c.loop-link.invariant.all);
+            so_far = rw pushed
+                (all_more (is_watched w.release-gone.new.self (c.loop-link.touched.items ++ link.lower ∷ []))
+                (ordinary_of c.args.links.now.links) c.loop-link.link-index link at
+                (all_watch_on c.loop-link.streams w.release-gone.new.self link.lower c.loop-link.touched.items
+                (c.loop-link.touched.items ++ link.lower ∷ [])
+                (take c.loop-link.link-index (ordinary_of c.args.links.now.links)) w.release-gone.ensures.rest
+                (λ x. still_listed x c.loop-link.touched.items link.lower)
+                (listed_last c.loop-link.touched.items link.lower) c.loop-link.invariant.so_far)
+                (released_is_watched c.args.links.now.links c.loop-link.streams w.release-gone.new.self
+                (c.loop-link.touched.items ++ link.lower ∷ []) link
+                (c.loop-link.invariant.releasing 0).once w.release-gone.ensures.rest));
+            enough =
+                omega (arith, less, longer, one_more, c.loop-link.invariant.enough, w.push_reserved.ensures.capacity);
+            less = omega (arith, less, longer, one_more, c.loop-link.invariant.less);
+            touched = rw pushed
+                (release_touches_on c.args.streams.now c.loop-link.streams w.release-gone.new.self
+                c.args.touched.now.items
+                c.loop-link.touched.items link.lower _ w.release-gone.ensures.rest c.loop-link.invariant.touched);
+            gone = subst
+                (AreReleased c.args.links.now.links w.release-gone.new.self
+                w.push_reserved-then-is_loose_by.new.self.items)
+                (sym w.push_reserved-then-is_loose_by.ensures.capacity)
+                (one_released c.args.links.now.links all.0 _ link c.loop-link.streams w.release-gone.new.self
+                c.loop-link.gone.items w.push_reserved-then-is_loose_by.new.self.items c.is_sound.ensures.sound.lowers
+                all.1 loose (c.loop-link.invariant.releasing 0) w.release-gone.ensures.rest
+                w.push_reserved-then-is_loose_by.ensures.items less c.loop-link.invariant.gone);
+          })
+      | else-is_loose_by w ↦
+          let at = one_at (ordinary_of c.args.links.now.links) c.ordinary-link-items.result.now c.loop-link.link-index
+          c.ordinary-link-items.ensures (omega arith) in
+          let all = among_all (λ l. not (is_persistent l)) c.args.links.now.links c.loop-link.link-index link at in
+          rw (w.streams-is, w.touched-is, w.gone-is) (record {
+            fds = c.loop-link.invariant.fds;
+            minors = c.loop-link.invariant.minors;
+            hungs = c.loop-link.invariant.hungs;
+            there = c.loop-link.invariant.there;
+            releasing = c.loop-link.invariant.releasing;
+            all = c.loop-link.invariant.all;
+            so_far = all_more (is_watched c.loop-link.streams c.loop-link.touched.items)
+                (ordinary_of c.args.links.now.links) c.loop-link.link-index link at c.loop-link.invariant.so_far
+                (watched_less c.loop-link.streams c.loop-link.touched.items c.args.ctl link
+                (sym c.is_loose_by.ensures ∙ w.if-is_loose_by.false)
+                (all_at (is_watched c.loop-link.streams (c.loop-link.touched.items ++ c.args.ctl ∷ []))
+                c.args.links.now.links
+                all.0 link all.1 c.loop-link.invariant.all));
+            enough = c.loop-link.invariant.enough;
+            less = c.loop-link.invariant.less;
+            touched = c.loop-link.invariant.touched;
+            gone = c.loop-link.invariant.gone;
+          })
+    ]
 
 pub returns-clause-cascade : goal.returns-clause-cascade
 returns-clause-cascade c = record {
-  releasing = c.loop-i.invariant.releasing;
-  watched = watched_in_all c.loop-i.streams c.loop-i.touched.items c.args.links.now.links
-      (all_in_all (is_watched c.loop-i.streams c.loop-i.touched.items) (ordinary_of c.args.links.now.links) c.loop-i.i
-      (omega (arith, ap length c.ordinary-listed.ensures)) c.loop-i.invariant.so_far);
-  enough = c.loop-i.invariant.enough;
+  releasing = c.loop-link.invariant.releasing;
+  watched = watched_in_all c.loop-link.streams c.loop-link.touched.items c.args.links.now.links
+      (all_in_all (is_watched c.loop-link.streams c.loop-link.touched.items) (ordinary_of c.args.links.now.links)
+      c.loop-link.link-index (omega (arith, ap length c.ordinary-link-items.ensures)) c.loop-link.invariant.so_far);
+  enough = c.loop-link.invariant.enough;
 }

@@ -8,15 +8,15 @@ use Rattle.smx_tables.specs.ExistingStreams.{holds_below, IsReleasing}
 use Rattle.smx_tables.specs.TouchedStreams.{is_there_or_touched, is_watched, AreReleased}
 use Rattle.smx_tables.proofs.orphans.release_below.Given as goal
 
-abbrev pub invariant-loop-i : goal.invariant-loop-i
-invariant-loop-i l = record {
+abbrev pub invariant-loop-link : goal.invariant-loop-link
+invariant-loop-link l = record {
   fds : l.streams.fds ≡ l.initial.streams.fds;
   minors : l.streams.minors ≡ l.initial.streams.minors;
   hungs : LeavesHungs l.initial.streams l.streams;
   there : (s : StreamId) → is_there l.streams s ≡ true → is_there l.initial.streams s ≡ true;
   releasing : (climbs : ℕ) → IsReleasing l.links.links climbs l.streams;
   all : list_all (is_watched l.streams (l.touched.items ++ l.ctl ∷ [])) l.links.links ≡ true;
-  so_far : list_all (is_watched l.streams l.touched.items) (take l.i (ordinary_of l.links.links)) ≡ true;
+  so_far : list_all (is_watched l.streams l.touched.items) (take l.link-index (ordinary_of l.links.links)) ≡ true;
   enough : length l.touched.items + holds_below (ordinary_of l.links.links) l.streams ≤ vec_capacity l.touched;
   less : length l.touched.items + holds_below (ordinary_of l.links.links) l.streams
       ≤ length l.initial.touched.items + holds_below (ordinary_of l.links.links) l.initial.streams;

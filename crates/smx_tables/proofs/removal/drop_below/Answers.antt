@@ -1,6 +1,7 @@
 use Rattle.std.proofs.Common.{◌≡◌, ◌∙◌, ◌+◌, List, ℕ, ap, filter, not, refl, subst, sym, take, arith}
 use Rattle.std.proofs.lemmas.List.{take_more}
 use Rattle.smx_types.specs.declared.stream.Place.{Place}
+use Rattle.smx_types.specs.declared.stream.Side.TheVariants as side
 use Rattle.smx_model.specs.Configuration.{QueuedMessage}
 use Rattle.smx_tables.specs.ListedLinks.{is_read_below_listed}
 use Rattle.smx_tables.proofs.BelowLemmas.{none_listed_yet, none_less, one_less, read_more, read_none}
@@ -27,12 +28,15 @@ loop-id-preserved c =
           let below = λ (p : Place). ap (λ (ids : List ℕ). is_read_below_listed links ids p) more
           ∙ read_more links so_far _ w.in-Some.link.now c.is_sound.ensures.sound.lowers c.is_sound.ensures.ids.rise
           (sym w.in-Some.ensures) p in
+          let place : Place = record { stream = w.in-Some.link.now.lower; side = side.Read } in
           rw (w.queues-is, w.dropped-is) (record {
             flow = one_less (λ (h : QueuedMessage). h.place) (is_read_below_listed links so_far)
-                (is_read_below_listed links (take (c.loop-id.id-index + 1) c.args.gone.now)) _ c.args.queues.now.flow
+                (is_read_below_listed links (take (c.loop-id.id-index + 1) c.args.gone.now)) place
+                c.args.queues.now.flow
                 c.loop-id.queues.flow w.drop_at.new.queues.flow below c.loop-id.invariant.flow w.drop_at.ensures.flow;
             fulls = one_less (λ (p : Place). p) (is_read_below_listed links so_far)
-                (is_read_below_listed links (take (c.loop-id.id-index + 1) c.args.gone.now)) _ c.args.queues.now.fulls
+                (is_read_below_listed links (take (c.loop-id.id-index + 1) c.args.gone.now)) place
+                c.args.queues.now.fulls
                 c.loop-id.queues.fulls w.drop_at.new.queues.fulls below c.loop-id.invariant.fulls
                 w.drop_at.ensures.fulls;
             drivers = w.drop_at.ensures.drivers ∙ c.loop-id.invariant.drivers;

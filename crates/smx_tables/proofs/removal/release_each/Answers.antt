@@ -4,7 +4,8 @@ use Rattle.smx_tables.specs.ExistingStreams.{AreHeld}
 use Rattle.std.proofs.lemmas.Bool.{or_left}
 use Rattle.smx_tables.proofs.HungLemmas.{left_twice, none_went, there_before}
 use Rattle.smx_tables.proofs.TouchLemmas.{release_touches}
-use Rattle.smx_tables.proofs.ReleasedIdLemmas.{released_at_first, released_more, released_none, without}
+use Rattle.smx_links.specs.LinkLists.{others_of}
+use Rattle.smx_tables.proofs.ReleasedIdLemmas.{released_at_first, released_more, released_none}
 use Rattle.smx_tables.proofs.WalkLemmas.{taken_all}
 use Rattle.smx_tables.proofs.removal.release_each.Goals as goal
 use Rattle.smx_tables.proofs.removal.release_each.Goals.{in-Some, in_default}
@@ -27,7 +28,7 @@ loop-id-preserved c = elim c.match-get.branch [
       let longer = ap length pushed in
       let one_more = length-append c.loop-id.touched.items (w.in-Some.link.now.lower ∷ []) in
       rw (w.streams-is, w.touched-is) (record {
-        held = subst (λ (ids : List ℕ). AreHeld (without ids c.args.links.now.links) w.release_held.new.streams)
+        held = subst (λ (ids : List ℕ). AreHeld (others_of ids c.args.links.now.links) w.release_held.new.streams)
             (sym (take_more c.args.gone.now c.loop-id.id-index 0 (omega arith)))
             (released_more c.args.links.now.links (take c.loop-id.id-index c.args.gone.now) _ w.in-Some.link.now
             c.loop-id.streams w.release_held.new.streams c.is_sound.ensures.sound.lowers c.is_sound.ensures.ids.rise
@@ -45,7 +46,7 @@ loop-id-preserved c = elim c.match-get.branch [
         capacity = w.push_reserved.ensures.capacity ∙ c.loop-id.invariant.capacity;
       })
   | in_default w ↦ rw (w.streams-is, w.touched-is) (record {
-    held = subst (λ (ids : List ℕ). AreHeld (without ids c.args.links.now.links) c.loop-id.streams)
+    held = subst (λ (ids : List ℕ). AreHeld (others_of ids c.args.links.now.links) c.loop-id.streams)
         (sym (take_more c.args.gone.now c.loop-id.id-index 0 (omega arith)))
         (released_none c.args.links.now.links (take c.loop-id.id-index c.args.gone.now) _ c.loop-id.streams
         (sym w.in_default.ensures) c.loop-id.invariant.held);
@@ -62,5 +63,5 @@ pub push_reserved-requires : goal.push_reserved-requires
 push_reserved-requires c = omega (arith, c.loop-id.invariant.few, c.loop-id.invariant.capacity, c.requires.room)
 
 pub returns-clause-held : goal.returns-clause-held
-returns-clause-held c = subst (λ (ids : List ℕ). AreHeld (without ids c.args.links.now.links) c.loop-id.streams)
+returns-clause-held c = subst (λ (ids : List ℕ). AreHeld (others_of ids c.args.links.now.links) c.loop-id.streams)
     (taken_all c.args.gone.now c.loop-id.id-index (omega arith)) c.loop-id.invariant.held

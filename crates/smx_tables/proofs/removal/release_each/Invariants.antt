@@ -1,7 +1,7 @@
-use Rattle.std.proofs.Common.{◌≡◌, ◌+◌, ◌≤◌, true, length, not, filter, take}
+use Rattle.std.proofs.Common.{◌≡◌, ◌+◌, ◌≤◌, true, length, take}
 use Rattle.std.specs.Prelude.{vec_capacity}
 use Rattle.smx_types.specs.declared.stream.StreamId.{StreamId}
-use Rattle.smx_links.specs.LinkLists.{is_one_of}
+use Rattle.smx_links.specs.LinkLists.{others_of}
 use Rattle.smx_streams.specs.StreamTables.{LeavesHungs, exists as is_there}
 use Rattle.smx_tables.specs.ExistingStreams.{AreHeld}
 use Rattle.smx_tables.specs.TouchedStreams.{is_there_or_touched}
@@ -9,7 +9,7 @@ use Rattle.smx_tables.proofs.removal.release_each.Given as goal
 
 abbrev pub invariant-loop-id : goal.invariant-loop-id
 invariant-loop-id l = record {
-  held : AreHeld (filter (λ k. not (is_one_of (take l.id-index l.gone) k)) l.links.links) l.streams;
+  held : AreHeld (others_of (take l.id-index l.gone) l.links.links) l.streams;
   fds : l.streams.fds ≡ l.initial.streams.fds;
   minors : l.streams.minors ≡ l.initial.streams.minors;
   hungs : LeavesHungs l.initial.streams l.streams;

@@ -1,10 +1,24 @@
-use Rattle.smx_config.proofs.WokenLemmas.{woken_after}
+use Rattle.std.proofs.Common.{rules, sym, ◌∙◌}
+use Rattle.smx_config.proofs.WokenLemmas.{fault_keeps, woken_if}
 use Rattle.smx_config.proofs.config.Config.step.Goals as goal
+use Rattle.smx_config.proofs.config.Config.step.Goals.{then-is_ok, else-is_ok}
 
 pub settle-requires-clause-marks : goal.settle-requires-clause-marks
 settle-requires-clause-marks c =
     let old = c.self.inside.tables in
-    woken_after old c.perform.new.self c.args.process c.args.command.now c.perform.result _ c.wakes_of-wakes.result
-    c.self.inside.marks c.wake.new.marks c.in-Ok.is c.perform.ensures.refines c.wakes_of-wakes.ensures
+    woken_if old c.perform-answer.new.self c.args.process c.args.command.now c.perform-answer.result
+    c.wakes_of-wakes.result c.self.inside.marks c.wake.new.marks (sym c.is_ok.ensures.value ∙ c.if-is_ok.true)
+    c.perform-answer.ensures.refines c.wakes_of-wakes.ensures
     (c.woken_marks_are_enough.ensures old.drivers old.configuration c.args.process c.args.command.now
     c.self.inside.marks c.wake.new.marks c.self.invariant.kept.sound c.self.invariant.marks) c.wake.ensures
+
+pub returns-in-Ok-clause-fault : goal.returns-in-Ok-clause-fault
+returns-in-Ok-clause-fault c = elim c.if-is_ok.branch [
+  | then-is_ok w ↦
+      let old = c.self.inside.tables in
+      λ f fault. w.self-is ∙ (fault_keeps old c.perform-answer.new.self w.settle.new.self c.args.process
+      c.args.command.now c.perform-answer.result c.in-Ok.reply f c.in-Ok.is c.perform-answer.ensures.refines
+      w.settle.ensures.value (c.refusals_change_nothing.ensures old.drivers old.configuration c.args.process
+      c.args.command.now f) fault ∙ c.self.view_is)
+  | else-is_ok w ↦ search rules
+]

@@ -17,7 +17,8 @@ returns-clause-marks c =
     cleared_marks c.args.self.now.drivers now c.args.next c.args.marks.now left c.requires.marks
     (c.clearing_keeps_marks.ensures c.args.self.now.drivers c.args.from (marked_configuration now c.args.marks.now)
     (marked_configuration now left) c.requires.marks.waiting
-    (is_cleared c.args.self.now.drivers now c.args.from c.args.next c.args.marks.now left c.requires.least c.requires.next
+    (is_cleared c.args.self.now.drivers now c.args.from c.args.next c.args.marks.now left
+    c.requires.least c.requires.next
     c.requires.stays c.clear.ensures.gone c.mark_wanted.ensures.kept
     (λ q at. c.mark_wanted.ensures.there q at
     (subst (λ (ds : List DriverSpec). IsKnown ds q.stream) (sym c.requires.marks.wanted)

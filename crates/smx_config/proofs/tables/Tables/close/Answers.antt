@@ -23,7 +23,8 @@ tells_existing-requires-2-clause-linked c =
     let u = c.close_fd-stays.new.self in
     let sound = sound_inside c.self.inside c.args.self.now c.self.view_is c.requires in
     linked_still u [] old refl
-    (touched_by c.self.inside.drivers.items old t u [] (rw (← c.deref.ensures.value) c.tells_existing.ensures) sound.swept
+    (touched_by c.self.inside.drivers.items old t u []
+    (rw (← c.deref.ensures.value) c.tells_existing.ensures) sound.swept
     (closed_stays t u c.args.process c.args.fd (sym c.is_last.ensures ∙ c.if-is_last.false)
     c.close_fd-stays.ensures.rest c.close_fd-stays.ensures.went))
 

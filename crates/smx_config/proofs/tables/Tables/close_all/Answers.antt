@@ -1,4 +1,4 @@
-use Rattle.std.proofs.Common.{refl, ◌∙◌}
+use Rattle.std.proofs.Common.{◌==◌, not, filter, refl, ◌∙◌}
 use Rattle.smx_types.specs.declared.command.Command.TheVariants as command
 use Rattle.smx_model.specs.Commands.{outcome}
 use Rattle.smx_tables.specs.ModelOfLists.{configuration_of}
@@ -18,7 +18,8 @@ sweep_and_reply-requires-clause-touched c =
     let sound = sound_inside c.self.inside c.args.self.now c.self.view_is c.requires in
     touched_hungs u ss (record old { fds = u.fds }) u.hungs
     (touched_fds u ss old u.fds
-    (touched_by c.self.inside.drivers.items old t u ss (rw (← c.deref.ensures.value) c.tells_existing.ensures) sound.swept
+    (touched_by c.self.inside.drivers.items old t u ss
+    (rw (← c.deref.ensures.value) c.tells_existing.ensures) sound.swept
     (all_closed_touch t u c.args.process ss c.touch_each.ensures.named c.close_process.ensures.went)))
 
 pub returns : goal.returns
@@ -26,10 +27,14 @@ returns c =
     let old = configuration_of c.self.inside.lists in
     let u = c.close_process.new.self in
     let sound = sound_inside c.self.inside c.args.self.now c.self.view_is c.requires in
-    let left = sweep_of_left c.self.inside.drivers.items (record old { fds = u.fds; hungs = u.hungs }) u old.hungs
-    (λ s. c.close_process.ensures.rest.holds s ∙ c.self.invariant.kept.held s) refl c.close_process.ensures.rest.hungs in
+    let swept = record old { fds = u.fds; hungs = u.hungs } in
+    let left = sweep_of_left c.self.inside.drivers.items swept u old.hungs
+    (λ s. c.close_process.ensures.rest.holds s ∙ c.self.invariant.kept.held s)
+    refl c.close_process.ensures.rest.hungs in
     accepted c.self.inside c.args.self.now _
     (λ m. outcome m.drivers m.configuration c.args.process command.CloseAll) _ c.self.view_is
-    (swept_is c.self.inside.drivers.items c.deref-2.result.now old _ _ _ c.sweep_and_reply.result
+    (swept_is c.self.inside.drivers.items c.deref-2.result.now old
+    (record old { fds = filter (λ d. not (d.process == c.args.process)) old.fds }) swept _
+    c.sweep_and_reply.result
     c.deref-2.ensures.value c.sweep_and_reply.ensures.value (left ∙ rw c.close_process.ensures.rest.fds refl)
     (c.sweep_and_reply.ensures.reply old.flow sound.serials.apart c.in_ok-room.ensures.none))

@@ -1,7 +1,7 @@
-use Rattle.std.proofs.Common.{List, ap, refl, ◌∙◌}
+use Rattle.std.proofs.Common.{List, not, filter, ap, refl, ◌∙◌}
 use Rattle.std.specs.List.{list_any}
 use Rattle.smx_types.specs.declared.stream.StreamId.{StreamId}
-use Rattle.smx_model.specs.Configuration.{same_stream}
+use Rattle.smx_model.specs.Configuration.{is_fd, same_stream}
 use Rattle.smx_tables.specs.ModelOfLists.{configuration_of}
 use Rattle.smx_tables.proofs.HungSweepLemmas.{sweep_of_left}
 use Rattle.smx_tables.proofs.TouchLemmas.{touched_by, touched_fds, touched_hungs}
@@ -23,7 +23,8 @@ sweep_and_reply-requires-clause-touched c =
     let sound = sound_inside c.self.inside c.args.self.now c.self.view_is c.requires.sound in
     touched_hungs u ss (record old { fds = u.fds }) u.hungs
     (touched_fds u ss old u.fds
-    (touched_by c.self.inside.drivers.items old t u ss (rw (← c.deref.ensures.value) c.tells_existing.ensures) sound.swept
+    (touched_by c.self.inside.drivers.items old t u ss
+    (rw (← c.deref.ensures.value) c.tells_existing.ensures) sound.swept
     (closed_touches t u c.args.process c.args.fd c.args.stream ss (rw (← c.self.view_is) at c.requires.there) last
     c.close_fd-closed.ensures.went)))
 
@@ -32,11 +33,14 @@ returns c =
     let old = configuration_of c.self.inside.lists in
     let u = c.close_fd-closed.new.self in
     let sound = sound_inside c.self.inside c.args.self.now c.self.view_is c.requires.sound in
-    let left = sweep_of_left c.self.inside.drivers.items (record old { fds = u.fds; hungs = u.hungs }) u old.hungs
+    let swept = record old { fds = u.fds; hungs = u.hungs } in
+    let left = sweep_of_left c.self.inside.drivers.items swept u old.hungs
     (λ s. c.close_fd-closed.ensures.rest.holds s ∙ c.self.invariant.kept.held s) refl
     c.close_fd-closed.ensures.rest.hungs in
     accepted c.self.inside c.args.self.now _ (λ m. closing m.drivers m.configuration c.args.process c.args.fd) _
     c.self.view_is
-    (swept_is c.self.inside.drivers.items c.deref-2.result.now old _ _ _ c.sweep_and_reply.result
+    (swept_is c.self.inside.drivers.items c.deref-2.result.now old
+    (record old { fds = filter (λ d. not (is_fd c.args.process c.args.fd d)) old.fds }) swept _
+    c.sweep_and_reply.result
     c.deref-2.ensures.value c.sweep_and_reply.ensures.value (left ∙ rw c.close_fd-closed.ensures.rest.fds refl)
     (c.sweep_and_reply.ensures.reply old.flow sound.serials.apart c.in_ok-room.ensures.none))

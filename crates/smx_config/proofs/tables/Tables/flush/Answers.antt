@@ -19,7 +19,8 @@ sweep_and_reply-requires-clause-touched c =
     let sound = sound_inside c.self.inside c.args.self.now c.self.view_is c.requires in
     rw (c.drop_sides.ensures.flow, c.drop_sides.ensures.fulls)
     (touched_emptied t ss old goes
-    (touched_by c.self.inside.drivers.items old t t ss (rw (← c.deref.ensures.value) c.tells_existing.ensures) sound.swept
+    (touched_by c.self.inside.drivers.items old t t ss
+    (rw (← c.deref.ensures.value) c.tells_existing.ensures) sound.swept
     (λ s there. or_left _ _ there)))
 
 pub returns : goal.returns
@@ -30,7 +31,10 @@ returns c =
     rw (sym c.live_stream.ensures ∙ c.in_ok-stream.was)
     (accepted c.self.inside c.args.self.now _
     (λ m. done_outcome m.drivers m.configuration (without_queues_at m.configuration goes)) _ c.self.view_is
-    (swept_is c.self.inside.drivers.items c.deref-2.result.now old _ _ _ c.sweep_and_reply.result
-    c.deref-2.ensures.value c.sweep_and_reply.ensures.value (rw (c.drop_sides.ensures.flow, c.drop_sides.ensures.fulls) refl)
+    (swept_is c.self.inside.drivers.items c.deref-2.result.now old (without_queues_at old goes)
+    (record old { flow = c.drop_sides.new.queues.flow; fulls = c.drop_sides.new.queues.fulls }) _
+    c.sweep_and_reply.result
+    c.deref-2.ensures.value c.sweep_and_reply.ensures.value
+    (rw (c.drop_sides.ensures.flow, c.drop_sides.ensures.fulls) refl)
     (c.sweep_and_reply.ensures.reply old.flow sound.serials.apart
     (c.drop_sides.ensures.dropped old.flow c.in_ok-room.ensures.none))))

@@ -1,6 +1,10 @@
-use Rattle.smx_config.specs.Marking.{IsMarkedWhere}
-use Rattle.smx_config.proofs.RunMarkLemmas.{writes_below}
+use Rattle.std.proofs.Common.{length}
+use Rattle.smx_config.specs.Marking.{is_write_of}
+use Rattle.smx_config.proofs.RunMarkLemmas.{ArePassed}
 use Rattle.smx_config.proofs.tables.Tables.mark_writes.Given as goal
 
-abbrev pub invariant-loop-minor : goal.invariant-loop-minor
-invariant-loop-minor l = IsMarkedWhere l.self.configuration.flow (writes_below l.driver l.minor) l.initial.run l.run
+abbrev pub decreases-loop-first : goal.decreases-loop-first
+decreases-loop-first l = length l.rest
+
+abbrev pub invariant-loop-first : goal.invariant-loop-first
+invariant-loop-first l = ArePassed l.self.configuration.flow l.rest (is_write_of l.driver) l.initial.run l.run

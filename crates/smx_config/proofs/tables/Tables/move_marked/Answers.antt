@@ -12,7 +12,7 @@ use Rattle.smx_config.specs.declared.marks.Marks.{Marks}
 use Rattle.smx_config.specs.Marking.{AreMarks, IsMarkedWhere, IsWoken}
 use Rattle.smx_config.proofs.RunMarkLemmas.{both_marked, left_empty, one_marked, swapped}
 use Rattle.smx_config.proofs.NextMoveLemmas.{emptied_marks, forgotten, open_has_message}
-use Rattle.smx_tables.proofs.PlaceLemmas.{place_is, place_self}
+use Rattle.smx_queues.proofs.PlaceLemmas.{place_is, place_self}
 use Rattle.smx_config.proofs.WakeLemmas.{woken}
 use Rattle.smx_config.proofs.tables.Tables.move_marked.Goals as goal
 
@@ -50,8 +50,10 @@ returns-clause-marks c = subst (λ (ds : List DriverSpec). AreMarks ds now last)
           → AreMarks c.args.self.now.drivers now (with_run run)
       enough run h = subst
           (λ (x : Configuration). IsWoken x (both (same_place from) (same_place to)) (same_place from) c.args.marks.now
-          (with_run run) → AreMarks c.args.self.now.drivers x (with_run run)) (sym (ap (λ (m : Machine). m.configuration) c.move_on.ensures))
-          (c.moved_marks_are_enough.ensures c.args.self.now.drivers c.args.self.now.configuration from to c.args.marks.now
+          (with_run run) → AreMarks c.args.self.now.drivers x (with_run run))
+          (sym (ap (λ (m : Machine). m.configuration) c.move_on.ensures))
+          (c.moved_marks_are_enough.ensures c.args.self.now.drivers c.args.self.now.configuration from to
+          c.args.marks.now
           (with_run run) c.requires.sound c.requires.marks c.requires.open)
           (woken now (both (same_place from) (same_place to))
           (same_place from) c.args.marks.now c.release_if_open.new.marks run c.release_if_open.ensures h)

@@ -16,7 +16,8 @@ returns-in_err-opened c =
     let t = c.self.inside.lists.streams in
     let n = c.in_ok-driver.driver in
     let few : nat_le (minors_of old.drivers n) c.args.minor
-    ≡ false = rw (c.from.ensures, c.minors_of.ensures) at (not_refused _ _ (sym c.refuse.ensures ∙ c.in_ok-refuse.was)) in
+    ≡ false = rw (c.from.ensures, c.minors_of.ensures) at
+    (not_refused _ _ (sym c.refuse.ensures ∙ c.in_ok-refuse.was)) in
     let free : is_below old.configuration.links (record { driver = n; minor = c.args.minor }) ≡ false =
     rw (← c.self.view_is) (sym c.is_below.ensures ∙ not_refused _ _ (sym c.refuse-2.ensures ∙ c.in_ok-refuse-2.was)) in
     let agrees = minor_agrees old.drivers old.configuration t c.args.process n c.args.minor c.args.name.now

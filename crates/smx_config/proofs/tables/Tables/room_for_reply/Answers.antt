@@ -51,5 +51,6 @@ returns-in_err-check_unlink-in-Punlink-clause-makes c =
       p.1,
       p.2,
       c.in-Punlink.is,
-      punlink_is c.args.self.now.drivers c.args.self.now.configuration c.args.process c.in-Punlink.fd c.in-Punlink.which,
+      punlink_is c.args.self.now.drivers c.args.self.now.configuration c.args.process c.in-Punlink.fd
+          c.in-Punlink.which,
     ) c.in_err-check_unlink-in-Punlink.ensures.refused

@@ -8,7 +8,8 @@ use Rattle.smx_config.proofs.tables.Tables.unbind.Goals as goal
 
 pub returns-in_default : goal.returns-in_default
 returns-in_default c =
-    let bound : Binding → Bool = λ b. eqb b.driver c.in_ok-stream.stream.driver && eqb b.minor c.in_ok-stream.stream.minor in
+    let bound : Binding → Bool = λ b. eqb b.driver c.in_ok-stream.stream.driver
+    && eqb b.minor c.in_ok-stream.stream.minor in
     let binds = c.self.inside.lists.binds in (
       rw (c.unbind.ensures.rest ∙ none_goes bound binds (sym c.in_default.ensures.binding)) c.self.view_is,
       unbind_refused c.args.self.now.drivers c.args.self.now.configuration c.args.process c.args.fd
@@ -18,7 +19,8 @@ returns-in_default c =
 
 pub returns : goal.returns
 returns c =
-    let bound : Binding → Bool = λ b. eqb b.driver c.in_ok-stream.stream.driver && eqb b.minor c.in_ok-stream.stream.minor in
+    let bound : Binding → Bool = λ b. eqb b.driver c.in_ok-stream.stream.driver
+    && eqb b.minor c.in_ok-stream.stream.minor in
     let binds = c.self.inside.lists.binds in (
       ap (λ (m : Machine). m.drivers) c.self.view_is,
       unbind_does c.args.self.now.drivers c.args.self.now.configuration c.args.process c.args.fd c.in_ok-stream.stream _

@@ -60,8 +60,8 @@ returns c =
     rw (sym c.mux_stream.ensures ∙ c.in_ok-stream.was, sym c.check_targets.ensures ∙ c.in_ok-check_targets.was)
     (accepted c.self.inside c.args.self.now _
     (λ m. done_outcome m.drivers m.configuration (without_links m.configuration goes)) _ c.self.view_is
-    (swept_is ds c.deref-3.result.now old _ (record (without_links old goes) { hungs = u.hungs }) _
-    c.sweep_and_reply.result c.deref-3.ensures.value
+    (swept_is ds c.deref-3.result.now old (without_links old goes)
+    (record (without_links old goes) { hungs = u.hungs }) _ c.sweep_and_reply.result c.deref-3.ensures.value
     (c.sweep_and_reply.ensures.value ∙ ap (after_sweep c.deref-3.result.now) removed) left
     (c.sweep_and_reply.ensures.reply old.flow sound.serials.apart
     (c.remove_links.ensures.dropped old.flow c.in_ok-room.ensures.none))))

@@ -4,19 +4,22 @@ use Rattle.smx_queues.proofs.FlowCallLemmas.{mark_is, place_there, put_is}
 use Rattle.smx_queues.proofs.flow_table.FlowTable.put.Goals as goal
 
 pub put-requires-clause-place : goal.put-requires-clause-place
-put-requires-clause-place c = place_there _ _ _ _ c.self.invariant c.in-Some.ensures.found
+put-requires-clause-place c = place_there _ _ _ _ c.self.invariant (rw c.unwrap-p.ensures at c.number.ensures.found)
 
 pub put-requires-clause-open : goal.put-requires-clause-open
 put-requires-clause-open c =
-    mark_is _ _ _ _ _ _ c.self.invariant c.self.view_is c.in-Some.ensures.found ∙ c.requires.open
+    mark_is _ _ _ _ _ _ c.self.invariant c.self.view_is (rw c.unwrap-p.ensures at c.number.ensures.found)
+    ∙ c.requires.open
 
 pub put-requires-clause-spare : goal.put-requires-clause-spare
 put-requires-clause-spare c = omega (arith, c.requires.spare, ap (λ (t : FlowLists). t.spare) c.self.view_is)
 
 pub invariant_of-self : goal.invariant_of-self
 invariant_of-self c =
-    (put_is _ _ _ _ _ _ _ _ c.self.invariant c.self.view_is c.in-Some.ensures.found c.put.ensures.put).sound
+    (put_is _ _ _ _ _ _ _ _ c.self.invariant c.self.view_is (rw c.unwrap-p.ensures at c.number.ensures.found)
+    c.put.ensures.put).sound
 
-pub returns-in-Some : goal.returns-in-Some
-returns-in-Some c =
-    (put_is _ _ _ _ _ _ _ _ c.self.invariant c.self.view_is c.in-Some.ensures.found c.put.ensures.put).is _
+pub returns : goal.returns
+returns c =
+    (put_is _ _ _ _ _ _ _ _ c.self.invariant c.self.view_is (rw c.unwrap-p.ensures at c.number.ensures.found)
+    c.put.ensures.put).is _

@@ -1,6 +1,5 @@
-use Rattle.std.proofs.Common.{◌≡◌, ◌+◌, ◌-◌, ◌<◌, ◌∙◌, length, get_or, ap, sym, arith, vec_len}
+use Rattle.std.proofs.Common.{◌≡◌, ◌+◌, ◌-◌, ◌∙◌, get_or, ap, sym, arith, vec_len}
 use Rattle.std.proofs.lemmas.List.{take_at}
-use Rattle.std.proofs.lemmas.Option.{slice_get_within}
 use Rattle.smx_queues.specs.Waiters.{WaitList}
 use Rattle.smx_queues.proofs.WaiterLemmas.{at, by_no_slot, cleared, free_here, index_below, less_and_more, slot_read}
 use Rattle.smx_queues.proofs.WaiterLemmas.{taken_out}

@@ -1,5 +1,4 @@
-use Rattle.std.proofs.Common.{◌≡◌, ◌+◌, ◌-◌, ◌<◌, ◌∙◌, length, get_or, ap, arith}
-use Rattle.std.proofs.lemmas.Option.{slice_get_within}
+use Rattle.std.proofs.Common.{◌≡◌, ◌+◌, ◌-◌, ◌∙◌, length, get_or, ap, arith}
 use Rattle.smx_queues.specs.Waiters.{WaitList}
 use Rattle.smx_queues.proofs.WaiterLemmas.{anew_here, anew_others, at, has_slot, index_below, less_and_more, more_here}
 use Rattle.smx_queues.proofs.WaiterLemmas.{more_others, one_anew, one_more, slot_read, some_free}

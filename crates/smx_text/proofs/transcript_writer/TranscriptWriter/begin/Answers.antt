@@ -5,4 +5,4 @@ pub returns : goal.returns
 returns c =
     let lines = c.in_ok-write_lines.ensures in
     begun c.args.version c.args.drivers.now _ _ _ c.clear.ensures.items
-    (rw c.first_line.ensures at c.in_ok-extend_from_slice.ensures.items) lines.written lines.fits
+    (rw c.transcript_header.ensures at c.in_ok-extend_from_slice.ensures.items) lines.written lines.fits

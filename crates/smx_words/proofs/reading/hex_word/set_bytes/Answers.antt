@@ -15,9 +15,7 @@ loop-i-init c =
 pub loop-i-preserved : goal.loop-i-preserved
 loop-i-preserved c =
     let loop = c.loop-i.invariant in
-    let worst =
-    worst_is c.loop-i.worst c.value_of-high.result c.value_of-low.result c.max.result c.max-worst.result
-    c.max.ensures c.max-worst.ensures in
+    let worst = worst_is c.loop-i.worst c.value_of-high.result c.value_of-low.result in
     record {
       spelled = λ small.
           let each = worst.0 small in

@@ -1,0 +1,116 @@
+//! The subcommands and their options.
+
+use crate::command_list::COMMANDS;
+use clap::{Arg, ArgAction, Command, value_parser};
+use std::alloc::{AllocError, Global};
+
+/// What each help ends with.
+pub const SEE: &str =
+    "Exit status: 0 done or legal, 1 refused, 2 wrong words, 3 wrong text, 4 illegal or differing,
+5 input or output failed.
+The texts, in both versions, are in docs/FORMATS.md, commands and replies in docs/COMMANDS.md,
+and more in docs/MUXSIM.md. 'muxsim help commands' lists the commands of a program.";
+
+/// The one that runs programs.
+pub fn run<'a>(alloc: Global) -> Result<Command<'a>, AllocError> {
+    subcommand(
+        alloc,
+        "run",
+        "Run the programs on standard input and write the transcript to standard output",
+    )
+    .override_usage("muxsim run [--workers N] [--fronts] [--explain] < PROGRAMS")
+    .arg(workers(alloc))?
+    .arg(fronts(alloc))?
+    .arg(explain(alloc, "Show what is wrong with a text that is refused"))
+}
+
+/// The one that judges a transcript.
+pub fn check<'a>(alloc: Global) -> Result<Command<'a>, AllocError> {
+    subcommand(
+        alloc,
+        "check",
+        "Judge the transcript on standard input and write the verdict to standard output",
+    )
+    .override_usage("muxsim check [--explain] < TRANSCRIPT")
+    .arg(explain(
+        alloc,
+        "Show what is wrong with a transcript, or with a text that is refused",
+    ))
+}
+
+/// The one that replays a transcript.
+pub fn replay<'a>(alloc: Global) -> Command<'a> {
+    subcommand(
+        alloc,
+        "replay",
+        "Replay the transcript on standard input and write the transcript that its commands give",
+    )
+    .override_usage("muxsim replay < TRANSCRIPT")
+}
+
+/// The one that draws a picture.
+pub fn draw<'a>(alloc: Global) -> Result<Command<'a>, AllocError> {
+    subcommand(
+        alloc,
+        "draw",
+        "Draw the configuration that the transcript on standard input shows",
+    )
+    .override_usage("muxsim draw [--dot] < TRANSCRIPT")
+    .arg(dot(alloc))
+}
+
+/// The one that answers line by line.
+pub fn live<'a>(alloc: Global) -> Command<'a> {
+    subcommand(
+        alloc,
+        "live",
+        "Answer each line of standard input at once: a driver table, then commands of processes",
+    )
+    .override_usage("muxsim live < LINES")
+}
+
+/// The page of the help that lists the commands of a program.
+pub fn commands<'a>(alloc: Global) -> Command<'a> {
+    Command::new(alloc, "commands")
+        .override_help(COMMANDS)
+        .hide(true)
+}
+
+// A subcommand without options.
+fn subcommand<'a>(alloc: Global, name: &'a str, about: &'a str) -> Command<'a> {
+    Command::new(alloc, name).about(about).after_help(SEE)
+}
+
+// The option that says how many workers run the programs.
+fn workers<'a>(alloc: Global) -> Arg<'a> {
+    Arg::new(alloc, "workers")
+        .long("workers")
+        .value_name("N")
+        .help("How many threads run the programs, 1 to 64")
+        .value_parser(value_parser!(usize).range(1..=64))
+        .default_value("1")
+}
+
+// The option that has the fronts written.
+fn fronts<'a>(alloc: Global) -> Arg<'a> {
+    Arg::new(alloc, "fronts")
+        .long("fronts")
+        .help("Write the fronts text in place of the transcript")
+        .action(ArgAction::SetTrue)
+}
+
+// The option that has faults explained.
+fn explain<'a>(alloc: Global, help: &'a str) -> Arg<'a> {
+    Arg::new(alloc, "explain")
+        .long("explain")
+        .help(help)
+        .action(ArgAction::SetTrue)
+}
+
+// The option that has a picture written in Graphviz's language.
+fn dot<'a>(alloc: Global) -> Arg<'a> {
+    Arg::new(alloc, "dot")
+        .long("dot")
+        .help("Write the language of Graphviz in place of SVG")
+        .action(ArgAction::SetTrue)
+}

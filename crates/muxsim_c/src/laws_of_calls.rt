@@ -1,0 +1,45 @@
+//! Laws of calls, each the contract of a function that does nothing.
+
+ghost use Rattle.std.specs.Prelude.{◌≡◌, Some, None, Ok, Err, codes, pos};
+ghost use Rattle.smx_session.specs.WorkedSessions.{begun, hung, opened, table};
+ghost use Rattle.muxsim_c.specs.Calls.{Answers, Closes, Copies, Opens, Performs, Shows, Tells};
+ghost use Rattle.muxsim_c.specs.Codes.{Outcome, code};
+ghost use Rattle.muxsim_c.specs.declared.trouble.Trouble.TheVariants.{NoRoom};
+
+use smx_session::laws_of_sessions::a_worked_session;
+
+/// Outcomes have different codes.
+pub fn codes_tell_outcomes_apart()
+    ensures { (one other : Outcome) → code one ≡ code other → one ≡ other }
+{}
+
+/// What is copied is at the head of a buffer that has the room, whose rest stays; its length is told in each case.
+pub fn copies_keep_the_rest()
+    ensures at_the_head { Copies (codes "ab") (codes "wxyz") (codes "abyz") 2 (Ok tt) }
+    ensures just_fits { Copies (codes "ab") (codes "wx") (codes "ab") 2 (Ok tt) }
+    ensures no_room { Copies (codes "ab") (codes "w") (codes "w") 2 (Err NoRoom) }
+    ensures rest_stays { Copies (codes "ab") (codes "wxyz") (codes "ab") 2 (Ok tt) → ⊥ }
+    ensures not_in_part { Copies (codes "ab") (codes "w") (codes "a") 2 (Err NoRoom) → ⊥ }
+    ensures not_refused { Copies (codes "ab") (codes "wx") (codes "wx") 2 (Err NoRoom) → ⊥ }
+    ensures length_told { Copies (codes "ab") (codes "w") (codes "w") 1 (Err NoRoom) → ⊥ }
+{}
+
+/// A worked session in C: code by code, and what no call does.
+pub fn a_worked_session_in_c()
+    ensures open { Answers (pos 0) (Opens None table (Some begun)) }
+    ensures open_again { Answers (pos 8) (Opens (Some begun) table (Some begun)) }
+    ensures perform { Answers (pos 0) (Performs (Some begun) (codes "3 clone eth") (Some opened)) }
+    ensures tell { Answers (pos 0) (Tells (Some opened) (codes "123456789012345678901") (codes "3 clone eth = fd 0 0\n") 0 21) }
+    ensures tell_none { Answers (pos 5) (Tells (Some begun) (codes "1") (codes "1") 7 7) }
+    ensures close { Answers (pos 0) (Closes (Some hung) None) }
+    ensures close_none { Answers (pos 7) (Closes None None) }
+    ensures not_opened { Answers (pos 0) (Opens None table None) → ⊥ }
+    ensures not_replaced { Answers (pos 0) (Opens (Some opened) table (Some begun)) → ⊥ }
+    ensures not_undone { Answers (pos 0) (Performs (Some begun) (codes "3 clone eth") (Some begun)) → ⊥ }
+    ensures not_without { Answers (pos 0) (Performs None (codes "3 clone eth") None) → ⊥ }
+    ensures not_told { Answers (pos 0) (Tells (Some begun) (codes "1") (codes "1") 0 0) → ⊥ }
+    ensures no_length { Answers (pos 7) (Shows None (codes "1") (codes "1") 0 1) → ⊥ }
+    ensures not_kept { Answers (pos 0) (Closes (Some hung) (Some hung)) → ⊥ }
+{
+    a_worked_session();
+}

@@ -1,0 +1,141 @@
+-- Places from which no message goes on: the read side of a stream that is not linked below, and the write side of a
+-- leaf driver's stream. So what is left where a message was read or transmitted turns nothing.
+use Rattle.std.proofs.Common.{◌≡◌, ℕ, Bool, true, false, ◌&&◌, not, List, [], ◌∷◌, find, Option, None, Some}
+use Rattle.std.proofs.Common.{Result, Ok, Err, refl, sym, ap, ◌∙◌, subst, inl, inr}
+use Rattle.std.specs.List.{list_any}
+use Rattle.std.specs.Option.{is_some}
+use Rattle.std.proofs.lemmas.Bool.{cases_Bool, false≢true}
+use Rattle.smx_types.specs.declared.command.Command.TheVariants as command
+use Rattle.smx_types.specs.declared.driver.DriverSpec.{DriverSpec}
+use Rattle.smx_types.specs.declared.link.Link.{Link}
+use Rattle.smx_types.specs.declared.message.Message.{Message}
+use Rattle.smx_types.specs.declared.reply.Fault.{Fault}
+use Rattle.smx_types.specs.declared.reply.Fault.TheVariants.{Below, Empty, HungUp, NoDriver, NoMinor}
+use Rattle.smx_types.specs.declared.reply.Reply.{Reply}
+use Rattle.smx_types.specs.declared.stream.Place.{Place}
+use Rattle.smx_types.specs.declared.stream.StreamId.{StreamId}
+use Rattle.smx_model.specs.Commands.{outcome, read_outcome, receive_outcome}
+use Rattle.smx_model.specs.Configuration.{Configuration, same_place, same_stream}
+use Rattle.smx_model.specs.DriverList.{is_mux}
+use Rattle.smx_model.specs.Hangups.{is_hung}
+use Rattle.smx_model.specs.Lookups.{driver_of, free_stream, leaf_stream, live_leaf, stream_of}
+use Rattle.smx_model.specs.Outcomes.{Outcome, ◌>>=◌, or_fault, refuse}
+use Rattle.smx_model.specs.Queues.{first_message}
+use Rattle.smx_model.specs.RunMarks.{next_of, next_of_first}
+use Rattle.smx_model.specs.Standing.{exists, is_below}
+use Rattle.smx_model.specs.TurnedPlaces.{of_stream, read_side, write_side}
+use Rattle.smx_queues.proofs.PlaceLemmas.{place_is}
+
+-- ---- what an accepted lookup says
+
+bound : {A B : Type 0} (r : Result A Fault) (f : A → Result B Fault) (y : B) → (r >>= f) ≡ Ok y
+    → (x : A) × (r ≡ Ok x) × (f x ≡ Ok y)
+bound (Err e) f y h = absurd cc
+bound (Ok x) f y h = (x, refl, h)
+
+passed : (f : Fault) (t : Bool) (u : Unit {0}) → refuse f t ≡ Ok u → t ≡ false
+passed f true u h = absurd cc
+passed f false u h = refl
+
+named : (s t : StreamId) → ◌≡◌ {A = Result StreamId Fault} (Ok s) (Ok t) → s ≡ t
+named s t h = cc
+
+-- the stream of a free descriptor is not below a link
+free_is : (c : Configuration) (process fd : ℕ) (s : StreamId) → free_stream c process fd ≡ Ok s
+    → is_below c.links s ≡ false
+free_is c process fd s e =
+    let found = bound (stream_of c process fd) (λ x. refuse Below (is_below c.links x) >>= (λ a. Ok x)) s e in
+    let above = bound (refuse Below (is_below c.links found.0)) (λ a. Ok found.0) s found.2 in
+    subst (λ (x : StreamId). is_below c.links x ≡ false) (named found.0 s above.2) (passed Below _ above.0 above.1)
+
+-- the driver of a device's stream is no multiplexing one
+leaf_is : (drivers : List DriverSpec) (c : Configuration) (name : List ℕ) (minor : ℕ) (s : StreamId)
+    → leaf_stream drivers c name minor ≡ Ok s → is_mux drivers s.driver ≡ false
+leaf_is drivers c name minor s e =
+    let found = bound (driver_of drivers name) _ s e in
+    let leaf = bound (refuse NoDriver (is_mux drivers found.0)) _ s found.2 in
+    let here : StreamId = record { driver = found.0; minor = minor } in
+    let there = bound (refuse NoMinor (not (exists drivers c here))) _ s leaf.2 in
+    subst (λ (x : StreamId). is_mux drivers x.driver ≡ false) (named here s there.2) (passed NoDriver _ leaf.0 leaf.1)
+
+live_is : (drivers : List DriverSpec) (c : Configuration) (name : List ℕ) (minor : ℕ) (s : StreamId)
+    → live_leaf drivers c name minor ≡ Ok s → is_mux drivers s.driver ≡ false
+live_is drivers c name minor s e =
+    let found = bound (leaf_stream drivers c name minor) (λ x. refuse HungUp (is_hung c.hungs x) >>= (λ h. Ok x)) s e in
+    let live = bound (refuse HungUp (is_hung c.hungs found.0)) (λ h. Ok found.0) s found.2 in
+    leaf_is drivers c name minor s (found.1 ∙ live.2)
+
+-- ---- the links stay as they are
+
+accepted : (x y : Configuration × Reply) → ◌≡◌ {A = Outcome} (Ok x) (Ok y) → x ≡ y
+accepted x y h = cc
+
+received_links : (drivers : List DriverSpec) (c : Configuration) (p : Place) (x : Configuration × Reply)
+    → receive_outcome drivers c p ≡ Ok x → x.0.links ≡ c.links
+received_links drivers c p x e =
+    let found = bound (or_fault Empty (first_message c.flow p)) _ x e in
+    ap (λ (y : Configuration × Reply). y.0.links) (sym (accepted _ x found.2))
+
+read_links : (drivers : List DriverSpec) (c : Configuration) (s : StreamId) (x : Configuration × Reply)
+    → read_outcome drivers c s ≡ Ok x → x.0.links ≡ c.links
+read_links drivers c s x e = by (is_hung c.hungs s && not (is_some (first_message c.flow (read_side s)))) refl where
+  by : (b : Bool) → (is_hung c.hungs s && not (is_some (first_message c.flow (read_side s)))) ≡ b → x.0.links ≡ c.links
+  by true t = let k : ◌≡◌ {A = Outcome} (Ok (c, _)) (Ok x) = rw t at e in
+      ap (λ (y : Configuration × Reply). y.0.links) (sym (accepted _ x k))
+  by false f = let k : receive_outcome drivers c (read_side s) ≡ Ok x = rw f at e in
+      received_links drivers c (read_side s) x k
+
+-- ---- where no message goes on
+
+none_found : (test : Link → Bool) (links : List Link) → list_any test links ≡ false → find test links ≡ None
+none_found test [] h = refl
+none_found test (l ∷ ls) h = elim (cases_Bool (test l)) [
+  | inl t ↦ absurd (false≢true (sym (rw t at h)))
+  | inr f ↦ rw f (none_found test ls (rw f at h))
+]
+
+-- the first message of a place goes nowhere next, if no message does
+nowhere_next : (drivers : List DriverSpec) (c : Configuration) (p : Place)
+    → ((m : Message) → next_of drivers c p (Some m) ≡ None) → next_of_first drivers c p ≡ None
+nowhere_next drivers c p none = by (first_message c.flow p) where
+  by : (o : Option Message) → next_of drivers c p o ≡ None
+  by None = refl
+  by (Some m) = none m
+
+-- nothing goes up from a stream that is not below a link
+read_side_stays : (drivers : List DriverSpec) (c : Configuration) (s : StreamId) → is_below c.links s ≡ false
+    → next_of_first drivers c (read_side s) ≡ None
+read_side_stays drivers c s free = nowhere_next drivers c (read_side s)
+    (λ m. rw (none_found (λ l. same_stream l.lower s) c.links free) refl)
+
+-- nothing goes down from a leaf driver's stream
+write_side_stays : (drivers : List DriverSpec) (c : Configuration) (s : StreamId) → is_mux drivers s.driver ≡ false
+    → next_of_first drivers c (write_side s) ≡ None
+write_side_stays drivers c s leaf = nowhere_next drivers c (write_side s) (λ m. rw leaf refl)
+
+stays_at : (drivers : List DriverSpec) (c : Configuration) (q p : Place) → same_place q p ≡ true
+    → next_of_first drivers c q ≡ None → next_of_first drivers c p ≡ None
+stays_at drivers c q p same none =
+    subst (λ (x : Place). next_of_first drivers c x ≡ None) (place_is q p same) none
+
+-- after a read no message goes on from the place that it read from
+pub read_stays : (drivers : List DriverSpec) (c : Configuration) (process fd : ℕ) (x : Configuration × Reply)
+    (p : Place) → outcome drivers c process (command.Read fd) ≡ Ok x
+    → of_stream (free_stream c process fd) (λ s. same_place (read_side s)) p ≡ true
+    → next_of_first drivers x.0 p ≡ None
+read_stays drivers c process fd x p e t =
+    let found = bound (free_stream c process fd) _ x e in
+    let links = read_links drivers c found.0 x found.2 in
+    stays_at drivers x.0 (read_side found.0) p (rw found.1 at t)
+    (read_side_stays drivers x.0 found.0
+    (subst (λ (ls : List Link). is_below ls found.0 ≡ false) (sym links) (free_is c process fd found.0 found.1)))
+
+-- after a transmit none goes on from the place that it took from
+pub transmit_stays : (drivers : List DriverSpec) (c : Configuration) (process : ℕ) (name : List ℕ) (minor : ℕ)
+    (x : Configuration × Reply) (p : Place) → outcome drivers c process (command.Transmit name minor) ≡ Ok x
+    → of_stream (live_leaf drivers c name minor) (λ s. same_place (write_side s)) p ≡ true
+    → next_of_first drivers x.0 p ≡ None
+transmit_stays drivers c process name minor x p e t =
+    let found = bound (live_leaf drivers c name minor) _ x e in
+    stays_at drivers x.0 (write_side found.0) p (rw found.1 at t)
+    (write_side_stays drivers x.0 found.0 (live_is drivers c name minor found.0 found.1))

@@ -1,0 +1,90 @@
+-- Two texts that are read line by line, as long as their lines are the same.
+use Rattle.std.proofs.Common.{◌≡◌, ◌≢◌, ℕ, ◌+◌, List, [], ◌∷◌, ◌++◌, length, refl, sym, ap, ◌∙◌, append_assoc, arith}
+use Rattle.std.proofs.Common.{inl, inr}
+use Rattle.std.specs.List.{AllByRecursion}
+use Rattle.std.proofs.lemmas.List.{length-append}
+use Rattle.smx_words.specs.Words.{LINE_FEED}
+use Rattle.smx_text.specs.Grammar.{IsOneLine}
+use Rattle.smx_explain.specs.Differences.{AreAlike, Begin, IsFirstDifference, whole_lines}
+
+-- ---- lines
+
+-- with one line more
+whole_more : (lines : List (List ℕ)) (line : List ℕ)
+    → whole_lines (lines ++ line ∷ []) ≡ whole_lines lines ++ (line ++ LINE_FEED ∷ [])
+whole_more [] line = append_nothing (line ++ LINE_FEED ∷ []) where
+  append_nothing : (xs : List ℕ) → xs ++ [] ≡ xs
+  append_nothing [] = refl
+  append_nothing (x ∷ xs) = ap (λ (ys : List ℕ). x ∷ ys) (append_nothing xs)
+whole_more (l ∷ lines) line = ap (λ (xs : List ℕ). (l ++ LINE_FEED ∷ []) ++ xs) (whole_more lines line)
+    ∙ sym (append_assoc (l ++ LINE_FEED ∷ []) (whole_lines lines) (line ++ LINE_FEED ∷ []))
+
+-- what follows the lines goes on with one of them
+shifted : (lines : List (List ℕ)) (line more bytes : List ℕ) → bytes ≡ whole_lines lines ++ (line ++ LINE_FEED ∷ more)
+    → bytes ≡ whole_lines (lines ++ line ∷ []) ++ more
+shifted lines line more bytes is =
+    rw (
+      whole_more lines line,
+      append_assoc (whole_lines lines) (line ++ LINE_FEED ∷ []) more,
+      append_assoc line (LINE_FEED ∷ []) more,
+    ) is
+
+all_more : (lines : List (List ℕ)) (line : List ℕ) → AllByRecursion IsOneLine lines → IsOneLine line
+    → AllByRecursion IsOneLine (lines ++ line ∷ [])
+all_more [] line all one = (one, tt)
+all_more (l ∷ lines) line all one = (all.0, all_more lines line all.1 one)
+
+-- ---- reading
+
+-- so many lines were read of both, which are the same
+pub record HasCome (one other rest behind : List ℕ) (number : ℕ) : Type 0 where
+  pub lines : List (List ℕ)
+  pub begin : Begin one other lines rest behind
+  pub counted : number ≡ length lines + 1
+
+-- none yet
+pub none_yet : (one other : List ℕ) → HasCome one other one other 1
+none_yet one other =
+    record { lines = []; begin = record { are_lines = tt; one_is = refl; other_is = refl }; counted = refl }
+
+module _ (one other rest behind : List ℕ) (number : ℕ) (h : HasCome one other rest behind number) where
+  -- one more
+  pub one_more : (told has more after : List ℕ) → IsOneLine told → rest ≡ told ++ LINE_FEED ∷ more
+      → behind ≡ has ++ LINE_FEED ∷ after
+      → told ≡ has → HasCome one other more after (number + 1)
+  one_more told has more after is_one is also same = record {
+    lines = h.lines ++ told ∷ [];
+    begin = record {
+      are_lines = all_more h.lines told h.begin.are_lines is_one;
+      one_is = shifted h.lines told more one (rw (← is) h.begin.one_is);
+      other_is = shifted h.lines told after other (rw (same, ← also) h.begin.other_is);
+    };
+    counted = omega (arith, h.counted, length-append h.lines (told ∷ []));
+  }
+
+  -- the next ones differ
+  pub found : (told has more after : List ℕ) → IsOneLine told → IsOneLine has → rest ≡ told ++ LINE_FEED ∷ more
+      → behind ≡ has ++ LINE_FEED ∷ after
+      → told ≢ has → IsFirstDifference one other number told has
+  found told has more after is_one also_one is also differ = record {
+    before = h.lines;
+    counted = h.counted;
+    told_is_one = is_one;
+    has_is_one = also_one;
+    more = more;
+    rest = after;
+    begin = record {
+      are_lines = h.begin.are_lines;
+      one_is = rw (← is) h.begin.one_is;
+      other_is = rw (← also) h.begin.other_is;
+    };
+    differ = differ;
+  }
+
+  -- there is no line more of the one
+  pub one_ends : IsOneLine rest → AreAlike one other
+  one_ends end = record { lines = h.lines; rest = rest; behind = behind; begin = h.begin; ends = inl end }
+
+  -- or of the other
+  pub other_ends : IsOneLine behind → AreAlike one other
+  other_ends end = record { lines = h.lines; rest = rest; behind = behind; begin = h.begin; ends = inr end }

@@ -1,0 +1,5 @@
+pub mod DifferenceLemmas
+pub mod LineLemmas
+pub mod TextLemmas
+pub mod HistoryLemmas
+pub mod ExplanationLemmas

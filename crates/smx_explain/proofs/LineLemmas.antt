@@ -1,0 +1,179 @@
+-- Texts that are made of lines: they have one first difference.
+use Rattle.std.proofs.Common.{◌≡◌, ◌≢◌, ℕ, ◌+◌, ◌<◌, ◌≤◌, List, [], ◌∷◌, ◌++◌, length, map, refl, sym, ap, subst, ◌∙◌}
+use Rattle.std.proofs.Common.{append_assoc, arith}
+use Rattle.std.specs.List.{AllByRecursion, flat_map}
+use Rattle.smx_words.specs.Words.{LINE_FEED}
+use Rattle.smx_text.specs.Grammar.{IsOneLine}
+use Rattle.smx_explain.specs.Differences.{IsFirstDifference, whole_lines}
+
+-- ---- bytes
+
+-- bytes with a line feed in them are not one line
+not_one : (xs after : List ℕ) → IsOneLine (xs ++ LINE_FEED ∷ after) → ⊥
+not_one [] after h = h.0 refl
+not_one (x ∷ xs) after h = not_one xs after h.1
+
+-- the first line of some bytes, and what follows it, are what they are
+one_cut : (xs ys cs ds : List ℕ) → IsOneLine xs → IsOneLine ys → xs ++ LINE_FEED ∷ cs ≡ ys ++ LINE_FEED ∷ ds
+    → (xs ≡ ys) × (cs ≡ ds)
+one_cut [] [] cs ds h k e = (refl, cc)
+one_cut [] (y ∷ ys) cs ds h k e = let first : LINE_FEED ≡ y = cc in absurd (k.0 (sym first))
+one_cut (x ∷ xs) [] cs ds h k e = let first : x ≡ LINE_FEED = cc in absurd (h.0 first)
+one_cut (x ∷ xs) (y ∷ ys) cs ds h k e =
+    let first : x ≡ y = cc in
+    let rest : xs ++ LINE_FEED ∷ cs ≡ ys ++ LINE_FEED ∷ ds = cc in
+    let t = one_cut xs ys cs ds h.1 k.1 rest in
+    (ap (λ (z : ℕ). z ∷ xs) first ∙ ap (λ (zs : List ℕ). y ∷ zs) t.0, t.1)
+
+-- of nothing both parts are nothing
+no_part : (xs ys : List ℕ) → xs ++ ys ≡ [] → ys ≡ []
+no_part [] ys e = e
+no_part (x ∷ xs) ys e = absurd (cc e)
+
+-- what ends in a line feed does not end in a part of a line
+pub no_rest : (xs ys rest : List ℕ) → xs ++ rest ≡ ys ++ LINE_FEED ∷ [] → IsOneLine rest → rest ≡ []
+no_rest [] ys rest e one = absurd (not_one ys [] (subst IsOneLine e one))
+no_rest (x ∷ xs) [] rest e one = let none : xs ++ rest ≡ [] = cc in no_part xs rest none
+no_rest (x ∷ xs) (y ∷ ys) rest e one = let more : xs ++ rest ≡ ys ++ LINE_FEED ∷ [] = cc in no_rest xs ys rest more one
+
+-- ---- lines
+
+-- one line, and then the rest
+cons : (line : List ℕ) (lines : List (List ℕ)) (rest : List ℕ)
+    → whole_lines (line ∷ lines) ++ rest ≡ line ++ LINE_FEED ∷ (whole_lines lines ++ rest)
+cons line lines rest = simp append_assoc
+
+-- lines of what they are made of
+pub whole_map : {A : Type 0} (f : A → List ℕ) (xs : List A)
+    → flat_map (λ x. f x ++ LINE_FEED ∷ []) xs ≡ whole_lines (map f xs)
+whole_map f [] = refl
+whole_map f (x ∷ xs) = ap (λ (rest : List ℕ). (f x ++ LINE_FEED ∷ []) ++ rest) (whole_map f xs)
+
+-- a line that both have first is no difference
+no_first : (l told has more rest a b : List ℕ) → IsOneLine l → IsOneLine told → IsOneLine has → told ≢ has
+    → l ++ LINE_FEED ∷ a ≡ told ++ LINE_FEED ∷ more
+    → l ++ LINE_FEED ∷ b ≡ has ++ LINE_FEED ∷ rest → ⊥
+no_first l told has more rest a b one one_told one_has differ e k =
+    differ (sym (one_cut l told a more one one_told e).0 ∙ (one_cut l has b rest one one_has k).0)
+
+-- two ways to begin both with lines and then with lines that differ are one
+pub one_front : (ls ms : List (List ℕ)) (told has told_too has_too more rest more_too rest_too : List ℕ)
+    → AllByRecursion IsOneLine ls → AllByRecursion IsOneLine ms → IsOneLine told → IsOneLine has → IsOneLine told_too
+    → IsOneLine has_too
+    → told ≢ has → told_too ≢ has_too
+    → whole_lines ls ++ (told ++ LINE_FEED ∷ more) ≡ whole_lines ms ++ (told_too ++ LINE_FEED ∷ more_too)
+    → whole_lines ls ++ (has ++ LINE_FEED ∷ rest) ≡ whole_lines ms ++ (has_too ++ LINE_FEED ∷ rest_too)
+    → (length ls ≡ length ms) × (told ≡ told_too) × (has ≡ has_too)
+one_front [] [] told has told_too has_too more rest more_too rest_too all all_too a b c d differ differ_too e k =
+    (refl, (one_cut told told_too more more_too a c e).0, (one_cut has has_too rest rest_too b d k).0)
+one_front [] (m ∷ ms) told has told_too has_too more rest more_too rest_too all all_too a b c d differ differ_too e k =
+    absurd (no_first m told has more rest _ _ all_too.0 a b differ
+    (sym (e ∙ cons m ms (told_too ++ LINE_FEED ∷ more_too)))
+    (sym (k ∙ cons m ms (has_too ++ LINE_FEED ∷ rest_too))))
+one_front (l ∷ ls) [] told has told_too has_too more rest more_too rest_too all all_too a b c d differ differ_too e k =
+    absurd (no_first l told_too has_too more_too rest_too _ _ all.0 c d differ_too
+    (sym (cons l ls (told ++ LINE_FEED ∷ more)) ∙ e)
+    (sym (cons l ls (has ++ LINE_FEED ∷ rest)) ∙ k))
+one_front (l ∷ ls) (m ∷ ms) told has told_too has_too more rest more_too rest_too all all_too a b c d differ differ_too
+    e k =
+    let cut = one_cut l m _ _ all.0 all_too.0
+    (sym (cons l ls (told ++ LINE_FEED ∷ more)) ∙ e ∙ cons m ms (told_too ++ LINE_FEED ∷ more_too)) in
+    let cut_too = one_cut l m _ _ all.0 all_too.0
+    (sym (cons l ls (has ++ LINE_FEED ∷ rest)) ∙ k ∙ cons m ms (has_too ++ LINE_FEED ∷ rest_too)) in
+    let t = one_front ls ms told has told_too has_too more rest more_too rest_too all.1 all_too.1 a b c d differ
+    differ_too cut.1 cut_too.1 in
+    (omega (arith, t.0), t.1, t.2)
+
+-- lines that both begin with come before the difference
+pub past_front : (ps ls : List (List ℕ)) (told has more rest x y : List ℕ)
+    → AllByRecursion IsOneLine ps → AllByRecursion IsOneLine ls → IsOneLine told → IsOneLine has → told ≢ has
+    → whole_lines ls ++ (told ++ LINE_FEED ∷ more) ≡ whole_lines ps ++ x
+    → whole_lines ls ++ (has ++ LINE_FEED ∷ rest) ≡ whole_lines ps ++ y
+    → length ps ≤ length ls
+past_front [] ls told has more rest x y all all_too a b differ e k = omega arith
+past_front (p ∷ ps) [] told has more rest x y all all_too a b differ e k =
+    absurd (no_first p told has more rest _ _ all.0 a b differ (sym (e ∙ cons p ps x)) (sym (k ∙ cons p ps y)))
+past_front (p ∷ ps) (l ∷ ls) told has more rest x y all all_too a b differ e k =
+    let cut = one_cut l p _ _ all_too.0 all.0 (sym (cons l ls (told ++ LINE_FEED ∷ more)) ∙ e ∙ cons p ps x) in
+    let cut_too = one_cut l p _ _ all_too.0 all.0 (sym (cons l ls (has ++ LINE_FEED ∷ rest)) ∙ k ∙ cons p ps y) in
+    let t = past_front ps ls told has more rest x y all.1 all_too.1 a b differ cut.1 cut_too.1 in
+    omega (arith, t)
+
+-- ---- differences
+
+-- there is one
+pub one_difference : (one other : List ℕ) (n m : ℕ) (told has told_too has_too : List ℕ)
+    → IsFirstDifference one other n told has
+    → IsFirstDifference one other m told_too has_too → (n ≡ m) × (told ≡ told_too) × (has ≡ has_too)
+one_difference one other n m told has told_too has_too h k =
+    let t = one_front h.before k.before told has told_too has_too h.more h.rest k.more k.rest h.begin.are_lines
+    k.begin.are_lines
+    h.told_is_one h.has_is_one k.told_is_one k.has_is_one h.differ k.differ (sym h.begin.one_is ∙ k.begin.one_is)
+    (sym h.begin.other_is ∙ k.begin.other_is) in
+    (omega (arith, h.counted, k.counted, t.0), t.1, t.2)
+
+-- a text does not differ from itself
+same_rest : (xs ys zs : List ℕ) → xs ++ ys ≡ xs ++ zs → ys ≡ zs
+same_rest [] ys zs e = e
+same_rest (x ∷ xs) ys zs e = let more : xs ++ ys ≡ xs ++ zs = cc in same_rest xs ys zs more
+
+pub no_difference : (one other : List ℕ) (n : ℕ) (told has : List ℕ) → IsFirstDifference one other n told has
+    → one ≡ other → ⊥
+no_difference one other n told has h same =
+    let rests = same_rest (whole_lines h.before) _ _ (sym h.begin.one_is ∙ same ∙ h.begin.other_is) in
+    h.differ (one_cut told has h.more h.rest h.told_is_one h.has_is_one rests).0
+
+-- ---- a line by its number
+
+-- what the lines from this one on are, whatever lines come before and behind
+abbrev pub IsFrom : List ℕ → ℕ → ℕ → List ℕ → Type 0
+IsFrom text number at bytes =
+    (before : List (List ℕ)) (rest : List ℕ) → AllByRecursion IsOneLine before → number ≡ length before + 1
+    → text ≡ whole_lines before ++ rest
+    → (behind : List (List ℕ)) × AllByRecursion IsOneLine behind × (length behind + at ≡ number)
+    × (bytes ≡ whole_lines behind ++ rest)
+
+-- all lines, from the first on
+pub from_first : (text : List ℕ) (number : ℕ) → IsFrom text number 1 text
+from_first text number = λ before rest all count is. (before, all, omega (arith, count), is)
+
+-- one further
+pub one_further : (text : List ℕ) (number at : ℕ) (bytes line after : List ℕ) → IsFrom text number at bytes
+    → at < number → IsOneLine line
+    → bytes ≡ line ++ LINE_FEED ∷ after → IsFrom text number (at + 1) after
+one_further text number at bytes line after h less one is =
+    λ before rest all count e. behind_one (h before rest all count e) where
+      behind_one : {rest : List ℕ}
+          → ((behind : List (List ℕ)) × AllByRecursion IsOneLine behind × (length behind + at ≡ number)
+          × (bytes ≡ whole_lines behind ++ rest))
+          → (behind : List (List ℕ)) × AllByRecursion IsOneLine behind × (length behind + (at + 1) ≡ number)
+          × (after ≡ whole_lines behind ++ rest)
+      behind_one ([], all, long, e) = absurd (omega (arith, long, less))
+      behind_one {rest} (b ∷ behind, all, long, e) = (
+        behind,
+        all.1,
+        omega (arith, long),
+        (one_cut line b after (whole_lines behind ++ rest) one all.0 (sym is ∙ e ∙ cons b behind rest)).1,
+      )
+
+-- there is no line feed, and so no line more
+pub none_further : (text : List ℕ) (number at : ℕ) (bytes : List ℕ) → IsFrom text number at bytes → at < number
+    → IsOneLine bytes
+    → (before : List (List ℕ)) (rest : List ℕ) → AllByRecursion IsOneLine before → number ≡ length before + 1
+    → text ≡ whole_lines before ++ rest → ⊥
+none_further text number at bytes h less one before rest all count e = no_lines (h before rest all count e) where
+  no_lines : ((behind : List (List ℕ)) × AllByRecursion IsOneLine behind × (length behind + at ≡ number)
+      × (bytes ≡ whole_lines behind ++ rest)) → ⊥
+  no_lines ([], all, long, e) = omega (arith, long, less)
+  no_lines (b ∷ behind, all, long, e) =
+      not_one b (whole_lines behind ++ rest) (subst IsOneLine (e ∙ cons b behind rest) one)
+
+-- where as many were passed as come before, the bytes are what follows them
+pub all_passed : (text : List ℕ) (number at : ℕ) (bytes : List ℕ) → IsFrom text number at bytes → number ≤ at
+    → (before : List (List ℕ)) (rest : List ℕ) → AllByRecursion IsOneLine before → number ≡ length before + 1
+    → text ≡ whole_lines before ++ rest → bytes ≡ rest
+all_passed text number at bytes h past before rest all count e = no_lines (h before rest all count e) where
+  no_lines : ((behind : List (List ℕ)) × AllByRecursion IsOneLine behind × (length behind + at ≡ number)
+      × (bytes ≡ whole_lines behind ++ rest)) → bytes ≡ rest
+  no_lines ([], all, long, e) = e
+  no_lines (b ∷ behind, all, long, e) = absurd (omega (arith, long, past))

@@ -1,0 +1,18 @@
+use Rattle.std.proofs.Common.{◌≡◌, ◌∷◌, length, rules, arith, ap}
+use Rattle.std.proofs.lemmas.List.{length-append}
+use Rattle.smx_words.specs.Words.{LINE_FEED}
+use Rattle.smx_explain.proofs.DifferenceLemmas.{one_more}
+use Rattle.smx_explain.proofs.differences.first_difference.Goals as goal
+
+pub lines-preserved : goal.lines-preserved
+lines-preserved c =
+    let told = c.in-Some.ensures in
+    let same : c.in-Some.told.now ≡ c.in-Some-next_line.has.now = search rules in
+    record {
+      come = one_more _ _ _ _ _ c.lines.invariant.come _ _ _ _ told.0 told.1 c.in-Some-next_line.ensures.1 same;
+      room = omega (
+        arith,
+        ap (length {A = _}) told.1,
+        length-append c.in-Some.told.now (LINE_FEED ∷ c.in-Some.more.now),
+      );
+    }

@@ -1,0 +1,41 @@
+-- The first line in which two texts differ.
+use Rattle.std.specs.Prelude.{◌≡◌, ◌≢◌, ℕ, ◌+◌, List, [], ◌∷◌, ◌++◌, length, ◌⊎◌}
+use Rattle.std.specs.List.{AllByRecursion, flat_map}
+use Rattle.smx_words.specs.Words.{LINE_FEED}
+use Rattle.smx_text.specs.Grammar.{IsOneLine}
+
+-- these lines, each with its line feed
+abbrev pub whole_lines : List (List ℕ) → List ℕ
+whole_lines lines = flat_map (λ line. line ++ LINE_FEED ∷ []) lines
+
+-- the first line of some bytes, whole or not
+abbrev pub IsFirstLine : List ℕ → List ℕ → Type 0
+IsFirstLine line bytes = IsOneLine line × ((bytes ≡ line) ⊎ ((after : List ℕ) × (bytes ≡ line ++ LINE_FEED ∷ after)))
+
+-- both texts begin with these lines
+pub record Begin (one other : List ℕ) (lines : List (List ℕ)) (rest behind : List ℕ) : Type 0 where
+  pub are_lines : AllByRecursion IsOneLine lines
+  pub one_is : one ≡ whole_lines lines ++ rest
+  pub other_is : other ≡ whole_lines lines ++ behind
+
+-- The line of this number is `told` in the one text and `has` in the other, and those before it are the same.
+pub record IsFirstDifference (one other : List ℕ) (number : ℕ) (told has : List ℕ) : Type 0 where
+  -- so many lines come before it, alike in both
+  pub before : List (List ℕ)
+  pub counted : number ≡ length before + 1
+  -- then each has a whole line
+  pub told_is_one : IsOneLine told
+  pub has_is_one : IsOneLine has
+  pub more : List ℕ
+  pub rest : List ℕ
+  pub begin : Begin one other before (told ++ LINE_FEED ∷ more) (has ++ LINE_FEED ∷ rest)
+  -- and these are not the same
+  pub differ : told ≢ has
+
+-- no line differs before one of them has no whole line more
+pub record AreAlike (one other : List ℕ) : Type 0 where
+  pub lines : List (List ℕ)
+  pub rest : List ℕ
+  pub behind : List ℕ
+  pub begin : Begin one other lines rest behind
+  pub ends : IsOneLine rest ⊎ IsOneLine behind

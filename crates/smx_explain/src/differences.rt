@@ -1,0 +1,64 @@
+//! The first line in which two texts differ.
+
+ghost use Rattle.std.specs.Prelude.{◌≡◌, ◌∷◌, ◌++◌, MatchOption, IfOk};
+ghost use Rattle.smx_explain.specs.Differences.{AreAlike, IsFirstDifference};
+ghost use Rattle.smx_explain.specs.Explanations.{difference_text};
+ghost use Rattle.smx_text.specs.Grammar.{IsOneLine};
+ghost use Rattle.smx_words.specs.Words.{LINE_FEED};
+
+use crate::lines::next_line;
+use smx_types::NoMemory;
+use std::alloc::Global;
+
+/// A line of two texts that is another in each. Lines are numbered from 1.
+#[derive(Clone, Copy)]
+pub struct Difference<'a> {
+    pub number: usize,
+    /// What the one text has in it, without its line feed.
+    pub told: &'a [u8],
+    /// What the other has.
+    pub has: &'a [u8],
+}
+
+/// The first line in which two texts differ; `None` where one of them has no whole line more before there is any. Takes
+/// no memory.
+pub fn first_difference<'a>(one: &'a [u8], other: &'a [u8]) -> Option<Difference<'a>>
+    ensures { MatchOption result (AreAlike one.now other.now)
+        (λ d. IsFirstDifference one.now other.now d.number d.told.now d.has.now) }
+{
+    let mut rest = one;
+    let mut behind = other;
+    let mut number = 1usize;
+    'lines: loop {
+        let Some((told, more)) = next_line(rest) else {
+            return None;
+        };
+        let Some((has, after)) = next_line(behind) else {
+            return None;
+        };
+        if told != has {
+            return Some(Difference { number, told, has });
+        }
+        rest = more;
+        behind = after;
+        number += 1;
+    }
+}
+
+/// The two lines that tell of a difference. Fails only for want of memory.
+pub fn difference_text(
+    alloc: Global,
+    number: usize,
+    told: &[u8],
+    has: &[u8],
+) -> Result<Vec<u8>, NoMemory>
+    ensures { IfOk result (λ text. text.items ≡ difference_text number told.now has.now) }
+{
+    let begin = format!(in alloc; "line {number}: ")?;
+    let mut text = Vec::from_slice(alloc, begin.as_bytes())?;
+    text.extend_from_slice(told)?;
+    text.extend_from_slice(b"\nreplay: ")?;
+    text.extend_from_slice(has)?;
+    text.push(b'\n')?;
+    Ok(text)
+}

@@ -1,0 +1,31 @@
+//! What is told below the verdict on a transcript.
+
+ghost use Rattle.std.specs.Prelude.{IfOk, IfErr};
+ghost use Rattle.smx_config.specs.DriverFaults.{RefusesDrivers};
+ghost use Rattle.smx_explain.specs.Explanations.{IsExplanation};
+ghost use Rattle.smx_text.specs.TranscriptText.{SpellsTranscript};
+
+use crate::differences::{Difference, difference_text, first_difference};
+use smx_config::ConfigFault;
+use smx_replay::laws_of_replays::replays_can_be_told;
+use smx_replay::replay;
+use smx_text::laws::one_transcript_has_one_reading;
+use smx_types::Transcript;
+use std::alloc::Global;
+
+/// What is told below the verdict on the transcript that a text spells: nothing where it is its own replay, which is
+/// where it is legal; else the first line in which the text and that of its replay differ, as both have it. Refused for
+/// drivers that a configuration can't have, or for want of memory.
+pub fn explain(alloc: Global, text: &[u8], transcript: Transcript) -> Result<Vec<u8>, ConfigFault>
+    requires { SpellsTranscript text.now transcript }
+    ensures told { IfOk result (λ told. IsExplanation transcript told.items) }
+    ensures refused { IfErr result (RefusesDrivers transcript.drivers) }
+{
+    replays_can_be_told();
+    one_transcript_has_one_reading();
+    let replayed = replay(alloc, transcript, Vec::new(alloc))?;
+    match first_difference(text, replayed.as_slice()) {
+        Some(Difference { number, told, has }) => Ok(difference_text(alloc, number, told, has)?),
+        None => Ok(Vec::new(alloc)),
+    }
+}

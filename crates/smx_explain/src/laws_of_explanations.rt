@@ -1,0 +1,53 @@
+//! Laws of explanations, each the contract of a function that does nothing.
+
+ghost use Rattle.std.specs.Prelude.{◌≡◌, ◌+◌, ◌<◌, ℕ, List, [], length, take};
+ghost use Rattle.smx_types.specs.declared.transcript.Transcript.{Transcript};
+ghost use Rattle.smx_config.specs.Verdicts.{IsVerdict};
+ghost use Rattle.smx_config.specs.declared.verdict.Verdict.TheVariants.{ConfigDiffers, Legal};
+ghost use Rattle.smx_explain.specs.Differences.{IsFirstDifference};
+ghost use Rattle.smx_explain.specs.Explanations.{IsExplanation, difference_text};
+ghost use Rattle.smx_model.specs.Histories.{after};
+ghost use Rattle.smx_model.specs.IllegalEntries.{IsFirstIllegal};
+ghost use Rattle.smx_replay.specs.Answers.{answered};
+ghost use Rattle.smx_text.specs.TranscriptText.{IsAllowed};
+ghost use Rattle.smx_words.specs.Spelling.{entry_words};
+ghost use Rattle.smx_words.specs.Words.{line_of};
+
+use smx_model::laws::histories_are_determined;
+use smx_replay::laws_of_replays::{a_transcript_has_one_replay, replays_are_the_legal_transcripts};
+use smx_text::laws::one_transcript_has_one_reading;
+use smx_words::laws::{one_value_each, spellings_are_words};
+
+/// Nothing is told just below the verdict `legal`.
+pub fn a_legal_transcript_needs_none()
+    ensures legal { (t : Transcript) (output : List ℕ) → IsExplanation t output
+        → IsVerdict t.drivers t.entries t.view Legal → output ≡ [] }
+    ensures other { (t : Transcript) (output : List ℕ) → IsExplanation t output → output ≡ []
+        → IsVerdict t.drivers t.entries t.view Legal }
+{
+    a_transcript_has_one_replay();
+    replays_are_the_legal_transcripts();
+}
+
+/// Below the verdict that an entry is the first illegal one its line is told, by its number in the text, and the same
+/// entry with the reply that its command gets of the configuration there.
+pub fn an_illegal_entry_is_told()
+    ensures { (t : Transcript) (output : List ℕ) → IsAllowed t.version t → IsExplanation t output
+        → (number : ℕ) (first : IsFirstIllegal t.drivers t.entries number)
+        → output ≡ difference_text (length t.drivers + number + 1) (line_of (entry_words first.entry))
+        (line_of (entry_words (answered t.drivers (after t.drivers (take first.before t.entries)) first.entry))) }
+{
+    one_value_each();
+    spellings_are_words();
+}
+
+/// Below the verdict that the configuration differs a line below `config` is told.
+pub fn a_differing_line_is_told()
+    ensures { (t : Transcript) (output : List ℕ) → IsAllowed t.version t → IsExplanation t output
+        → IsVerdict t.drivers t.entries t.view ConfigDiffers
+        → (number : ℕ) × (told has : List ℕ) × (output ≡ difference_text number told has)
+        × (length t.drivers + length t.entries + 2 < number) }
+{
+    histories_are_determined();
+    spellings_are_words();
+}

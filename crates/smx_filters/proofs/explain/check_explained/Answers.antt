@@ -1,0 +1,12 @@
+use Rattle.std.proofs.Common.{Err, subst}
+use Rattle.smx_filters.proofs.ExplainTextLemmas.{with_text}
+use Rattle.smx_filters.proofs.explain.check_explained.Goals as goal
+use Rattle.smx_filters.specs.ExplainText.{explaining}
+use Rattle.smx_filters.specs.Filters.{Answers}
+
+pub returns-in-Err : goal.returns-in-Err
+returns-in-Err g c =
+    let input = c.in_ok-input.ensures in
+    let fault = c.in-Err.fault in
+    let said = subst (λ bytes. Answers explaining bytes (Err fault)) c.as_slice.ensures.value c.in-Err.ensures in
+    with_text explaining _ _ _ _ _ _ _ c.in_ok-input.input input.0 input.1 c.requires.sunk fault said

@@ -1,0 +1,67 @@
+-- What a check that explains itself says of the bytes that it read, and which texts are kept to be explained.
+use Rattle.std.specs.Prelude.{◌≡◌, ℕ, ◌++◌, Bool, true, false, List, length, Option, Some, None, Result, Ok, Err, Vec, IfErr}
+use Rattle.std.specs.Global.{Global}
+use Rattle.smx_types.specs.declared.transcript.Transcript.{Transcript}
+use Rattle.smx_text.specs.TranscriptLines.{TranscriptLine}
+use Rattle.smx_text.specs.TranscriptText.{transcript_grammar}
+use Rattle.smx_text.specs.declared.text_fault.TextFault.{TextFault}
+use Rattle.smx_config.specs.declared.verdict.Verdict.{Verdict}
+use Rattle.smx_explain.specs.Explanations.{IsExplanation}
+use Rattle.smx_run.specs.RunFaults.{RefusesAlone}
+use Rattle.smx_filters.specs.CheckText.{IsJudged, checking, verdict_line}
+use Rattle.smx_filters.specs.Filters.{Filter, FiltersText}
+use Rattle.smx_filters.specs.declared.main_fault.MainFault.{MainFault}
+use Rattle.smx_filters.specs.declared.main_fault.MainFault.TheVariants.{Text}
+use Rattle.smx_filters.specs.declared.refusal.Refusal.{Refusal}
+
+-- ---- a verdict
+
+-- the verdict on a transcript, its line, and what is told below it
+pub record IsExplained (t : Transcript) (verdict : Verdict) (output : List ℕ) : Type 0 where
+  -- The line alone is what a check writes.
+  pub judged : IsJudged t verdict (verdict_line (length t.entries) verdict)
+  -- Below it the transcript is compared with its replay.
+  pub told : List ℕ
+  pub explained : IsExplanation t told
+  -- The output is both, and nothing else.
+  pub written : output ≡ verdict_line (length t.entries) verdict ++ told
+
+-- a check that explains itself reads a transcript, answers the verdict on it, and writes that with what is told below
+-- it; or it refuses the drivers, or memory was wanting
+abbrev pub explaining : Filter Transcript TranscriptLine Verdict
+explaining = record {
+  grammar = transcript_grammar;
+  Gives = IsExplained;
+  Refuses = λ t. RefusesAlone t.drivers;
+}
+
+-- a check, which explains itself or not
+abbrev pub judging : Bool → Filter Transcript TranscriptLine Verdict
+judging false = checking
+judging true = explaining
+
+-- an answer with the output as the list of its bytes
+abbrev pub explained_of : Result (Verdict × Vec ℕ Global) MainFault → Result (Verdict × List ℕ) MainFault
+explained_of (Ok explained) = Ok (explained.0, explained.1.items)
+explained_of (Err e) = Err e
+
+-- ---- a text at fault
+
+-- the text is there, and it is this one
+abbrev pub IsKept : Option (Vec ℕ Global) → List ℕ → Type 0
+IsKept (Some text) bytes = text.items ≡ bytes
+IsKept None bytes = ⊥
+
+-- an answer without the text
+abbrev pub answer_of : {T : Type 0} → Result T Refusal → Result T MainFault
+answer_of (Ok answer) = Ok answer
+answer_of (Err refusal) = Err refusal.fault
+
+-- a filter from bytes to bytes that keeps a text in which it finds a fault
+pub record KeepsText {V K T : Type 0} (f : Filter V K T) (had left : Option (List ℕ)) (ended : Bool)
+    (read_failures : ℕ) (before after : Option (List ℕ)) (flushed : Bool) (write_failures : ℕ)
+    (answer : Result T Refusal) : Type 0 where
+  -- It answers as the filter does.
+  pub filtered : FiltersText f had left ended read_failures before after flushed write_failures (answer_of answer)
+  -- Where the text is at fault, all that was read is kept.
+  pub kept : IfErr answer (λ r. (fault : TextFault) → r.fault ≡ Text fault → IsKept r.text filtered.read)

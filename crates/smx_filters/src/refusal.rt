@@ -1,0 +1,21 @@
+//! A fault that is to be explained.
+
+use crate::main_fault::MainFault;
+
+/// Why nothing came of a filter, and the text in which a fault is to be shown.
+#[derive(Drop)]
+pub struct Refusal {
+    pub fault: MainFault,
+    /// All that was read, where that is no text of its kind.
+    pub text: Option<Vec<u8>>,
+}
+
+impl From<MainFault> for Refusal {
+    ghost use Rattle.std.specs.Prelude.{◌≡◌, None};
+
+    ghost from_gives = { λ f refusal. refusal ≡ record { fault = f; text = None } };
+
+    fn from(fault: MainFault) -> Refusal {
+        Refusal { fault, text: None }
+    }
+}

@@ -1,0 +1,116 @@
+-- Lines behind what was already looked at.
+use Rattle.std.proofs.Common.{◌≡◌, ◌≢◌, ℕ, ◌+◌, ◌-◌, ◌<◌, ◌≤◌, List, [], ◌∷◌, ◌++◌, length, take, drop}
+use Rattle.std.proofs.Common.{sym, ap, subst, ◌∙◌, append_assoc, take-append-drop, length-drop, arith}
+use Rattle.std.proofs.Math.Seq.{take-append-add, take-append_seam}
+use Rattle.std.proofs.lemmas.List.{drop-append-le, length-append, length-take-le, take-append-le, take_all}
+use Rattle.smx_words.specs.Words.{LINE_FEED}
+use Rattle.smx_text.specs.Grammar.{IsOneLine}
+use Rattle.smx_text.proofs.EachLemmas.{all_append}
+use lib.Seq.{drop-drop, take-add}
+use Rattle.smx_filters.specs.declared.main_fault.MainFault.{MainFault}
+use Rattle.smx_filters.specs.declared.main_fault.MainFault.TheVariants.{Refused, Text, TooLong, ReadFailed, WriteFailed}
+use Rattle.smx_live.specs.Inboxes.{FailsToRead, HasLine}
+
+-- no line feed among the first bytes, nor among the others
+pub none_in_all : (held : List ℕ) (seen : ℕ) → IsOneLine (take seen held) → IsOneLine (drop seen held) → IsOneLine held
+none_in_all held seen a b =
+    subst IsOneLine (take-append-drop seen held)
+    (all_append (λ (x : ℕ). x ≢ LINE_FEED) (take seen held) (drop seen held) a b)
+
+-- a line among the others ends the line of all
+pub found_behind : (held : List ℕ) (seen n : ℕ) → seen ≤ length held → IsOneLine (take seen held)
+    → HasLine n (drop seen held)
+    → HasLine (seen + n) held
+found_behind held seen n within none line =
+    let rest : List ℕ = drop seen held in
+    let front : take (seen + n) held ≡ take seen held ++ take n rest = take-add seen n held in
+    let count : seen + (n + 1) ≡ seen + n + 1 = omega arith in
+    let back : drop (n + 1) rest ≡ drop (seen + n + 1) held =
+    drop-drop (n + 1) seen held ∙ ap (λ (k : ℕ). drop k held) count in
+    record {
+      within = omega (arith, line.within, length-drop seen held, within);
+      one = subst IsOneLine (sym front)
+          (all_append (λ (x : ℕ). x ≢ LINE_FEED) (take seen held) (take n rest) none line.one);
+      parts = sym (take-append-drop seen held) ∙ ap (λ (r : List ℕ). take seen held ++ r) line.parts
+          ∙ sym (append_assoc (take seen held) (take n rest) (LINE_FEED ∷ drop (n + 1) rest))
+          ∙ ap (λ (f : List ℕ). f ++ LINE_FEED ∷ drop (n + 1) rest) (sym front)
+          ∙ ap (λ (b : List ℕ). take (seen + n) held ++ LINE_FEED ∷ b) back;
+    }
+
+-- the part of a slice from a place on is what stands there
+rest_is : (view : List ℕ) (seen : ℕ) → take (length view - seen) (drop seen view) ≡ drop seen view
+rest_is view seen = take_all (length view - seen) (drop seen view) (omega (arith, length-drop seen view))
+
+-- a line that was found in that part
+pub found_in : (held view : List ℕ) (seen n : ℕ) → view ≡ held → seen ≤ length held → IsOneLine (take seen held)
+    → (n < length (take (length view - seen) (drop seen view)))
+    × IsOneLine (take n (take (length view - seen) (drop seen view)))
+    × (take (length view - seen) (drop seen view) ≡ take n (take (length view - seen) (drop seen view))
+    ++ LINE_FEED ∷ drop (n + 1) (take (length view - seen) (drop seen view)))
+    → HasLine (seen + n) held
+found_in held view seen n is within none line =
+    let part : List ℕ = take (length view - seen) (drop seen view) in
+    let same : part ≡ drop seen held = rest_is view seen ∙ ap (drop seen) is in
+    let there : HasLine n part = record { within = line.0; one = line.1; parts = line.2 } in
+    found_behind held seen n within none (subst (HasLine n) same there)
+
+-- none was found in it
+pub none_in : (held view : List ℕ) (seen : ℕ) → view ≡ held → IsOneLine (take seen held)
+    → IsOneLine (take (length view - seen) (drop seen view)) → IsOneLine held
+none_in held view seen is none rest =
+    none_in_all held seen none (subst IsOneLine (rest_is view seen ∙ ap (drop seen) is) rest)
+
+-- none stands in what was held before more was read
+pub none_before : (held piece longer : List ℕ) (k : ℕ) → k ≡ length held → longer ≡ held ++ piece → IsOneLine held
+    → (k ≤ length longer) × IsOneLine (take k longer)
+none_before held piece longer k size is one = (
+  omega (arith, size, ap (λ (bs : List ℕ). length bs) is, length-append held piece),
+  subst IsOneLine (sym (ap (take k) is ∙ ap (λ (n : ℕ). take n (held ++ piece)) size ∙ take-append_seam held piece)) one,
+)
+
+-- no piece is too long by itself
+pub fails_so : (Long : Type 0) (failures : ℕ) (e : MainFault) → FailsToRead ⊥ failures e → FailsToRead Long failures e
+fails_so Long failures TooLong is = absurd is.1
+fails_so Long failures ReadFailed is = is
+fails_so Long failures (Refused f) is = is
+fails_so Long failures (Text f) is = absurd is
+fails_so Long failures WriteFailed is = absurd is
+
+-- a line at the front stays there when more is read
+pub line_stays : (n : ℕ) (held more : List ℕ) → HasLine n held → HasLine n (held ++ more)
+line_stays n held more line =
+    let front : take n (held ++ more) ≡ take n held = take-append-le n held more (omega (arith, line.within)) in
+    let back : drop (n + 1) (held ++ more) ≡ drop (n + 1) held ++ more =
+    drop-append-le (n + 1) held more (omega (arith, line.within)) in
+    record {
+      within = omega (arith, line.within, length-append held more);
+      one = subst IsOneLine (sym front) line.one;
+      parts = ap (λ (bs : List ℕ). bs ++ more) line.parts
+          ∙ append_assoc (take n held) (LINE_FEED ∷ drop (n + 1) held) more
+          ∙ ap (λ (bs : List ℕ). take n held ++ LINE_FEED ∷ bs) (sym back)
+          ∙ ap (λ (bs : List ℕ). bs ++ LINE_FEED ∷ drop (n + 1) (held ++ more)) (sym front);
+    }
+
+-- the line at the front, with its line feed
+pub with_line_feed : (n : ℕ) (held : List ℕ) → HasLine n held → take (n + 1) held ≡ take n held ++ LINE_FEED ∷ []
+with_line_feed n held line =
+    let line_is : List ℕ = take n held in
+    let size : length line_is ≡ n = length-take-le n held (omega (arith, line.within)) in
+    ap (take (n + 1)) line.parts ∙ ap (λ (k : ℕ). take (k + 1) (line_is ++ LINE_FEED ∷ drop (n + 1) held)) (sym size)
+    ∙ take-append-add line_is (LINE_FEED ∷ drop (n + 1) held) 1
+
+-- a line that was moved from what is held to a table leaves all bytes in their order
+pub moved : (start read piece table held longer : List ℕ) (k : ℕ) → start ++ read ≡ table ++ held
+    → longer ≡ held ++ piece
+    → start ++ (read ++ piece) ≡ (table ++ take k longer) ++ drop k longer
+moved start read piece table held longer k was is =
+    sym (append_assoc start read piece) ∙ ap (λ (bs : List ℕ). bs ++ piece) was ∙ append_assoc table held piece
+    ∙ ap (λ (bs : List ℕ). table ++ bs) (sym is ∙ sym (take-append-drop k longer))
+    ∙ sym (append_assoc table (take k longer) (drop k longer))
+
+-- and so without one
+pub unmoved : (start read piece table held longer : List ℕ) → start ++ read ≡ table ++ held → longer ≡ held ++ piece
+    → start ++ (read ++ piece) ≡ table ++ longer
+unmoved start read piece table held longer was is =
+    sym (append_assoc start read piece) ∙ ap (λ (bs : List ℕ). bs ++ piece) was ∙ append_assoc table held piece
+    ∙ ap (λ (bs : List ℕ). table ++ bs) (sym is)

@@ -1,0 +1,154 @@
+-- What was written of a live session is a legal transcript, but for what is no entry.
+use Rattle.std.proofs.Common.{◌≡◌, ℕ, ◌≤◌, Bool, true, false, ◌||◌, List, [], ◌∷◌, ◌++◌, length, map, refl, sym, ap}
+use Rattle.std.proofs.Common.{subst, ◌∙◌, append_assoc, rules}
+use Rattle.std.proofs.lemmas.List.{append-nil}
+use Rattle.std.specs.List.{AllByRecursion, list_any}
+use Rattle.std.specs.Prelude.{codes, nat_lt}
+use Rattle.smx_types.specs.Versions.{are_more_drivers, is_hangup, is_of_hangup, least_of_transcript, most_drivers}
+use Rattle.smx_types.specs.Versions.{tells_of_hangup, version_2_where}
+use Rattle.smx_types.specs.declared.command.Command.{Command}
+use Rattle.smx_types.specs.declared.command.Entry.{Entry}
+use Rattle.smx_types.specs.declared.driver.DriverSpec.{DriverSpec}
+use Rattle.smx_types.specs.declared.limits.TheConstants.{MAX_DRIVERS_OF_VERSION_1}
+use Rattle.smx_types.specs.declared.version.Version.{Version}
+use Rattle.smx_types.specs.declared.version.Version.TheVariants.{V1}
+use Rattle.smx_types.specs.declared.view.ConfigView.{ConfigView}
+use Rattle.smx_model.specs.Commands.{step}
+use Rattle.smx_model.specs.Configuration.{Configuration}
+use Rattle.smx_model.specs.Histories.{after, IsLegal}
+use Rattle.smx_model.specs.Views.{view}
+use Rattle.smx_words.specs.Spellable.{FitsEntry}
+use Rattle.smx_words.specs.Spelling.{entry_words}
+use Rattle.smx_words.specs.Words.{text_of}
+use Rattle.smx_text.specs.GrowingTranscripts.{BeginsTranscript}
+use Rattle.smx_text.specs.TranscriptText.{line_words, transcript_text, view_body, IsAllowed}
+use Rattle.smx_text.proofs.GrowingLemmas.{grown, finished}
+use Rattle.smx_live.specs.LiveText.{IsOver, IsLegalTranscript, transcript_of, transcript_part}
+use Rattle.smx_live.specs.Turns.{Entered, Shown, NotDone, Turn, Answer, AreAnswered, IsAnswer, entries_in, entries_of}
+
+-- ---- what the laws of histories say
+
+abbrev pub StaysLegal : Type 0
+StaysLegal = (drivers : List DriverSpec) (history : List Entry) (e : Entry) → IsLegal drivers history
+    → (step drivers (after drivers history) e.process e.command).1 ≡ e.reply → IsLegal drivers (history ++ e ∷ [])
+
+abbrev pub TellsOfNone : Type 0
+TellsOfNone = (drivers : List DriverSpec) (history : List Entry) → IsLegal drivers history
+    → list_any (λ e. is_hangup e.command) history ≡ false → list_any is_of_hangup history ≡ false
+
+abbrev pub LeavesNone : Type 0
+LeavesNone = (drivers : List DriverSpec) (history : List Entry)
+    → list_any (λ e. is_hangup e.command) history ≡ false → (after drivers history).hungs ≡ []
+
+-- ---- the entries of a session
+
+-- they are a legal history
+legal_from : StaysLegal → (v : Version) (ds : List DriverSpec) (h : List Entry) (ts : List Turn) → AreAnswered v ds h ts
+    → IsLegal ds h → IsLegal ds (h ++ entries_of ts)
+legal_from stays v ds h [] was legal = subst (IsLegal ds) (sym (append-nil h)) legal
+legal_from stays v ds h (t ∷ ts) was legal =
+    subst (IsLegal ds) (append_assoc h (entries_in t.answer) (entries_of ts))
+    (legal_from stays v ds (h ++ entries_in t.answer) ts was.2 (one t.answer was.1)) where
+      one : (a : Answer) → IsAnswer v ds h t.line a → IsLegal ds (h ++ entries_in a)
+      one (Entered e) is = stays ds h e legal is.legal
+      one (Shown s) is = subst (IsLegal ds) (sym (append-nil h)) legal
+      one (NotDone w) is = subst (IsLegal ds) (sym (append-nil h)) legal
+
+-- each of them can be spelled
+all_fit : (v : Version) (ds : List DriverSpec) (h : List Entry) (ts : List Turn) → AreAnswered v ds h ts
+    → AllByRecursion FitsEntry (entries_of ts)
+all_fit v ds h [] was = tt
+all_fit v ds h (t ∷ ts) was = one t.answer was.1 (all_fit v ds (h ++ entries_in t.answer) ts was.2) where
+  one : (a : Answer) → IsAnswer v ds h t.line a → AllByRecursion FitsEntry (entries_of ts)
+      → AllByRecursion FitsEntry (entries_in a ++ entries_of ts)
+  one (Entered e) is behind = (is.spelled, behind)
+  one (Shown s) is behind = behind
+  one (NotDone w) is behind = behind
+
+-- where neither holds
+neither : (a b : Bool) → (a || b) ≡ false → (a ≡ false) × (b ≡ false)
+neither true b h = absurd cc
+neither false b h = (refl, h)
+
+nor : (a b : Bool) → a ≡ false → b ≡ false → (a || b) ≡ false
+nor a b p q = rw (p, q) refl
+
+-- in version 1 no command is a hangup
+quiet : (ds : List DriverSpec) (h : List Entry) (ts : List Turn) → AreAnswered V1 ds h ts
+    → list_any (λ e. is_hangup e.command) (entries_of ts) ≡ false
+quiet ds h [] was = refl
+quiet ds h (t ∷ ts) was = one t.answer was.1 (quiet ds (h ++ entries_in t.answer) ts was.2) where
+  one : (a : Answer) → IsAnswer V1 ds h t.line a → list_any (λ e. is_hangup e.command) (entries_of ts) ≡ false
+      → list_any (λ e. is_hangup e.command) (entries_in a ++ entries_of ts) ≡ false
+  one (Entered e) is behind =
+      let asked = (neither (is_hangup is.asked.command) (tells_of_hangup is.asked.reply) is.told.1).0 in
+      let same = ap (λ (c : ℕ × Command). is_hangup c.1) is.call in
+      nor (is_hangup e.command) _ (same ∙ asked) behind
+  one (Shown s) is behind = behind
+  one (NotDone w) is behind = behind
+
+-- where no stream has hung up, none is shown
+none_shown : (ds : List DriverSpec) (c : Configuration) → c.hungs ≡ [] → nat_lt 0 (length (view ds c).hungs) ≡ false
+none_shown ds c none = rw none refl
+
+-- version 1 has few drivers
+few_drivers : (n : ℕ) → n ≤ MAX_DRIVERS_OF_VERSION_1 → nat_lt MAX_DRIVERS_OF_VERSION_1 n ≡ false
+few_drivers n few = search rules
+
+module _ (stays : StaysLegal) (tells : TellsOfNone) (leaves : LeavesNone)
+    {read : List ℕ} {ended : Bool} {output : List ℕ} (o : IsOver read ended output) where
+  abbrev es : List Entry
+  es = entries_of o.live.turns
+
+  legal : IsLegal o.s.drivers es
+  legal = legal_from stays o.s.version o.s.drivers [] o.live.turns o.live.answered tt
+
+  fit : AllByRecursion FitsEntry es
+  fit = all_fit o.s.version o.s.drivers [] o.live.turns o.live.answered
+
+  abbrev shown : ConfigView
+  shown = view o.s.drivers o.s.configuration
+
+  begins : BeginsTranscript o.s.version o.s.drivers es (o.live.opening ++ text_of (map entry_words es))
+  begins = grown o.s.version o.s.drivers [] es o.live.opening _ refl fit o.live.begins
+
+  text : transcript_part o ≡ transcript_text (transcript_of o)
+  text =
+      let start : List ℕ = o.live.opening ++ text_of (map entry_words es) in
+      let config : List ℕ = start ++ codes "config\n" in
+      let lines : List ℕ = text_of (map line_words (view_body shown)) in
+      let regrouped : start ++ ((codes "config\n" ++ lines) ++ codes "end\n")
+      ≡ ((start ++ codes "config\n") ++ lines) ++ codes "end\n" = simp append_assoc in
+      regrouped ∙ finished o.s.version o.s.drivers es shown start config _ _ refl refl refl begins
+
+  told : o.s.version ≡ V1 → least_of_transcript (transcript_of o) ≡ V1
+  told first =
+      let none : list_any (λ e. is_hangup e.command) es ≡ false =
+      quiet o.s.drivers [] o.live.turns
+      (subst (λ (v : Version). AreAnswered v o.s.drivers [] o.live.turns) first o.live.answered) in
+      let hung : o.s.configuration.hungs ≡ [] =
+      ap (λ (c : Configuration). c.hungs) o.live.now ∙ leaves o.s.drivers es none in
+      let few : are_more_drivers o.s.drivers ≡ false =
+      few_drivers (length o.s.drivers)
+      (subst (λ (v : Version). length o.s.drivers ≤ most_drivers v) first drivers_few) in
+      let shown_none : nat_lt 0 (length shown.hungs) ≡ false = none_shown o.s.drivers o.s.configuration hung in
+      ap version_2_where (nor _ _ few (nor _ _ (tells o.s.drivers es legal none) shown_none)) where
+        drivers_few : length o.s.drivers ≤ most_drivers o.s.version
+        drivers_few = subst (λ (ds : List DriverSpec). length ds ≤ most_drivers o.s.version) (sym o.live.drivers)
+            o.live.spelled.allowed.drivers
+
+  allowed : IsAllowed o.s.version (transcript_of o)
+  allowed = record {
+    version_is = refl;
+    drivers = subst (λ (ds : List DriverSpec). length ds ≤ most_drivers o.s.version) (sym o.live.drivers)
+        o.live.spelled.allowed.drivers;
+    entries = o.live.few;
+    spellable = record { drivers = o.live.begins.drivers_fit; entries = fit; view = o.spellable };
+    told = told;
+  }
+
+  pub is_legal : IsLegalTranscript o
+  is_legal = record {
+    spelled = record { allowed = allowed; text = text };
+    legal = (legal, ap (view o.s.drivers) o.live.now);
+  }

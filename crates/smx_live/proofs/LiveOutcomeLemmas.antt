@@ -1,0 +1,163 @@
+-- What a live session answers at its end, by how far it had gone.
+use Rattle.std.proofs.Common.{◌≡◌, ℕ, ◌+◌, ◌^◌, ◌≤◌, Bool, true, List, [], ◌++◌, length, take, Option, Some}
+use Rattle.std.proofs.Common.{None, Result, Ok, Err, refl, sym, subst, ◌∙◌, append_assoc, arith, inl, inr}
+use Rattle.std.proofs.KnownBytes.{Appends-trans, Consumes-trans}
+use Rattle.std.proofs.Math.Seq.{take-append-add}
+use Rattle.std.proofs.lemmas.List.{length-append}
+use Rattle.std.specs.Io.KnownBytes.{Appends, Consumes, Keeps}
+use Rattle.std.specs.Prelude.{◌⊎◌}
+use Rattle.smx_run.specs.declared.run_fault.RunFault.{RunFault}
+use Rattle.smx_run.specs.declared.run_fault.RunFault.TheVariants.{NoMemory}
+use Rattle.smx_session.specs.Sessions.{State}
+use Rattle.smx_filters.specs.Output.{AppendsBeginning}
+use Rattle.smx_filters.specs.declared.main_fault.MainFault.{MainFault}
+use Rattle.smx_filters.specs.declared.main_fault.MainFault.TheVariants.{Refused, Text, TooLong, ReadFailed, WriteFailed}
+use Rattle.smx_live.specs.LiveStages.{Converses, Finishes, TurnsOn}
+use Rattle.smx_live.specs.Inboxes.{FailsToRead, IsTooLong}
+use Rattle.smx_live.specs.LiveText.{HasComeSoFar, IsLive, IsOutcome, IsOver}
+use Rattle.smx_live.proofs.LiveLemmas.{held_of_read}
+use Rattle.smx_live.proofs.LiveStageLemmas.{HasGone, live_on}
+
+-- a sink that keeps its bytes still holds what was said
+kept_on : (old mid new : Option (List ℕ)) (said : List ℕ) → Appends old mid said → Keeps mid new → Appends old new said
+kept_on None mid new said p q = tt
+kept_on (Some xs) None new said p q = absurd p
+kept_on (Some xs) (Some ys) None said p q = absurd q
+kept_on (Some xs) (Some ys) (Some zs) said p q = q ∙ p
+
+module _ (read output : List ℕ) (start : ℕ) (had left before after : Option (List ℕ)) (turn : ℕ) (ended : Bool)
+    (s : State)
+    (count : ℕ) (held : List ℕ) (g : HasGone read output start had left before after turn ended s count held)
+    (flushed : Bool) (reads writes : ℕ) (fed : reads ≡ 0) where
+  -- it has come so far
+  so_far : HasComeSoFar (read ++ g.more) ended (output ++ g.said)
+  so_far = (s, count, held, g.live)
+
+  -- with more that was said
+  longer : (text : List ℕ) → (output ++ g.said) ++ text ≡ output ++ (g.said ++ text)
+  longer text = append_assoc output g.said text
+
+  -- its writing failed
+  cut : (now : Option (List ℕ)) (text : List ℕ) → writes ≡ 1 → AppendsBeginning after now text
+      → HasComeSoFar (read ++ g.more) ended ((output ++ g.said) ++ text)
+      ⊎ IsOver (read ++ g.more) ended ((output ++ g.said) ++ text)
+      → Converses read output had left ended reads before now flushed writes (Err WriteFailed)
+  cut now text failed p whole = record {
+    more = g.more;
+    consumed = g.consumed;
+    said = g.said ++ take p.0 text;
+    appended = Appends-trans before after now g.said (take p.0 text) g.appended p.1;
+    outcome = (
+      fed,
+      failed,
+      length (output ++ g.said) + p.0,
+      (output ++ g.said) ++ text,
+      sym (longer (take p.0 text)) ∙ sym (take-append-add (output ++ g.said) text p.0),
+      whole,
+    );
+  }
+
+  -- it is over
+  over : (now : Option (List ℕ)) (text : List ℕ) → writes ≡ 0 → flushed ≡ true → Appends after now text
+      → IsOver (read ++ g.more) ended ((output ++ g.said) ++ text)
+      → Converses read output had left ended reads before now flushed writes (Ok tt)
+  over now text fine all p o = record {
+    more = g.more;
+    consumed = g.consumed;
+    said = g.said ++ text;
+    appended = Appends-trans before after now g.said text g.appended p;
+    outcome = ((fed, fine), all, subst (IsOver (read ++ g.more) ended) (longer text) o);
+  }
+
+  -- memory was wanting
+  wanting : (now : Option (List ℕ)) (f : RunFault) → writes ≡ 0 → f ≡ NoMemory → Keeps after now
+      → Converses read output had left ended reads before now flushed writes (Err (Refused f))
+  wanting now f fine is p = record {
+    more = g.more;
+    consumed = g.consumed;
+    said = g.said;
+    appended = kept_on before after now g.said g.appended p;
+    outcome = ((fed, fine), inl (is, inr so_far));
+  }
+
+  -- so it is after a turn that was its last
+  pub last_turn : (now : Option (List ℕ)) (next : State) (many : ℕ) (rest : List ℕ)
+      → TurnsOn (read ++ g.more) (output ++ g.said) ended next many rest after now flushed writes (Ok true)
+      → Converses read output had left ended reads before now flushed writes (Ok tt)
+  last_turn now next many rest h = over now h.2 h.0 h.1 h.3 h.4
+
+  -- after one that failed
+  pub failed_turn : (now : Option (List ℕ)) (next : State) (many : ℕ) (rest : List ℕ) (e : MainFault)
+      → TurnsOn (read ++ g.more) (output ++ g.said) ended next many rest after now flushed writes (Err e)
+      → Converses read output had left ended reads before now flushed writes (Err e)
+  failed_turn now next many rest (Refused f) h = wanting now f h.0 h.1 h.2
+  failed_turn now next many rest WriteFailed h = cut now h.1 h.0 h.2 h.3
+  failed_turn now next many rest (Text f) h = absurd h
+  failed_turn now next many rest TooLong h = absurd h
+  failed_turn now next many rest ReadFailed h = absurd h
+
+  -- and at the end of its input
+  pub at_the_end : (now : Option (List ℕ)) (r : Result (Unit {0}) MainFault)
+      → Finishes (read ++ g.more) (output ++ g.said) ended after now flushed writes r
+      → Converses read output had left ended reads before now flushed writes r
+  at_the_end now (Ok done) h = over now h.2 h.0 h.1 h.3 h.4
+  at_the_end now (Err (Refused f)) h = wanting now f h.0 h.1 h.2
+  at_the_end now (Err WriteFailed) h = cut now h.1 h.0 h.2 (inr h.3)
+  at_the_end now (Err (Text f)) h = absurd h
+  at_the_end now (Err TooLong) h = absurd h
+  at_the_end now (Err ReadFailed) h = absurd h
+
+-- where a line can't be had
+pub no_line : (read output : List ℕ) (start : ℕ) (had left later before after : Option (List ℕ)) (turn : ℕ)
+    (ended now : Bool)
+    (s : State) (count : ℕ) (held piece : List ℕ)
+    (g : HasGone read output start had left before after turn ended s count held) (flushed : Bool) (reads writes : ℕ)
+    (e : MainFault) → Consumes left later piece → writes ≡ 0 → (ended ≡ true → (piece ≡ []) × (now ≡ true))
+    → FailsToRead (IsTooLong (held ++ piece)) reads e
+    → Converses read output had later now reads before after flushed writes (Err e)
+no_line read output start had left later before after turn ended now s count held piece g flushed reads writes e c fine
+    stays why = record {
+      more = g.more ++ piece;
+      consumed = Consumes-trans had left later g.more piece g.consumed c;
+      said = g.said;
+      appended = g.appended;
+      outcome = by_fault e why;
+    } where
+      goes : IsLive (read ++ (g.more ++ piece)) now (output ++ g.said) s count (held ++ piece)
+      goes =
+          live_on read output start had left before after turn ended s count held g now piece (held ++ piece) refl stays
+
+      by_fault : (f : MainFault) → FailsToRead (IsTooLong (held ++ piece)) reads f
+          → IsOutcome (read ++ (g.more ++ piece)) (output ++ g.said) now flushed reads writes (Err f)
+      by_fault TooLong is = ((is.0, fine), inr (s, count, held ++ piece, goes, inl is.1))
+      by_fault ReadFailed is = (is, fine, inr (s, count, held ++ piece, goes))
+      by_fault (Refused f) is = ((is.0, fine), inl (is.1, inr (s, count, held ++ piece, goes)))
+      by_fault (Text f) is = absurd is
+      by_fault WriteFailed is = absurd is
+
+-- where no count of turns is greater
+pub no_count : (read output : List ℕ) (had left before after : Option (List ℕ)) (turn : ℕ) (ended : Bool)
+    (first s : State)
+    (number count : ℕ) (start held : List ℕ) (was : Bool) → IsLive read was output first number start
+    → HasGone read output (length start) had left before after turn ended s count held → (flushed : Bool)
+    (reads writes : ℕ) → reads ≡ 0 → writes ≡ 0 → 2 ^ 64 ≤ turn + 1
+    → Converses read output had left ended reads before after flushed writes (Err TooLong)
+no_count read output had left before after turn ended first s number count start held was l g flushed reads writes fed fine
+    many =
+    let size : length start ≤ length read = held_of_read read was output first number start l in
+    record {
+      more = g.more;
+      consumed = g.consumed;
+      said = g.said;
+      appended = g.appended;
+      outcome = (
+        (fed, fine),
+        inr (
+          s,
+          count,
+          held,
+          g.live,
+          inr (omega (arith, many, g.took, size, length-append read g.more)),
+        ),
+      );
+    }

@@ -1,0 +1,188 @@
+-- The stages of a live session, by what each answers.
+use Rattle.std.proofs.Common.{◌≡◌, ℕ, ◌+◌, ◌<◌, ◌≤◌, Bool, true, false, List, [], ◌++◌, length, take, drop, Option}
+use Rattle.std.proofs.Common.{None, Result, Ok, Err, sym, ap, subst, ◌∙◌, append_assoc, arith, inl, inr}
+use Rattle.std.proofs.KnownBytes.{Appends-nil, Appends-trans, Consumes-nil, Consumes-trans}
+use Rattle.std.proofs.lemmas.List.{append-nil, length-append, length-drop}
+use Rattle.std.specs.Io.KnownBytes.{Appends, Consumes}
+use Rattle.std.specs.Prelude.{◌⊎◌}
+use Rattle.smx_model.specs.Views.{view}
+use Rattle.smx_text.specs.Grammar.{IsOneLine}
+use Rattle.smx_text.specs.TranscriptText.{IsSpellableView}
+use Rattle.smx_session.specs.Sessions.{State}
+use Rattle.smx_filters.specs.Output.{AppendsBeginning}
+use Rattle.smx_filters.specs.declared.main_fault.MainFault.{MainFault}
+use Rattle.smx_filters.specs.declared.main_fault.MainFault.TheVariants.{Refused, Text, TooLong, ReadFailed, WriteFailed}
+use Rattle.smx_live.specs.Inboxes.{HasLine}
+use Rattle.smx_live.specs.LiveStages.{Finishes, TurnsOn, Writes}
+use Rattle.smx_live.specs.LiveText.{HasComeSoFar, IsLive, IsOver, closing_text, cut_words}
+use Rattle.smx_live.specs.LiveTurns.{IsClosing, MaySay, Says, TakesTurn}
+use Rattle.smx_live.specs.Turns.{Answer, Entered, IsPerformed, IsTaken, answer_text}
+use Rattle.smx_live.proofs.LiveLemmas.{OneFurther, ended_by_input, ended_by_line, turned, with_more}
+
+-- ---- one turn
+
+module _ (s next : State) (count more : ℕ) (line text : List ℕ) (before after : Option (List ℕ)) (flushed : Bool)
+    (failures : ℕ) where
+  -- the line is answered by this text
+  pub answered : (a : Answer) (r : Result Bool MainFault) → Says text false before after flushed failures r
+      → IsTaken s count line a next more → text ≡ answer_text a
+      → TakesTurn s count line next more before after flushed failures r
+  answered a (Ok true) h taken is = let wrong : true ≡ false = h.0 in absurd cc
+  answered a (Ok false) h taken is = (h.1, a, taken, subst (Appends before after) is h.3)
+  answered a (Err WriteFailed) h taken is = (h.0, text, h.1, inl (a, next, more, taken, is))
+  answered a (Err (Refused f)) h taken is = absurd h
+  answered a (Err (Text f)) h taken is = absurd h
+  answered a (Err TooLong) h taken is = absurd h
+  answered a (Err ReadFailed) h taken is = absurd h
+
+  -- the line was performed, and is answered by the line of its entry
+  pub entered : (r : Result Bool MainFault) → Says text false before after flushed failures r → (made : List ℕ)
+      → IsPerformed s count line None next more made → text ≡ made
+      → TakesTurn s count line next more before after flushed failures r
+  entered r h made did is = answered (Entered did.0) r h did.1 (is ∙ did.2)
+
+  -- the rest of the transcript is this text
+  pub closed : (r : Result Bool MainFault) → Says text true before after flushed failures r → IsClosing s line text
+      → TakesTurn s count line next more before after flushed failures r
+  closed (Ok true) h is = (h.1, h.2, text, is, h.3)
+  closed (Ok false) h is = let wrong : false ≡ true = h.0 in absurd cc
+  closed (Err WriteFailed) h is = (h.0, text, h.1, inr is)
+  closed (Err (Refused f)) h is = absurd h
+  closed (Err (Text f)) h is = absurd h
+  closed (Err TooLong) h is = absurd h
+  closed (Err ReadFailed) h is = absurd h
+
+-- ---- a session after a turn, and at the end of its input
+
+module _ (further : OneFurther) (read : List ℕ) (ended : Bool) (output : List ℕ) (s : State) (count n : ℕ)
+    (held : List ℕ)
+    (l : IsLive read ended output s count held) (line : HasLine n held) (next : State) (more : ℕ)
+    (before after : Option (List ℕ)) (flushed : Bool) (failures : ℕ) where
+  abbrev rest : List ℕ
+  rest = drop (n + 1) held
+
+  goes_on : (a : Answer) (later : State) (many : ℕ) → IsTaken s count (take n held) a later many
+      → IsLive read ended (output ++ answer_text a) later many rest
+  goes_on a later many taken = turned further read ended output s count n held l line a later many taken
+
+  either : (text : List ℕ) → MaySay s count (take n held) text ⊎ IsClosing s (take n held) text
+      → HasComeSoFar read ended (output ++ text) ⊎ IsOver read ended (output ++ text)
+  either text (inl x) = inl (
+    x.1,
+    x.2,
+    rest,
+    subst (λ (t : List ℕ). IsLive read ended (output ++ t) x.1 x.2 rest) (sym x.4) (goes_on x.0 x.1 x.2 x.3),
+  )
+  either text (inr is) = inr (ended_by_line further read ended output s count n held l line text is)
+
+  pub turned_on : (r : Result Bool MainFault)
+      → TakesTurn s count (take n held) next more before after flushed failures r
+      → TurnsOn read output ended next more (drop (n + 1) held) before after flushed failures r
+  turned_on (Ok true) h = (h.0, h.1, h.2, h.4, ended_by_line further read ended output s count n held l line h.2 h.3)
+  turned_on (Ok false) h = (h.0, answer_text h.1, h.3, goes_on h.1 next more h.2)
+  turned_on (Err (Refused f)) h = h
+  turned_on (Err WriteFailed) h = (h.0, h.1, h.2, either h.1 h.3)
+  turned_on (Err (Text f)) h = absurd h
+  turned_on (Err TooLong) h = absurd h
+  turned_on (Err ReadFailed) h = absurd h
+
+-- its last lines were written
+pub finished_on : (read : List ℕ) (ended : Bool) (output : List ℕ) (s : State) (count : ℕ) (held text : List ℕ)
+    (before after : Option (List ℕ)) (flushed : Bool) (failures : ℕ) (r : Result (Unit {0}) MainFault)
+    → Writes text before after flushed failures r → text ≡ cut_words held ++ closing_text s
+    → IsLive read ended output s count held → ended ≡ true → IsOneLine held
+    → IsSpellableView (view s.drivers s.configuration) → Finishes read output ended before after flushed failures r
+finished_on read ended output s count held text before after flushed failures (Ok done) h is l end one fits = (
+  h.0,
+  h.1,
+  cut_words held ++ closing_text s,
+  subst (Appends before after) is h.2,
+  ended_by_input read ended output s count held l end one fits,
+)
+finished_on read ended output s count held text before after flushed failures (Err WriteFailed) h is l end one fits = (
+  h.0,
+  cut_words held ++ closing_text s,
+  subst (λ (t : List ℕ). AppendsBeginning before after t) is h.1,
+  ended_by_input read ended output s count held l end one fits,
+)
+finished_on read ended output s count held text before after flushed failures (Err (Refused f)) h is l end one fits =
+    absurd h
+finished_on read ended output s count held text before after flushed failures (Err (Text f)) h is l end one fits =
+    absurd h
+finished_on read ended output s count held text before after flushed failures (Err TooLong) h is l end one fits =
+    absurd h
+finished_on read ended output s count held text before after flushed failures (Err ReadFailed) h is l end one fits =
+    absurd h
+
+-- ---- turn after turn
+
+-- a session that had come so far, with so many bytes held, has read and written more, has taken so many turns, and stands so
+pub record HasGone (read output : List ℕ) (start : ℕ) (had left before after : Option (List ℕ)) (turn : ℕ) (ended : Bool)
+    (s : State) (count : ℕ) (held : List ℕ) : Type 0 where
+  pub more : List ℕ
+  pub consumed : Consumes had left more
+  pub said : List ℕ
+  pub appended : Appends before after said
+  pub live : IsLive (read ++ more) ended (output ++ said) s count held
+  -- each turn has taken a byte at the least
+  pub took : turn + length held ≤ start + length more
+
+-- nothing yet
+pub begins : (read output : List ℕ) (had before : Option (List ℕ)) (ended : Bool) (s : State) (count : ℕ)
+    (held : List ℕ)
+    → IsLive read ended output s count held
+    → HasGone read output (length held) had had before before 0 ended s count held
+begins read output had before ended s count held l = record {
+  more = [];
+  consumed = Consumes-nil had;
+  said = [];
+  appended = Appends-nil before;
+  live = subst (λ (r : List ℕ). IsLive r ended (output ++ []) s count held) (sym (append-nil read))
+      (subst (λ (o : List ℕ). IsLive read ended o s count held) (sym (append-nil output)) l);
+  took = omega arith;
+}
+
+module _ (read output : List ℕ) (start : ℕ) (had left before after : Option (List ℕ)) (turn : ℕ) (ended : Bool)
+    (s : State)
+    (count : ℕ) (held : List ℕ) (g : HasGone read output start had left before after turn ended s count held) where
+  -- it stands so with more that was read
+  pub live_on : (now : Bool) (piece longer : List ℕ) → longer ≡ held ++ piece
+      → (ended ≡ true → (piece ≡ []) × (now ≡ true))
+      → IsLive (read ++ (g.more ++ piece)) now (output ++ g.said) s count longer
+  live_on now piece longer is stays =
+      subst (λ (h : List ℕ). IsLive (read ++ (g.more ++ piece)) now (output ++ g.said) s count h) (sym is)
+      (subst (λ (r : List ℕ). IsLive r now (output ++ g.said) s count (held ++ piece)) (append_assoc read g.more piece)
+      (with_more (read ++ g.more) piece ended now (output ++ g.said) s count held g.live stays))
+
+  -- more was read
+  pub reads : (later : Option (List ℕ)) (now : Bool) (piece longer : List ℕ) → Consumes left later piece
+      → longer ≡ held ++ piece → (ended ≡ true → (piece ≡ []) × (now ≡ true))
+      → HasGone read output start had later before after turn now s count longer
+  reads later now piece longer c is stays = record {
+    more = g.more ++ piece;
+    consumed = Consumes-trans had left later g.more piece g.consumed c;
+    said = g.said;
+    appended = g.appended;
+    live = live_on now piece longer is stays;
+    took = omega (
+      arith,
+      g.took,
+      ap (λ (bs : List ℕ). length bs) is,
+      length-append held piece,
+      length-append g.more piece,
+    );
+  }
+
+  -- a turn was taken
+  pub turns : (later : Option (List ℕ)) (text : List ℕ) (next : State) (many n : ℕ) (rest : List ℕ)
+      → Appends after later text → IsLive (read ++ g.more) ended ((output ++ g.said) ++ text) next many rest
+      → n < length held → rest ≡ drop (n + 1) held
+      → HasGone read output start had left before later (turn + 1) ended next many rest
+  turns later text next many n rest p l within is = record {
+    more = g.more;
+    consumed = g.consumed;
+    said = g.said ++ text;
+    appended = Appends-trans before after later g.said text g.appended p;
+    live = subst (λ (o : List ℕ). IsLive (read ++ g.more) ended o next many rest) (append_assoc output g.said text) l;
+    took = omega (arith, g.took, within, ap (λ (bs : List ℕ). length bs) is, length-drop (n + 1) held);
+  }

@@ -1,0 +1,20 @@
+use Rattle.std.proofs.Common.{◌≡◌, ℕ, ◌+◌, ◌-◌, ◌≤◌, true, List, [], ◌++◌, length, take}
+use Rattle.std.specs.Io.KnownBytes.{Consumes}
+use Rattle.smx_filters.specs.declared.input.TheConstants.{MAX_INPUT}
+use Rattle.smx_text.specs.Grammar.{IsOneLine}
+use Rattle.smx_live.proofs.inbox.Inbox.next_line.Given as goal
+
+abbrev pub invariant-reads : goal.invariant-reads
+invariant-reads g l = record {
+  so_far : (read : List ℕ) × Consumes (g.F.Feed.remaining l.fn.feed) (g.F.Feed.remaining l.feed) read
+      × (l.self.held.items ≡ l.fn.self.held.items ++ read) × (l.fn.self.ended ≡ true → read ≡ []);
+  seen : l.seen ≤ length l.self.held.items;
+  none : IsOneLine (take l.seen l.self.held.items);
+  same : l.self.ended ≡ l.fn.self.ended;
+  end : g.F.Feed.ended l.feed ≡ l.self.ended;
+  fine : g.F.Feed.failures l.feed ≡ 0;
+}
+
+-- how many more bytes may be read
+abbrev pub decreases-reads : goal.decreases-reads
+decreases-reads g l = MAX_INPUT + 4097 - length l.self.held.items

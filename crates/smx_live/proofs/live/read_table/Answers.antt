@@ -1,0 +1,131 @@
+use Rattle.std.proofs.Common.{◌≡◌, ◌⊎◌, ◌+◌, ◌++◌, ◌∙◌, ℕ, true, List, [], ◌∷◌, ap, arith, drop, inl, inr, length, refl}
+use Rattle.std.proofs.Common.{sym, take}
+use Rattle.std.proofs.KnownBytes.{Consumes-nil, Consumes-trans}
+use Rattle.std.proofs.lemmas.List.{append-nil}
+use Rattle.smx_live.specs.Tables.{begins_driver, lines_text}
+use Rattle.smx_live.proofs.InboxLemmas.{moved, unmoved}
+use Rattle.smx_live.proofs.TableLemmas.{fails_with, one_line_more, over_at_a_line, over_at_the_end, text_more}
+use Rattle.smx_live.proofs.live.read_table.Goals as goal
+
+pub lines-init : goal.lines-init
+lines-init g c =
+    let held = c.args.inbox.now.held.items in
+    record {
+      so_far = (
+        [],
+        Consumes-nil (g.F.Feed.remaining c.args.feed.now),
+        append-nil held ∙ sym (ap (λ (t : List ℕ). t ++ held) c.new-table.ensures.items),
+      );
+      lines = ([], c.new-table.ensures.items, record { each = tt; drivers = tt });
+      end = c.requires.end;
+      fine = c.requires.fine_so_far;
+    }
+
+pub returns-in-Ok-None : goal.returns-in-Ok-None
+returns-in-Ok-None g c =
+    let (read, consumed, parts) = c.lines.invariant.so_far in
+    let (lines, text, were) = c.lines.invariant.lines in
+    let (piece, p) = c.in-Ok-None.ensures in
+    let found = rw c.in-Ok-None.field-0-is at p.found in (
+      read ++ piece,
+      record {
+        consumed = Consumes-trans _ _ _ read piece consumed p.consumed;
+        parts = unmoved c.args.inbox.now.held.items read piece c.lines.table.items c.lines.inbox.held.items
+            c.next_line.new.self.held.items parts p.held;
+        over = over_at_the_end _ c.lines.table.items lines c.next_line.new.self.held.items text were found.0 found.1;
+        end = p.end;
+        fine = p.fine;
+        fault = tt;
+      },
+    )
+
+pub returns-in-Err : goal.returns-in-Err
+returns-in-Err g c =
+    let (read, consumed, parts) = c.lines.invariant.so_far in
+    let (piece, p) = c.in-Err.ensures in (
+      read ++ piece,
+      record {
+        consumed = Consumes-trans _ _ _ read piece consumed p.consumed;
+        parts = tt;
+        over = tt;
+        end = tt;
+        fine = tt;
+        fault = fails_with c.args.inbox.now.held.items read piece c.lines.table.items c.lines.inbox.held.items parts _ _
+            p.fault;
+      },
+    )
+
+pub returns-then-not-is_of_table : goal.returns-then-not-is_of_table
+returns-then-not-is_of_table g c =
+    let (read, consumed, parts) = c.lines.invariant.so_far in
+    let (lines, text, were) = c.lines.invariant.lines in
+    let (piece, p) = c.in-Ok-Some.ensures in
+    let held = c.next_line.new.self.held.items in
+    let line = rw c.in-Ok-Some.field-0-is at p.found in
+    let (some, other) = c.if-not-is_of_table.ensures in (
+      read ++ piece,
+      record {
+        consumed = Consumes-trans _ _ _ read piece consumed p.consumed;
+        parts = unmoved c.args.inbox.now.held.items read piece c.lines.table.items c.lines.inbox.held.items held parts p.held;
+        over = over_at_a_line _ c.lines.table.items lines c.in-Ok-Some.n held text were line
+            (λ none. some (omega (arith, c.len-in-lines.ensures, c.lines.table.ok.0, none)))
+            (ap (λ (l : List ℕ). begins_driver (take c.in-Ok-Some.n l)) (sym c.deref.ensures.value) ∙ other);
+        end = p.end;
+        fine = p.fine;
+        fault = tt;
+      },
+    )
+
+pub returns-then-is_err : goal.returns-then-is_err
+returns-then-is_err g c =
+    let (read, consumed, parts) = c.lines.invariant.so_far in
+    let (piece, p) = c.in-Ok-Some.ensures in (
+      read ++ piece,
+      record {
+        consumed = Consumes-trans _ _ _ read piece consumed p.consumed;
+        parts = tt;
+        over = tt;
+        end = tt;
+        fine = tt;
+        fault = (p.fine, refl);
+      },
+    )
+
+pub lines-preserved : goal.lines-preserved
+lines-preserved g c =
+    let (read, consumed, parts) = c.lines.invariant.so_far in
+    let (lines, text, were) = c.lines.invariant.lines in
+    let (piece, p) = c.in-Ok-Some.ensures in
+    let n = c.in-Ok-Some.n in
+    let held = c.next_line.new.self.held.items in
+    let table = c.lines.table.items in
+    let line = rw c.in-Ok-Some.field-0-is at p.found in
+    let grew : c.extend_from_slice.new.self.items ≡ table ++ take (n + 1) held =
+    (rw c.if-is_err.ensures.negation at c.extend_from_slice.ensures.items)
+    ∙ ap (λ (l : List ℕ). table ++ take (n + 1) l) c.deref-in-lines.ensures.value in
+    let why : (length (lines_text lines) ≡ 0) ⊎ (begins_driver (take n held) ≡ true) = elim c.if-not-is_of_table.ensures [
+      | inl none ↦ inl (omega (
+        arith,
+        none,
+        c.len-in-lines.ensures,
+        c.lines.table.ok.0,
+        ap (λ (t : List ℕ). length t) text,
+      ))
+      | inr is ↦ inr (ap (λ (l : List ℕ). begins_driver (take n l)) (sym c.deref.ensures.value) ∙ is)
+    ] in
+    record {
+      so_far = (
+        read ++ piece,
+        Consumes-trans _ _ _ read piece consumed p.consumed,
+        moved c.args.inbox.now.held.items read piece table c.lines.inbox.held.items held (n + 1) parts p.held
+            ∙ ap (λ (t : List ℕ). t ++ drop (n + 1) held) (sym grew)
+            ∙ ap (λ (l : List ℕ). c.extend_from_slice.new.self.items ++ l) (sym c.drop_line.ensures.held),
+      );
+      lines = (
+        lines ++ take n held ∷ [],
+        grew ∙ text_more table lines n held text line,
+        one_line_more lines (take n held) were line.one why,
+      );
+      end = p.end ∙ sym c.drop_line.ensures.end;
+      fine = p.fine;
+    }

@@ -1,0 +1,97 @@
+-- The stages of a live session: its table, its beginning, a turn, all turns, its end.
+use Rattle.std.specs.Prelude.{◌≡◌, ℕ, ◌<◌, ◌⊎◌, Bool, true, false, List, [], ◌++◌, length, Option, Result, Vec, Ok, Err}
+use Rattle.std.specs.Prelude.{IfOk, IfErr, OnOk}
+use Rattle.std.specs.Global.{Global}
+use Rattle.std.specs.Io.KnownBytes.{Consumes, Appends, Keeps}
+use Rattle.smx_run.specs.RunFaults.{RefusesAlone}
+use Rattle.smx_run.specs.declared.run_fault.RunFault.TheVariants.{NoMemory}
+use Rattle.smx_text.specs.Grammar.{ReadsAny}
+use Rattle.smx_text.specs.GrowingTranscripts.{BeginsTranscript}
+use Rattle.smx_text.specs.ProgramsText.{programs_grammar}
+use Rattle.smx_session.specs.Sessions.{HasDrivers, IsStartOf, State}
+use Rattle.smx_filters.specs.declared.input.TheConstants.{MAX_INPUT}
+use Rattle.smx_live.specs.Inboxes.{FailsToRead}
+use Rattle.smx_live.specs.LiveText.{HasComeSoFar, IsLive, IsOutcome, IsOver}
+use Rattle.smx_live.specs.Tables.{IsTable, table_text}
+use Rattle.smx_filters.specs.Output.{AppendsBeginning}
+use Rattle.smx_filters.specs.declared.main_fault.MainFault.{MainFault}
+use Rattle.smx_filters.specs.declared.main_fault.MainFault.TheVariants.{Refused, Text, TooLong, ReadFailed, WriteFailed}
+use Rattle.smx_live.specs.declared.inbox.Inbox.{Inbox}
+use Rattle.smx_live.specs.declared.talk.Talk.{Talk}
+
+-- a table was read, and what was read behind it is held
+pub record HasTable (had left : Option (List ℕ)) (ended : Bool) (failures : ℕ) (old new : Inbox) (read : List ℕ)
+    (result : Result (Vec ℕ Global) MainFault) : Type 0 where
+  pub consumed : Consumes had left read
+  pub parts : IfOk result (λ table. old.held.items ++ read ≡ table.items ++ new.held.items)
+  pub over : IfOk result (λ table. IsTable ended table.items new.held.items)
+  pub end : OnOk result (ended ≡ new.ended)
+  pub fine : OnOk result (failures ≡ 0)
+  pub fault : IfErr result (FailsToRead (MAX_INPUT < length (old.held.items ++ read)) failures)
+
+-- a session begins over the drivers of a table, or the table or its drivers are at fault, or memory was wanting
+abbrev pub Begins : List ℕ → Result Talk MainFault → Type 0
+Begins table (Ok talk) = IsStartOf (table_text table) talk.session × (talk.count ≡ 0)
+Begins table (Err (Text fault)) = ReadsAny programs_grammar (table_text table) (Err fault)
+Begins table (Err (Refused fault)) = (fault ≡ NoMemory)
+    ⊎ HasDrivers (table_text table) (λ drivers. RefusesAlone drivers fault)
+Begins table (Err TooLong) = ⊥
+Begins table (Err ReadFailed) = ⊥
+Begins table (Err WriteFailed) = ⊥
+
+module _ (read output : List ℕ) (ended : Bool) (s : State) (count : ℕ) (held : List ℕ) (before after : Option (List ℕ))
+    (flushed : Bool) (failures : ℕ) where
+  -- A session that had come so far has taken a turn, and now stands so; or it is over.
+  abbrev pub TurnsOn : Result Bool MainFault → Type 0
+  TurnsOn (Ok true) = (failures ≡ 0) × (flushed ≡ true)
+      × (said : List ℕ) × Appends before after said × IsOver read ended (output ++ said)
+  TurnsOn (Ok false) = (failures ≡ 0)
+      × (said : List ℕ) × Appends before after said × IsLive read ended (output ++ said) s count held
+  TurnsOn (Err (Refused fault)) = (failures ≡ 0) × (fault ≡ NoMemory) × Keeps before after
+  TurnsOn (Err WriteFailed) = (failures ≡ 1) × (said : List ℕ) × AppendsBeginning before after said
+      × (HasComeSoFar read ended (output ++ said) ⊎ IsOver read ended (output ++ said))
+  TurnsOn (Err (Text fault)) = ⊥
+  TurnsOn (Err TooLong) = ⊥
+  TurnsOn (Err ReadFailed) = ⊥
+
+-- a text was written and flushed, or a beginning of it
+abbrev pub Writes : List ℕ → Option (List ℕ) → Option (List ℕ) → Bool → ℕ → Result (Unit {0}) MainFault → Type 0
+Writes text before after flushed failures (Ok done) = (failures ≡ 0) × (flushed ≡ true) × Appends before after text
+Writes text before after flushed failures (Err WriteFailed) = (failures ≡ 1) × AppendsBeginning before after text
+Writes text before after flushed failures (Err (Refused fault)) = ⊥
+Writes text before after flushed failures (Err (Text fault)) = ⊥
+Writes text before after flushed failures (Err TooLong) = ⊥
+Writes text before after flushed failures (Err ReadFailed) = ⊥
+
+-- the beginning of the transcript was written, or a beginning of that
+abbrev pub Opens : State → Option (List ℕ) → Option (List ℕ) → ℕ → Result (Unit {0}) MainFault → Type 0
+Opens s before after failures (Ok done) = (failures ≡ 0) × (opening : List ℕ)
+    × BeginsTranscript s.version s.drivers [] opening × Appends before after opening
+Opens s before after failures (Err WriteFailed) = (failures ≡ 1) × (opening : List ℕ)
+    × BeginsTranscript s.version s.drivers [] opening × AppendsBeginning before after opening
+Opens s before after failures (Err (Refused fault)) = (failures ≡ 0) × (fault ≡ NoMemory) × Keeps before after
+Opens s before after failures (Err (Text fault)) = ⊥
+Opens s before after failures (Err TooLong) = ⊥
+Opens s before after failures (Err ReadFailed) = ⊥
+
+module _ (read output : List ℕ) (ended : Bool) (before after : Option (List ℕ)) (flushed : Bool) (failures : ℕ) where
+  -- A session that had come so far is over, at the end of its input.
+  abbrev pub Finishes : Result (Unit {0}) MainFault → Type 0
+  Finishes (Ok done) = (failures ≡ 0) × (flushed ≡ true)
+      × (said : List ℕ) × Appends before after said × IsOver read ended (output ++ said)
+  Finishes (Err (Refused fault)) = (failures ≡ 0) × (fault ≡ NoMemory) × Keeps before after
+  Finishes (Err WriteFailed) = (failures ≡ 1) × (said : List ℕ) × AppendsBeginning before after said
+      × IsOver read ended (output ++ said)
+  Finishes (Err (Text fault)) = ⊥
+  Finishes (Err TooLong) = ⊥
+  Finishes (Err ReadFailed) = ⊥
+
+-- a session that had come so far goes on, and answers so
+pub record Converses (read output : List ℕ) (had left : Option (List ℕ)) (ended : Bool) (read_failures : ℕ)
+    (before after : Option (List ℕ)) (flushed : Bool) (write_failures : ℕ) (answer : Result (Unit {0}) MainFault)
+    : Type 0 where
+  pub more : List ℕ
+  pub consumed : Consumes had left more
+  pub said : List ℕ
+  pub appended : Appends before after said
+  pub outcome : IsOutcome (read ++ more) (output ++ said) ended flushed read_failures write_failures answer

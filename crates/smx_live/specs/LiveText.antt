@@ -1,0 +1,155 @@
+-- What a live session reads and writes.
+use Rattle.std.specs.Prelude.{◌≡◌, ℕ, ◌+◌, ◌^◌, ◌<◌, ◌≤◌, ◌⊎◌, Bool, true, List, [], ◌∷◌, ◌++◌, length, map, take}
+use Rattle.std.specs.Prelude.{Option, Result, Ok, Err, codes}
+use Rattle.std.specs.Io.KnownBytes.{Consumes, Appends}
+use Rattle.smx_types.specs.ProgramLists.{ProgramLists}
+use Rattle.smx_types.specs.declared.limits.TheConstants.{MAX_COMMANDS}
+use Rattle.smx_types.specs.declared.transcript.Transcript.{Transcript}
+use Rattle.smx_model.specs.DriverList.{IsDriverList}
+use Rattle.smx_model.specs.Histories.{after}
+use Rattle.smx_model.specs.Views.{view}
+use Rattle.smx_run.specs.RunFaults.{RefusesAlone}
+use Rattle.smx_run.specs.declared.run_fault.RunFault.TheVariants.{NoMemory}
+use Rattle.smx_words.specs.Spelling.{entry_words}
+use Rattle.smx_words.specs.Words.{text_of}
+use Rattle.smx_text.specs.Grammar.{IsOneLine, ReadsAny, Spells}
+use Rattle.smx_text.specs.GrowingTranscripts.{transcript_with, BeginsTranscript}
+use Rattle.smx_text.specs.ProgramsText.{programs_grammar}
+use Rattle.smx_text.specs.TranscriptText.{IsSpellableView, SpellsTranscript}
+use Rattle.smx_config.specs.Verdicts.{IsVerdict}
+use Rattle.smx_config.specs.declared.verdict.Verdict.TheVariants.{Legal}
+use Rattle.smx_session.specs.Sessions.{State, HasDrivers}
+use Rattle.smx_filters.specs.declared.input.TheConstants.{MAX_INPUT}
+use Rattle.smx_live.specs.Inboxes.{IsTooLong}
+use Rattle.smx_live.specs.Tables.{HasTableOf, IsTable, table_text}
+use Rattle.smx_live.specs.Turns.{AreAnswered, Turn, asked_text, entries_of, said_text, view_lines}
+use Rattle.smx_filters.specs.declared.main_fault.MainFault.{MainFault}
+use Rattle.smx_filters.specs.declared.main_fault.MainFault.TheVariants.{Refused, Text, TooLong, ReadFailed, WriteFailed}
+
+-- ---- a session as far as it has come
+
+-- What was read and written so far, of a session that stands so, with so many entries, where so much is held, of an input
+-- that has ended or not.
+pub record IsLive (read : List ℕ) (ended : Bool) (output : List ℕ) (s : State) (count : ℕ) (held : List ℕ)
+    : Type 0 where
+  -- What was read is a driver table, lines that were answered, and what is held.
+  pub table : List ℕ
+  pub turns : List Turn
+  pub read_is : read ≡ table ++ (asked_text turns ++ held)
+  -- The table is over behind its last line, and no earlier.
+  pub over : IsTable ended table (asked_text turns ++ held)
+  -- It spells programs, whose drivers a configuration can have.
+  pub programs : ProgramLists
+  pub spelled : Spells (programs_grammar s.version) (table_text table) programs
+  pub drivers : s.drivers ≡ programs.drivers
+  pub can_be_had : IsDriverList s.drivers
+  -- Each line is answered as its command is, or by the configuration, or by why it is refused.
+  pub answered : AreAnswered s.version s.drivers [] turns
+  pub few : length (entries_of turns) ≤ MAX_COMMANDS
+  -- What was written is the beginning of a transcript, and these answers.
+  pub opening : List ℕ
+  pub begins : BeginsTranscript s.version s.drivers [] opening
+  pub written : output ≡ opening ++ said_text turns
+  -- The session is where the entries lead.
+  pub now : s.configuration ≡ after s.drivers (entries_of turns)
+  pub counted : count ≡ length (entries_of turns)
+
+-- some session has come so far
+abbrev pub HasComeSoFar : List ℕ → Bool → List ℕ → Type 0
+HasComeSoFar read ended output = (s : State) × (count : ℕ) × (held : List ℕ) × IsLive read ended output s count held
+
+-- ---- its end
+
+-- the last lines of its transcript
+abbrev pub closing_text : State → List ℕ
+closing_text s = view_lines (view s.drivers s.configuration) ++ codes "end\n"
+
+-- what is said of a last line that is not whole
+abbrev pub cut_words : List ℕ → List ℕ
+cut_words [] = []
+cut_words (b ∷ bs) = codes "? cut\n"
+
+-- the line `end` stands there; or the input has ended, within a line or not
+abbrev pub IsAtEnd : Bool → List ℕ → List ℕ → Type 0
+IsAtEnd ended held words = ((more : List ℕ) × (held ≡ codes "end\n" ++ more) × (words ≡ []))
+    ⊎ ((ended ≡ true) × IsOneLine held × (words ≡ cut_words held))
+
+-- A session is over, whose input has ended or not.
+pub record IsOver (read : List ℕ) (ended : Bool) (output : List ℕ) : Type 0 where
+  -- It has come so far, with this written,
+  pub before : List ℕ
+  pub s : State
+  pub count : ℕ
+  pub held : List ℕ
+  pub live : IsLive read ended before s count held
+  -- and is at its end;
+  pub words : List ℕ
+  pub at_end : IsAtEnd ended held words
+  -- and then come the last lines of its transcript, and nothing else.
+  pub written : output ≡ before ++ (words ++ closing_text s)
+  pub spellable : IsSpellableView (view s.drivers s.configuration)
+
+module _ {read : List ℕ} {ended : Bool} {output : List ℕ} (o : IsOver read ended output) where
+  -- its entries, with the configuration after them
+  abbrev pub transcript_of : Transcript
+  transcript_of = transcript_with o.s.version o.s.drivers (entries_of o.live.turns) (view o.s.drivers o.s.configuration)
+
+  -- what was written but for the answers that are no entries: the opening, each entry, the last lines
+  abbrev pub transcript_part : List ℕ
+  transcript_part = o.live.opening ++ text_of (map entry_words (entries_of o.live.turns)) ++ closing_text o.s
+
+  -- that is the transcript of a legal history, which a check finds legal
+  pub record IsLegalTranscript : Type 0 where
+    pub spelled : SpellsTranscript transcript_part transcript_of
+    pub legal : IsVerdict o.s.drivers (entries_of o.live.turns) (view o.s.drivers o.s.configuration) Legal
+
+-- ---- from bytes to bytes
+
+-- nothing was written yet, or a session has come so far
+abbrev pub IsBroken : List ℕ → Bool → List ℕ → Type 0
+IsBroken read ended output = (output ≡ []) ⊎ HasComeSoFar read ended output
+
+-- the table, with the line behind it, has more than 16,777,216 bytes; or a session has come so far, and a line has, or as
+-- many bytes were read as no count of lines is greater than
+abbrev pub IsEndless : List ℕ → Bool → List ℕ → Type 0
+IsEndless read ended output = ((output ≡ []) × (MAX_INPUT < length read))
+    ⊎ ((s : State) × (count : ℕ) × (held : List ℕ) × IsLive read ended output s count held
+    × (IsTooLong held ⊎ (2 ^ 64 ≤ length read + 1)))
+
+-- no device has failed
+abbrev pub AreFine : ℕ → ℕ → Type 0
+AreFine read_failures write_failures = (read_failures ≡ 0) × (write_failures ≡ 0)
+
+module _ (read output : List ℕ) (ended flushed : Bool) (read_failures write_failures : ℕ) where
+  -- What was read and written where a session answers this.
+  abbrev pub IsOutcome : Result (Unit {0}) MainFault → Type 0
+  -- It is over, and all is flushed.
+  IsOutcome (Ok done) = AreFine read_failures write_failures × (flushed ≡ true) × IsOver read ended output
+  -- There was no session: the table is at fault.
+  IsOutcome (Err (Text fault)) = AreFine read_failures write_failures × (output ≡ [])
+      × HasTableOf read ended (λ text. ReadsAny programs_grammar text (Err fault))
+  -- Its drivers are refused, or memory was wanting for what is no command's.
+  IsOutcome (Err (Refused fault)) = AreFine read_failures write_failures
+      × (((fault ≡ NoMemory) × IsBroken read ended output)
+      ⊎ ((output ≡ []) × HasTableOf read ended (λ text. HasDrivers text (λ drivers. RefusesAlone drivers fault))))
+  -- A line is longer than 16,777,216 bytes, or the table is.
+  IsOutcome (Err TooLong) = AreFine read_failures write_failures × IsEndless read ended output
+  -- The reader failed.
+  IsOutcome (Err ReadFailed) = (read_failures ≡ 1) × (write_failures ≡ 0) × IsBroken read ended output
+  -- The writer failed: a beginning is out of what was to be written next.
+  IsOutcome (Err WriteFailed) = (read_failures ≡ 0) × (write_failures ≡ 1) × (n : ℕ) × (whole : List ℕ)
+      × (output ≡ take n whole) × (HasComeSoFar read ended whole ⊎ IsOver read ended whole)
+
+-- A session from bytes to bytes: the reader had `had` and has `left`, and has shown the end or not; the writer held
+-- `before` and holds `after`, flushed or not; and each has failed so many times in this call.
+pub record LivesText (had left : Option (List ℕ)) (ended : Bool) (read_failures : ℕ)
+    (before after : Option (List ℕ)) (flushed : Bool) (write_failures : ℕ)
+    (answer : Result (Unit {0}) MainFault) : Type 0 where
+  -- These bytes were read, and no others.
+  pub read : List ℕ
+  pub consumed : Consumes had left read
+  -- These were written, and no others.
+  pub output : List ℕ
+  pub appended : Appends before after output
+  -- That is what was read and written where a session answers so.
+  pub outcome : IsOutcome read output ended flushed read_failures write_failures answer

@@ -1,0 +1,57 @@
+-- What one turn of a live session writes.
+use Rattle.std.specs.Prelude.{◌≡◌, ℕ, ◌⊎◌, Bool, true, false, List, Option, Result, Ok, Err, codes}
+use Rattle.std.specs.Io.KnownBytes.{Appends, Keeps}
+use Rattle.smx_model.specs.Views.{view}
+use Rattle.smx_run.specs.declared.run_fault.RunFault.TheVariants as run
+use Rattle.smx_text.specs.TranscriptText.{IsSpellableView}
+use Rattle.smx_session.specs.Sessions.{State}
+use Rattle.smx_live.specs.LiveText.{closing_text}
+use Rattle.smx_filters.specs.Output.{AppendsBeginning}
+use Rattle.smx_live.specs.Turns.{Answer, AsksToShow, IsTaken, answer_text}
+use Rattle.smx_filters.specs.declared.main_fault.MainFault.{MainFault}
+use Rattle.smx_filters.specs.declared.main_fault.MainFault.TheVariants.{Refused, Text, TooLong, ReadFailed, WriteFailed}
+use Rattle.smx_live.specs.declared.talk.Asked.{Asked}
+use Rattle.smx_live.specs.declared.talk.Asked.TheVariants.{Show, End, Call}
+
+-- what a line asks for
+abbrev pub IsAsked : List ℕ → Asked → Type 0
+IsAsked line Show = AsksToShow line
+IsAsked line End = line ≡ codes "end"
+IsAsked line Call = Unit {0}
+
+-- a text was written and flushed, or a beginning of it
+abbrev pub Says : List ℕ → Bool → Option (List ℕ) → Option (List ℕ) → Bool → ℕ → Result Bool MainFault → Type 0
+Says text over before after flushed failures (Ok b) =
+    (b ≡ over) × (failures ≡ 0) × (flushed ≡ true) × Appends before after text
+Says text over before after flushed failures (Err WriteFailed) = (failures ≡ 1) × AppendsBeginning before after text
+Says text over before after flushed failures (Err (Refused fault)) = ⊥
+Says text over before after flushed failures (Err (Text fault)) = ⊥
+Says text over before after flushed failures (Err TooLong) = ⊥
+Says text over before after flushed failures (Err ReadFailed) = ⊥
+
+-- the line asks for the rest of the transcript, which is this
+abbrev pub IsClosing : State → List ℕ → List ℕ → Type 0
+IsClosing s line whole =
+    (line ≡ codes "end") × IsSpellableView (view s.drivers s.configuration) × (whole ≡ closing_text s)
+
+-- the line may be answered by this
+abbrev pub MaySay : State → ℕ → List ℕ → List ℕ → Type 0
+MaySay s count line whole =
+    (a : Answer) × (next : State) × (more : ℕ) × IsTaken s count line a next more × (whole ≡ answer_text a)
+
+module _ (s : State) (count : ℕ) (line : List ℕ) (next : State) (more : ℕ) (before after : Option (List ℕ))
+    (flushed : Bool)
+    (failures : ℕ) where
+  -- What was written where a turn answers whether the session is over.
+  abbrev pub TakesTurn : Result Bool MainFault → Type 0
+  TakesTurn (Ok true) =
+      (failures ≡ 0) × (flushed ≡ true) × (whole : List ℕ) × IsClosing s line whole × Appends before after whole
+  TakesTurn (Ok false) =
+      (failures ≡ 0) × (a : Answer) × IsTaken s count line a next more × Appends before after (answer_text a)
+  -- It was performed, and there was no memory for the line of its entry.
+  TakesTurn (Err (Refused fault)) = (failures ≡ 0) × (fault ≡ run.NoMemory) × Keeps before after
+  TakesTurn (Err WriteFailed) = (failures ≡ 1) × (whole : List ℕ) × AppendsBeginning before after whole
+      × (MaySay s count line whole ⊎ IsClosing s line whole)
+  TakesTurn (Err (Text fault)) = ⊥
+  TakesTurn (Err TooLong) = ⊥
+  TakesTurn (Err ReadFailed) = ⊥

@@ -1,0 +1,228 @@
+//! A live session from bytes to bytes: each line is answered at once.
+
+ghost use Rattle.std.specs.Prelude.{◌≡◌, ◌≢◌, ◌+◌, ◌⊎◌, ◌++◌, List, ℕ, Bool, true, false, drop, IfOk, MatchBool, OnOk};
+ghost use Rattle.smx_live.specs.Inboxes.{HasLine};
+ghost use Rattle.smx_live.specs.LiveStages.{Begins, Converses, Finishes, HasTable, Opens, TurnsOn, Writes};
+ghost use Rattle.smx_text.specs.Grammar.{IsOneLine};
+ghost use Rattle.smx_live.specs.LiveText.{IsLive, LivesText, closing_text, cut_words};
+ghost use Rattle.smx_live.specs.Tables.{begins_driver, table_text};
+ghost use Rattle.smx_model.specs.Views.{view};
+ghost use Rattle.smx_text.specs.TranscriptText.{IsSpellableView};
+
+use crate::answers::answer;
+use crate::inbox::Inbox;
+use crate::talk::{Talk, shown_with};
+use smx_filters::{Feed, MAX_INPUT, MainFault, Sink, write_all};
+use smx_model::laws::one_entry_more;
+use smx_run::RunFault;
+use smx_session::{Session, Trouble};
+use smx_types::NoMemory;
+use std::alloc::{AllocError, Global};
+
+/// Reads a driver table, and then lines, each of which is a process and a command, `show`, nothing or `end`; each is
+/// answered at once. What is written is the transcript of the commands that were performed, with the configuration
+/// behind `show` and an empty line, and a line beginning with `?` for each line that is refused, which changes nothing.
+/// `end` and the end of the input end the transcript. Neither device has failed before, and no read has shown the end.
+/// Faults are found in this order: reading, text, drivers, writing; want of memory comes where it is of no command.
+pub fn live_text<F: Feed, S: Sink>(
+    alloc: Global,
+    feed: &mut F,
+    sink: &mut S,
+) -> Result<(), MainFault>
+    requires before_the_end { F.ended feed.old ≡ false }
+    requires fed { F.failures feed.old ≡ 0 }
+    requires sunk { S.failures sink.old ≡ 0 }
+    ensures { LivesText (F.remaining feed.old) (F.remaining feed.new) (F.ended feed.new)
+        (F.failures feed.new) (S.contents sink.old) (S.contents sink.new) (S.flushed sink.new)
+        (S.failures sink.new) result }
+{
+    let mut inbox = Inbox::new(alloc);
+    let table = match read_table(alloc, feed, &mut inbox) {
+        Ok(table) => table,
+        Err(fault) => return Err(fault),
+    };
+    let mut talk = match begin(alloc, table) {
+        Ok(talk) => talk,
+        Err(fault) => return Err(fault),
+    };
+    match open(alloc, sink, &talk.session) {
+        Ok(()) => converse(alloc, feed, sink, &mut inbox, &mut talk),
+        Err(fault) => Err(fault),
+    }
+}
+
+// The lines of the driver table: the first one, and those behind it that begin with `driver`.
+fn read_table<F: Feed>(alloc: Global, feed: &mut F, inbox: &mut Inbox) -> Result<Vec<u8>, MainFault>
+    requires end { F.ended feed.old ≡ inbox.old.ended }
+    requires fine_so_far { F.failures feed.old ≡ 0 }
+    ensures { (read : List ℕ) × HasTable (F.remaining feed.old) (F.remaining feed.new) (F.ended feed.new)
+        (F.failures feed.new) inbox.old inbox.new read result }
+{
+    let mut table = Vec::new(alloc);
+    'lines: while table.len() <= MAX_INPUT {
+        let n = match inbox.next_line(feed) {
+            Ok(Some(n)) => n,
+            Ok(None) => return Ok(table),
+            Err(fault) => return Err(fault),
+        };
+        if !is_of_table(table.len(), &inbox.held[..n]) {
+            return Ok(table);
+        }
+        if table.extend_from_slice(&inbox.held[..n + 1]).is_err() {
+            return Err(MainFault::Refused(RunFault::NoMemory));
+        }
+        inbox.drop_line(n);
+    }
+    Err(MainFault::TooLong)
+}
+
+// Whether a line is of the table, behind so many bytes of it.
+fn is_of_table(before: usize, line: &[u8]) -> bool
+    ensures { MatchBool result ((before ≡ 0) ⊎ (begins_driver line.now ≡ true))
+        ((before ≢ 0) × (begins_driver line.now ≡ false)) }
+{
+    before == 0 || line.starts_with(b"driver")
+}
+
+// The table as a programs text.
+fn text_of_table(table: Vec<u8>) -> Result<Vec<u8>, AllocError>
+    ensures { IfOk result (λ v. v.items ≡ table_text table.items) }
+{
+    let mut text = table;
+    if !text.is_empty() {
+        text.extend_from_slice(b"end\n")?;
+    }
+    Ok(text)
+}
+
+// A session over the drivers of a table.
+fn begin(alloc: Global, table: Vec<u8>) -> Result<Talk, MainFault>
+    ensures { Begins table.items result }
+{
+    let Ok(text) = text_of_table(table) else {
+        return Err(MainFault::Refused(RunFault::NoMemory));
+    };
+    match Session::new(alloc, text.as_slice()) {
+        Ok(session) => Ok(Talk {
+            session,
+            count: 0,
+            text: Vec::new(alloc),
+        }),
+        Err(Trouble::Text(fault)) => Err(MainFault::Text(fault)),
+        Err(Trouble::Drivers(fault)) => Err(MainFault::Refused(RunFault::from(fault))),
+        Err(_) => Err(MainFault::Refused(RunFault::NoMemory)),
+    }
+}
+
+// Writes the beginning of the transcript.
+fn open<S: Sink>(alloc: Global, sink: &mut S, session: &Session) -> Result<(), MainFault>
+    requires { S.failures sink.old ≡ 0 }
+    ensures { Opens session.now (S.contents sink.old) (S.contents sink.new) (S.failures sink.new) result }
+{
+    match session.opening(alloc) {
+        Ok(text) => write_last(sink, text.as_slice()),
+        Err(_) => Err(MainFault::Refused(RunFault::NoMemory)),
+    }
+}
+
+// Answers line after line, up to `end` or the end of the input.
+fn converse<F: Feed, S: Sink>(
+    alloc: Global,
+    feed: &mut F,
+    sink: &mut S,
+    inbox: &mut Inbox,
+    talk: &mut Talk,
+) -> Result<(), MainFault>
+    requires end { F.ended feed.old ≡ inbox.old.ended }
+    requires fed { F.failures feed.old ≡ 0 }
+    requires sunk { S.failures sink.old ≡ 0 }
+    ensures { (read output : List ℕ)
+        → IsLive read inbox.old.ended output talk.old.session talk.old.count inbox.old.held.items
+        → Converses read output (F.remaining feed.old) (F.remaining feed.new) (F.ended feed.new)
+        (F.failures feed.new) (S.contents sink.old) (S.contents sink.new) (S.flushed sink.new)
+        (S.failures sink.new) result }
+{
+    for _turn in 0..u64::MAX {
+        match inbox.next_line(feed) {
+            Ok(Some(n)) => match take_turn(alloc, sink, inbox, talk, n) {
+                Ok(false) => {}
+                Ok(true) => return Ok(()),
+                Err(fault) => return Err(fault),
+            },
+            Ok(None) => return finish(alloc, sink, talk, inbox.held.as_slice()),
+            Err(fault) => return Err(fault),
+        }
+    }
+    Err(MainFault::TooLong)
+}
+
+// Answers the line at the front, which has so many bytes. Whether the session is over.
+fn take_turn<S: Sink>(
+    alloc: Global,
+    sink: &mut S,
+    inbox: &mut Inbox,
+    talk: &mut Talk,
+    n: usize,
+) -> Result<bool, MainFault>
+    requires line { HasLine n inbox.old.held.items }
+    requires sunk { S.failures sink.old ≡ 0 }
+    ensures end { inbox.new.ended ≡ inbox.old.ended }
+    ensures fine { OnOk result (S.failures sink.new ≡ 0) }
+    ensures taken { IfOk result (λ over. over ≡ false → inbox.new.held.items ≡ drop (n + 1) inbox.old.held.items) }
+    ensures turn { (read output : List ℕ) (ended : Bool)
+        → IsLive read ended output talk.old.session talk.old.count inbox.old.held.items
+        → TurnsOn read output ended talk.new.session talk.new.count inbox.new.held.items (S.contents sink.old)
+        (S.contents sink.new) (S.flushed sink.new) (S.failures sink.new) result }
+{
+    one_entry_more();
+    match answer(alloc, sink, talk, &inbox.held[..n]) {
+        Ok(false) => {
+            inbox.drop_line(n);
+            Ok(false)
+        }
+        Ok(true) => Ok(true),
+        Err(fault) => Err(fault),
+    }
+}
+
+// What is said of a last line that is not whole.
+fn cut_words(held: &[u8]) -> &'static [u8]
+    ensures { result.now ≡ cut_words held.now }
+{
+    if held.is_empty() { b"" } else { b"? cut\n" }
+}
+
+// The last lines at the end of the input, where so much is held.
+fn closing(alloc: Global, session: &Session, held: &[u8]) -> Result<Vec<u8>, NoMemory>
+    ensures written { IfOk result (λ v. v.items ≡ cut_words held.now ++ closing_text session.now) }
+    ensures spellable { OnOk result (IsSpellableView (view session.now.drivers session.now.configuration)) }
+{
+    let shown = shown_with(alloc, session, b"end\n")?;
+    let mut text = Vec::from_slice(alloc, cut_words(held))?;
+    text.extend_from_slice(shown.as_slice())?;
+    Ok(text)
+}
+
+// Writes a text, and flushes.
+fn write_last<S: Sink>(sink: &mut S, text: &[u8]) -> Result<(), MainFault>
+    requires { S.failures sink.old ≡ 0 }
+    ensures { Writes text.now (S.contents sink.old) (S.contents sink.new) (S.flushed sink.new) (S.failures sink.new) result }
+{
+    match write_all(sink, text) {
+        Ok(()) => Ok(()),
+        Err(_) => Err(MainFault::WriteFailed),
+    }
+}
+
+// Ends the session at the end of the input, where so much is held.
+fn finish<S: Sink>(alloc: Global, sink: &mut S, talk: &Talk, held: &[u8]) -> Result<(), MainFault>
+    requires { S.failures sink.old ≡ 0 }
+    ensures { (read output : List ℕ) (ended : Bool)
+        → IsLive read ended output talk.now.session talk.now.count held.now → ended ≡ true → IsOneLine held.now → Finishes read output ended (S.contents sink.old)
+        (S.contents sink.new) (S.flushed sink.new) (S.failures sink.new) result }
+{
+    match closing(alloc, &talk.session, held) {
+        Ok(text) => write_last(sink, text.as_slice()),
+        Err(_) => Err(MainFault::Refused(RunFault::NoMemory)),
+    }
+}

@@ -1,0 +1,26 @@
+//! Why a line of a live session is refused.
+
+ghost use Rattle.std.specs.Prelude.{◌≡◌};
+ghost use Rattle.smx_live.specs.Turns.{wrong_line};
+
+/// Why a line is refused, which changes nothing.
+#[derive(Clone, Copy, Debug, PartialEq, Eq)]
+pub enum Wrong {
+    /// It is no process with a command that the version can tell, and asks for nothing else.
+    NoCommand,
+    /// A growth was refused.
+    NoMemory,
+    /// There are 100,000 entries.
+    Full,
+}
+
+// The line that tells it, with its line feed.
+pub(crate) fn line_of_wrong(wrong: Wrong) -> &'static [u8]
+    ensures { result.now ≡ wrong_line wrong }
+{
+    match wrong {
+        Wrong::NoCommand => b"? no command\n",
+        Wrong::NoMemory => b"? no memory\n",
+        Wrong::Full => b"? history full\n",
+    }
+}

@@ -1,0 +1,10 @@
+pub mod RowLemmas
+pub mod Spelling
+pub mod CompleteLemmas
+pub mod DeterminedLemmas
+pub mod WalkLemmas
+pub mod ShapeLemmas
+pub mod CommandFormLemmas
+pub mod ReplyFormLemmas
+pub mod LineFormLemmas
+pub mod PlaceLemmas

@@ -1,0 +1,440 @@
+-- The words of a line of each text, by the tables.
+use Rattle.std.proofs.Common.{◌≡◌, ◌<◌, ℕ, Bool, true, false, ◌||◌, List, [], ◌∷◌, ◌++◌, refl, sym, ap, subst, ◌∙◌, inl, inr}
+use Rattle.std.proofs.Common.{append-nil, rules}
+use Rattle.std.specs.Prelude.{◌↔◌, codes}
+use Rattle.std.specs.Fmt.{decimal}
+use Rattle.smx_types.specs.Versions.{is_hangup, tells_of_hangup}
+use Rattle.smx_types.specs.declared.command.Command.{Command as AnyCommand}
+use Rattle.smx_types.specs.declared.command.Entry.{Entry}
+use Rattle.smx_types.specs.declared.reply.Reply.{Reply as AnyReply}
+use Rattle.smx_types.specs.declared.version.Version.{Version}
+use Rattle.smx_types.specs.declared.version.Version.TheVariants.{V1, V2}
+use Rattle.smx_types.specs.declared.view.HungLine.{HungLine}
+use Rattle.smx_words.specs.HexWords.{hex_word}
+use Rattle.smx_words.specs.Spellable.{CanTell, FitsCommandIn, FitsEntryIn, FitsHung, FitsReplyIn}
+use Rattle.smx_words.specs.Spelling.{command_words, entry_words, hung_words, kind_word, link_kind_word, reply_words, side_word}
+use Rattle.smx_text.specs.ProgramLines.{Line}
+use Rattle.smx_text.specs.ProgramLines as line
+use Rattle.smx_text.specs.ProgramsText as programs
+use Rattle.smx_text.specs.TranscriptLines.{TranscriptLine as AnyTranscriptLine}
+use Rattle.smx_text.specs.TranscriptLines as told
+use Rattle.smx_text.specs.TranscriptText as transcript
+use Rattle.smx_place.specs.Places.{IsLine, first_choice}
+use Rattle.smx_place.specs.Rows.{IsRow, programs_lines, transcript_lines}
+use Rattle.smx_place.specs.declared.kinds.Choice.{Choice}
+use Rattle.smx_place.specs.declared.kinds.Choice.TheVariants.{ProgramsLine, TranscriptLine, Command, Equals, Reply, End}
+use Rattle.smx_place.specs.declared.kinds.TextKind.{TextKind}
+use Rattle.smx_place.specs.declared.kinds.TextKind.TheVariants.{Programs, Transcript}
+use Rattle.smx_place.specs.declared.kinds.Value.{Value}
+use Rattle.smx_place.specs.declared.kinds.Value.TheVariants.{Name, DriverKind, Number, Process, Side, LinkKind, Bytes}
+use Rattle.smx_place.proofs.CommandFormLemmas.{form, of_form}
+use Rattle.smx_place.proofs.ReplyFormLemmas.{IsReply, of_reply, reply_spelled}
+use Rattle.smx_place.proofs.RowLemmas.{equals_behind}
+use Rattle.smx_place.proofs.ShapeLemmas.{four, none, one, six, three, two}
+use Rattle.smx_place.proofs.Spelling.{Spells}
+use Rattle.smx_place.proofs.WalkLemmas.{cut, ended, from_row, number, plain, with_args}
+
+-- ---- lines of programs
+
+module _ (version : Version) where
+  command_spelled : (c : AnyCommand) → FitsCommandIn version c → Spells version [] ProgramsLine (command_words c)
+  command_spelled c fits =
+      let f = form version c fits in
+      subst (λ (words : List (List ℕ)). Spells version [] ProgramsLine words) (sym f.are) (
+        f.values,
+        End,
+        inr (f.fixed, refl),
+        subst (λ (words : List (List ℕ)). Spells version f.values End words)
+            (append-nil f.args) (with_args version f.values f.args End [] f.takes tt),
+      )
+
+  programs_line : (k : Line) → programs.FitsLine version k → Spells version [] ProgramsLine (programs.line_words k)
+  programs_line (line.Driver d) f =
+      from_row version ProgramsLine (codes "driver") (Name ∷ DriverKind ∷ Number ∷ Number ∷ Number ∷ Number ∷ []) End
+      (d.name ∷ kind_word d.kind ∷ decimal d.minors ∷ decimal d.high ∷ decimal d.low ∷ decimal d.max ∷ []) []
+      (search rules) (
+        f.name,
+        (
+          (d.kind, tt, refl),
+          (
+            number d.minors f.minors,
+            (
+              number d.high f.high,
+              (
+                number d.low
+                    f.low,
+                (number d.max f.max, tt),
+              ),
+            ),
+          ),
+        ),
+      ) tt
+  programs_line (line.Process n) f =
+      from_row version ProgramsLine (codes "process") (Number ∷ []) End
+      (decimal n ∷ []) []
+      (search rules) (number n f, tt) tt
+  programs_line line.End f =
+      from_row version ProgramsLine (codes "end") ([]) End
+      ([]) []
+      (search rules) tt tt
+  programs_line (line.Command c) f = command_spelled c f
+
+  programs_row : (word : List ℕ) (values : List Value) (next : Choice) (words : List (List ℕ))
+      → IsRow programs_lines word values next → Spells version values next words
+      → IsLine Programs version (word ∷ words)
+  programs_row word values next words (inl is) h =
+      let t = six Name DriverKind Number Number Number Number words (ended version values next words (Name ∷
+      DriverKind ∷ Number ∷ Number ∷ Number ∷ Number ∷ []) is.1 is.2 h) in (
+        line.Driver (record {
+          name = t.a;
+          kind = t.is_b.0;
+          minors = t.is_c.0;
+          high = t.is_d.0;
+          low = t.is_e.0;
+          max
+              = t.is_f.0;
+        }),
+        record { name = t.is_a; minors = t.is_c.1; high = t.is_d.1; low = t.is_e.1; max = t.is_f.1 },
+        cc (is.0, t.are, t.is_b.2, t.is_c.2, t.is_d.2, t.is_e.2, t.is_f.2),
+      )
+  programs_row word values next words (inr (inl is)) h =
+      let t = one Number words (ended version values next words (Number ∷ []) is.1 is.2 h) in (
+        line.Process t.is_a.0,
+        t.is_a.1,
+        cc (is.0, t.are, t.is_a.2),
+      )
+  programs_row word values next words (inr (inr (inl is))) h =
+      let t = none words (ended version values next words ([]) is.1 is.2 h) in (
+        line.End,
+        tt,
+        cc (is.0, t.are),
+      )
+  programs_row word values next words (inr (inr (inr is))) h = absurd is
+
+  of_programs_line : (words : List (List ℕ)) → Spells version [] ProgramsLine words → IsLine Programs version words
+  of_programs_line [] h = absurd h
+  of_programs_line (word ∷ words) (values, next, inl is, h) =
+      programs_row word values next words (plain version ProgramsLine refl word values next is) h
+  of_programs_line (word ∷ words) (values, next, inr (fixed, then), h) =
+      let t = of_form version word values Equals words fixed (ended version values next words values refl then h) in
+      (line.Command t.0, t.1, sym t.2)
+
+-- ---- lines of a transcript
+
+-- what tells of no hangup does so in no part
+both_told : (version : Version) (a b : Bool) → CanTell version (a || b) → CanTell version a × CanTell version b
+both_told V1 true b told = absurd (cc told)
+both_told V1 false b told = (refl, told)
+both_told V2 a b told = (tt, tt)
+
+-- and what does so in no part, in none
+told_both : (version : Version) (a b : Bool) → CanTell version a → CanTell version b → CanTell version (a || b)
+told_both V1 true b told told_too = absurd (cc told)
+told_both V1 false b told told_too = told_too
+told_both V2 a b told told_too = tt
+
+module _ (version : Version) where
+  -- an entry behind its process
+  call_spelled : (c : AnyCommand) (r : AnyReply) → FitsCommandIn version c → FitsReplyIn version r
+      → Spells version [] Command (command_words c ++ codes "=" ∷ reply_words r)
+  call_spelled c r fits fits_too =
+      let f = form version c fits in
+      let reply = from_row version Equals (codes "=") [] Reply [] (reply_words r) (search rules) tt
+      (reply_spelled version r fits_too) in
+      subst (λ (words : List (List ℕ)). Spells version [] Command (words ++ codes "=" ∷ reply_words r)) (sym f.are)
+      (f.values, Equals, inl f.fixed, with_args version f.values f.args Equals (codes "=" ∷ reply_words r) f.takes reply)
+
+  entry_spelled : (e : Entry) → FitsEntryIn version e → Spells version [] TranscriptLine (entry_words e)
+  entry_spelled e (fits, told) =
+      let parts = both_told version (is_hangup e.command) (tells_of_hangup e.reply) told in (
+        [],
+        Command,
+        inr ((e.process, fits.process, refl), refl, refl),
+        call_spelled e.command e.reply (fits.command, parts.0) (fits.reply, parts.1),
+      )
+
+  hung_spelled : (h : HungLine) → FitsHung h → CanTell version true
+      → Spells version [] TranscriptLine (hung_words h)
+  hung_spelled h fits told = of_version_2 version told where
+    of_version_2 : (v : Version) → CanTell v true → Spells v [] TranscriptLine (hung_words h)
+    of_version_2 V1 told = absurd (cc told)
+    of_version_2 V2 told = (
+      Name ∷ Number ∷ [],
+      End,
+      inl (inl (refl, refl, refl)),
+      with_args V2 (Name ∷ Number ∷ []) (h.driver ∷ decimal h.minor ∷ []) End []
+          (fits.driver, (number h.minor fits.minor, tt)) tt,
+    )
+
+  transcript_line : (k : AnyTranscriptLine) → transcript.FitsLine version k
+      → Spells version [] TranscriptLine (transcript.line_words k)
+  transcript_line (told.Driver d) f =
+      from_row version TranscriptLine (codes "driver") (Name ∷ DriverKind ∷ Number ∷ Number ∷ Number ∷ Number ∷ [])
+      End
+      (d.name ∷ kind_word d.kind ∷ decimal d.minors ∷ decimal d.high ∷ decimal d.low ∷ decimal d.max ∷ []) []
+      (search rules) (
+        f.name,
+        (
+          (d.kind, tt, refl),
+          (
+            number d.minors f.minors,
+            (
+              number d.high f.high,
+              (
+                number d.low
+                    f.low,
+                (number d.max f.max, tt),
+              ),
+            ),
+          ),
+        ),
+      ) tt
+  transcript_line told.Config f =
+      from_row version TranscriptLine (codes "config") ([]) End
+      ([]) []
+      (search rules) tt tt
+  transcript_line (told.Next id serial) f =
+      from_row version TranscriptLine (codes "next") (Number ∷ Number ∷ []) End
+      (decimal id ∷ decimal serial ∷ []) []
+      (search rules) (number id f.0, (number serial f.1, tt)) tt
+  transcript_line (told.Fd d) f =
+      from_row version TranscriptLine (codes "fd") (Process ∷ Number ∷ Name ∷ Number ∷ []) End
+      (decimal d.process ∷ decimal d.fd ∷ d.driver ∷ decimal d.minor ∷ []) []
+      (search rules) ((d.process, f.process, refl), (number d.fd f.fd, (f.driver, (number d.minor f.minor, tt)))) tt
+  transcript_line (told.Link l) f =
+      from_row version TranscriptLine (codes "link") (Number ∷ Name ∷ Number ∷ Name ∷ Number ∷ LinkKind ∷ []) End
+      (decimal l.id ∷ l.ctl_driver ∷ decimal l.ctl_minor ∷ l.lower_driver ∷ decimal l.lower_minor ∷ link_kind_word
+      l.kind ∷ []) []
+      (search rules) (
+        number l.id f.id,
+        (
+          f.ctl_driver,
+          (
+            number l.ctl_minor f.ctl_minor,
+            (
+              f.lower_driver,
+              (
+                number
+                    l.lower_minor f.lower_minor,
+                ((l.kind, tt, refl), tt),
+              ),
+            ),
+          ),
+        ),
+      ) tt
+  transcript_line (told.Bind b) f =
+      from_row version TranscriptLine (codes "bind") (Name ∷ Number ∷ Number ∷ []) End
+      (b.driver ∷ decimal b.addr ∷ decimal b.minor ∷ []) []
+      (search rules) (f.driver, (number b.addr f.addr, (number b.minor f.minor, tt))) tt
+  transcript_line (told.Route r) f =
+      from_row version TranscriptLine (codes "route") (Name ∷ Number ∷ Number ∷ []) End
+      (r.driver ∷ decimal r.addr ∷ decimal r.id ∷ []) []
+      (search rules) (f.driver, (number r.addr f.addr, (number r.id f.id, tt))) tt
+  transcript_line (told.Msg m) f =
+      from_row version TranscriptLine (codes "msg") (Name ∷ Number ∷ Side ∷ Number ∷ Number ∷ Bytes ∷ []) End
+      (m.driver ∷ decimal m.minor ∷ side_word m.side ∷ decimal m.message.serial ∷ decimal m.message.addr ∷ hex_word
+      m.message.bytes ∷ []) []
+      (search rules) (
+        f.driver,
+        (
+          number m.minor f.minor,
+          (
+            (m.side, tt, refl),
+            (
+              number m.message.serial f.serial,
+              (number m.message.addr f.addr, ((m.message.bytes, f.bytes, refl), tt)),
+            ),
+          ),
+        ),
+      ) tt
+  transcript_line (told.Full q) f =
+      from_row version TranscriptLine (codes "full") (Name ∷ Number ∷ Side ∷ []) End
+      (q.driver ∷ decimal q.minor ∷ side_word q.side ∷ []) []
+      (search rules) (f.driver, (number q.minor f.minor, ((q.side, tt, refl), tt))) tt
+  transcript_line told.End f =
+      from_row version TranscriptLine (codes "end") ([]) End
+      ([]) []
+      (search rules) tt tt
+  transcript_line (told.Entry e) f = entry_spelled e f
+  transcript_line (told.Hung h) f = hung_spelled h f.0 f.1
+
+  transcript_row : (word : List ℕ) (values : List Value) (next : Choice) (words : List (List ℕ))
+      → IsRow transcript_lines word values next → Spells version values next words
+      → IsLine Transcript version (word ∷ words)
+  transcript_row word values next words (inl is) h =
+      let t = six Name DriverKind Number Number Number Number words (ended version values next words (Name ∷
+      DriverKind ∷ Number ∷ Number ∷ Number ∷ Number ∷ []) is.1 is.2 h) in (
+        told.Driver (record {
+          name = t.a;
+          kind = t.is_b.0;
+          minors = t.is_c.0;
+          high = t.is_d.0;
+          low = t.is_e.0;
+          max
+              = t.is_f.0;
+        }),
+        record { name = t.is_a; minors = t.is_c.1; high = t.is_d.1; low = t.is_e.1; max = t.is_f.1 },
+        cc (is.0, t.are, t.is_b.2, t.is_c.2, t.is_d.2, t.is_e.2, t.is_f.2),
+      )
+  transcript_row word values next words (inr (inl is)) h =
+      let t = none words (ended version values next words ([]) is.1 is.2 h) in (
+        told.Config,
+        tt,
+        cc (is.0, t.are),
+      )
+  transcript_row word values next words (inr (inr (inl is))) h =
+      let t = two Number Number words (ended version values next words (Number ∷ Number ∷ []) is.1 is.2 h) in (
+        told.Next t.is_a.0 t.is_b.0,
+        (t.is_a.1, t.is_b.1),
+        cc (is.0, t.are, t.is_a.2, t.is_b.2),
+      )
+  transcript_row word values next words (inr (inr (inr (inl is)))) h =
+      let t = four Process Number Name Number words (ended version values next words (Process ∷ Number ∷ Name ∷
+      Number ∷ []) is.1 is.2 h) in (
+        told.Fd (record { process = t.is_a.0; fd = t.is_b.0; driver = t.c; minor = t.is_d.0 }),
+        record { process = t.is_a.1; fd = t.is_b.1; driver = t.is_c; minor = t.is_d.1 },
+        cc (is.0, t.are, t.is_a.2, t.is_b.2, t.is_d.2),
+      )
+  transcript_row word values next words (inr (inr (inr (inr (inl is))))) h =
+      let t = six Number Name Number Name Number LinkKind words (ended version values next words (Number ∷ Name ∷
+      Number ∷ Name ∷ Number ∷ LinkKind ∷ []) is.1 is.2 h) in (
+        told.Link (record {
+          id = t.is_a.0;
+          ctl_driver = t.b;
+          ctl_minor = t.is_c.0;
+          lower_driver = t.d;
+          lower_minor
+              = t.is_e.0;
+          kind = t.is_f.0;
+        }),
+        record {
+          id = t.is_a.1;
+          ctl_driver = t.is_b;
+          ctl_minor = t.is_c.1;
+          lower_driver = t.is_d;
+          lower_minor =
+              t.is_e.1;
+        },
+        cc (is.0, t.are, t.is_a.2, t.is_c.2, t.is_e.2, t.is_f.2),
+      )
+  transcript_row word values next words (inr (inr (inr (inr (inr (inl is)))))) h =
+      let t = three Name Number Number words (ended version values next words (Name ∷ Number ∷ Number ∷ []) is.1
+      is.2 h) in (
+        told.Bind (record { driver = t.a; addr = t.is_b.0; minor = t.is_c.0 }),
+        record { driver = t.is_a; addr = t.is_b.1; minor = t.is_c.1 },
+        cc (is.0, t.are, t.is_b.2, t.is_c.2),
+      )
+  transcript_row word values next words (inr (inr (inr (inr (inr (inr (inl is))))))) h =
+      let t = three Name Number Number words (ended version values next words (Name ∷ Number ∷ Number ∷ []) is.1
+      is.2 h) in (
+        told.Route (record { driver = t.a; addr = t.is_b.0; id = t.is_c.0 }),
+        record { driver = t.is_a; addr = t.is_b.1; id = t.is_c.1 },
+        cc (is.0, t.are, t.is_b.2, t.is_c.2),
+      )
+  transcript_row word values next words (inr (inr (inr (inr (inr (inr (inr (inl is)))))))) h =
+      let t = six Name Number Side Number Number Bytes words (ended version values next words (Name ∷ Number ∷ Side
+      ∷ Number ∷ Number ∷ Bytes ∷ []) is.1 is.2 h) in (
+        told.Msg (record {
+          driver = t.a;
+          minor = t.is_b.0;
+          side = t.is_c.0;
+          message = record {
+            serial = t.is_d.0;
+            addr = t.is_e.0;
+            bytes = t.is_f.0;
+          };
+        }),
+        record { driver = t.is_a; minor = t.is_b.1; serial = t.is_d.1; addr = t.is_e.1; bytes = t.is_f.1 },
+        cc (is.0, t.are, t.is_b.2, t.is_c.2, t.is_d.2, t.is_e.2, t.is_f.2),
+      )
+  transcript_row word values next words (inr (inr (inr (inr (inr (inr (inr (inr (inl is))))))))) h =
+      let t = three Name Number Side words (ended version values next words (Name ∷ Number ∷ Side ∷ []) is.1 is.2
+      h) in (
+        told.Full (record { driver = t.a; minor = t.is_b.0; side = t.is_c.0 }),
+        record { driver = t.is_a; minor = t.is_b.1 },
+        cc (is.0, t.are, t.is_b.2, t.is_c.2),
+      )
+  transcript_row word values next words (inr (inr (inr (inr (inr (inr (inr (inr (inr (inl is)))))))))) h =
+      let t = none words (ended version values next words ([]) is.1 is.2 h) in (
+        told.End,
+        tt,
+        cc (is.0, t.are),
+      )
+  transcript_row word values next words (inr (inr (inr (inr (inr (inr (inr (inr (inr (inr is)))))))))) h = absurd is
+
+  -- the words behind a process are those of a command and a reply
+  record IsCall (words : List (List ℕ)) : Type 0 where
+    command : AnyCommand
+    fits : FitsCommandIn version command
+    reply : AnyReply
+    fits_too : FitsReplyIn version reply
+    are : words ≡ command_words command ++ codes "=" ∷ reply_words reply
+
+  equals : (words : List (List ℕ)) → Spells version [] Equals words
+      → (rest : List (List ℕ)) × (words ≡ codes "=" ∷ rest) × IsReply version rest
+  equals [] h = absurd h
+  equals (word ∷ words) (values, next, inl is, h) = from (plain version Equals refl word values next is) where
+    from : IsRow ((codes "=", [], Reply) ∷ []) word values next
+        → (rest : List (List ℕ)) × (word ∷ words ≡ codes "=" ∷ rest) × IsReply version rest
+    from (inl is) = (words, cc is.0, of_reply version words (rw (← is.1, ← is.2) h))
+    from (inr is) = absurd is
+  equals (word ∷ words) (values, next, inr is, h) = absurd is
+
+  call : (words : List (List ℕ)) → Spells version [] Command words → IsCall words
+  call [] h = absurd h
+  call (word ∷ words) (values, next, inl is, h) =
+      let then = equals_behind version word values next is in
+      let t = cut version values Equals words (subst (λ (n : Choice). Spells version values n words) then h) in
+      let c = of_form version word values next t.args is t.takes in
+      let (rest, are, r) = equals t.rest t.more in
+      record {
+        command = c.0;
+        fits = c.1;
+        reply = r.0;
+        fits_too = r.1;
+        are = ap (λ (ws : List (List ℕ)). word ∷ ws) (t.are ∙ ap (λ (ws : List (List ℕ)). t.args ++ ws)
+            (are ∙ ap (λ (ws : List (List ℕ)). codes "=" ∷ ws) (sym r.2)))
+            ∙ ap (λ (ws : List (List ℕ)). ws ++ codes "=" ∷ reply_words r.0) (sym c.2);
+      }
+  call (word ∷ words) (values, next, inr is, h) = absurd is
+
+  entry : (word : List ℕ) (values : List Value) (next : Choice) (words : List (List ℕ)) (process : ℕ) → process < 64
+      → word ≡ decimal process → values ≡ [] → next ≡ Command → Spells version values next words
+      → IsLine Transcript version (word ∷ words)
+  entry word values next words process small is none then h =
+      let t = call words (rw (← none, ← then) h) in (
+        told.Entry (record { process = process; command = t.command; reply = t.reply }),
+        (
+          record { process = small; command = t.fits.0; reply = t.fits_too.0 },
+          told_both version (is_hangup t.command) (tells_of_hangup t.reply) t.fits.1 t.fits_too.1,
+        ),
+        cc (is, t.are),
+      )
+
+of_transcript_line : (version : Version) (words : List (List ℕ)) → Spells version [] TranscriptLine words
+    → IsLine Transcript version words
+of_transcript_line version [] h = absurd h
+of_transcript_line V1 (word ∷ words) (values, next, inl is, h) = transcript_row V1 word values next words is h
+of_transcript_line V2 (word ∷ words) (values, next, inl (inl is), h) =
+    let t = two Name Number words (ended V2 values next words (Name ∷ Number ∷ []) is.1 is.2 h) in (
+      told.Hung (record { driver = t.a; minor = t.is_b.0 }),
+      (record { driver = t.is_a; minor = t.is_b.1 }, tt),
+      cc (is.0, t.are, t.is_b.2),
+    )
+of_transcript_line V2 (word ∷ words) (values, next, inl (inr is), h) = transcript_row V2 word values next words is h
+of_transcript_line version (word ∷ words) (values, next, inr ((process, small, is), none, then), h) =
+    entry version word values next words process small is none then h
+
+-- ---- both
+
+-- a line of a text is what goes on from its first word
+pub line_is : (kind : TextKind) (version : Version) (words : List (List ℕ))
+    → IsLine kind version words ↔ Spells version [] (first_choice kind) words
+line_is Programs version words = (
+  λ h. subst (λ (ws : List (List ℕ)). Spells version [] ProgramsLine ws) (sym h.2) (programs_line version h.0 h.1),
+  of_programs_line version words,
+)
+line_is Transcript version words = (
+  λ h. subst (λ (ws : List (List ℕ)). Spells version [] TranscriptLine ws) (sym h.2) (transcript_line version h.0 h.1),
+  of_transcript_line version words,
+)

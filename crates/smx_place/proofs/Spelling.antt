@@ -1,0 +1,20 @@
+-- The words with which a line goes on where some values are wanted and then something is chosen.
+use Rattle.std.proofs.Common.{ℕ, List, [], ◌∷◌}
+use Rattle.smx_types.specs.declared.version.Version.{Version}
+use Rattle.smx_place.specs.Places.{EndsThere, wanted_of}
+use Rattle.smx_place.specs.Rows.{GoesOn, IsValue}
+use Rattle.smx_place.specs.declared.kinds.Choice.{Choice}
+use Rattle.smx_place.specs.declared.kinds.Value.{Value}
+
+-- the words go on so to the end of a line
+abbrev pub Spells : Version → List Value → Choice → List (List ℕ) → Type 0
+Spells version values choice [] = EndsThere (wanted_of values choice)
+Spells version values choice (word ∷ words) = (behind : List Value) × (next : Choice)
+    × GoesOn version values choice word behind next × Spells version behind next words
+
+-- a word for each of the values
+abbrev pub Takes : List Value → List (List ℕ) → Type 0
+Takes [] [] = Unit {0}
+Takes [] (word ∷ words) = ⊥
+Takes (value ∷ values) [] = ⊥
+Takes (value ∷ values) (word ∷ words) = IsValue value word × Takes values words

@@ -1,0 +1,89 @@
+-- A line goes on by the values that are wanted, and then by what is chosen.
+use Rattle.std.proofs.Common.{◌≡◌, ℕ, false, List, [], ◌∷◌, ◌++◌, refl, ap, subst, ◌∙◌, append-nil, inl, inr}
+use Rattle.smx_types.specs.declared.version.Version.{Version}
+use Rattle.smx_types.specs.declared.version.Version.TheVariants.{V1, V2}
+use Rattle.smx_words.specs.Spellable.{CanTell, FitsNumber}
+use Rattle.std.specs.Fmt.{decimal}
+use Rattle.smx_place.specs.Rows.{IsFixed, IsRow, IsValue, Row, later_rows, rows, told_rows}
+use Rattle.smx_place.specs.declared.kinds.Choice.{Choice}
+use Rattle.smx_place.specs.declared.kinds.Choice.TheVariants.{End}
+use Rattle.smx_place.specs.declared.kinds.Value.{Value}
+use Rattle.smx_place.specs.declared.kinds.Value.TheVariants.{Number}
+use Rattle.smx_place.proofs.CompleteLemmas.{fixed_in}
+use Rattle.smx_place.proofs.Spelling.{Spells, Takes}
+
+-- what tells of no hangup each version can tell
+pub tells : (version : Version) → CanTell version false
+tells V1 = refl
+tells V2 = tt
+
+-- the word of a number
+pub number : (n : ℕ) → FitsNumber n → IsValue Number (decimal n)
+number n fits = (n, fits, refl)
+
+module _ (version : Version) where
+  -- words for the values, and then those of what is chosen
+  pub with_args : (values : List Value) (args : List (List ℕ)) (next : Choice) (rest : List (List ℕ))
+      → Takes values args → Spells version [] next rest → Spells version values next (args ++ rest)
+  with_args [] [] next rest takes more = more
+  with_args [] (arg ∷ args) next rest takes more = absurd takes
+  with_args (value ∷ values) [] next rest takes more = absurd takes
+  with_args (value ∷ values) (arg ∷ args) next rest takes more =
+      (values, next, (takes.0, refl, refl), with_args values args next rest takes.1 more)
+
+  -- a fixed word, and what stands behind it
+  pub from_row : (choice : Choice) (word : List ℕ) (values : List Value) (next : Choice) (args rest : List (List ℕ))
+      → IsRow (rows choice) word values next → Takes values args → Spells version [] next rest
+      → Spells version [] choice (word ∷ (args ++ rest))
+  from_row choice word values next args rest is takes more =
+      (values, next, inl (fixed_in version choice word values next is), with_args values args next rest takes more)
+
+  -- words that begin with those of the values
+  pub record Cut (values : List Value) (next : Choice) (words : List (List ℕ)) : Type 0 where
+    pub args : List (List ℕ)
+    pub rest : List (List ℕ)
+    pub are : words ≡ args ++ rest
+    pub takes : Takes values args
+    pub more : Spells version [] next rest
+
+  pub cut : (values : List Value) (next : Choice) (words : List (List ℕ)) → Spells version values next words
+      → Cut values next words
+  cut [] next words h = record { args = []; rest = words; are = refl; takes = tt; more = h }
+  cut (value ∷ values) next [] h = absurd h
+  cut (value ∷ values) next (word ∷ words) (behind, then, (is, same, same_too), h) =
+      let t = cut values next words (subst_both behind values then next words same same_too h) in
+      record {
+        args = word ∷ t.args;
+        rest = t.rest;
+        are = ap (λ (ws : List (List ℕ)). word ∷ ws) t.are;
+        takes = (is, t.takes);
+        more = t.more;
+      } where
+        subst_both : (behind values : List Value) (then next : Choice) (words : List (List ℕ)) → behind ≡ values
+            → then ≡ next → Spells version behind then words → Spells version values next words
+        subst_both behind values then next words same same_too h = rw (← same, ← same_too) h
+
+  -- where the line ends, there is no word more
+  pub no_more : (words : List (List ℕ)) → Spells version [] End words → words ≡ []
+  no_more [] h = refl
+  no_more (word ∷ words) (values, next, inl is, h) = absurd (none version is) where
+    none : (v : Version) → IsRow (told_rows v End) word values next → ⊥
+    none V1 is = is
+    none V2 is = is
+  no_more (word ∷ words) (values, next, inr is, h) = absurd is
+
+  -- where the line ends behind some values, it is words for them
+  pub ended : (values : List Value) (next : Choice) (words : List (List ℕ)) (wanted : List Value) → values ≡ wanted
+      → next ≡ End → Spells version values next words → Takes wanted words
+  ended values next words wanted same then h =
+      let t = cut wanted End words (rw (← same, ← then) h) in
+      let whole : words ≡ t.args = t.are ∙ ap (λ (rest : List (List ℕ)). t.args ++ rest) (no_more t.rest t.more)
+      ∙ append-nil t.args in
+      rw whole t.takes
+
+-- of a choice that version 2 adds nothing to
+pub plain : (version : Version) (choice : Choice) → later_rows choice ≡ [] → (word : List ℕ) (values : List Value)
+    (next : Choice) → IsFixed version choice word values next → IsRow (rows choice) word values next
+plain V1 choice none word values next is = is
+plain V2 choice none word values next is =
+    subst (λ (ks : List Row). IsRow (ks ++ rows choice) word values next) none is

@@ -1,0 +1,9 @@
+//! Where a line stops being one of a text, and what may stand there.
+#![tactic(auto)]
+
+mod kinds;
+mod place;
+mod rows;
+
+pub use kinds::{Choice, TextKind, Value, Wanted};
+pub use place::{Place, place_of};

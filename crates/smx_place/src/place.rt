@@ -1,0 +1,85 @@
+//! The place at which a line stops being one of a text.
+
+ghost use Rattle.std.specs.Prelude.{◌≡◌, ◌∷◌, ◌++◌, [], MatchOption};
+ghost use Rattle.smx_words.specs.Words.{IsFree, SPACE};
+ghost use Rattle.smx_place.specs.Places.{EndsThere, IsPlace, IsWhole, first_choice, left_of, wanted_of};
+
+use crate::kinds::{Choice, TextKind, Wanted};
+use crate::rows::{Row, go_on, may_end};
+use memchr::memchr;
+use smx_types::Version;
+
+/// Where a line stops being one of a text, and what may stand there.
+#[derive(Clone, Copy, Debug, PartialEq, Eq)]
+pub struct Place {
+    /// Where the word at fault begins, or where one would that is wanting, in bytes from 1.
+    pub column: usize,
+    pub wanted: Wanted,
+}
+
+/// The place at which no line that a text of this version may have goes on; `None` where the line is one. Takes no
+/// memory.
+pub fn place_of(kind: TextKind, version: Version, line: &[u8]) -> Option<Place>
+    ensures { MatchOption result (IsWhole kind version line.now) (λ place. IsPlace kind version line.now place) }
+{
+    let mut row = Row {
+        values: &[],
+        next: first_choice(kind),
+    };
+    let mut rest = Some(line);
+    let mut column = 1usize;
+    'words: while let Some(text) = rest {
+        let (word, behind) = first_word(text);
+        let Some(next) = go_on(version, row.values, row.next, word) else {
+            return Some(stopped(column, row));
+        };
+        row = next;
+        rest = behind;
+        column += word.len() + 1;
+    }
+    ended(column, row)
+}
+
+// What is chosen by the first word of a line.
+fn first_choice(kind: TextKind) -> Choice
+    ensures { result ≡ first_choice kind }
+{
+    match kind {
+        TextKind::Programs => Choice::ProgramsLine,
+        TextKind::Transcript => Choice::TranscriptLine,
+    }
+}
+
+// What stands before the first space, and what behind it, if there is one.
+fn first_word(text: &[u8]) -> (&[u8], Option<&[u8]>)
+    ensures free { IsFree SPACE result.0.now }
+    ensures cut { text.now ++ SPACE ∷ [] ≡ result.0.now ++ SPACE ∷ left_of result.1 }
+{
+    match memchr(b' ', text) {
+        Some(at) => (&text[..at], Some(&text[at + 1..])),
+        None => (text, None),
+    }
+}
+
+// The place in this column, where the line goes on so.
+fn stopped(column: usize, row: Row) -> Place
+    ensures { result ≡ record { column = column; wanted = wanted_of row.values.now row.next } }
+{
+    let wanted = match row.values {
+        [] => Wanted::Choice(row.next),
+        [value, ..] => Wanted::Value(*value),
+    };
+    Place { column, wanted }
+}
+
+// The place where the line ends, unless it may end there.
+fn ended(column: usize, row: Row) -> Option<Place>
+    ensures { MatchOption result (EndsThere (wanted_of row.values.now row.next))
+        (λ place. (EndsThere (wanted_of row.values.now row.next) → ⊥)
+        × (place ≡ record { column = column; wanted = wanted_of row.values.now row.next })) }
+{
+    if row.values.is_empty() && may_end(row.next) {
+        return None;
+    }
+    Some(stopped(column, row))
+}

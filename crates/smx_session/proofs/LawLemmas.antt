@@ -1,0 +1,188 @@
+-- A text has one start, and a line is performed in one way.
+use Rattle.std.proofs.Common.{◌≡◌, ◌≢◌, ℕ, List, Option, Some, None, Result, Ok, Err, inl, inr, refl, sym, ap, subst, ◌∙◌}
+use Rattle.std.specs.Prelude.{◌⊎◌, ◌++◌, IfErr}
+use Rattle.smx_types.specs.ProgramLists.{ProgramLists}
+use Rattle.smx_types.specs.declared.command.Entry.{Entry}
+use Rattle.smx_types.specs.declared.driver.DriverSpec.{DriverSpec}
+use Rattle.smx_types.specs.declared.reply.Reply.{Reply}
+use Rattle.smx_types.specs.declared.version.Version.{Version}
+use Rattle.smx_config.specs.DriverFaults.{RefusesDrivers}
+use Rattle.smx_config.specs.declared.config_fault.ConfigFault.{ConfigFault}
+use Rattle.smx_config.specs.declared.config_fault.ConfigFault.TheVariants as config
+use Rattle.smx_model.specs.Commands.{step}
+use Rattle.smx_model.specs.Configuration.{Configuration}
+use Rattle.smx_model.specs.DriverList.{IsDriverList}
+use Rattle.smx_text.specs.Grammar.{ReadsAny, Spells}
+use Rattle.smx_text.specs.ProgramsText.{programs_grammar}
+use Rattle.smx_text.specs.declared.text_fault.Cause.TheVariants as cause
+use Rattle.smx_text.specs.declared.text_fault.TextFault.{TextFault}
+use Rattle.smx_words.specs.LineReading.{IsReadAs}
+use Rattle.smx_words.specs.Spellable.{FitsEntry, FitsEntryIn}
+use Rattle.smx_words.specs.Spelling.{entry_words}
+use Rattle.smx_words.specs.Words.{line_of}
+use Rattle.smx_session.specs.Sessions.{HasDrivers, IsNoCall, IsStartOf, Performs, StartsAs, State, done_behind}
+use Rattle.smx_session.specs.declared.trouble.Trouble.{Trouble}
+use Rattle.smx_session.specs.declared.trouble.Trouble.TheVariants.{NoMemory, Text, Drivers, Line, NoEntry}
+
+-- ---- what other crates' laws say
+
+abbrev pub HasOneReading : Type 0
+HasOneReading = (bytes : List ℕ) (r s : Result ProgramLists TextFault) → ReadsAny programs_grammar bytes r
+    → ReadsAny programs_grammar bytes s → IfErr r (λ f. f.cause ≢ cause.NoMemory)
+    → IfErr s (λ f. f.cause ≢ cause.NoMemory) → r ≡ s
+
+abbrev pub HaveOneFault : Type 0
+HaveOneFault =
+    (drivers : List DriverSpec) (f g : ConfigFault) → RefusesDrivers drivers f → RefusesDrivers drivers g → f ≡ g
+
+abbrev pub AreToldApart : Type 0
+AreToldApart =
+    (x y : Entry) → FitsEntry x → FitsEntry y → line_of (entry_words x) ≡ line_of (entry_words y) → x ≡ y
+
+abbrev pub HaveReadings : Type 0
+HaveReadings = (v : Version) (line : List ℕ) → (o : Option Entry) × IsReadAs (FitsEntryIn v) entry_words line o
+
+-- ---- starts
+
+-- states of the same parts are the same
+abbrev state_of : Version → List DriverSpec → Configuration → Option Entry → State
+state_of v ds c last = record { version = v; drivers = ds; configuration = c; last = last }
+
+same_state : (a b : State) → a.version ≡ b.version → a.drivers ≡ b.drivers → a.configuration ≡ b.configuration
+    → a.last ≡ b.last → a ≡ b
+same_state a b v d c l =
+    ap (λ (x : Version). state_of x a.drivers a.configuration a.last) v
+    ∙ (ap (λ (x : List DriverSpec). state_of b.version x a.configuration a.last) d
+    ∙ (ap (λ (x : Configuration). state_of b.version b.drivers x a.last) c
+    ∙ ap (λ (x : Option Entry). state_of b.version b.drivers b.configuration x) l))
+
+module _ (text : List ℕ) (reading : HasOneReading) (one_fault : HaveOneFault) where
+  -- the text spells one value
+  one_value : (v w : Version) (x y : ProgramLists) → Spells (programs_grammar v) text x
+      → Spells (programs_grammar w) text y → x ≡ y
+  one_value v w x y h k =
+      let one : Result ProgramLists TextFault = Ok x in
+      let other : Result ProgramLists TextFault = Ok y in
+      let same : one ≡ other = reading text one other (v, h, tt) (w, k, tt) tt tt in
+      cc
+
+  -- and what spells a value has no fault
+  no_fault : (v : Version) (x : ProgramLists) (f : TextFault) → Spells (programs_grammar v) text x
+      → ReadsAny programs_grammar text (Err f) → f.cause ≢ cause.NoMemory → ⊥
+  no_fault v x f h k known =
+      let one : Result ProgramLists TextFault = Ok x in
+      let other : Result ProgramLists TextFault = Err f in
+      let same : one ≡ other = reading text one other (v, h, tt) k tt known in
+      absurd cc
+
+  -- it has one fault
+  one_text_fault : (f e : TextFault) → ReadsAny programs_grammar text (Err f) → ReadsAny programs_grammar text (Err e)
+      → f.cause ≢ cause.NoMemory → e.cause ≢ cause.NoMemory → f ≡ e
+  one_text_fault f e h k known known_too =
+      let one : Result ProgramLists TextFault = Err f in
+      let other : Result ProgramLists TextFault = Err e in
+      let same : one ≡ other = reading text one other h k known known_too in
+      cc
+
+  -- two sessions that start over it are the same
+  one_session : (a b : State) → IsStartOf text a → IsStartOf text b → a ≡ b
+  one_session a b h k =
+      let same : h.programs ≡ k.programs =
+      one_value a.version b.version h.programs k.programs h.spelled k.spelled in
+      same_state a b
+      (sym h.spelled.allowed.version_is ∙ (ap (λ (p : ProgramLists). p.version) same ∙ k.spelled.allowed.version_is))
+      (h.drivers ∙ (ap (λ (p : ProgramLists). p.drivers) same ∙ sym k.drivers)) (h.nothing ∙ sym k.nothing)
+      (h.no_entry ∙ sym k.no_entry)
+
+  -- no session starts over drivers that are refused
+  none_refused : (a : State) (f : ConfigFault) → IsStartOf text a → HasDrivers text (λ ds. RefusesDrivers ds f)
+      → f ≢ config.NoMemory → ⊥
+  none_refused a f h (v, p, spelled, bad) known =
+      let same : h.programs ≡ p = one_value a.version v h.programs p h.spelled spelled in
+      let can : IsDriverList p.drivers =
+      subst IsDriverList (h.drivers ∙ ap (λ (q : ProgramLists). q.drivers) same) h.can_be_had in
+      known (one_fault p.drivers f config.NoMemory bad can)
+
+  -- its drivers have one fault
+  one_refusal : (f g : ConfigFault) → HasDrivers text (λ ds. RefusesDrivers ds f)
+      → HasDrivers text (λ ds. RefusesDrivers ds g) → f ≡ g
+  one_refusal f g (v, p, spelled, bad) (w, q, spelled_too, bad_too) =
+      let same : p ≡ q = one_value v w p q spelled spelled_too in
+      one_fault q.drivers f g (subst (λ (x : ProgramLists). RefusesDrivers x.drivers f) same bad) bad_too
+
+  -- so it has one start
+  pub one_start : (one other : Result State Trouble) → StartsAs text one → StartsAs text other
+      → IfErr one (λ t. t ≢ NoMemory) → IfErr other (λ t. t ≢ NoMemory) → one ≡ other
+  one_start (Ok a) (Ok b) h k known known_too = ap Ok (one_session a b h k)
+  one_start (Err NoMemory) other h k known known_too = absurd (known refl)
+  one_start (Err Line) other h k known known_too = absurd h
+  one_start (Err NoEntry) other h k known known_too = absurd h
+  one_start (Ok a) (Err NoMemory) h k known known_too = absurd (known_too refl)
+  one_start (Ok a) (Err Line) h k known known_too = absurd k
+  one_start (Ok a) (Err NoEntry) h k known known_too = absurd k
+  one_start (Ok a) (Err (Text f)) h k known known_too =
+      absurd (no_fault a.version h.programs f h.spelled k.0 k.1)
+  one_start (Ok a) (Err (Drivers f)) h k known known_too = absurd (none_refused a f h k.0 k.1)
+  one_start (Err (Text f)) (Ok b) h k known known_too =
+      absurd (no_fault b.version k.programs f k.spelled h.0 h.1)
+  one_start (Err (Text f)) (Err (Text g)) h k known known_too =
+      ap (λ (x : TextFault). Err (Text x)) (one_text_fault f g h.0 k.0 h.1 k.1)
+  one_start (Err (Text f)) (Err (Drivers g)) h k known known_too = absurd (no_fault k.0.0 k.0.1 f k.0.2 h.0 h.1)
+  one_start (Err (Text f)) (Err NoMemory) h k known known_too = absurd (known_too refl)
+  one_start (Err (Text f)) (Err Line) h k known known_too = absurd k
+  one_start (Err (Text f)) (Err NoEntry) h k known known_too = absurd k
+  one_start (Err (Drivers f)) (Ok b) h k known known_too = absurd (none_refused b f k h.0 h.1)
+  one_start (Err (Drivers f)) (Err (Text g)) h k known known_too =
+      absurd (no_fault h.0.0 h.0.1 g h.0.2 k.0 k.1)
+  one_start (Err (Drivers f)) (Err (Drivers g)) h k known known_too =
+      ap (λ (x : ConfigFault). Err (Drivers x)) (one_refusal f g h.0 k.0)
+  one_start (Err (Drivers f)) (Err NoMemory) h k known known_too = absurd (known_too refl)
+  one_start (Err (Drivers f)) (Err Line) h k known known_too = absurd k
+  one_start (Err (Drivers f)) (Err NoEntry) h k known known_too = absurd k
+
+-- ---- lines
+
+-- the entry of a call and its reply
+abbrev pub entry_of : Entry → Reply → Entry
+entry_of asked reply = record { process = asked.process; command = asked.command; reply = reply }
+
+-- a line is performed in one way
+pub one_step : AreToldApart → (old new other : State) (line : List ℕ) → Performs old line new
+    → Performs old line other → new ≡ other
+one_step apart old new other line h k =
+    let asked : h.asked ≡ k.asked = apart h.asked k.asked h.fits.0 k.fits.0 (sym h.is_read ∙ k.is_read) in
+    let same : (new.configuration, h.reply) ≡ (other.configuration, k.reply) =
+    sym h.does
+    ∙ (ap (λ (e : Entry). step old.drivers old.configuration e.process e.command) asked ∙ k.does) in
+    let reply : h.reply ≡ k.reply = ap (λ (p : Configuration × Reply). p.1) same in
+    let last : entry_of h.asked h.reply ≡ entry_of k.asked k.reply =
+    ap (λ (e : Entry). entry_of e h.reply) asked ∙ ap (entry_of k.asked) reply in
+    same_state new other (h.version ∙ sym k.version) (h.drivers ∙ sym k.drivers)
+    (ap (λ (p : Configuration × Reply). p.0) same) (h.last ∙ (ap Some last ∙ sym k.last))
+
+-- and then it has a command
+pub not_both : (old new : State) (line : List ℕ) → Performs old line new → IsNoCall old.version line → ⊥
+not_both old new line h none = none h.asked h.fits h.is_read
+
+-- it is performed, or has none
+pub always : HaveReadings → (old : State) (line : List ℕ)
+    → ((new : State) × Performs old line new) ⊎ IsNoCall old.version line
+always readings old line = found (readings old.version (line ++ done_behind)) where
+  found : (o : Option Entry) × IsReadAs (FitsEntryIn old.version) entry_words (line ++ done_behind) o
+      → ((new : State) × Performs old line new) ⊎ IsNoCall old.version line
+  found (None, none) = inr none
+  found (Some e, (fits, read)) =
+      let made = step old.drivers old.configuration e.process e.command in
+      inl (
+        state_of old.version old.drivers made.0 (Some (entry_of e made.1)),
+        record {
+          asked = e;
+          fits = fits;
+          is_read = read;
+          reply = made.1;
+          does = refl;
+          last = refl;
+          drivers = refl;
+          version = refl;
+        },
+      )

@@ -1,0 +1,129 @@
+-- The worked session.
+use Rattle.std.proofs.Common.{◌≡◌, ℕ, [], ◌∷◌, Option, Some, None, refl, ap, arith, rules}
+use Rattle.std.specs.Prelude.{◌++◌, codes}
+use Rattle.std.specs.Fmt.{digits}
+use Rattle.smx_types.specs.ProgramLists.{ProgramLists, program_lists, raised}
+use Rattle.smx_types.specs.declared.command.Entry.{Entry}
+use Rattle.smx_types.specs.declared.version.Version.TheVariants.{V2}
+use Rattle.smx_model.specs.Worked.Common.{Done, Fd, Hangup, OpenClone, ◌does◌gets◌, eth}
+use Rattle.smx_text.specs.Grammar.{Spells}
+use Rattle.smx_text.specs.ProgramsText.{programs_grammar, programs_text}
+use Rattle.smx_words.specs.Spelling.{entry_words}
+use Rattle.smx_words.specs.Words.{LINE_FEED, line_of}
+use Rattle.smx_session.specs.Sessions.{IsLastLine, IsStartOf, Performs, State, done_behind}
+use Rattle.smx_session.specs.WorkedSessions.{begun, drivers, hung, opened, table}
+use Rattle.smx_session.proofs.LawLemmas.{AreToldApart, one_step}
+
+-- the text spells the drivers, and no program
+abbrev programs : ProgramLists
+programs = raised (program_lists drivers [])
+
+is_table : table ≡ programs_text programs
+unfolding digits
+is_table = refl
+
+spelled : Spells (programs_grammar V2) table programs
+spelled = record { allowed = search (rules, arith); text = is_table }
+
+pub starts : IsStartOf table begun
+starts =
+    record {
+      programs = programs;
+      spelled = spelled;
+      drivers = refl;
+      can_be_had = search (rules, arith);
+      nothing = refl;
+      no_entry = refl;
+    }
+
+-- a call of process 3, and the same of process 2
+abbrev clone_of : ℕ → Entry
+clone_of process = process does OpenClone eth gets Done []
+
+three : codes "3 clone eth" ++ done_behind ≡ line_of (entry_words (clone_of 3))
+unfolding digits
+three = refl
+
+two : codes "2 clone eth" ++ done_behind ≡ line_of (entry_words (clone_of 2))
+unfolding digits
+two = refl
+
+pub opens : Performs begun (codes "3 clone eth") opened
+opens =
+    record {
+      asked = clone_of 3;
+      fits = search (rules, arith);
+      is_read = three;
+      reply = Fd 0 0;
+      does = refl;
+      last = refl;
+      drivers = refl;
+      version = refl;
+    }
+
+hangup_is_read : codes "5 hangup eth 0" ++ done_behind ≡ line_of (entry_words (5 does Hangup eth 0 gets Done []))
+unfolding digits
+hangup_is_read = refl
+
+pub hangs_up : Performs opened (codes "5 hangup eth 0") hung
+hangs_up =
+    record {
+      asked = 5 does Hangup eth 0 gets Done [];
+      fits = search (rules, arith);
+      is_read = hangup_is_read;
+      reply = Done [];
+      does = refl;
+      last = refl;
+      drivers = refl;
+      version = refl;
+    }
+
+told : codes "3 clone eth = fd 0 0\n" ≡ line_of (entry_words (3 does OpenClone eth gets Fd 0 0)) ++ LINE_FEED ∷ []
+unfolding digits
+told = refl
+
+pub tells : IsLastLine opened (codes "3 clone eth = fd 0 0\n")
+tells = (3 does OpenClone eth gets Fd 0 0, refl, told)
+
+pub tells_none : IsLastLine begun (codes "3 clone eth = fd 0 0\n") → ⊥
+tells_none (e, none, line) = absurd cc
+
+-- what process 2 would open
+abbrev opened_by_2 : State
+opened_by_2 =
+    record opened {
+      configuration = record opened.configuration {
+        fds = record { process = 2; fd = 0; stream = record { driver = 0; minor = 0 } } ∷ [];
+      };
+      last = Some (2 does OpenClone eth gets Fd 0 0);
+    }
+
+opens_by_2 : Performs begun (codes "2 clone eth") opened_by_2
+opens_by_2 =
+    record {
+      asked = clone_of 2;
+      fits = search (rules, arith);
+      is_read = two;
+      reply = Fd 0 0;
+      does = refl;
+      last = refl;
+      drivers = refl;
+      version = refl;
+    }
+
+-- the process of the last entry, and 64 where there is none
+abbrev process_of : Option Entry → ℕ
+process_of (Some e) = e.process
+process_of None = 64
+
+pub no_other_process : AreToldApart → Performs begun (codes "2 clone eth") opened → ⊥
+no_other_process apart h =
+    let same : opened_by_2 ≡ opened = one_step apart begun opened_by_2 opened (codes "2 clone eth") opens_by_2 h in
+    let numbers : 2 ≡ 3 = ap (λ (s : State). process_of s.last) same in
+    omega (arith, numbers)
+
+pub not_undone : AreToldApart → Performs begun (codes "3 clone eth") begun → ⊥
+not_undone apart h =
+    let same : opened ≡ begun = one_step apart begun opened begun (codes "3 clone eth") opens h in
+    let numbers : 3 ≡ 64 = ap (λ (s : State). process_of s.last) same in
+    omega (arith, numbers)

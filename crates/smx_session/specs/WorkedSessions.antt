@@ -1,0 +1,61 @@
+-- A worked session: a text, the session over it, and what its first lines make of it, all typed in.
+use Rattle.std.specs.Prelude.{◌≡◌, ℕ, List, [], ◌∷◌, Some, None, codes, refl}
+use Rattle.std.specs.Fmt.{digits}
+use Rattle.smx_types.specs.declared.driver.DriverSpec.{DriverSpec}
+use Rattle.smx_types.specs.declared.version.Version.TheVariants.{V2}
+use Rattle.smx_model.specs.Configuration.{Configuration, empty}
+use Rattle.smx_model.specs.Worked.Common.{Done, Fd, Hangup, OpenClone, ◌does◌gets◌}
+use Rattle.smx_model.specs.Worked.Common.{eth, leaf}
+use Rattle.smx_session.specs.Sessions.{State, shown_lines}
+use Rattle.smx_session.specs.TroubleWords.{trouble_words}
+use Rattle.smx_session.specs.declared.trouble.Trouble.TheVariants.{Line, NoEntry, NoMemory}
+
+-- one driver of two minors
+abbrev pub table : List ℕ
+table = codes "programs 2\ndriver eth leaf 2 8 3 16\nend\n"
+
+abbrev pub drivers : List DriverSpec
+drivers = leaf eth 2 ∷ []
+
+-- nothing is open, and no command was performed
+abbrev pub begun : State
+begun = record { version = V2; drivers = drivers; configuration = empty; last = None }
+
+-- process 3 has minor 0
+abbrev pub one_open : Configuration
+one_open = record empty { fds = record { process = 3; fd = 0; stream = record { driver = 0; minor = 0 } } ∷ [] }
+
+-- after `3 clone eth`
+abbrev pub opened : State
+opened = record begun { configuration = one_open; last = Some (3 does OpenClone eth gets Fd 0 0) }
+
+-- after `5 hangup eth 0`, which version 2 alone can tell
+abbrev pub hung : State
+hung =
+    record begun {
+      configuration = record one_open { hungs = record { driver = 0; minor = 0 } ∷ [] };
+      last = Some (5 does Hangup eth 0 gets Done []);
+    }
+
+-- what is shown in between
+pub nothing_is_shown : shown_lines begun ≡ codes "config\nnext 1 1\n"
+unfolding digits
+nothing_is_shown = refl
+
+pub one_is_shown : shown_lines opened ≡ codes "config\nnext 1 1\nfd 3 0 eth 0\n"
+unfolding digits
+one_is_shown = refl
+
+pub a_hangup_is_shown : shown_lines hung ≡ codes "config\nnext 1 1\nfd 3 0 eth 0\nhung eth 0\n"
+unfolding digits
+a_hangup_is_shown = refl
+
+-- words of troubles
+pub memory_words : trouble_words NoMemory ≡ codes "no memory"
+memory_words = refl
+
+pub line_words : trouble_words Line ≡ codes "no command"
+line_words = refl
+
+pub entry_words : trouble_words NoEntry ≡ codes "no entry yet"
+entry_words = refl

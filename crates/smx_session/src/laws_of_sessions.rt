@@ -1,0 +1,72 @@
+//! Laws of sessions, each the contract of a function that does nothing.
+
+ghost use Rattle.std.specs.Prelude.{◌≡◌, ◌≢◌, ◌⊎◌, ℕ, List, [], ◌∷◌, ◌++◌, Result, Ok, Some, IfErr, codes};
+ghost use Rattle.smx_types.specs.declared.command.Entry.{Entry};
+ghost use Rattle.smx_model.specs.Views.{view};
+ghost use Rattle.smx_text.specs.GrowingTranscripts.{BeginsTranscript, transcript_with};
+ghost use Rattle.smx_text.specs.TranscriptText.{transcript_text};
+ghost use Rattle.smx_words.specs.Spellable.{FitsEntry};
+ghost use Rattle.smx_session.specs.Sessions.{IsAfter, IsLastLine, IsNoCall, IsStartOf, Performs, StartsAs, State, shown_lines};
+ghost use Rattle.smx_session.specs.WorkedSessions.{begun, hung, opened, table};
+ghost use Rattle.smx_session.specs.declared.trouble.Trouble.{Trouble};
+ghost use Rattle.smx_session.specs.declared.trouble.Trouble.TheVariants.{NoMemory};
+
+use smx_config::laws_of_drivers::drivers_have_one_fault;
+use smx_model::laws::one_entry_more;
+use smx_text::laws::one_text_has_one_reading;
+use smx_words::laws::one_value_each;
+use smx_words::laws_of_reading::each_line_has_a_reading;
+
+/// A text has one start, unless memory is wanting: the one session over its drivers, or one trouble.
+pub fn a_text_has_one_start()
+    ensures { (text : List ℕ) (one other : Result State Trouble) → StartsAs text one → StartsAs text other
+        → IfErr one (λ t. t ≢ NoMemory) → IfErr other (λ t. t ≢ NoMemory) → one ≡ other }
+{
+    one_text_has_one_reading();
+    drivers_have_one_fault();
+}
+
+/// A line is performed in one way, or it has no command, and never both.
+pub fn a_line_is_performed_in_one_way()
+    ensures one { (old new other : State) (line : List ℕ) → Performs old line new → Performs old line other
+        → new ≡ other }
+    ensures not_both { (old new : State) (line : List ℕ) → Performs old line new → IsNoCall old.version line → ⊥ }
+    ensures always { (old : State) (line : List ℕ)
+        → ((new : State) × Performs old line new) ⊎ IsNoCall old.version line }
+{
+    one_value_each();
+    each_line_has_a_reading();
+}
+
+/// The entries that lines make are a legal history, one after the other, and the session is what comes after it.
+pub fn lines_make_a_legal_history()
+    ensures begins { (text : List ℕ) (s : State) → IsStartOf text s → IsAfter [] s }
+    ensures goes_on { (history : List Entry) (old new : State) (line : List ℕ) → IsAfter history old
+        → Performs old line new → (e : Entry) × (new.last ≡ Some e) × IsAfter (history ++ e ∷ []) new }
+{
+    one_entry_more();
+}
+
+/// What is written is a transcript: the opening, the line of each entry, the lines of the configuration, and `end`.
+pub fn what_is_written_is_a_transcript()
+    ensures grows { (s : State) (before : List Entry) (e : Entry) (text line : List ℕ)
+        → BeginsTranscript s.version s.drivers before text → s.last ≡ Some e → FitsEntry e → IsLastLine s line
+        → BeginsTranscript s.version s.drivers (before ++ e ∷ []) (text ++ line) }
+    ensures ends { (s : State) (entries : List Entry) (text : List ℕ)
+        → BeginsTranscript s.version s.drivers entries text → text ++ (shown_lines s ++ codes "end\n")
+        ≡ transcript_text (transcript_with s.version s.drivers entries (view s.drivers s.configuration)) }
+{}
+
+/// A worked session: how it starts, the states that its lines make of it, and the lines of its entries; and what they
+/// don't make of it.
+pub fn a_worked_session()
+    ensures starts { StartsAs table (Ok begun) }
+    ensures opens { Performs begun (codes "3 clone eth") opened }
+    ensures hangs_up { Performs opened (codes "5 hangup eth 0") hung }
+    ensures tells { IsLastLine opened (codes "3 clone eth = fd 0 0\n") }
+    ensures tells_none { IsLastLine begun (codes "3 clone eth = fd 0 0\n") → ⊥ }
+    ensures no_other_process { Performs begun (codes "2 clone eth") opened → ⊥ }
+    ensures not_undone { Performs begun (codes "3 clone eth") begun → ⊥ }
+{
+    one_value_each();
+}
