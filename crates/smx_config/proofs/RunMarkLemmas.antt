@@ -64,8 +64,6 @@ pub fewer_marked : (flow : List QueuedMessage) (wide narrow : Place → Bool) (o
 fewer_marked flow wide narrow old new less h =
     record { kept = h.kept; marked = λ p known some t. h.marked p known some (less p t); drivers = h.drivers }
 
-
-
 -- ---- the driver above a stream
 
 above_is : (links : List Link) (s : StreamId) (d : ℕ) (o : Option Link) → AreLowersApart links
