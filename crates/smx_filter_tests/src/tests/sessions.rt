@@ -1,6 +1,6 @@
 //! Sessions by public calls, with what is wanted typed in from the rules.
 
-use crate::{Session, Trouble};
+use smx_session::{Session, Trouble};
 use std::alloc::Global;
 use std::process::Abort;
 
