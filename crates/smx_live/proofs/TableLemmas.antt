@@ -11,7 +11,8 @@ use Rattle.smx_filters.specs.declared.input.TheConstants.{MAX_INPUT}
 use Rattle.smx_filters.specs.declared.main_fault.MainFault.{MainFault}
 use Rattle.smx_filters.specs.declared.main_fault.MainFault.TheVariants.{Refused, Text, TooLong, ReadFailed, WriteFailed}
 use Rattle.smx_live.specs.Inboxes.{FailsToRead, HasLine, IsTooLong}
-use Rattle.smx_live.specs.Tables.{AreOfTable, IsOverAt, IsTable, begins_driver, lines_text}
+use Rattle.smx_live.specs.Tables.{AreOfTable, BeginsAsTable, IsEndlessTable, IsOverAt, IsTable, IsUnfinished}
+use Rattle.smx_live.specs.Tables.{begins_driver, lines_text}
 use Rattle.smx_live.proofs.InboxLemmas.{line_stays, unmoved, with_line_feed}
 
 -- one more item gives what it gives, behind the others
@@ -50,19 +51,33 @@ text_more table lines n held text line =
     ∙ ap (λ (t : List ℕ). t ++ (take n held ++ LINE_FEED ∷ [])) text
     ∙ sym (flat_more (λ (l : List ℕ). l ++ LINE_FEED ∷ []) lines (take n held))
 
--- where no line ends any more, there is more than a table may have
-pub fails_with : (start read piece table held : List ℕ) → start ++ read ≡ table ++ held → (failures : ℕ) (e : MainFault)
-    → FailsToRead (IsTooLong (held ++ piece)) failures e
-    → FailsToRead (MAX_INPUT < length (start ++ (read ++ piece))) failures e
-fails_with start read piece table held parts failures TooLong is =
-    let all : start ++ (read ++ piece) ≡ table ++ (held ++ piece) = unmoved start read piece table held (held ++ piece) parts
-    refl in
-    let size = ap (λ (bs : List ℕ). length bs) all in
-    (is.0, omega (arith, is.1.0, size, length-append table (held ++ piece)))
-fails_with start read piece table held parts failures ReadFailed is = is
-fails_with start read piece table held parts failures (Refused f) is = is
-fails_with start read piece table held parts failures (Text f) is = absurd is
-fails_with start read piece table held parts failures WriteFailed is = absurd is
+-- what was read begins as a table of these lines
+pub begins_as : (bytes table rest : List ℕ) (lines : List (List ℕ)) (AreSo : List ℕ → List ℕ → Type 0)
+    → bytes ≡ table ++ rest → table ≡ lines_text lines → AreOfTable lines → AreSo table rest → BeginsAsTable bytes AreSo
+begins_as bytes table rest lines AreSo parts text were so = (
+  lines,
+  rest,
+  parts ∙ ap (λ (t : List ℕ). t ++ rest) text,
+  were,
+  subst (λ (t : List ℕ). AreSo t rest) text so,
+)
+
+-- where no line can be had behind these lines, the table is too long, or unfinished
+pub fails_with : (start read piece table held : List ℕ) (lines : List (List ℕ)) → start ++ read ≡ table ++ held
+    → table ≡ lines_text lines → AreOfTable lines → (failures : ℕ) (e : MainFault)
+    → FailsToRead (IsTooLong (held ++ piece)) (IsOneLine (held ++ piece)) failures e
+    → FailsToRead (IsEndlessTable (start ++ (read ++ piece))) (IsUnfinished (start ++ (read ++ piece))) failures e
+fails_with start read piece table held lines parts text were failures e = by_fault e where
+  all : start ++ (read ++ piece) ≡ table ++ (held ++ piece)
+  all = unmoved start read piece table held (held ++ piece) parts refl
+
+  by_fault : (f : MainFault) → FailsToRead (IsTooLong (held ++ piece)) (IsOneLine (held ++ piece)) failures f
+      → FailsToRead (IsEndlessTable (start ++ (read ++ piece))) (IsUnfinished (start ++ (read ++ piece))) failures f
+  by_fault TooLong is = (is.0, begins_as _ table (held ++ piece) lines _ all text were (inr is.1))
+  by_fault ReadFailed is = (is.0, begins_as _ table (held ++ piece) lines _ all text were is.1)
+  by_fault (Refused f) is = is
+  by_fault (Text f) is = absurd is
+  by_fault WriteFailed is = absurd is
 
 -- ---- the end of a table
 
