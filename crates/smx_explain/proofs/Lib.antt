@@ -3,3 +3,4 @@ pub mod LineLemmas
 pub mod TextLemmas
 pub mod HistoryLemmas
 pub mod ExplanationLemmas
+pub mod WorkedDifferenceLemmas
