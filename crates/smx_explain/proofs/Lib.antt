@@ -4,3 +4,4 @@ pub mod TextLemmas
 pub mod HistoryLemmas
 pub mod ExplanationLemmas
 pub mod WorkedDifferenceLemmas
+pub mod OneExplanationLemmas

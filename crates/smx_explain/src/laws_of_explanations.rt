@@ -37,6 +37,13 @@ pub fn worked_differences()
     ensures last_line { IsFirstLine (codes "b c") (codes "b c") }
 {}
 
+/// Of a transcript one thing is told.
+pub fn a_transcript_has_one_explanation()
+    ensures { (t : Transcript) (one other : List ℕ) → IsExplanation t one → IsExplanation t other → one ≡ other }
+{
+    a_transcript_has_one_replay();
+}
+
 /// Nothing is told just below the verdict `legal`.
 pub fn a_legal_transcript_needs_none()
     ensures legal { (t : Transcript) (output : List ℕ) → IsExplanation t output
