@@ -1,7 +1,7 @@
 -- The turns of a live session: a line, and what it is answered.
 use Rattle.std.specs.Prelude.{◌≡◌, ◌≢◌, ℕ, ◌+◌, ◌<◌, ◌≤◌, ◌⊎◌, List, [], ◌∷◌, ◌++◌, length, map, Option}
 use Rattle.std.specs.Prelude.{Some, None, codes}
-use Rattle.std.specs.List.{flat_map}
+use Rattle.std.specs.List.{AllByRecursion, flat_map}
 use Rattle.smx_types.specs.declared.command.Entry.{Entry}
 use Rattle.smx_types.specs.declared.driver.DriverSpec.{DriverSpec}
 use Rattle.smx_types.specs.declared.limits.TheConstants.{MAX_COMMANDS}
@@ -106,6 +106,10 @@ abbrev pub AreAnswered : Version → List DriverSpec → List Entry → List Tur
 AreAnswered version drivers history [] = Unit {0}
 AreAnswered version drivers history (t ∷ ts) = IsShort t.line × IsAnswer version drivers history t.line t.answer
     × AreAnswered version drivers (history ++ entries_in t.answer) ts
+
+-- none of them for want of memory
+abbrev pub HadMemory : List Turn → Type 0
+HadMemory turns = AllByRecursion (λ t. t.answer ≢ NotDone NoMemory) turns
 
 -- ---- how a session takes a turn
 

@@ -1,10 +1,20 @@
-//! The law of live sessions, the contract of a function that does nothing.
+//! Laws of live sessions, each the contract of a function that does nothing.
 
-ghost use Rattle.std.specs.Prelude.{ℕ, Bool, List};
+ghost use Rattle.std.specs.Prelude.{◌≡◌, ℕ, Bool, false, List, [], codes};
+ghost use Rattle.smx_types.specs.declared.command.Entry.{Entry};
+ghost use Rattle.smx_types.specs.declared.version.Version.TheVariants.{V2};
+ghost use Rattle.smx_session.specs.WorkedSessions.{drivers};
 ghost use Rattle.smx_live.specs.LiveText.{IsLegalTranscript, IsOver};
+ghost use Rattle.smx_live.specs.Tables.{IsTable};
+ghost use Rattle.smx_live.specs.Turns.{Entered, HadMemory, IsAnswer, NotDone};
+ghost use Rattle.smx_live.specs.WorkedLives.{worked_input, worked_output, worked_table};
+ghost use Rattle.smx_live.specs.declared.wrong.Wrong.TheVariants.{NoCommand, Full};
 
 use smx_model::laws::one_entry_more;
 use smx_model::laws_of_hangups::without_a_hangup_none_is_told;
+use smx_session::laws_of_sessions::a_worked_session;
+use smx_text::laws::one_text_has_one_reading;
+use smx_words::laws::one_value_each;
 
 /// What was written of a session that is over, but for the answers that are no entries, is the transcript of a legal
 /// history, which a check finds legal.
@@ -13,4 +23,30 @@ pub fn live_sessions_are_legal_transcripts()
 {
     one_entry_more();
     without_a_hangup_none_is_told();
+}
+
+/// What was read of a session that is over has one output, where no line was left undone for want of memory.
+pub fn a_session_has_one_output()
+    ensures { (read : List ℕ) (ended : Bool) (one other : List ℕ) (o : IsOver read ended one)
+        (p : IsOver read ended other) → HadMemory o.live.turns → HadMemory p.live.turns → one ≡ other }
+{
+    one_text_has_one_reading();
+    one_value_each();
+}
+
+/// A worked session: what is read, and what is written. Its table is over behind its last driver, and at no other place; and
+/// what asks for the configuration or the end is not refused, as no line is performed that is none.
+pub fn a_worked_live_session()
+    ensures over { IsOver worked_input false worked_output }
+    ensures table { IsTable false worked_table (codes "3 clone eth\n") }
+    ensures not_too_early { IsTable false (codes "programs 2\n") (codes "driver eth leaf 2 8 3 16\n3 clone eth\n") → ⊥ }
+    ensures not_too_late { IsTable false (codes "programs 2\nshow\n") (codes "end\n") → ⊥ }
+    ensures not_before_its_header { IsTable false [] (codes "programs 2\nshow\nend\n") → ⊥ }
+    ensures not_within_a_line { IsTable false worked_table (codes "3 clone eth") → ⊥ }
+    ensures show_is_asked { IsAnswer V2 drivers [] (codes "show") (NotDone NoCommand) → ⊥ }
+    ensures end_is_asked { IsAnswer V2 drivers [] (codes "end") (NotDone NoCommand) → ⊥ }
+    ensures not_full { IsAnswer V2 drivers [] (codes "x") (NotDone Full) → ⊥ }
+    ensures not_performed { (e : Entry) → IsAnswer V2 drivers [] (codes "x") (Entered e) → ⊥ }
+{
+    a_worked_session();
 }
