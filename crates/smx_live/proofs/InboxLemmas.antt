@@ -75,9 +75,11 @@ pub fails_so : (Long : Type 0) (before held read piece : List ℕ) (failures : �
     → IsOneLine held → FailsToRead ⊥ (piece ≡ []) failures e
     → FailsToRead Long (IsOneLine (before ++ (read ++ piece))) failures e
 fails_so Long before held read piece failures TooLong is one why = absurd why.1
-fails_so Long before held read piece failures ReadFailed is one why =
-    (why.0, subst IsOneLine (is ∙ ap (λ (bs : List ℕ). before ++ bs) (sym (ap (λ (bs : List ℕ). read ++ bs) why.1
-    ∙ append-nil read))) one)
+fails_so Long before held read piece failures ReadFailed is one why = (
+  why.0,
+  subst IsOneLine (is ∙ ap (λ (bs : List ℕ). before ++ bs) (sym (ap (λ (bs : List ℕ). read ++ bs) why.1
+      ∙ append-nil read))) one,
+)
 fails_so Long before held read piece failures (Refused f) is one why = why
 fails_so Long before held read piece failures (Text f) is one why = absurd why
 fails_so Long before held read piece failures WriteFailed is one why = absurd why

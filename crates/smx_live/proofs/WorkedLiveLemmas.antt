@@ -96,10 +96,13 @@ not_performed e is =
 -- ---- the session
 
 asks_for_neither : AsksForNeither (codes "x")
-asks_for_neither = (λ asks. elim asks [
-  | inl none ↦ absurd (cc none)
-  | inr show ↦ absurd (cc show)
-], λ end. absurd (cc end))
+asks_for_neither = (
+  λ asks. elim asks [
+    | inl none ↦ absurd (cc none)
+    | inr show ↦ absurd (cc show)
+  ],
+  λ end. absurd (cc end),
+)
 
 no_call : IsNoCall V2 (codes "x")
 no_call e fits is = no_entry e fits.0 120 (codes " = done") (λ ds h. absurd (cc h)) (sym is)

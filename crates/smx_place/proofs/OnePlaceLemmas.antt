@@ -41,15 +41,15 @@ record GoesTo (front behind other : List (List ℕ)) : Type 0 where
   is : behind ≡ word ∷ rest
   to : other ≡ (front ++ word ∷ []) ++ more
 
-two_fronts : (xs as ys bs : List (List ℕ)) → xs ++ as ≡ ys ++ bs
-    → (xs ≡ ys) ⊎ (GoesTo xs as ys ⊎ GoesTo ys bs xs)
-two_fronts [] as [] bs e = inl refl
-two_fronts [] as (y ∷ ys) bs e = inr (inl (record { word = y; rest = ys ++ bs; more = ys; is = e; to = refl }))
-two_fronts (x ∷ xs) as [] bs e = inr (inr (record { word = x; rest = xs ++ as; more = xs; is = sym e; to = refl }))
-two_fronts (x ∷ xs) as (y ∷ ys) bs e =
+two_fronts : (xs ws ys bs : List (List ℕ)) → xs ++ ws ≡ ys ++ bs
+    → (xs ≡ ys) ⊎ (GoesTo xs ws ys ⊎ GoesTo ys bs xs)
+two_fronts [] ws [] bs e = inl refl
+two_fronts [] ws (y ∷ ys) bs e = inr (inl (record { word = y; rest = ys ++ bs; more = ys; is = e; to = refl }))
+two_fronts (x ∷ xs) ws [] bs e = inr (inr (record { word = x; rest = xs ++ ws; more = xs; is = sym e; to = refl }))
+two_fronts (x ∷ xs) ws (y ∷ ys) bs e =
     let first : x ≡ y = cc in
-    let rest : xs ++ as ≡ ys ++ bs = cc in
-    elim (two_fronts xs as ys bs rest) [
+    let rest : xs ++ ws ≡ ys ++ bs = cc in
+    elim (two_fronts xs ws ys bs rest) [
       | inl same ↦ inl (ap (λ (z : List ℕ). z ∷ xs) first ∙ ap (λ (zs : List (List ℕ)). y ∷ zs) same)
       | inr (inl h) ↦ inr (inl (record {
         word = h.word;

@@ -307,7 +307,10 @@ const CUT: [(&[u8], &str); 8] = [
         "1234567890123456789012345678901234567890123456789012345678901234567890123456\\x00..",
     ),
     (b" !~}\\[]", " !~}\\x5c[]"),
-    (b"\x00\x09\x1f\x7f\x80\xff", "\\x00\\x09\\x1f\\x7f\\x80\\xff"),
+    (
+        b"\x00\x09\x1f\x7f\x80\xff",
+        "\\x00\\x09\\x1f\\x7f\\x80\\xff",
+    ),
     (b"\r", "\\x0d"),
 ];
 
@@ -329,7 +332,10 @@ fn tells_what_is_wanted(rt: HostRuntime) {
     for (kind, header, line, wanted) in &WANTED {
         let text = format!(in rt.alloc(); "{header}\n{line}\nend\n").expect(&rt, "there is memory");
         let shown = shown_of(&rt, *kind, text.as_bytes());
-        let whole = format!(in rt.alloc(); "line 2: {line}\n{wanted}\n").expect(&rt, "there is memory");
+        let whole = format!(in rt.alloc(); "line 2: {line}\n{wanted}\n").expect(
+            &rt,
+            "there is memory",
+        );
         assert_eq!(rt; shown.as_str(), whole.as_str());
     }
 }
@@ -339,10 +345,12 @@ fn shows_80_columns(rt: HostRuntime) {
     for (line, seen) in &CUT {
         let mut text = Vec::from_slice(rt.alloc(), b"programs 1\n").expect(&rt, "there is memory");
         text.extend_from_slice(*line).expect(&rt, "there is memory");
-        text.extend_from_slice(b"\nend\n").expect(&rt, "there is memory");
-        let shown = shown_of(&rt, TextKind::Programs, text.as_slice());
-        let whole = format!(in rt.alloc(); "line 2: {seen}\ncolumn 1: 'driver', 'process', 'end' or a command is wanted\n")
+        text.extend_from_slice(b"\nend\n")
             .expect(&rt, "there is memory");
+        let shown = shown_of(&rt, TextKind::Programs, text.as_slice());
+        let whole = format!(in rt.alloc();
+            "line 2: {seen}\ncolumn 1: 'driver', 'process', 'end' or a command is wanted\n"
+        ).expect(&rt, "there is memory");
         assert_eq!(rt; shown.as_str(), whole.as_str());
     }
 }
