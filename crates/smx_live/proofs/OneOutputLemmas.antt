@@ -31,9 +31,18 @@ use Rattle.smx_text.specs.TranscriptLines as line
 use Rattle.smx_text.specs.TranscriptText.{transcript_grammar}
 use Rattle.smx_text.specs.declared.text_fault.Cause.TheVariants as cause
 use Rattle.smx_text.specs.declared.text_fault.TextFault.{TextFault}
+use Rattle.smx_config.specs.DriverFaults.{RefusesDrivers}
+use Rattle.smx_config.specs.declared.config_fault.ConfigFault.{ConfigFault}
+use Rattle.smx_config.specs.declared.config_fault.ConfigFault.TheVariants as config
+use Rattle.smx_model.specs.DriverList.{IsDriverList}
+use Rattle.smx_run.specs.RunFaults.{RefusesAlone}
+use Rattle.smx_run.specs.declared.run_fault.RunFault.{RunFault}
+use Rattle.smx_run.specs.declared.run_fault.RunFault.TheVariants as run
+use Rattle.smx_session.specs.Sessions.{HasDrivers, State}
+use Rattle.smx_filters.specs.declared.input.TheConstants.{MAX_INPUT}
 use Rattle.smx_live.specs.Inboxes.{HasLine, IsShort}
-use Rattle.smx_live.specs.LiveText.{IsAtEnd, IsLive, IsOver, cut_words}
-use Rattle.smx_live.specs.Tables.{AreOfTable, IsOverAt, IsTable, begins_driver, lines_text, table_text}
+use Rattle.smx_live.specs.LiveText.{HasComeSoFar, IsAtEnd, IsLive, IsOver, cut_words}
+use Rattle.smx_live.specs.Tables.{AreOfTable, HasTableOf, IsOverAt, IsTable, begins_driver, lines_text, table_text}
 use Rattle.smx_live.specs.Turns.{Answer, AreAnswered, AsksToShow, Entered, HadMemory, IsAnswer, IsEntryOf, NotDone}
 use Rattle.smx_live.specs.Turns.{Shown, Turn, asked_text, entries_in, entries_of, said_text, view_lines}
 use Rattle.smx_live.specs.declared.wrong.Wrong.TheVariants.{NoCommand, NoMemory, Full}
@@ -97,15 +106,15 @@ drivers_once ended (l ∷ ls) (m ∷ ms) rest more all all_too are are_too stops
     ap (λ (x : List ℕ). x ∷ ls) cut.0 ∙ ap (λ (xs : List (List ℕ)). m ∷ xs) others
 
 stops_there : (ended : Bool) (ls : List (List ℕ)) (rest : List ℕ) → IsOverAt ended ls rest → Stops ended rest
-stops_there ended ls rest (inl (n, has, some, other)) = inl (n, has, other)
-stops_there ended ls rest (inr end) = inr end
+stops_there ended ls rest (inl (n, has, small, some, other)) = inl (n, has, other)
+stops_there ended ls rest (inr (end, short)) = inr (end, short.0)
 
 -- there is a first line where there is any
 no_table : (ended : Bool) (m : List ℕ) (ms : List (List ℕ)) (rest more : List ℕ) → IsOverAt ended [] rest
     → rest ≡ lines_text (m ∷ ms) ++ more → ⊥
-no_table ended m ms rest more (inl (n, has, some, other)) is = some refl
-no_table ended m ms rest more (inr (end, one)) is =
-    not_one m (lines_text ms ++ more) (subst IsOneLine (is ∙ cons m ms more) one)
+no_table ended m ms rest more (inl (n, has, small, some, other)) is = some refl
+no_table ended m ms rest more (inr (end, short)) is =
+    not_one m (lines_text ms ++ more) (subst IsOneLine (is ∙ cons m ms more) short.0)
 
 lines_once : (ended : Bool) (ls ms : List (List ℕ)) (rest more : List ℕ) → AreOfTable ls → AreOfTable ms
     → IsOverAt ended ls rest → IsOverAt ended ms more → lines_text ls ++ rest ≡ lines_text ms ++ more → ls ≡ ms
@@ -334,3 +343,55 @@ one_output reading told_apart read ended one other o p had had_too =
           (subst (λ (ds : List DriverSpec). AreAnswered p.s.version ds [] o.live.turns) drivers
           (subst (λ (v : Version). AreAnswered v o.s.drivers [] o.live.turns) version o.live.answered))
           p.live.answered had had_too o.at_end p.at_end table.1
+
+-- ---- what a session has come of
+
+abbrev pub HaveOneFault : Type 0
+HaveOneFault =
+    (drivers : List DriverSpec) (f g : ConfigFault) → RefusesDrivers drivers f → RefusesDrivers drivers g → f ≡ g
+
+-- drivers that can be had are refused for want of memory alone
+drivers_had : HaveOneFault → (drivers : List DriverSpec) → IsDriverList drivers → (f : RunFault)
+    → RefusesAlone drivers f → f ≡ run.NoMemory
+drivers_had determined drivers had run.NoMemory h = refl
+drivers_had determined drivers had (run.ConfigFault f) h =
+    absurd (h.1 (determined drivers f config.NoMemory h.0 had))
+drivers_had determined drivers had (run.Strange p) h = absurd h
+drivers_had determined drivers had run.HistoryFull h = absurd h
+drivers_had determined drivers had run.Held h = absurd h
+
+-- the table spells programs, and no other text has a fault there
+pub no_fault : HasOneReading → (read output : List ℕ) (ended : Bool) (fault : TextFault) → HasComeSoFar read ended output
+    → HasTableOf read ended (λ text. ReadsAny programs_grammar text (Err fault)) → fault.cause ≢ cause.NoMemory → ⊥
+no_fault reading read output ended fault (s, count, held, l) (table, rest, parts, over, bad) known =
+    let same = table_once ended table l.table rest _ over l.over (sym parts ∙ l.read_is) in
+    let there = subst (λ (t : List ℕ). ReadsAny programs_grammar (table_text t) (Err fault)) same.0 bad in
+    let one : Result ProgramLists TextFault = Ok l.programs in
+    let other : Result ProgramLists TextFault = Err fault in
+    let wrong : one ≡ other = reading (table_text l.table) one other (s.version, l.spelled, tt) there tt known in
+    absurd (cc wrong)
+
+-- and its drivers are not refused
+pub no_refusal : HasOneReading → HaveOneFault → (read output : List ℕ) (ended : Bool) (fault : RunFault)
+    → HasComeSoFar read ended output
+    → HasTableOf read ended (λ text. HasDrivers text (λ drivers. RefusesAlone drivers fault)) → fault ≡ run.NoMemory
+no_refusal reading determined read output ended fault (s, count, held, l)
+    (table, rest, parts, over, (version, p, spelled, refused)) =
+    let same = table_once ended table l.table rest _ over l.over (sym parts ∙ l.read_is) in
+    let there = subst (λ (t : List ℕ). Spells (programs_grammar version) (table_text t) p) same.0 spelled in
+    let programs : p ≡ l.programs = value_once reading (table_text l.table) version s.version p l.programs there l.spelled in
+    let drivers : p.drivers ≡ s.drivers = ap (λ (x : ProgramLists). x.drivers) programs ∙ sym l.drivers in
+    drivers_had determined s.drivers l.can_be_had fault
+    (subst (λ (ds : List DriverSpec). RefusesAlone ds fault) drivers refused)
+
+-- each line that was taken is short
+all_short : (version : Version) (drivers : List DriverSpec) (history : List Entry) (ts : List Turn)
+    → AreAnswered version drivers history ts → AllByRecursion (λ t. length t.line ≤ MAX_INPUT) ts
+all_short version drivers history [] was = tt
+all_short version drivers history (t ∷ ts) was =
+    (was.0.1, all_short version drivers (history ++ entries_in t.answer) ts was.2)
+
+pub are_short : (read output held : List ℕ) (ended : Bool) (s : State) (count : ℕ)
+    (l : IsLive read ended output s count held)
+    → (length l.table ≤ MAX_INPUT) × AllByRecursion (λ t. length t.line ≤ MAX_INPUT) l.turns
+are_short read output held ended s count l = (l.fits, all_short s.version s.drivers [] l.turns l.answered)

@@ -1,5 +1,5 @@
 -- Tables that grow by a line, and what is read behind them.
-use Rattle.std.proofs.Common.{◌≡◌, ◌≢◌, ℕ, ◌+◌, ◌<◌, Bool, true, false, List, [], ◌∷◌, ◌++◌, length, take, refl}
+use Rattle.std.proofs.Common.{◌≡◌, ◌≢◌, ℕ, ◌+◌, ◌≤◌, Bool, true, false, List, [], ◌∷◌, ◌++◌, length, take, refl}
 use Rattle.std.proofs.Common.{sym, ap, subst, ◌∙◌, append_assoc, arith, inl, inr}
 use Rattle.std.proofs.lemmas.List.{append-nil, length-append, take-append-le}
 use Rattle.std.specs.List.{flat_map}
@@ -10,7 +10,7 @@ use Rattle.smx_text.proofs.EachLemmas.{all_push}
 use Rattle.smx_filters.specs.declared.input.TheConstants.{MAX_INPUT}
 use Rattle.smx_filters.specs.declared.main_fault.MainFault.{MainFault}
 use Rattle.smx_filters.specs.declared.main_fault.MainFault.TheVariants.{Refused, Text, TooLong, ReadFailed, WriteFailed}
-use Rattle.smx_live.specs.Inboxes.{FailsToRead, HasLine, IsTooLong}
+use Rattle.smx_live.specs.Inboxes.{FailsToRead, HasLine, IsShort, IsTooLong}
 use Rattle.smx_live.specs.Tables.{AreOfTable, BeginsAsTable, IsEndlessTable, IsOverAt, IsTable, IsUnfinished}
 use Rattle.smx_live.specs.Tables.{begins_driver, lines_text}
 use Rattle.smx_live.proofs.InboxLemmas.{line_stays, unmoved, with_line_feed}
@@ -83,15 +83,16 @@ fails_with start read piece table held lines parts text were failures e = by_fau
 
 -- it is over where the next line begins otherwise
 pub over_at_a_line : (ended : Bool) (table : List ℕ) (lines : List (List ℕ)) (n : ℕ) (held : List ℕ)
-    → table ≡ lines_text lines → AreOfTable lines → HasLine n held → length table ≢ 0
+    → table ≡ lines_text lines → AreOfTable lines → HasLine n held → n ≤ MAX_INPUT → length table ≢ 0
     → begins_driver (take n held) ≡ false → IsTable ended table held
-over_at_a_line ended table lines n held text were line some other = record {
+over_at_a_line ended table lines n held text were line small some other = record {
   lines = lines;
   text = text;
   of_table = were;
   over = inl (
     n,
     line,
+    small,
     λ none. some (ap (λ (t : List ℕ). length t) text
         ∙ ap (λ (ls : List (List ℕ)). length (lines_text ls)) none),
     other,
@@ -100,23 +101,23 @@ over_at_a_line ended table lines n held text were line some other = record {
 
 -- it is over at the end of the input
 pub over_at_the_end : (ended : Bool) (table : List ℕ) (lines : List (List ℕ)) (held : List ℕ) → table ≡ lines_text lines
-    → AreOfTable lines → ended ≡ true → IsOneLine held → IsTable ended table held
-over_at_the_end ended table lines held text were end one = record {
+    → AreOfTable lines → ended ≡ true → IsShort held → IsTable ended table held
+over_at_the_end ended table lines held text were end short = record {
   lines = lines;
   text = text;
   of_table = were;
-  over = inr (end, one);
+  over = inr (end, short);
 }
 
 -- it stays over where more is read, which comes of an input that has not ended
 over_still : (ended now : Bool) (lines : List (List ℕ)) (rest more : List ℕ) → IsOverAt ended lines rest
     → (ended ≡ true → (more ≡ []) × (now ≡ true)) → IsOverAt now lines (rest ++ more)
-over_still ended now lines rest more (inl (n, line, some, other)) stays =
+over_still ended now lines rest more (inl (n, line, small, some, other)) stays =
     let same : take n (rest ++ more) ≡ take n rest = take-append-le n rest more (omega (arith, line.within)) in
-    inl (n, line_stays n rest more line, some, ap begins_driver same ∙ other)
-over_still ended now lines rest more (inr (end, one)) stays =
+    inl (n, line_stays n rest more line, small, some, ap begins_driver same ∙ other)
+over_still ended now lines rest more (inr (end, short)) stays =
     let (none, still) = stays end in
-    inr (still, subst IsOneLine (sym (ap (λ (m : List ℕ). rest ++ m) none ∙ append-nil rest)) one)
+    inr (still, subst IsShort (sym (ap (λ (m : List ℕ). rest ++ m) none ∙ append-nil rest)) short)
 
 -- so does the table
 pub still_a_table : (ended now : Bool) (table rest more : List ℕ) → IsTable ended table rest

@@ -35,6 +35,7 @@ is_over = record {
   over = inl (
     11,
     record { within = search arith; one = search (rules, arith); parts = refl },
+    search arith,
     λ none. absurd (cc none),
     refl,
   );
@@ -49,6 +50,7 @@ header_alone = record {
   over = inl (
     4,
     record { within = search arith; one = search (rules, arith); parts = refl },
+    search arith,
     λ none. absurd (cc none),
     refl,
   );
@@ -73,9 +75,9 @@ one_clone = search (rules, arith)
 
 pub not_within_a_line : IsTable false worked_table (codes "3 clone eth") → ⊥
 not_within_a_line t = elim t.over [
-  | inl (n, has, some, other) ↦ not_one (take n (codes "3 clone eth")) (drop (suc n) (codes "3 clone eth"))
+  | inl (n, has, small, some, other) ↦ not_one (take n (codes "3 clone eth")) (drop (suc n) (codes "3 clone eth"))
       (subst IsOneLine has.parts one_clone)
-  | inr (end, one) ↦ absurd (cc end)
+  | inr (end, short) ↦ absurd (cc end)
 ]
 
 -- ---- answers
@@ -151,6 +153,7 @@ over start opens = record {
       over = inl (
         11,
         record { within = search arith; one = one_clone; parts = refl },
+        search arith,
         λ none. absurd (cc none),
         refl,
       );

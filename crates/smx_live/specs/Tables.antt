@@ -1,11 +1,11 @@
 -- A driver table, and where it is over.
-use Rattle.std.specs.Prelude.{◌≡◌, ◌≢◌, ℕ, ◌<◌, ◌⊎◌, Bool, true, false, List, [], ◌∷◌, ◌++◌, length, drop, take}
+use Rattle.std.specs.Prelude.{◌≡◌, ◌≢◌, ℕ, ◌<◌, ◌≤◌, ◌⊎◌, Bool, true, false, List, [], ◌∷◌, ◌++◌, length, drop, take}
 use Rattle.std.specs.Prelude.{codes, nat_eq}
 use Rattle.std.specs.List.{AllByRecursion, flat_map, starts_with}
 use Rattle.smx_words.specs.Words.{LINE_FEED}
 use Rattle.smx_text.specs.Grammar.{IsOneLine}
 use Rattle.smx_filters.specs.declared.input.TheConstants.{MAX_INPUT}
-use Rattle.smx_live.specs.Inboxes.{HasLine, IsTooLong}
+use Rattle.smx_live.specs.Inboxes.{HasLine, IsShort, IsTooLong}
 
 -- whether a line begins as that of a driver
 abbrev pub begins_driver : List ℕ → Bool
@@ -23,8 +23,8 @@ pub record AreOfTable (lines : List (List ℕ)) : Type 0 where
 -- a table of these lines is over: the next line begins otherwise, or the input has ended before there was a next one
 abbrev pub IsOverAt : Bool → List (List ℕ) → List ℕ → Type 0
 IsOverAt ended lines rest =
-    ((n : ℕ) × HasLine n rest × (lines ≢ []) × (begins_driver (take n rest) ≡ false))
-    ⊎ ((ended ≡ true) × IsOneLine rest)
+    ((n : ℕ) × HasLine n rest × (n ≤ MAX_INPUT) × (lines ≢ []) × (begins_driver (take n rest) ≡ false))
+    ⊎ ((ended ≡ true) × IsShort rest)
 
 -- a table, and what was read behind it, of an input that has ended or not
 pub record IsTable (ended : Bool) (table rest : List ℕ) : Type 0 where

@@ -159,9 +159,14 @@ fn leaves_the_beginning_of_the_answers(rt: HostRuntime) {
     }
 }
 
-// A session over no drivers with a line of so many bytes, and then this.
-fn with_a_long_line(rt: &(impl AllocGlobal + Abort), bytes: usize, rest: &[u8]) -> Ran {
-    let mut input = Vec::from_slice(rt.alloc(), b"programs 1\n").expect(rt, "there is memory");
+// A session that begins so, with a line of so many bytes, and then this.
+fn with_a_long_line(
+    rt: &(impl AllocGlobal + Abort),
+    front: &[u8],
+    bytes: usize,
+    rest: &[u8],
+) -> Ran {
+    let mut input = Vec::from_slice(rt.alloc(), front).expect(rt, "there is memory");
     let start = input.len();
     input
         .resize(start + bytes, b'a')
@@ -170,21 +175,30 @@ fn with_a_long_line(rt: &(impl AllocGlobal + Abort), bytes: usize, rest: &[u8]) 
     live_bytes(rt.alloc(), input.as_slice())
 }
 
-// A line of more bytes than an input may have is too long, whether it ends or not.
+// How a line may go on behind more bytes than an input may have.
+const ENDS: [&[u8]; 4] = [b"", b"\n", b"\nend\n", b"aaaa\nend\n"];
+
+// A line that is longer than an input may be is too long, whether it ends or not: behind a table, which is over at no such
+// line, and behind an answer.
 #[test]
 fn takes_no_endless_line(rt: HostRuntime) {
-    for rest in &[b"".as_slice(), b"\n", b"\nend\n", b"aaaa\nend\n"] {
-        let ran = with_a_long_line(&rt, MAX_INPUT + 1, *rest);
+    for rest in &ENDS {
+        let ran = with_a_long_line(&rt, b"programs 1\n", MAX_INPUT + 1, *rest);
+        has_refused(&rt, &ran, "input too long", 3);
+        let ran = with_a_long_line(&rt, b"programs 1\nend 1\n", MAX_INPUT + 1, *rest);
         assert_eq!(rt; ran.line.as_str(), "input too long");
         assert_eq!(rt; ran.status, 3);
-        assert_eq!(rt; ran.output.as_slice(), b"transcript 1\n".as_slice());
+        assert_eq!(rt;
+            ran.output.as_slice(),
+            b"transcript 1\n? no command\n".as_slice()
+        );
     }
 }
 
 // One of just as many is taken.
 #[test]
 fn takes_the_longest_line(rt: HostRuntime) {
-    let ran = with_a_long_line(&rt, MAX_INPUT, b"\nend\n");
+    let ran = with_a_long_line(&rt, b"programs 1\n", MAX_INPUT, b"\nend\n");
     assert_eq!(rt; ran.status, 0);
     assert_eq!(rt;
         ran.output.as_slice(),

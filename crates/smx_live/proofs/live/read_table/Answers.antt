@@ -32,7 +32,7 @@ returns-in-Ok-None g c =
         consumed = Consumes-trans _ _ _ read piece consumed p.consumed;
         parts = unmoved c.args.inbox.now.held.items read piece c.lines.table.items c.lines.inbox.held.items
             c.next_line.new.self.held.items parts p.held;
-        over = over_at_the_end _ c.lines.table.items lines c.next_line.new.self.held.items text were found.0 found.1.0;
+        over = over_at_the_end _ c.lines.table.items lines c.next_line.new.self.held.items text were found.0 found.1;
         end = p.end;
         fine = p.fine;
         fits = omega (arith, c.lines-test.true, c.len.ensures, c.lines.table.ok.0);
@@ -70,7 +70,7 @@ returns-then-not-is_of_table g c =
       record {
         consumed = Consumes-trans _ _ _ read piece consumed p.consumed;
         parts = unmoved c.args.inbox.now.held.items read piece c.lines.table.items c.lines.inbox.held.items held parts p.held;
-        over = over_at_a_line _ c.lines.table.items lines c.in-Ok-Some.n held text were line.0
+        over = over_at_a_line _ c.lines.table.items lines c.in-Ok-Some.n held text were line.0 line.1
             (λ none. some (omega (arith, c.len-in-lines.ensures, c.lines.table.ok.0, none)))
             (ap (λ (l : List ℕ). begins_driver (take c.in-Ok-Some.n l)) (sym c.deref.ensures.value) ∙ other);
         end = p.end;
