@@ -1,15 +1,14 @@
 -- The worked places, word by word.
-use Rattle.std.proofs.Common.{◌≡◌, ℕ, List, [], ◌∷◌, Some, None, refl, inl, inr, Bor, arith, rules}
-use Rattle.std.specs.Prelude.{◌⊎◌, codes}
+use Rattle.std.proofs.Common.{◌≡◌, ℕ, List, [], ◌∷◌, ◌++◌, Some, None, refl, inl, inr, Bor, arith, rules}
+use Rattle.std.specs.Prelude.{codes}
 use Rattle.std.specs.Fmt.{digits}
 use Rattle.smx_types.specs.declared.version.Version.{Version}
 use Rattle.smx_types.specs.declared.version.Version.TheVariants.{V1, V2}
 use Rattle.smx_place.specs.Places.{IsPlace, IsWhole}
-use Rattle.smx_place.specs.Rows.{GoesOn, IsFixed, IsOther}
+use Rattle.smx_place.specs.Rows.{GoesOn, IsFixed, IsOther, told_rows}
 use Rattle.smx_place.specs.WorkedPlaces.{choice_at, value_at}
 use Rattle.smx_place.specs.declared.kinds.Choice.{Choice}
 use Rattle.smx_place.specs.declared.kinds.Choice.TheVariants as choice
-use Rattle.smx_place.specs.declared.kinds.TextKind.{TextKind}
 use Rattle.smx_place.specs.declared.kinds.TextKind.TheVariants.{Programs, Transcript}
 use Rattle.smx_place.specs.declared.kinds.Value.{Value}
 use Rattle.smx_place.specs.declared.kinds.Value.TheVariants as value
@@ -41,15 +40,17 @@ pub empty : IsPlace Programs V1 (codes "") (choice_at 1 choice.ProgramsLine)
 empty =
     stops_here Programs V1 (codes "") 1 (Some (seen (codes ""))) [] choice.ProgramsLine
     (at_begin Programs V1 (seen (codes ""))) (seen (codes "")) refl (codes "") None tt refl
-    (no_line (codes "") (not_new _ (codes "") _ _ refl) (not_new _ (codes "") _ _ refl))
+    (no_line (codes "") (λ values then. not_new (told_rows V1 choice.ProgramsLine) (codes "") values then refl)
+    (λ values then. not_new (told_rows V1 choice.Command) (codes "") values then refl))
 
 pub of_version_2 : IsPlace Programs V1 (codes "hangup eth 0") (choice_at 1 choice.ProgramsLine)
 of_version_2 =
     stops_here Programs V1 (codes "hangup eth 0") 1 (Some (seen (codes "hangup eth 0"))) [] choice.ProgramsLine
     (at_begin Programs V1 (seen (codes "hangup eth 0"))) (seen (codes "hangup eth 0")) refl (codes "hangup")
     (Some (seen (codes "eth 0"))) (search (rules, arith)) refl
-    (no_line (codes "hangup") (λ values then. not_new _ (codes "hangup") values then refl)
-    (λ values then. not_new _ (codes "hangup") values then refl))
+    (no_line (codes "hangup")
+    (λ values then. not_new (told_rows V1 choice.ProgramsLine) (codes "hangup") values then refl)
+    (λ values then. not_new (told_rows V1 choice.Command) (codes "hangup") values then refl))
 
 pub word_wanting : IsPlace Programs V1 (codes "dup") (value_at 5 value.Number)
 word_wanting =
@@ -92,6 +93,7 @@ in_version_2 =
 -- behind the process and the word `exit` of an entry
 behind_exit : (version : Version) (line rest : List ℕ) → line ≡ codes "0 exit " ++ rest → IsFixed version choice.Command (codes "exit") [] choice.Equals
     → HasCome Transcript version line 8 (Some (seen rest)) [] choice.Equals
+unfolding digits
 behind_exit version line rest is fixed =
     rw is (one_more Transcript version (codes "0 exit " ++ rest) 3 (Some (seen (codes "exit " ++ rest))) [] choice.Command
     (one_more Transcript version (codes "0 exit " ++ rest) 1 (Some (seen (codes "0 exit " ++ rest))) []
@@ -106,7 +108,7 @@ no_equals =
     stops_here Transcript V2 (codes "0 exit done") 8 (Some (seen (codes "done"))) [] choice.Equals
     (behind_exit V2 (codes "0 exit done") (codes "done") refl (search rules)) (seen (codes "done")) refl (codes "done") None
     (search (rules, arith)) refl
-    (neither V2 choice.Equals (codes "done") (λ values then. not_new _ (codes "done") values then refl)
+    (neither V2 choice.Equals (codes "done") (λ values then. not_new (told_rows V2 choice.Equals) (codes "done") values then refl)
     (λ values then is. is))
 
 -- behind the equals sign too
@@ -124,7 +126,7 @@ other_cause =
     (behind_equals (codes "0 exit = EBADF full") (codes "EBADF full") refl) (seen (codes "EBADF full")) refl (codes "EBADF")
     (Some (seen (codes "full"))) (search (rules, arith)) refl [] choice.BadDescriptor (inl (search rules)) 16 refl)
     (seen (codes "full")) refl (codes "full") None (search (rules, arith)) refl
-    (neither V1 choice.BadDescriptor (codes "full") (λ values then. not_new _ (codes "full") values then refl)
+    (neither V1 choice.BadDescriptor (codes "full") (λ values then. not_new (told_rows V1 choice.BadDescriptor) (codes "full") values then refl)
     (λ values then is. is))
 
 -- numbers of one digit
