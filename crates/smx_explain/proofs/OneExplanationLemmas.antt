@@ -4,7 +4,6 @@ use Rattle.std.specs.Prelude.{◌⊎◌}
 use Rattle.smx_types.specs.declared.transcript.Transcript.{Transcript}
 use Rattle.smx_replay.specs.Replays.{IsReplayOf}
 use Rattle.smx_text.specs.TranscriptText.{transcript_text}
-use Rattle.smx_explain.specs.Differences.{IsFirstDifference}
 use Rattle.smx_explain.specs.Explanations.{IsExplanation, TellsDifference, difference_text}
 use Rattle.smx_explain.proofs.LineLemmas.{no_difference, one_difference}
 

@@ -1,5 +1,5 @@
 -- The worked texts.
-use Rattle.std.proofs.Common.{[], ◌∷◌, refl, inl, inr, arith, rules}
+use Rattle.std.proofs.Common.{◌≡◌, ℕ, List, [], ◌∷◌, get_or, ap, refl, inl, inr, arith, rules}
 use Rattle.std.specs.Prelude.{codes}
 use Rattle.smx_explain.specs.Differences.{AreAlike, IsFirstDifference, IsFirstLine}
 
@@ -12,7 +12,7 @@ second = record {
   more = codes "c\n";
   rest = codes "d\n";
   begin = record { are_lines = search (rules, arith); one_is = refl; other_is = refl };
-  differ = λ e. absurd (cc e);
+  differ = λ e. let heads : 98 ≡ 120 = ap (λ (bs : List ℕ). get_or bs 0 0) e in omega (arith, heads);
 }
 
 pub ends_early : IsFirstDifference (codes "a\nend\n") (codes "a\n\nend\n") 2 (codes "end") []
