@@ -1,5 +1,5 @@
 -- What a check that explains itself says beside its verdict, and what is kept of an input in memory.
-use Rattle.std.proofs.Common.{◌≡◌, ℕ, ◌++◌, Bool, true, false, List, [], Option, Some, None, Err, Vec, refl, sym, ◌∙◌, append-nil}
+use Rattle.std.proofs.Common.{◌≡◌, ℕ, ◌++◌, Bool, true, false, List, [], Option, Some, None, Err, Vec, refl, sym, subst, ◌∙◌, append-nil}
 use Rattle.std.specs.Global.{Global}
 use Rattle.smx_types.specs.declared.transcript.Transcript.{Transcript}
 use Rattle.smx_text.specs.declared.text_fault.TextFault.{TextFault}
@@ -7,7 +7,7 @@ use Rattle.smx_config.specs.Verdicts.{IsVerdict}
 use Rattle.smx_config.specs.declared.verdict.Verdict.{Verdict}
 use Rattle.smx_config.specs.declared.verdict.Verdict.TheVariants.{Legal}
 use Rattle.smx_explain.specs.Explanations.{IsExplanation}
-use Rattle.smx_filters.specs.CheckText.{checking, verdict_line}
+use Rattle.smx_filters.specs.CheckText.{checking}
 use Rattle.smx_filters.specs.ExplainText.{IsKept, KeepsText, judging}
 use Rattle.smx_filters.specs.Filters.{Filter, GivesFor}
 use Rattle.smx_filters.specs.declared.main_fault.MainFault.TheVariants.{Text}
@@ -30,7 +30,8 @@ is_check none true input output verdict (version, t, spells, h) = (
   h.told,
   (version, t, spells, h.judged),
   h.written,
-  λ legal. none t h.told h.explained (rw (← legal) h.judged.judged),
+  λ legal. none t h.told h.explained
+      (subst (λ (v : Verdict). IsVerdict t.drivers t.entries t.view v) legal h.judged.judged),
 )
 
 -- what is kept is there
