@@ -1,4 +1,4 @@
-use Rattle.std.proofs.Common.{◌≡◌, ◌++◌, ◌∙◌, ℕ, List, [], true, false, ap, append_assoc, arith, inl, inr, length}
+use Rattle.std.proofs.Common.{◌≡◌, ◌+◌, ◌++◌, ◌∙◌, ℕ, List, [], true, false, ap, append_assoc, arith, inl, inr, length}
 use Rattle.std.proofs.Common.{subst, sym}
 use Rattle.std.proofs.lemmas.List.{append-nil}
 use Rattle.std.proofs.KnownBytes.{Consumes-trans}
@@ -39,9 +39,11 @@ returns-then-self g c =
         end = inv.end;
         found = (
           inv.end ∙ c.if-self.true,
-          none_in c.reads.self.held.items c.deref.result.now c.reads.seen
-              c.deref.ensures.value inv.none c.in_default.ensures,
-          omega (arith, c.if-seen-gt-MAX_INPUT.false, c.len-seen.ensures, c.reads.self.held.ok.0),
+          (
+            none_in c.reads.self.held.items c.deref.result.now c.reads.seen
+                c.deref.ensures.value inv.none c.in_default.ensures,
+            omega (arith, c.if-seen-gt-MAX_INPUT.false, c.len-seen.ensures, c.reads.self.held.ok.0),
+          ),
         );
         fine = inv.fine;
         fault = tt;
