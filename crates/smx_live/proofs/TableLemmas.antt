@@ -1,5 +1,5 @@
 -- Tables that grow by a line, and what is read behind them.
-use Rattle.std.proofs.Common.{◌≡◌, ◌≢◌, ℕ, ◌+◌, ◌≤◌, Bool, true, false, List, [], ◌∷◌, ◌++◌, length, take, refl}
+use Rattle.std.proofs.Common.{◌≡◌, ◌≢◌, ℕ, ◌+◌, ◌<◌, ◌≤◌, Bool, true, false, List, [], ◌∷◌, ◌++◌, length, take, refl}
 use Rattle.std.proofs.Common.{sym, ap, subst, ◌∙◌, append_assoc, arith, inl, inr}
 use Rattle.std.proofs.lemmas.List.{append-nil, length-append, take-append-le}
 use Rattle.std.specs.List.{flat_map}
@@ -73,8 +73,15 @@ fails_with start read piece table held lines parts text were failures e = by_fau
 
   by_fault : (f : MainFault) → FailsToRead (IsTooLong (held ++ piece)) (IsOneLine (held ++ piece)) failures f
       → FailsToRead (IsEndlessTable (start ++ (read ++ piece))) (IsUnfinished (start ++ (read ++ piece))) failures f
-  by_fault TooLong is = (is.0, begins_as _ table (held ++ piece) lines _ all text were (inr is.1))
-  by_fault ReadFailed is = (is.0, begins_as _ table (held ++ piece) lines _ all text were is.1)
+  by_fault TooLong is = (
+    is.0,
+    begins_as (start ++ (read ++ piece)) table (held ++ piece) lines
+        (λ text rest. (MAX_INPUT < length text) ⊎ IsTooLong rest) all text were (inr is.1),
+  )
+  by_fault ReadFailed is = (
+    is.0,
+    begins_as (start ++ (read ++ piece)) table (held ++ piece) lines (λ text rest. IsOneLine rest) all text were is.1,
+  )
   by_fault (Refused f) is = is
   by_fault (Text f) is = absurd is
   by_fault WriteFailed is = absurd is

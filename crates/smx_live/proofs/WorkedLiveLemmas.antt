@@ -1,14 +1,15 @@
 -- The worked live session.
-use Rattle.std.proofs.Common.{◌≡◌, ◌≤◌, ℕ, Bool, true, false, List, [], ◌∷◌, ◌++◌, length, map, take, drop, suc, refl, sym, subst}
+use Rattle.std.proofs.Common.{◌≡◌, ◌≤◌, ℕ, ◌+◌, Bool, true, false, List, [], ◌∷◌, ◌++◌, length, map, take, drop, Option, Some, None, refl, sym, ap, subst}
 use Rattle.std.proofs.Common.{inl, inr, arith, rules}
 use Rattle.std.specs.Fmt.{digits}
 use Rattle.std.specs.Prelude.{◌⊎◌, codes}
+use Rattle.smx_types.specs.declared.command.Command.{Command}
 use Rattle.smx_types.specs.declared.command.Entry.{Entry}
 use Rattle.smx_types.specs.declared.limits.TheConstants.{MAX_COMMANDS}
 use Rattle.smx_types.specs.declared.version.Version.TheVariants.{V2}
 use Rattle.smx_model.specs.Histories.{call_of}
 use Rattle.smx_model.specs.Views.{view}
-use Rattle.smx_model.specs.Worked.Common.{Fd, OpenClone, ◌does◌gets◌, eth}
+use Rattle.smx_model.specs.Worked.Common.{CloseAll, Fd, OpenClone, ◌does◌gets◌, eth}
 use Rattle.smx_text.specs.Grammar.{IsOneLine, beginning}
 use Rattle.smx_text.specs.GrowingTranscripts.{BeginsTranscript}
 use Rattle.smx_text.specs.TranscriptLines as line
@@ -26,6 +27,10 @@ use Rattle.smx_live.proofs.OneOutputLemmas.{no_entry, not_one, table_once}
 
 -- ---- tables
 
+-- lines that are not none
+no_lines : (l : List ℕ) (ls : List (List ℕ)) → l ∷ ls ≡ [] → ⊥
+no_lines l ls none = absurd (cc none)
+
 -- a table of these lines, behind which this line stands
 pub is_over : IsTable false worked_table (codes "3 clone eth\n")
 is_over = record {
@@ -36,7 +41,7 @@ is_over = record {
     11,
     record { within = search arith; one = search (rules, arith); parts = refl },
     search arith,
-    λ none. absurd (cc none),
+    no_lines _ _,
     refl,
   );
 }
@@ -51,7 +56,7 @@ header_alone = record {
     4,
     record { within = search arith; one = search (rules, arith); parts = refl },
     search arith,
-    λ none. absurd (cc none),
+    no_lines _ _,
     refl,
   );
 }
@@ -75,7 +80,7 @@ one_clone = search (rules, arith)
 
 pub not_within_a_line : IsTable false worked_table (codes "3 clone eth") → ⊥
 not_within_a_line t = elim t.over [
-  | inl (n, has, small, some, other) ↦ not_one (take n (codes "3 clone eth")) (drop (suc n) (codes "3 clone eth"))
+  | inl (n, has, small, some, other) ↦ not_one (take n (codes "3 clone eth")) (drop (n + 1) (codes "3 clone eth"))
       (subst IsOneLine has.parts one_clone)
   | inr (end, short) ↦ absurd (cc end)
 ]
@@ -109,12 +114,17 @@ asks_for_neither = (
 no_call : IsNoCall V2 (codes "x")
 no_call e fits is = no_entry e fits.0 120 (codes " = done") (λ ds h. absurd (cc h)) (sym is)
 
+-- the call of an entry, where there is one
+abbrev call_in : Option Entry → ℕ × Command
+call_in (Some e) = call_of e
+call_in None = (64, CloseAll)
+
 cloned : Performs begun (codes "3 clone eth") opened → IsEntryOf V2 drivers [] (codes "3 clone eth") (3 does OpenClone eth gets Fd 0 0)
 cloned p = record {
   asked = p.asked;
   told = p.fits;
   is_read = p.is_read;
-  call = cc p.last;
+  call = ap call_in p.last;
   legal = refl;
   spelled = search (rules, arith);
   room = search arith;
@@ -154,7 +164,7 @@ over start opens = record {
         11,
         record { within = search arith; one = one_clone; parts = refl },
         search arith,
-        λ none. absurd (cc none),
+        no_lines _ _,
         refl,
       );
     };
@@ -166,11 +176,11 @@ over start opens = record {
     answered = (
       (one_clone, search arith),
       cloned opens,
-      (tt, search arith),
-      (inl refl, refl),
-      (search (rules, arith), search arith),
-      (asks_for_neither, no_call, search arith),
-      tt,
+      (
+        (tt, search arith),
+        (inl refl, refl),
+        ((search (rules, arith), search arith), (asks_for_neither, no_call, search arith), tt),
+      ),
     );
     few = search arith;
     opening = codes "transcript 2\ndriver eth leaf 2 8 3 16\n";

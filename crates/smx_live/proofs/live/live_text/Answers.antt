@@ -1,7 +1,20 @@
 use Rattle.std.proofs.Common.{◌++◌, ◌∙◌, ℕ, Bool, List, ap, subst, sym}
+use Rattle.smx_live.specs.Inboxes.{FailsToRead}
 use Rattle.smx_live.specs.LiveText.{IsLive}
-use Rattle.smx_live.proofs.LiveTextLemmas.{answered_all, first, no_opening, no_session}
+use Rattle.smx_live.specs.Tables.{IsEndlessTable, IsUnfinished}
+use Rattle.smx_live.proofs.LiveTextLemmas.{answered_all, first, no_opening, no_session, no_table}
 use Rattle.smx_live.proofs.live.live_text.Goals as goal
+
+pub returns-in-Err : goal.returns-in-Err
+returns-in-Err g c =
+    let (read, t) = c.in-Err.ensures in
+    let sink = c.args.sink.now in
+    let feed = c.read_table.new.feed in
+    let why = subst (λ (h : List ℕ). FailsToRead (IsEndlessTable (h ++ read)) (IsUnfinished (h ++ read))
+    (g.F.Feed.failures feed) c.in-Err.fault) c.new-inbox.ensures.held t.fault in
+    no_table (g.F.Feed.remaining c.args.feed.now) (g.F.Feed.remaining feed) (g.F.Feed.ended feed) (g.F.Feed.failures feed)
+    read t.consumed (g.S.Sink.contents sink) (g.S.Sink.flushed sink) (g.S.Sink.failures sink) c.in-Err.fault
+    c.requires.sunk why
 
 pub returns-in-Err-begin : goal.returns-in-Err-begin
 returns-in-Err-begin g c =
