@@ -146,6 +146,21 @@ whole_is : worked_output
 unfolding digits
 whole_is = refl
 
+-- the table is over where the first of these lines stands
+table_over : IsTable false worked_table (asked_text worked_turns ++ codes "end\n3 exit\n")
+table_over = record {
+  lines = codes "programs 2" ∷ codes "driver eth leaf 2 8 3 16" ∷ [];
+  text = refl;
+  of_table = record { each = search (rules, arith); drivers = (refl, tt) };
+  over = inl (
+    11,
+    record { within = search arith; one = one_clone; parts = refl },
+    search arith,
+    no_lines _ _,
+    refl,
+  );
+}
+
 pub over : IsStartOf table begun → Performs begun (codes "3 clone eth") opened → IsOver worked_input false worked_output
 over start opens = record {
   before = codes "transcript 2\ndriver eth leaf 2 8 3 16\n3 clone eth = fd 0 0\nconfig\nnext 1 1\nfd 3 0 eth 0\nshown\n? no command\n";
@@ -156,18 +171,7 @@ over start opens = record {
     table = worked_table;
     turns = worked_turns;
     read_is = refl;
-    over = record {
-      lines = is_over.lines;
-      text = is_over.text;
-      of_table = is_over.of_table;
-      over = inl (
-        11,
-        record { within = search arith; one = one_clone; parts = refl },
-        search arith,
-        no_lines _ _,
-        refl,
-      );
-    };
+    over = table_over;
     fits = search arith;
     programs = start.programs;
     spelled = start.spelled;
