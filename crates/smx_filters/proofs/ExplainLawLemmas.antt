@@ -1,5 +1,6 @@
 -- What a check that explains itself says beside its verdict, and what is kept of an input in memory.
-use Rattle.std.proofs.Common.{◌≡◌, ℕ, ◌++◌, Bool, true, false, List, [], Option, Some, None, Err, Vec, refl, sym, subst, ◌∙◌, append-nil}
+use Rattle.std.proofs.Common.{◌≡◌, ℕ, ◌++◌, Bool, true, false, List, [], Option, Some, None, Err, Vec, refl}
+use Rattle.std.proofs.Common.{sym, subst, ◌∙◌, append-nil}
 use Rattle.std.specs.Global.{Global}
 use Rattle.smx_types.specs.declared.transcript.Transcript.{Transcript}
 use Rattle.smx_text.specs.declared.text_fault.TextFault.{TextFault}
@@ -40,7 +41,8 @@ is_there : (kept : Option (Vec ℕ Global)) (read input : List ℕ) → IsKept k
 is_there None read input kept same = absurd kept
 is_there (Some text) read input kept same = (text, refl, kept ∙ sym same)
 
-pub keeps_all : {V K T : Type 0} (f : Filter V K T) (input : List ℕ) (left before after : Option (List ℕ)) (ended flushed : Bool)
+pub keeps_all : {V K T : Type 0} (f : Filter V K T) (input : List ℕ) (left before after : Option (List ℕ))
+    (ended flushed : Bool)
     (reads writes : ℕ) (refusal : Refusal) (fault : TextFault)
     → KeepsText f (Some input) left ended reads before after flushed writes (Err refusal) → refusal.fault ≡ Text fault
     → (text : Vec ℕ Global) × (refusal.text ≡ Some text) × (text.items ≡ input)

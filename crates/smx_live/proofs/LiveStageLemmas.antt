@@ -56,7 +56,8 @@ module _ (s next : State) (count more : ℕ) (line text : List ℕ) (before afte
 
 module _ (further : OneFurther) (read : List ℕ) (ended : Bool) (output : List ℕ) (s : State) (count n : ℕ)
     (held : List ℕ)
-    (l : IsLive read ended output s count held) (line : HasLine n held) (small : n ≤ MAX_INPUT) (next : State) (more : ℕ)
+    (l : IsLive read ended output s count held) (line : HasLine n held) (small : n ≤ MAX_INPUT) (next : State)
+    (more : ℕ)
     (before after : Option (List ℕ)) (flushed : Bool) (failures : ℕ) where
   abbrev rest : List ℕ
   rest = drop (n + 1) held

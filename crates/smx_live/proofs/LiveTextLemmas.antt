@@ -82,7 +82,8 @@ module _ (had left : Option (List ℕ)) (ended : Bool) (reads : ℕ) (read : Lis
 
     -- its opening could not be written
     pub no_opening : (s : State) (after : Option (List ℕ)) (e : MainFault) → IsStartOf (table_text table) s
-        → Opens s before after flushed writes (Err e) → LivesText had left ended reads before after flushed writes (Err e)
+        → Opens s before after flushed writes (Err e) → LivesText had left ended reads before after flushed writes
+        (Err e)
     no_opening s after WriteFailed start h = record {
       read = read;
       consumed = consumed;

@@ -1,5 +1,6 @@
 -- A live session has one output, where memory was never wanting.
-use Rattle.std.proofs.Common.{◌≡◌, ◌≢◌, ℕ, ◌+◌, ◌<◌, ◌≤◌, ◌^◌, Bool, true, false, List, [], ◌∷◌, ◌++◌, length, map, take, drop}
+use Rattle.std.proofs.Common.{◌≡◌, ◌≢◌, ℕ, ◌+◌, ◌<◌, ◌≤◌, ◌^◌, Bool, true, false, List, [], ◌∷◌, ◌++◌, length}
+use Rattle.std.proofs.Common.{map, take, drop}
 use Rattle.std.proofs.Common.{Result, Ok, Err, refl, sym, ap, subst, ◌∙◌, append_assoc, arith, inl, inr}
 use Rattle.std.proofs.lemmas.Fmt.{decimal_nonempty, digits_decimal}
 use Rattle.std.proofs.lemmas.List.{append_cancel_left}
@@ -13,10 +14,8 @@ use Rattle.smx_types.specs.ProgramLists.{ProgramLists}
 use Rattle.smx_types.specs.declared.command.Command.{Command}
 use Rattle.smx_types.specs.declared.command.Entry.{Entry}
 use Rattle.smx_types.specs.declared.driver.DriverSpec.{DriverSpec}
-use Rattle.smx_types.specs.declared.limits.TheConstants.{MAX_COMMANDS}
 use Rattle.smx_types.specs.declared.reply.Reply.{Reply}
 use Rattle.smx_types.specs.declared.version.Version.{Version}
-use Rattle.smx_types.specs.declared.view.ConfigView.{ConfigView}
 use Rattle.smx_model.specs.Commands.{step}
 use Rattle.smx_model.specs.Configuration.{Configuration}
 use Rattle.smx_model.specs.Histories.{after, call_of}
@@ -41,7 +40,7 @@ use Rattle.smx_run.specs.declared.run_fault.RunFault.TheVariants as run
 use Rattle.smx_session.specs.Sessions.{HasDrivers, State}
 use Rattle.smx_filters.specs.declared.input.TheConstants.{MAX_INPUT}
 use Rattle.smx_live.specs.Inboxes.{HasLine, IsShort}
-use Rattle.smx_live.specs.LiveText.{HasComeSoFar, IsAtEnd, IsLive, IsOver, cut_words}
+use Rattle.smx_live.specs.LiveText.{HasComeSoFar, IsAtEnd, IsLive, IsOver}
 use Rattle.smx_live.specs.Tables.{AreOfTable, HasTableOf, IsOverAt, IsTable, begins_driver, lines_text, table_text}
 use Rattle.smx_live.specs.Turns.{Answer, AreAnswered, AsksToShow, Entered, HadMemory, IsAnswer, IsEntryOf, NotDone}
 use Rattle.smx_live.specs.Turns.{Shown, Turn, asked_text, entries_in, entries_of, said_text, view_lines}
@@ -80,7 +79,8 @@ first_is n bytes l after one is has =
 
 -- a line that begins otherwise stands there, or there is none more
 abbrev Stops : Bool → List ℕ → Type 0
-Stops ended rest = ((n : ℕ) × HasLine n rest × (begins_driver (take n rest) ≡ false)) ⊎ ((ended ≡ true) × IsOneLine rest)
+Stops ended rest = ((n : ℕ) × HasLine n rest × (begins_driver (take n rest) ≡ false))
+    ⊎ ((ended ≡ true) × IsOneLine rest)
 
 stops_at : (ended : Bool) (rest l after : List ℕ) → IsOneLine l → begins_driver l ≡ true
     → rest ≡ l ++ LINE_FEED ∷ after → Stops ended rest → ⊥
@@ -193,9 +193,11 @@ module _ (version : Version) (drivers : List DriverSpec) (history : List Entry) 
       ap (λ (c : ℕ × Command). entry_of c e.reply) call ∙ ap (λ (r : Reply). entry_of (call_of f) r) reply
 
   -- a line has one answer
-  answer_once : AreToldApart → (a b : Answer) → IsAnswer version drivers history l a → IsAnswer version drivers history l b
+  answer_once : AreToldApart → (a b : Answer) → IsAnswer version drivers history l a
+      → IsAnswer version drivers history l b
       → a ≢ NotDone NoMemory → b ≢ NotDone NoMemory → a ≡ b
-  answer_once told_apart (Entered e) (Entered f) is is_too had had_too = ap Entered (entry_once told_apart e f is is_too)
+  answer_once told_apart (Entered e) (Entered f) is is_too had had_too = ap Entered
+      (entry_once told_apart e f is is_too)
   answer_once told_apart (Entered e) (Shown v) is is_too had had_too = absurd (not_shown e is is_too.0)
   answer_once told_apart (Entered e) (NotDone NoCommand) is is_too had had_too =
       absurd (is_too.1 is.asked is.told is.is_read)
@@ -212,10 +214,12 @@ module _ (version : Version) (drivers : List DriverSpec) (history : List Entry) 
   answer_once told_apart (NotDone NoCommand) (Shown v) is is_too had had_too = absurd (is.0.0 is_too.0)
   answer_once told_apart (NotDone NoCommand) (NotDone NoCommand) is is_too had had_too = refl
   answer_once told_apart (NotDone NoCommand) (NotDone NoMemory) is is_too had had_too = absurd (had_too refl)
-  answer_once told_apart (NotDone NoCommand) (NotDone Full) is is_too had had_too = absurd (omega (arith, is.2, is_too.1))
+  answer_once told_apart (NotDone NoCommand) (NotDone Full) is is_too had had_too = absurd
+      (omega (arith, is.2, is_too.1))
   answer_once told_apart (NotDone Full) (Entered e) is is_too had had_too = absurd (omega (arith, is_too.room, is.1))
   answer_once told_apart (NotDone Full) (Shown v) is is_too had had_too = absurd (is.0.0 is_too.0)
-  answer_once told_apart (NotDone Full) (NotDone NoCommand) is is_too had had_too = absurd (omega (arith, is_too.2, is.1))
+  answer_once told_apart (NotDone Full) (NotDone NoCommand) is is_too had had_too = absurd
+      (omega (arith, is_too.2, is.1))
   answer_once told_apart (NotDone Full) (NotDone NoMemory) is is_too had had_too = absurd (had_too refl)
   answer_once told_apart (NotDone Full) (NotDone Full) is is_too had had_too = refl
 
@@ -242,7 +246,8 @@ no_end : (more held : List ℕ) → IsOneLine held → held ≡ codes "end\n" ++
 no_end more held one is = not_one (codes "end") more (subst IsOneLine is one)
 
 -- a session is at its end in one way
-words_once : (ended : Bool) (held words said : List ℕ) → IsAtEnd ended held words → IsAtEnd ended held said → words ≡ said
+words_once : (ended : Bool) (held words said : List ℕ) → IsAtEnd ended held words → IsAtEnd ended held said
+    → words ≡ said
 words_once ended held words said (inl (more, is, none)) (inl (rest, is_too, none_too)) = none ∙ sym none_too
 words_once ended held words said (inl (more, is, none)) (inr (end, short, cut)) = absurd (no_end more held short.0 is)
 words_once ended held words said (inr (end, short, cut)) (inl (more, is, none)) = absurd (no_end more held short.0 is)
@@ -279,8 +284,10 @@ module _ (version : Version) (drivers : List DriverSpec) (told_apart : AreToldAp
       let answer : t.answer ≡ u.answer = answer_once version drivers history t.line told_apart t.answer u.answer was.1
       said_too had.0 had_too.0 in
       let same : t ≡ u = ap (λ (l : List ℕ). turn l t.answer) cut.0 ∙ ap (turn u.line) answer in
-      let behind = subst (λ (a : Answer). AreAnswered version drivers (history ++ entries_in a) us) (sym answer) was_too.2 in
-      let others = turns_once (history ++ entries_in t.answer) ts us held more words said was.2 behind had.1 had_too.1 at
+      let behind = subst (λ (a : Answer). AreAnswered version drivers (history ++ entries_in a) us) (sym answer)
+      was_too.2 in
+      let others = turns_once (history ++ entries_in t.answer) ts us held more words said was.2 behind had.1 had_too.1
+      at
       at_too cut.1 in
       (ap (λ (x : Turn). x ∷ ts) same ∙ ap (λ (xs : List Turn). u ∷ xs) others.0, others.1) where
         turn : List ℕ → Answer → Turn
@@ -324,7 +331,8 @@ one_output reading told_apart read ended one other o p had had_too =
     ∙ ap (whole_output p.s.version p.s.drivers p.live.turns) turns.1 ∙ sym (output_is read ended other p) where
       table : (o.live.table ≡ p.live.table)
           × (asked_text o.live.turns ++ o.held ≡ asked_text p.live.turns ++ p.held)
-      table = table_once ended o.live.table p.live.table _ _ o.live.over p.live.over (sym o.live.read_is ∙ p.live.read_is)
+      table = table_once ended o.live.table p.live.table _ _ o.live.over p.live.over
+          (sym o.live.read_is ∙ p.live.read_is)
 
       programs : o.live.programs ≡ p.live.programs
       programs = value_once reading (table_text p.live.table) o.s.version p.s.version o.live.programs p.live.programs
@@ -339,7 +347,8 @@ one_output reading told_apart read ended one other o p had had_too =
       drivers = o.live.drivers ∙ ap (λ (x : ProgramLists). x.drivers) programs ∙ sym p.live.drivers
 
       turns : (o.live.turns ≡ p.live.turns) × (o.words ≡ p.words)
-      turns = turns_once p.s.version p.s.drivers told_apart ended [] o.live.turns p.live.turns o.held p.held o.words p.words
+      turns = turns_once p.s.version p.s.drivers told_apart ended [] o.live.turns p.live.turns o.held p.held o.words
+          p.words
           (subst (λ (ds : List DriverSpec). AreAnswered p.s.version ds [] o.live.turns) drivers
           (subst (λ (v : Version). AreAnswered v o.s.drivers [] o.live.turns) version o.live.answered))
           p.live.answered had had_too o.at_end p.at_end table.1
@@ -361,7 +370,8 @@ drivers_had determined drivers had run.HistoryFull h = absurd h
 drivers_had determined drivers had run.Held h = absurd h
 
 -- the table spells programs, and no other text has a fault there
-pub no_fault : HasOneReading → (read output : List ℕ) (ended : Bool) (fault : TextFault) → HasComeSoFar read ended output
+pub no_fault : HasOneReading → (read output : List ℕ) (ended : Bool) (fault : TextFault)
+    → HasComeSoFar read ended output
     → HasTableOf read ended (λ text. ReadsAny programs_grammar text (Err fault)) → fault.cause ≢ cause.NoMemory → ⊥
 no_fault reading read output ended fault (s, count, held, l) (table, rest, parts, over, bad) known =
     let same = table_once ended table l.table rest _ over l.over (sym parts ∙ l.read_is) in
@@ -379,7 +389,8 @@ no_refusal reading determined read output ended fault (s, count, held, l)
     (table, rest, parts, over, (version, p, spelled, refused)) =
     let same = table_once ended table l.table rest _ over l.over (sym parts ∙ l.read_is) in
     let there = subst (λ (t : List ℕ). Spells (programs_grammar version) (table_text t) p) same.0 spelled in
-    let programs : p ≡ l.programs = value_once reading (table_text l.table) version s.version p l.programs there l.spelled in
+    let programs : p ≡ l.programs = value_once reading (table_text l.table) version s.version p l.programs there
+    l.spelled in
     let drivers : p.drivers ≡ s.drivers = ap (λ (x : ProgramLists). x.drivers) programs ∙ sym l.drivers in
     drivers_had determined s.drivers l.can_be_had fault
     (subst (λ (ds : List DriverSpec). RefusesAlone ds fault) drivers refused)

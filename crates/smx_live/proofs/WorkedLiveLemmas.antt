@@ -1,27 +1,24 @@
 -- The worked live session.
-use Rattle.std.proofs.Common.{◌≡◌, ◌≤◌, ℕ, ◌+◌, Bool, true, false, List, [], ◌∷◌, ◌++◌, length, map, take, drop, Option, Some, None, refl, sym, ap, subst}
+use Rattle.std.proofs.Common.{◌≡◌, ℕ, ◌+◌, false, List, [], ◌∷◌, ◌++◌, map, take, drop}
+use Rattle.std.proofs.Common.{Option, Some, None, refl, sym, ap, subst}
 use Rattle.std.proofs.Common.{inl, inr, arith, rules}
 use Rattle.std.specs.Fmt.{digits}
-use Rattle.std.specs.Prelude.{◌⊎◌, codes}
+use Rattle.std.specs.Prelude.{codes}
 use Rattle.smx_types.specs.declared.command.Command.{Command}
 use Rattle.smx_types.specs.declared.command.Entry.{Entry}
-use Rattle.smx_types.specs.declared.limits.TheConstants.{MAX_COMMANDS}
 use Rattle.smx_types.specs.declared.version.Version.TheVariants.{V2}
 use Rattle.smx_model.specs.Histories.{call_of}
-use Rattle.smx_model.specs.Views.{view}
 use Rattle.smx_model.specs.Worked.Common.{CloseAll, Fd, OpenClone, ◌does◌gets◌, eth}
 use Rattle.smx_text.specs.Grammar.{IsOneLine, beginning}
-use Rattle.smx_text.specs.GrowingTranscripts.{BeginsTranscript}
 use Rattle.smx_text.specs.TranscriptLines as line
 use Rattle.smx_text.specs.TranscriptText.{transcript_grammar}
 use Rattle.smx_session.specs.Sessions.{IsNoCall, IsStartOf, Performs}
-use Rattle.smx_session.specs.WorkedSessions.{begun, drivers, one_open, opened, table}
-use Rattle.smx_filters.specs.declared.input.TheConstants.{MAX_INPUT}
-use Rattle.smx_live.specs.Inboxes.{HasLine}
-use Rattle.smx_live.specs.LiveText.{IsLive, IsOver, closing_text}
+use Rattle.smx_session.specs.WorkedSessions.{begun, drivers, opened, table}
+use Rattle.smx_live.specs.LiveText.{IsOver, closing_text}
 use Rattle.smx_live.specs.Tables.{IsTable}
-use Rattle.smx_live.specs.Turns.{AreAnswered, AsksForNeither, Entered, IsAnswer, IsEntryOf, NotDone, asked_text, said_text}
-use Rattle.smx_live.specs.WorkedLives.{worked_input, worked_output, worked_table, worked_turns}
+use Rattle.smx_live.specs.Turns.{AsksForNeither, Entered, IsAnswer, IsEntryOf, NotDone, asked_text}
+use Rattle.smx_live.specs.Turns.{said_text}
+use Rattle.smx_live.specs.WorkedLives.{worked_answers, worked_input, worked_output, worked_table, worked_turns}
 use Rattle.smx_live.specs.declared.wrong.Wrong.TheVariants.{NoCommand, Full}
 use Rattle.smx_live.proofs.OneOutputLemmas.{no_entry, not_one, table_once}
 
@@ -119,7 +116,8 @@ abbrev call_in : Option Entry → ℕ × Command
 call_in (Some e) = call_of e
 call_in None = (64, CloseAll)
 
-cloned : Performs begun (codes "3 clone eth") opened → IsEntryOf V2 drivers [] (codes "3 clone eth") (3 does OpenClone eth gets Fd 0 0)
+cloned : Performs begun (codes "3 clone eth") opened → IsEntryOf V2 drivers [] (codes "3 clone eth")
+    (3 does OpenClone eth gets Fd 0 0)
 cloned p = record {
   asked = p.asked;
   told = p.fits;
@@ -135,13 +133,13 @@ opening_is : codes "transcript 2\ndriver eth leaf 2 8 3 16\n"
 unfolding digits
 opening_is = refl
 
-said_is : codes "transcript 2\ndriver eth leaf 2 8 3 16\n3 clone eth = fd 0 0\nconfig\nnext 1 1\nfd 3 0 eth 0\nshown\n? no command\n"
+said_is : worked_answers
     ≡ codes "transcript 2\ndriver eth leaf 2 8 3 16\n" ++ said_text worked_turns
 unfolding digits
 said_is = refl
 
 whole_is : worked_output
-    ≡ codes "transcript 2\ndriver eth leaf 2 8 3 16\n3 clone eth = fd 0 0\nconfig\nnext 1 1\nfd 3 0 eth 0\nshown\n? no command\n"
+    ≡ worked_answers
     ++ ([] ++ closing_text opened)
 unfolding digits
 whole_is = refl
@@ -163,7 +161,7 @@ table_over = record {
 
 pub over : IsStartOf table begun → Performs begun (codes "3 clone eth") opened → IsOver worked_input false worked_output
 over start opens = record {
-  before = codes "transcript 2\ndriver eth leaf 2 8 3 16\n3 clone eth = fd 0 0\nconfig\nnext 1 1\nfd 3 0 eth 0\nshown\n? no command\n";
+  before = worked_answers;
   s = opened;
   count = 1;
   held = codes "end\n3 exit\n";

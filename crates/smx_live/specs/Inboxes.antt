@@ -62,5 +62,6 @@ pub record IsNextLine (had left : Option (List ℕ)) (ended : Bool) (failures : 
   pub end : OnOk result (ended ≡ new.ended)
   pub found : IfOk result (IsFound ended new.held.items)
   pub fine : OnOk result (failures ≡ 0)
-  pub fault : IfErr result (FailsToRead (IsTooLong (old.held.items ++ read)) (IsOneLine (old.held.items ++ read)) failures)
+  pub fault : IfErr result (FailsToRead (IsTooLong (old.held.items ++ read)) (IsOneLine (old.held.items ++ read))
+      failures)
   pub stays : old.ended ≡ true → (read ≡ []) × (ended ≡ true)

@@ -28,7 +28,8 @@ pub record HasTable (had left : Option (List ℕ)) (ended : Bool) (failures : �
   pub end : OnOk result (ended ≡ new.ended)
   pub fine : OnOk result (failures ≡ 0)
   pub fits : IfOk result (λ table. length table.items ≤ MAX_INPUT)
-  pub fault : IfErr result (FailsToRead (IsEndlessTable (old.held.items ++ read)) (IsUnfinished (old.held.items ++ read))
+  pub fault : IfErr result (FailsToRead (IsEndlessTable (old.held.items ++ read))
+      (IsUnfinished (old.held.items ++ read))
       failures)
 
 -- a session begins over the drivers of a table, or the table or its drivers are at fault, or memory was wanting

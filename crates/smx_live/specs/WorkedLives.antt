@@ -1,9 +1,9 @@
 -- A worked live session: what is read and written, and what its lines are answered, all typed in.
-use Rattle.std.specs.Prelude.{◌≡◌, ℕ, List, [], ◌∷◌, codes, refl}
+use Rattle.std.specs.Prelude.{◌≡◌, ℕ, List, [], ◌∷◌, ◌++◌, codes, refl}
 use Rattle.std.specs.Fmt.{digits}
 use Rattle.smx_model.specs.Views.{view}
 use Rattle.smx_model.specs.Worked.Common.{Fd, OpenClone, ◌does◌gets◌, eth}
-use Rattle.smx_session.specs.WorkedSessions.{begun, drivers, hung, one_open, opened}
+use Rattle.smx_session.specs.WorkedSessions.{begun, drivers, hung, one_open}
 use Rattle.smx_live.specs.LiveText.{closing_text, cut_words}
 use Rattle.smx_live.specs.Tables.{table_text}
 use Rattle.smx_live.specs.Turns.{Entered, NotDone, Shown, Turn, answer_text, wrong_line}
@@ -24,10 +24,14 @@ worked_turns =
 abbrev pub worked_input : List ℕ
 worked_input = codes "programs 2\ndriver eth leaf 2 8 3 16\n3 clone eth\n\nx\nend\n3 exit\n"
 
--- what is written
+-- what is written up to the end, and in all
+abbrev pub worked_answers : List ℕ
+worked_answers =
+    codes "transcript 2\ndriver eth leaf 2 8 3 16\n3 clone eth = fd 0 0\n"
+    ++ codes "config\nnext 1 1\nfd 3 0 eth 0\nshown\n? no command\n"
+
 abbrev pub worked_output : List ℕ
-worked_output =
-    codes "transcript 2\ndriver eth leaf 2 8 3 16\n3 clone eth = fd 0 0\nconfig\nnext 1 1\nfd 3 0 eth 0\nshown\n? no command\nconfig\nnext 1 1\nfd 3 0 eth 0\nend\n"
+worked_output = worked_answers ++ codes "config\nnext 1 1\nfd 3 0 eth 0\nend\n"
 
 -- answers
 pub entry_told : answer_text (Entered (3 does OpenClone eth gets Fd 0 0)) ≡ codes "3 clone eth = fd 0 0\n"

@@ -1,5 +1,6 @@
 -- A line has one place at the most.
-use Rattle.std.proofs.Common.{◌≡◌, ℕ, ◌+◌, List, [], ◌∷◌, ◌++◌, length, refl, sym, ap, subst, ◌∙◌, append_assoc, inl, inr}
+use Rattle.std.proofs.Common.{◌≡◌, ℕ, ◌+◌, List, [], ◌∷◌, ◌++◌, length, refl, sym, ap, subst, ◌∙◌, append_assoc}
+use Rattle.std.proofs.Common.{inl, inr}
 use Rattle.std.proofs.lemmas.List.{append-nil}
 use Rattle.std.specs.List.{AllByRecursion}
 use Rattle.std.specs.Prelude.{◌⊎◌, ◌↔◌}
@@ -81,7 +82,8 @@ module _ (kind : TextKind) (version : Version) where
       (begins_with (front ++ h.word ∷ []) h.more (subst (Begins kind version) h.to begun))
 
   -- nor is the line whole
-  stops_whole : (front behind : List (List ℕ)) → Stops kind version front behind → IsLine kind version (front ++ behind) → ⊥
+  stops_whole : (front behind : List (List ℕ)) → Stops kind version front behind
+      → IsLine kind version (front ++ behind) → ⊥
   stops_whole front [] stops is = stops (subst (IsLine kind version) (append-nil front) is)
   stops_whole front (word ∷ behind) stops is =
       stops (behind, subst (IsLine kind version) (sym (append_assoc front (word ∷ []) behind)) is)
@@ -109,7 +111,8 @@ module _ (kind : TextKind) (version : Version) where
       pub same_words : (word : List ℕ) → IsWanted version one.wanted word ↔ IsWanted version other.wanted word
       same_words word = (
         λ is. (k.wanted word).0
-            (subst (λ (front : List (List ℕ)). Begins kind version (front ++ word ∷ [])) same_front ((h.wanted word).1 is)),
+            (subst (λ (front : List (List ℕ)). Begins kind version (front ++ word ∷ [])) same_front
+            ((h.wanted word).1 is)),
         λ is. (h.wanted word).0
             (subst (λ (front : List (List ℕ)). Begins kind version (front ++ word ∷ [])) (sym same_front)
             ((k.wanted word).1 is)),

@@ -28,7 +28,8 @@ neither version next word fixed other values then (inl is) = fixed values then i
 neither version next word fixed other values then (inr is) = other values then is
 
 -- no line of programs begins with these words
-no_line : (word : List ℕ) → ((values : List Value) (then : Choice) → IsFixed V1 choice.ProgramsLine word values then → ⊥)
+no_line : (word : List ℕ) → ((values : List Value) (then : Choice) → IsFixed V1 choice.ProgramsLine word values then
+    → ⊥)
     → ((values : List Value) (then : Choice) → IsFixed V1 choice.Command word values then → ⊥)
     → (values : List Value) (then : Choice) → GoesOn V1 [] choice.ProgramsLine word values then → ⊥
 no_line word fixed command =
@@ -56,7 +57,8 @@ pub word_wanting : IsPlace Programs V1 (codes "dup") (value_at 5 value.Number)
 word_wanting =
     ends_here Programs V1 (codes "dup") 5 None (value.Number ∷ []) choice.End
     (one_more Programs V1 (codes "dup") 1 (Some (seen (codes "dup"))) [] choice.ProgramsLine
-    (at_begin Programs V1 (seen (codes "dup"))) (seen (codes "dup")) refl (codes "dup") None (search (rules, arith)) refl
+    (at_begin Programs V1 (seen (codes "dup"))) (seen (codes "dup")) refl (codes "dup") None (search (rules, arith))
+    refl
     (value.Number ∷ []) choice.End (inr (search rules, refl)) 5 refl) refl (λ ends. ends)
 
 pub word_too_many : IsPlace Programs V1 (codes "exit 0") (choice_at 6 choice.End)
@@ -73,7 +75,8 @@ two_spaces =
     stops_here Programs V1 (codes "clone  ip") 7 (Some (seen (codes " ip"))) (value.Name ∷ []) choice.End
     (one_more Programs V1 (codes "clone  ip") 1 (Some (seen (codes "clone  ip"))) [] choice.ProgramsLine
     (at_begin Programs V1 (seen (codes "clone  ip"))) (seen (codes "clone  ip")) refl (codes "clone")
-    (Some (seen (codes " ip"))) (search (rules, arith)) refl (value.Name ∷ []) choice.End (inr (search rules, refl)) 7 refl)
+    (Some (seen (codes " ip"))) (search (rules, arith)) refl (value.Name ∷ []) choice.End (inr (search rules, refl)) 7
+    refl)
     (seen (codes " ip")) refl (codes "") (Some (seen (codes "ip"))) tt refl
     (λ values then goes. absurd (cc goes.0))
 
@@ -91,13 +94,16 @@ in_version_2 =
 -- ---- transcripts
 
 -- behind the process and the word `exit` of an entry
-behind_exit : (version : Version) (line rest : List ℕ) → line ≡ codes "0 exit " ++ rest → IsFixed version choice.Command (codes "exit") [] choice.Equals
+behind_exit : (version : Version) (line rest : List ℕ) → line ≡ codes "0 exit " ++ rest
+    → IsFixed version choice.Command (codes "exit") [] choice.Equals
     → HasCome Transcript version line 8 (Some (seen rest)) [] choice.Equals
 unfolding digits
 behind_exit version line rest is fixed =
-    rw is (one_more Transcript version (codes "0 exit " ++ rest) 3 (Some (seen (codes "exit " ++ rest))) [] choice.Command
+    rw is (one_more Transcript version (codes "0 exit " ++ rest) 3 (Some (seen (codes "exit " ++ rest))) []
+    choice.Command
     (one_more Transcript version (codes "0 exit " ++ rest) 1 (Some (seen (codes "0 exit " ++ rest))) []
-    choice.TranscriptLine (at_begin Transcript version (seen (codes "0 exit " ++ rest))) (seen (codes "0 exit " ++ rest))
+    choice.TranscriptLine (at_begin Transcript version (seen (codes "0 exit " ++ rest)))
+    (seen (codes "0 exit " ++ rest))
     refl (codes "0") (Some (seen (codes "exit " ++ rest))) (search (rules, arith)) refl [] choice.Command
     (inr ((0, omega arith, refl), refl, refl)) 3 refl)
     (seen (codes "exit " ++ rest)) refl (codes "exit") (Some (seen rest)) (search (rules, arith)) refl [] choice.Equals
@@ -106,9 +112,11 @@ behind_exit version line rest is fixed =
 pub no_equals : IsPlace Transcript V2 (codes "0 exit done") (choice_at 8 choice.Equals)
 no_equals =
     stops_here Transcript V2 (codes "0 exit done") 8 (Some (seen (codes "done"))) [] choice.Equals
-    (behind_exit V2 (codes "0 exit done") (codes "done") refl (search rules)) (seen (codes "done")) refl (codes "done") None
+    (behind_exit V2 (codes "0 exit done") (codes "done") refl (search rules)) (seen (codes "done")) refl
+    (codes "done") None
     (search (rules, arith)) refl
-    (neither V2 choice.Equals (codes "done") (λ values then. not_new (told_rows V2 choice.Equals) (codes "done") values then refl)
+    (neither V2 choice.Equals (codes "done") (λ values then. not_new (told_rows V2 choice.Equals) (codes "done")
+    values then refl)
     (λ values then is. is))
 
 -- behind the equals sign too
@@ -116,17 +124,20 @@ behind_equals : (line rest : List ℕ) → line ≡ codes "0 exit = " ++ rest
     → HasCome Transcript V1 line 10 (Some (seen rest)) [] choice.Reply
 behind_equals line rest is =
     one_more Transcript V1 line 8 (Some (seen (codes "= " ++ rest))) [] choice.Equals
-    (behind_exit V1 line (codes "= " ++ rest) is (search rules)) (seen (codes "= " ++ rest)) refl (codes "=") (Some (seen rest))
+    (behind_exit V1 line (codes "= " ++ rest) is (search rules)) (seen (codes "= " ++ rest)) refl (codes "=")
+    (Some (seen rest))
     (search (rules, arith)) refl [] choice.Reply (inl (search rules)) 10 refl
 
 pub other_cause : IsPlace Transcript V1 (codes "0 exit = EBADF full") (choice_at 16 choice.BadDescriptor)
 other_cause =
     stops_here Transcript V1 (codes "0 exit = EBADF full") 16 (Some (seen (codes "full"))) [] choice.BadDescriptor
     (one_more Transcript V1 (codes "0 exit = EBADF full") 10 (Some (seen (codes "EBADF full"))) [] choice.Reply
-    (behind_equals (codes "0 exit = EBADF full") (codes "EBADF full") refl) (seen (codes "EBADF full")) refl (codes "EBADF")
+    (behind_equals (codes "0 exit = EBADF full") (codes "EBADF full") refl) (seen (codes "EBADF full")) refl
+    (codes "EBADF")
     (Some (seen (codes "full"))) (search (rules, arith)) refl [] choice.BadDescriptor (inl (search rules)) 16 refl)
     (seen (codes "full")) refl (codes "full") None (search (rules, arith)) refl
-    (neither V1 choice.BadDescriptor (codes "full") (λ values then. not_new (told_rows V1 choice.BadDescriptor) (codes "full") values then refl)
+    (neither V1 choice.BadDescriptor (codes "full") (λ values then. not_new (told_rows V1 choice.BadDescriptor)
+    (codes "full") values then refl)
     (λ values then is. is))
 
 -- numbers of one digit
@@ -146,6 +157,7 @@ serials =
     (one_more Transcript V1 (codes "0 exit = done 7 5") 10 (Some (seen (codes "done 7 5"))) [] choice.Reply
     (behind_equals (codes "0 exit = done 7 5") (codes "done 7 5") refl) (seen (codes "done 7 5")) refl (codes "done")
     (Some (seen (codes "7 5"))) (search (rules, arith)) refl [] choice.Serials (inl (search rules)) 15 refl)
-    (seen (codes "7 5")) refl (codes "7") (Some (seen (codes "5"))) (search (rules, arith)) refl [] choice.Serials seven 17
+    (seen (codes "7 5")) refl (codes "7") (Some (seen (codes "5"))) (search (rules, arith)) refl [] choice.Serials
+    seven 17
     refl)
     (seen (codes "5")) refl (codes "5") None (search (rules, arith)) refl [] choice.Serials five 19 refl) refl tt

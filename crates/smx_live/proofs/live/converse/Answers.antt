@@ -124,7 +124,8 @@ loop-turn-preserved g c =
           (c.in-Ok-false.ensures.turn (read ++ gone.more) (output ++ gone.said) ended gone.live) in
           subst (λ (b : Bool). HasGone read output start had left before later (c.loop-turn._turn + 1) b next.session
           next.count rest) still
-          (turns read output start had left before after c.loop-turn._turn ended talk.session talk.count held gone later h.2
+          (turns read output start had left before after c.loop-turn._turn ended talk.session talk.count held gone
+          later h.2
           next.session next.count c.in-Ok-Some.n rest h.3 h.4 line.0.within
           (c.in-Ok-false.ensures.taken c.in-Ok-false.field-0-test));
       end = still;

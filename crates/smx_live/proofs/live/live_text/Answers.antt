@@ -12,7 +12,8 @@ returns-in-Err g c =
     let feed = c.read_table.new.feed in
     let why = subst (λ (h : List ℕ). FailsToRead (IsEndlessTable (h ++ read)) (IsUnfinished (h ++ read))
     (g.F.Feed.failures feed) c.in-Err.fault) c.new-inbox.ensures.held t.fault in
-    no_table (g.F.Feed.remaining c.args.feed.now) (g.F.Feed.remaining feed) (g.F.Feed.ended feed) (g.F.Feed.failures feed)
+    no_table (g.F.Feed.remaining c.args.feed.now) (g.F.Feed.remaining feed) (g.F.Feed.ended feed)
+    (g.F.Feed.failures feed)
     read t.consumed (g.S.Sink.contents sink) (g.S.Sink.flushed sink) (g.S.Sink.failures sink) c.in-Err.fault
     c.requires.sunk why
 
@@ -24,7 +25,8 @@ returns-in-Err-begin g c =
     let parts = ap (λ (h : List ℕ). h ++ read) (sym c.new-inbox.ensures.held) ∙ t.parts in
     no_session (g.F.Feed.remaining c.args.feed.now) (g.F.Feed.remaining feed) (g.F.Feed.ended feed)
     (g.F.Feed.failures feed) read t.consumed (g.S.Sink.contents sink) (g.S.Sink.flushed sink) (g.S.Sink.failures sink)
-    c.in-Ok.table.items c.read_table.new.inbox.held.items parts t.over t.fits t.fine c.in-Err-begin.fault c.requires.sunk
+    c.in-Ok.table.items c.read_table.new.inbox.held.items parts t.over t.fits t.fine c.in-Err-begin.fault
+    c.requires.sunk
     c.in-Err-begin.ensures
 
 pub returns-in-Ok-open : goal.returns-in-Ok-open
@@ -40,7 +42,8 @@ returns-in-Ok-open g c =
     let parts = ap (λ (h : List ℕ). h ++ read) (sym c.new-inbox.ensures.held) ∙ t.parts in
     let live = first (g.F.Feed.remaining c.args.feed.now) (g.F.Feed.remaining mid) (g.F.Feed.ended mid)
     (g.F.Feed.failures mid) read t.consumed (g.S.Sink.contents c.args.sink.now) (g.S.Sink.flushed c.open.new.sink)
-    (g.S.Sink.failures c.open.new.sink) c.in-Ok.table.items inbox.held.items parts t.over t.fits t.fine talk.session opening
+    (g.S.Sink.failures c.open.new.sink) c.in-Ok.table.items inbox.held.items parts t.over t.fits t.fine talk.session
+    opening
     begun.0 begins in
     let stands = subst (λ (n : ℕ). IsLive read inbox.ended opening talk.session n inbox.held.items) (sym begun.1)
     (subst (λ (b : Bool). IsLive read b opening talk.session 0 inbox.held.items) t.end live) in

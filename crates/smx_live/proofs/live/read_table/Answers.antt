@@ -53,7 +53,8 @@ returns-in-Err g c =
         end = tt;
         fine = tt;
         fits = tt;
-        fault = fails_with c.args.inbox.now.held.items read piece c.lines.table.items c.lines.inbox.held.items lines parts
+        fault = fails_with c.args.inbox.now.held.items read piece c.lines.table.items c.lines.inbox.held.items lines
+            parts
             text were _ _ p.fault;
       },
     )

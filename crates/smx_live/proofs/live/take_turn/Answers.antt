@@ -29,7 +29,8 @@ returns-in-Ok-false-clause-turn g c =
     let taken : turn (Ok false) (take c.args.n held) = subst (turn (Ok false)) (ap (take c.args.n) c.deref.ensures.value)
     (subst (λ (b : Bool). turn (Ok b) (take c.args.n c.deref.result.now)) c.in-Ok-false.field-0-test c.in-Ok-false.ensures) in
     λ read output ended l.
-    let (fine, flushed, said, appended, live) = turned_on c.one_entry_more.ensures.after read ended output talk.session talk.count
+    let (fine, flushed, said, appended, live) = turned_on c.one_entry_more.ensures.after read ended output
+    talk.session talk.count
     c.args.n held l c.requires.line c.requires.fits next.session next.count (g.S.Sink.contents c.args.sink.now)
     (g.S.Sink.contents sink) (g.S.Sink.flushed sink) (g.S.Sink.failures sink) (Ok false) taken in
     (fine, flushed, said, appended, rw c.drop_line.ensures.held live)

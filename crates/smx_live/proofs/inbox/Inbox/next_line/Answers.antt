@@ -1,4 +1,4 @@
-use Rattle.std.proofs.Common.{◌≡◌, ◌+◌, ◌++◌, ◌∙◌, ℕ, List, [], true, false, ap, append_assoc, arith, inl, inr, length}
+use Rattle.std.proofs.Common.{◌≡◌, ◌+◌, ◌++◌, ◌∙◌, ℕ, List, [], true, false, ap, append_assoc, arith, inl, inr}
 use Rattle.std.proofs.Common.{subst, sym}
 use Rattle.std.proofs.lemmas.List.{append-nil}
 use Rattle.std.proofs.KnownBytes.{Consumes-trans}
@@ -11,7 +11,8 @@ pub returns-in-Some : goal.returns-in-Some
 returns-in-Some g c =
     let inv = c.reads.invariant in
     let (read, consumed, held, stays) = inv.so_far in
-    let line = found_in c.reads.self.held.items c.deref.result.now c.reads.seen c.in-Some.n c.deref.ensures.value inv.seen
+    let line = found_in c.reads.self.held.items c.deref.result.now c.reads.seen c.in-Some.n c.deref.ensures.value
+    inv.seen
     inv.none c.in-Some.ensures in
     let ends = line_found (c.reads.seen + c.in-Some.n) c.reads.self.held.items (c.args.self.now.held.items ++ read)
     c.line_of.result (g.F.Feed.ended c.reads.feed) (g.F.Feed.failures c.reads.feed)
