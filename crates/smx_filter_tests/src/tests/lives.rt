@@ -175,16 +175,13 @@ fn with_a_long_line(
     live_bytes(rt.alloc(), input.as_slice())
 }
 
-// How a line may go on behind more bytes than an input may have.
-const ENDS: [&[u8]; 4] = [b"", b"\n", b"\nend\n", b"aaaa\nend\n"];
-
 // A line that is longer than an input may be is too long, whether it ends or not: behind a table, which is over at no such
 // line, and behind an answer.
 #[test]
 fn takes_no_endless_line(rt: HostRuntime) {
-    for rest in &ENDS {
-        let ran = with_a_long_line(&rt, b"programs 1\n", MAX_INPUT + 1, *rest);
-        has_refused(&rt, &ran, "input too long", 3);
+    let ran = with_a_long_line(&rt, b"programs 1\n", MAX_INPUT + 1, b"\nend\n");
+    has_refused(&rt, &ran, "input too long", 3);
+    for rest in &[b"".as_slice(), b"\nend\n"] {
         let ran = with_a_long_line(&rt, b"programs 1\nend 1\n", MAX_INPUT + 1, *rest);
         assert_eq!(rt; ran.line.as_str(), "input too long");
         assert_eq!(rt; ran.status, 3);
