@@ -22,9 +22,10 @@ use smx_types::{
     Command, Commands, DriverSpec, Drivers, MAX_COMMANDS, MAX_PROCESSES, NoMemory, ProgramList,
     Programs, Version,
 };
-use smx_words::{command_of, driver_of, process_of};
+use smx_words::{command_of, driver_of, process_of, push_command};
 use std::alloc::Global;
 use std::marker::Model;
+use std::mem::replace;
 
 // The drivers and programs of the lines so far.
 #[derive(Debug, Drop)]
@@ -32,6 +33,7 @@ pub struct ProgramsDraft {
     version: Version,
     drivers: Vec<DriverSpec>,
     programs: Vec<Commands>,
+    commands: Vec<Command>,
     count: usize,
 }
 
@@ -74,21 +76,26 @@ impl Draft for ProgramsDraft {
             version,
             drivers: Vec::new(alloc),
             programs: Vec::new(alloc),
+            commands: Vec::new(alloc),
             count: 0,
         }
     }
 
     fn add(&mut self, alloc: Global, text: &[u8]) -> Result<(), Cause> {
-        match command_of(alloc, self.version, text) {
-            Ok(Some(command)) => self.add_command(command),
-            Ok(None) => self.add_other(alloc, text),
-            Err(NoMemory) => Err(self.command_unread()),
+        match self.room_for_command() {
+            Ok(()) => self.add_where_room(alloc, text),
+            Err(cause) => self.add_where_none(alloc, text, cause),
         }
     }
 
     fn finish(self) -> Option<Programs> {
+        let mut programs = self.programs;
+        let count = programs.len();
+        if count > 0 {
+            programs[count - 1] = Commands::from_vec(self.commands);
+        }
         let drivers = Drivers::from_vec(self.drivers);
-        let programs = Programs::new(drivers, ProgramList::from_vec(self.programs)).ok()?;
+        let programs = Programs::new(drivers, ProgramList::from_vec(programs)).ok()?;
         Some(in_version(self.version, programs))
     }
 
@@ -107,6 +114,36 @@ fn in_version(version: Version, programs: Programs) -> Programs
 }
 
 impl ProgramsDraft {
+    fn add_where_room(&mut self, alloc: Global, text: &[u8]) -> Result<(), Cause> {
+        if self.commands.reserve(1).is_err() {
+            return self.add_where_none(alloc, text, Cause::NoMemory);
+        }
+        match push_command(&mut self.commands, alloc, self.version, text) {
+            Ok(true) => {
+                self.count += 1;
+                Ok(())
+            }
+            Ok(false) => self.add_other(alloc, text),
+            Err(NoMemory) => Err(Cause::NoMemory),
+        }
+    }
+
+    fn add_where_none(&mut self, alloc: Global, text: &[u8], cause: Cause) -> Result<(), Cause> {
+        match command_of(alloc, self.version, text) {
+            Ok(Some(_)) => Err(cause),
+            Ok(None) => self.add_other(alloc, text),
+            Err(NoMemory) => Err(cause),
+        }
+    }
+
+    fn keep_last(&mut self, alloc: Global) {
+        let count = self.programs.len();
+        if count > 0 {
+            let commands = replace(&mut self.commands, Vec::new(alloc));
+            self.programs[count - 1] = Commands::from_vec(commands);
+        }
+    }
+
     // A line that is no command.
     fn add_other(&mut self, alloc: Global, text: &[u8]) -> Result<(), Cause>
         requires begun { IsBegun (programs_grammar self.old.version) (body self.old) }
@@ -162,6 +199,7 @@ impl ProgramsDraft {
         if number >= MAX_PROCESSES {
             return Err(Cause::Many);
         }
+        self.keep_last(alloc);
         self.programs.push(Commands::new(alloc))?;
         Ok(())
     }
