@@ -1,6 +1,6 @@
 //! The first words of commands and of replies.
 
-ghost use Rattle.std.specs.Prelude.{◌≡◌, ◌≢◌, ◌∷◌, ◌++◌, ℕ, List, MatchOption, Some};
+ghost use Rattle.std.specs.Prelude.{◌≡◌, ◌≢◌, ◌∷◌, ◌++◌, ℕ, List, codes, MatchOption, Some};
 ghost use Rattle.smx_words.specs.LineReading.{IsFoundIn, BeginsWith};
 ghost use Rattle.smx_words.specs.Spellable.{FitsAlways};
 ghost use Rattle.smx_words.specs.Verbs.{verb_word, reply_verb_word};
