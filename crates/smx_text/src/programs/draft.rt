@@ -136,7 +136,7 @@ impl ProgramsDraft {
         ensures refused { IfErr result
             (RefusesLine (programs_grammar self.old.version) (body self.old) (DriverLine driver)) }
     {
-        if self.programs.len() > 0 {
+        if !self.programs.is_empty() {
             return Err(Cause::Form);
         }
         if self.drivers.len() >= self.version.max_drivers() {
@@ -211,7 +211,7 @@ impl ProgramsDraft {
         ensures refused { IfErr result (λ why. (c : AnyCommand)
             → RefusesLine (programs_grammar self.now.version) (body self.now) (CommandLine c) why) }
     {
-        if self.programs.len() == 0 {
+        if self.programs.is_empty() {
             return Err(Cause::Form);
         }
         if self.count >= MAX_COMMANDS {

@@ -1,12 +1,14 @@
 //! Programs that are being read, of which the last one still grows.
 
-ghost use Rattle.std.specs.Prelude.{◌≡◌, ◌≢◌, ◌<◌, [], ◌∷◌, ◌++◌, false, length, IfOk, IfErr, OnOk};
+ghost use Rattle.std.specs.Prelude.{◌≡◌, ◌≢◌, ◌<◌, [], ◌∷◌, ◌++◌, ◌≤◌, ◌-◌, ◌==◌, false, length, IfOk, IfErr};
+ghost use Rattle.std.specs.Prelude.{OnOk, OnErr};
+ghost use Rattle.std.specs.Vec.{vec_len, vec_capacity};
 ghost use Rattle.smx_types.specs.declared.command.Command.{Command as AnyCommand};
 ghost use Rattle.smx_words.specs.LineReading.{IsLineOf};
 ghost use Rattle.smx_words.specs.Spellable.{FitsCommandIn};
 ghost use Rattle.smx_words.specs.Spelling.{command_words};
 ghost use Rattle.smx_words.specs.Words.{line_of};
-ghost use Rattle.smx_text.specs.Growing.{IsPushed};
+ghost use Rattle.smx_text.specs.Growing.{IsPushed, with_last};
 
 use smx_types::{Command, Commands, NoMemory, ProgramList, Version};
 use smx_words::{command_of, push_command};
@@ -50,25 +52,23 @@ impl GrowingPrograms {
         self.programs.len()
     }
 
-    // One more, without commands, which is the last from now on. Fails only for want of memory.
-    pub fn begin(&mut self, alloc: Global) -> Result<(), NoMemory>
-        ensures { OnOk result (self.new ≡ self.old ++ [] ∷ []) }
+    // Whether there is none. Takes no memory.
+    pub fn is_empty(&self) -> bool
+        ensures { result ≡ (length self.now == 0) }
     {
-        self.put_last(alloc);
-        self.programs.push(Commands::new(alloc))?;
-        Ok(())
+        self.programs.is_empty()
     }
 
-    // Puts the last one into its place, if there is one.
-    fn put_last(&mut self, alloc: Global)
-        ensures put { self.new.programs.items ≡ with_last self.old.programs.items self.old.last.items }
-        ensures empty { self.new.last.items ≡ [] }
+    // One more, without commands, which is the last from now on. Fails only for want of memory, and then changes nothing.
+    pub fn begin(&mut self, alloc: Global) -> Result<(), NoMemory>
+        ensures ok { OnOk result (self.new ≡ self.old ++ [] ∷ []) }
+        ensures err { OnErr result (self.new ≡ self.old) }
     {
+        self.programs.reserve(1)?;
         let last = replace(&mut self.last, Vec::new(alloc));
-        let count = self.programs.len();
-        if count > 0 {
-            self.programs[count - 1] = Commands::from_vec(last);
-        }
+        put_last(&mut self.programs, last);
+        self.programs.push_reserved(Commands::new(alloc));
+        Ok(())
     }
 
     // Puts the command whose words a line is behind those of the last program, if it is one's that a version can tell,
@@ -95,11 +95,19 @@ impl GrowingPrograms {
         ensures { result ≡ self }
     {
         let mut programs = self.programs;
-        let count = programs.len();
-        if count > 0 {
-            programs[count - 1] = Commands::from_vec(self.last);
-        }
+        put_last(&mut programs, self.last);
         ProgramList::from_vec(programs)
+    }
+}
+
+// Puts the commands of the last program into its place, if there is one. Takes no memory.
+fn put_last(programs: &mut Vec<Commands>, last: Vec<Command>)
+    ensures put { programs.new.items ≡ with_last programs.old.items last.items }
+    ensures room { vec_capacity programs.old - vec_len programs.old ≤ vec_capacity programs.new - vec_len programs.new }
+{
+    let count = programs.len();
+    if count > 0 {
+        programs[count - 1] = Commands::from_vec(last);
     }
 }
 
