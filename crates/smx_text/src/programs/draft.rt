@@ -19,9 +19,7 @@ ghost use Rattle.smx_text.specs.ProgramsText.{body, programs_grammar};
 use crate::programs::growing::GrowingPrograms;
 use crate::reading::Draft;
 use crate::text_fault::Cause;
-use smx_types::{
-    DriverSpec, Drivers, MAX_COMMANDS, MAX_PROCESSES, NoMemory, Programs, Version,
-};
+use smx_types::{DriverSpec, Drivers, MAX_COMMANDS, MAX_PROCESSES, NoMemory, Programs, Version};
 use smx_words::{command_of, driver_of, process_of};
 use std::alloc::Global;
 use std::marker::Model;

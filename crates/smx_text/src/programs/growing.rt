@@ -83,6 +83,7 @@ impl GrowingPrograms {
         requires { 0 < length self.old }
         ensures pushed { IfOk result (IsPushed version line.now self.old self.new) }
         ensures wanted { IfErr result (λ _. IsLineOf (FitsCommandIn version) command_words line.now) }
+        ensures kept { OnErr result (self.new ≡ self.old) }
     {
         if self.last.reserve(1).is_err() {
             return without_room(alloc, version, line);

@@ -1,7 +1,7 @@
 //! The words of a command.
 
 ghost use Rattle.std.specs.Prelude.{◌≡◌, ◌≢◌, ◌<◌, ◌∷◌, ◌++◌, [], ℕ, List, codes, true, false, IsTrue, ◌↔◌};
-ghost use Rattle.std.specs.Prelude.{IfOk, IfErr, IsErr, MatchOption, MatchResult};
+ghost use Rattle.std.specs.Prelude.{IfOk, IfErr, IsErr, OnErr, MatchOption, MatchResult};
 ghost use Rattle.std.specs.Vec.{vec_len, vec_capacity};
 ghost use Rattle.smx_types.specs.declared.version.Version.{Version as AnyVersion};
 ghost use Rattle.smx_types.specs.declared.version.Version.TheVariants.{V1};
@@ -290,6 +290,7 @@ pub fn push_command(
     ensures pushed { IfOk result
         (IsPushed (FitsCommandIn version) command_words line.now commands.old.items commands.new.items) }
     ensures wanted { IfErr result (λ _. IsLineOf (FitsCommandIn version) command_words line.now) }
+    ensures kept { OnErr result (commands.new.items ≡ commands.old.items) }
 {
     let Some((verb, rest)) = first_verb(line) else {
         return Ok(push_if(commands, lone_command(line)));
@@ -313,6 +314,7 @@ fn push_after(
     ensures pushed { IfOk result (IsPushed FitsCommand command_words (line_of (verb_word verb ∷ rest.now ∷ []))
         commands.old.items commands.new.items) }
     ensures wanted { IfErr result (λ _. IsLineOf (FitsCommandIn V1) command_words (line_of (verb_word verb ∷ rest.now ∷ []))) }
+    ensures kept { OnErr result (commands.new.items ≡ commands.old.items) }
 {
     match verb {
         Verb::Write => push_read(commands, write(alloc, rest)),
@@ -365,6 +367,7 @@ fn push_read(
         ((pushed ≡ false) × (commands.new.items ≡ commands.old.items))
         (λ c. (pushed ≡ true) × (commands.new.items ≡ commands.old.items ++ c ∷ [])))) (λ _. IsErr result) }
     ensures wanted { IfErr result (λ _. IsErr read) }
+    ensures kept { OnErr result (commands.new.items ≡ commands.old.items) }
 {
     match read {
         Ok(read) => Ok(push_if(commands, read)),

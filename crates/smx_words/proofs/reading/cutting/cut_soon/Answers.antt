@@ -7,7 +7,7 @@ pub loop-at-preserved : goal.loop-at-preserved
 loop-at-preserved c = record {
   in_it = omega arith;
   free = free_more c.args.separator c.args.bytes.now c.loop-at.at c.loop-at-test.true c.loop-at.invariant.free
-  c.if-bytes-at.true;
+      c.if-bytes-at.true;
 }
 
 pub returns-then-at-bytes : goal.returns-then-at-bytes
@@ -17,8 +17,8 @@ returns-then-at-bytes c =
 pub returns : goal.returns
 returns c = elim c.loop-at-test.branch [
   | then-loop-at-test+else-bytes-at w ↦ (
-      c.loop-at.invariant.free,
-      is_cut c.args.separator c.args.bytes.now c.loop-at.at w.loop-at-test.true w.if-bytes-at.false,
-    )
+    c.loop-at.invariant.free,
+    is_cut c.args.separator c.args.bytes.now c.loop-at.at w.loop-at-test.true w.if-bytes-at.false,
+  )
   | else-loop-at-test w ↦ absurd (omega (arith, w.loop-at-test.false, c.loop-at.invariant.in_it, c.if-at-bytes.false))
 ]
