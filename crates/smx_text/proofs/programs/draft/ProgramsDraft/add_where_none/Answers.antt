@@ -6,20 +6,8 @@ use Rattle.smx_words.specs.Spellable.{FitsCommandIn}
 use Rattle.smx_words.specs.Spelling.{command_words}
 use Rattle.smx_text.specs.ProgramLines as line
 use Rattle.smx_text.specs.ProgramsText.{body}
-use Rattle.smx_text.proofs.ProgramsGrammarLemmas.{on_added_line, on_refused_line, refused_line}
-use Rattle.smx_text.proofs.programs.draft.ProgramsDraftDraft.add.Goals as goal
-
-pub returns-in-Ok-Some-clause-added : goal.returns-in-Ok-Some-clause-added
-returns-in-Ok-Some-clause-added c =
-    let same : c.self.inside.version ≡ c.args.self.now.version = ap (λ (p : ProgramLists). p.version) c.self.view_is in
-    let read = subst (λ (v : Version). IsReadAs (FitsCommandIn v) command_words c.args.text.now c.in-Ok-Some.field-0)
-    same
-    c.in-Ok-Some.ensures.reading in
-    let is = subst (IsReadAs (FitsCommandIn c.args.self.now.version) command_words c.args.text.now)
-    c.in-Ok-Some.field-0-is
-    read in
-    on_added_line c.args.self.now.version (body c.args.self.now) (body c.add_command.new.self)
-    (line.Command c.in-Ok-Some.command) c.args.text.now is.1 c.add_command.result c.add_command.ensures.added
+use Rattle.smx_text.proofs.ProgramsGrammarLemmas.{refused_line}
+use Rattle.smx_text.proofs.programs.draft.ProgramsDraft.add_where_none.Goals as goal
 
 pub returns-in-Ok-Some-clause-refused : goal.returns-in-Ok-Some-clause-refused
 returns-in-Ok-Some-clause-refused c =
@@ -30,13 +18,13 @@ returns-in-Ok-Some-clause-refused c =
     let is = subst (IsReadAs (FitsCommandIn c.args.self.now.version) command_words c.args.text.now)
     c.in-Ok-Some.field-0-is
     read in
-    on_refused_line c.args.self.now.version (body c.args.self.now) (line.Command c.in-Ok-Some.command)
-    c.args.text.now is.0 is.1 c.add_command.result c.add_command.ensures.refused
+    refused_line c.args.self.now.version (body c.args.self.now) (line.Command c.in-Ok-Some.field-0-0) c.args.text.now
+    is.0 is.1 c.args.cause (c.requires.none c.in-Ok-Some.field-0-0)
 
-pub returns-in-Err-clause-refused : goal.returns-in-Err-clause-refused
-returns-in-Err-clause-refused c =
+pub returns-clause-refused : goal.returns-clause-refused
+returns-clause-refused c =
     let same : c.self.inside.version ≡ c.args.self.now.version = ap (λ (p : ProgramLists). p.version) c.self.view_is in
     let some = subst (λ (v : Version). IsLineOf (FitsCommandIn v) command_words c.args.text.now) same
     c.in-Err.ensures.wanted in
     refused_line c.args.self.now.version (body c.args.self.now) (line.Command some.0) c.args.text.now some.1
-    some.2 c.command_unread.result (c.command_unread.ensures some.0 some.1)
+    some.2 c.args.cause (c.requires.none some.0)
