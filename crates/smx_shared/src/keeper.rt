@@ -4,8 +4,9 @@ use smx_types::{Entry, NoMemory};
 
 /// Is told of each entry of a history, in order, and keeps of it what it wants.
 pub trait Keeper: Drop {
-    ghost use Rattle.std.specs.Prelude.{◌≡◌, ◌++◌, ◌∷◌, [], List, length, OnOk};
+    ghost use Rattle.std.specs.Prelude.{◌≡◌, ◌<◌, ◌++◌, ◌∷◌, [], List, length, OnOk};
     ghost use Rattle.smx_types.specs.declared.command.Entry.{Entry as Made};
+    ghost use Rattle.smx_types.specs.declared.limits.TheConstants.{MAX_COMMANDS};
 
     // The entries that it was told of.
     ghost told: { Self → List Made };
@@ -24,7 +25,8 @@ pub trait Keeper: Drop {
 
     /// Tells it of the next entry, for which there is room. Takes no memory.
     fn add(&mut self, entry: Entry)
-        requires { has_room self.old }
+        requires room { has_room self.old }
+        requires few { length (told self.old) < MAX_COMMANDS }
         ensures { told self.new ≡ told self.old ++ entry ∷ [] };
 }
 

@@ -1,7 +1,8 @@
 //! A configuration together with the history that led to it.
 
-ghost use Rattle.std.specs.Prelude.{◌≡◌, ◌<◌, ◌≤◌, ◌↔◌, [], length, vec_capacity, IfOk, IfErr, OnOk, OnErr, IsErrOf};
+ghost use Rattle.std.specs.Prelude.{◌≡◌, ◌<◌, ◌≤◌, ◌↔◌, [], length, IfOk, IfErr, OnOk, OnErr, IsErrOf};
 ghost use Rattle.smx_types.specs.declared.limits.TheConstants.{MAX_COMMANDS};
+ghost use Rattle.smx_model.specs.Configuration.{empty};
 ghost use Rattle.smx_model.specs.DriverList.{IsDriverList};
 ghost use Rattle.smx_model.specs.Histories.{after};
 ghost use Rattle.smx_config.specs.DriverFaults.{RefusesDrivers};
@@ -60,7 +61,8 @@ impl System {
         ensures empty { IfOk result (λ s. s.history ≡ []) }
         ensures refused { IfErr result (RefusesDrivers drivers.now) }
     {
-        System::with_keeper(alloc, drivers, limit, Vec::new(alloc))
+        let config = Config::new(alloc, drivers)?;
+        Ok(System::begin(alloc, config, limit, Vec::new(alloc)))
     }
 
     /// Makes room for this many more entries. Nothing else changes, nor does anything where memory is wanting.
@@ -103,28 +105,24 @@ impl System {
 }
 
 impl<K: Keeper> System<K> {
-    /// The same as `new` with a keeper that was told of nothing yet.
-    pub fn with_keeper(
-        alloc: Global,
-        drivers: &[DriverSpec],
-        limit: usize,
-        kept: K,
-    ) -> Result<System<K>, ConfigFault>
+    /// Nothing was asked yet of this configuration, in which nothing is open, and its keeper was told of nothing. Takes no
+    /// memory.
+    pub fn begin(alloc: Global, config: Config, limit: usize, kept: K) -> System<K>
         requires limited { limit ≤ MAX_COMMANDS }
+        requires can_be_had { IsDriverList config.drivers }
+        requires fresh { config.configuration ≡ empty }
         requires untold { K.told kept ≡ [] }
-        ensures drivers { IfOk result (λ s. (s.drivers ≡ drivers.now) × IsDriverList drivers.now) }
-        ensures limit { IfOk result (λ s. s.limit ≡ limit) }
-        ensures empty { IfOk result (λ s. s.history ≡ []) }
-        ensures refused { IfErr result (RefusesDrivers drivers.now) }
+        ensures drivers { result.drivers ≡ config.drivers }
+        ensures limit { result.limit ≡ limit }
+        ensures empty { result.history ≡ [] }
     {
         lawful_after_each_entry();
-        let config = Config::new(alloc, drivers)?;
-        Ok(System {
+        System {
             alloc,
             config,
             limit,
             kept,
-        })
+        }
     }
 
     /// Performs one command, adds the entry of it and its reply after those before it, which stay, and answers that
