@@ -1,6 +1,7 @@
 -- What a recorder was told of a run.
 use Rattle.std.specs.Prelude.{◌≡◌, ◌≤◌, List, length, map}
 use Rattle.smx_types.specs.ProgramLists.{ProgramLists}
+use Rattle.smx_types.specs.declared.command.Command.{Command}
 use Rattle.smx_types.specs.declared.command.Entry.{Entry}
 use Rattle.smx_types.specs.declared.driver.DriverSpec.{DriverSpec}
 use Rattle.smx_types.specs.declared.limits.TheConstants.{MAX_COMMANDS}
@@ -29,3 +30,7 @@ pub record IsRecordOfRun (programs : ProgramLists) {K : Type 0}
   pub promised : IsReportOf programs
       (record { version = programs.version; drivers = programs.drivers; entries = entries; view = view })
   pub few : length entries ≤ MAX_COMMANDS
+
+-- what a run is of
+abbrev pub run_of : Version → List DriverSpec → List (List Command) → ProgramLists
+run_of version drivers programs = record { version = version; drivers = drivers; programs = programs }

@@ -23,7 +23,7 @@ pub use gate::{Gate, NoGate};
 pub use gathering::gather;
 pub use recorded_run::run_recorded;
 pub use recorded_together::run_recorded_together;
-pub use recorder::Recorder;
+pub use recorder::{NewRecorder, Recorder};
 pub use report::Report;
 pub use run::{MAX_WORKERS, run_programs};
 pub use run_fault::{GatherFault, RunFault};

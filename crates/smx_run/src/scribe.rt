@@ -5,7 +5,7 @@ ghost use Rattle.std.specs.Prelude.{◌≡◌, [], true, IfOk, IsErr, OnOk};
 use crate::past::Past;
 use crate::recorder::Recorder;
 use smx_shared::Keeper;
-use smx_types::{DriverSpec, Entry, NoMemory, Version};
+use smx_types::{Entry, NoMemory};
 use std::marker::{Brand, Model, PhantomData};
 
 /// Which version and which drivers a recorder was told of first. No value of it is made.
@@ -52,24 +52,18 @@ impl<A: About, K: Recorder> Model for Scribe<A, K> {
 }
 
 impl<A: About, K: Recorder> Scribe<A, K> {
-    /// With a recorder that was told of this version and these drivers, and of no entry yet. Fails only for want of memory.
-    pub fn begin(
-        room: K::Room,
-        version: Version,
-        drivers: &[DriverSpec],
-    ) -> Result<Scribe<A, K>, NoMemory>
-        requires version { version ≡ A.version }
-        requires drivers { drivers.now ≡ A.drivers }
-        ensures { IfOk result (λ s. s.entries ≡ []) }
+    /// With a recorder that was told of this version and these drivers, and of no entry yet. Takes no memory.
+    pub fn new(recorder: K) -> Scribe<A, K>
+        requires { K.told A.version A.drivers [] recorder }
+        ensures { result.entries ≡ [] }
     {
-        let recorder = K::begin(room, version, drivers)?;
-        Ok(Scribe {
+        Scribe {
             recorder: Some(recorder),
             waiting: None,
             count: 0,
             told: Past::new(&()),
             of: PhantomData,
-        })
+        }
     }
 
     /// The recorder, once it was told of all entries. Fails only for want of memory.

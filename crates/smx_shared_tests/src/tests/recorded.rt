@@ -7,7 +7,7 @@ use super::gates::Told::{After, Before};
 use super::gates::{Log, Told};
 use super::told::{IN_TURN, SIX};
 use super::workers::written;
-use smx_run::{Gate, NoGate, Recorder, run_recorded};
+use smx_run::{Gate, NewRecorder, NoGate, Recorder, run_recorded};
 use smx_text::read_programs;
 use smx_types::{
     ConfigView, Copied, DriverSpec, Drivers, Entries, Entry, NoMemory, Process, Transcript, Version,
@@ -29,10 +29,17 @@ struct Kept {
 impl Recorder for Kept {
     ghost use Rattle.std.specs.Prelude.{◌≡◌};
 
-    type Room = Global;
-
     ghost told = { λ version drivers entries kept.
         (kept.version ≡ version) × (kept.drivers ≡ drivers) × (kept.entries ≡ entries) };
+
+    fn add(&mut self, entry: &Entry) -> Result<(), NoMemory> {
+        let entry = entry.copy(self.alloc)?;
+        self.entries.push(entry)
+    }
+}
+
+impl NewRecorder for Kept {
+    type Room = Global;
 
     fn begin(room: Global, version: Version, drivers: &[DriverSpec]) -> Result<Kept, NoMemory> {
         let drivers = Drivers::from_vec(DriverSpec::copies(room, drivers)?);
@@ -42,11 +49,6 @@ impl Recorder for Kept {
             drivers,
             entries: Entries::new(room),
         })
-    }
-
-    fn add(&mut self, entry: &Entry) -> Result<(), NoMemory> {
-        let entry = entry.copy(self.alloc)?;
-        self.entries.push(entry)
     }
 }
 
@@ -116,9 +118,19 @@ struct Counting<'a> {
 }
 
 impl<'a> Recorder for Counting<'a> {
-    type Room = (&'a AtomicUsize, usize);
-
     ghost told = { λ _ _ _ _. Unit {0} };
+
+    fn add(&mut self, _entry: &Entry) -> Result<(), NoMemory> {
+        if self.told.fetch_add(1, Ordering::SeqCst) < self.most {
+            Ok(())
+        } else {
+            Err(NoMemory)
+        }
+    }
+}
+
+impl<'a> NewRecorder for Counting<'a> {
+    type Room = (&'a AtomicUsize, usize);
 
     fn begin(
         room: (&'a AtomicUsize, usize),
@@ -128,14 +140,6 @@ impl<'a> Recorder for Counting<'a> {
         let (told, most) = room;
         told.fetch_add(1, Ordering::SeqCst);
         Ok(Counting { told, most })
-    }
-
-    fn add(&mut self, _entry: &Entry) -> Result<(), NoMemory> {
-        if self.told.fetch_add(1, Ordering::SeqCst) < self.most {
-            Ok(())
-        } else {
-            Err(NoMemory)
-        }
     }
 }
 
