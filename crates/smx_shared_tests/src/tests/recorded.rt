@@ -19,7 +19,7 @@ use std::test::Fail;
 
 // Keeps a copy of all that it is told.
 #[derive(Drop)]
-struct Kept {
+pub struct Kept {
     alloc: Global,
     version: Version,
     drivers: Drivers,
@@ -53,7 +53,7 @@ impl NewRecorder for Kept {
 }
 
 // What was told, as a text.
-fn told(alloc: Global, kept: Kept, view: ConfigView) -> Result<Vec<u8>, Fail> {
+pub fn told(alloc: Global, kept: Kept, view: ConfigView) -> Result<Vec<u8>, Fail> {
     let transcript = Transcript {
         version: kept.version,
         drivers: kept.drivers,
@@ -70,7 +70,7 @@ fn recorded(alloc: Global, text: &[u8]) -> Result<Vec<u8>, Fail> {
     told(alloc, kept, view)
 }
 
-const TWO_PROCESSES: &[u8] = b"programs 1
+pub const TWO_PROCESSES: &[u8] = b"programs 1
 driver ip mux 2 8 3 16
 driver eth leaf 1 4 0 2
 process 0
@@ -111,7 +111,7 @@ fn a_recorder_is_told_of_all(rt: HostRuntime) -> Result<(), Fail> {
 
 // Counts how often it is told, of the drivers and of each entry, and wants memory from some time on.
 #[derive(Drop)]
-struct Counting<'a> {
+pub struct Counting<'a> {
     told: &'a AtomicUsize,
     // How often it may be told.
     most: usize,
