@@ -115,6 +115,12 @@ kept_all programs version drivers entries shown h =
 
 -- ---- many workers
 
+-- want of memory is answered only for drivers that can be had
+pub memory_refused_together : {T : Type 0} (drivers : List DriverSpec) (result : Result T RunFault)
+    → IsErrAnd result (λ e. e ≡ run.NoMemory) → IsDriverList drivers → IfErr result (RefusesRun drivers)
+memory_refused_together drivers (Ok x) is can = tt
+memory_refused_together drivers (Err e) is can = subst (RefusesRun drivers) (sym is) can
+
 -- what was told of a sound system, whose history holds the programs, with the view at the end
 pub record_of_run : {K : Type 0} (told : Version → List DriverSpec → List Entry → K → Type 0) → FewDrop
     → (version : Version) (drivers : List DriverSpec) (s : Recorded) (programs : List (List Command)) (recorder : K)

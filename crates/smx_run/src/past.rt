@@ -16,6 +16,9 @@ impl Model for Past {
     ghost also_owns = { λ _. ftrue };
 }
 
+// It owns nothing.
+unsafe impl Send for Past {}
+
 impl Past {
     /// The entries that the caller picks.
     pub fn new<A>(_by: &A) -> Past
