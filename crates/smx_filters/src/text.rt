@@ -146,6 +146,8 @@ fn transcript_of_several<R: Threads + Wait + Sync, G: Gate + Sync>(
 {
     reports_need_no_later_version();
     let _version = programs.version();
-    let (TextRecorder { writer }, view) = run_recorded_together(rt, alloc, programs, workers, room, gate)?;
+    let (TextRecorder { writer }, view) = run_recorded_together(
+        rt, alloc, programs, workers, room, gate,
+    )?;
     Ok(writer.finish(&view)?)
 }

@@ -36,7 +36,10 @@ pub fn deal<K: Keeper>(
 }
 
 // Hands with nothing in them.
-fn empty_hands<K: Keeper>(alloc: Global, workers: usize) -> Result<Vec<Vec<SeatedProgram<Seat<K>>>>, NoMemory>
+fn empty_hands<K: Keeper>(
+    alloc: Global,
+    workers: usize,
+) -> Result<Vec<Vec<SeatedProgram<Seat<K>>>>, NoMemory>
     ensures workers { IfOk result (λ v. vec_len v ≡ workers) }
     ensures none { IfOk result (λ v. map given_hand v.items ≡ hands_of workers []) }
     ensures fresh { IfOk result (λ v. (name : SharedId) → All (AreFresh name) v.items) }
@@ -87,7 +90,10 @@ pub fn collect<K: Keeper>(
 }
 
 // The first that is left of what a worker did.
-fn take_first<K: Keeper>(hands: &mut Vec<Vec<EndedProgram<Seat<K>>>>, worker: usize) -> EndedProgram<Seat<K>>
+fn take_first<K: Keeper>(
+    hands: &mut Vec<Vec<EndedProgram<Seat<K>>>>,
+    worker: usize,
+) -> EndedProgram<Seat<K>>
     requires worker { worker < vec_len hands.old }
     requires some { slice_index_or (map called_hand hands.old.items) worker [] ≢ [] }
     ensures workers { vec_len hands.new ≡ vec_len hands.old }

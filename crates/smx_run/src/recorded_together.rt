@@ -25,11 +25,7 @@ use std::thread::Threads;
 /// own. The recorder, which begins in the room, is told of each entry once its command was answered, and then the entry is
 /// given up. What comes back is the recorder, and the view of the configuration at the end. Refused for drivers that a
 /// configuration can't have, before there is a recorder; or for want of memory, also where a worker can't be started.
-pub fn run_recorded_together<
-    R: Threads + Wait + Sync,
-    K: NewRecorder + Send,
-    G: Gate + Sync,
->(
+pub fn run_recorded_together<R: Threads + Wait + Sync, K: NewRecorder + Send, G: Gate + Sync>(
     rt: &R,
     alloc: Global,
     programs: Programs,

@@ -35,12 +35,7 @@ fn recorded<R: Threads + Wait + Sync>(
 {
     let programs = some_programs(alloc, text)?;
     let (kept, view) = run_recorded_together::<R, Kept, NoGate>(
-        rt,
-        alloc,
-        programs,
-        workers,
-        alloc,
-        &NoGate,
+        rt, alloc, programs, workers, alloc, &NoGate,
     )?;
     told(alloc, kept, view)
 }
@@ -54,12 +49,7 @@ fn ends_well<R: Threads + Wait + Sync>(
 ) -> Result<bool, Fail> {
     let programs = some_programs(alloc, text)?;
     let ended = run_recorded_together::<R, Counting, NoGate>(
-        rt,
-        alloc,
-        programs,
-        2,
-        recorder,
-        &NoGate,
+        rt, alloc, programs, 2, recorder, &NoGate,
     );
     Ok(ended.is_ok())
 }
