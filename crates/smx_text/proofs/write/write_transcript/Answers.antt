@@ -1,4 +1,4 @@
-use Rattle.smx_text.proofs.write.write_transcript_into.Goals as goal
+use Rattle.smx_text.proofs.write.write_transcript.Goals as goal
 
 pub returns-clause-written : goal.returns-clause-written
 returns-clause-written c =
