@@ -26,10 +26,10 @@ pub struct GrowingPrograms {
 
 impl Model for GrowingPrograms {
     ghost use Rattle.std.specs.Prelude.{List};
-    ghost use Rattle.smx_types.specs.declared.command.Command.{Command as Any};
+    ghost use Rattle.smx_types.specs.declared.command.Command.{Command as AnyCommand};
     ghost use Rattle.smx_text.specs.Growing.{with_last};
 
-    ghost Value = { List (List Any) };
+    ghost Value = { List (List AnyCommand) };
 
     ghost view = { λ g. with_last g.programs.items g.last.items };
 }
