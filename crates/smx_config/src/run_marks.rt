@@ -24,7 +24,7 @@ impl Tables {
     pub fn mark_waiting(&self, run: &mut PlaceMarks, place: Place)
         ensures { IsMarkedWhere self.now.configuration.flow (same_place place) run.old run.new }
     {
-        if let Some(_message) = self.lists.queues.front(place) {
+        if self.lists.queues.has_messages(place) {
             run.mark(place);
         }
     }
@@ -35,9 +35,10 @@ impl Tables {
             → IsMarkedWhere self.now.configuration.flow (same_place place) run.old run.new }
         ensures none { first_message self.now.configuration.flow place ≡ None → IsWithoutMark place run.old run.new }
     {
-        match self.lists.queues.front(place) {
-            Some(_message) => run.mark(place),
-            None => run.clear(place),
+        if self.lists.queues.has_messages(place) {
+            run.mark(place);
+        } else {
+            run.clear(place);
         }
     }
 

@@ -213,7 +213,7 @@ impl Records {
     {
         match self.record_of(stream) {
             Some(record) => {
-                self.set(stream, record.opens + 1, record.holds);
+                self.put_numbers(record, record.opens + 1, record.holds);
                 Ok(())
             }
             None => {
@@ -238,6 +238,45 @@ impl Records {
         };
         put(&mut self.drivers, &mut self.records, record)?;
         Ok(())
+    }
+
+    // Other numbers in a record that was found; where both are 0 it goes.
+    fn put_numbers(&mut self, found: Record, opens: u32, holds: u32) {
+        self.change(Record {
+            stream: found.stream,
+            opens,
+            holds,
+            hung: found.hung,
+        });
+    }
+
+    /// One descriptor less of a stream that has one; where nothing is left the record goes.
+    pub fn close(&mut self, stream: StreamId) {
+        if let Some(record) = self.record_of(stream) {
+            self.put_numbers(record, record.opens - 1, record.holds);
+        }
+    }
+
+    /// One hold more of a stream that has a record.
+    pub fn hold(&mut self, stream: StreamId) {
+        if let Some(record) = self.record_of(stream) {
+            self.put_numbers(record, record.opens, record.holds + 1);
+        }
+    }
+
+    /// One hold less of a stream that is held; where nothing is left the record goes.
+    pub fn release(&mut self, stream: StreamId) {
+        if let Some(record) = self.record_of(stream) {
+            self.put_numbers(record, record.opens, record.holds - 1);
+        }
+    }
+
+    /// Whether the stream has one descriptor, and no hold.
+    pub fn is_opened_once(&self, stream: StreamId) -> bool {
+        match self.record_of(stream) {
+            Some(record) => record.opens == 1 && record.holds == 0,
+            None => false,
+        }
     }
 
     /// Other numbers for a stream that has a record; where both are 0 the record goes.
