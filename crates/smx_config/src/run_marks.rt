@@ -3,7 +3,8 @@
 ghost use Rattle.std.specs.Prelude.{◌≡◌, ◌≢◌, None};
 ghost use Rattle.smx_model.specs.Configuration.{same_place};
 ghost use Rattle.smx_model.specs.Queues.{first_message};
-ghost use Rattle.smx_config.specs.Marking.{is_read_below_driver, is_write_of, IsMarkedWhere, IsWithoutMark};
+ghost use Rattle.smx_queues.specs.PlaceMarks.{MarkList};
+ghost use Rattle.smx_config.specs.Marking.{is_read_below_driver, is_write_of, HasNeeded, IsMarkedWhere, IsOneMore, IsWithoutMark};
 
 use crate::tables::Tables;
 use smx_queues::PlaceMarks;
@@ -20,12 +21,23 @@ fn is_write_of(driver: u8, place: Place) -> bool
 }
 
 impl Tables {
-    // Marks the place, if it has a message.
+    // Marks the place, unless no message goes on from it.
+    pub fn mark_leading(&self, run: &mut PlaceMarks, place: Place)
+        ensures { (all : MarkList) × IsOneMore place run.old all
+            × HasNeeded self.now.drivers self.now.configuration all run.new }
+    {
+        if self.leads_on(place) {
+            run.mark(place);
+        }
+    }
+
+    // The same, if it has a message.
     pub fn mark_waiting(&self, run: &mut PlaceMarks, place: Place)
-        ensures { IsMarkedWhere self.now.configuration.flow (same_place place) run.old run.new }
+        ensures { (all : MarkList) × IsMarkedWhere self.now.configuration.flow (same_place place) run.old all
+            × HasNeeded self.now.drivers self.now.configuration all run.new }
     {
         if self.lists.queues.has_messages(place) {
-            run.mark(place);
+            self.mark_leading(run, place);
         }
     }
 
