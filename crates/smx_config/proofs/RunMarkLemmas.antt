@@ -1,5 +1,5 @@
 -- Places that are marked, one after another.
-use Rattle.std.proofs.Common.{◌≡◌, ℕ, Bool, true, false, ◌&&◌, ◌||◌, eqb, List, [], ◌∷◌, find, Option}
+use Rattle.std.proofs.Common.{◌≡◌, ℕ, Bool, true, false, ◌&&◌, eqb, List, ◌∷◌, find, Option}
 use Rattle.std.proofs.Common.{Some, None, refl, sym, ap, ◌∙◌, subst, inl, inr}
 use Rattle.std.specs.Prelude.{◌≢◌, ◌⊎◌}
 use Rattle.std.specs.List.{list_any}
@@ -63,8 +63,6 @@ pub fewer_marked : (flow : List QueuedMessage) (wide narrow : Place → Bool) (o
     → IsMarkedWhere flow narrow old new
 fewer_marked flow wide narrow old new less h =
     record { kept = h.kept; marked = λ p known some t. h.marked p known some (less p t); drivers = h.drivers }
-
-
 
 -- ---- the driver above a stream
 

@@ -42,15 +42,15 @@ impl Tables {
     }
 
     // Marks a place that a message has left, if it has another, and else takes its mark.
-    pub fn mark_left(&self, run: &mut PlaceMarks, place: Place)
-        ensures some { first_message self.now.configuration.flow place ≢ None
-            → IsMarkedWhere self.now.configuration.flow (same_place place) run.old run.new }
-        ensures none { first_message self.now.configuration.flow place ≡ None → IsWithoutMark place run.old run.new }
+    pub fn mark_left(&self, run: &mut PlaceMarks, left: Place)
+        ensures some { first_message self.now.configuration.flow left ≢ None
+            → IsMarkedWhere self.now.configuration.flow (same_place left) run.old run.new }
+        ensures none { first_message self.now.configuration.flow left ≡ None → IsWithoutMark left run.old run.new }
     {
-        if self.lists.queues.has_messages(place) {
-            run.mark(place);
+        if self.lists.queues.has_messages(left) {
+            run.mark(left);
         } else {
-            run.clear(place);
+            run.clear(left);
         }
     }
 

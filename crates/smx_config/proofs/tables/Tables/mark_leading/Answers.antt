@@ -1,4 +1,3 @@
-use Rattle.std.proofs.Common.{sym}
 use Rattle.smx_config.proofs.NeededLemmas.{needed_all, one_more_is, one_unneeded}
 use Rattle.smx_config.proofs.RunMarkLemmas.{with_one}
 use Rattle.smx_config.proofs.tables.Tables.mark_leading.Goals as goal
@@ -20,5 +19,5 @@ returns-else-leads_on c = (
   with_one c.args.run.now c.args.place,
   one_more_is c.args.place c.args.run.now,
   one_unneeded c.args.self.now.drivers c.args.self.now.configuration c.args.place c.args.run.now
-  (c.leads_on.ensures c.if-leads_on.false),
+      (c.leads_on.ensures c.if-leads_on.false),
 )

@@ -8,7 +8,7 @@ returns-then-has_messages c =
     let more = c.mark_leading.ensures in (
       more.0,
       one_marked c.args.self.now.configuration.flow c.args.place c.args.run.now more.0
-      more.1.here more.1.kept more.1.drivers,
+          more.1.here more.1.kept more.1.drivers,
       more.2,
     )
 
@@ -16,6 +16,6 @@ pub returns-else-has_messages : goal.returns-else-has_messages
 returns-else-has_messages c = (
   c.args.run.now,
   rw (← c.self.view_is) (no_message c.self.inside.lists.queues.flow c.args.place c.args.run.now
-  (told_none _ (sym c.if-has_messages.false ∙ c.has_messages.ensures))),
+      (told_none _ (sym c.if-has_messages.false ∙ c.has_messages.ensures))),
   needed_all c.args.self.now.drivers c.args.self.now.configuration c.args.run.now,
 )
