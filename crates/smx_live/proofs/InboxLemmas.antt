@@ -67,7 +67,8 @@ pub none_before : (held piece longer : List ℕ) (k : ℕ) → k ≡ length held
     → (k ≤ length longer) × IsOneLine (take k longer)
 none_before held piece longer k size is one = (
   omega (arith, size, ap (λ (bs : List ℕ). length bs) is, length-append held piece),
-  subst IsOneLine (sym (ap (take k) is ∙ ap (λ (n : ℕ). take n (held ++ piece)) size ∙ take-append_seam held piece)) one,
+  subst IsOneLine
+      (sym (ap (take k) is ∙ ap (λ (n : ℕ). take n (held ++ piece)) size ∙ take-append_seam held piece)) one,
 )
 
 -- no piece is too long by itself, and a read that failed gave none

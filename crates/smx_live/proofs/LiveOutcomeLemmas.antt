@@ -144,8 +144,8 @@ pub no_count : (read output : List ℕ) (had left before after : Option (List �
     → HasGone read output (length start) had left before after turn ended s count held → (flushed : Bool)
     (reads writes : ℕ) → reads ≡ 0 → writes ≡ 0 → 2 ^ 64 ≤ turn + 1
     → Converses read output had left ended reads before after flushed writes (Err TooLong)
-no_count read output had left before after turn ended first s number count start held was l g flushed reads writes fed fine
-    many =
+no_count read output had left before after turn ended first s number count start held was l g flushed reads writes fed
+    fine many =
     let size : length start ≤ length read = held_of_read read was output first number start l in
     record {
       more = g.more;

@@ -118,9 +118,10 @@ finished_on read ended output s count held text before after flushed failures (E
 
 -- ---- turn after turn
 
--- a session that had come so far, with so many bytes held, has read and written more, has taken so many turns, and stands so
-pub record HasGone (read output : List ℕ) (start : ℕ) (had left before after : Option (List ℕ)) (turn : ℕ) (ended : Bool)
-    (s : State) (count : ℕ) (held : List ℕ) : Type 0 where
+-- a session that had come so far, with so many bytes held, has read and written more, has taken so many turns, and
+-- stands so
+pub record HasGone (read output : List ℕ) (start : ℕ) (had left before after : Option (List ℕ)) (turn : ℕ)
+    (ended : Bool) (s : State) (count : ℕ) (held : List ℕ) : Type 0 where
   pub more : List ℕ
   pub consumed : Consumes had left more
   pub said : List ℕ
