@@ -7,6 +7,7 @@ pub mod LookupLemmas
 pub mod DriverFaultLemmas
 pub mod VerdictLemmas
 pub mod RunMarkLemmas
+pub mod NeededLemmas
 pub mod WakeLemmas
 pub mod StayingLemmas
 pub mod WokenLemmas

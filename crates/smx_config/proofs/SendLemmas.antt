@@ -1,5 +1,5 @@
 -- A message that may be sent: where it goes, and what it has.
-use Rattle.std.proofs.Common.{◌≡◌, ℕ, Bool, true, false, not, List, [], Result, Ok, Err}
+use Rattle.std.proofs.Common.{◌≡◌, ℕ, Bool, true, false, not, List, Result, Ok, Err}
 use Rattle.std.proofs.Common.{refl, ◌∙◌, subst}
 use Rattle.std.specs.Prelude.{IfOk}
 use Rattle.smx_types.specs.declared.driver.DriverSpec.{DriverSpec}

@@ -11,7 +11,7 @@ use Rattle.smx_model.specs.Configuration.{Configuration, same_place}
 use Rattle.smx_model.specs.FreedPlaces.{FreesOnly}
 use Rattle.smx_model.specs.KnownStreams.{IsKnown}
 use Rattle.smx_model.specs.Queues.{first_message, is_full}
-use Rattle.smx_model.specs.RunMarks.{TurnsOnly, all_but, feeds, is_freed, is_one_of, next_of_first, nowhere}
+use Rattle.smx_model.specs.RunMarks.{TurnsOnly, all_but, feeds, is_freed, is_one_of, next_of_first}
 use Rattle.smx_model.specs.SettlingByMarks.{IsMarkedAfter}
 use Rattle.smx_queues.specs.PlaceMarks.{MarkList, has_mark}
 use Rattle.smx_queues.specs.declared.waiters.Wait.{Wait}

@@ -4,7 +4,7 @@ use Rattle.std.specs.Prelude.{◌≡◌, ◌≢◌, ℕ, Bool, true, false, ◌&
 use Rattle.smx_types.specs.declared.driver.DriverSpec.{DriverSpec}
 use Rattle.smx_types.specs.declared.stream.Place.{Place}
 use Rattle.smx_types.specs.declared.stream.Side.TheVariants as side
-use Rattle.smx_model.specs.Configuration.{Configuration, QueuedMessage, same_side}
+use Rattle.smx_model.specs.Configuration.{Configuration, QueuedMessage, same_place, same_side}
 use Rattle.smx_model.specs.KnownStreams.{IsKnown}
 use Rattle.smx_model.specs.Queues.{first_message, is_full}
 use Rattle.smx_model.specs.RunMarks.{all_but, is_below_driver, next_of_first}
@@ -45,6 +45,18 @@ pub record IsMarkedWhere (flow : List QueuedMessage) (test : Place → Bool) (ol
   pub marked : (p : Place) → IsKnown old.drivers p.stream → first_message flow p ≢ None → test p ≡ true
       → has_mark new p ≡ true
   pub drivers : new.drivers ≡ old.drivers
+
+-- the place has a mark too
+pub record IsOneMore (place : Place) (old new : MarkList) : Type 0 where
+  pub here : IsKnown old.drivers place.stream → has_mark new place ≡ true
+  pub others : (q : Place) → same_place place q ≡ false → has_mark new q ≡ has_mark old q
+  pub kept : (q : Place) → has_mark old q ≡ true → has_mark new q ≡ true
+  pub drivers : new.drivers ≡ old.drivers
+
+-- of all these marks those are there that matter: of places whose first message has a next place
+pub record HasNeeded (drivers : List DriverSpec) (c : Configuration) (all some : MarkList) : Type 0 where
+  pub needed : (p : Place) → has_mark all p ≡ true → next_of_first drivers c p ≢ None → has_mark some p ≡ true
+  pub same_drivers : some.drivers ≡ all.drivers
 
 -- the mark of the place is gone
 pub record IsWithoutMark (place : Place) (old new : MarkList) : Type 0 where

@@ -103,7 +103,7 @@ impl Tables {
     {
         let side = Side::Read;
         self.lists.streams.is_hung(stream)
-            && self.lists.queues.front(Place { stream, side }).is_none()
+            && !self.lists.queues.has_messages(Place { stream, side })
     }
 
     /// The first message of the read side of the stream that a command names; the end of file, where that has hung up

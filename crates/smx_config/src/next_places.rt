@@ -1,6 +1,6 @@
 //! Where messages go next.
 
-ghost use Rattle.std.specs.Prelude.{◌≡◌};
+ghost use Rattle.std.specs.Prelude.{◌≡◌, false, None};
 ghost use Rattle.smx_model.specs.RunMarks.{next_of_first};
 ghost use Rattle.smx_model.specs.Settling.{live_write_side, place_below, place_above, next_place};
 
@@ -59,6 +59,17 @@ impl Tables {
                 }
             }
             Side::Read => self.up(stream, addr),
+        }
+    }
+
+    // Whether a message may go on from the place: it is the write side of a multiplexing driver's stream, or the read side
+    // of a stream that is below a link.
+    pub fn leads_on(&self, place: Place) -> bool
+        ensures { result ≡ false → next_of_first self.now.drivers self.now.configuration place ≡ None }
+    {
+        match place.side {
+            Side::Write => is_mux(&self.drivers, place.stream.driver as usize),
+            Side::Read => self.lists.links.is_below(place.stream),
         }
     }
 

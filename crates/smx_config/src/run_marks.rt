@@ -3,7 +3,8 @@
 ghost use Rattle.std.specs.Prelude.{◌≡◌, ◌≢◌, None};
 ghost use Rattle.smx_model.specs.Configuration.{same_place};
 ghost use Rattle.smx_model.specs.Queues.{first_message};
-ghost use Rattle.smx_config.specs.Marking.{is_read_below_driver, is_write_of, IsMarkedWhere, IsWithoutMark};
+ghost use Rattle.smx_queues.specs.PlaceMarks.{MarkList};
+ghost use Rattle.smx_config.specs.Marking.{is_read_below_driver, is_write_of, HasNeeded, IsMarkedWhere, IsOneMore, IsWithoutMark};
 
 use crate::tables::Tables;
 use smx_queues::PlaceMarks;
@@ -20,24 +21,36 @@ fn is_write_of(driver: u8, place: Place) -> bool
 }
 
 impl Tables {
-    // Marks the place, if it has a message.
-    pub fn mark_waiting(&self, run: &mut PlaceMarks, place: Place)
-        ensures { IsMarkedWhere self.now.configuration.flow (same_place place) run.old run.new }
+    // Marks the place, unless no message goes on from it.
+    pub fn mark_leading(&self, run: &mut PlaceMarks, place: Place)
+        ensures { (all : MarkList) × IsOneMore place run.old all
+            × HasNeeded self.now.drivers self.now.configuration all run.new }
     {
-        if let Some(_message) = self.lists.queues.front(place) {
+        if self.leads_on(place) {
             run.mark(place);
         }
     }
 
-    // Marks a place that a message has left, if it has another, and else takes its mark.
-    pub fn mark_left(&self, run: &mut PlaceMarks, place: Place)
-        ensures some { first_message self.now.configuration.flow place ≢ None
-            → IsMarkedWhere self.now.configuration.flow (same_place place) run.old run.new }
-        ensures none { first_message self.now.configuration.flow place ≡ None → IsWithoutMark place run.old run.new }
+    // The same, if it has a message.
+    pub fn mark_waiting(&self, run: &mut PlaceMarks, place: Place)
+        ensures { (all : MarkList) × IsMarkedWhere self.now.configuration.flow (same_place place) run.old all
+            × HasNeeded self.now.drivers self.now.configuration all run.new }
     {
-        match self.lists.queues.front(place) {
-            Some(_message) => run.mark(place),
-            None => run.clear(place),
+        if self.lists.queues.has_messages(place) {
+            self.mark_leading(run, place);
+        }
+    }
+
+    // Marks a place that a message has left, if it has another, and else takes its mark.
+    pub fn mark_left(&self, run: &mut PlaceMarks, left: Place)
+        ensures some { first_message self.now.configuration.flow left ≢ None
+            → IsMarkedWhere self.now.configuration.flow (same_place left) run.old run.new }
+        ensures none { first_message self.now.configuration.flow left ≡ None → IsWithoutMark left run.old run.new }
+    {
+        if self.lists.queues.has_messages(left) {
+            run.mark(left);
+        } else {
+            run.clear(left);
         }
     }
 

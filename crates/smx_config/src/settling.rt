@@ -145,7 +145,7 @@ impl Tables {
         self.move_on(next);
         self.release_if_open(marks, next.from);
         self.mark_left(&mut marks.run, next.from);
-        marks.run.mark(next.to);
+        self.mark_leading(&mut marks.run, next.to);
         marks.waits.clear(next.from);
     }
 

@@ -79,9 +79,10 @@ impl Tables {
     fn arrives_at(&self, place: Place) -> Wakes
         ensures { result ≡ arrives self.now.configuration place }
     {
-        match self.lists.queues.front(place) {
-            Some(_first) => Wakes::Nothing,
-            None => Wakes::Turns(place),
+        if self.lists.queues.has_messages(place) {
+            Wakes::Nothing
+        } else {
+            Wakes::Turns(place)
         }
     }
 

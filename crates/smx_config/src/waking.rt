@@ -4,8 +4,8 @@ ghost use Rattle.std.specs.Prelude.{◌≡◌, ◌<◌, false, true, length, IfS
 ghost use Rattle.smx_types.specs.declared.stream.Place.{Place as PlaceValue};
 ghost use Rattle.smx_model.specs.Configuration.{Configuration, same_place};
 ghost use Rattle.smx_model.specs.Queues.{is_full};
-ghost use Rattle.smx_queues.specs.PlaceMarks.{has_mark};
-ghost use Rattle.smx_config.specs.Marking.{AreWaitersMarked, IsMarkedWhere, IsReleased, IsWoken};
+ghost use Rattle.smx_queues.specs.PlaceMarks.{has_mark, MarkList};
+ghost use Rattle.smx_config.specs.Marking.{AreWaitersMarked, HasNeeded, IsMarkedWhere, IsReleased, IsWoken};
 ghost use Rattle.smx_config.specs.Wakes.{everywhere, freed_under, turned_under};
 
 use crate::marks::Marks;
@@ -79,7 +79,9 @@ impl Tables {
     }
 
     fn mark_turned(&self, run: &mut PlaceMarks, wakes: Wakes)
-        ensures { IsMarkedWhere self.now.configuration.flow (turned_under self.now.configuration wakes) run.old run.new }
+        ensures { (all : MarkList)
+            × IsMarkedWhere self.now.configuration.flow (turned_under self.now.configuration wakes) run.old all
+            × HasNeeded self.now.drivers self.now.configuration all run.new }
     {
         match wakes {
             Wakes::Turns(place) => self.mark_waiting(run, place),
@@ -91,7 +93,9 @@ impl Tables {
 
     // Marks what a command woke, and takes the wanted marks of the places that it freed.
     pub fn wake(&self, marks: &mut Marks, wakes: Wakes)
-        ensures { IsWoken self.now.configuration (turned_under self.now.configuration wakes) (freed_under wakes) marks.old marks.new }
+        ensures { (all : MarkList) × IsWoken self.now.configuration (turned_under self.now.configuration wakes)
+            (freed_under wakes) marks.old (record marks.new { run = all })
+            × HasNeeded self.now.drivers self.now.configuration all marks.new.run }
     {
         self.release_freed(marks, wakes);
         self.mark_turned(&mut marks.run, wakes);

@@ -1,6 +1,6 @@
 //! The transcript of a run, which is written while it goes.
 
-use smx_run::Recorder;
+use smx_run::{NewRecorder, Recorder};
 use smx_text::TranscriptWriter;
 use smx_types::{DriverSpec, Entry, NoMemory, Version};
 use std::slice;
@@ -14,9 +14,16 @@ pub struct TextRecorder {
 impl Recorder for TextRecorder {
     ghost use Rattle.smx_text.specs.GrowingTranscripts.{BeginsTranscript};
 
-    type Room = Vec<u8>;
-
     ghost told = { λ version drivers entries recorder. BeginsTranscript version drivers entries recorder.writer };
+
+    fn add(&mut self, entry: &Entry) -> Result<(), NoMemory> {
+        self.writer.add(slice::from_ref(entry))?;
+        Ok(())
+    }
+}
+
+impl NewRecorder for TextRecorder {
+    type Room = Vec<u8>;
 
     fn begin(
         room: Vec<u8>,
@@ -25,10 +32,5 @@ impl Recorder for TextRecorder {
     ) -> Result<TextRecorder, NoMemory> {
         let writer = TranscriptWriter::begin(room, version, drivers)?;
         Ok(TextRecorder { writer })
-    }
-
-    fn add(&mut self, entry: &Entry) -> Result<(), NoMemory> {
-        self.writer.add(slice::from_ref(entry))?;
-        Ok(())
     }
 }

@@ -128,6 +128,9 @@ pub fn renew(words: &mut [Word], pairs: &[Count], lost: Word)
         → AreMasks links words.new }
 {
     paths_join();
+    if lost == 0 {
+        return;
+    }
     let drivers = words.len();
     let stale = stale_drivers(words, lost);
     clear(words, stale);

@@ -20,7 +20,7 @@ use Rattle.smx_place.proofs.RowLemmas.{in_second}
 -- ---- tables whose words differ
 
 -- no row has the word
-abbrev is_new : List ℕ → List Row → Bool
+abbrev pub is_new : List ℕ → List Row → Bool
 is_new word [] = true
 is_new word (row ∷ rows) = not (bytes_eq word row.0) && is_new word rows
 
@@ -38,7 +38,7 @@ not_true true h k = absurd (cc h)
 not_true false h k = absurd (cc k)
 
 -- a word of some row is not new
-not_new : (ks : List Row) (word : List ℕ) (values : List Value) (next : Choice) → is_new word ks ≡ true
+pub not_new : (ks : List Row) (word : List ℕ) (values : List Value) (next : Choice) → is_new word ks ≡ true
     → IsRow ks word values next → ⊥
 not_new [] word values next h is = is
 not_new (k ∷ ks) word values next h (inl is) =
@@ -123,7 +123,8 @@ no_number : (ks : List Row) → no_digits ks ≡ true → (n : ℕ) → n < 2 ^ 
 no_number [] h n small word values next number is = is
 no_number (k ∷ ks) h n small word values next number (inl is) =
     not_true (all_ascii_digits k.0) (both (not (all_ascii_digits k.0)) (no_digits ks) h).0
-    (subst (λ (w : List ℕ). all_ascii_digits w ≡ true) (sym number ∙ is.0) (digits_decimal own n (omega (arith, small))))
+    (subst (λ (w : List ℕ). all_ascii_digits w ≡ true) (sym number ∙ is.0)
+    (digits_decimal own n (omega (arith, small))))
 no_number (k ∷ ks) h n small word values next number (inr more) =
     no_number ks (both (not (all_ascii_digits k.0)) (no_digits ks) h).1 n small word values next number more
 
@@ -141,8 +142,8 @@ module _ (version : Version) (word : List ℕ) where
       in_one (told_rows version ProgramsLine) (told_rows version Command) (lines_differ version) word values next others
       Equals is other.0
   fixed_alone TranscriptLine values next others then is ((process, small, number), none, chosen) =
-      no_number (told_rows version TranscriptLine) (no_line_digits version) process (omega (arith, small)) word values next
-      number is
+      no_number (told_rows version TranscriptLine) (no_line_digits version) process (omega (arith, small)) word values
+      next number is
   fixed_alone Command values next others then is other = other
   fixed_alone Equals values next others then is other = other
   fixed_alone Reply values next others then is other = other

@@ -1,8 +1,9 @@
 -- What a call on the queue of a number says of the flow and the full places.
 use Rattle.std.proofs.Common.{◌≡◌, ℕ, ◌<◌, arith, false, List, [], ◌∷◌, length, Option, Some, None, IsSome, refl, sym}
 use Rattle.std.proofs.Common.{ap, ◌∙◌, subst}
-use Rattle.std.specs.Prelude.{IfNone, OnSome, slice_get}
+use Rattle.std.specs.Prelude.{IfNone, OnSome, nat_lt, slice_get}
 use Rattle.std.specs.List.{list_any}
+use Rattle.std.specs.Option.{is_some}
 use Rattle.smx_types.specs.declared.message.Message.{Message}
 use Rattle.smx_types.specs.declared.stream.Place.{Place}
 use Rattle.smx_model.specs.Configuration.{same_place}
@@ -77,6 +78,12 @@ pub first_is_none : (p : PlaceList) (all : List (Option Queue)) (n : ℕ) (t : F
     → None ≡ first_message t.flow place
 first_is_none p all n t place seen none law =
     ap (λ (ms : List Message). slice_get ms 0) (queue_is_none p all n t place seen none) ∙ sym law
+
+-- there is one where the queue of the place's number has some messages
+pub some_first : (ms : List Message) (first : Option Message) → slice_get ms 0 ≡ first
+    → nat_lt 0 (length ms) ≡ is_some first
+some_first [] first e = ap (λ (o : Option Message). is_some o) e
+some_first (m ∷ ms) first e = grind arith ∙ ap (λ (o : Option Message). is_some o) e
 
 -- ---- what the tables are after a call
 

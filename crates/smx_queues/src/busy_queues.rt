@@ -1,6 +1,6 @@
 //! The queues of places, and which of them have messages.
 
-ghost use Rattle.std.specs.Prelude.{◌≡◌, ◌≢◌, ◌+◌, ◌<◌, ◌≤◌, [], ◌∷◌, ◌++◌, false, length, map, vec_capacity};
+ghost use Rattle.std.specs.Prelude.{◌≡◌, ◌≢◌, ◌+◌, ◌<◌, ◌≤◌, [], ◌∷◌, ◌++◌, false, length, map, nat_lt, vec_capacity};
 ghost use Rattle.std.specs.Prelude.{Some, None, IfOk, IfNone, OnOk, OnSome, option_copied, slice_get};
 ghost use Rattle.std.specs.Prelude.{slice_index_or, slice_set};
 ghost use Rattle.smx_types.specs.declared.message.Message.{Message};
@@ -86,6 +86,13 @@ impl BusyQueues {
         ensures { option_copied result ≡ slice_get (queue_at self.now.queues p).messages 0 }
     {
         self.queues.front(p)
+    }
+
+    pub fn has_messages(&self, p: PlaceId) -> bool
+        requires { IsPlace self.now.queues p }
+        ensures { result ≡ nat_lt 0 (length (queue_at self.now.queues p).messages) }
+    {
+        self.queues.message_count(p) > 0
     }
 
     pub fn messages(&self, p: PlaceId) -> Messages<'_>

@@ -3,6 +3,7 @@
 ghost use Rattle.std.specs.Prelude.{◌≡◌, ◌≢◌, ◌+◌, ◌<◌, ◌≤◌, ◌++◌, [], false, true, length, map, vec_capacity, None, Some};
 ghost use Rattle.std.specs.Prelude.{option_copied, IfOk, IfNone, IsSome, OnOk, OnSome};
 ghost use Rattle.std.specs.List.{All, list_any};
+ghost use Rattle.std.specs.Option.{is_some};
 ghost use Rattle.smx_types.specs.declared.message.Message.{Message};
 ghost use Rattle.smx_types.specs.declared.stream.Place.{Place as PlaceValue};
 ghost use Rattle.smx_model.specs.Configuration.{same_place};
@@ -70,6 +71,17 @@ impl FlowTable {
     {
         match self.places.number(place) {
             Some(p) => self.queues.is_full(p),
+            None => false,
+        }
+    }
+
+    /// Whether there is a message at the place. Takes no memory.
+    pub fn has_messages(&self, place: Place) -> bool
+        ensures { result ≡ is_some (first_message self.now.flow place) }
+    {
+        the_first_leaves();
+        match self.places.number(place) {
+            Some(p) => self.queues.has_messages(p),
             None => false,
         }
     }

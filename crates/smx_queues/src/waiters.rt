@@ -113,6 +113,9 @@ impl Waiters {
         ensures others { (q : PlaceValue) → same_place place q ≡ false → target_of self.new q ≡ target_of self.old q }
         ensures drivers { self.new.drivers ≡ self.old.drivers }
     {
+        if self.waits.is_empty() {
+            return;
+        }
         if let Some(p) = self.places.number(place) {
             let slot = self.slots[p];
             if slot != 0 {

@@ -1,9 +1,9 @@
 -- What goes when descriptors are closed.
-use Rattle.std.proofs.Common.{◌≡◌, ℕ, ◌+◌, Bool, true, false, ◌&&◌, ◌||◌, not, eqb, List, [], ◌∷◌, find, filter, Option}
+use Rattle.std.proofs.Common.{◌≡◌, ℕ, ◌+◌, true, false, ◌&&◌, ◌||◌, not, eqb, List, [], ◌∷◌, find, filter, Option}
 use Rattle.std.proofs.Common.{Some, None, refl, sym, ap, ◌∙◌, arith, inl, inr}
 use Rattle.std.specs.Prelude.{nat_lt}
 use Rattle.std.specs.Option.{option_map}
-use Rattle.std.proofs.lemmas.Bool.{cases_Bool, eq-eqb, eqb-true, false_from_ne_true, false≢true}
+use Rattle.std.proofs.lemmas.Bool.{cases_Bool, false≢true}
 use Rattle.std.proofs.lemmas.Bool.Decides.{nat_tests}
 use Rattle.smx_types.specs.declared.stream.Descriptor.{Descriptor}
 use Rattle.smx_types.specs.declared.stream.StreamId.{StreamId}
@@ -68,12 +68,3 @@ last_is t s p n opens rise e same =
       one_left : (less opens holds : ℕ) → opens ≡ 1 + less
           → (eqb opens 1 && eqb holds 0) ≡ not (nat_lt 0 less || nat_lt 0 holds)
       one_left less opens holds h = grind (arith, nat_tests)
-
--- both tests, the first of which is known
-pub last_then : (opens holds n : ℕ) (r : Bool) → opens ≡ 1 → holds ≡ n → (eqb opens 1 && eqb n 0) ≡ r → eqb holds 0 ≡ r
-last_then opens holds n r one e h = ap (λ (x : ℕ). eqb x 0) e ∙ rw (eq-eqb opens 1 one) at h
-
--- where the first of both tests is known to fail, it says what both say together
-pub last_else : (opens n : ℕ) (r : Bool) → (opens ≡ 1 → ⊥) → (eqb opens 1 && eqb n 0) ≡ r → eqb opens 1 ≡ r
-last_else opens n r other h =
-    let f : eqb opens 1 ≡ false = false_from_ne_true (eqb opens 1) (λ t. other (eqb-true opens 1 t)) in f ∙ rw f at h

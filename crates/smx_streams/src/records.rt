@@ -1,6 +1,6 @@
 //! The records of streams, found by driver and minor.
 
-ghost use Rattle.std.specs.Prelude.{◌≡◌, ◌≢◌, ◌+◌, ◌<◌, ◌≤◌, nat_lt, ◌&&◌, true, false, [], None, Some, map, length, replicate};
+ghost use Rattle.std.specs.Prelude.{◌≡◌, ◌≢◌, ◌+◌, ◌-◌, ◌<◌, ◌≤◌, ◌==◌, nat_lt, ◌&&◌, true, false, [], None, Some, map, length, replicate};
 ghost use Rattle.std.specs.Prelude.{slice_get, slice_index_or, IfOk, IsOk, OnOk, OnErr};
 ghost use Rattle.slab.specs.Slab.{get, Updates};
 ghost use Rattle.smx_types.specs.declared.limits.TheConstants.{MAX_DRIVERS};
@@ -165,16 +165,6 @@ impl Records {
         record_at(&self.records, key)
     }
 
-    /// How many descriptors the stream has.
-    pub fn opens_of(&self, stream: StreamId) -> u32
-        ensures { result ≡ number_at self.now.opens stream }
-    {
-        match self.record_of(stream) {
-            Some(record) => record.opens,
-            None => 0,
-        }
-    }
-
     /// How many holds the stream has.
     pub fn holds_of(&self, stream: StreamId) -> u32
         ensures { result ≡ number_at self.now.holds stream }
@@ -182,6 +172,16 @@ impl Records {
         match self.record_of(stream) {
             Some(record) => record.holds,
             None => 0,
+        }
+    }
+
+    /// Whether the stream has one descriptor, and no hold.
+    pub fn is_opened_once(&self, stream: StreamId) -> bool
+        ensures { result ≡ ((number_at self.now.opens stream == 1) && (number_at self.now.holds stream == 0)) }
+    {
+        match self.record_of(stream) {
+            Some(record) => record.opens == 1 && record.holds == 0,
+            None => false,
         }
     }
 
@@ -213,7 +213,12 @@ impl Records {
     {
         match self.record_of(stream) {
             Some(record) => {
-                self.set(stream, record.opens + 1, record.holds);
+                self.change(Record {
+                    stream,
+                    opens: record.opens + 1,
+                    holds: record.holds,
+                    hung: record.hung,
+                });
                 Ok(())
             }
             None => {
@@ -240,19 +245,57 @@ impl Records {
         Ok(())
     }
 
-    /// Other numbers for a stream that has a record; where both are 0 the record goes.
-    pub fn set(&mut self, stream: StreamId, opens: u32, holds: u32)
-        requires { 0 < number_at self.old.opens stream + number_at self.old.holds stream }
-        ensures { AreSet self.old stream opens holds
-            (nat_lt 0 (opens + holds) && flag_at self.old.hungs stream) self.new }
+    /// One descriptor less of a stream that has one; where nothing is left its record goes.
+    pub fn close(&mut self, stream: StreamId)
+        requires { 0 < number_at self.old.opens stream }
+        ensures { AreSet self.old stream (number_at self.old.opens stream - 1) (number_at self.old.holds stream)
+            (nat_lt 0 ((number_at self.old.opens stream - 1) + number_at self.old.holds stream)
+            && flag_at self.old.hungs stream) self.new }
     {
-        let hung = self.is_hung(stream);
-        self.change(Record {
-            stream,
-            opens,
-            holds,
-            hung,
-        });
+        if let Some(record) = self.record_of(stream) {
+            let hung = record.hung;
+            self.change(Record {
+                stream,
+                opens: record.opens - 1,
+                holds: record.holds,
+                hung,
+            });
+        }
+    }
+
+    /// One hold more of a stream that has a record.
+    pub fn hold(&mut self, stream: StreamId)
+        requires there { 0 < number_at self.old.opens stream + number_at self.old.holds stream }
+        requires few { number_at self.old.holds stream < 1024 }
+        ensures { AreSet self.old stream (number_at self.old.opens stream) (number_at self.old.holds stream + 1)
+            (nat_lt 0 (number_at self.old.opens stream + (number_at self.old.holds stream + 1))
+            && flag_at self.old.hungs stream) self.new }
+    {
+        if let Some(record) = self.record_of(stream) {
+            self.change(Record {
+                stream,
+                opens: record.opens,
+                holds: record.holds + 1,
+                hung: record.hung,
+            });
+        }
+    }
+
+    /// One hold less of a stream that is held; where nothing is left its record goes.
+    pub fn release(&mut self, stream: StreamId)
+        requires { 0 < number_at self.old.holds stream }
+        ensures { AreSet self.old stream (number_at self.old.opens stream) (number_at self.old.holds stream - 1)
+            (nat_lt 0 (number_at self.old.opens stream + (number_at self.old.holds stream - 1))
+            && flag_at self.old.hungs stream) self.new }
+    {
+        if let Some(record) = self.record_of(stream) {
+            self.change(Record {
+                stream,
+                opens: record.opens,
+                holds: record.holds - 1,
+                hung: record.hung,
+            });
+        }
     }
 
     /// The flag of a stream that has a record.
@@ -261,14 +304,14 @@ impl Records {
         ensures { AreSet self.old stream (number_at self.old.opens stream) (number_at self.old.holds stream) true
             self.new }
     {
-        let opens = self.opens_of(stream);
-        let holds = self.holds_of(stream);
-        self.change(Record {
-            stream,
-            opens,
-            holds,
-            hung: true,
-        });
+        if let Some(record) = self.record_of(stream) {
+            self.change(Record {
+                stream,
+                opens: record.opens,
+                holds: record.holds,
+                hung: true,
+            });
+        }
     }
 
     // Another record for a stream that has one; where it counts nothing it goes.

@@ -218,9 +218,7 @@ impl Streams {
     {
         self.descriptors.is_sound();
         match self.descriptors.stream_of(process, fd) {
-            Some(stream) => {
-                self.records.opens_of(stream) == 1 && self.records.holds_of(stream) == 0
-            }
+            Some(stream) => self.records.is_opened_once(stream),
             None => false,
         }
     }
@@ -236,9 +234,7 @@ impl Streams {
         self.descriptors.is_sound();
         self.records.is_sound();
         let stream = self.descriptors.take(process, fd)?;
-        let opens = self.records.opens_of(stream);
-        let holds = self.records.holds_of(stream);
-        self.records.set(stream, opens - 1, holds);
+        self.records.close(stream);
         Some(Closed {
             stream,
             last: !self.exists(stream),
@@ -303,9 +299,7 @@ impl Streams {
     {
         hung_up_streams_make_the_list();
         self.records.is_sound();
-        let opens = self.records.opens_of(stream);
-        let holds = self.records.holds_of(stream);
-        self.records.set(stream, opens, holds + 1);
+        self.records.hold(stream);
     }
 
     /// One hold less of a stream that is held. Answers whether neither a descriptor nor a hold is left. Takes no
@@ -317,9 +311,7 @@ impl Streams {
     {
         hung_up_streams_make_the_list();
         self.records.is_sound();
-        let opens = self.records.opens_of(stream);
-        let holds = self.records.holds_of(stream);
-        self.records.set(stream, opens, holds - 1);
+        self.records.release(stream);
         !self.exists(stream)
     }
 

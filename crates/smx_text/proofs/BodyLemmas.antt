@@ -5,6 +5,7 @@ use Rattle.std.proofs.Math.ListN.{set}
 use Rattle.std.proofs.lemmas.List.{append-nil, map_push}
 use Rattle.smx_types.specs.declared.command.Command.{Command}
 use Rattle.smx_types.specs.declared.driver.DriverSpec.{DriverSpec}
+use Rattle.smx_text.specs.Growing.{last_of, with_last}
 use Rattle.smx_text.specs.ProgramLines.{Line}
 use Rattle.smx_text.specs.ProgramLines as line
 use Rattle.smx_text.specs.ProgramsText.{program_lines}
@@ -41,12 +42,9 @@ lines_more n (p ∷ q ∷ ps) d c h =
     (sym (append_assoc (map line.Command p) (program_lines (n + 1) (q ∷ ps)) (line.Command c ∷ []))))
 
 -- with one more command in the last program, the lines of drivers and programs are one more at their end
-pub added_command : (ds : List DriverSpec) (ps : List (List Command)) (last : ℕ) (old new : List Command)
-    (c : Command) → 0 < length ps → last ≡ length ps → old ≡ get_or ps (last - 1) old → new ≡ old ++ c ∷ []
-    → map line.Driver ds ++ program_lines 0 (set ps (last - 1) new)
-    ≡ (map line.Driver ds ++ program_lines 0 ps) ++ line.Command c ∷ []
-added_command ds ps last old new c some len e n =
-    let new_is : new ≡ get_or ps (length ps - 1) old ++ c ∷ [] = n
-    ∙ ap (λ (o : List Command). o ++ c ∷ []) (e ∙ ap (λ (k : ℕ). get_or ps (k - 1) old) len) in
-    rw (len, new_is, lines_more 0 ps old c some)
+pub added_command : (ds : List DriverSpec) (ps more : List (List Command)) (c : Command) → 0 < length ps
+    → more ≡ with_last ps (last_of ps ++ c ∷ [])
+    → map line.Driver ds ++ program_lines 0 more ≡ (map line.Driver ds ++ program_lines 0 ps) ++ line.Command c ∷ []
+added_command ds ps more c some is =
+    rw (is, lines_more 0 ps [] c some)
     (sym (append_assoc (map line.Driver ds) (program_lines 0 ps) (line.Command c ∷ [])))

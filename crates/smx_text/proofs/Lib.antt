@@ -25,6 +25,7 @@ pub mod TranscriptGrammarLemmas
 pub mod TranscriptDecidedLemmas
 pub mod WritingLemmas
 pub mod GrowingLemmas
+pub mod LastProgramLemmas
 pub mod WorkedFaultLemmas
 pub mod WrongCommandLemmas
 pub mod WrongProgramLemmas

@@ -17,9 +17,9 @@ use Rattle.smx_text.specs.TranscriptText.{transcript_grammar, view_body}
 -- programs within the limits of their version, whose commands are counted
 pub record IsCounted (d : Inside) : Type 0 where
   pub drivers : length d.drivers.items ≤ most_drivers d.version
-  pub programs : length d.programs.items ≤ MAX_PROCESSES
-  pub commands : sum_by length d.programs.items ≤ MAX_COMMANDS
-  pub count : d.count ≡ sum_by length d.programs.items
+  pub programs : length d.programs ≤ MAX_PROCESSES
+  pub commands : sum_by length d.programs ≤ MAX_COMMANDS
+  pub count : d.count ≡ sum_by length d.programs
 
 -- the lines of a transcript behind its entries, as far as they were read
 abbrev pub shown : Stage → ConfigView → List TranscriptLine

@@ -8,5 +8,6 @@ pub mod TranscriptLines
 pub mod TranscriptText
 pub mod GrowingTranscripts
 pub mod Drafts
+pub mod Growing
 pub mod WorkedTexts
 pub mod WorkedFaults

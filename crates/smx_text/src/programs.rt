@@ -4,6 +4,7 @@ ghost use Rattle.smx_text.specs.Grammar.{ReadsAny};
 ghost use Rattle.smx_text.specs.ProgramsText.{programs_grammar};
 
 mod draft;
+mod growing;
 
 use crate::reading::read;
 use crate::text_fault::TextFault;

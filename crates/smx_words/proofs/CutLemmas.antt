@@ -43,6 +43,27 @@ is_cut s bytes i lt here =
     sym (take-append-drop i bytes) ∙ ap (λ (xs : List ℕ). take i bytes ++ xs)
     (rw (at, rest, add-one) (ap (λ (b : ℕ). b ∷ drop (suc i) bytes) here))
 
+-- with one byte more that is not the separator, the front is free of it still
+pub free_more : (s : ℕ) (bytes : List ℕ) (i : ℕ) → i < length bytes → IsFree s (take i bytes)
+    → slice_index bytes i ≢ s → IsFree s (take (i + 1) bytes)
+free_more s [] i lt free other = absurd (omega arith)
+free_more s (b ∷ bytes) zero lt free other = (other, tt)
+free_more s (b ∷ bytes) (suc i) lt free other =
+    let more = free_more s bytes i (omega arith) free.1 other in
+    rw add-one (free.0, rw add-one at more)
+
+-- what is free of the separator as a whole is not cut
+pub free_whole : (s : ℕ) (bytes : List ℕ) (i : ℕ) → length bytes ≤ i → IsFree s (take i bytes)
+    → (before after : List ℕ) → bytes ≢ before ++ s ∷ after
+free_whole s [] i le free before after e = no_middle before (sym e) where
+  no_middle : (before : List ℕ) → before ++ s ∷ after ≡ [] → ⊥
+  no_middle [] e = absurd (cc e)
+  no_middle (b ∷ before) e = absurd (cc e)
+free_whole s (b ∷ bytes) zero le free before after e = absurd (omega arith)
+free_whole s (b ∷ bytes) (suc i) le free [] after e = free.0 (cc e)
+free_whole s (b ∷ bytes) (suc i) le free (c ∷ before) after e =
+    free_whole s bytes i (omega arith) free.1 before after (cc e)
+
 -- two ways to cut at the first separator are one
 pub apart : (s : ℕ) (v w after rest : List ℕ) → IsFree s v → IsFree s w → v ++ s ∷ after ≡ w ++ s ∷ rest
     → (v ≡ w) × (after ≡ rest)

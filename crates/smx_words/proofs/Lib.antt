@@ -7,6 +7,7 @@ pub mod HexLemmas
 pub mod EntryLemmas
 pub mod ReplyLemmas
 pub mod CommandLemmas
+pub mod PushLemmas
 pub mod PlainLemmas
 pub mod SameWordLemmas
 pub mod SameCommandLemmas

@@ -1,5 +1,5 @@
 -- What a reader may answer. No reader is named.
-use Rattle.std.specs.Prelude.{◌≡◌, ◌≢◌, ℕ, List, ◌++◌, ◌∷◌, Option, Some, None, MatchOption}
+use Rattle.std.specs.Prelude.{◌≡◌, ◌≢◌, ℕ, List, [], ◌++◌, ◌∷◌, Bool, true, false, Option, Some, None, MatchOption}
 use denote.Ref.{Bor}
 use Rattle.smx_words.specs.Words.{SPACE, line_of}
 
@@ -27,3 +27,10 @@ IsSpelled {X} Fits spelling bytes = (x : X) × Fits x × (bytes ≡ spelling x)
 -- the line is the words of some value that fits
 abbrev pub IsLineOf : {X : Type 0} → (X → Type 0) → (X → List (List ℕ)) → List ℕ → Type 0
 IsLineOf {X} Fits words_of line = IsSpelled Fits (λ x. line_of (words_of x)) line
+
+-- whether the line is the words of some value that fits, which then stands behind the others
+abbrev pub IsPushed : {X : Type 0} → (X → Type 0) → (X → List (List ℕ)) → List ℕ → List X → List X → Bool → Type 0
+IsPushed {X} Fits words_of line before after true =
+    (x : X) × Fits x × (line ≡ line_of (words_of x)) × (after ≡ before ++ x ∷ [])
+IsPushed {X} Fits words_of line before after false =
+    (after ≡ before) × ((x : X) → Fits x → line ≢ line_of (words_of x))

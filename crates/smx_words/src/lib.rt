@@ -11,6 +11,6 @@ pub use reading::number::number;
 pub use reading::word::{driver_kind, link_kind, name, side, sides, which};
 pub use reading::{
     bind_of, command_of, descriptor_of, driver_of, entry_of, full_of, hung_of, link_of, message_of,
-    next_of, process_of, route_of,
+    next_of, process_of, push_command, route_of,
 };
 pub use writing::{Spell, write_lines, write_next, write_process};

@@ -16,12 +16,10 @@ ghost use Rattle.smx_text.specs.ProgramLines.{Driver as DriverLine, Process as P
 ghost use Rattle.smx_text.specs.ProgramLines.{Command as CommandLine, End};
 ghost use Rattle.smx_text.specs.ProgramsText.{body, programs_grammar};
 
+use crate::programs::growing::GrowingPrograms;
 use crate::reading::Draft;
 use crate::text_fault::Cause;
-use smx_types::{
-    Command, Commands, DriverSpec, Drivers, MAX_COMMANDS, MAX_PROCESSES, NoMemory, ProgramList,
-    Programs, Version,
-};
+use smx_types::{DriverSpec, Drivers, MAX_COMMANDS, MAX_PROCESSES, NoMemory, Programs, Version};
 use smx_words::{command_of, driver_of, process_of};
 use std::alloc::Global;
 use std::marker::Model;
@@ -31,7 +29,7 @@ use std::marker::Model;
 pub struct ProgramsDraft {
     version: Version,
     drivers: Vec<DriverSpec>,
-    programs: Vec<Commands>,
+    programs: GrowingPrograms,
     count: usize,
 }
 
@@ -42,7 +40,7 @@ impl Model for ProgramsDraft {
     ghost Value = { ProgramLists };
 
     ghost view = { λ d.
-        record { version = d.version; drivers = d.drivers.items; programs = d.programs.items } };
+        record { version = d.version; drivers = d.drivers.items; programs = d.programs } };
 
     ghost invariant = { IsCounted };
 }
@@ -73,22 +71,21 @@ impl Draft for ProgramsDraft {
         ProgramsDraft {
             version,
             drivers: Vec::new(alloc),
-            programs: Vec::new(alloc),
+            programs: GrowingPrograms::new(alloc),
             count: 0,
         }
     }
 
     fn add(&mut self, alloc: Global, text: &[u8]) -> Result<(), Cause> {
-        match command_of(alloc, self.version, text) {
-            Ok(Some(command)) => self.add_command(command),
-            Ok(None) => self.add_other(alloc, text),
-            Err(NoMemory) => Err(self.command_unread()),
+        match self.room_for_command() {
+            Ok(()) => self.add_where_room(alloc, text),
+            Err(cause) => self.add_where_none(alloc, text, cause),
         }
     }
 
     fn finish(self) -> Option<Programs> {
         let drivers = Drivers::from_vec(self.drivers);
-        let programs = Programs::new(drivers, ProgramList::from_vec(self.programs)).ok()?;
+        let programs = Programs::new(drivers, self.programs.into_list()).ok()?;
         Some(in_version(self.version, programs))
     }
 
@@ -162,36 +159,46 @@ impl ProgramsDraft {
         if number >= MAX_PROCESSES {
             return Err(Cause::Many);
         }
-        self.programs.push(Commands::new(alloc))?;
+        self.programs.begin(alloc)?;
         Ok(())
     }
 
-    // A command is of the process whose line came last.
-    fn add_command(&mut self, command: Command) -> Result<(), Cause>
+    // A line where a command may come, which is of the process whose line came last.
+    fn add_where_room(&mut self, alloc: Global, text: &[u8]) -> Result<(), Cause>
         requires begun { IsBegun (programs_grammar self.old.version) (body self.old) }
-        requires fits { FitsCommandIn self.old.version command }
+        requires some { 0 < length self.old.programs }
+        requires few { sum_by length self.old.programs < MAX_COMMANDS }
+        requires no_end { text.now ≢ codes "end" }
         ensures added { OnOk result
-            (AddsLine (programs_grammar self.old.version) (body self.old) (CommandLine command) (body self.new)) }
+            (Continues (programs_grammar self.old.version) (body self.old) text.now (body self.new)) }
         ensures version { OnOk result (self.new.version ≡ self.old.version) }
-        ensures refused { IfErr result
-            (RefusesLine (programs_grammar self.old.version) (body self.old) (CommandLine command)) }
+        ensures refused { IfErr result (Refuses (programs_grammar self.old.version) (body self.old) text.now) }
     {
-        self.room_for_command()?;
-        let last = self.programs.len() - 1;
-        self.programs[last].push(command)?;
-        self.count += 1;
-        Ok(())
+        match self.programs.push_command(alloc, self.version, text) {
+            Ok(true) => {
+                self.count += 1;
+                Ok(())
+            }
+            Ok(false) => self.add_other(alloc, text),
+            Err(NoMemory) => Err(Cause::NoMemory),
+        }
     }
 
-    // Why a command is refused for which there is no memory.
-    fn command_unread(&self) -> Cause
-        requires begun { IsBegun (programs_grammar self.now.version) (body self.now) }
-        ensures { (c : AnyCommand) → FitsCommandIn self.now.version c
-            → RefusesLine (programs_grammar self.now.version) (body self.now) (CommandLine c) result }
+    // A line where a command is refused, and why.
+    fn add_where_none(&mut self, alloc: Global, text: &[u8], cause: Cause) -> Result<(), Cause>
+        requires begun { IsBegun (programs_grammar self.old.version) (body self.old) }
+        requires none { (c : AnyCommand)
+            → RefusesLine (programs_grammar self.old.version) (body self.old) (CommandLine c) cause }
+        requires no_end { text.now ≢ codes "end" }
+        ensures added { OnOk result
+            (Continues (programs_grammar self.old.version) (body self.old) text.now (body self.new)) }
+        ensures version { OnOk result (self.new.version ≡ self.old.version) }
+        ensures refused { IfErr result (Refuses (programs_grammar self.old.version) (body self.old) text.now) }
     {
-        match self.room_for_command() {
-            Ok(()) => Cause::NoMemory,
-            Err(cause) => cause,
+        match command_of(alloc, self.version, text) {
+            Ok(None) => self.add_other(alloc, text),
+            Ok(Some(_)) => Err(cause),
+            Err(NoMemory) => Err(cause),
         }
     }
 

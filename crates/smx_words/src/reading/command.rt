@@ -1,9 +1,11 @@
 //! The words of a command.
 
-ghost use Rattle.std.specs.Prelude.{◌≡◌, ◌≢◌, ◌∷◌, ◌++◌, [], ℕ, List, codes, IsTrue, ◌↔◌, IfOk, IfErr};
+ghost use Rattle.std.specs.Prelude.{◌≡◌, ◌≢◌, ◌<◌, ◌∷◌, ◌++◌, [], ℕ, List, codes, true, false, IsTrue, ◌↔◌};
+ghost use Rattle.std.specs.Prelude.{IfOk, IfErr, IsErr, OnErr, MatchOption, MatchResult};
+ghost use Rattle.std.specs.Vec.{vec_len, vec_capacity};
 ghost use Rattle.smx_types.specs.declared.version.Version.{Version as AnyVersion};
 ghost use Rattle.smx_types.specs.declared.version.Version.TheVariants.{V1};
-ghost use Rattle.smx_words.specs.LineReading.{IsReadAs, IsLineOf};
+ghost use Rattle.smx_words.specs.LineReading.{IsReadAs, IsLineOf, IsPushed};
 ghost use Rattle.smx_words.specs.Spellable.{FitsAlways, FitsCommand, FitsCommandIn};
 ghost use Rattle.smx_words.specs.Spelling.{command_words};
 ghost use Rattle.smx_words.specs.Verbs.{verb_word};
@@ -82,6 +84,7 @@ fn command_after(alloc: Global, verb: Verb, rest: &[u8]) -> Result<Option<Comman
     }
 }
 
+#[inline(always)]
 fn clone(rest: &[u8]) -> Option<Command>
     ensures { IsReadAs FitsCommand command_words (line_of (codes "clone" ∷ rest.now ∷ [])) result }
 {
@@ -89,6 +92,7 @@ fn clone(rest: &[u8]) -> Option<Command>
     Some(Command::OpenClone { driver })
 }
 
+#[inline(always)]
 fn open(rest: &[u8]) -> Option<Command>
     ensures { IsReadAs FitsCommand command_words (line_of (codes "open" ∷ rest.now ∷ [])) result }
 {
@@ -99,6 +103,7 @@ fn open(rest: &[u8]) -> Option<Command>
     Some(Command::OpenMinor { driver, minor })
 }
 
+#[inline(always)]
 fn dup(rest: &[u8]) -> Option<Command>
     ensures { IsReadAs FitsCommand command_words (line_of (codes "dup" ∷ rest.now ∷ [])) result }
 {
@@ -106,6 +111,7 @@ fn dup(rest: &[u8]) -> Option<Command>
     Some(Command::Dup { fd })
 }
 
+#[inline(always)]
 fn close(rest: &[u8]) -> Option<Command>
     ensures { IsReadAs FitsCommand command_words (line_of (codes "close" ∷ rest.now ∷ [])) result }
 {
@@ -113,6 +119,7 @@ fn close(rest: &[u8]) -> Option<Command>
     Some(Command::Close { fd })
 }
 
+#[inline(always)]
 fn link(rest: &[u8]) -> Option<Command>
     ensures { IsReadAs FitsCommand command_words (line_of (codes "link" ∷ rest.now ∷ [])) result }
 {
@@ -121,6 +128,7 @@ fn link(rest: &[u8]) -> Option<Command>
     Some(Command::Link { fd, arg })
 }
 
+#[inline(always)]
 fn plink(rest: &[u8]) -> Option<Command>
     ensures { IsReadAs FitsCommand command_words (line_of (codes "plink" ∷ rest.now ∷ [])) result }
 {
@@ -129,6 +137,7 @@ fn plink(rest: &[u8]) -> Option<Command>
     Some(Command::Plink { fd, arg })
 }
 
+#[inline(always)]
 fn unlink(rest: &[u8]) -> Option<Command>
     ensures { IsReadAs FitsCommand command_words (line_of (codes "unlink" ∷ rest.now ∷ [])) result }
 {
@@ -137,6 +146,7 @@ fn unlink(rest: &[u8]) -> Option<Command>
     Some(Command::Unlink { fd, which })
 }
 
+#[inline(always)]
 fn punlink(rest: &[u8]) -> Option<Command>
     ensures { IsReadAs FitsCommand command_words (line_of (codes "punlink" ∷ rest.now ∷ [])) result }
 {
@@ -145,6 +155,7 @@ fn punlink(rest: &[u8]) -> Option<Command>
     Some(Command::Punlink { fd, which })
 }
 
+#[inline(always)]
 fn bind(rest: &[u8]) -> Option<Command>
     ensures { IsReadAs FitsCommand command_words (line_of (codes "bind" ∷ rest.now ∷ [])) result }
 {
@@ -153,6 +164,7 @@ fn bind(rest: &[u8]) -> Option<Command>
     Some(Command::Bind { fd, addr })
 }
 
+#[inline(always)]
 fn unbind(rest: &[u8]) -> Option<Command>
     ensures { IsReadAs FitsCommand command_words (line_of (codes "unbind" ∷ rest.now ∷ [])) result }
 {
@@ -160,6 +172,7 @@ fn unbind(rest: &[u8]) -> Option<Command>
     Some(Command::Unbind { fd })
 }
 
+#[inline(always)]
 fn route(rest: &[u8]) -> Option<Command>
     ensures { IsReadAs FitsCommand command_words (line_of (codes "route" ∷ rest.now ∷ [])) result }
 {
@@ -169,6 +182,7 @@ fn route(rest: &[u8]) -> Option<Command>
     Some(Command::Route { fd, addr, id })
 }
 
+#[inline(always)]
 fn unroute(rest: &[u8]) -> Option<Command>
     ensures { IsReadAs FitsCommand command_words (line_of (codes "unroute" ∷ rest.now ∷ [])) result }
 {
@@ -177,6 +191,7 @@ fn unroute(rest: &[u8]) -> Option<Command>
     Some(Command::Unroute { fd, addr })
 }
 
+#[inline(always)]
 fn read(rest: &[u8]) -> Option<Command>
     ensures { IsReadAs FitsCommand command_words (line_of (codes "read" ∷ rest.now ∷ [])) result }
 {
@@ -184,6 +199,7 @@ fn read(rest: &[u8]) -> Option<Command>
     Some(Command::Read { fd })
 }
 
+#[inline(always)]
 fn flush(rest: &[u8]) -> Option<Command>
     ensures { IsReadAs FitsCommand command_words (line_of (codes "flush" ∷ rest.now ∷ [])) result }
 {
@@ -192,6 +208,7 @@ fn flush(rest: &[u8]) -> Option<Command>
     Some(Command::Flush { fd, sides })
 }
 
+#[inline(always)]
 fn transmit(rest: &[u8]) -> Option<Command>
     ensures { IsReadAs FitsCommand command_words (line_of (codes "transmit" ∷ rest.now ∷ [])) result }
 {
@@ -202,6 +219,7 @@ fn transmit(rest: &[u8]) -> Option<Command>
     Some(Command::Transmit { driver, minor })
 }
 
+#[inline(always)]
 fn hangup(rest: &[u8]) -> Option<Command>
     ensures { IsReadAs FitsCommand command_words (line_of (codes "hangup" ∷ rest.now ∷ [])) result }
 {
@@ -212,6 +230,7 @@ fn hangup(rest: &[u8]) -> Option<Command>
     Some(Command::Hangup { driver, minor })
 }
 
+#[inline(always)]
 fn write(alloc: Global, rest: &[u8]) -> Result<Option<Command>, NoMemory>
     ensures reading { IfOk result (IsReadAs FitsCommand command_words (line_of (codes "write" ∷ rest.now ∷ []))) }
     ensures wanted { IfErr result (λ _. IsLineOf (FitsCommandIn V1) command_words (line_of (codes "write" ∷ rest.now ∷ []))) }
@@ -230,6 +249,7 @@ fn write(alloc: Global, rest: &[u8]) -> Result<Option<Command>, NoMemory>
     Ok(Some(Command::Write { fd, addr, bytes }))
 }
 
+#[inline(always)]
 fn inject(alloc: Global, rest: &[u8]) -> Result<Option<Command>, NoMemory>
     ensures reading { IfOk result (IsReadAs FitsCommand command_words (line_of (codes "inject" ∷ rest.now ∷ []))) }
     ensures wanted { IfErr result (λ _. IsLineOf (FitsCommandIn V1) command_words (line_of (codes "inject" ∷ rest.now ∷ []))) }
@@ -254,4 +274,103 @@ fn inject(alloc: Global, rest: &[u8]) -> Result<Option<Command>, NoMemory>
         addr,
         bytes,
     }))
+}
+
+/// Puts the command whose words a line is behind the others, if it is one's that a version can tell, and says whether it
+/// is. Fails only for want of memory, and then the line is such a command's. Quicker than `command_of`, which has to hand
+/// the command on.
+#[tactic(auto, using(crate::proofs::PushLemmas::is_pushed))]
+pub fn push_command(
+    commands: &mut Vec<Command>,
+    alloc: Global,
+    version: Version,
+    line: &[u8],
+) -> Result<bool, NoMemory>
+    requires room { vec_len commands.old < vec_capacity commands.old }
+    ensures pushed { IfOk result
+        (IsPushed (FitsCommandIn version) command_words line.now commands.old.items commands.new.items) }
+    ensures wanted { IfErr result (λ _. IsLineOf (FitsCommandIn version) command_words line.now) }
+    ensures kept { OnErr result (commands.new.items ≡ commands.old.items) }
+{
+    let Some((verb, rest)) = first_verb(line) else {
+        return Ok(push_if(commands, lone_command(line)));
+    };
+    if lacks(version, verb) {
+        return Ok(false);
+    }
+    push_after(commands, alloc, verb, rest)
+}
+
+// The same of a verb and what stands behind it.
+#[inline(always)]
+#[tactic(auto, using(crate::proofs::PushLemmas::is_pushed))]
+fn push_after(
+    commands: &mut Vec<Command>,
+    alloc: Global,
+    verb: Verb,
+    rest: &[u8],
+) -> Result<bool, NoMemory>
+    requires room { vec_len commands.old < vec_capacity commands.old }
+    ensures pushed { IfOk result (IsPushed FitsCommand command_words (line_of (verb_word verb ∷ rest.now ∷ []))
+        commands.old.items commands.new.items) }
+    ensures wanted { IfErr result (λ _. IsLineOf (FitsCommandIn V1) command_words (line_of (verb_word verb ∷ rest.now ∷ []))) }
+    ensures kept { OnErr result (commands.new.items ≡ commands.old.items) }
+{
+    match verb {
+        Verb::Write => push_read(commands, write(alloc, rest)),
+        Verb::Inject => push_read(commands, inject(alloc, rest)),
+        Verb::Clone => Ok(push_if(commands, clone(rest))),
+        Verb::Open => Ok(push_if(commands, open(rest))),
+        Verb::Dup => Ok(push_if(commands, dup(rest))),
+        Verb::Close => Ok(push_if(commands, close(rest))),
+        Verb::Exit => Ok(false),
+        Verb::Link => Ok(push_if(commands, link(rest))),
+        Verb::Plink => Ok(push_if(commands, plink(rest))),
+        Verb::Unlink => Ok(push_if(commands, unlink(rest))),
+        Verb::Punlink => Ok(push_if(commands, punlink(rest))),
+        Verb::Bind => Ok(push_if(commands, bind(rest))),
+        Verb::Unbind => Ok(push_if(commands, unbind(rest))),
+        Verb::Route => Ok(push_if(commands, route(rest))),
+        Verb::Unroute => Ok(push_if(commands, unroute(rest))),
+        Verb::Read => Ok(push_if(commands, read(rest))),
+        Verb::Flush => Ok(push_if(commands, flush(rest))),
+        Verb::Transmit => Ok(push_if(commands, transmit(rest))),
+        Verb::Hangup => Ok(push_if(commands, hangup(rest))),
+    }
+}
+
+// Puts a command behind the others, if there is one, and says whether there is. In each arm, so that the command is made
+// where it is to stand.
+#[inline(always)]
+fn push_if(commands: &mut Vec<Command>, read: Option<Command>) -> bool
+    requires room { vec_len commands.old < vec_capacity commands.old }
+    ensures { MatchOption read ((result ≡ false) × (commands.new.items ≡ commands.old.items))
+        (λ c. (result ≡ true) × (commands.new.items ≡ commands.old.items ++ c ∷ [])) }
+{
+    match read {
+        Some(command) => {
+            commands.push_reserved(command);
+            true
+        }
+        None => false,
+    }
+}
+
+// The same where memory may have been wanting.
+#[inline(always)]
+fn push_read(
+    commands: &mut Vec<Command>,
+    read: Result<Option<Command>, NoMemory>,
+) -> Result<bool, NoMemory>
+    requires room { vec_len commands.old < vec_capacity commands.old }
+    ensures pushed { MatchResult read (λ o. IfOk result (λ pushed. MatchOption o
+        ((pushed ≡ false) × (commands.new.items ≡ commands.old.items))
+        (λ c. (pushed ≡ true) × (commands.new.items ≡ commands.old.items ++ c ∷ [])))) (λ _. IsErr result) }
+    ensures wanted { IfErr result (λ _. IsErr read) }
+    ensures kept { OnErr result (commands.new.items ≡ commands.old.items) }
+{
+    match read {
+        Ok(read) => Ok(push_if(commands, read)),
+        Err(error) => Err(error),
+    }
 }

@@ -16,7 +16,24 @@ pub fn cut(bytes: &[u8], separator: u8) -> Option<(&[u8], &[u8])>
     }
 }
 
+// The same. Quicker where the separator comes soon.
+#[inline(always)]
+pub fn cut_soon(bytes: &[u8], separator: u8) -> Option<(&[u8], &[u8])>
+    ensures { MatchOption result ((before after : List ℕ) → bytes.now ≢ before ++ separator ∷ after)
+        (λ p. IsFree separator p.0.now × (bytes.now ≡ p.0.now ++ separator ∷ p.1.now)) }
+{
+    let mut at = 0;
+    while at < bytes.len() && bytes[at] != separator {
+        at += 1;
+    }
+    if at == bytes.len() {
+        return None;
+    }
+    Some((&bytes[..at], &bytes[at + 1..]))
+}
+
 // The bytes behind others that they begin with.
+#[inline(always)]
 pub fn after<'a>(bytes: &'a [u8], front: &[u8]) -> Option<&'a [u8]>
     ensures { MatchOption result ((rest : List ℕ) → bytes.now ≢ front.now ++ rest)
         (λ rest. bytes.now ≡ front.now ++ rest.now) }

@@ -10,6 +10,7 @@ ghost use Rattle.smx_words.specs.Spellable.{FitsNumber, FitsProcess};
 use smx_types::Process;
 
 /// The number that a word spells.
+#[inline(always)]
 pub fn number(word: &[u8]) -> Option<u32>
     ensures { IsFoundIn FitsNumber decimal word.now result }
 {
@@ -23,6 +24,7 @@ pub fn number(word: &[u8]) -> Option<u32>
 }
 
 // The number before the first space.
+#[inline(always)]
 pub fn first_number(text: &[u8]) -> Option<(u32, &[u8])>
     ensures { BeginsWith FitsNumber decimal text.now result }
 {
@@ -50,6 +52,7 @@ pub fn first_process(text: &[u8]) -> Option<(Process, &[u8])>
 }
 
 // The number that all leading digits spell, and how many they are.
+#[inline(always)]
 fn leading_number(text: &[u8]) -> Option<(u32, usize)>
     ensures { MatchOption result
         ((n : ℕ) (after : List ℕ) → FitsNumber n → NoDigitFirst after → text.now ≢ decimal n ++ after)
@@ -72,6 +75,7 @@ fn leading_number(text: &[u8]) -> Option<(u32, usize)>
 }
 
 // There is no digit, or a leading zero.
+#[inline(always)]
 fn starts_wrong(text: &[u8], end: usize) -> bool
     requires { end ≤ length text.now }
     ensures { result ≡ ((end == 0) || ((slice_index text.now 0 == 48) && nat_lt 1 end)) }

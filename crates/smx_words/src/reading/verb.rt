@@ -1,6 +1,6 @@
 //! The first words of commands and of replies.
 
-ghost use Rattle.std.specs.Prelude.{◌≡◌, ◌≢◌, ◌∷◌, ◌++◌, ℕ, List, MatchOption, Some};
+ghost use Rattle.std.specs.Prelude.{◌≡◌, ◌≢◌, ◌∷◌, ◌++◌, ℕ, List, codes, MatchOption, Some};
 ghost use Rattle.smx_words.specs.LineReading.{IsFoundIn, BeginsWith};
 ghost use Rattle.smx_words.specs.Spellable.{FitsAlways};
 ghost use Rattle.smx_words.specs.Verbs.{verb_word, reply_verb_word};
@@ -72,6 +72,7 @@ fn verb_of(word: &[u8]) -> Option<Verb>
 }
 
 // The one verb whose word the bytes may begin with, by its first letters.
+#[inline(always)]
 fn candidate(text: &[u8]) -> Option<Verb>
     ensures { (verb : AnyVerb) (after : List ℕ) → text.now ≡ verb_word verb ++ SPACE ∷ after → result ≡ Some verb }
 {
@@ -100,6 +101,7 @@ fn candidate(text: &[u8]) -> Option<Verb>
 }
 
 // What stands behind the word of a verb and a space, if the bytes begin with them.
+#[inline(always)]
 fn behind(text: &[u8], verb: Verb) -> Option<&[u8]>
     ensures { MatchOption result ((rest : List ℕ) → text.now ≢ verb_word verb ++ SPACE ∷ rest)
         (λ rest. text.now ≡ verb_word verb ++ SPACE ∷ rest.now) }
@@ -122,12 +124,22 @@ fn behind(text: &[u8], verb: Verb) -> Option<&[u8]>
         Verb::Read => after(text, b"read "),
         Verb::Flush => after(text, b"flush "),
         Verb::Inject => after(text, b"inject "),
-        Verb::Transmit => after(text, b"transmit "),
+        Verb::Transmit => behind_transmit(text),
         Verb::Hangup => after(text, b"hangup "),
     }
 }
 
+// In two parts, since the compiler compares up to eight bytes in place.
+fn behind_transmit(text: &[u8]) -> Option<&[u8]>
+    ensures { MatchOption result ((rest : List ℕ) → text.now ≢ codes "transmit" ++ SPACE ∷ rest)
+        (λ rest. text.now ≡ codes "transmit" ++ SPACE ∷ rest.now) }
+{
+    let rest = after(text, b"trans")?;
+    after(rest, b"mit ")
+}
+
 // The verb before the first space.
+#[inline(always)]
 pub fn first_verb(text: &[u8]) -> Option<(Verb, &[u8])>
     ensures { BeginsWith FitsAlways verb_word text.now result }
 {

@@ -4,7 +4,7 @@ ghost use Rattle.smx_words.specs.LineReading.{IsFoundIn, BeginsWith};
 ghost use Rattle.smx_words.specs.Spellable.{FitsName, FitsWhich, FitsAlways};
 ghost use Rattle.smx_words.specs.Spelling.{kind_word, which_word, sides_word, side_word, link_kind_word};
 
-use crate::reading::cutting::cut;
+use crate::reading::cutting::{cut, cut_soon};
 use crate::reading::number::number;
 use smx_types::{DriverKind, LinkKind, Name, Side, Sides, Which};
 
@@ -19,7 +19,7 @@ pub fn name(word: &[u8]) -> Option<Name>
 pub fn first_name(text: &[u8]) -> Option<(Name, &[u8])>
     ensures { BeginsWith FitsName (λ n. n) text.now result }
 {
-    let Some((word, rest)) = cut(text, b' ') else {
+    let Some((word, rest)) = cut_soon(text, b' ') else {
         return None;
     };
     match name(word) {

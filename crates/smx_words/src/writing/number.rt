@@ -41,7 +41,9 @@ pub(super) fn put_spaced(out: &mut Vec<u8>, n: u32) -> Result<(), NoMemory>
     ensures fits { FitsNumber n }
 {
     if n < 10 {
-        out.extend_from_slice(&[b' ', digit(n)])?;
+        out.reserve(2)?;
+        out.push_reserved(b' ');
+        out.push_reserved(digit(n));
         return Ok(());
     }
     put_longer(out, n)
@@ -55,7 +57,10 @@ pub(super) fn put_last(out: &mut Vec<u8>, n: u32) -> Result<(), NoMemory>
     ensures fits { FitsNumber n }
 {
     if n < 10 {
-        out.extend_from_slice(&[b' ', digit(n), b'\n'])?;
+        out.reserve(3)?;
+        out.push_reserved(b' ');
+        out.push_reserved(digit(n));
+        out.push_reserved(b'\n');
         return Ok(());
     }
     put_longer(out, n)?;

@@ -1,4 +1,6 @@
-use Rattle.std.proofs.Common.{rules, sym, ◌∙◌}
+use Rattle.std.proofs.Common.{rules, refl, sym, ◌∙◌}
+use Rattle.smx_config.specs.declared.marks.Marks.{Marks}
+use Rattle.smx_config.proofs.NeededLemmas.{needed_do}
 use Rattle.smx_config.proofs.WokenLemmas.{fault_keeps, woken_if}
 use Rattle.smx_config.proofs.config.Config.step.Goals as goal
 use Rattle.smx_config.proofs.config.Config.step.Goals.{then-is_ok, else-is_ok}
@@ -6,11 +8,15 @@ use Rattle.smx_config.proofs.config.Config.step.Goals.{then-is_ok, else-is_ok}
 pub settle-requires-clause-marks : goal.settle-requires-clause-marks
 settle-requires-clause-marks c =
     let old = c.self.inside.tables in
-    woken_if old c.perform-answer.new.self c.args.process c.args.command.now c.perform-answer.result
-    c.wakes_of-wakes.result c.self.inside.marks c.wake.new.marks (sym c.is_ok.ensures.value ∙ c.if-is_ok.true)
+    let new = c.perform-answer.new.self in
+    let all : Marks = record c.wake.new.marks { run = c.wake.ensures.0 } in
+    needed_do new.drivers new.configuration all c.wake.new.marks
+    (woken_if old new c.args.process c.args.command.now c.perform-answer.result
+    c.wakes_of-wakes.result c.self.inside.marks all (sym c.is_ok.ensures.value ∙ c.if-is_ok.true)
     c.perform-answer.ensures.refines c.wakes_of-wakes.ensures
     (c.woken_marks_are_enough.ensures old.drivers old.configuration c.args.process c.args.command.now
-    c.self.inside.marks c.wake.new.marks c.self.invariant.kept.sound c.self.invariant.marks) c.wake.ensures
+    c.self.inside.marks all c.self.invariant.kept.sound c.self.invariant.marks) c.wake.ensures.1)
+    c.wake.ensures.2 refl refl
 
 pub returns-in-Ok-clause-fault : goal.returns-in-Ok-clause-fault
 returns-in-Ok-clause-fault c = elim c.if-is_ok.branch [

@@ -9,7 +9,8 @@ use Rattle.smx_model.specs.RunMarks.{both}
 use Rattle.smx_queues.specs.PlaceMarks.{MarkList}
 use Rattle.smx_config.specs.Machine.{Machine}
 use Rattle.smx_config.specs.declared.marks.Marks.{Marks}
-use Rattle.smx_config.specs.Marking.{AreMarks, IsMarkedWhere, IsWoken}
+use Rattle.smx_config.specs.Marking.{AreMarks, HasNeeded, IsMarkedWhere, IsOneMore, IsWoken}
+use Rattle.smx_config.proofs.NeededLemmas.{needed_do}
 use Rattle.smx_config.proofs.RunMarkLemmas.{both_marked, left_empty, one_marked, one_more, taken_first, with_one}
 use Rattle.smx_config.proofs.NextMoveLemmas.{emptied_marks, forgotten, open_has_message}
 use Rattle.smx_config.proofs.NextPlaceLemmas.{IsOpenNext, open_next}
@@ -19,7 +20,11 @@ use Rattle.smx_config.proofs.tables.Tables.move_marked.Goals as goal
 
 pub returns-clause-marks : goal.returns-clause-marks
 returns-clause-marks c = subst (λ (ds : List DriverSpec). AreMarks ds now last) (sym (ap (λ (m : Machine). m.drivers)
-    c.move_on.ensures)) (by (first_message now.flow from) refl) where
+    c.move_on.ensures))
+    (needed_do c.args.self.now.drivers now (record (with_run all) { waits = c.clear.new.self }) last
+    (by (first_message now.flow from) refl)
+    (subst (λ (m : Machine). HasNeeded m.drivers m.configuration all c.mark_leading.new.run) same_machine
+    c.mark_leading.ensures.2) refl refl) where
       now : Configuration
       now = c.move_on.new.self.configuration
 
@@ -29,12 +34,23 @@ returns-clause-marks c = subst (λ (ds : List DriverSpec). AreMarks ds now last)
       to : Place
       to = c.args.next.to
 
+      same_machine : c.move_on.new.self ≡ record { drivers = c.args.self.now.drivers; configuration = now }
+      same_machine = c.move_on.ensures ∙ sym (ap (λ (x : Configuration). record c.args.self.now { configuration = x })
+          (ap (λ (m : Machine). m.configuration) c.move_on.ensures))
+
       with_run : MarkList → Marks
       with_run run =
           record { run = run; wanted = c.release_if_open.new.marks.wanted; waits = c.release_if_open.new.marks.waits }
 
       last : Marks
-      last = record (with_run c.mark.new.self) { waits = c.clear.new.self }
+      last = record (with_run c.mark_leading.new.run) { waits = c.clear.new.self }
+
+      -- the marks as if the place where it goes had one, whether a message goes on from there or not
+      all : MarkList
+      all = c.mark_leading.ensures.0
+
+      more : IsOneMore to c.mark_left.new.run all
+      more = c.mark_leading.ensures.1
 
       before : MarkList
       before = c.release_if_open.new.marks.run
@@ -63,29 +79,29 @@ returns-clause-marks c = subst (λ (ds : List DriverSpec). AreMarks ds now last)
           (woken now (both (same_place from) (same_place to))
           (same_place from) c.args.marks.now c.release_if_open.new.marks run c.release_if_open.ensures h)
 
-      by : (o : Option Message) → first_message now.flow from ≡ o → AreMarks c.args.self.now.drivers now last
+      by : (o : Option Message) → first_message now.flow from ≡ o
+          → AreMarks c.args.self.now.drivers now (record (with_run all) { waits = c.clear.new.self })
       by None e =
           let gone = c.mark_left.ensures.none e in
-          let here = c.mark.ensures.here (subst (λ (ds : List DriverSpec). IsKnown ds to.stream)
+          let here = more.here (subst (λ (ds : List DriverSpec). IsKnown ds to.stream)
           (sym (gone.drivers ∙ over)) next.known) in
           let ahead = enough (with_one before to)
           (left_empty now.flow (same_place from) (same_place to) _ _
           (λ p same. subst (λ (x : Place). first_message now.flow x ≡ None) (place_is from p same) e)
           (one_more now.flow to before)) in
-          let left = emptied_marks c.args.self.now.drivers now from (with_run (with_one before to))
-          (with_run c.mark.new.self) e ahead
-          (taken_first from to before c.mark_left.new.run c.mark.new.self next.differ gone.gone here
-          c.mark.ensures.others) (c.mark.ensures.drivers ∙ gone.drivers) refl refl in
-          forgotten c.args.self.now.drivers now from (with_run c.mark.new.self) last left
+          let left = emptied_marks c.args.self.now.drivers now from (with_run (with_one before to)) (with_run all) e
+          ahead (taken_first from to before c.mark_left.new.run all next.differ gone.gone here more.others)
+          (more.drivers ∙ gone.drivers) refl refl in
+          forgotten c.args.self.now.drivers now from (with_run all)
+          (record (with_run all) { waits = c.clear.new.self }) left
           (inr e) refl refl c.clear.ensures.others c.clear.ensures.drivers
       by (Some m) e =
           let one = c.mark_left.ensures.some (λ none. some_none (sym e ∙ none)) in
-          let there = one_marked now.flow to c.mark_left.new.run c.mark.new.self
-          c.mark.ensures.here c.mark.ensures.kept c.mark.ensures.drivers in
-          let left = enough c.mark.new.self
-          (both_marked now.flow (same_place from) (same_place to) _ _ _ one there) in
-          forgotten c.args.self.now.drivers now from (with_run c.mark.new.self) last left
-          (inl (c.mark.ensures.kept from
+          let there = one_marked now.flow to c.mark_left.new.run all more.here more.kept more.drivers in
+          let left = enough all (both_marked now.flow (same_place from) (same_place to) _ _ _ one there) in
+          forgotten c.args.self.now.drivers now from (with_run all)
+          (record (with_run all) { waits = c.clear.new.self }) left
+          (inl (more.kept from
           (one.marked from known (λ none. some_none (sym e ∙ none)) (place_self from)))) refl refl
           c.clear.ensures.others c.clear.ensures.drivers where
             some_none : ◌≡◌ {A = Option Message} (Some m) None → ⊥

@@ -1,5 +1,4 @@
-use Rattle.std.proofs.Common.{◌+◌, ℕ, ap, subst, refl, ◌∙◌, if◌then◌else◌}
-use Rattle.smx_model.specs.Configuration.{same_stream}
+use Rattle.std.proofs.Common.{◌+◌, ap, subst, refl, ◌∙◌}
 use Rattle.smx_streams.specs.StreamTables.{StreamTable, HasHolds, exists, number_at}
 use Rattle.smx_streams.specs.TableFields.{table_of}
 use Rattle.smx_streams.proofs.NameLemmas.{used_exists}
@@ -7,8 +6,8 @@ use Rattle.smx_streams.proofs.RecordLemmas.{counts_some}
 use Rattle.smx_streams.proofs.HungLemmas.{hung_still, left, same_number}
 use Rattle.smx_streams.proofs.streams.Streams.hold.Goals as goal
 
-pub set-requires : goal.set-requires
-set-requires c = counts_some _
+pub hold-requires-clause-there : goal.hold-requires-clause-there
+hold-requires-clause-there c = counts_some _
     (used_exists (table_of c.self.inside) c.args.stream (number_at c.self.inside.records.opens c.args.stream)
     (c.self.invariant c.args.stream) ∙ ap (λ (t : StreamTable). exists t c.args.stream) c.self.view_is
     ∙ c.requires.there)
@@ -17,12 +16,11 @@ pub returns-clause-rest : goal.returns-clause-rest
 returns-clause-rest c = subst
     (λ (t : StreamTable). HasHolds t c.args.stream (number_at t.holds c.args.stream + 1)
     (table_of
-    (record { alloc = c.self.inside.alloc; descriptors = c.self.inside.descriptors; records = c.set.new.self })))
+    (record { alloc = c.self.inside.alloc; descriptors = c.self.inside.descriptors; records = c.hold.new.self })))
     c.self.view_is (record {
-      minors = c.set.ensures.minors;
+      minors = c.hold.ensures.minors;
       fds = refl;
-      holds = λ x. c.set.ensures.holds_now x ∙ ap (λ (n : ℕ). if same_stream x c.args.stream then n + 1
-          else number_at c.self.inside.records.holds x) c.holds_of-holds.ensures;
+      holds = λ x. c.hold.ensures.holds_now x;
       hungs = left
           (record {
             same = c.hung_up_streams_make_the_list.ensures.same;
@@ -30,12 +28,11 @@ returns-clause-rest c = subst
             fewer = c.hung_up_streams_make_the_list.ensures.fewer;
             each_of_more = c.hung_up_streams_make_the_list.ensures.each_of_more;
             each_of_fewer = c.hung_up_streams_make_the_list.ensures.each_of_fewer;
-          }) c.self.inside.records c.set.new.self (table_of c.self.inside)
+          }) c.self.inside.records c.hold.new.self (table_of c.self.inside)
           (table_of
-          (record { alloc = c.self.inside.alloc; descriptors = c.self.inside.descriptors; records = c.set.new.self }))
-          c.args.stream _ _ c.set.ensures c.is_sound.ensures.hung
-          (λ x. c.set.ensures.opens_now x ∙ same_number c.self.inside.records.opens x c.args.stream _
-          c.opens_of-opens.ensures ∙ c.self.invariant x) refl refl refl;
+          (record { alloc = c.self.inside.alloc; descriptors = c.self.inside.descriptors; records = c.hold.new.self }))
+          c.args.stream _ _ c.hold.ensures c.is_sound.ensures.hung
+          (λ x. c.hold.ensures.opens_now x ∙ same_number c.self.inside.records.opens x c.args.stream _ refl ∙ c.self.invariant x) refl refl refl;
     })
 
 pub returns-clause-hungs : goal.returns-clause-hungs
@@ -46,5 +43,5 @@ returns-clause-hungs c = hung_still
       fewer = c.hung_up_streams_make_the_list.ensures.fewer;
       each_of_more = c.hung_up_streams_make_the_list.ensures.each_of_more;
       each_of_fewer = c.hung_up_streams_make_the_list.ensures.each_of_fewer;
-    }) c.self.inside.records c.set.new.self c.args.stream _ _ c.set.ensures
+    }) c.self.inside.records c.hold.new.self c.args.stream _ _ c.hold.ensures
     ∙ ap (λ (t : StreamTable). t.hungs) c.self.view_is

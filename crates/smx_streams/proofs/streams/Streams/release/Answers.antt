@@ -1,5 +1,4 @@
-use Rattle.std.proofs.Common.{ℕ, refl, ap, subst, ◌∙◌, ◌-◌, if◌then◌else◌}
-use Rattle.smx_model.specs.Configuration.{same_stream}
+use Rattle.std.proofs.Common.{refl, subst, ◌∙◌, ◌-◌}
 use Rattle.smx_streams.specs.StreamTables.{StreamTable, HasHolds, number_at}
 use Rattle.smx_streams.specs.TableFields.{table_of}
 use Rattle.smx_streams.proofs.HungLemmas.{left, same_number}
@@ -9,12 +8,11 @@ pub returns-clause-rest : goal.returns-clause-rest
 returns-clause-rest c = subst
     (λ (t : StreamTable). HasHolds t c.args.stream (number_at t.holds c.args.stream - 1)
     (table_of
-    (record { alloc = c.self.inside.alloc; descriptors = c.self.inside.descriptors; records = c.set.new.self })))
+    (record { alloc = c.self.inside.alloc; descriptors = c.self.inside.descriptors; records = c.release.new.self })))
     c.self.view_is (record {
-      minors = c.set.ensures.minors;
+      minors = c.release.ensures.minors;
       fds = refl;
-      holds = λ x. c.set.ensures.holds_now x ∙ ap (λ (n : ℕ). if same_stream x c.args.stream then n - 1
-          else number_at c.self.inside.records.holds x) c.holds_of-holds.ensures;
+      holds = λ x. c.release.ensures.holds_now x;
       hungs = left
           (record {
             same = c.hung_up_streams_make_the_list.ensures.same;
@@ -22,10 +20,9 @@ returns-clause-rest c = subst
             fewer = c.hung_up_streams_make_the_list.ensures.fewer;
             each_of_more = c.hung_up_streams_make_the_list.ensures.each_of_more;
             each_of_fewer = c.hung_up_streams_make_the_list.ensures.each_of_fewer;
-          }) c.self.inside.records c.set.new.self (table_of c.self.inside)
+          }) c.self.inside.records c.release.new.self (table_of c.self.inside)
           (table_of
-          (record { alloc = c.self.inside.alloc; descriptors = c.self.inside.descriptors; records = c.set.new.self }))
-          c.args.stream _ _ c.set.ensures c.is_sound.ensures.hung
-          (λ x. c.set.ensures.opens_now x ∙ same_number c.self.inside.records.opens x c.args.stream _
-          c.opens_of-opens.ensures ∙ c.self.invariant x) refl refl refl;
+          (record { alloc = c.self.inside.alloc; descriptors = c.self.inside.descriptors; records = c.release.new.self }))
+          c.args.stream _ _ c.release.ensures c.is_sound.ensures.hung
+          (λ x. c.release.ensures.opens_now x ∙ same_number c.self.inside.records.opens x c.args.stream _ refl ∙ c.self.invariant x) refl refl refl;
     })

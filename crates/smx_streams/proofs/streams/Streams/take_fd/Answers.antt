@@ -5,22 +5,16 @@ use Rattle.smx_streams.proofs.NameLemmas.{names_after_take, names_some}
 use Rattle.smx_streams.proofs.HungLemmas.{kept, left, same_number}
 use Rattle.smx_streams.proofs.streams.Streams.take_fd.Goals as goal
 
-pub overflow_sub-opens : goal.overflow_sub-opens
-overflow_sub-opens c =
-    let some = names_some c.in_ok-stream.stream c.args.process c.args.fd c.self.inside.descriptors.fds
-    (sym c.in_ok-stream.ensures.stream) in
-    omega (arith, some, c.self.invariant c.in_ok-stream.stream, c.opens_of-opens.ensures)
-
-pub set-requires : goal.set-requires
-set-requires c =
+pub close-requires : goal.close-requires
+close-requires c =
     let some = names_some c.in_ok-stream.stream c.args.process c.args.fd c.self.inside.descriptors.fds
     (sym c.in_ok-stream.ensures.stream) in
     omega (arith, some, c.self.invariant c.in_ok-stream.stream)
 
 pub invariant_of-self-2 : goal.invariant_of-self-2
 invariant_of-self-2 c = λ s.
-    c.set.ensures.opens_now s
-    ∙ rw (c.opens_of-opens.ensures, c.in_ok-stream.ensures.rest)
+    c.close.ensures.opens_now s
+    ∙ rw (c.in_ok-stream.ensures.rest)
     (names_after_take c.self.inside.records.opens s c.in_ok-stream.stream c.args.process c.args.fd
     c.self.inside.descriptors.fds c.self.invariant c.is_sound.ensures.rise (sym c.in_ok-stream.ensures.stream))
 
@@ -48,12 +42,11 @@ returns-in_err-stream-clause-rest c = subst
 pub returns-clause-rest : goal.returns-clause-rest
 returns-clause-rest c = subst
     (λ (t : StreamTable). HasOneLess t c.args.process c.args.fd
-    (table_of (record { alloc = c.self.inside.alloc; descriptors = c.take.new.self; records = c.set.new.self })))
+    (table_of (record { alloc = c.self.inside.alloc; descriptors = c.take.new.self; records = c.close.new.self })))
     c.self.view_is (record {
-      minors = c.set.ensures.minors;
+      minors = c.close.ensures.minors;
       fds = c.in_ok-stream.ensures.rest;
-      holds = λ x. c.set.ensures.holds_now x ∙ same_number c.self.inside.records.holds x c.in_ok-stream.stream _
-          c.holds_of-holds.ensures;
+      holds = λ x. c.close.ensures.holds_now x ∙ same_number c.self.inside.records.holds x c.in_ok-stream.stream _ refl;
       hungs = left
           (record {
             same = c.hung_up_streams_make_the_list.ensures.same;
@@ -61,11 +54,11 @@ returns-clause-rest c = subst
             fewer = c.hung_up_streams_make_the_list.ensures.fewer;
             each_of_more = c.hung_up_streams_make_the_list.ensures.each_of_more;
             each_of_fewer = c.hung_up_streams_make_the_list.ensures.each_of_fewer;
-          }) c.self.inside.records c.set.new.self (table_of c.self.inside)
-          (table_of (record { alloc = c.self.inside.alloc; descriptors = c.take.new.self; records = c.set.new.self }))
-          c.in_ok-stream.stream _ _ c.set.ensures c.is_sound-2.ensures.hung (λ s.
-          c.set.ensures.opens_now s
-          ∙ rw (c.opens_of-opens.ensures, c.in_ok-stream.ensures.rest)
+          }) c.self.inside.records c.close.new.self (table_of c.self.inside)
+          (table_of (record { alloc = c.self.inside.alloc; descriptors = c.take.new.self; records = c.close.new.self }))
+          c.in_ok-stream.stream _ _ c.close.ensures c.is_sound-2.ensures.hung (λ s.
+          c.close.ensures.opens_now s
+          ∙ rw (c.in_ok-stream.ensures.rest)
           (names_after_take c.self.inside.records.opens s c.in_ok-stream.stream c.args.process c.args.fd
           c.self.inside.descriptors.fds c.self.invariant c.is_sound.ensures.rise (sym c.in_ok-stream.ensures.stream)))
           refl refl refl;

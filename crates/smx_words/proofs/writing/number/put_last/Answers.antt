@@ -4,5 +4,8 @@ use Rattle.smx_words.proofs.writing.number.put_last.Goals as goal
 
 pub returns-then-n-lt10-clause-written : goal.returns-then-n-lt10-clause-written
 returns-then-n-lt10-clause-written c =
-    rw (c.in_ok-extend_from_slice.ensures.items, c.digit.ensures, decimal_one c.args.n c.if-n-lt10.true)
-    (simp append_assoc)
+    let room = c.in_ok-reserve.ensures.items in
+    let space = c.push_reserved.ensures.items in
+    let number = c.push_reserved-then-n-lt10.ensures.items in
+    let end = c.push_reserved-then-n-lt10-2.ensures.items in
+    rw (end, number, space, room, c.digit.ensures, decimal_one c.args.n c.if-n-lt10.true) (simp append_assoc)

@@ -14,13 +14,13 @@ returns-then-number-ge-MAX_PROCESSES-clause-refused c =
 
 pub returns-clause-added : goal.returns-clause-added
 returns-clause-added c =
-    let more = added_process c.self.inside.drivers.items c.self.inside.programs.items c.args.number (search rules) in
+    let more = added_process c.self.inside.drivers.items c.self.inside.programs c.args.number (search rules) in
     adds c.args.self.now.version c.args.self.now _ (line.Process c.args.number) refl refl c.requires.begun
     (search rules) c.ranges.number.fits
     (search rules)
 
-pub returns-in_err-push-clause-refused : goal.returns-in_err-push-clause-refused
-returns-in_err-push-clause-refused c =
+pub returns-in_err-begin-clause-refused : goal.returns-in_err-begin-clause-refused
+returns-in_err-begin-clause-refused c =
     let room =
     longer_begun c.args.self.now.version c.args.self.now (line.Process c.args.number) refl c.requires.begun
     (search rules)
