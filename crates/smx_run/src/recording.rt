@@ -15,7 +15,7 @@ use crate::run_fault::RunFault;
 use smx_config::Config;
 use smx_model::laws::one_entry_more;
 use smx_types::{
-    Command, Commands, ConfigView, DriverSpec, Entry, NoMemory, Process, ProgramList, Version,
+    Command, Commands, ConfigView, DriverSpec, NoMemory, Process, ProgramList, Version,
 };
 use std::alloc::Global;
 
@@ -101,11 +101,7 @@ impl<K: Recorder> Recording<K> {
         one_entry_more();
         let process = self.process;
         let reply = self.config.step(process, &command)?;
-        self.recorder.add(&Entry {
-            process,
-            command,
-            reply,
-        })?;
+        self.recorder.add(process, &command, &reply)?;
         Ok(())
     }
 

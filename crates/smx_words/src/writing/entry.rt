@@ -9,7 +9,7 @@ use super::Spell;
 use super::command::put_command;
 use super::number::put_first;
 use super::reply::put_reply;
-use smx_types::{Entry, NoMemory};
+use smx_types::{Command, Entry, NoMemory, Process, Reply};
 
 impl Spell for Entry {
     ghost words = { entry_words };
@@ -17,9 +17,23 @@ impl Spell for Entry {
     ghost Fits = { FitsEntry };
 
     fn write_line(&self, out: &mut Vec<u8>) -> Result<(), NoMemory> {
-        put_first(out, self.process.get())?;
-        put_command(out, &self.command)?;
-        put_reply(out, &self.reply)?;
-        Ok(())
+        write_entry(out, self.process, &self.command, &self.reply)
     }
+}
+
+/// The line of the entry of these, with the line feed, behind `out`. Where memory runs out, `out` may have a part of it.
+pub fn write_entry(
+    out: &mut Vec<u8>,
+    process: Process,
+    command: &Command,
+    reply: &Reply,
+) -> Result<(), NoMemory>
+    ensures written { OnOk result (out.new.items
+        ≡ out.old.items ++ line_of (entry_words (entry process command.now reply.now)) ++ LINE_FEED ∷ []) }
+    ensures fits { OnOk result (FitsEntry (entry process command.now reply.now)) }
+{
+    put_first(out, process.get())?;
+    put_command(out, command)?;
+    put_reply(out, reply)?;
+    Ok(())
 }
