@@ -292,12 +292,12 @@ live_broken d read output TooLong h n is =
     (λ five. absurd (omega (arith, is, five)), λ broke. absurd (none_failed _ _ h.0 broke))
 live_broken d read output ReadFailed h n is = (λ five. inl h.0, λ broke. is)
 live_broken d read output WriteFailed h n is = (λ five. inr h.1, λ broke. is)
-live_broken d read output (Text f) h n is = (λ five. low (cause_is f.cause) five, λ broke. absurd (none_failed _ _ h.0 broke))
-  where
-    low : (status_of_cause f.cause ≡ 1) ⊎ (status_of_cause f.cause ≡ 3) → n ≡ 5
-        → (d.read_failures ≡ 1) ⊎ (d.write_failures ≡ 1)
-    low (inl one) five = absurd (omega (arith, is, one, five))
-    low (inr three) five = absurd (omega (arith, is, three, five))
+live_broken d read output (Text f) h n is =
+    (λ five. low (cause_is f.cause) five, λ broke. absurd (none_failed _ _ h.0 broke)) where
+      low : (status_of_cause f.cause ≡ 1) ⊎ (status_of_cause f.cause ≡ 3) → n ≡ 5
+          → (d.read_failures ≡ 1) ⊎ (d.write_failures ≡ 1)
+      low (inl one) five = absurd (omega (arith, is, one, five))
+      low (inr three) five = absurd (omega (arith, is, three, five))
 
 -- of a live session, which may have written something before
 of_living : (d : Devices) (n : ℕ) (answer : Result (Unit {0}) MainFault)

@@ -4,7 +4,7 @@ use Rattle.std.proofs.Common.{Some, None, refl, sym, ap, ◌∙◌, subst, inl, 
 use Rattle.std.specs.Prelude.{◌≢◌, ◌⊎◌}
 use Rattle.std.specs.List.{list_any}
 use Rattle.std.specs.Option.{option_map_or}
-use Rattle.std.proofs.lemmas.Bool.{cases_Bool, false≢true}
+use Rattle.std.proofs.lemmas.Bool.{cases_Bool, false≢true, or_left, or_right}
 use Rattle.smx_types.specs.declared.driver.DriverSpec.{DriverSpec}
 use Rattle.smx_types.specs.declared.link.Link.{Link}
 use Rattle.smx_types.specs.declared.stream.Place.{Place}
@@ -14,11 +14,11 @@ use Rattle.smx_model.specs.Configuration.{Configuration, QueuedMessage, same_pla
 use Rattle.smx_model.specs.KnownStreams.{IsKnown}
 use Rattle.smx_model.specs.Paths.{AreLowersApart}
 use Rattle.smx_model.specs.Queues.{first_message}
-use Rattle.smx_model.specs.RunMarks.{both}
+use Rattle.smx_model.specs.RunMarks.{all_but, both}
 use Rattle.smx_queues.specs.PlaceMarks.{MarkList, has_mark}
 use Rattle.smx_config.specs.Marking.{IsMarkedWhere, is_read_below_driver}
 use Rattle.smx_tables.proofs.AboveLemmas.{any_once, once_below}
-use Rattle.smx_queues.proofs.PlaceLemmas.{place_is}
+use Rattle.smx_queues.proofs.PlaceLemmas.{place_is, place_self, same_turned}
 
 -- nothing is marked where no place with a message passes the test
 pub none_marked : (flow : List QueuedMessage) (test : Place → Bool) (m : MarkList)
@@ -63,16 +63,6 @@ pub fewer_marked : (flow : List QueuedMessage) (wide narrow : Place → Bool) (o
     → IsMarkedWhere flow narrow old new
 fewer_marked flow wide narrow old new less h =
     record { kept = h.kept; marked = λ p known some t. h.marked p known some (less p t); drivers = h.drivers }
-
--- in the other order
-pub swapped : (flow : List QueuedMessage) (one other : Place → Bool) (old new : MarkList)
-    → IsMarkedWhere flow (both one other) old new → IsMarkedWhere flow (both other one) old new
-swapped flow one other old new h =
-    fewer_marked flow (both one other) (both other one) old new (λ p t. turn (one p) (other p) t) h where
-      turn : (a b : Bool) → (b || a) ≡ true → (a || b) ≡ true
-      turn true b t = refl
-      turn false true t = refl
-      turn false false t = t
 
 -- ---- the driver above a stream
 
@@ -158,3 +148,27 @@ pub left_empty : (flow : List QueuedMessage) (one other : Place → Bool) (old n
     → ((p : Place) → one p ≡ true → first_message flow p ≡ None) → IsMarkedWhere flow other old new
     → IsMarkedWhere flow (both one other) old new
 left_empty flow one other old new none h = both_marked flow one other old old new (none_marked flow one old none) h
+
+-- ---- a mark that is taken before another one is put
+
+-- with a mark at this place too
+abbrev pub with_one : MarkList → Place → MarkList
+with_one m p = record m { marked = p ∷ m.marked }
+
+-- it has that mark, and those from before
+pub one_more : (flow : List QueuedMessage) (place : Place) (m : MarkList)
+    → IsMarkedWhere flow (same_place place) m (with_one m place)
+one_more flow place m = one_marked flow place m (with_one m place)
+    (λ known. or_left (same_place place place) (has_mark m place) (place_self place))
+    (λ p h. or_right (same_place p place) (has_mark m p) h) refl
+
+-- where the mark of one place is taken, and then another place gets one, it is as if that had come first
+pub taken_first : (from to : Place) (old mid new : MarkList) → same_place from to ≡ false
+    → ((q : Place) → has_mark mid q ≡ all_but (has_mark old) from q) → has_mark new to ≡ true
+    → ((q : Place) → same_place to q ≡ false → has_mark new q ≡ has_mark mid q)
+    → (q : Place) → has_mark new q ≡ all_but (has_mark (with_one old to)) from q
+taken_first from to old mid new apart gone here others q = elim (cases_Bool (same_place to q)) [
+  | inl t ↦ subst (λ (x : Place). has_mark new x ≡ all_but (has_mark (with_one old to)) from x) (place_is to q t)
+      (here ∙ sym (rw (place_self to, apart) refl))
+  | inr f ↦ others q f ∙ (gone q ∙ sym (rw (same_turned q to ∙ f) refl))
+]

@@ -144,8 +144,8 @@ impl Tables {
         places_are_known();
         self.move_on(next);
         self.release_if_open(marks, next.from);
-        marks.run.mark(next.to);
         self.mark_left(&mut marks.run, next.from);
+        marks.run.mark(next.to);
         marks.waits.clear(next.from);
     }
 

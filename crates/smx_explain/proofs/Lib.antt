@@ -3,3 +3,5 @@ pub mod LineLemmas
 pub mod TextLemmas
 pub mod HistoryLemmas
 pub mod ExplanationLemmas
+pub mod WorkedDifferenceLemmas
+pub mod OneExplanationLemmas

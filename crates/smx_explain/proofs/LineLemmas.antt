@@ -1,10 +1,11 @@
 -- Texts that are made of lines: they have one first difference.
 use Rattle.std.proofs.Common.{◌≡◌, ◌≢◌, ℕ, ◌+◌, ◌<◌, ◌≤◌, List, [], ◌∷◌, ◌++◌, length, map, refl, sym, ap, subst, ◌∙◌}
-use Rattle.std.proofs.Common.{append_assoc, arith}
+use Rattle.std.proofs.Common.{append_assoc, arith, inl, inr}
+use Rattle.std.specs.Prelude.{◌⊎◌}
 use Rattle.std.specs.List.{AllByRecursion, flat_map}
 use Rattle.smx_words.specs.Words.{LINE_FEED}
 use Rattle.smx_text.specs.Grammar.{IsOneLine}
-use Rattle.smx_explain.specs.Differences.{IsFirstDifference, whole_lines}
+use Rattle.smx_explain.specs.Differences.{AreAlike, IsFirstDifference, IsFirstLine, whole_lines}
 
 -- ---- bytes
 
@@ -122,6 +123,45 @@ pub no_difference : (one other : List ℕ) (n : ℕ) (told has : List ℕ) → I
 no_difference one other n told has h same =
     let rests = same_rest (whole_lines h.before) _ _ (sym h.begin.one_is ∙ same ∙ h.begin.other_is) in
     h.differ (one_cut told has h.more h.rest h.told_is_one h.has_is_one rests).0
+
+-- behind lines where one of both has no whole line more, none differs
+alike_before : (ps ls : List (List ℕ)) (told has more rest x y : List ℕ)
+    → AllByRecursion IsOneLine ps → AllByRecursion IsOneLine ls → IsOneLine told → IsOneLine has → told ≢ has
+    → whole_lines ls ++ (told ++ LINE_FEED ∷ more) ≡ whole_lines ps ++ x
+    → whole_lines ls ++ (has ++ LINE_FEED ∷ rest) ≡ whole_lines ps ++ y
+    → IsOneLine x ⊎ IsOneLine y → ⊥
+alike_before [] [] told has more rest x y all all_too a b differ e k (inl one) =
+    not_one told more (subst IsOneLine (sym e) one)
+alike_before [] [] told has more rest x y all all_too a b differ e k (inr one) =
+    not_one has rest (subst IsOneLine (sym k) one)
+alike_before [] (l ∷ ls) told has more rest x y all all_too a b differ e k (inl one) =
+    not_one l _ (subst IsOneLine (sym e ∙ cons l ls (told ++ LINE_FEED ∷ more)) one)
+alike_before [] (l ∷ ls) told has more rest x y all all_too a b differ e k (inr one) =
+    not_one l _ (subst IsOneLine (sym k ∙ cons l ls (has ++ LINE_FEED ∷ rest)) one)
+alike_before (p ∷ ps) [] told has more rest x y all all_too a b differ e k ends =
+    no_first p told has more rest _ _ all.0 a b differ (sym (e ∙ cons p ps x)) (sym (k ∙ cons p ps y))
+alike_before (p ∷ ps) (l ∷ ls) told has more rest x y all all_too a b differ e k ends =
+    let cut = one_cut l p _ _ all_too.0 all.0 (sym (cons l ls (told ++ LINE_FEED ∷ more)) ∙ e ∙ cons p ps x) in
+    let cut_too = one_cut l p _ _ all_too.0 all.0 (sym (cons l ls (has ++ LINE_FEED ∷ rest)) ∙ k ∙ cons p ps y) in
+    alike_before ps ls told has more rest x y all.1 all_too.1 a b differ cut.1 cut_too.1 ends
+
+-- so texts that are alike have no difference
+pub not_both : (one other : List ℕ) (n : ℕ) (told has : List ℕ) → IsFirstDifference one other n told has
+    → AreAlike one other → ⊥
+not_both one other n told has h alike =
+    alike_before alike.lines h.before told has h.more h.rest alike.rest alike.behind alike.begin.are_lines
+    h.begin.are_lines h.told_is_one h.has_is_one h.differ (sym h.begin.one_is ∙ alike.begin.one_is)
+    (sym h.begin.other_is ∙ alike.begin.other_is) alike.ends
+
+-- bytes have one first line
+pub one_first_line : (bytes one other : List ℕ) → IsFirstLine one bytes → IsFirstLine other bytes → one ≡ other
+one_first_line bytes one other (a, inl is) (b, inl is_too) = sym is ∙ is_too
+one_first_line bytes one other (a, inl is) (b, inr (after, is_too)) =
+    absurd (not_one other after (subst IsOneLine (sym is ∙ is_too) a))
+one_first_line bytes one other (a, inr (after, is)) (b, inl is_too) =
+    absurd (not_one one after (subst IsOneLine (sym is_too ∙ is) b))
+one_first_line bytes one other (a, inr (after, is)) (b, inr (behind, is_too)) =
+    (one_cut one other after behind a b (sym is ∙ is_too)).0
 
 -- ---- a line by its number
 

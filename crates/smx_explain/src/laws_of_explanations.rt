@@ -1,10 +1,10 @@
 //! Laws of explanations, each the contract of a function that does nothing.
 
-ghost use Rattle.std.specs.Prelude.{◌≡◌, ◌+◌, ◌<◌, ℕ, List, [], length, take};
+ghost use Rattle.std.specs.Prelude.{◌≡◌, ◌+◌, ◌<◌, ℕ, List, [], length, take, codes};
 ghost use Rattle.smx_types.specs.declared.transcript.Transcript.{Transcript};
 ghost use Rattle.smx_config.specs.Verdicts.{IsVerdict};
 ghost use Rattle.smx_config.specs.declared.verdict.Verdict.TheVariants.{ConfigDiffers, Legal};
-ghost use Rattle.smx_explain.specs.Differences.{IsFirstDifference};
+ghost use Rattle.smx_explain.specs.Differences.{AreAlike, IsFirstDifference, IsFirstLine};
 ghost use Rattle.smx_explain.specs.Explanations.{IsExplanation, difference_text};
 ghost use Rattle.smx_model.specs.Histories.{after};
 ghost use Rattle.smx_model.specs.IllegalEntries.{IsFirstIllegal};
@@ -17,6 +17,32 @@ use smx_model::laws::histories_are_determined;
 use smx_replay::laws_of_replays::{a_transcript_has_one_replay, replays_are_the_legal_transcripts};
 use smx_text::laws::one_transcript_has_one_reading;
 use smx_words::laws::{one_value_each, spellings_are_words};
+
+/// Two texts have one first difference, or they are alike; and bytes have one first line.
+pub fn texts_have_one_first_difference()
+    ensures one { (one other : List ℕ) (number count : ℕ) (told has said had : List ℕ)
+        → IsFirstDifference one other number told has → IsFirstDifference one other count said had
+        → (number ≡ count) × (told ≡ said) × (has ≡ had) }
+    ensures not_both { (one other : List ℕ) (number : ℕ) (told has : List ℕ)
+        → IsFirstDifference one other number told has → AreAlike one other → ⊥ }
+    ensures line { (bytes one other : List ℕ) → IsFirstLine one bytes → IsFirstLine other bytes → one ≡ other }
+{}
+
+/// Worked texts, typed in: the first line in which they differ, and two of which the last lines are not whole.
+pub fn worked_differences()
+    ensures second { IsFirstDifference (codes "a\nb\nc\n") (codes "a\nx\nd\n") 2 (codes "b") (codes "x") }
+    ensures ends_early { IsFirstDifference (codes "a\nend\n") (codes "a\n\nend\n") 2 (codes "end") [] }
+    ensures not_whole { AreAlike (codes "a\nb") (codes "a\nc") }
+    ensures whole_line { IsFirstLine (codes "b") (codes "b\nc\n") }
+    ensures last_line { IsFirstLine (codes "b c") (codes "b c") }
+{}
+
+/// Of a transcript one thing is told.
+pub fn a_transcript_has_one_explanation()
+    ensures { (t : Transcript) (one other : List ℕ) → IsExplanation t one → IsExplanation t other → one ≡ other }
+{
+    a_transcript_has_one_replay();
+}
 
 /// Nothing is told just below the verdict `legal`.
 pub fn a_legal_transcript_needs_none()

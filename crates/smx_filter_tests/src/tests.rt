@@ -14,6 +14,7 @@ mod lives;
 mod reading;
 mod replays;
 mod runs;
+mod sessions;
 mod tried_again;
 mod versions;
 mod workers;

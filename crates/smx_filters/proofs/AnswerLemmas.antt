@@ -1,5 +1,6 @@
 -- An input has one answer, and what a run writes spells one report.
-use Rattle.std.proofs.Common.{◌≡◌, ◌≢◌, ℕ, zero, suc, ◌≤◌, ◌⊎◌, Bool, true, false, List, length, map, Result, Ok, Err}
+use Rattle.std.proofs.Common.{◌≡◌, ◌≢◌, ℕ, zero, suc, ◌++◌, ◌≤◌, ◌⊎◌, Bool, true, false, List, length, map}
+use Rattle.std.proofs.Common.{Result, Ok, Err}
 use Rattle.std.proofs.Common.{refl, sym, ap, subst, ◌∙◌, arith, inl, inr}
 use Rattle.smx_types.specs.ProgramLists.{ProgramLists}
 use Rattle.smx_types.specs.declared.command.Entry.{Entry}
@@ -26,7 +27,9 @@ use Rattle.smx_run.specs.declared.run_fault.RunFault.{RunFault}
 use Rattle.smx_run.specs.declared.run_fault.RunFault.TheVariants as run
 use Rattle.smx_filters.proofs.OneProcessLemmas.{in_turn}
 use Rattle.smx_filters.proofs.ReadingLemmas.{HasOneReading, no_fault, one_fault, one_value}
+use Rattle.smx_explain.specs.Explanations.{IsExplanation}
 use Rattle.smx_filters.specs.CheckText.{checking, verdict_line}
+use Rattle.smx_filters.specs.ExplainText.{explaining}
 use Rattle.smx_filters.specs.Filters.{Answers, Filter, GivesFor, HadMemory, RefusesFor}
 use Rattle.smx_filters.specs.ReplayText.{replaying}
 use Rattle.smx_filters.specs.RunText.{IsRefusedFor, IsTranscriptInTurn, IsWrittenFor, running}
@@ -145,7 +148,7 @@ refused_alone determined drivers (run.ConfigFault f) (run.Strange p) h k known k
 refused_alone determined drivers (run.ConfigFault f) run.HistoryFull h k known known_too = absurd k
 refused_alone determined drivers (run.ConfigFault f) run.Held h k known known_too = absurd k
 
--- ---- the three filters
+-- ---- the filters
 
 -- a check
 pub checked : HasOneReading transcript_grammar → HaveOneFault → HasOneVerdict
@@ -157,6 +160,24 @@ checked reading determined judged input = one_answer checking reading (λ t. Uni
     (same, h.written ∙ ap (verdict_line (length t.entries)) same ∙ sym k.written))
     (λ t fits r s. refused_alone determined t.drivers r s)
     (λ t fits v x r h refuses. drivers_had determined t.drivers h.can_be_had r refuses)
+    input (λ version t spells. tt)
+
+-- a check that explains itself
+pub explained : HasOneReading transcript_grammar → HaveOneFault → HasOneVerdict
+    → ((t : Transcript) (one other : List ℕ) → IsExplanation t one → IsExplanation t other → one ≡ other)
+    → (input : List ℕ) (one other : Result (Verdict × List ℕ) MainFault)
+    → Answers explaining input one → Answers explaining input other
+    → HadMemory one → HadMemory other → one ≡ other
+explained reading determined judged told_once input = one_answer explaining reading (λ t. Unit {0})
+    (λ t fits v w x y h k.
+    let same = judged t.drivers t.entries t.view v w h.judged.judged k.judged.judged in
+    let told = told_once t h.told k.told h.explained k.explained in (
+      same,
+      h.written ∙ ap (λ (verdict : Verdict). verdict_line (length t.entries) verdict ++ h.told) same
+          ∙ ap (λ (bytes : List ℕ). verdict_line (length t.entries) w ++ bytes) told ∙ sym k.written,
+    ))
+    (λ t fits r s. refused_alone determined t.drivers r s)
+    (λ t fits v x r h refuses. drivers_had determined t.drivers h.judged.can_be_had r refuses)
     input (λ version t spells. tt)
 
 -- a replay

@@ -12,3 +12,4 @@ pub mod ExplainTextLemmas
 pub mod OneProcessLemmas
 pub mod AnswerLemmas
 pub mod FrontsLawLemmas
+pub mod ExplainLawLemmas

@@ -1,6 +1,5 @@
 -- A report of programs can be told in their version.
-use Rattle.std.proofs.Common.{◌≡◌, ℕ, zero, suc, ◌≤◌, Bool, true, false, ◌||◌, List, length, refl, sym, subst, ◌∙◌}
-use Rattle.std.proofs.Common.{arith, rules}
+use Rattle.std.proofs.Common.{◌≡◌, ℕ, ◌≤◌, Bool, true, false, ◌||◌, List, length, refl, sym, subst, ◌∙◌, rules}
 use Rattle.smx_types.specs.ProgramLists.{ProgramLists, AreWithinLimits}
 use Rattle.smx_types.specs.Versions.{are_more_drivers, least_of_programs, least_of_transcript, most_drivers}
 use Rattle.smx_types.specs.Versions.{version_2_where}
@@ -10,11 +9,7 @@ use Rattle.smx_types.specs.declared.transcript.Transcript.{Transcript}
 use Rattle.smx_types.specs.declared.version.Version.{Version}
 use Rattle.smx_types.specs.declared.version.Version.TheVariants.{V1, V2}
 use Rattle.smx_model.specs.Headline.{IsReportOf}
-use Rattle.smx_run.specs.Fronts.{AreFrontsFrom}
-use Rattle.smx_run.specs.Reports.{transcript_of}
-use Rattle.smx_run.specs.declared.report.Report.{Report}
 use Rattle.smx_text.specs.TranscriptText.{IsAllowed, IsSpellable, SpellsTranscript, transcript_text}
-use Rattle.smx_filters.specs.RunText.{IsTextOf, IsWrittenFor}
 
 -- what the model says of reports: version 1 can tell them where it can tell their programs
 abbrev pub NeedNoLaterVersion : Type 0
@@ -59,31 +54,3 @@ spelled need p r within report same few spellable bytes is = record {
   allowed = can_be_told need p r within report same few spellable;
   text = is;
 }
-
--- the text of a report in the version of its programs is what so many workers write, where it is the fronts or
--- several wrote it
-pub written_for : NeedNoLaterVersion
-    → (fronts : Bool) (workers : ℕ) (p : ProgramLists) (version : Version) (report : Report) (text : List ℕ)
-    → AreWithinLimits p → IsReportOf p (transcript_of p.version report) → length report.entries ≤ MAX_COMMANDS
-    → AreFrontsFrom report.drivers report.entries 0 p.programs report.fronts → (fronts ≡ false → 2 ≤ workers)
-    → version ≡ p.version → IsTextOf fronts version report text → IsWrittenFor fronts workers p text
-written_for need true workers p version report text within promised few seen several same is =
-    record {
-      report = transcript_of p.version report;
-      promised = promised;
-      fronts = report.fronts;
-      seen = seen;
-      written = is;
-    }
-written_for need false zero p version report text within promised few seen several same is =
-    absurd (omega (arith, several refl))
-written_for need false (suc zero) p version report text within promised few seen several same is =
-    absurd (omega (arith, several refl))
-written_for need false (suc (suc more)) p version report text within promised few seen several same is =
-    let told : IsTextOf false p.version report text = subst (λ (v : Version). IsTextOf false v report text) same is in
-    record {
-      report = transcript_of p.version report;
-      promised = promised;
-      version = refl;
-      written = spelled need p (transcript_of p.version report) within promised refl few told.1 text told.0;
-    }

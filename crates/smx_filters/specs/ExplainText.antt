@@ -1,5 +1,6 @@
 -- What a check that explains itself says of the bytes that it read, and which texts are kept to be explained.
-use Rattle.std.specs.Prelude.{◌≡◌, ℕ, ◌++◌, Bool, true, false, List, length, Option, Some, None, Result, Ok, Err, Vec, IfErr}
+use Rattle.std.specs.Prelude.{◌≡◌, ℕ, ◌++◌, Bool, true, false, List, length, Option, Some, None, Result, Ok, Err}
+use Rattle.std.specs.Prelude.{Vec, IfErr}
 use Rattle.std.specs.Global.{Global}
 use Rattle.smx_types.specs.declared.transcript.Transcript.{Transcript}
 use Rattle.smx_text.specs.TranscriptLines.{TranscriptLine}

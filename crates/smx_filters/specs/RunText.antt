@@ -9,14 +9,12 @@ use Rattle.smx_model.specs.Headline.{IsReportOf}
 use Rattle.smx_model.specs.Histories.{call_of}
 use Rattle.smx_run.specs.Fronts.{AreFrontsFrom}
 use Rattle.smx_run.specs.ProgramOrder.{calls_from}
-use Rattle.smx_run.specs.Reports.{transcript_of}
 use Rattle.smx_run.specs.RunFaults.{RefusesAlone, RefusesRun}
 use Rattle.smx_run.specs.declared.run_fault.RunFault.{RunFault}
-use Rattle.smx_run.specs.declared.report.Report.{Report}
 use Rattle.smx_shared.specs.declared.front.Front.{Front}
 use Rattle.smx_text.specs.ProgramLines.{Line}
 use Rattle.smx_text.specs.ProgramsText.{programs_grammar}
-use Rattle.smx_text.specs.TranscriptText.{transcript_text, IsSpellable, SpellsTranscript}
+use Rattle.smx_text.specs.TranscriptText.{SpellsTranscript}
 use Rattle.smx_filters.specs.Filters.{Filter, FiltersText}
 use Rattle.smx_filters.specs.FrontsText.{fronts_text}
 use Rattle.smx_filters.specs.declared.main_fault.MainFault.{MainFault}
@@ -64,12 +62,6 @@ IsWrittenFor false (suc (suc more)) programs output = IsTranscriptFor programs o
 abbrev pub IsRefusedFor : ℕ → ProgramLists → RunFault → Type 0
 IsRefusedFor workers programs fault = RefusesRun programs.drivers fault
     × ((workers ≤ 1) ⊎ (length programs.programs ≤ 1) → RefusesAlone programs.drivers fault)
-
--- the text of a report: its fronts, or its transcript in a version, each line of which can be spelled
-abbrev pub IsTextOf : Bool → Version → Report → List ℕ → Type 0
-IsTextOf true version report text = text ≡ fronts_text report.fronts
-IsTextOf false version report text =
-    (text ≡ transcript_text (transcript_of version report)) × IsSpellable (transcript_of version report)
 
 -- a run by so many workers reads programs and writes the fronts or the transcript of a report; that it is done is all
 -- that it answers

@@ -14,6 +14,7 @@ ghost use Rattle.smx_config.specs.declared.verdict.Verdict.TheVariants.{Legal};
 ghost use Rattle.smx_shared.specs.declared.front.Front.{Front};
 ghost use Rattle.smx_run.specs.declared.run_fault.RunFault.TheVariants as run;
 ghost use Rattle.smx_filters.specs.CheckText.{checking};
+ghost use Rattle.smx_filters.specs.ExplainText.{explaining};
 ghost use Rattle.smx_filters.specs.Filters.{Answers, GivesFor, HadMemory, RefusesFor};
 ghost use Rattle.smx_filters.specs.FrontsText.{fronts_text};
 ghost use Rattle.smx_filters.specs.ReplayText.{replaying};
@@ -22,11 +23,12 @@ ghost use Rattle.smx_filters.specs.declared.main_fault.MainFault.{MainFault};
 
 use smx_config::laws_of_drivers::drivers_have_one_fault;
 use smx_config::laws_of_verdicts::{reports_are_judged_legal, there_is_one_verdict};
+use smx_explain::laws_of_explanations::a_transcript_has_one_explanation;
 use smx_model::laws_of_reports::reports_are_determined;
 use smx_replay::laws_of_replays::a_transcript_has_one_replay;
 use smx_text::laws::{one_text_has_one_reading, one_transcript_has_one_reading};
 
-/// A check, a replay and a run on one worker have one answer to an input, and one output, unless memory was wanting: what
+/// A check, one that explains itself, a replay and a run on one worker have one answer to an input, and one output, unless memory was wanting: what
 /// is done isn't refused, and what is refused is refused for one fault.
 pub fn an_input_has_one_answer()
     ensures checked { (input : List ℕ) (one other : Result (Verdict × List ℕ) MainFault)
@@ -34,6 +36,9 @@ pub fn an_input_has_one_answer()
         → HadMemory one → HadMemory other → one ≡ other }
     ensures replayed { (input : List ℕ) (one other : Result (Unit {0} × List ℕ) MainFault)
         → Answers replaying input one → Answers replaying input other
+        → HadMemory one → HadMemory other → one ≡ other }
+    ensures explained { (input : List ℕ) (one other : Result (Verdict × List ℕ) MainFault)
+        → Answers explaining input one → Answers explaining input other
         → HadMemory one → HadMemory other → one ≡ other }
     ensures run { (input : List ℕ) (one other : Result (Unit {0} × List ℕ) MainFault)
         → Answers (running false 1) input one → Answers (running false 1) input other
@@ -43,6 +48,7 @@ pub fn an_input_has_one_answer()
     there_is_one_verdict();
     reports_are_determined();
     a_transcript_has_one_replay();
+    a_transcript_has_one_explanation();
     one_text_has_one_reading();
     one_transcript_has_one_reading();
 }

@@ -9,6 +9,7 @@ mod explain;
 mod fronts_text;
 mod input;
 pub mod laws_of_answers;
+pub mod laws_of_explained;
 pub mod laws_of_filters;
 pub mod laws_of_replays;
 mod main_fault;

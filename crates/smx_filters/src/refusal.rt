@@ -6,7 +6,7 @@ use crate::main_fault::MainFault;
 #[derive(Drop)]
 pub struct Refusal {
     pub fault: MainFault,
-    /// All that was read, where that is no text of its kind.
+    /// All that was read, where that is no text of its kind, and of a check where its drivers are refused too.
     pub text: Option<Vec<u8>>,
 }
 

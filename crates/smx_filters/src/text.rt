@@ -1,13 +1,10 @@
 //! A run from bytes to bytes.
 
-ghost use Rattle.std.specs.Prelude.{◌≡◌, ◌≤◌, false, IfOk, IfErr, Result};
-ghost use Rattle.smx_types.specs.Versions.{least_of_transcript};
-ghost use Rattle.smx_types.specs.declared.version.Version.TheVariants.{V1};
+ghost use Rattle.std.specs.Prelude.{◌≡◌, ◌≤◌, false, length, IfOk, IfErr, Result};
 ghost use Rattle.smx_filters.specs.Filters.{Answers};
 ghost use Rattle.smx_filters.specs.FrontsText.{fronts_text};
-ghost use Rattle.smx_filters.specs.RunText.{IsRefusedFor, IsTextOf, IsTranscriptInTurn, IsWrittenFor, RunsText, items_of, running};
-ghost use Rattle.smx_run.specs.Reports.{transcript_of};
-ghost use Rattle.smx_run.specs.RunFaults.{RefusesAlone};
+ghost use Rattle.smx_filters.specs.RunText.{IsFrontsTextFor, IsRefusedFor, IsTranscriptFor, IsTranscriptInTurn, IsWrittenFor, RunsText, items_of, running};
+ghost use Rattle.smx_run.specs.RunFaults.{RefusesAlone, RefusesRun};
 
 use crate::device::{Feed, Sink};
 use crate::fronts_text::fronts_text;
@@ -17,9 +14,9 @@ use crate::output::write_all;
 use crate::text_recorder::TextRecorder;
 use smx_model::laws_of_hangups::reports_need_no_later_version;
 use smx_run::laws_of_runs::refusals_have_few_causes;
-use smx_run::{Gate, Report, RunFault, run_programs, run_recorded};
-use smx_text::{read_programs, write_transcript_into};
-use smx_types::{NoMemory, Programs, Version};
+use smx_run::{Gate, Report, RunFault, run_programs, run_recorded, run_recorded_together};
+use smx_text::read_programs;
+use smx_types::{NoMemory, Programs};
 use std::alloc::Global;
 use std::sync::Wait;
 use std::thread::Threads;
@@ -69,7 +66,7 @@ fn text_for<R: Threads + Wait + Sync, G: Gate + Sync>(
 }
 
 // The fronts of a run by so many workers, or its transcript in the room that is given. Where a second worker would have
-// no process, it is run on this thread alone.
+// no process, a transcript is made on this thread alone.
 pub(crate) fn text_of_run<R: Threads + Wait + Sync, G: Gate + Sync>(
     rt: &R,
     alloc: Global,
@@ -84,15 +81,37 @@ pub(crate) fn text_of_run<R: Threads + Wait + Sync, G: Gate + Sync>(
     ensures refused { IfErr result (IsRefusedFor workers programs) }
 {
     refusals_have_few_causes();
-    reports_need_no_later_version();
+    if fronts {
+        return fronts_of_run(rt, alloc, programs, workers, gate);
+    }
     let hands = workers.min(programs.programs().len());
-    if !fronts && hands < 2 {
+    if hands < 2 {
         return transcript_of_one(alloc, room, programs, gate);
     }
-    let version = programs.version();
+    transcript_of_several(rt, alloc, room, programs, workers, gate)
+}
+
+// The fronts of a run by so many workers, as a text.
+fn fronts_of_run<R: Threads + Wait + Sync, G: Gate + Sync>(
+    rt: &R,
+    alloc: Global,
+    programs: Programs,
+    workers: usize,
+    gate: &G,
+) -> Result<Vec<u8>, RunFault>
+    requires { (1 ≤ workers) × (workers ≤ 64) }
+    ensures written { IfOk result (λ text. IsFrontsTextFor programs text.items) }
+    ensures refused { IfErr result (IsRefusedFor workers programs) }
+{
     let report = run_programs(rt, alloc, programs, workers, gate)?;
-    let text = text_of(alloc, room, report, version, fronts)?;
-    Ok(text)
+    Ok(fronts_of(alloc, &report)?)
+}
+
+// The text of its fronts.
+fn fronts_of(alloc: Global, report: &Report) -> Result<Vec<u8>, NoMemory>
+    ensures { IfOk result (λ text. text.items ≡ fronts_text report.now.fronts) }
+{
+    Ok(fronts_text(alloc, report.fronts.as_slice())?)
 }
 
 // The transcript of a run on this thread alone, in the room that is given and in the version of the programs. The line of
@@ -112,27 +131,23 @@ fn transcript_of_one<G: Gate>(
     Ok(writer.finish(&view)?)
 }
 
-// The text of a report: its fronts, or its transcript in a version that can tell it, in the room that is given. Fails only
-// for want of memory.
-fn text_of(
+// The same of a run by so many workers. The line of each entry is written before the next command is performed.
+fn transcript_of_several<R: Threads + Wait + Sync, G: Gate + Sync>(
+    rt: &R,
     alloc: Global,
     room: Vec<u8>,
-    report: Report,
-    version: Version,
-    fronts: bool,
-) -> Result<Vec<u8>, NoMemory>
-    requires { version ≡ V1 → least_of_transcript (transcript_of version report) ≡ V1 }
-    ensures { IfOk result (λ text. IsTextOf fronts version report text.items) }
+    programs: Programs,
+    workers: usize,
+    gate: &G,
+) -> Result<Vec<u8>, RunFault>
+    requires { (1 ≤ workers) × (1 ≤ length programs.programs) }
+    ensures written { IfOk result (λ text. IsTranscriptFor programs text.items) }
+    ensures refused { IfErr result (RefusesRun programs.drivers) }
 {
-    if fronts {
-        return fronts_of(alloc, &report);
-    }
-    write_transcript_into(room, &report.into_transcript(version))
-}
-
-// The text of its fronts.
-fn fronts_of(alloc: Global, report: &Report) -> Result<Vec<u8>, NoMemory>
-    ensures { IfOk result (λ text. text.items ≡ fronts_text report.now.fronts) }
-{
-    Ok(fronts_text(alloc, report.fronts.as_slice())?)
+    reports_need_no_later_version();
+    let _version = programs.version();
+    let (TextRecorder { writer }, view) = run_recorded_together(
+        rt, alloc, programs, workers, room, gate,
+    )?;
+    Ok(writer.finish(&view)?)
 }

@@ -1,6 +1,6 @@
 //! The transcript of a run, which is written while it goes.
 
-use smx_run::Recorder;
+use smx_run::{NewRecorder, Recorder};
 use smx_text::TranscriptWriter;
 use smx_types::{Command, DriverSpec, NoMemory, Process, Reply, Version};
 
@@ -13,18 +13,7 @@ pub struct TextRecorder {
 impl Recorder for TextRecorder {
     ghost use Rattle.smx_text.specs.GrowingTranscripts.{BeginsTranscript};
 
-    type Room = Vec<u8>;
-
     ghost told = { λ version drivers entries recorder. BeginsTranscript version drivers entries recorder.writer };
-
-    fn begin(
-        room: Vec<u8>,
-        version: Version,
-        drivers: &[DriverSpec],
-    ) -> Result<TextRecorder, NoMemory> {
-        let writer = TranscriptWriter::begin(room, version, drivers)?;
-        Ok(TextRecorder { writer })
-    }
 
     fn add(
         &mut self,
@@ -33,5 +22,18 @@ impl Recorder for TextRecorder {
         reply: &Reply,
     ) -> Result<(), NoMemory> {
         self.writer.add_entry(process, command, reply)
+    }
+}
+
+impl NewRecorder for TextRecorder {
+    type Room = Vec<u8>;
+
+    fn begin(
+        room: Vec<u8>,
+        version: Version,
+        drivers: &[DriverSpec],
+    ) -> Result<TextRecorder, NoMemory> {
+        let writer = TranscriptWriter::begin(room, version, drivers)?;
+        Ok(TextRecorder { writer })
     }
 }

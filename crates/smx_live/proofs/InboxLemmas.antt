@@ -2,14 +2,16 @@
 use Rattle.std.proofs.Common.{◌≡◌, ◌≢◌, ℕ, ◌+◌, ◌-◌, ◌<◌, ◌≤◌, List, [], ◌∷◌, ◌++◌, length, take, drop}
 use Rattle.std.proofs.Common.{sym, ap, subst, ◌∙◌, append_assoc, take-append-drop, length-drop, arith}
 use Rattle.std.proofs.Math.Seq.{take-append-add, take-append_seam}
-use Rattle.std.proofs.lemmas.List.{drop-append-le, length-append, length-take-le, take-append-le, take_all}
+use Rattle.std.proofs.lemmas.List.{append-nil, drop-append-le, length-append, length-take-le, take-append-le, take_all}
+use Rattle.std.specs.Prelude.{Bool, Option, Result, Ok, Err, IfOk, IfErr, OnOk}
 use Rattle.smx_words.specs.Words.{LINE_FEED}
 use Rattle.smx_text.specs.Grammar.{IsOneLine}
 use Rattle.smx_text.proofs.EachLemmas.{all_append}
 use lib.Seq.{drop-drop, take-add}
 use Rattle.smx_filters.specs.declared.main_fault.MainFault.{MainFault}
 use Rattle.smx_filters.specs.declared.main_fault.MainFault.TheVariants.{Refused, Text, TooLong, ReadFailed, WriteFailed}
-use Rattle.smx_live.specs.Inboxes.{FailsToRead, HasLine}
+use Rattle.smx_live.specs.Inboxes.{FailsToRead, HasLine, IsFound, IsLineOf, IsTooLong}
+use Rattle.smx_filters.specs.declared.input.TheConstants.{MAX_INPUT}
 
 -- no line feed among the first bytes, nor among the others
 pub none_in_all : (held : List ℕ) (seen : ℕ) → IsOneLine (take seen held) → IsOneLine (drop seen held) → IsOneLine held
@@ -68,13 +70,38 @@ none_before held piece longer k size is one = (
   subst IsOneLine (sym (ap (take k) is ∙ ap (λ (n : ℕ). take n (held ++ piece)) size ∙ take-append_seam held piece)) one,
 )
 
--- no piece is too long by itself
-pub fails_so : (Long : Type 0) (failures : ℕ) (e : MainFault) → FailsToRead ⊥ failures e → FailsToRead Long failures e
-fails_so Long failures TooLong is = absurd is.1
-fails_so Long failures ReadFailed is = is
-fails_so Long failures (Refused f) is = is
-fails_so Long failures (Text f) is = absurd is
-fails_so Long failures WriteFailed is = absurd is
+-- no piece is too long by itself, and a read that failed gave none
+pub fails_so : (Long : Type 0) (before held read piece : List ℕ) (failures : ℕ) (e : MainFault) → held ≡ before ++ read
+    → IsOneLine held → FailsToRead ⊥ (piece ≡ []) failures e
+    → FailsToRead Long (IsOneLine (before ++ (read ++ piece))) failures e
+fails_so Long before held read piece failures TooLong is one why = absurd why.1
+fails_so Long before held read piece failures ReadFailed is one why = (
+  why.0,
+  subst IsOneLine (is ∙ ap (λ (bs : List ℕ). before ++ bs) (sym (ap (λ (bs : List ℕ). read ++ bs) why.1
+      ∙ append-nil read))) one,
+)
+fails_so Long before held read piece failures (Refused f) is one why = why
+fails_so Long before held read piece failures (Text f) is one why = absurd why
+fails_so Long before held read piece failures WriteFailed is one why = absurd why
+
+-- a line that may be taken, or is too long, ends the reads so
+pub line_found : (n : ℕ) (held longer : List ℕ) (r : Result (Option ℕ) MainFault) (ended : Bool) (failures : ℕ)
+    (Unfinished : Type 0) → held ≡ longer → HasLine n held → failures ≡ 0 → IsLineOf n r
+    → IfOk r (IsFound ended held) × IfErr r (FailsToRead (IsTooLong longer) Unfinished failures)
+line_found n held longer (Ok o) ended failures Unfinished is line fine told =
+    (rw told.0 (line, told.1), tt)
+line_found n held longer (Err e) ended failures Unfinished is line fine told =
+    (tt, rw told.0 (fine, subst IsTooLong is (n, told.1, omega (arith, line.within), line.one)))
+
+-- what holds anyway holds of an answer
+pub on_ok : {T E A : Type 0} (r : Result T E) → A → OnOk r A
+on_ok (Ok x) h = h
+on_ok (Err e) h = tt
+
+-- what is held without a line feed, and is more than a line may have, is too long
+pub held_too_long : (held longer : List ℕ) → held ≡ longer → IsOneLine held → MAX_INPUT < length held → IsTooLong longer
+held_too_long held longer is one many = subst IsTooLong is
+    (length held, many, omega arith, subst IsOneLine (sym (take_all (length held) held (omega arith))) one)
 
 -- a line at the front stays there when more is read
 pub line_stays : (n : ℕ) (held more : List ℕ) → HasLine n held → HasLine n (held ++ more)

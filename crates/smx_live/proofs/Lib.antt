@@ -5,3 +5,5 @@ pub mod LiveOutcomeLemmas
 pub mod LiveStageLemmas
 pub mod LiveTextLemmas
 pub mod TableLemmas
+pub mod OneOutputLemmas
+pub mod WorkedLiveLemmas

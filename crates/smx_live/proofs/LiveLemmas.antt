@@ -1,7 +1,7 @@
 -- How a live session goes on: a turn more, more that was read, its beginning and its end.
 use Rattle.std.proofs.Common.{◌≡◌, ℕ, ◌+◌, ◌≤◌, Bool, true, List, [], ◌∷◌, ◌++◌, length, take, drop, refl}
 use Rattle.std.proofs.Common.{sym, ap, subst, ◌∙◌, append_assoc, arith, inl, inr, Some}
-use Rattle.std.proofs.lemmas.List.{append-nil, length-append}
+use Rattle.std.proofs.lemmas.List.{append-nil, length-append, length-take-le}
 use Rattle.smx_types.specs.declared.command.Entry.{Entry}
 use Rattle.smx_types.specs.declared.driver.DriverSpec.{DriverSpec}
 use Rattle.smx_types.specs.declared.limits.TheConstants.{MAX_COMMANDS}
@@ -12,12 +12,13 @@ use Rattle.smx_model.specs.Configuration.{Configuration}
 use Rattle.smx_model.specs.Histories.{after, call_of}
 use Rattle.smx_model.specs.Views.{view}
 use Rattle.smx_words.specs.Words.{LINE_FEED}
-use Rattle.smx_text.specs.Grammar.{IsOneLine, Spells}
+use Rattle.smx_text.specs.Grammar.{Spells}
 use Rattle.smx_text.specs.GrowingTranscripts.{BeginsTranscript}
 use Rattle.smx_text.specs.ProgramsText.{programs_grammar}
 use Rattle.smx_text.specs.TranscriptText.{IsSpellableView}
 use Rattle.smx_session.specs.Sessions.{IsStartOf, State}
-use Rattle.smx_live.specs.Inboxes.{HasLine}
+use Rattle.smx_filters.specs.declared.input.TheConstants.{MAX_INPUT}
+use Rattle.smx_live.specs.Inboxes.{HasLine, IsShort}
 use Rattle.smx_live.specs.LiveText.{IsLive, IsOver, closing_text, cut_words}
 use Rattle.smx_live.specs.LiveTurns.{IsClosing}
 use Rattle.smx_live.specs.Tables.{IsTable, table_text}
@@ -35,7 +36,7 @@ OneFurther = (drivers : List DriverSpec) (history : List Entry) (e : Entry)
 -- one line more, which is answered so
 answered_more : (v : Version) (ds : List DriverSpec) (h : List Entry) (ts : List Turn) (t : Turn)
     → AreAnswered v ds h ts
-    → IsOneLine t.line → IsAnswer v ds (h ++ entries_of ts) t.line t.answer → AreAnswered v ds h (ts ++ t ∷ [])
+    → IsShort t.line → IsAnswer v ds (h ++ entries_of ts) t.line t.answer → AreAnswered v ds h (ts ++ t ∷ [])
 answered_more v ds h [] t was one a =
     (one, subst (λ (es : List Entry). IsAnswer v ds es t.line t.answer) (append-nil h) a, tt)
 answered_more v ds h (u ∷ ts) t was one a = (
@@ -68,10 +69,14 @@ said_more opening output ts t was =
 
 module _ (further : OneFurther) (read : List ℕ) (ended : Bool) (output : List ℕ) (s : State) (count n : ℕ)
     (held : List ℕ)
-    (l : IsLive read ended output s count held) (line : HasLine n held) where
+    (l : IsLive read ended output s count held) (line : HasLine n held) (small : n ≤ MAX_INPUT) where
   -- the line that stands there, with its answer
   abbrev turn : Answer → Turn
   turn a = record { line = take n held; answer = a }
+
+  -- it may be taken
+  short : IsShort (take n held)
+  short = (line.one, omega (arith, small, length-take-le n held (omega (arith, line.within))))
 
   -- what stands behind the table
   behind : (a : Answer) → asked_text l.turns ++ held ≡ asked_text (l.turns ++ turn a ∷ []) ++ drop (n + 1) held
@@ -98,11 +103,12 @@ module _ (further : OneFurther) (read : List ℕ) (ended : Bool) (output : List 
         turns = l.turns ++ turn a ∷ [];
         read_is = read_more a;
         over = over_more a;
+        fits = l.fits;
         programs = l.programs;
         spelled = l.spelled;
         drivers = l.drivers;
         can_be_had = l.can_be_had;
-        answered = answered_more s.version s.drivers [] l.turns (turn a) l.answered line.one right;
+        answered = answered_more s.version s.drivers [] l.turns (turn a) l.answered short right;
         few = subst (λ (es : List Entry). length es ≤ MAX_COMMANDS) (sym same) l.few;
         opening = l.opening;
         begins = l.begins;
@@ -136,7 +142,7 @@ module _ (further : OneFurther) (read : List ℕ) (ended : Bool) (output : List 
         room = omega (arith, h.room, l.counted);
       } in
       let answered : AreAnswered s.version s.drivers [] (l.turns ++ turn a ∷ []) =
-      answered_more s.version s.drivers [] l.turns (turn a) l.answered line.one right in
+      answered_more s.version s.drivers [] l.turns (turn a) l.answered short right in
       let length_is : length (entries_of (l.turns ++ turn a ∷ [])) ≡ length es + 1 =
       ap (λ (xs : List Entry). length xs) longer ∙ length-append es (e ∷ []) in
       record {
@@ -144,6 +150,7 @@ module _ (further : OneFurther) (read : List ℕ) (ended : Bool) (output : List 
         turns = l.turns ++ turn a ∷ [];
         read_is = read_more a;
         over = over_more a;
+        fits = l.fits;
         programs = l.programs;
         spelled = subst (λ (v : Version). Spells (programs_grammar v) (table_text l.table) l.programs) (sym p.version)
             l.spelled;
@@ -188,16 +195,16 @@ module _ (further : OneFurther) (read : List ℕ) (ended : Bool) (output : List 
 -- the input is at its end, within a line or not
 pub ended_by_input : (read : List ℕ) (ended : Bool) (output : List ℕ) (s : State) (count : ℕ) (held : List ℕ)
     → IsLive read ended output s count held
-    → ended ≡ true → IsOneLine held → IsSpellableView (view s.drivers s.configuration)
+    → ended ≡ true → IsShort held → IsSpellableView (view s.drivers s.configuration)
     → IsOver read ended (output ++ (cut_words held ++ closing_text s))
-ended_by_input read ended output s count held l is one fits = record {
+ended_by_input read ended output s count held l is short fits = record {
   before = output;
   s = s;
   count = count;
   held = held;
   live = l;
   words = cut_words held;
-  at_end = inr (is, one, refl);
+  at_end = inr (is, short, refl);
   written = refl;
   spellable = fits;
 }
@@ -206,13 +213,14 @@ ended_by_input read ended output s count held l is one fits = record {
 
 -- nothing is answered yet
 pub begun : (table held : List ℕ) (ended : Bool) (opening : List ℕ) (s : State) → IsTable ended table held
-    → IsStartOf (table_text table) s → BeginsTranscript s.version s.drivers [] opening
+    → length table ≤ MAX_INPUT → IsStartOf (table_text table) s → BeginsTranscript s.version s.drivers [] opening
     → IsLive (table ++ held) ended opening s 0 held
-begun table held ended opening s over start begins = record {
+begun table held ended opening s over fits start begins = record {
   table = table;
   turns = [];
   read_is = refl;
   over = over;
+  fits = fits;
   programs = start.programs;
   spelled = start.spelled;
   drivers = start.drivers;
@@ -240,6 +248,7 @@ with_more read more ended now output s count held l stays =
           ∙ ap (λ (bs : List ℕ). l.table ++ bs) together;
       over = subst (IsTable now l.table) together
           (still_a_table ended now l.table (asked_text l.turns ++ held) more l.over stays);
+      fits = l.fits;
       programs = l.programs;
       spelled = l.spelled;
       drivers = l.drivers;

@@ -13,6 +13,7 @@ use Rattle.smx_filters.specs.Output.{AppendsBeginning}
 use Rattle.smx_filters.specs.declared.main_fault.MainFault.{MainFault}
 use Rattle.smx_filters.specs.declared.main_fault.MainFault.TheVariants.{Refused, Text, TooLong, ReadFailed, WriteFailed}
 use Rattle.smx_live.specs.LiveStages.{Converses, Finishes, TurnsOn}
+use Rattle.smx_text.specs.Grammar.{IsOneLine}
 use Rattle.smx_live.specs.Inboxes.{FailsToRead, IsTooLong}
 use Rattle.smx_live.specs.LiveText.{HasComeSoFar, IsLive, IsOutcome, IsOver}
 use Rattle.smx_live.proofs.LiveLemmas.{held_of_read}
@@ -112,11 +113,12 @@ pub no_line : (read output : List ℕ) (start : ℕ) (had left later before afte
     (ended now : Bool)
     (s : State) (count : ℕ) (held piece : List ℕ)
     (g : HasGone read output start had left before after turn ended s count held) (flushed : Bool) (reads writes : ℕ)
-    (e : MainFault) → Consumes left later piece → writes ≡ 0 → (ended ≡ true → (piece ≡ []) × (now ≡ true))
-    → FailsToRead (IsTooLong (held ++ piece)) reads e
+    (e : MainFault) → Consumes left later piece → writes ≡ 0 → flushed ≡ true
+    → (ended ≡ true → (piece ≡ []) × (now ≡ true))
+    → FailsToRead (IsTooLong (held ++ piece)) (IsOneLine (held ++ piece)) reads e
     → Converses read output had later now reads before after flushed writes (Err e)
 no_line read output start had left later before after turn ended now s count held piece g flushed reads writes e c fine
-    stays why = record {
+    all stays why = record {
       more = g.more ++ piece;
       consumed = Consumes-trans had left later g.more piece g.consumed c;
       said = g.said;
@@ -127,10 +129,10 @@ no_line read output start had left later before after turn ended now s count hel
       goes =
           live_on read output start had left before after turn ended s count held g now piece (held ++ piece) refl stays
 
-      by_fault : (f : MainFault) → FailsToRead (IsTooLong (held ++ piece)) reads f
+      by_fault : (f : MainFault) → FailsToRead (IsTooLong (held ++ piece)) (IsOneLine (held ++ piece)) reads f
           → IsOutcome (read ++ (g.more ++ piece)) (output ++ g.said) now flushed reads writes (Err f)
       by_fault TooLong is = ((is.0, fine), inr (s, count, held ++ piece, goes, inl is.1))
-      by_fault ReadFailed is = (is, fine, inr (s, count, held ++ piece, goes))
+      by_fault ReadFailed is = (is.0, fine, inr (all, s, count, held ++ piece, goes, is.1))
       by_fault (Refused f) is = ((is.0, fine), inl (is.1, inr (s, count, held ++ piece, goes)))
       by_fault (Text f) is = absurd is
       by_fault WriteFailed is = absurd is

@@ -6,13 +6,13 @@ use Rattle.std.proofs.lemmas.List.{append-nil, length-append, length-drop}
 use Rattle.std.specs.Io.KnownBytes.{Appends, Consumes}
 use Rattle.std.specs.Prelude.{◌⊎◌}
 use Rattle.smx_model.specs.Views.{view}
-use Rattle.smx_text.specs.Grammar.{IsOneLine}
 use Rattle.smx_text.specs.TranscriptText.{IsSpellableView}
 use Rattle.smx_session.specs.Sessions.{State}
 use Rattle.smx_filters.specs.Output.{AppendsBeginning}
 use Rattle.smx_filters.specs.declared.main_fault.MainFault.{MainFault}
 use Rattle.smx_filters.specs.declared.main_fault.MainFault.TheVariants.{Refused, Text, TooLong, ReadFailed, WriteFailed}
-use Rattle.smx_live.specs.Inboxes.{HasLine}
+use Rattle.smx_filters.specs.declared.input.TheConstants.{MAX_INPUT}
+use Rattle.smx_live.specs.Inboxes.{HasLine, IsShort}
 use Rattle.smx_live.specs.LiveStages.{Finishes, TurnsOn, Writes}
 use Rattle.smx_live.specs.LiveText.{HasComeSoFar, IsLive, IsOver, closing_text, cut_words}
 use Rattle.smx_live.specs.LiveTurns.{IsClosing, MaySay, Says, TakesTurn}
@@ -28,7 +28,7 @@ module _ (s next : State) (count more : ℕ) (line text : List ℕ) (before afte
       → IsTaken s count line a next more → text ≡ answer_text a
       → TakesTurn s count line next more before after flushed failures r
   answered a (Ok true) h taken is = let wrong : true ≡ false = h.0 in absurd cc
-  answered a (Ok false) h taken is = (h.1, a, taken, subst (Appends before after) is h.3)
+  answered a (Ok false) h taken is = (h.1, h.2, a, taken, subst (Appends before after) is h.3)
   answered a (Err WriteFailed) h taken is = (h.0, text, h.1, inl (a, next, more, taken, is))
   answered a (Err (Refused f)) h taken is = absurd h
   answered a (Err (Text f)) h taken is = absurd h
@@ -56,14 +56,15 @@ module _ (s next : State) (count more : ℕ) (line text : List ℕ) (before afte
 
 module _ (further : OneFurther) (read : List ℕ) (ended : Bool) (output : List ℕ) (s : State) (count n : ℕ)
     (held : List ℕ)
-    (l : IsLive read ended output s count held) (line : HasLine n held) (next : State) (more : ℕ)
+    (l : IsLive read ended output s count held) (line : HasLine n held) (small : n ≤ MAX_INPUT) (next : State)
+    (more : ℕ)
     (before after : Option (List ℕ)) (flushed : Bool) (failures : ℕ) where
   abbrev rest : List ℕ
   rest = drop (n + 1) held
 
   goes_on : (a : Answer) (later : State) (many : ℕ) → IsTaken s count (take n held) a later many
       → IsLive read ended (output ++ answer_text a) later many rest
-  goes_on a later many taken = turned further read ended output s count n held l line a later many taken
+  goes_on a later many taken = turned further read ended output s count n held l line small a later many taken
 
   either : (text : List ℕ) → MaySay s count (take n held) text ⊎ IsClosing s (take n held) text
       → HasComeSoFar read ended (output ++ text) ⊎ IsOver read ended (output ++ text)
@@ -73,13 +74,14 @@ module _ (further : OneFurther) (read : List ℕ) (ended : Bool) (output : List 
     rest,
     subst (λ (t : List ℕ). IsLive read ended (output ++ t) x.1 x.2 rest) (sym x.4) (goes_on x.0 x.1 x.2 x.3),
   )
-  either text (inr is) = inr (ended_by_line further read ended output s count n held l line text is)
+  either text (inr is) = inr (ended_by_line further read ended output s count n held l line small text is)
 
   pub turned_on : (r : Result Bool MainFault)
       → TakesTurn s count (take n held) next more before after flushed failures r
       → TurnsOn read output ended next more (drop (n + 1) held) before after flushed failures r
-  turned_on (Ok true) h = (h.0, h.1, h.2, h.4, ended_by_line further read ended output s count n held l line h.2 h.3)
-  turned_on (Ok false) h = (h.0, answer_text h.1, h.3, goes_on h.1 next more h.2)
+  turned_on (Ok true) h =
+      (h.0, h.1, h.2, h.4, ended_by_line further read ended output s count n held l line small h.2 h.3)
+  turned_on (Ok false) h = (h.0, h.1, answer_text h.2, h.4, goes_on h.2 next more h.3)
   turned_on (Err (Refused f)) h = h
   turned_on (Err WriteFailed) h = (h.0, h.1, h.2, either h.1 h.3)
   turned_on (Err (Text f)) h = absurd h
@@ -90,7 +92,7 @@ module _ (further : OneFurther) (read : List ℕ) (ended : Bool) (output : List 
 pub finished_on : (read : List ℕ) (ended : Bool) (output : List ℕ) (s : State) (count : ℕ) (held text : List ℕ)
     (before after : Option (List ℕ)) (flushed : Bool) (failures : ℕ) (r : Result (Unit {0}) MainFault)
     → Writes text before after flushed failures r → text ≡ cut_words held ++ closing_text s
-    → IsLive read ended output s count held → ended ≡ true → IsOneLine held
+    → IsLive read ended output s count held → ended ≡ true → IsShort held
     → IsSpellableView (view s.drivers s.configuration) → Finishes read output ended before after flushed failures r
 finished_on read ended output s count held text before after flushed failures (Ok done) h is l end one fits = (
   h.0,

@@ -1,5 +1,5 @@
 -- A live session from bytes to bytes, by the stage at which it ends.
-use Rattle.std.proofs.Common.{◌≡◌, ℕ, ◌<◌, Bool, List, [], ◌++◌, length, take, Option, Some, None}
+use Rattle.std.proofs.Common.{◌≡◌, ℕ, ◌≤◌, Bool, List, [], ◌++◌, length, take, Option, Some, None}
 use Rattle.std.proofs.Common.{Result, Ok, Err, refl, sym, subst, ◌∙◌, inl, inr}
 use Rattle.std.proofs.KnownBytes.{Appends-nil, Appends-trans, Consumes-trans}
 use Rattle.std.proofs.lemmas.List.{append-nil}
@@ -12,15 +12,15 @@ use Rattle.smx_live.specs.LiveStages.{Begins, Converses, Opens, Writes}
 use Rattle.smx_filters.specs.declared.input.TheConstants.{MAX_INPUT}
 use Rattle.smx_live.specs.Inboxes.{FailsToRead}
 use Rattle.smx_live.specs.LiveText.{IsLive, IsOutcome, LivesText}
-use Rattle.smx_live.specs.Tables.{IsTable, table_text}
+use Rattle.smx_live.specs.Tables.{IsEndlessTable, IsTable, IsUnfinished, table_text}
 use Rattle.smx_live.proofs.LiveLemmas.{begun}
 
 -- the beginning of the transcript was written
 pub opened : (s : State) (text : List ℕ) (before after : Option (List ℕ)) (flushed : Bool) (failures : ℕ)
     (r : Result (Unit {0}) MainFault)
     → Writes text before after flushed failures r → BeginsTranscript s.version s.drivers [] text
-    → Opens s before after failures r
-opened s text before after flushed failures (Ok done) h is = (h.0, text, is, h.2)
+    → Opens s before after flushed failures r
+opened s text before after flushed failures (Ok done) h is = (h.0, h.1, text, is, h.2)
 opened s text before after flushed failures (Err WriteFailed) h is = (h.0, text, is, h.1)
 opened s text before after flushed failures (Err (Refused f)) h is = absurd h
 opened s text before after flushed failures (Err (Text f)) h is = absurd h
@@ -36,7 +36,7 @@ nothing_more (Some xs) (Some ys) p = p ∙ sym (append-nil xs)
 module _ (had left : Option (List ℕ)) (ended : Bool) (reads : ℕ) (read : List ℕ) (consumed : Consumes had left read)
     (before : Option (List ℕ)) (flushed : Bool) (writes : ℕ) where
   -- the table could not be had
-  pub no_table : (e : MainFault) → writes ≡ 0 → FailsToRead (MAX_INPUT < length read) reads e
+  pub no_table : (e : MainFault) → writes ≡ 0 → FailsToRead (IsEndlessTable read) (IsUnfinished read) reads e
       → LivesText had left ended reads before before flushed writes (Err e)
   no_table e fine why = record {
     read = read;
@@ -45,15 +45,16 @@ module _ (had left : Option (List ℕ)) (ended : Bool) (reads : ℕ) (read : Lis
     appended = Appends-nil before;
     outcome = by_fault e why;
   } where
-    by_fault : (f : MainFault) → FailsToRead (MAX_INPUT < length read) reads f
+    by_fault : (f : MainFault) → FailsToRead (IsEndlessTable read) (IsUnfinished read) reads f
         → IsOutcome read [] ended flushed reads writes (Err f)
     by_fault TooLong is = ((is.0, fine), inl (refl, is.1))
-    by_fault ReadFailed is = (is, fine, inl refl)
+    by_fault ReadFailed is = (is.0, fine, inl (refl, is.1))
     by_fault (Refused f) is = ((is.0, fine), inl (is.1, inl refl))
     by_fault (Text f) is = absurd is
     by_fault WriteFailed is = absurd is
 
-  module _ (table held : List ℕ) (parts : read ≡ table ++ held) (over : IsTable ended table held) (fed : reads ≡ 0) where
+  module _ (table held : List ℕ) (parts : read ≡ table ++ held) (over : IsTable ended table held)
+      (fits : length table ≤ MAX_INPUT) (fed : reads ≡ 0) where
     -- no session begins
     pub no_session : (e : MainFault) → writes ≡ 0 → Begins table (Err e)
         → LivesText had left ended reads before before flushed writes (Err e)
@@ -77,11 +78,12 @@ module _ (had left : Option (List ℕ)) (ended : Bool) (reads : ℕ) (read : Lis
         → BeginsTranscript s.version s.drivers [] opening → IsLive read ended opening s 0 held
     first s opening start begins =
         subst (λ (r : List ℕ). IsLive r ended opening s 0 held) (sym parts)
-        (begun table held ended opening s over start begins)
+        (begun table held ended opening s over fits start begins)
 
     -- its opening could not be written
     pub no_opening : (s : State) (after : Option (List ℕ)) (e : MainFault) → IsStartOf (table_text table) s
-        → Opens s before after writes (Err e) → LivesText had left ended reads before after flushed writes (Err e)
+        → Opens s before after flushed writes (Err e) → LivesText had left ended reads before after flushed writes
+        (Err e)
     no_opening s after WriteFailed start h = record {
       read = read;
       consumed = consumed;

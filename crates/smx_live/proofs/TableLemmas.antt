@@ -1,5 +1,5 @@
 -- Tables that grow by a line, and what is read behind them.
-use Rattle.std.proofs.Common.{◌≡◌, ◌≢◌, ℕ, ◌+◌, ◌<◌, Bool, true, false, List, [], ◌∷◌, ◌++◌, length, take, refl}
+use Rattle.std.proofs.Common.{◌≡◌, ◌≢◌, ℕ, ◌+◌, ◌<◌, ◌≤◌, Bool, true, false, List, [], ◌∷◌, ◌++◌, length, take, refl}
 use Rattle.std.proofs.Common.{sym, ap, subst, ◌∙◌, append_assoc, arith, inl, inr}
 use Rattle.std.proofs.lemmas.List.{append-nil, length-append, take-append-le}
 use Rattle.std.specs.List.{flat_map}
@@ -10,8 +10,9 @@ use Rattle.smx_text.proofs.EachLemmas.{all_push}
 use Rattle.smx_filters.specs.declared.input.TheConstants.{MAX_INPUT}
 use Rattle.smx_filters.specs.declared.main_fault.MainFault.{MainFault}
 use Rattle.smx_filters.specs.declared.main_fault.MainFault.TheVariants.{Refused, Text, TooLong, ReadFailed, WriteFailed}
-use Rattle.smx_live.specs.Inboxes.{FailsToRead, HasLine, IsTooLong}
-use Rattle.smx_live.specs.Tables.{AreOfTable, IsOverAt, IsTable, begins_driver, lines_text}
+use Rattle.smx_live.specs.Inboxes.{FailsToRead, HasLine, IsShort, IsTooLong}
+use Rattle.smx_live.specs.Tables.{AreOfTable, BeginsAsTable, IsEndlessTable, IsOverAt, IsTable, IsUnfinished}
+use Rattle.smx_live.specs.Tables.{begins_driver, lines_text}
 use Rattle.smx_live.proofs.InboxLemmas.{line_stays, unmoved, with_line_feed}
 
 -- one more item gives what it gives, behind the others
@@ -50,33 +51,55 @@ text_more table lines n held text line =
     ∙ ap (λ (t : List ℕ). t ++ (take n held ++ LINE_FEED ∷ [])) text
     ∙ sym (flat_more (λ (l : List ℕ). l ++ LINE_FEED ∷ []) lines (take n held))
 
--- where no line ends any more, there is more than a table may have
-pub fails_with : (start read piece table held : List ℕ) → start ++ read ≡ table ++ held → (failures : ℕ) (e : MainFault)
-    → FailsToRead (IsTooLong (held ++ piece)) failures e
-    → FailsToRead (MAX_INPUT < length (start ++ (read ++ piece))) failures e
-fails_with start read piece table held parts failures TooLong is =
-    let all : start ++ (read ++ piece) ≡ table ++ (held ++ piece) = unmoved start read piece table held (held ++ piece) parts
-    refl in
-    let size = ap (λ (bs : List ℕ). length bs) all in
-    (is.0, omega (arith, is.1.0, size, length-append table (held ++ piece)))
-fails_with start read piece table held parts failures ReadFailed is = is
-fails_with start read piece table held parts failures (Refused f) is = is
-fails_with start read piece table held parts failures (Text f) is = absurd is
-fails_with start read piece table held parts failures WriteFailed is = absurd is
+-- what was read begins as a table of these lines
+pub begins_as : (bytes table rest : List ℕ) (lines : List (List ℕ)) (AreSo : List ℕ → List ℕ → Type 0)
+    → bytes ≡ table ++ rest → table ≡ lines_text lines → AreOfTable lines → AreSo table rest → BeginsAsTable bytes AreSo
+begins_as bytes table rest lines AreSo parts text were so = (
+  lines,
+  rest,
+  parts ∙ ap (λ (t : List ℕ). t ++ rest) text,
+  were,
+  subst (λ (t : List ℕ). AreSo t rest) text so,
+)
+
+-- where no line can be had behind these lines, the table is too long, or unfinished
+pub fails_with : (start read piece table held : List ℕ) (lines : List (List ℕ)) → start ++ read ≡ table ++ held
+    → table ≡ lines_text lines → AreOfTable lines → (failures : ℕ) (e : MainFault)
+    → FailsToRead (IsTooLong (held ++ piece)) (IsOneLine (held ++ piece)) failures e
+    → FailsToRead (IsEndlessTable (start ++ (read ++ piece))) (IsUnfinished (start ++ (read ++ piece))) failures e
+fails_with start read piece table held lines parts text were failures e = by_fault e where
+  all : start ++ (read ++ piece) ≡ table ++ (held ++ piece)
+  all = unmoved start read piece table held (held ++ piece) parts refl
+
+  by_fault : (f : MainFault) → FailsToRead (IsTooLong (held ++ piece)) (IsOneLine (held ++ piece)) failures f
+      → FailsToRead (IsEndlessTable (start ++ (read ++ piece))) (IsUnfinished (start ++ (read ++ piece))) failures f
+  by_fault TooLong is = (
+    is.0,
+    begins_as (start ++ (read ++ piece)) table (held ++ piece) lines
+        (λ text rest. (MAX_INPUT < length text) ⊎ IsTooLong rest) all text were (inr is.1),
+  )
+  by_fault ReadFailed is = (
+    is.0,
+    begins_as (start ++ (read ++ piece)) table (held ++ piece) lines (λ text rest. IsOneLine rest) all text were is.1,
+  )
+  by_fault (Refused f) is = is
+  by_fault (Text f) is = absurd is
+  by_fault WriteFailed is = absurd is
 
 -- ---- the end of a table
 
 -- it is over where the next line begins otherwise
 pub over_at_a_line : (ended : Bool) (table : List ℕ) (lines : List (List ℕ)) (n : ℕ) (held : List ℕ)
-    → table ≡ lines_text lines → AreOfTable lines → HasLine n held → length table ≢ 0
+    → table ≡ lines_text lines → AreOfTable lines → HasLine n held → n ≤ MAX_INPUT → length table ≢ 0
     → begins_driver (take n held) ≡ false → IsTable ended table held
-over_at_a_line ended table lines n held text were line some other = record {
+over_at_a_line ended table lines n held text were line small some other = record {
   lines = lines;
   text = text;
   of_table = were;
   over = inl (
     n,
     line,
+    small,
     λ none. some (ap (λ (t : List ℕ). length t) text
         ∙ ap (λ (ls : List (List ℕ)). length (lines_text ls)) none),
     other,
@@ -85,23 +108,23 @@ over_at_a_line ended table lines n held text were line some other = record {
 
 -- it is over at the end of the input
 pub over_at_the_end : (ended : Bool) (table : List ℕ) (lines : List (List ℕ)) (held : List ℕ) → table ≡ lines_text lines
-    → AreOfTable lines → ended ≡ true → IsOneLine held → IsTable ended table held
-over_at_the_end ended table lines held text were end one = record {
+    → AreOfTable lines → ended ≡ true → IsShort held → IsTable ended table held
+over_at_the_end ended table lines held text were end short = record {
   lines = lines;
   text = text;
   of_table = were;
-  over = inr (end, one);
+  over = inr (end, short);
 }
 
 -- it stays over where more is read, which comes of an input that has not ended
 over_still : (ended now : Bool) (lines : List (List ℕ)) (rest more : List ℕ) → IsOverAt ended lines rest
     → (ended ≡ true → (more ≡ []) × (now ≡ true)) → IsOverAt now lines (rest ++ more)
-over_still ended now lines rest more (inl (n, line, some, other)) stays =
+over_still ended now lines rest more (inl (n, line, small, some, other)) stays =
     let same : take n (rest ++ more) ≡ take n rest = take-append-le n rest more (omega (arith, line.within)) in
-    inl (n, line_stays n rest more line, some, ap begins_driver same ∙ other)
-over_still ended now lines rest more (inr (end, one)) stays =
+    inl (n, line_stays n rest more line, small, some, ap begins_driver same ∙ other)
+over_still ended now lines rest more (inr (end, short)) stays =
     let (none, still) = stays end in
-    inr (still, subst IsOneLine (sym (ap (λ (m : List ℕ). rest ++ m) none ∙ append-nil rest)) one)
+    inr (still, subst IsShort (sym (ap (λ (m : List ℕ). rest ++ m) none ∙ append-nil rest)) short)
 
 -- so does the table
 pub still_a_table : (ended now : Bool) (table rest more : List ℕ) → IsTable ended table rest

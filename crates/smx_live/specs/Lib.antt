@@ -4,3 +4,4 @@ pub mod LiveText
 pub mod LiveTurns
 pub mod Tables
 pub mod Turns
+pub mod WorkedLives

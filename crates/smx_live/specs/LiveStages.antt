@@ -1,5 +1,5 @@
 -- The stages of a live session: its table, its beginning, a turn, all turns, its end.
-use Rattle.std.specs.Prelude.{◌≡◌, ℕ, ◌<◌, ◌⊎◌, Bool, true, false, List, [], ◌++◌, length, Option, Result, Vec, Ok, Err}
+use Rattle.std.specs.Prelude.{◌≡◌, ℕ, ◌≤◌, ◌⊎◌, Bool, true, false, List, [], ◌++◌, length, Option, Result, Vec, Ok, Err}
 use Rattle.std.specs.Prelude.{IfOk, IfErr, OnOk}
 use Rattle.std.specs.Global.{Global}
 use Rattle.std.specs.Io.KnownBytes.{Consumes, Appends, Keeps}
@@ -12,7 +12,7 @@ use Rattle.smx_session.specs.Sessions.{HasDrivers, IsStartOf, State}
 use Rattle.smx_filters.specs.declared.input.TheConstants.{MAX_INPUT}
 use Rattle.smx_live.specs.Inboxes.{FailsToRead}
 use Rattle.smx_live.specs.LiveText.{HasComeSoFar, IsLive, IsOutcome, IsOver}
-use Rattle.smx_live.specs.Tables.{IsTable, table_text}
+use Rattle.smx_live.specs.Tables.{IsEndlessTable, IsTable, IsUnfinished, table_text}
 use Rattle.smx_filters.specs.Output.{AppendsBeginning}
 use Rattle.smx_filters.specs.declared.main_fault.MainFault.{MainFault}
 use Rattle.smx_filters.specs.declared.main_fault.MainFault.TheVariants.{Refused, Text, TooLong, ReadFailed, WriteFailed}
@@ -27,7 +27,10 @@ pub record HasTable (had left : Option (List ℕ)) (ended : Bool) (failures : �
   pub over : IfOk result (λ table. IsTable ended table.items new.held.items)
   pub end : OnOk result (ended ≡ new.ended)
   pub fine : OnOk result (failures ≡ 0)
-  pub fault : IfErr result (FailsToRead (MAX_INPUT < length (old.held.items ++ read)) failures)
+  pub fits : IfOk result (λ table. length table.items ≤ MAX_INPUT)
+  pub fault : IfErr result (FailsToRead (IsEndlessTable (old.held.items ++ read))
+      (IsUnfinished (old.held.items ++ read))
+      failures)
 
 -- a session begins over the drivers of a table, or the table or its drivers are at fault, or memory was wanting
 abbrev pub Begins : List ℕ → Result Talk MainFault → Type 0
@@ -45,7 +48,7 @@ module _ (read output : List ℕ) (ended : Bool) (s : State) (count : ℕ) (held
   abbrev pub TurnsOn : Result Bool MainFault → Type 0
   TurnsOn (Ok true) = (failures ≡ 0) × (flushed ≡ true)
       × (said : List ℕ) × Appends before after said × IsOver read ended (output ++ said)
-  TurnsOn (Ok false) = (failures ≡ 0)
+  TurnsOn (Ok false) = (failures ≡ 0) × (flushed ≡ true)
       × (said : List ℕ) × Appends before after said × IsLive read ended (output ++ said) s count held
   TurnsOn (Err (Refused fault)) = (failures ≡ 0) × (fault ≡ NoMemory) × Keeps before after
   TurnsOn (Err WriteFailed) = (failures ≡ 1) × (said : List ℕ) × AppendsBeginning before after said
@@ -63,16 +66,16 @@ Writes text before after flushed failures (Err (Text fault)) = ⊥
 Writes text before after flushed failures (Err TooLong) = ⊥
 Writes text before after flushed failures (Err ReadFailed) = ⊥
 
--- the beginning of the transcript was written, or a beginning of that
-abbrev pub Opens : State → Option (List ℕ) → Option (List ℕ) → ℕ → Result (Unit {0}) MainFault → Type 0
-Opens s before after failures (Ok done) = (failures ≡ 0) × (opening : List ℕ)
+-- the beginning of the transcript was written and flushed, or a beginning of that
+abbrev pub Opens : State → Option (List ℕ) → Option (List ℕ) → Bool → ℕ → Result (Unit {0}) MainFault → Type 0
+Opens s before after flushed failures (Ok done) = (failures ≡ 0) × (flushed ≡ true) × (opening : List ℕ)
     × BeginsTranscript s.version s.drivers [] opening × Appends before after opening
-Opens s before after failures (Err WriteFailed) = (failures ≡ 1) × (opening : List ℕ)
+Opens s before after flushed failures (Err WriteFailed) = (failures ≡ 1) × (opening : List ℕ)
     × BeginsTranscript s.version s.drivers [] opening × AppendsBeginning before after opening
-Opens s before after failures (Err (Refused fault)) = (failures ≡ 0) × (fault ≡ NoMemory) × Keeps before after
-Opens s before after failures (Err (Text fault)) = ⊥
-Opens s before after failures (Err TooLong) = ⊥
-Opens s before after failures (Err ReadFailed) = ⊥
+Opens s before after flushed failures (Err (Refused fault)) = (failures ≡ 0) × (fault ≡ NoMemory) × Keeps before after
+Opens s before after flushed failures (Err (Text fault)) = ⊥
+Opens s before after flushed failures (Err TooLong) = ⊥
+Opens s before after flushed failures (Err ReadFailed) = ⊥
 
 module _ (read output : List ℕ) (ended : Bool) (before after : Option (List ℕ)) (flushed : Bool) (failures : ℕ) where
   -- A session that had come so far is over, at the end of its input.

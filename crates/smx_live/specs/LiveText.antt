@@ -1,5 +1,5 @@
 -- What a live session reads and writes.
-use Rattle.std.specs.Prelude.{◌≡◌, ℕ, ◌+◌, ◌^◌, ◌<◌, ◌≤◌, ◌⊎◌, Bool, true, List, [], ◌∷◌, ◌++◌, length, map, take}
+use Rattle.std.specs.Prelude.{◌≡◌, ℕ, ◌+◌, ◌^◌, ◌≤◌, ◌⊎◌, Bool, true, List, [], ◌∷◌, ◌++◌, length, map, take}
 use Rattle.std.specs.Prelude.{Option, Result, Ok, Err, codes}
 use Rattle.std.specs.Io.KnownBytes.{Consumes, Appends}
 use Rattle.smx_types.specs.ProgramLists.{ProgramLists}
@@ -20,8 +20,8 @@ use Rattle.smx_config.specs.Verdicts.{IsVerdict}
 use Rattle.smx_config.specs.declared.verdict.Verdict.TheVariants.{Legal}
 use Rattle.smx_session.specs.Sessions.{State, HasDrivers}
 use Rattle.smx_filters.specs.declared.input.TheConstants.{MAX_INPUT}
-use Rattle.smx_live.specs.Inboxes.{IsTooLong}
-use Rattle.smx_live.specs.Tables.{HasTableOf, IsTable, table_text}
+use Rattle.smx_live.specs.Inboxes.{IsShort, IsTooLong}
+use Rattle.smx_live.specs.Tables.{HasTableOf, IsEndlessTable, IsTable, IsUnfinished, table_text}
 use Rattle.smx_live.specs.Turns.{AreAnswered, Turn, asked_text, entries_of, said_text, view_lines}
 use Rattle.smx_filters.specs.declared.main_fault.MainFault.{MainFault}
 use Rattle.smx_filters.specs.declared.main_fault.MainFault.TheVariants.{Refused, Text, TooLong, ReadFailed, WriteFailed}
@@ -36,8 +36,9 @@ pub record IsLive (read : List ℕ) (ended : Bool) (output : List ℕ) (s : Stat
   pub table : List ℕ
   pub turns : List Turn
   pub read_is : read ≡ table ++ (asked_text turns ++ held)
-  -- The table is over behind its last line, and no earlier.
+  -- The table is over behind its last line, and no earlier, and not too long.
   pub over : IsTable ended table (asked_text turns ++ held)
+  pub fits : length table ≤ MAX_INPUT
   -- It spells programs, whose drivers a configuration can have.
   pub programs : ProgramLists
   pub spelled : Spells (programs_grammar s.version) (table_text table) programs
@@ -72,7 +73,7 @@ cut_words (b ∷ bs) = codes "? cut\n"
 -- the line `end` stands there; or the input has ended, within a line or not
 abbrev pub IsAtEnd : Bool → List ℕ → List ℕ → Type 0
 IsAtEnd ended held words = ((more : List ℕ) × (held ≡ codes "end\n" ++ more) × (words ≡ []))
-    ⊎ ((ended ≡ true) × IsOneLine held × (words ≡ cut_words held))
+    ⊎ ((ended ≡ true) × IsShort held × (words ≡ cut_words held))
 
 -- A session is over, whose input has ended or not.
 pub record IsOver (read : List ℕ) (ended : Bool) (output : List ℕ) : Type 0 where
@@ -109,10 +110,16 @@ module _ {read : List ℕ} {ended : Bool} {output : List ℕ} (o : IsOver read e
 abbrev pub IsBroken : List ℕ → Bool → List ℕ → Type 0
 IsBroken read ended output = (output ≡ []) ⊎ HasComeSoFar read ended output
 
--- the table, with the line behind it, has more than 16,777,216 bytes; or a session has come so far, and a line has, or as
+-- nothing was written, since the table was not over; or each whole line was answered, and that is flushed
+abbrev pub HasAnsweredAll : List ℕ → Bool → List ℕ → Bool → Type 0
+HasAnsweredAll read ended output flushed = ((output ≡ []) × IsUnfinished read)
+    ⊎ ((flushed ≡ true) × (s : State) × (count : ℕ) × (held : List ℕ) × IsLive read ended output s count held
+    × IsOneLine held)
+
+-- the table has more than 16,777,216 bytes, or the line behind it; or a session has come so far, and a line has, or as
 -- many bytes were read as no count of lines is greater than
 abbrev pub IsEndless : List ℕ → Bool → List ℕ → Type 0
-IsEndless read ended output = ((output ≡ []) × (MAX_INPUT < length read))
+IsEndless read ended output = ((output ≡ []) × IsEndlessTable read)
     ⊎ ((s : State) × (count : ℕ) × (held : List ℕ) × IsLive read ended output s count held
     × (IsTooLong held ⊎ (2 ^ 64 ≤ length read + 1)))
 
@@ -134,8 +141,8 @@ module _ (read output : List ℕ) (ended flushed : Bool) (read_failures write_fa
       ⊎ ((output ≡ []) × HasTableOf read ended (λ text. HasDrivers text (λ drivers. RefusesAlone drivers fault))))
   -- A line is longer than 16,777,216 bytes, or the table is.
   IsOutcome (Err TooLong) = AreFine read_failures write_failures × IsEndless read ended output
-  -- The reader failed.
-  IsOutcome (Err ReadFailed) = (read_failures ≡ 1) × (write_failures ≡ 0) × IsBroken read ended output
+  -- The reader failed, where there was nothing more to answer.
+  IsOutcome (Err ReadFailed) = (read_failures ≡ 1) × (write_failures ≡ 0) × HasAnsweredAll read ended output flushed
   -- The writer failed: a beginning is out of what was to be written next.
   IsOutcome (Err WriteFailed) = (read_failures ≡ 0) × (write_failures ≡ 1) × (n : ℕ) × (whole : List ℕ)
       × (output ≡ take n whole) × (HasComeSoFar read ended whole ⊎ IsOver read ended whole)

@@ -7,7 +7,7 @@ use Rattle.smx_text.specs.TranscriptText.{IsSpellableView}
 use Rattle.smx_session.specs.Sessions.{State}
 use Rattle.smx_live.specs.LiveText.{closing_text}
 use Rattle.smx_filters.specs.Output.{AppendsBeginning}
-use Rattle.smx_live.specs.Turns.{Answer, AsksToShow, IsTaken, answer_text}
+use Rattle.smx_live.specs.Turns.{Answer, AsksForNeither, AsksToShow, IsTaken, answer_text}
 use Rattle.smx_filters.specs.declared.main_fault.MainFault.{MainFault}
 use Rattle.smx_filters.specs.declared.main_fault.MainFault.TheVariants.{Refused, Text, TooLong, ReadFailed, WriteFailed}
 use Rattle.smx_live.specs.declared.talk.Asked.{Asked}
@@ -17,7 +17,7 @@ use Rattle.smx_live.specs.declared.talk.Asked.TheVariants.{Show, End, Call}
 abbrev pub IsAsked : List ℕ → Asked → Type 0
 IsAsked line Show = AsksToShow line
 IsAsked line End = line ≡ codes "end"
-IsAsked line Call = Unit {0}
+IsAsked line Call = AsksForNeither line
 
 -- a text was written and flushed, or a beginning of it
 abbrev pub Says : List ℕ → Bool → Option (List ℕ) → Option (List ℕ) → Bool → ℕ → Result Bool MainFault → Type 0
@@ -46,8 +46,8 @@ module _ (s : State) (count : ℕ) (line : List ℕ) (next : State) (more : ℕ)
   abbrev pub TakesTurn : Result Bool MainFault → Type 0
   TakesTurn (Ok true) =
       (failures ≡ 0) × (flushed ≡ true) × (whole : List ℕ) × IsClosing s line whole × Appends before after whole
-  TakesTurn (Ok false) =
-      (failures ≡ 0) × (a : Answer) × IsTaken s count line a next more × Appends before after (answer_text a)
+  TakesTurn (Ok false) = (failures ≡ 0) × (flushed ≡ true)
+      × (a : Answer) × IsTaken s count line a next more × Appends before after (answer_text a)
   -- It was performed, and there was no memory for the line of its entry.
   TakesTurn (Err (Refused fault)) = (failures ≡ 0) × (fault ≡ run.NoMemory) × Keeps before after
   TakesTurn (Err WriteFailed) = (failures ≡ 1) × (whole : List ℕ) × AppendsBeginning before after whole

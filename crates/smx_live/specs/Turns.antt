@@ -1,7 +1,7 @@
 -- The turns of a live session: a line, and what it is answered.
-use Rattle.std.specs.Prelude.{◌≡◌, ℕ, ◌+◌, ◌<◌, ◌≤◌, ◌⊎◌, List, [], ◌∷◌, ◌++◌, length, map, Option}
+use Rattle.std.specs.Prelude.{◌≡◌, ◌≢◌, ℕ, ◌+◌, ◌<◌, ◌≤◌, ◌⊎◌, List, [], ◌∷◌, ◌++◌, length, map, Option}
 use Rattle.std.specs.Prelude.{Some, None, codes}
-use Rattle.std.specs.List.{flat_map}
+use Rattle.std.specs.List.{AllByRecursion, flat_map}
 use Rattle.smx_types.specs.declared.command.Entry.{Entry}
 use Rattle.smx_types.specs.declared.driver.DriverSpec.{DriverSpec}
 use Rattle.smx_types.specs.declared.limits.TheConstants.{MAX_COMMANDS}
@@ -13,9 +13,9 @@ use Rattle.smx_model.specs.Views.{view}
 use Rattle.smx_words.specs.Spellable.{FitsEntry, FitsEntryIn}
 use Rattle.smx_words.specs.Spelling.{entry_words}
 use Rattle.smx_words.specs.Words.{LINE_FEED, line_of, text_of}
-use Rattle.smx_text.specs.Grammar.{IsOneLine}
 use Rattle.smx_text.specs.TranscriptText.{line_words, view_body}
 use Rattle.smx_session.specs.Sessions.{IsNoCall, Performs, State, done_behind}
+use Rattle.smx_live.specs.Inboxes.{IsShort}
 use Rattle.smx_live.specs.declared.wrong.Wrong.{Wrong}
 use Rattle.smx_live.specs.declared.wrong.Wrong.TheVariants.{NoCommand, NoMemory, Full}
 
@@ -85,11 +85,15 @@ pub record IsEntryOf (version : Version) (drivers : List DriverSpec) (history : 
   pub spelled : FitsEntry e
   pub room : length history < MAX_COMMANDS
 
+-- neither that nor the end is asked for
+abbrev pub AsksForNeither : List ℕ → Type 0
+AsksForNeither line = (AsksToShow line → ⊥) × (line ≢ codes "end")
+
 -- why a line is refused, after so many entries
 abbrev pub IsWrong : Version → ℕ → List ℕ → Wrong → Type 0
-IsWrong version count line NoCommand = IsNoCall version line
+IsWrong version count line NoCommand = AsksForNeither line × IsNoCall version line × (count < MAX_COMMANDS)
 IsWrong version count line NoMemory = Unit {0}
-IsWrong version count line Full = MAX_COMMANDS ≤ count
+IsWrong version count line Full = AsksForNeither line × (MAX_COMMANDS ≤ count)
 
 -- what a line may be answered after these entries
 abbrev pub IsAnswer : Version → List DriverSpec → List Entry → List ℕ → Answer → Type 0
@@ -97,11 +101,15 @@ IsAnswer version drivers history line (Entered e) = IsEntryOf version drivers hi
 IsAnswer version drivers history line (Shown v) = AsksToShow line × (v ≡ view drivers (after drivers history))
 IsAnswer version drivers history line (NotDone w) = IsWrong version (length history) line w
 
--- each of these is one line, and is answered so, where these entries came before
+-- each of these is one line, and not too long, and is answered so, where these entries came before
 abbrev pub AreAnswered : Version → List DriverSpec → List Entry → List Turn → Type 0
 AreAnswered version drivers history [] = Unit {0}
-AreAnswered version drivers history (t ∷ ts) = IsOneLine t.line × IsAnswer version drivers history t.line t.answer
+AreAnswered version drivers history (t ∷ ts) = IsShort t.line × IsAnswer version drivers history t.line t.answer
     × AreAnswered version drivers (history ++ entries_in t.answer) ts
+
+-- none of them for want of memory
+abbrev pub HadMemory : List Turn → Type 0
+HadMemory turns = AllByRecursion (λ t. t.answer ≢ NotDone NoMemory) turns
 
 -- ---- how a session takes a turn
 

@@ -2,7 +2,7 @@
 
 ghost use Rattle.std.specs.Prelude.{◌≡◌, codes};
 ghost use Rattle.smx_live.specs.LiveTurns.{Says, TakesTurn};
-ghost use Rattle.smx_live.specs.Turns.{AsksToShow};
+ghost use Rattle.smx_live.specs.Turns.{AsksForNeither, AsksToShow};
 
 use crate::talk::{Asked, Talk, asked_by, shown_with};
 use crate::wrong::{Wrong, line_of_wrong};
@@ -72,7 +72,8 @@ fn call<S: Sink>(
     talk: &mut Talk,
     line: &[u8],
 ) -> Result<bool, MainFault>
-    requires { S.failures sink.old ≡ 0 }
+    requires asked { AsksForNeither line.now }
+    requires sunk { S.failures sink.old ≡ 0 }
     ensures { TakesTurn talk.old.session talk.old.count line.now talk.new.session talk.new.count
         (S.contents sink.old) (S.contents sink.new) (S.flushed sink.new) (S.failures sink.new) result }
 {

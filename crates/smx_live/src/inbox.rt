@@ -1,7 +1,7 @@
 //! Lines that come from a feed piece by piece.
 
 ghost use Rattle.std.specs.Prelude.{◌≡◌, ℕ, ◌+◌, ◌<◌, ◌∷◌, ◌++◌, [], List, false, length, take, drop, MatchOption};
-ghost use Rattle.smx_live.specs.Inboxes.{IsNextLine, IsPiece};
+ghost use Rattle.smx_live.specs.Inboxes.{IsLineOf, IsNextLine, IsPiece};
 ghost use Rattle.smx_text.specs.Grammar.{IsOneLine};
 ghost use Rattle.smx_words.specs.Words.{LINE_FEED};
 
@@ -33,8 +33,9 @@ impl Inbox {
     }
 
     /// Reads until a whole line stands at the front of what is held, and answers how many bytes it has without its line
-    /// feed; none at the end of the feed, where what is held is no whole line. `TooLong` comes for a line of more than
-    /// `MAX_INPUT` bytes, `ReadFailed` exactly where a read failed; else memory was wanting.
+    /// feed; none at the end of the feed, where what is held is no whole line. `TooLong` comes exactly for a line of more
+    /// than `MAX_INPUT` bytes, whole or not, `ReadFailed` exactly where a read failed; else memory was wanting. No read is
+    /// made where a whole line is held.
     pub fn next_line<F: Feed>(&mut self, feed: &mut F) -> Result<Option<usize>, MainFault>
         requires end { F.ended feed.old ≡ self.old.ended }
         requires fine_so_far { F.failures feed.old ≡ 0 }
@@ -44,14 +45,14 @@ impl Inbox {
         let mut seen = 0usize;
         'reads: loop {
             if let Some(n) = line_in(&self.held[seen..]) {
-                return Ok(Some(seen + n));
+                return line_of(seen + n);
             }
             seen = self.held.len();
-            if self.ended {
-                return Ok(None);
-            }
             if seen > MAX_INPUT {
                 return Err(MainFault::TooLong);
+            }
+            if self.ended {
+                return Ok(None);
             }
             match read_piece(feed, &mut self.held) {
                 Ok(true) => {}
@@ -80,6 +81,16 @@ fn line_in(bytes: &[u8]) -> Option<usize>
         × (bytes.now ≡ take n bytes.now ++ LINE_FEED ∷ drop (n + 1) bytes.now)) }
 {
     memchr(b'\n', bytes)
+}
+
+// A line of so many bytes, unless that is too long.
+fn line_of(n: usize) -> Result<Option<usize>, MainFault>
+    ensures { IsLineOf n result }
+{
+    if n > MAX_INPUT {
+        return Err(MainFault::TooLong);
+    }
+    Ok(Some(n))
 }
 
 // One read more, behind what is held. Whether it gave any.

@@ -1,10 +1,31 @@
-//! The law of live sessions, the contract of a function that does nothing.
+//! Laws of live sessions, each the contract of a function that does nothing.
 
-ghost use Rattle.std.specs.Prelude.{ℕ, Bool, List};
-ghost use Rattle.smx_live.specs.LiveText.{IsLegalTranscript, IsOver};
+ghost use Rattle.std.specs.List.{AllByRecursion};
+ghost use Rattle.std.specs.Prelude.{◌≡◌, ◌≢◌, ℕ, ◌≤◌, Bool, false, List, [], length, Err, codes};
+ghost use Rattle.smx_types.specs.declared.command.Entry.{Entry};
+ghost use Rattle.smx_types.specs.declared.version.Version.TheVariants.{V2};
+ghost use Rattle.smx_run.specs.RunFaults.{RefusesAlone};
+ghost use Rattle.smx_run.specs.declared.run_fault.RunFault.{RunFault as AnyFault};
+ghost use Rattle.smx_run.specs.declared.run_fault.RunFault.TheVariants as run;
+ghost use Rattle.smx_text.specs.Grammar.{ReadsAny};
+ghost use Rattle.smx_text.specs.ProgramsText.{programs_grammar};
+ghost use Rattle.smx_text.specs.declared.text_fault.Cause.TheVariants as cause;
+ghost use Rattle.smx_text.specs.declared.text_fault.TextFault.{TextFault};
+ghost use Rattle.smx_session.specs.Sessions.{HasDrivers, State};
+ghost use Rattle.smx_session.specs.WorkedSessions.{drivers};
+ghost use Rattle.smx_filters.specs.declared.input.TheConstants.{MAX_INPUT};
+ghost use Rattle.smx_live.specs.LiveText.{HasComeSoFar, IsLegalTranscript, IsLive, IsOver};
+ghost use Rattle.smx_live.specs.Tables.{HasTableOf, IsTable};
+ghost use Rattle.smx_live.specs.Turns.{Entered, HadMemory, IsAnswer, NotDone};
+ghost use Rattle.smx_live.specs.WorkedLives.{worked_input, worked_output, worked_table};
+ghost use Rattle.smx_live.specs.declared.wrong.Wrong.TheVariants.{NoCommand, Full};
 
+use smx_config::laws_of_drivers::drivers_have_one_fault;
 use smx_model::laws::one_entry_more;
 use smx_model::laws_of_hangups::without_a_hangup_none_is_told;
+use smx_session::laws_of_sessions::a_worked_session;
+use smx_text::laws::one_text_has_one_reading;
+use smx_words::laws::one_value_each;
 
 /// What was written of a session that is over, but for the answers that are no entries, is the transcript of a legal
 /// history, which a check finds legal.
@@ -13,4 +34,45 @@ pub fn live_sessions_are_legal_transcripts()
 {
     one_entry_more();
     without_a_hangup_none_is_told();
+}
+
+/// What was read of a session that is over has one output, where no line was left undone for want of memory.
+pub fn a_session_has_one_output()
+    ensures { (read : List ℕ) (ended : Bool) (one other : List ℕ) (o : IsOver read ended one)
+        (p : IsOver read ended other) → HadMemory o.live.turns → HadMemory p.live.turns → one ≡ other }
+{
+    one_text_has_one_reading();
+    one_value_each();
+}
+
+/// What a session has come of spells programs whose drivers are not refused. Neither its table nor a line that it has taken is
+/// longer than an input may be.
+pub fn a_session_has_its_drivers()
+    ensures text { (read output : List ℕ) (ended : Bool) (fault : TextFault) → HasComeSoFar read ended output
+        → HasTableOf read ended (λ text. ReadsAny programs_grammar text (Err fault)) → fault.cause ≢ cause.NoMemory → ⊥ }
+    ensures drivers { (read output : List ℕ) (ended : Bool) (fault : AnyFault) → HasComeSoFar read ended output
+        → HasTableOf read ended (λ text. HasDrivers text (λ drivers. RefusesAlone drivers fault)) → fault ≡ run.NoMemory }
+    ensures short { (read output held : List ℕ) (ended : Bool) (s : State) (count : ℕ)
+        (l : IsLive read ended output s count held)
+        → (length l.table ≤ MAX_INPUT) × AllByRecursion (λ t. length t.line ≤ MAX_INPUT) l.turns }
+{
+    one_text_has_one_reading();
+    drivers_have_one_fault();
+}
+
+/// A worked session: what is read, and what is written. Its table is over behind its last driver, and at no other place; and
+/// what asks for the configuration or the end is not refused, as no line is performed that is none.
+pub fn a_worked_live_session()
+    ensures over { IsOver worked_input false worked_output }
+    ensures table { IsTable false worked_table (codes "3 clone eth\n") }
+    ensures not_too_early { IsTable false (codes "programs 2\n") (codes "driver eth leaf 2 8 3 16\n3 clone eth\n") → ⊥ }
+    ensures not_too_late { IsTable false (codes "programs 2\nshow\n") (codes "end\n") → ⊥ }
+    ensures not_before_its_header { IsTable false [] (codes "programs 2\nshow\nend\n") → ⊥ }
+    ensures not_within_a_line { IsTable false worked_table (codes "3 clone eth") → ⊥ }
+    ensures show_is_asked { IsAnswer V2 drivers [] (codes "show") (NotDone NoCommand) → ⊥ }
+    ensures end_is_asked { IsAnswer V2 drivers [] (codes "end") (NotDone NoCommand) → ⊥ }
+    ensures not_full { IsAnswer V2 drivers [] (codes "x") (NotDone Full) → ⊥ }
+    ensures not_performed { (e : Entry) → IsAnswer V2 drivers [] (codes "x") (Entered e) → ⊥ }
+{
+    a_worked_session();
 }

@@ -1,9 +1,8 @@
 //! A live session from bytes to bytes: each line is answered at once.
 
-ghost use Rattle.std.specs.Prelude.{◌≡◌, ◌≢◌, ◌+◌, ◌⊎◌, ◌++◌, List, ℕ, Bool, true, false, drop, IfOk, MatchBool, OnOk};
-ghost use Rattle.smx_live.specs.Inboxes.{HasLine};
+ghost use Rattle.std.specs.Prelude.{◌≡◌, ◌≢◌, ◌+◌, ◌≤◌, ◌⊎◌, ◌++◌, List, ℕ, Bool, true, false, drop, IfOk, MatchBool, OnOk};
+ghost use Rattle.smx_live.specs.Inboxes.{HasLine, IsShort};
 ghost use Rattle.smx_live.specs.LiveStages.{Begins, Converses, Finishes, HasTable, Opens, TurnsOn, Writes};
-ghost use Rattle.smx_text.specs.Grammar.{IsOneLine};
 ghost use Rattle.smx_live.specs.LiveText.{IsLive, LivesText, closing_text, cut_words};
 ghost use Rattle.smx_live.specs.Tables.{begins_driver, table_text};
 ghost use Rattle.smx_model.specs.Views.{view};
@@ -117,7 +116,7 @@ fn begin(alloc: Global, table: Vec<u8>) -> Result<Talk, MainFault>
 // Writes the beginning of the transcript.
 fn open<S: Sink>(alloc: Global, sink: &mut S, session: &Session) -> Result<(), MainFault>
     requires { S.failures sink.old ≡ 0 }
-    ensures { Opens session.now (S.contents sink.old) (S.contents sink.new) (S.failures sink.new) result }
+    ensures { Opens session.now (S.contents sink.old) (S.contents sink.new) (S.flushed sink.new) (S.failures sink.new) result }
 {
     match session.opening(alloc) {
         Ok(text) => write_last(sink, text.as_slice()),
@@ -136,6 +135,7 @@ fn converse<F: Feed, S: Sink>(
     requires end { F.ended feed.old ≡ inbox.old.ended }
     requires fed { F.failures feed.old ≡ 0 }
     requires sunk { S.failures sink.old ≡ 0 }
+    requires flushed { S.flushed sink.old ≡ true }
     ensures { (read output : List ℕ)
         → IsLive read inbox.old.ended output talk.old.session talk.old.count inbox.old.held.items
         → Converses read output (F.remaining feed.old) (F.remaining feed.new) (F.ended feed.new)
@@ -165,9 +165,11 @@ fn take_turn<S: Sink>(
     n: usize,
 ) -> Result<bool, MainFault>
     requires line { HasLine n inbox.old.held.items }
+    requires fits { n ≤ MAX_INPUT }
     requires sunk { S.failures sink.old ≡ 0 }
     ensures end { inbox.new.ended ≡ inbox.old.ended }
     ensures fine { OnOk result (S.failures sink.new ≡ 0) }
+    ensures flushed { OnOk result (S.flushed sink.new ≡ true) }
     ensures taken { IfOk result (λ over. over ≡ false → inbox.new.held.items ≡ drop (n + 1) inbox.old.held.items) }
     ensures turn { (read output : List ℕ) (ended : Bool)
         → IsLive read ended output talk.old.session talk.old.count inbox.old.held.items
@@ -218,8 +220,9 @@ fn write_last<S: Sink>(sink: &mut S, text: &[u8]) -> Result<(), MainFault>
 fn finish<S: Sink>(alloc: Global, sink: &mut S, talk: &Talk, held: &[u8]) -> Result<(), MainFault>
     requires { S.failures sink.old ≡ 0 }
     ensures { (read output : List ℕ) (ended : Bool)
-        → IsLive read ended output talk.now.session talk.now.count held.now → ended ≡ true → IsOneLine held.now → Finishes read output ended (S.contents sink.old)
-        (S.contents sink.new) (S.flushed sink.new) (S.failures sink.new) result }
+        → IsLive read ended output talk.now.session talk.now.count held.now → ended ≡ true → IsShort held.now
+        → Finishes read output ended (S.contents sink.old) (S.contents sink.new) (S.flushed sink.new)
+        (S.failures sink.new) result }
 {
     match closing(alloc, &talk.session, held) {
         Ok(text) => write_last(sink, text.as_slice()),

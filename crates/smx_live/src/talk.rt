@@ -2,7 +2,7 @@
 
 ghost use Rattle.std.specs.Prelude.{◌≡◌, ◌+◌, ◌++◌, ◌<◌, [], Some, None, IfOk, IfSome, OnOk};
 ghost use Rattle.smx_live.specs.LiveTurns.{IsAsked};
-ghost use Rattle.smx_live.specs.Turns.{IsPerformed, entry_line, view_lines};
+ghost use Rattle.smx_live.specs.Turns.{AsksForNeither, IsPerformed, entry_line, view_lines};
 ghost use Rattle.smx_model.specs.Views.{view};
 ghost use Rattle.smx_text.specs.TranscriptText.{IsSpellableView};
 ghost use Rattle.smx_types.specs.declared.limits.TheConstants.{MAX_COMMANDS};
@@ -63,6 +63,7 @@ impl Talk {
     /// Performs the command of a line, and makes the line of its entry. Where it answers why not, nothing has changed.
     /// The room for the line is taken first. `NoMemory` comes where that was not enough: the command was then performed.
     pub fn perform(&mut self, alloc: Global, line: &[u8]) -> Result<Option<Wrong>, NoMemory>
+        requires { AsksForNeither line.now }
         ensures { IfOk result (λ o. IsPerformed self.old.session self.old.count line.now o
             self.new.session self.new.count self.new.text.items) }
     {

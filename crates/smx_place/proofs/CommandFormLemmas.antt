@@ -232,27 +232,45 @@ module _ (version : Version) where
       let t = one Number args (subst (λ (vs : List Value). Takes vs args) is.1 takes) in
       (command.Unbind t.is_a.0, (t.is_a.1, tells version), cc (is.0, t.are, t.is_a.2))
   of_row word values next args (inr (inr (inr (inr (inr (inr (inr (inr (inr (inr (inr (inl is)))))))))))) takes =
-      let t = three Number Number Number args (subst (λ (vs : List Value). Takes vs args) is.1 takes) in
-      (command.Route t.is_a.0 t.is_b.0 t.is_c.0, ((t.is_a.1, t.is_b.1, t.is_c.1), tells version), cc (is.0, t.are, t.is_a.2, t.is_b.2, t.is_c.2))
+      let t = three Number Number Number args (subst (λ (vs : List Value). Takes vs args) is.1 takes) in (
+        command.Route t.is_a.0 t.is_b.0 t.is_c.0,
+        ((t.is_a.1, t.is_b.1, t.is_c.1), tells version),
+        cc (is.0, t.are, t.is_a.2, t.is_b.2, t.is_c.2),
+      )
   of_row word values next args (inr (inr (inr (inr (inr (inr (inr (inr (inr (inr (inr (inr (inl is))))))))))))) takes =
       let t = two Number Number args (subst (λ (vs : List Value). Takes vs args) is.1 takes) in
       (command.Unroute t.is_a.0 t.is_b.0, ((t.is_a.1, t.is_b.1), tells version), cc (is.0, t.are, t.is_a.2, t.is_b.2))
-  of_row word values next args (inr (inr (inr (inr (inr (inr (inr (inr (inr (inr (inr (inr (inr (inl is)))))))))))))) takes =
-      let t = three Number Number Bytes args (subst (λ (vs : List Value). Takes vs args) is.1 takes) in
-      (command.Write t.is_a.0 t.is_b.0 t.is_c.0, ((t.is_a.1, t.is_b.1, t.is_c.1), tells version), cc (is.0, t.are, t.is_a.2, t.is_b.2, t.is_c.2))
-  of_row word values next args (inr (inr (inr (inr (inr (inr (inr (inr (inr (inr (inr (inr (inr (inr (inl is))))))))))))))) takes =
+  of_row word values next args
+      (inr (inr (inr (inr (inr (inr (inr (inr (inr (inr (inr (inr (inr (inl is)))))))))))))) takes =
+      let t = three Number Number Bytes args (subst (λ (vs : List Value). Takes vs args) is.1 takes) in (
+        command.Write t.is_a.0 t.is_b.0 t.is_c.0,
+        ((t.is_a.1, t.is_b.1, t.is_c.1), tells version),
+        cc (is.0, t.are, t.is_a.2, t.is_b.2, t.is_c.2),
+      )
+  of_row word values next args
+      (inr (inr (inr (inr (inr (inr (inr (inr (inr (inr (inr (inr (inr (inr (inl is))))))))))))))) takes =
       let t = one Number args (subst (λ (vs : List Value). Takes vs args) is.1 takes) in
       (command.Read t.is_a.0, (t.is_a.1, tells version), cc (is.0, t.are, t.is_a.2))
-  of_row word values next args (inr (inr (inr (inr (inr (inr (inr (inr (inr (inr (inr (inr (inr (inr (inr (inl is)))))))))))))))) takes =
+  of_row word values next args
+      (inr (inr (inr (inr (inr (inr (inr (inr (inr (inr (inr (inr (inr (inr (inr (inl is)))))))))))))))) takes =
       let t = two Number Sides args (subst (λ (vs : List Value). Takes vs args) is.1 takes) in
       (command.Flush t.is_a.0 t.is_b.0, (t.is_a.1, tells version), cc (is.0, t.are, t.is_a.2, t.is_b.2))
-  of_row word values next args (inr (inr (inr (inr (inr (inr (inr (inr (inr (inr (inr (inr (inr (inr (inr (inr (inl is))))))))))))))))) takes =
-      let t = four Name Number Number Bytes args (subst (λ (vs : List Value). Takes vs args) is.1 takes) in
-      (command.Inject t.a t.is_b.0 t.is_c.0 t.is_d.0, ((t.is_a, t.is_b.1, t.is_c.1, t.is_d.1), tells version), cc (is.0, t.are, t.is_b.2, t.is_c.2, t.is_d.2))
-  of_row word values next args (inr (inr (inr (inr (inr (inr (inr (inr (inr (inr (inr (inr (inr (inr (inr (inr (inr (inl is)))))))))))))))))) takes =
+  of_row word values next args
+      (inr (inr (inr (inr (inr (inr (inr (inr (inr (inr (inr (inr (inr (inr (inr (inr (inl is))))))))))))))))) takes =
+      let t = four Name Number Number Bytes args (subst (λ (vs : List Value). Takes vs args) is.1 takes) in (
+        command.Inject t.a t.is_b.0 t.is_c.0 t.is_d.0,
+        ((t.is_a, t.is_b.1, t.is_c.1, t.is_d.1), tells version),
+        cc (is.0, t.are, t.is_b.2, t.is_c.2, t.is_d.2),
+      )
+  of_row word values next args
+      (inr (inr (inr (inr (inr (inr (inr (inr (inr (inr (inr (inr (inr (inr (inr (inr (inr (inl is))))))))))))))))))
+      takes =
       let t = two Name Number args (subst (λ (vs : List Value). Takes vs args) is.1 takes) in
       (command.Transmit t.a t.is_b.0, ((t.is_a, t.is_b.1), tells version), cc (is.0, t.are, t.is_b.2))
-  of_row word values next args (inr (inr (inr (inr (inr (inr (inr (inr (inr (inr (inr (inr (inr (inr (inr (inr (inr (inr is)))))))))))))))))) takes = absurd is
+  of_row word values next args
+      (inr (inr (inr (inr (inr (inr (inr (inr (inr (inr (inr (inr (inr (inr (inr (inr (inr (inr is))))))))))))))))))
+      takes =
+      absurd is
 
 -- of a version
 pub of_form : (version : Version) (word : List ℕ) (values : List Value) (next : Choice) (args : List (List ℕ))

@@ -20,7 +20,7 @@ use Rattle.smx_place.proofs.RowLemmas.{in_second}
 -- ---- tables whose words differ
 
 -- no row has the word
-abbrev is_new : List ℕ → List Row → Bool
+abbrev pub is_new : List ℕ → List Row → Bool
 is_new word [] = true
 is_new word (row ∷ rows) = not (bytes_eq word row.0) && is_new word rows
 
@@ -38,7 +38,7 @@ not_true true h k = absurd (cc h)
 not_true false h k = absurd (cc k)
 
 -- a word of some row is not new
-not_new : (ks : List Row) (word : List ℕ) (values : List Value) (next : Choice) → is_new word ks ≡ true
+pub not_new : (ks : List Row) (word : List ℕ) (values : List Value) (next : Choice) → is_new word ks ≡ true
     → IsRow ks word values next → ⊥
 not_new [] word values next h is = is
 not_new (k ∷ ks) word values next h (inl is) =

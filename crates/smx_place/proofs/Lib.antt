@@ -8,3 +8,5 @@ pub mod CommandFormLemmas
 pub mod ReplyFormLemmas
 pub mod LineFormLemmas
 pub mod PlaceLemmas
+pub mod OnePlaceLemmas
+pub mod WorkedPlaceLemmas

@@ -1,5 +1,6 @@
 -- The words of a line of each text, by the tables.
-use Rattle.std.proofs.Common.{◌≡◌, ◌<◌, ℕ, Bool, true, false, ◌||◌, List, [], ◌∷◌, ◌++◌, refl, sym, ap, subst, ◌∙◌, inl, inr}
+use Rattle.std.proofs.Common.{◌≡◌, ◌<◌, ℕ, Bool, true, false, ◌||◌, List, [], ◌∷◌, ◌++◌, refl, sym, ap, subst, ◌∙◌}
+use Rattle.std.proofs.Common.{inl, inr}
 use Rattle.std.proofs.Common.{append-nil, rules}
 use Rattle.std.specs.Prelude.{◌↔◌, codes}
 use Rattle.std.specs.Fmt.{decimal}
@@ -12,7 +13,8 @@ use Rattle.smx_types.specs.declared.version.Version.TheVariants.{V1, V2}
 use Rattle.smx_types.specs.declared.view.HungLine.{HungLine}
 use Rattle.smx_words.specs.HexWords.{hex_word}
 use Rattle.smx_words.specs.Spellable.{CanTell, FitsCommandIn, FitsEntryIn, FitsHung, FitsReplyIn}
-use Rattle.smx_words.specs.Spelling.{command_words, entry_words, hung_words, kind_word, link_kind_word, reply_words, side_word}
+use Rattle.smx_words.specs.Spelling.{command_words, entry_words, hung_words, kind_word, link_kind_word, reply_words}
+use Rattle.smx_words.specs.Spelling.{side_word}
 use Rattle.smx_text.specs.ProgramLines.{Line}
 use Rattle.smx_text.specs.ProgramLines as line
 use Rattle.smx_text.specs.ProgramsText as programs
@@ -142,7 +144,8 @@ module _ (version : Version) where
       let reply = from_row version Equals (codes "=") [] Reply [] (reply_words r) (search rules) tt
       (reply_spelled version r fits_too) in
       subst (λ (words : List (List ℕ)). Spells version [] Command (words ++ codes "=" ∷ reply_words r)) (sym f.are)
-      (f.values, Equals, inl f.fixed, with_args version f.values f.args Equals (codes "=" ∷ reply_words r) f.takes reply)
+      let rest = with_args version f.values f.args Equals (codes "=" ∷ reply_words r) f.takes reply in
+      (f.values, Equals, inl f.fixed, rest)
 
   entry_spelled : (e : Entry) → FitsEntryIn version e → Spells version [] TranscriptLine (entry_words e)
   entry_spelled e (fits, told) =

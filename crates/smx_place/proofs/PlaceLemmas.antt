@@ -22,7 +22,8 @@ use Rattle.smx_place.proofs.Spelling.{Spells}
 -- ---- parts
 
 -- one part more
-spaced_more : (front : List (List ℕ)) (word : List ℕ) → spaced (front ++ word ∷ []) ≡ spaced front ++ (word ++ SPACE ∷ [])
+spaced_more : (front : List (List ℕ)) (word : List ℕ)
+    → spaced (front ++ word ∷ []) ≡ spaced front ++ (word ++ SPACE ∷ [])
 spaced_more [] word = append-nil (word ++ SPACE ∷ [])
 spaced_more (w ∷ front) word = ap (λ (xs : List ℕ). (w ++ SPACE ∷ []) ++ xs) (spaced_more front word)
     ∙ sym (append_assoc (w ++ SPACE ∷ []) (spaced front) (word ++ SPACE ∷ []))
@@ -127,7 +128,8 @@ module _ (kind : TextKind) (version : Version) (line : List ℕ) (column : ℕ) 
       length-append word (SPACE ∷ []),
     );
     goes_on = λ more. (
-      λ is. on more ((h.goes_on (word ∷ more)).0 (subst (IsLine kind version) (append_assoc h.front (word ∷ []) more) is)),
+      λ is. on more
+          ((h.goes_on (word ∷ more)).0 (subst (IsLine kind version) (append_assoc h.front (word ∷ []) more) is)),
       λ spells. subst (IsLine kind version) (sym (append_assoc h.front (word ∷ []) more))
           ((h.goes_on (word ∷ more)).1 (wanted, then, goes, spells)),
     );
@@ -142,7 +144,8 @@ module _ (kind : TextKind) (version : Version) (line : List ℕ) (column : ℕ) 
   begins = let t = can_end version values next in (t.0, (h.goes_on t.0).1 t.1)
 
   -- and just the words that are wanted go on
-  goes_with : (word : List ℕ) → Begins kind version (h.front ++ word ∷ []) ↔ IsWanted version (wanted_of values next) word
+  goes_with : (word : List ℕ)
+      → Begins kind version (h.front ++ word ∷ []) ↔ IsWanted version (wanted_of values next) word
   goes_with word = (there, back) where
     there : Begins kind version (h.front ++ word ∷ []) → IsWanted version (wanted_of values next) word
     there (more, is) = of_first

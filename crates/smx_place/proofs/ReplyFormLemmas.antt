@@ -15,7 +15,8 @@ use Rattle.smx_words.specs.Spellable.{CanTell, FitsNumber, FitsReplyIn}
 use Rattle.smx_words.specs.Spelling.{fault_words, reply_words}
 use Rattle.smx_place.specs.Rows.{IsRow, invalid, replies, rows}
 use Rattle.smx_place.specs.declared.kinds.Choice.{Choice}
-use Rattle.smx_place.specs.declared.kinds.Choice.TheVariants.{Reply, BadDescriptor, Invalid, Again, NoDevice, Serials, End}
+use Rattle.smx_place.specs.declared.kinds.Choice.TheVariants.{Reply, BadDescriptor, Invalid, Again, NoDevice}
+use Rattle.smx_place.specs.declared.kinds.Choice.TheVariants.{Serials, End}
 use Rattle.smx_place.specs.declared.kinds.Value.{Value}
 use Rattle.smx_place.specs.declared.kinds.Value.TheVariants.{Number, Bytes}
 use Rattle.smx_place.proofs.ShapeLemmas.{one, three, two}
@@ -161,7 +162,8 @@ module _ (version : Version) where
       again_row word values next words (plain version Again refl word values next is) h
   of_again (word ∷ words) (values, next, inr is, h) = absurd is
 
-  of_descriptor : (words : List (List ℕ)) → Spells version [] BadDescriptor words → IsFault version (codes "EBADF" ∷ words)
+  of_descriptor : (words : List (List ℕ)) → Spells version [] BadDescriptor words
+      → IsFault version (codes "EBADF" ∷ words)
   of_descriptor [] h = absurd h
   of_descriptor (word ∷ words) (values, next, inl is, h) =
       descriptor_row word values next words (plain version BadDescriptor refl word values next is) h
@@ -224,12 +226,14 @@ module _ (version : Version) where
       let t = of_device version words (rw (← is.1, ← is.2) h) in
       of_fault (word ∷ words) (t.0, t.1, cc (is.0, t.2))
   reply_row word values next words (inr (inr (inr (inr (inr (inr (inr (inr (inr (inl is)))))))))) h =
-      (reply.Fault fault.TooManyDescriptors, (tt, tells version), cc (is.0, nothing version values next words is.1 is.2 h))
+      let none = nothing version values next words is.1 is.2 h in
+      (reply.Fault fault.TooManyDescriptors, (tt, tells version), cc (is.0, none))
   reply_row word values next words (inr (inr (inr (inr (inr (inr (inr (inr (inr (inr (inl is))))))))))) h =
       (reply.Fault fault.AddressInUse, (tt, tells version), cc (is.0, nothing version values next words is.1 is.2 h))
   reply_row word values next words (inr (inr (inr (inr (inr (inr (inr (inr (inr (inr (inr (inl is)))))))))))) h =
       (reply.Fault fault.BadSize, (tt, tells version), cc (is.0, nothing version values next words is.1 is.2 h))
-  reply_row word values next words (inr (inr (inr (inr (inr (inr (inr (inr (inr (inr (inr (inr is)))))))))))) h = absurd is
+  reply_row word values next words (inr (inr (inr (inr (inr (inr (inr (inr (inr (inr (inr (inr is)))))))))))) h =
+      absurd is
 
 pub of_reply : (version : Version) (words : List (List ℕ)) → Spells version [] Reply words → IsReply version words
 of_reply version [] h = absurd h

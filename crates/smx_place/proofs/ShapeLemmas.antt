@@ -51,7 +51,8 @@ pub three : (u v w : Value) (args : List (List ℕ)) → Takes (u ∷ v ∷ w �
 three u v w [] takes = absurd takes
 three u v w (a ∷ []) takes = absurd takes.1
 three u v w (a ∷ b ∷ []) takes = absurd takes.1.1
-three u v w (a ∷ b ∷ c ∷ []) takes = record { a = a; b = b; c = c; are = refl; is_a = takes.0; is_b = takes.1.0; is_c = takes.1.1.0 }
+three u v w (a ∷ b ∷ c ∷ []) takes =
+    record { a = a; b = b; c = c; are = refl; is_a = takes.0; is_b = takes.1.0; is_c = takes.1.1.0 }
 three u v w (a ∷ b ∷ c ∷ more ∷ rest) takes = absurd takes.1.1.1
 
 -- four words
@@ -71,7 +72,17 @@ four u v w x [] takes = absurd takes
 four u v w x (a ∷ []) takes = absurd takes.1
 four u v w x (a ∷ b ∷ []) takes = absurd takes.1.1
 four u v w x (a ∷ b ∷ c ∷ []) takes = absurd takes.1.1.1
-four u v w x (a ∷ b ∷ c ∷ d ∷ []) takes = record { a = a; b = b; c = c; d = d; are = refl; is_a = takes.0; is_b = takes.1.0; is_c = takes.1.1.0; is_d = takes.1.1.1.0 }
+four u v w x (a ∷ b ∷ c ∷ d ∷ []) takes = record {
+  a = a;
+  b = b;
+  c = c;
+  d = d;
+  are = refl;
+  is_a = takes.0;
+  is_b = takes.1.0;
+  is_c = takes.1.1.0;
+  is_d = takes.1.1.1.0;
+}
 four u v w x (a ∷ b ∷ c ∷ d ∷ more ∷ rest) takes = absurd takes.1.1.1.1
 
 -- six words
@@ -90,12 +101,27 @@ pub record Are_six (u v w x y z : Value) (args : List (List ℕ)) : Type 0 where
   pub is_e : IsValue y e
   pub is_f : IsValue z f
 
-pub six : (u v w x y z : Value) (args : List (List ℕ)) → Takes (u ∷ v ∷ w ∷ x ∷ y ∷ z ∷ []) args → Are_six u v w x y z args
+pub six : (u v w x y z : Value) (args : List (List ℕ)) → Takes (u ∷ v ∷ w ∷ x ∷ y ∷ z ∷ []) args
+    → Are_six u v w x y z args
 six u v w x y z [] takes = absurd takes
 six u v w x y z (a ∷ []) takes = absurd takes.1
 six u v w x y z (a ∷ b ∷ []) takes = absurd takes.1.1
 six u v w x y z (a ∷ b ∷ c ∷ []) takes = absurd takes.1.1.1
 six u v w x y z (a ∷ b ∷ c ∷ d ∷ []) takes = absurd takes.1.1.1.1
 six u v w x y z (a ∷ b ∷ c ∷ d ∷ e ∷ []) takes = absurd takes.1.1.1.1.1
-six u v w x y z (a ∷ b ∷ c ∷ d ∷ e ∷ f ∷ []) takes = record { a = a; b = b; c = c; d = d; e = e; f = f; are = refl; is_a = takes.0; is_b = takes.1.0; is_c = takes.1.1.0; is_d = takes.1.1.1.0; is_e = takes.1.1.1.1.0; is_f = takes.1.1.1.1.1.0 }
+six u v w x y z (a ∷ b ∷ c ∷ d ∷ e ∷ f ∷ []) takes = record {
+  a = a;
+  b = b;
+  c = c;
+  d = d;
+  e = e;
+  f = f;
+  are = refl;
+  is_a = takes.0;
+  is_b = takes.1.0;
+  is_c = takes.1.1.0;
+  is_d = takes.1.1.1.0;
+  is_e = takes.1.1.1.1.0;
+  is_f = takes.1.1.1.1.1.0;
+}
 six u v w x y z (a ∷ b ∷ c ∷ d ∷ e ∷ f ∷ more ∷ rest) takes = absurd takes.1.1.1.1.1.1

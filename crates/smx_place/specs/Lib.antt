@@ -1,2 +1,4 @@
 pub mod Rows
 pub mod Places
+pub mod WorkedPlaces
+pub mod PlaceWords

@@ -1,5 +1,8 @@
 //! The kinds of words, and what is shown of them.
 
+ghost use Rattle.std.specs.Prelude.{◌≡◌};
+ghost use Rattle.smx_place.specs.PlaceWords.{choice_words, value_words};
+
 use std::fmt;
 
 /// Which text a line is of.
@@ -59,7 +62,10 @@ pub enum Wanted {
 }
 
 impl Value {
-    fn words(self) -> &'static str {
+    // The words that tell it.
+    fn words(self) -> &'static str
+        ensures { result.now ≡ value_words self }
+    {
         match self {
             Value::Name => "a name",
             Value::DriverKind => "'leaf' or 'mux'",
@@ -75,7 +81,10 @@ impl Value {
 }
 
 impl Choice {
-    fn words(self) -> &'static str {
+    // The words that tell it.
+    fn words(self) -> &'static str
+        ensures { result.now ≡ choice_words self }
+    {
         match self {
             Choice::ProgramsLine => "'driver', 'process', 'end' or a command",
             Choice::TranscriptLine => {
@@ -97,6 +106,11 @@ impl Choice {
 }
 
 impl fmt::Display for Wanted {
+    ghost use Rattle.std.specs.Prelude.{Some};
+    ghost use Rattle.smx_place.specs.PlaceWords.{wanted_words};
+
+    ghost output = { λ wanted. Some (wanted_words wanted) };
+
     fn fmt<W: fmt::Write>(&self, f: &mut fmt::Formatter<W>) -> fmt::Result {
         match self {
             Wanted::Value(value) => f.write_str(value.words()),

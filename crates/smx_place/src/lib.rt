@@ -2,6 +2,7 @@
 #![tactic(auto)]
 
 mod kinds;
+pub mod laws_of_places;
 mod place;
 mod rows;
 

@@ -5,3 +5,4 @@ pub mod ProgramOrderLemmas
 pub mod RecordingLemmas
 pub mod RunLemmas
 pub mod StopLemmas
+pub mod Walks

@@ -14,13 +14,14 @@ use Rattle.smx_types.specs.declared.version.Version.{Version}
 use Rattle.smx_types.specs.declared.view.ConfigView.{ConfigView}
 use Rattle.smx_model.specs.DriverList.{IsDriverList}
 use Rattle.smx_model.specs.Headline.{IsReportOf}
-use Rattle.smx_model.specs.Histories.{after, call_of, IsLegal}
+use Rattle.smx_model.specs.Histories.{after, call_of, HoldsPrograms, IsLegal}
 use Rattle.smx_model.specs.LawfulHistories.{AreDropsAllowed, IsLawfulThroughout}
 use Rattle.smx_model.specs.Views.{view}
 use Rattle.smx_config.specs.Machine.{Machine}
+use Rattle.smx_shared.specs.Recorded.{Recorded, IsSoundSystem}
 use Rattle.smx_run.specs.Desks.{HasRecorded}
 use Rattle.smx_run.specs.ProgramOrder.{calls_of, calls_from}
-use Rattle.smx_run.specs.RecordedRuns.{IsRecordOf}
+use Rattle.smx_run.specs.RecordedRuns.{IsRecordOf, IsRecordOfRun, run_of}
 use Rattle.smx_run.specs.RunFaults.{RefusesAlone, RefusesRun}
 use Rattle.smx_run.specs.declared.run_fault.RunFault.{RunFault}
 use Rattle.smx_run.specs.declared.run_fault.RunFault.TheVariants as run
@@ -111,3 +112,33 @@ kept_all programs version drivers entries shown h =
     let d : drivers ≡ programs.drivers = ap (λ (k : Version × List DriverSpec × List Entry). k.1) h.was_told in
     let e : entries ≡ h.entries = ap (λ (k : Version × List DriverSpec × List Entry). k.2) h.was_told in
     (v, rw (v, d, e) h.promised, rw e h.asked, rw e h.few)
+
+-- ---- many workers
+
+-- want of memory is answered only for drivers that can be had
+pub memory_refused_together : {T : Type 0} (drivers : List DriverSpec) (result : Result T RunFault)
+    → IsErrAnd result (λ e. e ≡ run.NoMemory) → IsDriverList drivers → IfErr result (RefusesRun drivers)
+memory_refused_together drivers (Ok x) is can = tt
+memory_refused_together drivers (Err e) is can = subst (RefusesRun drivers) (sym is) can
+
+-- what was told of a sound system, whose history holds the programs, with the view at the end
+pub record_of_run : {K : Type 0} (told : Version → List DriverSpec → List Entry → K → Type 0) → FewDrop
+    → (version : Version) (drivers : List DriverSpec) (s : Recorded) (programs : List (List Command)) (recorder : K)
+    (shown : ConfigView)
+    → s.drivers ≡ drivers → IsSoundSystem s → told version drivers s.history recorder
+    → HoldsPrograms s.history programs → shown ≡ view s.drivers (after s.drivers s.history)
+    → IsRecordOfRun (run_of version drivers programs) told recorder shown
+record_of_run told drops version drivers s programs recorder shown same sound was holds is = record {
+  entries = s.history;
+  was_told = was;
+  promised = record {
+    drivers = refl;
+    can_be_had = rw (← same) sound.can_be_had;
+    legal = rw (← same) sound.legal;
+    holds = holds;
+    shown = rw (← same) is;
+    lawful = rw (← same) sound.lawful;
+    drops = drops s.drivers s.history sound.legal;
+  };
+  few = omega (arith, sound.within, sound.limited);
+}

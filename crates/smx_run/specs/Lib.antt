@@ -9,3 +9,4 @@ pub mod ProgramOrder
 pub mod RecordedRuns
 pub mod Reports
 pub mod RunFaults
+pub mod Scribes

@@ -1,6 +1,7 @@
 -- What a recorder was told of a run.
 use Rattle.std.specs.Prelude.{◌≡◌, ◌≤◌, List, length, map}
 use Rattle.smx_types.specs.ProgramLists.{ProgramLists}
+use Rattle.smx_types.specs.declared.command.Command.{Command}
 use Rattle.smx_types.specs.declared.command.Entry.{Entry}
 use Rattle.smx_types.specs.declared.driver.DriverSpec.{DriverSpec}
 use Rattle.smx_types.specs.declared.limits.TheConstants.{MAX_COMMANDS}
@@ -20,3 +21,16 @@ pub record IsRecordOf (programs : ProgramLists) {K : Type 0}
       (record { version = programs.version; drivers = programs.drivers; entries = entries; view = view })
   pub asked : map call_of entries ≡ calls_from 0 programs.programs
   pub few : length entries ≤ MAX_COMMANDS
+
+-- the same of a run by any number of workers, in whose history the processes may take turns
+pub record IsRecordOfRun (programs : ProgramLists) {K : Type 0}
+    (told : Version → List DriverSpec → List Entry → K → Type 0) (recorder : K) (view : ConfigView) : Type 0 where
+  pub entries : List Entry
+  pub was_told : told programs.version programs.drivers entries recorder
+  pub promised : IsReportOf programs
+      (record { version = programs.version; drivers = programs.drivers; entries = entries; view = view })
+  pub few : length entries ≤ MAX_COMMANDS
+
+-- what a run is of
+abbrev pub run_of : Version → List DriverSpec → List (List Command) → ProgramLists
+run_of version drivers programs = record { version = version; drivers = drivers; programs = programs }

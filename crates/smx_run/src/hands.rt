@@ -7,18 +7,18 @@ ghost use Rattle.smx_shared.specs.Seats.{SharedId};
 ghost use Rattle.smx_run.specs.ProgramOrder.{calls_of, numbered};
 
 use crate::worker::{EndedProgram, SeatedProgram};
-use smx_shared::{Door, Seat, Shared};
+use smx_shared::{Door, Keeper, Seat, Shared};
 use smx_types::{Commands, NoMemory, ProgramList};
 use std::alloc::Global;
 use std::snapshot::Snapshot;
 
 /// A hand of processes for each of so many workers.
-pub fn deal(
+pub fn deal<K: Keeper>(
     alloc: Global,
-    seats: Vec<Seat>,
+    seats: Vec<Seat<K>>,
     programs: ProgramList,
     workers: usize,
-) -> Result<Vec<Vec<SeatedProgram<Seat>>>, NoMemory>
+) -> Result<Vec<Vec<SeatedProgram<Seat<K>>>>, NoMemory>
     requires workers { 1 ≤ workers }
     requires seats { map (λ s. s.known.process) seats.items ≡ range_with_len 0 (length programs) }
     ensures fresh { IfOk result (λ v. (name : SharedId) → All (IsFresh name) seats.items → All (AreFresh name) v.items) }
@@ -36,7 +36,10 @@ pub fn deal(
 }
 
 // Hands with nothing in them.
-fn empty_hands(alloc: Global, workers: usize) -> Result<Vec<Vec<SeatedProgram<Seat>>>, NoMemory>
+fn empty_hands<K: Keeper>(
+    alloc: Global,
+    workers: usize,
+) -> Result<Vec<Vec<SeatedProgram<Seat<K>>>>, NoMemory>
     ensures workers { IfOk result (λ v. vec_len v ≡ workers) }
     ensures none { IfOk result (λ v. map given_hand v.items ≡ hands_of workers []) }
     ensures fresh { IfOk result (λ v. (name : SharedId) → All (AreFresh name) v.items) }
@@ -49,9 +52,9 @@ fn empty_hands(alloc: Global, workers: usize) -> Result<Vec<Vec<SeatedProgram<Se
 }
 
 // One process more for its worker.
-fn give(
-    hands: &mut Vec<Vec<SeatedProgram<Seat>>>,
-    seat: Seat,
+fn give<K: Keeper>(
+    hands: &mut Vec<Vec<SeatedProgram<Seat<K>>>>,
+    seat: Seat<K>,
     commands: Commands,
 ) -> Result<(), NoMemory>
     requires workers { 1 ≤ vec_len hands.old }
@@ -60,18 +63,18 @@ fn give(
     ensures given { OnOk result ((k : ℕ) → k < vec_len hands.old → slice_index_or (map given_hand hands.new.items) k []
         ≡ slice_index_or (map given_hand hands.old.items) k [] ++ hand_of (vec_len hands.old) ((seat.known.process, calls_of seat.known.process commands) ∷ []) k) }
 {
-    let worker = Shared::process(&seat).get() as usize % hands.len();
+    let worker = Shared::<K>::process(&seat).get() as usize % hands.len();
     hands[worker].push(SeatedProgram { seat, commands })?;
     Ok(())
 }
 
 /// What came of the processes of these programs, put back into their order.
-pub fn collect(
+pub fn collect<K: Keeper>(
     alloc: Global,
-    mut hands: Vec<Vec<EndedProgram<Seat>>>,
+    mut hands: Vec<Vec<EndedProgram<Seat<K>>>>,
     processes: usize,
     programs: Snapshot<ProgramList>,
-) -> Result<Vec<EndedProgram<Seat>>, NoMemory>
+) -> Result<Vec<EndedProgram<Seat<K>>>, NoMemory>
     requires workers { 1 ≤ vec_len hands }
     requires dealt { map called_hand hands.items ≡ hands_of (vec_len hands) (numbered 0 programs.value) }
     requires processes { length programs.value ≡ processes }
@@ -87,7 +90,10 @@ pub fn collect(
 }
 
 // The first that is left of what a worker did.
-fn take_first(hands: &mut Vec<Vec<EndedProgram<Seat>>>, worker: usize) -> EndedProgram<Seat>
+fn take_first<K: Keeper>(
+    hands: &mut Vec<Vec<EndedProgram<Seat<K>>>>,
+    worker: usize,
+) -> EndedProgram<Seat<K>>
     requires worker { worker < vec_len hands.old }
     requires some { slice_index_or (map called_hand hands.old.items) worker [] ≢ [] }
     ensures workers { vec_len hands.new ≡ vec_len hands.old }

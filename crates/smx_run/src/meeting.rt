@@ -7,17 +7,17 @@ ghost use Rattle.smx_run.specs.Hands.{HaveEnded};
 ghost use Rattle.smx_run.specs.Meeting.{IsBorneOutBy};
 
 use crate::worker::EndedProgram;
-use smx_shared::{Fronts, Seat, Shared};
+use smx_shared::{Fronts, Keeper, Seat, Shared};
 use smx_types::NoMemory;
 use std::alloc::Global;
 
 /// The first seat, once it has met all the others, and the fronts that they saw last. Whatever it then ends as bears all
 /// of them out.
-pub fn meet_all(
+pub fn meet_all<K: Keeper>(
     alloc: Global,
-    shared: &Shared,
-    mut ended: Vec<EndedProgram<Seat>>,
-) -> Result<(Seat, Fronts), NoMemory>
+    shared: &Shared<K>,
+    mut ended: Vec<EndedProgram<Seat<K>>>,
+) -> Result<(Seat<K>, Fronts), NoMemory>
     requires some { ended.items ≢ [] }
     requires ended { HaveEnded shared.now.name ended }
     ensures seat { IfOk result (λ r. r.0.shared ≡ shared.now.name) }

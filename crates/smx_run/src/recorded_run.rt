@@ -5,7 +5,7 @@ ghost use Rattle.smx_run.specs.RecordedRuns.{IsRecordOf};
 ghost use Rattle.smx_run.specs.RunFaults.{RefusesAlone};
 
 use crate::gate::Gate;
-use crate::recorder::Recorder;
+use crate::recorder::NewRecorder;
 use crate::recording::Recording;
 use crate::run_fault::RunFault;
 use smx_model::laws::lawful_after_each_entry;
@@ -17,7 +17,7 @@ use std::alloc::Global;
 /// in the room, is told of each entry once its command was answered, and then the entry is given up. What comes back is
 /// the recorder, and the view of the configuration at the end. Refused for drivers that a configuration can't have,
 /// before there is a recorder; or for want of memory.
-pub fn run_recorded<K: Recorder, G: Gate>(
+pub fn run_recorded<K: NewRecorder, G: Gate>(
     alloc: Global,
     programs: Programs,
     room: K::Room,

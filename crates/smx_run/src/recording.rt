@@ -10,7 +10,7 @@ ghost use Rattle.smx_run.specs.ProgramOrder.{calls_from};
 ghost use Rattle.smx_run.specs.RunFaults.{RefusesAlone};
 
 use crate::gate::Gate;
-use crate::recorder::Recorder;
+use crate::recorder::{NewRecorder, Recorder};
 use crate::run_fault::RunFault;
 use smx_config::Config;
 use smx_model::laws::one_entry_more;
@@ -29,7 +29,7 @@ pub struct Recording<K: Drop> {
     pub recorder: K,
 }
 
-impl<K: Recorder> Recording<K> {
+impl<K: NewRecorder> Recording<K> {
     /// The empty configuration over these drivers, and a recorder that begins in the room, for programs of this version.
     /// Refused for drivers that a configuration can't have, before there is a recorder; or for want of memory.
     pub fn begin(
@@ -50,7 +50,9 @@ impl<K: Recorder> Recording<K> {
             recorder,
         })
     }
+}
 
+impl<K: Recorder> Recording<K> {
     /// Has each program performed to its end, in turn, from process 0 on. Fails only for want of memory.
     pub fn run_all<G: Gate>(&mut self, programs: ProgramList, gate: &G) -> Result<(), NoMemory>
         requires processes { length programs ≤ MAX_PROCESSES }

@@ -17,7 +17,7 @@ use crate::hands::{collect, deal};
 use crate::meeting::meet_all;
 use crate::run_fault::RunFault;
 use crate::worker::{EndedProgram, SeatedProgram, work};
-use smx_shared::{ApplyFault, Fronts, Seat, Shared, System};
+use smx_shared::{ApplyFault, Fronts, Keeper, Seat, Shared, System};
 use smx_types::ProgramList;
 use std::alloc::Global;
 use std::snapshot::Snapshot;
@@ -27,14 +27,14 @@ use std::thread::{Promise, Scope, Threads};
 
 /// Has the programs run by so many workers, and gives the system back that they shared, with the fronts that were seen
 /// when each program had ended.
-pub fn run_together<R: Threads + Wait + Sync, G: Gate + Sync>(
+pub fn run_together<R: Threads + Wait + Sync, K: Keeper + Send, G: Gate + Sync>(
     rt: &R,
     alloc: Global,
-    system: System,
+    system: System<K>,
     programs: ProgramList,
     workers: usize,
     gate: &G,
-) -> Result<(System, Fronts), RunFault>
+) -> Result<(System<K>, Fronts), RunFault>
     requires system { (system.history ≡ []) × IsDriverList system.drivers }
     requires processes { (1 ≤ length programs) × (length programs ≤ MAX_PROCESSES) }
     requires workers { 1 ≤ workers }
@@ -51,15 +51,15 @@ pub fn run_together<R: Threads + Wait + Sync, G: Gate + Sync>(
 }
 
 // Has each seat run its program, by so many workers.
-fn run_seats<R: Threads + Wait + Sync, G: Gate + Sync>(
+fn run_seats<R: Threads + Wait + Sync, K: Keeper + Send, G: Gate + Sync>(
     rt: &R,
     alloc: Global,
-    shared: &Shared,
-    seats: Vec<Seat>,
+    shared: &Shared<K>,
+    seats: Vec<Seat<K>>,
     programs: ProgramList,
     workers: usize,
     gate: &G,
-) -> Result<Vec<EndedProgram<Seat>>, ApplyFault>
+) -> Result<Vec<EndedProgram<Seat<K>>>, ApplyFault>
     requires seats { map (λ s. s.known.process) seats.items ≡ range_with_len 0 (length programs) }
     requires fresh { All (IsFresh shared.now.name) seats.items }
     requires workers { 1 ≤ workers }
@@ -76,9 +76,9 @@ fn run_seats<R: Threads + Wait + Sync, G: Gate + Sync>(
 
 // What a worker makes of its hand, at a shared system, or why it stops.
 #[derive(Drop)]
-struct Runs(Snapshot<Vec<SeatedProgram<Seat>>>, Snapshot<Shared>);
+struct Runs<K: Keeper>(Snapshot<Vec<SeatedProgram<Seat<K>>>>, Snapshot<Shared<K>>);
 
-impl Promise<Result<Vec<EndedProgram<Seat>>, ApplyFault>> for Runs {
+impl<K: Keeper> Promise<Result<Vec<EndedProgram<Seat<K>>>, ApplyFault>> for Runs<K> {
     ghost use Rattle.std.specs.Prelude.{◌≡◌, IfOk, IsErrOf};
     ghost use Rattle.smx_shared.specs.declared.shared_fault.ApplyFault.TheVariants as apply;
     ghost use Rattle.smx_run.specs.Hands.{given_hand, called_hand, HaveEnded, IsSeenFull};
@@ -88,13 +88,13 @@ impl Promise<Result<Vec<EndedProgram<Seat>>, ApplyFault>> for Runs {
 }
 
 // Each hand on a thread of its own, the first on this one.
-fn run_hands<R: Threads + Wait + Sync, G: Gate + Sync>(
+fn run_hands<R: Threads + Wait + Sync, K: Keeper + Send, G: Gate + Sync>(
     rt: &R,
     alloc: Global,
-    shared: &Shared,
-    hands: Vec<Vec<SeatedProgram<Seat>>>,
+    shared: &Shared<K>,
+    hands: Vec<Vec<SeatedProgram<Seat<K>>>>,
     gate: &G,
-) -> Result<Vec<Vec<EndedProgram<Seat>>>, ApplyFault>
+) -> Result<Vec<Vec<EndedProgram<Seat<K>>>>, ApplyFault>
     requires { All (AreFresh shared.now.name) hands.items }
     ensures called { IfOk result (λ v. map called_hand v.items ≡ map given_hand hands.items) }
     ensures ended { IfOk result (λ v. All (HaveEnded shared.now.name) v.items) }
@@ -103,7 +103,7 @@ fn run_hands<R: Threads + Wait + Sync, G: Gate + Sync>(
     thread::scope(
         thread::scope_env(),
         rt,
-        |scope| -> Result<Vec<Vec<EndedProgram<Seat>>>, ApplyFault>
+        |scope| -> Result<Vec<Vec<EndedProgram<Seat<K>>>>, ApplyFault>
             requires { All (AreFresh shared.now.name) hands.items }
             ensures called { IfOk result (λ v. map called_hand v.items ≡ map given_hand hands.items) }
             ensures ended { IfOk result (λ v. All (HaveEnded shared.entry.now.name) v.items) }
@@ -114,14 +114,14 @@ fn run_hands<R: Threads + Wait + Sync, G: Gate + Sync>(
 
 // The last hand on a thread of its own, and those before it likewise. Where a thread can't be started, that is want of
 // memory.
-fn run_from<'s, E, R: Threads + Wait + Sync, G: Gate + Sync>(
+fn run_from<'s, E, R: Threads + Wait + Sync, K: Keeper + Send, G: Gate + Sync>(
     scope: &'s Scope<'s, E>,
     rt: &'s R,
     alloc: Global,
-    shared: &'s Shared,
-    mut hands: Vec<Vec<SeatedProgram<Seat>>>,
+    shared: &'s Shared<K>,
+    mut hands: Vec<Vec<SeatedProgram<Seat<K>>>>,
     gate: &'s G,
-) -> Result<Vec<Vec<EndedProgram<Seat>>>, ApplyFault>
+) -> Result<Vec<Vec<EndedProgram<Seat<K>>>>, ApplyFault>
     requires { All (AreFresh shared.now.name) hands.items }
     ensures called { IfOk result (λ v. map called_hand v.items ≡ map given_hand hands.items) }
     ensures ended { IfOk result (λ v. All (HaveEnded shared.now.name) v.items) }
@@ -137,7 +137,7 @@ fn run_from<'s, E, R: Threads + Wait + Sync, G: Gate + Sync>(
     let runs = Runs(Snapshot::of(&hand), Snapshot::of(shared));
     let worker = scope.spawn_with(
         runs,
-        move || -> Result<Vec<EndedProgram<Seat>>, ApplyFault>
+        move || -> Result<Vec<EndedProgram<Seat<K>>>, ApplyFault>
             requires { AreFresh shared.now.name hand }
             ensures called { IfOk result (λ v. called_hand v ≡ given_hand hand) }
             ensures ended { IfOk result (HaveEnded shared.entry.now.name) }
@@ -158,10 +158,10 @@ fn run_from<'s, E, R: Threads + Wait + Sync, G: Gate + Sync>(
 
 // What came of some hands, and of one more. Want of memory precedes a full history, which is answered where one of them
 // met it and the other wanted no memory, and nowhere else.
-fn and_then(
-    before: Result<Vec<Vec<EndedProgram<Seat>>>, ApplyFault>,
-    last: Result<Vec<EndedProgram<Seat>>, ApplyFault>,
-) -> Result<Vec<Vec<EndedProgram<Seat>>>, ApplyFault>
+fn and_then<K: Keeper>(
+    before: Result<Vec<Vec<EndedProgram<Seat<K>>>>, ApplyFault>,
+    last: Result<Vec<EndedProgram<Seat<K>>>, ApplyFault>,
+) -> Result<Vec<Vec<EndedProgram<Seat<K>>>>, ApplyFault>
     ensures called { IfOk result (λ v. (all : List (List Calls)) (one : List Calls)
         → IfOk before (λ b. map called_hand b.items ≡ all) → IfOk last (λ d. called_hand d ≡ one) → map called_hand v.items ≡ all ++ one ∷ []) }
     ensures ended { IfOk result (λ v. (name : SharedId)

@@ -8,6 +8,3 @@ mod trouble;
 
 pub use session::Session;
 pub use trouble::Trouble;
-
-#[cfg(test)]
-mod tests;

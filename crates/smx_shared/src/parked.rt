@@ -4,6 +4,7 @@ ghost use Rattle.std.specs.Prelude.{◌≡◌, ◌↔◌, length, IfOk, OnOk, On
 ghost use Rattle.smx_shared.specs.Recorded.{IsSoundSystem, next_entry, with_entry};
 ghost use Rattle.smx_shared.specs.declared.shared_fault.ApplyFault.TheVariants.{HistoryFull};
 
+use crate::keeper::Keeper;
 use crate::shared_fault::ApplyFault;
 use crate::system::System;
 use smx_types::{Command, Entry, NoMemory, Process};
@@ -12,11 +13,11 @@ use std::marker::Model;
 
 /// A system, which a contract sees as the system itself.
 #[derive(Drop)]
-pub struct Parked {
-    system: Box<System>,
+pub struct Parked<K: Keeper> {
+    system: Box<System<K>>,
 }
 
-impl Model for Parked {
+impl<K: Keeper> Model for Parked<K> {
     ghost use Rattle.smx_shared.specs.Recorded.{Recorded};
 
     ghost Value = { Recorded };
@@ -24,9 +25,9 @@ impl Model for Parked {
     ghost view = { λ p. p.system.value };
 }
 
-impl Parked {
+impl<K: Keeper> Parked<K> {
     /// This system. Fails only for want of memory; the system is then given up.
-    pub fn park(alloc: Global, system: System) -> Result<Parked, NoMemory>
+    pub fn park(alloc: Global, system: System<K>) -> Result<Parked<K>, NoMemory>
         ensures { IfOk result (λ p. p ≡ system) }
     {
         let system = Box::new(alloc, system)?;
@@ -34,14 +35,14 @@ impl Parked {
     }
 
     /// The system. Takes no memory.
-    pub fn system(&self) -> &System
+    pub fn system(&self) -> &System<K>
         ensures { result.now ≡ self.now }
     {
         &self.system
     }
 
     /// The system, moved out. Takes no memory.
-    pub fn into_system(self) -> System
+    pub fn into_system(self) -> System<K>
         ensures { result ≡ self }
     {
         Box::into_inner(self.system)

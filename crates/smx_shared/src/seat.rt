@@ -1,18 +1,19 @@
 //! A place at a shared system.
 
+use crate::keeper::Keeper;
 use crate::turn_table::Token;
-use smx_types::Process;
+use smx_types::{Entry, Process};
 use std::marker::Model;
 
 /// A place at a shared system, for the commands of one process: a token of what was seen there. It has next to no bytes,
 /// may go to another thread, and be dropped.
 #[derive(Drop)]
-pub struct Seat {
+pub struct Seat<K: Keeper = Vec<Entry>> {
     pub(crate) process: Process,
-    pub(crate) token: Token,
+    pub(crate) token: Token<K>,
 }
 
-impl Model for Seat {
+impl<K: Keeper> Model for Seat<K> {
     ghost use Rattle.smx_shared.specs.Seats.{Seated};
     ghost use Rattle.smx_shared.specs.SeatViews.{seated_of, IsSeatOf};
 

@@ -1,5 +1,6 @@
 //! What is kept of each seat in the proofs, the rule of the turn, and the kinds of step that keep it.
 
+use crate::keeper::Keeper;
 use crate::parked::Parked;
 use crate::system::System;
 use atomic_table::{Join, Play, Split, TableRule};
@@ -52,12 +53,12 @@ pub struct OneTurn;
 
 /// What a system was when it was shared, and among how many processes.
 #[derive(Drop)]
-pub struct Start {
-    pub system: Snapshot<System>,
+pub struct Start<K: Keeper> {
+    pub system: Snapshot<System<K>>,
     pub processes: usize,
 }
 
-impl TableRule<Option<Parked>, SeatView, Start> for OneTurn {
+impl<K: Keeper> TableRule<Option<Parked<K>>, SeatView, Start<K>> for OneTurn {
     ghost use Rattle.smx_shared.specs.TurnRule.{TurnRule};
     ghost use Rattle.smx_shared.specs.SeatViews.{opened};
 
@@ -69,7 +70,7 @@ impl TableRule<Option<Parked>, SeatView, Start> for OneTurn {
 /// A load of the first word.
 pub struct Look;
 
-impl Play<Option<Parked>, SeatView> for Look {
+impl<K: Keeper> Play<Option<Parked<K>>, SeatView> for Look {
     ghost use Rattle.smx_shared.specs.SeatViews.{Looked};
 
     ghost then = { Looked };
@@ -78,7 +79,7 @@ impl Play<Option<Parked>, SeatView> for Look {
 /// The turn bit of the first word is set, and the word that was found is answered.
 pub struct Take;
 
-impl Play<Option<Parked>, SeatView> for Take {
+impl<K: Keeper> Play<Option<Parked<K>>, SeatView> for Take {
     ghost use Rattle.smx_shared.specs.SeatViews.{Taken};
 
     ghost then = { Taken };
@@ -87,7 +88,7 @@ impl Play<Option<Parked>, SeatView> for Take {
 /// A store of the first word, by which the turn is given back.
 pub struct Publish;
 
-impl Play<Option<Parked>, SeatView> for Publish {
+impl<K: Keeper> Play<Option<Parked<K>>, SeatView> for Publish {
     ghost use Rattle.smx_shared.specs.SeatViews.{Published};
 
     ghost then = { Published };
@@ -96,7 +97,7 @@ impl Play<Option<Parked>, SeatView> for Publish {
 /// The second word is counted up, and the name that was found there is taken.
 pub struct Call;
 
-impl Play<Option<Parked>, SeatView> for Call {
+impl<K: Keeper> Play<Option<Parked<K>>, SeatView> for Call {
     ghost use Rattle.smx_shared.specs.SeatViews.{Called};
 
     ghost then = { Called };

@@ -12,6 +12,7 @@ use crate::close_fault::CloseFault;
 use crate::door::Door;
 use crate::front::Front;
 use crate::hold::Hold;
+use crate::keeper::Keeper;
 use crate::seat::Seat;
 use crate::shared_fault::ApplyFault;
 use crate::system::System;
@@ -26,11 +27,11 @@ use std::sync::Wait;
 /// A system that many threads share: they take turns, and each turn adds at most one entry. Contracts see which one it
 /// is; what of it is known, each seat knows.
 #[derive(Drop)]
-pub struct Shared {
-    turns: TurnTable,
+pub struct Shared<K: Keeper = Vec<Entry>> {
+    turns: TurnTable<K>,
 }
 
-impl Model for Shared {
+impl<K: Keeper> Model for Shared<K> {
     ghost use Rattle.smx_shared.specs.Seats.{SharedAs, shared_as};
 
     ghost Value = { SharedAs };
@@ -38,14 +39,14 @@ impl Model for Shared {
     ghost view = { λ s. shared_as s.turns.table.shared.table_id s.turns.table.shared.key.system.value s.turns.table.shared.key.processes };
 }
 
-impl Shared {
+impl<K: Keeper> Shared<K> {
     /// Shares a system among so many processes, 1 to 64: the seats are theirs, from process 0 on. Fails only for want of
     /// memory.
     pub fn start(
         alloc: Global,
-        system: System,
+        system: System<K>,
         processes: usize,
-    ) -> Result<(Shared, Vec<Seat>), NoMemory>
+    ) -> Result<(Shared<K>, Vec<Seat<K>>), NoMemory>
         requires { (1 ≤ processes) × (processes ≤ MAX_PROCESSES) }
         ensures shared { IfOk result (λ r. (r.0.start ≡ system) × (r.0.processes ≡ processes)) }
         ensures seats { IfOk result (λ r. r.1.items ≡ map (first_seat r.0.name system) (range_with_len 0 processes)) }
@@ -69,7 +70,7 @@ impl Shared {
     pub fn try_call(
         &self,
         _alloc: Global,
-        seat: &mut Seat,
+        seat: &mut Seat<K>,
         command: &Command,
     ) -> Result<Entry, TryFault>
         requires { seat.old.shared ≡ self.now.name }
@@ -93,7 +94,7 @@ impl Shared {
         &self,
         rt: &R,
         _alloc: Global,
-        seat: &mut Seat,
+        seat: &mut Seat<K>,
         command: &Command,
         hold: &H,
     ) -> Result<Entry, ApplyFault>
@@ -110,7 +111,7 @@ impl Shared {
     }
 
     /// The first seat has then seen what either had, and the other is given up. Waits for nobody, and takes no memory.
-    pub fn meet(&self, seat: &mut Seat, other: Seat)
+    pub fn meet(&self, seat: &mut Seat<K>, other: Seat<K>)
         requires { (seat.old.shared ≡ self.now.name) × (other.shared ≡ self.now.name) }
         ensures rests { Rests seat.old seat.new }
         ensures seen { HasSeenMore seat.old.known seat.new.known }
@@ -121,7 +122,7 @@ impl Shared {
 
     /// The system back, with the whole history, once its callers have ended. Refused where a turn was never given back,
     /// as the front shows; the system is then given up. Takes no memory.
-    pub fn close(self, seat: Seat) -> Result<System, CloseFault>
+    pub fn close(self, seat: Seat<K>) -> Result<System<K>, CloseFault>
         requires { seat.shared ≡ self.name }
         ensures ends { IfOk result (EndsAs seat.known seat.met) }
         ensures begun { IfOk result (GoesOnFrom self) }
@@ -135,14 +136,14 @@ impl Shared {
     }
 }
 
-impl Door for Shared {
-    type Seat = Seat;
+impl<K: Keeper> Door for Shared<K> {
+    type Seat = Seat<K>;
 
     ghost is_seat = { λ d s. s.shared ≡ d.name };
 
     ghost known = { λ s. s.known };
 
-    fn process(seat: &Seat) -> Process {
+    fn process(seat: &Seat<K>) -> Process {
         seat.process
     }
 
@@ -150,7 +151,7 @@ impl Door for Shared {
         &self,
         rt: &R,
         _alloc: Global,
-        seat: &mut Seat,
+        seat: &mut Seat<K>,
         command: &Command,
     ) -> Result<Entry, ApplyFault>
         requires { seat.old.shared ≡ self.now.name }
@@ -168,7 +169,7 @@ impl Door for Shared {
         &self,
         rt: &R,
         _alloc: Global,
-        seat: &mut Seat,
+        seat: &mut Seat<K>,
         command: Command,
     ) -> Result<(), ApplyFault>
         requires { seat.old.shared ≡ self.now.name }
@@ -183,7 +184,7 @@ impl Door for Shared {
             .serve_given(&mut seat.token, seat.process, command)
     }
 
-    fn glance(&self, seat: &mut Seat) -> Front
+    fn glance(&self, seat: &mut Seat<K>) -> Front
         requires { seat.old.shared ≡ self.now.name }
         ensures rests { Rests seat.old seat.new }
         ensures met { seat.new.met ≡ seat.old.met }

@@ -1,13 +1,15 @@
 //! A configuration together with the history that led to it.
 
-ghost use Rattle.std.specs.Prelude.{◌≡◌, ◌<◌, ◌≤◌, ◌↔◌, [], length, vec_capacity, IfOk, IfErr, OnOk, OnErr, IsErrOf};
+ghost use Rattle.std.specs.Prelude.{◌≡◌, ◌<◌, ◌≤◌, ◌↔◌, [], length, IfOk, IfErr, OnOk, OnErr, IsErrOf};
 ghost use Rattle.smx_types.specs.declared.limits.TheConstants.{MAX_COMMANDS};
+ghost use Rattle.smx_model.specs.Configuration.{empty};
 ghost use Rattle.smx_model.specs.DriverList.{IsDriverList};
 ghost use Rattle.smx_model.specs.Histories.{after};
 ghost use Rattle.smx_config.specs.DriverFaults.{RefusesDrivers};
 ghost use Rattle.smx_shared.specs.Recorded.{IsSoundSystem, next_entry, with_entry};
 ghost use Rattle.smx_shared.specs.declared.shared_fault.ApplyFault.TheVariants.{HistoryFull};
 
+use crate::keeper::Keeper;
 use crate::shared_fault::ApplyFault;
 use smx_config::{Config, ConfigFault};
 use smx_model::laws::lawful_after_each_entry;
@@ -16,36 +18,36 @@ use std::alloc::Global;
 use std::marker::Model;
 
 /// The configuration, and one entry for each command that it was asked, up to a limit. Contracts see the drivers, the
-/// limit and the history.
+/// limit and the history, of which the keeper keeps what it wants: all entries, where nothing else is said.
 #[derive(Debug, Drop)]
-pub struct System {
+pub struct System<K: Keeper = Vec<Entry>> {
     alloc: Global,
     config: Config,
     limit: usize,
-    entries: Vec<Entry>,
+    kept: K,
 }
 
-impl Model for System {
+impl<K: Keeper> Model for System<K> {
     ghost use Rattle.smx_shared.specs.Recorded.{Recorded, recorded_of, IsRecord};
 
     ghost Value = { Recorded };
 
-    ghost view = { λ s. recorded_of s.config s.limit s.entries.items };
+    ghost view = { λ s. recorded_of s.config s.limit (K.told s.kept) };
 
-    ghost invariant = { λ s. IsRecord s.config s.limit s.entries.items };
+    ghost invariant = { λ s. IsRecord s.config s.limit (K.told s.kept) };
 }
 
 // Room for one entry more, where the limit allows it.
-fn make_room(entries: &mut Vec<Entry>, limit: usize) -> Result<(), ApplyFault>
-    ensures same { entries.new.items ≡ entries.old.items }
-    ensures below { OnOk result (length entries.old.items < limit) }
-    ensures room { OnOk result (length entries.new.items < vec_capacity entries.new) }
-    ensures full { IsErrOf result HistoryFull ↔ (limit ≤ length entries.old.items) }
+fn make_room<K: Keeper>(kept: &mut K, limit: usize) -> Result<(), ApplyFault>
+    ensures same { K.told kept.new ≡ K.told kept.old }
+    ensures below { OnOk result (length (K.told kept.old) < limit) }
+    ensures room { OnOk result (K.has_room kept.new) }
+    ensures full { IsErrOf result HistoryFull ↔ (limit ≤ length (K.told kept.old)) }
 {
-    if entries.len() >= limit {
+    if kept.count() >= limit {
         return Err(ApplyFault::HistoryFull);
     }
-    entries.reserve(1)?;
+    kept.make_room()?;
     Ok(())
 }
 
@@ -59,22 +61,68 @@ impl System {
         ensures empty { IfOk result (λ s. s.history ≡ []) }
         ensures refused { IfErr result (RefusesDrivers drivers.now) }
     {
-        lawful_after_each_entry();
         let config = Config::new(alloc, drivers)?;
-        Ok(System {
-            alloc,
-            config,
-            limit,
-            entries: Vec::new(alloc),
-        })
+        Ok(System::begin(alloc, config, limit, Vec::new(alloc)))
     }
 
     /// Makes room for this many more entries. Nothing else changes, nor does anything where memory is wanting.
     pub fn reserve(&mut self, count: usize) -> Result<(), NoMemory>
         ensures { self.new ≡ self.old }
     {
-        self.entries.reserve(count)?;
+        self.kept.reserve(count)?;
         Ok(())
+    }
+
+    /// The history. Takes no memory.
+    pub fn entries(&self) -> &[Entry]
+        ensures entries { result.now ≡ self.now.history }
+        ensures sound { IsSoundSystem self.now }
+    {
+        self.kept.as_slice()
+    }
+
+    /// The history, moved out. Takes no memory.
+    pub fn into_entries(self) -> Entries
+        ensures entries { result ≡ self.history }
+        ensures sound { IsSoundSystem self }
+    {
+        Entries::from_vec(self.kept)
+    }
+
+    /// The same system again, by the allocator that this one has. Fails only for want of memory.
+    pub fn copy(&self) -> Result<System, NoMemory>
+        ensures { IfOk result (λ s. s ≡ self.now) }
+    {
+        let config = self.config.copy()?;
+        let kept = Entry::copies(self.alloc, &self.kept)?;
+        Ok(System {
+            alloc: self.alloc,
+            config,
+            limit: self.limit,
+            kept,
+        })
+    }
+}
+
+impl<K: Keeper> System<K> {
+    /// Nothing was asked yet of this configuration, in which nothing is open, and its keeper was told of nothing. Takes no
+    /// memory.
+    pub fn begin(alloc: Global, config: Config, limit: usize, kept: K) -> System<K>
+        requires limited { limit ≤ MAX_COMMANDS }
+        requires can_be_had { IsDriverList config.drivers }
+        requires fresh { config.configuration ≡ empty }
+        requires untold { K.told kept ≡ [] }
+        ensures drivers { result.drivers ≡ config.drivers }
+        ensures limit { result.limit ≡ limit }
+        ensures empty { result.history ≡ [] }
+    {
+        lawful_after_each_entry();
+        System {
+            alloc,
+            config,
+            limit,
+            kept,
+        }
     }
 
     /// Performs one command, adds the entry of it and its reply after those before it, which stay, and answers that
@@ -92,11 +140,11 @@ impl System {
         ensures sound { IsSoundSystem self.new }
     {
         lawful_after_each_entry();
-        make_room(&mut self.entries, self.limit)?;
+        make_room(&mut self.kept, self.limit)?;
         let kept = command.copy(self.alloc)?;
         let command_again = command.copy(self.alloc)?;
         let (reply, reply_again) = self.config.step_twin(process, command)?;
-        self.entries.push_reserved(Entry {
+        self.kept.add(Entry {
             process,
             command: kept,
             reply,
@@ -120,9 +168,9 @@ impl System {
         ensures sound { IsSoundSystem self.new }
     {
         lawful_after_each_entry();
-        make_room(&mut self.entries, self.limit)?;
+        make_room(&mut self.kept, self.limit)?;
         let reply = self.config.step(process, &command)?;
-        self.entries.push_reserved(Entry {
+        self.kept.add(Entry {
             process,
             command,
             reply,
@@ -138,33 +186,21 @@ impl System {
         &self.config
     }
 
-    /// The history. Takes no memory.
-    pub fn entries(&self) -> &[Entry]
-        ensures entries { result.now ≡ self.now.history }
+    /// How many entries the history has. Takes no memory.
+    pub fn count(&self) -> usize
+        ensures count { result ≡ length self.now.history }
         ensures sound { IsSoundSystem self.now }
     {
-        self.entries.as_slice()
+        self.kept.count()
     }
 
-    /// The history, moved out. Takes no memory.
-    pub fn into_entries(self) -> Entries
-        ensures entries { result ≡ self.history }
+    /// What was kept of the history, and the configuration after it. Takes no memory.
+    pub fn into_parts(self) -> (K, Config)
+        ensures kept { K.told result.0 ≡ self.history }
+        ensures drivers { result.1.drivers ≡ self.drivers }
+        ensures now { result.1.configuration ≡ after self.drivers self.history }
         ensures sound { IsSoundSystem self }
     {
-        Entries::from_vec(self.entries)
-    }
-
-    /// The same system again, by the allocator that this one has. Fails only for want of memory.
-    pub fn copy(&self) -> Result<System, NoMemory>
-        ensures { IfOk result (λ s. s ≡ self.now) }
-    {
-        let config = self.config.copy()?;
-        let entries = Entry::copies(self.alloc, &self.entries)?;
-        Ok(System {
-            alloc: self.alloc,
-            config,
-            limit: self.limit,
-            entries,
-        })
+        (self.kept, self.config)
     }
 }

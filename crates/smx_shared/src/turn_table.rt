@@ -8,6 +8,7 @@ ghost use Rattle.smx_shared.specs.declared.turn_table.TheConstants.{MOST_TRIES};
 ghost use Rattle.smx_shared.specs.Seats.{shared_as};
 ghost use Rattle.smx_shared.specs.SeatViews.{opened, dealt, left, called, known_of, system_of, IsAtRest, IsInformed, RestsAfter, HasTurn, HasGrown, HasMet, FoundWord, IsWordFrom, AddsFor};
 
+use crate::keeper::Keeper;
 use crate::parked::Parked;
 use crate::seat_view::{Call, Deal, Look, Meet, OneTurn, Publish, SeatView, Start, Take};
 use crate::shared_fault::ApplyFault;
@@ -21,12 +22,12 @@ use std::thread::{self, Parker};
 use std::time::Duration;
 
 /// A seat as the table knows it.
-pub type Token = atomic_table::Seat<Option<Parked>, SeatView>;
+pub type Token<K> = atomic_table::Seat<Option<Parked<K>>, SeatView>;
 
 /// Two words and a slot: the front with the turn bit, the names given, and the system.
 #[derive(Drop)]
-pub struct TurnTable {
-    pub table: Table<Option<Parked>, SeatView, Start, OneTurn, Global>,
+pub struct TurnTable<K: Keeper> {
+    pub table: Table<Option<Parked<K>>, SeatView, Start<K>, OneTurn, Global>,
     pub ghost sized: { (table.shared.table_id.words ≡ 2) × (table.shared.table_id.slots ≡ 1) },
 }
 
@@ -38,19 +39,19 @@ const NAMES: usize = 1;
 const SYSTEM: usize = 0;
 
 // How often a caller yields that waits for the turn, before it sleeps; and after how many tries it sleeps no longer.
-const YIELDS: u32 = 4;
+const YIELDS: u32 = 1;
 
-const MOST_TRIES: u32 = 10;
+const MOST_TRIES: u32 = 4;
 
 // How long it first sleeps, in microseconds.
-const SHORTEST_SLEEP: u64 = 20;
+const SHORTEST_SLEEP: u64 = 200;
 
 // The word of a system with the turn free.
-fn front_word(system: &System) -> u64
+fn front_word<K: Keeper>(system: &System<K>) -> u64
     ensures word { result ≡ front_of system.now.drivers system.now.history }
     ensures sound { IsSoundSystem system.now }
 {
-    let entries = system.entries().len() as u64;
+    let entries = system.count() as u64;
     let links = u64::from(system.config().link_count());
     4096 * entries + 2 * links
 }
@@ -68,13 +69,13 @@ fn let_others_go_on<R: Wait>(rt: &R, tries: u32)
     Parker::new().park_timeout(rt, dur);
 }
 
-impl TurnTable {
+impl<K: Keeper> TurnTable<K> {
     /// The system in its slot with the turn free, and the first seat, which may take the first name.
     pub fn open(
         alloc: Global,
-        system: System,
+        system: System<K>,
         processes: usize,
-    ) -> Result<(TurnTable, Token), NoMemory>
+    ) -> Result<(TurnTable<K>, Token<K>), NoMemory>
         ensures table { IfOk result (λ r. r.1.table_id ≡ r.0.table.shared.table_id) }
         ensures first { IfOk result (λ r. r.1.me ≡ (opened system, [])) }
         ensures start { IfOk result (λ r. (r.0.table.shared.key.system.value ≡ system) × (r.0.table.shared.key.processes ≡ processes)) }
@@ -95,7 +96,7 @@ impl TurnTable {
     }
 
     /// Another seat, which has seen as much, and has the right to the next name from this one.
-    pub fn deal(&self, token: &mut Token) -> Token
+    pub fn deal(&self, token: &mut Token<K>) -> Token<K>
         requires { token.old.table_id ≡ self.now.table.shared.table_id }
         ensures same { (token.new.table_id ≡ token.old.table_id) × (token.new.me ≡ (left token.old.me.0, token.old.me.1)) }
         ensures other { (result.table_id ≡ token.old.table_id) × (result.me ≡ (dealt token.old.me.0, [])) }
@@ -104,7 +105,7 @@ impl TurnTable {
     }
 
     /// The seat takes the next name.
-    pub fn name(&self, token: &mut Token)
+    pub fn name(&self, token: &mut Token<K>)
         requires table { token.old.table_id ≡ self.now.table.shared.table_id }
         requires right { (token.old.me.0.may_name ≡ true) × (token.old.me.0.next < 64) }
         requires one_of { token.old.me.0.next < self.now.table.shared.key.processes }
@@ -115,7 +116,7 @@ impl TurnTable {
     }
 
     /// One load of the first word.
-    pub fn look(&self, token: &mut Token) -> u64
+    pub fn look(&self, token: &mut Token<K>) -> u64
         requires table { token.old.table_id ≡ self.now.table.shared.table_id }
         requires rest { IsAtRest token.old.me }
         ensures table { token.new.table_id ≡ token.old.table_id }
@@ -126,7 +127,7 @@ impl TurnTable {
     }
 
     /// Takes the turn where it is free, and answers the word that shows it held where it is not. One step, either way.
-    pub fn try_take(&self, token: &mut Token) -> Result<(), u64>
+    pub fn try_take(&self, token: &mut Token<K>) -> Result<(), u64>
         requires table { token.old.table_id ≡ self.now.table.shared.table_id }
         requires rest { IsAtRest token.old.me }
         ensures table { token.new.table_id ≡ token.old.table_id }
@@ -140,7 +141,7 @@ impl TurnTable {
     }
 
     /// Waits until the turn is free, and takes it.
-    pub fn take<R: Wait>(&self, rt: &R, token: &mut Token)
+    pub fn take<R: Wait>(&self, rt: &R, token: &mut Token<K>)
         requires table { token.old.table_id ≡ self.now.table.shared.table_id }
         requires rest { IsAtRest token.old.me }
         ensures table { token.new.table_id ≡ token.old.table_id }
@@ -159,7 +160,7 @@ impl TurnTable {
     }
 
     // The system out of its slot, by the seat that has the turn.
-    fn take_out(&self, token: &mut Token) -> Parked
+    fn take_out(&self, token: &mut Token<K>) -> Parked<K>
         requires table { token.old.table_id ≡ self.now.table.shared.table_id }
         requires turn { HasTurn token.old.me (Some (system_of token.old.me.0)) }
         ensures table { token.new.table_id ≡ token.old.table_id }
@@ -173,7 +174,7 @@ impl TurnTable {
     }
 
     // The system goes back into its slot, and then the turn, with the word of just that system.
-    fn give_back(&self, token: &mut Token, system: Parked)
+    fn give_back(&self, token: &mut Token<K>, system: Parked<K>)
         requires table { token.old.table_id ≡ self.now.table.shared.table_id }
         requires turn { HasTurn token.old.me None × (token.old.me.0.named ≡ true) }
         requires same { (system.drivers ≡ token.old.me.0.drivers) × (system.limit ≡ token.old.me.0.limit) }
@@ -191,7 +192,7 @@ impl TurnTable {
     /// Performs a command by the seat that has the turn, and gives the turn back.
     pub fn serve(
         &self,
-        token: &mut Token,
+        token: &mut Token<K>,
         process: Process,
         command: &Command,
     ) -> Result<Entry, ApplyFault>
@@ -213,7 +214,7 @@ impl TurnTable {
     /// The same for a command that is given up: nothing is copied, and no entry is answered.
     pub fn serve_given(
         &self,
-        token: &mut Token,
+        token: &mut Token<K>,
         process: Process,
         command: Command,
     ) -> Result<(), ApplyFault>
@@ -232,7 +233,7 @@ impl TurnTable {
     }
 
     /// The seat has then seen what either had, and the other is spent.
-    pub fn meet(&self, token: &mut Token, other: Token)
+    pub fn meet(&self, token: &mut Token<K>, other: Token<K>)
         requires table { (token.old.table_id ≡ self.now.table.shared.table_id) × (other.table_id ≡ self.now.table.shared.table_id) }
         requires rest { IsAtRest token.old.me × IsAtRest other.me × (other.me.0.named ≡ true) }
         ensures table { token.new.table_id ≡ token.old.table_id }
@@ -244,7 +245,7 @@ impl TurnTable {
     }
 
     /// The system, or the word that shows the turn held that was never given back.
-    pub fn close(self, token: Token) -> Result<System, u64>
+    pub fn close(self, token: Token<K>) -> Result<System<K>, u64>
         requires table { token.table_id ≡ self.table.shared.table_id }
         requires rest { IsAtRest token.me × (token.me.0.named ≡ true) }
         ensures ends { IfOk result (EndsAs (known_of token.me.0) token.me.0.met) }

@@ -10,6 +10,7 @@ mod looks;
 mod many_looks;
 mod many_tries;
 mod recorded;
+mod recorded_together;
 mod runs;
 mod shared;
 mod shared_use;

@@ -23,4 +23,4 @@ pub use smx_types::{
 pub use text_fault::{Cause, TextFault};
 pub use transcript::read_transcript;
 pub use transcript_writer::{TranscriptWriter, transcript_header, write_view};
-pub use write::{write_programs, write_transcript, write_transcript_into};
+pub use write::{write_programs, write_transcript};

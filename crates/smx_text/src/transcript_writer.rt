@@ -64,6 +64,9 @@ impl TranscriptWriter {
         command: &Command,
         reply: &Reply,
     ) -> Result<(), NoMemory>
+        ensures { OnOk result ((version : AnyVersion) (drivers : List AnyDriver) (before : List AnyEntry)
+            → BeginsTranscript version drivers before self.old → BeginsTranscript version drivers (before
+            ++ record { process = process; command = command.now; reply = reply.now } ∷ []) self.new) }
     {
         write_entry(&mut self.text, process, command, reply)
     }

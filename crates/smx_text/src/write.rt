@@ -45,19 +45,8 @@ pub fn write_transcript(alloc: Global, transcript: &Transcript) -> Result<Vec<u8
     // So what is written is read again, where the transcript is within the limits.
     ensures spellable { OnOk result (IsSpellable transcript.now) }
 {
-    write_transcript_into(Vec::new(alloc), transcript)
-}
-
-/// The one text of this transcript, which its version can tell, in the room of a vector whose bytes are no longer
-/// wanted. Fails only for want of memory.
-pub fn write_transcript_into(room: Vec<u8>, transcript: &Transcript) -> Result<Vec<u8>, NoMemory>
-    requires { transcript.now.version ≡ V1 → least_of_transcript transcript.now ≡ V1 }
-    ensures written { IfOk result (λ v. v.items ≡ transcript_text transcript.now) }
-    // So what is written is read again, where the transcript is within the limits.
-    ensures spellable { OnOk result (IsSpellable transcript.now) }
-{
     let mut writer = TranscriptWriter::begin(
-        room,
+        Vec::new(alloc),
         transcript.version,
         transcript.drivers.as_slice(),
     )?;

@@ -1,1 +1,2 @@
 pub mod VersionLemmas
+pub mod NameLemmas

@@ -1,6 +1,7 @@
 //! The name of a driver.
 
-ghost use Rattle.std.specs.Prelude.{◌≡◌, ◌↔◌, IsSome, IfSome, IsTrue};
+ghost use Rattle.std.specs.Prelude.{◌≡◌, ◌↔◌, nat_eq, IsSome, IfSome, IsTrue};
+ghost use Rattle.std.specs.Cmp.Lexicographic.{pointwise};
 ghost use Rattle.std.specs.List.{list_all};
 ghost use Rattle.smx_types.specs.Names.{is_letter, is_name_byte, is_name};
 
@@ -30,6 +31,13 @@ impl Model for Name {
     ghost inverse_ok = { padded_view };
 }
 
+// Whether they are the same, as one comparison of numbers.
+fn are_same(bytes: [u8; 8], others: [u8; 8]) -> bool
+    ensures { result ≡ pointwise nat_eq bytes others }
+{
+    u64::from_le_bytes(bytes) == u64::from_le_bytes(others)
+}
+
 impl PartialEq for Name {
     ghost use Rattle.std.specs.Prelude.{nat_eq};
     ghost use Rattle.std.specs.Cmp.Lexicographic.{pointwise};
@@ -41,7 +49,7 @@ impl PartialEq for Name {
     ghost laws = { Prim.search (comparing, rules) };
 
     fn eq(&self, other: &Name) -> bool {
-        self.len == other.len && self.bytes == other.bytes
+        self.len == other.len && are_same(self.bytes, other.bytes)
     }
 }
 

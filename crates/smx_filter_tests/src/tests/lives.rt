@@ -159,15 +159,79 @@ fn leaves_the_beginning_of_the_answers(rt: HostRuntime) {
     }
 }
 
-// A line that has no line feed within these bytes is too long.
-#[test]
-fn takes_no_endless_line(rt: HostRuntime) {
-    let mut input = Vec::from_slice(rt.alloc(), b"programs 1\n").expect(&rt, "there is memory");
+// A session that begins so, with a line of so many bytes, and then this.
+fn with_a_long_line(
+    rt: &(impl AllocGlobal + Abort),
+    front: &[u8],
+    bytes: usize,
+    rest: &[u8],
+) -> Ran {
+    let mut input = Vec::from_slice(rt.alloc(), front).expect(rt, "there is memory");
     let start = input.len();
     input
-        .resize(start + MAX_INPUT + 1, b'a')
-        .expect(&rt, "there is memory");
-    let ran = live_bytes(rt.alloc(), input.as_slice());
-    assert_eq!(rt; ran.line.as_str(), "input too long");
-    assert_eq!(rt; ran.status, 3);
+        .resize(start + bytes, b'a')
+        .expect(rt, "there is memory");
+    input.extend_from_slice(rest).expect(rt, "there is memory");
+    live_bytes(rt.alloc(), input.as_slice())
+}
+
+// A line that is longer than an input may be is too long, whether it ends or not: behind a table, which is over at no such
+// line, and behind an answer.
+#[test]
+fn takes_no_endless_line(rt: HostRuntime) {
+    let ran = with_a_long_line(&rt, b"programs 1\n", MAX_INPUT + 1, b"\nend\n");
+    has_refused(&rt, &ran, "input too long", 3);
+    for rest in &[b"".as_slice(), b"\nend\n"] {
+        let ran = with_a_long_line(&rt, b"programs 1\nend 1\n", MAX_INPUT + 1, *rest);
+        assert_eq!(rt; ran.line.as_str(), "input too long");
+        assert_eq!(rt; ran.status, 3);
+        assert_eq!(rt;
+            ran.output.as_slice(),
+            b"transcript 1\n? no command\n".as_slice()
+        );
+    }
+}
+
+// One of just as many is taken.
+#[test]
+fn takes_the_longest_line(rt: HostRuntime) {
+    let ran = with_a_long_line(&rt, b"programs 1\n", MAX_INPUT, b"\nend\n");
+    assert_eq!(rt; ran.status, 0);
+    assert_eq!(rt;
+        ran.output.as_slice(),
+        b"transcript 1\n? no command\nconfig\nnext 1 1\nend\n".as_slice()
+    );
+}
+
+// A session of which a read fails behind so many bytes has answered each line that was whole by then, and that is flushed.
+fn has_answered(rt: &(impl AllocGlobal + Abort), reads: usize, answers: &[u8]) {
+    let mut feed = one_byte_feed(LINES, reads, ErrorKind::Other);
+    let mut sink = one_byte_sink(rt.alloc(), usize::MAX, Stop::TakesNone);
+    let outcome = live_text(rt.alloc(), &mut feed, &mut sink);
+    let (line, _status) = run_ending(outcome);
+    assert_eq!(rt; line.as_str(), "read failed");
+    assert_eq!(rt; sink.writer.taken.as_slice(), answers);
+    assert_eq!(rt; sink.flushed, !answers.is_empty());
+}
+
+#[test]
+fn answers_before_the_next_read(rt: HostRuntime) {
+    // Within the table, behind it, and behind the first line and the second.
+    has_answered(&rt, 59, b"");
+    has_answered(&rt, 63, b"");
+    has_answered(
+        &rt,
+        64,
+        b"transcript 1\ndriver ip mux 4 8 3 16\ndriver eth leaf 2 8 3 16\nconfig\nnext 1 1\nshown\n",
+    );
+    has_answered(
+        &rt,
+        74,
+        b"transcript 1\ndriver ip mux 4 8 3 16\ndriver eth leaf 2 8 3 16\nconfig\nnext 1 1\nshown\n",
+    );
+    has_answered(
+        &rt,
+        75,
+        b"transcript 1\ndriver ip mux 4 8 3 16\ndriver eth leaf 2 8 3 16\nconfig\nnext 1 1\nshown\n0 clone ip = fd 0 0\n",
+    );
 }

@@ -7,10 +7,10 @@ use super::gates::Told::{After, Before};
 use super::gates::{Log, Told};
 use super::told::{IN_TURN, SIX};
 use super::workers::written;
-use smx_run::{Gate, NoGate, Recorder, run_recorded};
+use smx_run::{Gate, NewRecorder, NoGate, Recorder, run_recorded};
 use smx_text::read_programs;
 use smx_types::{
-    ConfigView, Copied, DriverSpec, Drivers, Entries, Entry, NoMemory, Process, Transcript, Version,
+    Command, ConfigView, Copied, DriverSpec, Drivers, Entries, Entry, NoMemory, Process, Reply, Transcript, Version,
 };
 use std::alloc::Global;
 use std::process::Abort;
@@ -19,7 +19,7 @@ use std::test::Fail;
 
 // Keeps a copy of all that it is told.
 #[derive(Drop)]
-struct Kept {
+pub struct Kept {
     alloc: Global,
     version: Version,
     drivers: Drivers,
@@ -29,10 +29,27 @@ struct Kept {
 impl Recorder for Kept {
     ghost use Rattle.std.specs.Prelude.{◌≡◌};
 
-    type Room = Global;
-
     ghost told = { λ version drivers entries kept.
         (kept.version ≡ version) × (kept.drivers ≡ drivers) × (kept.entries ≡ entries) };
+
+    fn add(
+        &mut self,
+        process: Process,
+        command: &Command,
+        reply: &Reply,
+    ) -> Result<(), NoMemory> {
+        let command = command.copy(self.alloc)?;
+        let reply = reply.copy(self.alloc)?;
+        self.entries.push(Entry {
+            process,
+            command,
+            reply,
+        })
+    }
+}
+
+impl NewRecorder for Kept {
+    type Room = Global;
 
     fn begin(room: Global, version: Version, drivers: &[DriverSpec]) -> Result<Kept, NoMemory> {
         let drivers = Drivers::from_vec(DriverSpec::copies(room, drivers)?);
@@ -43,15 +60,10 @@ impl Recorder for Kept {
             entries: Entries::new(room),
         })
     }
-
-    fn add(&mut self, entry: &Entry) -> Result<(), NoMemory> {
-        let entry = entry.copy(self.alloc)?;
-        self.entries.push(entry)
-    }
 }
 
 // What was told, as a text.
-fn told(alloc: Global, kept: Kept, view: ConfigView) -> Result<Vec<u8>, Fail> {
+pub fn told(alloc: Global, kept: Kept, view: ConfigView) -> Result<Vec<u8>, Fail> {
     let transcript = Transcript {
         version: kept.version,
         drivers: kept.drivers,
@@ -68,7 +80,7 @@ fn recorded(alloc: Global, text: &[u8]) -> Result<Vec<u8>, Fail> {
     told(alloc, kept, view)
 }
 
-const TWO_PROCESSES: &[u8] = b"programs 1
+pub const TWO_PROCESSES: &[u8] = b"programs 1
 driver ip mux 2 8 3 16
 driver eth leaf 1 4 0 2
 process 0
@@ -109,16 +121,31 @@ fn a_recorder_is_told_of_all(rt: HostRuntime) -> Result<(), Fail> {
 
 // Counts how often it is told, of the drivers and of each entry, and wants memory from some time on.
 #[derive(Drop)]
-struct Counting<'a> {
+pub struct Counting<'a> {
     told: &'a AtomicUsize,
     // How often it may be told.
     most: usize,
 }
 
 impl<'a> Recorder for Counting<'a> {
-    type Room = (&'a AtomicUsize, usize);
-
     ghost told = { λ _ _ _ _. Unit {0} };
+
+    fn add(
+        &mut self,
+        _process: Process,
+        _command: &Command,
+        _reply: &Reply,
+    ) -> Result<(), NoMemory> {
+        if self.told.fetch_add(1, Ordering::SeqCst) < self.most {
+            Ok(())
+        } else {
+            Err(NoMemory)
+        }
+    }
+}
+
+impl<'a> NewRecorder for Counting<'a> {
+    type Room = (&'a AtomicUsize, usize);
 
     fn begin(
         room: (&'a AtomicUsize, usize),
@@ -128,14 +155,6 @@ impl<'a> Recorder for Counting<'a> {
         let (told, most) = room;
         told.fetch_add(1, Ordering::SeqCst);
         Ok(Counting { told, most })
-    }
-
-    fn add(&mut self, _entry: &Entry) -> Result<(), NoMemory> {
-        if self.told.fetch_add(1, Ordering::SeqCst) < self.most {
-            Ok(())
-        } else {
-            Err(NoMemory)
-        }
     }
 }
 

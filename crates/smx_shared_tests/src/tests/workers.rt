@@ -171,7 +171,7 @@ pub fn ran<R: Threads + Wait + Sync>(
 }
 
 // Texts of which only one history can come, however many workers there are, and its transcript.
-const ONE_HISTORY: [(&[u8], &[u8]); 3] = [
+pub const ONE_HISTORY: [(&[u8], &[u8]); 3] = [
     (
         b"programs 1\ndriver ip mux 4 8 3 16\nend\n",
         b"transcript 1\ndriver ip mux 4 8 3 16\nconfig\nnext 1 1\nend\n",

@@ -3,7 +3,7 @@
 ghost use Rattle.std.specs.Prelude.{◌≡◌, ◌∷◌, ◌++◌, [], OnOk};
 ghost use Rattle.smx_words.specs.Spellable.{FitsEntry};
 ghost use Rattle.smx_words.specs.Spelling.{entry_words};
-ghost use Rattle.smx_words.specs.Words.{line_of};
+ghost use Rattle.smx_words.specs.Words.{LINE_FEED, line_of};
 
 use super::Spell;
 use super::command::put_command;
@@ -28,9 +28,11 @@ pub fn write_entry(
     command: &Command,
     reply: &Reply,
 ) -> Result<(), NoMemory>
-    ensures written { OnOk result (out.new.items
-        ≡ out.old.items ++ line_of (entry_words (entry process command.now reply.now)) ++ LINE_FEED ∷ []) }
-    ensures fits { OnOk result (FitsEntry (entry process command.now reply.now)) }
+    ensures written { OnOk result (out.new.items ≡ out.old.items
+        ++ line_of (entry_words (record { process = process; command = command.now; reply = reply.now }))
+        ++ LINE_FEED ∷ []) }
+    ensures fits { OnOk result
+        (FitsEntry (record { process = process; command = command.now; reply = reply.now })) }
 {
     put_first(out, process.get())?;
     put_command(out, command)?;

@@ -11,7 +11,8 @@ returns-clause-perform c = (Ok tt, c.a_worked_session.ensures.opens, refl)
 
 pub returns-clause-tell : goal.returns-clause-tell
 returns-clause-tell c =
-    (Ok tt, inl (inl (codes "3 clone eth = fd 0 0\n", c.a_worked_session.ensures.tells, (refl, omega arith, refl))), refl)
+    let line = codes "3 clone eth = fd 0 0\n" in
+    (Ok tt, inl (inl (line, c.a_worked_session.ensures.tells, (refl, omega arith, refl))), refl)
 
 pub returns-clause-tell_none : goal.returns-clause-tell_none
 returns-clause-tell_none c = (Err NoEntry, inr (refl, (refl, refl), refl), refl)

@@ -1,6 +1,6 @@
 use Rattle.std.proofs.Common.{◌≡◌, ◌+◌, ◌++◌, ◌∙◌, ◌^◌, ◌≤◌, ℕ, Bool, List, Err, arith, length, subst, sym}
 use Rattle.smx_filters.specs.declared.main_fault.MainFault.TheVariants.{TooLong}
-use Rattle.smx_text.specs.Grammar.{IsOneLine}
+use Rattle.smx_live.specs.Inboxes.{IsShort}
 use Rattle.smx_live.specs.LiveStages.{Converses}
 use Rattle.smx_live.specs.LiveText.{IsLive}
 use Rattle.smx_live.proofs.LiveOutcomeLemmas.{at_the_end, failed_turn, last_turn, no_count, no_line}
@@ -16,6 +16,7 @@ loop-turn-init g c =
       end = c.requires.end;
       fed = c.requires.fed;
       sunk = c.requires.sunk;
+      flushed = c.requires.flushed;
     }
 
 pub returns-in-Ok-true : goal.returns-in-Ok-true
@@ -83,7 +84,7 @@ returns-in-Ok-None g c =
     at_the_end read output start had left before after c.loop-turn._turn ended talk.session talk.count held gone
     (g.S.Sink.flushed sink) (g.F.Feed.failures c.next_line.new.feed) (g.S.Sink.failures sink) p.fine
     (g.S.Sink.contents sink) c.finish.result
-    (c.finish.ensures (read ++ gone.more) (output ++ gone.said) ended live found.0 (subst IsOneLine same found.1))
+    (c.finish.ensures (read ++ gone.more) (output ++ gone.said) ended live found.0 (subst IsShort same found.1))
 
 pub returns-in-Err : goal.returns-in-Err
 returns-in-Err g c =
@@ -95,7 +96,8 @@ returns-in-Err g c =
     (g.F.Feed.remaining c.loop-turn.feed) (g.F.Feed.remaining c.next_line.new.feed) (g.S.Sink.contents c.args.sink.now)
     (g.S.Sink.contents sink) c.loop-turn._turn c.loop-turn.inbox.ended (g.F.Feed.ended c.next_line.new.feed) talk.session
     talk.count c.loop-turn.inbox.held.items piece (inv.gone read output l) (g.S.Sink.flushed sink)
-    (g.F.Feed.failures c.next_line.new.feed) (g.S.Sink.failures sink) c.in-Err.fault p.consumed inv.sunk p.stays p.fault
+    (g.F.Feed.failures c.next_line.new.feed) (g.S.Sink.failures sink) c.in-Err.fault p.consumed inv.sunk inv.flushed
+    p.stays p.fault
 
 pub loop-turn-preserved : goal.loop-turn-preserved
 loop-turn-preserved g c =
@@ -122,12 +124,14 @@ loop-turn-preserved g c =
           (c.in-Ok-false.ensures.turn (read ++ gone.more) (output ++ gone.said) ended gone.live) in
           subst (λ (b : Bool). HasGone read output start had left before later (c.loop-turn._turn + 1) b next.session
           next.count rest) still
-          (turns read output start had left before after c.loop-turn._turn ended talk.session talk.count held gone later h.1
-          next.session next.count c.in-Ok-Some.n rest h.2 h.3 line.within
+          (turns read output start had left before after c.loop-turn._turn ended talk.session talk.count held gone
+          later h.2
+          next.session next.count c.in-Ok-Some.n rest h.3 h.4 line.0.within
           (c.in-Ok-false.ensures.taken c.in-Ok-false.field-0-test));
       end = still;
       fed = p.fine;
       sunk = c.in-Ok-false.ensures.fine;
+      flushed = c.in-Ok-false.ensures.flushed;
     }
 
 pub returns : goal.returns

@@ -1,4 +1,4 @@
-use Rattle.std.proofs.Common.{◌≡◌, ℕ, List, length}
+use Rattle.std.proofs.Common.{◌≡◌, ℕ, true, List, length}
 use Rattle.smx_live.specs.LiveText.{IsLive}
 use Rattle.smx_live.proofs.LiveStageLemmas.{HasGone}
 use Rattle.smx_live.proofs.live.converse.Given as goal
@@ -13,4 +13,5 @@ invariant-loop-turn g l = record {
   end : g.F.Feed.ended l.feed ≡ l.inbox.ended;
   fed : g.F.Feed.failures l.feed ≡ 0;
   sunk : g.S.Sink.failures l.sink ≡ 0;
+  flushed : g.S.Sink.flushed l.sink ≡ true;
 }

@@ -35,6 +35,7 @@ returns-in-Ok-None g c =
         over = over_at_the_end _ c.lines.table.items lines c.next_line.new.self.held.items text were found.0 found.1;
         end = p.end;
         fine = p.fine;
+        fits = omega (arith, c.lines-test.true, c.len.ensures, c.lines.table.ok.0);
         fault = tt;
       },
     )
@@ -42,6 +43,7 @@ returns-in-Ok-None g c =
 pub returns-in-Err : goal.returns-in-Err
 returns-in-Err g c =
     let (read, consumed, parts) = c.lines.invariant.so_far in
+    let (lines, text, were) = c.lines.invariant.lines in
     let (piece, p) = c.in-Err.ensures in (
       read ++ piece,
       record {
@@ -50,8 +52,10 @@ returns-in-Err g c =
         over = tt;
         end = tt;
         fine = tt;
-        fault = fails_with c.args.inbox.now.held.items read piece c.lines.table.items c.lines.inbox.held.items parts _ _
-            p.fault;
+        fits = tt;
+        fault = fails_with c.args.inbox.now.held.items read piece c.lines.table.items c.lines.inbox.held.items lines
+            parts
+            text were _ _ p.fault;
       },
     )
 
@@ -67,11 +71,12 @@ returns-then-not-is_of_table g c =
       record {
         consumed = Consumes-trans _ _ _ read piece consumed p.consumed;
         parts = unmoved c.args.inbox.now.held.items read piece c.lines.table.items c.lines.inbox.held.items held parts p.held;
-        over = over_at_a_line _ c.lines.table.items lines c.in-Ok-Some.n held text were line
+        over = over_at_a_line _ c.lines.table.items lines c.in-Ok-Some.n held text were line.0 line.1
             (λ none. some (omega (arith, c.len-in-lines.ensures, c.lines.table.ok.0, none)))
             (ap (λ (l : List ℕ). begins_driver (take c.in-Ok-Some.n l)) (sym c.deref.ensures.value) ∙ other);
         end = p.end;
         fine = p.fine;
+        fits = omega (arith, c.lines-test.true, c.len.ensures, c.lines.table.ok.0);
         fault = tt;
       },
     )
@@ -87,6 +92,7 @@ returns-then-is_err g c =
         over = tt;
         end = tt;
         fine = tt;
+        fits = tt;
         fault = (p.fine, refl);
       },
     )
@@ -123,8 +129,8 @@ lines-preserved g c =
       );
       lines = (
         lines ++ take n held ∷ [],
-        grew ∙ text_more table lines n held text line,
-        one_line_more lines (take n held) were line.one why,
+        grew ∙ text_more table lines n held text line.0,
+        one_line_more lines (take n held) were line.0.one why,
       );
       end = p.end ∙ sym c.drop_line.ensures.end;
       fine = p.fine;

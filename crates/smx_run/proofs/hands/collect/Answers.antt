@@ -6,7 +6,7 @@ use Rattle.smx_run.proofs.HandLemmas.{pushed, all_more, all_of_none, hand_at, ne
 use Rattle.smx_run.proofs.hands.collect.Goals as goal
 
 pub loop-process-init : goal.loop-process-init
-loop-process-init c = record {
+loop-process-init g c = record {
   room = search rules;
   counted = search rules;
   workers = search rules;
@@ -16,7 +16,7 @@ loop-process-init c = record {
 }
 
 pub take_first-requires-clause-some : goal.take_first-requires-clause-some
-take_first-requires-clause-some c none =
+take_first-requires-clause-some g c none =
     let before = c.loop-process.invariant in
     let p : ℕ = c.loop-process.process in
     let workers : ℕ = vec_len c.args.hands in
@@ -28,7 +28,7 @@ take_first-requires-clause-some c none =
     cc
 
 pub loop-process-preserved : goal.loop-process-preserved
-loop-process-preserved c =
+loop-process-preserved g c =
     let before = c.loop-process.invariant in
     let p : ℕ = c.loop-process.process in
     let workers : ℕ = vec_len c.args.hands in

@@ -6,7 +6,7 @@ use Rattle.smx_run.specs.ProgramOrder.{numbered}
 use Rattle.smx_run.proofs.hands.collect.Given as goal
 
 abbrev pub invariant-loop-process : goal.invariant-loop-process
-invariant-loop-process l = record {
+invariant-loop-process g l = record {
   room : l.processes ≤ vec_capacity l.ended;
   counted : vec_len l.ended ≡ l.process;
   workers : vec_len l.hands ≡ vec_len l.fn.hands;

@@ -7,7 +7,7 @@ use Rattle.smx_run.proofs.HandLemmas.{hands_are, none_dealt, none_left, all_deal
 use Rattle.smx_run.proofs.hands.deal.Goals as goal
 
 pub loop-seat-init : goal.loop-seat-init
-loop-seat-init c =
+loop-seat-init g c =
     let programs : into_iter_items c.into_iter-programs.result ≡ c.args.programs = c.into_iter-programs.ensures.rest
     ∙ c.into_vec.ensures in
     let seats = c.into_iter-seat-iterator.ensures.into_iter_gives.0 in
@@ -23,7 +23,7 @@ loop-seat-init c =
     }
 
 pub loop-seat-preserved : goal.loop-seat-preserved
-loop-seat-preserved c =
+loop-seat-preserved g c =
     let before = c.loop-seat.invariant in
     let n : ℕ = length c.loop-seat.yielded in
     let items = c.in-Some-next.ensures.items in
@@ -47,7 +47,7 @@ loop-seat-preserved c =
     }
 
 pub returns : goal.returns
-returns c =
+returns g c =
     let end = c.loop-seat.invariant in
     let none = none_left _ _ _ end.seats (omega (arith, end.counted, c.in-None.ensures.steps.0)) in
     record {

@@ -7,7 +7,7 @@ use Rattle.smx_run.specs.ProgramOrder.{numbered}
 use Rattle.smx_run.proofs.hands.deal.Given as goal
 
 abbrev pub invariant-loop-seat : goal.invariant-loop-seat
-invariant-loop-seat l = record {
+invariant-loop-seat g l = record {
   workers : vec_len l.hands ≡ l.workers;
   counted : into_iter_len l.seat-iterator ≡ length (into_iter_items l.seat-iterator);
   left : into_iter_len l.programs ≡ length (into_iter_items l.programs);

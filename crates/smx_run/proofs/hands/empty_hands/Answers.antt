@@ -4,7 +4,7 @@ use Rattle.smx_run.proofs.HandLemmas.{pushed, one_empty_more, all_more, all_of_n
 use Rattle.smx_run.proofs.hands.empty_hands.Goals as goal
 
 pub loop-preserved : goal.loop-preserved
-loop-preserved c = record {
+loop-preserved g c = record {
   room = search rules;
   counted = search rules;
   fresh = λ name. all_more (AreFresh name) _ _ _ (c.loop.invariant.fresh name)

@@ -5,7 +5,7 @@ use Rattle.smx_run.specs.Hands.{given_hand, hands_of, AreFresh}
 use Rattle.smx_run.proofs.hands.empty_hands.Given as goal
 
 abbrev pub invariant-loop : goal.invariant-loop
-invariant-loop l = record {
+invariant-loop g l = record {
   room : l.workers ≤ vec_capacity l.hands;
   counted : vec_len l.hands ≡ l.counter;
   fresh : (name : SharedId) → All (AreFresh name) l.hands.items;

@@ -6,7 +6,7 @@ use Rattle.smx_run.proofs.HandLemmas.{pushed, put_more, all_put}
 use Rattle.smx_run.proofs.hands.give.Goals as goal
 
 pub returns-clause-given : goal.returns-clause-given
-returns-clause-given c =
+returns-clause-given g c =
     let workers : ℕ = vec_len c.args.hands.now in
     let one : Calls = (c.args.seat.known.process, calls_of c.args.seat.known.process c.args.commands) in
     let at : c.get.result % c.len.result ≡ one.0 % workers = rw (c.get.ensures.value, c.process.ensures, c.len.ensures)
@@ -17,7 +17,7 @@ returns-clause-given c =
     (pushed (given known_at) _ _ _ _ _ c.in_ok-push.ensures.items (ap given_hand c.index_mut.ensures.value) refl)
 
 pub returns-clause-fresh : goal.returns-clause-fresh
-returns-clause-fresh c name all seat =
+returns-clause-fresh g c name all seat =
     let workers : ℕ = vec_len c.args.hands.now in
     let at : c.get.result % c.len.result
     ≡ c.args.seat.known.process % workers = rw (c.get.ensures.value, c.process.ensures, c.len.ensures) refl in

@@ -4,7 +4,7 @@ use Rattle.smx_run.proofs.HandLemmas.{first_and_rest, first_then_rest, take_from
 use Rattle.smx_run.proofs.hands.take_first.Goals as goal
 
 pub returns-clause-first : goal.returns-clause-first
-returns-clause-first c =
+returns-clause-first g c =
     let done = c.remove.ensures in
     let within : c.args.worker < length c.args.hands.now.items = search rules in
     take_from called_hand c.args.hands.now.items c.args.worker c.index_mut.result.now c.remove.new.self
@@ -12,10 +12,10 @@ returns-clause-first c =
     (first_and_rest (called known_at) _ _ c.remove.result done.value done.items (search rules))
 
 pub returns-clause-others : goal.returns-clause-others
-returns-clause-others c = keep_others called_hand c.args.hands.now.items c.args.worker c.remove.new.self
+returns-clause-others g c = keep_others called_hand c.args.hands.now.items c.args.worker c.remove.new.self
 
 pub returns-clause-ended : goal.returns-clause-ended
-returns-clause-ended c name all =
+returns-clause-ended g c name all =
     let done = c.remove.ensures in
     let within : c.args.worker < length c.args.hands.now.items = search rules in
     all_taken (λ hand. hand.items) (EndsAt name) c.args.hands.now.items c.args.worker c.index_mut.result.now

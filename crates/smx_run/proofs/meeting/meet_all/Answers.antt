@@ -9,7 +9,7 @@ use Rattle.smx_run.proofs.RunLemmas.{all_taken_off}
 use Rattle.smx_run.proofs.meeting.meet_all.Goals as goal
 
 pub loop-done-preserved : goal.loop-done-preserved
-loop-done-preserved c =
+loop-done-preserved g c =
     let before = c.loop-done.invariant in
     let met = c.meet.ensures in
     record {
@@ -32,7 +32,7 @@ loop-done-preserved c =
     }
 
 pub returns-clause-met : goal.returns-clause-met
-returns-clause-met c s ends =
+returns-clause-met g c s ends =
     let end = c.loop-done.invariant in
     let removed = c.remove-first.ensures in
     let whole : c.args.ended.items ≡ c.remove-first.result

@@ -9,7 +9,7 @@ use Rattle.smx_run.proofs.RunLemmas.{StillKnows}
 use Rattle.smx_run.proofs.meeting.meet_all.Given as goal
 
 abbrev pub invariant-loop-done : goal.invariant-loop-done
-invariant-loop-done l = record {
+invariant-loop-done g l = record {
   shared : l.first.shared ≡ l.shared.name;
   known : StillKnows l.initial.first.known l.first.known;
   others : (s : Recorded) → AreMetBy s l.first.met → All (IsBorneOutBy s) l.yielded;

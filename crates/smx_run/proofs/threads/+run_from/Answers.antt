@@ -7,6 +7,17 @@ use Rattle.smx_run.specs.Hands.{called_hand, given_hand, AreFresh, HaveEnded}
 use Rattle.smx_run.proofs.HandLemmas.{all_of_none}
 use Rattle.smx_run.proofs.threads.+run_from.Goals as goal
 
+pub returns-then-is_empty-clause-called : goal.returns-then-is_empty-clause-called
+returns-then-is_empty-clause-called g n c =
+    let none : c.pop.new.self.items ≡ [] = search rules in
+    let whole : map given_hand c.args.hands.items ≡ given_hand c.in-Some.hand ∷ [] =
+    ap (map given_hand) c.in-Some.ensures.items ∙ map-append given_hand c.pop.new.self.items (c.in-Some.hand ∷ [])
+    ∙ ap (λ hands. map given_hand hands ++ given_hand c.in-Some.hand ∷ []) none in
+    IfOk-weaker c.and_then.result _ _
+    (λ v both. both [] (given_hand c.in-Some.hand) (ap (map called_hand) c.new-then-is_empty.ensures.items)
+    c.work-first.ensures.called ∙ sym whole)
+    c.and_then.ensures.called
+
 pub returns-then-is_empty-clause-ended : goal.returns-then-is_empty-clause-ended
 returns-then-is_empty-clause-ended g n c =
     let name = c.args.shared.now.name in

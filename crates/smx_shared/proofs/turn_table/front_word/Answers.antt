@@ -4,4 +4,4 @@ use Rattle.smx_shared.proofs.turn_table.front_word.Goals as goal
 
 pub returns-clause-word : goal.returns-clause-word
 unfolding front_of
-returns-clause-word c = search rules
+returns-clause-word g c = search rules

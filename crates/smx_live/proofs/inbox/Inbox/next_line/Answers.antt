@@ -1,24 +1,30 @@
-use Rattle.std.proofs.Common.{◌≡◌, ◌++◌, ◌∙◌, ℕ, List, [], true, false, ap, append_assoc, arith, inl, inr, length}
+use Rattle.std.proofs.Common.{◌≡◌, ◌+◌, ◌++◌, ◌∙◌, ℕ, List, [], true, false, ap, append_assoc, arith, inl, inr}
 use Rattle.std.proofs.Common.{subst, sym}
 use Rattle.std.proofs.lemmas.List.{append-nil}
 use Rattle.std.proofs.KnownBytes.{Consumes-trans}
 use Rattle.smx_text.specs.Grammar.{IsOneLine}
-use Rattle.smx_live.proofs.InboxLemmas.{fails_so, found_in, none_before, none_in}
+use Rattle.smx_live.specs.Inboxes.{IsShort}
+use Rattle.smx_live.proofs.InboxLemmas.{fails_so, found_in, held_too_long, line_found, none_before, none_in, on_ok}
 use Rattle.smx_live.proofs.inbox.Inbox.next_line.Goals as goal
 
 pub returns-in-Some : goal.returns-in-Some
 returns-in-Some g c =
     let inv = c.reads.invariant in
-    let (read, consumed, held, stays) = inv.so_far in (
+    let (read, consumed, held, stays) = inv.so_far in
+    let line = found_in c.reads.self.held.items c.deref.result.now c.reads.seen c.in-Some.n c.deref.ensures.value
+    inv.seen
+    inv.none c.in-Some.ensures in
+    let ends = line_found (c.reads.seen + c.in-Some.n) c.reads.self.held.items (c.args.self.now.held.items ++ read)
+    c.line_of.result (g.F.Feed.ended c.reads.feed) (g.F.Feed.failures c.reads.feed)
+    (IsOneLine (c.args.self.now.held.items ++ read)) held line inv.fine c.line_of.ensures in (
       read,
       record {
         consumed = consumed;
-        held = held;
-        end = inv.end;
-        found = found_in c.reads.self.held.items c.deref.result.now c.reads.seen c.in-Some.n c.deref.ensures.value inv.seen
-            inv.none c.in-Some.ensures;
-        fine = inv.fine;
-        fault = tt;
+        held = on_ok c.line_of.result held;
+        end = on_ok c.line_of.result inv.end;
+        found = ends.0;
+        fine = on_ok c.line_of.result inv.fine;
+        fault = ends.1;
         stays = λ was. (stays was, inv.end ∙ inv.same ∙ was);
       },
     )
@@ -34,8 +40,11 @@ returns-then-self g c =
         end = inv.end;
         found = (
           inv.end ∙ c.if-self.true,
-          none_in c.reads.self.held.items c.deref.result.now c.reads.seen
-              c.deref.ensures.value inv.none c.in_default.ensures,
+          (
+            none_in c.reads.self.held.items c.deref.result.now c.reads.seen
+                c.deref.ensures.value inv.none c.in_default.ensures,
+            omega (arith, c.if-seen-gt-MAX_INPUT.false, c.len-seen.ensures, c.reads.self.held.ok.0),
+          ),
         );
         fine = inv.fine;
         fault = tt;
@@ -58,16 +67,8 @@ returns-then-seen-gt-MAX_INPUT g c =
         fine = tt;
         fault = (
           inv.fine,
-          (
-            omega (
-              arith,
-              c.if-seen-gt-MAX_INPUT.true,
-              c.len-seen.ensures,
-              c.reads.self.held.ok.0,
-              ap (λ (bs : List ℕ). length bs) held,
-            ),
-            subst IsOneLine held one,
-          ),
+          held_too_long c.reads.self.held.items (c.args.self.now.held.items ++ read) held one
+              (omega (arith, c.if-seen-gt-MAX_INPUT.true, c.len-seen.ensures, c.reads.self.held.ok.0)),
         );
         stays = λ was. (stays was, inv.end ∙ inv.same ∙ was);
       },
@@ -117,7 +118,11 @@ returns-in-Ok-false g c =
         consumed = Consumes-trans _ _ _ read piece consumed p.consumed;
         held = p.held_now ∙ ap (λ (bs : List ℕ). bs ++ piece) held ∙ append_assoc c.args.self.now.held.items read piece;
         end = last.1;
-        found = (last.1, subst IsOneLine (sym same) one);
+        found = (
+          last.1,
+          subst IsShort (sym same)
+              (one, omega (arith, c.if-seen-gt-MAX_INPUT.false, c.len-seen.ensures, c.reads.self.held.ok.0)),
+        );
         fine = p.fine;
         fault = tt;
         stays = λ was. let wrong : false ≡ true = sym c.if-self.false ∙ inv.same ∙ was in absurd cc;
@@ -128,7 +133,9 @@ pub returns-in-Err : goal.returns-in-Err
 returns-in-Err g c =
     let inv = c.reads.invariant in
     let (read, consumed, held, stays) = inv.so_far in
-    let (piece, p) = c.in-Err.ensures in (
+    let (piece, p) = c.in-Err.ensures in
+    let one : IsOneLine c.reads.self.held.items = none_in c.reads.self.held.items c.deref.result.now c.reads.seen
+    c.deref.ensures.value inv.none c.in_default.ensures in (
       read ++ piece,
       record {
         consumed = Consumes-trans _ _ _ read piece consumed p.consumed;
@@ -136,7 +143,7 @@ returns-in-Err g c =
         end = tt;
         found = tt;
         fine = tt;
-        fault = fails_so _ _ _ p.fault;
+        fault = fails_so _ c.args.self.now.held.items c.reads.self.held.items read piece _ _ held one p.fault;
         stays = λ was. let wrong : false ≡ true = sym c.if-self.false ∙ inv.same ∙ was in absurd cc;
       },
     )

@@ -4,25 +4,25 @@ use Rattle.smx_shared.proofs.CallLemmas.{one_seat_more}
 use Rattle.smx_shared.proofs.shared.Shared.start.Goals as goal
 
 pub name-requires-clause-table : goal.name-requires-clause-table
-name-requires-clause-table c = c.loop-number.invariant.table
+name-requires-clause-table g c = c.loop-number.invariant.table
 
 pub name-requires-clause-right : goal.name-requires-clause-right
-name-requires-clause-right c =
+name-requires-clause-right g c =
     let next = c.loop-number.invariant.next in
     let below : c.loop-number.number < 64 = search rules in
     rw next (search rules, below)
 
 pub name-requires-clause-one_of : goal.name-requires-clause-one_of
-name-requires-clause-one_of c =
+name-requires-clause-one_of g c =
     let is = c.in_ok-turns.ensures.start.1 in
     let below : c.loop-number.number < c.args.processes = search rules in
     rw (c.loop-number.invariant.next, is) below
 
 pub name-requires-clause-idle : goal.name-requires-clause-idle
-name-requires-clause-idle c = rw c.loop-number.invariant.next (search rules)
+name-requires-clause-idle g c = rw c.loop-number.invariant.next (search rules)
 
 pub loop-number-preserved : goal.loop-number-preserved
-loop-number-preserved c =
+loop-number-preserved g c =
     let before = c.loop-number.invariant in
     let named = c.name.ensures.same in
     let dealt_now = c.deal-next.ensures in

@@ -3,12 +3,12 @@ use Rattle.smx_shared.proofs.CallLemmas.{found_small, found_front, found_held, h
 use Rattle.smx_shared.proofs.shared.Shared.try_call.Goals as goal
 
 pub read-requires : goal.read-requires
-read-requires c =
+read-requires g c =
     let held = c.in-Err.ensures.held in
     found_small c.limits_hold.ensures.links _ _ _ held.1 held.0.2
 
 pub returns-in-Err-clause-refused : goal.returns-in-Err-clause-refused
-returns-in-Err-clause-refused c =
+returns-in-Err-clause-refused g c =
     let held = c.in-Err.ensures.held in
     let word = c.read.ensures.word in
     let read = found_front c.limits_hold.ensures.links _ _ _ c.read.result held.1 word c.read.ensures.links in
@@ -18,14 +18,14 @@ returns-in-Err-clause-refused c =
     )
 
 pub returns-in_err-serve-clause-seen : goal.returns-in_err-serve-clause-seen
-returns-in_err-serve-clause-seen c =
+returns-in_err-serve-clause-seen g c =
     let back = c.serve.ensures.rest in
     rw (← c.seat.view_is) (has_seen_more_by _ _ _ c.try_take.ensures.grown.0 back.1 back.2 c.seat.invariant.1)
 
 pub returns-clause-steps : goal.returns-clause-steps
-returns-clause-steps c = rw (← c.seat.view_is) (omega (arith, c.serve.ensures.counted, c.try_take.ensures.counted))
+returns-clause-steps g c = rw (← c.seat.view_is) (omega (arith, c.serve.ensures.counted, c.try_take.ensures.counted))
 
 pub returns-clause-seen : goal.returns-clause-seen
-returns-clause-seen c =
+returns-clause-seen g c =
     let back = c.serve.ensures.rest in
     rw (← c.seat.view_is) (has_seen_more_by _ _ _ c.try_take.ensures.grown.0 back.1 back.2 c.seat.invariant.1)

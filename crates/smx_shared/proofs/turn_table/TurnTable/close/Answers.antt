@@ -4,14 +4,14 @@ use Rattle.smx_shared.proofs.TellLemmas.{closes}
 use Rattle.smx_shared.proofs.turn_table.TurnTable.close.Goals as goal
 
 pub returns-then-word-ne0-clause-held : goal.returns-then-word-ne0-clause-held
-returns-then-word-ne0-clause-held c =
+returns-then-word-ne0-clause-held g c =
     let v = c.args.token.me.0 in
     let end = closes _ _ _ _ _ v _ _ c.word-word.result c.take-slot.result c.close_with-closed.ensures.values.2
     c.requires.rest.0.2 c.word-word.ensures c.take-slot.ensures.value in
     (omega (arith, c.if-word-ne0.true), record { history = end.0; seen = end.2; sound = end.1; front = end.5 })
 
 pub unreachable-requires : goal.unreachable-requires
-unreachable-requires c =
+unreachable-requires g c =
     let v = c.args.token.me.0 in
     let end = closes _ _ _ _ _ v _ _ c.word-word.result c.take-slot.result c.close_with-closed.ensures.values.2
     c.requires.rest.0.2 c.word-word.ensures c.take-slot.ensures.value in
@@ -20,7 +20,7 @@ unreachable-requires c =
     cc
 
 pub returns-clause-ends : goal.returns-clause-ends
-returns-clause-ends c =
+returns-clause-ends g c =
     let v = c.args.token.me.0 in
     let end = closes _ _ _ _ _ v _ _ c.word-word.result c.take-slot.result c.close_with-closed.ensures.values.2
     c.requires.rest.0.2 c.word-word.ensures c.take-slot.ensures.value in
@@ -29,7 +29,7 @@ returns-clause-ends c =
     (end.6 c.if-word-ne0.false) c.requires.rest.1 end.1 end.2 end.3 end.4)
 
 pub returns-clause-begun : goal.returns-clause-begun
-returns-clause-begun c =
+returns-clause-begun g c =
     let v = c.args.token.me.0 in
     let end = closes _ _ _ _ _ v _ _ c.word-word.result c.take-slot.result c.close_with-closed.ensures.values.2
     c.requires.rest.0.2 c.word-word.ensures c.take-slot.ensures.value in

@@ -3,4 +3,4 @@ use Rattle.smx_shared.proofs.StepLemmas.{deals}
 use Rattle.smx_shared.proofs.turn_table.TurnTable.deal.Goals as goal
 
 pub split_seat-requires : goal.split_seat-requires
-split_seat-requires c = (search rules, search rules, deals _ _ _ _ _ _)
+split_seat-requires g c = (search rules, search rules, deals _ _ _ _ _ _)

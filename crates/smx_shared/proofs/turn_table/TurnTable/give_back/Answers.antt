@@ -6,10 +6,10 @@ use Rattle.smx_shared.proofs.TellLemmas.{has_slot, ready, published}
 use Rattle.smx_shared.proofs.turn_table.TurnTable.give_back.Goals as goal
 
 pub exchange-requires : goal.exchange-requires
-exchange-requires c = (c.requires.table, (None, has_slot _ _ c.requires.turn.0))
+exchange-requires g c = (c.requires.table, (None, has_slot _ _ c.requires.turn.0))
 
 pub store-requires : goal.store-requires
-store-requires c =
+store-requires g c =
     let r = c.requires in
     let sound = subst IsSoundSystem c.system.ensures c.front_word-front.ensures.sound in
     let word = c.front_word-front.ensures.word ∙ ap (λ (s : Recorded). front_of s.drivers s.history) c.system.ensures in
@@ -20,7 +20,7 @@ store-requires c =
     )
 
 pub returns : goal.returns
-returns c =
+returns g c =
     let r = c.requires in
     let sound = subst IsSoundSystem c.system.ensures c.front_word-front.ensures.sound in
     let word = c.front_word-front.ensures.word ∙ ap (λ (s : Recorded). front_of s.drivers s.history) c.system.ensures in

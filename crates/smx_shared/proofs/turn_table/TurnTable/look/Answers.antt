@@ -4,9 +4,9 @@ use Rattle.smx_shared.proofs.TellLemmas.{looked}
 use Rattle.smx_shared.proofs.turn_table.TurnTable.look.Goals as goal
 
 pub load-requires : goal.load-requires
-load-requires c = (c.requires.table, search rules, looks _ _ _ _ _ _ _ c.requires.rest.2 c.requires.rest.1)
+load-requires g c = (c.requires.table, search rules, looks _ _ _ _ _ _ _ c.requires.rest.2 c.requires.rest.1)
 
 pub returns : goal.returns
-returns c =
+returns g c =
     let told = looked _ _ _ c.requires.rest c.load.ensures.2 in
     record { table = c.load.ensures.0; rest = told.0; found = told.1 }

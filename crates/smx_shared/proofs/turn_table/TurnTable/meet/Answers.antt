@@ -4,12 +4,12 @@ use Rattle.smx_shared.proofs.TellLemmas.{met_all}
 use Rattle.smx_shared.proofs.turn_table.TurnTable.meet.Goals as goal
 
 pub join_seat-requires : goal.join_seat-requires
-join_seat-requires c =
+join_seat-requires g c =
     let r = c.requires in
     (r.table.0, r.table.1, r.rest.1.0, search rules, meets _ _ _ _ _ _ _ _ r.rest.1.1 (r.rest.1.2, r.rest.2))
 
 pub load-requires : goal.load-requires
-load-requires c =
+load-requires g c =
     let r = c.requires.rest.0 in
     let joined = c.join_seat.ensures.2 in (
       search rules,
@@ -19,6 +19,6 @@ load-requires c =
     )
 
 pub returns : goal.returns
-returns c =
+returns g c =
     let told = met_all _ _ _ c.args.other.me.0 _ c.requires.rest.0 c.join_seat.ensures.2 c.load.ensures.2 in
     record { table = c.load.ensures.0 ∙ c.join_seat.ensures.0; rest = (told.0, told.1); same = told.2 }

@@ -3,7 +3,7 @@ use Rattle.smx_shared.proofs.StepLemmas.{opens}
 use Rattle.smx_shared.proofs.turn_table.TurnTable.open.Goals as goal
 
 pub new-requires : goal.new-requires
-new-requires c =
+new-requires g c =
     let items : c.push_reserved.new.self.items ≡ Some c.args.system ∷ [] = search rules in
     rw (c.of.ensures, items)
     (opens c.args.system c.args.processes _ c.front_word-front.ensures.word c.front_word-front.ensures.sound)

@@ -5,7 +5,7 @@ use Rattle.smx_shared.proofs.TellLemmas.{adds_by, answers_if}
 use Rattle.smx_shared.proofs.turn_table.TurnTable.serve.Goals as goal
 
 pub give_back-requires-clause-more : goal.give_back-requires-clause-more
-give_back-requires-clause-more c =
+give_back-requires-clause-more g c =
     let out = c.take_out-system.ensures in
     let did = c.apply-outcome.ensures in
     let seen = ap (λ s. s.history) out.system ∙ sym (ap (λ (v : SeatView). v.seen) out.turn.0) in
@@ -14,11 +14,11 @@ give_back-requires-clause-more c =
     c.args.command.now did.ok did.err seen process
 
 pub returns-clause-counted : goal.returns-clause-counted
-returns-clause-counted c =
+returns-clause-counted g c =
     c.give_back.ensures.counted ∙ ap (λ (v : SeatView). v.looks + 1) c.take_out-system.ensures.turn.0
 
 pub returns-clause-answer : goal.returns-clause-answer
-returns-clause-answer c =
+returns-clause-answer g c =
     let out = c.take_out-system.ensures in
     let did = c.apply-outcome.ensures in
     let back = c.give_back.ensures in

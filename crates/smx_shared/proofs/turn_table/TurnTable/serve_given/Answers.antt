@@ -5,7 +5,7 @@ use Rattle.smx_shared.proofs.TellLemmas.{adds_by, adds_if}
 use Rattle.smx_shared.proofs.turn_table.TurnTable.serve_given.Goals as goal
 
 pub give_back-requires-clause-more : goal.give_back-requires-clause-more
-give_back-requires-clause-more c =
+give_back-requires-clause-more g c =
     let out = c.take_out-system.ensures in
     let did = c.append-outcome.ensures in
     let seen = ap (λ s. s.history) out.system ∙ sym (ap (λ (v : SeatView). v.seen) out.turn.0) in
@@ -14,7 +14,7 @@ give_back-requires-clause-more c =
     did.ok did.err seen process
 
 pub returns-clause-added : goal.returns-clause-added
-returns-clause-added c =
+returns-clause-added g c =
     let out = c.take_out-system.ensures in
     let did = c.append-outcome.ensures in
     let back = c.give_back.ensures in

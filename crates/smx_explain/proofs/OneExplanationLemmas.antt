@@ -1,0 +1,35 @@
+-- Of a transcript one thing is told.
+use Rattle.std.proofs.Common.{◌≡◌, ℕ, List, [], sym, ap, subst, ◌∙◌, inl, inr}
+use Rattle.std.specs.Prelude.{◌⊎◌}
+use Rattle.smx_types.specs.declared.transcript.Transcript.{Transcript}
+use Rattle.smx_replay.specs.Replays.{IsReplayOf}
+use Rattle.smx_text.specs.TranscriptText.{transcript_text}
+use Rattle.smx_explain.specs.Explanations.{IsExplanation, TellsDifference, difference_text}
+use Rattle.smx_explain.proofs.LineLemmas.{no_difference, one_difference}
+
+-- two ways to tell of one difference are one
+told_once : (one other a b : List ℕ) → TellsDifference one other a → TellsDifference one other b → a ≡ b
+told_once one other a b (n, told, has, first, is) (m, said, had, first_too, is_too) =
+    let same = one_difference one other n m told has said had first first_too in
+    is ∙ ap (λ (k : ℕ). difference_text k told has) same.0 ∙ ap (λ (l : List ℕ). difference_text m l has) same.1
+    ∙ ap (λ (l : List ℕ). difference_text m said l) same.2 ∙ sym is_too
+
+-- a text has no difference to tell from itself
+none_told : (one other a : List ℕ) → TellsDifference one other a → one ≡ other → ⊥
+none_told one other a (n, told, has, first, is) same = no_difference one other n told has first same
+
+pub one_explanation : ((t r s : Transcript) → IsReplayOf t r → IsReplayOf t s → r ≡ s) → (t : Transcript)
+    (one other : List ℕ) → IsExplanation t one → IsExplanation t other → one ≡ other
+one_explanation determined t one other h k = by_cases h.told k.told where
+  same : h.replay ≡ k.replay
+  same = determined t h.replay k.replay h.replays k.replays
+
+  by_cases : ((h.replay ≡ t) × (one ≡ [])) ⊎ TellsDifference (transcript_text t) (transcript_text h.replay) one
+      → ((k.replay ≡ t) × (other ≡ [])) ⊎ TellsDifference (transcript_text t) (transcript_text k.replay) other
+      → one ≡ other
+  by_cases (inl a) (inl b) = a.1 ∙ sym b.1
+  by_cases (inl a) (inr d) = absurd (none_told _ _ _ d (ap transcript_text (sym a.0 ∙ same)))
+  by_cases (inr d) (inl b) = absurd (none_told _ _ _ d (ap transcript_text (sym (same ∙ b.0))))
+  by_cases (inr d) (inr e) =
+      told_once (transcript_text t) (transcript_text k.replay) one other
+      (subst (λ (r : Transcript). TellsDifference (transcript_text t) (transcript_text r) one) same d) e

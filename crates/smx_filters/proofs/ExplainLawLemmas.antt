@@ -1,0 +1,50 @@
+-- What a check that explains itself says beside its verdict, and what is kept of an input in memory.
+use Rattle.std.proofs.Common.{◌≡◌, ℕ, ◌++◌, Bool, true, false, List, [], Option, Some, None, Err, Vec, refl}
+use Rattle.std.proofs.Common.{sym, subst, ◌∙◌, append-nil}
+use Rattle.std.specs.Global.{Global}
+use Rattle.smx_types.specs.declared.transcript.Transcript.{Transcript}
+use Rattle.smx_text.specs.declared.text_fault.TextFault.{TextFault}
+use Rattle.smx_config.specs.Verdicts.{IsVerdict}
+use Rattle.smx_config.specs.declared.verdict.Verdict.{Verdict}
+use Rattle.smx_config.specs.declared.verdict.Verdict.TheVariants.{Legal}
+use Rattle.smx_explain.specs.Explanations.{IsExplanation}
+use Rattle.smx_filters.specs.CheckText.{checking}
+use Rattle.smx_filters.specs.ExplainText.{IsKept, KeepsText, judging}
+use Rattle.smx_filters.specs.Filters.{Filter, GivesFor}
+use Rattle.smx_filters.specs.declared.main_fault.MainFault.TheVariants.{Text}
+use Rattle.smx_filters.specs.declared.refusal.Refusal.{Refusal}
+
+-- nothing is told of a legal transcript
+abbrev pub NeedsNone : Type 0
+NeedsNone = (t : Transcript) (output : List ℕ) → IsExplanation t output → IsVerdict t.drivers t.entries t.view Legal
+    → output ≡ []
+
+-- a check, explained or not, is one
+pub is_check : NeedsNone → (explain : Bool) (input output : List ℕ) (verdict : Verdict)
+    → GivesFor (judging explain) input verdict output
+    → (line told : List ℕ) × GivesFor checking input verdict line × (output ≡ line ++ told)
+    × (verdict ≡ Legal → told ≡ [])
+is_check none false input output verdict (version, t, spells, judged) =
+    (output, [], (version, t, spells, judged), sym (append-nil output), λ legal. refl)
+is_check none true input output verdict (version, t, spells, h) = (
+  _,
+  h.told,
+  (version, t, spells, h.judged),
+  h.written,
+  λ legal. none t h.told h.explained
+      (subst (λ (v : Verdict). IsVerdict t.drivers t.entries t.view v) legal h.judged.judged),
+)
+
+-- what is kept is there
+is_there : (kept : Option (Vec ℕ Global)) (read input : List ℕ) → IsKept kept read → input ≡ read
+    → (text : Vec ℕ Global) × (kept ≡ Some text) × (text.items ≡ input)
+is_there None read input kept same = absurd kept
+is_there (Some text) read input kept same = (text, refl, kept ∙ sym same)
+
+pub keeps_all : {V K T : Type 0} (f : Filter V K T) (input : List ℕ) (left before after : Option (List ℕ))
+    (ended flushed : Bool)
+    (reads writes : ℕ) (refusal : Refusal) (fault : TextFault)
+    → KeepsText f (Some input) left ended reads before after flushed writes (Err refusal) → refusal.fault ≡ Text fault
+    → (text : Vec ℕ Global) × (refusal.text ≡ Some text) × (text.items ≡ input)
+keeps_all f input left before after ended flushed reads writes refusal fault h is =
+    is_there refusal.text h.filtered.read input (h.kept fault is) (h.filtered.text fault is).0.1

@@ -1,0 +1,46 @@
+//! Laws of checks that explain themselves, and of texts that are kept, each the contract of a function that does nothing.
+
+ghost use Rattle.std.specs.Global.{Global};
+ghost use Rattle.std.specs.Prelude.{◌≡◌, ℕ, ◌++◌, Bool, List, [], Some, Result, Err, Vec};
+ghost use Rattle.smx_config.specs.declared.verdict.Verdict.{Verdict};
+ghost use Rattle.smx_config.specs.declared.verdict.Verdict.TheVariants.{Legal};
+ghost use Rattle.smx_text.specs.declared.text_fault.TextFault.{TextFault};
+ghost use Rattle.smx_filters.specs.CheckText.{checking};
+ghost use Rattle.smx_filters.specs.ExplainText.{KeepsText, answer_of, explaining, judging};
+ghost use Rattle.smx_filters.specs.Filters.{GivesFor};
+ghost use Rattle.smx_filters.specs.InMemory.{EndsInMemory};
+ghost use Rattle.smx_filters.specs.RunText.{running};
+ghost use Rattle.smx_filters.specs.declared.main_fault.MainFault.TheVariants.{Text};
+ghost use Rattle.smx_filters.specs.declared.refusal.Refusal.{Refusal as AnyRefusal};
+
+use smx_explain::laws_of_explanations::a_legal_transcript_needs_none;
+
+/// A check that explains itself has the verdict of a check, and writes its line first; below `legal` it tells nothing.
+pub fn an_explained_check_is_a_check()
+    ensures { (explain : Bool) (input output : List ℕ) (verdict : Verdict) → GivesFor (judging explain) input verdict output
+        → (line told : List ℕ) × GivesFor checking input verdict line × (output ≡ line ++ told)
+        × (verdict ≡ Legal → told ≡ []) }
+{
+    a_legal_transcript_needs_none();
+}
+
+/// What is said of an input in memory, by devices that don't fail, is what the filter says; and where the text is at fault,
+/// the whole input is kept.
+pub fn faults_are_explained_in_memory()
+    ensures check { (input left output : List ℕ) (ended flushed : Bool) (answer : Result Verdict AnyRefusal)
+        → KeepsText explaining (Some input) (Some left) ended 0 (Some []) (Some output) flushed 0 answer
+        → EndsInMemory explaining input left ended output flushed (answer_of answer) }
+    ensures run { (workers : ℕ) (fronts : Bool) (input left output : List ℕ) (ended flushed : Bool)
+        (answer : Result (Unit {0}) AnyRefusal)
+        → KeepsText (running fronts workers) (Some input) (Some left) ended 0 (Some []) (Some output) flushed 0 answer
+        → EndsInMemory (running fronts workers) input left ended output flushed (answer_of answer) }
+    ensures check_keeps { (input left output : List ℕ) (ended flushed : Bool) (refusal : AnyRefusal) (fault : TextFault)
+        → KeepsText explaining (Some input) (Some left) ended 0 (Some []) (Some output) flushed 0 (Err refusal)
+        → refusal.fault ≡ Text fault
+        → (text : Vec ℕ Global) × (refusal.text ≡ Some text) × (text.items ≡ input) }
+    ensures run_keeps { (workers : ℕ) (fronts : Bool) (input left output : List ℕ) (ended flushed : Bool)
+        (refusal : AnyRefusal) (fault : TextFault)
+        → KeepsText (running fronts workers) (Some input) (Some left) ended 0 (Some []) (Some output) flushed 0
+        (Err refusal) → refusal.fault ≡ Text fault
+        → (text : Vec ℕ Global) × (refusal.text ≡ Some text) × (text.items ≡ input) }
+{}

@@ -1,0 +1,408 @@
+-- A live session has one output, where memory was never wanting.
+use Rattle.std.proofs.Common.{◌≡◌, ◌≢◌, ℕ, ◌+◌, ◌<◌, ◌≤◌, ◌^◌, Bool, true, false, List, [], ◌∷◌, ◌++◌, length}
+use Rattle.std.proofs.Common.{map, take, drop}
+use Rattle.std.proofs.Common.{Result, Ok, Err, refl, sym, ap, subst, ◌∙◌, append_assoc, arith, inl, inr}
+use Rattle.std.proofs.lemmas.Fmt.{decimal_nonempty, digits_decimal}
+use Rattle.std.proofs.lemmas.List.{append_cancel_left}
+use Rattle.std.proofs.lemmas.Str.Parse.{IsNumeralModel, numerals_by_value, tells_all_ascii_digits}
+use Rattle.std.specs.Fmt.{decimal}
+use Rattle.std.specs.List.{AllByRecursion}
+use Rattle.std.specs.Prelude.{◌⊎◌, IfErr, codes}
+use Rattle.std.specs.Str.{all_ascii_digits}
+use Rattle.std.specs.Str.Parse.{digits_value}
+use Rattle.smx_types.specs.ProgramLists.{ProgramLists}
+use Rattle.smx_types.specs.declared.command.Command.{Command}
+use Rattle.smx_types.specs.declared.command.Entry.{Entry}
+use Rattle.smx_types.specs.declared.driver.DriverSpec.{DriverSpec}
+use Rattle.smx_types.specs.declared.reply.Reply.{Reply}
+use Rattle.smx_types.specs.declared.version.Version.{Version}
+use Rattle.smx_model.specs.Commands.{step}
+use Rattle.smx_model.specs.Configuration.{Configuration}
+use Rattle.smx_model.specs.Histories.{after, call_of}
+use Rattle.smx_model.specs.Views.{view}
+use Rattle.smx_words.proofs.CutLemmas.{apart}
+use Rattle.smx_words.specs.Spellable.{FitsEntry}
+use Rattle.smx_words.specs.Spelling.{entry_words}
+use Rattle.smx_words.specs.Words.{LINE_FEED, line_of}
+use Rattle.smx_text.specs.Grammar.{IsOneLine, ReadsAny, Spells, beginning}
+use Rattle.smx_text.specs.ProgramsText.{programs_grammar}
+use Rattle.smx_text.specs.TranscriptLines as line
+use Rattle.smx_text.specs.TranscriptText.{transcript_grammar}
+use Rattle.smx_text.specs.declared.text_fault.Cause.TheVariants as cause
+use Rattle.smx_text.specs.declared.text_fault.TextFault.{TextFault}
+use Rattle.smx_config.specs.DriverFaults.{RefusesDrivers}
+use Rattle.smx_config.specs.declared.config_fault.ConfigFault.{ConfigFault}
+use Rattle.smx_config.specs.declared.config_fault.ConfigFault.TheVariants as config
+use Rattle.smx_model.specs.DriverList.{IsDriverList}
+use Rattle.smx_run.specs.RunFaults.{RefusesAlone}
+use Rattle.smx_run.specs.declared.run_fault.RunFault.{RunFault}
+use Rattle.smx_run.specs.declared.run_fault.RunFault.TheVariants as run
+use Rattle.smx_session.specs.Sessions.{HasDrivers, State}
+use Rattle.smx_filters.specs.declared.input.TheConstants.{MAX_INPUT}
+use Rattle.smx_live.specs.Inboxes.{HasLine, IsShort}
+use Rattle.smx_live.specs.LiveText.{HasComeSoFar, IsAtEnd, IsLive, IsOver}
+use Rattle.smx_live.specs.Tables.{AreOfTable, HasTableOf, IsOverAt, IsTable, begins_driver, lines_text, table_text}
+use Rattle.smx_live.specs.Turns.{Answer, AreAnswered, AsksToShow, Entered, HadMemory, IsAnswer, IsEntryOf, NotDone}
+use Rattle.smx_live.specs.Turns.{Shown, Turn, asked_text, entries_in, entries_of, said_text, view_lines}
+use Rattle.smx_live.specs.declared.wrong.Wrong.TheVariants.{NoCommand, NoMemory, Full}
+
+-- ---- what other crates' laws say
+
+abbrev pub HasOneReading : Type 0
+HasOneReading = (bytes : List ℕ) (r s : Result ProgramLists TextFault) → ReadsAny programs_grammar bytes r
+    → ReadsAny programs_grammar bytes s → IfErr r (λ f. f.cause ≢ cause.NoMemory)
+    → IfErr s (λ f. f.cause ≢ cause.NoMemory) → r ≡ s
+
+abbrev pub AreToldApart : Type 0
+AreToldApart =
+    (x y : Entry) → FitsEntry x → FitsEntry y → line_of (entry_words x) ≡ line_of (entry_words y) → x ≡ y
+
+-- ---- lines
+
+-- bytes with a line feed in them are not one line
+pub not_one : (xs after : List ℕ) → IsOneLine (xs ++ LINE_FEED ∷ after) → ⊥
+not_one [] after h = h.0 refl
+not_one (x ∷ xs) after h = not_one xs after h.1
+
+-- one line, and then the others
+cons : (l : List ℕ) (ls : List (List ℕ)) (rest : List ℕ)
+    → lines_text (l ∷ ls) ++ rest ≡ l ++ LINE_FEED ∷ (lines_text ls ++ rest)
+cons l ls rest = simp append_assoc
+
+-- the line at the front is the first one
+first_is : (n : ℕ) (bytes l after : List ℕ) → IsOneLine l → bytes ≡ l ++ LINE_FEED ∷ after → HasLine n bytes
+    → take n bytes ≡ l
+first_is n bytes l after one is has =
+    (apart LINE_FEED (take n bytes) l (drop (n + 1) bytes) after has.one one (sym has.parts ∙ is)).0
+
+-- ---- tables
+
+-- a line that begins otherwise stands there, or there is none more
+abbrev Stops : Bool → List ℕ → Type 0
+Stops ended rest = ((n : ℕ) × HasLine n rest × (begins_driver (take n rest) ≡ false))
+    ⊎ ((ended ≡ true) × IsOneLine rest)
+
+stops_at : (ended : Bool) (rest l after : List ℕ) → IsOneLine l → begins_driver l ≡ true
+    → rest ≡ l ++ LINE_FEED ∷ after → Stops ended rest → ⊥
+stops_at ended rest l after one driver is (inl (n, has, other)) =
+    let same = first_is n rest l after one is has in
+    let wrong : false ≡ true = sym other ∙ ap begins_driver same ∙ driver in absurd (cc wrong)
+stops_at ended rest l after one driver is (inr (end, whole)) = not_one l after (subst IsOneLine is whole)
+
+-- the lines of drivers up to there are determined
+drivers_once : (ended : Bool) (ls ms : List (List ℕ)) (rest more : List ℕ) → AllByRecursion IsOneLine ls
+    → AllByRecursion IsOneLine ms → AllByRecursion (λ l. begins_driver l ≡ true) ls
+    → AllByRecursion (λ l. begins_driver l ≡ true) ms → Stops ended rest → Stops ended more
+    → lines_text ls ++ rest ≡ lines_text ms ++ more → ls ≡ ms
+drivers_once ended [] [] rest more all all_too are are_too stops stops_too e = refl
+drivers_once ended [] (m ∷ ms) rest more all all_too are are_too stops stops_too e =
+    absurd (stops_at ended rest m (lines_text ms ++ more) all_too.0 are_too.0 (e ∙ cons m ms more) stops)
+drivers_once ended (l ∷ ls) [] rest more all all_too are are_too stops stops_too e =
+    absurd (stops_at ended more l (lines_text ls ++ rest) all.0 are.0 (sym e ∙ cons l ls rest) stops_too)
+drivers_once ended (l ∷ ls) (m ∷ ms) rest more all all_too are are_too stops stops_too e =
+    let cut = apart LINE_FEED l m (lines_text ls ++ rest) (lines_text ms ++ more) all.0 all_too.0
+    (sym (cons l ls rest) ∙ e ∙ cons m ms more) in
+    let others = drivers_once ended ls ms rest more all.1 all_too.1 are.1 are_too.1 stops stops_too cut.1 in
+    ap (λ (x : List ℕ). x ∷ ls) cut.0 ∙ ap (λ (xs : List (List ℕ)). m ∷ xs) others
+
+stops_there : (ended : Bool) (ls : List (List ℕ)) (rest : List ℕ) → IsOverAt ended ls rest → Stops ended rest
+stops_there ended ls rest (inl (n, has, small, some, other)) = inl (n, has, other)
+stops_there ended ls rest (inr (end, short)) = inr (end, short.0)
+
+-- there is a first line where there is any
+no_table : (ended : Bool) (m : List ℕ) (ms : List (List ℕ)) (rest more : List ℕ) → IsOverAt ended [] rest
+    → rest ≡ lines_text (m ∷ ms) ++ more → ⊥
+no_table ended m ms rest more (inl (n, has, small, some, other)) is = some refl
+no_table ended m ms rest more (inr (end, short)) is =
+    not_one m (lines_text ms ++ more) (subst IsOneLine (is ∙ cons m ms more) short.0)
+
+lines_once : (ended : Bool) (ls ms : List (List ℕ)) (rest more : List ℕ) → AreOfTable ls → AreOfTable ms
+    → IsOverAt ended ls rest → IsOverAt ended ms more → lines_text ls ++ rest ≡ lines_text ms ++ more → ls ≡ ms
+lines_once ended [] [] rest more are are_too over over_too e = refl
+lines_once ended [] (m ∷ ms) rest more are are_too over over_too e = absurd (no_table ended m ms rest more over e)
+lines_once ended (l ∷ ls) [] rest more are are_too over over_too e =
+    absurd (no_table ended l ls more rest over_too (sym e))
+lines_once ended (l ∷ ls) (m ∷ ms) rest more are are_too over over_too e =
+    let cut = apart LINE_FEED l m (lines_text ls ++ rest) (lines_text ms ++ more) are.each.0 are_too.each.0
+    (sym (cons l ls rest) ∙ e ∙ cons m ms more) in
+    let others = drivers_once ended ls ms rest more are.each.1 are_too.each.1 are.drivers are_too.drivers
+    (stops_there ended (l ∷ ls) rest over) (stops_there ended (m ∷ ms) more over_too) cut.1 in
+    ap (λ (x : List ℕ). x ∷ ls) cut.0 ∙ ap (λ (xs : List (List ℕ)). m ∷ xs) others
+
+-- what was read has one table
+pub table_once : (ended : Bool) (table other rest more : List ℕ) → IsTable ended table rest → IsTable ended other more
+    → table ++ rest ≡ other ++ more → (table ≡ other) × (rest ≡ more)
+table_once ended table other rest more t u e =
+    let lines : t.lines ≡ u.lines = lines_once ended t.lines u.lines rest more t.of_table u.of_table t.over u.over
+    (ap (λ (x : List ℕ). x ++ rest) (sym t.text) ∙ e ∙ ap (λ (x : List ℕ). x ++ more) u.text) in
+    let same : table ≡ other = t.text ∙ ap lines_text lines ∙ sym u.text in
+    (same, append_cancel_left other rest more (ap (λ (x : List ℕ). x ++ rest) (sym same) ∙ e))
+
+-- ---- entries
+
+own : IsNumeralModel (λ ds. all_ascii_digits ds ≡ true) (digits_value 10)
+own = numerals_by_value _ tells_all_ascii_digits
+
+-- a line begins with its first word
+begins_so : (b c : ℕ) (w rest : List ℕ) (words : List (List ℕ)) → line_of ((c ∷ w) ∷ words) ≡ b ∷ rest → c ≡ b
+begins_so b c w rest [] is = cc is
+begins_so b c w rest (word ∷ words) is = cc is
+
+-- that of an entry with a digit
+pub no_entry : (e : Entry) → FitsEntry e → (b : ℕ) (rest : List ℕ)
+    → ((ds : List ℕ) → all_ascii_digits (b ∷ ds) ≡ true → ⊥) → line_of (entry_words e) ≡ b ∷ rest → ⊥
+no_entry e fits b rest no_digit = by_word (decimal e.process) refl where
+  small : e.process < 2 ^ 64
+  small = omega (arith, fits.process)
+
+  by_word : (w : List ℕ) → w ≡ decimal e.process → line_of (w ∷ drop 1 (entry_words e)) ≡ b ∷ rest → ⊥
+  by_word [] same is = absurd (omega (arith, decimal_nonempty e.process small, ap (λ (x : List ℕ). length x) same))
+  by_word (c ∷ w) same is =
+      let first : c ≡ b = begins_so b c w rest (drop 1 (entry_words e)) is in
+      no_digit w (subst (λ (x : ℕ). all_ascii_digits (x ∷ w) ≡ true) first
+      (subst (λ (x : List ℕ). all_ascii_digits x ≡ true) (sym same) (digits_decimal own e.process small)))
+
+module _ (version : Version) (drivers : List DriverSpec) (history : List Entry) (l : List ℕ) where
+  -- neither an empty line nor `show` is that of an entry
+  not_shown : (e : Entry) → IsEntryOf version drivers history l e → AsksToShow l → ⊥
+  not_shown e is (inl none) =
+      no_entry is.asked is.told.0 32 (codes "= done") (λ ds h. absurd (cc h))
+      (sym is.is_read ∙ ap (λ (x : List ℕ). x ++ codes " = done") none)
+  not_shown e is (inr show) =
+      no_entry is.asked is.told.0 115 (codes "how = done") (λ ds h. absurd (cc h))
+      (sym is.is_read ∙ ap (λ (x : List ℕ). x ++ codes " = done") show)
+
+  -- nor is `end`
+  not_ended : (e : Entry) → IsEntryOf version drivers history l e → l ≡ codes "end" → ⊥
+  not_ended e is end =
+      no_entry is.asked is.told.0 101 (codes "nd = done") (λ ds h. absurd (cc h))
+      (sym is.is_read ∙ ap (λ (x : List ℕ). x ++ codes " = done") end)
+
+  -- a line that is performed makes one entry
+  abbrev entry_of : ℕ × Command → Reply → Entry
+  entry_of call reply = record { process = call.0; command = call.1; reply = reply }
+
+  entry_once : AreToldApart → (e f : Entry) → IsEntryOf version drivers history l e
+      → IsEntryOf version drivers history l f → e ≡ f
+  entry_once told_apart e f is is_too =
+      let asked : is.asked ≡ is_too.asked = told_apart is.asked is_too.asked is.told.0 is_too.told.0
+      (sym is.is_read ∙ is_too.is_read) in
+      let call : call_of e ≡ call_of f = is.call ∙ ap call_of asked ∙ sym is_too.call in
+      let reply : e.reply ≡ f.reply = sym is.legal
+      ∙ ap (λ (c : ℕ × Command). (step drivers (after drivers history) c.0 c.1).1) call ∙ is_too.legal in
+      ap (λ (c : ℕ × Command). entry_of c e.reply) call ∙ ap (λ (r : Reply). entry_of (call_of f) r) reply
+
+  -- a line has one answer
+  answer_once : AreToldApart → (a b : Answer) → IsAnswer version drivers history l a
+      → IsAnswer version drivers history l b
+      → a ≢ NotDone NoMemory → b ≢ NotDone NoMemory → a ≡ b
+  answer_once told_apart (Entered e) (Entered f) is is_too had had_too = ap Entered
+      (entry_once told_apart e f is is_too)
+  answer_once told_apart (Entered e) (Shown v) is is_too had had_too = absurd (not_shown e is is_too.0)
+  answer_once told_apart (Entered e) (NotDone NoCommand) is is_too had had_too =
+      absurd (is_too.1 is.asked is.told is.is_read)
+  answer_once told_apart (Entered e) (NotDone NoMemory) is is_too had had_too = absurd (had_too refl)
+  answer_once told_apart (Entered e) (NotDone Full) is is_too had had_too = absurd (omega (arith, is.room, is_too.1))
+  answer_once told_apart (Shown v) (Entered e) is is_too had had_too = absurd (not_shown e is_too is.0)
+  answer_once told_apart (Shown v) (Shown w) is is_too had had_too = ap Shown (is.1 ∙ sym is_too.1)
+  answer_once told_apart (Shown v) (NotDone NoCommand) is is_too had had_too = absurd (is_too.0.0 is.0)
+  answer_once told_apart (Shown v) (NotDone NoMemory) is is_too had had_too = absurd (had_too refl)
+  answer_once told_apart (Shown v) (NotDone Full) is is_too had had_too = absurd (is_too.0.0 is.0)
+  answer_once told_apart (NotDone NoMemory) b is is_too had had_too = absurd (had refl)
+  answer_once told_apart (NotDone NoCommand) (Entered e) is is_too had had_too =
+      absurd (is.1 is_too.asked is_too.told is_too.is_read)
+  answer_once told_apart (NotDone NoCommand) (Shown v) is is_too had had_too = absurd (is.0.0 is_too.0)
+  answer_once told_apart (NotDone NoCommand) (NotDone NoCommand) is is_too had had_too = refl
+  answer_once told_apart (NotDone NoCommand) (NotDone NoMemory) is is_too had had_too = absurd (had_too refl)
+  answer_once told_apart (NotDone NoCommand) (NotDone Full) is is_too had had_too = absurd
+      (omega (arith, is.2, is_too.1))
+  answer_once told_apart (NotDone Full) (Entered e) is is_too had had_too = absurd (omega (arith, is_too.room, is.1))
+  answer_once told_apart (NotDone Full) (Shown v) is is_too had had_too = absurd (is.0.0 is_too.0)
+  answer_once told_apart (NotDone Full) (NotDone NoCommand) is is_too had had_too = absurd
+      (omega (arith, is_too.2, is.1))
+  answer_once told_apart (NotDone Full) (NotDone NoMemory) is is_too had had_too = absurd (had_too refl)
+  answer_once told_apart (NotDone Full) (NotDone Full) is is_too had had_too = refl
+
+  -- and the line `end` has none
+  no_answer : (a : Answer) → IsAnswer version drivers history l a → a ≢ NotDone NoMemory → l ≡ codes "end" → ⊥
+  no_answer (Entered e) is had end = not_ended e is end
+  no_answer (Shown v) (inl none, shown) had end =
+      let wrong : [] ≡ codes "end" = sym none ∙ end in absurd (cc wrong)
+  no_answer (Shown v) (inr show, shown) had end =
+      let wrong : codes "show" ≡ codes "end" = sym show ∙ end in absurd (cc wrong)
+  no_answer (NotDone NoCommand) is had end = is.0.1 end
+  no_answer (NotDone NoMemory) is had end = had refl
+  no_answer (NotDone Full) is had end = is.0.1 end
+
+-- ---- turns
+
+-- one turn, and then the others
+asked_cons : (t : Turn) (ts : List Turn) (held : List ℕ)
+    → asked_text (t ∷ ts) ++ held ≡ t.line ++ LINE_FEED ∷ (asked_text ts ++ held)
+asked_cons t ts held = simp append_assoc
+
+-- the last line is no `end` where the input has ended
+no_end : (more held : List ℕ) → IsOneLine held → held ≡ codes "end\n" ++ more → ⊥
+no_end more held one is = not_one (codes "end") more (subst IsOneLine is one)
+
+-- a session is at its end in one way
+words_once : (ended : Bool) (held words said : List ℕ) → IsAtEnd ended held words → IsAtEnd ended held said
+    → words ≡ said
+words_once ended held words said (inl (more, is, none)) (inl (rest, is_too, none_too)) = none ∙ sym none_too
+words_once ended held words said (inl (more, is, none)) (inr (end, short, cut)) = absurd (no_end more held short.0 is)
+words_once ended held words said (inr (end, short, cut)) (inl (more, is, none)) = absurd (no_end more held short.0 is)
+words_once ended held words said (inr (end, short, cut)) (inr (end_too, short_too, cut_too)) = cut ∙ sym cut_too
+
+module _ (version : Version) (drivers : List DriverSpec) (told_apart : AreToldApart) (ended : Bool) where
+  -- no line is answered behind that
+  none_behind : (history : List Entry) (u : Turn) (rest held words : List ℕ) → IsAtEnd ended held words
+      → held ≡ u.line ++ LINE_FEED ∷ rest → IsShort u.line → IsAnswer version drivers history u.line u.answer
+      → u.answer ≢ NotDone NoMemory → ⊥
+  none_behind history u rest held words (inl (more, is, none)) cut short answered had =
+      let same = apart LINE_FEED u.line (codes "end") rest more short.0 (search arith) (sym cut ∙ is) in
+      no_answer version drivers history u.line u.answer answered had same.0
+  none_behind history u rest held words (inr (end, one, said)) cut short answered had =
+      not_one u.line rest (subst IsOneLine cut one.0)
+
+  -- turns of the same lines are the same
+  turns_once : (history : List Entry) (ts us : List Turn) (held more words said : List ℕ)
+      → AreAnswered version drivers history ts → AreAnswered version drivers history us → HadMemory ts → HadMemory us
+      → IsAtEnd ended held words → IsAtEnd ended more said → asked_text ts ++ held ≡ asked_text us ++ more
+      → (ts ≡ us) × (words ≡ said)
+  turns_once history [] [] held more words said was was_too had had_too at at_too e =
+      (refl, words_once ended more words said (subst (λ (h : List ℕ). IsAtEnd ended h words) e at) at_too)
+  turns_once history [] (u ∷ us) held more words said was was_too had had_too at at_too e =
+      absurd (none_behind history u (asked_text us ++ more) held words at (e ∙ asked_cons u us more) was_too.0 was_too.1
+      had_too.0)
+  turns_once history (t ∷ ts) [] held more words said was was_too had had_too at at_too e =
+      absurd (none_behind history t (asked_text ts ++ held) more said at_too (sym e ∙ asked_cons t ts held) was.0 was.1
+      had.0)
+  turns_once history (t ∷ ts) (u ∷ us) held more words said was was_too had had_too at at_too e =
+      let cut = apart LINE_FEED t.line u.line (asked_text ts ++ held) (asked_text us ++ more) was.0.0 was_too.0.0
+      (sym (asked_cons t ts held) ∙ e ∙ asked_cons u us more) in
+      let said_too = subst (λ (l : List ℕ). IsAnswer version drivers history l u.answer) (sym cut.0) was_too.1 in
+      let answer : t.answer ≡ u.answer = answer_once version drivers history t.line told_apart t.answer u.answer was.1
+      said_too had.0 had_too.0 in
+      let same : t ≡ u = ap (λ (l : List ℕ). turn l t.answer) cut.0 ∙ ap (turn u.line) answer in
+      let behind = subst (λ (a : Answer). AreAnswered version drivers (history ++ entries_in a) us) (sym answer)
+      was_too.2 in
+      let others = turns_once (history ++ entries_in t.answer) ts us held more words said was.2 behind had.1 had_too.1
+      at
+      at_too cut.1 in
+      (ap (λ (x : Turn). x ∷ ts) same ∙ ap (λ (xs : List Turn). u ∷ xs) others.0, others.1) where
+        turn : List ℕ → Answer → Turn
+        turn l a = record { line = l; answer = a }
+
+-- ---- sessions
+
+-- the output of a session, by its drivers and its turns
+abbrev whole_output : Version → List DriverSpec → List Turn → List ℕ → List ℕ
+whole_output version drivers turns words =
+    (beginning (transcript_grammar version) (map line.Driver drivers ++ map line.Entry []) ++ said_text turns)
+    ++ (words ++ (view_lines (view drivers (after drivers (entries_of turns))) ++ codes "end\n"))
+
+output_is : (read : List ℕ) (ended : Bool) (output : List ℕ) (o : IsOver read ended output)
+    → output ≡ whole_output o.s.version o.s.drivers o.live.turns o.words
+output_is read ended output o =
+    o.written ∙ ap (λ (x : List ℕ). x ++ (o.words ++ closing o.s.configuration)) o.live.written
+    ∙ ap (λ (x : List ℕ). (x ++ said_text o.live.turns) ++ (o.words ++ closing o.s.configuration)) o.live.begins.written
+    ∙ ap (λ (c : Configuration). (opening ++ said_text o.live.turns) ++ (o.words ++ closing c)) o.live.now where
+      opening : List ℕ
+      opening = beginning (transcript_grammar o.s.version) (map line.Driver o.s.drivers ++ map line.Entry [])
+
+      closing : Configuration → List ℕ
+      closing c = view_lines (view o.s.drivers c) ++ codes "end\n"
+
+-- the text spells one value
+value_once : HasOneReading → (text : List ℕ) (v w : Version) (x y : ProgramLists) → Spells (programs_grammar v) text x
+    → Spells (programs_grammar w) text y → x ≡ y
+value_once reading text v w x y h k =
+    let one : Result ProgramLists TextFault = Ok x in
+    let other : Result ProgramLists TextFault = Ok y in
+    let same : one ≡ other = reading text one other (v, h, tt) (w, k, tt) tt tt in cc
+
+pub one_output : HasOneReading → AreToldApart → (read : List ℕ) (ended : Bool) (one other : List ℕ)
+    (o : IsOver read ended one) (p : IsOver read ended other) → HadMemory o.live.turns → HadMemory p.live.turns
+    → one ≡ other
+one_output reading told_apart read ended one other o p had had_too =
+    output_is read ended one o ∙ ap (λ (v : Version). whole_output v o.s.drivers o.live.turns o.words) version
+    ∙ ap (λ (ds : List DriverSpec). whole_output p.s.version ds o.live.turns o.words) drivers
+    ∙ ap (λ (ts : List Turn). whole_output p.s.version p.s.drivers ts o.words) turns.0
+    ∙ ap (whole_output p.s.version p.s.drivers p.live.turns) turns.1 ∙ sym (output_is read ended other p) where
+      table : (o.live.table ≡ p.live.table)
+          × (asked_text o.live.turns ++ o.held ≡ asked_text p.live.turns ++ p.held)
+      table = table_once ended o.live.table p.live.table _ _ o.live.over p.live.over
+          (sym o.live.read_is ∙ p.live.read_is)
+
+      programs : o.live.programs ≡ p.live.programs
+      programs = value_once reading (table_text p.live.table) o.s.version p.s.version o.live.programs p.live.programs
+          (subst (λ (t : List ℕ). Spells (programs_grammar o.s.version) (table_text t) o.live.programs) table.0
+          o.live.spelled) p.live.spelled
+
+      version : o.s.version ≡ p.s.version
+      version = sym o.live.spelled.allowed.version_is ∙ ap (λ (x : ProgramLists). x.version) programs
+          ∙ p.live.spelled.allowed.version_is
+
+      drivers : o.s.drivers ≡ p.s.drivers
+      drivers = o.live.drivers ∙ ap (λ (x : ProgramLists). x.drivers) programs ∙ sym p.live.drivers
+
+      turns : (o.live.turns ≡ p.live.turns) × (o.words ≡ p.words)
+      turns = turns_once p.s.version p.s.drivers told_apart ended [] o.live.turns p.live.turns o.held p.held o.words
+          p.words
+          (subst (λ (ds : List DriverSpec). AreAnswered p.s.version ds [] o.live.turns) drivers
+          (subst (λ (v : Version). AreAnswered v o.s.drivers [] o.live.turns) version o.live.answered))
+          p.live.answered had had_too o.at_end p.at_end table.1
+
+-- ---- what a session has come of
+
+abbrev pub HaveOneFault : Type 0
+HaveOneFault =
+    (drivers : List DriverSpec) (f g : ConfigFault) → RefusesDrivers drivers f → RefusesDrivers drivers g → f ≡ g
+
+-- drivers that can be had are refused for want of memory alone
+drivers_had : HaveOneFault → (drivers : List DriverSpec) → IsDriverList drivers → (f : RunFault)
+    → RefusesAlone drivers f → f ≡ run.NoMemory
+drivers_had determined drivers had run.NoMemory h = refl
+drivers_had determined drivers had (run.ConfigFault f) h =
+    absurd (h.1 (determined drivers f config.NoMemory h.0 had))
+drivers_had determined drivers had (run.Strange p) h = absurd h
+drivers_had determined drivers had run.HistoryFull h = absurd h
+drivers_had determined drivers had run.Held h = absurd h
+
+-- the table spells programs, and no other text has a fault there
+pub no_fault : HasOneReading → (read output : List ℕ) (ended : Bool) (fault : TextFault)
+    → HasComeSoFar read ended output
+    → HasTableOf read ended (λ text. ReadsAny programs_grammar text (Err fault)) → fault.cause ≢ cause.NoMemory → ⊥
+no_fault reading read output ended fault (s, count, held, l) (table, rest, parts, over, bad) known =
+    let same = table_once ended table l.table rest _ over l.over (sym parts ∙ l.read_is) in
+    let there = subst (λ (t : List ℕ). ReadsAny programs_grammar (table_text t) (Err fault)) same.0 bad in
+    let one : Result ProgramLists TextFault = Ok l.programs in
+    let other : Result ProgramLists TextFault = Err fault in
+    let wrong : one ≡ other = reading (table_text l.table) one other (s.version, l.spelled, tt) there tt known in
+    absurd (cc wrong)
+
+-- and its drivers are not refused
+pub no_refusal : HasOneReading → HaveOneFault → (read output : List ℕ) (ended : Bool) (fault : RunFault)
+    → HasComeSoFar read ended output
+    → HasTableOf read ended (λ text. HasDrivers text (λ drivers. RefusesAlone drivers fault)) → fault ≡ run.NoMemory
+no_refusal reading determined read output ended fault (s, count, held, l)
+    (table, rest, parts, over, (version, p, spelled, refused)) =
+    let same = table_once ended table l.table rest _ over l.over (sym parts ∙ l.read_is) in
+    let there = subst (λ (t : List ℕ). Spells (programs_grammar version) (table_text t) p) same.0 spelled in
+    let programs : p ≡ l.programs = value_once reading (table_text l.table) version s.version p l.programs there
+    l.spelled in
+    let drivers : p.drivers ≡ s.drivers = ap (λ (x : ProgramLists). x.drivers) programs ∙ sym l.drivers in
+    drivers_had determined s.drivers l.can_be_had fault
+    (subst (λ (ds : List DriverSpec). RefusesAlone ds fault) drivers refused)
+
+-- each line that was taken is short
+all_short : (version : Version) (drivers : List DriverSpec) (history : List Entry) (ts : List Turn)
+    → AreAnswered version drivers history ts → AllByRecursion (λ t. length t.line ≤ MAX_INPUT) ts
+all_short version drivers history [] was = tt
+all_short version drivers history (t ∷ ts) was =
+    (was.0.1, all_short version drivers (history ++ entries_in t.answer) ts was.2)
+
+pub are_short : (read output held : List ℕ) (ended : Bool) (s : State) (count : ℕ)
+    (l : IsLive read ended output s count held)
+    → (length l.table ≤ MAX_INPUT) × AllByRecursion (λ t. length t.line ≤ MAX_INPUT) l.turns
+are_short read output held ended s count l = (l.fits, all_short s.version s.drivers [] l.turns l.answered)

@@ -1,0 +1,198 @@
+-- The worked live session.
+use Rattle.std.proofs.Common.{◌≡◌, ℕ, ◌+◌, false, List, [], ◌∷◌, ◌++◌, map, take, drop}
+use Rattle.std.proofs.Common.{Option, Some, None, refl, sym, ap, subst}
+use Rattle.std.proofs.Common.{inl, inr, arith, rules}
+use Rattle.std.specs.Fmt.{digits}
+use Rattle.std.specs.Prelude.{codes}
+use Rattle.smx_types.specs.declared.command.Command.{Command}
+use Rattle.smx_types.specs.declared.command.Entry.{Entry}
+use Rattle.smx_types.specs.declared.version.Version.TheVariants.{V2}
+use Rattle.smx_model.specs.Histories.{call_of}
+use Rattle.smx_model.specs.Worked.Common.{CloseAll, Fd, OpenClone, ◌does◌gets◌, eth}
+use Rattle.smx_text.specs.Grammar.{IsOneLine, beginning}
+use Rattle.smx_text.specs.TranscriptLines as line
+use Rattle.smx_text.specs.TranscriptText.{transcript_grammar}
+use Rattle.smx_session.specs.Sessions.{IsNoCall, IsStartOf, Performs}
+use Rattle.smx_session.specs.WorkedSessions.{begun, drivers, opened, table}
+use Rattle.smx_live.specs.LiveText.{IsOver, closing_text}
+use Rattle.smx_live.specs.Tables.{IsTable}
+use Rattle.smx_live.specs.Turns.{AsksForNeither, Entered, IsAnswer, IsEntryOf, NotDone, asked_text}
+use Rattle.smx_live.specs.Turns.{said_text}
+use Rattle.smx_live.specs.WorkedLives.{worked_answers, worked_input, worked_output, worked_table, worked_turns}
+use Rattle.smx_live.specs.declared.wrong.Wrong.TheVariants.{NoCommand, Full}
+use Rattle.smx_live.proofs.OneOutputLemmas.{no_entry, not_one, table_once}
+
+-- ---- tables
+
+-- lines that are not none
+no_lines : (l : List ℕ) (ls : List (List ℕ)) → l ∷ ls ≡ [] → ⊥
+no_lines l ls none = absurd (cc none)
+
+-- a table of these lines, behind which this line stands
+pub is_over : IsTable false worked_table (codes "3 clone eth\n")
+is_over = record {
+  lines = codes "programs 2" ∷ codes "driver eth leaf 2 8 3 16" ∷ [];
+  text = refl;
+  of_table = record { each = search (rules, arith); drivers = (refl, tt) };
+  over = inl (
+    11,
+    record { within = search arith; one = search (rules, arith); parts = refl },
+    search arith,
+    no_lines _ _,
+    refl,
+  );
+}
+
+-- one of a header alone
+header_alone : IsTable false (codes "programs 2\n") (codes "show\nend\n")
+header_alone = record {
+  lines = codes "programs 2" ∷ [];
+  text = refl;
+  of_table = record { each = search (rules, arith); drivers = tt };
+  over = inl (
+    4,
+    record { within = search arith; one = search (rules, arith); parts = refl },
+    search arith,
+    no_lines _ _,
+    refl,
+  );
+}
+
+pub not_too_early : IsTable false (codes "programs 2\n") (codes "driver eth leaf 2 8 3 16\n3 clone eth\n") → ⊥
+not_too_early t =
+    let same = table_once false worked_table (codes "programs 2\n") _ _ is_over t refl in absurd (cc same.0)
+
+pub not_too_late : IsTable false (codes "programs 2\nshow\n") (codes "end\n") → ⊥
+not_too_late t =
+    let same = table_once false (codes "programs 2\n") (codes "programs 2\nshow\n") _ _ header_alone t refl in
+    absurd (cc same.0)
+
+pub not_before_its_header : IsTable false [] (codes "programs 2\nshow\nend\n") → ⊥
+not_before_its_header t =
+    let same = table_once false (codes "programs 2\n") [] _ _ header_alone t refl in absurd (cc same.0)
+
+-- the bytes of a line that has not ended
+one_clone : IsOneLine (codes "3 clone eth")
+one_clone = search (rules, arith)
+
+pub not_within_a_line : IsTable false worked_table (codes "3 clone eth") → ⊥
+not_within_a_line t = elim t.over [
+  | inl (n, has, small, some, other) ↦ not_one (take n (codes "3 clone eth")) (drop (n + 1) (codes "3 clone eth"))
+      (subst IsOneLine has.parts one_clone)
+  | inr (end, short) ↦ absurd (cc end)
+]
+
+-- ---- answers
+
+pub show_is_asked : IsAnswer V2 drivers [] (codes "show") (NotDone NoCommand) → ⊥
+show_is_asked is = is.0.0 (inr refl)
+
+pub end_is_asked : IsAnswer V2 drivers [] (codes "end") (NotDone NoCommand) → ⊥
+end_is_asked is = is.0.1 refl
+
+pub not_full : IsAnswer V2 drivers [] (codes "x") (NotDone Full) → ⊥
+not_full is = omega (arith, is.1)
+
+pub not_performed : (e : Entry) → IsAnswer V2 drivers [] (codes "x") (Entered e) → ⊥
+not_performed e is =
+    no_entry is.asked is.told.0 120 (codes " = done") (λ ds h. absurd (cc h)) (sym is.is_read)
+
+-- ---- the session
+
+asks_for_neither : AsksForNeither (codes "x")
+asks_for_neither = (
+  λ asks. elim asks [
+    | inl none ↦ absurd (cc none)
+    | inr show ↦ absurd (cc show)
+  ],
+  λ end. absurd (cc end),
+)
+
+no_call : IsNoCall V2 (codes "x")
+no_call e fits is = no_entry e fits.0 120 (codes " = done") (λ ds h. absurd (cc h)) (sym is)
+
+-- the call of an entry, where there is one
+abbrev call_in : Option Entry → ℕ × Command
+call_in (Some e) = call_of e
+call_in None = (64, CloseAll)
+
+cloned : Performs begun (codes "3 clone eth") opened → IsEntryOf V2 drivers [] (codes "3 clone eth")
+    (3 does OpenClone eth gets Fd 0 0)
+cloned p = record {
+  asked = p.asked;
+  told = p.fits;
+  is_read = p.is_read;
+  call = ap call_in p.last;
+  legal = refl;
+  spelled = search (rules, arith);
+  room = search arith;
+}
+
+opening_is : codes "transcript 2\ndriver eth leaf 2 8 3 16\n"
+    ≡ beginning (transcript_grammar V2) (map line.Driver drivers ++ map line.Entry [])
+unfolding digits
+opening_is = refl
+
+said_is : worked_answers
+    ≡ codes "transcript 2\ndriver eth leaf 2 8 3 16\n" ++ said_text worked_turns
+unfolding digits
+said_is = refl
+
+whole_is : worked_output
+    ≡ worked_answers
+    ++ ([] ++ closing_text opened)
+unfolding digits
+whole_is = refl
+
+-- the table is over where the first of these lines stands
+table_over : IsTable false worked_table (asked_text worked_turns ++ codes "end\n3 exit\n")
+table_over = record {
+  lines = codes "programs 2" ∷ codes "driver eth leaf 2 8 3 16" ∷ [];
+  text = refl;
+  of_table = record { each = search (rules, arith); drivers = (refl, tt) };
+  over = inl (
+    11,
+    record { within = search arith; one = one_clone; parts = refl },
+    search arith,
+    no_lines _ _,
+    refl,
+  );
+}
+
+pub over : IsStartOf table begun → Performs begun (codes "3 clone eth") opened → IsOver worked_input false worked_output
+over start opens = record {
+  before = worked_answers;
+  s = opened;
+  count = 1;
+  held = codes "end\n3 exit\n";
+  live = record {
+    table = worked_table;
+    turns = worked_turns;
+    read_is = refl;
+    over = table_over;
+    fits = search arith;
+    programs = start.programs;
+    spelled = start.spelled;
+    drivers = start.drivers;
+    can_be_had = start.can_be_had;
+    answered = (
+      (one_clone, search arith),
+      cloned opens,
+      (
+        (tt, search arith),
+        (inl refl, refl),
+        ((search (rules, arith), search arith), (asks_for_neither, no_call, search arith), tt),
+      ),
+    );
+    few = search arith;
+    opening = codes "transcript 2\ndriver eth leaf 2 8 3 16\n";
+    begins = record { written = opening_is; drivers_fit = search (rules, arith); entries_fit = tt };
+    written = said_is;
+    now = refl;
+    counted = refl;
+  };
+  words = [];
+  at_end = inl (codes "3 exit\n", refl, refl);
+  written = whole_is;
+  spellable = search (rules, arith);
+}

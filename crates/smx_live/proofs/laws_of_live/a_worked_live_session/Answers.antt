@@ -1,0 +1,32 @@
+use Rattle.smx_live.proofs.WorkedLiveLemmas as worked
+use Rattle.smx_live.proofs.laws_of_live.a_worked_live_session.Goals as goal
+
+pub returns-clause-over : goal.returns-clause-over
+returns-clause-over c = worked.over c.a_worked_session.ensures.starts c.a_worked_session.ensures.opens
+
+pub returns-clause-table : goal.returns-clause-table
+returns-clause-table c = worked.is_over
+
+pub returns-clause-not_too_early : goal.returns-clause-not_too_early
+returns-clause-not_too_early c = worked.not_too_early
+
+pub returns-clause-not_too_late : goal.returns-clause-not_too_late
+returns-clause-not_too_late c = worked.not_too_late
+
+pub returns-clause-not_before_its_header : goal.returns-clause-not_before_its_header
+returns-clause-not_before_its_header c = worked.not_before_its_header
+
+pub returns-clause-not_within_a_line : goal.returns-clause-not_within_a_line
+returns-clause-not_within_a_line c = worked.not_within_a_line
+
+pub returns-clause-show_is_asked : goal.returns-clause-show_is_asked
+returns-clause-show_is_asked c = worked.show_is_asked
+
+pub returns-clause-end_is_asked : goal.returns-clause-end_is_asked
+returns-clause-end_is_asked c = worked.end_is_asked
+
+pub returns-clause-not_full : goal.returns-clause-not_full
+returns-clause-not_full c = worked.not_full
+
+pub returns-clause-not_performed : goal.returns-clause-not_performed
+returns-clause-not_performed c = worked.not_performed

@@ -1,0 +1,72 @@
+-- A worked live session: what is read and written, and what its lines are answered, all typed in.
+use Rattle.std.specs.Prelude.{◌≡◌, ℕ, List, [], ◌∷◌, ◌++◌, codes, refl}
+use Rattle.std.specs.Fmt.{digits}
+use Rattle.smx_model.specs.Views.{view}
+use Rattle.smx_model.specs.Worked.Common.{Fd, OpenClone, ◌does◌gets◌, eth}
+use Rattle.smx_session.specs.WorkedSessions.{begun, drivers, hung, one_open}
+use Rattle.smx_live.specs.LiveText.{closing_text, cut_words}
+use Rattle.smx_live.specs.Tables.{table_text}
+use Rattle.smx_live.specs.Turns.{Entered, NotDone, Shown, Turn, answer_text, wrong_line}
+use Rattle.smx_live.specs.declared.wrong.Wrong.TheVariants.{NoCommand, NoMemory, Full}
+
+-- the table
+abbrev pub worked_table : List ℕ
+worked_table = codes "programs 2\ndriver eth leaf 2 8 3 16\n"
+
+-- a command, an empty line, and a line that is none; with what they are answered
+abbrev pub worked_turns : List Turn
+worked_turns =
+    record { line = codes "3 clone eth"; answer = Entered (3 does OpenClone eth gets Fd 0 0) }
+    ∷ record { line = []; answer = Shown (view drivers one_open) }
+    ∷ record { line = codes "x"; answer = NotDone NoCommand } ∷ []
+
+-- what is read, of which the last line is not asked for
+abbrev pub worked_input : List ℕ
+worked_input = codes "programs 2\ndriver eth leaf 2 8 3 16\n3 clone eth\n\nx\nend\n3 exit\n"
+
+-- what is written up to the end, and in all
+abbrev pub worked_answers : List ℕ
+worked_answers =
+    codes "transcript 2\ndriver eth leaf 2 8 3 16\n3 clone eth = fd 0 0\n"
+    ++ codes "config\nnext 1 1\nfd 3 0 eth 0\nshown\n? no command\n"
+
+abbrev pub worked_output : List ℕ
+worked_output = worked_answers ++ codes "config\nnext 1 1\nfd 3 0 eth 0\nend\n"
+
+-- answers
+pub entry_told : answer_text (Entered (3 does OpenClone eth gets Fd 0 0)) ≡ codes "3 clone eth = fd 0 0\n"
+unfolding digits
+entry_told = refl
+
+pub view_told : answer_text (Shown (view drivers hung.configuration))
+    ≡ codes "config\nnext 1 1\nfd 3 0 eth 0\nhung eth 0\nshown\n"
+unfolding digits
+view_told = refl
+
+-- last lines
+pub end_told : closing_text begun ≡ codes "config\nnext 1 1\nend\n"
+unfolding digits
+end_told = refl
+
+-- words of a line that is refused, or cut
+pub no_command_told : wrong_line NoCommand ≡ codes "? no command\n"
+no_command_told = refl
+
+pub no_memory_told : wrong_line NoMemory ≡ codes "? no memory\n"
+no_memory_told = refl
+
+pub full_told : wrong_line Full ≡ codes "? history full\n"
+full_told = refl
+
+pub cut_told : cut_words (codes "en") ≡ codes "? cut\n"
+cut_told = refl
+
+pub no_cut_told : cut_words [] ≡ []
+no_cut_told = refl
+
+-- tables as programs
+pub table_ends : table_text worked_table ≡ codes "programs 2\ndriver eth leaf 2 8 3 16\nend\n"
+table_ends = refl
+
+pub no_table_ends : table_text [] ≡ []
+no_table_ends = refl
