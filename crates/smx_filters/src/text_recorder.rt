@@ -15,12 +15,7 @@ impl Recorder for TextRecorder {
 
     ghost told = { λ version drivers entries recorder. BeginsTranscript version drivers entries recorder.writer };
 
-    fn add(
-        &mut self,
-        process: Process,
-        command: &Command,
-        reply: &Reply,
-    ) -> Result<(), NoMemory> {
+    fn add(&mut self, process: Process, command: &Command, reply: &Reply) -> Result<(), NoMemory> {
         self.writer.add_entry(process, command, reply)
     }
 }

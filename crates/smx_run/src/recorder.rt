@@ -14,12 +14,7 @@ pub trait Recorder: Drop {
     ghost told: { AnyVersion → List Driver → List Made → Self → Type 0 };
 
     /// Tells it of the next entry. Fails only for want of memory; then it is of no more use.
-    fn add(
-        &mut self,
-        process: Process,
-        command: &Command,
-        reply: &Reply,
-    ) -> Result<(), NoMemory>
+    fn add(&mut self, process: Process, command: &Command, reply: &Reply) -> Result<(), NoMemory>
         ensures { OnOk result ((version : AnyVersion) (drivers : List Driver) (entries : List Made)
             → told version drivers entries self.old → told version drivers (entries
             ++ record { process = process; command = command.now; reply = reply.now } ∷ []) self.new) };

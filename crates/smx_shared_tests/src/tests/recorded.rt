@@ -10,7 +10,8 @@ use super::workers::written;
 use smx_run::{Gate, NewRecorder, NoGate, Recorder, run_recorded};
 use smx_text::read_programs;
 use smx_types::{
-    Command, ConfigView, Copied, DriverSpec, Drivers, Entries, Entry, NoMemory, Process, Reply, Transcript, Version,
+    Command, ConfigView, Copied, DriverSpec, Drivers, Entries, Entry, NoMemory, Process, Reply,
+    Transcript, Version,
 };
 use std::alloc::Global;
 use std::process::Abort;
@@ -32,12 +33,7 @@ impl Recorder for Kept {
     ghost told = { λ version drivers entries kept.
         (kept.version ≡ version) × (kept.drivers ≡ drivers) × (kept.entries ≡ entries) };
 
-    fn add(
-        &mut self,
-        process: Process,
-        command: &Command,
-        reply: &Reply,
-    ) -> Result<(), NoMemory> {
+    fn add(&mut self, process: Process, command: &Command, reply: &Reply) -> Result<(), NoMemory> {
         let command = command.copy(self.alloc)?;
         let reply = reply.copy(self.alloc)?;
         self.entries.push(Entry {

@@ -191,7 +191,18 @@ fn behind_transmit(text: &[u8]) -> Option<&[u8]>
         (λ rest. text.now ≡ codes "transmit" ++ SPACE ∷ rest.now) }
 {
     match text {
-        [b't', b'r', b'a', b'n', b's', b'm', b'i', b't', b' ', rest @ ..] => Some(rest),
+        [
+            b't',
+            b'r',
+            b'a',
+            b'n',
+            b's',
+            b'm',
+            b'i',
+            b't',
+            b' ',
+            rest @ ..,
+        ] => Some(rest),
         _ => None,
     }
 }
