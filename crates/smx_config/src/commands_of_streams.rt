@@ -120,7 +120,7 @@ impl Tables {
     {
         tells_existing(&self.drivers, &self.lists);
         let room = Vec::with_capacity(self.alloc, self.lists.queues.len())?;
-        let _closed = self.lists.streams.close_fd(process, fd);
+        let _gone = self.lists.streams.close_fd(process, fd);
         Ok(sweep_alone_and_reply(&self.drivers, &mut self.lists, stream, room))
     }
 
