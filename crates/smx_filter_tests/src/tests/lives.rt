@@ -169,7 +169,7 @@ fn with_a_long_line(
     let mut input = Vec::from_slice(rt.alloc(), front).expect(rt, "there is memory");
     let start = input.len();
     input
-        .resize(start + bytes, b'a')
+        .resize(start.saturating_add(bytes), b'a')
         .expect(rt, "there is memory");
     input.extend_from_slice(rest).expect(rt, "there is memory");
     live_bytes(rt.alloc(), input.as_slice())
