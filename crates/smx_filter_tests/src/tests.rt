@@ -15,6 +15,7 @@ mod reading;
 mod replays;
 mod runs;
 mod sessions;
+mod shown_faults;
 mod tried_again;
 mod versions;
 mod workers;
