@@ -15,7 +15,7 @@ use crate::run_fault::RunFault;
 use smx_config::Config;
 use smx_model::laws::one_entry_more;
 use smx_types::{
-    Command, Commands, ConfigView, DriverSpec, Entry, NoMemory, Process, ProgramList, Version,
+    Command, Commands, ConfigView, DriverSpec, NoMemory, Process, ProgramList, Version,
 };
 use std::alloc::Global;
 
@@ -75,7 +75,7 @@ impl<K: Recorder> Recording<K> {
     {
         let mut number = 0;
         for command in commands.into_vec() {
-            self.perform_at(gate, number, command)?;
+            self.perform_at(gate, number, &command)?;
             number += 1;
         }
         Ok(())
@@ -86,9 +86,9 @@ impl<K: Recorder> Recording<K> {
         &mut self,
         gate: &G,
         number: usize,
-        command: Command,
+        command: &Command,
     ) -> Result<(), NoMemory>
-        ensures { OnOk result (PerformedRecording K.told self.old (command ∷ []) self.new) }
+        ensures { OnOk result (PerformedRecording K.told self.old (command.now ∷ []) self.new) }
     {
         gate.before(self.process, number);
         let outcome = self.perform(command);
@@ -96,18 +96,14 @@ impl<K: Recorder> Recording<K> {
         outcome
     }
 
-    // Performs the next command, which is given up. Fails only for want of memory.
-    fn perform(&mut self, command: Command) -> Result<(), NoMemory>
-        ensures { OnOk result (PerformedRecording K.told self.old (command ∷ []) self.new) }
+    // Performs the next command. Fails only for want of memory.
+    fn perform(&mut self, command: &Command) -> Result<(), NoMemory>
+        ensures { OnOk result (PerformedRecording K.told self.old (command.now ∷ []) self.new) }
     {
         one_entry_more();
         let process = self.process;
-        let reply = self.config.step(process, &command)?;
-        self.recorder.add(&Entry {
-            process,
-            command,
-            reply,
-        })?;
+        let reply = self.config.step(process, command)?;
+        self.recorder.add(process, command, &reply)?;
         Ok(())
     }
 

@@ -10,7 +10,8 @@ use super::workers::written;
 use smx_run::{Gate, NewRecorder, NoGate, Recorder, run_recorded};
 use smx_text::read_programs;
 use smx_types::{
-    ConfigView, Copied, DriverSpec, Drivers, Entries, Entry, NoMemory, Process, Transcript, Version,
+    Command, ConfigView, Copied, DriverSpec, Drivers, Entries, Entry, NoMemory, Process, Reply,
+    Transcript, Version,
 };
 use std::alloc::Global;
 use std::process::Abort;
@@ -32,9 +33,14 @@ impl Recorder for Kept {
     ghost told = { λ version drivers entries kept.
         (kept.version ≡ version) × (kept.drivers ≡ drivers) × (kept.entries ≡ entries) };
 
-    fn add(&mut self, entry: &Entry) -> Result<(), NoMemory> {
-        let entry = entry.copy(self.alloc)?;
-        self.entries.push(entry)
+    fn add(&mut self, process: Process, command: &Command, reply: &Reply) -> Result<(), NoMemory> {
+        let command = command.copy(self.alloc)?;
+        let reply = reply.copy(self.alloc)?;
+        self.entries.push(Entry {
+            process,
+            command,
+            reply,
+        })
     }
 }
 
@@ -120,7 +126,12 @@ pub struct Counting<'a> {
 impl<'a> Recorder for Counting<'a> {
     ghost told = { λ _ _ _ _. Unit {0} };
 
-    fn add(&mut self, _entry: &Entry) -> Result<(), NoMemory> {
+    fn add(
+        &mut self,
+        _process: Process,
+        _command: &Command,
+        _reply: &Reply,
+    ) -> Result<(), NoMemory> {
         if self.told.fetch_add(1, Ordering::SeqCst) < self.most {
             Ok(())
         } else {

@@ -26,7 +26,8 @@ returns-in-Ok-true-clause-added c =
     let fits = subst (λ (v : Version). FitsCommandIn v is.0) same is.1 in
     let more = added_command c.self.inside.drivers.items c.self.inside.programs c.push_command.new.self is.0
     (search rules) is.3 in
-    on_added_line c.args.self.now.version (body c.args.self.now) _ (line.Command is.0) c.args.text.now is.2 (Ok (tt {0}))
+    on_added_line c.args.self.now.version (body c.args.self.now) _ (line.Command is.0) c.args.text.now is.2
+    (Ok (tt {0}))
     (adds c.args.self.now.version c.args.self.now _ (line.Command is.0) refl same c.requires.begun c.requires.few fits
     (search rules))
 
@@ -56,7 +57,8 @@ returns-in-Ok-false-clause-refused c =
       drivers = c.self.inside.drivers.items;
       programs = ps;
     }) is.0 ∙ c.self.view_is in
-    subst (λ (v : ProgramLists). IfErr c.add_other.result (Refuses (programs_grammar v.version) (body v) c.args.text.now))
+    subst
+    (λ (v : ProgramLists). IfErr c.add_other.result (Refuses (programs_grammar v.version) (body v) c.args.text.now))
     view c.add_other.ensures.refused
 
 pub returns-in-Err-clause-refused : goal.returns-in-Err-clause-refused
