@@ -19,8 +19,8 @@ use smx_types::{
 };
 use std::alloc::Global;
 
-/// Where the commands of one process after the other are performed. The recorder is told of each entry, which is then
-/// given up.
+/// Where the commands of one process after the other are performed. The recorder is told of each, with its process and
+/// its reply; no entry is made.
 #[derive(Drop)]
 pub struct Recording<K: Drop> {
     /// The process whose commands come next.
