@@ -50,6 +50,8 @@ pub fn run_programs<R: Threads + Wait + Sync, G: Gate + Sync>(
     ensures fronts { IfOk result (λ r. AreFrontsFrom r.drivers r.entries 0 programs.programs r.fronts) }
     ensures refused { IfErr result (RefusesRun programs.drivers) }
     ensures alone { (workers ≤ 1) ⊎ (length programs.programs ≤ 1) → IfErr result (RefusesAlone programs.drivers) }
+    ensures in_turn { (workers ≤ 1) ⊎ (length programs.programs ≤ 1)
+        → IfOk result (λ r. map call_of r.entries ≡ calls_from 0 programs.programs) }
 {
     few_commands_drop();
     let (drivers, programs) = programs.into_parts();
@@ -91,6 +93,8 @@ fn run_all<R: Threads + Wait + Sync, G: Gate + Sync>(
     ensures fronts { IfOk result (λ r. AreFrontsFrom r.0.drivers r.0.history 0 programs r.1) }
     ensures refused { IfErr result (RefusesRun system.drivers) }
     ensures alone { (workers ≤ 1) ⊎ (length programs ≤ 1) → IfErr result (RefusesAlone system.drivers) }
+    ensures in_turn { (workers ≤ 1) ⊎ (length programs ≤ 1)
+        → IfOk result (λ r. map call_of r.0.history ≡ calls_from 0 programs) }
 {
     let hands = workers.min(programs.as_slice().len());
     if hands < 2 {
