@@ -17,10 +17,10 @@ use Rattle.smx_text.specs.TranscriptText.{transcript_grammar, view_body}
 
 -- programs of this version, within its limits, with so many drivers, programs and commands
 pub record IsCounted (p : ProgramLists) (version : Version) (drivers programs commands : ℕ) : Type 0 where
-  pub version : version ≡ p.version
-  pub drivers : drivers ≡ length p.drivers
-  pub programs : programs ≡ length p.programs
-  pub commands : commands ≡ sum_by length p.programs
+  pub of_version : version ≡ p.version
+  pub has_drivers : drivers ≡ length p.drivers
+  pub has_programs : programs ≡ length p.programs
+  pub has_commands : commands ≡ sum_by length p.programs
   pub few_drivers : drivers ≤ most_drivers version
   pub few_programs : programs ≤ MAX_PROCESSES
   pub few_commands : commands ≤ MAX_COMMANDS
