@@ -2,7 +2,7 @@ use Rattle.std.proofs.Common.{rules, refl}
 use Rattle.smx_text.specs.TranscriptLines as line
 use Rattle.smx_text.proofs.TranscriptDrafts.{with_line}
 use Rattle.smx_text.proofs.TranscriptLemmas.{adds, longer_begun}
-use Rattle.smx_text.proofs.transcript.entries.TranscriptDraft.add_entry.Goals as goal
+use Rattle.smx_text.proofs.transcript.draft.TranscriptDraft.add_entry.Goals as goal
 
 pub returns-in_err-room_for_entry-clause-refused : goal.returns-in_err-room_for_entry-clause-refused
 returns-in_err-room_for_entry-clause-refused c = let why =

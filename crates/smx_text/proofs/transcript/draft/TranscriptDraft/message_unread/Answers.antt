@@ -1,7 +1,7 @@
 use Rattle.std.proofs.Common.{rules, refl}
 use Rattle.smx_text.specs.TranscriptLines as line
 use Rattle.smx_text.proofs.TranscriptLemmas.{longer_begun, misplaced}
-use Rattle.smx_text.proofs.transcript.groups.TranscriptDraft.message_unread.Goals as goal
+use Rattle.smx_text.proofs.transcript.draft.TranscriptDraft.message_unread.Goals as goal
 
 pub returns-then-takes_msgs : goal.returns-then-takes_msgs
 returns-then-takes_msgs c =

@@ -1,7 +1,7 @@
 use Rattle.smx_text.specs.TranscriptLines as line
 use Rattle.smx_text.specs.Drafts.{lines}
 use Rattle.smx_text.proofs.TranscriptGrammarLemmas.{on_added_line, on_refused_line, no_line}
-use Rattle.smx_text.proofs.transcript.groups.TranscriptDraft.add_to_group.Goals as goal
+use Rattle.smx_text.proofs.transcript.draft.TranscriptDraft.add_to_group.Goals as goal
 
 pub returns-in-Some-clause-added : goal.returns-in-Some-clause-added
 returns-in-Some-clause-added c =

@@ -2,7 +2,7 @@ use Rattle.std.proofs.Common.{rules, refl}
 use Rattle.smx_text.specs.TranscriptLines as line
 use Rattle.smx_text.proofs.TranscriptDrafts.{with_line}
 use Rattle.smx_text.proofs.TranscriptLemmas.{misplaced, group_added, longer_begun}
-use Rattle.smx_text.proofs.transcript.groups.TranscriptDraft.add_hung.Goals as goal
+use Rattle.smx_text.proofs.transcript.draft.TranscriptDraft.add_hung.Goals as goal
 
 pub returns-then-not-takes_hungs-clause-refused : goal.returns-then-not-takes_hungs-clause-refused
 returns-then-not-takes_hungs-clause-refused c = misplaced c.args.self.now (line.Hung c.args.hung) (search rules)

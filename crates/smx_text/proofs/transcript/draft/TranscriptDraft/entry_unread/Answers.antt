@@ -1,7 +1,7 @@
 use Rattle.std.proofs.Common.{rules}
 use Rattle.smx_text.specs.TranscriptLines as line
 use Rattle.smx_text.proofs.TranscriptLemmas.{longer_begun}
-use Rattle.smx_text.proofs.transcript.entries.TranscriptDraft.entry_unread.Goals as goal
+use Rattle.smx_text.proofs.transcript.draft.TranscriptDraft.entry_unread.Goals as goal
 
 pub returns-in-Ok : goal.returns-in-Ok
 returns-in-Ok c =

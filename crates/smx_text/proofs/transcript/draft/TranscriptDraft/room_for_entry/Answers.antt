@@ -1,7 +1,7 @@
 use Rattle.std.proofs.Common.{rules}
 use Rattle.smx_text.specs.TranscriptLines as line
 use Rattle.smx_text.proofs.TranscriptLemmas.{misplaced, too_many}
-use Rattle.smx_text.proofs.transcript.entries.TranscriptDraft.room_for_entry.Goals as goal
+use Rattle.smx_text.proofs.transcript.draft.TranscriptDraft.room_for_entry.Goals as goal
 
 pub returns-then-ne-clause-refused : goal.returns-then-ne-clause-refused
 returns-then-ne-clause-refused c = λ e. misplaced c.args.self.now (line.Entry e) (search rules)
