@@ -1,6 +1,6 @@
 //! A run of programs that come piece by piece: each command is performed as it comes.
 
-ghost use Rattle.std.specs.Prelude.{◌≡◌, ◌<◌, [], length, IfErr, IfOk, OnOk};
+ghost use Rattle.std.specs.Prelude.{◌≡◌, ◌<◌, [], length, IfErr, IfOk, OnErr, OnOk};
 ghost use Rattle.smx_types.specs.ProgramLists.{AreWithinLimits, ProgramLists};
 ghost use Rattle.smx_types.specs.declared.limits.TheConstants.{MAX_PROCESSES};
 ghost use Rattle.smx_run.specs.GrowingRuns.{IsGrown, IsRecordingOf, with_command, with_driver, with_program};
@@ -77,10 +77,12 @@ impl<K: NewRecorder> GrowingRun<K> {
         self.version
     }
 
-    /// One driver more. All of them come before the first process. Fails only for want of memory.
+    /// One driver more. All of them come before the first process. Fails only for want of memory, and then it does not
+    /// come.
     pub fn add_driver(&mut self, driver: DriverSpec) -> Result<(), NoMemory>
         requires { self.old.programs ≡ [] }
-        ensures { OnOk result (self.new ≡ with_driver self.old driver) }
+        ensures came { OnOk result (self.new ≡ with_driver self.old driver) }
+        ensures kept { OnErr result (self.new ≡ self.old) }
     {
         let came = self.came.then(&driver);
         match &mut self.stage {

@@ -36,11 +36,14 @@ module _ {V K : Type 0} (g : Grammar V K) (made : IsWellMade g) (decides : (line
       → IsBetween g bytes rest lines number → IsOneLine text × (rest ≡ text ++ LINE_FEED ∷ after)
       → (text ≡ line_text g g.end) → (v : V) → g.IsAllowed v → g.body v ≡ lines → HasReading g bytes
   ends bytes rest lines number text [] at next end v allowed e =
-      (Ok v, read_to_end g bytes rest lines number text [] at next end (Ok v) (allowed, e, refl), tt)
+      let makes : V → V → Type 0 = λ (v w : V). w ≡ v in
+      let read = read_to_end g bytes rest lines number text [] at next end makes (Ok v) (v, allowed, e, refl, refl) in
+      (Ok v, subst (Spells g bytes) (sym read.2) read.1, tt)
   ends bytes rest lines number text (b ∷ after) at next end v allowed e =
+      let makes : V → V → Type 0 = λ (v w : V). w ≡ v in
       let fault : TextFault = record { line = number + 1; cause = cause.Trailing } in (
         Err fault,
-        read_to_end g bytes rest lines number text (b ∷ after) at next end (Err fault)
+        read_to_end g bytes rest lines number text (b ∷ after) at next end makes (Err fault)
             (inr (v, allowed, e, omega arith, refl)),
         λ c. cc,
       )

@@ -132,10 +132,10 @@ begun_within v begun =
       few V2 h = h
 
 -- they end as what is made of them
-pub finished : {W : Type 0} (makes : ProgramLists → W → Type 0) (version : Version) (v : ProgramLists) (w : W)
-    → version ≡ v.version → IsBegun (programs_grammar version) (body v) → makes v w
-    → EndsAs (programs_grammar version) makes (body v) (Some w)
-finished makes version v w is begun made = (v, allowed_of version v (sym is) begun, refl, made)
+pub finished : {W : Type 0} (makes : ProgramLists → W → Type 0) (v : ProgramLists) (w : W)
+    → IsBegun (programs_grammar v.version) (body v) → makes v w
+    → EndsAs (programs_grammar v.version) makes (body v) (Some w)
+finished makes v w begun made = (v, allowed_of v.version v refl begun, refl, made)
 
 -- ---- what is kept of them
 

@@ -199,11 +199,16 @@ module _ {V K : Type 0} (g : Grammar V K) where
 -- ---- texts of several versions
 
 module _ {V K : Type 0} (g : Version → Grammar V K) (bytes : List ℕ) where
+  -- a fault of one version that is none of the header
+  pub any_fault : (version : Version) (f : TextFault) → IsFault (g version) bytes f.line f.cause
+      → f.cause ≢ cause.Header → ReadsAny g bytes (Err f)
+  any_fault version f fault behind = (version, fault, λ header. absurd (behind header))
+
   -- an answer of one version that says nothing of the header
   pub any_of : {W : Type 0} (makes : V → W → Type 0) (version : Version) (r : Result W TextFault)
       → MakesIn (g version) makes bytes r → IfErr r (λ f. f.cause ≢ cause.Header) → MakesAny g makes bytes r
   any_of makes version (Ok w) (v, spells, made) behind = (v, (version, spells, tt), made)
-  any_of makes version (Err f) fault behind = (version, fault, λ header. absurd (behind header))
+  any_of makes version (Err f) fault behind = any_fault version f fault behind
 
   -- where the value itself is made, a reader may answer it
   pub made_is_read : (r : Result V TextFault) → MakesAny g (λ v w. w ≡ v) bytes r → ReadsAny g bytes r
