@@ -1,6 +1,6 @@
 -- Each text has a reading. For any kind of text of which each line is decided.
 use Rattle.std.proofs.Common.{◌≡◌, ◌≢◌, ℕ, zero, suc, ◌+◌, ◌<◌, Bool, true, false, List, [], ◌∷◌, ◌++◌}
-use Rattle.std.proofs.Common.{length, Result, Ok, Err, refl, ap, ◌∙◌, arith, inl, inr}
+use Rattle.std.proofs.Common.{length, Result, Ok, Err, refl, sym, ap, subst, ◌∙◌, arith, inl, inr}
 use Rattle.std.specs.Prelude.{◌⊎◌, IfErr}
 use Rattle.std.proofs.lemmas.List.{length-append}
 use Rattle.std.proofs.lemmas.Slice.Eq.{bytes_eq-Decides}
@@ -10,7 +10,7 @@ use Rattle.smx_text.specs.declared.text_fault.Cause.{Cause}
 use Rattle.smx_text.specs.declared.text_fault.Cause.TheVariants as cause
 use Rattle.smx_text.specs.declared.text_fault.TextFault.{TextFault}
 use Rattle.smx_text.specs.Grammar.{Grammar, IsOneLine, header, line_text, IsBegun, IsNoLine, IsOneTooMany}
-use Rattle.smx_text.specs.Grammar.{IsOneMore, IsFault, Reads}
+use Rattle.smx_text.specs.Grammar.{IsOneMore, IsFault, Reads, Spells}
 use Rattle.smx_text.proofs.ReadingLemmas.{IsBetween, started, cut_at, refused, one_more, read_to_end}
 use Rattle.smx_text.proofs.LineLemmas.{first_line}
 use Rattle.smx_text.proofs.GrammarLemmas.{IsWellMade}

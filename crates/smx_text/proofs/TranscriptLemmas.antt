@@ -169,16 +169,14 @@ longer_begun d k begun may room fits other =
 
 -- the end
 pub whole : (d : TranscriptDraft) → IsBegun (grammar_of d) (lines d) → d.stage ≡ stage.View
-    → (t : Transcript) × IsAllowed d.transcript.version t × (body t ≡ lines d) × (d.transcript ≡ t)
+    → IsAllowed d.transcript.version d.transcript × (body d.transcript ≡ lines d)
 whole d begun view =
     let same : d ≡ draft stage.View d.transcript = ap (λ (s : Stage). draft s d.transcript) view in
     let is : body d.transcript ≡ lines d = sym (ap lines same) in (
-      d.transcript,
       allowed d.transcript.version (draft stage.View d.transcript) refl (subst IsWithin same (draft_within d begun))
           (subst (AllByRecursion (FitsLine d.transcript.version)) (ap lines same)
           (fits_of d.transcript.version (lines d) begun)),
       is,
-      refl,
     )
 
 -- ---- lines of the groups of a view

@@ -14,7 +14,6 @@ use draft::ProgramsDraft;
 use smx_types::Programs;
 use std::alloc::Global;
 use taken::TakenPrograms;
-
 pub use taker::ProgramTaker;
 
 /// The programs that a text spells, or the first line at which it goes wrong. `Cause` says when each
