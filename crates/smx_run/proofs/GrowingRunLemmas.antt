@@ -4,7 +4,8 @@ use Rattle.std.proofs.Common.{Err, refl, sym, ap, subst, ◌∙◌, append_assoc
 use Rattle.std.proofs.Math.ListN.{set}
 use lib.ListN.{length-set}
 use Rattle.std.proofs.lemmas.List.{append-nil, map-append, length-append}
-use Rattle.std.specs.Prelude.{IfOk, IfErr}
+use Rattle.std.specs.Prelude.{false, IfOk, IfErr, OnOk}
+use Rattle.std.specs.Result.{is_err}
 use Rattle.smx_types.specs.ProgramLists.{ProgramLists}
 use Rattle.smx_types.specs.declared.command.Command.{Command}
 use Rattle.smx_types.specs.declared.command.Entry.{Entry}
@@ -46,6 +47,11 @@ asked_last lists p c some =
 as_many : (lists : ProgramLists) (c : Command) → length (with_command lists c).programs ≡ length lists.programs
 as_many lists c = length-set lists.programs (length lists.programs - 1)
     (get_or lists.programs (length lists.programs - 1) [] ++ c ∷ [])
+
+-- what was not an error was done
+pub was_done : {A E P : Type 0} (r : Result A E) → is_err r ≡ false → OnOk r P → P
+was_done (Ok x) is done = done
+was_done (Err e) is done = absurd cc
 
 module _ {K : Type 0} (told : Version → List DriverSpec → List Entry → K → Type 0) where
   -- where drivers came alone, nothing was asked

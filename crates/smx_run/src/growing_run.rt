@@ -101,10 +101,7 @@ impl<K: NewRecorder> GrowingRun<K> {
     {
         let process = Process::new(self.processes).unwrap();
         let stage = replace(&mut self.stage, Stage::Failed(RunFault::NoMemory));
-        self.stage = match recording_of(self.alloc, self.version, stage) {
-            Ok(recording) => Stage::Running(recording.of_process(process)),
-            Err(fault) => Stage::Failed(fault),
-        };
+        self.stage = at_process(self.alloc, self.version, stage, process);
         self.processes += 1;
         self.commands = 0;
         self.came = self.came.then(&process);
@@ -116,13 +113,7 @@ impl<K: NewRecorder> GrowingRun<K> {
         requires { 0 < length self.old.programs }
         ensures { self.new ≡ with_command self.old command.now }
     {
-        let outcome = match &mut self.stage {
-            Stage::Running(recording) => recording.perform_at(gate, self.commands, command),
-            Stage::Gathering(_, _) | Stage::Failed(_) => Ok(()),
-        };
-        if outcome.is_err() {
-            self.stage = Stage::Failed(RunFault::NoMemory);
-        }
+        self.stage.perform(gate, self.commands, command);
         self.commands = self.commands.saturating_add(1);
         self.came = self.came.then(command);
     }
@@ -138,6 +129,39 @@ impl<K: NewRecorder> GrowingRun<K> {
         few_commands_drop();
         let recording = recording_of(self.alloc, self.version, self.stage)?;
         Ok(recording.finish()?)
+    }
+}
+
+impl<K: NewRecorder> Stage<K> {
+    // Has this command of a process performed, which has this number there, where nothing failed before.
+    fn perform<G: Gate>(&mut self, gate: &G, number: usize, command: &Command)
+        ensures { (lists : ProgramLists) → 0 < length lists.programs → IsGrown K.told lists self.old
+            → IsGrown K.told (with_command lists command.now) self.new }
+    {
+        match self {
+            Stage::Running(recording) => {
+                if recording.perform_at(gate, number, command).is_err() {
+                    *self = Stage::Failed(RunFault::NoMemory);
+                }
+            }
+            Stage::Gathering(_, _) | Stage::Failed(_) => {}
+        }
+    }
+}
+
+// How far a run is where the commands of this process come next, behind which none came yet.
+fn at_process<K: NewRecorder>(
+    alloc: Global,
+    version: Version,
+    stage: Stage<K>,
+    process: Process,
+) -> Stage<K>
+    ensures { (lists : ProgramLists) → lists.version ≡ version → length lists.programs ≡ process
+        → IsGrown K.told lists stage → IsGrown K.told (with_program lists) result }
+{
+    match recording_of(alloc, version, stage) {
+        Ok(recording) => Stage::Running(recording.of_process(process)),
+        Err(fault) => Stage::Failed(fault),
     }
 }
 
