@@ -102,11 +102,7 @@ fn kept_for(fault: MainFault, input: Vec<u8>) -> Refusal
 
 // The transcript of a run, on this thread alone, of the programs that the input spells. Each command is performed as its
 // line is read, and its own line written then.
-fn transcript_as_read<G: Gate>(
-    alloc: Global,
-    input: &[u8],
-    gate: &G,
-) -> Result<Vec<u8>, MainFault>
+fn transcript_as_read<G: Gate>(alloc: Global, input: &[u8], gate: &G) -> Result<Vec<u8>, MainFault>
     ensures { Answers (running false 1) input.now (items_of result) }
 {
     let room = room_for_transcript(alloc, input.len());

@@ -13,7 +13,7 @@ use crate::text_fault::TextFault;
 use draft::ProgramsDraft;
 use smx_types::Programs;
 use std::alloc::Global;
-use taken::TakenPrograms;
+pub use taken::TakenPrograms;
 pub use taker::ProgramTaker;
 
 /// The programs that a text spells, or the first line at which it goes wrong. `Cause` says when each

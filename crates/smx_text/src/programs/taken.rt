@@ -6,7 +6,7 @@ use smx_types::{DriverSpec, Drivers, NoMemory, Programs, Version};
 use std::alloc::Global;
 use std::marker::Model;
 
-// The drivers and programs so far.
+/// Keeps all that it takes: the programs that a text spells.
 #[derive(Debug, Drop)]
 pub struct TakenPrograms {
     version: Version,
