@@ -47,28 +47,64 @@ pub enum ReplyVerb {
 fn verb_of(word: &[u8]) -> Option<Verb>
     ensures { IsFoundIn FitsAlways verb_word word.now result }
 {
-    match word {
-        b"clone" => Some(Verb::Clone),
-        b"open" => Some(Verb::Open),
-        b"dup" => Some(Verb::Dup),
-        b"close" => Some(Verb::Close),
-        b"exit" => Some(Verb::Exit),
-        b"link" => Some(Verb::Link),
-        b"plink" => Some(Verb::Plink),
-        b"unlink" => Some(Verb::Unlink),
-        b"punlink" => Some(Verb::Punlink),
-        b"bind" => Some(Verb::Bind),
-        b"unbind" => Some(Verb::Unbind),
-        b"route" => Some(Verb::Route),
-        b"unroute" => Some(Verb::Unroute),
-        b"write" => Some(Verb::Write),
-        b"read" => Some(Verb::Read),
-        b"flush" => Some(Verb::Flush),
-        b"inject" => Some(Verb::Inject),
-        b"transmit" => Some(Verb::Transmit),
-        b"hangup" => Some(Verb::Hangup),
-        _ => None,
+    if word == b"clone".as_slice() {
+        return Some(Verb::Clone);
     }
+    if word == b"open".as_slice() {
+        return Some(Verb::Open);
+    }
+    if word == b"dup".as_slice() {
+        return Some(Verb::Dup);
+    }
+    if word == b"close".as_slice() {
+        return Some(Verb::Close);
+    }
+    if word == b"exit".as_slice() {
+        return Some(Verb::Exit);
+    }
+    if word == b"link".as_slice() {
+        return Some(Verb::Link);
+    }
+    if word == b"plink".as_slice() {
+        return Some(Verb::Plink);
+    }
+    if word == b"unlink".as_slice() {
+        return Some(Verb::Unlink);
+    }
+    if word == b"punlink".as_slice() {
+        return Some(Verb::Punlink);
+    }
+    if word == b"bind".as_slice() {
+        return Some(Verb::Bind);
+    }
+    if word == b"unbind".as_slice() {
+        return Some(Verb::Unbind);
+    }
+    if word == b"route".as_slice() {
+        return Some(Verb::Route);
+    }
+    if word == b"unroute".as_slice() {
+        return Some(Verb::Unroute);
+    }
+    if word == b"write".as_slice() {
+        return Some(Verb::Write);
+    }
+    if word == b"read".as_slice() {
+        return Some(Verb::Read);
+    }
+    if word == b"flush".as_slice() {
+        return Some(Verb::Flush);
+    }
+    if word == b"inject".as_slice() {
+        return Some(Verb::Inject);
+    }
+    if word == b"transmit".as_slice() {
+        return Some(Verb::Transmit);
+    }
+    if word == b"hangup".as_slice() {
+        return Some(Verb::Hangup);
+    }
+    None
 }
 
 // The one verb whose word the bytes may begin with, by its first letters.
