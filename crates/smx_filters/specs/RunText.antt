@@ -50,6 +50,11 @@ pub record IsTranscriptInTurn (programs : ProgramLists) (output : List ℕ) : Ty
   -- and the output is its transcript, and nothing else.
   pub written : SpellsTranscript output report
 
+-- what a run on one thread gives: that transcript, or why it is refused
+abbrev pub IsRunAlone : ProgramLists → Result (Vec ℕ Global) RunFault → Type 0
+IsRunAlone programs (Ok text) = IsTranscriptInTurn programs text.items
+IsRunAlone programs (Err fault) = RefusesAlone programs.drivers fault
+
 -- what so many workers write: the fronts, or the transcript, which one worker alone makes of one program after the
 -- other
 abbrev pub IsWrittenFor : Bool → ℕ → ProgramLists → List ℕ → Type 0

@@ -53,6 +53,17 @@ impl<K: NewRecorder> Recording<K> {
 }
 
 impl<K: Recorder> Recording<K> {
+    /// The same, where the commands of this process come next. Takes no memory.
+    pub fn of_process(self, process: Process) -> Recording<K>
+        ensures process { result.process ≡ process }
+        ensures config { result.config ≡ self.config }
+        ensures recorder { result.recorder ≡ self.recorder }
+    {
+        let mut recording = self;
+        recording.process = process;
+        recording
+    }
+
     /// Has each program performed to its end, in turn, from process 0 on. Fails only for want of memory.
     pub fn run_all<G: Gate>(&mut self, programs: ProgramList, gate: &G) -> Result<(), NoMemory>
         requires processes { length programs ≤ MAX_PROCESSES }
@@ -81,8 +92,8 @@ impl<K: Recorder> Recording<K> {
         Ok(())
     }
 
-    // Performs the next command, and tells the gate before and after, whatever came of it.
-    fn perform_at<G: Gate>(
+    /// Performs the next command, and tells the gate before and after, whatever came of it. Fails only for want of memory.
+    pub fn perform_at<G: Gate>(
         &mut self,
         gate: &G,
         number: usize,

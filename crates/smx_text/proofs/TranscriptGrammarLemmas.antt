@@ -240,7 +240,8 @@ refused_line version ls k text fits is why h =
     refuses (transcript_grammar version) (tells_apart version) ls k text fits is why h
 
 -- where a draft doesn't take the end, a text may not end behind its lines
-pub not_at_end : (d : TranscriptDraft) → takes d line.End ≡ false → EndsAs (grammar_of d) (lines d) None
+pub not_at_end : (d : TranscriptDraft) → takes d line.End ≡ false
+    → IsNoLine (grammar_of d) (lines d) (line_text (grammar_of d) line.End)
 not_at_end d h =
     refused_line d.transcript.version (lines d) line.End (line_text (grammar_of d) line.End) tt refl cause.Form
     (misplaced d line.End h)

@@ -18,5 +18,5 @@ use std::alloc::Global;
 pub fn read_transcript(alloc: Global, bytes: &[u8]) -> Result<Transcript, TextFault>
     ensures { ReadsAny transcript_grammar bytes.now result }
 {
-    read::<TranscriptDraft>(alloc, bytes)
+    read::<TranscriptDraft>(alloc, (), bytes)
 }

@@ -91,7 +91,7 @@ exit
 end
 ";
 
-const OF_TWO_PROCESSES: &[u8] = b"transcript 1
+pub const OF_TWO_PROCESSES: &[u8] = b"transcript 1
 driver ip mux 2 8 3 16
 driver eth leaf 1 4 0 2
 0 clone eth = fd 0 0
@@ -167,7 +167,7 @@ fn counts<G: Gate>(
 }
 
 // What a gate is told of the six commands of the two processes.
-const OF_SIX_COMMANDS: [Told; 12] = [
+pub const OF_SIX_COMMANDS: [Told; 12] = [
     Before(0, 0),
     After(0, 0),
     Before(0, 1),
@@ -204,7 +204,7 @@ fn a_recorded_run_stops_where_its_recorder_does(rt: HostRuntime) -> Result<(), F
     Ok(())
 }
 
-const SAME_NAME: &[u8] =
+pub const SAME_NAME: &[u8] =
     b"programs 1\ndriver ip mux 4 8 3 16\ndriver ip leaf 1 1 0 1\nprocess 0\nexit\nend\n";
 
 #[test]

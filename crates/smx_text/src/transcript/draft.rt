@@ -36,16 +36,23 @@ pub struct TranscriptDraft {
 }
 
 impl Draft for TranscriptDraft {
+    type With = ();
+
     type Whole = Transcript;
 
-    ghost use Rattle.std.specs.Prelude.{refl};
+    ghost use Rattle.std.specs.Prelude.{◌≡◌, refl};
+    ghost use Rattle.smx_types.specs.declared.transcript.Transcript.{Transcript as AnyTranscript};
     ghost use Rattle.smx_text.specs.Drafts.{lines};
     ghost use Rattle.smx_text.specs.TranscriptLines.{TranscriptLine};
     ghost use Rattle.smx_text.specs.TranscriptText.{transcript_grammar};
 
+    ghost Said = { AnyTranscript };
+
     ghost Line = { TranscriptLine };
 
     ghost grammar = { transcript_grammar };
+
+    ghost makes = { λ said transcript. transcript ≡ said };
 
     ghost version_of = { λ d. d.transcript.version };
 
@@ -58,7 +65,7 @@ impl Draft for TranscriptDraft {
         }
     }
 
-    fn begin(alloc: Global, version: Version) -> TranscriptDraft {
+    fn begin(alloc: Global, _with: (), version: Version) -> TranscriptDraft {
         TranscriptDraft {
             stage: Stage::History,
             transcript: Transcript {
