@@ -4,7 +4,6 @@ use Rattle.std.specs.Prelude.{Ok, Err}
 use Rattle.std.specs.Global.{Global}
 use Rattle.smx_types.specs.ProgramLists.{ProgramLists}
 use Rattle.smx_types.specs.declared.transcript.Transcript.{Transcript}
-use Rattle.smx_types.specs.declared.version.Version.{Version}
 use Rattle.smx_model.specs.Headline.{IsReportOf}
 use Rattle.smx_model.specs.Histories.{call_of}
 use Rattle.smx_run.specs.Fronts.{AreFrontsFrom}

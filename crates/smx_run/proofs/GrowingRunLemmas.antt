@@ -1,9 +1,9 @@
 -- What was performed of programs that come piece by piece.
-use Rattle.std.proofs.Common.{◌≡◌, ℕ, zero, suc, ◌+◌, ◌-◌, ◌<◌, List, [], ◌∷◌, ◌++◌, length, get_or, map, Result, Ok}
-use Rattle.std.proofs.Common.{Err, refl, sym, ap, subst, ◌∙◌, append_assoc, arith}
+use Rattle.std.proofs.Common.{◌≡◌, ℕ, zero, suc, ◌+◌, ◌-◌, List, [], ◌∷◌, ◌++◌, length, get_or, Result, Ok}
+use Rattle.std.proofs.Common.{Err, sym, ap, subst, ◌∙◌, append_assoc, arith}
 use Rattle.std.proofs.Math.ListN.{set}
 use lib.ListN.{length-set}
-use Rattle.std.proofs.lemmas.List.{append-nil, map-append, length-append}
+use Rattle.std.proofs.lemmas.List.{append-nil, map-append}
 use Rattle.std.specs.Prelude.{false, IfOk, IfErr, OnOk}
 use Rattle.std.specs.Result.{is_err}
 use Rattle.smx_types.specs.ProgramLists.{ProgramLists}
@@ -14,7 +14,7 @@ use Rattle.smx_types.specs.declared.version.Version.{Version}
 use Rattle.smx_model.specs.DriverList.{IsDriverList}
 use Rattle.smx_config.specs.Machine.{Machine}
 use Rattle.smx_run.specs.Desks.{HasRecorded, PerformedRecording}
-use Rattle.smx_run.specs.GrowingRuns.{IsGrown, IsRecordingOf, with_command, with_program}
+use Rattle.smx_run.specs.GrowingRuns.{IsRecordingOf, with_command, with_program}
 use Rattle.smx_run.specs.ProgramOrder.{calls_of, calls_from}
 use Rattle.smx_run.specs.RunFaults.{RefusesAlone}
 use Rattle.smx_run.specs.declared.recording.Recording.{Recording}

@@ -1,5 +1,5 @@
 -- The lines of a transcript text can be told apart.
-use Rattle.std.proofs.Common.{◌≡◌, ◌≢◌, ℕ, ◌<◌, ◌≤◌, Bool, true, false, Result, Some, None, ◌++◌, ◌^◌, List}
+use Rattle.std.proofs.Common.{◌≡◌, ◌≢◌, ℕ, ◌<◌, ◌≤◌, Bool, true, false, Result, Some, ◌++◌, ◌^◌, List}
 use Rattle.std.proofs.Common.{◌∷◌, refl, sym, ap, subst, ◌∙◌, arith, rules}
 use Rattle.std.specs.Fmt.{decimal}
 use Rattle.std.specs.Prelude.{codes, OnOk, IfErr, if◌then◌else◌}
@@ -32,7 +32,7 @@ use Rattle.smx_text.specs.declared.transcript.draft.Stage.TheVariants as stage
 use Rattle.smx_text.specs.declared.transcript.draft.TranscriptDraft.{TranscriptDraft}
 use Rattle.smx_text.specs.Drafts.{grammar_of, lines}
 use Rattle.smx_text.specs.Grammar.{Continues, IsNoLine, IsOneLine, header, line_text}
-use Rattle.smx_text.specs.Reading.{Refuses, EndsAs, AddsLine, RefusesLine}
+use Rattle.smx_text.specs.Reading.{Refuses, AddsLine, RefusesLine}
 use Rattle.smx_text.specs.TranscriptLines.{TranscriptLine}
 use Rattle.smx_text.specs.TranscriptLines as line
 use Rattle.smx_text.specs.TranscriptText.{line_words, FitsHungIn, FitsLine, body, transcript_grammar}

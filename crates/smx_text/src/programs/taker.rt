@@ -45,9 +45,8 @@ pub trait ProgramTaker: Drop {
         ensures taken { OnOk result (taken self.new ≡ with_program (taken self.old)) }
         ensures kept { OnErr result (taken self.new ≡ taken self.old) };
 
-    /// Takes the command whose words a line is, as the last one of the last program, if it is one's that the version can
-    /// tell, and says whether it is. Fails only for want of memory, and then the line is such a command's, and nothing
-    /// is taken.
+    /// Takes the command whose words a line is, as the last of the last program, if it is one's that the version can tell,
+    /// and says whether it is. Fails only for want of memory, and then the line is such a command's, and nothing is taken.
     fn add_command(&mut self, alloc: Global, line: &[u8]) -> Result<bool, NoMemory>
         requires some { 0 < length (taken self.old).programs }
         requires few { sum_by length (taken self.old).programs < MAX_COMMANDS }

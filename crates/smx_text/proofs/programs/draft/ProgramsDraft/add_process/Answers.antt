@@ -1,9 +1,6 @@
 use Rattle.std.proofs.Common.{◌≡◌, ◌≤◌, ◌<◌, ◌∙◌, length, sym, ap, subst, refl, rules, arith}
-use Rattle.std.specs.List.{sum_by}
 use Rattle.smx_types.specs.ProgramLists.{ProgramLists}
-use Rattle.smx_types.specs.Versions.{most_drivers}
-use Rattle.smx_types.specs.declared.limits.TheConstants.{MAX_COMMANDS, MAX_PROCESSES}
-use Rattle.smx_types.specs.declared.version.Version.{Version}
+use Rattle.smx_types.specs.declared.limits.TheConstants.{MAX_PROCESSES}
 use Rattle.smx_text.specs.Drafts.{IsCounted}
 use Rattle.smx_text.specs.ProgramLines as line
 use Rattle.smx_text.specs.TakenPrograms.{with_program}

@@ -1,4 +1,4 @@
-use Rattle.std.proofs.Common.{◌≡◌, ◌∙◌, ap, subst, refl, Bool, true, false, Ok}
+use Rattle.std.proofs.Common.{subst, refl, Bool, true, false, Ok}
 use Rattle.std.specs.Prelude.{IfErr, OnOk}
 use Rattle.smx_types.specs.ProgramLists.{ProgramLists}
 use Rattle.smx_words.specs.LineReading.{IsLineOf}
