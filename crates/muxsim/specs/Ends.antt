@@ -38,6 +38,20 @@ pub record Devices : Type 0 where
   pub flushed : Bool
   pub write_failures : ℕ
 
+-- that of two devices, by what is told of each, which were so before and are so now
+abbrev pub devices : {F S : Type 0} → (F → Option (List ℕ)) → (F → Bool) → (F → ℕ) → (S → Option (List ℕ)) → (S → Bool)
+    → (S → ℕ) → F → F → S → S → Devices
+devices remaining ended read_failures contents flushed write_failures feed feed_now sink sink_now = record {
+  had = remaining feed;
+  left = remaining feed_now;
+  ended = ended feed_now;
+  read_failures = read_failures feed_now;
+  before = contents sink;
+  after = contents sink_now;
+  flushed = flushed sink_now;
+  write_failures = write_failures sink_now;
+}
+
 -- these bytes were there to read, none had been written, and these are written now
 pub record Writes (d : Devices) (input output : List ℕ) : Type 0 where
   pub had : d.had ≡ Some input

@@ -2,7 +2,7 @@
 
 ghost use Rattle.std.specs.Prelude.{◌≡◌, false, true};
 ghost use Rattle.std.specs.Process.{exit_status};
-ghost use Rattle.muxsim.specs.Ends.{EndsCheck, EndsDraw, EndsJob, EndsLive, EndsReplay, EndsRun};
+ghost use Rattle.muxsim.specs.Ends.{devices, EndsCheck, EndsDraw, EndsJob, EndsLive, EndsReplay, EndsRun};
 ghost use Rattle.muxsim.specs.Jobs.{CanRun};
 ghost use Rattle.smx_filters.specs.Statuses.{status_of, status_of_outcome};
 
@@ -34,16 +34,8 @@ pub fn do_job<R: Threads + Wait + Sync + Eprint, F: Feed, S: Sink>(
     requires before_the_end { F.ended feed.old ≡ false }
     requires fed { F.failures feed.old ≡ 0 }
     requires sunk { S.failures sink.old ≡ 0 }
-    ensures { EndsJob job (record {
-      had = F.remaining feed.old;
-      left = F.remaining feed.new;
-      ended = F.ended feed.new;
-      read_failures = F.failures feed.new;
-      before = S.contents sink.old;
-      after = S.contents sink.new;
-      flushed = S.flushed sink.new;
-      write_failures = S.failures sink.new;
-    }) result }
+    ensures { EndsJob job (devices F.remaining F.ended F.failures S.contents S.flushed S.failures
+        feed.old feed.new sink.old sink.new) result }
 {
     match job {
         Job::Run {
@@ -77,16 +69,8 @@ fn run<R: Threads + Wait + Sync + Eprint, F: Feed, S: Sink>(
     requires before_the_end { F.ended feed.old ≡ false }
     requires fed { F.failures feed.old ≡ 0 }
     requires sunk { S.failures sink.old ≡ 0 }
-    ensures { EndsRun fronts workers (record {
-      had = F.remaining feed.old;
-      left = F.remaining feed.new;
-      ended = F.ended feed.new;
-      read_failures = F.failures feed.new;
-      before = S.contents sink.old;
-      after = S.contents sink.new;
-      flushed = S.flushed sink.new;
-      write_failures = S.failures sink.new;
-    }) result }
+    ensures { EndsRun fronts workers (devices F.remaining F.ended F.failures S.contents S.flushed S.failures
+        feed.old feed.new sink.old sink.new) result }
 {
     match run_text(rt, alloc, feed, sink, workers, fronts, &NoGate) {
         Ok(()) => ended(rt, Ok(Done::Finished)),
@@ -99,16 +83,8 @@ fn check<R: Eprint, F: Feed, S: Sink>(rt: &R, alloc: Global, feed: &mut F, sink:
     requires before_the_end { F.ended feed.old ≡ false }
     requires fed { F.failures feed.old ≡ 0 }
     requires sunk { S.failures sink.old ≡ 0 }
-    ensures { EndsCheck false (record {
-      had = F.remaining feed.old;
-      left = F.remaining feed.new;
-      ended = F.ended feed.new;
-      read_failures = F.failures feed.new;
-      before = S.contents sink.old;
-      after = S.contents sink.new;
-      flushed = S.flushed sink.new;
-      write_failures = S.failures sink.new;
-    }) result }
+    ensures { EndsCheck false (devices F.remaining F.ended F.failures S.contents S.flushed S.failures
+        feed.old feed.new sink.old sink.new) result }
 {
     match check_text(alloc, feed, sink) {
         Ok(verdict) => ended(rt, Ok(Done::Judged(verdict))),
@@ -129,16 +105,8 @@ fn explained_run<R: Threads + Wait + Sync + Eprint, F: Feed, S: Sink>(
     requires before_the_end { F.ended feed.old ≡ false }
     requires fed { F.failures feed.old ≡ 0 }
     requires sunk { S.failures sink.old ≡ 0 }
-    ensures { EndsRun fronts workers (record {
-      had = F.remaining feed.old;
-      left = F.remaining feed.new;
-      ended = F.ended feed.new;
-      read_failures = F.failures feed.new;
-      before = S.contents sink.old;
-      after = S.contents sink.new;
-      flushed = S.flushed sink.new;
-      write_failures = S.failures sink.new;
-    }) result }
+    ensures { EndsRun fronts workers (devices F.remaining F.ended F.failures S.contents S.flushed S.failures
+        feed.old feed.new sink.old sink.new) result }
 {
     match run_explained(rt, alloc, feed, sink, workers, fronts, &NoGate) {
         Ok(()) => ended(rt, Ok(Done::Finished)),
@@ -156,16 +124,8 @@ fn explained_check<R: Eprint, F: Feed, S: Sink>(
     requires before_the_end { F.ended feed.old ≡ false }
     requires fed { F.failures feed.old ≡ 0 }
     requires sunk { S.failures sink.old ≡ 0 }
-    ensures { EndsCheck true (record {
-      had = F.remaining feed.old;
-      left = F.remaining feed.new;
-      ended = F.ended feed.new;
-      read_failures = F.failures feed.new;
-      before = S.contents sink.old;
-      after = S.contents sink.new;
-      flushed = S.flushed sink.new;
-      write_failures = S.failures sink.new;
-    }) result }
+    ensures { EndsCheck true (devices F.remaining F.ended F.failures S.contents S.flushed S.failures
+        feed.old feed.new sink.old sink.new) result }
 {
     match check_explained(alloc, feed, sink) {
         Ok(verdict) => ended(rt, Ok(Done::Judged(verdict))),
@@ -220,16 +180,8 @@ fn replay<R: Eprint, F: Feed, S: Sink>(
     requires before_the_end { F.ended feed.old ≡ false }
     requires fed { F.failures feed.old ≡ 0 }
     requires sunk { S.failures sink.old ≡ 0 }
-    ensures { EndsReplay (record {
-      had = F.remaining feed.old;
-      left = F.remaining feed.new;
-      ended = F.ended feed.new;
-      read_failures = F.failures feed.new;
-      before = S.contents sink.old;
-      after = S.contents sink.new;
-      flushed = S.flushed sink.new;
-      write_failures = S.failures sink.new;
-    }) result }
+    ensures { EndsReplay (devices F.remaining F.ended F.failures S.contents S.flushed S.failures
+        feed.old feed.new sink.old sink.new) result }
 {
     match replay_text(alloc, feed, sink) {
         Ok(()) => ended(rt, Ok(Done::Finished)),
@@ -248,16 +200,8 @@ fn draw<R: Eprint, F: Feed, S: Sink>(
     requires before_the_end { F.ended feed.old ≡ false }
     requires fed { F.failures feed.old ≡ 0 }
     requires sunk { S.failures sink.old ≡ 0 }
-    ensures { EndsDraw form (record {
-      had = F.remaining feed.old;
-      left = F.remaining feed.new;
-      ended = F.ended feed.new;
-      read_failures = F.failures feed.new;
-      before = S.contents sink.old;
-      after = S.contents sink.new;
-      flushed = S.flushed sink.new;
-      write_failures = S.failures sink.new;
-    }) result }
+    ensures { EndsDraw form (devices F.remaining F.ended F.failures S.contents S.flushed S.failures
+        feed.old feed.new sink.old sink.new) result }
 {
     match draw_text(alloc, feed, sink, form) {
         Ok(()) => ended(rt, Ok(Done::Finished)),
@@ -270,16 +214,8 @@ fn live<R: Eprint, F: Feed, S: Sink>(rt: &R, alloc: Global, feed: &mut F, sink: 
     requires before_the_end { F.ended feed.old ≡ false }
     requires fed { F.failures feed.old ≡ 0 }
     requires sunk { S.failures sink.old ≡ 0 }
-    ensures { EndsLive (record {
-      had = F.remaining feed.old;
-      left = F.remaining feed.new;
-      ended = F.ended feed.new;
-      read_failures = F.failures feed.new;
-      before = S.contents sink.old;
-      after = S.contents sink.new;
-      flushed = S.flushed sink.new;
-      write_failures = S.failures sink.new;
-    }) result }
+    ensures { EndsLive (devices F.remaining F.ended F.failures S.contents S.flushed S.failures
+        feed.old feed.new sink.old sink.new) result }
 {
     match live_text(alloc, feed, sink) {
         Ok(()) => ended(rt, Ok(Done::Finished)),

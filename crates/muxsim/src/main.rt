@@ -24,7 +24,7 @@ use std::process::ExitCode;
 use std::{env, io};
 
 /// Does what the words ask for. The exit status is 0 where that was done, also for help and the
-/// version; 1 where a run or a check is refused, also for want of memory; 2 where the words are
+/// version; 1 where the job is refused, also for want of memory; 2 where the words are
 /// wrong; 3 where the text is; 4 where a transcript is illegal or its configuration differs; and 5
 /// where input or output failed.
 fn main(rt: HostRuntime) -> ExitCode {

@@ -1,6 +1,6 @@
 //! Opening, sharing and closing streams.
 
-ghost use Rattle.std.specs.Prelude.{◌≡◌, ◌≢◌, ℕ, ◌+◌, ◌<◌, ◌≤◌, true, length, vec_capacity, Some, Err};
+ghost use Rattle.std.specs.Prelude.{◌≡◌, ◌≢◌, ℕ, ◌+◌, ◌<◌, ◌≤◌, true, false, length, vec_capacity, Some, Err};
 ghost use Rattle.std.specs.List.{list_any};
 ghost use Rattle.smx_types.specs.declared.command.Command.TheVariants.{OpenClone, OpenMinor, Dup, Close, CloseAll, Hangup};
 ghost use Rattle.smx_types.specs.declared.limits.TheConstants.{MAX_DESCRIPTORS};
@@ -8,6 +8,7 @@ ghost use Rattle.smx_types.specs.declared.reply.Reply.TheVariants.{Fd};
 ghost use Rattle.smx_types.specs.declared.stream.StreamId.{StreamId};
 ghost use Rattle.smx_model.specs.Configuration.{same_stream};
 ghost use Rattle.smx_model.specs.KeptConfigurations.{IsSound};
+ghost use Rattle.smx_links.specs.LinkLists.{is_upper};
 ghost use Rattle.smx_streams.specs.StreamTables.{stream_at};
 ghost use Rattle.smx_config.specs.Closing.{closing};
 ghost use Rattle.smx_config.specs.declared.step_error.StepError.TheVariants as step_error;
@@ -19,7 +20,7 @@ use crate::tables::{Tables, tells_existing};
 use smx_model::laws_of_steps::idle_changes_drop_none;
 use smx_streams::Streams;
 use smx_tables::standing;
-use smx_tables::sweep::{reserve_for_sweep, sweep_and_reply};
+use smx_tables::sweep::{reserve_for_sweep, sweep_alone_and_reply, sweep_and_reply};
 use smx_types::{Fault, MAX_DESCRIPTORS, Name, Process, Reply, StreamId};
 
 // A descriptor and its stream, as a reply.
@@ -86,7 +87,7 @@ impl Tables {
     }
 
     // Closes the last descriptor of a stream that isn't held, and sweeps what goes with it.
-    fn close_last(
+    fn close_upper(
         &mut self,
         process: Process,
         fd: u32,
@@ -102,6 +103,44 @@ impl Tables {
         let _closed = self.lists.streams.close_fd(process, fd);
         room.touched.push_reserved(stream);
         Ok(sweep_and_reply(&self.drivers, &mut self.lists, room))
+    }
+
+    // The same, where no link is below the stream's driver: then the stream goes alone.
+    fn close_alone(
+        &mut self,
+        process: Process,
+        fd: u32,
+        stream: StreamId,
+    ) -> Result<Reply, StepError>
+        requires sound { IsSound self.old.drivers self.old.configuration }
+        requires there { stream_at self.old.configuration.fds process fd ≡ Some stream }
+        requires lower { is_upper self.old.configuration.links stream.driver ≡ false }
+        ensures { HasOutcome self.old self.new
+            (closing self.old.drivers self.old.configuration process fd) result }
+    {
+        tells_existing(&self.drivers, &self.lists);
+        let room = Vec::with_capacity(self.alloc, self.lists.queues.len())?;
+        let _gone = self.lists.streams.close_fd(process, fd);
+        Ok(sweep_alone_and_reply(&self.drivers, &mut self.lists, stream, room))
+    }
+
+    // The same, wherever the stream is.
+    fn close_last(
+        &mut self,
+        process: Process,
+        fd: u32,
+        stream: StreamId,
+    ) -> Result<Reply, StepError>
+        requires sound { IsSound self.old.drivers self.old.configuration }
+        requires there { stream_at self.old.configuration.fds process fd ≡ Some stream }
+        ensures { HasOutcome self.old self.new
+            (closing self.old.drivers self.old.configuration process fd) result }
+    {
+        if self.lists.links.is_upper(stream.driver) {
+            self.close_upper(process, fd, stream)
+        } else {
+            self.close_alone(process, fd, stream)
+        }
     }
 
     // Where a stream stays, nothing goes with its descriptor, so that no memory is taken.

@@ -18,7 +18,7 @@ use smx_replay::laws_of_replays::{a_transcript_has_one_replay, replays_are_the_l
 use smx_text::laws::one_transcript_has_one_reading;
 use smx_words::laws::{one_value_each, spellings_are_words};
 
-/// Two texts have one first difference, or they are alike; and bytes have one first line.
+/// Two texts have no two first differences, and none where they are alike; and bytes have no two first lines.
 pub fn texts_have_one_first_difference()
     ensures one { (one other : List ℕ) (number count : ℕ) (told has said had : List ℕ)
         → IsFirstDifference one other number told has → IsFirstDifference one other count said had
@@ -37,7 +37,7 @@ pub fn worked_differences()
     ensures last_line { IsFirstLine (codes "b c") (codes "b c") }
 {}
 
-/// Of a transcript one thing is told.
+/// No two things are told of a transcript.
 pub fn a_transcript_has_one_explanation()
     ensures { (t : Transcript) (one other : List ℕ) → IsExplanation t one → IsExplanation t other → one ≡ other }
 {

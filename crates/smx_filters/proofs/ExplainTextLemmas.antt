@@ -20,7 +20,7 @@ use Rattle.smx_run.specs.RunFaults.{RefusesAlone, run_fault_of}
 use Rattle.smx_run.specs.declared.run_fault.RunFault.{RunFault}
 use Rattle.smx_run.specs.declared.run_fault.RunFault.TheVariants as run
 use Rattle.smx_filters.specs.CheckText.{verdict_line}
-use Rattle.smx_filters.specs.ExplainText.{IsExplained, KeepsText, explained_of, explaining}
+use Rattle.smx_filters.specs.ExplainText.{IsExplained, IsKept, KeepsText, explained_of, explaining}
 use Rattle.smx_filters.specs.Filters.{Answers, Filter, FiltersText}
 use Rattle.smx_filters.specs.Input.{IsInput}
 use Rattle.smx_filters.specs.declared.main_fault.MainFault.{MainFault}
@@ -100,3 +100,15 @@ module _ {V K T : Type 0} (f : Filter V K T) (had left : Option (List ℕ)) (end
     filtered = at_answer f had left ended failures held flushed written v read h fine e a;
     kept = λ fault is. are_read f had left ended failures held flushed written v read h fine e a;
   }
+
+  -- and where a text is kept just where it is at fault, a `?` passes that on as it is
+  pub kept_on : (r : Refusal) (answer : Result T Refusal) → IsErrAnd answer (λ x. x ≡ r)
+      → Answers f v.items (Err r.fault) → ((fault : TextFault) → r.fault ≡ Text fault → IsKept r.text v.items)
+      → KeepsText f had left ended failures held held flushed written answer
+  kept_on r (Ok done) is a keeps = absurd is
+  kept_on r (Err x) is a keeps =
+      subst (λ (y : Refusal). KeepsText f had left ended failures held held flushed written (Err y)) (sym is) (record {
+        filtered = at_answer f had left ended failures held flushed written v read h fine r.fault a;
+        kept = λ fault same. subst (IsKept r.text)
+            (are_read f had left ended failures held flushed written v read h fine r.fault a) (keeps fault same);
+      })

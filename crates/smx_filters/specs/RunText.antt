@@ -4,7 +4,6 @@ use Rattle.std.specs.Prelude.{Ok, Err}
 use Rattle.std.specs.Global.{Global}
 use Rattle.smx_types.specs.ProgramLists.{ProgramLists}
 use Rattle.smx_types.specs.declared.transcript.Transcript.{Transcript}
-use Rattle.smx_types.specs.declared.version.Version.{Version}
 use Rattle.smx_model.specs.Headline.{IsReportOf}
 use Rattle.smx_model.specs.Histories.{call_of}
 use Rattle.smx_run.specs.Fronts.{AreFrontsFrom}
@@ -49,6 +48,11 @@ pub record IsTranscriptInTurn (programs : ProgramLists) (output : List ℕ) : Ty
   pub in_turn : map call_of report.entries ≡ calls_from 0 programs.programs
   -- and the output is its transcript, and nothing else.
   pub written : SpellsTranscript output report
+
+-- what a run on one thread gives: that transcript, or why it is refused
+abbrev pub IsRunAlone : ProgramLists → Result (Vec ℕ Global) RunFault → Type 0
+IsRunAlone programs (Ok text) = IsTranscriptInTurn programs text.items
+IsRunAlone programs (Err fault) = RefusesAlone programs.drivers fault
 
 -- what so many workers write: the fronts, or the transcript, which one worker alone makes of one program after the
 -- other

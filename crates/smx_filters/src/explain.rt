@@ -11,11 +11,11 @@ use crate::input::read_all;
 use crate::main_fault::MainFault;
 use crate::output::write_all;
 use crate::refusal::Refusal;
-use crate::text::text_of_run;
+use crate::text::text_for;
 use smx_config::{Verdict, check_history};
 use smx_explain::explain;
 use smx_run::Gate;
-use smx_text::{read_programs, read_transcript};
+use smx_text::read_transcript;
 use std::alloc::{AllocError, Global};
 use std::sync::Wait;
 use std::thread::Threads;
@@ -68,21 +68,9 @@ pub fn run_explained<R: Threads + Wait + Sync, F: Feed, S: Sink, G: Gate + Sync>
         (S.failures sink.new) result }
 {
     let input = read_all(alloc, feed)?;
-    match read_programs(alloc, input.as_slice()) {
-        Ok(programs) => {
-            match text_of_run(rt, alloc, input, programs, workers, fronts, gate) {
-                Ok(output) => {
-                    write_all(sink, output.as_slice())?;
-                    Ok(())
-                }
-                Err(fault) => Err(Refusal::from(MainFault::Refused(fault))),
-            }
-        }
-        Err(fault) => Err(Refusal {
-            fault: MainFault::Text(fault),
-            text: Some(input),
-        }),
-    }
+    let output = text_for(rt, alloc, input, workers, fronts, gate)?;
+    write_all(sink, output.as_slice())?;
+    Ok(())
 }
 
 // The verdict on the transcript that the input spells, and its line with what is told below it.

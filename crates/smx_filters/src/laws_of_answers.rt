@@ -28,8 +28,8 @@ use smx_model::laws_of_reports::reports_are_determined;
 use smx_replay::laws_of_replays::a_transcript_has_one_replay;
 use smx_text::laws::{one_text_has_one_reading, one_transcript_has_one_reading};
 
-/// A check, one that explains itself, a replay and a run on one worker have one answer to an input, and one output, unless memory was wanting: what
-/// is done isn't refused, and what is refused is refused for one fault.
+/// A check, one that explains itself, a replay and a run on one worker have no two answers to an input, and no two
+/// outputs, unless memory was wanting: what is done isn't refused, and what is refused is refused for one fault.
 pub fn an_input_has_one_answer()
     ensures checked { (input : List ℕ) (one other : Result (Verdict × List ℕ) MainFault)
         → Answers checking input one → Answers checking input other

@@ -16,6 +16,7 @@ mod main_fault;
 mod output;
 mod refusal;
 mod replay;
+mod running_programs;
 mod text;
 mod text_recorder;
 

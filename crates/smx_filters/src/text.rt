@@ -1,9 +1,12 @@
 //! A run from bytes to bytes.
 
 ghost use Rattle.std.specs.Prelude.{◌≡◌, ◌≤◌, false, length, IfOk, IfErr, Result};
+ghost use Rattle.smx_text.specs.declared.text_fault.TextFault.{TextFault};
+ghost use Rattle.smx_filters.specs.ExplainText.{IsKept, answer_of};
 ghost use Rattle.smx_filters.specs.Filters.{Answers};
 ghost use Rattle.smx_filters.specs.FrontsText.{fronts_text};
 ghost use Rattle.smx_filters.specs.RunText.{IsFrontsTextFor, IsRefusedFor, IsTranscriptFor, IsTranscriptInTurn, IsWrittenFor, RunsText, items_of, running};
+ghost use Rattle.smx_filters.specs.declared.main_fault.MainFault.TheVariants.{Text};
 ghost use Rattle.smx_run.specs.RunFaults.{RefusesAlone, RefusesRun};
 
 use crate::device::{Feed, Sink};
@@ -11,11 +14,13 @@ use crate::fronts_text::fronts_text;
 use crate::input::read_all;
 use crate::main_fault::MainFault;
 use crate::output::write_all;
+use crate::refusal::Refusal;
+use crate::running_programs::RunningPrograms;
 use crate::text_recorder::TextRecorder;
 use smx_model::laws_of_hangups::reports_need_no_later_version;
 use smx_run::laws_of_runs::refusals_have_few_causes;
 use smx_run::{Gate, Report, RunFault, run_programs, run_recorded, run_recorded_together};
-use smx_text::read_programs;
+use smx_text::{read_programs, take_programs};
 use smx_types::{NoMemory, Programs};
 use std::alloc::Global;
 use std::sync::Wait;
@@ -23,9 +28,10 @@ use std::thread::Threads;
 
 /// Reads the programs that `feed` has, has them run by so many workers, 1 to 64, and writes the transcript of the run to
 /// `sink`, in the version of the programs, or with `fronts` how far the history had come when each program had ended. One
-/// worker runs one program after the other, by rising number, so that its transcript is determined. Of several, each has a thread of its own; process p
-/// is run by worker p modulo `workers`. A worker tells the gate of each command. Neither device has failed before, and no
-/// read has shown the end. Faults are found in this order: reading, text, drivers, run, writing.
+/// worker runs one program after the other, by rising number, so that its transcript is determined. Of several, each has
+/// a thread of its own; process p is run by worker p modulo `workers`. A worker tells the gate of each command. Neither
+/// device has failed before, and no read has shown the end. Faults are found in this order: reading, text, drivers,
+/// run, writing.
 pub fn run_text<R: Threads + Wait + Sync, F: Feed, S: Sink, G: Gate + Sync>(
     rt: &R,
     alloc: Global,
@@ -44,30 +50,79 @@ pub fn run_text<R: Threads + Wait + Sync, F: Feed, S: Sink, G: Gate + Sync>(
         (S.failures sink.new) result }
 {
     let input = read_all(alloc, feed)?;
-    let output = text_for(rt, alloc, input, workers, fronts, gate)?;
-    write_all(sink, output.as_slice())
+    match text_for(rt, alloc, input, workers, fronts, gate) {
+        Ok(output) => write_all(sink, output.as_slice()),
+        Err(refusal) => Err(refusal.fault),
+    }
 }
 
-// The text of a run of the programs that the input spells, in the room that the input had.
-fn text_for<R: Threads + Wait + Sync, G: Gate + Sync>(
+// The text of a run of the programs that the input spells, which is kept where it is at fault. One worker has each
+// command performed as its line is read; else the text of the run is written in the room that the input had.
+pub(crate) fn text_for<R: Threads + Wait + Sync, G: Gate + Sync>(
     rt: &R,
     alloc: Global,
     input: Vec<u8>,
     workers: usize,
     fronts: bool,
     gate: &G,
-) -> Result<Vec<u8>, MainFault>
+) -> Result<Vec<u8>, Refusal>
     requires { (1 ≤ workers) × (workers ≤ 64) }
-    ensures { Answers (running fronts workers) input.items (items_of result) }
+    ensures answers { Answers (running fronts workers) input.items (items_of (answer_of result)) }
+    ensures kept { IfErr result (λ r. (fault : TextFault) → r.fault ≡ Text fault → IsKept r.text input.items) }
 {
-    let programs = read_programs(alloc, input.as_slice())?;
-    let text = text_of_run(rt, alloc, input, programs, workers, fronts, gate)?;
+    if workers == 1 && !fronts {
+        return match transcript_as_read(alloc, input.as_slice(), gate) {
+            Ok(output) => Ok(output),
+            Err(fault) => Err(kept_for(fault, input)),
+        };
+    }
+    let programs = match read_programs(alloc, input.as_slice()) {
+        Ok(programs) => programs,
+        Err(fault) => return Err(kept_for(MainFault::Text(fault), input)),
+    };
+    match text_of_run(rt, alloc, input, programs, workers, fronts, gate) {
+        Ok(output) => Ok(output),
+        Err(fault) => Err(Refusal::from(MainFault::Refused(fault))),
+    }
+}
+
+// What is told of this fault, with the input where that is at fault.
+fn kept_for(fault: MainFault, input: Vec<u8>) -> Refusal
+    ensures fault { result.fault ≡ fault }
+    ensures kept { (f : TextFault) → fault ≡ Text f → IsKept result.text input.items }
+{
+    let text = match fault {
+        MainFault::Text(_) => Some(input),
+        MainFault::Refused(_)
+        | MainFault::TooLong
+        | MainFault::ReadFailed
+        | MainFault::WriteFailed => None,
+    };
+    Refusal { fault, text }
+}
+
+// The transcript of a run, on this thread alone, of the programs that the input spells. Each command is performed as its
+// line is read, and its own line written then.
+fn transcript_as_read<G: Gate>(alloc: Global, input: &[u8], gate: &G) -> Result<Vec<u8>, MainFault>
+    ensures { Answers (running false 1) input.now (items_of result) }
+{
+    let room = room_for_transcript(alloc, input.len());
+    let text = take_programs::<RunningPrograms<G>>(alloc, (room, gate), input)??;
     Ok(text)
+}
+
+// Room for the transcript of programs whose text has so many bytes, as most of them need, where it can be had. What is
+// not written of it costs nothing.
+fn room_for_transcript(alloc: Global, bytes: usize) -> Vec<u8> {
+    match Vec::with_capacity(alloc, bytes.saturating_mul(2)) {
+        Ok(room) => room,
+        Err(_) => Vec::new(alloc),
+    }
 }
 
 // The fronts of a run by so many workers, or its transcript in the room that is given. Where a second worker would have
 // no process, a transcript is made on this thread alone.
-pub(crate) fn text_of_run<R: Threads + Wait + Sync, G: Gate + Sync>(
+fn text_of_run<R: Threads + Wait + Sync, G: Gate + Sync>(
     rt: &R,
     alloc: Global,
     room: Vec<u8>,

@@ -2,8 +2,7 @@
 
 use smx_run::{NewRecorder, Recorder};
 use smx_text::TranscriptWriter;
-use smx_types::{DriverSpec, Entry, NoMemory, Version};
-use std::slice;
+use smx_types::{Command, DriverSpec, NoMemory, Process, Reply, Version};
 
 /// Writes the lines of the drivers and of the entries that it is told of.
 #[derive(Drop)]
@@ -16,9 +15,8 @@ impl Recorder for TextRecorder {
 
     ghost told = { λ version drivers entries recorder. BeginsTranscript version drivers entries recorder.writer };
 
-    fn add(&mut self, entry: &Entry) -> Result<(), NoMemory> {
-        self.writer.add(slice::from_ref(entry))?;
-        Ok(())
+    fn add(&mut self, process: Process, command: &Command, reply: &Reply) -> Result<(), NoMemory> {
+        self.writer.add_entry(process, command, reply)
     }
 }
 

@@ -28,8 +28,8 @@ use Rattle.smx_filters.specs.declared.main_fault.MainFault.TheVariants.{Refused,
 
 -- ---- a session as far as it has come
 
--- What was read and written so far, of a session that stands so, with so many entries, where so much is held, of an input
--- that has ended or not.
+-- What was read and written so far, of a session that stands so, with so many entries, where so much is held, of an
+-- input that has ended or not.
 pub record IsLive (read : List ℕ) (ended : Bool) (output : List ℕ) (s : State) (count : ℕ) (held : List ℕ)
     : Type 0 where
   -- What was read is a driver table, lines that were answered, and what is held.

@@ -1,5 +1,6 @@
 pub mod FrontLemmas
 pub mod GatheringLemmas
+pub mod GrowingRunLemmas
 pub mod HandLemmas
 pub mod ProgramOrderLemmas
 pub mod RecordingLemmas

@@ -3,6 +3,7 @@ pub mod DeskLemmas
 pub mod Desks
 pub mod Fronts
 pub mod Gathering
+pub mod GrowingRuns
 pub mod Hands
 pub mod Meeting
 pub mod ProgramOrder

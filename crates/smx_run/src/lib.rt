@@ -1,9 +1,11 @@
 //! A run of programs by many threads, and what comes of all of them: the report of one history.
 #![tactic(auto)]
 
+mod came;
 mod desk;
 mod gate;
 mod gathering;
+mod growing_run;
 mod hands;
 pub mod laws_of_runs;
 mod meeting;
@@ -21,6 +23,7 @@ mod worker;
 
 pub use gate::{Gate, NoGate};
 pub use gathering::gather;
+pub use growing_run::GrowingRun;
 pub use recorded_run::run_recorded;
 pub use recorded_together::run_recorded_together;
 pub use recorder::{NewRecorder, Recorder};

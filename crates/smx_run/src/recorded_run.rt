@@ -14,7 +14,7 @@ use smx_types::{ConfigView, Programs};
 use std::alloc::Global;
 
 /// Runs the programs on this thread, by rising number, each to its end, and tells the gate. The recorder, which begins
-/// in the room, is told of each entry once its command was answered, and then the entry is given up. What comes back is
+/// in the room, is told of process, command and reply once a command was answered; no entry is made. What comes back is
 /// the recorder, and the view of the configuration at the end. Refused for drivers that a configuration can't have,
 /// before there is a recorder; or for want of memory.
 pub fn run_recorded<K: NewRecorder, G: Gate>(

@@ -23,8 +23,8 @@ use std::thread::Threads;
 
 /// Has the programs, of which there is one at least, run by so many workers as `run_programs` has, each on a thread of its
 /// own. The recorder, which begins in the room, is told of each entry once its command was answered, and then the entry is
-/// given up. What comes back is the recorder, and the view of the configuration at the end. Refused for drivers that a
-/// configuration can't have, before there is a recorder; or for want of memory, also where a worker can't be started.
+/// given up. What comes back is the recorder, and the view of the configuration at the end. Refused as `run_programs`
+/// is, for drivers that a configuration can't have before there is a recorder.
 pub fn run_recorded_together<R: Threads + Wait + Sync, K: NewRecorder + Send, G: Gate + Sync>(
     rt: &R,
     alloc: Global,

@@ -1,6 +1,6 @@
 //! Who is told of a run as it goes.
 
-use smx_types::{DriverSpec, Entry, NoMemory, Version};
+use smx_types::{Command, DriverSpec, NoMemory, Process, Reply, Version};
 
 /// Is told of the version of the programs and of their drivers, and then of each entry of the run, in order, once the
 /// command was answered. It keeps of them what it wants.
@@ -14,9 +14,10 @@ pub trait Recorder: Drop {
     ghost told: { AnyVersion → List Driver → List Made → Self → Type 0 };
 
     /// Tells it of the next entry. Fails only for want of memory; then it is of no more use.
-    fn add(&mut self, entry: &Entry) -> Result<(), NoMemory>
+    fn add(&mut self, process: Process, command: &Command, reply: &Reply) -> Result<(), NoMemory>
         ensures { OnOk result ((version : AnyVersion) (drivers : List Driver) (entries : List Made)
-            → told version drivers entries self.old → told version drivers (entries ++ entry.now ∷ []) self.new) };
+            → told version drivers entries self.old → told version drivers (entries
+            ++ record { process = process; command = command.now; reply = reply.now } ∷ []) self.new) };
 }
 
 /// A recorder that is made once the drivers were judged.

@@ -15,12 +15,12 @@ use crate::run_fault::RunFault;
 use smx_config::Config;
 use smx_model::laws::one_entry_more;
 use smx_types::{
-    Command, Commands, ConfigView, DriverSpec, Entry, NoMemory, Process, ProgramList, Version,
+    Command, Commands, ConfigView, DriverSpec, NoMemory, Process, ProgramList, Version,
 };
 use std::alloc::Global;
 
-/// Where the commands of one process after the other are performed. The recorder is told of each entry, which is then
-/// given up.
+/// Where the commands of one process after the other are performed. The recorder is told of each, with its process and
+/// its reply; no entry is made.
 #[derive(Drop)]
 pub struct Recording<K: Drop> {
     /// The process whose commands come next.
@@ -53,6 +53,17 @@ impl<K: NewRecorder> Recording<K> {
 }
 
 impl<K: Recorder> Recording<K> {
+    /// The same, where the commands of this process come next. Takes no memory.
+    pub fn of_process(self, process: Process) -> Recording<K>
+        ensures process { result.process ≡ process }
+        ensures config { result.config ≡ self.config }
+        ensures recorder { result.recorder ≡ self.recorder }
+    {
+        let mut recording = self;
+        recording.process = process;
+        recording
+    }
+
     /// Has each program performed to its end, in turn, from process 0 on. Fails only for want of memory.
     pub fn run_all<G: Gate>(&mut self, programs: ProgramList, gate: &G) -> Result<(), NoMemory>
         requires processes { length programs ≤ MAX_PROCESSES }
@@ -75,20 +86,20 @@ impl<K: Recorder> Recording<K> {
     {
         let mut number = 0;
         for command in commands.into_vec() {
-            self.perform_at(gate, number, command)?;
+            self.perform_at(gate, number, &command)?;
             number += 1;
         }
         Ok(())
     }
 
-    // Performs the next command, and tells the gate before and after, whatever came of it.
-    fn perform_at<G: Gate>(
+    /// Performs the next command, and tells the gate before and after, whatever came of it. Fails only for want of memory.
+    pub fn perform_at<G: Gate>(
         &mut self,
         gate: &G,
         number: usize,
-        command: Command,
+        command: &Command,
     ) -> Result<(), NoMemory>
-        ensures { OnOk result (PerformedRecording K.told self.old (command ∷ []) self.new) }
+        ensures { OnOk result (PerformedRecording K.told self.old (command.now ∷ []) self.new) }
     {
         gate.before(self.process, number);
         let outcome = self.perform(command);
@@ -96,18 +107,14 @@ impl<K: Recorder> Recording<K> {
         outcome
     }
 
-    // Performs the next command, which is given up. Fails only for want of memory.
-    fn perform(&mut self, command: Command) -> Result<(), NoMemory>
-        ensures { OnOk result (PerformedRecording K.told self.old (command ∷ []) self.new) }
+    // Performs the next command. Fails only for want of memory.
+    fn perform(&mut self, command: &Command) -> Result<(), NoMemory>
+        ensures { OnOk result (PerformedRecording K.told self.old (command.now ∷ []) self.new) }
     {
         one_entry_more();
         let process = self.process;
-        let reply = self.config.step(process, &command)?;
-        self.recorder.add(&Entry {
-            process,
-            command,
-            reply,
-        })?;
+        let reply = self.config.step(process, command)?;
+        self.recorder.add(process, command, &reply)?;
         Ok(())
     }
 

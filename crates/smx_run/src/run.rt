@@ -34,8 +34,9 @@ pub const MAX_WORKERS: usize = 64;
 /// Has the programs run by so many workers, 1 to 64, and reports the one history that they make. Process p is run by
 /// worker p modulo `workers`; a worker runs its processes by rising number, each to its end, and tells the gate. With one
 /// worker, or one process, no thread is started. Refused for drivers that a configuration can't have, before any command
-/// is run; or for want of memory, also where a worker can't be started; on one thread for nothing else. The report has the
-/// front that was seen when each program had ended.
+/// is run; or for want of memory, also where a worker can't be started; on one thread for nothing else, on several also
+/// for a full history or a turn that was never given back. The report has the front that was seen when each program had
+/// ended.
 pub fn run_programs<R: Threads + Wait + Sync, G: Gate + Sync>(
     rt: &R,
     alloc: Global,
@@ -49,6 +50,8 @@ pub fn run_programs<R: Threads + Wait + Sync, G: Gate + Sync>(
     ensures fronts { IfOk result (λ r. AreFrontsFrom r.drivers r.entries 0 programs.programs r.fronts) }
     ensures refused { IfErr result (RefusesRun programs.drivers) }
     ensures alone { (workers ≤ 1) ⊎ (length programs.programs ≤ 1) → IfErr result (RefusesAlone programs.drivers) }
+    ensures in_turn { (workers ≤ 1) ⊎ (length programs.programs ≤ 1)
+        → IfOk result (λ r. map call_of r.entries ≡ calls_from 0 programs.programs) }
 {
     few_commands_drop();
     let (drivers, programs) = programs.into_parts();
@@ -90,6 +93,8 @@ fn run_all<R: Threads + Wait + Sync, G: Gate + Sync>(
     ensures fronts { IfOk result (λ r. AreFrontsFrom r.0.drivers r.0.history 0 programs r.1) }
     ensures refused { IfErr result (RefusesRun system.drivers) }
     ensures alone { (workers ≤ 1) ⊎ (length programs ≤ 1) → IfErr result (RefusesAlone system.drivers) }
+    ensures in_turn { (workers ≤ 1) ⊎ (length programs ≤ 1)
+        → IfOk result (λ r. map call_of r.0.history ≡ calls_from 0 programs) }
 {
     let hands = workers.min(programs.as_slice().len());
     if hands < 2 {

@@ -85,7 +85,7 @@ impl<A: About, K: Recorder> Scribe<A, K> {
         };
         if let Some(entry) = self.waiting.take() {
             self.told = self.told.then(&entry);
-            recorder.add(&entry)?;
+            recorder.add(entry.process, &entry.command, &entry.reply)?;
         }
         self.recorder = Some(recorder);
         Ok(())

@@ -17,7 +17,7 @@ use smx_text::laws::one_text_has_one_reading;
 use smx_words::laws::one_value_each;
 use smx_words::laws_of_reading::each_line_has_a_reading;
 
-/// A text has one start, unless memory is wanting: the one session over its drivers, or one trouble.
+/// A text has no two starts, unless memory is wanting: the session over its drivers, or a trouble.
 pub fn a_text_has_one_start()
     ensures { (text : List ℕ) (one other : Result State Trouble) → StartsAs text one → StartsAs text other
         → IfErr one (λ t. t ≢ NoMemory) → IfErr other (λ t. t ≢ NoMemory) → one ≡ other }

@@ -74,8 +74,8 @@ impl Session {
     }
 
     /// Performs the command of a line, `PROCESS COMMAND` as an entry's line begins, and keeps the entry of it and its
-    /// reply. `Line` comes exactly where the line is none that the version can tell, `NoMemory` where a growth was
-    /// refused; neither changes anything.
+    /// reply. `Line` comes only where the line is none that the version can tell; else memory was wanting. Neither
+    /// changes anything.
     pub fn perform(&mut self, alloc: Global, line: &[u8]) -> Result<(), Trouble>
         ensures ok { OnOk result (Performs self.old line.now self.new) }
         ensures err { OnErr result (self.new ≡ self.old) }

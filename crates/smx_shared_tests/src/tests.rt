@@ -4,6 +4,7 @@ mod callers;
 mod doors;
 mod gates;
 mod gathered;
+mod grown;
 mod hangups;
 mod holds;
 mod looks;

@@ -27,3 +27,4 @@ pub mod RouteLineLemmas
 pub mod DriverListLemmas
 pub mod WalkLemmas
 pub mod KeptLemmas
+pub mod AloneLemmas

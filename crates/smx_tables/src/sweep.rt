@@ -1,6 +1,6 @@
 //! The sweep: what goes with streams that don't exist any longer, and the reply that names it.
 
-ghost use Rattle.std.specs.Prelude.{◌≡◌, ◌≢◌, ◌+◌, ◌≤◌, true, length, vec_capacity, IfOk, [], ◌∷◌, List};
+ghost use Rattle.std.specs.Prelude.{◌≡◌, ◌≢◌, ◌+◌, ◌≤◌, true, false, length, vec_capacity, IfOk, [], ◌∷◌, List};
 ghost use Rattle.std.specs.List.{AllPairs, list_all};
 ghost use Rattle.smx_types.specs.declared.driver.DriverSpec.{DriverSpec as DriverValue};
 ghost use Rattle.smx_types.specs.declared.reply.Reply.TheVariants.{Done};
@@ -9,7 +9,7 @@ ghost use Rattle.smx_model.specs.Configuration.{QueuedMessage};
 ghost use Rattle.smx_model.specs.KnownStreams.{AreControllingKnown};
 ghost use Rattle.smx_model.specs.Removal.{serials, serials_that_left, without_dead_streams, without_links, after_sweep};
 ghost use Rattle.smx_streams.specs.StreamTables.{LeavesHungs, exists as is_there};
-ghost use Rattle.smx_links.specs.LinkLists.{ordinary_of};
+ghost use Rattle.smx_links.specs.LinkLists.{is_upper, ordinary_of};
 ghost use Rattle.smx_tables.specs.DroppedMessages.{AreDropped};
 ghost use Rattle.smx_tables.specs.ExistingStreams.{holds_below, TellsExisting};
 ghost use Rattle.smx_tables.specs.ListedLinks.{is_orphaned};
@@ -189,6 +189,34 @@ pub fn sweep_and_reply(drivers: &[DriverSpec], lists: &mut Lists, room: SweepRes
     ensures drivers { sizes_of lists.new ≡ sizes_of lists.old }
 {
     let dropped = sweep(drivers, lists, room);
+    Reply::Done {
+        dropped: Serials::from_vec(rising(dropped)),
+    }
+}
+
+/// The same where the change touched this stream alone, whose driver is above no link: nothing goes but the stream, with
+/// what it holds. There is room for the serials of all messages.
+pub fn sweep_alone_and_reply(
+    drivers: &[DriverSpec],
+    lists: &mut Lists,
+    stream: StreamId,
+    room: Vec<u32>,
+) -> Reply
+    requires kept { KeepsHolds lists.old }
+    requires known { AreControllingKnown drivers.now lists.old.links.links }
+    requires touched { IsTouched lists.old.streams (stream ∷ []) (configuration_of lists.old) }
+    requires lower { is_upper lists.old.links.links stream.driver ≡ false }
+    requires room { length room.items + length lists.old.queues.flow ≤ vec_capacity room }
+    ensures value { configuration_of lists.new ≡ after_sweep drivers.now (configuration_of lists.old) }
+    ensures reply { (old : List QueuedMessage) → AllPairs (λ m n. m ≢ n) (serials old)
+        → AreDropped old lists.old.queues.flow room.items
+        → result ≡ Done (serials_that_left old lists.new.queues.flow) }
+    ensures kept { KeepsHolds lists.new }
+    ensures drivers { sizes_of lists.new ≡ sizes_of lists.old }
+{
+    tells_existing(drivers, lists);
+    let mut dropped = room;
+    drop_dead(lists, &[stream], &mut dropped);
     Reply::Done {
         dropped: Serials::from_vec(rising(dropped)),
     }

@@ -1,6 +1,6 @@
 -- Each text has a reading. For any kind of text of which each line is decided.
 use Rattle.std.proofs.Common.{◌≡◌, ◌≢◌, ℕ, zero, suc, ◌+◌, ◌<◌, Bool, true, false, List, [], ◌∷◌, ◌++◌}
-use Rattle.std.proofs.Common.{length, Result, Ok, Err, refl, ap, ◌∙◌, arith, inl, inr}
+use Rattle.std.proofs.Common.{length, Result, Ok, Err, refl, sym, ap, subst, ◌∙◌, arith, inl, inr}
 use Rattle.std.specs.Prelude.{◌⊎◌, IfErr}
 use Rattle.std.proofs.lemmas.List.{length-append}
 use Rattle.std.proofs.lemmas.Slice.Eq.{bytes_eq-Decides}
@@ -10,7 +10,7 @@ use Rattle.smx_text.specs.declared.text_fault.Cause.{Cause}
 use Rattle.smx_text.specs.declared.text_fault.Cause.TheVariants as cause
 use Rattle.smx_text.specs.declared.text_fault.TextFault.{TextFault}
 use Rattle.smx_text.specs.Grammar.{Grammar, IsOneLine, header, line_text, IsBegun, IsNoLine, IsOneTooMany}
-use Rattle.smx_text.specs.Grammar.{IsOneMore, IsFault, Reads}
+use Rattle.smx_text.specs.Grammar.{IsOneMore, IsFault, Reads, Spells}
 use Rattle.smx_text.proofs.ReadingLemmas.{IsBetween, started, cut_at, refused, one_more, read_to_end}
 use Rattle.smx_text.proofs.LineLemmas.{first_line}
 use Rattle.smx_text.proofs.GrammarLemmas.{IsWellMade}
@@ -36,11 +36,14 @@ module _ {V K : Type 0} (g : Grammar V K) (made : IsWellMade g) (decides : (line
       → IsBetween g bytes rest lines number → IsOneLine text × (rest ≡ text ++ LINE_FEED ∷ after)
       → (text ≡ line_text g g.end) → (v : V) → g.IsAllowed v → g.body v ≡ lines → HasReading g bytes
   ends bytes rest lines number text [] at next end v allowed e =
-      (Ok v, read_to_end g bytes rest lines number text [] at next end (Ok v) (allowed, e, refl), tt)
+      let makes : V → V → Type 0 = λ (v w : V). w ≡ v in
+      let read = read_to_end g bytes rest lines number text [] at next end makes (Ok v) (v, allowed, e, refl, refl) in
+      (Ok v, subst (Spells g bytes) (sym read.2) read.1, tt)
   ends bytes rest lines number text (b ∷ after) at next end v allowed e =
+      let makes : V → V → Type 0 = λ (v w : V). w ≡ v in
       let fault : TextFault = record { line = number + 1; cause = cause.Trailing } in (
         Err fault,
-        read_to_end g bytes rest lines number text (b ∷ after) at next end (Err fault)
+        read_to_end g bytes rest lines number text (b ∷ after) at next end makes (Err fault)
             (inr (v, allowed, e, omega arith, refl)),
         λ c. cc,
       )

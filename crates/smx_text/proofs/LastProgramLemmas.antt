@@ -39,8 +39,8 @@ last_again programs last more =
     rw (length-set programs (length programs - 1) last) (set-set programs (length programs - 1) last more)
 
 -- what is pushed behind the commands of the last program is pushed into the programs
-pushed_one : (version : Version) (line : List ℕ) (view programs : List (List Command)) (last before after : List Command)
-    (r : Bool) → 0 < length view → with_last programs last ≡ view → before ≡ last
+pushed_one : (version : Version) (line : List ℕ) (view programs : List (List Command))
+    (last before after : List Command) (r : Bool) → 0 < length view → with_last programs last ≡ view → before ≡ last
     → IsPushedBehind (FitsCommandIn version) command_words line before after r
     → IsPushed version line view (with_last programs after) r
 pushed_one version line view programs last before after true some is same more =

@@ -1,10 +1,11 @@
 -- What a reader does with a line behind those of some programs.
 use Rattle.std.proofs.Common.{◌≡◌, ◌≢◌, ℕ, ◌+◌, ◌<◌, [], ◌∷◌, ◌++◌, length, sym, ap, subst, arith, ◌≤◌, ◌∙◌, refl, Some}
+use Rattle.std.proofs.Common.{rules}
 use Rattle.std.specs.List.{sum_by, AllByRecursion}
 use Rattle.std.proofs.lemmas.List.{append-nil}
 use Rattle.std.proofs.lemmas.List.Sums.{sum_by-append, sum_by-cons}
-use Rattle.smx_types.specs.ProgramLists.{ProgramLists, program_lists, raised}
-use Rattle.smx_types.specs.declared.limits.TheConstants.{MAX_PROCESSES, MAX_COMMANDS}
+use Rattle.smx_types.specs.ProgramLists.{ProgramLists, program_lists, raised, AreWithinLimits}
+use Rattle.smx_types.specs.declared.limits.TheConstants.{MAX_DRIVERS, MAX_PROCESSES, MAX_COMMANDS}
 use Rattle.smx_text.specs.Grammar.{IsBegun}
 use Rattle.smx_text.specs.ProgramLines.{Line}
 use Rattle.smx_text.specs.ProgramLines as line
@@ -108,26 +109,45 @@ pub too_many : (version : Version) (v : ProgramLists) (k : Line) → MayStand v 
     → RefusesLine (programs_grammar version) (body v) k cause.Many
 too_many version v k may many = (stand_may version v k may, are_full version v k many)
 
+-- programs with this line more, which may stand there
+pub taken_more : (version : Version) (v w : ProgramLists) (k : Line) → v.version ≡ version → w ≡ with_line v k
+    → IsBegun (programs_grammar version) (body v) → MayStand v k → HasRoom version v k → FitsLine version k
+    → AddsLine (programs_grammar version) (body v) k (body w)
+taken_more version v w k is same begun may room fits =
+    rw same (adds version v (with_line v k) k is (version_stays v k ∙ is) begun room fits
+    (body_more v k may (not_end version v k room)))
+
 -- ---- the end
 
--- these programs in their version are those that were read
-same_in : (version : Version) (v w : ProgramLists) → v.version ≡ version → IsAllowed version v
+-- programs whose lines a text begins with are within the limits
+pub begun_within : (v : ProgramLists) → IsBegun (programs_grammar v.version) (body v) → AreWithinLimits v
+begun_within v begun =
+    let own = allowed_of v.version v refl begun in record {
+      drivers = few v.version own.drivers;
+      programs = own.programs;
+      commands = own.commands;
+      version = λ first. least_is_first v (subst (λ (n : Version). IsAllowed n v) first own);
+    } where
+      few : (version : Version) → length v.drivers ≤ most_drivers version → length v.drivers ≤ MAX_DRIVERS
+      few V1 h = search rules
+      few V2 h = h
+
+-- they end as what is made of them
+pub finished : {W : Type 0} (makes : ProgramLists → W → Type 0) (v : ProgramLists) (w : W)
+    → IsBegun (programs_grammar v.version) (body v) → makes v w
+    → EndsAs (programs_grammar v.version) makes (body v) (Some w)
+finished makes v w begun made = (v, allowed_of v.version v refl begun, refl, made)
+
+-- ---- what is kept of them
+
+-- these programs, in their version, are those that were taken
+pub same_in : (version : Version) (v w : ProgramLists) → v.version ≡ version → AreWithinLimits v
     → (version ≡ V1 → w ≡ program_lists v.drivers v.programs)
     → (version ≡ V2 → w ≡ raised (program_lists v.drivers v.programs)) → w ≡ v
-same_in V1 v w is allowed first second =
+same_in V1 v w is within first second =
     first refl
     ∙ ap (λ (n : Version). record { version = n; drivers = v.drivers; programs = v.programs })
-    (least_is_first v allowed ∙ sym is)
-same_in V2 v w is allowed first second =
+    (within.version is ∙ sym is)
+same_in V2 v w is within first second =
     second refl
     ∙ ap (λ (n : Version). record { version = n; drivers = v.drivers; programs = v.programs }) (sym is)
-
--- lines so far that begin allowed programs end as the programs in their version
-pub finished : (v w : ProgramLists) → IsBegun (programs_grammar v.version) (body v)
-    → (v.version ≡ V1 → w ≡ program_lists v.drivers v.programs)
-    → (v.version ≡ V2 → w ≡ raised (program_lists v.drivers v.programs))
-    → EndsAs (programs_grammar v.version) (body v) (Some w)
-finished v w begun first second =
-    let own = allowed_of v.version v refl begun in
-    let same = same_in v.version v w refl own first second in
-    (subst (IsAllowed v.version) (sym same) own, ap body same)

@@ -11,7 +11,7 @@ use Rattle.smx_text.specs.declared.text_fault.Cause.{Cause}
 use Rattle.smx_text.specs.declared.text_fault.Cause.TheVariants as cause
 use Rattle.smx_text.specs.declared.text_fault.TextFault.{TextFault}
 use Rattle.smx_text.specs.Grammar.{Grammar, IsOneLine, header, line_text, beginning, full_text, IsBegun}
-use Rattle.smx_text.specs.Grammar.{Continues, IsNoLine, MayFollow, Reaches, IsFault, Reads, ReadsAny}
+use Rattle.smx_text.specs.Grammar.{Continues, IsNoLine, MayFollow, Reaches, IsFault, MakesAny, ReadsAny, Spells}
 use Rattle.smx_text.specs.Reading.{Refuses, AddsLine, RefusesLine, EndsText}
 
 -- a text of some lines and of others
@@ -23,6 +23,11 @@ behind : (before text after : List ℕ) → (before ++ (text ++ LINE_FEED ∷ []
     ≡ before ++ (text ++ LINE_FEED ∷ after)
 behind before text after = append_assoc before (text ++ LINE_FEED ∷ []) after
     ∙ ap (λ (xs : List ℕ). before ++ xs) (append_assoc text (LINE_FEED ∷ []) after)
+
+-- in one version: what may be made of the value that the bytes spell, or the fault that a reader may answer
+abbrev pub MakesIn : {V K W : Type 0} → Grammar V K → (V → W → Type 0) → List ℕ → Result W TextFault → Type 0
+MakesIn {V} {K} {W} g makes bytes (Ok w) = (v : V) × Spells g bytes v × makes v w
+MakesIn {V} {K} {W} g makes bytes (Err f) = IsFault g bytes f.line f.cause
 
 module _ {V K : Type 0} (g : Grammar V K) where
   -- with one line more
@@ -123,18 +128,22 @@ module _ {V K : Type 0} (g : Grammar V K) where
         omega (arith, at.numbered, ap (length {A = K}) e),
       )
 
-      -- what is answered at the last line is what a reader may answer for the whole text
-      pub read_to_end : (r : Result V TextFault) → EndsText g lines after number r → Reads g bytes r
-      read_to_end (Ok v) (allowed, e, none) =
-          record {
-            allowed = allowed;
-            text = whole v e
-                ∙ ap (λ (xs : List ℕ). full_text g v ++ xs) (nil_from_length after none)
-                ∙ append-nil (full_text g v);
-          }
-      read_to_end (Err f) (inl (never, is)) =
+      -- what is answered at the last line is what may be answered for the whole text
+      pub read_to_end : {W : Type 0} (makes : V → W → Type 0) (r : Result W TextFault)
+          → EndsText g makes lines after number r → MakesIn g makes bytes r
+      read_to_end makes (Ok w) (v, allowed, e, none, made) = (
+        v,
+        record {
+          allowed = allowed;
+          text = whole v e
+              ∙ ap (λ (xs : List ℕ). full_text g v ++ xs) (nil_from_length after none)
+              ∙ append-nil (full_text g v);
+        },
+        made,
+      )
+      read_to_end makes (Err f) (inl (never, is)) =
           subst (λ (x : TextFault). IsFault g bytes x.line x.cause) (sym is) (may_not never)
-      read_to_end (Err f) (inr (v, allowed, e, some, is)) =
+      read_to_end makes (Err f) (inr (v, allowed, e, some, is)) =
           subst (λ (x : TextFault). IsFault g bytes x.line x.cause) (sym is)
           (trails v allowed e after refl some)
 
@@ -181,20 +190,30 @@ module _ {V K : Type 0} (g : Grammar V K) where
   refused_behind lines text cause.Trailing h e = absurd h
 
   -- what is answered at the last line says nothing of the header
-  pub ends_behind : (lines : List K) (after : List ℕ) (number : ℕ) (r : Result V TextFault)
-      → EndsText g lines after number r → IfErr r (λ f. f.cause ≢ cause.Header)
-  ends_behind lines after number (Ok v) h = tt
-  ends_behind lines after number (Err f) (inl (never, is)) = λ e. cc
-  ends_behind lines after number (Err f) (inr (v, allowed, same, some, is)) = λ e. cc
+  pub ends_behind : {W : Type 0} (makes : V → W → Type 0) (lines : List K) (after : List ℕ) (number : ℕ)
+      (r : Result W TextFault) → EndsText g makes lines after number r → IfErr r (λ f. f.cause ≢ cause.Header)
+  ends_behind makes lines after number (Ok w) h = tt
+  ends_behind makes lines after number (Err f) (inl (never, is)) = λ e. cc
+  ends_behind makes lines after number (Err f) (inr (v, allowed, same, some, is)) = λ e. cc
 
 -- ---- texts of several versions
 
 module _ {V K : Type 0} (g : Version → Grammar V K) (bytes : List ℕ) where
+  -- a fault of one version that is none of the header
+  pub any_fault : (version : Version) (f : TextFault) → IsFault (g version) bytes f.line f.cause
+      → f.cause ≢ cause.Header → ReadsAny g bytes (Err f)
+  any_fault version f fault behind = (version, fault, λ header. absurd (behind header))
+
   -- an answer of one version that says nothing of the header
-  pub any_of : (version : Version) (r : Result V TextFault) → Reads (g version) bytes r
-      → IfErr r (λ f. f.cause ≢ cause.Header) → ReadsAny g bytes r
-  any_of version (Ok v) reads behind = (version, reads, tt)
-  any_of version (Err f) reads behind = (version, reads, λ header. absurd (behind header))
+  pub any_of : {W : Type 0} (makes : V → W → Type 0) (version : Version) (r : Result W TextFault)
+      → MakesIn (g version) makes bytes r → IfErr r (λ f. f.cause ≢ cause.Header) → MakesAny g makes bytes r
+  any_of makes version (Ok w) (v, spells, made) behind = (v, (version, spells, tt), made)
+  any_of makes version (Err f) fault behind = any_fault version f fault behind
+
+  -- where the value itself is made, a reader may answer it
+  pub made_is_read : (r : Result V TextFault) → MakesAny g (λ v w. w ≡ v) bytes r → ReadsAny g bytes r
+  made_is_read (Ok w) (v, reads, is) = subst (λ (x : V). ReadsAny g bytes (Ok x)) (sym is) reads
+  made_is_read (Err f) reads = reads
 
   -- an answer of each version
   pub any_of_each : (f : TextFault) → ((version : Version) → IsFault (g version) bytes f.line f.cause)

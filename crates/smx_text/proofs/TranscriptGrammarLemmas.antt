@@ -1,5 +1,5 @@
 -- The lines of a transcript text can be told apart.
-use Rattle.std.proofs.Common.{◌≡◌, ◌≢◌, ℕ, ◌<◌, ◌≤◌, Bool, true, false, Result, Some, None, ◌++◌, ◌^◌, List}
+use Rattle.std.proofs.Common.{◌≡◌, ◌≢◌, ℕ, ◌<◌, ◌≤◌, Bool, true, false, Result, Some, ◌++◌, ◌^◌, List}
 use Rattle.std.proofs.Common.{◌∷◌, refl, sym, ap, subst, ◌∙◌, arith, rules}
 use Rattle.std.specs.Fmt.{decimal}
 use Rattle.std.specs.Prelude.{codes, OnOk, IfErr, if◌then◌else◌}
@@ -32,7 +32,7 @@ use Rattle.smx_text.specs.declared.transcript.draft.Stage.TheVariants as stage
 use Rattle.smx_text.specs.declared.transcript.draft.TranscriptDraft.{TranscriptDraft}
 use Rattle.smx_text.specs.Drafts.{grammar_of, lines}
 use Rattle.smx_text.specs.Grammar.{Continues, IsNoLine, IsOneLine, header, line_text}
-use Rattle.smx_text.specs.Reading.{Refuses, EndsAs, AddsLine, RefusesLine}
+use Rattle.smx_text.specs.Reading.{Refuses, AddsLine, RefusesLine}
 use Rattle.smx_text.specs.TranscriptLines.{TranscriptLine}
 use Rattle.smx_text.specs.TranscriptLines as line
 use Rattle.smx_text.specs.TranscriptText.{line_words, FitsHungIn, FitsLine, body, transcript_grammar}
@@ -240,7 +240,8 @@ refused_line version ls k text fits is why h =
     refuses (transcript_grammar version) (tells_apart version) ls k text fits is why h
 
 -- where a draft doesn't take the end, a text may not end behind its lines
-pub not_at_end : (d : TranscriptDraft) → takes d line.End ≡ false → EndsAs (grammar_of d) (lines d) None
+pub not_at_end : (d : TranscriptDraft) → takes d line.End ≡ false
+    → IsNoLine (grammar_of d) (lines d) (line_text (grammar_of d) line.End)
 not_at_end d h =
     refused_line d.transcript.version (lines d) line.End (line_text (grammar_of d) line.End) tt refl cause.Form
     (misplaced d line.End h)

@@ -13,7 +13,7 @@ use Rattle.smx_text.specs.ProgramsText.{programs_grammar}
 use Rattle.smx_text.specs.TranscriptText.{transcript_grammar}
 use Rattle.smx_text.specs.WorkedFaults.{AreWrongPrograms, IsWrongTranscript}
 use Rattle.smx_text.proofs.ProgramsGrammarLemmas.{versions}
-use Rattle.smx_text.proofs.ReadingLemmas.{any_of, any_of_each}
+use Rattle.smx_text.proofs.ReadingLemmas.{any_fault, any_of_each}
 use Rattle.smx_text.proofs.TranscriptGrammarLemmas.{versions as transcript_versions}
 use Rattle.smx_text.proofs.VersionLemmas.{AreVersions, one_reading_of_all}
 
@@ -31,7 +31,7 @@ pub wrong_programs : (version : Version) (bytes : List ℕ) (line : ℕ) (why : 
     → why ≢ cause.Header → IsFault (programs_grammar version) bytes line why → AreWrongPrograms bytes line why
 wrong_programs version bytes line why other behind fault =
     let f : TextFault = record { line = line; cause = why } in
-    let reads = any_of programs_grammar bytes version (Err f) fault behind in
+    let reads = any_fault programs_grammar bytes version f fault behind in
     (reads, λ v. spells_none programs_grammar versions bytes f other reads v.version v)
 
 -- bytes that go wrong in each version, at one line for one cause, spell no programs
@@ -47,7 +47,7 @@ pub wrong_transcript : (version : Version) (bytes : List ℕ) (line : ℕ) (why 
     → why ≢ cause.Header → IsFault (transcript_grammar version) bytes line why → IsWrongTranscript bytes line why
 wrong_transcript version bytes line why other behind fault =
     let f : TextFault = record { line = line; cause = why } in
-    let reads = any_of transcript_grammar bytes version (Err f) fault behind in
+    let reads = any_fault transcript_grammar bytes version f fault behind in
     (reads, λ t. spells_none transcript_grammar transcript_versions bytes f other reads t.version t)
 
 -- bytes that go wrong in each version, at one line for one cause, spell no transcript

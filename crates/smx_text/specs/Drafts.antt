@@ -1,11 +1,12 @@
 -- What was read so far, and what holds of it. No public clause needs this.
-use Rattle.std.specs.Prelude.{◌≡◌, ◌≤◌, Bool, true, false, ◌&&◌, ◌==◌, List, [], ◌∷◌, ◌++◌, length, map}
+use Rattle.std.specs.Prelude.{◌≡◌, ◌≤◌, ℕ, Bool, true, false, ◌&&◌, ◌==◌, List, [], ◌∷◌, ◌++◌, length, map}
 use Rattle.std.specs.List.{sum_by}
+use Rattle.smx_types.specs.ProgramLists.{ProgramLists}
 use Rattle.smx_types.specs.Versions.{most_drivers}
 use Rattle.smx_types.specs.declared.limits.TheConstants.{MAX_COMMANDS, MAX_PROCESSES}
 use Rattle.smx_types.specs.declared.transcript.Transcript.{Transcript}
+use Rattle.smx_types.specs.declared.version.Version.{Version}
 use Rattle.smx_types.specs.declared.view.ConfigView.{ConfigView}
-use Rattle.smx_text.specs.declared.programs.draft.ProgramsDraft.TheInside.{Inside}
 use Rattle.smx_text.specs.declared.transcript.draft.Stage.{Stage}
 use Rattle.smx_text.specs.declared.transcript.draft.Stage.TheVariants as stage
 use Rattle.smx_text.specs.declared.transcript.draft.TranscriptDraft.{TranscriptDraft}
@@ -14,12 +15,15 @@ use Rattle.smx_text.specs.TranscriptLines.{TranscriptLine}
 use Rattle.smx_text.specs.TranscriptLines as line
 use Rattle.smx_text.specs.TranscriptText.{transcript_grammar, view_body}
 
--- programs within the limits of their version, whose commands are counted
-pub record IsCounted (d : Inside) : Type 0 where
-  pub drivers : length d.drivers.items ≤ most_drivers d.version
-  pub programs : length d.programs ≤ MAX_PROCESSES
-  pub commands : sum_by length d.programs ≤ MAX_COMMANDS
-  pub count : d.count ≡ sum_by length d.programs
+-- programs of this version, within its limits, with so many drivers, programs and commands
+pub record IsCounted (p : ProgramLists) (version : Version) (drivers programs commands : ℕ) : Type 0 where
+  pub of_version : version ≡ p.version
+  pub has_drivers : drivers ≡ length p.drivers
+  pub has_programs : programs ≡ length p.programs
+  pub has_commands : commands ≡ sum_by length p.programs
+  pub few_drivers : drivers ≤ most_drivers version
+  pub few_programs : programs ≤ MAX_PROCESSES
+  pub few_commands : commands ≤ MAX_COMMANDS
 
 -- the lines of a transcript behind its entries, as far as they were read
 abbrev pub shown : Stage → ConfigView → List TranscriptLine

@@ -137,3 +137,10 @@ module _ {V K : Type 0} (g : Grammar V K) where
 abbrev pub ReadsAny : {V K : Type 0} → (Version → Grammar V K) → List ℕ → Result V TextFault → Type 0
 ReadsAny {V} {K} g bytes r = (version : Version) × Reads (g version) bytes r
     × IfErr r (λ f. f.cause ≡ cause.Header → (other : Version) → IsFault (g other) bytes f.line cause.Header)
+
+-- What may be answered by who makes something of the value that the bytes spell: what may be made of it, or the fault
+-- that a reader of all versions may answer.
+abbrev pub MakesAny : {V K W : Type 0} → (Version → Grammar V K) → (V → W → Type 0) → List ℕ → Result W TextFault
+    → Type 0
+MakesAny {V} {K} {W} g makes bytes (Ok w) = (v : V) × ReadsAny g bytes (Ok v) × makes v w
+MakesAny {V} {K} {W} g makes bytes (Err f) = ReadsAny g bytes (Err f)

@@ -1,4 +1,4 @@
--- Programs of which the last one still grows. No public clause needs this.
+-- Programs of which the last one still grows.
 use Rattle.std.specs.Prelude.{◌≡◌, ◌≢◌, ℕ, ◌-◌, List, [], ◌∷◌, ◌++◌, Bool, true, false, length}
 use Rattle.std.specs.List.{slice_index_or, slice_set}
 use Rattle.smx_types.specs.declared.command.Command.{Command}

@@ -9,5 +9,6 @@ pub mod TranscriptText
 pub mod GrowingTranscripts
 pub mod Drafts
 pub mod Growing
+pub mod TakenPrograms
 pub mod WorkedTexts
 pub mod WorkedFaults

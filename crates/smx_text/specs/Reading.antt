@@ -17,15 +17,16 @@ module _ {V K : Type 0} (g : Grammar V K) where
   Refuses lines text cause.Cut = ⊥
   Refuses lines text cause.Trailing = ⊥
 
-  -- at the end these lines are those of this allowed value, or they may not end there
-  abbrev pub EndsAs : List K → Option V → Type 0
-  EndsAs lines None = IsNoLine g lines (line_text g g.end)
-  EndsAs lines (Some v) = g.IsAllowed v × (g.body v ≡ lines)
+  -- at the end these lines are those of an allowed value of which this is made, or they may not end there
+  abbrev pub EndsAs : {W : Type 0} → (V → W → Type 0) → List K → Option W → Type 0
+  EndsAs makes lines None = IsNoLine g lines (line_text g g.end)
+  EndsAs makes lines (Some w) = (v : V) × g.IsAllowed v × (g.body v ≡ lines) × makes v w
 
   -- what is answered at the last line, which is the line `number`
-  abbrev pub EndsText : List K → List ℕ → ℕ → Result V TextFault → Type 0
-  EndsText lines after number (Ok v) = g.IsAllowed v × (g.body v ≡ lines) × (length after ≡ 0)
-  EndsText lines after number (Err f) =
+  abbrev pub EndsText : {W : Type 0} → (V → W → Type 0) → List K → List ℕ → ℕ → Result W TextFault → Type 0
+  EndsText makes lines after number (Ok w) =
+      (v : V) × g.IsAllowed v × (g.body v ≡ lines) × (length after ≡ 0) × makes v w
+  EndsText makes lines after number (Err f) =
       (IsNoLine g lines (line_text g g.end) × (f ≡ record { line = number; cause = cause.Form }))
       ⊎ ((v : V) × g.IsAllowed v × (g.body v ≡ lines) × (0 < length after)
       × (f ≡ record { line = number + 1; cause = cause.Trailing }))

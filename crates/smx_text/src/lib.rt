@@ -10,7 +10,7 @@ mod transcript_writer;
 pub mod worked_texts;
 mod write;
 
-pub use programs::read_programs;
+pub use programs::{ProgramTaker, TakenPrograms, read_programs, take_programs};
 pub use smx_types::{
     Binding, BindingLine, BindingLines, Bytes, Command, Commands, ConfigView, Copied, Descriptor,
     DescriptorLine, DescriptorLines, DriverKind, DriverSpec, Drivers, Entries, Entry, Fault,

@@ -3,7 +3,7 @@
 ghost use Rattle.std.specs.Prelude.{◌≡◌, ◌≢◌, ◌<◌, ◌-◌, ◌^◌, ◌∷◌, ◌++◌, [], List, length, codes, MatchOption};
 ghost use Rattle.std.specs.Prelude.{IfOk, IfErr, OnOk};
 ghost use Rattle.smx_types.specs.declared.version.Version.{Version as AnyVersion};
-ghost use Rattle.smx_text.specs.Grammar.{Grammar, IsBegun, IsOneLine, IsFault, ReadsAny, Continues, header};
+ghost use Rattle.smx_text.specs.Grammar.{Grammar, IsBegun, IsOneLine, IsFault, MakesAny, Continues, header};
 ghost use Rattle.smx_text.specs.Grammar.{line_text};
 ghost use Rattle.smx_words.specs.Words.{LINE_FEED};
 ghost use Rattle.smx_text.specs.Reading.{Refuses, EndsAs, EndsText};
@@ -15,13 +15,22 @@ use std::alloc::Global;
 
 // What the lines of a text say, as far as they were read.
 pub trait Draft: Drop {
-    // What a whole text says.
+    // What it begins with.
+    type With: Drop;
+
+    // What is made of a whole text.
     type Whole: Drop;
+
+    // What a whole text says.
+    ghost Said: { Type 0 };
 
     ghost Line: { Type 0 };
 
     // How a text of each version is spelled.
-    ghost grammar: { AnyVersion → Grammar Self.Whole Line };
+    ghost grammar: { AnyVersion → Grammar Said Line };
+
+    // What may be made of what a whole text says.
+    ghost makes: { Said → Self.Whole → Type 0 };
 
     // The version of the text.
     ghost version_of: { Self → AnyVersion };
@@ -34,7 +43,7 @@ pub trait Draft: Drop {
         ensures { result.now ≡ header (grammar version) };
 
     // Nothing of a text of this version.
-    fn begin(alloc: Global, version: Version) -> Self
+    fn begin(alloc: Global, with: Self::With, version: Version) -> Self
         ensures none { lines result ≡ [] }
         ensures version { version_of result ≡ version };
 
@@ -47,10 +56,10 @@ pub trait Draft: Drop {
         ensures version { OnOk result (version_of self.new ≡ version_of self.old) }
         ensures refused { IfErr result (Refuses (grammar (version_of self.old)) (lines self.old) text.now) };
 
-    // What the lines say, if a text may end behind them.
+    // What is made of what the lines say, if a text may end behind them.
     fn finish(self) -> Option<Self::Whole>
         requires begun { IsBegun (grammar (version_of self)) (lines self) }
-        ensures { EndsAs (grammar (version_of self)) (lines self) result };
+        ensures { EndsAs (grammar (version_of self)) makes (lines self) result };
 
     ghost end_is: { (v : AnyVersion) → line_text (grammar v) (grammar v).end ≡ codes "end" };
 }
@@ -64,13 +73,13 @@ fn next_line(bytes: &[u8]) -> Option<(&[u8], &[u8])>
     Some((&bytes[..at], &bytes[at + 1..]))
 }
 
-// What a text says, or the first line at which it goes wrong. Its header says of which version it is.
-pub fn read<D: Draft>(alloc: Global, bytes: &[u8]) -> Result<D::Whole, TextFault>
+// What is made of what a text says, or the first line at which it goes wrong. Its header says of which version it is.
+pub fn read<D: Draft>(alloc: Global, with: D::With, bytes: &[u8]) -> Result<D::Whole, TextFault>
     requires { (v : AnyVersion) → IsBegun (D.grammar v) [] }
-    ensures { ReadsAny D.grammar bytes.now result }
+    ensures { MakesAny D.grammar D.makes bytes.now result }
 {
     let (version, behind) = after_header::<D>(bytes)?;
-    let mut draft = D::begin(alloc, version);
+    let mut draft = D::begin(alloc, with, version);
     let mut rest = behind;
     let mut number = 2usize;
     'lines: loop {
@@ -105,11 +114,11 @@ fn after_header<D: Draft>(bytes: &[u8]) -> Result<(Version, &[u8]), TextFault>
     Err(Cause::Header.at(1))
 }
 
-// What the text says, if it may end at this line and no byte follows.
+// What is made of what the text says, if it may end at this line and no byte follows.
 fn ended<D: Draft>(draft: D, after: &[u8], number: usize) -> Result<D::Whole, TextFault>
     requires begun { IsBegun (D.grammar (D.version_of draft)) (D.lines draft) }
     requires room { number < 2 ^ 64 - 1 }
-    ensures { EndsText (D.grammar (D.version_of draft)) (D.lines draft) after.now number result }
+    ensures { EndsText (D.grammar (D.version_of draft)) D.makes (D.lines draft) after.now number result }
 {
     let Some(whole) = draft.finish() else {
         return Err(Cause::Form.at(number));

@@ -4,6 +4,8 @@ ghost use Rattle.smx_text.specs.Grammar.{ReadsAny};
 ghost use Rattle.smx_text.specs.TranscriptText.{transcript_grammar};
 
 mod draft;
+mod entries;
+mod groups;
 
 use crate::reading::read;
 use crate::text_fault::TextFault;
@@ -16,5 +18,5 @@ use std::alloc::Global;
 pub fn read_transcript(alloc: Global, bytes: &[u8]) -> Result<Transcript, TextFault>
     ensures { ReadsAny transcript_grammar bytes.now result }
 {
-    read::<TranscriptDraft>(alloc, bytes)
+    read::<TranscriptDraft>(alloc, (), bytes)
 }

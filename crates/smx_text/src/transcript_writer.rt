@@ -11,8 +11,8 @@ ghost use Rattle.smx_text.specs.TranscriptText.{IsSpellable, IsSpellableView};
 ghost use Rattle.smx_text.specs.TranscriptText.{line_words as view_words};
 ghost use Rattle.smx_words.specs.Words.{LINE_FEED, text_of};
 
-use smx_types::{ConfigView, DriverSpec, Entry, NoMemory, Version};
-use smx_words::{write_lines, write_next};
+use smx_types::{Command, ConfigView, DriverSpec, Entry, NoMemory, Process, Reply, Version};
+use smx_words::{write_entry, write_lines, write_next};
 use std::marker::Model;
 
 /// A transcript as far as it is written: its drivers, and the entries so far. Contracts see its bytes. Once a call
@@ -55,6 +55,20 @@ impl TranscriptWriter {
     {
         write_lines(&mut self.text, entries)?;
         Ok(())
+    }
+
+    /// The entry of these more, behind those so far. Fails only for want of memory.
+    pub fn add_entry(
+        &mut self,
+        process: Process,
+        command: &Command,
+        reply: &Reply,
+    ) -> Result<(), NoMemory>
+        ensures { OnOk result ((version : AnyVersion) (drivers : List AnyDriver) (before : List AnyEntry)
+            → BeginsTranscript version drivers before self.old → BeginsTranscript version drivers (before
+            ++ record { process = process; command = command.now; reply = reply.now } ∷ []) self.new) }
+    {
+        write_entry(&mut self.text, process, command, reply)
     }
 
     /// The one text of the transcript, whose configuration at its end is shown so. Fails only for want of memory.

@@ -13,6 +13,7 @@ mod plain_values;
 mod program_faults;
 mod program_texts;
 mod spelling;
+mod taken_lines;
 mod texts_at_limits;
 mod transcript_faults;
 mod transcript_texts;

@@ -13,4 +13,4 @@ pub use reading::{
     bind_of, command_of, descriptor_of, driver_of, entry_of, full_of, hung_of, link_of, message_of,
     next_of, process_of, push_command, route_of,
 };
-pub use writing::{Spell, write_lines, write_next, write_process};
+pub use writing::{Spell, write_entry, write_lines, write_next, write_process};

@@ -6,12 +6,14 @@ mod entry;
 pub mod hex_word;
 mod line;
 pub mod number;
+mod pushing;
 mod reply;
 mod verb;
 mod view;
 pub mod word;
 
-pub use command::{command_of, push_command};
+pub use command::command_of;
 pub use entry::entry_of;
 pub use line::{driver_of, next_of, process_of};
+pub use pushing::push_command;
 pub use view::{bind_of, descriptor_of, full_of, hung_of, link_of, message_of, route_of};

@@ -13,6 +13,7 @@ mod reply;
 mod view;
 mod word;
 
+pub use entry::write_entry;
 pub use number::{write_next, write_process};
 use smx_types::NoMemory;
 

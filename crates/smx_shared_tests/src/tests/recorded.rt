@@ -10,7 +10,8 @@ use super::workers::written;
 use smx_run::{Gate, NewRecorder, NoGate, Recorder, run_recorded};
 use smx_text::read_programs;
 use smx_types::{
-    ConfigView, Copied, DriverSpec, Drivers, Entries, Entry, NoMemory, Process, Transcript, Version,
+    Command, ConfigView, Copied, DriverSpec, Drivers, Entries, Entry, NoMemory, Process, Reply,
+    Transcript, Version,
 };
 use std::alloc::Global;
 use std::process::Abort;
@@ -32,9 +33,14 @@ impl Recorder for Kept {
     ghost told = { λ version drivers entries kept.
         (kept.version ≡ version) × (kept.drivers ≡ drivers) × (kept.entries ≡ entries) };
 
-    fn add(&mut self, entry: &Entry) -> Result<(), NoMemory> {
-        let entry = entry.copy(self.alloc)?;
-        self.entries.push(entry)
+    fn add(&mut self, process: Process, command: &Command, reply: &Reply) -> Result<(), NoMemory> {
+        let command = command.copy(self.alloc)?;
+        let reply = reply.copy(self.alloc)?;
+        self.entries.push(Entry {
+            process,
+            command,
+            reply,
+        })
     }
 }
 
@@ -85,7 +91,7 @@ exit
 end
 ";
 
-const OF_TWO_PROCESSES: &[u8] = b"transcript 1
+pub const OF_TWO_PROCESSES: &[u8] = b"transcript 1
 driver ip mux 2 8 3 16
 driver eth leaf 1 4 0 2
 0 clone eth = fd 0 0
@@ -120,7 +126,12 @@ pub struct Counting<'a> {
 impl<'a> Recorder for Counting<'a> {
     ghost told = { λ _ _ _ _. Unit {0} };
 
-    fn add(&mut self, _entry: &Entry) -> Result<(), NoMemory> {
+    fn add(
+        &mut self,
+        _process: Process,
+        _command: &Command,
+        _reply: &Reply,
+    ) -> Result<(), NoMemory> {
         if self.told.fetch_add(1, Ordering::SeqCst) < self.most {
             Ok(())
         } else {
@@ -156,7 +167,7 @@ fn counts<G: Gate>(
 }
 
 // What a gate is told of the six commands of the two processes.
-const OF_SIX_COMMANDS: [Told; 12] = [
+pub const OF_SIX_COMMANDS: [Told; 12] = [
     Before(0, 0),
     After(0, 0),
     Before(0, 1),
@@ -193,7 +204,7 @@ fn a_recorded_run_stops_where_its_recorder_does(rt: HostRuntime) -> Result<(), F
     Ok(())
 }
 
-const SAME_NAME: &[u8] =
+pub const SAME_NAME: &[u8] =
     b"programs 1\ndriver ip mux 4 8 3 16\ndriver ip leaf 1 1 0 1\nprocess 0\nexit\nend\n";
 
 #[test]

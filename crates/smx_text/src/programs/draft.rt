@@ -2,9 +2,7 @@
 
 ghost use Rattle.std.specs.Prelude.{◌≡◌, ◌≢◌, ◌<◌, codes, length, OnOk, IfOk, IfErr};
 ghost use Rattle.std.specs.List.{sum_by};
-ghost use Rattle.smx_types.specs.ProgramLists.{raised};
 ghost use Rattle.smx_types.specs.declared.limits.TheConstants.{MAX_COMMANDS};
-ghost use Rattle.smx_types.specs.declared.version.Version.TheVariants.{V1, V2};
 ghost use Rattle.smx_types.specs.declared.command.Command.{Command as AnyCommand};
 ghost use Rattle.smx_words.specs.LineReading.{IsLineOf, IsReadAs};
 ghost use Rattle.smx_words.specs.Words.{line_of};
@@ -16,45 +14,52 @@ ghost use Rattle.smx_text.specs.ProgramLines.{Driver as DriverLine, Process as P
 ghost use Rattle.smx_text.specs.ProgramLines.{Command as CommandLine, End};
 ghost use Rattle.smx_text.specs.ProgramsText.{body, programs_grammar};
 
-use crate::programs::growing::GrowingPrograms;
+use crate::programs::taker::ProgramTaker;
 use crate::reading::Draft;
 use crate::text_fault::Cause;
-use smx_types::{DriverSpec, Drivers, MAX_COMMANDS, MAX_PROCESSES, NoMemory, Programs, Version};
+use smx_types::{DriverSpec, MAX_COMMANDS, MAX_PROCESSES, NoMemory, Version};
 use smx_words::{command_of, driver_of, process_of};
 use std::alloc::Global;
 use std::marker::Model;
 
-// The drivers and programs of the lines so far.
-#[derive(Debug, Drop)]
-pub struct ProgramsDraft {
+// Who takes what the lines so far say, and how many drivers, programs and commands there were.
+#[derive(Drop)]
+pub struct ProgramsDraft<P: ProgramTaker> {
     version: Version,
-    drivers: Vec<DriverSpec>,
-    programs: GrowingPrograms,
-    count: usize,
+    taker: P,
+    drivers: usize,
+    programs: usize,
+    commands: usize,
 }
 
-impl Model for ProgramsDraft {
+impl<P: ProgramTaker> Model for ProgramsDraft<P> {
     ghost use Rattle.smx_types.specs.ProgramLists.{ProgramLists};
     ghost use Rattle.smx_text.specs.Drafts.{IsCounted};
 
     ghost Value = { ProgramLists };
 
-    ghost view = { λ d.
-        record { version = d.version; drivers = d.drivers.items; programs = d.programs } };
+    ghost view = { λ d. P.taken d.taker };
 
-    ghost invariant = { IsCounted };
+    ghost invariant = { λ d. IsCounted (P.taken d.taker) d.version d.drivers d.programs d.commands };
 }
 
-impl Draft for ProgramsDraft {
-    type Whole = Programs;
+impl<P: ProgramTaker> Draft for ProgramsDraft<P> {
+    type With = P::With;
+
+    type Whole = P::Whole;
 
     ghost use Rattle.std.specs.Prelude.{refl};
+    ghost use Rattle.smx_types.specs.ProgramLists.{ProgramLists};
     ghost use Rattle.smx_text.specs.ProgramLines.{Line};
     ghost use Rattle.smx_text.specs.ProgramsText.{body, programs_grammar};
+
+    ghost Said = { ProgramLists };
 
     ghost Line = { Line };
 
     ghost grammar = { programs_grammar };
+
+    ghost makes = { P.makes };
 
     ghost version_of = { λ d. d.version };
 
@@ -67,12 +72,13 @@ impl Draft for ProgramsDraft {
         }
     }
 
-    fn begin(alloc: Global, version: Version) -> ProgramsDraft {
+    fn begin(alloc: Global, with: P::With, version: Version) -> ProgramsDraft<P> {
         ProgramsDraft {
             version,
-            drivers: Vec::new(alloc),
-            programs: GrowingPrograms::new(alloc),
-            count: 0,
+            taker: P::begin(alloc, with, version),
+            drivers: 0,
+            programs: 0,
+            commands: 0,
         }
     }
 
@@ -83,27 +89,14 @@ impl Draft for ProgramsDraft {
         }
     }
 
-    fn finish(self) -> Option<Programs> {
-        let drivers = Drivers::from_vec(self.drivers);
-        let programs = Programs::new(drivers, self.programs.into_list()).ok()?;
-        Some(in_version(self.version, programs))
+    fn finish(self) -> Option<P::Whole> {
+        Some(self.taker.finish())
     }
 
     ghost end_is = { λ v. refl };
 }
 
-// The programs in this version, where it can tell them.
-fn in_version(version: Version, programs: Programs) -> Programs
-    ensures first { version ≡ V1 → result ≡ programs }
-    ensures second { version ≡ V2 → result ≡ raised programs }
-{
-    match version {
-        Version::V1 => programs,
-        Version::V2 => programs.raised(),
-    }
-}
-
-impl ProgramsDraft {
+impl<P: ProgramTaker> ProgramsDraft<P> {
     // A line that is no command.
     fn add_other(&mut self, alloc: Global, text: &[u8]) -> Result<(), Cause>
         requires begun { IsBegun (programs_grammar self.old.version) (body self.old) }
@@ -134,13 +127,14 @@ impl ProgramsDraft {
         ensures refused { IfErr result
             (RefusesLine (programs_grammar self.old.version) (body self.old) (DriverLine driver)) }
     {
-        if !self.programs.is_empty() {
+        if self.programs > 0 {
             return Err(Cause::Form);
         }
-        if self.drivers.len() >= self.version.max_drivers() {
+        if self.drivers >= self.version.max_drivers() {
             return Err(Cause::Many);
         }
-        self.drivers.push(driver)?;
+        self.taker.add_driver(driver)?;
+        self.drivers += 1;
         Ok(())
     }
 
@@ -153,13 +147,14 @@ impl ProgramsDraft {
         ensures refused { IfErr result
             (RefusesLine (programs_grammar self.old.version) (body self.old) (ProcessLine number)) }
     {
-        if number as usize != self.programs.len() {
+        if number as usize != self.programs {
             return Err(Cause::Form);
         }
         if number >= MAX_PROCESSES {
             return Err(Cause::Many);
         }
-        self.programs.begin(alloc)?;
+        self.taker.add_program(alloc)?;
+        self.programs += 1;
         Ok(())
     }
 
@@ -174,9 +169,9 @@ impl ProgramsDraft {
         ensures version { OnOk result (self.new.version ≡ self.old.version) }
         ensures refused { IfErr result (Refuses (programs_grammar self.old.version) (body self.old) text.now) }
     {
-        match self.programs.push_command(alloc, self.version, text) {
+        match self.taker.add_command(alloc, text) {
             Ok(true) => {
-                self.count += 1;
+                self.commands += 1;
                 Ok(())
             }
             Ok(false) => self.add_other(alloc, text),
@@ -209,10 +204,10 @@ impl ProgramsDraft {
         ensures refused { IfErr result (λ why. (c : AnyCommand)
             → RefusesLine (programs_grammar self.now.version) (body self.now) (CommandLine c) why) }
     {
-        if self.programs.is_empty() {
+        if self.programs == 0 {
             return Err(Cause::Form);
         }
-        if self.count >= MAX_COMMANDS {
+        if self.commands >= MAX_COMMANDS {
             return Err(Cause::Many);
         }
         Ok(())

@@ -1,36 +1,20 @@
 //! The transcript that is being read.
 
-ghost use Rattle.std.specs.Prelude.{◌≡◌, ◌≢◌, ◌<◌, ℕ, [], length, OnOk, IfOk, IfErr};
+ghost use Rattle.std.specs.Prelude.{◌≡◌, ◌≢◌, [], OnOk, IfErr};
 ghost use Rattle.smx_types.specs.declared.command.Entry.{Entry as AnyEntry};
 ghost use Rattle.smx_types.specs.declared.view.MessageLine.{MessageLine as AnyMessage};
-ghost use Rattle.smx_words.specs.LineReading.{IsLineOf, IsReadAs};
 ghost use Rattle.smx_words.specs.Words.{line_of};
-ghost use Rattle.smx_words.specs.Spelling.{entry_words, message_words, driver_words, next_words, hung_words};
-ghost use Rattle.smx_words.specs.Spellable.{FitsDriver, FitsEntryIn, FitsDescriptor, FitsLink, FitsBinding};
-ghost use Rattle.smx_words.specs.Spellable.{FitsRoute, FitsMessage, FitsFull, FitsNext};
-ghost use Rattle.smx_text.specs.TranscriptText.{FitsHungIn};
+ghost use Rattle.smx_words.specs.Spelling.{entry_words, message_words};
+ghost use Rattle.smx_words.specs.Spellable.{FitsDriver, FitsEntryIn, FitsMessage};
 ghost use Rattle.smx_text.specs.Grammar.{IsBegun, Continues, line_text};
 ghost use Rattle.smx_text.specs.Reading.{Refuses, AddsLine, RefusesLine};
-ghost use Rattle.smx_text.specs.Drafts.{lines, takes_fds, takes_links, takes_binds, takes_routes, takes_msgs};
-ghost use Rattle.smx_text.specs.Drafts.{takes_fulls, takes_hungs, grammar_of};
-ghost use Rattle.smx_text.specs.declared.transcript.draft.Stage.TheVariants.{History};
-ghost use Rattle.smx_types.specs.declared.limits.TheConstants.{MAX_COMMANDS};
-ghost use Rattle.smx_types.specs.declared.driver.DriverSpec.{DriverSpec as AnyDriver};
-ghost use Rattle.smx_text.specs.TranscriptLines.{Driver as DriverLine, Entry as EntryLine, Config as ConfigLine};
-ghost use Rattle.smx_text.specs.TranscriptLines.{Next as NextLine, Fd as FdLine, Link as AnyLink, Bind as BindLine};
-ghost use Rattle.smx_text.specs.TranscriptLines.{Route as AnyRoute, Msg as MsgLine, Full as AnyFull};
-ghost use Rattle.smx_text.specs.TranscriptLines.{Hung as AnyHung, End};
+ghost use Rattle.smx_text.specs.Drafts.{lines, grammar_of};
+ghost use Rattle.smx_text.specs.TranscriptLines.{Driver as DriverLine, Config as ConfigLine, Next as NextLine, End};
 
 use crate::reading::Draft;
 use crate::text_fault::Cause;
-use smx_types::{
-    BindingLine, ConfigView, DescriptorLine, DriverSpec, Entry, FullLine, HungLine, Items,
-    LinkLine, MAX_COMMANDS, MessageLine, NoMemory, RouteLine, Transcript, Version,
-};
-use smx_words::{
-    bind_of, descriptor_of, driver_of, entry_of, full_of, hung_of, link_of, message_of, next_of,
-    route_of,
-};
+use smx_types::{ConfigView, DriverSpec, Items, NoMemory, Transcript, Version};
+use smx_words::{driver_of, entry_of, message_of, next_of};
 use std::alloc::Global;
 
 // How far a transcript is read.
@@ -52,16 +36,23 @@ pub struct TranscriptDraft {
 }
 
 impl Draft for TranscriptDraft {
+    type With = ();
+
     type Whole = Transcript;
 
-    ghost use Rattle.std.specs.Prelude.{refl};
+    ghost use Rattle.std.specs.Prelude.{◌≡◌, refl};
+    ghost use Rattle.smx_types.specs.declared.transcript.Transcript.{Transcript as AnyTranscript};
     ghost use Rattle.smx_text.specs.Drafts.{lines};
     ghost use Rattle.smx_text.specs.TranscriptLines.{TranscriptLine};
     ghost use Rattle.smx_text.specs.TranscriptText.{transcript_grammar};
 
+    ghost Said = { AnyTranscript };
+
     ghost Line = { TranscriptLine };
 
     ghost grammar = { transcript_grammar };
+
+    ghost makes = { λ said transcript. transcript ≡ said };
 
     ghost version_of = { λ d. d.transcript.version };
 
@@ -74,7 +65,7 @@ impl Draft for TranscriptDraft {
         }
     }
 
-    fn begin(alloc: Global, version: Version) -> TranscriptDraft {
+    fn begin(alloc: Global, _with: (), version: Version) -> TranscriptDraft {
         TranscriptDraft {
             stage: Stage::History,
             transcript: Transcript {
@@ -131,16 +122,6 @@ fn new_view(alloc: Global, next_id: u32, next_serial: u32) -> ConfigView
 }
 
 impl TranscriptDraft {
-    // The hung-up stream that a line spells, if this version can tell it.
-    fn read_hung(&self, text: &[u8]) -> Option<HungLine>
-        ensures { IsReadAs (FitsHungIn self.now.transcript.version) hung_words text.now result }
-    {
-        match self.transcript.version {
-            Version::V1 => None,
-            Version::V2 => hung_of(text),
-        }
-    }
-
     // A line that is no entry.
     fn add_other(&mut self, alloc: Global, text: &[u8]) -> Result<(), Cause>
         requires begun { IsBegun (grammar_of self.old) (lines self.old) }
@@ -183,42 +164,6 @@ impl TranscriptDraft {
         }
     }
 
-    // A line of a group of the view.
-    fn add_to_group(&mut self, text: &[u8]) -> Result<(), Cause>
-        requires begun { IsBegun (grammar_of self.old) (lines self.old) }
-        requires no_entry { (e : AnyEntry) → FitsEntryIn self.old.transcript.version e
-            → text.now ≢ line_of (entry_words e) }
-        requires no_message { (m : AnyMessage) → FitsMessage m → text.now ≢ line_of (message_words m) }
-        requires no_driver { (d : AnyDriver) → FitsDriver d → text.now ≢ line_of (driver_words d) }
-        requires no_config { text.now ≢ line_text (grammar_of self.old) ConfigLine }
-        requires no_next { (n : ℕ × ℕ) → FitsNext n → text.now ≢ line_of (next_words n) }
-        requires no_end { text.now ≢ line_text (grammar_of self.old) End }
-        ensures added { OnOk result
-            (Continues (grammar_of self.old) (lines self.old) text.now (lines self.new)) }
-        ensures version { OnOk result (self.new.transcript.version ≡ self.old.transcript.version) }
-        ensures refused { IfErr result (Refuses (grammar_of self.old) (lines self.old) text.now) }
-    {
-        if let Some(fd) = descriptor_of(text) {
-            return self.add_fd(fd);
-        }
-        if let Some(link) = link_of(text) {
-            return self.add_link(link);
-        }
-        if let Some(bind) = bind_of(text) {
-            return self.add_bind(bind);
-        }
-        if let Some(route) = route_of(text) {
-            return self.add_route(route);
-        }
-        if let Some(full) = full_of(text) {
-            return self.add_full(full);
-        }
-        match self.read_hung(text) {
-            Some(hung) => self.add_hung(hung),
-            None => Err(Cause::Form),
-        }
-    }
-
     // Drivers come before all entries.
     fn add_driver(&mut self, driver: DriverSpec) -> Result<(), Cause>
         requires begun { IsBegun (grammar_of self.old) (lines self.old) }
@@ -236,47 +181,6 @@ impl TranscriptDraft {
             return Err(Cause::Many);
         }
         self.transcript.drivers.push(driver)?;
-        Ok(())
-    }
-
-    fn add_entry(&mut self, entry: Entry) -> Result<(), Cause>
-        requires begun { IsBegun (grammar_of self.old) (lines self.old) }
-        requires fits { FitsEntryIn self.old.transcript.version entry }
-        ensures added { OnOk result
-            (AddsLine (grammar_of self.old) (lines self.old) (EntryLine entry) (lines self.new)) }
-        ensures version { OnOk result (self.new.transcript.version ≡ self.old.transcript.version) }
-        ensures refused { IfErr result (RefusesLine (grammar_of self.old) (lines self.old) (EntryLine entry)) }
-    {
-        self.room_for_entry()?;
-        self.transcript.entries.push(entry)?;
-        Ok(())
-    }
-
-    // Why an entry is refused for which there is no memory.
-    fn entry_unread(&self) -> Cause
-        requires begun { IsBegun (grammar_of self.now) (lines self.now) }
-        ensures { (e : AnyEntry) → FitsEntryIn self.now.transcript.version e
-            → RefusesLine (grammar_of self.now) (lines self.now) (EntryLine e) result }
-    {
-        match self.room_for_entry() {
-            Ok(()) => Cause::NoMemory,
-            Err(cause) => cause,
-        }
-    }
-
-    // Whether an entry may come and is not one too many.
-    fn room_for_entry(&self) -> Result<(), Cause>
-        ensures history { OnOk result (self.now.stage ≡ History) }
-        ensures few { OnOk result (length self.now.transcript.entries < MAX_COMMANDS) }
-        ensures refused { IfErr result (λ why. (e : AnyEntry)
-            → RefusesLine (grammar_of self.now) (lines self.now) (EntryLine e) why) }
-    {
-        if self.stage != Stage::History {
-            return Err(Cause::Form);
-        }
-        if self.transcript.entries.as_slice().len() >= MAX_COMMANDS {
-            return Err(Cause::Many);
-        }
         Ok(())
     }
 
@@ -310,172 +214,5 @@ impl TranscriptDraft {
         self.stage = Stage::View;
         self.transcript.view = new_view(alloc, next_id, next_serial);
         Ok(())
-    }
-
-    fn add_fd(&mut self, fd: DescriptorLine) -> Result<(), Cause>
-        requires begun { IsBegun (grammar_of self.old) (lines self.old) }
-        requires fits { FitsDescriptor fd }
-        ensures added { OnOk result
-            (AddsLine (grammar_of self.old) (lines self.old) (FdLine fd) (lines self.new)) }
-        ensures version { OnOk result (self.new.transcript.version ≡ self.old.transcript.version) }
-        ensures refused { IfErr result (RefusesLine (grammar_of self.old) (lines self.old) (FdLine fd)) }
-    {
-        if !self.takes_fds() {
-            return Err(Cause::Form);
-        }
-        self.transcript.view.fds.push(fd)?;
-        Ok(())
-    }
-
-    fn add_link(&mut self, link: LinkLine) -> Result<(), Cause>
-        requires begun { IsBegun (grammar_of self.old) (lines self.old) }
-        requires fits { FitsLink link }
-        ensures added { OnOk result
-            (AddsLine (grammar_of self.old) (lines self.old) (AnyLink link) (lines self.new)) }
-        ensures version { OnOk result (self.new.transcript.version ≡ self.old.transcript.version) }
-        ensures refused { IfErr result (RefusesLine (grammar_of self.old) (lines self.old) (AnyLink link)) }
-    {
-        if !self.takes_links() {
-            return Err(Cause::Form);
-        }
-        self.transcript.view.links.push(link)?;
-        Ok(())
-    }
-
-    fn add_bind(&mut self, bind: BindingLine) -> Result<(), Cause>
-        requires begun { IsBegun (grammar_of self.old) (lines self.old) }
-        requires fits { FitsBinding bind }
-        ensures added { OnOk result
-            (AddsLine (grammar_of self.old) (lines self.old) (BindLine bind) (lines self.new)) }
-        ensures version { OnOk result (self.new.transcript.version ≡ self.old.transcript.version) }
-        ensures refused { IfErr result (RefusesLine (grammar_of self.old) (lines self.old) (BindLine bind)) }
-    {
-        if !self.takes_binds() {
-            return Err(Cause::Form);
-        }
-        self.transcript.view.binds.push(bind)?;
-        Ok(())
-    }
-
-    fn add_route(&mut self, route: RouteLine) -> Result<(), Cause>
-        requires begun { IsBegun (grammar_of self.old) (lines self.old) }
-        requires fits { FitsRoute route }
-        ensures added { OnOk result
-            (AddsLine (grammar_of self.old) (lines self.old) (AnyRoute route) (lines self.new)) }
-        ensures version { OnOk result (self.new.transcript.version ≡ self.old.transcript.version) }
-        ensures refused { IfErr result (RefusesLine (grammar_of self.old) (lines self.old) (AnyRoute route)) }
-    {
-        if !self.takes_routes() {
-            return Err(Cause::Form);
-        }
-        self.transcript.view.routes.push(route)?;
-        Ok(())
-    }
-
-    fn add_message(&mut self, message: MessageLine) -> Result<(), Cause>
-        requires begun { IsBegun (grammar_of self.old) (lines self.old) }
-        requires fits { FitsMessage message }
-        ensures added { OnOk result
-            (AddsLine (grammar_of self.old) (lines self.old) (MsgLine message) (lines self.new)) }
-        ensures version { OnOk result (self.new.transcript.version ≡ self.old.transcript.version) }
-        ensures refused { IfErr result (RefusesLine (grammar_of self.old) (lines self.old) (MsgLine message)) }
-    {
-        if !self.takes_msgs() {
-            return Err(Cause::Form);
-        }
-        self.transcript.view.msgs.push(message)?;
-        Ok(())
-    }
-
-    // Why a message is refused for which there is no memory.
-    fn message_unread(&self) -> Cause
-        requires begun { IsBegun (grammar_of self.now) (lines self.now) }
-        ensures { (m : AnyMessage) → FitsMessage m
-            → RefusesLine (grammar_of self.now) (lines self.now) (MsgLine m) result }
-    {
-        if self.takes_msgs() {
-            Cause::NoMemory
-        } else {
-            Cause::Form
-        }
-    }
-
-    fn add_full(&mut self, full: FullLine) -> Result<(), Cause>
-        requires begun { IsBegun (grammar_of self.old) (lines self.old) }
-        requires fits { FitsFull full }
-        ensures added { OnOk result
-            (AddsLine (grammar_of self.old) (lines self.old) (AnyFull full) (lines self.new)) }
-        ensures version { OnOk result (self.new.transcript.version ≡ self.old.transcript.version) }
-        ensures refused { IfErr result (RefusesLine (grammar_of self.old) (lines self.old) (AnyFull full)) }
-    {
-        if !self.takes_fulls() {
-            return Err(Cause::Form);
-        }
-        self.transcript.view.fulls.push(full)?;
-        Ok(())
-    }
-
-    fn add_hung(&mut self, hung: HungLine) -> Result<(), Cause>
-        requires begun { IsBegun (grammar_of self.old) (lines self.old) }
-        requires fits { FitsHungIn self.old.transcript.version hung }
-        ensures added { OnOk result
-            (AddsLine (grammar_of self.old) (lines self.old) (AnyHung hung) (lines self.new)) }
-        ensures version { OnOk result (self.new.transcript.version ≡ self.old.transcript.version) }
-        ensures refused { IfErr result (RefusesLine (grammar_of self.old) (lines self.old) (AnyHung hung)) }
-    {
-        if !self.takes_hungs() {
-            return Err(Cause::Form);
-        }
-        self.transcript.view.hungs.push(hung)?;
-        Ok(())
-    }
-
-    // Whether a hung-up stream may come: the last group.
-    fn takes_hungs(&self) -> bool
-        ensures { result ≡ takes_hungs self.now }
-    {
-        self.stage == Stage::View
-    }
-
-    // Whether one of the full places may come: nothing of a later group has.
-    fn takes_fulls(&self) -> bool
-        ensures { result ≡ takes_fulls self.now }
-    {
-        self.takes_hungs() && self.transcript.view.hungs.as_slice().is_empty()
-    }
-
-    // Whether one of the messages may come: nothing of a later group has.
-    fn takes_msgs(&self) -> bool
-        ensures { result ≡ takes_msgs self.now }
-    {
-        self.takes_fulls() && self.transcript.view.fulls.as_slice().is_empty()
-    }
-
-    // Whether one of the routes may come: nothing of a later group has.
-    fn takes_routes(&self) -> bool
-        ensures { result ≡ takes_routes self.now }
-    {
-        self.takes_msgs() && self.transcript.view.msgs.as_slice().is_empty()
-    }
-
-    // Whether one of the bindings may come: nothing of a later group has.
-    fn takes_binds(&self) -> bool
-        ensures { result ≡ takes_binds self.now }
-    {
-        self.takes_routes() && self.transcript.view.routes.as_slice().is_empty()
-    }
-
-    // Whether one of the links may come: nothing of a later group has.
-    fn takes_links(&self) -> bool
-        ensures { result ≡ takes_links self.now }
-    {
-        self.takes_binds() && self.transcript.view.binds.as_slice().is_empty()
-    }
-
-    // Whether one of the descriptors may come: nothing of a later group has.
-    fn takes_fds(&self) -> bool
-        ensures { result ≡ takes_fds self.now }
-    {
-        self.takes_links() && self.transcript.view.links.as_slice().is_empty()
     }
 }

@@ -1,11 +1,9 @@
 //! The words of a command.
 
-ghost use Rattle.std.specs.Prelude.{◌≡◌, ◌≢◌, ◌<◌, ◌∷◌, ◌++◌, [], ℕ, List, codes, true, false, IsTrue, ◌↔◌};
-ghost use Rattle.std.specs.Prelude.{IfOk, IfErr, IsErr, OnErr, MatchOption, MatchResult};
-ghost use Rattle.std.specs.Vec.{vec_len, vec_capacity};
+ghost use Rattle.std.specs.Prelude.{◌≡◌, ◌≢◌, ◌∷◌, ◌++◌, [], ℕ, List, codes, IsTrue, ◌↔◌, IfOk, IfErr};
 ghost use Rattle.smx_types.specs.declared.version.Version.{Version as AnyVersion};
 ghost use Rattle.smx_types.specs.declared.version.Version.TheVariants.{V1};
-ghost use Rattle.smx_words.specs.LineReading.{IsReadAs, IsLineOf, IsPushed};
+ghost use Rattle.smx_words.specs.LineReading.{IsReadAs, IsLineOf};
 ghost use Rattle.smx_words.specs.Spellable.{FitsAlways, FitsCommand, FitsCommandIn};
 ghost use Rattle.smx_words.specs.Spelling.{command_words};
 ghost use Rattle.smx_words.specs.Verbs.{verb_word};
@@ -36,7 +34,7 @@ pub fn command_of(alloc: Global, version: Version, line: &[u8]) -> Result<Option
 }
 
 // Whether a version has no command of a verb.
-fn lacks(version: Version, verb: Verb) -> bool
+pub(super) fn lacks(version: Version, verb: Verb) -> bool
     ensures { IsTrue result ↔ ((version ≡ V1) × (verb ≡ HangupVerb)) }
 {
     match (version, verb) {
@@ -46,7 +44,7 @@ fn lacks(version: Version, verb: Verb) -> bool
 }
 
 // The command of a line that begins with no verb: one has one word alone.
-fn lone_command(line: &[u8]) -> Option<Command>
+pub(super) fn lone_command(line: &[u8]) -> Option<Command>
     requires { (v : AnyVerb) (after : List ℕ) → FitsAlways v → line.now ≢ verb_word v ++ SPACE ∷ after }
     ensures { (v : AnyVersion) → IsReadAs (FitsCommandIn v) command_words line.now result }
 {
@@ -85,7 +83,7 @@ fn command_after(alloc: Global, verb: Verb, rest: &[u8]) -> Result<Option<Comman
 }
 
 #[inline(always)]
-fn clone(rest: &[u8]) -> Option<Command>
+pub(super) fn clone(rest: &[u8]) -> Option<Command>
     ensures { IsReadAs FitsCommand command_words (line_of (codes "clone" ∷ rest.now ∷ [])) result }
 {
     let driver = name(rest)?;
@@ -93,7 +91,7 @@ fn clone(rest: &[u8]) -> Option<Command>
 }
 
 #[inline(always)]
-fn open(rest: &[u8]) -> Option<Command>
+pub(super) fn open(rest: &[u8]) -> Option<Command>
     ensures { IsReadAs FitsCommand command_words (line_of (codes "open" ∷ rest.now ∷ [])) result }
 {
     let Some((driver, rest)) = first_name(rest) else {
@@ -104,7 +102,7 @@ fn open(rest: &[u8]) -> Option<Command>
 }
 
 #[inline(always)]
-fn dup(rest: &[u8]) -> Option<Command>
+pub(super) fn dup(rest: &[u8]) -> Option<Command>
     ensures { IsReadAs FitsCommand command_words (line_of (codes "dup" ∷ rest.now ∷ [])) result }
 {
     let fd = number(rest)?;
@@ -112,7 +110,7 @@ fn dup(rest: &[u8]) -> Option<Command>
 }
 
 #[inline(always)]
-fn close(rest: &[u8]) -> Option<Command>
+pub(super) fn close(rest: &[u8]) -> Option<Command>
     ensures { IsReadAs FitsCommand command_words (line_of (codes "close" ∷ rest.now ∷ [])) result }
 {
     let fd = number(rest)?;
@@ -120,7 +118,7 @@ fn close(rest: &[u8]) -> Option<Command>
 }
 
 #[inline(always)]
-fn link(rest: &[u8]) -> Option<Command>
+pub(super) fn link(rest: &[u8]) -> Option<Command>
     ensures { IsReadAs FitsCommand command_words (line_of (codes "link" ∷ rest.now ∷ [])) result }
 {
     let (fd, rest) = first_number(rest)?;
@@ -129,7 +127,7 @@ fn link(rest: &[u8]) -> Option<Command>
 }
 
 #[inline(always)]
-fn plink(rest: &[u8]) -> Option<Command>
+pub(super) fn plink(rest: &[u8]) -> Option<Command>
     ensures { IsReadAs FitsCommand command_words (line_of (codes "plink" ∷ rest.now ∷ [])) result }
 {
     let (fd, rest) = first_number(rest)?;
@@ -138,7 +136,7 @@ fn plink(rest: &[u8]) -> Option<Command>
 }
 
 #[inline(always)]
-fn unlink(rest: &[u8]) -> Option<Command>
+pub(super) fn unlink(rest: &[u8]) -> Option<Command>
     ensures { IsReadAs FitsCommand command_words (line_of (codes "unlink" ∷ rest.now ∷ [])) result }
 {
     let (fd, rest) = first_number(rest)?;
@@ -147,7 +145,7 @@ fn unlink(rest: &[u8]) -> Option<Command>
 }
 
 #[inline(always)]
-fn punlink(rest: &[u8]) -> Option<Command>
+pub(super) fn punlink(rest: &[u8]) -> Option<Command>
     ensures { IsReadAs FitsCommand command_words (line_of (codes "punlink" ∷ rest.now ∷ [])) result }
 {
     let (fd, rest) = first_number(rest)?;
@@ -156,7 +154,7 @@ fn punlink(rest: &[u8]) -> Option<Command>
 }
 
 #[inline(always)]
-fn bind(rest: &[u8]) -> Option<Command>
+pub(super) fn bind(rest: &[u8]) -> Option<Command>
     ensures { IsReadAs FitsCommand command_words (line_of (codes "bind" ∷ rest.now ∷ [])) result }
 {
     let (fd, rest) = first_number(rest)?;
@@ -165,7 +163,7 @@ fn bind(rest: &[u8]) -> Option<Command>
 }
 
 #[inline(always)]
-fn unbind(rest: &[u8]) -> Option<Command>
+pub(super) fn unbind(rest: &[u8]) -> Option<Command>
     ensures { IsReadAs FitsCommand command_words (line_of (codes "unbind" ∷ rest.now ∷ [])) result }
 {
     let fd = number(rest)?;
@@ -173,7 +171,7 @@ fn unbind(rest: &[u8]) -> Option<Command>
 }
 
 #[inline(always)]
-fn route(rest: &[u8]) -> Option<Command>
+pub(super) fn route(rest: &[u8]) -> Option<Command>
     ensures { IsReadAs FitsCommand command_words (line_of (codes "route" ∷ rest.now ∷ [])) result }
 {
     let (fd, rest) = first_number(rest)?;
@@ -183,7 +181,7 @@ fn route(rest: &[u8]) -> Option<Command>
 }
 
 #[inline(always)]
-fn unroute(rest: &[u8]) -> Option<Command>
+pub(super) fn unroute(rest: &[u8]) -> Option<Command>
     ensures { IsReadAs FitsCommand command_words (line_of (codes "unroute" ∷ rest.now ∷ [])) result }
 {
     let (fd, rest) = first_number(rest)?;
@@ -192,7 +190,7 @@ fn unroute(rest: &[u8]) -> Option<Command>
 }
 
 #[inline(always)]
-fn read(rest: &[u8]) -> Option<Command>
+pub(super) fn read(rest: &[u8]) -> Option<Command>
     ensures { IsReadAs FitsCommand command_words (line_of (codes "read" ∷ rest.now ∷ [])) result }
 {
     let fd = number(rest)?;
@@ -200,7 +198,7 @@ fn read(rest: &[u8]) -> Option<Command>
 }
 
 #[inline(always)]
-fn flush(rest: &[u8]) -> Option<Command>
+pub(super) fn flush(rest: &[u8]) -> Option<Command>
     ensures { IsReadAs FitsCommand command_words (line_of (codes "flush" ∷ rest.now ∷ [])) result }
 {
     let (fd, rest) = first_number(rest)?;
@@ -209,7 +207,7 @@ fn flush(rest: &[u8]) -> Option<Command>
 }
 
 #[inline(always)]
-fn transmit(rest: &[u8]) -> Option<Command>
+pub(super) fn transmit(rest: &[u8]) -> Option<Command>
     ensures { IsReadAs FitsCommand command_words (line_of (codes "transmit" ∷ rest.now ∷ [])) result }
 {
     let Some((driver, rest)) = first_name(rest) else {
@@ -220,7 +218,7 @@ fn transmit(rest: &[u8]) -> Option<Command>
 }
 
 #[inline(always)]
-fn hangup(rest: &[u8]) -> Option<Command>
+pub(super) fn hangup(rest: &[u8]) -> Option<Command>
     ensures { IsReadAs FitsCommand command_words (line_of (codes "hangup" ∷ rest.now ∷ [])) result }
 {
     let Some((driver, rest)) = first_name(rest) else {
@@ -231,7 +229,7 @@ fn hangup(rest: &[u8]) -> Option<Command>
 }
 
 #[inline(always)]
-fn write(alloc: Global, rest: &[u8]) -> Result<Option<Command>, NoMemory>
+pub(super) fn write(alloc: Global, rest: &[u8]) -> Result<Option<Command>, NoMemory>
     ensures reading { IfOk result (IsReadAs FitsCommand command_words (line_of (codes "write" ∷ rest.now ∷ []))) }
     ensures wanted { IfErr result (λ _. IsLineOf (FitsCommandIn V1) command_words (line_of (codes "write" ∷ rest.now ∷ []))) }
 {
@@ -250,7 +248,7 @@ fn write(alloc: Global, rest: &[u8]) -> Result<Option<Command>, NoMemory>
 }
 
 #[inline(always)]
-fn inject(alloc: Global, rest: &[u8]) -> Result<Option<Command>, NoMemory>
+pub(super) fn inject(alloc: Global, rest: &[u8]) -> Result<Option<Command>, NoMemory>
     ensures reading { IfOk result (IsReadAs FitsCommand command_words (line_of (codes "inject" ∷ rest.now ∷ []))) }
     ensures wanted { IfErr result (λ _. IsLineOf (FitsCommandIn V1) command_words (line_of (codes "inject" ∷ rest.now ∷ []))) }
 {
@@ -274,103 +272,4 @@ fn inject(alloc: Global, rest: &[u8]) -> Result<Option<Command>, NoMemory>
         addr,
         bytes,
     }))
-}
-
-/// Puts the command whose words a line is behind the others, if it is one's that a version can tell, and says whether it
-/// is. Fails only for want of memory, and then the line is such a command's. Quicker than `command_of`, which has to hand
-/// the command on.
-#[tactic(auto, using(crate::proofs::PushLemmas::is_pushed))]
-pub fn push_command(
-    commands: &mut Vec<Command>,
-    alloc: Global,
-    version: Version,
-    line: &[u8],
-) -> Result<bool, NoMemory>
-    requires room { vec_len commands.old < vec_capacity commands.old }
-    ensures pushed { IfOk result
-        (IsPushed (FitsCommandIn version) command_words line.now commands.old.items commands.new.items) }
-    ensures wanted { IfErr result (λ _. IsLineOf (FitsCommandIn version) command_words line.now) }
-    ensures kept { OnErr result (commands.new.items ≡ commands.old.items) }
-{
-    let Some((verb, rest)) = first_verb(line) else {
-        return Ok(push_if(commands, lone_command(line)));
-    };
-    if lacks(version, verb) {
-        return Ok(false);
-    }
-    push_after(commands, alloc, verb, rest)
-}
-
-// The same of a verb and what stands behind it.
-#[inline(always)]
-#[tactic(auto, using(crate::proofs::PushLemmas::is_pushed))]
-fn push_after(
-    commands: &mut Vec<Command>,
-    alloc: Global,
-    verb: Verb,
-    rest: &[u8],
-) -> Result<bool, NoMemory>
-    requires room { vec_len commands.old < vec_capacity commands.old }
-    ensures pushed { IfOk result (IsPushed FitsCommand command_words (line_of (verb_word verb ∷ rest.now ∷ []))
-        commands.old.items commands.new.items) }
-    ensures wanted { IfErr result (λ _. IsLineOf (FitsCommandIn V1) command_words (line_of (verb_word verb ∷ rest.now ∷ []))) }
-    ensures kept { OnErr result (commands.new.items ≡ commands.old.items) }
-{
-    match verb {
-        Verb::Write => push_read(commands, write(alloc, rest)),
-        Verb::Inject => push_read(commands, inject(alloc, rest)),
-        Verb::Clone => Ok(push_if(commands, clone(rest))),
-        Verb::Open => Ok(push_if(commands, open(rest))),
-        Verb::Dup => Ok(push_if(commands, dup(rest))),
-        Verb::Close => Ok(push_if(commands, close(rest))),
-        Verb::Exit => Ok(false),
-        Verb::Link => Ok(push_if(commands, link(rest))),
-        Verb::Plink => Ok(push_if(commands, plink(rest))),
-        Verb::Unlink => Ok(push_if(commands, unlink(rest))),
-        Verb::Punlink => Ok(push_if(commands, punlink(rest))),
-        Verb::Bind => Ok(push_if(commands, bind(rest))),
-        Verb::Unbind => Ok(push_if(commands, unbind(rest))),
-        Verb::Route => Ok(push_if(commands, route(rest))),
-        Verb::Unroute => Ok(push_if(commands, unroute(rest))),
-        Verb::Read => Ok(push_if(commands, read(rest))),
-        Verb::Flush => Ok(push_if(commands, flush(rest))),
-        Verb::Transmit => Ok(push_if(commands, transmit(rest))),
-        Verb::Hangup => Ok(push_if(commands, hangup(rest))),
-    }
-}
-
-// Puts a command behind the others, if there is one, and says whether there is. In each arm, so that the command is made
-// where it is to stand.
-#[inline(always)]
-fn push_if(commands: &mut Vec<Command>, read: Option<Command>) -> bool
-    requires room { vec_len commands.old < vec_capacity commands.old }
-    ensures { MatchOption read ((result ≡ false) × (commands.new.items ≡ commands.old.items))
-        (λ c. (result ≡ true) × (commands.new.items ≡ commands.old.items ++ c ∷ [])) }
-{
-    match read {
-        Some(command) => {
-            commands.push_reserved(command);
-            true
-        }
-        None => false,
-    }
-}
-
-// The same where memory may have been wanting.
-#[inline(always)]
-fn push_read(
-    commands: &mut Vec<Command>,
-    read: Result<Option<Command>, NoMemory>,
-) -> Result<bool, NoMemory>
-    requires room { vec_len commands.old < vec_capacity commands.old }
-    ensures pushed { MatchResult read (λ o. IfOk result (λ pushed. MatchOption o
-        ((pushed ≡ false) × (commands.new.items ≡ commands.old.items))
-        (λ c. (pushed ≡ true) × (commands.new.items ≡ commands.old.items ++ c ∷ [])))) (λ _. IsErr result) }
-    ensures wanted { IfErr result (λ _. IsErr read) }
-    ensures kept { OnErr result (commands.new.items ≡ commands.old.items) }
-{
-    match read {
-        Ok(read) => Ok(push_if(commands, read)),
-        Err(error) => Err(error),
-    }
 }

@@ -204,16 +204,28 @@ fn invalid(line: &[u8]) -> Option<Fault>
     requires { (cause : List ℕ) × (line.now ≡ codes "EINVAL " ++ cause) }
     ensures { IsReadAs FitsAlways fault_words line.now result }
 {
-    match line {
-        b"EINVAL below" => Some(Fault::Below),
-        b"EINVAL notmux" => Some(Fault::NotMux),
-        b"EINVAL already" => Some(Fault::AlreadyBelow),
-        b"EINVAL cycle" => Some(Fault::Cycle),
-        b"EINVAL id" => Some(Fault::NoLink),
-        b"EINVAL unbound" => Some(Fault::Unbound),
-        b"EINVAL unrouted" => Some(Fault::Unrouted),
-        _ => None,
+    if line == b"EINVAL below".as_slice() {
+        return Some(Fault::Below);
     }
+    if line == b"EINVAL notmux".as_slice() {
+        return Some(Fault::NotMux);
+    }
+    if line == b"EINVAL already".as_slice() {
+        return Some(Fault::AlreadyBelow);
+    }
+    if line == b"EINVAL cycle".as_slice() {
+        return Some(Fault::Cycle);
+    }
+    if line == b"EINVAL id".as_slice() {
+        return Some(Fault::NoLink);
+    }
+    if line == b"EINVAL unbound".as_slice() {
+        return Some(Fault::Unbound);
+    }
+    if line == b"EINVAL unrouted".as_slice() {
+        return Some(Fault::Unrouted);
+    }
+    None
 }
 
 // Any other fault.
@@ -221,17 +233,35 @@ fn valid(line: &[u8]) -> Option<Fault>
     requires { (cause : List ℕ) → line.now ≢ codes "EINVAL " ++ cause }
     ensures { IsReadAs FitsAlways fault_words line.now result }
 {
-    match line {
-        b"EBADF fd" => Some(Fault::BadDescriptor),
-        b"EAGAIN links" => Some(Fault::TooManyLinks),
-        b"EAGAIN full" => Some(Fault::Full),
-        b"EAGAIN empty" => Some(Fault::Empty),
-        b"ENXIO driver" => Some(Fault::NoDriver),
-        b"ENXIO minor" => Some(Fault::NoMinor),
-        b"EMFILE" => Some(Fault::TooManyDescriptors),
-        b"EADDRINUSE" => Some(Fault::AddressInUse),
-        b"ERANGE" => Some(Fault::BadSize),
-        b"ENXIO hangup" => Some(Fault::HungUp),
-        _ => None,
+    if line == b"EBADF fd".as_slice() {
+        return Some(Fault::BadDescriptor);
     }
+    if line == b"EAGAIN links".as_slice() {
+        return Some(Fault::TooManyLinks);
+    }
+    if line == b"EAGAIN full".as_slice() {
+        return Some(Fault::Full);
+    }
+    if line == b"EAGAIN empty".as_slice() {
+        return Some(Fault::Empty);
+    }
+    if line == b"ENXIO driver".as_slice() {
+        return Some(Fault::NoDriver);
+    }
+    if line == b"ENXIO minor".as_slice() {
+        return Some(Fault::NoMinor);
+    }
+    if line == b"EMFILE".as_slice() {
+        return Some(Fault::TooManyDescriptors);
+    }
+    if line == b"EADDRINUSE".as_slice() {
+        return Some(Fault::AddressInUse);
+    }
+    if line == b"ERANGE".as_slice() {
+        return Some(Fault::BadSize);
+    }
+    if line == b"ENXIO hangup".as_slice() {
+        return Some(Fault::HungUp);
+    }
+    None
 }

@@ -43,34 +43,6 @@ pub enum ReplyVerb {
     Done,
 }
 
-// The verb that a word is.
-fn verb_of(word: &[u8]) -> Option<Verb>
-    ensures { IsFoundIn FitsAlways verb_word word.now result }
-{
-    match word {
-        b"clone" => Some(Verb::Clone),
-        b"open" => Some(Verb::Open),
-        b"dup" => Some(Verb::Dup),
-        b"close" => Some(Verb::Close),
-        b"exit" => Some(Verb::Exit),
-        b"link" => Some(Verb::Link),
-        b"plink" => Some(Verb::Plink),
-        b"unlink" => Some(Verb::Unlink),
-        b"punlink" => Some(Verb::Punlink),
-        b"bind" => Some(Verb::Bind),
-        b"unbind" => Some(Verb::Unbind),
-        b"route" => Some(Verb::Route),
-        b"unroute" => Some(Verb::Unroute),
-        b"write" => Some(Verb::Write),
-        b"read" => Some(Verb::Read),
-        b"flush" => Some(Verb::Flush),
-        b"inject" => Some(Verb::Inject),
-        b"transmit" => Some(Verb::Transmit),
-        b"hangup" => Some(Verb::Hangup),
-        _ => None,
-    }
-}
-
 // The one verb whose word the bytes may begin with, by its first letters.
 #[inline(always)]
 fn candidate(text: &[u8]) -> Option<Verb>
@@ -107,10 +79,10 @@ fn behind(text: &[u8], verb: Verb) -> Option<&[u8]>
         (λ rest. text.now ≡ verb_word verb ++ SPACE ∷ rest.now) }
 {
     match verb {
-        Verb::Clone => after(text, b"clone "),
+        Verb::Clone => behind_clone(text),
         Verb::Open => after(text, b"open "),
         Verb::Dup => after(text, b"dup "),
-        Verb::Close => after(text, b"close "),
+        Verb::Close => behind_close(text),
         Verb::Exit => after(text, b"exit "),
         Verb::Link => after(text, b"link "),
         Verb::Plink => after(text, b"plink "),
@@ -120,22 +92,91 @@ fn behind(text: &[u8], verb: Verb) -> Option<&[u8]>
         Verb::Unbind => after(text, b"unbind "),
         Verb::Route => after(text, b"route "),
         Verb::Unroute => after(text, b"unroute "),
-        Verb::Write => after(text, b"write "),
-        Verb::Read => after(text, b"read "),
+        Verb::Write => behind_write(text),
+        Verb::Read => behind_read(text),
         Verb::Flush => after(text, b"flush "),
-        Verb::Inject => after(text, b"inject "),
+        Verb::Inject => behind_inject(text),
         Verb::Transmit => behind_transmit(text),
         Verb::Hangup => after(text, b"hangup "),
     }
 }
 
-// In two parts, since the compiler compares up to eight bytes in place.
+// Of the verbs that are most in long programs each has its pattern, of which the compiler makes a few tests of bytes.
+#[inline(always)]
+fn behind_clone(text: &[u8]) -> Option<&[u8]>
+    ensures { MatchOption result ((rest : List ℕ) → text.now ≢ codes "clone" ++ SPACE ∷ rest)
+        (λ rest. text.now ≡ codes "clone" ++ SPACE ∷ rest.now) }
+{
+    match text {
+        [b'c', b'l', b'o', b'n', b'e', b' ', rest @ ..] => Some(rest),
+        _ => None,
+    }
+}
+
+#[inline(always)]
+fn behind_close(text: &[u8]) -> Option<&[u8]>
+    ensures { MatchOption result ((rest : List ℕ) → text.now ≢ codes "close" ++ SPACE ∷ rest)
+        (λ rest. text.now ≡ codes "close" ++ SPACE ∷ rest.now) }
+{
+    match text {
+        [b'c', b'l', b'o', b's', b'e', b' ', rest @ ..] => Some(rest),
+        _ => None,
+    }
+}
+
+#[inline(always)]
+fn behind_write(text: &[u8]) -> Option<&[u8]>
+    ensures { MatchOption result ((rest : List ℕ) → text.now ≢ codes "write" ++ SPACE ∷ rest)
+        (λ rest. text.now ≡ codes "write" ++ SPACE ∷ rest.now) }
+{
+    match text {
+        [b'w', b'r', b'i', b't', b'e', b' ', rest @ ..] => Some(rest),
+        _ => None,
+    }
+}
+
+#[inline(always)]
+fn behind_read(text: &[u8]) -> Option<&[u8]>
+    ensures { MatchOption result ((rest : List ℕ) → text.now ≢ codes "read" ++ SPACE ∷ rest)
+        (λ rest. text.now ≡ codes "read" ++ SPACE ∷ rest.now) }
+{
+    match text {
+        [b'r', b'e', b'a', b'd', b' ', rest @ ..] => Some(rest),
+        _ => None,
+    }
+}
+
+#[inline(always)]
+fn behind_inject(text: &[u8]) -> Option<&[u8]>
+    ensures { MatchOption result ((rest : List ℕ) → text.now ≢ codes "inject" ++ SPACE ∷ rest)
+        (λ rest. text.now ≡ codes "inject" ++ SPACE ∷ rest.now) }
+{
+    match text {
+        [b'i', b'n', b'j', b'e', b'c', b't', b' ', rest @ ..] => Some(rest),
+        _ => None,
+    }
+}
+
+#[inline(always)]
 fn behind_transmit(text: &[u8]) -> Option<&[u8]>
     ensures { MatchOption result ((rest : List ℕ) → text.now ≢ codes "transmit" ++ SPACE ∷ rest)
         (λ rest. text.now ≡ codes "transmit" ++ SPACE ∷ rest.now) }
 {
-    let rest = after(text, b"trans")?;
-    after(rest, b"mit ")
+    match text {
+        [
+            b't',
+            b'r',
+            b'a',
+            b'n',
+            b's',
+            b'm',
+            b'i',
+            b't',
+            b' ',
+            rest @ ..,
+        ] => Some(rest),
+        _ => None,
+    }
 }
 
 // The verb before the first space.

@@ -16,6 +16,7 @@ pub fn name(word: &[u8]) -> Option<Name>
 }
 
 // The name before the first space.
+#[inline(always)]
 pub fn first_name(text: &[u8]) -> Option<(Name, &[u8])>
     ensures { BeginsWith FitsName (λ n. n) text.now result }
 {

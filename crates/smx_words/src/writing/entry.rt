@@ -3,13 +3,13 @@
 ghost use Rattle.std.specs.Prelude.{◌≡◌, ◌∷◌, ◌++◌, [], OnOk};
 ghost use Rattle.smx_words.specs.Spellable.{FitsEntry};
 ghost use Rattle.smx_words.specs.Spelling.{entry_words};
-ghost use Rattle.smx_words.specs.Words.{line_of};
+ghost use Rattle.smx_words.specs.Words.{LINE_FEED, line_of};
 
 use super::Spell;
 use super::command::put_command;
 use super::number::put_first;
 use super::reply::put_reply;
-use smx_types::{Entry, NoMemory};
+use smx_types::{Command, Entry, NoMemory, Process, Reply};
 
 impl Spell for Entry {
     ghost words = { entry_words };
@@ -17,9 +17,25 @@ impl Spell for Entry {
     ghost Fits = { FitsEntry };
 
     fn write_line(&self, out: &mut Vec<u8>) -> Result<(), NoMemory> {
-        put_first(out, self.process.get())?;
-        put_command(out, &self.command)?;
-        put_reply(out, &self.reply)?;
-        Ok(())
+        write_entry(out, self.process, &self.command, &self.reply)
     }
+}
+
+/// The line of the entry of these, with the line feed, behind `out`. Where memory runs out, `out` may have a part of it.
+pub fn write_entry(
+    out: &mut Vec<u8>,
+    process: Process,
+    command: &Command,
+    reply: &Reply,
+) -> Result<(), NoMemory>
+    ensures written { OnOk result (out.new.items ≡ out.old.items
+        ++ line_of (entry_words (record { process = process; command = command.now; reply = reply.now }))
+        ++ LINE_FEED ∷ []) }
+    ensures fits { OnOk result
+        (FitsEntry (record { process = process; command = command.now; reply = reply.now })) }
+{
+    put_first(out, process.get())?;
+    put_command(out, command)?;
+    put_reply(out, reply)?;
+    Ok(())
 }

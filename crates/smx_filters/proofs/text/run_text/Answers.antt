@@ -1,9 +1,9 @@
-use Rattle.smx_filters.proofs.FilterLemmas.{passed_on}
+use Rattle.smx_filters.proofs.FilterLemmas.{at_answer}
 use Rattle.smx_filters.proofs.text.run_text.Goals as goal
 use Rattle.smx_filters.specs.RunText.{running}
 
-pub returns-in_err-output : goal.returns-in_err-output
-returns-in_err-output g c =
+pub returns-in-Err : goal.returns-in-Err
+returns-in-Err g c =
     let input = c.in_ok-input.ensures in
-    passed_on (running c.args.fronts c.args.workers) _ _ _ _ _ _ _ c.in_ok-input.input input.0 input.1 c.requires.sunk
-    c.in_err-output.field-0.0 _ c.from_residual-in_err-output.ensures.1 c.in_err-output.ensures
+    at_answer (running c.args.fronts c.args.workers) _ _ _ _ _ _ _ c.in_ok-input.input input.0 input.1 c.requires.sunk
+    c.in-Err.refusal.fault c.in-Err.ensures.answers

@@ -1,6 +1,9 @@
+use Rattle.std.proofs.Common.{Err}
 use Rattle.smx_filters.proofs.FilterLemmas.{text_refused}
 use Rattle.smx_filters.proofs.text.text_for.Goals as goal
 
-pub returns-in_err-programs : goal.returns-in_err-programs
-returns-in_err-programs g c = text_refused _ _ _ _ c.as_slice.ensures.value c.in_err-programs.field-0.0 _
-    c.from_residual.ensures.1 c.in_err-programs.ensures
+pub returns-in-Err-read_programs-clause-answers : goal.returns-in-Err-read_programs-clause-answers
+returns-in-Err-read_programs-clause-answers g c =
+    let kept = c.kept_for-in-Err-read_programs in
+    text_refused c.args.fronts c.args.workers _ _ c.as_slice-2.ensures.value c.in-Err-read_programs.fault
+    (Err kept.result.fault) kept.ensures.fault c.in-Err-read_programs.ensures

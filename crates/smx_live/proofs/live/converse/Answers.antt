@@ -11,7 +11,8 @@ pub loop-turn-init : goal.loop-turn-init
 loop-turn-init g c =
     let talk = c.args.talk.now in
     record {
-      gone = λ read output l. begins read output (g.F.Feed.remaining c.args.feed.now) (g.S.Sink.contents c.args.sink.now)
+      gone = λ read output l.
+          begins read output (g.F.Feed.remaining c.args.feed.now) (g.S.Sink.contents c.args.sink.now)
           c.args.inbox.now.ended talk.session talk.count c.args.inbox.now.held.items l;
       end = c.requires.end;
       fed = c.requires.fed;
@@ -33,8 +34,8 @@ returns-in-Ok-true g c =
     let next = c.take_turn.new.talk in
     let sink = c.take_turn.new.sink in λ read output l.
     let gone = reads read output start had (g.F.Feed.remaining c.loop-turn.feed) before after c.loop-turn._turn
-    c.loop-turn.inbox.ended talk.session talk.count c.loop-turn.inbox.held.items (c.loop-turn.invariant.gone read output l)
-    left ended piece held p.consumed p.held p.stays in
+    c.loop-turn.inbox.ended talk.session talk.count c.loop-turn.inbox.held.items
+    (c.loop-turn.invariant.gone read output l) left ended piece held p.consumed p.held p.stays in
     let h = rw c.in-Ok-true.field-0-test at
     (c.in-Ok-true.ensures.turn (read ++ gone.more) (output ++ gone.said) ended gone.live) in
     last_turn read output start had left before after c.loop-turn._turn ended talk.session talk.count held gone
@@ -55,8 +56,8 @@ returns-in-Err-take_turn g c =
     let next = c.take_turn.new.talk in
     let sink = c.take_turn.new.sink in λ read output l.
     let gone = reads read output start had (g.F.Feed.remaining c.loop-turn.feed) before after c.loop-turn._turn
-    c.loop-turn.inbox.ended talk.session talk.count c.loop-turn.inbox.held.items (c.loop-turn.invariant.gone read output l)
-    left ended piece held p.consumed p.held p.stays in
+    c.loop-turn.inbox.ended talk.session talk.count c.loop-turn.inbox.held.items
+    (c.loop-turn.invariant.gone read output l) left ended piece held p.consumed p.held p.stays in
     failed_turn read output start had left before after c.loop-turn._turn ended talk.session talk.count held gone
     (g.S.Sink.flushed sink) (g.F.Feed.failures c.next_line.new.feed) (g.S.Sink.failures sink) p.fine
     (g.S.Sink.contents sink) next.session next.count c.take_turn.new.inbox.held.items c.in-Err-take_turn.fault
@@ -77,10 +78,10 @@ returns-in-Ok-None g c =
     let same : held ≡ c.as_slice.result.now = sym c.as_slice.ensures.value in
     let found = rw c.in-Ok-None.field-0-is at p.found in λ read output l.
     let gone = reads read output start had (g.F.Feed.remaining c.loop-turn.feed) before after c.loop-turn._turn
-    c.loop-turn.inbox.ended talk.session talk.count c.loop-turn.inbox.held.items (c.loop-turn.invariant.gone read output l)
-    left ended piece held p.consumed p.held p.stays in
-    let live = subst (λ (h : List ℕ). IsLive (read ++ gone.more) ended (output ++ gone.said) talk.session talk.count h) same
-    gone.live in
+    c.loop-turn.inbox.ended talk.session talk.count c.loop-turn.inbox.held.items
+    (c.loop-turn.invariant.gone read output l) left ended piece held p.consumed p.held p.stays in
+    let live = subst
+    (λ (h : List ℕ). IsLive (read ++ gone.more) ended (output ++ gone.said) talk.session talk.count h) same gone.live in
     at_the_end read output start had left before after c.loop-turn._turn ended talk.session talk.count held gone
     (g.S.Sink.flushed sink) (g.F.Feed.failures c.next_line.new.feed) (g.S.Sink.failures sink) p.fine
     (g.S.Sink.contents sink) c.finish.result
@@ -94,8 +95,8 @@ returns-in-Err g c =
     let sink = c.loop-turn.sink in λ read output l.
     no_line read output (length c.args.inbox.now.held.items) (g.F.Feed.remaining c.args.feed.now)
     (g.F.Feed.remaining c.loop-turn.feed) (g.F.Feed.remaining c.next_line.new.feed) (g.S.Sink.contents c.args.sink.now)
-    (g.S.Sink.contents sink) c.loop-turn._turn c.loop-turn.inbox.ended (g.F.Feed.ended c.next_line.new.feed) talk.session
-    talk.count c.loop-turn.inbox.held.items piece (inv.gone read output l) (g.S.Sink.flushed sink)
+    (g.S.Sink.contents sink) c.loop-turn._turn c.loop-turn.inbox.ended (g.F.Feed.ended c.next_line.new.feed)
+    talk.session talk.count c.loop-turn.inbox.held.items piece (inv.gone read output l) (g.S.Sink.flushed sink)
     (g.F.Feed.failures c.next_line.new.feed) (g.S.Sink.failures sink) c.in-Err.fault p.consumed inv.sunk inv.flushed
     p.stays p.fault
 
@@ -147,6 +148,7 @@ returns g c =
     let many : 2 ^ 64 ≤ c.loop-turn._turn + 1 = omega (arith, c.loop-turn-test.false) in λ read output l.
     subst (λ (b : Bool). Converses read output had left b fails before (g.S.Sink.contents sink) (g.S.Sink.flushed sink)
     (g.S.Sink.failures sink) (Err TooLong)) (sym inv.end)
-    (no_count read output had left before (g.S.Sink.contents sink) c.loop-turn._turn c.loop-turn.inbox.ended first.session
-    talk.session first.count talk.count c.args.inbox.now.held.items c.loop-turn.inbox.held.items c.args.inbox.now.ended l
-    (inv.gone read output l) (g.S.Sink.flushed sink) fails (g.S.Sink.failures sink) inv.fed inv.sunk many)
+    (no_count read output had left before (g.S.Sink.contents sink) c.loop-turn._turn c.loop-turn.inbox.ended
+    first.session talk.session first.count talk.count c.args.inbox.now.held.items c.loop-turn.inbox.held.items
+    c.args.inbox.now.ended l (inv.gone read output l) (g.S.Sink.flushed sink) fails (g.S.Sink.failures sink) inv.fed
+    inv.sunk many)

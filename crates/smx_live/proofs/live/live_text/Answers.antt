@@ -61,4 +61,5 @@ returns g c =
     no_opening (g.F.Feed.remaining c.args.feed.now) (g.F.Feed.remaining feed) (g.F.Feed.ended feed)
     (g.F.Feed.failures feed) read t.consumed (g.S.Sink.contents c.args.sink.now) (g.S.Sink.flushed sink)
     (g.S.Sink.failures sink) c.in-Ok.table.items c.read_table.new.inbox.held.items parts t.over t.fits t.fine
-    c.in-Ok-begin.talk.session (g.S.Sink.contents sink) c.in-Err-open.fault c.in-Ok-begin.ensures.0 c.in-Err-open.ensures
+    c.in-Ok-begin.talk.session (g.S.Sink.contents sink) c.in-Err-open.fault c.in-Ok-begin.ensures.0
+    c.in-Err-open.ensures

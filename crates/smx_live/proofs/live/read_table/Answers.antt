@@ -70,7 +70,8 @@ returns-then-not-is_of_table g c =
       read ++ piece,
       record {
         consumed = Consumes-trans _ _ _ read piece consumed p.consumed;
-        parts = unmoved c.args.inbox.now.held.items read piece c.lines.table.items c.lines.inbox.held.items held parts p.held;
+        parts = unmoved c.args.inbox.now.held.items read piece c.lines.table.items c.lines.inbox.held.items held parts
+            p.held;
         over = over_at_a_line _ c.lines.table.items lines c.in-Ok-Some.n held text were line.0 line.1
             (λ none. some (omega (arith, c.len-in-lines.ensures, c.lines.table.ok.0, none)))
             (ap (λ (l : List ℕ). begins_driver (take c.in-Ok-Some.n l)) (sym c.deref.ensures.value) ∙ other);
@@ -109,7 +110,8 @@ lines-preserved g c =
     let grew : c.extend_from_slice.new.self.items ≡ table ++ take (n + 1) held =
     (rw c.if-is_err.ensures.negation at c.extend_from_slice.ensures.items)
     ∙ ap (λ (l : List ℕ). table ++ take (n + 1) l) c.deref-in-lines.ensures.value in
-    let why : (length (lines_text lines) ≡ 0) ⊎ (begins_driver (take n held) ≡ true) = elim c.if-not-is_of_table.ensures [
+    let why : (length (lines_text lines) ≡ 0) ⊎ (begins_driver (take n held) ≡ true) =
+    elim c.if-not-is_of_table.ensures [
       | inl none ↦ inl (omega (
         arith,
         none,

@@ -10,11 +10,15 @@ returns-in-Ok-true-clause-turn g c =
     let next = c.answer.new.talk in
     let sink = c.answer.new.sink in
     let held = c.args.inbox.now.held.items in
-    let turn = λ (r : Result Bool MainFault) (line : List ℕ). TakesTurn talk.session talk.count line next.session next.count
-    (g.S.Sink.contents c.args.sink.now) (g.S.Sink.contents sink) (g.S.Sink.flushed sink) (g.S.Sink.failures sink) r in
-    let taken : turn (Ok true) (take c.args.n held) = subst (turn (Ok true)) (ap (take c.args.n) c.deref.ensures.value)
-    (subst (λ (b : Bool). turn (Ok b) (take c.args.n c.deref.result.now)) c.in-Ok-true.field-0-test c.in-Ok-true.ensures) in
-    λ read output ended l. turned_on c.one_entry_more.ensures.after read ended output talk.session talk.count c.args.n held l
+    let turn = λ (r : Result Bool MainFault) (line : List ℕ). TakesTurn talk.session talk.count line next.session
+    next.count (g.S.Sink.contents c.args.sink.now) (g.S.Sink.contents sink) (g.S.Sink.flushed sink)
+    (g.S.Sink.failures sink) r in
+    let taken : turn (Ok true) (take c.args.n held) =
+    subst (turn (Ok true)) (ap (take c.args.n) c.deref.ensures.value)
+    (subst (λ (b : Bool). turn (Ok b) (take c.args.n c.deref.result.now)) c.in-Ok-true.field-0-test
+    c.in-Ok-true.ensures) in
+    λ read output ended l.
+    turned_on c.one_entry_more.ensures.after read ended output talk.session talk.count c.args.n held l
     c.requires.line c.requires.fits next.session next.count (g.S.Sink.contents c.args.sink.now)
     (g.S.Sink.contents sink) (g.S.Sink.flushed sink) (g.S.Sink.failures sink) (Ok true) taken
 
@@ -24,10 +28,13 @@ returns-in-Ok-false-clause-turn g c =
     let next = c.answer.new.talk in
     let sink = c.answer.new.sink in
     let held = c.args.inbox.now.held.items in
-    let turn = λ (r : Result Bool MainFault) (line : List ℕ). TakesTurn talk.session talk.count line next.session next.count
-    (g.S.Sink.contents c.args.sink.now) (g.S.Sink.contents sink) (g.S.Sink.flushed sink) (g.S.Sink.failures sink) r in
-    let taken : turn (Ok false) (take c.args.n held) = subst (turn (Ok false)) (ap (take c.args.n) c.deref.ensures.value)
-    (subst (λ (b : Bool). turn (Ok b) (take c.args.n c.deref.result.now)) c.in-Ok-false.field-0-test c.in-Ok-false.ensures) in
+    let turn = λ (r : Result Bool MainFault) (line : List ℕ). TakesTurn talk.session talk.count line next.session
+    next.count (g.S.Sink.contents c.args.sink.now) (g.S.Sink.contents sink) (g.S.Sink.flushed sink)
+    (g.S.Sink.failures sink) r in
+    let taken : turn (Ok false) (take c.args.n held) =
+    subst (turn (Ok false)) (ap (take c.args.n) c.deref.ensures.value)
+    (subst (λ (b : Bool). turn (Ok b) (take c.args.n c.deref.result.now)) c.in-Ok-false.field-0-test
+    c.in-Ok-false.ensures) in
     λ read output ended l.
     let (fine, flushed, said, appended, live) = turned_on c.one_entry_more.ensures.after read ended output
     talk.session talk.count

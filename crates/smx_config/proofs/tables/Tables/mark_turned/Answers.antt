@@ -13,7 +13,10 @@ returns-in-Nothing c = (
   c.args.run.now,
   elim c.in-Nothing.is [
     | inl nothing ↦ subst turned (sym nothing) none
-    | inr other ↦ elim other [ inl leaves ↦ subst turned (sym leaves.1) none | inr frees ↦ subst turned (sym frees) none ]
+    | inr other ↦ elim other [
+      | inl leaves ↦ subst turned (sym leaves.1) none
+      | inr frees ↦ subst turned (sym frees) none
+    ]
   ],
   needed_all c.args.self.now.drivers c.args.self.now.configuration c.args.run.now,
 ) where

@@ -32,7 +32,8 @@ returns-clause-rest c = subst
           (table_of
           (record { alloc = c.self.inside.alloc; descriptors = c.self.inside.descriptors; records = c.hold.new.self }))
           c.args.stream _ _ c.hold.ensures c.is_sound.ensures.hung
-          (λ x. c.hold.ensures.opens_now x ∙ same_number c.self.inside.records.opens x c.args.stream _ refl ∙ c.self.invariant x) refl refl refl;
+          (λ x. c.hold.ensures.opens_now x
+          ∙ same_number c.self.inside.records.opens x c.args.stream _ refl ∙ c.self.invariant x) refl refl refl;
     })
 
 pub returns-clause-hungs : goal.returns-clause-hungs

@@ -24,5 +24,6 @@ returns-clause-rest c = subst
           (table_of
           (record { alloc = c.self.inside.alloc; descriptors = c.self.inside.descriptors; records = c.release.new.self }))
           c.args.stream _ _ c.release.ensures c.is_sound.ensures.hung
-          (λ x. c.release.ensures.opens_now x ∙ same_number c.self.inside.records.opens x c.args.stream _ refl ∙ c.self.invariant x) refl refl refl;
+          (λ x. c.release.ensures.opens_now x
+          ∙ same_number c.self.inside.records.opens x c.args.stream _ refl ∙ c.self.invariant x) refl refl refl;
     })

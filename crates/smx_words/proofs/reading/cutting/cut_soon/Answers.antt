@@ -12,7 +12,8 @@ loop-at-preserved c = record {
 
 pub returns-then-at-bytes : goal.returns-then-at-bytes
 returns-then-at-bytes c =
-    free_whole c.args.separator c.args.bytes.now c.loop-at.at (omega (arith, c.if-at-bytes.true)) c.loop-at.invariant.free
+    free_whole c.args.separator c.args.bytes.now c.loop-at.at (omega (arith, c.if-at-bytes.true))
+    c.loop-at.invariant.free
 
 pub returns : goal.returns
 returns c = elim c.loop-at-test.branch [

@@ -1,4 +1,4 @@
-use Rattle.std.proofs.Common.{sym, ◌∙◌, arith}
+use Rattle.std.proofs.Common.{sym, ◌∙◌}
 use Rattle.std.specs.Prelude.{codes}
 use Rattle.smx_words.proofs.CutLemmas.{differs}
 use Rattle.smx_words.proofs.HexLemmas.{no_digits, not_empty, odd_is_none, spell_some, when_empty}
@@ -10,10 +10,12 @@ pub returns-then-is_empty : goal.returns-then-is_empty
 returns-then-is_empty c =
     odd_is_none c.args.word.now
     (λ some. elim c.then-is_empty.branch [
-      | then-is_empty-via-then-is_empty w ↦ absurd (when_empty c.args.word.now _ c.is_empty.ensures w.if-is_empty.true some)
+      | then-is_empty-via-then-is_empty w ↦
+          absurd (when_empty c.args.word.now _ c.is_empty.ensures w.if-is_empty.true some)
       | then-is_empty-via-else-is_empty+then-word-eq1 w ↦ w.if-word-eq1.true
     ])
-    (differs c.args.word.now c.as_slice.result.now (codes "-") c.eq.result c.as_slice.ensures c.eq.ensures c.if-eq.false)
+    (differs c.args.word.now c.as_slice.result.now (codes "-") c.eq.result c.as_slice.ensures c.eq.ensures
+    c.if-eq.false)
 
 pub returns-then-are_digits : goal.returns-then-are_digits
 returns-then-are_digits c =

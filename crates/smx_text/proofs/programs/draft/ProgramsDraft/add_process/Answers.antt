@@ -1,28 +1,50 @@
-use Rattle.std.proofs.Common.{rules, refl}
+use Rattle.std.proofs.Common.{◌≡◌, ◌≤◌, ◌<◌, ◌∙◌, length, sym, ap, subst, refl, rules, arith}
+use Rattle.smx_types.specs.ProgramLists.{ProgramLists}
+use Rattle.smx_types.specs.declared.limits.TheConstants.{MAX_PROCESSES}
+use Rattle.smx_text.specs.Drafts.{IsCounted}
 use Rattle.smx_text.specs.ProgramLines as line
-use Rattle.smx_text.proofs.BodyLemmas.{added_process}
-use Rattle.smx_text.proofs.ProgramsLemmas.{misplaced, too_many, adds, longer_begun}
+use Rattle.smx_text.specs.TakenPrograms.{with_program}
+use Rattle.smx_text.proofs.ProgramsLemmas.{misplaced, too_many, taken_more, longer_begun}
 use Rattle.smx_text.proofs.programs.draft.ProgramsDraft.add_process.Goals as goal
 
-pub returns-then-number-len-clause-refused : goal.returns-then-number-len-clause-refused
-returns-then-number-len-clause-refused c = misplaced c.args.self.now.version c.args.self.now
-    (line.Process c.args.number) (search rules)
+pub returns-then-number-self-clause-refused : goal.returns-then-number-self-clause-refused
+returns-then-number-self-clause-refused g c =
+    let own : IsCounted c.args.self.now c.self.inside.version c.self.inside.drivers c.self.inside.programs
+    c.self.inside.commands = subst (λ (p : ProgramLists). IsCounted p c.self.inside.version c.self.inside.drivers
+    c.self.inside.programs c.self.inside.commands) c.self.view_is c.self.invariant in
+    misplaced c.args.self.now.version c.args.self.now (line.Process c.args.number)
+    (λ same. c.if-number-self.true (same ∙ sym own.has_programs))
 
 pub returns-then-number-ge-MAX_PROCESSES-clause-refused : goal.returns-then-number-ge-MAX_PROCESSES-clause-refused
-returns-then-number-ge-MAX_PROCESSES-clause-refused c =
-    too_many c.args.self.now.version c.args.self.now (line.Process c.args.number) (search rules) (search rules)
+returns-then-number-ge-MAX_PROCESSES-clause-refused g c =
+    let own : IsCounted c.args.self.now c.self.inside.version c.self.inside.drivers c.self.inside.programs
+    c.self.inside.commands = subst (λ (p : ProgramLists). IsCounted p c.self.inside.version c.self.inside.drivers
+    c.self.inside.programs c.self.inside.commands) c.self.view_is c.self.invariant in
+    let same : c.args.number ≡ length c.args.self.now.programs = c.if-number-self.false ∙ own.has_programs in
+    let many : MAX_PROCESSES ≤ length c.args.self.now.programs =
+    omega (arith, same, c.if-number-ge-MAX_PROCESSES.true) in
+    too_many c.args.self.now.version c.args.self.now (line.Process c.args.number) same many
+
+pub returns-in_err-add_program-clause-refused : goal.returns-in_err-add_program-clause-refused
+returns-in_err-add_program-clause-refused g c =
+    let own : IsCounted c.args.self.now c.self.inside.version c.self.inside.drivers c.self.inside.programs
+    c.self.inside.commands = subst (λ (p : ProgramLists). IsCounted p c.self.inside.version c.self.inside.drivers
+    c.self.inside.programs c.self.inside.commands) c.self.view_is c.self.invariant in
+    let same : c.args.number ≡ length c.args.self.now.programs = c.if-number-self.false ∙ own.has_programs in
+    let few : length c.args.self.now.programs < MAX_PROCESSES =
+    omega (arith, same, c.if-number-ge-MAX_PROCESSES.false) in
+    let room = longer_begun c.args.self.now.version c.args.self.now (line.Process c.args.number) refl c.requires.begun
+    same few c.ranges.number.fits in
+    search rules
 
 pub returns-clause-added : goal.returns-clause-added
-returns-clause-added c =
-    let more = added_process c.self.inside.drivers.items c.self.inside.programs c.args.number (search rules) in
-    adds c.args.self.now.version c.args.self.now _ (line.Process c.args.number) refl refl c.requires.begun
-    (search rules) c.ranges.number.fits
-    (search rules)
-
-pub returns-in_err-begin-clause-refused : goal.returns-in_err-begin-clause-refused
-returns-in_err-begin-clause-refused c =
-    let room =
-    longer_begun c.args.self.now.version c.args.self.now (line.Process c.args.number) refl c.requires.begun
-    (search rules)
-    (search rules) c.ranges.number.fits in
-    search rules
+returns-clause-added g c =
+    let own : IsCounted c.args.self.now c.self.inside.version c.self.inside.drivers c.self.inside.programs
+    c.self.inside.commands = subst (λ (p : ProgramLists). IsCounted p c.self.inside.version c.self.inside.drivers
+    c.self.inside.programs c.self.inside.commands) c.self.view_is c.self.invariant in
+    let same : c.args.number ≡ length c.args.self.now.programs = c.if-number-self.false ∙ own.has_programs in
+    let few : length c.args.self.now.programs < MAX_PROCESSES =
+    omega (arith, same, c.if-number-ge-MAX_PROCESSES.false) in
+    taken_more c.args.self.now.version c.args.self.now _ (line.Process c.args.number) refl
+    (c.in_ok-add_program.ensures.taken ∙ ap (λ (p : ProgramLists). with_program p) c.self.view_is)
+    c.requires.begun same few c.ranges.number.fits

@@ -1,4 +1,4 @@
-use Rattle.std.proofs.Common.{◌≡◌, ap, subst}
+use Rattle.std.proofs.Common.{◌≡◌, ◌∙◌, ap, subst}
 use Rattle.smx_types.specs.ProgramLists.{ProgramLists}
 use Rattle.smx_types.specs.declared.version.Version.{Version}
 use Rattle.smx_words.specs.LineReading.{IsLineOf, IsReadAs}
@@ -10,8 +10,9 @@ use Rattle.smx_text.proofs.ProgramsGrammarLemmas.{refused_line}
 use Rattle.smx_text.proofs.programs.draft.ProgramsDraft.add_where_none.Goals as goal
 
 pub returns-in-Ok-Some-clause-refused : goal.returns-in-Ok-Some-clause-refused
-returns-in-Ok-Some-clause-refused c =
-    let same : c.self.inside.version ≡ c.args.self.now.version = ap (λ (p : ProgramLists). p.version) c.self.view_is in
+returns-in-Ok-Some-clause-refused g c =
+    let same : c.self.inside.version ≡ c.args.self.now.version =
+    c.self.invariant.of_version ∙ ap (λ (p : ProgramLists). p.version) c.self.view_is in
     let read = subst (λ (v : Version). IsReadAs (FitsCommandIn v) command_words c.args.text.now c.in-Ok-Some.field-0)
     same
     c.in-Ok-Some.ensures.reading in
@@ -22,8 +23,9 @@ returns-in-Ok-Some-clause-refused c =
     is.0 is.1 c.args.cause (c.requires.none c.in-Ok-Some.field-0-0)
 
 pub returns-clause-refused : goal.returns-clause-refused
-returns-clause-refused c =
-    let same : c.self.inside.version ≡ c.args.self.now.version = ap (λ (p : ProgramLists). p.version) c.self.view_is in
+returns-clause-refused g c =
+    let same : c.self.inside.version ≡ c.args.self.now.version =
+    c.self.invariant.of_version ∙ ap (λ (p : ProgramLists). p.version) c.self.view_is in
     let some = subst (λ (v : Version). IsLineOf (FitsCommandIn v) command_words c.args.text.now) same
     c.in-Err.ensures.wanted in
     refused_line c.args.self.now.version (body c.args.self.now) (line.Command some.0) c.args.text.now some.1

@@ -1,12 +1,12 @@
-use Rattle.std.proofs.Common.{◌≡◌, ◌∙◌, ap, rules}
-use Rattle.smx_types.specs.ProgramLists.{ProgramLists, program_lists, raised}
-use Rattle.smx_text.proofs.ProgramsLemmas.{finished}
+use Rattle.std.proofs.Common.{sym, subst}
+use Rattle.smx_types.specs.ProgramLists.{AreWithinLimits, ProgramLists}
+use Rattle.smx_text.proofs.ProgramsLemmas.{begun_within, finished}
 use Rattle.smx_text.proofs.programs.draft.ProgramsDraftDraft.finish.Goals as goal
 
+pub finish-requires : goal.finish-requires
+finish-requires g c = subst AreWithinLimits (sym c.self.view_is) (begun_within c.args.self c.requires.begun)
+
 pub returns : goal.returns
-returns c =
-    let version : c.self.inside.version ≡ c.args.self.version = ap (λ (v : ProgramLists). v.version) c.self.view_is in
-    let made : c.in_ok-programs.programs ≡ program_lists c.args.self.drivers c.args.self.programs = search rules in
-    finished c.args.self c.in_version.result c.requires.begun
-    (λ first. c.in_version.ensures.first (version ∙ first) ∙ made)
-    (λ second. c.in_version.ensures.second (version ∙ second) ∙ ap raised made)
+returns g c =
+    finished g.P.ProgramTaker.makes c.args.self c.finish.result c.requires.begun
+    (subst (λ (p : ProgramLists). g.P.ProgramTaker.makes p c.finish.result) c.self.view_is c.finish.ensures)

@@ -1,7 +1,7 @@
 use Rattle.smx_words.specs.Spellable.{FitsCommandIn}
 use Rattle.smx_words.specs.Spelling.{command_words}
 use Rattle.smx_words.proofs.PushLemmas.{is_pushed}
-use Rattle.smx_words.proofs.reading.command.push_command.Goals as goal
+use Rattle.smx_words.proofs.reading.pushing.push_command.Goals as goal
 
 pub returns-in_default-clause-pushed : goal.returns-in_default-clause-pushed
 returns-in_default-clause-pushed c =

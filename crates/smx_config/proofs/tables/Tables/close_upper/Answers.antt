@@ -10,7 +10,7 @@ use Rattle.smx_config.specs.Closing.{closing}
 use Rattle.smx_config.proofs.ClosingLemmas.{closed_touches}
 use Rattle.smx_config.proofs.DoneLemmas.{swept_is}
 use Rattle.smx_config.proofs.TablesLemmas.{accepted, sound_inside}
-use Rattle.smx_config.proofs.tables.Tables.close_last.Goals as goal
+use Rattle.smx_config.proofs.tables.Tables.close_upper.Goals as goal
 
 pub sweep_and_reply-requires-clause-touched : goal.sweep_and_reply-requires-clause-touched
 sweep_and_reply-requires-clause-touched c =

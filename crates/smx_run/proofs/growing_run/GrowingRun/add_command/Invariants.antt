@@ -1,0 +1,5 @@
+use Rattle.smx_run.specs.GrowingRuns.{with_command}
+use Rattle.smx_run.proofs.growing_run.GrowingRun.add_command.Given as goal
+
+abbrev pub ghost-then : goal.ghost-then
+ghost-then g a = with_command a.self.now.lists a._by.now

@@ -1,0 +1,5 @@
+use Rattle.smx_run.specs.GrowingRuns.{with_driver}
+use Rattle.smx_run.proofs.growing_run.GrowingRun.add_driver.Given as goal
+
+abbrev pub ghost-then : goal.ghost-then
+ghost-then g a = with_driver a.self.now.lists a._by.now

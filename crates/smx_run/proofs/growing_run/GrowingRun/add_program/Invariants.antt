@@ -1,0 +1,5 @@
+use Rattle.smx_run.specs.GrowingRuns.{with_program}
+use Rattle.smx_run.proofs.growing_run.GrowingRun.add_program.Given as goal
+
+abbrev pub ghost-then : goal.ghost-then
+ghost-then g a = with_program a.self.now.lists
