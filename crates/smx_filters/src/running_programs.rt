@@ -4,8 +4,8 @@ use crate::text_recorder::TextRecorder;
 use smx_model::laws_of_hangups::reports_need_no_later_version;
 use smx_run::{Gate, GrowingRun, RunFault};
 use smx_text::ProgramTaker;
-use smx_types::{DriverSpec, NoMemory, Version};
-use smx_words::command_of;
+use smx_types::{Command, DriverSpec, NoMemory, Version};
+use smx_words::{command_of, push_command};
 use std::alloc::Global;
 
 /// Performs each command as its line is read, and tells the gate. What it makes of all of them is the transcript of the
@@ -14,6 +14,8 @@ use std::alloc::Global;
 pub struct RunningPrograms<'a, G: Gate> {
     run: GrowingRun<TextRecorder>,
     gate: &'a G,
+    // Where each command is read to, in turn: its room stays, and it is not moved.
+    next: Vec<Command>,
 }
 
 impl<'a, G: Gate> ProgramTaker for RunningPrograms<'a, G> {
@@ -31,7 +33,11 @@ impl<'a, G: Gate> ProgramTaker for RunningPrograms<'a, G> {
     fn begin(alloc: Global, with: (Vec<u8>, &'a G), version: Version) -> RunningPrograms<'a, G> {
         let (room, gate) = with;
         let run = GrowingRun::new(alloc, version, room);
-        RunningPrograms { run, gate }
+        RunningPrograms {
+            run,
+            gate,
+            next: Vec::new(alloc),
+        }
     }
 
     fn add_driver(&mut self, driver: DriverSpec) -> Result<(), NoMemory> {
@@ -44,10 +50,18 @@ impl<'a, G: Gate> ProgramTaker for RunningPrograms<'a, G> {
     }
 
     fn add_command(&mut self, alloc: Global, line: &[u8]) -> Result<bool, NoMemory> {
-        let Some(command) = command_of(alloc, self.run.version(), line)? else {
+        let version = self.run.version();
+        self.next.clear();
+        if self.next.reserve(1).is_err() {
+            return match command_of(alloc, version, line)? {
+                Some(_) => Err(NoMemory),
+                None => Ok(false),
+            };
+        }
+        if !push_command(&mut self.next, alloc, version, line)? {
             return Ok(false);
-        };
-        self.run.add_command(self.gate, &command);
+        }
+        self.run.add_command(self.gate, &self.next[0]);
         Ok(true)
     }
 
