@@ -155,7 +155,7 @@ fn fronts_of_run<R: Threads + Wait + Sync, G: Gate + Sync>(
     gate: &G,
 ) -> Result<Vec<u8>, RunFault>
     requires { (1 ≤ workers) × (workers ≤ 64) }
-    ensures written { IfOk result (λ text. IsFrontsTextFor programs text.items) }
+    ensures written { IfOk result (λ text. IsFrontsTextFor workers programs text.items) }
     ensures refused { IfErr result (IsRefusedFor workers programs) }
 {
     let report = run_programs(rt, alloc, programs, workers, gate)?;
