@@ -27,11 +27,12 @@ pub record IsTranscriptFor (programs : ProgramLists) (output : List ℕ) : Type 
   -- The output is its transcript, and nothing else.
   pub written : SpellsTranscript output report
 
--- the fronts of such a report
-pub record IsFrontsTextFor (programs : ProgramLists) (output : List ℕ) : Type 0 where
-  -- There is a report that is promised for these programs,
+-- the fronts of such a report, of a run by so many workers
+pub record IsFrontsTextFor (workers : ℕ) (programs : ProgramLists) (output : List ℕ) : Type 0 where
+  -- There is a report that is promised for these programs, of one worker with one program after the other,
   pub report : Transcript
   pub promised : IsReportOf programs report
+  pub in_turn : workers ≤ 1 → map call_of report.entries ≡ calls_from 0 programs.programs
   -- and one front for each program, that of a beginning of its history which holds all commands of the program.
   pub fronts : List Front
   pub seen : AreFrontsFrom report.drivers report.entries 0 programs.programs fronts
@@ -54,10 +55,10 @@ abbrev pub IsRunAlone : ProgramLists → Result (Vec ℕ Global) RunFault → Ty
 IsRunAlone programs (Ok text) = IsTranscriptInTurn programs text.items
 IsRunAlone programs (Err fault) = RefusesAlone programs.drivers fault
 
--- what so many workers write: the fronts, or the transcript, which one worker alone makes of one program after the
+-- what so many workers write: the fronts, or the transcript; one worker alone makes either of one program after the
 -- other
 abbrev pub IsWrittenFor : Bool → ℕ → ProgramLists → List ℕ → Type 0
-IsWrittenFor true workers programs output = IsFrontsTextFor programs output
+IsWrittenFor true workers programs output = IsFrontsTextFor workers programs output
 IsWrittenFor false zero programs output = IsTranscriptFor programs output
 IsWrittenFor false (suc zero) programs output = IsTranscriptInTurn programs output
 IsWrittenFor false (suc (suc more)) programs output = IsTranscriptFor programs output

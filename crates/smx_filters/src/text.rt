@@ -1,12 +1,13 @@
 //! A run from bytes to bytes.
 
-ghost use Rattle.std.specs.Prelude.{◌≡◌, ◌≤◌, false, length, IfOk, IfErr, Result};
+ghost use Rattle.std.specs.Prelude.{◌≡◌, ◌≤◌, false, length, IfOk, IfErr, None, Result};
 ghost use Rattle.smx_text.specs.declared.text_fault.TextFault.{TextFault};
 ghost use Rattle.smx_filters.specs.ExplainText.{IsKept, answer_of};
 ghost use Rattle.smx_filters.specs.Filters.{Answers};
 ghost use Rattle.smx_filters.specs.FrontsText.{fronts_text};
 ghost use Rattle.smx_filters.specs.RunText.{IsFrontsTextFor, IsRefusedFor, IsTranscriptFor, IsTranscriptInTurn, IsWrittenFor, RunsText, items_of, running};
-ghost use Rattle.smx_filters.specs.declared.main_fault.MainFault.TheVariants.{Text};
+ghost use Rattle.smx_filters.specs.declared.main_fault.MainFault.TheVariants.{Refused, Text};
+ghost use Rattle.smx_run.specs.declared.run_fault.RunFault.{RunFault as AnyFault};
 ghost use Rattle.smx_run.specs.RunFaults.{RefusesAlone, RefusesRun};
 
 use crate::device::{Feed, Sink};
@@ -69,6 +70,7 @@ pub(crate) fn text_for<R: Threads + Wait + Sync, G: Gate + Sync>(
     requires { (1 ≤ workers) × (workers ≤ 64) }
     ensures answers { Answers (running fronts workers) input.items (items_of (answer_of result)) }
     ensures kept { IfErr result (λ r. (fault : TextFault) → r.fault ≡ Text fault → IsKept r.text input.items) }
+    ensures given_up { IfErr result (λ r. (f : AnyFault) → r.fault ≡ Refused f → r.text ≡ None) }
 {
     if workers == 1 && !fronts {
         return match transcript_as_read(alloc, input.as_slice(), gate) {
@@ -90,6 +92,7 @@ pub(crate) fn text_for<R: Threads + Wait + Sync, G: Gate + Sync>(
 fn kept_for(fault: MainFault, input: Vec<u8>) -> Refusal
     ensures fault { result.fault ≡ fault }
     ensures kept { (f : TextFault) → fault ≡ Text f → IsKept result.text input.items }
+    ensures given_up { (f : AnyFault) → fault ≡ Refused f → result.text ≡ None }
 {
     let text = match fault {
         MainFault::Text(_) => Some(input),
@@ -155,7 +158,7 @@ fn fronts_of_run<R: Threads + Wait + Sync, G: Gate + Sync>(
     gate: &G,
 ) -> Result<Vec<u8>, RunFault>
     requires { (1 ≤ workers) × (workers ≤ 64) }
-    ensures written { IfOk result (λ text. IsFrontsTextFor programs text.items) }
+    ensures written { IfOk result (λ text. IsFrontsTextFor workers programs text.items) }
     ensures refused { IfErr result (IsRefusedFor workers programs) }
 {
     let report = run_programs(rt, alloc, programs, workers, gate)?;

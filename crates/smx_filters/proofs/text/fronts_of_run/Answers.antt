@@ -1,4 +1,4 @@
-use Rattle.std.proofs.Common.{rules}
+use Rattle.std.proofs.Common.{rules, inl}
 use Rattle.smx_run.specs.Reports.{transcript_of}
 use Rattle.smx_filters.proofs.text.fronts_of_run.Goals as goal
 
@@ -9,6 +9,7 @@ returns-clause-written g c =
     record {
       report = transcript_of c.args.programs.version report;
       promised = run.report;
+      in_turn = λ few. run.in_turn (inl few);
       fronts = report.fronts;
       seen = run.fronts;
       written = search rules;
