@@ -1,5 +1,5 @@
 -- The fronts text that a run writes is of one report.
-use Rattle.std.proofs.Common.{◌≡◌, ℕ, suc, ◌+◌, ◌≤◌, true, List, [], ◌∷◌, length, refl, sym, ap, ◌∙◌, arith}
+use Rattle.std.proofs.Common.{◌≡◌, ℕ, suc, ◌+◌, ◌≤◌, true, List, [], ◌∷◌, length, map, refl, sym, ap, ◌∙◌, arith}
 use Rattle.std.proofs.Common.{length-append}
 use Rattle.std.proofs.lemmas.List.Elements.{All-nil, All-cons}
 use Rattle.std.specs.List.{All}
@@ -9,8 +9,10 @@ use Rattle.smx_types.specs.declared.command.Entry.{Entry}
 use Rattle.smx_types.specs.declared.driver.DriverSpec.{DriverSpec}
 use Rattle.smx_types.specs.declared.transcript.Transcript.{Transcript}
 use Rattle.smx_model.specs.Headline.{IsReportOf}
+use Rattle.smx_model.specs.Histories.{call_of}
 use Rattle.smx_shared.specs.declared.front.Front.{Front}
 use Rattle.smx_run.specs.Fronts.{AreFrontsFrom, IsFrontAfter}
+use Rattle.smx_run.specs.ProgramOrder.{calls_from}
 use Rattle.smx_filters.specs.FrontsText.{fronts_text}
 use Rattle.smx_filters.specs.RunText.{IsWrittenFor}
 
@@ -49,6 +51,7 @@ pub of_one_report : (workers : ℕ) (programs : ProgramLists) (output : List ℕ
     → IsWrittenFor true workers programs output
     → (report : Transcript) × (fronts : List Front) × IsReportOf programs report × (output ≡ fronts_text fronts)
     × (length fronts ≡ length programs.programs) × All (λ f. f.entries ≤ length report.entries) fronts
+    × (workers ≤ 1 → map call_of report.entries ≡ calls_from 0 programs.programs)
 of_one_report workers programs output h = (
   h.report,
   h.fronts,
@@ -56,4 +59,5 @@ of_one_report workers programs output h = (
   h.written,
   as_many h.report.drivers h.report.entries 0 programs.programs h.fronts h.seen,
   none_past h.report.drivers h.report.entries 0 programs.programs h.fronts h.seen,
+  h.in_turn,
 )

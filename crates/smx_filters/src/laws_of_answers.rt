@@ -1,10 +1,11 @@
 //! Laws of what is answered to an input, each the contract of a function that does nothing.
 
-ghost use Rattle.std.specs.Prelude.{◌≡◌, ◌≤◌, ℕ, Bool, true, false, List, All, length, Result};
+ghost use Rattle.std.specs.Prelude.{◌≡◌, ◌≤◌, ℕ, Bool, true, false, List, All, length, map, Result};
 ghost use Rattle.smx_types.specs.ProgramLists.{ProgramLists};
 ghost use Rattle.smx_types.specs.declared.transcript.Transcript.{Transcript};
 ghost use Rattle.smx_types.specs.declared.version.Version.{Version};
 ghost use Rattle.smx_model.specs.Headline.{IsReportOf};
+ghost use Rattle.smx_model.specs.Histories.{call_of};
 ghost use Rattle.smx_text.specs.Grammar.{Spells};
 ghost use Rattle.smx_text.specs.ProgramsText.{programs_grammar};
 ghost use Rattle.smx_text.specs.TranscriptText.{transcript_grammar};
@@ -12,6 +13,7 @@ ghost use Rattle.smx_config.specs.declared.config_fault.ConfigFault.{ConfigFault
 ghost use Rattle.smx_config.specs.declared.verdict.Verdict.{Verdict};
 ghost use Rattle.smx_config.specs.declared.verdict.Verdict.TheVariants.{Legal};
 ghost use Rattle.smx_shared.specs.declared.front.Front.{Front};
+ghost use Rattle.smx_run.specs.ProgramOrder.{calls_from};
 ghost use Rattle.smx_run.specs.declared.run_fault.RunFault.TheVariants as run;
 ghost use Rattle.smx_filters.specs.CheckText.{checking};
 ghost use Rattle.smx_filters.specs.ExplainText.{explaining};
@@ -89,9 +91,11 @@ pub fn a_run_writes_one_legal_transcript()
     one_transcript_has_one_reading();
 }
 
-/// The fronts that a run writes are of one report of the programs: one for each process, and none past its end.
+/// The fronts that a run writes are of one report of the programs: one for each process, and none past its end. On one
+/// worker it has one program after the other.
 pub fn a_run_writes_the_fronts_of_one_report()
     ensures { (workers : ℕ) (programs : ProgramLists) (output : List ℕ) → IsWrittenFor true workers programs output
         → (report : Transcript) × (fronts : List Front) × IsReportOf programs report × (output ≡ fronts_text fronts)
-        × (length fronts ≡ length programs.programs) × All (λ f. f.entries ≤ length report.entries) fronts }
+        × (length fronts ≡ length programs.programs) × All (λ f. f.entries ≤ length report.entries) fronts
+        × (workers ≤ 1 → map call_of report.entries ≡ calls_from 0 programs.programs) }
 {}

@@ -29,10 +29,10 @@ use std::thread::Threads;
 
 /// Reads the programs that `feed` has, has them run by so many workers, 1 to 64, and writes the transcript of the run to
 /// `sink`, in the version of the programs, or with `fronts` how far the history had come when each program had ended. One
-/// worker runs one program after the other, by rising number, so that its transcript is determined. Of several, each has
-/// a thread of its own; process p is run by worker p modulo `workers`. A worker tells the gate of each command. Neither
-/// device has failed before, and no read has shown the end. Faults are found in this order: reading, text, drivers,
-/// run, writing.
+/// worker runs one program after the other, by rising number, so that its transcript is determined. Of several, each
+/// has a thread of its own; process p is run by worker p modulo `workers`. A worker tells the gate of each command.
+/// Neither device has failed before, and no read has shown the end. Faults are found in this order: reading, text,
+/// drivers, run, writing.
 pub fn run_text<R: Threads + Wait + Sync, F: Feed, S: Sink, G: Gate + Sync>(
     rt: &R,
     alloc: Global,
@@ -104,8 +104,8 @@ fn kept_for(fault: MainFault, input: Vec<u8>) -> Refusal
     Refusal { fault, text }
 }
 
-// The transcript of a run, on this thread alone, of the programs that the input spells. Each command is performed as its
-// line is read, and its own line written then.
+// The transcript of a run, on this thread alone, of the programs that the input spells. Each command is performed as
+// its line is read, and its own line written then.
 fn transcript_as_read<G: Gate>(alloc: Global, input: &[u8], gate: &G) -> Result<Vec<u8>, MainFault>
     ensures { Answers (running false 1) input.now (items_of result) }
 {
