@@ -17,9 +17,10 @@ use crate::reading::verb::{Verb, first_verb};
 use smx_types::{Command, NoMemory, Version};
 use std::alloc::Global;
 
-/// Puts the command whose words a line is behind the others, if it is one's that a version can tell, and says whether it
-/// is. Fails only for want of memory, and then the line is such a command's. Quicker than `command_of`, which has to hand
-/// the command on.
+/// Puts the command whose words a line is behind the others, if it is one's that a version can tell, and says whether
+/// it is. Fails only for want of memory, and then the line is such a command's. Quicker than `command_of`, which has to
+/// hand the command on.
+#[inline(always)]
 #[tactic(auto, using(crate::proofs::PushLemmas::is_pushed))]
 pub fn push_command(
     commands: &mut Vec<Command>,
@@ -80,8 +81,8 @@ fn push_after(
     }
 }
 
-// Puts a command behind the others, if there is one, and says whether there is. In each arm, so that the command is made
-// where it is to stand.
+// Puts a command behind the others, if there is one, and says whether there is. In each arm, so that the command is
+// made where it is to stand.
 #[inline(always)]
 fn push_if(commands: &mut Vec<Command>, read: Option<Command>) -> bool
     requires room { vec_len commands.old < vec_capacity commands.old }
