@@ -46,7 +46,7 @@ impl Tables {
     }
 
     // The next place of a message of this address.
-    fn next_place(&self, place: Place, addr: u32) -> Option<Place>
+    pub fn next_place(&self, place: Place, addr: u32) -> Option<Place>
         ensures { result ≡ next_place self.now.drivers self.now.configuration place addr }
     {
         let stream = place.stream;
