@@ -186,7 +186,9 @@ fn moves(rt: &(impl AllocGlobal + Abort), table: &mut FlowTable) -> Result<(), F
     requires { IsKnown table.old.drivers (record { driver = 0; minor = 1 }) }
 {
     both_have(rt, table, &[2, 3, 1], &[2, 1], &[1])?;
+    assert!(rt; !table.has_lone_message(DOWN) && !table.has_lone_message(ACROSS) && !table.has_lone_message(UP));
     move_front(table, DOWN, ACROSS)?;
+    assert!(rt; table.has_lone_message(DOWN) && table.has_lone_message(ACROSS) && !table.has_lone_message(UP));
     both_have(rt, table, &[3, 2, 1], &[3, 2, 1], &[1])
 }
 

@@ -21,6 +21,7 @@ fn is_all<R: Abort>(rt: &R, marks: &mut PlaceMarks, places: &[Place]) {
         assert_eq!(rt; marks.first(), Some(*place));
         marks.clear(*place);
         assert!(rt; !marks.is_marked(*place));
+        assert!(rt; marks.has_at_most_one());
     }
     assert_eq!(rt; marks.first(), None);
 }
@@ -29,10 +30,12 @@ fn is_all<R: Abort>(rt: &R, marks: &mut PlaceMarks, places: &[Place]) {
 fn marks_come_in_order(rt: HostRuntime) -> Result<(), Fail> {
     let mut marks = PlaceMarks::new(rt.alloc(), &[ethernet()?])?;
     assert_eq!(rt; marks.first(), None);
+    assert!(rt; marks.has_at_most_one());
     marks.mark(place(1, Side::Write));
     marks.mark(place(0, Side::Read));
     marks.mark(place(0, Side::Read));
     marks.mark(place(2, Side::Write));
+    assert!(rt; !marks.has_at_most_one());
     let mut same = marks.copy(rt.alloc())?;
     is_all(
         &rt,
