@@ -7,19 +7,20 @@ ghost use Rattle.smx_types.specs.declared.stream.Place.{Place as PlaceValue};
 ghost use Rattle.smx_model.specs.Configuration.{same_place};
 ghost use Rattle.smx_model.specs.KeptConfigurations.{IsSound};
 ghost use Rattle.smx_model.specs.KnownStreams.{IsKnown};
-ghost use Rattle.smx_model.specs.LoneMessages.{IsAlone, IsUnderWay, StaysAt, moved};
+ghost use Rattle.smx_model.specs.LoneMessages.{IsUnderWay, StaysAt, moved};
 ghost use Rattle.smx_model.specs.Queues.{first_message, is_full};
 ghost use Rattle.smx_model.specs.Settling.{IsSettled, after_settling_within, least_movable, next_open_place};
 ghost use Rattle.smx_model.specs.SettlingByMarks.{HasNoRunMark};
 ghost use Rattle.smx_queues.specs.PlaceMarks.{has_mark};
 ghost use Rattle.smx_queues.specs.Waiters.{target_of};
-ghost use Rattle.smx_config.specs.Marking.{AreMarks};
+ghost use Rattle.smx_config.specs.Marking.{AreMarks, MovesAlone};
 
 use crate::marks::Marks;
 use crate::settling::mark_wanted;
 use crate::tables::Tables;
 use smx_model::laws_of_lone_messages::{
-    empty_places_are_passed, lone_messages_change_two, lone_messages_come_to_rest, lone_messages_set_out,
+    empty_places_are_passed, lone_messages_change_two, lone_messages_come_to_rest,
+    lone_messages_set_out,
 };
 use smx_model::laws_of_run_marks::{more_marks_do, places_are_known};
 use smx_queues::Waiters;
@@ -34,7 +35,8 @@ pub struct Rest {
 
 // Notes for which place it waits, if there is one.
 fn note_target(waits: &mut Waiters, at: Place, target: Option<Place>)
-    ensures there { (q : PlaceValue) → target ≡ Some q → IsKnown waits.old.drivers at.stream → target_of waits.new at ≡ Some q }
+    ensures there { (q : PlaceValue) → target ≡ Some q → IsKnown waits.old.drivers at.stream
+        → target_of waits.new at ≡ Some q }
     ensures none { target ≡ None → waits.new ≡ waits.old }
     ensures others { (r : PlaceValue) → same_place at r ≡ false → target_of waits.new r ≡ target_of waits.old r }
     ensures drivers { waits.new.drivers ≡ waits.old.drivers }
@@ -49,7 +51,7 @@ impl Tables {
     pub fn moves_alone(&self, marks: &Marks, from: Place) -> bool
         requires marks { AreMarks self.now.drivers self.now.configuration marks.now }
         requires marked { has_mark marks.now.run from ≡ true }
-        ensures { IsTrue result → IsAlone self.now.drivers self.now.configuration (has_mark marks.now.run) (has_mark marks.now.wanted) from }
+        ensures { IsTrue result → MovesAlone self.now.drivers self.now.configuration marks.now from }
     {
         marks.run.has_at_most_one() && self.lists.queues.has_lone_message(from)
     }
@@ -75,11 +77,12 @@ impl Tables {
     // Where it comes to rest, within so many moves, of which it has made the first one.
     pub fn rest_of(&self, marks: &Marks, from: Place, first: Place, moves: u128) -> Rest
         requires sound { IsSound self.now.drivers self.now.configuration }
-        requires alone { IsAlone self.now.drivers self.now.configuration (has_mark marks.now.run) (has_mark marks.now.wanted) from }
+        requires alone { MovesAlone self.now.drivers self.now.configuration marks.now from }
         requires least { least_movable self.now.drivers self.now.configuration ≡ Some from }
         requires next { next_open_place self.now.drivers self.now.configuration from ≡ Some first }
         requires some { 0 < moves }
-        requires settled { IsSettled self.now.drivers (after_settling_within self.now.drivers moves self.now.configuration) }
+        requires settled { IsSettled self.now.drivers
+            (after_settling_within self.now.drivers moves self.now.configuration) }
         ensures way { (left : ℕ) × IsUnderWay self.now.drivers self.now.configuration moves from result.at left }
         ensures stays { (m : MessageValue) → first_message self.now.configuration.flow from ≡ Some m
             → StaysAt self.now.drivers self.now.configuration result.at m result.waits }
@@ -116,12 +119,14 @@ impl Tables {
     pub fn come_to_rest(&mut self, marks: &mut Marks, from: Place, rest: Rest)
         requires sound { IsSound self.old.drivers self.old.configuration }
         requires marks { AreMarks self.old.drivers self.old.configuration marks.old }
-        requires alone { IsAlone self.old.drivers self.old.configuration (has_mark marks.old.run) (has_mark marks.old.wanted) from }
+        requires alone { MovesAlone self.old.drivers self.old.configuration marks.old from }
         requires some { IsSome (first_message self.old.configuration.flow from) }
-        requires way { (moves : ℕ) × (left : ℕ) × IsUnderWay self.old.drivers self.old.configuration moves from rest.at left }
+        requires way { (moves : ℕ) × (left : ℕ)
+            × IsUnderWay self.old.drivers self.old.configuration moves from rest.at left }
         requires stays { (m : MessageValue) → first_message self.old.configuration.flow from ≡ Some m
             → StaysAt self.old.drivers self.old.configuration rest.at m rest.waits }
-        ensures value { self.new ≡ record self.old { configuration = moved self.old.drivers self.old.configuration from rest.at } }
+        ensures value { self.new
+            ≡ record self.old { configuration = moved self.old.drivers self.old.configuration from rest.at } }
         ensures marks { AreMarks self.new.drivers self.new.configuration marks.new }
         ensures none { HasNoRunMark (has_mark marks.new.run) }
     {

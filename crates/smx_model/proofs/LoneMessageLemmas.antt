@@ -1,6 +1,6 @@
 -- A message that moves on alone: what it changes, how it passes a place, and where it comes to rest.
-use Rattle.std.proofs.Common.{◌≡◌, ℕ, zero, suc, ◌-◌, ◌<◌, Bool, true, false, ◌&&◌, ◌||◌, not, cond, eqb, List, [], ◌∷◌}
-use Rattle.std.proofs.Common.{◌++◌, length, filter, find, drop, Option, Some, None, refl, sym, ap, ◌∙◌, subst, arith}
+use Rattle.std.proofs.Common.{◌≡◌, ℕ, zero, suc, ◌-◌, ◌<◌, Bool, true, false, ◌&&◌, not, cond, eqb, List, [], ◌∷◌}
+use Rattle.std.proofs.Common.{length, filter, drop, Option, Some, None, refl, sym, ap, ◌∙◌, subst, arith}
 use Rattle.std.proofs.Common.{inl, inr}
 use mathlib.Core.Logic.{◌⊎◌}
 use Rattle.std.specs.Prelude.{◌≢◌, nat_lt, slice_get}
@@ -18,7 +18,7 @@ use Rattle.smx_types.specs.declared.stream.Side.TheVariants as side
 use Rattle.smx_types.specs.declared.stream.StreamId.{StreamId}
 use Rattle.smx_model.specs.Configuration.{Configuration, QueuedMessage, is_at, place_before, queued_before, same_place}
 use Rattle.smx_model.specs.Configuration.{same_side, same_stream}
-use Rattle.smx_model.specs.DriverList.{high_of, low_of}
+use Rattle.smx_model.specs.DriverList.{low_of}
 use Rattle.smx_model.specs.FlowOrder.{IsInOrder}
 use Rattle.smx_model.specs.KeptConfigurations.{IsSound}
 use Rattle.smx_model.specs.LoneMessages.{IsAlone, IsClosed, IsUnderWay, StaysAt, lead_on, leads, moved}
@@ -26,21 +26,20 @@ use Rattle.smx_model.specs.Ordered.{with_inserted, without_first}
 use Rattle.smx_model.specs.Paths.{HasNoCycle, reaches}
 use Rattle.smx_model.specs.Queues.{after_arrival, after_leaving, bytes_at, first_message, full_after_leaving, is_full}
 use Rattle.smx_model.specs.Queues.{queue, with_mark}
-use Rattle.smx_model.specs.RunMarks.{AreMarked, both, can_feed, feeds, is_held_up, is_one_of, is_waiting, next_of}
-use Rattle.smx_model.specs.RunMarks.{is_below_driver, leads_to, next_of_first, nowhere}
+use Rattle.smx_model.specs.RunMarks.{AreMarked, both, is_held_up, is_one_of, is_waiting, next_of}
+use Rattle.smx_model.specs.RunMarks.{leads_to, next_of_first, nowhere}
 use Rattle.smx_model.specs.Settling.{IsSettled, after_move, after_move_to, after_settling_within, is_movable}
 use Rattle.smx_model.specs.Settling.{◌>>=◌, least_movable, next_open_place, next_place}
-use Rattle.smx_model.specs.SettlingByMarks.{IsLeastMarked}
 use Rattle.smx_model.proofs.KeptLemmas.{moved_sound}
 use Rattle.smx_model.proofs.KnownPlaceLemmas.{next_known}
 use Rattle.smx_model.proofs.OrderLemmas.{order_without, same_not_before, same_self}
 use Rattle.smx_model.proofs.PathLemmas.{reaches_path, reaches_trans}
-use Rattle.smx_model.proofs.QueueLemmas.{arrived_queue, front_is, least_is, left_queue, marked_full}
+use Rattle.smx_model.proofs.QueueLemmas.{arrived_queue, front_is, left_queue, marked_full}
 use Rattle.smx_model.proofs.SettlingByMarksLemmas.{marked_is_least, none_is_least, settling_moves, settling_stays}
 use Rattle.smx_model.proofs.SettlingLemmas.{same_place_is}
 use Rattle.smx_model.proofs.TurningCommandLemmas.{keyed}
 use Rattle.smx_model.proofs.TurningLemmas.{arrived_more, feeders, left_keeps}
-use Rattle.smx_model.proofs.WaitingLemmas.{first_arrived, first_left, keeps_by, movable_by, next_of_same, waiting_stays}
+use Rattle.smx_model.proofs.WaitingLemmas.{first_arrived, first_left, keeps_by, next_of_same, waiting_stays}
 
 -- ---- what a message that moved left, and where it is
 
@@ -68,7 +67,8 @@ other_first : (drivers : List DriverSpec) (c : Configuration) (p q r : Place) (m
     → (same_place q r ≡ true → first_message c.flow q ≢ None)
     → first_message (moved drivers c p q).flow r ≡ first_message c.flow r
 other_first drivers c p q r m o e apart some = rw (moved_is drivers c p q m e)
-    (first_arrived (after_leaving drivers c p).flow q r m (order_without (is_at p) c.flow o) (asleep (cases_Bool (same_place q r)))
+    (first_arrived (after_leaving drivers c p).flow q r m (order_without (is_at p) c.flow o)
+    (asleep (cases_Bool (same_place q r)))
     ∙ first_left c.flow p r apart) where
       there : (o : Option Message) → o ≢ None → not (is_some o) ≡ false
       there None n = absurd (n refl)
@@ -78,7 +78,8 @@ other_first drivers c p q r m o e apart some = rw (moved_is drivers c p q m e)
           → (same_place q r && not (is_some (first_message (after_leaving drivers c p).flow q))) ≡ false
       asleep (inr f) = rw f refl
       asleep (inl t) = rw t (there _ (λ none. some t
-          (sym (first_left c.flow p q (subst (λ (x : Place). same_place p x ≡ false) (sym (same_place_is q r t)) apart)) ∙ none)))
+          (sym (first_left c.flow p q
+          (subst (λ (x : Place). same_place p x ≡ false) (sym (same_place_is q r t)) apart)) ∙ none)))
 
 -- in an empty place it is the first
 first_there : (drivers : List DriverSpec) (c : Configuration) (p q : Place) (m : Message) → IsInOrder c.flow
@@ -125,8 +126,8 @@ pub other_next : (drivers : List DriverSpec) (c : Configuration) (p q r : Place)
     → first_message c.flow p ≡ Some m → same_place p r ≡ false
     → (same_place q r ≡ true → first_message c.flow q ≢ None)
     → next_of_first drivers (moved drivers c p q) r ≡ next_of_first drivers c r
-other_next drivers c p q r m o e apart some = next_of_same drivers c (moved drivers c p q) r (rw e refl) (rw e refl) (rw e refl)
-    (rw e refl) (other_first drivers c p q r m o e apart some)
+other_next drivers c p q r m o e apart some = next_of_same drivers c (moved drivers c p q) r (rw e refl) (rw e refl)
+    (rw e refl) (rw e refl) (other_first drivers c p q r m o e apart some)
 
 pub left_next : (drivers : List DriverSpec) (c : Configuration) (p q : Place) (m : Message) → IsInOrder c.flow
     → first_message c.flow p ≡ Some m → same_place p q ≡ false → length (queue c.flow p) ≡ 1
@@ -189,9 +190,11 @@ inserted_goes q (p ∷ ps) none = elim (cases_Bool (same_place q p)) [
 -- a mark that is set and taken away leaves the others as they were
 unmarked_again : (q : Place) (full : Bool) (ps : List Place) → list_any (same_place q) ps ≡ false
     → with_mark q false (with_mark q full ps) ≡ ps
-unmarked_again q true ps none = ap (λ (rs : List Place). filter (λ r. not (same_place q r)) (with_inserted place_before rs q))
+unmarked_again q true ps none = ap
+    (λ (rs : List Place). filter (λ r. not (same_place q r)) (with_inserted place_before rs q))
     (without_other q ps none) ∙ inserted_goes q ps none
-unmarked_again q false ps none = ap (λ (rs : List Place). filter (λ r. not (same_place q r)) rs) (without_other q ps none)
+unmarked_again q false ps none =
+    ap (λ (rs : List Place). filter (λ r. not (same_place q r)) rs) (without_other q ps none)
     ∙ without_other q ps none
 
 none_below : (n : ℕ) → nat_lt n 0 ≡ false
@@ -275,12 +278,14 @@ leads_away links p q none h = false_from_ne_true _ (λ t. back p.side
 -- ---- who waits, once it has moved
 
 -- a place without a run mark waits on
-waits_on : (drivers : List DriverSpec) (c : Configuration) (run wanted more : Place → Bool) (p q r : Place) (m : Message)
+waits_on : (drivers : List DriverSpec) (c : Configuration) (run wanted more : Place → Bool) (p q r : Place)
+    (m : Message)
     → IsInOrder c.flow → IsAlone drivers c run wanted p → first_message c.flow p ≡ Some m → same_place p r ≡ false
     → (same_place q r ≡ true → first_message c.flow q ≢ None) → ((s : Place) → wanted s ≡ true → more s ≡ true)
     → is_waiting drivers (moved drivers c p q) more r ≡ true
 waits_on drivers c run wanted more p q r m o h e apart some fewer =
-    keeps_by c (moved drivers c p q) wanted more (next_of_first drivers c r) (next_of_first drivers (moved drivers c p q) r)
+    keeps_by c (moved drivers c p q) wanted more (next_of_first drivers c r)
+    (next_of_first drivers (moved drivers c p q) r)
     (inl (other_next drivers c p q r m o e apart some))
     (λ s at t. let k = and_parts (is_full c s) (wanted s) t in
     and_from _ _ (full_stays drivers c p q s m e h.not_full k.0) (fewer s k.1))
@@ -317,7 +322,8 @@ none_marked drivers c run wanted p q m waits o h e apart stays r u =
 
       closed : (o : Option Place) → IsClosed c o → is_held_up d (both wanted (λ r. is_one_of (same_place r) o)) o ≡ true
       closed None k = refl
-      closed (Some s) k = and_from _ _ (full_stays drivers c p q s m e h.not_full k) (or_right (wanted s) _ (same_self s))
+      closed (Some s) k =
+          and_from _ _ (full_stays drivers c p q s m e h.not_full k) (or_right (wanted s) _ (same_self s))
 
       by : (same_place p r ≡ true) ⊎ (same_place p r ≡ false) → (same_place q r ≡ true) ⊎ (same_place q r ≡ false)
           → StaysAt drivers c q m waits → is_waiting drivers d more r ≡ true
@@ -436,13 +442,16 @@ pub passes : (drivers : List DriverSpec) (c : Configuration) (run wanted : Place
     → IsSettled drivers (after_settling_within drivers moves c) → IsUnderWay drivers c moves p q left
     → first_message c.flow q ≡ None → next_place drivers c q m.addr ≡ Some r → is_full c r ≡ false
     → (0 < left) × IsUnderWay drivers c moves p r (left - 1)
-passes drivers c run wanted p q r m moves left h alone e settled way none next room = (some, record {
-  led = led;
-  known = next_known drivers d q r way.sound.known first;
-  not_full = room;
-  sound = subst (IsSound drivers) went (moved_sound drivers d q way.sound);
-  comes_to = one_less drivers left d (moved drivers c p r) q some least went ∙ way.comes_to;
-}) where
+passes drivers c run wanted p q r m moves left h alone e settled way none next room = (
+  some,
+  record {
+    led = led;
+    known = next_known drivers d q r way.sound.known first;
+    not_full = room;
+    sound = subst (IsSound drivers) went (moved_sound drivers d q way.sound);
+    comes_to = one_less drivers left d (moved drivers c p r) q some least went ∙ way.comes_to;
+  },
+) where
   d : Configuration
   d = moved drivers c p q
 
@@ -484,7 +493,8 @@ pub rests : (drivers : List DriverSpec) (c : Configuration) (run wanted : Place 
     → first_message c.flow p ≡ Some m → IsUnderWay drivers c moves p q left → StaysAt drivers c q m waits
     → moved drivers c p q ≡ after_settling_within drivers moves c
 rests drivers c run wanted p q m moves left waits h alone e way stays =
-    sym (settling_stays drivers left (moved drivers c p q) (none_is_least drivers (moved drivers c p q) way.sound.ordered.flow settled))
+    sym (settling_stays drivers left (moved drivers c p q)
+    (none_is_least drivers (moved drivers c p q) way.sound.ordered.flow settled))
     ∙ way.comes_to where
       settled : IsSettled drivers (moved drivers c p q)
       settled r = waiting_stays drivers (moved drivers c p q) (both wanted (λ s. is_one_of (same_place s) waits)) r

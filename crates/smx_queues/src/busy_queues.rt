@@ -99,7 +99,8 @@ impl BusyQueues {
     // Whether there is just one message, and the place is not full.
     pub fn has_lone_message(&self, p: PlaceId) -> bool
         requires { IsPlace self.now.queues p }
-        ensures { result ≡ ((length (queue_at self.now.queues p).messages == 1) && not (queue_at self.now.queues p).full) }
+        ensures { result
+            ≡ ((length (queue_at self.now.queues p).messages == 1) && not (queue_at self.now.queues p).full) }
     {
         self.queues.message_count(p) == 1 && !self.queues.is_full(p)
     }

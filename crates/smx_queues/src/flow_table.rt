@@ -88,7 +88,8 @@ impl FlowTable {
 
     /// Whether there is just one message at the place, and the place is not full. Takes no memory.
     pub fn has_lone_message(&self, place: Place) -> bool
-        ensures { result ≡ ((length (queue self.now.flow place) == 1) && not (list_any (same_place place) self.now.fulls)) }
+        ensures { result
+            ≡ ((length (queue self.now.flow place) == 1) && not (list_any (same_place place) self.now.fulls)) }
     {
         match self.places.number(place) {
             Some(p) => self.queues.has_lone_message(p),

@@ -125,9 +125,10 @@ impl PlaceMarks {
         MarkedPlaces::new(&self.places, &self.bytes, self.span)
     }
 
-    /// Whether it is certain that no two places are marked. A mark that was taken away may still count. Takes no memory.
+    /// Whether it is certain that no two places are marked. One that was marked may still count. Takes no memory.
     pub fn has_at_most_one(&self) -> bool
-        ensures { IsTrue result → (p q : Place) → has_mark self.now p ≡ true → has_mark self.now q ≡ true → same_place p q ≡ true }
+        ensures { IsTrue result → (p q : Place) → has_mark self.now p ≡ true → has_mark self.now q ≡ true
+            → same_place p q ≡ true }
     {
         let Span { first, end } = self.span;
         end <= first || end - first == 1

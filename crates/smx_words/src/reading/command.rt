@@ -82,7 +82,8 @@ fn command_after(alloc: Global, verb: Verb, rest: &[u8]) -> Result<Option<Comman
     }
 }
 
-#[inline(always)]
+// Each of these is apart: a function sets its locals to zero as it begins, and one that has all of them in it has many.
+#[inline(never)]
 pub(super) fn clone(rest: &[u8]) -> Option<Command>
     ensures { IsReadAs FitsCommand command_words (line_of (codes "clone" ∷ rest.now ∷ [])) result }
 {
@@ -90,7 +91,7 @@ pub(super) fn clone(rest: &[u8]) -> Option<Command>
     Some(Command::OpenClone { driver })
 }
 
-#[inline(always)]
+#[inline(never)]
 pub(super) fn open(rest: &[u8]) -> Option<Command>
     ensures { IsReadAs FitsCommand command_words (line_of (codes "open" ∷ rest.now ∷ [])) result }
 {
@@ -101,7 +102,7 @@ pub(super) fn open(rest: &[u8]) -> Option<Command>
     Some(Command::OpenMinor { driver, minor })
 }
 
-#[inline(always)]
+#[inline(never)]
 pub(super) fn dup(rest: &[u8]) -> Option<Command>
     ensures { IsReadAs FitsCommand command_words (line_of (codes "dup" ∷ rest.now ∷ [])) result }
 {
@@ -109,7 +110,7 @@ pub(super) fn dup(rest: &[u8]) -> Option<Command>
     Some(Command::Dup { fd })
 }
 
-#[inline(always)]
+#[inline(never)]
 pub(super) fn close(rest: &[u8]) -> Option<Command>
     ensures { IsReadAs FitsCommand command_words (line_of (codes "close" ∷ rest.now ∷ [])) result }
 {
@@ -117,7 +118,7 @@ pub(super) fn close(rest: &[u8]) -> Option<Command>
     Some(Command::Close { fd })
 }
 
-#[inline(always)]
+#[inline(never)]
 pub(super) fn link(rest: &[u8]) -> Option<Command>
     ensures { IsReadAs FitsCommand command_words (line_of (codes "link" ∷ rest.now ∷ [])) result }
 {
@@ -126,7 +127,7 @@ pub(super) fn link(rest: &[u8]) -> Option<Command>
     Some(Command::Link { fd, arg })
 }
 
-#[inline(always)]
+#[inline(never)]
 pub(super) fn plink(rest: &[u8]) -> Option<Command>
     ensures { IsReadAs FitsCommand command_words (line_of (codes "plink" ∷ rest.now ∷ [])) result }
 {
@@ -135,7 +136,7 @@ pub(super) fn plink(rest: &[u8]) -> Option<Command>
     Some(Command::Plink { fd, arg })
 }
 
-#[inline(always)]
+#[inline(never)]
 pub(super) fn unlink(rest: &[u8]) -> Option<Command>
     ensures { IsReadAs FitsCommand command_words (line_of (codes "unlink" ∷ rest.now ∷ [])) result }
 {
@@ -144,7 +145,7 @@ pub(super) fn unlink(rest: &[u8]) -> Option<Command>
     Some(Command::Unlink { fd, which })
 }
 
-#[inline(always)]
+#[inline(never)]
 pub(super) fn punlink(rest: &[u8]) -> Option<Command>
     ensures { IsReadAs FitsCommand command_words (line_of (codes "punlink" ∷ rest.now ∷ [])) result }
 {
@@ -153,7 +154,7 @@ pub(super) fn punlink(rest: &[u8]) -> Option<Command>
     Some(Command::Punlink { fd, which })
 }
 
-#[inline(always)]
+#[inline(never)]
 pub(super) fn bind(rest: &[u8]) -> Option<Command>
     ensures { IsReadAs FitsCommand command_words (line_of (codes "bind" ∷ rest.now ∷ [])) result }
 {
@@ -162,7 +163,7 @@ pub(super) fn bind(rest: &[u8]) -> Option<Command>
     Some(Command::Bind { fd, addr })
 }
 
-#[inline(always)]
+#[inline(never)]
 pub(super) fn unbind(rest: &[u8]) -> Option<Command>
     ensures { IsReadAs FitsCommand command_words (line_of (codes "unbind" ∷ rest.now ∷ [])) result }
 {
@@ -170,7 +171,7 @@ pub(super) fn unbind(rest: &[u8]) -> Option<Command>
     Some(Command::Unbind { fd })
 }
 
-#[inline(always)]
+#[inline(never)]
 pub(super) fn route(rest: &[u8]) -> Option<Command>
     ensures { IsReadAs FitsCommand command_words (line_of (codes "route" ∷ rest.now ∷ [])) result }
 {
@@ -180,7 +181,7 @@ pub(super) fn route(rest: &[u8]) -> Option<Command>
     Some(Command::Route { fd, addr, id })
 }
 
-#[inline(always)]
+#[inline(never)]
 pub(super) fn unroute(rest: &[u8]) -> Option<Command>
     ensures { IsReadAs FitsCommand command_words (line_of (codes "unroute" ∷ rest.now ∷ [])) result }
 {
@@ -189,7 +190,7 @@ pub(super) fn unroute(rest: &[u8]) -> Option<Command>
     Some(Command::Unroute { fd, addr })
 }
 
-#[inline(always)]
+#[inline(never)]
 pub(super) fn read(rest: &[u8]) -> Option<Command>
     ensures { IsReadAs FitsCommand command_words (line_of (codes "read" ∷ rest.now ∷ [])) result }
 {
@@ -197,7 +198,7 @@ pub(super) fn read(rest: &[u8]) -> Option<Command>
     Some(Command::Read { fd })
 }
 
-#[inline(always)]
+#[inline(never)]
 pub(super) fn flush(rest: &[u8]) -> Option<Command>
     ensures { IsReadAs FitsCommand command_words (line_of (codes "flush" ∷ rest.now ∷ [])) result }
 {
@@ -206,7 +207,7 @@ pub(super) fn flush(rest: &[u8]) -> Option<Command>
     Some(Command::Flush { fd, sides })
 }
 
-#[inline(always)]
+#[inline(never)]
 pub(super) fn transmit(rest: &[u8]) -> Option<Command>
     ensures { IsReadAs FitsCommand command_words (line_of (codes "transmit" ∷ rest.now ∷ [])) result }
 {
@@ -217,7 +218,7 @@ pub(super) fn transmit(rest: &[u8]) -> Option<Command>
     Some(Command::Transmit { driver, minor })
 }
 
-#[inline(always)]
+#[inline(never)]
 pub(super) fn hangup(rest: &[u8]) -> Option<Command>
     ensures { IsReadAs FitsCommand command_words (line_of (codes "hangup" ∷ rest.now ∷ [])) result }
 {
@@ -228,7 +229,7 @@ pub(super) fn hangup(rest: &[u8]) -> Option<Command>
     Some(Command::Hangup { driver, minor })
 }
 
-#[inline(always)]
+#[inline(never)]
 pub(super) fn write(alloc: Global, rest: &[u8]) -> Result<Option<Command>, NoMemory>
     ensures reading { IfOk result (IsReadAs FitsCommand command_words (line_of (codes "write" ∷ rest.now ∷ []))) }
     ensures wanted { IfErr result (λ _. IsLineOf (FitsCommandIn V1) command_words (line_of (codes "write" ∷ rest.now ∷ []))) }
@@ -247,7 +248,7 @@ pub(super) fn write(alloc: Global, rest: &[u8]) -> Result<Option<Command>, NoMem
     Ok(Some(Command::Write { fd, addr, bytes }))
 }
 
-#[inline(always)]
+#[inline(never)]
 pub(super) fn inject(alloc: Global, rest: &[u8]) -> Result<Option<Command>, NoMemory>
     ensures reading { IfOk result (IsReadAs FitsCommand command_words (line_of (codes "inject" ∷ rest.now ∷ []))) }
     ensures wanted { IfErr result (λ _. IsLineOf (FitsCommandIn V1) command_words (line_of (codes "inject" ∷ rest.now ∷ []))) }

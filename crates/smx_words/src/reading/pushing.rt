@@ -20,7 +20,6 @@ use std::alloc::Global;
 /// Puts the command whose words a line is behind the others, if it is one's that a version can tell, and says whether
 /// it is. Fails only for want of memory, and then the line is such a command's. Quicker than `command_of`, which has to
 /// hand the command on.
-#[inline(always)]
 #[tactic(auto, using(crate::proofs::PushLemmas::is_pushed))]
 pub fn push_command(
     commands: &mut Vec<Command>,

@@ -64,10 +64,12 @@ returns-clause-marks c = subst (λ (m : Machine). AreMarks m.drivers m.configura
         stays = c.requires.stays m.0 m.1;
         left = c.lone_messages_change_two.ensures.left drivers now (has_mark old.run) (has_mark old.wanted) from at m.0
             c.requires.sound c.requires.alone m.1 apart;
-        first = λ none. c.lone_messages_change_two.ensures.first drivers now from at m.0 c.requires.sound m.1 apart none;
-        others = λ r f some. c.lone_messages_change_two.ensures.others drivers now from at r m.0 c.requires.sound m.1 f some;
-        full = λ r k. c.lone_messages_change_two.ensures.full drivers now (has_mark old.run) (has_mark old.wanted) from at r
-            m.0 c.requires.alone m.1 k;
+        first = λ none.
+            c.lone_messages_change_two.ensures.first drivers now from at m.0 c.requires.sound m.1 apart none;
+        others = λ r f some.
+            c.lone_messages_change_two.ensures.others drivers now from at r m.0 c.requires.sound m.1 f some;
+        full = λ r k. c.lone_messages_change_two.ensures.full drivers now (has_mark old.run) (has_mark old.wanted)
+            from at r m.0 c.requires.alone m.1 k;
       }
 
       rests : AreRested from at waits old new

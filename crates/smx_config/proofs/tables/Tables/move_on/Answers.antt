@@ -1,4 +1,4 @@
-use Rattle.smx_config.proofs.NextPlaceLemmas.{IsOpenNext, open_next}
+use Rattle.smx_config.proofs.NextPlaceLemmas.{open_next}
 use Rattle.smx_config.proofs.tables.Tables.move_on.Goals as goal
 
 pub carry-requires : goal.carry-requires

@@ -1,8 +1,8 @@
-use Rattle.std.proofs.Common.{◌≡◌, ◌∙◌, ◌-◌, ◌<◌, ap, arith, inl, refl, sym}
+use Rattle.std.proofs.Common.{◌∙◌, ◌-◌, ◌<◌, ap, arith, inl, refl, sym}
 use Rattle.smx_model.specs.LoneMessages.{IsUnderWay}
 use Rattle.smx_model.specs.Settling.{next_place}
 use Rattle.smx_queues.specs.PlaceMarks.{has_mark}
-use Rattle.smx_config.proofs.LoneMessageLemmas.{closed, opened, some_message, the_message, told_some}
+use Rattle.smx_config.proofs.LoneMessageLemmas.{opened, some_message, the_message, told_some}
 use Rattle.smx_config.proofs.NeededLemmas.{told_none}
 use Rattle.smx_config.proofs.tables.Tables.rest_of.Goals as goal
 

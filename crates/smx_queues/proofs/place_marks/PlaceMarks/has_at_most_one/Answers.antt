@@ -11,5 +11,6 @@ returns-then-end-first c = λ is p q h k. one_marked c.self.inside.places.places
 
 pub returns-else-end-first : goal.returns-else-end-first
 returns-else-end-first c = λ is p q h k. one_marked c.self.inside.places.places c.self.inside.bytes.items
-    c.self.inside.span.first c.self.inside.span.end c.args.self.now p q c.self.invariant.1 (omega (arith, eqb-true _ 1 is))
+    c.self.inside.span.first c.self.inside.span.end c.args.self.now p q c.self.invariant.1
+    (omega (arith, eqb-true _ 1 is))
     (ap (λ (m : MarkList). m.marked) c.self.view_is) h k
