@@ -9,7 +9,7 @@ ghost use Rattle.smx_words.specs.Spelling.{command_words};
 ghost use Rattle.smx_words.specs.Verbs.{verb_word};
 ghost use Rattle.smx_words.specs.Words.{SPACE, line_of};
 ghost use Rattle.smx_words.specs.declared.reading.verb.Verb.{Verb as AnyVerb};
-ghost use Rattle.smx_words.specs.declared.reading.verb.Verb.TheVariants.{Hangup as HangupVerb};
+ghost use Rattle.smx_words.specs.declared.reading.verb.Verb.TheVariants.{Hangup as HangupVerb, Inject as InjectVerb, Write as WriteVerb};
 
 use crate::reading::hex_word::bytes_of;
 use crate::reading::number::{first_number, number};
@@ -59,26 +59,38 @@ fn command_after(alloc: Global, verb: Verb, rest: &[u8]) -> Result<Option<Comman
     ensures reading { IfOk result (IsReadAs FitsCommand command_words (line_of (verb_word verb ∷ rest.now ∷ []))) }
     ensures wanted { IfErr result (λ _. IsLineOf (FitsCommandIn V1) command_words (line_of (verb_word verb ∷ rest.now ∷ []))) }
 {
+    if let Verb::Write = verb {
+        return write(alloc, rest);
+    }
+    if let Verb::Inject = verb {
+        return inject(alloc, rest);
+    }
+    Ok(short_command(verb, rest))
+}
+
+// The same of a verb whose command has no message, for which no memory is wanted.
+pub(super) fn short_command(verb: Verb, rest: &[u8]) -> Option<Command>
+    ensures { verb ≢ WriteVerb → verb ≢ InjectVerb
+        → IsReadAs FitsCommand command_words (line_of (verb_word verb ∷ rest.now ∷ [])) result }
+{
     match verb {
-        Verb::Write => write(alloc, rest),
-        Verb::Inject => inject(alloc, rest),
-        Verb::Clone => Ok(clone(rest)),
-        Verb::Open => Ok(open(rest)),
-        Verb::Dup => Ok(dup(rest)),
-        Verb::Close => Ok(close(rest)),
-        Verb::Exit => Ok(None),
-        Verb::Link => Ok(link(rest)),
-        Verb::Plink => Ok(plink(rest)),
-        Verb::Unlink => Ok(unlink(rest)),
-        Verb::Punlink => Ok(punlink(rest)),
-        Verb::Bind => Ok(bind(rest)),
-        Verb::Unbind => Ok(unbind(rest)),
-        Verb::Route => Ok(route(rest)),
-        Verb::Unroute => Ok(unroute(rest)),
-        Verb::Read => Ok(read(rest)),
-        Verb::Flush => Ok(flush(rest)),
-        Verb::Transmit => Ok(transmit(rest)),
-        Verb::Hangup => Ok(hangup(rest)),
+        Verb::Write | Verb::Inject | Verb::Exit => None,
+        Verb::Clone => clone(rest),
+        Verb::Open => open(rest),
+        Verb::Dup => dup(rest),
+        Verb::Close => close(rest),
+        Verb::Link => link(rest),
+        Verb::Plink => plink(rest),
+        Verb::Unlink => unlink(rest),
+        Verb::Punlink => punlink(rest),
+        Verb::Bind => bind(rest),
+        Verb::Unbind => unbind(rest),
+        Verb::Route => route(rest),
+        Verb::Unroute => unroute(rest),
+        Verb::Read => read(rest),
+        Verb::Flush => flush(rest),
+        Verb::Transmit => transmit(rest),
+        Verb::Hangup => hangup(rest),
     }
 }
 
