@@ -1,43 +1,11 @@
 //! Queues of places: what arrives, leaves and moves, and the marks.
 
-ghost use Rattle.std.specs.Prelude.{◌≡◌, []};
-
 use super::queue_calls::{
-    add, add_all, clear, copied, has, listed, move_front, put, put_by_spare, take,
+    add, add_all, clear, copied, has, lists_so_many, move_front, put, put_by_spare, take,
 };
 use smx_queues::Queues;
-use smx_types::{Bytes, Message};
-use std::alloc::Global;
 use std::process::Abort;
 use std::test::Fail;
-
-// As the README of smx_queues has it.
-fn moves_on(rt: &(impl AllocGlobal + Abort), queues: &mut Queues) -> Result<(), Fail>
-    requires { queues.old.queues ≡ [] }
-{
-    let upper = queues.add_place(8, 3)?;
-    let lower = queues.add_place(1, 0)?;
-    queues.reserve_one()?;
-    let bytes = Bytes::from_vec(Vec::from_slice(rt.alloc(), b"ab")?);
-    queues.put(
-        upper,
-        Message {
-            serial: 1,
-            addr: 5,
-            bytes,
-        },
-    );
-    queues.move_front(upper, lower);
-    assert!(rt; queues.is_full(lower) && !queues.is_full(upper));
-    assert_eq!(rt; queues.bytes(lower), 2);
-    Ok(())
-}
-
-#[test]
-fn a_message_moves_on(rt: HostRuntime) -> Result<(), Fail> {
-    let mut queues = Queues::new(rt.alloc());
-    moves_on(&rt, &mut queues)
-}
 
 // The next place gets this number.
 fn adds(
@@ -45,237 +13,213 @@ fn adds(
     queues: &mut Queues,
     (high, low): (usize, usize),
     number: usize,
-) -> Result<(), Fail> {
-    let p = add(rt, queues, high, low)?;
-    assert_eq!(rt; p, number);
-    Ok(())
+) {
+    assert!(rt; add(rt, queues, high, low) == number);
 }
 
 // The message of this serial leaves, or none.
-fn takes(rt: &impl Abort, queues: &mut Queues, p: usize, serial: Option<u32>) -> Result<(), Fail> {
-    let taken = take(queues, p)?;
-    assert_eq!(rt; taken, serial);
+fn takes(rt: &impl Abort, queues: &mut Queues, p: usize, serial: Option<u32>) {
+    assert!(rt; take(rt, queues, p) == serial);
+}
+
+// As the README of smx_queues has it.
+fn moves_on(rt: &(impl AllocGlobal + Abort + Print), queues: &mut Queues) {
+    adds(rt, queues, (8, 3), 0);
+    adds(rt, queues, (1, 0), 1);
+    put(rt, queues, 0, 1, 2);
+    move_front(rt, queues, 0, 1);
+    has(rt, queues, 0, 0, false, &[]);
+    has(rt, queues, 1, 2, true, &[1]);
+}
+
+#[test]
+fn a_message_moves_on(rt: HostRuntime) -> Result<(), Fail> {
+    let mut queues = Queues::new(rt.alloc());
+    moves_on(&rt, &mut queues);
     Ok(())
 }
 
 // Two places, at the first of which two messages of four bytes arrive.
-fn add_two(rt: &(impl AllocGlobal + Abort + Print), queues: &mut Queues) -> Result<(), Fail> {
-    adds(rt, queues, (8, 3), 0)?;
-    adds(rt, queues, (1, 0), 1)?;
-    put(rt, queues, 0, 1, 4)?;
-    has(rt, queues, 0, 4, false, &[1])?;
-    put(rt, queues, 0, 2, 4)?;
-    has(rt, queues, 0, 8, true, &[1, 2])
+fn add_two(rt: &(impl AllocGlobal + Abort + Print), queues: &mut Queues) {
+    adds(rt, queues, (8, 3), 0);
+    adds(rt, queues, (1, 0), 1);
+    put(rt, queues, 0, 1, 4);
+    has(rt, queues, 0, 4, false, &[1]);
+    put(rt, queues, 0, 2, 4);
+    has(rt, queues, 0, 8, true, &[1, 2]);
 }
 
 type Want<'a> = (usize, bool, &'a [u32]);
 
 // Whether the queues have these at both places.
-fn at_both(
-    rt: &(impl Abort + Print),
-    queues: &Queues,
-    first: Want,
-    second: Want,
-) -> Result<(), Fail> {
-    has(rt, queues, 0, first.0, first.1, first.2)?;
-    has(rt, queues, 1, second.0, second.1, second.2)
+fn at_both(rt: &(impl Abort + Print), queues: &Queues, first: Want, second: Want) {
+    has(rt, queues, 0, first.0, first.1, first.2);
+    has(rt, queues, 1, second.0, second.1, second.2);
 }
 
 // Whether the queues and their copy have these at both places.
-fn both_have(
-    rt: &(impl AllocGlobal + Abort + Print),
-    queues: &Queues,
-    first: Want,
-    second: Want,
-) -> Result<(), Fail> {
-    at_both(rt, queues, first, second)?;
-    let again = copied(rt, queues)?;
-    at_both(rt, &again, first, second)
+fn both_have(rt: &(impl AllocGlobal + Abort + Print), queues: &Queues, first: Want, second: Want) {
+    at_both(rt, queues, first, second);
+    let again = copied(rt, queues);
+    at_both(rt, &again, first, second);
 }
 
-fn moves_across(rt: &(impl AllocGlobal + Abort + Print), queues: &mut Queues) -> Result<(), Fail> {
-    add_two(rt, queues)?;
-    takes(rt, queues, 0, Some(1))?;
-    both_have(rt, queues, (4, true, &[2]), (0, false, &[]))?;
-    move_front(queues, 0, 1)?;
-    both_have(rt, queues, (0, false, &[]), (4, true, &[2]))?;
-    clear(queues, 1)?;
-    both_have(rt, queues, (0, false, &[]), (0, false, &[]))?;
-    takes(rt, queues, 1, None)
+fn moves_across(rt: &(impl AllocGlobal + Abort + Print), queues: &mut Queues) {
+    add_two(rt, queues);
+    takes(rt, queues, 0, Some(1));
+    both_have(rt, queues, (4, true, &[2]), (0, false, &[]));
+    move_front(rt, queues, 0, 1);
+    both_have(rt, queues, (0, false, &[]), (4, true, &[2]));
+    clear(rt, queues, 1);
+    both_have(rt, queues, (0, false, &[]), (0, false, &[]));
+    takes(rt, queues, 1, None);
 }
 
 /// Two places, a move between them, and the marks on the way, with a copy after each step.
-pub fn marks_across_a_move(rt: &(impl AllocGlobal + Abort + Print)) -> Result<(), Fail> {
+pub fn marks_across_a_move(rt: &(impl AllocGlobal + Abort + Print)) {
     let mut queues = Queues::new(rt.alloc());
-    moves_across(rt, &mut queues)
+    moves_across(rt, &mut queues);
 }
 
 // A message of one byte for each serial from 1 on.
-fn fill(
-    rt: &(impl AllocGlobal + Print),
-    queues: &mut Queues,
-    p: usize,
-    count: u32,
-) -> Result<(), Fail> {
+fn fill(rt: &(impl AllocGlobal + Abort + Print), queues: &mut Queues, p: usize, count: u32) {
     for before in 0..count {
-        put(rt, queues, p, before + 1, 1)?;
+        put(rt, queues, p, before + 1, 1);
     }
-    Ok(())
 }
 
 // These serials leave in their order, from 1 to 4,096.
-fn take_all(rt: &impl Abort, queues: &mut Queues, p: usize) -> Result<(), Fail> {
+fn take_all(rt: &impl Abort, queues: &mut Queues, p: usize) {
     for serial in 1..4097u32 {
-        takes(rt, queues, p, Some(serial))?;
+        takes(rt, queues, p, Some(serial));
     }
-    Ok(())
 }
 
 fn is_marked(rt: &impl Abort, queues: &Queues, full: bool) {
     assert!(rt; queues.has_place(0) && queues.is_full(0) == full);
 }
 
-fn has_count(rt: &(impl Abort + Print), queues: &Queues, count: usize) -> Result<(), Fail> {
-    let serials = listed(rt, queues, 0)?;
-    assert_eq!(rt; serials.len(), count);
-    Ok(())
-}
-
-fn fills_and_empties(
-    rt: &(impl AllocGlobal + Abort + Print),
-    queues: &mut Queues,
-) -> Result<(), Fail> {
-    add(rt, queues, 4096, 4095)?;
-    fill(rt, queues, 0, 4095)?;
+fn fills_and_empties(rt: &(impl AllocGlobal + Abort + Print), queues: &mut Queues) {
+    add(rt, queues, 4096, 4095);
+    fill(rt, queues, 0, 4095);
     is_marked(rt, queues, false);
-    put(rt, queues, 0, 4096, 1)?;
+    put(rt, queues, 0, 4096, 1);
     is_marked(rt, queues, true);
-    has_count(rt, queues, 4096)?;
-    take_all(rt, queues, 0)?;
-    has(rt, queues, 0, 0, false, &[])
+    lists_so_many(rt, queues, 0, 4096);
+    take_all(rt, queues, 0);
+    has(rt, queues, 0, 0, false, &[]);
 }
 
 #[test]
 fn a_queue_of_4096_messages(rt: HostRuntime) -> Result<(), Fail> {
     let mut queues = Queues::new(rt.alloc());
-    fills_and_empties(&rt, &mut queues)
-}
-
-fn move_all(queues: &mut Queues) -> Result<(), Fail> {
-    for _i in 0..4096 {
-        move_front(queues, 0, 1)?;
-    }
+    fills_and_empties(&rt, &mut queues);
     Ok(())
 }
 
-fn fills_and_moves(
-    rt: &(impl AllocGlobal + Abort + Print),
-    queues: &mut Queues,
-) -> Result<(), Fail> {
-    add_all(rt, queues, 2, 4096, 0)?;
-    fill(rt, queues, 0, 4096)?;
-    move_all(queues)?;
-    has(rt, queues, 0, 0, false, &[])?;
-    take_all(rt, queues, 1)
+fn move_all(rt: &impl Abort, queues: &mut Queues) {
+    for _i in 0..4096 {
+        move_front(rt, queues, 0, 1);
+    }
+}
+
+fn fills_and_moves(rt: &(impl AllocGlobal + Abort + Print), queues: &mut Queues) {
+    add_all(rt, queues, 2, 4096, 0);
+    fill(rt, queues, 0, 4096);
+    move_all(rt, queues);
+    has(rt, queues, 0, 0, false, &[]);
+    take_all(rt, queues, 1);
 }
 
 #[test]
 fn a_full_queue_moves_in_order(rt: HostRuntime) -> Result<(), Fail> {
     let mut queues = Queues::new(rt.alloc());
-    fills_and_moves(&rt, &mut queues)
+    fills_and_moves(&rt, &mut queues);
+    Ok(())
 }
 
 // Messages arrive for as long as there is room, and none is reserved.
-fn fill_the_room(alloc: Global, queues: &mut Queues, p: usize) -> Result<(), Fail> {
+fn fill_the_room(rt: &(impl AllocGlobal + Abort), queues: &mut Queues, p: usize) {
     for serial in 1..4096u32 {
         if !queues.has_spare() {
-            return Ok(());
+            return;
         }
-        put_by_spare(alloc, queues, p, serial, 1)?;
+        put_by_spare(rt, queues, p, serial, 1);
     }
-    Err(Fail::new("room for more than can be"))
+    panic!(rt; "room for more than can be");
 }
 
 // The entry of the message that left serves the next one.
-fn round(rt: &(impl AllocGlobal + Abort), queues: &mut Queues, serial: u32) -> Result<(), Fail> {
-    move_front(queues, 0, 1)?;
-    assert!(rt; take(queues, 1)?.is_some());
-    put_by_spare(rt.alloc(), queues, 0, serial, 1)?;
+fn round(rt: &(impl AllocGlobal + Abort), queues: &mut Queues, serial: u32) {
+    move_front(rt, queues, 0, 1);
+    assert!(rt; take(rt, queues, 1).is_some());
+    put_by_spare(rt, queues, 0, serial, 1);
     assert!(rt; !queues.has_spare());
-    Ok(())
 }
 
-fn goes_round(rt: &(impl AllocGlobal + Abort + Print), queues: &mut Queues) -> Result<(), Fail> {
-    add_all(rt, queues, 2, 4096, 3)?;
-    put(rt, queues, 0, 4096, 1)?;
-    fill_the_room(rt.alloc(), queues, 0)?;
+fn goes_round(rt: &(impl AllocGlobal + Abort + Print), queues: &mut Queues) {
+    add_all(rt, queues, 2, 4096, 3);
+    put(rt, queues, 0, 4096, 1);
+    fill_the_room(rt, queues, 0);
     for serial in 1..10_001u32 {
-        round(rt, queues, serial)?;
+        round(rt, queues, serial);
     }
-    Ok(())
 }
 
 // The store is as small after all rounds as before.
 #[test]
 fn rounds_take_no_memory(rt: HostRuntime) -> Result<(), Fail> {
     let mut queues = Queues::new(rt.alloc());
-    goes_round(&rt, &mut queues)
+    goes_round(&rt, &mut queues);
+    Ok(())
 }
 
 // The places 0, 1 and 2; a message arrives at each of the last two.
-fn add_three(rt: &(impl AllocGlobal + Print), queues: &mut Queues) -> Result<(), Fail> {
-    add_all(rt, queues, 3, 8, 3)?;
-    put(rt, queues, 1, 1, 8)?;
-    put(rt, queues, 2, 2, 4)
+fn add_three(rt: &(impl AllocGlobal + Abort + Print), queues: &mut Queues) {
+    add_all(rt, queues, 3, 8, 3);
+    put(rt, queues, 1, 1, 8);
+    put(rt, queues, 2, 2, 4);
 }
 
-fn drops_and_adds(
-    rt: &(impl AllocGlobal + Abort + Print),
-    queues: &mut Queues,
-) -> Result<(), Fail> {
-    add_three(rt, queues)?;
+fn drops_and_adds(rt: &(impl AllocGlobal + Abort + Print), queues: &mut Queues) {
+    add_three(rt, queues);
     queues.drop_place(1);
     queues.drop_place(1);
     queues.drop_place(9);
     assert!(rt; !queues.has_place(1) && !queues.has_place(3));
-    adds(rt, queues, (4, 1), 1)?;
-    has(rt, queues, 1, 0, false, &[])?;
-    has(rt, queues, 2, 4, false, &[2])?;
-    adds(rt, queues, (4, 1), 3)
+    adds(rt, queues, (4, 1), 1);
+    has(rt, queues, 1, 0, false, &[]);
+    has(rt, queues, 2, 4, false, &[2]);
+    adds(rt, queues, (4, 1), 3);
 }
 
 #[test]
 fn numbers_are_given_again(rt: HostRuntime) -> Result<(), Fail> {
     let mut queues = Queues::new(rt.alloc());
-    drops_and_adds(&rt, &mut queues)
+    drops_and_adds(&rt, &mut queues);
+    Ok(())
 }
 
 // What leaves the queues stays in their copy.
-fn go_apart(
-    rt: &(impl Abort + Print),
-    queues: &mut Queues,
-    again: &mut Queues,
-) -> Result<(), Fail> {
+fn go_apart(rt: &(impl Abort + Print), queues: &mut Queues, again: &mut Queues) {
     assert!(rt; !again.has_place(0) && again.has_place(1) && !again.has_place(3));
-    has(rt, again, 2, 8, true, &[1])?;
-    takes(rt, queues, 2, Some(1))?;
-    has(rt, again, 2, 8, true, &[1])?;
-    adds(rt, again, (8, 3), 0)
+    has(rt, again, 2, 8, true, &[1]);
+    takes(rt, queues, 2, Some(1));
+    has(rt, again, 2, 8, true, &[1]);
+    adds(rt, again, (8, 3), 0);
 }
 
-fn leaves_its_copy(
-    rt: &(impl AllocGlobal + Abort + Print),
-    queues: &mut Queues,
-) -> Result<(), Fail> {
-    add_all(rt, queues, 3, 8, 3)?;
-    put(rt, queues, 2, 1, 8)?;
+fn leaves_its_copy(rt: &(impl AllocGlobal + Abort + Print), queues: &mut Queues) {
+    add_all(rt, queues, 3, 8, 3);
+    put(rt, queues, 2, 1, 8);
     queues.drop_place(0);
-    let mut again = copied(rt, queues)?;
-    go_apart(rt, queues, &mut again)
+    let mut again = copied(rt, queues);
+    go_apart(rt, queues, &mut again);
 }
 
 #[test]
 fn a_copy_has_the_same_gaps(rt: HostRuntime) -> Result<(), Fail> {
     let mut queues = Queues::new(rt.alloc());
-    leaves_its_copy(&rt, &mut queues)
+    leaves_its_copy(&rt, &mut queues);
+    Ok(())
 }
