@@ -199,11 +199,20 @@ fn moves(rt: &(impl AllocGlobal + Abort), table: &mut FlowTable)
     both_have(rt, table, &[3, 2, 1], &[3, 2, 1], &[UP]);
 }
 
+// The message of this serial leaves, or none.
+fn takes(rt: &impl Abort, table: &mut FlowTable, place: Place, wanted: Option<u32>) {
+    let serial = match table.take(place) {
+        Some(message) => Some(message.serial),
+        None => None,
+    };
+    assert!(rt; serial == wanted);
+}
+
 // The full place is emptied by one message, and another place is dropped.
 fn empties(rt: &(impl AllocGlobal + Abort), table: &mut FlowTable) {
     assert!(rt; serial(table.front(UP)) == Some(1));
-    assert!(rt; table.take(UP).is_some());
-    assert!(rt; table.take(UP).is_none());
+    takes(rt, table, UP, Some(1));
+    takes(rt, table, UP, None);
     drops(rt, table, DOWN, &[3]);
     both_have(rt, table, &[2], &[2], &[]);
 }

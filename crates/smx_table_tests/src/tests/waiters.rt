@@ -58,6 +58,8 @@ fn do_acts(rt: &impl Abort, waiters: &mut Waiters, acts: &[Act]) {
     }
 }
 
+const NONE: [Act; 1] = [Act::Are(&[])];
+
 // Four places wait: one for another than at first. Driver 0 has no minor 2.
 const FOUR: [Act; 6] = [
     Act::Wait((0, Side::Read), (1, Side::Write)),
@@ -104,18 +106,23 @@ fn go_apart(rt: &impl Abort, waiters: &mut Waiters, same: &mut Waiters) {
     do_acts(rt, same, &ALL);
 }
 
+fn copied(rt: &(impl AllocGlobal + Abort), waiters: &Waiters) -> Waiters {
+    waiters.copy(rt.alloc()).ok().expect(rt, "memory")
+}
+
 fn wait_for_one_each(rt: &(impl AllocGlobal + Abort), waiters: &mut Waiters) {
-    do_acts(rt, waiters, &[Act::Are(&[])]);
+    do_acts(rt, waiters, &NONE);
     do_acts(rt, waiters, &FOUR);
     do_acts(rt, waiters, &ALL);
-    let mut same = waiters.copy(rt.alloc()).ok().expect(rt, "memory");
+    let mut same = copied(rt, waiters);
     go_apart(rt, waiters, &mut same);
 }
 
-// The copy of waiters of which one waits.
-fn has_room_for_all(rt: &impl Abort, same: &mut Waiters) {
-    do_acts(rt, same, &FOUR);
-    do_acts(rt, same, &THREE);
+// The copy of waiters of which one waits has room for all.
+fn has_room_for_all(rt: &(impl AllocGlobal + Abort), waiters: &Waiters) {
+    let mut same = copied(rt, waiters);
+    do_acts(rt, &mut same, &FOUR);
+    do_acts(rt, &mut same, &THREE);
 }
 
 fn new_waiters(rt: &(impl AllocGlobal + Abort)) -> Waiters {
@@ -128,7 +135,6 @@ fn new_waiters(rt: &(impl AllocGlobal + Abort)) -> Waiters {
 fn places_wait_for_one_each(rt: HostRuntime) -> Result<(), Fail> {
     let mut waiters = new_waiters(&rt);
     wait_for_one_each(&rt, &mut waiters);
-    let mut same = waiters.copy(rt.alloc()).ok().expect(&rt, "memory");
-    has_room_for_all(&rt, &mut same);
+    has_room_for_all(&rt, &waiters);
     Ok(())
 }
