@@ -10,7 +10,7 @@ use std::test::Fail;
 
 type CommandLine = (Call<'static>, &'static [u8]);
 
-const LINES: [CommandLine; 23] = [
+const LINES: &[CommandLine] = &[
     (Call::Clone("eth"), b"clone eth"),
     (Call::Open("eth", 1), b"open eth 1"),
     (Call::Dup(2), b"dup 2"),
@@ -59,7 +59,7 @@ fn is_line_of(rt: &(impl AllocGlobal + Abort), (call, line): CommandLine) {
 
 #[test]
 fn each_command_has_its_line(rt: HostRuntime) -> Result<(), Fail> {
-    for pair in &LINES {
+    for pair in LINES {
         is_line_of(&rt, *pair);
     }
     Ok(())

@@ -10,7 +10,7 @@ use std::test::Fail;
 
 type EntryLine = (u32, Call<'static>, Answer<'static>, &'static [u8]);
 
-const LINES: [EntryLine; 8] = [
+const LINES: &[EntryLine] = &[
     (
         63,
         Call::Open("a", 10),
@@ -46,7 +46,7 @@ const LINES: [EntryLine; 8] = [
     ),
 ];
 
-const FAULTS: [(Fault, &[u8]); 16] = [
+const FAULTS: &[(Fault, &[u8])] = &[
     (Fault::BadDescriptor, b"0 exit = EBADF fd"),
     (Fault::Below, b"0 exit = EINVAL below"),
     (Fault::NotMux, b"0 exit = EINVAL notmux"),
@@ -92,7 +92,7 @@ fn is_line_of(rt: &(impl AllocGlobal + Abort), (number, call, answer, line): Ent
 
 #[test]
 fn each_reply_has_its_words(rt: HostRuntime) -> Result<(), Fail> {
-    for row in &LINES {
+    for row in LINES {
         is_line_of(&rt, *row);
     }
     Ok(())
@@ -100,7 +100,7 @@ fn each_reply_has_its_words(rt: HostRuntime) -> Result<(), Fail> {
 
 #[test]
 fn each_fault_has_its_words(rt: HostRuntime) -> Result<(), Fail> {
-    for (fault, line) in &FAULTS {
+    for (fault, line) in FAULTS {
         is_line_of(&rt, (0, Call::Exit, Answer::Refused(*fault), *line));
     }
     Ok(())

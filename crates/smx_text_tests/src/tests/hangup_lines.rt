@@ -3,7 +3,7 @@
 use super::command_lines::of_one as program_of_one;
 use super::entry_lines::of_one;
 use super::headers::{PROGRAMS, TRANSCRIPTS, behind};
-use super::lists::given;
+use super::lists::{given, put};
 use super::spelling::{is_spelled, is_written_again};
 use super::{program_faults, transcript_faults};
 use smx_samples::{Answer, Call, entry_of, named, nothing_open};
@@ -85,7 +85,7 @@ fn add_hung(rt: &impl Abort, view: &mut ConfigView, minor: u32) {
         driver: given(rt, named("eth")),
         minor,
     };
-    assert!(rt; view.hungs.push(hung).is_ok());
+    put(rt, &mut view.hungs, hung);
 }
 
 /// A transcript of hung-up streams alone.

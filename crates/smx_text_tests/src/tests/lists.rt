@@ -12,10 +12,15 @@ pub fn given<T: Drop>(rt: &impl Abort, made: Result<T, Fail>) -> T {
     }
 }
 
+/// The list has this one too.
+pub fn put<T: Drop>(rt: &impl Abort, items: &mut Items<T>, item: T) {
+    assert!(rt; items.push(item).is_ok());
+}
+
 /// The list of this one.
 pub fn alone<T: Drop>(rt: &(impl AllocGlobal + Abort), item: T) -> Items<T> {
     let mut items = Items::new(rt.alloc());
-    assert!(rt; items.push(item).is_ok());
+    put(rt, &mut items, item);
     items
 }
 

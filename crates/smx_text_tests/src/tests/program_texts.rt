@@ -1,6 +1,6 @@
 //! Programs and their texts.
 
-use super::lists::{given, one_program};
+use super::lists::{given, one_program, put};
 use super::spelling::{is_spelled, is_written_again};
 use smx_samples::{ip, named};
 use smx_types::{Command, Commands, Items, Programs};
@@ -14,10 +14,10 @@ pub const OPENS_AND_CLOSES: &[u8] =
 fn opening_and_closing(rt: &(impl AllocGlobal + Abort)) -> Commands {
     let driver = given(rt, named("ip"));
     let mut commands = Items::new(rt.alloc());
-    assert!(rt; commands.push(Command::OpenClone { driver }).is_ok());
-    assert!(rt; commands.push(Command::OpenClone { driver }).is_ok());
-    assert!(rt; commands.push(Command::Close { fd: 0 }).is_ok());
-    assert!(rt; commands.push(Command::OpenClone { driver }).is_ok());
+    put(rt, &mut commands, Command::OpenClone { driver });
+    put(rt, &mut commands, Command::OpenClone { driver });
+    put(rt, &mut commands, Command::Close { fd: 0 });
+    put(rt, &mut commands, Command::OpenClone { driver });
     commands
 }
 

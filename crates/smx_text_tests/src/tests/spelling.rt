@@ -10,6 +10,9 @@ pub trait Spelled: PartialEq + Drop {
     /// Its text.
     fn written(&self, alloc: Global) -> Option<Vec<u8>>;
 
+    /// The first version that can tell it.
+    fn first(&self) -> Version;
+
     /// What this text spells.
     fn read(alloc: Global, text: &[u8]) -> Option<Self>
     where
@@ -19,6 +22,10 @@ pub trait Spelled: PartialEq + Drop {
 impl Spelled for Programs {
     fn written(&self, alloc: Global) -> Option<Vec<u8>> {
         write_programs(alloc, self).ok()
+    }
+
+    fn first(&self) -> Version {
+        self.least()
     }
 
     fn read(alloc: Global, text: &[u8]) -> Option<Programs> {
@@ -35,6 +42,10 @@ impl Spelled for Transcript {
         write_transcript(alloc, self).ok()
     }
 
+    fn first(&self) -> Version {
+        self.least()
+    }
+
     fn read(alloc: Global, text: &[u8]) -> Option<Transcript> {
         read_transcript(alloc, text).ok()
     }
@@ -44,6 +55,11 @@ impl Spelled for Transcript {
 fn has_text<T: Spelled>(rt: &(impl AllocGlobal + Abort), value: &T, text: &[u8]) {
     let written = value.written(rt.alloc()).expect(rt, "a text");
     assert!(rt; written.as_slice() == text);
+}
+
+/// This is the first version that can tell it.
+pub fn is_first<T: Spelled>(rt: &impl Abort, value: T, version: Version) {
+    assert!(rt; value.first() == version);
 }
 
 /// It is written as this text.

@@ -3,9 +3,9 @@
 use super::command_lines::of_one as program_of_one;
 use super::entry_lines::of_one;
 use super::headers::{PROGRAMS, behind};
-use super::lists::given;
+use super::lists::{given, put};
 use super::program_texts::{OPENS_AND_CLOSES, opens_and_closes};
-use super::spelling::is_spelled;
+use super::spelling::{is_first, is_spelled};
 use smx_samples::{Answer, Call, entry_of, leaves, longest_transcript, named};
 use smx_types::{Fault, HungLine, Items, Programs, Transcript, Version};
 use std::process::Abort;
@@ -47,11 +47,6 @@ fn programs_of_each_version(rt: HostRuntime) -> Result<(), Fail> {
     Ok(())
 }
 
-// This is the first version that can tell it.
-fn is_least(rt: &impl Abort, transcript: Transcript, version: Version) {
-    assert!(rt; transcript.least() == version);
-}
-
 fn told(rt: &(impl AllocGlobal + Abort), call: Call, answer: Answer) -> Transcript {
     of_one(rt, given(rt, entry_of(rt.alloc(), (call, answer))))
 }
@@ -72,7 +67,7 @@ const ENTRIES: [Told; 6] = [
 ];
 
 fn is_least_of(rt: &(impl AllocGlobal + Abort), (call, answer, version): Told) {
-    is_least(rt, told(rt, call, answer), version);
+    is_first(rt, told(rt, call, answer), version);
 }
 
 #[test]
@@ -89,13 +84,13 @@ fn with_a_hung_up_stream(rt: &(impl AllocGlobal + Abort)) -> Transcript {
         minor: 0,
     };
     let mut transcript = told(rt, Call::Exit, Answer::Done(&[]));
-    assert!(rt; transcript.view.hungs.push(hung).is_ok());
+    put(rt, &mut transcript.view.hungs, hung);
     transcript
 }
 
 #[test]
 fn a_view_with_a_hung_up_stream_and_128_drivers(rt: HostRuntime) -> Result<(), Fail> {
-    is_least(&rt, with_a_hung_up_stream(&rt), Version::V2);
-    is_least(&rt, given(&rt, longest_transcript(rt.alloc())), Version::V2);
+    is_first(&rt, with_a_hung_up_stream(&rt), Version::V2);
+    is_first(&rt, given(&rt, longest_transcript(rt.alloc())), Version::V2);
     Ok(())
 }

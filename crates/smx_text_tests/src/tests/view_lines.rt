@@ -1,6 +1,6 @@
 //! The groups of a view, as they are written.
 
-use super::lists::given;
+use super::lists::{given, put};
 use super::spelling::is_written;
 use smx_samples::{items, named, nothing_open, open_on_ip};
 use smx_types::{
@@ -22,9 +22,9 @@ fn linked(rt: &impl Abort, id: u32, kind: LinkKind) -> LinkLine {
 }
 
 fn add_links(rt: &impl Abort, view: &mut ConfigView) {
-    assert!(rt; view.fds.push(given(rt, open_on_ip(0, 0))).is_ok());
-    assert!(rt; view.links.push(linked(rt, 0, LinkKind::Ordinary)).is_ok());
-    assert!(rt; view.links.push(linked(rt, 1, LinkKind::Persistent)).is_ok());
+    put(rt, &mut view.fds, given(rt, open_on_ip(0, 0)));
+    put(rt, &mut view.links, linked(rt, 0, LinkKind::Ordinary));
+    put(rt, &mut view.links, linked(rt, 1, LinkKind::Persistent));
 }
 
 fn add_addresses(rt: &impl Abort, view: &mut ConfigView) {
@@ -34,13 +34,13 @@ fn add_addresses(rt: &impl Abort, view: &mut ConfigView) {
         addr: 9,
         minor: 1,
     };
-    assert!(rt; view.binds.push(bound).is_ok());
+    put(rt, &mut view.binds, bound);
     let routed = RouteLine {
         driver,
         addr: 5,
         id: 2,
     };
-    assert!(rt; view.routes.push(routed).is_ok());
+    put(rt, &mut view.routes, routed);
 }
 
 fn queued(rt: &(impl AllocGlobal + Abort), side: Side, serial: u32, payload: &[u8]) -> MessageLine {
@@ -62,13 +62,13 @@ fn add_messages(rt: &(impl AllocGlobal + Abort), view: &mut ConfigView) {
             .push(queued(rt, Side::Write, 3, &[0, 0, 0, 3]))
             .is_ok()
     );
-    assert!(rt; view.msgs.push(queued(rt, Side::Read, 4, &[188])).is_ok());
+    put(rt, &mut view.msgs, queued(rt, Side::Read, 4, &[188]));
     let full = FullLine {
         driver: given(rt, named("eth")),
         minor: 0,
         side: Side::Write,
     };
-    assert!(rt; view.fulls.push(full).is_ok());
+    put(rt, &mut view.fulls, full);
 }
 
 const GROUPS: &[u8] = b"transcript 1
