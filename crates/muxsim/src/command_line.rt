@@ -17,8 +17,8 @@ const MOST_WORKERS: usize = 64;
 // What `--version` shows behind the program's name.
 const VERSION: &str = "0.1.0";
 
-/// What the words ask for, of which the first is the program's name. Any other words than `run`, with
-/// `--workers`, `--fronts` and `--explain` or without, `check`, with `--explain` or without, `replay`, `draw`, with `--dot` or
+/// What the words ask for, of which the first is the program's name. Any other words than `run`, with `--workers`,
+/// `--fronts` and `--explain` or without, `check`, with `--explain` or without, `replay`, `draw`, with `--dot` or
 /// without, and `live` are clap's error, and so is a request for help or the version; want of memory is its kind
 /// `OutOfMemory`.
 pub fn job<'a, S: AsStr>(alloc: Global, words: &'a [S]) -> Result<Job, Error>

@@ -17,9 +17,9 @@ ghost use Rattle.muxsim.specs.Ends.{Devices, EndsCheck, EndsDraw, EndsJob, EndsL
 ghost use Rattle.muxsim.specs.declared.jobs.Job.{Job as AnyJob};
 ghost use Rattle.muxsim.specs.declared.jobs.Job.TheVariants.{Live};
 
-/// The status 0 tells that the job was done: what was written for the input is what was asked for, all of it, and flushed.
-/// Of a check it tells that the transcript is legal, and the status 4 that it is judged otherwise, whether that is explained
-/// or not. Of a live session it tells that it is over, and that what was written is its answers.
+/// The status 0 tells that the job was done: what was written for the input is what was asked for, all of it, and
+/// flushed. Of a check it tells that the transcript is legal, and the status 4 that it is judged otherwise, whether
+/// that is explained or not. Of a live session it tells that it is over, and that what was written is its answers.
 pub fn a_status_tells_what_was_done()
     ensures run { (fronts : Bool) (workers : ℕ) (d : Devices) (code : ExitCode) (input output : List ℕ)
         → EndsRun fronts workers d code → Writes d input output → exit_status code ≡ 0
@@ -41,8 +41,8 @@ pub fn a_status_tells_what_was_done()
         → (d.flushed ≡ true) × (v : Verdict) × (v ≢ Legal) × GivesFor (judging explain) input v output }
 {}
 
-/// The status 5 tells that a device failed, and no other does; 1 and 3 tell that nothing was written, unless by a live session;
-/// 2 is that of no job, and 4 that of no run, no replay, no drawing and no live session.
+/// The status 5 tells that a device failed, and no other does; 1 and 3 tell that nothing was written, unless by a live
+/// session; 2 is that of no job, and 4 that of no run, no replay, no drawing and no live session.
 pub fn a_status_tells_what_failed()
     ensures failed { (job : AnyJob) (d : Devices) (code : ExitCode) → EndsJob job d code
         → (exit_status code ≡ 5) ↔ ((d.read_failures ≡ 1) ⊎ (d.write_failures ≡ 1)) }

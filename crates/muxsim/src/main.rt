@@ -1,5 +1,5 @@
-//! Runs programs against a STREAMS multiplexer and writes the transcript, judges, replays or draws a transcript, or answers
-//! commands line by line.
+//! Runs programs against a STREAMS multiplexer and writes the transcript, judges, replays or draws a transcript, or
+//! answers commands line by line.
 #![tactic(auto)]
 
 mod command_line;

@@ -12,6 +12,7 @@ pub mod WakeLemmas
 pub mod StayingLemmas
 pub mod WokenLemmas
 pub mod NextMoveLemmas
+pub mod LoneMessageLemmas
 pub mod SettleLemmas
 pub mod MoveLemmas
 pub mod NextPlaceLemmas

@@ -6,6 +6,7 @@ use Rattle.smx_types.specs.declared.stream.Place.{Place}
 use Rattle.smx_types.specs.declared.stream.Side.TheVariants as side
 use Rattle.smx_model.specs.Configuration.{Configuration, QueuedMessage, same_place, same_side}
 use Rattle.smx_model.specs.KnownStreams.{IsKnown}
+use Rattle.smx_model.specs.LoneMessages.{IsAlone}
 use Rattle.smx_model.specs.Queues.{first_message, is_full}
 use Rattle.smx_model.specs.RunMarks.{all_but, is_below_driver, next_of_first}
 use Rattle.smx_model.specs.SettlingByMarks.{HasItsMarks, MarkedConfiguration}
@@ -30,6 +31,10 @@ pub record AreMarks (drivers : List DriverSpec) (c : Configuration) (m : Marks) 
   pub waiting : HasItsMarks drivers (marked_configuration c m)
   pub full : (p : Place) → has_mark m.wanted p ≡ true → is_full c p ≡ true
   pub held_up : (p q : Place) → has_mark m.run p ≡ false → next_of_first drivers c p ≡ Some q → IsNotedFor m p q
+
+-- by these marks, the message at the place is the only one that may move on
+abbrev pub MovesAlone : List DriverSpec → Configuration → Marks → Place → Type 0
+MovesAlone drivers c m p = IsAlone drivers c (has_mark m.run) (has_mark m.wanted) p
 
 -- a write side of the driver's streams
 abbrev pub is_write_of : ℕ → Place → Bool

@@ -95,8 +95,8 @@ impl Config {
     }
 
     /// `step` with its reply twice. The memory of the second one is taken before the first change too, so that `read`
-    /// and `transmit` take some, for a message that they deliver. `dup`, `unbind`, `unroute`, `hangup` and every refusal
-    /// take no memory, so they are always answered.
+    /// and `transmit` take some, for a message that they deliver. `dup`, `unbind`, `unroute`, `hangup` and every
+    /// refusal take no memory, so they are always answered.
     pub fn step_twin(
         &mut self,
         process: Process,

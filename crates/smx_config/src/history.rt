@@ -29,8 +29,8 @@ fn gets_its_reply(config: &mut Config, entry: &Entry) -> Result<bool, NoMemory>
     Ok(reply.is_same(&entry.reply))
 }
 
-// Gives the commands of the entries again, from the empty configuration on: the number of the first entry whose reply is
-// another.
+// Gives the commands of the entries again, from the empty configuration on: the number of the first entry whose reply
+// is another.
 fn first_illegal(config: &mut Config, entries: &[Entry]) -> Result<Option<usize>, NoMemory>
     requires { config.old.configuration ≡ empty }
     ensures drivers { config.new.drivers ≡ config.old.drivers }

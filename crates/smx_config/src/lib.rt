@@ -13,6 +13,7 @@ mod history;
 pub mod laws_of_drivers;
 pub mod laws_of_verdicts;
 mod laws_of_waking;
+mod lone_messages;
 mod lookups;
 mod marks;
 mod next_places;

@@ -7,9 +7,9 @@ use smx_queues::{PlaceMarks, Waiters};
 use smx_types::{DriverSpec, NoMemory};
 use std::alloc::Global;
 
-/// Two marks for each place: a run mark where the first message may be able to move on, and a wanted mark where a full place
-/// holds up another place's first message. And the places whose first message may be held up, each with the place that
-/// holds it up.
+/// Two marks for each place: a run mark where the first message may be able to move on, and a wanted mark where a full
+/// place holds up another place's first message. And the places whose first message may be held up, each with the place
+/// that holds it up.
 #[derive(Debug, Drop)]
 pub struct Marks {
     pub run: PlaceMarks,

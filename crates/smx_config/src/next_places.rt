@@ -46,7 +46,7 @@ impl Tables {
     }
 
     // The next place of a message of this address.
-    fn next_place(&self, place: Place, addr: u32) -> Option<Place>
+    pub fn next_place(&self, place: Place, addr: u32) -> Option<Place>
         ensures { result ≡ next_place self.now.drivers self.now.configuration place addr }
     {
         let stream = place.stream;
@@ -62,8 +62,8 @@ impl Tables {
         }
     }
 
-    // Whether a message may go on from the place: it is the write side of a multiplexing driver's stream, or the read side
-    // of a stream that is below a link.
+    // Whether a message may go on from the place: it is the write side of a multiplexing driver's stream, or the read
+    // side of a stream that is below a link.
     pub fn leads_on(&self, place: Place) -> bool
         ensures { result ≡ false → next_of_first self.now.drivers self.now.configuration place ≡ None }
     {

@@ -16,6 +16,7 @@ ghost use Rattle.smx_config.specs.Marking.{AreMarks};
 use crate::laws_of_waking::moved_marks_are_enough;
 use crate::marks::Marks;
 use crate::tables::Tables;
+use smx_model::laws_of_lone_messages::lone_messages_come_to_rest;
 use smx_model::laws_of_run_marks::{
     places_are_known, the_least_marked_is_the_least, without_marks_it_is_settled,
 };
@@ -32,7 +33,7 @@ pub struct Move {
 }
 
 // Marks the place that is waited for, if there is one.
-fn mark_wanted(wanted: &mut PlaceMarks, next: Option<Place>)
+pub fn mark_wanted(wanted: &mut PlaceMarks, next: Option<Place>)
     ensures there { (q : PlaceValue) → next ≡ Some q → IsKnown wanted.old.drivers q.stream → has_mark wanted.new q ≡ true }
     ensures kept { (q : PlaceValue) → has_mark wanted.old q ≡ true → has_mark wanted.new q ≡ true }
     ensures few { (q : PlaceValue) → has_mark wanted.new q ≡ true → (has_mark wanted.old q ≡ true) ⊎ (next ≡ Some q) }
@@ -57,7 +58,7 @@ fn note_waiting(waits: &mut Waiters, from: Place, next: Option<Place>)
 
 impl Tables {
     // The place, unless it is full.
-    fn if_open(&self, place: Option<Place>) -> Option<Place>
+    pub fn if_open(&self, place: Option<Place>) -> Option<Place>
         ensures { result ≡ if_open self.now.configuration place }
     {
         let place = place?;
@@ -128,8 +129,7 @@ impl Tables {
         requires open { next_open_place self.old.drivers self.old.configuration next.from ≡ Some next.to }
         ensures { self.new ≡ record self.old { configuration = after_move self.old.drivers self.old.configuration next.from } }
     {
-        self.lists.links.is_sound();
-        self.lists.queues.move_front(next.from, next.to);
+        self.carry(next.from, next.to);
     }
 
     // The first message of a place moves on, and what that wakes is marked.
@@ -149,7 +149,7 @@ impl Tables {
         marks.waits.clear(next.from);
     }
 
-    // Moves messages on until none can, and no run mark is left.
+    // Moves messages on until none can, and no run mark is left. A message that moves alone is moved once.
     pub fn settle(&mut self, marks: &mut Marks)
         requires sound { IsSound self.old.drivers self.old.configuration }
         requires marks { AreMarks self.old.drivers self.old.configuration marks.old }
@@ -157,6 +157,7 @@ impl Tables {
         ensures marks { AreMarks self.new.drivers self.new.configuration marks.new }
         ensures none { HasNoRunMark (has_mark marks.new.run) }
     {
+        lone_messages_come_to_rest();
         moves_keep_soundness();
         settling_suffices();
         let mut left = self.lists.queues.len() as u128 * self.drivers.len() as u128;
@@ -164,6 +165,11 @@ impl Tables {
             let Some(next) = self.next_move(marks) else {
                 return;
             };
+            if self.moves_alone(marks, next.from) {
+                let rest = self.rest_of(marks, next.from, next.to, left);
+                self.come_to_rest(marks, next.from, rest);
+                return;
+            }
             self.move_marked(marks, next);
             left -= 1;
         }

@@ -36,8 +36,8 @@ impl Model for Tables {
     ghost invariant = { TablesInvariant };
 }
 
-// In a sound configuration the table of streams has a stream exactly where it exists. It does nothing: a body that needs
-// this calls it.
+// In a sound configuration the table of streams has a stream exactly where it exists. It does nothing: a body that
+// needs this calls it.
 pub fn tells_existing(drivers: &[DriverSpec], lists: &Lists)
     requires kept { KeepsHolds lists.now }
     requires sound { IsSound drivers.now (configuration_of lists.now) }

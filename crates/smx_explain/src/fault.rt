@@ -9,8 +9,8 @@ use std::fmt;
 // How many columns of a line are shown.
 const COLUMNS: usize = 80;
 
-/// A text, and its fault. It prints two lines: the line at fault by its number, cut at 80 columns, and what is wrong with
-/// it. Where it is no line of such a text that is the column from which it is none, and what may stand there.
+/// A text, and its fault. It prints two lines: the line at fault by its number, cut at 80 columns, and what is wrong
+/// with it. Where it is no line of such a text that is the column from which it is none, and what may stand there.
 #[derive(Clone, Copy)]
 pub struct FaultExplanation<'a> {
     /// What the text was to be.
@@ -78,8 +78,8 @@ fn version_of(text: &[u8]) -> Version {
     }
 }
 
-// A line up to the last column that is shown, and two dots where it goes on. A byte that can't be seen, and a backslash,
-// are shown by their hex digits.
+// A line up to the last column that is shown, and two dots where it goes on. A byte that can't be seen, and a
+// backslash, are shown by their hex digits.
 fn write_cut<W: fmt::Write>(f: &mut fmt::Formatter<W>, line: &[u8]) -> fmt::Result {
     let mut left = COLUMNS;
     for byte in line {

@@ -67,8 +67,8 @@ pub fn a_run_of_one_process_has_one_answer()
     one_text_has_one_reading();
 }
 
-/// Programs that several workers have run aren't refused for their drivers, whether their fronts or a transcript came of
-/// them.
+/// Programs that several workers have run aren't refused for their drivers, whether their fronts or a transcript came
+/// of them.
 pub fn what_is_run_has_drivers()
     ensures { (fronts : Bool) (workers : ℕ) (input output : List ℕ) (done : Unit {0}) (fault : ConfigFault)
         → GivesFor (running fronts workers) input done output

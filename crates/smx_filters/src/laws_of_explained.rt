@@ -1,4 +1,5 @@
-//! Laws of checks that explain themselves, and of texts that are kept, each the contract of a function that does nothing.
+//! Laws of checks that explain themselves, and of texts that are kept, each the contract of a function that does
+//! nothing.
 
 ghost use Rattle.std.specs.Global.{Global};
 ghost use Rattle.std.specs.Prelude.{◌≡◌, ℕ, ◌++◌, Bool, List, [], Some, Result, Err, Vec};
@@ -24,8 +25,8 @@ pub fn an_explained_check_is_a_check()
     a_legal_transcript_needs_none();
 }
 
-/// What is said of an input in memory, by devices that don't fail, is what the filter says; and where the text is at fault,
-/// the whole input is kept.
+/// What is said of an input in memory, by devices that don't fail, is what the filter says; and where the text is at
+/// fault, the whole input is kept.
 pub fn faults_are_explained_in_memory()
     ensures check { (input left output : List ℕ) (ended flushed : Bool) (answer : Result Verdict AnyRefusal)
         → KeepsText explaining (Some input) (Some left) ended 0 (Some []) (Some output) flushed 0 answer

@@ -27,12 +27,12 @@ use std::alloc::Global;
 use std::sync::Wait;
 use std::thread::Threads;
 
-/// Reads the programs that `feed` has, has them run by so many workers, 1 to 64, and writes the transcript of the run to
-/// `sink`, in the version of the programs, or with `fronts` how far the history had come when each program had ended. One
-/// worker runs one program after the other, by rising number, so that its transcript is determined. Of several, each
-/// has a thread of its own; process p is run by worker p modulo `workers`. A worker tells the gate of each command.
-/// Neither device has failed before, and no read has shown the end. Faults are found in this order: reading, text,
-/// drivers, run, writing.
+/// Reads the programs that `feed` has, has them run by so many workers, 1 to 64, and writes the transcript of the run
+/// to `sink`, in the version of the programs, or with `fronts` how far the history had come when each program had
+/// ended. One worker runs one program after the other, by rising number, so that its transcript is determined. Of
+/// several, each has a thread of its own; process p is run by worker p modulo `workers`. A worker tells the gate of
+/// each command. Neither device has failed before, and no read has shown the end. Faults are found in this order:
+/// reading, text, drivers, run, writing.
 pub fn run_text<R: Threads + Wait + Sync, F: Feed, S: Sink, G: Gate + Sync>(
     rt: &R,
     alloc: Global,
@@ -172,8 +172,8 @@ fn fronts_of(alloc: Global, report: &Report) -> Result<Vec<u8>, NoMemory>
     Ok(fronts_text(alloc, report.fronts.as_slice())?)
 }
 
-// The transcript of a run on this thread alone, in the room that is given and in the version of the programs. The line of
-// each entry is written once its command was answered.
+// The transcript of a run on this thread alone, in the room that is given and in the version of the programs. The line
+// of each entry is written once its command was answered.
 fn transcript_of_one<G: Gate>(
     alloc: Global,
     room: Vec<u8>,

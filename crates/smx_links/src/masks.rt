@@ -117,8 +117,8 @@ fn clear(words: &mut [Word], stale: Word)
     }
 }
 
-// The masks of the links that are left, where some drivers have lost links: those of the drivers that have lost some, and
-// of those that led to one, are found anew, by how many links there are between each two drivers.
+// The masks of the links that are left, where some drivers have lost links: those of the drivers that have lost some,
+// and of those that led to one, are found anew, by how many links there are between each two drivers.
 pub fn renew(words: &mut [Word], pairs: &[Count], lost: Word)
     requires few { length words.old ≤ WORD_BITS }
     requires long { length pairs.now ≡ length words.old * length words.old }

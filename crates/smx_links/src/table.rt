@@ -166,7 +166,8 @@ impl LinkTable {
         renew(&mut self.masks, &self.pairs, lost);
     }
 
-    /// The link with the id. A look as far behind the first and as far before the last as its id is, else a binary search.
+    /// The link with the id. A look as far behind the first and as far before the last as its id is, else a binary
+    /// search.
     pub fn get(&self, id: u32) -> Option<&Link>
         ensures { option_copied result ≡ find (λ l. l.id == id) self.now.links }
     {

@@ -33,9 +33,9 @@ impl Inbox {
     }
 
     /// Reads until a whole line stands at the front of what is held, and answers how many bytes it has without its line
-    /// feed; none at the end of the feed, where what is held is no whole line. `TooLong` comes exactly for a line of more
-    /// than `MAX_INPUT` bytes, whole or not, `ReadFailed` exactly where a read failed; else memory was wanting. No read is
-    /// made where a whole line is held.
+    /// feed; none at the end of the feed, where what is held is no whole line. `TooLong` comes exactly for a line of
+    /// more than `MAX_INPUT` bytes, whole or not, `ReadFailed` exactly where a read failed; else memory was wanting. No
+    /// read is made where a whole line is held.
     pub fn next_line<F: Feed>(&mut self, feed: &mut F) -> Result<Option<usize>, MainFault>
         requires end { F.ended feed.old ≡ self.old.ended }
         requires fine_so_far { F.failures feed.old ≡ 0 }

@@ -45,8 +45,8 @@ pub fn a_session_has_one_output()
     one_value_each();
 }
 
-/// What a session has come of spells programs whose drivers are not refused. Neither its table nor a line that it has taken is
-/// longer than an input may be.
+/// What a session has come of spells programs whose drivers are not refused. Neither its table nor a line that it has
+/// taken is longer than an input may be.
 pub fn a_session_has_its_drivers()
     ensures text { (read output : List ℕ) (ended : Bool) (fault : TextFault) → HasComeSoFar read ended output
         → HasTableOf read ended (λ text. ReadsAny programs_grammar text (Err fault)) → fault.cause ≢ cause.NoMemory → ⊥ }
@@ -60,8 +60,8 @@ pub fn a_session_has_its_drivers()
     drivers_have_one_fault();
 }
 
-/// A worked session: what is read, and what is written. Its table is over behind its last driver, and at no other place; and
-/// what asks for the configuration or the end is not refused, as no line is performed that is none.
+/// A worked session: what is read, and what is written. Its table is over behind its last driver, and at no other
+/// place; and what asks for the configuration or the end is not refused, as no line is performed that is none.
 pub fn a_worked_live_session()
     ensures over { IsOver worked_input false worked_output }
     ensures table { IsTable false worked_table (codes "3 clone eth\n") }

@@ -61,7 +61,8 @@ fn make_room(text: &mut Vec<u8>, len: usize, count: usize) -> Result<(), NoMemor
 
 impl Talk {
     /// Performs the command of a line, and makes the line of its entry. Where it answers why not, nothing has changed.
-    /// The room for the line is taken first. `NoMemory` comes where that was not enough: the command was then performed.
+    /// The room for the line is taken first. `NoMemory` comes where that was not enough: the command was then
+    /// performed.
     pub fn perform(&mut self, alloc: Global, line: &[u8]) -> Result<Option<Wrong>, NoMemory>
         requires { AsksForNeither line.now }
         ensures { IfOk result (λ o. IsPerformed self.old.session self.old.count line.now o

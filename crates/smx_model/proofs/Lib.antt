@@ -39,6 +39,7 @@ pub mod TurningLemmas
 pub mod TurningCommandLemmas
 pub mod KnownPlaceLemmas
 pub mod SettlingByMarksLemmas
+pub mod LoneMessageLemmas
 pub mod MarkedPlaceLemmas
 pub mod FreedPlaceLemmas
 pub mod NearMarkLemmas

@@ -27,8 +27,8 @@ pub fn reports_are_legal()
         → IsReportOf programs report }
 {}
 
-/// Programs have one report for each order in which their commands were taken, in whichever version it is told: its
-/// drivers, replies and view follow.
+/// Programs have at most one report for each order in which their commands were taken, but for the version in which it
+/// is told: its drivers, replies and view follow.
 pub fn reports_are_determined()
     ensures { (programs : ProgramLists) (one other : Transcript) → IsReportOf programs one → IsReportOf programs other
         → map call_of one.entries ≡ map call_of other.entries → one ≡ record other { version = one.version } }

@@ -7,6 +7,7 @@ pub mod laws_of_hangups;
 pub mod laws_of_illegal_entries;
 pub mod laws_of_limits;
 pub mod laws_of_links;
+pub mod laws_of_lone_messages;
 pub mod laws_of_marked_commands;
 pub mod laws_of_marks;
 pub mod laws_of_messages;

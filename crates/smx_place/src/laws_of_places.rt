@@ -11,8 +11,8 @@ ghost use Rattle.smx_place.specs.declared.kinds.TextKind.TheVariants.{Programs, 
 ghost use Rattle.smx_place.specs.declared.kinds.Value.TheVariants as value;
 ghost use Rattle.smx_place.specs.declared.place.Place.{Place as AnyPlace};
 
-/// A line is one of a text, or it has a place, and never both. It has one place: one column, the same words that may stand
-/// there, and the end, if it may end there.
+/// A line is one of a text, or it has a place, and never both. It has one place: one column, the same words that may
+/// stand there, and the end, if it may end there.
 pub fn a_line_has_one_place()
     ensures column { (kind : AnyKind) (version : AnyVersion) (line : List ℕ) (one other : AnyPlace)
         → IsPlace kind version line one → IsPlace kind version line other → one.column ≡ other.column }

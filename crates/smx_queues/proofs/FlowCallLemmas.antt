@@ -1,7 +1,7 @@
 -- What a call on the queue of a number says of the flow and the full places.
 use Rattle.std.proofs.Common.{◌≡◌, ℕ, ◌<◌, arith, false, List, [], ◌∷◌, length, Option, Some, None, IsSome, refl, sym}
 use Rattle.std.proofs.Common.{ap, ◌∙◌, subst}
-use Rattle.std.specs.Prelude.{IfNone, OnSome, nat_lt, slice_get}
+use Rattle.std.specs.Prelude.{◌==◌, ◌&&◌, Bool, not, IfNone, OnSome, nat_lt, slice_get}
 use Rattle.std.specs.List.{list_any}
 use Rattle.std.specs.Option.{is_some}
 use Rattle.smx_types.specs.declared.message.Message.{Message}
@@ -58,6 +58,23 @@ pub queue_is_none : (p : PlaceList) (all : List (Option Queue)) (n : ℕ) (t : F
     → lists_of p all n ≡ t → list_any (same_place place) p.places ≡ false → [] ≡ queue t.flow place
 queue_is_none p all n t place seen none =
     sym (queue_none place p.places all none) ∙ ap (λ (x : FlowLists). queue x.flow place) seen
+
+-- the queue at a place's number has just one message and is not full exactly where that is so of the place
+pub lone_is : (p : PlaceList) (all : List (Option Queue)) (n : ℕ) (t : FlowLists) (place : Place) (i : ℕ)
+    → IsFlow p all → lists_of p all n ≡ t → slice_get p.places i ≡ Some place
+    → ((length (queue_at all i).messages == 1) && not (queue_at all i).full)
+    ≡ ((length (queue t.flow place) == 1) && not (list_any (same_place place) t.fulls))
+lone_is p all n t place i h seen at =
+    ap (λ (ms : List Message). (length ms == 1) && not (queue_at all i).full) (queue_is p all n t place i h seen at)
+    ∙ ap (λ (b : Bool). (length (queue t.flow place) == 1) && not b) (mark_is p all n t place i h seen at)
+
+-- a place that the drivers don't have has none
+pub lone_is_not : (p : PlaceList) (all : List (Option Queue)) (n : ℕ) (t : FlowLists) (place : Place)
+    → lists_of p all n ≡ t → list_any (same_place place) p.places ≡ false
+    → false ≡ ((length (queue t.flow place) == 1) && not (list_any (same_place place) t.fulls))
+lone_is_not p all n t place seen none =
+    ap (λ (ms : List Message). (length ms == 1) && not (list_any (same_place place) t.fulls))
+    (queue_is_none p all n t place seen none)
 
 -- ---- the law of the model says which message is the first
 

@@ -317,6 +317,36 @@ lies_within first end bytes k w one = (
   elim (cases_lt k end) [ inl lt ↦ lt | inr le ↦ absurd (false≢true (sym (w.none_behind k le) ∙ one)) ],
 )
 
+-- a marked place has a number, whose byte is 1
+marked_number : (places : List Place) (bytes : List ℕ) (p : Place)
+    → list_any (same_place p) (marked_of places bytes) ≡ true
+    → (i : ℕ) × (slice_get places i ≡ Some p) × (eqb (get_or bytes i 0) 1 ≡ true)
+marked_number [] bytes p h = absurd (false≢true h)
+marked_number (q ∷ places) [] p h = absurd (false≢true h)
+marked_number (q ∷ places) (b ∷ bytes) p h = elim (cases_Bool (eqb b 1)) [
+  | inl t ↦ elim (cases_Bool (same_place p q)) [
+    | inl s ↦ (0, ap (λ (x : Place). Some x) (sym (place_is p q s)), t)
+    | inr f ↦ later (marked_number places bytes p (rw (t, f) at h))
+  ]
+  | inr f ↦ later (marked_number places bytes p (rw f at h))
+] where
+  later : (i : ℕ) × (slice_get places i ≡ Some p) × (eqb (get_or bytes i 0) 1 ≡ true)
+      → (i : ℕ) × (slice_get (q ∷ places) i ≡ Some p) × (eqb (get_or (b ∷ bytes) i 0) 1 ≡ true)
+  later (i, at, one) = (suc i, at, one)
+
+-- where the marks lie within one number, all of them are of one place
+pub one_marked : (places : List Place) (bytes : List ℕ) (first end : ℕ) (t : MarkList) (p q : Place)
+    → AreWithin first end bytes → end ≤ first + 1 → marked_of places bytes ≡ t.marked → has_mark t p ≡ true
+    → has_mark t q ≡ true → same_place p q ≡ true
+one_marked places bytes first end t p q w few seen h k =
+    let i = marked_number places bytes p (ap (list_any (same_place p)) seen ∙ h) in
+    let j = marked_number places bytes q (ap (list_any (same_place q)) seen ∙ k) in
+    let a = lies_within first end bytes i.0 w i.2 in let b = lies_within first end bytes j.0 w j.2 in
+    let same : i.0 ≡ j.0 = omega (arith, a.0, a.1, b.0, b.1, few) in
+    is (sym i.1 ∙ (ap (slice_get places) same ∙ j.1)) where
+      is : ◌≡◌ {A = Option Place} (Some p) (Some q) → same_place p q ≡ true
+      is e = let x : p ≡ q = cc in subst (λ (y : Place). same_place p y ≡ true) x (place_self p)
+
 -- with a byte set to 1, the marks lie within wider bounds that hold it and the old ones
 pub marked_within : (first end low high : ℕ) (bytes : List ℕ) (i : ℕ) → AreWithin first end bytes → i < length bytes
     → low ≤ i → i < high → ((k : ℕ) → first ≤ k → k < end → (low ≤ k) × (k < high)) → high ≤ length bytes

@@ -1,6 +1,7 @@
 //! The queues of places, and which of them have messages.
 
 ghost use Rattle.std.specs.Prelude.{◌≡◌, ◌≢◌, ◌+◌, ◌<◌, ◌≤◌, [], ◌∷◌, ◌++◌, false, length, map, nat_lt, vec_capacity};
+ghost use Rattle.std.specs.Prelude.{◌==◌, ◌&&◌, not};
 ghost use Rattle.std.specs.Prelude.{Some, None, IfOk, IfNone, OnOk, OnSome, option_copied, slice_get};
 ghost use Rattle.std.specs.Prelude.{slice_index_or, slice_set};
 ghost use Rattle.smx_types.specs.declared.message.Message.{Message};
@@ -93,6 +94,15 @@ impl BusyQueues {
         ensures { result ≡ nat_lt 0 (length (queue_at self.now.queues p).messages) }
     {
         self.queues.message_count(p) > 0
+    }
+
+    // Whether there is just one message, and the place is not full.
+    pub fn has_lone_message(&self, p: PlaceId) -> bool
+        requires { IsPlace self.now.queues p }
+        ensures { result
+            ≡ ((length (queue_at self.now.queues p).messages == 1) && not (queue_at self.now.queues p).full) }
+    {
+        self.queues.message_count(p) == 1 && !self.queues.is_full(p)
     }
 
     pub fn messages(&self, p: PlaceId) -> Messages<'_>

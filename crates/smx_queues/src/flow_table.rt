@@ -1,7 +1,7 @@
 //! The queued messages and full marks of all places, by place.
 
 ghost use Rattle.std.specs.Prelude.{◌≡◌, ◌≢◌, ◌+◌, ◌<◌, ◌≤◌, ◌++◌, [], false, true, length, map, vec_capacity, None, Some};
-ghost use Rattle.std.specs.Prelude.{option_copied, IfOk, IfNone, IsSome, OnOk, OnSome};
+ghost use Rattle.std.specs.Prelude.{◌==◌, ◌&&◌, not, option_copied, IfOk, IfNone, IsSome, OnOk, OnSome};
 ghost use Rattle.std.specs.List.{All, list_any};
 ghost use Rattle.std.specs.Option.{is_some};
 ghost use Rattle.smx_types.specs.declared.message.Message.{Message};
@@ -82,6 +82,17 @@ impl FlowTable {
         the_first_leaves();
         match self.places.number(place) {
             Some(p) => self.queues.has_messages(p),
+            None => false,
+        }
+    }
+
+    /// Whether there is just one message at the place, and the place is not full. Takes no memory.
+    pub fn has_lone_message(&self, place: Place) -> bool
+        ensures { result
+            ≡ ((length (queue self.now.flow place) == 1) && not (list_any (same_place place) self.now.fulls)) }
+    {
+        match self.places.number(place) {
+            Some(p) => self.queues.has_lone_message(p),
             None => false,
         }
     }

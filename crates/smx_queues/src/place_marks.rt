@@ -1,6 +1,6 @@
 //! A mark for each place of some drivers.
 
-ghost use Rattle.std.specs.Prelude.{◌≡◌, ◌==◌, ◌<◌, [], true, false, length, slice_index, IfOk};
+ghost use Rattle.std.specs.Prelude.{◌≡◌, ◌==◌, ◌<◌, [], true, false, length, slice_index, IfOk, IsTrue};
 ghost use Rattle.smx_types.specs.declared.stream.Place.{Place};
 ghost use Rattle.smx_model.specs.Configuration.{same_place};
 ghost use Rattle.smx_model.specs.DriverList.{IsDriverList};
@@ -123,6 +123,15 @@ impl PlaceMarks {
         ensures { result ≡ self.now.marked }
     {
         MarkedPlaces::new(&self.places, &self.bytes, self.span)
+    }
+
+    /// Whether it is certain that no two places are marked. One that was marked may still count. Takes no memory.
+    pub fn has_at_most_one(&self) -> bool
+        ensures { IsTrue result → (p q : Place) → has_mark self.now p ≡ true → has_mark self.now q ≡ true
+            → same_place p q ≡ true }
+    {
+        let Span { first, end } = self.span;
+        end <= first || end - first == 1
     }
 
     /// The least marked place, if there is one. Takes no memory.

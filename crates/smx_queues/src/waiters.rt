@@ -21,8 +21,8 @@ pub struct Wait {
     pub target: Place,
 }
 
-/// Which places of some drivers wait, and each for which place, in no order of places. A contract sees the drivers, and the
-/// list.
+/// Which places of some drivers wait, and each for which place, in no order of places. A contract sees the drivers, and
+/// the list.
 #[derive(Debug, Drop)]
 pub struct Waiters {
     places: Places,

@@ -1,8 +1,6 @@
 -- A run of programs that come piece by piece, and what was performed of them.
-use Rattle.std.specs.Prelude.{◌≡◌, ℕ, suc, ◌-◌, ◌<◌, List, [], ◌∷◌, ◌++◌, length}
-use Rattle.std.specs.List.{slice_index_or, slice_set}
+use Rattle.std.specs.Prelude.{◌≡◌, ℕ, suc, ◌<◌, List, [], length}
 use Rattle.smx_types.specs.ProgramLists.{ProgramLists}
-use Rattle.smx_types.specs.declared.command.Command.{Command}
 use Rattle.smx_types.specs.declared.command.Entry.{Entry}
 use Rattle.smx_types.specs.declared.driver.DriverSpec.{DriverSpec}
 use Rattle.smx_types.specs.declared.version.Version.{Version}
@@ -13,27 +11,6 @@ use Rattle.smx_run.specs.RunFaults.{RefusesAlone}
 use Rattle.smx_run.specs.declared.growing_run.Stage.{Stage}
 use Rattle.smx_run.specs.declared.growing_run.Stage.TheVariants as stage
 use Rattle.smx_run.specs.declared.recording.Recording.{Recording}
-
--- ---- programs as they come
-
--- with one driver more
-abbrev pub with_driver : ProgramLists → DriverSpec → ProgramLists
-with_driver p driver = record p { drivers = p.drivers ++ driver ∷ [] }
-
--- with one program more, which has no command yet
-abbrev pub with_program : ProgramLists → ProgramLists
-with_program p = record p { programs = p.programs ++ [] ∷ [] }
-
--- the commands of the last program
-abbrev pub last_of : List (List Command) → List Command
-last_of programs = slice_index_or programs (length programs - 1) []
-
--- with one command more, the last of the last program
-abbrev pub with_command : ProgramLists → Command → ProgramLists
-with_command p c =
-    record p { programs = slice_set p.programs (length p.programs - 1) (last_of p.programs ++ c ∷ []) }
-
--- ---- what was performed of them
 
 module _ {K : Type 0} (told : Version → List DriverSpec → List Entry → K → Type 0) where
   -- all of these programs were asked, one after the other, and the recorder was told of it

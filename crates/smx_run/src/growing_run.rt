@@ -1,9 +1,10 @@
 //! A run of programs that come piece by piece: each command is performed as it comes.
 
 ghost use Rattle.std.specs.Prelude.{◌≡◌, ◌<◌, [], length, IfErr, IfOk, OnErr, OnOk};
+ghost use Rattle.smx_types.specs.GrowingPrograms.{with_command, with_driver, with_program};
 ghost use Rattle.smx_types.specs.ProgramLists.{AreWithinLimits, ProgramLists};
 ghost use Rattle.smx_types.specs.declared.limits.TheConstants.{MAX_PROCESSES};
-ghost use Rattle.smx_run.specs.GrowingRuns.{IsGrown, IsRecordingOf, with_command, with_driver, with_program};
+ghost use Rattle.smx_run.specs.GrowingRuns.{IsGrown, IsRecordingOf};
 ghost use Rattle.smx_run.specs.RecordedRuns.{IsRecordOf};
 ghost use Rattle.smx_run.specs.RunFaults.{RefusesAlone};
 
@@ -93,8 +94,8 @@ impl<K: NewRecorder> GrowingRun<K> {
         Ok(())
     }
 
-    /// One process more, whose program has no command yet. Before the first one the drivers are judged, and the recorder
-    /// begins.
+    /// One process more, whose program has no command yet. Before the first one the drivers are judged, and the
+    /// recorder begins.
     pub fn add_program(&mut self)
         requires { length self.old.programs < MAX_PROCESSES }
         ensures { self.new ≡ with_program self.old }
@@ -118,8 +119,8 @@ impl<K: NewRecorder> GrowingRun<K> {
         self.came = self.came.then(command);
     }
 
-    /// The recorder, which was told of each entry once its command was answered, and the view of the configuration at the
-    /// end. Refused for drivers that a configuration can't have, or for want of memory.
+    /// The recorder, which was told of each entry once its command was answered, and the view of the configuration at
+    /// the end. Refused for drivers that a configuration can't have, or for want of memory.
     pub fn finish(self) -> Result<(K, ConfigView), RunFault>
         requires { AreWithinLimits self }
         ensures report { IfOk result (λ r. IsRecordOf self K.told r.0 r.1) }

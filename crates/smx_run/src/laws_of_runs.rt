@@ -44,8 +44,8 @@ pub fn refusals_of_an_example()
     ensures not_held { RefusesRun (mux ip 4 ∷ mux ip 4 ∷ []) run.Held → ⊥ }
 {}
 
-/// No run is refused for a strange process; and what is run on one thread alone is refused for its drivers or for want of
-/// memory, and for nothing else that a run may be refused for.
+/// No run is refused for a strange process; and what is run on one thread alone is refused for its drivers or for want
+/// of memory, and for nothing else that a run may be refused for.
 pub fn refusals_have_few_causes()
     ensures not_strange { (drivers : List DriverSpec) (p : ℕ) → RefusesRun drivers (run.Strange p) → ⊥ }
     ensures not_full { (drivers : List DriverSpec) → RefusesAlone drivers run.HistoryFull → ⊥ }
@@ -54,8 +54,8 @@ pub fn refusals_have_few_causes()
     ensures no_more { (drivers : List DriverSpec) (fault : RunFault) → RefusesAlone drivers fault → RefusesRun drivers fault }
 {}
 
-/// Two programs come one after the other, by rising number, each in its order. What was called of them begins with the first
-/// call, and neither with another process's nor with more than all.
+/// Two programs come one after the other, by rising number, each in its order. What was called of them begins with the
+/// first call, and neither with another process's nor with more than all.
 pub fn calls_of_an_example()
     ensures in_turn { calls_from 0 programs.programs ≡ (0, OpenClone ip) ∷ (0, Dup 0) ∷ (1, CloseAll) ∷ [] }
     ensures none_yet { BeginsCalls [] 0 programs.programs }
@@ -84,8 +84,8 @@ pub fn strange_processes_of_an_example()
     ensures not_later { IsLeastStrange (opened ∷ exited ∷ copied ∷ []) ((opened ∷ []) ∷ []) 1 → ⊥ }
 {}
 
-/// A recorder that keeps all that it is told has the version of the programs, and the drivers and the entries of a report,
-/// process by process; and what comes back with it is the view of that report.
+/// A recorder that keeps all that it is told has the version of the programs, and the drivers and the entries of a
+/// report, process by process; and what comes back with it is the view of that report.
 pub fn what_is_recorded()
     ensures { (programs : ProgramLists) (version : Version) (drivers : List DriverSpec) (entries : List Entry) (view : ConfigView)
         → IsRecordOf programs (λ (v : Version) (ds : List DriverSpec) (es : List Entry) (k : Version × List DriverSpec × List Entry). k ≡ (v, ds, es)) (version, drivers, entries) view

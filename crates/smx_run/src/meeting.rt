@@ -11,8 +11,8 @@ use smx_shared::{Fronts, Keeper, Seat, Shared};
 use smx_types::NoMemory;
 use std::alloc::Global;
 
-/// The first seat, once it has met all the others, and the fronts that they saw last. Whatever it then ends as bears all
-/// of them out.
+/// The first seat, once it has met all the others, and the fronts that they saw last. Whatever it then ends as bears
+/// all of them out.
 pub fn meet_all<K: Keeper>(
     alloc: Global,
     shared: &Shared<K>,

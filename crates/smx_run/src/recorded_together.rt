@@ -21,10 +21,10 @@ use std::marker::Brand;
 use std::sync::Wait;
 use std::thread::Threads;
 
-/// Has the programs, of which there is one at least, run by so many workers as `run_programs` has, each on a thread of its
-/// own. The recorder, which begins in the room, is told of each entry once its command was answered, and then the entry is
-/// given up. What comes back is the recorder, and the view of the configuration at the end. Refused as `run_programs`
-/// is, for drivers that a configuration can't have before there is a recorder.
+/// Has the programs, of which there is one at least, run by so many workers as `run_programs` has, each on a thread of
+/// its own. The recorder, which begins in the room, is told of each entry once its command was answered, and then the
+/// entry is given up. What comes back is the recorder, and the view of the configuration at the end. Refused as
+/// `run_programs` is, for drivers that a configuration can't have before there is a recorder.
 pub fn run_recorded_together<R: Threads + Wait + Sync, K: NewRecorder + Send, G: Gate + Sync>(
     rt: &R,
     alloc: Global,
@@ -45,7 +45,8 @@ pub fn run_recorded_together<R: Threads + Wait + Sync, K: NewRecorder + Send, G:
     run_about::<Brand, R, K, G>(rt, alloc, version, config, recorder, programs, hands, gate)
 }
 
-// The same, of a recorder that was told of a version and of the drivers of this configuration, in which nothing is open.
+// The same, of a recorder that was told of a version and of the drivers of this configuration, in which nothing is
+// open.
 fn run_about<A: About + Send, R: Threads + Wait + Sync, K: Recorder + Send, G: Gate + Sync>(
     rt: &R,
     alloc: Global,

@@ -30,8 +30,8 @@ pub struct Recording<K: Drop> {
 }
 
 impl<K: NewRecorder> Recording<K> {
-    /// The empty configuration over these drivers, and a recorder that begins in the room, for programs of this version.
-    /// Refused for drivers that a configuration can't have, before there is a recorder; or for want of memory.
+    /// The empty configuration over these drivers, and a recorder that begins in the room, for programs of this
+    /// version. Refused for drivers that a configuration can't have, before there is a recorder; or for want of memory.
     pub fn begin(
         alloc: Global,
         version: Version,
@@ -92,7 +92,8 @@ impl<K: Recorder> Recording<K> {
         Ok(())
     }
 
-    /// Performs the next command, and tells the gate before and after, whatever came of it. Fails only for want of memory.
+    /// Performs the next command, and tells the gate before and after, whatever came of it. Fails only for want of
+    /// memory.
     pub fn perform_at<G: Gate>(
         &mut self,
         gate: &G,

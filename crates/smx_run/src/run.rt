@@ -32,11 +32,11 @@ use std::thread::Threads;
 pub const MAX_WORKERS: usize = 64;
 
 /// Has the programs run by so many workers, 1 to 64, and reports the one history that they make. Process p is run by
-/// worker p modulo `workers`; a worker runs its processes by rising number, each to its end, and tells the gate. With one
-/// worker, or one process, no thread is started. Refused for drivers that a configuration can't have, before any command
-/// is run; or for want of memory, also where a worker can't be started; on one thread for nothing else, on several also
-/// for a full history or a turn that was never given back. The report has the front that was seen when each program had
-/// ended.
+/// worker p modulo `workers`; a worker runs its processes by rising number, each to its end, and tells the gate. With
+/// one worker, or one process, no thread is started. Refused for drivers that a configuration can't have, before any
+/// command is run; or for want of memory, also where a worker can't be started; on one thread for nothing else, on
+/// several also for a full history or a turn that was never given back. The report has the front that was seen when
+/// each program had ended.
 pub fn run_programs<R: Threads + Wait + Sync, G: Gate + Sync>(
     rt: &R,
     alloc: Global,

@@ -28,9 +28,10 @@ pub trait Door {
     fn process(seat: &Self::Seat) -> Process
         ensures { result ≡ (known seat.now).process };
 
-    /// Performs a command of the seat's process, and answers the one entry that this added to the history. Refused, with
-    /// no entry added, where the history has as many entries as it may, or else for want of memory. The allocator is for
-    /// a door that makes something of its own for a call; `Shared` makes nothing, and its system has one already.
+    /// Performs a command of the seat's process, and answers the one entry that this added to the history. Refused,
+    /// with no entry added, where the history has as many entries as it may, or else for want of memory. The allocator
+    /// is for a door that makes something of its own for a call; `Shared` makes nothing, and its system has one
+    /// already.
     fn call<R: Wait>(
         &self,
         rt: &R,

@@ -25,8 +25,8 @@ pub fn what_an_answer_tells()
     ensures not_unmade { AnswersEntry (knows 0 0 9) idle (OpenClone ip) opened → ⊥ }
 {}
 
-/// What is known stays known, and it is sound: no less is seen, and nothing of another limit or process, past the limit,
-/// illegal, or with entries of the process that were not made here.
+/// What is known stays known, and it is sound: no less is seen, and nothing of another limit or process, past the
+/// limit, illegal, or with entries of the process that were not made here.
 pub fn what_stays_known()
     ensures more { HasSeenMore (knows 0 0 9) (knows 0 1 9) }
     ensures not_less { HasSeenMore (knows 0 1 9) (knows 0 0 9) → ⊥ }

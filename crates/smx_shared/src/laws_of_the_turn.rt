@@ -24,8 +24,8 @@ pub fn the_turn_is_one_seats()
         → v.turn ≡ true → w.turn ≡ true → i ≡ j }
 {}
 
-/// While the turn bit is not set, the slot is at home with a sound system, whose front the word is; while it is set, the
-/// slot is out.
+/// While the turn bit is not set, the slot is at home with a sound system, whose front the word is; while it is set,
+/// the slot is out.
 pub fn the_slot_is_home_or_out()
     ensures home { (drivers : List Driver) (limit : ℕ) (start : List Made) (processes word : ℕ) (s : State Slot View)
         → TurnRule drivers limit start processes s → get_elem? s.words 0 ≡ some word → word % 2 ≡ 0

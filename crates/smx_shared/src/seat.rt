@@ -5,8 +5,8 @@ use crate::turn_table::Token;
 use smx_types::{Entry, Process};
 use std::marker::Model;
 
-/// A place at a shared system, for the commands of one process: a token of what was seen there. It has next to no bytes,
-/// may go to another thread, and be dropped.
+/// A place at a shared system, for the commands of one process: a token of what was seen there. It has next to no
+/// bytes, may go to another thread, and be dropped.
 #[derive(Drop)]
 pub struct Seat<K: Keeper = Vec<Entry>> {
     pub(crate) process: Process,

@@ -40,8 +40,8 @@ impl<K: Keeper> Model for Shared<K> {
 }
 
 impl<K: Keeper> Shared<K> {
-    /// Shares a system among so many processes, 1 to 64: the seats are theirs, from process 0 on. Fails only for want of
-    /// memory.
+    /// Shares a system among so many processes, 1 to 64: the seats are theirs, from process 0 on. Fails only for want
+    /// of memory.
     pub fn start(
         alloc: Global,
         system: System<K>,

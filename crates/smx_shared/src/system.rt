@@ -105,8 +105,8 @@ impl System {
 }
 
 impl<K: Keeper> System<K> {
-    /// Nothing was asked yet of this configuration, in which nothing is open, and its keeper was told of nothing. Takes no
-    /// memory.
+    /// Nothing was asked yet of this configuration, in which nothing is open, and its keeper was told of nothing. Takes
+    /// no memory.
     pub fn begin(alloc: Global, config: Config, limit: usize, kept: K) -> System<K>
         requires limited { limit ≤ MAX_COMMANDS }
         requires can_be_had { IsDriverList config.drivers }

@@ -324,8 +324,8 @@ impl Records {
         }
     }
 
-    /// What every table of records is: there are no more drivers than there may be, a stream that has descriptors or has
-    /// hung up is in range, and one that has hung up has a record.
+    /// What every table of records is: there are no more drivers than there may be, a stream that has descriptors or
+    /// has hung up is in range, and one that has hung up has a record.
     pub fn is_sound(&self)
         ensures few { length self.now.minors ≤ MAX_DRIVERS }
         ensures range { (s : StreamId) → 0 < number_at self.now.opens s

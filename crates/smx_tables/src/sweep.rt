@@ -112,7 +112,8 @@ fn are_there(streams: &Streams, touched: &[StreamId]) -> bool
 }
 
 /// The streams that a change touches, in a list with room for all that may go with them; a list with room for all of
-/// them again; one with room for the ids of all ordinary links; and the serials of dropped messages, with room for those of all.
+/// them again; one with room for the ids of all ordinary links; and the serials of dropped messages, with room for
+/// those of all.
 #[derive(Debug, Drop)]
 pub struct SweepReserve {
     pub touched: Vec<StreamId>,
@@ -194,8 +195,8 @@ pub fn sweep_and_reply(drivers: &[DriverSpec], lists: &mut Lists, room: SweepRes
     }
 }
 
-/// The same where the change touched this stream alone, whose driver is above no link: nothing goes but the stream, with
-/// what it holds. There is room for the serials of all messages.
+/// The same where the change touched this stream alone, whose driver is above no link: nothing goes but the stream,
+/// with what it holds. There is room for the serials of all messages.
 pub fn sweep_alone_and_reply(
     drivers: &[DriverSpec],
     lists: &mut Lists,

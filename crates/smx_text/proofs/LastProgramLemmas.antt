@@ -11,7 +11,8 @@ use Rattle.smx_types.specs.declared.version.Version.{Version}
 use Rattle.smx_words.specs.LineReading.{IsPushed as IsPushedBehind}
 use Rattle.smx_words.specs.Spellable.{FitsCommandIn}
 use Rattle.smx_words.specs.Spelling.{command_words}
-use Rattle.smx_text.specs.Growing.{with_last, last_of, IsPushed}
+use Rattle.smx_text.specs.Growing.{IsPushed}
+use Rattle.smx_types.specs.GrowingPrograms.{with_last, last_of}
 
 -- the last one behind others is changed
 set_at_end : {X : Type 0} (xs : List X) (x y : X) → slice_set (xs ++ x ∷ []) (length xs) y ≡ xs ++ y ∷ []

@@ -1,29 +1,16 @@
 -- What was taken of a programs text while its lines are read.
-use Rattle.std.specs.Prelude.{◌≡◌, ◌≢◌, ℕ, List, [], ◌∷◌, ◌++◌, Bool, true, false}
+use Rattle.std.specs.Prelude.{◌≡◌, ◌≢◌, ℕ, List, [], Bool, true, false}
+use Rattle.smx_types.specs.GrowingPrograms.{with_command}
 use Rattle.smx_types.specs.ProgramLists.{ProgramLists}
 use Rattle.smx_types.specs.declared.command.Command.{Command}
-use Rattle.smx_types.specs.declared.driver.DriverSpec.{DriverSpec}
 use Rattle.smx_types.specs.declared.version.Version.{Version}
 use Rattle.smx_words.specs.Spellable.{FitsCommandIn}
 use Rattle.smx_words.specs.Spelling.{command_words}
 use Rattle.smx_words.specs.Words.{line_of}
-use Rattle.smx_text.specs.Growing.{last_of, with_last}
 
 -- no driver and no program, for a text of this version
 abbrev pub nothing_of : Version → ProgramLists
 nothing_of version = record { version = version; drivers = []; programs = [] }
-
--- with one driver more
-abbrev pub with_driver : ProgramLists → DriverSpec → ProgramLists
-with_driver p driver = record p { drivers = p.drivers ++ driver ∷ [] }
-
--- with one program more, which has no command yet
-abbrev pub with_program : ProgramLists → ProgramLists
-with_program p = record p { programs = p.programs ++ [] ∷ [] }
-
--- with one command more, the last of the last program
-abbrev pub with_command : ProgramLists → Command → ProgramLists
-with_command p c = record p { programs = with_last p.programs (last_of p.programs ++ c ∷ []) }
 
 -- whether the line is the words of some command of this version, which is then taken, and nothing else
 abbrev pub IsTaken : List ℕ → ProgramLists → ProgramLists → Bool → Type 0

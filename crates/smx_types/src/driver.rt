@@ -30,7 +30,7 @@ pub struct DriverSpec {
     pub high: u32,
     /// The low water mark of each of its queues, in bytes: below `high`.
     pub low: u32,
-    /// The most bytes of a message that is written to it, 1 to 1,024.
+    /// The most bytes of a message that is written or injected to it, 1 to 1,024.
     pub max: u32,
 }
 

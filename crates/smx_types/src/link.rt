@@ -23,7 +23,8 @@ pub struct Link {
     pub kind: LinkKind,
 }
 
-/// An address that is bound to a stream of a driver: messages for it go up there. The driver is 0 to 127, the minor 0 to 63.
+/// An address that is bound to a stream of a driver: messages for it go up there. The driver is 0 to 127, the minor 0
+/// to 63.
 #[derive(Clone, Copy, Debug, PartialEq, Eq)]
 pub struct Binding {
     pub driver: u8,

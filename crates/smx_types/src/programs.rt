@@ -76,7 +76,8 @@ impl Model for Programs {
 
 impl Programs {
     /// These drivers and programs, in the first version that can tell them, unless they are too many: `Many` hands both
-    /// lists back, and comes exactly where there are over 128 drivers, 64 programs or 100,000 commands. Takes no memory.
+    /// lists back, and comes exactly where there are over 128 drivers, 64 programs or 100,000 commands. Takes no
+    /// memory.
     pub fn new(drivers: Drivers, programs: ProgramList) -> Result<Programs, Many>
         ensures taken { IfOk result (λ p. p ≡ program_lists drivers programs) }
         ensures given_back { IfErr result (λ m. m ≡ record { drivers = drivers; programs = programs }) }

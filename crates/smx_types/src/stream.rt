@@ -2,7 +2,8 @@
 
 use crate::process::Process;
 
-/// A stream, by the number of its driver and its minor: in every configuration the driver is 0 to 127, and the minor 0 to 63.
+/// A stream, by the number of its driver and its minor: in every configuration the driver is 0 to 127, and the minor 0
+/// to 63.
 #[derive(Clone, Copy, Debug, PartialEq, Eq)]
 pub struct StreamId {
     pub driver: u8,

@@ -21,8 +21,8 @@ pub struct Transcript {
 }
 
 impl Transcript {
-    /// The first version that can tell it: the second exactly where there are over 64 drivers, a hangup, an end of file,
-    /// a refusal for a hangup, or a hung-up stream. Takes no memory.
+    /// The first version that can tell it: the second exactly where there are over 64 drivers, a hangup, an end of
+    /// file, a refusal for a hangup, or a hung-up stream. Takes no memory.
     pub fn least(&self) -> Version
         ensures { result ≡ least_of_transcript self.now }
     {

@@ -1,5 +1,5 @@
-//! Texts of every number of programs, of every size of a message, and of many addresses: each is written as it was read,
-//! and no call wants memory at some of them alone.
+//! Texts of every number of programs, of every size of a message, and of many addresses: each is written as it was
+//! read, and no call wants memory at some of them alone.
 
 use super::sweeps::{ADDRESSES, payload};
 use smx_text::{read_programs, read_transcript, write_programs, write_transcript};

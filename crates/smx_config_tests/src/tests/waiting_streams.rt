@@ -1,5 +1,5 @@
-//! Two levels of multiplexers, where 64 streams wait for one full place. Each time that it takes messages again, the least
-//! stream goes first.
+//! Two levels of multiplexers, where 64 streams wait for one full place. Each time that it takes messages again, the
+//! least stream goes first.
 
 ghost use Rattle.std.specs.Prelude.{◌<◌, ◌≤◌};
 

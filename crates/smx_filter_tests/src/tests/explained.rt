@@ -1,4 +1,5 @@
-//! Checks that explain themselves, and texts that are kept to be explained, with what is wanted typed in from the rules.
+//! Checks that explain themselves, and texts that are kept to be explained, with what is wanted typed in from the
+//! rules.
 
 use super::checks::{OTHER_CONFIGURATION, TWO_PROCESSES, WRONG_REPLY};
 use smx_filters::{MainFault, Refusal, Source, Target, check_explained, run_explained};

@@ -175,8 +175,8 @@ fn with_a_long_line(
     live_bytes(rt.alloc(), input.as_slice())
 }
 
-// A line that is longer than an input may be is too long, whether it ends or not: behind a table, which is over at no such
-// line, and behind an answer.
+// A line that is longer than an input may be is too long, whether it ends or not: behind a table, which is over at no
+// such line, and behind an answer.
 #[test]
 fn takes_no_endless_line(rt: HostRuntime) {
     let ran = with_a_long_line(&rt, b"programs 1\n", MAX_INPUT + 1, b"\nend\n");
@@ -203,7 +203,8 @@ fn takes_the_longest_line(rt: HostRuntime) {
     );
 }
 
-// A session of which a read fails behind so many bytes has answered each line that was whole by then, and that is flushed.
+// A session of which a read fails behind so many bytes has answered each line that was whole by then, and that is
+// flushed.
 fn has_answered(rt: &(impl AllocGlobal + Abort), reads: usize, answers: &[u8]) {
     let mut feed = one_byte_feed(LINES, reads, ErrorKind::Other);
     let mut sink = one_byte_sink(rt.alloc(), usize::MAX, Stop::TakesNone);

@@ -266,7 +266,8 @@ const WANTED: [(TextKind, &str, &str, &str); 27] = [
     ),
 ];
 
-// Lines of programs, and what is shown of each: 80 columns at the most, with each byte that can't be seen by its digits.
+// Lines of programs, and what is shown of each: 80 columns at the most, with each byte that can't be seen by its
+// digits.
 const CUT: [(&[u8], &str); 8] = [
     (
         b"12345678901234567890123456789012345678901234567890123456789012345678901234567890",

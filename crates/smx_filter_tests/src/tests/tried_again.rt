@@ -1,5 +1,5 @@
-//! Checks, replays, and runs with fronts, that pass with any one growth refused too: tests/refused_growths runs them so. What is
-//! written goes to the stack, so that no growth is a device's.
+//! Checks, replays, and runs with fronts, that pass with any one growth refused too: tests/refused_growths runs them
+//! so. What is written goes to the stack, so that no growth is a device's.
 
 ghost use Rattle.std.specs.Prelude.{◌≤◌};
 

@@ -137,8 +137,8 @@ pub fn by_worker(
     Ok(own)
 }
 
-/// Has processes 0 to 4 of two workers go on one by one: before its first command, each but the first and the last waits
-/// until the next one comes to its own, for which the one before it has ended, on the same worker.
+/// Has processes 0 to 4 of two workers go on one by one: before its first command, each but the first and the last
+/// waits until the next one comes to its own, for which the one before it has ended, on the same worker.
 #[derive(Drop)]
 pub struct OneByOne {
     come: AtomicU64,

@@ -1,5 +1,5 @@
-//! Reports of a system and of what its callers were answered. The first test passes with any one growth refused too, and
-//! tests/refused_growths runs it so.
+//! Reports of a system and of what its callers were answered. The first test passes with any one growth refused too,
+//! and tests/refused_growths runs it so.
 
 ghost use Rattle.std.specs.Prelude.{◌≤◌, length};
 ghost use Rattle.smx_types.specs.declared.limits.TheConstants.{MAX_PROCESSES};

@@ -1,5 +1,5 @@
-//! Runs that grow while the text of their programs is read: what a recorder and a gate are told of them, drivers that are
-//! refused, a recorder that wants memory, and a text at fault.
+//! Runs that grow while the text of their programs is read: what a recorder and a gate are told of them, drivers that
+//! are refused, a recorder that wants memory, and a text at fault.
 
 ghost use Rattle.std.specs.Prelude.{◌<◌};
 
@@ -81,8 +81,8 @@ fn programs_without_a_process(rt: HostRuntime) -> Result<(), Fail> {
     Ok(())
 }
 
-// Why the run of the programs that this text spells is refused, of which this is told, and a recorder, which may be told
-// so often.
+// Why the run of the programs that this text spells is refused, of which this is told, and a recorder, which may be
+// told so often.
 fn refusal<G: Gate>(
     alloc: Global,
     text: &[u8],

@@ -154,8 +154,8 @@ impl<'a> NewRecorder for Counting<'a> {
     }
 }
 
-// Whether a run of the programs that this text spells ends well, of which this is told, and a recorder, which may be told
-// so often.
+// Whether a run of the programs that this text spells ends well, of which this is told, and a recorder, which may be
+// told so often.
 fn counts<G: Gate>(
     alloc: Global,
     text: &[u8],

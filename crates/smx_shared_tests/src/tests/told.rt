@@ -67,8 +67,8 @@ pub const IN_TURN: [Told; 26] = [
     After(5, 4),
 ];
 
-// What it is told by each of three workers: by the first of processes 0 and 3, by the second of 1 and 4, and by the third
-// of 2 and 5.
+// What it is told by each of three workers: by the first of processes 0 and 3, by the second of 1 and 4, and by the
+// third of 2 and 5.
 const BY_EACH: [&[Told]; 3] = [
     &[
         Before(0, 0),

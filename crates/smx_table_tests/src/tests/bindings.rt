@@ -2,7 +2,6 @@
 
 use smx_addresses::Bindings;
 use smx_types::{Binding, StreamId};
-use std::alloc::Global;
 use std::process::Abort;
 use std::test::Fail;
 
@@ -21,6 +20,8 @@ enum Act {
     Of((u8, u8), Option<u32>),
     /// The number of bindings.
     Count(usize),
+    /// All bindings, in their order.
+    List(&'static [Binding]),
 }
 
 fn stream(at: (u8, u8)) -> StreamId {
@@ -59,7 +60,17 @@ fn binds(rt: &impl Abort, table: &mut Bindings, at: (u8, u8), addr: u32) {
     assert!(rt; table.bind(stream, addr).is_ok());
 }
 
-fn do_act(rt: &impl Abort, table: &mut Bindings, act: Act) {
+fn has_count(rt: &impl Abort, table: &Bindings, count: usize) {
+    assert!(rt; table.len() == count);
+    assert!(rt; table.is_empty() == (count == 0));
+}
+
+fn is_listed(rt: &(impl AllocGlobal + Abort), table: &Bindings, wanted: &[Binding]) {
+    let list = table.list(rt.alloc()).ok().expect(rt, "memory");
+    assert!(rt; list.as_slice() == wanted);
+}
+
+fn do_act(rt: &(impl AllocGlobal + Abort), table: &mut Bindings, act: Act) {
     match act {
         Act::Bind(at, addr) => binds(rt, table, at, addr),
         Act::IsTaken(at, addr) => assert!(rt; table.is_taken(stream(at), addr)),
@@ -68,11 +79,12 @@ fn do_act(rt: &impl Abort, table: &mut Bindings, act: Act) {
             assert!(rt; table.at(driver, addr) == at_address(driver, addr, minor));
         }
         Act::Of(at, addr) => assert!(rt; table.of(stream(at)) == of_stream(at, addr)),
-        Act::Count(count) => assert!(rt; table.len() == count),
+        Act::Count(count) => has_count(rt, table, count),
+        Act::List(wanted) => is_listed(rt, table, wanted),
     }
 }
 
-fn do_acts(rt: &impl Abort, table: &mut Bindings, acts: &[Act]) {
+fn do_acts(rt: &(impl AllocGlobal + Abort), table: &mut Bindings, acts: &[Act]) {
     for each in acts {
         do_act(rt, table, *each);
     }
@@ -98,24 +110,6 @@ const OF_THREE_STREAMS: [Act; 16] = [
     Act::Count(3),
 ];
 
-// One goes, its address is bound again to another stream, and it to another address.
-const TAKEN_AWAY: [Act; 14] = [
-    Act::Unbind((1, 3), Some(9)),
-    Act::Unbind((1, 3), None),
-    Act::Unbind((1, 9), None),
-    Act::Count(2),
-    Act::At(1, 9, None),
-    Act::At(0, 9, Some(3)),
-    Act::Of((1, 3), None),
-    Act::Of((1, 0), Some(4_294_967_295)),
-    Act::Bind((1, 63), 9),
-    Act::IsTaken((1, 3), 9),
-    Act::Bind((1, 3), 0),
-    Act::At(1, 0, Some(3)),
-    Act::At(1, 9, Some(63)),
-    Act::Count(4),
-];
-
 const LISTED: [Binding; 4] = [
     Binding {
         driver: 0,
@@ -139,24 +133,41 @@ const LISTED: [Binding; 4] = [
     },
 ];
 
-fn is_listed(
-    rt: &impl Abort,
-    alloc: Global,
-    table: &Bindings,
-    wanted: &[Binding],
-) -> Result<(), Fail> {
-    let list = table.list(alloc).ok().ok_or("memory")?;
-    assert!(rt; list.as_slice() == wanted);
-    Ok(())
+// One goes, its address is bound again to another stream, and it to another address.
+const TAKEN_AWAY: [Act; 15] = [
+    Act::Unbind((1, 3), Some(9)),
+    Act::Unbind((1, 3), None),
+    Act::Unbind((1, 9), None),
+    Act::Count(2),
+    Act::At(1, 9, None),
+    Act::At(0, 9, Some(3)),
+    Act::Of((1, 3), None),
+    Act::Of((1, 0), Some(4_294_967_295)),
+    Act::Bind((1, 63), 9),
+    Act::IsTaken((1, 3), 9),
+    Act::Bind((1, 3), 0),
+    Act::At(1, 0, Some(3)),
+    Act::At(1, 9, Some(63)),
+    Act::Count(4),
+    Act::List(&LISTED),
+];
+
+// What the copy has still, after a binding of the original has gone.
+const COPIED: [Act; 2] = [Act::Count(3), Act::Of((1, 3), Some(9))];
+
+// The copy has what the original had, and each goes on by itself.
+fn go_apart(rt: &(impl AllocGlobal + Abort), table: &mut Bindings, again: &mut Bindings) {
+    do_acts(rt, table, &TAKEN_AWAY);
+    do_acts(rt, again, &COPIED);
+    do_acts(rt, again, &TAKEN_AWAY);
 }
 
-#[test]
-fn bindings_of_three_streams(rt: HostRuntime) -> Result<(), Fail> {
-    let mut table = Bindings::new(rt.alloc());
-    do_acts(&rt, &mut table, &OF_THREE_STREAMS);
-    do_acts(&rt, &mut table, &TAKEN_AWAY);
-    is_listed(&rt, rt.alloc(), &table, &LISTED)
-}
+const NONE: [Act; 4] = [
+    Act::Unbind((0, 0), None),
+    Act::At(0, 0, None),
+    Act::Count(0),
+    Act::List(&[]),
+];
 
 // The lines that the crate's README shows.
 const IN_USE: [Act; 6] = [
@@ -168,42 +179,17 @@ const IN_USE: [Act; 6] = [
     Act::Count(0),
 ];
 
+fn has_bindings(rt: &(impl AllocGlobal + Abort), table: &mut Bindings) {
+    do_acts(rt, table, &NONE);
+    do_acts(rt, table, &IN_USE);
+    do_acts(rt, table, &OF_THREE_STREAMS);
+    let mut again = table.copy().ok().expect(rt, "memory");
+    go_apart(rt, table, &mut again);
+}
+
 #[test]
-fn bindings_in_use(rt: HostRuntime) -> Result<(), Fail> {
+fn bindings_of_three_streams(rt: HostRuntime) -> Result<(), Fail> {
     let mut table = Bindings::new(rt.alloc());
-    do_acts(&rt, &mut table, &IN_USE);
+    has_bindings(&rt, &mut table);
     Ok(())
-}
-
-#[test]
-fn no_bindings(rt: HostRuntime) -> Result<(), Fail> {
-    let mut table = Bindings::new(rt.alloc());
-    assert!(&rt; table.is_empty());
-    do_acts(
-        &rt,
-        &mut table,
-        &[
-            Act::Unbind((0, 0), None),
-            Act::At(0, 0, None),
-            Act::Count(0),
-        ],
-    );
-    is_listed(&rt, rt.alloc(), &table, &[])
-}
-
-// The copy has what the original had, and each goes on by itself.
-fn leaves_its_copy(rt: &impl Abort, alloc: Global, table: &mut Bindings) -> Result<(), Fail> {
-    let mut again = table.copy().ok().ok_or("memory")?;
-    do_acts(rt, table, &TAKEN_AWAY);
-    is_listed(rt, alloc, table, &LISTED)?;
-    do_acts(rt, &mut again, &[Act::Count(3), Act::Of((1, 3), Some(9))]);
-    do_acts(rt, &mut again, &TAKEN_AWAY);
-    is_listed(rt, alloc, &again, &LISTED)
-}
-
-#[test]
-fn a_copy_of_bindings(rt: HostRuntime) -> Result<(), Fail> {
-    let mut table = Bindings::new(rt.alloc());
-    do_acts(&rt, &mut table, &OF_THREE_STREAMS);
-    leaves_its_copy(&rt, rt.alloc(), &mut table)
 }

@@ -1,21 +1,10 @@
 //! Streams that hang up, in tables of streams: as long as they exist, and how they are walked.
 
-use super::stream_tables::{Act, do_acts};
+use super::stream_tables::{Act, do_acts, do_all, table_of};
 use smx_streams::Streams;
 use smx_types::StreamId;
-use std::alloc::Global;
 use std::process::Abort;
 use std::test::Fail;
-
-fn two_and_one(alloc: Global) -> Result<Streams, Fail> {
-    Ok(Streams::new(alloc, &[2, 1]).ok().ok_or("memory")?)
-}
-
-fn do_all(rt: &(impl AllocGlobal + Abort), acts: &[Act]) -> Result<(), Fail> {
-    let mut table = two_and_one(rt.alloc())?;
-    do_acts(rt, &mut table, acts);
-    Ok(())
-}
 
 // Its last descriptor goes, and with it the hangup; another stream stays as it is.
 const CLOSED: [Act; 14] = [
@@ -35,11 +24,6 @@ const CLOSED: [Act; 14] = [
     Act::Clone(0, 0, Ok((0, (0, 0)))),
 ];
 
-#[test]
-fn until_its_last_close(rt: HostRuntime) -> Result<(), Fail> {
-    do_all(&rt, &CLOSED)
-}
-
 // A hold keeps it, and the hangup with it.
 const HELD: [Act; 11] = [
     Act::Clone(0, 1, Ok((0, (1, 0)))),
@@ -55,11 +39,6 @@ const HELD: [Act; 11] = [
     Act::Hung((1, 0), false),
 ];
 
-#[test]
-fn until_its_last_release(rt: HostRuntime) -> Result<(), Fail> {
-    do_all(&rt, &HELD)
-}
-
 // It hangs up while it is held alone, and stays so while it is open again.
 const HELD_ALONE: [Act; 10] = [
     Act::Clone(0, 1, Ok((0, (1, 0)))),
@@ -73,11 +52,6 @@ const HELD_ALONE: [Act; 10] = [
     Act::Close(1, 0, Some(((1, 0), false))),
     Act::Hung((1, 0), true),
 ];
-
-#[test]
-fn while_it_is_held_alone(rt: HostRuntime) -> Result<(), Fail> {
-    do_all(&rt, &HELD_ALONE)
-}
 
 // All descriptors of a process go: what another one shares stays hung up.
 const EXITED: [Act; 10] = [
@@ -93,9 +67,14 @@ const EXITED: [Act; 10] = [
     Act::Hung((0, 1), false),
 ];
 
+const ROWS: [&[Act]; 4] = [&CLOSED, &HELD, &HELD_ALONE, &EXITED];
+
 #[test]
-fn until_its_processes_exit(rt: HostRuntime) -> Result<(), Fail> {
-    do_all(&rt, &EXITED)
+fn until_the_last_close_or_release(rt: HostRuntime) -> Result<(), Fail> {
+    for acts in ROWS {
+        do_all(&rt, &[2, 1], acts);
+    }
+    Ok(())
 }
 
 // The walk comes to just these, in this order.
@@ -122,19 +101,24 @@ const FIRST_AND_LAST: [Act; 7] = [
     Act::Hang((127, 3)),
 ];
 
-fn are_walked(rt: &(impl AllocGlobal + Abort), table: &mut Streams) -> Result<(), Fail> {
+// A hangup that ends in one table stays in its copy.
+fn go_apart(rt: &impl Abort, table: &mut Streams, again: &Streams) {
+    do_acts(rt, table, &[Act::Close(0, 2, Some(((127, 3), true)))]);
+    walks(rt, table, &[(0, 0), (127, 254)]);
+    walks(rt, again, &[(0, 0), (127, 3), (127, 254)]);
+}
+
+fn are_walked(rt: &impl Abort, table: &mut Streams) {
     walks(rt, table, &[]);
     do_acts(rt, table, &FIRST_AND_LAST);
     walks(rt, table, &[(0, 0), (127, 3), (127, 254)]);
-    let again = table.copy().ok().ok_or("memory")?;
-    do_acts(rt, table, &[Act::Close(0, 2, Some(((127, 3), true)))]);
-    walks(rt, table, &[(0, 0), (127, 254)]);
-    walks(rt, &again, &[(0, 0), (127, 3), (127, 254)]);
-    Ok(())
+    let again = table.copy().ok().expect(rt, "memory");
+    go_apart(rt, table, &again);
 }
 
 #[test]
 fn in_order(rt: HostRuntime) -> Result<(), Fail> {
-    let mut table = Streams::new(rt.alloc(), &[255; 128]).ok().ok_or("memory")?;
-    are_walked(&rt, &mut table)
+    let mut table = table_of(&rt, &[255; 128]);
+    are_walked(&rt, &mut table);
+    Ok(())
 }

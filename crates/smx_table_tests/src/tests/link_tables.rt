@@ -1,10 +1,9 @@
 //! Tables of links: made, refused, looked up, removed and copied.
 
-ghost use Rattle.std.specs.Prelude.{◌≡◌, ◌≤◌, IfOk};
+ghost use Rattle.std.specs.Prelude.{◌≡◌, ◌≤◌};
 
 use smx_links::{LinkFault, LinkTable};
 use smx_types::{Link, LinkKind, StreamId};
-use std::alloc::Global;
 use std::process::Abort;
 use std::test::Fail;
 
@@ -25,6 +24,12 @@ pub enum Act {
     At(usize, Option<u32>),
     /// The number of links.
     Count(usize),
+    /// The id of the next link.
+    Next(u32),
+    /// Whether the driver has links below it.
+    IsUpper(u8, bool),
+    /// These links go at once.
+    RemoveEach([u32; 3]),
 }
 
 fn stream(at: (u8, u8)) -> StreamId {
@@ -86,6 +91,16 @@ fn is_above(rt: &impl Abort, table: &LinkTable, lower: StreamId, wanted: Option<
     assert!(rt; table.is_below(lower) == wanted.is_some());
 }
 
+fn is_at(rt: &impl Abort, table: &LinkTable, i: usize, wanted: Option<u32>) {
+    assert!(rt; id_of(table.at(i)) == wanted);
+    assert!(rt; id_of(table.links().get(i)) == wanted);
+}
+
+fn has_count(rt: &impl Abort, table: &LinkTable, wanted: usize) {
+    assert!(rt; table.len() == wanted);
+    assert!(rt; table.is_empty() == (wanted == 0));
+}
+
 fn do_act(rt: &impl Abort, table: &mut LinkTable, drivers: u8, act: Act)
     requires { table.old.drivers ≡ drivers }
     ensures { table.new.drivers ≡ drivers }
@@ -107,8 +122,11 @@ fn do_act(rt: &impl Abort, table: &mut LinkTable, drivers: u8, act: Act)
         Act::Remove(id, wanted) => removes(rt, table, id, wanted),
         Act::Reaches(a, b, wanted) => assert!(rt; table.reaches(a, b) == wanted),
         Act::Above(lower, wanted) => is_above(rt, table, stream(lower), wanted),
-        Act::At(i, wanted) => assert!(rt; id_of(table.at(i)) == wanted),
-        Act::Count(wanted) => assert!(rt; table.len() == wanted),
+        Act::At(i, wanted) => is_at(rt, table, i, wanted),
+        Act::Count(wanted) => has_count(rt, table, wanted),
+        Act::Next(wanted) => assert!(rt; table.next_id() == wanted),
+        Act::IsUpper(driver, wanted) => assert!(rt; table.is_upper(driver) == wanted),
+        Act::RemoveEach(ids) => table.remove_each(&ids),
     }
 }
 
@@ -122,7 +140,17 @@ pub fn do_acts(rt: &impl Abort, table: &mut LinkTable, drivers: u8, acts: &[Act]
     }
 }
 
-const OF_THREE_DRIVERS: [Act; 17] = [
+/// A new table over so many drivers.
+pub fn table_over(rt: &(impl AllocGlobal + Abort), drivers: u8) -> LinkTable
+    requires { drivers ≤ 128 }
+    ensures { result.drivers ≡ drivers }
+{
+    LinkTable::new(rt.alloc(), drivers as usize)
+        .ok()
+        .expect(rt, "memory")
+}
+
+const OF_THREE_DRIVERS: [Act; 21] = [
     Act::Plink((0, 0), (1, 0), Ok(1)),
     Act::Link((1, 1), (0, 0), Err(LinkFault::Cycle)),
     Act::Link((1, 1), (2, 0), Ok(2)),
@@ -140,26 +168,11 @@ const OF_THREE_DRIVERS: [Act; 17] = [
     Act::Count(1),
     Act::Link((1, 1), (0, 0), Ok(3)),
     Act::Count(2),
+    Act::Next(4),
+    Act::IsUpper(0, false),
+    Act::IsUpper(1, true),
+    Act::IsUpper(3, false),
 ];
-
-fn table_over(alloc: Global, drivers: usize) -> Result<LinkTable, Fail>
-    requires { drivers ≤ 128 }
-    ensures { IfOk result (λ t. t.drivers ≡ drivers) }
-{
-    Ok(LinkTable::new(alloc, drivers).ok().ok_or("memory")?)
-}
-
-fn gives_next(rt: &impl Abort, table: &LinkTable, id: u32) {
-    assert_eq!(rt; table.next_id(), id);
-}
-
-#[test]
-fn links_of_three_drivers(rt: HostRuntime) -> Result<(), Fail> {
-    let mut table = table_over(rt.alloc(), 3)?;
-    do_acts(&rt, &mut table, 3, &OF_THREE_DRIVERS);
-    gives_next(&rt, &table, 4);
-    Ok(())
-}
 
 // Two links lead from driver 0 to driver 1, and one from there to driver 2.
 const OVER_TWO_LINKS: [Act; 13] = [
@@ -178,10 +191,55 @@ const OVER_TWO_LINKS: [Act; 13] = [
     Act::Reaches(2, 1, false),
 ];
 
+// Of no drivers.
+const EMPTY: [Act; 6] = [
+    Act::Count(0),
+    Act::Next(1),
+    Act::Remove(1, false),
+    Act::At(0, None),
+    Act::Reaches(0, 0, false),
+    Act::Reaches(255, 255, false),
+];
+
+// The links of driver 0 go at once, and that of driver 1 stays.
+const AT_ONCE: [Act; 10] = [
+    Act::Link((0, 0), (1, 0), Ok(1)),
+    Act::Link((1, 1), (2, 0), Ok(2)),
+    Act::Link((0, 0), (3, 0), Ok(3)),
+    Act::RemoveEach([3, 9, 1]),
+    Act::Count(1),
+    Act::At(0, Some(2)),
+    Act::Above((1, 0), None),
+    Act::Reaches(0, 2, false),
+    Act::Reaches(1, 2, true),
+    Act::Link((0, 0), (1, 0), Ok(4)),
+];
+
+// The lines that the crate's README shows.
+const IN_USE: [Act; 8] = [
+    Act::Link((0, 0), (1, 0), Ok(1)),
+    Act::Reaches(0, 1, true),
+    Act::Above((1, 0), Some(1)),
+    Act::Link((1, 0), (0, 0), Err(LinkFault::Cycle)),
+    Act::Above((1, 0), Some(1)),
+    Act::At(0, Some(1)),
+    Act::Remove(1, true),
+    Act::Next(2),
+];
+
+fn do_all(rt: &(impl AllocGlobal + Abort), drivers: u8, acts: &[Act])
+    requires { drivers ≤ 128 }
+{
+    let mut table = table_over(rt, drivers);
+    do_acts(rt, &mut table, drivers, acts);
+}
+
 #[test]
-fn links_that_share_a_path(rt: HostRuntime) -> Result<(), Fail> {
-    let mut table = table_over(rt.alloc(), 4)?;
-    do_acts(&rt, &mut table, 4, &OVER_TWO_LINKS);
+fn links_of_a_few_drivers(rt: HostRuntime) -> Result<(), Fail> {
+    do_all(&rt, 4, &OVER_TWO_LINKS);
+    do_all(&rt, 0, &EMPTY);
+    do_all(&rt, 4, &AT_ONCE);
+    do_all(&rt, 2, &IN_USE);
     Ok(())
 }
 
@@ -203,106 +261,17 @@ fn go_apart(rt: &impl Abort, table: &mut LinkTable, again: &mut LinkTable)
     do_acts(rt, again, 3, &THE_SAME);
 }
 
-fn leaves_its_copy(rt: &impl Abort, table: &mut LinkTable) -> Result<(), Fail>
+fn leaves_its_copy(rt: &impl Abort, table: &mut LinkTable)
     requires { table.old.drivers ≡ 3 }
 {
     do_acts(rt, table, 3, &OF_THREE_DRIVERS);
-    let mut again = table.copy().ok().ok_or("memory")?;
+    let mut again = table.copy().ok().expect(rt, "memory");
     go_apart(rt, table, &mut again);
-    Ok(())
 }
 
 #[test]
 fn a_copy_goes_on_by_itself(rt: HostRuntime) -> Result<(), Fail> {
-    let mut table = table_over(rt.alloc(), 3)?;
-    leaves_its_copy(&rt, &mut table)
-}
-
-fn has_no_link(rt: &impl Abort, table: &mut LinkTable) {
-    assert!(rt; table.is_empty() && table.next_id() == 1);
-    assert!(rt; table.remove(1).is_none() && table.at(0).is_none() && table.get(1).is_none());
-    assert!(rt; !table.reaches(0, 0) && !table.reaches(255, 255));
-}
-
-#[test]
-fn an_empty_table(rt: HostRuntime) -> Result<(), Fail> {
-    let mut table = table_over(rt.alloc(), 0)?;
-    has_no_link(&rt, &mut table);
-    Ok(())
-}
-
-const MADE: [Act; 3] = [
-    Act::Link((0, 0), (1, 0), Ok(1)),
-    Act::Link((1, 1), (2, 0), Ok(2)),
-    Act::Link((0, 0), (3, 0), Ok(3)),
-];
-
-const LEFT: [Act; 6] = [
-    Act::Count(1),
-    Act::At(0, Some(2)),
-    Act::Above((1, 0), None),
-    Act::Reaches(0, 2, false),
-    Act::Reaches(1, 2, true),
-    Act::Link((0, 0), (1, 0), Ok(4)),
-];
-
-// The links of driver 0 go at once, and that of driver 1 stays.
-fn go_at_once(rt: &impl Abort, table: &mut LinkTable)
-    requires { table.old.drivers ≡ 4 }
-{
-    do_acts(rt, table, 4, &MADE);
-    table.remove_each(&[3, 9, 1]);
-    do_acts(rt, table, 4, &LEFT);
-}
-
-#[test]
-fn several_go_at_once(rt: HostRuntime) -> Result<(), Fail> {
-    let mut table = table_over(rt.alloc(), 4)?;
-    go_at_once(&rt, &mut table);
-    Ok(())
-}
-
-const TOP: StreamId = StreamId {
-    driver: 0,
-    minor: 0,
-};
-
-const BELOW: StreamId = StreamId {
-    driver: 1,
-    minor: 0,
-};
-
-fn links_two(rt: &impl Abort, links: &mut LinkTable)
-    requires { links.old.drivers ≡ 2 }
-    ensures { links.new.drivers ≡ 2 }
-{
-    assert!(rt; links.try_link(TOP, BELOW, LinkKind::Ordinary) == Ok(1));
-    assert!(rt; links.reaches(0, 1) && links.is_below(BELOW));
-}
-
-fn bars_a_cycle(rt: &impl Abort, links: &mut LinkTable)
-    requires { links.old.drivers ≡ 2 }
-{
-    assert!(rt; links.try_link(BELOW, TOP, LinkKind::Ordinary) == Err(LinkFault::Cycle));
-    assert!(rt; id_of(links.above(BELOW)) == Some(1));
-    assert!(rt; id_of(links.links().first()) == Some(1));
-    assert!(rt; links.remove(1).is_some() && links.next_id() == 2);
-}
-
-// The lines that the crate's README shows.
-#[test]
-fn the_table_in_use(rt: HostRuntime) -> Result<(), Fail> {
-    let mut links = table_over(rt.alloc(), 2)?;
-    links_two(&rt, &mut links);
-    bars_a_cycle(&rt, &mut links);
-    Ok(())
-}
-
-#[test]
-fn drivers_with_links(rt: HostRuntime) -> Result<(), Fail> {
-    let mut table = LinkTable::new(rt.alloc(), 3).ok().ok_or("memory")?;
-    do_acts(&rt, &mut table, 3, &OF_THREE_DRIVERS);
-    assert!(rt; table.is_upper(1));
-    assert!(rt; !table.is_upper(0) && !table.is_upper(3));
+    let mut table = table_over(&rt, 3);
+    leaves_its_copy(&rt, &mut table);
     Ok(())
 }

@@ -14,35 +14,41 @@ fn place(minor: u8, side: Side) -> Place {
     }
 }
 
-// The marked places, each taken away as the least one.
-fn is_all<R: Abort>(rt: &R, marks: &mut PlaceMarks, places: &[Place]) {
-    for place in places {
-        assert!(rt; marks.is_marked(*place));
-        assert_eq!(rt; marks.first(), Some(*place));
-        marks.clear(*place);
-        assert!(rt; !marks.is_marked(*place));
-    }
-    assert_eq!(rt; marks.first(), None);
+// The place is the least marked one, is cleared, and leaves one at most.
+fn comes_first(rt: &impl Abort, marks: &mut PlaceMarks, place: Place) {
+    assert!(rt; marks.is_marked(place) && marks.first() == Some(place));
+    marks.clear(place);
+    assert!(rt; !marks.is_marked(place) && marks.has_at_most_one());
 }
 
-#[test]
-fn marks_come_in_order(rt: HostRuntime) -> Result<(), Fail> {
-    let mut marks = PlaceMarks::new(rt.alloc(), &[ethernet()?])?;
-    assert_eq!(rt; marks.first(), None);
+// Two places are marked, one of them twice. Driver 0 has no minor 2.
+fn mark_two(rt: &impl Abort, marks: &mut PlaceMarks) {
+    assert!(rt; marks.first().is_none() && marks.has_at_most_one());
     marks.mark(place(1, Side::Write));
     marks.mark(place(0, Side::Read));
     marks.mark(place(0, Side::Read));
     marks.mark(place(2, Side::Write));
-    let mut same = marks.copy(rt.alloc())?;
-    is_all(
-        &rt,
-        &mut marks,
-        &[place(0, Side::Read), place(1, Side::Write)],
-    );
-    is_all(
-        &rt,
-        &mut same,
-        &[place(0, Side::Read), place(1, Side::Write)],
-    );
+    assert!(rt; !marks.has_at_most_one());
+}
+
+fn two_come(rt: &impl Abort, marks: &mut PlaceMarks) {
+    comes_first(rt, marks, place(0, Side::Read));
+    comes_first(rt, marks, place(1, Side::Write));
+    assert!(rt; marks.first().is_none());
+}
+
+fn come_in_order(rt: &(impl AllocGlobal + Abort), marks: &mut PlaceMarks) {
+    mark_two(rt, marks);
+    let mut same = marks.copy(rt.alloc()).ok().expect(rt, "memory");
+    two_come(rt, marks);
+    two_come(rt, &mut same);
+}
+
+#[test]
+fn marks_come_in_order(rt: HostRuntime) -> Result<(), Fail> {
+    let mut marks = PlaceMarks::new(rt.alloc(), &[ethernet(&rt)])
+        .ok()
+        .expect(&rt, "memory");
+    come_in_order(&rt, &mut marks);
     Ok(())
 }

@@ -2,144 +2,122 @@
 
 use smx_queues::Queues;
 use smx_types::{Bytes, Message};
-use std::alloc::Global;
 use std::process::Abort;
-use std::test::Fail;
 
-fn is_wanting(rt: &impl Print) -> Result<(), Fail> {
-    println!(rt; "a call wanted memory")?;
-    Ok(())
+fn is_wanting(rt: &(impl Abort + Print)) {
+    assert!(rt; println!(rt; "a call wanted memory").is_ok());
 }
 
-fn bytes(alloc: Global, size: usize) -> Result<Bytes, Fail> {
+fn bytes(rt: &(impl AllocGlobal + Abort), size: usize) -> Bytes {
+    let alloc = rt.alloc();
     if let Ok(made) = vec![in alloc; 0xaa; size] {
-        return Ok(Bytes::from_vec(made));
+        return Bytes::from_vec(made);
     }
-    Ok(Bytes::from_vec(vec![in alloc; 0xaa; size]?))
+    Bytes::from_vec(vec![in alloc; 0xaa; size].ok().expect(rt, "memory"))
 }
 
 /// A place with these marks.
-pub fn add(rt: &impl Print, queues: &mut Queues, high: usize, low: usize) -> Result<usize, Fail> {
-    if low >= high || high > 4096 {
-        return Err(Fail::new("no marks"));
-    }
+pub fn add(rt: &(impl Abort + Print), queues: &mut Queues, high: usize, low: usize) -> usize {
+    assert!(rt; low < high && high <= 4096);
     if let Ok(p) = queues.add_place(high, low) {
-        return Ok(p);
+        return p;
     }
-    is_wanting(rt)?;
-    Ok(queues.add_place(high, low)?)
+    is_wanting(rt);
+    queues.add_place(high, low).ok().expect(rt, "memory")
 }
 
 /// So many places with these marks.
 pub fn add_all(
-    rt: &impl Print,
+    rt: &(impl Abort + Print),
     queues: &mut Queues,
     count: usize,
     high: usize,
     low: usize,
-) -> Result<(), Fail> {
-    if low >= high || high > 4096 {
-        return Err(Fail::new("no marks"));
-    }
+) {
+    assert!(rt; low < high && high <= 4096);
     if queues.add_places(count, high, low).is_ok() {
-        return Ok(());
+        return;
     }
-    is_wanting(rt)?;
-    Ok(queues.add_places(count, high, low)?)
+    is_wanting(rt);
+    assert!(rt; queues.add_places(count, high, low).is_ok());
 }
 
-fn reserve(rt: &impl Print, queues: &mut Queues) -> Result<(), Fail> {
+fn reserve(rt: &(impl Abort + Print), queues: &mut Queues) {
     if queues.reserve_one().is_ok() {
-        return Ok(());
+        return;
     }
-    is_wanting(rt)?;
-    Ok(queues.reserve_one()?)
+    is_wanting(rt);
+    assert!(rt; queues.reserve_one().is_ok());
 }
 
 /// A message of this serial and so many bytes arrives by an entry that was reserved before.
 pub fn put_by_spare(
-    alloc: Global,
+    rt: &(impl AllocGlobal + Abort),
     queues: &mut Queues,
     p: usize,
     serial: u32,
     size: usize,
-) -> Result<(), Fail> {
+) {
     let message = Message {
         serial,
         addr: 5,
-        bytes: bytes(alloc, size)?,
+        bytes: bytes(rt, size),
     };
-    if queues.has_place(p) && queues.has_spare() && !queues.is_full(p) {
-        if !message.bytes.as_slice().is_empty() {
-            queues.put(p, message);
-            return Ok(());
-        }
-    }
-    Err(Fail::new("it can't arrive"))
+    assert!(rt; queues.has_place(p) && queues.has_spare() && !queues.is_full(p));
+    assert!(rt; !message.bytes.as_slice().is_empty());
+    queues.put(p, message);
 }
 
 /// A message of this serial and so many bytes arrives.
 pub fn put(
-    rt: &(impl AllocGlobal + Print),
+    rt: &(impl AllocGlobal + Abort + Print),
     queues: &mut Queues,
     p: usize,
     serial: u32,
     size: usize,
-) -> Result<(), Fail> {
-    reserve(rt, queues)?;
-    put_by_spare(rt.alloc(), queues, p, serial, size)
+) {
+    reserve(rt, queues);
+    put_by_spare(rt, queues, p, serial, size);
 }
 
 /// The serial of the message that leaves.
-pub fn take(queues: &mut Queues, p: usize) -> Result<Option<u32>, Fail> {
-    if !queues.has_place(p) {
-        return Err(Fail::new("no place"));
-    }
-    Ok(match queues.take(p) {
+pub fn take(rt: &impl Abort, queues: &mut Queues, p: usize) -> Option<u32> {
+    assert!(rt; queues.has_place(p));
+    match queues.take(p) {
         Some(message) => Some(message.serial),
         None => None,
-    })
+    }
 }
 
 /// The front message of one place moves to the other.
-pub fn move_front(queues: &mut Queues, from: usize, to: usize) -> Result<(), Fail> {
-    if from != to && queues.has_place(from) && queues.has_place(to) && !queues.is_full(to) {
-        if queues.message_count(from) > 0 {
-            queues.move_front(from, to);
-            return Ok(());
-        }
-    }
-    Err(Fail::new("it can't move"))
+pub fn move_front(rt: &impl Abort, queues: &mut Queues, from: usize, to: usize) {
+    assert!(rt; from != to && queues.has_place(from) && queues.has_place(to));
+    assert!(rt; !queues.is_full(to) && queues.message_count(from) > 0);
+    queues.move_front(from, to);
 }
 
 /// All messages of the place are dropped.
-pub fn clear(queues: &mut Queues, p: usize) -> Result<(), Fail> {
-    if !queues.has_place(p) {
-        return Err(Fail::new("no place"));
-    }
+pub fn clear(rt: &impl Abort, queues: &mut Queues, p: usize) {
+    assert!(rt; queues.has_place(p));
     queues.clear(p);
-    Ok(())
 }
 
 /// The same queues again.
-pub fn copied(rt: &(impl AllocGlobal + Print), queues: &Queues) -> Result<Queues, Fail> {
+pub fn copied(rt: &(impl AllocGlobal + Abort + Print), queues: &Queues) -> Queues {
     if let Ok(made) = queues.copy(rt.alloc()) {
-        return Ok(made);
+        return made;
     }
-    is_wanting(rt)?;
-    Ok(queues.copy(rt.alloc())?)
+    is_wanting(rt);
+    queues.copy(rt.alloc()).ok().expect(rt, "memory")
 }
 
-/// The serials at a place.
-pub fn listed(rt: &impl Print, queues: &Queues, p: usize) -> Result<Vec<u32>, Fail> {
-    if !queues.has_place(p) {
-        return Err(Fail::new("no place"));
-    }
+fn listed(rt: &(impl Abort + Print), queues: &Queues, p: usize) -> Vec<u32> {
+    assert!(rt; queues.has_place(p));
     if let Ok(made) = queues.serials(p) {
-        return Ok(made);
+        return made;
     }
-    is_wanting(rt)?;
-    Ok(queues.serials(p)?)
+    is_wanting(rt);
+    queues.serials(p).ok().expect(rt, "memory")
 }
 
 fn is_serial(message: Option<&Message>, serial: Option<u32>) -> bool {
@@ -176,16 +154,15 @@ fn walks(queues: &Queues, p: usize, serials: &[u32]) -> bool {
     rest.next().is_none()
 }
 
-// Whether the list of the serials is this.
-fn lists(
-    rt: &(impl Abort + Print),
-    queues: &Queues,
-    p: usize,
-    serials: &[u32],
-) -> Result<(), Fail> {
-    let listed = listed(rt, queues, p)?;
+fn lists(rt: &(impl Abort + Print), queues: &Queues, p: usize, serials: &[u32]) {
+    let listed = listed(rt, queues, p);
     assert!(rt; listed.as_slice() == serials);
-    Ok(())
+}
+
+/// The list of the serials at the place has so many.
+pub fn lists_so_many(rt: &(impl Abort + Print), queues: &Queues, p: usize, count: usize) {
+    let listed = listed(rt, queues, p);
+    assert!(rt; listed.len() == count);
 }
 
 /// The place has so many bytes, this mark, and messages of these serials, whichever call is asked.
@@ -196,12 +173,10 @@ pub fn has(
     bytes: usize,
     full: bool,
     serials: &[u32],
-) -> Result<(), Fail> {
-    if !queues.has_place(p) {
-        return Err(Fail::new("no place"));
-    }
+) {
+    assert!(rt; queues.has_place(p));
     assert!(rt; queues.bytes(p) == bytes && queues.is_full(p) == full);
     assert!(rt; queues.message_count(p) == serials.len());
     assert!(rt; finds(queues, p, serials) && walks(queues, p, serials));
-    lists(rt, queues, p, serials)
+    lists(rt, queues, p, serials);
 }

@@ -2,7 +2,6 @@
 
 use smx_addresses::Routes;
 use smx_types::Route;
-use std::alloc::Global;
 use std::process::Abort;
 use std::test::Fail;
 
@@ -21,6 +20,8 @@ enum Act {
     At(u8, u32, Option<u32>),
     /// The number of routes.
     Count(usize),
+    /// All routes, in their order.
+    List(&'static [Route]),
 }
 
 fn route_to(driver: u8, addr: u32, id: Option<u32>) -> Option<Route> {
@@ -35,7 +36,17 @@ fn is_at(rt: &impl Abort, table: &Routes, driver: u8, addr: u32, id: Option<u32>
     assert!(rt; table.is_routed(driver, addr) == id.is_some());
 }
 
-fn do_act(rt: &impl Abort, table: &mut Routes, act: Act) {
+fn has_count(rt: &impl Abort, table: &Routes, count: usize) {
+    assert!(rt; table.len() == count);
+    assert!(rt; table.is_empty() == (count == 0));
+}
+
+fn is_listed(rt: &(impl AllocGlobal + Abort), table: &Routes, wanted: &[Route]) {
+    let list = table.list(rt.alloc()).ok().expect(rt, "memory");
+    assert!(rt; list.as_slice() == wanted);
+}
+
+fn do_act(rt: &(impl AllocGlobal + Abort), table: &mut Routes, act: Act) {
     match act {
         Act::Route(driver, addr, id) => assert!(rt; table.route(driver, addr, id).is_ok()),
         Act::Unroute(driver, addr, id) => {
@@ -44,11 +55,12 @@ fn do_act(rt: &impl Abort, table: &mut Routes, act: Act) {
         Act::UnrouteLink(id) => table.unroute_link(id),
         Act::UnrouteLinks(ids) => table.unroute_links(&ids),
         Act::At(driver, addr, id) => is_at(rt, table, driver, addr, id),
-        Act::Count(count) => assert!(rt; table.len() == count),
+        Act::Count(count) => has_count(rt, table, count),
+        Act::List(wanted) => is_listed(rt, table, wanted),
     }
 }
 
-fn do_acts(rt: &impl Abort, table: &mut Routes, acts: &[Act]) {
+fn do_acts(rt: &(impl AllocGlobal + Abort), table: &mut Routes, acts: &[Act]) {
     for each in acts {
         do_act(rt, table, *each);
     }
@@ -69,18 +81,6 @@ const OF_THREE_LINKS: [Act; 13] = [
     Act::At(0, 7, Some(1)),
     Act::At(1, 7, None),
     Act::At(2, 5, None),
-];
-
-// Link 1 goes with the one route that it has left.
-const WITHOUT_A_LINK: [Act; 8] = [
-    Act::UnrouteLink(1),
-    Act::At(0, 7, None),
-    Act::At(0, 5, Some(2)),
-    Act::Count(3),
-    Act::UnrouteLink(1),
-    Act::UnrouteLink(9),
-    Act::Count(3),
-    Act::Route(0, 4_294_967_295, 2),
 ];
 
 const LISTED: [Route; 4] = [
@@ -106,6 +106,19 @@ const LISTED: [Route; 4] = [
     },
 ];
 
+// Link 1 goes with the one route that it has left.
+const WITHOUT_A_LINK: [Act; 9] = [
+    Act::UnrouteLink(1),
+    Act::At(0, 7, None),
+    Act::At(0, 5, Some(2)),
+    Act::Count(3),
+    Act::UnrouteLink(1),
+    Act::UnrouteLink(9),
+    Act::Count(3),
+    Act::Route(0, 4_294_967_295, 2),
+    Act::List(&LISTED),
+];
+
 // One route goes by its address, and then both links.
 const TO_THE_LAST: [Act; 9] = [
     Act::Unroute(0, 4, Some(2)),
@@ -119,21 +132,24 @@ const TO_THE_LAST: [Act; 9] = [
     Act::Count(1),
 ];
 
-fn is_listed(rt: &impl Abort, alloc: Global, table: &Routes, wanted: &[Route]) -> Result<(), Fail> {
-    let list = table.list(alloc).ok().ok_or("memory")?;
-    assert!(rt; list.as_slice() == wanted);
-    Ok(())
+// What the copy has still, after link 1 of the original has gone.
+const COPIED: [Act; 2] = [Act::Count(4), Act::At(0, 7, Some(1))];
+
+// The copy has what the original had, and each goes on by itself.
+fn go_apart(rt: &(impl AllocGlobal + Abort), table: &mut Routes, again: &mut Routes) {
+    do_acts(rt, table, &WITHOUT_A_LINK);
+    do_acts(rt, again, &COPIED);
+    do_acts(rt, again, &WITHOUT_A_LINK);
+    do_acts(rt, again, &TO_THE_LAST);
+    do_acts(rt, table, &TO_THE_LAST);
 }
 
-#[test]
-fn routes_of_three_links(rt: HostRuntime) -> Result<(), Fail> {
-    let mut table = Routes::new(rt.alloc());
-    do_acts(&rt, &mut table, &OF_THREE_LINKS);
-    do_acts(&rt, &mut table, &WITHOUT_A_LINK);
-    is_listed(&rt, rt.alloc(), &table, &LISTED)?;
-    do_acts(&rt, &mut table, &TO_THE_LAST);
-    Ok(())
-}
+const NONE: [Act; 4] = [
+    Act::Unroute(0, 0, None),
+    Act::UnrouteLink(0),
+    Act::Count(0),
+    Act::List(&[]),
+];
 
 // The lines that the crate's README shows.
 const IN_USE: [Act; 5] = [
@@ -144,40 +160,17 @@ const IN_USE: [Act; 5] = [
     Act::Count(0),
 ];
 
+fn has_routes(rt: &(impl AllocGlobal + Abort), table: &mut Routes) {
+    do_acts(rt, table, &NONE);
+    do_acts(rt, table, &IN_USE);
+    do_acts(rt, table, &OF_THREE_LINKS);
+    let mut again = table.copy().ok().expect(rt, "memory");
+    go_apart(rt, table, &mut again);
+}
+
 #[test]
-fn routes_in_use(rt: HostRuntime) -> Result<(), Fail> {
+fn routes_of_three_links(rt: HostRuntime) -> Result<(), Fail> {
     let mut table = Routes::new(rt.alloc());
-    do_acts(&rt, &mut table, &IN_USE);
+    has_routes(&rt, &mut table);
     Ok(())
-}
-
-#[test]
-fn no_routes(rt: HostRuntime) -> Result<(), Fail> {
-    let mut table = Routes::new(rt.alloc());
-    assert!(&rt; table.is_empty());
-    do_acts(
-        &rt,
-        &mut table,
-        &[Act::Unroute(0, 0, None), Act::UnrouteLink(0), Act::Count(0)],
-    );
-    is_listed(&rt, rt.alloc(), &table, &[])
-}
-
-// The copy has what the original had, and each goes on by itself.
-fn leaves_its_copy(rt: &impl Abort, alloc: Global, table: &mut Routes) -> Result<(), Fail> {
-    let mut again = table.copy().ok().ok_or("memory")?;
-    do_acts(rt, table, &WITHOUT_A_LINK);
-    is_listed(rt, alloc, table, &LISTED)?;
-    do_acts(rt, &mut again, &[Act::Count(4), Act::At(0, 7, Some(1))]);
-    do_acts(rt, &mut again, &WITHOUT_A_LINK);
-    is_listed(rt, alloc, &again, &LISTED)?;
-    do_acts(rt, &mut again, &TO_THE_LAST);
-    Ok(())
-}
-
-#[test]
-fn a_copy_of_routes(rt: HostRuntime) -> Result<(), Fail> {
-    let mut table = Routes::new(rt.alloc());
-    do_acts(&rt, &mut table, &OF_THREE_LINKS);
-    leaves_its_copy(&rt, rt.alloc(), &mut table)
 }

@@ -1,9 +1,9 @@
 //! Tables of streams: opened, doubled, held, released and closed.
 
-ghost use Rattle.std.specs.Prelude.{◌≡◌};
+ghost use Rattle.std.specs.Prelude.{◌≤◌, ◌≡◌, length};
 
 use smx_streams::{Closed, StreamFault, Streams};
-use smx_types::{Process, StreamId};
+use smx_types::{Descriptor, Process, StreamId};
 use std::process::Abort;
 use std::test::Fail;
 
@@ -31,6 +31,12 @@ pub enum Act {
     Release((u8, u8), bool),
     /// All descriptors of a process are closed.
     Exit(u32),
+    /// The process and the number of the first descriptor of all.
+    First(Option<(u32, u32)>),
+    /// Those of the first descriptor from this one on.
+    Next(u32, u32, Option<(u32, u32)>),
+    /// Process and descriptor; whether its stream has no other.
+    IsLast(u32, u32, bool),
 }
 
 fn stream(at: (u8, u8)) -> StreamId {
@@ -69,6 +75,13 @@ fn of(answer: Option<StreamId>) -> Option<(u8, u8)> {
     }
 }
 
+fn numbers(found: Option<Descriptor>) -> Option<(u32, u32)> {
+    match found {
+        Some(d) => Some((d.process.get(), d.fd)),
+        None => None,
+    }
+}
+
 type Given = Result<(u32, (u8, u8)), StreamFault>;
 
 fn gives(rt: &impl Abort, answer: Result<(u32, StreamId), StreamFault>, wanted: Given) {
@@ -81,6 +94,10 @@ fn closes(rt: &impl Abort, answer: Option<Closed>, wanted: Option<((u8, u8), boo
 
 fn is_of(rt: &impl Abort, answer: Option<StreamId>, wanted: Option<(u8, u8)>) {
     assert!(rt; of(answer) == wanted);
+}
+
+fn comes(rt: &impl Abort, answer: Option<Descriptor>, wanted: Option<(u32, u32)>) {
+    assert!(rt; numbers(answer) == wanted);
 }
 
 fn hangs(rt: &impl Abort, table: &mut Streams, stream: StreamId) {
@@ -118,6 +135,9 @@ fn do_act(rt: &impl Abort, table: &mut Streams, act: Act) {
         Act::Hold(at) => holds(rt, table, stream(at)),
         Act::Release(at, wanted) => releases(rt, table, stream(at), wanted),
         Act::Exit(p) => table.close_process(process(rt, p)),
+        Act::First(wanted) => comes(rt, table.first_fd(), wanted),
+        Act::Next(p, fd, wanted) => comes(rt, table.next_fd(process(rt, p), fd), wanted),
+        Act::IsLast(p, fd, wanted) => assert!(rt; table.is_last(process(rt, p), fd) == wanted),
     }
 }
 
@@ -128,7 +148,22 @@ pub fn do_acts(rt: &impl Abort, table: &mut Streams, acts: &[Act]) {
     }
 }
 
-const OPENED: [Act; 9] = [
+/// A new table over drivers of these minors.
+pub fn table_of(rt: &(impl AllocGlobal + Abort), minors: &[u8]) -> Streams
+    requires { length minors.now ≤ 128 }
+{
+    Streams::new(rt.alloc(), minors).ok().expect(rt, "memory")
+}
+
+/// Does each in turn, in a new table over drivers of these minors.
+pub fn do_all(rt: &(impl AllocGlobal + Abort), minors: &[u8], acts: &[Act])
+    requires { length minors.now ≤ 128 }
+{
+    let mut table = table_of(rt, minors);
+    do_acts(rt, &mut table, acts);
+}
+
+const HELD: [Act; 15] = [
     Act::InRange(1, 0, true),
     Act::InRange(1, 1, false),
     Act::InRange(2, 0, false),
@@ -138,9 +173,7 @@ const OPENED: [Act; 9] = [
     Act::Clone(0, 2, Err(StreamFault::NoDriver)),
     Act::Minor(1, 0, 0, Ok((1, (0, 0)))),
     Act::Dup(0, 0, Ok((1, (0, 0)))),
-];
-
-const CLOSED: [Act; 5] = [
+    Act::Hold((0, 0)),
     Act::Close(0, 0, Some(((0, 0), false))),
     Act::Close(0, 1, Some(((0, 0), false))),
     Act::Close(1, 1, Some(((0, 0), false))),
@@ -148,36 +181,30 @@ const CLOSED: [Act; 5] = [
     Act::Exists((0, 0), true),
 ];
 
-const AFTERWARDS: [Act; 3] = [
+// The last hold goes, and with it the stream.
+const RELEASED: [Act; 4] = [
+    Act::Release((0, 0), true),
     Act::Exists((0, 0), false),
     Act::Exists((0, 1), true),
     Act::Clone(0, 0, Ok((0, (0, 0)))),
 ];
 
-// The last hold goes, and with it the stream.
-fn is_released(rt: &impl Abort, table: &mut Streams) {
-    let held = stream((0, 0));
-    assert!(rt; table.holds_of(held) == 1 && table.release(held));
-    do_acts(rt, table, &AFTERWARDS);
+fn go_apart(rt: &impl Abort, table: &mut Streams, again: &mut Streams) {
+    do_acts(rt, table, &RELEASED);
+    do_acts(rt, again, &RELEASED);
 }
 
-fn stays_while_held(rt: &impl Abort, table: &mut Streams) -> Result<(), Fail> {
-    do_acts(rt, table, &OPENED);
-    let held = stream((0, 0));
-    assert!(rt; table.exists(held) && table.holds_of(held) == 0);
-    table.hold(held);
-    do_acts(rt, table, &CLOSED);
-    assert_eq!(rt; table.holds_of(held), 1);
-    let mut again = table.copy().ok().ok_or("memory")?;
-    is_released(rt, table);
-    is_released(rt, &mut again);
-    Ok(())
+fn stays_while_held(rt: &impl Abort, table: &mut Streams) {
+    do_acts(rt, table, &HELD);
+    let mut again = table.copy().ok().expect(rt, "memory");
+    go_apart(rt, table, &mut again);
 }
 
 #[test]
 fn a_held_stream_stays(rt: HostRuntime) -> Result<(), Fail> {
-    let mut table = Streams::new(rt.alloc(), &[2, 1]).ok().ok_or("memory")?;
-    stays_while_held(&rt, &mut table)
+    let mut table = table_of(&rt, &[2, 1]);
+    stays_while_held(&rt, &mut table);
+    Ok(())
 }
 
 const REFUSED: [Act; 8] = [
@@ -191,39 +218,17 @@ const REFUSED: [Act; 8] = [
     Act::Of(63, 0, Some((1, 0))),
 ];
 
+// The lines that the crate's README shows.
+const IN_USE: [Act; 4] = [
+    Act::Clone(0, 0, Ok((0, (0, 0)))),
+    Act::Dup(0, 0, Ok((1, (0, 0)))),
+    Act::Hold((0, 0)),
+    Act::Close(0, 0, Some(((0, 0), false))),
+];
+
 #[test]
 fn refused_opens_leave_nothing(rt: HostRuntime) -> Result<(), Fail> {
-    let mut table = Streams::new(rt.alloc(), &[2, 1]).ok().ok_or("memory")?;
-    do_acts(&rt, &mut table, &REFUSED);
-    Ok(())
-}
-
-const FIRST: StreamId = StreamId {
-    driver: 0,
-    minor: 0,
-};
-
-fn opens_twice(rt: &impl Abort, streams: &mut Streams, process: Process) {
-    assert!(rt; streams.open_clone(process, 0) == Ok((0, FIRST)));
-    assert!(rt; streams.dup(process, 0) == Ok((1, FIRST)));
-}
-
-fn holds_and_closes(rt: &impl Abort, streams: &mut Streams, process: Process) {
-    assert!(rt; streams.exists(FIRST) && streams.holds_of(FIRST) == 0);
-    streams.hold(FIRST);
-    let closed = Closed {
-        stream: FIRST,
-        last: false,
-    };
-    assert!(rt; streams.close_fd(process, 0) == Some(closed));
-}
-
-// The lines that the crate's README shows.
-#[test]
-fn the_table_in_use(rt: HostRuntime) -> Result<(), Fail> {
-    let process = Process::new(0).ok_or("process")?;
-    let mut streams = Streams::new(rt.alloc(), &[2, 1]).ok().ok_or("memory")?;
-    opens_twice(&rt, &mut streams, process);
-    holds_and_closes(&rt, &mut streams, process);
+    do_all(&rt, &[2, 1], &REFUSED);
+    do_all(&rt, &[2, 1], &IN_USE);
     Ok(())
 }

@@ -2,7 +2,7 @@
 
 ghost use Rattle.std.specs.Prelude.{◌<◌};
 
-use super::stream_tables::{Act, do_acts};
+use super::stream_tables::{Act, do_acts, do_all, table_of};
 use smx_streams::{StreamFault, Streams};
 use std::process::Abort;
 use std::test::Fail;
@@ -40,18 +40,22 @@ const REUSED: [Act; 5] = [
     Act::Clone(63, 1, Ok((15, (1, 0)))),
 ];
 
-fn is_filled(rt: &impl Abort, table: &mut Streams) -> Result<(), Fail> {
-    fill_all(rt, table);
-    let mut again = table.copy().ok().ok_or("memory")?;
+fn go_apart(rt: &impl Abort, table: &mut Streams, again: &mut Streams) {
     do_acts(rt, table, &REUSED);
-    do_acts(rt, &mut again, &REUSED);
-    Ok(())
+    do_acts(rt, again, &REUSED);
+}
+
+fn is_filled(rt: &impl Abort, table: &mut Streams) {
+    fill_all(rt, table);
+    let mut again = table.copy().ok().expect(rt, "memory");
+    go_apart(rt, table, &mut again);
 }
 
 #[test]
 fn the_most_descriptors(rt: HostRuntime) -> Result<(), Fail> {
-    let mut table = Streams::new(rt.alloc(), &[64, 1]).ok().ok_or("memory")?;
-    is_filled(&rt, &mut table)
+    let mut table = table_of(&rt, &[64, 1]);
+    is_filled(&rt, &mut table);
+    Ok(())
 }
 
 const OF_128_DRIVERS: [Act; 6] = [
@@ -65,7 +69,6 @@ const OF_128_DRIVERS: [Act; 6] = [
 
 #[test]
 fn the_most_drivers(rt: HostRuntime) -> Result<(), Fail> {
-    let mut table = Streams::new(rt.alloc(), &[255; 128]).ok().ok_or("memory")?;
-    do_acts(&rt, &mut table, &OF_128_DRIVERS);
+    do_all(&rt, &[255; 128], &OF_128_DRIVERS);
     Ok(())
 }

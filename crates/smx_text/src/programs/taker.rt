@@ -13,7 +13,8 @@ pub trait ProgramTaker: Drop {
     ghost use Rattle.smx_words.specs.LineReading.{IsLineOf};
     ghost use Rattle.smx_words.specs.Spellable.{FitsCommandIn};
     ghost use Rattle.smx_words.specs.Spelling.{command_words};
-    ghost use Rattle.smx_text.specs.TakenPrograms.{IsTaken, nothing_of, with_driver, with_program};
+    ghost use Rattle.smx_types.specs.GrowingPrograms.{with_driver, with_program};
+    ghost use Rattle.smx_text.specs.TakenPrograms.{IsTaken, nothing_of};
 
     /// What it begins with.
     type With: Drop;
@@ -38,15 +39,16 @@ pub trait ProgramTaker: Drop {
         ensures taken { OnOk result (taken self.new ≡ with_driver (taken self.old) driver) }
         ensures kept { OnErr result (taken self.new ≡ taken self.old) };
 
-    /// Takes one program more, of the next process, which has no command yet. Fails only for want of memory, and then takes
-    /// nothing.
+    /// Takes one program more, of the next process, which has no command yet. Fails only for want of memory, and then
+    /// takes nothing.
     fn add_program(&mut self, alloc: Global) -> Result<(), NoMemory>
         requires { length (taken self.old).programs < MAX_PROCESSES }
         ensures taken { OnOk result (taken self.new ≡ with_program (taken self.old)) }
         ensures kept { OnErr result (taken self.new ≡ taken self.old) };
 
-    /// Takes the command whose words a line is, as the last of the last program, if it is one's that the version can tell,
-    /// and says whether it is. Fails only for want of memory, and then the line is such a command's, and nothing is taken.
+    /// Takes the command whose words a line is, as the last of the last program, if it is one's that the version can
+    /// tell, and says whether it is. Fails only for want of memory, and then the line is such a command's, and nothing
+    /// is taken.
     fn add_command(&mut self, alloc: Global, line: &[u8]) -> Result<bool, NoMemory>
         requires some { 0 < length (taken self.old).programs }
         requires few { sum_by length (taken self.old).programs < MAX_COMMANDS }

@@ -1,16 +1,16 @@
 //! The line of each command, read and written.
 
-use super::lists::alone;
+use super::headers::between;
+use super::lists::{alone, given};
 use super::spelling::is_spelled;
 use smx_samples::{Call, command_of};
 use smx_types::{Items, Programs, Sides, Which};
-use std::alloc::Global;
 use std::process::Abort;
 use std::test::Fail;
 
 type CommandLine = (Call<'static>, &'static [u8]);
 
-const LINES: [CommandLine; 23] = [
+const LINES: &[CommandLine] = &[
     (Call::Clone("eth"), b"clone eth"),
     (Call::Open("eth", 1), b"open eth 1"),
     (Call::Dup(2), b"dup 2"),
@@ -42,33 +42,25 @@ const LINES: [CommandLine; 23] = [
     (Call::Transmit("eth", 31), b"transmit eth 31"),
 ];
 
-// A text whose one command is this line.
-fn with_line(alloc: Global, line: &[u8]) -> Result<Vec<u8>, Fail> {
-    let mut text = Vec::from_slice(alloc, b"programs 1\nprocess 0\n".as_slice())?;
-    text.extend_from_slice(line)?;
-    text.extend_from_slice(b"\nend\n")?;
-    Ok(text)
-}
-
 /// The program of one command.
-pub fn of_one(alloc: Global, call: Call) -> Result<Programs, Fail> {
-    let command = command_of(alloc, call)?;
-    let commands = alone(alloc, command)?;
-    let programs = alone(alloc, commands)?;
-    Ok(Programs::new(Items::new(alloc), programs)?)
+pub fn of_one(rt: &(impl AllocGlobal + Abort), call: Call) -> Programs {
+    let command = given(rt, command_of(rt.alloc(), call));
+    let programs = alone(rt, alone(rt, command));
+    Programs::new(Items::new(rt.alloc()), programs)
+        .ok()
+        .expect(rt, "few")
 }
 
 // The line is the command's.
-fn is_line_of(rt: &(impl AllocGlobal + Abort), pair: CommandLine) -> Result<(), Fail> {
-    let (call, line) = pair;
-    let text = with_line(rt.alloc(), line)?;
-    is_spelled(rt, of_one(rt.alloc(), call), text.as_slice())
+fn is_line_of(rt: &(impl AllocGlobal + Abort), (call, line): CommandLine) {
+    let text = between(rt, b"programs 1\nprocess 0\n", line, b"\nend\n");
+    is_spelled(rt, of_one(rt, call), text.as_slice());
 }
 
 #[test]
 fn each_command_has_its_line(rt: HostRuntime) -> Result<(), Fail> {
-    for pair in &LINES {
-        is_line_of(&rt, *pair)?;
+    for pair in LINES {
+        is_line_of(&rt, *pair);
     }
     Ok(())
 }

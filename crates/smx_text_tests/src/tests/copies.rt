@@ -2,98 +2,76 @@
 
 use super::copying::{is_copied, list_is_copied};
 use super::hangup_lines::with_hungs;
-use super::lists::alone;
+use super::lists::{alone, given};
 use smx_samples::{Answer, Call, command_of, entry_of, held_above, items, named, reply_of};
-use smx_types::{BindingLine, Command, ConfigView, Message, Same};
-use std::alloc::Global;
+use smx_types::{BindingLine, Command, ConfigView, Entry, Message, Reply, Same};
 use std::process::Abort;
 use std::test::Fail;
 
-fn a_message(alloc: Global) -> Result<Message, Fail> {
-    Ok(Message {
+fn a_message(rt: &(impl AllocGlobal + Abort)) -> Message {
+    Message {
         serial: 1,
         addr: 5,
-        bytes: items(alloc, &[0, 0, 0, 1])?,
-    })
-}
-
-#[test]
-fn a_message_is_copied(rt: HostRuntime) -> Result<(), Fail> {
-    is_copied(&rt, a_message(rt.alloc()))
-}
-
-#[test]
-fn messages_are_copied(rt: HostRuntime) -> Result<(), Fail> {
-    let message = a_message(rt.alloc())?;
-    list_is_copied(&rt, alone(rt.alloc(), message), 1)
+        bytes: given(rt, items(rt.alloc(), &[0, 0, 0, 1])),
+    }
 }
 
 const GOT: Answer = Answer::Got(1, 5, &[0, 0, 0, 1]);
 
-#[test]
-fn an_entry_is_copied(rt: HostRuntime) -> Result<(), Fail> {
-    is_copied(&rt, entry_of(rt.alloc(), (Call::Transmit("eth", 0), GOT)))
+fn an_entry(rt: &(impl AllocGlobal + Abort)) -> Entry {
+    given(rt, entry_of(rt.alloc(), (Call::Transmit("eth", 0), GOT)))
+}
+
+fn a_reply(rt: &(impl AllocGlobal + Abort)) -> Reply {
+    given(rt, reply_of(rt.alloc(), GOT))
+}
+
+fn a_write(rt: &(impl AllocGlobal + Abort), last: u8) -> Command {
+    given(
+        rt,
+        command_of(rt.alloc(), Call::Write(0, 5, &[0, 0, 0, last])),
+    )
 }
 
 #[test]
-fn a_reply_is_copied(rt: HostRuntime) -> Result<(), Fail> {
-    is_copied(&rt, reply_of(rt.alloc(), GOT))
-}
-
-#[test]
-fn replies_are_copied(rt: HostRuntime) -> Result<(), Fail> {
-    let reply = reply_of(rt.alloc(), GOT)?;
-    list_is_copied(&rt, alone(rt.alloc(), reply), 1)
-}
-
-// What was made differs from the other.
-fn differ<T: Same + Drop>(rt: &impl Abort, made: Result<T, Fail>, other: T) -> Result<(), Fail> {
-    let value = made?;
-    assert!(rt; !other.is_same(&value));
+fn messages_and_entries_are_copied(rt: HostRuntime) -> Result<(), Fail> {
+    is_copied(&rt, a_message(&rt));
+    list_is_copied(&rt, alone(&rt, a_message(&rt)), 1);
+    is_copied(&rt, an_entry(&rt));
+    is_copied(&rt, a_reply(&rt));
+    list_is_copied(&rt, alone(&rt, a_reply(&rt)), 1);
+    is_copied(&rt, a_write(&rt, 1));
     Ok(())
 }
 
-fn a_write(alloc: Global, last: u8) -> Result<Command, Fail> {
-    command_of(alloc, Call::Write(0, 5, &[0, 0, 0, last]))
-}
-
-#[test]
-fn a_command_is_copied(rt: HostRuntime) -> Result<(), Fail> {
-    is_copied(&rt, a_write(rt.alloc(), 1))
-}
-
-#[test]
-fn a_command_has_its_bytes(rt: HostRuntime) -> Result<(), Fail> {
-    let other = a_write(rt.alloc(), 2)?;
-    differ(&rt, a_write(rt.alloc(), 1), other)
-}
-
 // What is shown after the marks were met across a join, with an address that is bound and this serial next.
-fn shown(alloc: Global, next_serial: u32) -> Result<ConfigView, Fail> {
+fn shown(rt: &(impl AllocGlobal + Abort), next_serial: u32) -> ConfigView {
     let bound = BindingLine {
-        driver: named("ip")?,
+        driver: given(rt, named("ip")),
         addr: 9,
         minor: 0,
     };
-    let binds = items(alloc, &[bound])?;
-    let mut view = held_above(alloc)?;
-    view.binds = binds;
+    let mut view = given(rt, held_above(rt.alloc()));
+    view.binds = given(rt, items(rt.alloc(), &[bound]));
     view.next_serial = next_serial;
-    Ok(view)
+    view
 }
 
 #[test]
-fn a_view_is_copied(rt: HostRuntime) -> Result<(), Fail> {
-    is_copied(&rt, shown(rt.alloc(), 6))
+fn views_are_copied(rt: HostRuntime) -> Result<(), Fail> {
+    is_copied(&rt, shown(&rt, 6));
+    is_copied(&rt, with_hungs(&rt));
+    Ok(())
 }
 
-#[test]
-fn hung_up_streams_are_copied(rt: HostRuntime) -> Result<(), Fail> {
-    is_copied(&rt, with_hungs(rt.alloc()))
+fn differ<T: Same + Drop>(rt: &impl Abort, value: T, other: T) {
+    assert!(rt; !other.is_same(&value));
 }
 
+// A command has its bytes, and a view its numbers.
 #[test]
-fn a_view_has_its_numbers(rt: HostRuntime) -> Result<(), Fail> {
-    let other = shown(rt.alloc(), 7)?;
-    differ(&rt, shown(rt.alloc(), 6), other)
+fn others_differ(rt: HostRuntime) -> Result<(), Fail> {
+    differ(&rt, a_write(&rt, 1), a_write(&rt, 2));
+    differ(&rt, shown(&rt, 6), shown(&rt, 7));
+    Ok(())
 }

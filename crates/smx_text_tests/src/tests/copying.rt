@@ -6,7 +6,6 @@ use smx_types::{
 };
 use std::alloc::Global;
 use std::process::Abort;
-use std::test::Fail;
 
 /// What has a `copy`.
 pub trait Again: Same + Drop {
@@ -16,30 +15,23 @@ pub trait Again: Same + Drop {
         Self: Sized;
 }
 
-/// What was made is copied.
-pub fn is_copied<T: Again>(
-    rt: &(impl AllocGlobal + Abort),
-    made: Result<T, Fail>,
-) -> Result<(), Fail> {
-    let value = made?;
-    let again = value.again(rt.alloc())?;
+/// It is copied.
+pub fn is_copied<T: Again>(rt: &(impl AllocGlobal + Abort), value: T) {
+    let again = value.again(rt.alloc()).ok().expect(rt, "memory");
     assert!(rt; again == value);
     assert!(rt; again.is_same(&value));
-    Ok(())
 }
 
 /// A list of this many is copied, with room for just them.
 pub fn list_is_copied<T: Copied + PartialEq>(
     rt: &(impl AllocGlobal + Abort),
-    made: Result<Items<T>, Fail>,
+    list: Items<T>,
     count: usize,
-) -> Result<(), Fail> {
-    let list = made?;
-    let again = list.copy(rt.alloc())?;
+) {
+    let again = list.copy(rt.alloc()).ok().expect(rt, "memory");
     assert!(rt; again == list);
-    assert_eq!(rt; again.as_slice().len(), count);
-    assert_eq!(rt; again.into_vec().capacity(), count);
-    Ok(())
+    assert!(rt; again.as_slice().len() == count);
+    assert!(rt; again.into_vec().capacity() == count);
 }
 
 impl Again for Message {

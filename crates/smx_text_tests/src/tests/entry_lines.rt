@@ -1,16 +1,16 @@
 //! The line of each entry of a history, as it is written.
 
-use super::lists::alone;
+use super::headers::between;
+use super::lists::{alone, given};
 use super::spelling::is_written;
 use smx_samples::{Answer, Call, command_of, nothing_open, numbered, reply_of};
 use smx_types::{Entry, Fault, Items, Transcript, Version};
-use std::alloc::Global;
 use std::process::Abort;
 use std::test::Fail;
 
 type EntryLine = (u32, Call<'static>, Answer<'static>, &'static [u8]);
 
-const LINES: [EntryLine; 8] = [
+const LINES: &[EntryLine] = &[
     (
         63,
         Call::Open("a", 10),
@@ -46,7 +46,7 @@ const LINES: [EntryLine; 8] = [
     ),
 ];
 
-const FAULTS: [(Fault, &[u8]); 16] = [
+const FAULTS: &[(Fault, &[u8])] = &[
     (Fault::BadDescriptor, b"0 exit = EBADF fd"),
     (Fault::Below, b"0 exit = EINVAL below"),
     (Fault::NotMux, b"0 exit = EINVAL notmux"),
@@ -66,55 +66,42 @@ const FAULTS: [(Fault, &[u8]); 16] = [
 ];
 
 /// A transcript of this entry alone.
-pub fn of_one(alloc: Global, entry: Entry) -> Result<Transcript, Fail> {
-    let entries = alone(alloc, entry)?;
-    Ok(Transcript {
+pub fn of_one(rt: &(impl AllocGlobal + Abort), entry: Entry) -> Transcript {
+    Transcript {
         version: Version::V1,
-        drivers: Items::new(alloc),
-        entries,
-        view: nothing_open(alloc, 1, 1),
-    })
+        drivers: Items::new(rt.alloc()),
+        entries: alone(rt, entry),
+        view: nothing_open(rt.alloc(), 1, 1),
+    }
 }
 
-// A transcript of what this process asks alone.
-fn asked(alloc: Global, number: u32, call: Call, answer: Answer) -> Result<Transcript, Fail> {
-    let process = numbered(number)?;
-    let command = command_of(alloc, call)?;
-    let reply = reply_of(alloc, answer)?;
-    let entry = Entry {
-        process,
-        command,
-        reply,
-    };
-    of_one(alloc, entry)
+// What this process asks, and is answered.
+fn asked(rt: &(impl AllocGlobal + Abort), number: u32, call: Call, answer: Answer) -> Entry {
+    Entry {
+        process: given(rt, numbered(number)),
+        command: given(rt, command_of(rt.alloc(), call)),
+        reply: given(rt, reply_of(rt.alloc(), answer)),
+    }
 }
 
-// A text whose one entry is this line.
-fn with_line(alloc: Global, line: &[u8]) -> Result<Vec<u8>, Fail> {
-    let mut text = Vec::from_slice(alloc, b"transcript 1\n".as_slice())?;
-    text.extend_from_slice(line)?;
-    text.extend_from_slice(b"\nconfig\nnext 1 1\nend\n")?;
-    Ok(text)
-}
-
-fn is_line_of(rt: &(impl AllocGlobal + Abort), row: EntryLine) -> Result<(), Fail> {
-    let (number, call, answer, line) = row;
-    let text = with_line(rt.alloc(), line)?;
-    is_written(rt, asked(rt.alloc(), number, call, answer), text.as_slice())
+fn is_line_of(rt: &(impl AllocGlobal + Abort), (number, call, answer, line): EntryLine) {
+    let text = between(rt, b"transcript 1\n", line, b"\nconfig\nnext 1 1\nend\n");
+    let entry = asked(rt, number, call, answer);
+    is_written(rt, of_one(rt, entry), text.as_slice());
 }
 
 #[test]
 fn each_reply_has_its_words(rt: HostRuntime) -> Result<(), Fail> {
-    for row in &LINES {
-        is_line_of(&rt, *row)?;
+    for row in LINES {
+        is_line_of(&rt, *row);
     }
     Ok(())
 }
 
 #[test]
 fn each_fault_has_its_words(rt: HostRuntime) -> Result<(), Fail> {
-    for (fault, line) in &FAULTS {
-        is_line_of(&rt, (0, Call::Exit, Answer::Refused(*fault), *line))?;
+    for (fault, line) in FAULTS {
+        is_line_of(&rt, (0, Call::Exit, Answer::Refused(*fault), *line));
     }
     Ok(())
 }

@@ -3,12 +3,12 @@
 use super::command_lines::of_one as program_of_one;
 use super::entry_lines::of_one;
 use super::headers::{PROGRAMS, TRANSCRIPTS, behind};
-use super::spelling::{Spelled, is_spelled, is_written};
+use super::lists::{given, put};
+use super::spelling::{is_spelled, is_written_again};
 use super::{program_faults, transcript_faults};
 use smx_samples::{Answer, Call, entry_of, named, nothing_open};
 use smx_text::Cause;
 use smx_types::{ConfigView, Fault, HungLine, Items, Transcript, Version};
-use std::alloc::Global;
 use std::process::Abort;
 use std::test::Fail;
 
@@ -16,17 +16,18 @@ const HANGUP: &[u8] = b"process 0\nhangup eth 31\nend\n";
 
 #[test]
 fn a_hangup_has_its_line(rt: HostRuntime) -> Result<(), Fail> {
-    let text = behind(rt.alloc(), PROGRAMS[1], HANGUP)?;
+    let text = behind(&rt, PROGRAMS[1], HANGUP);
     is_spelled(
         &rt,
-        program_of_one(rt.alloc(), Call::Hangup("eth", 31)),
+        program_of_one(&rt, Call::Hangup("eth", 31)),
         text.as_slice(),
-    )
+    );
+    Ok(())
 }
 
 #[test]
 fn version_1_has_no_hangup(rt: HostRuntime) -> Result<(), Fail> {
-    let text = behind(rt.alloc(), PROGRAMS[0], HANGUP)?;
+    let text = behind(&rt, PROGRAMS[0], HANGUP);
     program_faults::is_refused(&rt, text.as_slice(), 3, Cause::Form);
     Ok(())
 }
@@ -52,82 +53,62 @@ const LINES: [TellingLine; 3] = [
 ];
 
 // A transcript of version 2, of what process 0 asks alone.
-fn told(alloc: Global, call: Call, answer: Answer) -> Result<Transcript, Fail> {
-    let entry = entry_of(alloc, (call, answer))?;
-    let mut transcript = of_one(alloc, entry)?;
+fn told(rt: &(impl AllocGlobal + Abort), call: Call, answer: Answer) -> Transcript {
+    let entry = given(rt, entry_of(rt.alloc(), (call, answer)));
+    let mut transcript = of_one(rt, entry);
     transcript.version = Version::V2;
-    Ok(transcript)
+    transcript
 }
 
-fn is_line_of(rt: &(impl AllocGlobal + Abort), row: TellingLine) -> Result<(), Fail> {
-    let (call, answer, rest) = row;
-    let text = behind(rt.alloc(), TRANSCRIPTS[1], rest)?;
-    is_spelled(rt, told(rt.alloc(), call, answer), text.as_slice())
+fn is_line_of(rt: &(impl AllocGlobal + Abort), (call, answer, rest): TellingLine) {
+    let text = behind(rt, TRANSCRIPTS[1], rest);
+    is_spelled(rt, told(rt, call, answer), text.as_slice());
+}
+
+// Version 1 has no such line.
+fn is_none_of_version_1(rt: &(impl AllocGlobal + Abort), rest: &[u8], line: usize) {
+    let text = behind(rt, TRANSCRIPTS[0], rest);
+    transcript_faults::is_refused(rt, text.as_slice(), line, Cause::Form);
 }
 
 #[test]
 fn each_tells_of_a_hangup(rt: HostRuntime) -> Result<(), Fail> {
     for row in &LINES {
-        is_line_of(&rt, *row)?;
+        is_line_of(&rt, *row);
+        is_none_of_version_1(&rt, row.2, 2);
     }
     Ok(())
 }
 
-// Version 1 has no such line.
-fn is_none_of_version_1(
-    rt: &(impl AllocGlobal + Abort),
-    rest: &[u8],
-    line: usize,
-) -> Result<(), Fail> {
-    let text = behind(rt.alloc(), TRANSCRIPTS[0], rest)?;
-    transcript_faults::is_refused(rt, text.as_slice(), line, Cause::Form);
-    Ok(())
-}
-
-#[test]
-fn version_1_tells_of_none(rt: HostRuntime) -> Result<(), Fail> {
-    for (_, _, rest) in &LINES {
-        is_none_of_version_1(&rt, *rest, 2)?;
-    }
-    Ok(())
-}
-
-fn hung(minor: u32) -> Result<HungLine, Fail> {
-    Ok(HungLine {
-        driver: named("eth")?,
+fn add_hung(rt: &impl Abort, view: &mut ConfigView, minor: u32) {
+    let hung = HungLine {
+        driver: given(rt, named("eth")),
         minor,
-    })
-}
-
-fn add_hungs(view: &mut ConfigView) -> Result<(), Fail> {
-    view.hungs.push(hung(0)?)?;
-    view.hungs.push(hung(u32::MAX)?)?;
-    Ok(())
+    };
+    put(rt, &mut view.hungs, hung);
 }
 
 /// A transcript of hung-up streams alone.
-pub fn with_hungs(alloc: Global) -> Result<Transcript, Fail> {
-    let mut view = nothing_open(alloc, 1, 1);
-    add_hungs(&mut view)?;
-    Ok(Transcript {
+pub fn with_hungs(rt: &(impl AllocGlobal + Abort)) -> Transcript {
+    let mut view = nothing_open(rt.alloc(), 1, 1);
+    add_hung(rt, &mut view, 0);
+    add_hung(rt, &mut view, u32::MAX);
+    Transcript {
         version: Version::V2,
-        drivers: Items::new(alloc),
-        entries: Items::new(alloc),
+        drivers: Items::new(rt.alloc()),
+        entries: Items::new(rt.alloc()),
         view,
-    })
+    }
 }
 
 const HUNGS: &[u8] = b"config\nnext 1 1\nhung eth 0\nhung eth 4294967295\nend\n";
 
 #[test]
 fn hung_up_streams_have_their_lines(rt: HostRuntime) -> Result<(), Fail> {
-    let text = behind(rt.alloc(), TRANSCRIPTS[1], HUNGS)?;
-    is_spelled(&rt, with_hungs(rt.alloc()), text.as_slice())
-}
-
-#[test]
-fn version_1_has_no_hung_up_stream(rt: HostRuntime) -> Result<(), Fail> {
-    is_none_of_version_1(&rt, HUNGS, 4)
+    let text = behind(&rt, TRANSCRIPTS[1], HUNGS);
+    is_spelled(&rt, with_hungs(&rt), text.as_slice());
+    is_none_of_version_1(&rt, HUNGS, 4);
+    Ok(())
 }
 
 const MALFORMED: [&[u8]; 5] = [
@@ -138,17 +119,15 @@ const MALFORMED: [&[u8]; 5] = [
     b"transcript 2\ndriver eth leaf 2 8 3 16\nconfig\nhung eth 0\nend\n",
 ];
 
+// Hung-up streams come last.
+const NOT_LAST: &[u8] = b"transcript 2\nconfig\nnext 1 1\nhung eth 0\nfull eth 0 r\nend\n";
+
 #[test]
 fn lines_that_are_no_hung_up_stream(rt: HostRuntime) {
     for text in &MALFORMED {
         transcript_faults::is_refused(&rt, *text, 4, Cause::Form);
     }
-}
-
-#[test]
-fn hung_up_streams_come_last(rt: HostRuntime) {
-    let text = b"transcript 2\nconfig\nnext 1 1\nhung eth 0\nfull eth 0 r\nend\n".as_slice();
-    transcript_faults::is_refused(&rt, text, 5, Cause::Form);
+    transcript_faults::is_refused(&rt, NOT_LAST, 5, Cause::Form);
 }
 
 const END_OF_FILE: &[u8] = b"driver ip mux 4 8 3 16
@@ -205,20 +184,16 @@ end
 // What is told behind the header, and the line at which version 1 refuses it.
 const HISTORIES: [(&[u8], usize); 2] = [(END_OF_FILE, 6), (REFUSALS, 9)];
 
-fn is_history(rt: &(impl AllocGlobal + Abort), rest: &[u8], line: usize) -> Result<(), Fail> {
-    let text = behind(rt.alloc(), TRANSCRIPTS[1], rest)?;
-    is_written(
-        rt,
-        Transcript::read(rt.alloc(), text.as_slice()),
-        text.as_slice(),
-    )?;
-    is_none_of_version_1(rt, rest, line)
+fn is_history(rt: &(impl AllocGlobal + Abort), rest: &[u8], line: usize) {
+    let text = behind(rt, TRANSCRIPTS[1], rest);
+    is_written_again::<Transcript>(rt, text.as_slice());
+    is_none_of_version_1(rt, rest, line);
 }
 
 #[test]
 fn reads_and_writes_hangups(rt: HostRuntime) -> Result<(), Fail> {
     for (rest, line) in &HISTORIES {
-        is_history(&rt, *rest, *line)?;
+        is_history(&rt, *rest, *line);
     }
     Ok(())
 }

@@ -1,23 +1,36 @@
-//! Values of one thing each.
+//! Values of one thing each, and what a sample gives.
 
 use smx_types::{Commands, DriverSpec, Items, Programs};
-use std::alloc::Global;
+use std::process::Abort;
 use std::test::Fail;
 
+/// What was made.
+pub fn given<T: Drop>(rt: &impl Abort, made: Result<T, Fail>) -> T {
+    match made {
+        Ok(value) => value,
+        Err(_) => panic!(rt; "a value is wanting"),
+    }
+}
+
+/// The list has this one too.
+pub fn put<T: Drop>(rt: &impl Abort, items: &mut Items<T>, item: T) {
+    assert!(rt; items.push(item).is_ok());
+}
+
 /// The list of this one.
-pub fn alone<T: Drop>(alloc: Global, item: T) -> Result<Items<T>, Fail> {
-    let mut items = Items::new(alloc);
-    items.push(item)?;
-    Ok(items)
+pub fn alone<T: Drop>(rt: &(impl AllocGlobal + Abort), item: T) -> Items<T> {
+    let mut items = Items::new(rt.alloc());
+    put(rt, &mut items, item);
+    items
 }
 
 /// One driver, and one program.
 pub fn one_program(
-    alloc: Global,
+    rt: &(impl AllocGlobal + Abort),
     driver: DriverSpec,
     commands: Commands,
-) -> Result<Programs, Fail> {
-    let programs = alone(alloc, commands)?;
-    let drivers = alone(alloc, driver)?;
-    Ok(Programs::new(drivers, programs)?)
+) -> Programs {
+    let programs = alone(rt, commands);
+    let drivers = alone(rt, driver);
+    Programs::new(drivers, programs).ok().expect(rt, "few")
 }

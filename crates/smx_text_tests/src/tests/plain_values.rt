@@ -8,28 +8,28 @@ const IP: DriverSpecNumbers = (4, 8, 3, 16);
 
 type DriverSpecNumbers = (u32, u32, u32, u32);
 
-fn driver(text: &str, numbers: DriverSpecNumbers) -> Option<DriverSpec> {
+fn ip(rt: &impl Abort, numbers: DriverSpecNumbers) -> DriverSpec {
     let (minors, high, low, max) = numbers;
-    Some(DriverSpec {
-        name: Name::new(text)?,
+    DriverSpec {
+        name: Name::new("ip").expect(rt, "a name"),
         kind: DriverKind::Mux,
         minors,
         high,
         low,
         max,
-    })
+    }
 }
 
-fn is_name(rt: &impl Abort, text: &str, bytes: &[u8]) -> Result<(), Fail> {
-    let name = Name::new(text).ok_or("a name")?;
-    assert_eq!(rt; name.as_bytes(), bytes);
-    Ok(())
+fn is_name(rt: &impl Abort, text: &str, bytes: &[u8]) {
+    let name = Name::new(text).expect(rt, "a name");
+    assert!(rt; name.as_bytes() == bytes);
 }
 
 #[test]
 fn names_that_can_be_had(rt: HostRuntime) -> Result<(), Fail> {
-    is_name(&rt, "ip", b"ip")?;
-    is_name(&rt, "abcdefg8", b"abcdefg8")
+    is_name(&rt, "ip", b"ip");
+    is_name(&rt, "abcdefg8", b"abcdefg8");
+    Ok(())
 }
 
 const NO_NAMES: [&str; 6] = ["", "9a", "ninelette", "Ip", "i p", "ip\n"];
@@ -37,14 +37,14 @@ const NO_NAMES: [&str; 6] = ["", "9a", "ninelette", "Ip", "i p", "ip\n"];
 #[test]
 fn names_that_are_none(rt: HostRuntime) {
     for text in &NO_NAMES {
-        assert!(rt; Name::new(*text).is_none(), "{text}");
+        assert!(rt; Name::new(*text).is_none());
     }
 }
 
 #[test]
 fn processes_below_64(rt: HostRuntime) -> Result<(), Fail> {
-    let last = Process::new(63).ok_or("a process")?;
-    assert_eq!(rt; last.get(), 63);
+    let last = Process::new(63).expect(&rt, "a process");
+    assert!(rt; last.get() == 63);
     assert!(rt; Process::new(64).is_none());
     Ok(())
 }
@@ -63,8 +63,7 @@ const WANTS: [(DriverSpecNumbers, Result<(), SpecFault>); 8] = [
 #[test]
 fn drivers_that_can_be_had(rt: HostRuntime) -> Result<(), Fail> {
     for (numbers, want) in &WANTS {
-        let spec = driver("ip", *numbers).ok_or("a name")?;
-        assert_eq!(rt; spec.check(), *want);
+        assert!(rt; ip(&rt, *numbers).check() == *want);
     }
     Ok(())
 }

@@ -1,25 +1,17 @@
 //! Texts that are no programs.
 
+use super::headers::{add, add_line, behind, between};
 use smx_text::{Cause, TextFault, read_programs};
-use std::alloc::Global;
 use std::process::Abort;
 use std::test::Fail;
 
 // The text up to line 3.
 const BEGIN: &[u8] = b"programs 1\ndriver ip mux 4 8 3 16\nprocess 0\n";
 
-// A text of a driver and one process, whose fourth line is this.
-fn with_line(alloc: Global, line: &[u8]) -> Result<Vec<u8>, Fail> {
-    let mut text = Vec::from_slice(alloc, BEGIN)?;
-    text.extend_from_slice(line)?;
-    text.extend_from_slice(b"\nend\n")?;
-    Ok(text)
-}
-
 /// The text is no programs, for this cause at this line.
 pub fn is_refused(rt: &(impl AllocGlobal + Abort), text: &[u8], line: usize, cause: Cause) {
     let fault = read_programs(rt.alloc(), text).err();
-    assert_eq!(rt; fault, Some(TextFault { line, cause }));
+    assert!(rt; fault == Some(TextFault { line, cause }));
 }
 
 const ILL_FORMED: [&[u8]; 20] = [
@@ -45,16 +37,15 @@ const ILL_FORMED: [&[u8]; 20] = [
     b"driver b leaf 1 1 0 1",
 ];
 
-fn is_ill_formed(rt: &(impl AllocGlobal + Abort), line: &[u8]) -> Result<(), Fail> {
-    let text = with_line(rt.alloc(), line)?;
+fn is_ill_formed(rt: &(impl AllocGlobal + Abort), line: &[u8]) {
+    let text = between(rt, BEGIN, line, b"\nend\n");
     is_refused(rt, text.as_slice(), 4, Cause::Form);
-    Ok(())
 }
 
 #[test]
 fn refuses_ill_formed_lines(rt: HostRuntime) -> Result<(), Fail> {
     for line in &ILL_FORMED {
-        is_ill_formed(&rt, *line)?;
+        is_ill_formed(&rt, *line);
     }
     Ok(())
 }
@@ -82,25 +73,17 @@ fn names_the_line_at_fault(rt: HostRuntime) {
     }
 }
 
-fn add_processes(alloc: Global, text: &mut Vec<u8>, count: u32) -> Result<(), Fail> {
+fn add_processes(rt: &(impl AllocGlobal + Abort), text: &mut Vec<u8>, count: u32) {
     for number in 0..count {
-        let line = format!(in alloc; "process {number}\n")?;
-        text.extend_from_slice(line.as_bytes())?;
+        add_line(rt, text, format!(in rt.alloc(); "process {number}\n").ok());
     }
-    Ok(())
-}
-
-fn with_processes(alloc: Global, count: u32) -> Result<Vec<u8>, Fail> {
-    let begin = b"programs 1\ndriver ip mux 4 8 3 16\n";
-    let mut text = Vec::from_slice(alloc, begin.as_slice())?;
-    add_processes(alloc, &mut text, count)?;
-    text.extend_from_slice(b"end\n")?;
-    Ok(text)
 }
 
 #[test]
 fn refuses_the_65th_process(rt: HostRuntime) -> Result<(), Fail> {
-    let text = with_processes(rt.alloc(), 65)?;
+    let mut text = behind(&rt, b"programs 1\n", b"driver ip mux 4 8 3 16\n");
+    add_processes(&rt, &mut text, 65);
+    add(&rt, &mut text, b"end\n");
     is_refused(&rt, text.as_slice(), 67, Cause::Many);
     Ok(())
 }

@@ -1,36 +1,35 @@
 //! Programs and their texts.
 
-use super::lists::one_program;
-use super::spelling::{Spelled, is_spelled, is_written};
+use super::lists::{given, one_program, put};
+use super::spelling::{is_spelled, is_written_again};
 use smx_samples::{ip, named};
 use smx_types::{Command, Commands, Items, Programs};
-use std::alloc::Global;
+use std::process::Abort;
 use std::test::Fail;
 
 /// Streams that are opened and closed.
 pub const OPENS_AND_CLOSES: &[u8] =
     b"programs 1\ndriver ip mux 4 8 3 16\nprocess 0\nclone ip\nclone ip\nclose 0\nclone ip\nend\n";
 
-fn opening_and_closing(alloc: Global) -> Result<Commands, Fail> {
-    let driver = named("ip")?;
-    let mut commands = Items::new(alloc);
-    commands.push(Command::OpenClone { driver })?;
-    commands.push(Command::OpenClone { driver })?;
-    commands.push(Command::Close { fd: 0 })?;
-    commands.push(Command::OpenClone { driver })?;
-    Ok(commands)
+fn opening_and_closing(rt: &(impl AllocGlobal + Abort)) -> Commands {
+    let driver = given(rt, named("ip"));
+    let mut commands = Items::new(rt.alloc());
+    put(rt, &mut commands, Command::OpenClone { driver });
+    put(rt, &mut commands, Command::OpenClone { driver });
+    put(rt, &mut commands, Command::Close { fd: 0 });
+    put(rt, &mut commands, Command::OpenClone { driver });
+    commands
 }
 
 /// What that text spells.
-pub fn opens_and_closes(alloc: Global) -> Result<Programs, Fail> {
-    let driver = ip()?;
-    let commands = opening_and_closing(alloc)?;
-    one_program(alloc, driver, commands)
+pub fn opens_and_closes(rt: &(impl AllocGlobal + Abort)) -> Programs {
+    one_program(rt, given(rt, ip()), opening_and_closing(rt))
 }
 
 #[test]
 fn reads_and_writes_programs(rt: HostRuntime) -> Result<(), Fail> {
-    is_spelled(&rt, opens_and_closes(rt.alloc()), OPENS_AND_CLOSES)
+    is_spelled(&rt, opens_and_closes(&rt), OPENS_AND_CLOSES);
+    Ok(())
 }
 
 const MARKS_ACROSS_THE_JOIN: &[u8] = b"programs 1
@@ -131,7 +130,7 @@ const TEXTS: [&[u8]; 5] = [
 #[test]
 fn writes_what_it_reads(rt: HostRuntime) -> Result<(), Fail> {
     for text in &TEXTS {
-        is_written(&rt, Programs::read(rt.alloc(), *text), *text)?;
+        is_written_again::<Programs>(&rt, *text);
     }
     Ok(())
 }

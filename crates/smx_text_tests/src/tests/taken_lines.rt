@@ -1,8 +1,7 @@
 //! Programs that are taken while their text is read.
 
-use smx_text::{
-    Cause, ProgramTaker, Programs, TakenPrograms, TextFault, take_programs, write_programs,
-};
+use super::spelling::is_written;
+use smx_text::{Cause, ProgramTaker, Programs, TakenPrograms, TextFault, take_programs};
 use smx_types::{DriverSpec, NoMemory, Version};
 use std::alloc::Global;
 use std::process::Abort;
@@ -71,14 +70,12 @@ end
 
 #[test]
 fn each_line_is_taken(rt: HostRuntime) -> Result<(), Fail> {
-    let alloc = rt.alloc();
     let lines = AtomicUsize::new(0);
-    let programs = take_programs::<Counting>(alloc, &lines, THREE_PROCESSES)?;
-    assert_eq!(rt; lines.load(Ordering::SeqCst), 8);
-    assert_eq!(rt;
-        write_programs(alloc, &programs)?.as_slice(),
-        THREE_PROCESSES
-    );
+    let programs = take_programs::<Counting>(rt.alloc(), &lines, THREE_PROCESSES)
+        .ok()
+        .expect(&rt, "programs");
+    assert!(rt; lines.load(Ordering::SeqCst) == 8);
+    is_written(&rt, programs, THREE_PROCESSES);
     Ok(())
 }
 
@@ -111,8 +108,8 @@ const AT_FAULT: [(&[u8], usize, Cause, usize); 6] = [
 fn stops_at(rt: &(impl AllocGlobal + Abort), text: &[u8], fault: TextFault, taken: usize) {
     let lines = AtomicUsize::new(0);
     let answer = take_programs::<Counting>(rt.alloc(), &lines, text);
-    assert_eq!(rt; answer.err(), Some(fault));
-    assert_eq!(rt; lines.load(Ordering::SeqCst), taken);
+    assert!(rt; answer.err() == Some(fault));
+    assert!(rt; lines.load(Ordering::SeqCst) == taken);
 }
 
 #[test]

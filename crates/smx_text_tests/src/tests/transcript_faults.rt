@@ -1,16 +1,13 @@
 //! Lines of transcripts, and texts that are none.
 
+use super::headers::between;
 use smx_text::{Cause, TextFault, read_transcript};
-use std::alloc::Global;
 use std::process::Abort;
 use std::test::Fail;
 
 // A text whose second line is this.
-fn with_line(alloc: Global, line: &[u8]) -> Result<Vec<u8>, Fail> {
-    let mut text = Vec::from_slice(alloc, b"transcript 1\n".as_slice())?;
-    text.extend_from_slice(line)?;
-    text.extend_from_slice(b"\nconfig\nnext 1 1\nend\n")?;
-    Ok(text)
+fn with_line(rt: &(impl AllocGlobal + Abort), line: &[u8]) -> Vec<u8> {
+    between(rt, b"transcript 1\n", line, b"\nconfig\nnext 1 1\nend\n")
 }
 
 const REPLIES: [&[u8]; 8] = [
@@ -24,17 +21,16 @@ const REPLIES: [&[u8]; 8] = [
     b"0 dup 0 = EINVAL unrouted",
 ];
 
-fn is_taken(rt: &(impl AllocGlobal + Abort), line: &[u8]) -> Result<(), Fail> {
-    let text = with_line(rt.alloc(), line)?;
+fn is_taken(rt: &(impl AllocGlobal + Abort), line: &[u8]) {
+    let text = with_line(rt, line);
     let fault = read_transcript(rt.alloc(), text.as_slice()).err();
-    assert_eq!(rt; fault, None);
-    Ok(())
+    assert!(rt; fault.is_none());
 }
 
 #[test]
 fn takes_each_reply(rt: HostRuntime) -> Result<(), Fail> {
     for line in &REPLIES {
-        is_taken(&rt, *line)?;
+        is_taken(&rt, *line);
     }
     Ok(())
 }
@@ -42,7 +38,7 @@ fn takes_each_reply(rt: HostRuntime) -> Result<(), Fail> {
 /// The text is no transcript, for this cause at this line.
 pub fn is_refused(rt: &(impl AllocGlobal + Abort), text: &[u8], line: usize, cause: Cause) {
     let fault = read_transcript(rt.alloc(), text).err();
-    assert_eq!(rt; fault, Some(TextFault { line, cause }));
+    assert!(rt; fault == Some(TextFault { line, cause }));
 }
 
 const ILL_FORMED: [&[u8]; 22] = [
@@ -70,16 +66,15 @@ const ILL_FORMED: [&[u8]; 22] = [
     b"clone ip",
 ];
 
-fn is_ill_formed(rt: &(impl AllocGlobal + Abort), line: &[u8]) -> Result<(), Fail> {
-    let text = with_line(rt.alloc(), line)?;
+fn is_ill_formed(rt: &(impl AllocGlobal + Abort), line: &[u8]) {
+    let text = with_line(rt, line);
     is_refused(rt, text.as_slice(), 2, Cause::Form);
-    Ok(())
 }
 
 #[test]
 fn refuses_ill_formed_entries(rt: HostRuntime) -> Result<(), Fail> {
     for line in &ILL_FORMED {
-        is_ill_formed(&rt, *line)?;
+        is_ill_formed(&rt, *line);
     }
     Ok(())
 }

@@ -1,9 +1,9 @@
 //! Transcripts that are read and written again.
 
-use super::spelling::{Spelled, is_written};
+use super::spelling::is_written_again;
 use smx_text::{TranscriptWriter, read_transcript};
 use smx_types::Transcript;
-use std::alloc::Global;
+use std::process::Abort;
 use std::slice;
 use std::test::Fail;
 
@@ -161,31 +161,41 @@ const TEXTS: [&[u8]; 6] = [
 #[test]
 fn reads_and_writes_again(rt: HostRuntime) -> Result<(), Fail> {
     for text in &TEXTS {
-        is_written(&rt, Transcript::read(rt.alloc(), *text), *text)?;
+        is_written_again::<Transcript>(&rt, *text);
     }
     Ok(())
 }
 
+fn begin(rt: &(impl AllocGlobal + Abort), transcript: &Transcript) -> TranscriptWriter {
+    let room = Vec::from_slice(rt.alloc(), b"no longer wanted")
+        .ok()
+        .expect(rt, "memory");
+    TranscriptWriter::begin(room, transcript.version, transcript.drivers.as_slice())
+        .ok()
+        .expect(rt, "memory")
+}
+
 // The text of a transcript that is written entry by entry, in the room of other bytes.
-fn written_as_it_grows(alloc: Global, transcript: &Transcript) -> Result<Vec<u8>, Fail> {
-    let room = Vec::from_slice(alloc, b"no longer wanted")?;
-    let mut writer = TranscriptWriter::begin(
-        room,
-        transcript.version,
-        transcript.drivers.as_slice(),
-    )?;
+fn written_as_it_grows(rt: &(impl AllocGlobal + Abort), transcript: &Transcript) -> Vec<u8> {
+    let mut writer = begin(rt, transcript);
     for entry in transcript.entries.as_slice() {
-        writer.add(slice::from_ref(entry))?;
+        assert!(rt; writer.add(slice::from_ref(entry)).is_ok());
     }
-    Ok(writer.finish(&transcript.view)?)
+    writer.finish(&transcript.view).ok().expect(rt, "memory")
+}
+
+fn is_written_as_it_grows(rt: &(impl AllocGlobal + Abort), text: &[u8]) {
+    let transcript = read_transcript(rt.alloc(), text)
+        .ok()
+        .expect(rt, "a transcript");
+    let written = written_as_it_grows(rt, &transcript);
+    assert!(rt; written.as_slice() == text);
 }
 
 #[test]
 fn writes_entry_by_entry(rt: HostRuntime) -> Result<(), Fail> {
     for text in &TEXTS {
-        let transcript = read_transcript(rt.alloc(), *text)?;
-        let written = written_as_it_grows(rt.alloc(), &transcript)?;
-        assert_eq!(rt; written.as_slice(), *text);
+        is_written_as_it_grows(&rt, *text);
     }
     Ok(())
 }

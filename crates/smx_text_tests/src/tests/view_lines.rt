@@ -1,74 +1,74 @@
 //! The groups of a view, as they are written.
 
+use super::lists::{given, put};
 use super::spelling::is_written;
 use smx_samples::{items, named, nothing_open, open_on_ip};
 use smx_types::{
     BindingLine, ConfigView, FullLine, Items, LinkKind, LinkLine, Message, MessageLine, RouteLine,
     Side, Transcript, Version,
 };
-use std::alloc::Global;
+use std::process::Abort;
 use std::test::Fail;
 
-fn linked(id: u32, kind: LinkKind) -> Result<LinkLine, Fail> {
-    Ok(LinkLine {
+fn linked(rt: &impl Abort, id: u32, kind: LinkKind) -> LinkLine {
+    LinkLine {
         id,
-        ctl_driver: named("ip")?,
+        ctl_driver: given(rt, named("ip")),
         ctl_minor: 0,
-        lower_driver: named("eth")?,
+        lower_driver: given(rt, named("eth")),
         lower_minor: id,
         kind,
-    })
+    }
 }
 
-fn add_links(view: &mut ConfigView) -> Result<(), Fail> {
-    view.fds.push(open_on_ip(0, 0)?)?;
-    view.links.push(linked(0, LinkKind::Ordinary)?)?;
-    view.links.push(linked(1, LinkKind::Persistent)?)?;
-    Ok(())
+fn add_links(rt: &impl Abort, view: &mut ConfigView) {
+    put(rt, &mut view.fds, given(rt, open_on_ip(0, 0)));
+    put(rt, &mut view.links, linked(rt, 0, LinkKind::Ordinary));
+    put(rt, &mut view.links, linked(rt, 1, LinkKind::Persistent));
 }
 
-fn add_addresses(view: &mut ConfigView) -> Result<(), Fail> {
-    let driver = named("eth")?;
-    view.binds.push(BindingLine {
+fn add_addresses(rt: &impl Abort, view: &mut ConfigView) {
+    let driver = given(rt, named("eth"));
+    let bound = BindingLine {
         driver,
         addr: 9,
         minor: 1,
-    })?;
-    view.routes.push(RouteLine {
+    };
+    put(rt, &mut view.binds, bound);
+    let routed = RouteLine {
         driver,
         addr: 5,
         id: 2,
-    })?;
-    Ok(())
+    };
+    put(rt, &mut view.routes, routed);
 }
 
-fn queued(alloc: Global, side: Side, serial: u32, payload: &[u8]) -> Result<MessageLine, Fail> {
-    let driver = named("eth")?;
-    let bytes = items(alloc, payload)?;
-    Ok(MessageLine {
-        driver,
+fn queued(rt: &(impl AllocGlobal + Abort), side: Side, serial: u32, payload: &[u8]) -> MessageLine {
+    MessageLine {
+        driver: given(rt, named("eth")),
         minor: 0,
         side,
         message: Message {
             serial,
             addr: 5,
-            bytes,
+            bytes: given(rt, items(rt.alloc(), payload)),
         },
-    })
+    }
 }
 
-fn add_messages(alloc: Global, view: &mut ConfigView) -> Result<(), Fail> {
-    let long = queued(alloc, Side::Write, 3, [0, 0, 0, 3].as_slice())?;
-    view.msgs.push(long)?;
-    let short = queued(alloc, Side::Read, 4, [188].as_slice())?;
-    view.msgs.push(short)?;
-    let driver = named("eth")?;
-    view.fulls.push(FullLine {
-        driver,
+fn add_messages(rt: &(impl AllocGlobal + Abort), view: &mut ConfigView) {
+    assert!(rt;
+        view.msgs
+            .push(queued(rt, Side::Write, 3, &[0, 0, 0, 3]))
+            .is_ok()
+    );
+    put(rt, &mut view.msgs, queued(rt, Side::Read, 4, &[188]));
+    let full = FullLine {
+        driver: given(rt, named("eth")),
         minor: 0,
         side: Side::Write,
-    })?;
-    Ok(())
+    };
+    put(rt, &mut view.fulls, full);
 }
 
 const GROUPS: &[u8] = b"transcript 1
@@ -85,24 +85,21 @@ full eth 0 w
 end
 ";
 
-fn add_groups(alloc: Global, view: &mut ConfigView) -> Result<(), Fail> {
-    add_links(view)?;
-    add_addresses(view)?;
-    add_messages(alloc, view)
-}
-
-fn with_groups(alloc: Global) -> Result<Transcript, Fail> {
-    let mut view = nothing_open(alloc, 3, 6);
-    add_groups(alloc, &mut view)?;
-    Ok(Transcript {
+fn with_groups(rt: &(impl AllocGlobal + Abort)) -> Transcript {
+    let mut view = nothing_open(rt.alloc(), 3, 6);
+    add_links(rt, &mut view);
+    add_addresses(rt, &mut view);
+    add_messages(rt, &mut view);
+    Transcript {
         version: Version::V1,
-        drivers: Items::new(alloc),
-        entries: Items::new(alloc),
+        drivers: Items::new(rt.alloc()),
+        entries: Items::new(rt.alloc()),
         view,
-    })
+    }
 }
 
 #[test]
 fn writes_groups_in_order(rt: HostRuntime) -> Result<(), Fail> {
-    is_written(&rt, with_groups(rt.alloc()), GROUPS)
+    is_written(&rt, with_groups(&rt), GROUPS);
+    Ok(())
 }

@@ -9,7 +9,7 @@ ghost use Rattle.smx_words.specs.Spelling.{command_words};
 ghost use Rattle.smx_words.specs.Verbs.{verb_word};
 ghost use Rattle.smx_words.specs.Words.{SPACE, line_of};
 ghost use Rattle.smx_words.specs.declared.reading.verb.Verb.{Verb as AnyVerb};
-ghost use Rattle.smx_words.specs.declared.reading.verb.Verb.TheVariants.{Hangup as HangupVerb};
+ghost use Rattle.smx_words.specs.declared.reading.verb.Verb.TheVariants.{Hangup as HangupVerb, Inject as InjectVerb, Write as WriteVerb};
 
 use crate::reading::hex_word::bytes_of;
 use crate::reading::number::{first_number, number};
@@ -59,30 +59,43 @@ fn command_after(alloc: Global, verb: Verb, rest: &[u8]) -> Result<Option<Comman
     ensures reading { IfOk result (IsReadAs FitsCommand command_words (line_of (verb_word verb ∷ rest.now ∷ []))) }
     ensures wanted { IfErr result (λ _. IsLineOf (FitsCommandIn V1) command_words (line_of (verb_word verb ∷ rest.now ∷ []))) }
 {
+    if let Verb::Write = verb {
+        return write(alloc, rest);
+    }
+    if let Verb::Inject = verb {
+        return inject(alloc, rest);
+    }
+    Ok(short_command(verb, rest))
+}
+
+// The same of a verb whose command has no message, for which no memory is wanted.
+pub(super) fn short_command(verb: Verb, rest: &[u8]) -> Option<Command>
+    ensures { verb ≢ WriteVerb → verb ≢ InjectVerb
+        → IsReadAs FitsCommand command_words (line_of (verb_word verb ∷ rest.now ∷ [])) result }
+{
     match verb {
-        Verb::Write => write(alloc, rest),
-        Verb::Inject => inject(alloc, rest),
-        Verb::Clone => Ok(clone(rest)),
-        Verb::Open => Ok(open(rest)),
-        Verb::Dup => Ok(dup(rest)),
-        Verb::Close => Ok(close(rest)),
-        Verb::Exit => Ok(None),
-        Verb::Link => Ok(link(rest)),
-        Verb::Plink => Ok(plink(rest)),
-        Verb::Unlink => Ok(unlink(rest)),
-        Verb::Punlink => Ok(punlink(rest)),
-        Verb::Bind => Ok(bind(rest)),
-        Verb::Unbind => Ok(unbind(rest)),
-        Verb::Route => Ok(route(rest)),
-        Verb::Unroute => Ok(unroute(rest)),
-        Verb::Read => Ok(read(rest)),
-        Verb::Flush => Ok(flush(rest)),
-        Verb::Transmit => Ok(transmit(rest)),
-        Verb::Hangup => Ok(hangup(rest)),
+        Verb::Write | Verb::Inject | Verb::Exit => None,
+        Verb::Clone => clone(rest),
+        Verb::Open => open(rest),
+        Verb::Dup => dup(rest),
+        Verb::Close => close(rest),
+        Verb::Link => link(rest),
+        Verb::Plink => plink(rest),
+        Verb::Unlink => unlink(rest),
+        Verb::Punlink => punlink(rest),
+        Verb::Bind => bind(rest),
+        Verb::Unbind => unbind(rest),
+        Verb::Route => route(rest),
+        Verb::Unroute => unroute(rest),
+        Verb::Read => read(rest),
+        Verb::Flush => flush(rest),
+        Verb::Transmit => transmit(rest),
+        Verb::Hangup => hangup(rest),
     }
 }
 
-#[inline(always)]
+// Each of these is apart: a function sets its locals to zero as it begins, and one that has all of them in it has many.
+#[inline(never)]
 pub(super) fn clone(rest: &[u8]) -> Option<Command>
     ensures { IsReadAs FitsCommand command_words (line_of (codes "clone" ∷ rest.now ∷ [])) result }
 {
@@ -90,7 +103,7 @@ pub(super) fn clone(rest: &[u8]) -> Option<Command>
     Some(Command::OpenClone { driver })
 }
 
-#[inline(always)]
+#[inline(never)]
 pub(super) fn open(rest: &[u8]) -> Option<Command>
     ensures { IsReadAs FitsCommand command_words (line_of (codes "open" ∷ rest.now ∷ [])) result }
 {
@@ -101,7 +114,7 @@ pub(super) fn open(rest: &[u8]) -> Option<Command>
     Some(Command::OpenMinor { driver, minor })
 }
 
-#[inline(always)]
+#[inline(never)]
 pub(super) fn dup(rest: &[u8]) -> Option<Command>
     ensures { IsReadAs FitsCommand command_words (line_of (codes "dup" ∷ rest.now ∷ [])) result }
 {
@@ -109,7 +122,7 @@ pub(super) fn dup(rest: &[u8]) -> Option<Command>
     Some(Command::Dup { fd })
 }
 
-#[inline(always)]
+#[inline(never)]
 pub(super) fn close(rest: &[u8]) -> Option<Command>
     ensures { IsReadAs FitsCommand command_words (line_of (codes "close" ∷ rest.now ∷ [])) result }
 {
@@ -117,7 +130,7 @@ pub(super) fn close(rest: &[u8]) -> Option<Command>
     Some(Command::Close { fd })
 }
 
-#[inline(always)]
+#[inline(never)]
 pub(super) fn link(rest: &[u8]) -> Option<Command>
     ensures { IsReadAs FitsCommand command_words (line_of (codes "link" ∷ rest.now ∷ [])) result }
 {
@@ -126,7 +139,7 @@ pub(super) fn link(rest: &[u8]) -> Option<Command>
     Some(Command::Link { fd, arg })
 }
 
-#[inline(always)]
+#[inline(never)]
 pub(super) fn plink(rest: &[u8]) -> Option<Command>
     ensures { IsReadAs FitsCommand command_words (line_of (codes "plink" ∷ rest.now ∷ [])) result }
 {
@@ -135,7 +148,7 @@ pub(super) fn plink(rest: &[u8]) -> Option<Command>
     Some(Command::Plink { fd, arg })
 }
 
-#[inline(always)]
+#[inline(never)]
 pub(super) fn unlink(rest: &[u8]) -> Option<Command>
     ensures { IsReadAs FitsCommand command_words (line_of (codes "unlink" ∷ rest.now ∷ [])) result }
 {
@@ -144,7 +157,7 @@ pub(super) fn unlink(rest: &[u8]) -> Option<Command>
     Some(Command::Unlink { fd, which })
 }
 
-#[inline(always)]
+#[inline(never)]
 pub(super) fn punlink(rest: &[u8]) -> Option<Command>
     ensures { IsReadAs FitsCommand command_words (line_of (codes "punlink" ∷ rest.now ∷ [])) result }
 {
@@ -153,7 +166,7 @@ pub(super) fn punlink(rest: &[u8]) -> Option<Command>
     Some(Command::Punlink { fd, which })
 }
 
-#[inline(always)]
+#[inline(never)]
 pub(super) fn bind(rest: &[u8]) -> Option<Command>
     ensures { IsReadAs FitsCommand command_words (line_of (codes "bind" ∷ rest.now ∷ [])) result }
 {
@@ -162,7 +175,7 @@ pub(super) fn bind(rest: &[u8]) -> Option<Command>
     Some(Command::Bind { fd, addr })
 }
 
-#[inline(always)]
+#[inline(never)]
 pub(super) fn unbind(rest: &[u8]) -> Option<Command>
     ensures { IsReadAs FitsCommand command_words (line_of (codes "unbind" ∷ rest.now ∷ [])) result }
 {
@@ -170,7 +183,7 @@ pub(super) fn unbind(rest: &[u8]) -> Option<Command>
     Some(Command::Unbind { fd })
 }
 
-#[inline(always)]
+#[inline(never)]
 pub(super) fn route(rest: &[u8]) -> Option<Command>
     ensures { IsReadAs FitsCommand command_words (line_of (codes "route" ∷ rest.now ∷ [])) result }
 {
@@ -180,7 +193,7 @@ pub(super) fn route(rest: &[u8]) -> Option<Command>
     Some(Command::Route { fd, addr, id })
 }
 
-#[inline(always)]
+#[inline(never)]
 pub(super) fn unroute(rest: &[u8]) -> Option<Command>
     ensures { IsReadAs FitsCommand command_words (line_of (codes "unroute" ∷ rest.now ∷ [])) result }
 {
@@ -189,7 +202,7 @@ pub(super) fn unroute(rest: &[u8]) -> Option<Command>
     Some(Command::Unroute { fd, addr })
 }
 
-#[inline(always)]
+#[inline(never)]
 pub(super) fn read(rest: &[u8]) -> Option<Command>
     ensures { IsReadAs FitsCommand command_words (line_of (codes "read" ∷ rest.now ∷ [])) result }
 {
@@ -197,7 +210,7 @@ pub(super) fn read(rest: &[u8]) -> Option<Command>
     Some(Command::Read { fd })
 }
 
-#[inline(always)]
+#[inline(never)]
 pub(super) fn flush(rest: &[u8]) -> Option<Command>
     ensures { IsReadAs FitsCommand command_words (line_of (codes "flush" ∷ rest.now ∷ [])) result }
 {
@@ -206,7 +219,7 @@ pub(super) fn flush(rest: &[u8]) -> Option<Command>
     Some(Command::Flush { fd, sides })
 }
 
-#[inline(always)]
+#[inline(never)]
 pub(super) fn transmit(rest: &[u8]) -> Option<Command>
     ensures { IsReadAs FitsCommand command_words (line_of (codes "transmit" ∷ rest.now ∷ [])) result }
 {
@@ -217,7 +230,7 @@ pub(super) fn transmit(rest: &[u8]) -> Option<Command>
     Some(Command::Transmit { driver, minor })
 }
 
-#[inline(always)]
+#[inline(never)]
 pub(super) fn hangup(rest: &[u8]) -> Option<Command>
     ensures { IsReadAs FitsCommand command_words (line_of (codes "hangup" ∷ rest.now ∷ [])) result }
 {
@@ -228,7 +241,7 @@ pub(super) fn hangup(rest: &[u8]) -> Option<Command>
     Some(Command::Hangup { driver, minor })
 }
 
-#[inline(always)]
+#[inline(never)]
 pub(super) fn write(alloc: Global, rest: &[u8]) -> Result<Option<Command>, NoMemory>
     ensures reading { IfOk result (IsReadAs FitsCommand command_words (line_of (codes "write" ∷ rest.now ∷ []))) }
     ensures wanted { IfErr result (λ _. IsLineOf (FitsCommandIn V1) command_words (line_of (codes "write" ∷ rest.now ∷ []))) }
@@ -247,7 +260,7 @@ pub(super) fn write(alloc: Global, rest: &[u8]) -> Result<Option<Command>, NoMem
     Ok(Some(Command::Write { fd, addr, bytes }))
 }
 
-#[inline(always)]
+#[inline(never)]
 pub(super) fn inject(alloc: Global, rest: &[u8]) -> Result<Option<Command>, NoMemory>
     ensures reading { IfOk result (IsReadAs FitsCommand command_words (line_of (codes "inject" ∷ rest.now ∷ []))) }
     ensures wanted { IfErr result (λ _. IsLineOf (FitsCommandIn V1) command_words (line_of (codes "inject" ∷ rest.now ∷ []))) }

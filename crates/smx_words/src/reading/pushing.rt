@@ -9,17 +9,14 @@ ghost use Rattle.smx_words.specs.Spelling.{command_words};
 ghost use Rattle.smx_words.specs.Verbs.{verb_word};
 ghost use Rattle.smx_words.specs.Words.{line_of};
 
-use crate::reading::command::{
-    bind, clone, close, dup, flush, hangup, inject, lacks, link, lone_command, open, plink,
-    punlink, read, route, transmit, unbind, unlink, unroute, write,
-};
+use crate::reading::command::{inject, lacks, lone_command, short_command, write};
 use crate::reading::verb::{Verb, first_verb};
 use smx_types::{Command, NoMemory, Version};
 use std::alloc::Global;
 
-/// Puts the command whose words a line is behind the others, if it is one's that a version can tell, and says whether it
-/// is. Fails only for want of memory, and then the line is such a command's. Quicker than `command_of`, which has to hand
-/// the command on.
+/// Puts the command whose words a line is behind the others, if it is one's that a version can tell, and says whether
+/// it is. Fails only for want of memory, and then the line is such a command's. Quicker than `command_of`, which has to
+/// hand the command on.
 #[tactic(auto, using(crate::proofs::PushLemmas::is_pushed))]
 pub fn push_command(
     commands: &mut Vec<Command>,
@@ -57,31 +54,16 @@ fn push_after(
     ensures wanted { IfErr result (λ _. IsLineOf (FitsCommandIn V1) command_words (line_of (verb_word verb ∷ rest.now ∷ []))) }
     ensures kept { OnErr result (commands.new.items ≡ commands.old.items) }
 {
-    match verb {
-        Verb::Write => push_read(commands, write(alloc, rest)),
-        Verb::Inject => push_read(commands, inject(alloc, rest)),
-        Verb::Clone => Ok(push_if(commands, clone(rest))),
-        Verb::Open => Ok(push_if(commands, open(rest))),
-        Verb::Dup => Ok(push_if(commands, dup(rest))),
-        Verb::Close => Ok(push_if(commands, close(rest))),
-        Verb::Exit => Ok(false),
-        Verb::Link => Ok(push_if(commands, link(rest))),
-        Verb::Plink => Ok(push_if(commands, plink(rest))),
-        Verb::Unlink => Ok(push_if(commands, unlink(rest))),
-        Verb::Punlink => Ok(push_if(commands, punlink(rest))),
-        Verb::Bind => Ok(push_if(commands, bind(rest))),
-        Verb::Unbind => Ok(push_if(commands, unbind(rest))),
-        Verb::Route => Ok(push_if(commands, route(rest))),
-        Verb::Unroute => Ok(push_if(commands, unroute(rest))),
-        Verb::Read => Ok(push_if(commands, read(rest))),
-        Verb::Flush => Ok(push_if(commands, flush(rest))),
-        Verb::Transmit => Ok(push_if(commands, transmit(rest))),
-        Verb::Hangup => Ok(push_if(commands, hangup(rest))),
+    if let Verb::Write = verb {
+        return push_read(commands, write(alloc, rest));
     }
+    if let Verb::Inject = verb {
+        return push_read(commands, inject(alloc, rest));
+    }
+    Ok(push_if(commands, short_command(verb, rest)))
 }
 
-// Puts a command behind the others, if there is one, and says whether there is. In each arm, so that the command is made
-// where it is to stand.
+// Puts a command behind the others, if there is one, and says whether there is.
 #[inline(always)]
 fn push_if(commands: &mut Vec<Command>, read: Option<Command>) -> bool
     requires room { vec_len commands.old < vec_capacity commands.old }

@@ -21,7 +21,8 @@ impl Spell for Entry {
     }
 }
 
-/// The line of the entry of these, with the line feed, behind `out`. Where memory runs out, `out` may have a part of it.
+/// The line of the entry of these, with the line feed, behind `out`. Where memory runs out, `out` may have a part of
+/// it.
 pub fn write_entry(
     out: &mut Vec<u8>,
     process: Process,

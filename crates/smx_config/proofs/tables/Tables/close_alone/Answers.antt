@@ -1,7 +1,6 @@
-use Rattle.std.proofs.Common.{List, [], ◌∷◌, not, filter, ap, refl, ◌∙◌}
-use Rattle.std.specs.List.{list_any}
+use Rattle.std.proofs.Common.{List, [], ◌∷◌, not, filter, refl, ◌∙◌}
 use Rattle.smx_types.specs.declared.stream.StreamId.{StreamId}
-use Rattle.smx_model.specs.Configuration.{is_fd, same_stream}
+use Rattle.smx_model.specs.Configuration.{is_fd}
 use Rattle.smx_tables.specs.ModelOfLists.{configuration_of}
 use Rattle.smx_tables.proofs.DropLemmas.{none_dropped}
 use Rattle.smx_tables.proofs.HungSweepLemmas.{sweep_of_left}

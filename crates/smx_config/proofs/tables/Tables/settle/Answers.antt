@@ -3,6 +3,7 @@ use Rattle.smx_model.specs.Settling.{IsSettled, after_settling}
 use Rattle.smx_model.specs.SettlingByMarks.{HasNoRunMark}
 use Rattle.smx_queues.specs.PlaceMarks.{has_mark}
 use Rattle.smx_config.specs.Machine.{Machine}
+use Rattle.smx_config.proofs.LoneMessageLemmas.{the_message}
 use Rattle.smx_config.proofs.SettleLemmas.{settled_one, settled_to, within_zero}
 use Rattle.smx_config.proofs.NextMoveLemmas.{none_left}
 use Rattle.smx_config.proofs.tables.Tables.settle.Goals as goal
@@ -36,3 +37,16 @@ returns-clause-none c =
     (subst (λ (m : Machine). IsSettled m.drivers m.configuration) (sym at_end)
     (c.settling_suffices.ensures old.drivers old.configuration c.requires.sound).settled)
     c.next_move-none.ensures.least c.next_move-none.ensures.none
+
+pub returns-then-moves_alone-clause-value : goal.returns-then-moves_alone-clause-value
+returns-then-moves_alone-clause-value c =
+    let old = c.loop-left.self in
+    let m = the_message old.drivers old.configuration c.in-Some.next.from c.in-Some.next.to c.in-Some.ensures.least.1 in
+    let way = c.rest_of-rest.ensures.way in
+    settled_to c.come_to_rest.new.self c.args.self.now _
+    (ap (λ (m : Machine). m.drivers) c.come_to_rest.ensures.value ∙ c.loop-left.invariant.drivers)
+    (ap (λ (m : Machine). m.configuration) c.come_to_rest.ensures.value
+    ∙ (c.lone_messages_come_to_rest.ensures.settled old.drivers old.configuration (has_mark c.next_move.new.marks.run)
+    (has_mark c.next_move.new.marks.wanted) c.in-Some.next.from c.rest_of-rest.result.at m.0 c.loop-left.left way.0
+    c.rest_of-rest.result.waits c.loop-left.invariant.sound (c.if-moves_alone.ensures refl) m.1 way.1
+    (c.rest_of-rest.ensures.stays m.0 m.1) ∙ c.loop-left.invariant.comes_to))

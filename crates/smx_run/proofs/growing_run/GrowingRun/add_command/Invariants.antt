@@ -1,4 +1,4 @@
-use Rattle.smx_run.specs.GrowingRuns.{with_command}
+use Rattle.smx_types.specs.GrowingPrograms.{with_command}
 use Rattle.smx_run.proofs.growing_run.GrowingRun.add_command.Given as goal
 
 abbrev pub ghost-then : goal.ghost-then

@@ -4,7 +4,7 @@ use Rattle.smx_types.specs.Versions.{most_drivers}
 use Rattle.smx_types.specs.declared.version.Version.{Version}
 use Rattle.smx_text.specs.Drafts.{IsCounted}
 use Rattle.smx_text.specs.ProgramLines as line
-use Rattle.smx_text.specs.TakenPrograms.{with_driver}
+use Rattle.smx_types.specs.GrowingPrograms.{with_driver}
 use Rattle.smx_text.proofs.ProgramsLemmas.{misplaced, too_many, taken_more, longer_begun}
 use Rattle.smx_text.proofs.programs.draft.ProgramsDraft.add_driver.Goals as goal
 

@@ -3,7 +3,7 @@ use Rattle.smx_types.specs.ProgramLists.{ProgramLists}
 use Rattle.smx_types.specs.declared.limits.TheConstants.{MAX_PROCESSES}
 use Rattle.smx_text.specs.Drafts.{IsCounted}
 use Rattle.smx_text.specs.ProgramLines as line
-use Rattle.smx_text.specs.TakenPrograms.{with_program}
+use Rattle.smx_types.specs.GrowingPrograms.{with_program}
 use Rattle.smx_text.proofs.ProgramsLemmas.{misplaced, too_many, taken_more, longer_begun}
 use Rattle.smx_text.proofs.programs.draft.ProgramsDraft.add_process.Goals as goal
 

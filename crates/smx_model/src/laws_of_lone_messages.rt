@@ -1,0 +1,62 @@
+//! Laws of a message that moves on alone, each the contract of a function that does nothing.
+
+ghost use Rattle.std.specs.Prelude.{◌≡◌, ◌≢◌, ◌<◌, ◌-◌, ℕ, true, false, Bool, List, None, Option, Some};
+ghost use Rattle.smx_types.specs.declared.driver.DriverSpec.{DriverSpec};
+ghost use Rattle.smx_types.specs.declared.message.Message.{Message};
+ghost use Rattle.smx_types.specs.declared.stream.Place.{Place};
+ghost use Rattle.smx_model.specs.Configuration.{Configuration, same_place};
+ghost use Rattle.smx_model.specs.KeptConfigurations.{IsSound};
+ghost use Rattle.smx_model.specs.LoneMessages.{IsAlone, IsUnderWay, StaysAt, moved};
+ghost use Rattle.smx_model.specs.Queues.{first_message, is_full};
+ghost use Rattle.smx_model.specs.RunMarks.{AreMarked, both, is_one_of, next_of_first, nowhere};
+ghost use Rattle.smx_model.specs.Settling.{IsSettled, after_settling_within, least_movable};
+ghost use Rattle.smx_model.specs.Settling.{next_open_place, next_place};
+
+/// A message that may move on is under way to its next place, with one move less.
+pub fn lone_messages_set_out()
+    ensures { (drivers : List DriverSpec) (c : Configuration) (p q : Place) (moves : ℕ) → IsSound drivers c
+        → least_movable drivers c ≡ Some p → next_open_place drivers c p ≡ Some q → 0 < moves
+        → IsUnderWay drivers c moves p q (moves - 1) }
+{}
+
+/// A place that it passes stays as it was: where the message would go on from an empty place, it is under way to the
+/// next one. There is a move left for that, where the moves suffice.
+pub fn empty_places_are_passed()
+    ensures { (drivers : List DriverSpec) (c : Configuration) (run wanted : Place → Bool) (p q r : Place) (m : Message)
+        (moves left : ℕ) → IsSound drivers c → IsAlone drivers c run wanted p → first_message c.flow p ≡ Some m
+        → IsSettled drivers (after_settling_within drivers moves c) → IsUnderWay drivers c moves p q left
+        → first_message c.flow q ≡ None → next_place drivers c q m.addr ≡ Some r → is_full c r ≡ false
+        → (0 < left) × IsUnderWay drivers c moves p r (left - 1) }
+{}
+
+/// Where it stays, it is settled. No place has a run mark, and what it waits for is wanted.
+pub fn lone_messages_come_to_rest()
+    ensures settled { (drivers : List DriverSpec) (c : Configuration) (run wanted : Place → Bool) (p q : Place)
+        (m : Message) (moves left : ℕ) (waits : Option Place) → IsSound drivers c → IsAlone drivers c run wanted p
+        → first_message c.flow p ≡ Some m → IsUnderWay drivers c moves p q left → StaysAt drivers c q m waits
+        → moved drivers c p q ≡ after_settling_within drivers moves c }
+    ensures marked { (drivers : List DriverSpec) (c : Configuration) (run wanted : Place → Bool) (p q : Place)
+        (m : Message) (moves left : ℕ) (waits : Option Place) → IsSound drivers c → IsAlone drivers c run wanted p
+        → first_message c.flow p ≡ Some m → IsUnderWay drivers c moves p q left → StaysAt drivers c q m waits
+        → AreMarked drivers (moved drivers c p q) nowhere (both wanted (λ r. is_one_of (same_place r) waits)) }
+{}
+
+/// But for the two ends of its way, each place has the first message that it had; full places stay full. The place that
+/// it left has none, and in an empty place it is the first.
+pub fn lone_messages_change_two()
+    ensures apart { (drivers : List DriverSpec) (c : Configuration) (p q : Place) (moves left : ℕ) → IsSound drivers c
+        → IsUnderWay drivers c moves p q left → same_place p q ≡ false }
+    ensures left { (drivers : List DriverSpec) (c : Configuration) (run wanted : Place → Bool) (p q : Place)
+        (m : Message) → IsSound drivers c → IsAlone drivers c run wanted p → first_message c.flow p ≡ Some m → same_place p q ≡ false
+        → next_of_first drivers (moved drivers c p q) p ≡ None }
+    ensures first { (drivers : List DriverSpec) (c : Configuration) (p q : Place) (m : Message)
+        → IsSound drivers c → first_message c.flow p ≡ Some m → same_place p q ≡ false → first_message c.flow q ≡ None
+        → next_of_first drivers (moved drivers c p q) q ≡ next_place drivers c q m.addr }
+    ensures others { (drivers : List DriverSpec) (c : Configuration) (p q r : Place) (m : Message)
+        → IsSound drivers c → first_message c.flow p ≡ Some m → same_place p r ≡ false
+        → (same_place q r ≡ true → first_message c.flow q ≢ None)
+        → next_of_first drivers (moved drivers c p q) r ≡ next_of_first drivers c r }
+    ensures full { (drivers : List DriverSpec) (c : Configuration) (run wanted : Place → Bool) (p q r : Place)
+        (m : Message) → IsAlone drivers c run wanted p → first_message c.flow p ≡ Some m → is_full c r ≡ true
+        → is_full (moved drivers c p q) r ≡ true }
+{}
