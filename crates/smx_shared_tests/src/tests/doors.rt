@@ -91,10 +91,8 @@ type Hand = Vec<SeatedProgram<OwnSeat>>;
 fn hand_of(alloc: Global, earlier: u32, later: u32) -> Result<Hand, Fail>
     ensures { IfOk result (λ v. All (λ j. j.seat.system.history ≡ []) v.items) }
 {
-    let mut hand = Vec::new(alloc);
-    hand.push(job_of(alloc, earlier)?)?;
-    hand.push(job_of(alloc, later)?)?;
-    Ok(hand)
+    let hand = vec![in alloc; job_of(alloc, earlier)?, job_of(alloc, later)?];
+    Ok(hand?)
 }
 
 // Whether two workers who have these hands stop where a history is full, each on a thread of its own.
