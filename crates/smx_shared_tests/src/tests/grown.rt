@@ -4,11 +4,10 @@
 ghost use Rattle.std.specs.Prelude.{◌<◌};
 
 use super::gates::Log;
-use super::recorded::{Kept, OF_TWO_PROCESSES, SAME_NAME, TWO_PROCESSES, are_told, told};
-use super::workers::is_written;
+use super::recorded::{Kept, OF_TWO_PROCESSES, SAME_NAME, TWO_PROCESSES, are_told, refusal};
 use smx_run::{GrowingRun, RunFault};
 use smx_text::{Cause, ProgramTaker, TextFault, take_programs};
-use smx_types::{ConfigView, DriverSpec, NoMemory, Transcript, Version};
+use smx_types::{ConfigView, DriverSpec, NoMemory, Version};
 use smx_words::command_of;
 use std::alloc::Global;
 use std::process::Abort;
@@ -63,20 +62,19 @@ impl<'a> ProgramTaker for Growing<'a> {
     }
 }
 
-// A run of the programs that this text spells, of which a log is told, and a recorder, which counts and may be told so
-// often: what the recorder was told, or why the run is refused.
+// Why a run of the programs that this text spells is refused, of which a log is told, and a recorder, which counts and
+// may be told so often. If it isn't, the recorder is told this.
 fn grown(
+    rt: &impl Abort,
     alloc: Global,
     text: &[u8],
-    count: &AtomicUsize,
-    most: usize,
+    counter: (&AtomicUsize, usize),
     log: &Log,
-) -> Result<Result<Transcript, RunFault>, TextFault> {
+    wanted: Option<&[u8]>,
+) -> Result<Option<RunFault>, Fail> {
+    let (count, most) = counter;
     let ran = take_programs::<Growing>(alloc, ((alloc, count, most), log), text)?;
-    Ok(match ran {
-        Ok((kept, view)) => Ok(told(kept, view)),
-        Err(fault) => Err(fault),
-    })
+    refusal(rt, alloc, ran, wanted)
 }
 
 const NO_PROCESS: &[u8] = b"programs 2\ndriver ip mux 2 8 3 16\nend\n";
@@ -87,8 +85,9 @@ const OF_NO_PROCESS: &[u8] = b"transcript 2\ndriver ip mux 2 8 3 16\nconfig\nnex
 fn gives(rt: &impl Abort, alloc: Global, text: &[u8], wanted: &[u8]) -> Result<(), Fail> {
     let count = AtomicUsize::new(0);
     let log = Log::of(alloc, 0)?;
-    let transcript = grown(alloc, text, &count, 9, &log)??;
-    is_written(rt, alloc, &transcript, wanted)
+    let fault = grown(rt, alloc, text, (&count, 9), &log, Some(wanted))?;
+    assert!(rt; fault.is_none());
+    Ok(())
 }
 
 #[test]
@@ -104,7 +103,7 @@ fn stops_behind(rt: &impl Abort, alloc: Global, entries: usize) -> Result<(), Fa
 {
     let count = AtomicUsize::new(0);
     let log = Log::of(alloc, 16)?;
-    let fault = grown(alloc, TWO_PROCESSES, &count, entries + 1, &log)?.err();
+    let fault = grown(rt, alloc, TWO_PROCESSES, (&count, entries + 1), &log, None)?;
     assert!(rt; fault == Some(RunFault::NoMemory));
     are_told(rt, &count, entries + 2, &log, 2 * entries + 2);
     Ok(())
@@ -122,7 +121,7 @@ fn a_run_stops_where_its_recorder_does(rt: HostRuntime) -> Result<(), Fail> {
 fn no_command_is_performed_of_refused_drivers(rt: HostRuntime) -> Result<(), Fail> {
     let count = AtomicUsize::new(0);
     let log = Log::of(rt.alloc(), 4)?;
-    let fault = grown(rt.alloc(), SAME_NAME, &count, 9, &log)?.err();
+    let fault = grown(&rt, rt.alloc(), SAME_NAME, (&count, 9), &log, None)?;
     assert!(rt; matches!(fault, Some(RunFault::ConfigFault(_))));
     are_told(&rt, &count, 0, &log, 0);
     Ok(())
@@ -137,6 +136,11 @@ exit 0
 end
 ";
 
+// Where the text that this spells is at fault.
+fn text_fault(alloc: Global, text: &[u8], count: &AtomicUsize, log: &Log) -> Option<TextFault> {
+    take_programs::<Growing>(alloc, ((alloc, count, 9), log), text).err()
+}
+
 #[test]
 fn a_fault_of_the_text_comes_before_that_of_drivers(rt: HostRuntime) -> Result<(), Fail> {
     let count = AtomicUsize::new(0);
@@ -145,7 +149,6 @@ fn a_fault_of_the_text_comes_before_that_of_drivers(rt: HostRuntime) -> Result<(
         line: 6,
         cause: Cause::Form,
     };
-    let answer = grown(rt.alloc(), WRONG_BEHIND, &count, 9, &log);
-    assert!(rt; answer.err() == Some(fault));
+    assert!(rt; text_fault(rt.alloc(), WRONG_BEHIND, &count, &log) == Some(fault));
     Ok(())
 }

@@ -7,7 +7,7 @@ use super::gates::Told::{After, Before};
 use super::gates::{Log, Told};
 use super::told::{IN_TURN, SIX};
 use super::workers::is_written;
-use smx_run::{Gate, NewRecorder, NoGate, Recorder, run_recorded};
+use smx_run::{Gate, NewRecorder, NoGate, Recorder, RunFault, run_recorded};
 use smx_text::read_programs;
 use smx_types::{
     Command, ConfigView, Copied, DriverSpec, Drivers, Entries, Entry, NoMemory, Process, Reply,
@@ -73,8 +73,7 @@ impl<'a> NewRecorder for Kept<'a> {
     }
 }
 
-/// What was told, and how it ended.
-pub fn told(kept: Kept, view: ConfigView) -> Transcript {
+fn transcript_of(kept: Kept, view: ConfigView) -> Transcript {
     Transcript {
         version: kept.version,
         drivers: kept.drivers,
@@ -83,22 +82,36 @@ pub fn told(kept: Kept, view: ConfigView) -> Transcript {
     }
 }
 
-// A run of the programs that this text spells, of which a gate is told, and a recorder, which counts and may be told so
-// often: what the recorder was told, if the run ended well.
+/// Why a run is refused. If it isn't, its recorder was told this, where that is given.
+pub fn refusal(
+    rt: &impl Abort,
+    alloc: Global,
+    ran: Result<(Kept, ConfigView), RunFault>,
+    wanted: Option<&[u8]>,
+) -> Result<Option<RunFault>, Fail> {
+    match ran {
+        Ok((kept, view)) => {
+            is_written(rt, alloc, transcript_of(kept, view), wanted)?;
+            Ok(None)
+        }
+        Err(fault) => Ok(Some(fault)),
+    }
+}
+
+// Why a run of the programs that this text spells is refused, of which a gate is told, and a recorder, which counts and
+// may be told so often. If it isn't, the recorder is told this, where that is given.
 fn recorded<G: Gate>(
+    rt: &impl Abort,
     alloc: Global,
     text: &[u8],
-    count: &AtomicUsize,
-    most: usize,
+    counter: (&AtomicUsize, usize),
     gate: &G,
-) -> Result<Option<Transcript>, Fail> {
+    wanted: Option<&[u8]>,
+) -> Result<Option<RunFault>, Fail> {
     let programs = read_programs(alloc, text)?;
-    Ok(
-        match run_recorded::<Kept, _>(alloc, programs, (alloc, count, most), gate) {
-            Ok((kept, view)) => Some(told(kept, view)),
-            Err(_) => None,
-        },
-    )
+    let (count, most) = counter;
+    let ran = run_recorded(alloc, programs, (alloc, count, most), gate);
+    refusal(rt, alloc, ran, wanted)
 }
 
 pub const TWO_PROCESSES: &[u8] = b"programs 1
@@ -136,8 +149,11 @@ end
 #[test]
 fn a_recorder_is_told_of_all(rt: HostRuntime) -> Result<(), Fail> {
     let count = AtomicUsize::new(0);
-    let transcript = recorded(rt.alloc(), TWO_PROCESSES, &count, 7, &NoGate)?.ok_or("none")?;
-    is_written(&rt, rt.alloc(), &transcript, OF_TWO_PROCESSES)
+    let counter = (&count, 7);
+    let wanted = Some(OF_TWO_PROCESSES);
+    let fault = recorded(&rt, rt.alloc(), TWO_PROCESSES, counter, &NoGate, wanted)?;
+    assert!(rt; fault.is_none());
+    Ok(())
 }
 
 // What a gate is told of the six commands of the two processes.
@@ -171,8 +187,9 @@ fn stops_behind(rt: &impl Abort, alloc: Global, entries: usize) -> Result<(), Fa
 {
     let count = AtomicUsize::new(0);
     let log = Log::of(alloc, 16)?;
-    let ended = recorded(alloc, TWO_PROCESSES, &count, entries + 1, &log)?;
-    assert!(rt; ended.is_none());
+    let counter = (&count, entries + 1);
+    let fault = recorded(rt, alloc, TWO_PROCESSES, counter, &log, None)?;
+    assert!(rt; fault == Some(RunFault::NoMemory));
     are_told(rt, &count, entries + 2, &log, 2 * entries + 2);
     Ok(())
 }
@@ -191,7 +208,8 @@ pub const SAME_NAME: &[u8] =
 #[test]
 fn drivers_come_before_the_recorder(rt: HostRuntime) -> Result<(), Fail> {
     let told = AtomicUsize::new(0);
-    assert!(rt; recorded(rt.alloc(), SAME_NAME, &told, 9, &NoGate)?.is_none());
+    let fault = recorded(&rt, rt.alloc(), SAME_NAME, (&told, 9), &NoGate, None)?;
+    assert!(rt; fault.is_some());
     assert_eq!(rt; told.load(Ordering::SeqCst), 0);
     Ok(())
 }
@@ -238,7 +256,8 @@ impl<'a> Gate for InTime<'a> {
 fn a_recorded_run_tells_of_each_command_in_turn(rt: HostRuntime) -> Result<(), Fail> {
     let told = AtomicUsize::new(0);
     let log = Log::of(rt.alloc(), 40)?;
-    assert!(rt; recorded(rt.alloc(), SIX, &told, 14, &log)?.is_some());
+    let fault = recorded(&rt, rt.alloc(), SIX, (&told, 14), &log, None)?;
+    assert!(rt; fault.is_none());
     assert!(rt; log.has(&IN_TURN));
     Ok(())
 }
@@ -247,7 +266,8 @@ fn a_recorded_run_tells_of_each_command_in_turn(rt: HostRuntime) -> Result<(), F
 fn a_recorded_run_tells_right_before_and_right_after(rt: HostRuntime) -> Result<(), Fail> {
     let told = AtomicUsize::new(0);
     let gate = InTime::of(&told);
-    assert!(rt; recorded(rt.alloc(), SIX, &told, 14, &gate)?.is_some());
+    let fault = recorded(&rt, rt.alloc(), SIX, (&told, 14), &gate, None)?;
+    assert!(rt; fault.is_none());
     assert_eq!(rt; told.load(Ordering::SeqCst), 14);
     assert_eq!(rt; gate.in_time.load(Ordering::SeqCst), 26);
     Ok(())

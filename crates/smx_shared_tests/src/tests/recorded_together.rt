@@ -2,11 +2,11 @@
 
 ghost use Rattle.std.specs.Prelude.{◌≤◌, length, IfOk};
 
-use super::recorded::{Kept, TWO_PROCESSES, told};
-use super::workers::{ONE_HISTORY, is_written};
-use smx_run::{NoGate, run_recorded_together};
+use super::recorded::{TWO_PROCESSES, refusal};
+use super::workers::ONE_HISTORY;
+use smx_run::{NoGate, RunFault, run_recorded_together};
 use smx_text::read_programs;
-use smx_types::{Programs, Transcript};
+use smx_types::Programs;
 use std::alloc::Global;
 use std::process::Abort;
 use std::sync::Wait;
@@ -25,53 +25,33 @@ fn some_programs(alloc: Global, text: &[u8]) -> Result<Programs, Fail>
     Ok(programs)
 }
 
-// A run by so many workers, of which a recorder is told, which counts and may be told so often: what it was told, if the
-// run ended well.
-fn recorded<R: Threads + Wait + Sync>(
+// Why a run by so many workers is refused, of which a recorder is told, which counts and may be told so often. If it
+// isn't, the recorder is told this, where that is given.
+fn recorded<R: Abort + Threads + Wait + Sync>(
     rt: &R,
     alloc: Global,
     text: &[u8],
     workers: usize,
-    count: &AtomicUsize,
-    most: usize,
-) -> Result<Option<Transcript>, Fail>
+    counter: (&AtomicUsize, usize),
+    wanted: Option<&[u8]>,
+) -> Result<Option<RunFault>, Fail>
     requires { 1 ≤ workers }
 {
     let programs = some_programs(alloc, text)?;
-    let ended = run_recorded_together::<R, Kept, NoGate>(
-        rt,
-        alloc,
-        programs,
-        workers,
-        (alloc, count, most),
-        &NoGate,
-    );
-    Ok(match ended {
-        Ok((kept, view)) => Some(told(kept, view)),
-        Err(_) => None,
-    })
-}
-
-// A recorder of a run by so many workers is told this.
-fn gives<R: Abort + Threads + Wait + Sync>(
-    rt: &R,
-    alloc: Global,
-    input: &[u8],
-    workers: usize,
-    output: &[u8],
-) -> Result<(), Fail>
-    requires { 1 ≤ workers }
-{
-    let count = AtomicUsize::new(0);
-    let transcript = recorded(rt, alloc, input, workers, &count, 20)?.ok_or("none")?;
-    is_written(rt, alloc, &transcript, output)
+    let (count, most) = counter;
+    let room = (alloc, count, most);
+    let ran = run_recorded_together(rt, alloc, programs, workers, room, &NoGate);
+    refusal(rt, alloc, ran, wanted)
 }
 
 #[test]
 fn tells_of_the_one_history(rt: HostRuntime) -> Result<(), Fail> {
+    let count = AtomicUsize::new(0);
     for workers in [1, 2, 3, 64] {
         for (input, output) in &ONE_HISTORY[1..] {
-            gives(&rt, rt.alloc(), input, workers, output)?;
+            let counter = (&count, 1000);
+            let fault = recorded(&rt, rt.alloc(), input, workers, counter, Some(output))?;
+            assert!(rt; fault.is_none());
         }
     }
     Ok(())
@@ -83,8 +63,9 @@ fn tells_of_the_one_history(rt: HostRuntime) -> Result<(), Fail> {
 fn a_recorder_that_wants_memory_is_told_of_nothing_more(rt: HostRuntime) -> Result<(), Fail> {
     for entries in 0..8 {
         let count = AtomicUsize::new(0);
-        let ended = recorded(&rt, rt.alloc(), TWO_PROCESSES, 2, &count, entries + 1)?;
-        assert_eq!(rt; ended.is_some(), 6 <= entries);
+        let counter = (&count, entries + 1);
+        let fault = recorded(&rt, rt.alloc(), TWO_PROCESSES, 2, counter, None)?;
+        assert_eq!(rt; fault.is_none(), 6 <= entries);
         assert_eq!(rt; count.load(Ordering::SeqCst), (entries + 2).min(7));
     }
     Ok(())
