@@ -1,9 +1,11 @@
 //! Seats that call, each on a thread of its own, where it is dropped; and sixteen workers.
 
+use super::callers::system_of;
 use super::stage::{Part, Stage, is_counted, is_played};
 use super::workers::{reported, text_of};
 use smx_run::Report;
 use smx_samples::nothing_open;
+use smx_shared::Shared;
 use std::alloc::Global;
 use std::process::Abort;
 use std::test::Fail;
@@ -11,7 +13,8 @@ use std::test::Fail;
 #[test]
 fn five_entries_of_eight_calls(rt: HostRuntime) -> Result<(), Fail> {
     let stage = Stage::of(rt.alloc(), (4, Part::CallsTwice), Part::CallsTwice, 0)?;
-    is_played(&rt, &stage, 5, 4, (5, None, 5))?;
+    let (shared, seats) = Shared::start(rt.alloc(), system_of(rt.alloc(), 5)?, 5)?;
+    is_played(&rt, &stage, shared, seats, (5, None, 5))?;
     is_counted(&rt, &stage.answered, 5);
     is_counted(&rt, &stage.full, 3);
     Ok(())
@@ -20,7 +23,8 @@ fn five_entries_of_eight_calls(rt: HostRuntime) -> Result<(), Fail> {
 #[test]
 fn a_thread_that_drops_its_seat(rt: HostRuntime) -> Result<(), Fail> {
     let stage = Stage::of(rt.alloc(), (1, Part::CallsTwice), Part::CallsTwice, 0)?;
-    is_played(&rt, &stage, 10, 1, (2, Some(2), 3))
+    let (shared, seats) = Shared::start(rt.alloc(), system_of(rt.alloc(), 10)?, 2)?;
+    is_played(&rt, &stage, shared, seats, (2, Some(2), 3))
 }
 
 fn have_closed(rt: &impl Abort, alloc: Global, report: &Report) {

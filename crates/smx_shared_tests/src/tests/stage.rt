@@ -1,9 +1,8 @@
 //! Seats that each have a thread of their own, and what they do there.
 
-ghost use Rattle.std.specs.Prelude.{◌≡◌, ◌<◌, ◌≤◌, All, IfOk};
-ghost use Rattle.smx_types.specs.declared.limits.TheConstants.{MAX_COMMANDS, MAX_PROCESSES};
+ghost use Rattle.std.specs.Prelude.{◌≡◌, All, IfOk};
 
-use super::callers::{closes_with, front, last_of, opens, system_of};
+use super::callers::{closes_with, front, last_of, opens};
 use super::gates::{TURNS, is_reached};
 use smx_samples::{Call, command_of};
 use smx_shared::{ApplyFault, Door, Front, Hold, Seat, Shared, TryFault};
@@ -359,21 +358,18 @@ fn last_looks<R: Abort + Threads + Wait + Sync>(
     Ok(last)
 }
 
-/// A system over `driver ip mux 64 8 3 16`, of at most so many entries, is shared by so many seats that play and by one
-/// more, and has that end. All went as it should.
+/// All of these seats but the last play, that one finds this end, and all went as it should.
 pub fn is_played<R: Abort + Threads + Wait + Sync>(
     rt: &R,
     stage: &Stage,
-    limit: usize,
-    seats: usize,
+    shared: Shared,
+    seats: Vec<Seat>,
     end: End,
 ) -> Result<(), Fail>
-    requires limit { limit ≤ MAX_COMMANDS }
-    requires seats { seats < MAX_PROCESSES }
+    requires { All (λ s. s.shared ≡ shared.name) seats.items }
 {
-    let system = system_of(stage.alloc, limit)?;
-    let (shared, all) = Shared::start(stage.alloc, system, seats + 1)?;
-    let last = last_looks(rt, &shared, all, stage, end)?;
-    is_counted(rt, &stage.well, seats as u64);
+    let count = seats.len() as u64;
+    let last = last_looks(rt, &shared, seats, stage, end)?;
+    is_counted(rt, &stage.well, count.saturating_sub(1));
     closes_with(rt, shared, last, end.2)
 }
