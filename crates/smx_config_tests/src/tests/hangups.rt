@@ -2,12 +2,10 @@
 
 use super::worked::{IP_AND_ETH, are_worked};
 
-// A history whose replies are right, and what is shown in the end.
-type Case = (&'static str, &'static str);
-
-// What is refused for a hangup and what is not. A message waits for what was routed to the stream that hung up, which
-// has gone since. Then, a stream is read to its end, and stays hung up below a link.
-const REFUSED: [Case; 2] = [
+// Histories whose replies are right, and what is shown in the end.
+const WORKED: [(&str, &str); 17] = [
+    // What is refused for a hangup and what is not. A message waits for what was routed to the stream that hung up,
+    // which has gone since. Then, a stream is read to its end, and stays hung up below a link.
     (
         "0 clone ip = fd 0 0
 0 clone eth = fd 1 0
@@ -46,10 +44,7 @@ const REFUSED: [Case; 2] = [
 ",
         "next 2 2\nfd 0 0 eth 0\nfd 0 1 ip 0\nlink 1 ip 0 eth 0 plink\nhung eth 0\n",
     ),
-];
-
-// It is open: it can be shared, doubled and closed, and hung up a second time; its end forgets the hangup.
-const OPEN: [Case; 2] = [
+    // It is open: it can be shared, doubled and closed, and hung up a second time; its end forgets the hangup.
     (
         "0 clone eth = fd 0 0
 0 hangup eth 0 = done
@@ -82,10 +77,7 @@ const OPEN: [Case; 2] = [
 ",
         "next 1 2\nfd 0 0 eth 0\n",
     ),
-];
-
-// It is below a link of either kind, or is linked below once it has hung up; it may not be above one.
-const LINKED: [Case; 4] = [
+    // It is below a link of either kind, or is linked below once it has hung up; it may not be above one.
     (
         "0 clone ip = fd 0 0
 0 clone eth = fd 1 0
@@ -140,10 +132,8 @@ const LINKED: [Case; 4] = [
 ",
         "next 2 1\nfd 0 0 ip 0\nfd 0 1 eth 0\n",
     ),
-];
-
-// It has messages on both sides, or both are full: what came in is read, and what was to go out stays until its end.
-const QUEUED: [Case; 3] = [
+    // It has messages on both sides, or both are full: what came in is read, and what was to go out stays until its
+    // end.
     (
         "0 clone eth = fd 0 0
 0 inject eth 0 9 aa = took 1
@@ -187,10 +177,7 @@ hung eth 0
 ",
         "next 1 3\n",
     ),
-];
-
-// It is routed to: what goes there waits, holds up what is behind it, and goes on by another route.
-const ROUTED: [Case; 4] = [
+    // It is routed to: what goes there waits, holds up what is behind it, and goes on by another route.
     (
         "0 clone ip = fd 0 0
 0 clone eth = fd 1 0
@@ -286,10 +273,7 @@ hung eth 1
 ",
         "next 2 2\nfd 0 0 ip 0\nfd 0 1 eth 0\nlink 1 ip 0 eth 0 link\nbind ip 9 0\nhung eth 0\n",
     ),
-];
-
-// Two streams wait for a full one. It hangs up, and its end drops what it holds; by another route both go on.
-const WAITED_FOR: [Case; 2] = [
+    // Two streams wait for a full one. It hangs up, and its end drops what it holds; by another route both go on.
     (
         "0 clone ip = fd 0 0
 0 clone ip = fd 1 1
@@ -343,13 +327,9 @@ hung eth 0
     ),
 ];
 
-const ALL: [&[Case]; 6] = [&REFUSED, &OPEN, &LINKED, &QUEUED, &ROUTED, &WAITED_FOR];
-
 #[test]
 fn of_a_stream_wherever_it_stands(rt: HostRuntime) {
-    for cases in &ALL {
-        for (entries, view) in *cases {
-            are_worked(&rt, IP_AND_ETH, *entries, *view);
-        }
+    for (entries, view) in &WORKED {
+        are_worked(&rt, IP_AND_ETH, *entries, *view);
     }
 }

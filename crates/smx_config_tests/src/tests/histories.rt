@@ -192,11 +192,21 @@ fn leaves_its_copy(
     goes_on_by(rt, config, behind);
 }
 
+fn go_apart(
+    rt: &(impl AllocGlobal + Abort),
+    before: &str,
+    of_the_copy: &str,
+    behind: &str,
+) -> Result<(), Fail> {
+    let mut config = ip_and_eth(rt.alloc())?;
+    leaves_its_copy(rt, &mut config, before, of_the_copy, behind);
+    Ok(())
+}
+
 #[test]
 fn a_copy_goes_its_own_way(rt: HostRuntime) -> Result<(), Fail> {
     for (before, of_the_copy, behind) in &APART {
-        let mut config = ip_and_eth(rt.alloc())?;
-        leaves_its_copy(&rt, &mut config, *before, *of_the_copy, *behind);
+        go_apart(&rt, *before, *of_the_copy, *behind)?;
     }
     Ok(())
 }
