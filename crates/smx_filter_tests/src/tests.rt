@@ -1,14 +1,13 @@
 //! Tests, and the devices of tests.
 
 mod broken;
-mod broken_checks;
-mod broken_replays;
 mod checks;
 mod damaged;
 mod devices;
 mod drawings;
 mod explained;
 mod faults;
+mod jobs;
 mod limits;
 mod lives;
 mod reading;

@@ -15,6 +15,7 @@ mod recorded_together;
 mod runs;
 mod shared;
 mod shared_use;
+mod stage;
 mod system_lines;
 mod systems;
 mod told;

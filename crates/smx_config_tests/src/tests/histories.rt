@@ -1,97 +1,212 @@
-//! A short history, a long one, and copies.
+//! Worked histories: short ones, a long one, and copies that go their own way.
 
+use super::worked::{IP_AND_ETH, are_worked, goes_on_by, is_worked};
 use smx_config::Config;
-use smx_samples::{Answer, Call, JOIN, Line, first_stream, ip_and_eth, joined, play, shows};
-use smx_types::Fault;
+use smx_samples::ip_and_eth;
+use std::alloc::AllocError;
 use std::process::Abort;
 use std::test::Fail;
 
-const FIRST: [Line; 1] = [(Call::Clone("ip"), Answer::Fd(0, 0))];
+// The drivers, what processes ask and are answered, and what is shown in the end.
+const WORKED: [(&str, &str, &str); 4] = [
+    (
+        IP_AND_ETH,
+        "0 clone ip = fd 0 0\n",
+        "next 1 1\nfd 0 0 ip 0\n",
+    ),
+    (
+        IP_AND_ETH,
+        "0 clone ip = fd 0 0\n0 clone ip = fd 1 1\n",
+        "next 1 1\nfd 0 0 ip 0\nfd 0 1 ip 1\n",
+    ),
+    // A persistent link outlives its maker.
+    (
+        IP_AND_ETH,
+        "0 clone ip = fd 0 0
+0 clone eth = fd 1 0
+0 plink 0 1 = id 1
+0 route 0 7 1 = done
+0 exit = done
+0 inject eth 0 9 aa = took 1
+0 clone ip = fd 0 0
+0 punlink 0 all = done 1
+0 transmit eth 0 = ENXIO minor
+",
+        "next 2 2\nfd 0 0 ip 0\n",
+    ),
+    // Sizes of messages, and the end of a stream.
+    (
+        "driver eth leaf 1 4 0 2\n",
+        "0 clone eth = fd 0 0
+0 write 0 5 - = ERANGE
+0 write 0 5 aabb = took 1
+0 inject eth 0 4294967295 ccdd = took 2
+0 read 0 = got 2 4294967295 ccdd
+0 clone eth = ENXIO minor
+0 clone tr = ENXIO driver
+0 write 0 5 aabb = took 3
+0 write 0 5 aabb = EAGAIN full
+0 flush 0 w = done 1 3
+0 write 0 5 01 = took 4
+0 close 0 = done 4
+",
+        "next 1 5\n",
+    ),
+];
 
-fn shows_the_first(rt: &impl AllocGlobal, config: &Config) -> Result<(), Fail> {
-    shows(config, first_stream(rt.alloc())?)
+#[test]
+fn short_histories(rt: HostRuntime) {
+    for (drivers, entries, view) in &WORKED {
+        are_worked(&rt, *drivers, *entries, *view);
+    }
 }
 
-fn have_the_same_drivers(rt: &impl Abort, config: &Config, again: &Config) {
-    assert!(rt; again.drivers() == config.drivers());
-}
+const JOIN: &str = "transcript 1
+driver ip mux 4 8 3 16
+driver eth leaf 2 8 3 16
+0 clone ip = fd 0 0
+0 clone eth = fd 1 0
+0 link 0 1 = id 1
+0 route 0 5 1 = done
+";
 
-fn is_copied(rt: &(impl AllocGlobal + Abort), config: &Config) -> Result<(), Fail> {
-    let again = config.copy()?;
-    have_the_same_drivers(rt, config, &again);
-    shows_the_first(rt, &again)
-}
-
-fn opens_the_first(
-    rt: &(impl AllocGlobal + Abort + Print),
-    config: &mut Config,
-) -> Result<(), Fail> {
-    play(rt, config, &FIRST)?;
-    shows_the_first(rt, config)?;
-    is_copied(rt, config)
+// Ten thousand times a message goes down through the link, and the device takes it.
+fn add_rounds(text: &mut String) -> Result<(), AllocError> {
+    text.push_str(JOIN)?;
+    for serial in 1..10_001u32 {
+        write!(
+            text,
+            "0 write 0 5 aa = took {serial}\n0 transmit eth 0 = got {serial} 5 aa\n"
+        )?;
+    }
+    let view = "next 2 10001\nfd 0 0 ip 0\nfd 0 1 eth 0\nlink 1 ip 0 eth 0 link\nroute ip 5 1\n";
+    write!(text, "config\n{view}end\n")
 }
 
 #[test]
-fn the_first_stream(rt: HostRuntime) -> Result<(), Fail> {
-    let mut config = ip_and_eth(rt.alloc())?;
-    opens_the_first(&rt, &mut config)
-}
-
-// A message goes down through the link, and the device takes it.
-fn round(rt: &(impl AllocGlobal + Print), config: &mut Config, serial: u32) -> Result<(), Fail> {
-    let lines = [
-        (Call::Write(0, 5, &[0xaa]), Answer::Took(serial)),
-        (Call::Transmit("eth", 0), Answer::Got(serial, 5, &[0xaa])),
-    ];
-    play(rt, config, &lines)
-}
-
-fn rounds(rt: &(impl AllocGlobal + Print), config: &mut Config) -> Result<(), Fail> {
-    for serial in 1..10_001u32 {
-        round(rt, config, serial)?;
-    }
+fn ten_thousand_rounds(rt: HostRuntime) -> Result<(), AllocError> {
+    let mut text = String::new(rt.alloc());
+    add_rounds(&mut text)?;
+    is_worked(&rt, text.as_str());
     Ok(())
 }
 
-fn goes_round(rt: &(impl AllocGlobal + Print), config: &mut Config) -> Result<(), Fail> {
-    play(rt, config, &JOIN)?;
-    rounds(rt, config)?;
-    shows(config, joined(rt.alloc(), 10_001)?)
-}
+// What comes before a copy is made, how the copy goes on, and how its original does behind that.
+const APART: [(&str, &str, &str); 2] = [
+    // The link goes from the copy alone.
+    (
+        "transcript 1
+driver ip mux 4 8 3 16
+driver eth leaf 2 8 3 16
+0 clone ip = fd 0 0
+0 clone eth = fd 1 0
+0 link 0 1 = id 1
+0 route 0 5 1 = done
+config
+next 2 1
+fd 0 0 ip 0
+fd 0 1 eth 0
+link 1 ip 0 eth 0 link
+route ip 5 1
+end
+",
+        "transcript 1
+driver ip mux 4 8 3 16
+driver eth leaf 2 8 3 16
+0 close 0 = done
+config
+next 2 1
+fd 0 1 eth 0
+end
+",
+        "transcript 1
+driver ip mux 4 8 3 16
+driver eth leaf 2 8 3 16
+0 read 0 = EAGAIN empty
+config
+next 2 1
+fd 0 0 ip 0
+fd 0 1 eth 0
+link 1 ip 0 eth 0 link
+route ip 5 1
+end
+",
+    ),
+    // Another stream hangs up.
+    (
+        "transcript 2
+driver ip mux 4 8 3 16
+driver eth leaf 2 8 3 16
+0 clone eth = fd 0 0
+0 clone eth = fd 1 1
+0 hangup eth 1 = done
+config
+next 1 1
+fd 0 0 eth 0
+fd 0 1 eth 1
+hung eth 1
+end
+",
+        "transcript 2
+driver ip mux 4 8 3 16
+driver eth leaf 2 8 3 16
+0 read 0 = EAGAIN empty
+0 read 1 = eof
+0 close 1 = done
+0 hangup eth 0 = done
+config
+next 1 1
+fd 0 0 eth 0
+hung eth 0
+end
+",
+        "transcript 2
+driver ip mux 4 8 3 16
+driver eth leaf 2 8 3 16
+0 read 0 = EAGAIN empty
+0 read 1 = eof
+config
+next 1 1
+fd 0 0 eth 0
+fd 0 1 eth 1
+hung eth 1
+end
+",
+    ),
+];
 
-#[test]
-fn ten_thousand_rounds(rt: HostRuntime) -> Result<(), Fail> {
-    let mut config = ip_and_eth(rt.alloc())?;
-    goes_round(&rt, &mut config)
-}
-
-const LEFT: [Line; 1] = [(Call::Close(0), Answer::Done(&[]))];
-
-const STAYED: [Line; 1] = [(Call::Read(0), Answer::Refused(Fault::Empty))];
-
-// The link goes from the copy alone.
-fn go_apart(
-    rt: &(impl AllocGlobal + Abort + Print),
-    config: &mut Config,
-    again: &mut Config,
-) -> Result<(), Fail> {
-    play(rt, again, &LEFT)?;
-    assert_eq!(rt; again.link_count(), 0);
-    assert_eq!(rt; config.link_count(), 1);
-    play(rt, config, &STAYED)
+fn its_copy_goes_on(rt: &(impl AllocGlobal + Abort), config: &Config, text: &str) {
+    let mut again = config.copy().expect(rt, "there is memory");
+    goes_on_by(rt, &mut again, text);
 }
 
 fn leaves_its_copy(
-    rt: &(impl AllocGlobal + Abort + Print),
+    rt: &(impl AllocGlobal + Abort),
     config: &mut Config,
+    before: &str,
+    of_the_copy: &str,
+    behind: &str,
+) {
+    goes_on_by(rt, config, before);
+    its_copy_goes_on(rt, config, of_the_copy);
+    goes_on_by(rt, config, behind);
+}
+
+fn go_apart(
+    rt: &(impl AllocGlobal + Abort),
+    before: &str,
+    of_the_copy: &str,
+    behind: &str,
 ) -> Result<(), Fail> {
-    play(rt, config, &JOIN)?;
-    let mut again = config.copy()?;
-    go_apart(rt, config, &mut again)
+    let mut config = ip_and_eth(rt.alloc())?;
+    leaves_its_copy(rt, &mut config, before, of_the_copy, behind);
+    Ok(())
 }
 
 #[test]
 fn a_copy_goes_its_own_way(rt: HostRuntime) -> Result<(), Fail> {
-    let mut config = ip_and_eth(rt.alloc())?;
-    leaves_its_copy(&rt, &mut config)
+    for (before, of_the_copy, behind) in &APART {
+        go_apart(&rt, *before, *of_the_copy, *behind)?;
+    }
+    Ok(())
 }

@@ -1,104 +1,91 @@
 //! The most messages of a queue, and the longest message.
 
-use smx_config::Config;
-use smx_samples::{
-    Answer, Call, driver, eth0, longest_bytes, made_over, most_messages, play, shown,
-};
-use smx_types::{DriverKind, Fault, MessageLines, Sides};
-use std::alloc::Global;
-use std::process::Abort;
-use std::test::Fail;
+use super::worked::is_worked;
+use std::alloc::AllocError;
 
-// A leaf of one stream, whose queues take 4,096 bytes.
-fn one_long_queue(alloc: Global) -> Result<Config, Fail> {
-    let mut eth = driver("eth", DriverKind::Leaf, 1)?;
-    eth.high = 4_096;
-    eth.low = 0;
-    made_over(alloc, &[eth])
-}
-
-fn fill(rt: &(impl AllocGlobal + Print), config: &mut Config) -> Result<(), Fail> {
+// A leaf of one stream, whose queues take 4,096 bytes, and as many messages of one byte.
+fn add_writes(text: &mut String) -> Result<(), AllocError> {
+    text.push_str("transcript 1\ndriver eth leaf 1 4096 0 16\n0 clone eth = fd 0 0\n")?;
     for serial in 1..4_097u32 {
-        play(
-            rt,
-            config,
-            &[(Call::Write(0, 5, &[187]), Answer::Took(serial))],
-        )?;
+        write!(text, "0 write 0 5 bb = took {serial}\n")?;
     }
     Ok(())
 }
 
-// The serials of all messages of the queue.
-fn all_serials(alloc: Global) -> Result<Vec<u32>, Fail> {
-    let mut serials = Vec::new(alloc);
+fn add_shown_messages(text: &mut String) -> Result<(), AllocError> {
+    text.push_str("config\nnext 1 4097\nfd 0 0 eth 0\n")?;
     for serial in 1..4_097u32 {
-        serials.push(serial)?;
+        write!(text, "msg eth 0 w {serial} 5 bb\n")?;
     }
-    Ok(serials)
+    text.push_str("full eth 0 w\nend\n")
+}
+
+fn most_messages(text: &mut String) -> Result<(), AllocError> {
+    add_writes(text)?;
+    add_shown_messages(text)
+}
+
+#[test]
+fn the_most_messages_of_a_queue(rt: HostRuntime) -> Result<(), AllocError> {
+    let mut text = String::new(rt.alloc());
+    most_messages(&mut text)?;
+    is_worked(&rt, text.as_str());
+    Ok(())
 }
 
 // The full queue takes no more, and a flush drops all.
-fn empty_again(rt: &(impl AllocGlobal + Print), config: &mut Config) -> Result<(), Fail> {
-    let dropped = all_serials(rt.alloc())?;
-    let lines = [
-        (Call::Write(0, 5, &[187]), Answer::Refused(Fault::Full)),
-        (Call::Flush(0, Sides::W), Answer::Done(dropped.as_slice())),
-    ];
-    play(rt, config, &lines)
+fn add_a_flush(text: &mut String) -> Result<(), AllocError> {
+    text.push_str("0 write 0 5 bb = EAGAIN full\n0 flush 0 w = done")?;
+    for serial in 1..4_097u32 {
+        write!(text, " {serial}")?;
+    }
+    text.push_str("\nconfig\nnext 1 4097\nfd 0 0 eth 0\nend\n")
 }
 
-fn has_queued(rt: &impl Abort, config: &Config, want: &MessageLines) -> Result<(), Fail> {
-    let view = shown(config)?;
-    assert!(rt; view.msgs == *want);
+fn most_dropped(text: &mut String) -> Result<(), AllocError> {
+    add_writes(text)?;
+    add_a_flush(text)
+}
+
+#[test]
+fn a_flush_of_the_most_messages(rt: HostRuntime) -> Result<(), AllocError> {
+    let mut text = String::new(rt.alloc());
+    most_dropped(&mut text)?;
+    is_worked(&rt, text.as_str());
     Ok(())
 }
 
-fn both_have_queued(rt: &impl Abort, config: &Config, want: &MessageLines) -> Result<(), Fail> {
-    has_queued(rt, config, want)?;
-    let again = config.copy()?;
-    has_queued(rt, &again, want)
-}
-
-fn is_filled(rt: &(impl AllocGlobal + Abort), config: &Config) -> Result<(), Fail> {
-    let want = most_messages(rt.alloc(), 187)?;
-    both_have_queued(rt, config, &want)
-}
-
-fn fills_and_empties(
-    rt: &(impl AllocGlobal + Abort + Print),
-    config: &mut Config,
-) -> Result<(), Fail> {
-    play(rt, config, &[(Call::Clone("eth"), Answer::Fd(0, 0))])?;
-    fill(rt, config)?;
-    is_filled(rt, config)?;
-    empty_again(rt, config)
-}
-
-#[test]
-fn the_most_messages_of_a_queue(rt: HostRuntime) -> Result<(), Fail> {
-    let mut config = one_long_queue(rt.alloc())?;
-    fills_and_empties(&rt, &mut config)
+fn add_longest(hex: &mut String) -> Result<(), AllocError> {
+    for _ in 0..1_024u32 {
+        hex.push_str("fe")?;
+    }
+    Ok(())
 }
 
 // These bytes go down and come up.
-fn sends(rt: &(impl AllocGlobal + Print), config: &mut Config, bytes: &[u8]) -> Result<(), Fail> {
-    let lines = [
-        (Call::Clone("eth0"), Answer::Fd(0, 0)),
-        (Call::Write(0, 5, bytes), Answer::Took(1)),
-        (Call::Inject("eth0", 0, 9, bytes), Answer::Took(2)),
-        (Call::Read(0), Answer::Got(2, 9, bytes)),
-        (Call::Transmit("eth0", 0), Answer::Got(1, 5, bytes)),
-    ];
-    play(rt, config, &lines)
+fn add_sent(text: &mut String, hex: &str) -> Result<(), AllocError> {
+    text.push_str("transcript 1\ndriver eth0 leaf 64 4096 0 1024\n0 clone eth0 = fd 0 0\n")?;
+    write!(
+        text,
+        "0 write 0 5 {hex} = took 1\n0 inject eth0 0 9 {hex} = took 2\n"
+    )?;
+    write!(
+        text,
+        "0 read 0 = got 2 9 {hex}\n0 transmit eth0 0 = got 1 5 {hex}\n"
+    )?;
+    text.push_str("config\nnext 1 3\nfd 0 0 eth0 0\nend\n")
 }
 
-fn sends_the_longest(rt: &(impl AllocGlobal + Print), config: &mut Config) -> Result<(), Fail> {
-    let payload = longest_bytes(rt.alloc(), 254)?;
-    sends(rt, config, payload.as_slice())
+fn longest(text: &mut String, hex: &mut String) -> Result<(), AllocError> {
+    add_longest(hex)?;
+    add_sent(text, hex.as_str())
 }
 
 #[test]
-fn the_longest_message(rt: HostRuntime) -> Result<(), Fail> {
-    let mut config = made_over(rt.alloc(), &[eth0()?])?;
-    sends_the_longest(&rt, &mut config)
+fn the_longest_message(rt: HostRuntime) -> Result<(), AllocError> {
+    let mut hex = String::new(rt.alloc());
+    let mut text = String::new(rt.alloc());
+    longest(&mut text, &mut hex)?;
+    is_worked(&rt, text.as_str());
+    Ok(())
 }

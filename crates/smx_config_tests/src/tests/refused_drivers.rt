@@ -1,14 +1,36 @@
-//! Drivers that can't be had: one too many, whichever the others are.
+//! Drivers that can't be had, one too many before all else. No configuration is made over them, and there is no verdict
+//! under them, whatever the entries are.
 
-use smx_config::{Config, ConfigFault};
-use smx_samples::{driver, leaves};
-use smx_types::{DriverKind, DriverSpec, SpecFault};
-use std::alloc::Global;
+use smx_config::{Config, ConfigFault, check_history};
+use smx_samples::{an_entry, driver, ip, leaves, nothing_open};
+use smx_types::{ConfigView, DriverKind, DriverSpec, Entry, SpecFault};
 use std::process::Abort;
+use std::slice::from_ref;
 use std::test::Fail;
 
-fn fault_of(alloc: Global, drivers: &[DriverSpec]) -> Result<ConfigFault, Fail> {
-    Ok(Config::new(alloc, drivers).err().ok_or("refused")?)
+fn both_refuse(
+    rt: &(impl AllocGlobal + Abort),
+    drivers: &[DriverSpec],
+    entries: &[Entry],
+    view: &ConfigView,
+    want: ConfigFault,
+) {
+    let made = Config::new(rt.alloc(), drivers).err();
+    assert!(rt; made == Some(want));
+    let judged = check_history(rt.alloc(), drivers, entries, view).err();
+    assert!(rt; judged == Some(want));
+}
+
+// Under an entry that is wrong.
+fn are_refused_under(
+    rt: &(impl AllocGlobal + Abort),
+    drivers: &[DriverSpec],
+    view: &ConfigView,
+    want: ConfigFault,
+) -> Result<(), Fail> {
+    let entry = an_entry()?;
+    both_refuse(rt, drivers, from_ref(&entry), view, want);
+    Ok(())
 }
 
 fn are_refused(
@@ -16,9 +38,8 @@ fn are_refused(
     drivers: &[DriverSpec],
     want: ConfigFault,
 ) -> Result<(), Fail> {
-    let fault = fault_of(rt.alloc(), drivers)?;
-    assert_eq!(rt; fault, want);
-    Ok(())
+    let view = nothing_open(rt.alloc(), 1, 1);
+    are_refused_under(rt, drivers, &view, want)
 }
 
 // This driver, so often.
@@ -32,26 +53,21 @@ fn so_many_are_refused(
     are_refused(rt, many.as_slice(), want)
 }
 
-// One more than 128 is too many before the others are looked at.
-fn are_too_many(
-    rt: &(impl AllocGlobal + Abort),
-    one: &DriverSpec,
-    fault: ConfigFault,
-) -> Result<(), Fail> {
-    so_many_are_refused(rt, one, 129, ConfigFault::TooMany)?;
-    so_many_are_refused(rt, one, 128, fault)
+#[test]
+fn of_one_name(rt: HostRuntime) -> Result<(), Fail> {
+    let ip = ip()?;
+    so_many_are_refused(&rt, &ip, 2, ConfigFault::SameName(1))?;
+    so_many_are_refused(&rt, &ip, 128, ConfigFault::SameName(1))?;
+    so_many_are_refused(&rt, &ip, 129, ConfigFault::TooMany)
 }
 
 #[test]
-fn too_many_of_one_name(rt: HostRuntime) -> Result<(), Fail> {
-    let ip = driver("ip", DriverKind::Mux, 4)?;
-    are_too_many(&rt, &ip, ConfigFault::SameName(1))
-}
-
-#[test]
-fn too_many_that_are_bad(rt: HostRuntime) -> Result<(), Fail> {
+fn of_no_streams(rt: HostRuntime) -> Result<(), Fail> {
     let none = driver("ip", DriverKind::Mux, 0)?;
-    are_too_many(&rt, &none, ConfigFault::BadSpec(0, SpecFault::BadMinors))
+    let fault = ConfigFault::BadSpec(0, SpecFault::BadMinors);
+    so_many_are_refused(&rt, &none, 1, fault)?;
+    so_many_are_refused(&rt, &none, 128, fault)?;
+    so_many_are_refused(&rt, &none, 129, ConfigFault::TooMany)
 }
 
 #[test]

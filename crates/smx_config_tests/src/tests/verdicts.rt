@@ -1,59 +1,44 @@
-//! Verdicts on transcripts, which were typed in with what is said of them from the rules.
+//! Verdicts on transcripts, which were typed in with what is said of them from the rules, and on the most entries.
 
-use smx_config::{Verdict, check_history};
-use smx_text::read_transcript;
-use smx_types::Transcript;
-use std::alloc::Global;
+use super::worked::{IP_AND_ETH, is_judged};
+use smx_config::Verdict;
+use smx_samples::with_lines;
 use std::process::Abort;
 use std::test::Fail;
 
-// The text of a transcript of these entries and this view, under two drivers.
-fn text_of(alloc: Global, version: u32, entries: &str, view: &str) -> Result<String, Fail> {
-    let drivers = "driver ip mux 4 8 3 16\ndriver eth leaf 2 8 3 16";
-    Ok(format!(in alloc; "transcript {version}\n{drivers}\n{entries}config\n{view}end\n")?)
-}
-
-fn verdict_on(alloc: Global, t: &Transcript) -> Result<Verdict, Fail> {
-    let verdict = check_history(alloc, t.drivers.as_slice(), t.entries.as_slice(), &t.view)?;
-    Ok(verdict)
-}
-
-fn verdict_on_text(alloc: Global, text: &[u8]) -> Result<Verdict, Fail> {
-    let transcript = read_transcript(alloc, text)?;
-    verdict_on(alloc, &transcript)
-}
-
-fn judged(alloc: Global, version: u32, entries: &str, view: &str) -> Result<Verdict, Fail> {
-    let text = text_of(alloc, version, entries, view)?;
-    verdict_on_text(alloc, text.as_bytes())
-}
-
-/// What is said of these entries and this view, in a text of the second version.
-pub fn are_judged_in_version_2(
-    rt: &(impl AllocGlobal + Abort),
-    entries: &str,
-    view: &str,
-    want: Verdict,
-) -> Result<(), Fail> {
-    let verdict = judged(rt.alloc(), 2, entries, view)?;
-    assert_eq!(rt; verdict, want);
-    Ok(())
-}
-
-// In a text of the first version the same is said.
+// What is said of these entries and this view, in a text of the second version, and where it can be told, of the first.
 fn are_judged(
     rt: &(impl AllocGlobal + Abort),
+    first: u32,
     entries: &str,
     view: &str,
     want: Verdict,
-) -> Result<(), Fail> {
-    let verdict = judged(rt.alloc(), 1, entries, view)?;
-    assert_eq!(rt; verdict, want);
-    are_judged_in_version_2(rt, entries, view, want)
+) {
+    for version in first..3 {
+        let text = format!(in rt.alloc();
+            "transcript {version}\n{IP_AND_ETH}{entries}config\n{view}end\n"
+        ).expect(rt, "there is memory");
+        is_judged(rt, text.as_bytes(), want);
+    }
 }
 
-const CASES: [(&str, &str, Verdict); 12] = [
+const CASES: [(&str, &str, Verdict); 15] = [
     ("", "next 1 1\n", Verdict::Legal),
+    (
+        "0 clone ip = fd 0 0\n",
+        "next 1 1\nfd 0 0 ip 0\n",
+        Verdict::Legal,
+    ),
+    (
+        "0 clone ip = fd 0 0\n",
+        "next 1 1\n",
+        Verdict::ConfigDiffers,
+    ),
+    (
+        "0 clone ip = fd 0 1\n",
+        "next 1 1\nfd 0 0 ip 0\n",
+        Verdict::Illegal { entry: 1 },
+    ),
     (
         "0 clone ip = fd 0 0\n1 clone ip = fd 0 1\n",
         "next 1 1\nfd 0 0 ip 0\nfd 1 0 ip 1\n",
@@ -113,11 +98,10 @@ const CASES: [(&str, &str, Verdict); 12] = [
 ];
 
 #[test]
-fn on_short_transcripts(rt: HostRuntime) -> Result<(), Fail> {
-    for (entries, view, want) in CASES {
-        are_judged(&rt, entries, view, want)?;
+fn on_short_transcripts(rt: HostRuntime) {
+    for (entries, view, want) in &CASES {
+        are_judged(&rt, 1, *entries, *view, *want);
     }
-    Ok(())
 }
 
 const MARKS: &str = "0 clone ip = fd 0 0
@@ -147,7 +131,7 @@ full eth 0 w
 ";
 
 // What stands in the view, and what is claimed in its place.
-const CLAIMS: [(&str, &str); 36] = [
+const OF_MARKS: [(&str, &str); 36] = [
     ("next 2 6", "next 3 6"),
     ("next 2 6", "next 2 5"),
     ("fd 0 1 eth 0\n", ""),
@@ -186,42 +170,109 @@ const CLAIMS: [(&str, &str); 36] = [
     ("full eth 0 w", "full ip 0 w\nfull eth 0 w"),
 ];
 
-/// The view with this in the place of that.
-pub fn claimed(alloc: Global, view: &str, stands: &str, claim: &str) -> Result<String, Fail> {
-    let (before, behind) = view.split_once(stands).ok_or("not there")?;
-    Ok(format!(in alloc; "{before}{claim}{behind}")?)
-}
-
-// The view with this in the place of that is another.
-fn differs(
-    rt: &(impl AllocGlobal + Abort),
-    entries: &str,
-    view: &str,
-    (stands, claim): (&str, &str),
-) -> Result<(), Fail> {
-    let view = claimed(rt.alloc(), view, stands, claim)?;
-    are_judged(rt, entries, view.as_str(), Verdict::ConfigDiffers)
-}
-
-#[test]
-fn on_views_that_differ_in_one_thing(rt: HostRuntime) -> Result<(), Fail> {
-    are_judged(&rt, MARKS, AFTER_MARKS, Verdict::Legal)?;
-    for claim in &CLAIMS {
-        differs(&rt, MARKS, AFTER_MARKS, *claim)?;
-    }
-    Ok(())
-}
-
 const BOUND: &str = "0 clone ip = fd 0 0
 0 bind 0 9 = done
 ";
 
+const OF_BOUND: [(&str, &str); 4] = [
+    ("bind ip 9 0\n", ""),
+    ("bind ip 9 0", "bind eth 9 0"),
+    ("bind ip 9 0", "bind ip 8 0"),
+    ("bind ip 9 0", "bind ip 9 1"),
+];
+
+const BOTH: &str = "0 clone eth = fd 0 0
+0 clone eth = fd 1 1
+0 hangup eth 1 = done
+0 hangup eth 0 = done
+";
+
+const AFTER_BOTH: &str = "next 1 1\nfd 0 0 eth 0\nfd 0 1 eth 1\nhung eth 0\nhung eth 1\n";
+
+const OF_BOTH: [(&str, &str); 6] = [
+    ("hung eth 0\n", ""),
+    ("hung eth 1\n", ""),
+    ("hung eth 1\n", "hung eth 1\nhung eth 1\n"),
+    ("hung eth 0\nhung eth 1\n", "hung eth 1\nhung eth 0\n"),
+    ("hung eth 0", "hung ip 0"),
+    ("hung eth 1", "hung eth 2"),
+];
+
+// The view with this in the place of that is another.
+fn differs(
+    rt: &(impl AllocGlobal + Abort),
+    first: u32,
+    entries: &str,
+    view: &str,
+    (stands, claim): (&str, &str),
+) {
+    let (before, behind) = view.split_once(stands).expect(rt, "it stands there");
+    let view = format!(in rt.alloc(); "{before}{claim}{behind}").expect(rt, "there is memory");
+    are_judged(rt, first, entries, view.as_str(), Verdict::ConfigDiffers);
+}
+
+// The view is the right one, and differs in each of these things.
+fn differ(
+    rt: &(impl AllocGlobal + Abort),
+    first: u32,
+    entries: &str,
+    view: &str,
+    claims: &[(&str, &str)],
+) {
+    are_judged(rt, first, entries, view, Verdict::Legal);
+    for claim in claims {
+        differs(rt, first, entries, view, *claim);
+    }
+}
+
 #[test]
-fn on_bindings_that_differ(rt: HostRuntime) -> Result<(), Fail> {
-    let view = "next 1 1\nfd 0 0 ip 0\nbind ip 9 0\n";
-    are_judged(&rt, BOUND, view, Verdict::Legal)?;
-    for claim in ["", "bind eth 9 0\n", "bind ip 8 0\n", "bind ip 9 1\n"] {
-        differs(&rt, BOUND, view, ("bind ip 9 0\n", claim))?;
+fn on_views_that_differ_in_one_thing(rt: HostRuntime) {
+    let after_bound = "next 1 1\nfd 0 0 ip 0\nbind ip 9 0\n";
+    differ(&rt, 1, MARKS, AFTER_MARKS, &OF_MARKS);
+    differ(&rt, 1, BOUND, after_bound, &OF_BOUND);
+    differ(&rt, 2, BOTH, AFTER_BOTH, &OF_BOTH);
+}
+
+// Behind both hangups, a last entry whose reply is another one than it gets.
+const ILLEGAL: [&str; 8] = [
+    "0 hangup eth 0 = ENXIO hangup\n",
+    "0 hangup eth 0 = done 1\n",
+    "0 read 0 = EAGAIN empty\n",
+    "0 read 0 = ENXIO hangup\n",
+    "0 write 0 5 aa = took 1\n",
+    "0 write 0 5 - = ERANGE\n",
+    "0 transmit eth 0 = EAGAIN empty\n",
+    "0 hangup ip 0 = ENXIO minor\n",
+];
+
+#[test]
+fn on_replies_that_differ(rt: HostRuntime) {
+    for last in &ILLEGAL {
+        let entries = format!(in rt.alloc(); "{BOTH}{last}").expect(&rt, "there is memory");
+        let want = Verdict::Illegal { entry: 5 };
+        are_judged(&rt, 2, entries.as_str(), AFTER_BOTH, want);
+    }
+}
+
+// The 100,000th entry, and the verdict.
+const LAST: [(&[u8], Verdict); 2] = [
+    (
+        b"0 close 0 = EBADF fd\nconfig\nnext 1 1\nend\n",
+        Verdict::Legal,
+    ),
+    (
+        b"0 clone ip = fd 1 0\nconfig\nnext 1 1\nend\n",
+        Verdict::Illegal { entry: 100_000 },
+    ),
+];
+
+const BEGIN: &[u8] = b"transcript 1\ndriver ip mux 4 8 3 16\n";
+
+#[test]
+fn on_the_most_entries(rt: HostRuntime) -> Result<(), Fail> {
+    for (end, want) in &LAST {
+        let text = with_lines(rt.alloc(), BEGIN, b"0 close 0 = EBADF fd\n", 99_999, *end)?;
+        is_judged(&rt, text.as_slice(), *want);
     }
     Ok(())
 }

@@ -1,16 +1,10 @@
 //! Two levels of multiplexers, where 64 streams wait for one full place. Each time that it takes messages again, the
 //! least stream goes first.
 
-ghost use Rattle.std.specs.Prelude.{◌<◌, ◌≤◌};
+ghost use Rattle.std.specs.Prelude.{◌≤◌};
 
-use smx_config::Config;
-use smx_samples::{
-    Answer, Call, Line, command_of, driver, made_over, named, numbered, play, reply_of, shown,
-};
-use smx_types::{DriverKind, DriverSpec, Entry, Fault, FullLine, Side};
-use std::alloc::Global;
-use std::process::Abort;
-use std::test::Fail;
+use super::worked::is_worked;
+use std::alloc::AllocError;
 
 // Down from 64 streams to a device, or up from 64 devices to a reader.
 #[derive(Clone, Copy)]
@@ -19,300 +13,213 @@ enum Way {
     Up,
 }
 
-// A message from the stream or the device of this number.
-fn sending(way: Way, minor: u32, payload: &[u8]) -> Call<'_> {
+// A message from the stream or the device of this number. Streams are asked by the processes of their numbers, and a
+// device may be asked by any.
+fn send(text: &mut String, way: Way, minor: u32, serial: u32) -> Result<(), AllocError> {
     match way {
-        Way::Down => Call::Write(0, 5, payload),
-        Way::Up => Call::Inject("eth", minor, 5, payload),
+        Way::Down => write!(text, "{minor} write 0 5 {minor:02x} = took {serial}\n")?,
+        Way::Up => write!(
+            text,
+            "{minor} inject eth {minor} 5 {minor:02x} = took {serial}\n"
+        )?,
     }
+    Ok(())
 }
 
 // The device's transmit, or the reader's read.
-fn taking(way: Way) -> Call<'static> {
-    match way {
-        Way::Down => Call::Transmit("eth", 0),
-        Way::Up => Call::Read(1),
+fn take(text: &mut String, way: Way, minor: u32, serial: u32) -> Result<(), AllocError> {
+    let taking = match way {
+        Way::Down => "transmit eth 0",
+        Way::Up => "read 1",
+    };
+    write!(text, "0 {taking} = got {serial} 5 {minor:02x}\n")
+}
+
+// The first messages of stream 0 fill the places behind the streams. Two rounds of messages wait behind them, one from
+// each in a round, the last stream first.
+fn fill(text: &mut String, way: Way, first: u32) -> Result<(), AllocError>
+    requires { first ≤ 4 }
+{
+    for before in 0..first {
+        send(text, way, 0, before + 1)?;
     }
-}
-
-fn entry_by(alloc: Global, process: u32, line: Line) -> Result<Entry, Fail> {
-    let (call, answer) = line;
-    Ok(Entry {
-        process: numbered(process)?,
-        command: command_of(alloc, call)?,
-        reply: reply_of(alloc, answer)?,
-    })
-}
-
-fn is_answered(rt: &impl Abort, config: &mut Config, entry: &Entry) -> Result<(), Fail> {
-    let reply = config.step(entry.process, &entry.command)?;
-    assert!(rt; reply == entry.reply);
-    Ok(())
-}
-
-// The process asks this, and gets this answer.
-fn asks(
-    rt: &(impl AllocGlobal + Abort),
-    config: &mut Config,
-    process: u32,
-    line: Line,
-) -> Result<(), Fail> {
-    let entry = entry_by(rt.alloc(), process, line)?;
-    is_answered(rt, config, &entry)
-}
-
-// Streams are asked by the processes of their numbers, and a device may be asked by any.
-fn send(
-    rt: &(impl AllocGlobal + Abort),
-    config: &mut Config,
-    way: Way,
-    minor: u32,
-    serial: u32,
-) -> Result<(), Fail>
-    requires { minor < 64 }
-{
-    let payload = [minor as u8];
-    let line = (sending(way, minor, &payload), Answer::Took(serial));
-    asks(rt, config, minor, line)
-}
-
-fn take(
-    rt: &(impl AllocGlobal + Abort),
-    config: &mut Config,
-    way: Way,
-    minor: u32,
-    serial: u32,
-) -> Result<(), Fail>
-    requires { minor < 64 }
-{
-    let payload = [minor as u8];
-    let line = (taking(way), Answer::Got(serial, 5, &payload));
-    asks(rt, config, 0, line)
-}
-
-// The first messages, which fill the places behind the streams.
-fn send_first(
-    rt: &(impl AllocGlobal + Abort),
-    config: &mut Config,
-    way: Way,
-    end: u32,
-) -> Result<(), Fail> {
-    for serial in 1..end {
-        send(rt, config, way, 0, serial)?;
+    for before in 0..128 {
+        let minor = 63 - before % 64;
+        send(text, way, minor, first + 64 + before / 64 * 64 - minor)?;
     }
     Ok(())
-}
-
-// One message from each, the last stream first. The one of stream 0 gets this serial.
-fn send_all(
-    rt: &(impl AllocGlobal + Abort),
-    config: &mut Config,
-    way: Way,
-    last: u32,
-) -> Result<(), Fail>
-    requires { 64 ≤ last }
-{
-    for back in 0..64u32 {
-        let minor = 63 - back;
-        send(rt, config, way, minor, last - minor)?;
-    }
-    Ok(())
-}
-
-fn take_first(
-    rt: &(impl AllocGlobal + Abort),
-    config: &mut Config,
-    way: Way,
-    end: u32,
-) -> Result<(), Fail> {
-    for serial in 1..end {
-        take(rt, config, way, 0, serial)?;
-    }
-    Ok(())
-}
-
-// Both messages of each of these, one stream after the other.
-fn take_all(
-    rt: &(impl AllocGlobal + Abort),
-    config: &mut Config,
-    way: Way,
-    last: u32,
-    from: u32,
-    to: u32,
-) -> Result<(), Fail>
-    requires few { to ≤ 64 }
-    requires first { 64 ≤ last }
-    requires bounded { last < 1024 }
-{
-    for minor in from..to {
-        take(rt, config, way, minor, last - minor)?;
-        take(rt, config, way, minor, last + 64 - minor)?;
-    }
-    Ok(())
-}
-
-// Two rounds of messages wait behind the first ones.
-fn fill(
-    rt: &(impl AllocGlobal + Abort),
-    config: &mut Config,
-    way: Way,
-    last: u32,
-) -> Result<(), Fail>
-    requires first { 64 ≤ last }
-    requires bounded { last < 1024 }
-{
-    send_first(rt, config, way, last - 63)?;
-    send_all(rt, config, way, last)?;
-    send_all(rt, config, way, last + 64)
 }
 
 // A message that comes late on the least stream goes before all that still wait on others.
-fn drain(
-    rt: &(impl AllocGlobal + Abort),
-    config: &mut Config,
-    way: Way,
-    last: u32,
-) -> Result<(), Fail>
-    requires first { 64 ≤ last }
-    requires bounded { last < 1024 }
+fn drain(text: &mut String, way: Way, first: u32) -> Result<(), AllocError>
+    requires { first ≤ 4 }
 {
-    take_first(rt, config, way, last - 63)?;
-    take_all(rt, config, way, last, 0, 32)?;
-    send(rt, config, way, 0, last + 65)?;
-    take_all(rt, config, way, last, 32, 33)?;
-    take(rt, config, way, 0, last + 65)?;
-    take_all(rt, config, way, last, 33, 64)?;
-    asks(rt, config, 0, (taking(way), Answer::Refused(Fault::Empty)))
-}
-
-fn full_line(driver: &str, side: Side) -> Result<FullLine, Fail> {
-    Ok(FullLine {
-        driver: named(driver)?,
-        minor: 0,
-        side,
-    })
-}
-
-// So many messages are queued, and just these places are full.
-fn holds_up(
-    rt: &impl Abort,
-    config: &Config,
-    count: usize,
-    fulls: &[FullLine],
-) -> Result<(), Fail> {
-    let view = shown(config)?;
-    assert_eq!(rt; view.msgs.as_slice().len(), count);
-    assert!(rt; view.fulls.as_slice() == fulls);
-    Ok(())
-}
-
-// A driver of one stream, whose queues take this many bytes, and then none until they are empty.
-fn narrow(name: &str, kind: DriverKind, high: u32) -> Result<DriverSpec, Fail> {
-    let mut made = driver(name, kind, 1)?;
-    made.high = high;
-    made.low = 0;
-    Ok(made)
-}
-
-fn below_many(alloc: Global) -> Result<Config, Fail> {
-    let top = driver("top", DriverKind::Mux, 64)?;
-    let mid = narrow("mid", DriverKind::Mux, 1)?;
-    let eth = narrow("eth", DriverKind::Leaf, 1)?;
-    made_over(alloc, &[top, mid, eth])
-}
-
-// Process 0 has a stream of each driver, one below the other.
-const DOWN: [Line; 7] = [
-    (Call::Clone("top"), Answer::Fd(0, 0)),
-    (Call::Clone("mid"), Answer::Fd(1, 0)),
-    (Call::Clone("eth"), Answer::Fd(2, 0)),
-    (Call::Link(1, 2), Answer::Id(1)),
-    (Call::Route(1, 5, 1), Answer::Done(&[])),
-    (Call::Link(0, 1), Answer::Id(2)),
-    (Call::Route(0, 5, 2), Answer::Done(&[])),
-];
-
-// Each other process has the stream of its number.
-fn open_others(rt: &(impl AllocGlobal + Abort), config: &mut Config) -> Result<(), Fail> {
-    for process in 1..64u32 {
-        let line = (Call::Clone("top"), Answer::Fd(0, process));
-        asks(rt, config, process, line)?;
+    for before in 0..first {
+        take(text, way, 0, before + 1)?;
+    }
+    for minor in 0..64 {
+        if minor == 32 {
+            send(text, way, 0, first + 129)?;
+        }
+        if minor == 33 {
+            take(text, way, 0, first + 129)?;
+        }
+        take(text, way, minor, first + 64 - minor)?;
+        take(text, way, minor, first + 128 - minor)?;
     }
     Ok(())
 }
 
-fn goes_down_in_order(
-    rt: &(impl AllocGlobal + Abort + Print),
-    config: &mut Config,
-) -> Result<(), Fail> {
-    play(rt, config, &DOWN)?;
-    open_others(rt, config)?;
-    fill(rt, config, Way::Down, 66)?;
-    let fulls = [
-        full_line("mid", Side::Write)?,
-        full_line("eth", Side::Write)?,
-    ];
-    holds_up(rt, config, 130, &fulls)?;
-    drain(rt, config, Way::Down, 66)
+// The queues of the two lower drivers take one byte, and then none until they are empty. Process 0 has a stream of each
+// driver, one below the other.
+const DOWN: &str = "transcript 2
+driver top mux 64 8 3 16
+driver mid mux 1 1 0 16
+driver eth leaf 1 1 0 16
+0 clone top = fd 0 0
+0 clone mid = fd 1 0
+0 clone eth = fd 2 0
+0 link 1 2 = id 1
+0 route 1 5 1 = done
+0 link 0 1 = id 2
+0 route 0 5 2 = done
+";
+
+// Each other process has the stream of its number.
+fn add_streams(text: &mut String) -> Result<(), AllocError> {
+    text.push_str(DOWN)?;
+    for process in 1..64u32 {
+        write!(text, "{process} clone top = fd 0 {process}\n")?;
+    }
+    Ok(())
+}
+
+fn add_shown_streams(text: &mut String, next_serial: u32) -> Result<(), AllocError> {
+    write!(
+        text,
+        "config\nnext 3 {next_serial}\nfd 0 0 top 0\nfd 0 1 mid 0\nfd 0 2 eth 0\n"
+    )?;
+    for process in 1..64u32 {
+        write!(text, "fd {process} 0 top {process}\n")?;
+    }
+    text.push_str(
+        "link 1 mid 0 eth 0 link\nlink 2 top 0 mid 0 link\nroute top 5 2\nroute mid 5 1\n",
+    )
+}
+
+fn add_waiting_below(text: &mut String) -> Result<(), AllocError> {
+    for minor in 0..64u32 {
+        write!(text, "msg top {minor} w {} 5 {minor:02x}\n", 66 - minor)?;
+        write!(text, "msg top {minor} w {} 5 {minor:02x}\n", 130 - minor)?;
+    }
+    text.push_str("msg mid 0 w 2 5 00\nmsg eth 0 w 1 5 00\nfull mid 0 w\nfull eth 0 w\nend\n")
+}
+
+fn waits_for_a_device(text: &mut String) -> Result<(), AllocError> {
+    add_streams(text)?;
+    fill(text, Way::Down, 2)?;
+    add_shown_streams(text, 131)?;
+    add_waiting_below(text)
+}
+
+fn goes_down_in_order(text: &mut String) -> Result<(), AllocError> {
+    add_streams(text)?;
+    fill(text, Way::Down, 2)?;
+    drain(text, Way::Down, 2)?;
+    text.push_str("0 transmit eth 0 = EAGAIN empty\n")?;
+    add_shown_streams(text, 132)?;
+    text.push_str("end\n")
 }
 
 #[test]
-fn sixty_four_streams_wait_for_a_device(rt: HostRuntime) -> Result<(), Fail> {
-    let mut config = below_many(rt.alloc())?;
-    goes_down_in_order(&rt, &mut config)
+fn sixty_four_streams_wait_for_a_device(rt: HostRuntime) -> Result<(), AllocError> {
+    let mut text = String::new(rt.alloc());
+    waits_for_a_device(&mut text)?;
+    is_worked(&rt, text.as_str());
+    Ok(())
+}
+
+#[test]
+fn a_device_takes_all_in_order(rt: HostRuntime) -> Result<(), AllocError> {
+    let mut text = String::new(rt.alloc());
+    goes_down_in_order(&mut text)?;
+    is_worked(&rt, text.as_str());
+    Ok(())
 }
 
 // The stream between the devices and the reader takes three messages at once.
-fn above_many(alloc: Global) -> Result<Config, Fail> {
-    let top = narrow("top", DriverKind::Mux, 1)?;
-    let mid = narrow("mid", DriverKind::Mux, 3)?;
-    let eth = driver("eth", DriverKind::Leaf, 64)?;
-    made_over(alloc, &[top, mid, eth])
-}
+const UP: &str = "transcript 2
+driver top mux 1 1 0 16
+driver mid mux 1 3 0 16
+driver eth leaf 64 8 3 16
+0 clone mid = fd 0 0
+";
 
-// A persistent link to the next device.
-fn link_device(rt: &(impl AllocGlobal + Print), config: &mut Config, minor: u32) -> Result<(), Fail>
-    requires { minor < 64 }
-{
-    let lines = [
-        (Call::Clone("eth"), Answer::Fd(1, minor)),
-        (Call::Plink(0, 1), Answer::Id(minor + 1)),
-        (Call::Close(1), Answer::Done(&[])),
-    ];
-    play(rt, config, &lines)
-}
-
-fn link_devices(rt: &(impl AllocGlobal + Print), config: &mut Config) -> Result<(), Fail> {
+// A persistent link to each device.
+fn add_devices(text: &mut String) -> Result<(), AllocError> {
+    text.push_str(UP)?;
     for minor in 0..64u32 {
-        link_device(rt, config, minor)?;
+        let id = minor + 1;
+        write!(
+            text,
+            "0 clone eth = fd 1 {minor}\n0 plink 0 1 = id {id}\n0 close 1 = done\n"
+        )?;
     }
-    Ok(())
+    text.push_str(
+        "0 bind 0 5 = done\n0 clone top = fd 1 0\n0 bind 1 5 = done\n0 link 1 0 = id 65\n",
+    )
 }
 
-const MID: [Line; 1] = [(Call::Clone("mid"), Answer::Fd(0, 0))];
+fn add_shown_devices(text: &mut String, next_serial: u32) -> Result<(), AllocError> {
+    write!(
+        text,
+        "config\nnext 66 {next_serial}\nfd 0 0 mid 0\nfd 0 1 top 0\n"
+    )?;
+    for minor in 0..64u32 {
+        write!(text, "link {} mid 0 eth {minor} plink\n", minor + 1)?;
+    }
+    text.push_str("link 65 top 0 mid 0 link\nbind top 5 0\nbind mid 5 0\n")
+}
 
-const UP: [Line; 4] = [
-    (Call::Bind(0, 5), Answer::Done(&[])),
-    (Call::Clone("top"), Answer::Fd(1, 0)),
-    (Call::Bind(1, 5), Answer::Done(&[])),
-    (Call::Link(1, 0), Answer::Id(65)),
-];
+fn add_waiting_above(text: &mut String) -> Result<(), AllocError> {
+    text.push_str(
+        "msg top 0 r 1 5 00\nmsg mid 0 r 2 5 00\nmsg mid 0 r 3 5 00\nmsg mid 0 r 4 5 00\n",
+    )?;
+    for minor in 0..64u32 {
+        write!(text, "msg eth {minor} r {} 5 {minor:02x}\n", 68 - minor)?;
+        write!(text, "msg eth {minor} r {} 5 {minor:02x}\n", 132 - minor)?;
+    }
+    text.push_str("full top 0 r\nfull mid 0 r\nend\n")
+}
 
-fn comes_up_in_order(
-    rt: &(impl AllocGlobal + Abort + Print),
-    config: &mut Config,
-) -> Result<(), Fail> {
-    play(rt, config, &MID)?;
-    link_devices(rt, config)?;
-    play(rt, config, &UP)?;
-    fill(rt, config, Way::Up, 68)?;
-    let fulls = [full_line("top", Side::Read)?, full_line("mid", Side::Read)?];
-    holds_up(rt, config, 132, &fulls)?;
-    drain(rt, config, Way::Up, 68)
+fn waits_for_a_reader(text: &mut String) -> Result<(), AllocError> {
+    add_devices(text)?;
+    fill(text, Way::Up, 4)?;
+    add_shown_devices(text, 133)?;
+    add_waiting_above(text)
+}
+
+fn comes_up_in_order(text: &mut String) -> Result<(), AllocError> {
+    add_devices(text)?;
+    fill(text, Way::Up, 4)?;
+    drain(text, Way::Up, 4)?;
+    text.push_str("0 read 1 = EAGAIN empty\n")?;
+    add_shown_devices(text, 134)?;
+    text.push_str("end\n")
 }
 
 #[test]
-fn sixty_four_devices_wait_for_a_reader(rt: HostRuntime) -> Result<(), Fail> {
-    let mut config = above_many(rt.alloc())?;
-    comes_up_in_order(&rt, &mut config)
+fn sixty_four_devices_wait_for_a_reader(rt: HostRuntime) -> Result<(), AllocError> {
+    let mut text = String::new(rt.alloc());
+    waits_for_a_reader(&mut text)?;
+    is_worked(&rt, text.as_str());
+    Ok(())
+}
+
+#[test]
+fn a_reader_takes_all_in_order(rt: HostRuntime) -> Result<(), AllocError> {
+    let mut text = String::new(rt.alloc());
+    comes_up_in_order(&mut text)?;
+    is_worked(&rt, text.as_str());
+    Ok(())
 }

@@ -1,91 +1,150 @@
-//! Runs with devices that stop once, at each read and at each write, and would then go on.
+//! Runs, checks and replays with devices that stop once, at each read and at each write, and would then go on.
 
+use super::checks::{OTHER_CONFIGURATION, TWO_PROCESSES, WRONG_REPLY};
 use super::devices::{ERRORS, Stop, TWO_ERRORS, one_byte_feed, one_byte_sink};
-use super::runs::{OPENED_AND_CLOSED, OPENS_AND_CLOSES, run_ending};
-use smx_filters::{Source, Target, run_text};
-use smx_run::NoGate;
+use super::jobs::{Job, perform};
+use super::replays::{IN_TURN, IN_TURN_REPLAYED};
+use super::runs::{OPENED_AND_CLOSED, OPENS_AND_CLOSES};
 use std::io::ErrorKind;
 use std::process::Abort;
 use std::sync::Wait;
 use std::thread::Threads;
 
-// A run of which the read after this many fails writes nothing.
+// What is done of an input, and the output and the status that are wanted.
+const DONE: [(Job, &[u8], &[u8], u8); 5] = [
+    (Job::Run, OPENS_AND_CLOSES, OPENED_AND_CLOSED, 0),
+    (Job::Check, TWO_PROCESSES, b"legal 2\n", 0),
+    (Job::Check, WRONG_REPLY, b"illegal 2\n", 4),
+    (Job::Check, OTHER_CONFIGURATION, b"config differs\n", 4),
+    (Job::Replay, IN_TURN, IN_TURN_REPLAYED, 0),
+];
+
+// Where the read after this many fails, nothing is written, nor read again.
 fn writes_nothing<R: AllocGlobal + Abort + Threads + Wait + Sync>(
     rt: &R,
+    job: Job,
+    input: &[u8],
     reads: usize,
     kind: ErrorKind,
 ) {
-    let mut feed = one_byte_feed(OPENS_AND_CLOSES, reads, kind);
-    let mut sink = Target::new(Vec::new(rt.alloc()));
-    let outcome = run_text(rt, rt.alloc(), &mut feed, &mut sink, 1, false, &NoGate);
-    let (line, status) = run_ending(outcome);
-    assert_eq!(rt; line.as_str(), "read failed", "after {reads} reads");
+    let mut feed = one_byte_feed(input, reads, kind);
+    let mut sink = one_byte_sink(rt.alloc(), usize::MAX, Stop::TakesNone);
+    let (line, status) = perform(rt, job, &mut feed, &mut sink);
+    assert!(rt; line.as_str() == "read failed", "after {reads} reads");
     assert_eq!(rt; status, 5);
-    assert!(rt; sink.writer.is_empty());
     assert_eq!(rt; feed.reader.asked, reads.saturating_add(1));
+    assert_eq!(rt; sink.writer.asked, 0);
 }
 
-#[test]
-fn writes_nothing_after_a_failed_read(rt: HostRuntime) {
+// So it is at each read, the one that shows the end among them.
+fn reads_no_more<R: AllocGlobal + Abort + Threads + Wait + Sync>(rt: &R, job: Job, input: &[u8]) {
     for kind in &TWO_ERRORS {
-        for reads in 0..84 {
-            writes_nothing(&rt, reads, *kind);
+        for reads in 0..input.len().saturating_add(1) {
+            writes_nothing(rt, job, input, reads, *kind);
         }
     }
     for kind in &ERRORS {
-        writes_nothing(&rt, 0, *kind);
-        writes_nothing(&rt, 83, *kind);
+        writes_nothing(rt, job, input, 0, *kind);
+        writes_nothing(rt, job, input, input.len(), *kind);
     }
 }
 
-#[test]
-fn runs_byte_by_byte(rt: HostRuntime) {
-    let mut feed = one_byte_feed(OPENS_AND_CLOSES, 84, ErrorKind::Other);
-    let mut sink = one_byte_sink(rt.alloc(), 158, Stop::Fails(ErrorKind::Other));
-    let outcome = run_text(&rt, rt.alloc(), &mut feed, &mut sink, 1, false, &NoGate);
-    let (_line, status) = run_ending(outcome);
-    assert_eq!(rt; status, 0);
-    assert_eq!(rt; sink.writer.taken.as_slice(), OPENED_AND_CLOSED);
-    assert_eq!(rt; feed.reader.asked, 84);
-    assert_eq!(rt; sink.writer.asked, 158);
+// Byte by byte it comes to its end, with no call more than are needed.
+fn ends<R: AllocGlobal + Abort + Threads + Wait + Sync>(
+    rt: &R,
+    job: Job,
+    input: &[u8],
+    output: &[u8],
+    wanted: u8,
+) {
+    let reads = input.len().saturating_add(1);
+    let calls = output.len().saturating_add(1);
+    let mut feed = one_byte_feed(input, reads, ErrorKind::Other);
+    let mut sink = one_byte_sink(rt.alloc(), calls, Stop::Fails(ErrorKind::Other));
+    let (_line, status) = perform(rt, job, &mut feed, &mut sink);
+    assert_eq!(rt; status, wanted);
+    assert!(rt; sink.writer.taken.as_slice() == output);
+    assert!(rt; sink.flushed);
+    assert_eq!(rt; feed.reader.asked, reads);
+    assert_eq!(rt; sink.writer.asked, calls);
 }
 
-// A run that is stopped behind this beginning leaves just that.
-fn leaves<R: AllocGlobal + Abort + Threads + Wait + Sync>(rt: &R, beginning: &[u8], stop: Stop) {
+#[test]
+fn ends_byte_by_byte(rt: HostRuntime) {
+    for (job, input, output, status) in &DONE {
+        ends(&rt, *job, *input, *output, *status);
+    }
+}
+
+// Where it is stopped behind this beginning of its output, it leaves just that.
+fn leaves<R: AllocGlobal + Abort + Threads + Wait + Sync>(
+    rt: &R,
+    job: Job,
+    input: &[u8],
+    beginning: &[u8],
+    stop: Stop,
+) {
     let writes = beginning.len();
-    let mut feed = Source::new(OPENS_AND_CLOSES);
+    let mut feed = one_byte_feed(input, usize::MAX, ErrorKind::Other);
     let mut sink = one_byte_sink(rt.alloc(), writes, stop);
-    let outcome = run_text(rt, rt.alloc(), &mut feed, &mut sink, 1, false, &NoGate);
-    let (line, status) = run_ending(outcome);
-    assert_eq!(rt; line.as_str(), "write failed", "after {writes} writes");
+    let (line, status) = perform(rt, job, &mut feed, &mut sink);
+    assert!(rt; line.as_str() == "write failed", "after {writes} writes");
     assert_eq!(rt; status, 5);
-    assert_eq!(rt; sink.writer.taken.as_slice(), beginning);
+    assert!(rt; sink.writer.taken.as_slice() == beginning);
     assert_eq!(rt; sink.writer.asked, writes.saturating_add(1));
 }
 
-// So it does behind each beginning that is not the whole.
-fn leaves_each<R: AllocGlobal + Abort + Threads + Wait + Sync>(rt: &R, stop: Stop) {
-    assert_eq!(rt; OPENED_AND_CLOSED.len(), 157);
-    for writes in 0..157 {
-        leaves(rt, &OPENED_AND_CLOSED[..writes], stop);
+// So it does behind each beginning, and behind the whole where the flush fails.
+fn writes_no_more<R: AllocGlobal + Abort + Threads + Wait + Sync>(
+    rt: &R,
+    job: Job,
+    input: &[u8],
+    output: &[u8],
+) {
+    for writes in 0..output.len() {
+        for kind in &TWO_ERRORS {
+            leaves(rt, job, input, &output[..writes], Stop::Fails(*kind));
+        }
+        leaves(rt, job, input, &output[..writes], Stop::TakesNone);
+    }
+    for kind in &ERRORS {
+        leaves(rt, job, input, b"", Stop::Fails(*kind));
+        leaves(rt, job, input, output, Stop::Fails(*kind));
     }
 }
 
 #[test]
-fn leaves_the_beginning_after_a_failed_write(rt: HostRuntime) {
-    for kind in &TWO_ERRORS {
-        leaves_each(&rt, Stop::Fails(*kind));
-    }
-    leaves_each(&rt, Stop::TakesNone);
+fn a_run_reads_no_more(rt: HostRuntime) {
+    reads_no_more(&rt, Job::Run, OPENS_AND_CLOSES);
+}
+
+#[test]
+fn a_check_reads_no_more(rt: HostRuntime) {
+    reads_no_more(&rt, Job::Check, TWO_PROCESSES);
+}
+
+#[test]
+fn a_replay_reads_no_more(rt: HostRuntime) {
+    reads_no_more(&rt, Job::Replay, IN_TURN);
+}
+
+#[test]
+fn a_run_writes_no_more(rt: HostRuntime) {
+    writes_no_more(&rt, Job::Run, OPENS_AND_CLOSES, OPENED_AND_CLOSED);
     for kind in &ERRORS {
-        leaves(&rt, b"", Stop::Fails(*kind));
-        leaves(&rt, b"transcript 1\n", Stop::Fails(*kind));
+        let stop = Stop::Fails(*kind);
+        leaves(&rt, Job::Run, OPENS_AND_CLOSES, b"transcript 1\n", stop);
     }
 }
 
 #[test]
-fn has_written_all_before_a_failed_flush(rt: HostRuntime) {
-    for kind in &ERRORS {
-        leaves(&rt, OPENED_AND_CLOSED, Stop::Fails(*kind));
-    }
+fn a_check_writes_no_more(rt: HostRuntime) {
+    writes_no_more(&rt, Job::Check, TWO_PROCESSES, b"legal 2\n");
+    writes_no_more(&rt, Job::Check, WRONG_REPLY, b"illegal 2\n");
+    writes_no_more(&rt, Job::Check, OTHER_CONFIGURATION, b"config differs\n");
+}
+
+#[test]
+fn a_replay_writes_no_more(rt: HostRuntime) {
+    writes_no_more(&rt, Job::Replay, IN_TURN, IN_TURN_REPLAYED);
 }

@@ -1,22 +1,7 @@
-//! Checks over memory, with what is wanted typed in from the rules.
+//! Checks over memory, and what is no transcript to any filter, with what is wanted typed in from the rules.
 
-use super::runs::{Ran, ending, has_refused};
-use smx_filters::{Done, Source, Target, check_text};
-use std::alloc::Global;
-use std::process::Abort;
-
-/// Judges the transcript that these bytes are.
-pub fn check_bytes(alloc: Global, input: &[u8]) -> Ran {
-    let mut feed = Source::new(input);
-    let mut sink = Target::new(Vec::new(alloc));
-    let outcome = check_text(alloc, &mut feed, &mut sink);
-    let (line, status) = ending(outcome.map(Done::Judged));
-    Ran {
-        output: sink.writer,
-        line,
-        status,
-    }
-}
+use super::jobs::{Job, refuses, writes};
+use smx_draw::Form;
 
 /// Two processes, each with a stream of its own.
 pub const TWO_PROCESSES: &[u8] =
@@ -82,29 +67,23 @@ const VERDICTS: [(&[u8], &[u8], u8); 13] = [
     ),
 ];
 
-/// A check of this input writes this verdict, and ends with this status.
-pub fn is_judged(rt: &(impl AllocGlobal + Abort), input: &[u8], verdict: &[u8], status: u8) {
-    let checked = check_bytes(rt.alloc(), input);
-    assert_eq!(rt; checked.output.as_slice(), verdict);
-    assert_eq!(rt; checked.status, status);
-    assert!(rt; checked.line.as_str().is_empty());
-}
-
 #[test]
 fn writes_the_verdict(rt: HostRuntime) {
     for (input, verdict, status) in &VERDICTS {
-        is_judged(&rt, *input, *verdict, *status);
+        writes(&rt, Job::Check, *input, *verdict, *status);
     }
 }
 
-/// A check of this input is refused by this line and this status.
-pub fn check_is_refused(rt: &(impl AllocGlobal + Abort), input: &[u8], line: &str, status: u8) {
-    let checked = check_bytes(rt.alloc(), input);
-    has_refused(rt, &checked, line, status);
-}
+// The filters that read a transcript.
+const OF_A_TRANSCRIPT: [Job; 4] = [
+    Job::Check,
+    Job::Replay,
+    Job::Draw(Form::Svg),
+    Job::Draw(Form::Dot),
+];
 
-/// What is no transcript, and the line that says so.
-pub const NO_TRANSCRIPTS: [(&[u8], &str); 8] = [
+// What is no transcript, and the line that says so.
+const NO_TRANSCRIPTS: [(&[u8], &str); 8] = [
     (b"", "line 1: cut"),
     (b"programs 1\nend\n", "line 1: header"),
     (
@@ -133,12 +112,14 @@ pub const NO_TRANSCRIPTS: [(&[u8], &str); 8] = [
 #[test]
 fn refuses_what_is_no_transcript(rt: HostRuntime) {
     for (input, line) in &NO_TRANSCRIPTS {
-        check_is_refused(&rt, *input, *line, 3);
+        for job in &OF_A_TRANSCRIPT {
+            refuses(&rt, *job, *input, *line, 3);
+        }
     }
 }
 
-/// Transcripts over drivers that can't be had, and the line that says which.
-pub const NO_DRIVERS: [(&[u8], &str); 2] = [
+// Transcripts over drivers that can't be had, and the line that says which.
+const NO_DRIVERS: [(&[u8], &str); 2] = [
     (
         b"transcript 1\ndriver ip mux 4 8 8 16\n0 exit = EMFILE\nconfig\nnext 9 9\nend\n",
         "refused: driver 0 marks",
@@ -153,6 +134,7 @@ pub const NO_DRIVERS: [(&[u8], &str); 2] = [
 #[test]
 fn refuses_drivers_of_a_transcript(rt: HostRuntime) {
     for (input, line) in &NO_DRIVERS {
-        check_is_refused(&rt, *input, *line, 1);
+        refuses(&rt, Job::Check, *input, *line, 1);
+        refuses(&rt, Job::Replay, *input, *line, 1);
     }
 }

@@ -1,6 +1,7 @@
 //! Damaged texts: the line and the cause of each fault, typed in from the rules.
 
-use super::runs::{OPENS_AND_CLOSES, run_is_refused};
+use super::jobs::{Job, refuses};
+use super::runs::OPENS_AND_CLOSES;
 use std::process::Abort;
 use std::sync::Wait;
 use std::test::Fail;
@@ -25,7 +26,7 @@ const WRONG: [(&[u8], &str); 7] = [
 #[test]
 fn names_the_first_wrong_line(rt: HostRuntime) {
     for (input, line) in &WRONG {
-        run_is_refused(&rt, *input, *line, 3);
+        refuses(&rt, Job::Run, *input, *line, 3);
     }
 }
 
@@ -58,35 +59,27 @@ const NO_COMMANDS: [&str; 26] = [
     "hangup ip 0",
 ];
 
-fn is_no_command<R: AllocGlobal + Abort + Threads + Wait + Sync>(
-    rt: &R,
-    line: &str,
-) -> Result<(), Fail> {
-    let input = format!(in rt.alloc();
-        "programs 1\ndriver ip mux 4 8 3 16\nprocess 0\n{line}\nend\n"
-    )?;
-    run_is_refused(rt, input.as_bytes(), "line 4: form", 3);
-    Ok(())
-}
-
 #[test]
 fn refuses_what_is_no_command(rt: HostRuntime) -> Result<(), Fail> {
     for line in &NO_COMMANDS {
-        is_no_command(&rt, *line)?;
+        let input = format!(in rt.alloc();
+            "programs 1\ndriver ip mux 4 8 3 16\nprocess 0\n{line}\nend\n"
+        )?;
+        refuses(&rt, Job::Run, input.as_bytes(), "line 4: form", 3);
     }
     Ok(())
 }
 
-// The line after this beginning is the one that is named, for this cause.
+// The line behind this beginning is the one that is named, for this cause.
 fn names_the_next<R: AllocGlobal + Abort + Threads + Wait + Sync>(
     rt: &R,
     beginning: &[u8],
     input: &[u8],
     cause: &str,
 ) -> Result<(), Fail> {
-    let number = lines_in(beginning).saturating_add(1);
+    let number = lines_in(beginning).wrapping_add(1);
     let line = format!(in rt.alloc(); "line {number}: {cause}")?;
-    run_is_refused(rt, input, line.as_str(), 3);
+    refuses(rt, Job::Run, input, line.as_str(), 3);
     Ok(())
 }
 

@@ -1,9 +1,8 @@
 //! The limits of a run and of a check: the most of each, and one more.
 
-use super::checks::{check_is_refused, is_judged};
-use super::runs::{run_bytes, run_is_refused};
-use smx_samples::{add_leaves, with_lines};
-use std::alloc::Global;
+use super::jobs::{Job, done, refuses, writes};
+use smx_samples::with_lines;
+use std::alloc::{AllocError, Global};
 use std::io;
 use std::io::Read;
 use std::process::Abort;
@@ -11,37 +10,84 @@ use std::sync::Wait;
 use std::test::Fail;
 use std::thread::Threads;
 
-fn with_drivers(alloc: Global, header: &[u8], count: usize) -> Result<Vec<u8>, Fail> {
-    let mut input = Vec::from_slice(alloc, header)?;
-    add_leaves(alloc, &mut input, count)?;
-    input.extend_from_slice(b"end\n")?;
-    Ok(input)
+// What a text may have many of.
+#[derive(Clone, Copy)]
+enum Many {
+    Drivers,
+    Processes,
 }
 
-fn add_processes(alloc: Global, text: &mut Vec<u8>, count: u32) -> Result<(), Fail> {
+fn add_lines(text: &mut String, many: Many, count: usize) -> Result<(), AllocError> {
     for number in 0..count {
-        let line = format!(in alloc; "process {number}\n")?;
-        text.extend_from_slice(line.as_bytes())?;
+        match many {
+            Many::Drivers => write!(text, "driver a{number} leaf 1 1 0 1\n")?,
+            Many::Processes => write!(text, "process {number}\n")?,
+        }
     }
     Ok(())
 }
 
-fn with_processes(alloc: Global, count: u32) -> Result<Vec<u8>, Fail> {
-    let begin = b"programs 1\ndriver ip mux 4 8 3 16\n";
-    let mut input = Vec::from_slice(alloc, begin.as_slice())?;
-    add_processes(alloc, &mut input, count)?;
-    input.extend_from_slice(b"end\n")?;
-    Ok(input)
+// A header, and so many lines.
+fn add_programs(
+    text: &mut String,
+    header: &str,
+    many: Many,
+    count: usize,
+) -> Result<(), AllocError> {
+    text.push_str(header)?;
+    add_lines(text, many, count)?;
+    text.push_str("end\n")
+}
+
+// A header, how many lines there may be behind it, and what is said of one more.
+const MOST: [(&str, Many, usize, &str); 3] = [
+    ("programs 1\n", Many::Drivers, 64, "line 66: many"),
+    ("programs 2\n", Many::Drivers, 128, "line 130: many"),
+    (
+        "programs 1\ndriver ip mux 4 8 3 16\n",
+        Many::Processes,
+        64,
+        "line 67: many",
+    ),
+];
+
+// Programs with no command run.
+fn runs<R: AllocGlobal + Abort + Threads + Wait + Sync>(
+    rt: &R,
+    header: &str,
+    many: Many,
+    count: usize,
+) -> Result<(), AllocError> {
+    let mut text = String::new(rt.alloc());
+    add_programs(&mut text, header, many, count)?;
+    let ran = done(rt, Job::Run, text.as_bytes());
+    assert!(rt; ran.status == 0, "with {count} lines");
+    Ok(())
+}
+
+#[test]
+fn runs_with_each_number_up_to_the_most(rt: HostRuntime) -> Result<(), AllocError> {
+    for (header, many, most, _line) in &MOST {
+        for count in 0..most.saturating_add(1) {
+            runs(&rt, *header, *many, count)?;
+        }
+    }
+    Ok(())
+}
+
+#[test]
+fn refuses_one_more(rt: HostRuntime) -> Result<(), AllocError> {
+    for (header, many, most, line) in &MOST {
+        let mut text = String::new(rt.alloc());
+        add_programs(&mut text, *header, *many, most.saturating_add(1))?;
+        refuses(&rt, Job::Run, text.as_bytes(), *line, 3);
+    }
+    Ok(())
 }
 
 fn with_commands(alloc: Global, count: usize) -> Result<Vec<u8>, Fail> {
-    with_lines(
-        alloc,
-        b"programs 1\nprocess 0\n",
-        b"close 0\n",
-        count,
-        b"end\n",
-    )
+    let begin = b"programs 1\nprocess 0\n";
+    with_lines(alloc, begin, b"close 0\n", count, b"end\n")
 }
 
 fn with_entries(alloc: Global, count: usize) -> Result<Vec<u8>, Fail> {
@@ -56,144 +102,70 @@ fn with_entries(alloc: Global, count: usize) -> Result<Vec<u8>, Fail> {
 }
 
 #[test]
-fn refuses_one_driver_more(rt: HostRuntime) -> Result<(), Fail> {
-    let input = with_drivers(rt.alloc(), b"programs 1\n", 65)?;
-    run_is_refused(&rt, input.as_slice(), "line 66: many", 3);
-    Ok(())
-}
-
-#[test]
-fn refuses_one_driver_more_in_version_2(rt: HostRuntime) -> Result<(), Fail> {
-    let input = with_drivers(rt.alloc(), b"programs 2\n", 129)?;
-    run_is_refused(&rt, input.as_slice(), "line 130: many", 3);
-    Ok(())
-}
-
-#[test]
-fn refuses_one_process_more(rt: HostRuntime) -> Result<(), Fail> {
-    let input = with_processes(rt.alloc(), 65)?;
-    run_is_refused(&rt, input.as_slice(), "line 67: many", 3);
-    Ok(())
-}
-
-#[test]
 fn refuses_one_command_more(rt: HostRuntime) -> Result<(), Fail> {
     let input = with_commands(rt.alloc(), 100_001)?;
-    run_is_refused(&rt, input.as_slice(), "line 100003: many", 3);
+    refuses(&rt, Job::Run, input.as_slice(), "line 100003: many", 3);
     Ok(())
 }
 
 #[test]
 fn refuses_one_entry_more(rt: HostRuntime) -> Result<(), Fail> {
     let input = with_entries(rt.alloc(), 100_001)?;
-    check_is_refused(&rt, input.as_slice(), "line 100002: many", 3);
+    refuses(&rt, Job::Check, input.as_slice(), "line 100002: many", 3);
     Ok(())
-}
-
-fn runs<R: AllocGlobal + Abort + Threads + Wait + Sync>(rt: &R, input: &[u8]) {
-    let ran = run_bytes(rt, rt.alloc(), input);
-    let size = input.len();
-    assert_eq!(rt; ran.status, 0, "for an input of {size} bytes");
-}
-
-#[test]
-fn runs_with_every_number_of_drivers(rt: HostRuntime) -> Result<(), Fail> {
-    for count in 0..65 {
-        let input = with_drivers(rt.alloc(), b"programs 1\n", count)?;
-        runs(&rt, input.as_slice());
-    }
-    Ok(())
-}
-
-#[test]
-fn runs_with_every_number_of_drivers_in_version_2(rt: HostRuntime) -> Result<(), Fail> {
-    for count in 0..129 {
-        let input = with_drivers(rt.alloc(), b"programs 2\n", count)?;
-        runs(&rt, input.as_slice());
-    }
-    Ok(())
-}
-
-#[test]
-fn runs_the_most_processes(rt: HostRuntime) -> Result<(), Fail> {
-    let input = with_processes(rt.alloc(), 64)?;
-    runs(&rt, input.as_slice());
-    Ok(())
-}
-
-// A run of this input writes this output, which may be too long to be shown where another one is written.
-fn writes<R: AllocGlobal + Abort + Threads + Wait + Sync>(rt: &R, input: &[u8], output: &[u8]) {
-    let ran = run_bytes(rt, rt.alloc(), input);
-    let size = input.len();
-    assert_eq!(rt; ran.status, 0, "for an input of {size} bytes");
-    assert!(rt;
-        ran.output.as_slice() == output,
-        "for an input of {size} bytes"
-    );
 }
 
 #[test]
 fn runs_the_most_commands(rt: HostRuntime) -> Result<(), Fail> {
     let input = with_commands(rt.alloc(), 100_000)?;
     let output = with_entries(rt.alloc(), 100_000)?;
-    writes(&rt, input.as_slice(), output.as_slice());
-    Ok(())
-}
-
-#[test]
-fn judges_the_most_entries(rt: HostRuntime) -> Result<(), Fail> {
-    let input = with_entries(rt.alloc(), 100_000)?;
-    is_judged(&rt, input.as_slice(), b"legal 100000\n", 0);
+    writes(&rt, Job::Run, input.as_slice(), output.as_slice(), 0);
+    writes(&rt, Job::Check, output.as_slice(), b"legal 100000\n", 0);
     Ok(())
 }
 
 // An input of this size, which is no text, is refused by this line.
-fn are_refused<R: AllocGlobal + Abort + Threads + Wait + Sync>(
+fn is_refused<R: AllocGlobal + Abort + Threads + Wait + Sync>(
     rt: &R,
     size: u64,
     line: &str,
 ) -> Result<(), Fail> {
     let mut input = Vec::new(rt.alloc());
     io::repeat(b'a').take(size).read_to_end(&mut input)?;
-    run_is_refused(rt, input.as_slice(), line, 3);
-    check_is_refused(rt, input.as_slice(), line, 3);
+    refuses(rt, Job::Run, input.as_slice(), line, 3);
+    refuses(rt, Job::Check, input.as_slice(), line, 3);
     Ok(())
 }
 
 #[test]
 fn refuses_an_input_that_is_too_long(rt: HostRuntime) -> Result<(), Fail> {
-    are_refused(&rt, 16_777_216, "line 1: cut")?;
-    are_refused(&rt, 16_777_217, "input too long")
+    is_refused(&rt, 16_777_216, "line 1: cut")?;
+    is_refused(&rt, 16_777_217, "input too long")
 }
 
+// A message of these bytes comes up.
 fn passes<R: AllocGlobal + Abort + Threads + Wait + Sync>(
     rt: &R,
     payload: &str,
 ) -> Result<(), Fail> {
+    let driver = "driver eth leaf 1 1024 0 1024";
     let input = format!(in rt.alloc();
-        "programs 1\ndriver eth leaf 1 1024 0 1024\nprocess 0\nclone eth\ninject eth 0 9 {payload}\nread 0\nend\n"
+        "programs 1\n{driver}\nprocess 0\nclone eth\ninject eth 0 9 {payload}\nread 0\nend\n"
     )?;
+    let entries = "0 clone eth = fd 0 0\n0 inject eth 0 9";
     let output = format!(in rt.alloc();
-        "transcript 1\ndriver eth leaf 1 1024 0 1024\n0 clone eth = fd 0 0\n0 inject eth 0 9 {payload} = took 1\n0 read 0 = got 1 9 {payload}\nconfig\nnext 1 2\nfd 0 0 eth 0\nend\n"
+        "transcript 1\n{driver}\n{entries} {payload} = took 1\n0 read 0 = got 1 9 {payload}\nconfig\nnext 1 2\nfd 0 0 eth 0\nend\n"
     )?;
-    writes(rt, input.as_bytes(), output.as_bytes());
+    writes(rt, Job::Run, input.as_bytes(), output.as_bytes(), 0);
     Ok(())
-}
-
-fn passes_one_byte_more<R: AllocGlobal + Abort + Threads + Wait + Sync>(
-    rt: &R,
-    hex: &mut Vec<u8>,
-) -> Result<(), Fail> {
-    hex.extend_from_slice(b"5a")?;
-    let payload = std::str::from_utf8(hex.as_slice())?;
-    passes(rt, payload)
 }
 
 #[test]
 fn passes_every_size_of_a_message(rt: HostRuntime) -> Result<(), Fail> {
-    let mut hex = Vec::new(rt.alloc());
+    let mut hex = String::new(rt.alloc());
     for _ in 1..1025 {
-        passes_one_byte_more(&rt, &mut hex)?;
+        hex.push_str("5a")?;
+        passes(&rt, hex.as_str())?;
     }
     Ok(())
 }
@@ -201,13 +173,8 @@ fn passes_every_size_of_a_message(rt: HostRuntime) -> Result<(), Fail> {
 // Nearly 16 MiB, read in pieces.
 fn longest_input(alloc: Global) -> Result<Vec<u8>, Fail> {
     let line = with_lines(alloc, b"write 0 5 ", b"7", 2048, b"\n")?;
-    with_lines(
-        alloc,
-        b"programs 1\nprocess 0\n",
-        line.as_slice(),
-        8148,
-        b"end\n",
-    )
+    let begin = b"programs 1\nprocess 0\n";
+    with_lines(alloc, begin, line.as_slice(), 8148, b"end\n")
 }
 
 // What is written of it, at once.
@@ -222,6 +189,6 @@ fn runs_the_longest_texts(rt: HostRuntime) -> Result<(), Fail> {
     let input = longest_input(rt.alloc())?;
     let output = longest_output(rt.alloc())?;
     assert_eq!(rt; input.len(), 16_776_757);
-    writes(&rt, input.as_slice(), output.as_slice());
+    writes(&rt, Job::Run, input.as_slice(), output.as_slice(), 0);
     Ok(())
 }

@@ -1,12 +1,14 @@
 //! Live sessions over memory, with what is wanted typed in from the rules.
 
 use super::devices::{ERRORS, Stop, TWO_ERRORS, one_byte_feed, one_byte_sink};
-use super::runs::{Ran, has_refused, run_ending};
-use smx_filters::{MAX_INPUT, Source, Target};
-use smx_live::live_text;
+use super::jobs::{Job, done, perform, refuses, writes};
+use smx_filters::MAX_INPUT;
 use std::alloc::Global;
 use std::io::ErrorKind;
 use std::process::Abort;
+use std::sync::Wait;
+use std::test::Fail;
+use std::thread::Threads;
 
 /// A session with each kind of line.
 pub const LINES: &[u8] =
@@ -63,39 +65,18 @@ const NO_TABLES: [(&[u8], &str, u8); 8] = [
     ),
 ];
 
-/// A session with the lines that these bytes are.
-pub fn live_bytes(alloc: Global, input: &[u8]) -> Ran {
-    let mut feed = Source::new(input);
-    let mut sink = Target::new(Vec::new(alloc));
-    let outcome = live_text(alloc, &mut feed, &mut sink);
-    let (line, status) = run_ending(outcome);
-    Ran {
-        output: sink.writer,
-        line,
-        status,
-    }
-}
-
-// A session with this input writes this output, and succeeds.
-fn is_answered(rt: &(impl AllocGlobal + Abort), input: &[u8], output: &[u8]) {
-    let ran = live_bytes(rt.alloc(), input);
-    assert_eq!(rt; ran.output.as_slice(), output);
-    assert_eq!(rt; ran.status, 0);
-    assert!(rt; ran.line.as_str().is_empty());
-}
-
 #[test]
 fn answers_each_line(rt: HostRuntime) {
-    is_answered(&rt, LINES, ANSWERS);
+    writes(&rt, Job::Live, LINES, ANSWERS, 0);
     for (input, output) in &ANSWERED {
-        is_answered(&rt, *input, *output);
+        writes(&rt, Job::Live, *input, *output, 0);
     }
 }
 
 #[test]
 fn begins_no_session_over_a_table_at_fault(rt: HostRuntime) {
     for (input, line, status) in &NO_TABLES {
-        has_refused(&rt, &live_bytes(rt.alloc(), *input), *line, *status);
+        refuses(&rt, Job::Live, *input, *line, *status);
     }
 }
 
@@ -103,24 +84,22 @@ fn begins_no_session_over_a_table_at_fault(rt: HostRuntime) {
 fn answers_byte_by_byte(rt: HostRuntime) {
     let mut feed = one_byte_feed(LINES, LINES.len().saturating_add(1), ErrorKind::Other);
     let mut sink = one_byte_sink(rt.alloc(), usize::MAX, Stop::TakesNone);
-    let outcome = live_text(rt.alloc(), &mut feed, &mut sink);
-    let (_line, status) = run_ending(outcome);
+    let (_line, status) = perform(&rt, Job::Live, &mut feed, &mut sink);
     assert_eq!(rt; status, 0);
-    assert_eq!(rt; sink.writer.taken.as_slice(), ANSWERS);
+    assert!(rt; sink.writer.taken.as_slice() == ANSWERS);
     assert!(rt; sink.flushed);
     // What stands behind the line `end` is not asked for.
-    assert_eq!(rt; feed.reader.bytes, b"rest".as_slice());
+    assert!(rt; feed.reader.bytes == b"rest".as_slice());
 }
 
 // A session of which the read after this many fails has answered the lines before it, and no more.
-fn is_left(rt: &(impl AllocGlobal + Abort), reads: usize, kind: ErrorKind) {
+fn is_left<R: AllocGlobal + Abort + Threads + Wait + Sync>(rt: &R, reads: usize, kind: ErrorKind) {
     let mut feed = one_byte_feed(LINES, reads, kind);
-    let mut sink = Target::new(Vec::new(rt.alloc()));
-    let outcome = live_text(rt.alloc(), &mut feed, &mut sink);
-    let (line, status) = run_ending(outcome);
-    assert_eq!(rt; line.as_str(), "read failed", "after {reads} reads");
+    let mut sink = one_byte_sink(rt.alloc(), usize::MAX, Stop::TakesNone);
+    let (line, status) = perform(rt, Job::Live, &mut feed, &mut sink);
+    assert!(rt; line.as_str() == "read failed", "after {reads} reads");
     assert_eq!(rt; status, 5);
-    assert!(rt; ANSWERS.starts_with(sink.writer.as_slice()));
+    assert!(rt; ANSWERS.starts_with(sink.writer.taken.as_slice()));
     assert_eq!(rt; feed.reader.asked, reads.saturating_add(1));
 }
 
@@ -137,14 +116,13 @@ fn leaves_what_was_answered_before_a_failed_read(rt: HostRuntime) {
 }
 
 // A session that is stopped behind this beginning leaves just that.
-fn leaves(rt: &(impl AllocGlobal + Abort), beginning: &[u8], stop: Stop) {
-    let mut feed = Source::new(LINES);
+fn leaves<R: AllocGlobal + Abort + Threads + Wait + Sync>(rt: &R, beginning: &[u8], stop: Stop) {
+    let mut feed = one_byte_feed(LINES, usize::MAX, ErrorKind::Other);
     let mut sink = one_byte_sink(rt.alloc(), beginning.len(), stop);
-    let outcome = live_text(rt.alloc(), &mut feed, &mut sink);
-    let (line, status) = run_ending(outcome);
-    assert_eq!(rt; line.as_str(), "write failed");
+    let (line, status) = perform(rt, Job::Live, &mut feed, &mut sink);
+    assert!(rt; line.as_str() == "write failed");
     assert_eq!(rt; status, 5);
-    assert_eq!(rt; sink.writer.taken.as_slice(), beginning);
+    assert!(rt; sink.writer.taken.as_slice() == beginning);
 }
 
 #[test]
@@ -159,80 +137,105 @@ fn leaves_the_beginning_of_the_answers(rt: HostRuntime) {
     }
 }
 
-// A session that begins so, with a line of so many bytes, and then this.
-fn with_a_long_line(
-    rt: &(impl AllocGlobal + Abort),
-    front: &[u8],
-    bytes: usize,
-    rest: &[u8],
-) -> Ran {
-    let mut input = Vec::from_slice(rt.alloc(), front).expect(rt, "there is memory");
-    let start = input.len();
-    input
-        .resize(start.saturating_add(bytes), b'a')
-        .expect(rt, "there is memory");
-    input.extend_from_slice(rest).expect(rt, "there is memory");
-    live_bytes(rt.alloc(), input.as_slice())
-}
-
 // A line that is longer than an input may be is too long, whether it ends or not: behind a table, which is over at no
-// such line, and behind an answer.
-#[test]
-fn takes_no_endless_line(rt: HostRuntime) {
-    let ran = with_a_long_line(&rt, b"programs 1\n", MAX_INPUT + 1, b"\nend\n");
-    has_refused(&rt, &ran, "input too long", 3);
-    for rest in &[b"".as_slice(), b"\nend\n"] {
-        let ran = with_a_long_line(&rt, b"programs 1\nend 1\n", MAX_INPUT + 1, *rest);
-        assert_eq!(rt; ran.line.as_str(), "input too long");
-        assert_eq!(rt; ran.status, 3);
-        assert_eq!(rt;
-            ran.output.as_slice(),
-            b"transcript 1\n? no command\n".as_slice()
-        );
-    }
+// such line, and behind an answer. One of just as many is taken. So a session begins, has a line of so many bytes, goes
+// on, is answered, and ends.
+const LONG: [(&[u8], usize, &[u8], &[u8], &str, u8); 4] = [
+    (
+        b"programs 1\n",
+        MAX_INPUT + 1,
+        b"\nend\n",
+        b"",
+        "input too long",
+        3,
+    ),
+    (
+        b"programs 1\nend 1\n",
+        MAX_INPUT + 1,
+        b"",
+        b"transcript 1\n? no command\n",
+        "input too long",
+        3,
+    ),
+    (
+        b"programs 1\nend 1\n",
+        MAX_INPUT + 1,
+        b"\nend\n",
+        b"transcript 1\n? no command\n",
+        "input too long",
+        3,
+    ),
+    (
+        b"programs 1\n",
+        MAX_INPUT,
+        b"\nend\n",
+        b"transcript 1\n? no command\nconfig\nnext 1 1\nend\n",
+        "",
+        0,
+    ),
+];
+
+// The session with a line of so many bytes.
+fn with_a_long_line(
+    alloc: Global,
+    begin: &[u8],
+    bytes: usize,
+    end: &[u8],
+) -> Result<Vec<u8>, Fail> {
+    let mut input = Vec::from_slice(alloc, begin)?;
+    input.resize(begin.len().saturating_add(bytes), b'a')?;
+    input.extend_from_slice(end)?;
+    Ok(input)
 }
 
-// One of just as many is taken.
 #[test]
-fn takes_the_longest_line(rt: HostRuntime) {
-    let ran = with_a_long_line(&rt, b"programs 1\n", MAX_INPUT, b"\nend\n");
-    assert_eq!(rt; ran.status, 0);
-    assert_eq!(rt;
-        ran.output.as_slice(),
-        b"transcript 1\n? no command\nconfig\nnext 1 1\nend\n".as_slice()
-    );
+fn takes_the_longest_line_and_no_longer_one(rt: HostRuntime) -> Result<(), Fail> {
+    for (begin, bytes, end, output, line, status) in &LONG {
+        let input = with_a_long_line(rt.alloc(), *begin, *bytes, *end)?;
+        let ran = done(&rt, Job::Live, input.as_slice());
+        assert!(rt; ran.output.as_slice() == *output);
+        assert!(rt; ran.line.as_str() == *line);
+        assert!(rt; ran.status == *status);
+    }
+    Ok(())
 }
 
 // A session of which a read fails behind so many bytes has answered each line that was whole by then, and that is
 // flushed.
-fn has_answered(rt: &(impl AllocGlobal + Abort), reads: usize, answers: &[u8]) {
+fn has_answered<R: AllocGlobal + Abort + Threads + Wait + Sync>(
+    rt: &R,
+    reads: usize,
+    answers: &[u8],
+) {
     let mut feed = one_byte_feed(LINES, reads, ErrorKind::Other);
     let mut sink = one_byte_sink(rt.alloc(), usize::MAX, Stop::TakesNone);
-    let outcome = live_text(rt.alloc(), &mut feed, &mut sink);
-    let (line, _status) = run_ending(outcome);
-    assert_eq!(rt; line.as_str(), "read failed");
-    assert_eq!(rt; sink.writer.taken.as_slice(), answers);
-    assert_eq!(rt; sink.flushed, !answers.is_empty());
+    let (line, _status) = perform(rt, Job::Live, &mut feed, &mut sink);
+    assert!(rt; line.as_str() == "read failed", "behind {reads} bytes");
+    assert!(rt; sink.writer.taken.as_slice() == answers);
+    assert!(rt; sink.flushed != answers.is_empty());
 }
+
+// Within the table, behind it, and behind the first line and the second.
+const BEFORE: [(usize, &[u8]); 5] = [
+    (59, b""),
+    (63, b""),
+    (
+        64,
+        b"transcript 1\ndriver ip mux 4 8 3 16\ndriver eth leaf 2 8 3 16\nconfig\nnext 1 1\nshown\n",
+    ),
+    (
+        74,
+        b"transcript 1\ndriver ip mux 4 8 3 16\ndriver eth leaf 2 8 3 16\nconfig\nnext 1 1\nshown\n",
+    ),
+    (
+        75,
+        b"transcript 1\ndriver ip mux 4 8 3 16\ndriver eth leaf 2 8 3 16\nconfig\nnext 1 1\nshown\n0 clone ip = fd 0 0\n",
+    ),
+];
 
 #[test]
 fn answers_before_the_next_read(rt: HostRuntime) {
-    // Within the table, behind it, and behind the first line and the second.
-    has_answered(&rt, 59, b"");
-    has_answered(&rt, 63, b"");
-    has_answered(
-        &rt,
-        64,
-        b"transcript 1\ndriver ip mux 4 8 3 16\ndriver eth leaf 2 8 3 16\nconfig\nnext 1 1\nshown\n",
-    );
-    has_answered(
-        &rt,
-        74,
-        b"transcript 1\ndriver ip mux 4 8 3 16\ndriver eth leaf 2 8 3 16\nconfig\nnext 1 1\nshown\n",
-    );
-    has_answered(
-        &rt,
-        75,
-        b"transcript 1\ndriver ip mux 4 8 3 16\ndriver eth leaf 2 8 3 16\nconfig\nnext 1 1\nshown\n0 clone ip = fd 0 0\n",
-    );
+    for (reads, answers) in &BEFORE {
+        has_answered(&rt, *reads, *answers);
+    }
 }

@@ -1,26 +1,9 @@
 //! Replays over memory, with what is wanted typed in from the rules.
 
 use super::checks::{
-    HANGUP_END_OF_FILE, MARKS_ACROSS_THE_JOIN, NO_DRIVERS, NO_TRANSCRIPTS, OTHER_CONFIGURATION,
-    TWO_PROCESSES, WRONG_REPLY,
+    HANGUP_END_OF_FILE, MARKS_ACROSS_THE_JOIN, OTHER_CONFIGURATION, TWO_PROCESSES, WRONG_REPLY,
 };
-use super::runs::{Ran, has_refused, run_ending};
-use smx_filters::{Source, Target, replay_text};
-use std::alloc::Global;
-use std::process::Abort;
-
-/// Replays the transcript that these bytes are.
-pub fn replay_bytes(alloc: Global, input: &[u8]) -> Ran {
-    let mut feed = Source::new(input);
-    let mut sink = Target::new(Vec::new(alloc));
-    let outcome = replay_text(alloc, &mut feed, &mut sink);
-    let (line, status) = run_ending(outcome);
-    Ran {
-        output: sink.writer,
-        line,
-        status,
-    }
-}
+use super::jobs::{Job, writes};
 
 /// Two processes take turns, and get other replies than these.
 pub const IN_TURN: &[u8] =
@@ -48,40 +31,18 @@ const REPLAYED: [(&[u8], &[u8]); 6] = [
     ),
 ];
 
-/// A replay of this input writes this output, and succeeds.
-pub fn is_replayed(rt: &(impl AllocGlobal + Abort), input: &[u8], output: &[u8]) {
-    let ran = replay_bytes(rt.alloc(), input);
-    assert_eq!(rt; ran.output.as_slice(), output);
-    assert_eq!(rt; ran.status, 0);
-    assert!(rt; ran.line.as_str().is_empty());
-}
-
 // Whatever the replies were, and the configuration. What comes out is then given back.
 #[test]
 fn writes_what_the_commands_give(rt: HostRuntime) {
     for (input, output) in &REPLAYED {
-        is_replayed(&rt, *input, *output);
-        is_replayed(&rt, *output, *output);
+        writes(&rt, Job::Replay, *input, *output, 0);
+        writes(&rt, Job::Replay, *output, *output, 0);
     }
 }
 
 #[test]
 fn gives_legal_transcripts_back(rt: HostRuntime) {
     for legal in &[TWO_PROCESSES, MARKS_ACROSS_THE_JOIN, HANGUP_END_OF_FILE] {
-        is_replayed(&rt, *legal, *legal);
-    }
-}
-
-#[test]
-fn replays_no_text_at_fault(rt: HostRuntime) {
-    for (input, line) in &NO_TRANSCRIPTS {
-        has_refused(&rt, &replay_bytes(rt.alloc(), *input), *line, 3);
-    }
-}
-
-#[test]
-fn replays_no_refused_drivers(rt: HostRuntime) {
-    for (input, line) in &NO_DRIVERS {
-        has_refused(&rt, &replay_bytes(rt.alloc(), *input), *line, 1);
+        writes(&rt, Job::Replay, *legal, *legal, 0);
     }
 }

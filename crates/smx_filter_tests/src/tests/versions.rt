@@ -1,7 +1,8 @@
 //! The same in both versions of the texts, and what the second one has alone.
 
-use super::checks::{HANGUP_END_OF_FILE, check_is_refused, is_judged};
-use super::runs::{OPENED_AND_CLOSED, OPENS_AND_CLOSES, run_is_refused, writes};
+use super::checks::HANGUP_END_OF_FILE;
+use super::jobs::{Job, refuses, writes};
+use super::runs::{OPENED_AND_CLOSED, OPENS_AND_CLOSES};
 use smx_text::{read_programs, write_programs};
 use std::alloc::Global;
 use std::test::Fail;
@@ -11,8 +12,8 @@ const HANGUPS: &[u8] =
 
 #[test]
 fn runs_hangups_in_version_2(rt: HostRuntime) {
-    writes(&rt, HANGUPS, HANGUP_END_OF_FILE);
-    is_judged(&rt, HANGUP_END_OF_FILE, b"legal 9\n", 0);
+    writes(&rt, Job::Run, HANGUPS, HANGUP_END_OF_FILE, 0);
+    writes(&rt, Job::Check, HANGUP_END_OF_FILE, b"legal 9\n", 0);
 }
 
 // The text under this header, in place of its own.
@@ -26,9 +27,9 @@ fn under(alloc: Global, header: &[u8], text: &[u8]) -> Result<Vec<u8>, Fail> {
 #[test]
 fn refuses_hangups_in_version_1(rt: HostRuntime) -> Result<(), Fail> {
     let programs = under(rt.alloc(), b"programs 1\n", HANGUPS)?;
-    run_is_refused(&rt, programs.as_slice(), "line 7: form", 3);
+    refuses(&rt, Job::Run, programs.as_slice(), "line 7: form", 3);
     let transcript = under(rt.alloc(), b"transcript 1\n", HANGUP_END_OF_FILE)?;
-    check_is_refused(&rt, transcript.as_slice(), "line 6: form", 3);
+    refuses(&rt, Job::Check, transcript.as_slice(), "line 6: form", 3);
     Ok(())
 }
 
@@ -45,6 +46,6 @@ fn raised_programs_have_another_header(rt: HostRuntime) -> Result<(), Fail> {
     let wanted = under(rt.alloc(), b"programs 2\n", OPENS_AND_CLOSES)?;
     assert_eq!(rt; programs.as_slice(), wanted.as_slice());
     let transcript = under(rt.alloc(), b"transcript 2\n", OPENED_AND_CLOSED)?;
-    writes(&rt, programs.as_slice(), transcript.as_slice());
+    writes(&rt, Job::Run, programs.as_slice(), transcript.as_slice(), 0);
     Ok(())
 }

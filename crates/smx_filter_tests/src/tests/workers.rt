@@ -2,12 +2,12 @@
 
 ghost use Rattle.std.specs.Prelude.{◌≤◌};
 
-use super::checks::check_bytes;
+use super::jobs::{Job, writes};
 use super::runs::two_long_programs;
 use smx_filters::{Source, Target, run_text};
 use smx_run::Gate;
 use smx_types::Process;
-use std::alloc::Global;
+use std::alloc::AllocError;
 use std::process::Abort;
 use std::sync::Wait;
 use std::sync::atomic::{AtomicU64, Ordering};
@@ -74,26 +74,17 @@ impl Gate for Meet {
 }
 
 // So many processes, each of which opens two streams and links one below the other.
-fn add_processes(alloc: Global, text: &mut Vec<u8>, count: usize) -> Result<(), Fail> {
+fn add_processes(text: &mut String, count: usize) -> Result<(), AllocError> {
+    text.push_str("programs 1\ndriver ip mux 64 8 3 16\ndriver eth leaf 64 8 3 16\n")?;
     for process in 0..count {
-        let lines = format!(in alloc; "process {process}\nclone ip\nclone eth\nlink 0 1\n")?;
-        text.extend_from_slice(lines.as_bytes())?;
+        write!(text, "process {process}\nclone ip\nclone eth\nlink 0 1\n")?;
     }
-    Ok(text.extend_from_slice(b"end\n".as_slice())?)
-}
-
-// The text of their programs.
-fn text_of(alloc: Global, count: usize) -> Result<Vec<u8>, Fail> {
-    let begin = b"programs 1\ndriver ip mux 64 8 3 16\ndriver eth leaf 64 8 3 16\n";
-    let mut text = Vec::from_slice(alloc, begin.as_slice())?;
-    add_processes(alloc, &mut text, count)?;
-    Ok(text)
+    text.push_str("end\n")
 }
 
 // What a run by so many workers writes, all of whom were inside at once.
-fn met_and_wrote<R: Abort + Threads + Wait + Sync>(
+fn met_and_wrote<R: AllocGlobal + Abort + Threads + Wait + Sync>(
     rt: &R,
-    alloc: Global,
     input: &[u8],
     workers: usize,
     fronts: bool,
@@ -102,18 +93,25 @@ fn met_and_wrote<R: Abort + Threads + Wait + Sync>(
     requires { (1 ≤ workers) × (workers ≤ 64) }
 {
     let gate = Meet::of(workers as u64, last);
-    let mut written = Target::new(Vec::new(alloc));
+    let mut written = Target::new(Vec::new(rt.alloc()));
     let mut feed = Source::new(input);
-    let ran = run_text(rt, alloc, &mut feed, &mut written, workers, fronts, &gate);
+    let ran = run_text(
+        rt,
+        rt.alloc(),
+        &mut feed,
+        &mut written,
+        workers,
+        fronts,
+        &gate,
+    );
     assert!(rt; ran.is_ok());
     assert_eq!(rt; gate.met.load(Ordering::SeqCst), workers as u64);
     written.writer
 }
 
 // The check of what they wrote says this line.
-fn all_meet<R: Abort + Threads + Wait + Sync>(
+fn all_meet<R: AllocGlobal + Abort + Threads + Wait + Sync>(
     rt: &R,
-    alloc: Global,
     input: &[u8],
     workers: usize,
     last: usize,
@@ -121,10 +119,8 @@ fn all_meet<R: Abort + Threads + Wait + Sync>(
 )
     requires { (1 ≤ workers) × (workers ≤ 64) }
 {
-    let written = met_and_wrote(rt, alloc, input, workers, false, last);
-    let judged = check_bytes(alloc, written.as_slice());
-    assert_eq!(rt; judged.status, 0);
-    assert_eq!(rt; judged.output.as_slice(), line);
+    let written = met_and_wrote(rt, input, workers, false, last);
+    writes(rt, Job::Check, written.as_slice(), line, 0);
 }
 
 // How many workers are asked for, for as many processes, and the verdict on what they write.
@@ -137,10 +133,11 @@ const MEETINGS: [(usize, &[u8]); 5] = [
 ];
 
 #[test]
-fn as_many_workers_as_asked_for_are_inside_at_once(rt: HostRuntime) -> Result<(), Fail> {
+fn as_many_workers_as_asked_for_are_inside_at_once(rt: HostRuntime) -> Result<(), AllocError> {
     for (workers, line) in MEETINGS {
-        let input = text_of(rt.alloc(), workers)?;
-        all_meet(&rt, rt.alloc(), input.as_slice(), workers, 2, line);
+        let mut text = String::new(rt.alloc());
+        add_processes(&mut text, workers)?;
+        all_meet(&rt, text.as_bytes(), workers, 2, line);
     }
     Ok(())
 }
@@ -148,26 +145,34 @@ fn as_many_workers_as_asked_for_are_inside_at_once(rt: HostRuntime) -> Result<()
 #[test]
 fn two_workers_are_inside_at_once_on_a_long_input(rt: HostRuntime) -> Result<(), Fail> {
     let input = two_long_programs(rt.alloc())?;
-    all_meet(
-        &rt,
-        rt.alloc(),
-        input.as_slice(),
-        2,
-        4_999,
-        b"legal 10000\n",
-    );
+    all_meet(&rt, input.as_slice(), 2, 4_999, b"legal 10000\n");
     Ok(())
 }
 
 // The fronts of so many processes, which all see the same.
-fn fronts_of(alloc: Global, processes: usize, seen: &str) -> Result<Vec<u8>, Fail> {
-    let mut text = Vec::from_slice(alloc, b"fronts 1\n".as_slice())?;
+fn add_fronts(text: &mut String, processes: usize, seen: &str) -> Result<(), AllocError> {
+    text.push_str("fronts 1\n")?;
     for process in 0..processes {
-        let line = format!(in alloc; "front {process} {seen}\n")?;
-        text.extend_from_slice(line.as_bytes())?;
+        write!(text, "front {process} {seen}\n")?;
     }
-    text.extend_from_slice(b"end\n".as_slice())?;
-    Ok(text)
+    text.push_str("end\n")
+}
+
+// A run by so many workers, for as many processes, writes this of each.
+fn all_see<R: AllocGlobal + Abort + Threads + Wait + Sync>(
+    rt: &R,
+    workers: usize,
+    seen: &str,
+) -> Result<(), AllocError>
+    requires { (1 ≤ workers) × (workers ≤ 64) }
+{
+    let mut text = String::new(rt.alloc());
+    add_processes(&mut text, workers)?;
+    let written = met_and_wrote(rt, text.as_bytes(), workers, true, 2);
+    text.clear();
+    add_fronts(&mut text, workers, seen)?;
+    assert!(rt; written.as_slice() == text.as_bytes());
+    Ok(())
 }
 
 // How many workers are asked for, for as many processes, and how many entries and links each process sees at its end.
@@ -180,12 +185,9 @@ const SEEN: [(usize, &str); 5] = [
 ];
 
 #[test]
-fn each_process_sees_at_its_end_what_all_have_done(rt: HostRuntime) -> Result<(), Fail> {
+fn each_process_sees_at_its_end_what_all_have_done(rt: HostRuntime) -> Result<(), AllocError> {
     for (workers, seen) in SEEN {
-        let input = text_of(rt.alloc(), workers)?;
-        let fronts = fronts_of(rt.alloc(), workers, seen)?;
-        let written = met_and_wrote(&rt, rt.alloc(), input.as_slice(), workers, true, 2);
-        assert_eq!(rt; written.as_slice(), fronts.as_slice());
+        all_see(&rt, workers, seen)?;
     }
     Ok(())
 }
@@ -212,9 +214,8 @@ const FOUR: &[u8] =
     b"programs 1\ndriver ip mux 4 8 3 16\ndriver eth leaf 2 8 3 16\nprocess 0\nclone ip\nexit\nprocess 1\nclone ip\nexit\nprocess 2\nclone ip\nexit\nprocess 3\nclone ip\nexit\nend\n";
 
 // A run of them by so many workers tells its gate of eight commands.
-fn is_told_of_eight<R: Abort + Threads + Wait + Sync>(
+fn is_told_of_eight<R: AllocGlobal + Abort + Threads + Wait + Sync>(
     rt: &R,
-    alloc: Global,
     workers: usize,
     fronts: bool,
 )
@@ -224,9 +225,17 @@ fn is_told_of_eight<R: Abort + Threads + Wait + Sync>(
         before: AtomicU64::new(0),
         after: AtomicU64::new(0),
     };
-    let mut written = Target::new(Vec::new(alloc));
+    let mut written = Target::new(Vec::new(rt.alloc()));
     let mut feed = Source::new(FOUR);
-    let ran = run_text(rt, alloc, &mut feed, &mut written, workers, fronts, &gate);
+    let ran = run_text(
+        rt,
+        rt.alloc(),
+        &mut feed,
+        &mut written,
+        workers,
+        fronts,
+        &gate,
+    );
     assert!(rt; ran.is_ok());
     assert_eq!(rt; gate.before.load(Ordering::SeqCst), 8);
     assert_eq!(rt; gate.after.load(Ordering::SeqCst), 8);
@@ -236,7 +245,7 @@ fn is_told_of_eight<R: Abort + Threads + Wait + Sync>(
 fn workers_tell_the_gate_of_each_command(rt: HostRuntime) {
     for workers in [1, 2, 3, 64] {
         for fronts in [false, true] {
-            is_told_of_eight(&rt, rt.alloc(), workers, fronts);
+            is_told_of_eight(&rt, workers, fronts);
         }
     }
 }

@@ -8,11 +8,11 @@ use std::alloc::{AllocError, Global};
 use std::sync::atomic::{AtomicBool, AtomicU32, AtomicU64, AtomicUsize, Ordering};
 use std::thread;
 
-/// The most turns that a worker waits.
-const TURNS: u32 = 100_000_000;
+/// The most turns that a thread waits.
+pub const TURNS: u32 = 100_000_000;
 
-// Whether so many are counted, before the turns are used up.
-fn is_reached(count: &AtomicU64, wanted: u64) -> bool {
+/// Whether so many are counted, before the turns are used up.
+pub fn is_reached(count: &AtomicU64, wanted: u64) -> bool {
     for _ in 0..TURNS {
         if count.load(Ordering::SeqCst) >= wanted {
             return true;
@@ -74,7 +74,7 @@ impl Gate for Meeting {
 }
 
 /// What a gate is told, of a process and the number of its command.
-#[derive(Clone, Copy, Debug, PartialEq, Eq)]
+#[derive(Clone, Copy, PartialEq, Eq)]
 pub enum Told {
     /// The command is performed next.
     Before(u32, usize),
@@ -117,24 +117,6 @@ impl Line {
             Told::Before(process, number)
         }
     }
-}
-
-/// What was told by this worker of so many.
-pub fn by_worker(
-    alloc: Global,
-    told: &[Told],
-    worker: u32,
-    workers: u32,
-) -> Result<Vec<Told>, AllocError>
-    requires { 1 ≤ workers }
-{
-    let mut own = Vec::new(alloc);
-    for line in told {
-        if line.process() % workers == worker {
-            own.push(*line)?;
-        }
-    }
-    Ok(own)
 }
 
 /// Has processes 0 to 4 of two workers go on one by one: before its first command, each but the first and the last
@@ -185,13 +167,23 @@ impl Log {
         })
     }
 
-    /// What it was told.
-    pub fn told(&self, alloc: Global) -> Result<Vec<Told>, AllocError> {
-        let mut told = Vec::new(alloc);
+    /// Whether this worker of so many told it just that, in this order.
+    pub fn is_told(&self, worker: u32, workers: u32, wanted: &[Told]) -> bool
+        requires { 1 ≤ workers }
+    {
+        let mut wanted = wanted.iter();
         for line in self.lines.iter().take(self.count.load(Ordering::SeqCst)) {
-            told.push(line.told())?;
+            let told = line.told();
+            if told.process() % workers == worker && wanted.next() != Some(&told) {
+                return false;
+            }
         }
-        Ok(told)
+        wanted.next().is_none()
+    }
+
+    /// Whether it was told just that, in this order.
+    pub fn has(&self, wanted: &[Told]) -> bool {
+        self.is_told(0, 1, wanted)
     }
 
     // The next line is that.

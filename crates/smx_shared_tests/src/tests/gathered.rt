@@ -1,9 +1,6 @@
 //! Reports of a system and of what its callers were answered. The first test passes with any one growth refused too,
 //! and tests/refused_growths runs it so.
 
-ghost use Rattle.std.specs.Prelude.{◌≤◌, length};
-ghost use Rattle.smx_types.specs.declared.limits.TheConstants.{MAX_PROCESSES};
-
 use super::system_lines::{copied, system_over};
 use smx_run::{GatherFault, Report, gather};
 use smx_samples::{ip, items, named, nothing_open, numbered, opening};
@@ -53,18 +50,29 @@ fn three_opened(alloc: Global) -> Result<System, Fail> {
     Ok(system)
 }
 
-fn room_for_one(alloc: Global) -> Result<Vec<Entry>, Fail> {
-    if let Ok(room) = Vec::with_capacity(alloc, 1) {
+fn room_for<T>(alloc: Global, count: usize) -> Result<Vec<T>, Fail> {
+    if let Ok(room) = Vec::with_capacity(alloc, count) {
         return Ok(room);
     }
-    Ok(Vec::with_capacity(alloc, 1)?)
+    Ok(Vec::with_capacity(alloc, count)?)
 }
 
-// The transcript of a process that has got the stream of this minor.
-fn transcript(alloc: Global, process: u32, minor: u32) -> Result<Entries, Fail> {
-    let mut entries = room_for_one(alloc)?;
-    entries.push(opening(process, minor)?)?;
+// The transcript of a process that has got the stream of this minor, or nothing.
+fn transcript(alloc: Global, opened: Option<(u32, u32)>) -> Result<Entries, Fail> {
+    let mut entries = room_for(alloc, 1)?;
+    if let Some((process, minor)) = opened {
+        entries.push(opening(process, minor)?)?;
+    }
     Ok(Entries::from_vec(entries))
+}
+
+// The transcripts of processes 0, 1 and so on.
+fn transcripts_of(alloc: Global, opened: &[Option<(u32, u32)>]) -> Result<Vec<Entries>, Fail> {
+    let mut transcripts = room_for(alloc, 3)?;
+    for each in opened {
+        transcripts.push(transcript(alloc, *each)?)?;
+    }
+    Ok(transcripts)
 }
 
 // The descriptor of a process for the stream of this minor.
@@ -90,9 +98,10 @@ fn gathered_of(
     alloc: Global,
     system: &System,
     transcripts: &[Entries],
-) -> Result<Result<Report, GatherFault>, Fail>
-    requires { length transcripts.now ≤ MAX_PROCESSES }
-{
+) -> Result<Result<Report, GatherFault>, Fail> {
+    if transcripts.len() > 3 {
+        return Err(Fail::new("there are three processes"));
+    }
     let again = copied(system)?;
     Ok(gather(alloc, again, transcripts))
 }
@@ -108,9 +117,7 @@ fn gathered_again(
     rt: &(impl AllocGlobal + Print),
     system: &System,
     transcripts: &[Entries],
-) -> Result<Report, Fail>
-    requires { length transcripts.now ≤ MAX_PROCESSES }
-{
+) -> Result<Report, Fail> {
     match gathered_of(rt.alloc(), system, transcripts)? {
         Ok(report) => Ok(report),
         Err(GatherFault::Strange(_)) => Err(Fail::new("a process is strange")),
@@ -122,9 +129,7 @@ fn gathered_again(
 }
 
 // The report of the three.
-fn gathered(rt: &(impl AllocGlobal + Print), transcripts: &[Entries]) -> Result<Report, Fail>
-    requires { length transcripts.now ≤ MAX_PROCESSES }
-{
+fn gathered(rt: &(impl AllocGlobal + Print), transcripts: &[Entries]) -> Result<Report, Fail> {
     let system = three_opened(rt.alloc())?;
     gathered_again(rt, &system, transcripts)
 }
@@ -169,53 +174,39 @@ fn is_of_three(rt: &impl Abort, alloc: Global, report: &Report) -> Result<(), Fa
 
 #[test]
 fn three_entries_are_reported(rt: HostRuntime) -> Result<(), Fail> {
-    let transcripts = [
-        transcript(rt.alloc(), 0, 0)?,
-        transcript(rt.alloc(), 1, 2)?,
-        transcript(rt.alloc(), 2, 1)?,
-    ];
-    let report = gathered(&rt, &transcripts)?;
+    let transcripts = transcripts_of(rt.alloc(), &[Some((0, 0)), Some((1, 2)), Some((2, 1))])?;
+    let report = gathered(&rt, transcripts.as_slice())?;
     is_of_three(&rt, rt.alloc(), &report)?;
     is_copied(&rt, &report)
 }
 
-// The entries of this process in the history are not its transcript.
+// Transcripts of the three, and the process whose entries in the history are not its transcript: one is empty, one is
+// not given, two are exchanged.
+const STRANGE: [(&[Option<(u32, u32)>], u32); 3] = [
+    (&[Some((0, 0)), None, Some((2, 1))], 1),
+    (&[Some((0, 0)), Some((1, 2))], 2),
+    (&[Some((0, 0)), Some((2, 1)), Some((1, 2))], 1),
+];
+
 fn is_strange(
     rt: &impl Abort,
     alloc: Global,
-    transcripts: &[Entries],
+    system: &System,
+    opened: &[Option<(u32, u32)>],
     process: u32,
-) -> Result<(), Fail>
-    requires { length transcripts.now ≤ MAX_PROCESSES }
-{
-    let system = three_opened(alloc)?;
-    let fault = gather(alloc, system, transcripts).err().ok_or("refused")?;
-    assert_eq!(rt; fault, GatherFault::Strange(numbered(process)?));
+) -> Result<(), Fail> {
+    let strange = GatherFault::Strange(numbered(process)?);
+    let transcripts = transcripts_of(alloc, opened)?;
+    let fault = gathered_of(alloc, system, transcripts.as_slice())?.err();
+    assert!(rt; fault == Some(strange));
     Ok(())
 }
 
 #[test]
-fn a_transcript_is_empty(rt: HostRuntime) -> Result<(), Fail> {
-    let transcripts = [
-        transcript(rt.alloc(), 0, 0)?,
-        Entries::new(rt.alloc()),
-        transcript(rt.alloc(), 2, 1)?,
-    ];
-    is_strange(&rt, rt.alloc(), &transcripts, 1)
-}
-
-#[test]
-fn a_transcript_is_not_given(rt: HostRuntime) -> Result<(), Fail> {
-    let transcripts = [transcript(rt.alloc(), 0, 0)?, transcript(rt.alloc(), 1, 2)?];
-    is_strange(&rt, rt.alloc(), &transcripts, 2)
-}
-
-#[test]
-fn two_transcripts_are_exchanged(rt: HostRuntime) -> Result<(), Fail> {
-    let transcripts = [
-        transcript(rt.alloc(), 0, 0)?,
-        transcript(rt.alloc(), 2, 1)?,
-        transcript(rt.alloc(), 1, 2)?,
-    ];
-    is_strange(&rt, rt.alloc(), &transcripts, 1)
+fn strange_transcripts(rt: HostRuntime) -> Result<(), Fail> {
+    let system = three_opened(rt.alloc())?;
+    for (opened, process) in STRANGE {
+        is_strange(&rt, rt.alloc(), &system, opened, process)?;
+    }
+    Ok(())
 }

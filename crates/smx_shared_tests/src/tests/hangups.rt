@@ -2,10 +2,9 @@
 
 ghost use Rattle.std.specs.Prelude.{◌≡◌, All, IfOk};
 
-use super::callers::{closes_with, front, last_two, sees};
+use super::callers::{closes_with, front, is_answer, last_two};
 use super::system_lines::system_of_twenty;
-use super::workers::ran;
-use smx_samples::{Answer, Call, command_of, reply_of};
+use smx_samples::{Answer, Call, Line, command_of};
 use smx_shared::{Door, Seat, Shared};
 use smx_types::Fault;
 use std::alloc::Global;
@@ -13,7 +12,7 @@ use std::process::Abort;
 use std::sync::Wait;
 use std::test::Fail;
 
-const END_OF_FILE: &[u8] = b"programs 2
+pub const END_OF_FILE: &[u8] = b"programs 2
 driver ip mux 4 8 3 16
 driver eth leaf 2 8 3 16
 process 0
@@ -30,7 +29,7 @@ process 1
 end
 ";
 
-const OF_END_OF_FILE: &[u8] = b"transcript 2
+pub const OF_END_OF_FILE: &[u8] = b"transcript 2
 driver ip mux 4 8 3 16
 driver eth leaf 2 8 3 16
 0 clone eth = fd 0 0
@@ -51,61 +50,63 @@ hung eth 0
 end
 ";
 
-#[test]
-fn a_hangup_in_a_run(rt: HostRuntime) -> Result<(), Fail> {
-    for workers in [1, 2] {
-        let written = ran(&rt, rt.alloc(), END_OF_FILE, workers)?;
-        assert_eq!(rt; written.as_slice(), OF_END_OF_FILE, "on {workers} workers");
-    }
-    Ok(())
-}
-
 // The process of this seat asks this, and is answered that.
 fn is_answered<R: Abort + Wait>(
     rt: &R,
-    alloc: Global,
     shared: &Shared,
-    mut seat: Seat,
-    line: (Call, Answer),
-) -> Result<Seat, Fail>
-    requires { seat.shared ≡ shared.now.name }
-    ensures { IfOk result (λ s. s.shared ≡ shared.now.name) }
+    seat: &mut Seat,
+    alloc: Global,
+    line: Line,
+) -> Result<(), Fail>
+    requires { seat.old.shared ≡ shared.now.name }
+    ensures { seat.new.shared ≡ shared.now.name }
 {
     let command = command_of(alloc, line.0)?;
-    let wanted = reply_of(alloc, line.1)?;
-    let entry = shared.call(rt, alloc, &mut seat, &command)?;
-    assert!(rt; entry.reply == wanted);
-    Ok(seat)
+    let answer = shared.call(rt, alloc, seat, &command);
+    is_answer(rt, alloc, answer, Some(line.1))
 }
 
 // A device hangs up by one seat. The other sees that there are two entries and no link, can't use the device, and the
 // reader finds the end of the file.
 fn two_seats<R: Abort + Wait>(
     rt: &R,
-    alloc: Global,
     shared: &Shared,
-    reader: Seat,
-    other: Seat,
-) -> Result<Seat, Fail>
-    requires reader { reader.shared ≡ shared.now.name }
-    requires other { other.shared ≡ shared.now.name }
-    ensures { IfOk result (λ s. s.shared ≡ shared.now.name) }
+    reader: &mut Seat,
+    other: &mut Seat,
+    alloc: Global,
+) -> Result<(), Fail>
+    requires reader { reader.old.shared ≡ shared.now.name }
+    requires other { other.old.shared ≡ shared.now.name }
+    ensures { reader.new.shared ≡ shared.now.name }
 {
     let opened = (Call::Clone("eth"), Answer::Fd(0, 0));
-    let reader = is_answered(rt, alloc, shared, reader, opened)?;
+    is_answered(rt, shared, reader, alloc, opened)?;
     let hung = (Call::Hangup("eth", 0), Answer::Done(&[]));
-    let reader = is_answered(rt, alloc, shared, reader, hung)?;
-    let other = sees(rt, shared, other, front(2, 0, false));
+    is_answered(rt, shared, reader, alloc, hung)?;
+    assert!(rt; shared.glance(other) == front(2, 0, false));
     let refused = (Call::Transmit("eth", 0), Answer::Refused(Fault::HungUp));
-    let _ = is_answered(rt, alloc, shared, other, refused)?;
-    is_answered(rt, alloc, shared, reader, (Call::Read(0), Answer::Eof))
+    is_answered(rt, shared, other, alloc, refused)?;
+    is_answered(rt, shared, reader, alloc, (Call::Read(0), Answer::Eof))
+}
+
+fn one_hangs_up<R: Abort + Wait>(
+    rt: &R,
+    shared: &Shared,
+    seats: Vec<Seat>,
+    alloc: Global,
+) -> Result<Seat, Fail>
+    requires { All (λ s. s.shared ≡ shared.now.name) seats.items }
+    ensures { IfOk result (λ s. s.shared ≡ shared.now.name) }
+{
+    let (mut reader, mut other) = last_two(shared, seats)?;
+    two_seats(rt, shared, &mut reader, &mut other, alloc)?;
+    Ok(reader)
 }
 
 #[test]
 fn a_hangup_under_a_shared_system(rt: HostRuntime) -> Result<(), Fail> {
     let system = system_of_twenty(rt.alloc())?;
     let (shared, seats) = Shared::start(rt.alloc(), system, 2)?;
-    let (reader, other) = last_two(&shared, seats)?;
-    let reader = two_seats(&rt, rt.alloc(), &shared, reader, other)?;
+    let reader = one_hangs_up(&rt, &shared, seats, rt.alloc())?;
     closes_with(&rt, shared, reader, 4)
 }

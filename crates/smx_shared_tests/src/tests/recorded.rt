@@ -1,13 +1,13 @@
 //! Runs of which a recorder is told: all of it, drivers that are refused, and a recorder that wants memory. And what a
 //! gate is told of such a run.
 
-ghost use Rattle.std.specs.Prelude.{◌<◌};
+ghost use Rattle.std.specs.Prelude.{◌<◌, ◌≤◌};
 
 use super::gates::Told::{After, Before};
 use super::gates::{Log, Told};
 use super::told::{IN_TURN, SIX};
-use super::workers::written;
-use smx_run::{Gate, NewRecorder, NoGate, Recorder, run_recorded};
+use super::workers::is_written;
+use smx_run::{Gate, NewRecorder, NoGate, Recorder, RunFault, run_recorded};
 use smx_text::read_programs;
 use smx_types::{
     Command, ConfigView, Copied, DriverSpec, Drivers, Entries, Entry, NoMemory, Process, Reply,
@@ -18,22 +18,29 @@ use std::process::Abort;
 use std::sync::atomic::{AtomicUsize, Ordering};
 use std::test::Fail;
 
-// Keeps a copy of all that it is told.
+/// Keeps a copy of all that it is told, counts how often it is told, of the drivers and of each entry, and wants memory
+/// from some time on.
 #[derive(Drop)]
-pub struct Kept {
+pub struct Kept<'a> {
     alloc: Global,
+    count: &'a AtomicUsize,
+    // How often it may be told.
+    most: usize,
     version: Version,
     drivers: Drivers,
     entries: Entries,
 }
 
-impl Recorder for Kept {
+impl<'a> Recorder for Kept<'a> {
     ghost use Rattle.std.specs.Prelude.{◌≡◌};
 
     ghost told = { λ version drivers entries kept.
         (kept.version ≡ version) × (kept.drivers ≡ drivers) × (kept.entries ≡ entries) };
 
     fn add(&mut self, process: Process, command: &Command, reply: &Reply) -> Result<(), NoMemory> {
+        if self.count.fetch_add(1, Ordering::SeqCst) >= self.most {
+            return Err(NoMemory);
+        }
         let command = command.copy(self.alloc)?;
         let reply = reply.copy(self.alloc)?;
         self.entries.push(Entry {
@@ -44,36 +51,67 @@ impl Recorder for Kept {
     }
 }
 
-impl NewRecorder for Kept {
-    type Room = Global;
+impl<'a> NewRecorder for Kept<'a> {
+    type Room = (Global, &'a AtomicUsize, usize);
 
-    fn begin(room: Global, version: Version, drivers: &[DriverSpec]) -> Result<Kept, NoMemory> {
-        let drivers = Drivers::from_vec(DriverSpec::copies(room, drivers)?);
+    fn begin(
+        room: (Global, &'a AtomicUsize, usize),
+        version: Version,
+        drivers: &[DriverSpec],
+    ) -> Result<Kept<'a>, NoMemory> {
+        let (alloc, count, most) = room;
+        count.fetch_add(1, Ordering::SeqCst);
+        let drivers = Drivers::from_vec(DriverSpec::copies(alloc, drivers)?);
         Ok(Kept {
-            alloc: room,
+            alloc,
+            count,
+            most,
             version,
             drivers,
-            entries: Entries::new(room),
+            entries: Entries::new(alloc),
         })
     }
 }
 
-// What was told, as a text.
-pub fn told(alloc: Global, kept: Kept, view: ConfigView) -> Result<Vec<u8>, Fail> {
-    let transcript = Transcript {
+fn transcript_of(kept: Kept, view: ConfigView) -> Transcript {
+    Transcript {
         version: kept.version,
         drivers: kept.drivers,
         entries: kept.entries,
         view,
-    };
-    written(alloc, &transcript)
+    }
 }
 
-// What a recorder was told of a run of the programs that this text spells, with the view at the end, as a text.
-fn recorded(alloc: Global, text: &[u8]) -> Result<Vec<u8>, Fail> {
+/// Why a run is refused. If it isn't, its recorder was told this, where that is given.
+pub fn refusal(
+    rt: &impl Abort,
+    alloc: Global,
+    ran: Result<(Kept, ConfigView), RunFault>,
+    wanted: Option<&[u8]>,
+) -> Result<Option<RunFault>, Fail> {
+    match ran {
+        Ok((kept, view)) => {
+            is_written(rt, alloc, transcript_of(kept, view), wanted)?;
+            Ok(None)
+        }
+        Err(fault) => Ok(Some(fault)),
+    }
+}
+
+// Why a run of the programs that this text spells is refused, of which a gate is told, and a recorder, which counts and
+// may be told so often. If it isn't, the recorder is told this, where that is given.
+fn recorded<G: Gate>(
+    rt: &impl Abort,
+    alloc: Global,
+    text: &[u8],
+    counter: (&AtomicUsize, usize),
+    gate: &G,
+    wanted: Option<&[u8]>,
+) -> Result<Option<RunFault>, Fail> {
     let programs = read_programs(alloc, text)?;
-    let (kept, view) = run_recorded(alloc, programs, alloc, &NoGate)?;
-    told(alloc, kept, view)
+    let (count, most) = counter;
+    let ran = run_recorded(alloc, programs, (alloc, count, most), gate);
+    refusal(rt, alloc, ran, wanted)
 }
 
 pub const TWO_PROCESSES: &[u8] = b"programs 1
@@ -110,60 +148,12 @@ end
 
 #[test]
 fn a_recorder_is_told_of_all(rt: HostRuntime) -> Result<(), Fail> {
-    let written = recorded(rt.alloc(), TWO_PROCESSES)?;
-    assert_eq!(rt; written.as_slice(), OF_TWO_PROCESSES);
+    let count = AtomicUsize::new(0);
+    let counter = (&count, 7);
+    let wanted = Some(OF_TWO_PROCESSES);
+    let fault = recorded(&rt, rt.alloc(), TWO_PROCESSES, counter, &NoGate, wanted)?;
+    assert!(rt; fault.is_none());
     Ok(())
-}
-
-// Counts how often it is told, of the drivers and of each entry, and wants memory from some time on.
-#[derive(Drop)]
-pub struct Counting<'a> {
-    told: &'a AtomicUsize,
-    // How often it may be told.
-    most: usize,
-}
-
-impl<'a> Recorder for Counting<'a> {
-    ghost told = { λ _ _ _ _. Unit {0} };
-
-    fn add(
-        &mut self,
-        _process: Process,
-        _command: &Command,
-        _reply: &Reply,
-    ) -> Result<(), NoMemory> {
-        if self.told.fetch_add(1, Ordering::SeqCst) < self.most {
-            Ok(())
-        } else {
-            Err(NoMemory)
-        }
-    }
-}
-
-impl<'a> NewRecorder for Counting<'a> {
-    type Room = (&'a AtomicUsize, usize);
-
-    fn begin(
-        room: (&'a AtomicUsize, usize),
-        _version: Version,
-        _drivers: &[DriverSpec],
-    ) -> Result<Counting<'a>, NoMemory> {
-        let (told, most) = room;
-        told.fetch_add(1, Ordering::SeqCst);
-        Ok(Counting { told, most })
-    }
-}
-
-// Whether a run of the programs that this text spells ends well, of which this is told, and a recorder, which may be
-// told so often.
-fn counts<G: Gate>(
-    alloc: Global,
-    text: &[u8],
-    recorder: (&AtomicUsize, usize),
-    gate: &G,
-) -> Result<bool, Fail> {
-    let programs = read_programs(alloc, text)?;
-    Ok(run_recorded::<Counting, _>(alloc, programs, recorder, gate).is_ok())
 }
 
 // What a gate is told of the six commands of the two processes.
@@ -182,24 +172,32 @@ pub const OF_SIX_COMMANDS: [Told; 12] = [
     After(2, 3),
 ];
 
+/// So often was a recorder told, and so many times a log of the six commands.
+pub fn are_told(rt: &impl Abort, count: &AtomicUsize, often: usize, log: &Log, times: usize)
+    requires { times ≤ 12 }
+{
+    assert_eq!(rt; count.load(Ordering::SeqCst), often);
+    assert!(rt; log.has(&OF_SIX_COMMANDS[..times]));
+}
+
 // A recorder that may be told of so many entries stops the run at the next one: of this it is told, and so is the log.
 // Neither is told of anything behind it.
-fn stops_behind(rt: &impl Abort, alloc: Global, entries: usize, told: &[Told]) -> Result<(), Fail>
+fn stops_behind(rt: &impl Abort, alloc: Global, entries: usize) -> Result<(), Fail>
     requires { entries < 6 }
 {
     let count = AtomicUsize::new(0);
     let log = Log::of(alloc, 16)?;
-    assert!(rt; !counts(alloc, TWO_PROCESSES, (&count, entries + 1), &log)?);
-    assert_eq!(rt; count.load(Ordering::SeqCst), entries + 2);
-    assert_eq!(rt; log.told(alloc)?.as_slice(), told);
+    let counter = (&count, entries + 1);
+    let fault = recorded(rt, alloc, TWO_PROCESSES, counter, &log, None)?;
+    assert!(rt; fault == Some(RunFault::NoMemory));
+    are_told(rt, &count, entries + 2, &log, 2 * entries + 2);
     Ok(())
 }
 
 #[test]
 fn a_recorded_run_stops_where_its_recorder_does(rt: HostRuntime) -> Result<(), Fail> {
     for entries in 0..6 {
-        let told = &OF_SIX_COMMANDS[..2 * entries + 2];
-        stops_behind(&rt, rt.alloc(), entries, told)?;
+        stops_behind(&rt, rt.alloc(), entries)?;
     }
     Ok(())
 }
@@ -210,7 +208,8 @@ pub const SAME_NAME: &[u8] =
 #[test]
 fn drivers_come_before_the_recorder(rt: HostRuntime) -> Result<(), Fail> {
     let told = AtomicUsize::new(0);
-    assert!(rt; !counts(rt.alloc(), SAME_NAME, (&told, 9), &NoGate)?);
+    let fault = recorded(&rt, rt.alloc(), SAME_NAME, (&told, 9), &NoGate, None)?;
+    assert!(rt; fault.is_some());
     assert_eq!(rt; told.load(Ordering::SeqCst), 0);
     Ok(())
 }
@@ -257,8 +256,9 @@ impl<'a> Gate for InTime<'a> {
 fn a_recorded_run_tells_of_each_command_in_turn(rt: HostRuntime) -> Result<(), Fail> {
     let told = AtomicUsize::new(0);
     let log = Log::of(rt.alloc(), 40)?;
-    assert!(rt; counts(rt.alloc(), SIX, (&told, 14), &log)?);
-    assert_eq!(rt; log.told(rt.alloc())?.as_slice(), IN_TURN.as_slice());
+    let fault = recorded(&rt, rt.alloc(), SIX, (&told, 14), &log, None)?;
+    assert!(rt; fault.is_none());
+    assert!(rt; log.has(&IN_TURN));
     Ok(())
 }
 
@@ -266,7 +266,8 @@ fn a_recorded_run_tells_of_each_command_in_turn(rt: HostRuntime) -> Result<(), F
 fn a_recorded_run_tells_right_before_and_right_after(rt: HostRuntime) -> Result<(), Fail> {
     let told = AtomicUsize::new(0);
     let gate = InTime::of(&told);
-    assert!(rt; counts(rt.alloc(), SIX, (&told, 14), &gate)?);
+    let fault = recorded(&rt, rt.alloc(), SIX, (&told, 14), &gate, None)?;
+    assert!(rt; fault.is_none());
     assert_eq!(rt; told.load(Ordering::SeqCst), 14);
     assert_eq!(rt; gate.in_time.load(Ordering::SeqCst), 26);
     Ok(())

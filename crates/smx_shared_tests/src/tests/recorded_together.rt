@@ -2,12 +2,13 @@
 
 ghost use Rattle.std.specs.Prelude.{◌≤◌, length, IfOk};
 
-use super::recorded::{Counting, Kept, TWO_PROCESSES, told};
+use super::recorded::{TWO_PROCESSES, refusal};
 use super::workers::ONE_HISTORY;
-use smx_run::{NoGate, run_recorded_together};
+use smx_run::{NoGate, RunFault, run_recorded_together};
 use smx_text::read_programs;
 use smx_types::Programs;
 use std::alloc::Global;
+use std::process::Abort;
 use std::sync::Wait;
 use std::sync::atomic::{AtomicUsize, Ordering};
 use std::test::Fail;
@@ -24,42 +25,33 @@ fn some_programs(alloc: Global, text: &[u8]) -> Result<Programs, Fail>
     Ok(programs)
 }
 
-// What a recorder was told of a run by so many workers, with the view at the end, as a text.
-fn recorded<R: Threads + Wait + Sync>(
+// Why a run by so many workers is refused, of which a recorder is told, which counts and may be told so often. If it
+// isn't, the recorder is told this, where that is given.
+fn recorded<R: Abort + Threads + Wait + Sync>(
     rt: &R,
     alloc: Global,
     text: &[u8],
     workers: usize,
-) -> Result<Vec<u8>, Fail>
+    counter: (&AtomicUsize, usize),
+    wanted: Option<&[u8]>,
+) -> Result<Option<RunFault>, Fail>
     requires { 1 ≤ workers }
 {
     let programs = some_programs(alloc, text)?;
-    let (kept, view) = run_recorded_together::<R, Kept, NoGate>(
-        rt, alloc, programs, workers, alloc, &NoGate,
-    )?;
-    told(alloc, kept, view)
-}
-
-// Whether a run by two workers ends well, of which this recorder is told.
-fn ends_well<R: Threads + Wait + Sync>(
-    rt: &R,
-    alloc: Global,
-    text: &[u8],
-    recorder: (&AtomicUsize, usize),
-) -> Result<bool, Fail> {
-    let programs = some_programs(alloc, text)?;
-    let ended = run_recorded_together::<R, Counting, NoGate>(
-        rt, alloc, programs, 2, recorder, &NoGate,
-    );
-    Ok(ended.is_ok())
+    let (count, most) = counter;
+    let room = (alloc, count, most);
+    let ran = run_recorded_together(rt, alloc, programs, workers, room, &NoGate);
+    refusal(rt, alloc, ran, wanted)
 }
 
 #[test]
 fn tells_of_the_one_history(rt: HostRuntime) -> Result<(), Fail> {
+    let count = AtomicUsize::new(0);
     for workers in [1, 2, 3, 64] {
         for (input, output) in &ONE_HISTORY[1..] {
-            let written = recorded(&rt, rt.alloc(), input, workers)?;
-            assert_eq!(rt; written.as_slice(), *output);
+            let counter = (&count, 1000);
+            let fault = recorded(&rt, rt.alloc(), input, workers, counter, Some(output))?;
+            assert!(rt; fault.is_none());
         }
     }
     Ok(())
@@ -71,8 +63,9 @@ fn tells_of_the_one_history(rt: HostRuntime) -> Result<(), Fail> {
 fn a_recorder_that_wants_memory_is_told_of_nothing_more(rt: HostRuntime) -> Result<(), Fail> {
     for entries in 0..8 {
         let count = AtomicUsize::new(0);
-        let ended_well = ends_well(&rt, rt.alloc(), TWO_PROCESSES, (&count, entries + 1))?;
-        assert_eq!(rt; ended_well, 6 <= entries);
+        let counter = (&count, entries + 1);
+        let fault = recorded(&rt, rt.alloc(), TWO_PROCESSES, 2, counter, None)?;
+        assert_eq!(rt; fault.is_none(), 6 <= entries);
         assert_eq!(rt; count.load(Ordering::SeqCst), (entries + 2).min(7));
     }
     Ok(())

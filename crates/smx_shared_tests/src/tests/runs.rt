@@ -3,9 +3,10 @@
 ghost use Rattle.std.specs.Prelude.{◌≤◌};
 ghost use Rattle.smx_run.specs.declared.run.TheConstants.{MAX_WORKERS};
 
-use super::workers::ran;
+use super::gates::Meeting;
+use super::workers::gives;
 use smx_run::{NoGate, Report, RunFault, run_programs};
-use smx_samples::most_programs;
+use smx_samples::{most_programs, with_lines};
 use smx_text::read_programs;
 use smx_types::{Fault, Reply};
 use std::alloc::Global;
@@ -13,18 +14,6 @@ use std::process::Abort;
 use std::sync::Wait;
 use std::test::Fail;
 use std::thread::Threads;
-
-// A run of the programs of this text on one worker has this transcript.
-fn gives<R: Abort + Threads + Wait + Sync>(
-    rt: &R,
-    alloc: Global,
-    input: &[u8],
-    output: &[u8],
-) -> Result<(), Fail> {
-    let written = ran(rt, alloc, input, 1)?;
-    assert_eq!(rt; written.as_slice(), output);
-    Ok(())
-}
 
 const TWO_PROCESSES: &[u8] = b"programs 1
 driver ip mux 2 8 3 16
@@ -62,7 +51,7 @@ end
 
 #[test]
 fn reports_two_processes(rt: HostRuntime) -> Result<(), Fail> {
-    gives(&rt, rt.alloc(), TWO_PROCESSES, OF_TWO_PROCESSES)
+    gives(&rt, rt.alloc(), TWO_PROCESSES, 1, OF_TWO_PROCESSES)
 }
 
 fn is_of_the_most(rt: &impl Abort, report: &Report) {
@@ -80,27 +69,20 @@ fn runs_the_most_programs(rt: HostRuntime) -> Result<(), Fail> {
     Ok(())
 }
 
-const TWO_OPENS: &[u8] = b"process 0\nclone ip\nprocess 1\nclone ip\nend\n";
-
-// Two programs over these drivers.
-fn text_over(alloc: Global, drivers: &[u8]) -> Result<Vec<u8>, Fail> {
-    let mut text = Vec::from_slice(alloc, b"programs 1\n".as_slice())?;
-    text.extend_from_slice(drivers)?;
-    text.extend_from_slice(TWO_OPENS)?;
-    Ok(text)
-}
-
+// Why a run of two programs over these drivers is refused.
 fn refused<R: Threads + Wait + Sync>(
     rt: &R,
     alloc: Global,
     drivers: &[u8],
     workers: usize,
+    meeting: &Meeting,
 ) -> Result<RunFault, Fail>
     requires { (1 ≤ workers) × (workers ≤ MAX_WORKERS) }
 {
-    let text = text_over(alloc, drivers)?;
+    let end = b"process 0\nclone ip\nprocess 1\nclone ip\nend\n";
+    let text = with_lines(alloc, b"programs 1\n", drivers, 1, end)?;
     let programs = read_programs(alloc, text.as_slice())?;
-    let run = run_programs(rt, alloc, programs, workers, &NoGate);
+    let run = run_programs(rt, alloc, programs, workers, meeting);
     Ok(run.err().ok_or("refused")?)
 }
 
@@ -122,24 +104,28 @@ const REFUSED: [(&[u8], &str); 8] = [
     ),
 ];
 
-// A run is refused in these words, on one worker and on two.
+// A run is refused in these words, and no command is performed.
 fn refuses<R: Abort + Threads + Wait + Sync>(
     rt: &R,
     alloc: Global,
     drivers: &[u8],
+    workers: usize,
     words: &str,
-) -> Result<(), Fail> {
-    for workers in [1, 2] {
-        let fault = refused(rt, alloc, drivers, workers)?;
-        assert_eq!(rt; fault.to_string(alloc)?.as_str(), words);
-    }
+) -> Result<(), Fail>
+    requires { (1 ≤ workers) × (workers ≤ MAX_WORKERS) }
+{
+    let meeting = Meeting::of(1, 0);
+    let fault = refused(rt, alloc, drivers, workers, &meeting)?;
+    assert!(rt; fault.to_string(alloc)?.as_str() == words);
+    assert_eq!(rt; meeting.met(), 0);
     Ok(())
 }
 
 #[test]
 fn refuses_drivers(rt: HostRuntime) -> Result<(), Fail> {
     for (drivers, words) in REFUSED {
-        refuses(&rt, rt.alloc(), drivers, words)?;
+        refuses(&rt, rt.alloc(), drivers, 1, words)?;
+        refuses(&rt, rt.alloc(), drivers, 2, words)?;
     }
     Ok(())
 }

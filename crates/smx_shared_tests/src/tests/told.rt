@@ -1,13 +1,14 @@
 //! What a gate is told of a run: each command of each process, right before it and right after it.
 
-ghost use Rattle.std.specs.Prelude.{◌≤◌};
+ghost use Rattle.std.specs.Prelude.{◌≤◌, length};
 ghost use Rattle.smx_run.specs.declared.run.TheConstants.{MAX_WORKERS};
 
 use super::gates::Told::{After, Before};
-use super::gates::{Log, Told, by_worker};
+use super::gates::{Log, Told};
 use smx_run::run_programs;
 use smx_text::read_programs;
 use std::alloc::Global;
+use std::process::Abort;
 use std::sync::Wait;
 use std::test::Fail;
 use std::thread::Threads;
@@ -99,39 +100,28 @@ const BY_EACH: [&[Told]; 3] = [
     ],
 ];
 
-// The programs are run by so many workers, who tell the log.
-fn runs<R: Threads + Wait + Sync>(
+// The programs are run by as many workers, and each tells a log its part.
+fn tells<R: Abort + Threads + Wait + Sync>(
     rt: &R,
     alloc: Global,
-    workers: usize,
-    log: &Log,
+    parts: &[&[Told]],
 ) -> Result<(), Fail>
-    requires { (1 ≤ workers) × (workers ≤ MAX_WORKERS) }
+    requires { (1 ≤ length parts.now) × (length parts.now ≤ MAX_WORKERS) }
 {
-    let programs = read_programs(alloc, SIX)?;
-    run_programs(rt, alloc, programs, workers, log)?;
+    let log = Log::of(alloc, 40)?;
+    run_programs(rt, alloc, read_programs(alloc, SIX)?, parts.len(), &log)?;
+    for (worker, part) in parts.iter().enumerate() {
+        assert!(rt; log.is_told(worker as u32, parts.len() as u32, part));
+    }
     Ok(())
 }
 
 #[test]
 fn one_worker_tells_of_each_command_in_turn(rt: HostRuntime) -> Result<(), Fail> {
-    let log = Log::of(rt.alloc(), 40)?;
-    runs(&rt, rt.alloc(), 1, &log)?;
-    assert_eq!(rt; log.told(rt.alloc())?.as_slice(), IN_TURN.as_slice());
-    Ok(())
+    tells(&rt, rt.alloc(), &[&IN_TURN])
 }
 
 #[test]
 fn three_workers_tell_of_their_processes_in_turn(rt: HostRuntime) -> Result<(), Fail> {
-    let log = Log::of(rt.alloc(), 40)?;
-    runs(&rt, rt.alloc(), 3, &log)?;
-    let told = log.told(rt.alloc())?;
-    assert_eq!(rt; told.len(), 26);
-    for (worker, own) in (0..3u32).zip(BY_EACH) {
-        assert_eq!(rt;
-            by_worker(rt.alloc(), told.as_slice(), worker, 3)?.as_slice(),
-            own
-        );
-    }
-    Ok(())
+    tells(&rt, rt.alloc(), &BY_EACH)
 }

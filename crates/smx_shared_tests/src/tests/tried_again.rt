@@ -2,7 +2,7 @@
 
 ghost use Rattle.std.specs.Prelude.{◌≡◌, All, IfOk};
 
-use super::callers::{closes_with, front, last_two};
+use super::callers::{closes_with, front, last_two, opens};
 use super::system_lines::{play as play_by, system_of_twenty, system_over};
 use smx_config::{Config, ConfigFault, Verdict, check_history};
 use smx_run::{NoGate, RunFault, run_programs};
@@ -10,9 +10,9 @@ use smx_samples::{
     Answer, Call, JOIN, Line, entry_of, eth, held_above, ip, ip_and_eth, nothing_open, play,
     play_twice, shows,
 };
-use smx_shared::{ApplyFault, Door, Seat, Shared, System, TryFault};
+use smx_shared::{Door, Seat, Shared, System};
 use smx_text::read_programs;
-use smx_types::{Command, ConfigView, Entry, Fault, NoMemory, Programs, Reply, Which};
+use smx_types::{Command, ConfigView, Entry, Fault, NoMemory, Programs, Which};
 use std::alloc::Global;
 use std::process::Abort;
 use std::sync::Wait;
@@ -221,7 +221,7 @@ fn sees(
     ensures { other.new.shared ≡ shared.now.name }
 {
     println!(rt; "a call wanted memory")?;
-    assert_eq!(rt; shared.glance(other), front(entries, 0, false));
+    assert!(rt; shared.glance(other) == front(entries, 0, false));
     Ok(())
 }
 
@@ -236,14 +236,11 @@ fn called(
     requires { (seat.old.shared ≡ shared.now.name) × (other.old.shared ≡ shared.now.name) }
     ensures { (seat.new.shared ≡ shared.now.name) × (other.new.shared ≡ shared.now.name) }
 {
-    match shared.call(rt, rt.alloc(), seat, command) {
-        Ok(entry) => Ok(entry),
-        Err(ApplyFault::HistoryFull) => Err(Fail::new("the history is full")),
-        Err(ApplyFault::NoMemory) => {
-            sees(rt, shared, other, 0)?;
-            Ok(shared.call(rt, rt.alloc(), seat, command)?)
-        }
+    if let Ok(entry) = shared.call(rt, rt.alloc(), seat, command) {
+        return Ok(entry);
     }
+    sees(rt, shared, other, 0)?;
+    Ok(shared.call(rt, rt.alloc(), seat, command)?)
 }
 
 // The same for a try, once the history has one entry.
@@ -257,14 +254,11 @@ fn tried(
     requires { (seat.old.shared ≡ shared.now.name) × (other.old.shared ≡ shared.now.name) }
     ensures { (seat.new.shared ≡ shared.now.name) × (other.new.shared ≡ shared.now.name) }
 {
-    match shared.try_call(rt.alloc(), seat, command) {
-        Ok(entry) => Ok(entry),
-        Err(TryFault::NoMemory) => {
-            sees(rt, shared, other, 1)?;
-            Ok(shared.try_call(rt.alloc(), seat, command)?)
-        }
-        Err(_) => Err(Fail::new("a try is refused")),
+    if let Ok(entry) = shared.try_call(rt.alloc(), seat, command) {
+        return Ok(entry);
     }
+    sees(rt, shared, other, 1)?;
+    Ok(shared.try_call(rt.alloc(), seat, command)?)
 }
 
 // A call of the first seat, and then a try of the second.
@@ -278,10 +272,8 @@ fn call_and_try(
     requires { (zero.old.shared ≡ shared.now.name) × (one.old.shared ≡ shared.now.name) }
     ensures { (zero.new.shared ≡ shared.now.name) × (one.new.shared ≡ shared.now.name) }
 {
-    let first = called(rt, shared, zero, one, command)?;
-    assert_eq!(rt; first.reply, Reply::Fd { fd: 0, minor: 0 });
-    let second = tried(rt, shared, one, zero, command)?;
-    assert_eq!(rt; second.reply, Reply::Fd { fd: 0, minor: 1 });
+    assert!(rt; opens(Some(called(rt, shared, zero, one, command)?), 0));
+    assert!(rt; opens(Some(tried(rt, shared, one, zero, command)?), 1));
     Ok(())
 }
 
@@ -351,6 +343,6 @@ fn entries_again<R: AllocGlobal + Print + Threads + Wait + Sync>(
 
 #[test]
 fn a_run_on_two_workers(rt: HostRuntime) -> Result<(), Fail> {
-    assert_eq!(rt; entries_again(&rt)?, Ok(5));
+    assert!(rt; entries_again(&rt)? == Ok(5));
     Ok(())
 }

@@ -1,5 +1,5 @@
 use Rattle.std.proofs.Common.{◌≡◌}
-use Rattle.smx_shared_tests.proofs.tests.looks.finds_nothing.Given as goal
+use Rattle.smx_shared_tests.proofs.tests.stage.finds_nothing.Given as goal
 
 abbrev pub invariant-loop : goal.invariant-loop
 invariant-loop l = record { shared : l.seat.shared ≡ l.shared.name }
