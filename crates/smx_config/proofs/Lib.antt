@@ -15,6 +15,7 @@ pub mod NextMoveLemmas
 pub mod LoneMessageLemmas
 pub mod SettleLemmas
 pub mod MoveLemmas
+pub mod WayLemmas
 pub mod NextPlaceLemmas
 pub mod DoneLemmas
 pub mod ClosingLemmas

@@ -9,6 +9,7 @@ pub mod Sending
 pub mod Marking
 pub mod MessageStreams
 pub mod Wakes
+pub mod Ways
 pub mod Refinement
 pub mod ModelOfTables
 pub mod SecondReplies

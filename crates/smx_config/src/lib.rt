@@ -27,6 +27,7 @@ mod verdict;
 mod views;
 mod wakes;
 mod waking;
+mod ways;
 
 pub use config::Config;
 pub use config_fault::ConfigFault;

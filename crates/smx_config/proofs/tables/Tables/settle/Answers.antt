@@ -6,6 +6,7 @@ use Rattle.smx_config.specs.Machine.{Machine}
 use Rattle.smx_config.proofs.LoneMessageLemmas.{the_message}
 use Rattle.smx_config.proofs.SettleLemmas.{settled_one, settled_to, within_zero}
 use Rattle.smx_config.proofs.NextMoveLemmas.{none_left}
+use Rattle.smx_config.proofs.WayLemmas.{after_moving, after_rest}
 use Rattle.smx_config.proofs.tables.Tables.settle.Goals as goal
 
 pub loop-left-preserved : goal.loop-left-preserved
@@ -18,6 +19,8 @@ loop-left-preserved c =
       sound = rw c.move_marked.ensures.value (c.moves_keep_soundness.ensures old.drivers old.configuration
           c.in-Some.next.from c.loop-left.invariant.sound);
       marks = c.move_marked.ensures.marks;
+      ways = rw c.move_marked.ensures.value (after_moving old.drivers old.configuration c.in-Some.next.from
+          c.next_move.new.ways c.in-Some.ensures.ways);
     }
 
 pub returns-clause-value : goal.returns-clause-value
@@ -50,3 +53,9 @@ returns-then-moves_alone-clause-value c =
     (has_mark c.next_move.new.marks.wanted) c.in-Some.next.from c.rest_of-rest.result.at m.0 c.loop-left.left way.0
     c.rest_of-rest.result.waits c.loop-left.invariant.sound (c.if-moves_alone.ensures refl) m.1 way.1
     (c.rest_of-rest.ensures.stays m.0 m.1) ∙ c.loop-left.invariant.comes_to))
+
+pub returns-then-moves_alone-clause-ways : goal.returns-then-moves_alone-clause-ways
+returns-then-moves_alone-clause-ways c =
+    let old = c.loop-left.self in
+    rw c.come_to_rest.ensures.value (after_rest old.drivers old.configuration c.in-Some.next.from
+    c.rest_of-rest.result.at c.rest_of-rest.new.ways c.rest_of-rest.ensures.ways)
