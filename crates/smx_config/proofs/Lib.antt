@@ -16,6 +16,7 @@ pub mod LoneMessageLemmas
 pub mod SettleLemmas
 pub mod MoveLemmas
 pub mod WayLemmas
+pub mod RowLemmas
 pub mod NextPlaceLemmas
 pub mod DoneLemmas
 pub mod ClosingLemmas

@@ -32,7 +32,7 @@ use Rattle.smx_model.specs.TurnedPlaces.{read_side, write_side}
 use Rattle.smx_config.specs.Machine.{Machine}
 use Rattle.smx_config.specs.Refinement.{Refines}
 use Rattle.smx_config.specs.declared.step_error.StepError.{StepError}
-use Rattle.smx_config.specs.Ways.{AreWays, IsSameWay, IsWay, WayList, keeps_ways}
+use Rattle.smx_config.specs.Ways.{AreWays, IsSameWay, IsWay, LeadAlike, WayList, keeps_ways}
 use Rattle.smx_config.specs.declared.ways.Way.{Way}
 use Rattle.smx_config.proofs.StayingLemmas.{accepted, bound}
 
@@ -71,14 +71,7 @@ one_more_way drivers c old new from addr to h is few p q a w = elim (few p q a w
 
 -- ---- what leaves them right
 
--- the same links, routes, bindings and hung-up streams, by which messages go on
-pub record LeadAlike (c d : Configuration) : Type 0 where
-  pub links : d.links ≡ c.links
-  pub routes : d.routes ≡ c.routes
-  pub binds : d.binds ≡ c.binds
-  pub hungs : d.hungs ≡ c.hungs
-
-next_alike : (drivers : List DriverSpec) (c d : Configuration) (p : Place) (addr : ℕ) → LeadAlike c d
+pub next_alike : (drivers : List DriverSpec) (c d : Configuration) (p : Place) (addr : ℕ) → LeadAlike c d
     → next_place drivers d p addr ≡ next_place drivers c p addr
 next_alike drivers c d p addr h =
     ap (λ (x : List Link). by x d.routes d.binds d.hungs) h.links

@@ -2,6 +2,7 @@ pub mod Machine
 pub mod CommandsInPlace
 pub mod DriverFaults
 pub mod FaultWords
+pub mod Ways
 pub mod Moves
 pub mod LinkFaults
 pub mod StreamFaults
@@ -9,7 +10,6 @@ pub mod Sending
 pub mod Marking
 pub mod MessageStreams
 pub mod Wakes
-pub mod Ways
 pub mod Refinement
 pub mod ModelOfTables
 pub mod SecondReplies

@@ -30,6 +30,13 @@ IsSameWay from addr to p a q = (p ≡ from) × (a ≡ addr) × (q ≡ to)
 abbrev pub AreWays : List DriverSpec → Configuration → WayList → Type 0
 AreWays drivers c t = (p q : Place) (addr : ℕ) → IsWay t p addr q → next_place drivers c p addr ≡ Some q
 
+-- the same links, routes, bindings and hung-up streams, by which messages go on
+pub record LeadAlike (c d : Configuration) : Type 0 where
+  pub links : d.links ≡ c.links
+  pub routes : d.routes ≡ c.routes
+  pub binds : d.binds ≡ c.binds
+  pub hungs : d.hungs ≡ c.hungs
+
 -- it sends or takes a message, so that messages go on as before
 abbrev pub keeps_ways : Command → Bool
 keeps_ways (command.OpenClone name) = false

@@ -18,6 +18,7 @@ mod lookups;
 mod marks;
 mod next_places;
 mod perform;
+mod rows;
 mod run_marks;
 mod second_reply;
 mod settling;

@@ -66,7 +66,7 @@ impl Tables {
     }
 
     // The address of the first message at the place.
-    fn first_addr(&self, place: Place) -> u32
+    pub fn first_addr(&self, place: Place) -> u32
         requires { IsSome (first_message self.now.configuration.flow place) }
         ensures { (m : MessageValue) → first_message self.now.configuration.flow place ≡ Some m → result ≡ m.addr }
     {

@@ -88,7 +88,7 @@ impl Tables {
     }
 
     // The same, by what is noted, if it is.
-    #[inline]
+    #[inline(always)]
     pub fn next_by_ways(&self, ways: &mut Ways, place: Place, addr: u32) -> Option<Place>
         requires { AreWays self.now.drivers self.now.configuration ways.old }
         ensures value { result ≡ next_place self.now.drivers self.now.configuration place addr }

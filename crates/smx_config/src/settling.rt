@@ -6,7 +6,7 @@ ghost use Rattle.smx_model.specs.Configuration.{same_place};
 ghost use Rattle.smx_model.specs.KeptConfigurations.{IsSound};
 ghost use Rattle.smx_model.specs.KnownStreams.{IsKnown};
 ghost use Rattle.smx_model.specs.RunMarks.{next_of_first};
-ghost use Rattle.smx_model.specs.Settling.{after_move, after_settling, next_open_place};
+ghost use Rattle.smx_model.specs.Settling.{after_settling};
 ghost use Rattle.smx_model.specs.SettlingByMarks.{HasNoRunMark, IsLeastMarked};
 ghost use Rattle.smx_queues.specs.PlaceMarks.{has_mark};
 ghost use Rattle.smx_queues.specs.Waiters.{target_of};
@@ -14,18 +14,15 @@ ghost use Rattle.smx_config.specs.Moves.{if_open, IsLeastMove};
 ghost use Rattle.smx_config.specs.Marking.{AreMarks};
 ghost use Rattle.smx_config.specs.Ways.{AreWays};
 
-use crate::laws_of_waking::moved_marks_are_enough;
 use crate::marks::Marks;
 use crate::tables::Tables;
 use crate::ways::Ways;
 use smx_model::laws_of_lone_messages::lone_messages_come_to_rest;
-use smx_model::laws_of_queues::the_first_leaves;
 use smx_model::laws_of_run_marks::{
-    movable_places_are_marked, places_are_known, the_least_marked_is_the_least,
-    without_marks_it_is_settled,
+    places_are_known, the_least_marked_is_the_least, without_marks_it_is_settled,
 };
 use smx_model::laws_of_settling_by_marks::clearing_keeps_marks;
-use smx_model::laws_of_steps::{moves_keep_soundness, settling_suffices};
+use smx_model::laws_of_steps::settling_suffices;
 use smx_queues::{PlaceMarks, Waiters};
 use smx_types::Place;
 
@@ -131,45 +128,6 @@ impl Tables {
         }
     }
 
-    // The first message of a place moves on to its next place.
-    fn move_on(&mut self, next: Move)
-        requires sound { IsSound self.old.drivers self.old.configuration }
-        requires open { next_open_place self.old.drivers self.old.configuration next.from ≡ Some next.to }
-        ensures { self.new ≡ record self.old { configuration = after_move self.old.drivers self.old.configuration next.from } }
-    {
-        self.carry(next.from, next.to);
-    }
-
-    // A place that has no message left has no run mark and doesn't wait.
-    fn forget_left(&self, marks: &mut Marks, left: Place)
-        requires { AreMarks self.now.drivers self.now.configuration marks.old }
-        ensures { AreMarks self.now.drivers self.now.configuration marks.new }
-    {
-        if !self.has_messages(left) {
-            marks.run.clear(left);
-            marks.waits.clear(left);
-        }
-    }
-
-    // The first message of a place moves on, and what that wakes is marked.
-    fn move_marked(&mut self, marks: &mut Marks, next: Move)
-        requires sound { IsSound self.old.drivers self.old.configuration }
-        requires marks { AreMarks self.old.drivers self.old.configuration marks.old }
-        requires open { next_open_place self.old.drivers self.old.configuration next.from ≡ Some next.to }
-        ensures value { self.new ≡ record self.old { configuration = after_move self.old.drivers self.old.configuration next.from } }
-        ensures marks { AreMarks self.new.drivers self.new.configuration marks.new }
-    {
-        movable_places_are_marked();
-        moved_marks_are_enough();
-        places_are_known();
-        the_first_leaves();
-        let filled = self.has_messages(next.to);
-        self.move_on(next);
-        self.release_if_open(marks, next.from);
-        self.mark_arrived(&mut marks.run, next.to, filled);
-        self.forget_left(marks, next.from);
-    }
-
     // Moves messages on until none can, and no run mark is left. A message that moves alone is moved once.
     pub fn settle(&mut self, marks: &mut Marks, ways: &mut Ways)
         requires sound { IsSound self.old.drivers self.old.configuration }
@@ -181,7 +139,6 @@ impl Tables {
         ensures none { HasNoRunMark (has_mark marks.new.run) }
     {
         lone_messages_come_to_rest();
-        moves_keep_soundness();
         settling_suffices();
         let mut left = self.lists.queues.len() as u128 * self.drivers.len() as u128;
         while left > 0 {
@@ -193,8 +150,7 @@ impl Tables {
                 self.come_to_rest(marks, next.from, rest);
                 return;
             }
-            self.move_marked(marks, next);
-            left -= 1;
+            left = self.move_row(marks, next, left);
         }
         let _none = self.next_move(marks, ways);
     }

@@ -40,7 +40,7 @@ impl Tables {
     pub fn release_if_open(&self, marks: &mut Marks, place: Place)
         ensures { IsReleased self.now.configuration (same_place place) marks.old marks.new }
     {
-        if marks.wanted.is_marked(place) && !self.is_full(place) {
+        if !self.is_full(place) && marks.wanted.is_marked(place) {
             release(marks, place);
         }
     }

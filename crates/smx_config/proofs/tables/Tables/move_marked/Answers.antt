@@ -1,4 +1,4 @@
-use Rattle.std.proofs.Common.{◌≡◌, ◌∙◌, false, true, Some, Option, ap, refl, sym, subst, inl, inr, List}
+use Rattle.std.proofs.Common.{◌≡◌, ◌∙◌, true, ap, refl, sym, subst, inl, inr, List}
 use Rattle.std.specs.Prelude.{slice_get}
 use Rattle.smx_types.specs.declared.driver.DriverSpec.{DriverSpec}
 use Rattle.smx_types.specs.declared.message.Message.{Message}
@@ -19,8 +19,8 @@ use Rattle.smx_config.proofs.WakeLemmas.{woken}
 use Rattle.smx_config.proofs.WokenLemmas.{turned_ends}
 use Rattle.smx_config.proofs.tables.Tables.move_marked.Goals as goal
 
-pub forget_left-requires : goal.forget_left-requires
-forget_left-requires c = subst (λ (ds : List DriverSpec). AreMarks ds now last) (sym (ap (λ (m : Machine). m.drivers)
+pub returns-clause-marks : goal.returns-clause-marks
+returns-clause-marks c = subst (λ (ds : List DriverSpec). AreMarks ds now last) (sym (ap (λ (m : Machine). m.drivers)
     c.move_on.ensures))
     (needed_do drivers now (with_run all) last enough
     (subst (λ (m : Machine). HasNeeded m.drivers m.configuration all c.mark_arrived.new.run) same_machine
@@ -58,7 +58,7 @@ forget_left-requires c = subst (λ (ds : List DriverSpec). AreMarks ds now last)
       released : MarkList
       released = c.release_if_open.new.marks.run
 
-      arrived : IsMarkedUnless c.has_messages-filled.result to released all
+      arrived : IsMarkedUnless c.args.filled to released all
       arrived = c.mark_arrived.ensures.1
 
       next : IsOpenNext drivers before from to
@@ -84,7 +84,7 @@ forget_left-requires c = subst (λ (ds : List DriverSpec). AreMarks ds now last)
         marked = λ p known some t. elim (turned_ends drivers before from to p c.requires.open stays t) [
           | inl f ↦ subst (λ (x : Place). has_mark all x ≡ true) (place_is from p f) left
           | inr there ↦ let e = place_is to p there.0 in subst (λ (x : Place). has_mark all x ≡ true) e
-              (arrived.here (c.has_messages-filled.ensures ∙ there.1)
+              (arrived.here (c.requires.filled ∙ there.1)
               (subst (λ (x : Place). IsKnown released.drivers x.stream) (sym e) known))
         ];
         drivers = arrived.drivers;
