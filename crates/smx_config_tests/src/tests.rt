@@ -10,4 +10,5 @@ mod sweeps;
 mod text_sweeps;
 mod verdicts;
 mod waiting_streams;
+mod ways;
 mod worked;
