@@ -103,11 +103,13 @@ impl Tables {
         let addr = self.first_addr(from);
         let mut at = first;
         let mut left = moves - 1;
-        while !self.has_messages(at) {
+        let mut filled = self.has_messages(first);
+        while !filled {
             let next = self.next_by_ways(ways, at, addr);
             let Some(open) = self.if_open(next) else {
                 return Rest { at, waits: next };
             };
+            filled = self.has_messages(open);
             at = open;
             left -= 1;
         }

@@ -37,6 +37,7 @@ fn release(marks: &mut Marks, place: Place)
 
 impl Tables {
     // So it is with the place, if it is wanted and not full.
+    #[inline(always)]
     pub fn release_if_open(&self, marks: &mut Marks, place: Place)
         ensures { IsReleased self.now.configuration (same_place place) marks.old marks.new }
     {
