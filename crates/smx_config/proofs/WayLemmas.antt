@@ -1,6 +1,6 @@
 -- Ways that are noted, and what leaves them right.
-use Rattle.std.proofs.Common.{◌≡◌, ℕ, zero, suc, Bool, true, false, ◌+◌, ◌&&◌, ◌||◌, eqb, not, List, [], ◌∷◌, length, Option, None, Some, Result, Ok}
-use Rattle.std.proofs.Common.{Err, refl, sym, ap, ◌∙◌, subst, inl, inr}
+use Rattle.std.proofs.Common.{◌≡◌, ℕ, zero, suc, Bool, true, false, ◌+◌, ◌&&◌, ◌||◌, eqb, not, List, [], ◌∷◌}
+use Rattle.std.proofs.Common.{length, Option, None, Some, Result, Ok, Err, refl, sym, ap, ◌∙◌, subst, inl, inr}
 use Rattle.std.proofs.Math.ListN.{set}
 use Rattle.std.specs.Prelude.{◌⊎◌, nat_le, nat_lt, slice_get}
 use Rattle.std.specs.Option.{is_some}
@@ -49,14 +49,21 @@ was_or_is (z ∷ zs) (suc i) (suc k) x y e = was_or_is zs i k x y e
 
 -- a way that is noted was so before, or is the one that was noted now
 pub noted_or_new : (round : ℕ) (ways : List Way) (i : ℕ) (from : Place) (addr : ℕ) (to : Place) (p q : Place) (a : ℕ)
-    → IsWay (record { round = round; ways = set ways i (record { round = round; addr = addr; from = from; to = to }) }) p a q
+    → IsWay (record {
+      round = round;
+      ways = set ways i (record { round = round; addr = addr; from = from; to = to });
+    }) p a q
     → IsWay (record { round = round; ways = ways }) p a q ⊎ IsSameWay from addr to p a q
 noted_or_new round ways i from addr to p q a h =
     let new : Way = record { round = round; addr = addr; from = from; to = to } in
     let way : Way = record { round = round; addr = a; from = p; to = q } in
     elim (was_or_is ways i h.0 new way h.1) [
       | inl was ↦ inl (h.0, was)
-      | inr is ↦ inr (ap (λ (w : Way). w.from) (sym is), ap (λ (w : Way). w.addr) (sym is), ap (λ (w : Way). w.to) (sym is))
+      | inr is ↦ inr (
+        ap (λ (w : Way). w.from) (sym is),
+        ap (λ (w : Way). w.addr) (sym is),
+        ap (λ (w : Way). w.to) (sym is),
+      )
     ]
 
 -- where one more is noted that is right, all are
@@ -83,7 +90,8 @@ next_alike drivers c d p addr h =
           next_place drivers (record c { links = ls; routes = rs; binds = bs; hungs = hs }) p addr
 
 -- ways stay right where all leads alike
-pub alike : (drivers : List DriverSpec) (c d : Configuration) (old new : WayList) → LeadAlike c d → AreWays drivers c old
+pub alike : (drivers : List DriverSpec) (c d : Configuration) (old new : WayList) → LeadAlike c d
+    → AreWays drivers c old
     → ((p q : Place) (addr : ℕ) → IsWay new p addr q → IsWay old p addr q) → AreWays drivers d new
 alike drivers c d old new same h few p q addr w = next_alike drivers c d p addr same ∙ h p q addr (few p q addr w)
 

@@ -110,7 +110,8 @@ impl Ways {
 
     /// Notes where messages of the address go on to from the place. Takes no memory.
     pub fn note(&mut self, from: Place, addr: u32, to: Place)
-        ensures { (p q : PlaceValue) (a : ℕ) → IsWay self.new p a q → IsWay self.old p a q ⊎ IsSameWay from addr to p a q }
+        ensures { (p q : PlaceValue) (a : ℕ) → IsWay self.new p a q
+            → IsWay self.old p a q ⊎ IsSameWay from addr to p a q }
     {
         let index = index_of(from);
         if index < self.ways.len() && self.round < u64::MAX {

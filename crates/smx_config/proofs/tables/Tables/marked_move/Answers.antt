@@ -8,7 +8,8 @@ returns-in-Some-if_open-clause-least c =
     let moves = moves_to c.args.self.now.drivers now c.in-Some.from c.in-Some-if_open.to c.next_of_first-next.result
     c.next_of_first-next.ensures.value c.in-Some-if_open.ensures in (
       c.the_least_marked_is_the_least.ensures c.args.self.now.drivers now (has_mark c.loop-from.marks.run)
-          (has_mark c.loop-from.marks.wanted) c.in-Some.from c.requires.sound.ordered.flow c.loop-from.invariant.marks.waiting
+          (has_mark c.loop-from.marks.wanted) c.in-Some.from c.requires.sound.ordered.flow
+          c.loop-from.invariant.marks.waiting
           c.in-Some.ensures.none_before
           (movable_to c.args.self.now.drivers now c.in-Some.from c.in-Some-if_open.to moves),
       moves,

@@ -29,8 +29,9 @@ on c =
     let m = the_message drivers now c.args.from c.args.first c.requires.next in
     let o = opened now c.next_by_ways-next.result c.in-Some.open (sym c.in-Some.is ∙ c.if_open.ensures) in
     c.empty_places_are_passed.ensures drivers now (has_mark c.args.marks.now.run) (has_mark c.args.marks.now.wanted)
-    c.args.from c.loop-filled.at c.in-Some.open m.0 c.args.moves c.loop-filled.left c.requires.sound c.requires.alone m.1
-    c.requires.settled c.loop-filled.invariant.way (sym (told_none _ (sym c.loop-filled-test.true ∙ c.loop-filled.invariant.filled)))
+    c.args.from c.loop-filled.at c.in-Some.open m.0 c.args.moves c.loop-filled.left c.requires.sound
+    c.requires.alone m.1 c.requires.settled c.loop-filled.invariant.way
+    (sym (told_none _ (sym c.loop-filled-test.true ∙ c.loop-filled.invariant.filled)))
     (ap (next_place drivers now c.loop-filled.at) (sym (c.loop-filled.invariant.addr m.0 m.1))
     ∙ (sym c.next_by_ways-next.ensures.value ∙ o.0)) o.1
 

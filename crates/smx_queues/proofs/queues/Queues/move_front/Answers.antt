@@ -16,7 +16,8 @@ index-node-requires c =
 
 pub drop_first-requires-clause-bytes : goal.drop_first-requires-clause-bytes
 drop_first-requires-clause-bytes c =
-    let from = place_at _ _ c.self.invariant _ (ap queues_of c.self.view_is) _ c.requires.from _ c.index-source.ensures in
+    let from = place_at _ _ c.self.invariant _ (ap queues_of c.self.view_is) _ c.requires.from _
+    c.index-source.ensures in
     let same = read_twice _ _ _ _ from.below c.index-source.ensures c.index_mut.ensures.value in
     let f = first_of _ _ _ _ _ from.queue (filled _ _ _ _ _ from.queue c.requires.some) in
     rw same (first_within _ _ _ c.index-node.result.now _ f c.index-node.ensures c.as_slice-size.ensures)
@@ -57,7 +58,8 @@ add_last-requires-clause-bytes c =
 
 pub invariant_of-self : goal.invariant_of-self
 invariant_of-self c =
-    let from = place_at _ _ c.self.invariant _ (ap queues_of c.self.view_is) _ c.requires.from _ c.index-source.ensures in
+    let from = place_at _ _ c.self.invariant _ (ap queues_of c.self.view_is) _ c.requires.from _
+    c.index-source.ensures in
     let same = read_twice _ _ _ _ from.below c.index-source.ensures c.index_mut.ensures.value in
     let same_target = read_twice _ _ _ _ (second_below c.self.inside.chains.items c.args.from c.args.to _
     (place_at _ _ c.self.invariant _ (ap queues_of c.self.view_is) _ c.requires.to _
@@ -75,7 +77,8 @@ invariant_of-self c =
 
 pub returns-clause-moved : goal.returns-clause-moved
 returns-clause-moved c m is =
-    let from = place_at _ _ c.self.invariant _ (ap queues_of c.self.view_is) _ c.requires.from _ c.index-source.ensures in
+    let from = place_at _ _ c.self.invariant _ (ap queues_of c.self.view_is) _ c.requires.from _
+    c.index-source.ensures in
     let same_source = read_twice _ _ _ _ from.below c.index-source.ensures c.index_mut.ensures.value in
     let same_target = read_twice _ _ _ _ (second_below c.self.inside.chains.items c.args.from c.args.to _
     (place_at _ _ c.self.invariant _ (ap queues_of c.self.view_is) _ c.requires.to _
@@ -89,7 +92,9 @@ returns-clause-moved c m is =
     (seen_move _ _ _ c.self.invariant _ (ap queues_of c.self.view_is) _ _ c.requires.from c.requires.to
     c.requires.differ _ _ _ _ c.index-source.ensures some c.index-node.result.now c.index-node.ensures _
     c.as_slice-size.ensures (c.drop_first.ensures
-    ∙ ap (λ (x : Chain). chain_without_first x c.index-node.result.now.next (length c.as_slice-size.result.now)) same_source) c.index-target.ensures c.follow.ensures
+    ∙ ap (λ (x : Chain). chain_without_first x c.index-node.result.now.next (length c.as_slice-size.result.now))
+    same_source)
+    c.index-target.ensures c.follow.ensures
     (c.add_last.ensures
     ∙ ap (λ (x : Chain). chain_with_last x c.index-source.result.now.first (length c.as_slice-size.result.now))
     same_target)).is

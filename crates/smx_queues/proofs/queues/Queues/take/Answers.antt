@@ -1,7 +1,8 @@
 use Rattle.std.proofs.Common.{ap, arith, length, ◌∙◌}
 use Rattle.smx_queues.specs.declared.chain.Chain.{Chain}
 use Rattle.smx_queues.specs.Chains.{chain_without_first}
-use Rattle.smx_queues.proofs.SoundLemmas.{place_at, read_twice, first_of, first_within, first_message_is, seen_take, queues_of}
+use Rattle.smx_queues.proofs.SoundLemmas.{place_at, read_twice, first_of, first_within, first_message_is}
+use Rattle.smx_queues.proofs.SoundLemmas.{seen_take, queues_of}
 use Rattle.smx_queues.proofs.queues.Queues.take.Goals as goal
 
 pub remove-node-requires : goal.remove-node-requires
@@ -24,7 +25,8 @@ invariant_of-self c =
     (seen_take _ _ _ c.self.invariant _ (ap queues_of c.self.view_is) _ c.requires _ _ c.index-chain.ensures
     (omega arith) c.remove-node.result c.remove-node.ensures.value c.remove-node.ensures.updates
     c.remove-node.ensures.len _ c.as_slice-size.ensures (c.drop_first.ensures
-    ∙ ap (λ (x : Chain). chain_without_first x c.remove-node.result.next (length c.as_slice-size.result.now)) same)).sound
+    ∙ ap (λ (x : Chain). chain_without_first x c.remove-node.result.next (length c.as_slice-size.result.now))
+    same)).sound
 
 pub returns-clause-taken : goal.returns-clause-taken
 returns-clause-taken c =
