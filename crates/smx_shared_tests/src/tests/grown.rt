@@ -14,7 +14,7 @@ use std::process::Abort;
 use std::sync::atomic::AtomicUsize;
 use std::test::Fail;
 
-// Performs each command as its line is read.
+// Performs each command as its line is read, and tells of the line too where it has an even number of bytes.
 #[derive(Drop)]
 struct Growing<'a> {
     run: GrowingRun<Kept<'a>>,
@@ -53,7 +53,11 @@ impl<'a> ProgramTaker for Growing<'a> {
         let Some(command) = command_of(alloc, self.run.version(), line)? else {
             return Ok(false);
         };
-        self.run.add_command(self.log, &command);
+        if line.len() % 2 == 0 {
+            self.run.add_line(self.log, &command, line);
+        } else {
+            self.run.add_command(self.log, &command);
+        }
         Ok(true)
     }
 

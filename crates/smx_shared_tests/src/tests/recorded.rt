@@ -37,6 +37,8 @@ impl<'a> Recorder for Kept<'a> {
     ghost told = { λ version drivers entries kept.
         (kept.version ≡ version) × (kept.drivers ≡ drivers) × (kept.entries ≡ entries) };
 
+    ghost spells = { λ _ _. Unit {0} };
+
     fn add(&mut self, process: Process, command: &Command, reply: &Reply) -> Result<(), NoMemory> {
         if self.count.fetch_add(1, Ordering::SeqCst) >= self.most {
             return Err(NoMemory);
@@ -48,6 +50,16 @@ impl<'a> Recorder for Kept<'a> {
             command,
             reply,
         })
+    }
+
+    fn add_line(
+        &mut self,
+        process: Process,
+        command: &Command,
+        _line: &[u8],
+        reply: &Reply,
+    ) -> Result<(), NoMemory> {
+        self.add(process, command, reply)
     }
 }
 
