@@ -12,7 +12,7 @@ use smx_model::laws_of_queues::dropped_are_not_kept;
 use smx_queues::FlowTable;
 use smx_types::{Place, Side, Sides, StreamId};
 
-// Drops the messages at a place, and its full mark. Their serials come to a list that has room for those of all.
+// What `drop_at` does where there is something to drop. Apart, so that the test before it is inlined.
 #[inline(never)]
 fn drop_all_at(queues: &mut FlowTable, place: Place, dropped: &mut Vec<u32>)
     requires { length dropped.old.items + length queues.old.flow ≤ vec_capacity dropped.old }
@@ -26,7 +26,8 @@ fn drop_all_at(queues: &mut FlowTable, place: Place, dropped: &mut Vec<u32>)
     queues.drop_at(place, dropped);
 }
 
-/// The same, where mostly there are none.
+/// Drops the messages at a place, and its full mark. Their serials come to a list that has room for those of all. Quick
+/// where there are none.
 #[inline(always)]
 pub fn drop_at(queues: &mut FlowTable, place: Place, dropped: &mut Vec<u32>)
     requires { length dropped.old.items + length queues.old.flow ≤ vec_capacity dropped.old }
