@@ -27,10 +27,20 @@ use std::alloc::Global;
 use std::marker::Model;
 
 /// Drivers and the configuration over them. A contract sees both as one value.
-#[derive(Debug, Drop)]
+#[derive(Debug)]
 pub struct Config {
     tables: Tables,
     marks: Marks,
+}
+
+impl Drop for Config {
+    // One call in each body that has one, however many ways it ends, in place of a drop for each part.
+    fn drop(self) {
+        let Config {
+            tables: _tables,
+            marks: _marks,
+        } = self;
+    }
 }
 
 impl Model for Config {
