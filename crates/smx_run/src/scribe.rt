@@ -1,6 +1,9 @@
 //! Has a recorder told of a history, of which nothing else is kept.
 
-ghost use Rattle.std.specs.Prelude.{◌≡◌, [], true, IfOk, IsErr, OnOk};
+ghost use Rattle.std.specs.Prelude.{◌≡◌, ◌∷◌, ◌++◌, [], true, List, IfOk, IsErr, OnOk};
+ghost use Rattle.smx_types.specs.declared.command.Entry.{Entry as Made};
+ghost use Rattle.smx_types.specs.declared.driver.DriverSpec.{DriverSpec as Driver};
+ghost use Rattle.smx_types.specs.declared.version.Version.{Version as AnyVersion};
 
 use crate::past::Past;
 use crate::recorder::Recorder;
@@ -31,7 +34,6 @@ impl About for Brand {
 /// A recorder, and the entry that it is told of next, which is given up then. So an entry is added without memory, and
 /// the memory for what the recorder makes of it is asked for before the next command. Contracts see the entries so far,
 /// and whether the next one can be added.
-#[derive(Drop)]
 pub struct Scribe<A: About, K: Recorder> {
     // None once it wanted memory.
     recorder: Option<K>,
@@ -39,6 +41,19 @@ pub struct Scribe<A: About, K: Recorder> {
     count: usize,
     told: Past,
     of: PhantomData<A>,
+}
+
+impl<A: About, K: Recorder> Drop for Scribe<A, K> {
+    // One call in each body that has one, however many ways it ends, in place of a drop for each part.
+    fn drop(self) {
+        let Scribe {
+            recorder: _recorder,
+            waiting: _waiting,
+            count: _,
+            told: _told,
+            of: _,
+        } = self;
+    }
 }
 
 impl<A: About, K: Recorder> Model for Scribe<A, K> {
@@ -72,7 +87,7 @@ impl<A: About, K: Recorder> Scribe<A, K> {
     {
         let mut scribe = self;
         scribe.tell()?;
-        scribe.recorder.ok_or(NoMemory)
+        scribe.recorder.take().ok_or(NoMemory)
     }
 
     // Tells the recorder of the entry that waits. Where it wants memory, it is given up, and is wanting from then on.
@@ -85,11 +100,20 @@ impl<A: About, K: Recorder> Scribe<A, K> {
         };
         if let Some(entry) = self.waiting.take() {
             self.told = self.told.then(&entry);
-            recorder.add(entry.process, &entry.command, &entry.reply)?;
+            tell_of(&mut recorder, entry)?;
         }
         self.recorder = Some(recorder);
         Ok(())
     }
+}
+
+// Tells a recorder of the next entry, which is given up.
+fn tell_of<K: Recorder>(recorder: &mut K, entry: Entry) -> Result<(), NoMemory>
+    ensures { OnOk result ((version : AnyVersion) (drivers : List Driver) (entries : List Made)
+        → K.told version drivers entries recorder.old
+        → K.told version drivers (entries ++ entry ∷ []) recorder.new) }
+{
+    recorder.add(entry.process, &entry.command, &entry.reply)
 }
 
 impl<A: About, K: Recorder> Keeper for Scribe<A, K> {
