@@ -25,7 +25,9 @@ from_either (inl a) first second = first a
 from_either (inr b) first second = second b
 
 -- what is known where either of two calls answers a full history, is known where what comes of both is one
-pub joined : {T U V P : Type 0} (result : Result V ApplyFault) (before : Result T ApplyFault) (last : Result U ApplyFault)
+pub joined : {T U V P : Type 0} (result : Result V ApplyFault) (before : Result T ApplyFault)
+    (last : Result U ApplyFault)
     → (result ≡ Err apply.HistoryFull → (before ≡ Err apply.HistoryFull) ⊎ (last ≡ Err apply.HistoryFull))
-    → (IsErrOf before apply.HistoryFull → P) → (IsErrOf last apply.HistoryFull → P) → IsErrOf result apply.HistoryFull → P
+    → (IsErrOf before apply.HistoryFull → P) → (IsErrOf last apply.HistoryFull → P)
+    → IsErrOf result apply.HistoryFull → P
 joined result before last either first second full = from_either (either full) first second

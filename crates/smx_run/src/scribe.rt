@@ -1,9 +1,7 @@
 //! Has a recorder told of a history, of which nothing else is kept.
 
-ghost use Rattle.std.specs.Prelude.{◌≡◌, ◌∷◌, ◌++◌, [], true, List, IfOk, IsErr, OnOk};
-ghost use Rattle.smx_types.specs.declared.command.Entry.{Entry as Made};
-ghost use Rattle.smx_types.specs.declared.driver.DriverSpec.{DriverSpec as Driver};
-ghost use Rattle.smx_types.specs.declared.version.Version.{Version as AnyVersion};
+ghost use Rattle.std.specs.Prelude.{◌≡◌, ◌<◌, ◌++◌, [], ◌∷◌, length, IfOk};
+ghost use Rattle.smx_types.specs.declared.limits.TheConstants.{MAX_COMMANDS};
 
 use crate::past::Past;
 use crate::recorder::Recorder;
@@ -31,29 +29,16 @@ impl About for Brand {
     ghost drivers = { [] };
 }
 
-/// A recorder, and the entry that it is told of next, which is given up then. So an entry is added without memory, and
-/// the memory for what the recorder makes of it is asked for before the next command. Contracts see the entries so far,
-/// and whether the next one can be added.
+/// A recorder that is told of each entry as it is added; then the entry is given up. Where the recorder wants memory, that
+/// is given up too, and memory is wanting before the next command and at the end. Contracts see the entries so far, and
+/// whether the recorder is still there.
+#[derive(Drop)]
 pub struct Scribe<A: About, K: Recorder> {
     // None once it wanted memory.
     recorder: Option<K>,
-    waiting: Option<Entry>,
     count: usize,
     told: Past,
     of: PhantomData<A>,
-}
-
-impl<A: About, K: Recorder> Drop for Scribe<A, K> {
-    // One call in each body that has one, however many ways it ends, in place of a drop for each part.
-    fn drop(self) {
-        let Scribe {
-            recorder: _recorder,
-            waiting: _waiting,
-            count: _,
-            told: _told,
-            of: _,
-        } = self;
-    }
 }
 
 impl<A: About, K: Recorder> Model for Scribe<A, K> {
@@ -61,9 +46,9 @@ impl<A: About, K: Recorder> Model for Scribe<A, K> {
 
     ghost Value = { Scribed };
 
-    ghost view = { λ s. scribed_of s.told.entries s.waiting };
+    ghost view = { λ s. scribed_of s.told.entries s.recorder };
 
-    ghost invariant = { λ s. IsScribe (K.told A.version A.drivers) s.recorder s.told.entries s.waiting s.count };
+    ghost invariant = { λ s. IsScribe (K.told A.version A.drivers) s.recorder s.told.entries s.count };
 }
 
 impl<A: About, K: Recorder> Scribe<A, K> {
@@ -74,46 +59,33 @@ impl<A: About, K: Recorder> Scribe<A, K> {
     {
         Scribe {
             recorder: Some(recorder),
-            waiting: None,
             count: 0,
             told: Past::new(&()),
             of: PhantomData,
         }
     }
 
-    /// The recorder, once it was told of all entries. Fails only for want of memory.
+    /// The recorder, which was told of all entries. Fails only for want of memory.
     pub fn into_recorder(self) -> Result<K, NoMemory>
         ensures { IfOk result (K.told A.version A.drivers self.entries) }
     {
-        let mut scribe = self;
-        scribe.tell()?;
-        scribe.recorder.take().ok_or(NoMemory)
+        self.recorder.ok_or(NoMemory)
     }
 
-    // Tells the recorder of the entry that waits. Where it wants memory, it is given up, and is wanting from then on.
-    fn tell(&mut self) -> Result<(), NoMemory>
-        ensures same { self.new.entries ≡ self.old.entries }
-        ensures free { OnOk result (self.new.is_free ≡ true) }
+    // Tells the recorder of an entry, if it is still there.
+    fn tell(&mut self, entry: &Entry)
+        requires few { length self.old.entries < MAX_COMMANDS }
+        ensures { self.new.entries ≡ self.old.entries ++ entry.now ∷ [] }
     {
-        let Some(mut recorder) = self.recorder.take() else {
-            return Err(NoMemory);
-        };
-        if let Some(entry) = self.waiting.take() {
-            self.told = self.told.then(&entry);
-            tell_of(&mut recorder, entry)?;
+        self.told = self.told.then(entry);
+        self.count += 1;
+        if let Some(recorder) = &mut self.recorder {
+            let outcome = recorder.add(entry.process, &entry.command, &entry.reply);
+            if outcome.is_err() {
+                self.recorder = None;
+            }
         }
-        self.recorder = Some(recorder);
-        Ok(())
     }
-}
-
-// Tells a recorder of the next entry, which is given up.
-fn tell_of<K: Recorder>(recorder: &mut K, entry: Entry) -> Result<(), NoMemory>
-    ensures { OnOk result ((version : AnyVersion) (drivers : List Driver) (entries : List Made)
-        → K.told version drivers entries recorder.old
-        → K.told version drivers (entries ++ entry ∷ []) recorder.new) }
-{
-    recorder.add(entry.process, &entry.command, &entry.reply)
 }
 
 impl<A: About, K: Recorder> Keeper for Scribe<A, K> {
@@ -121,18 +93,20 @@ impl<A: About, K: Recorder> Keeper for Scribe<A, K> {
 
     ghost told = { λ s. s.entries };
 
-    ghost has_room = { λ s. s.is_free ≡ true };
+    ghost has_room = { λ s. s.is_there ≡ true };
 
     fn count(&self) -> usize {
         self.count
     }
 
     fn make_room(&mut self) -> Result<(), NoMemory> {
-        self.tell()
+        match self.recorder {
+            Some(_) => Ok(()),
+            None => Err(NoMemory),
+        }
     }
 
     fn add(&mut self, entry: Entry) {
-        self.waiting = Some(entry);
-        self.count += 1;
+        self.tell(&entry);
     }
 }

@@ -40,8 +40,8 @@ impl<K: Keeper> Model for Shared<K> {
     ghost view = { λ s. shared_as s.turns.table.shared.table_id s.turns.table.shared.key.system.value s.turns.table.shared.key.processes };
 }
 
-// Puts the seats of so many processes, from process 0 on, into the room for them: the first one may take the first name,
-// and deals the next, which may take the next name.
+// Puts the seats of so many processes, from process 0 on, into the room for them. The first one may take the first name,
+// and deals the next one, which may take the next name.
 fn deal_seats<K: Keeper>(
     turns: &TurnTable<K>,
     first: Token<K>,
@@ -52,7 +52,8 @@ fn deal_seats<K: Keeper>(
     requires first { first.me ≡ (opened turns.now.table.shared.key.system.value, []) }
     requires processes { (turns.now.table.shared.key.processes ≡ processes) × (processes ≤ MAX_PROCESSES) }
     requires room { (seats.old.items ≡ []) × (processes ≤ vec_capacity seats.old) }
-    ensures { seats.new.items ≡ map (first_seat turns.now.table.shared.table_id turns.now.table.shared.key.system.value) (range_with_len 0 processes) }
+    ensures { seats.new.items
+        ≡ map (first_seat turns.now.table.shared.table_id turns.now.table.shared.key.system.value) (range_with_len 0 processes) }
 {
     let mut token = first;
     for number in 0..processes {

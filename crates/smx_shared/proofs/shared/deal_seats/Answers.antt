@@ -26,8 +26,9 @@ loop-number-preserved g c =
     let before = c.loop-number.invariant in
     let named = c.name.ensures.same in
     let dealt_now = c.deal-next.ensures in
-    let was : c.name.new.token.me ≡ (called (unnamed c.args.turns.now.table.shared.key.system.value true c.loop-number.number), []) = named.1
-    ∙ ap (λ (m : Mine). (called m.0, m.1)) before.next in
+    let was : c.name.new.token.me
+    ≡ (called (unnamed c.args.turns.now.table.shared.key.system.value true c.loop-number.number), []) =
+    named.1 ∙ ap (λ (m : Mine). (called m.0, m.1)) before.next in
     let seat : c.deal-next.new.token.me.0
     ≡ left (called (unnamed c.args.turns.now.table.shared.key.system.value true c.loop-number.number)) =
     ap (λ (m : Mine). m.0) dealt_now.same.1 ∙ ap (λ (m : Mine). left m.0) was in
