@@ -1,5 +1,4 @@
 pub mod FrontLemmas
-pub mod FullHistoryLemmas
 pub mod GatheringLemmas
 pub mod GrowingRunLemmas
 pub mod HandLemmas
