@@ -6,8 +6,8 @@ use smx_samples::Part;
 use smx_samples::Part::{Each, Once};
 
 // Each driver over the next one by a persistent link. The stream of the upper driver is of the first driver its first
-// one, and of any other its second one, as the first is below. Once the link in the middle has gone, which is the one of
-// id 64, the last driver may be over the first.
+// one, and of any other its second one, as the first is below. Once the link in the middle has gone, which is the one
+// of id 64, the last driver may be over the first.
 const CHAIN: &[Part] = &[
     Once("transcript 2\n"),
     Each(0, 128, "driver d{n} mux 2 8 3 16\n"),

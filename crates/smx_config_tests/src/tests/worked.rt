@@ -88,7 +88,8 @@ fn is_written(rt: &(impl AllocGlobal + Abort), transcript: &Transcript, text: &[
     assert!(rt; again.as_slice() == text);
 }
 
-/// This is the verdict on the transcript of this text, which is written as it was read. One that is legal is a worked history.
+/// This is the verdict on the transcript of this text, which is written as it was read. One that is legal is a worked
+/// history.
 pub fn is_judged(rt: &(impl AllocGlobal + Abort), text: &[Part], want: Verdict) {
     let text = text_of(rt.alloc(), text).expect(rt, "there is memory");
     let all = read_transcript(rt.alloc(), text.as_bytes()).expect(rt, "it is a transcript");

@@ -106,8 +106,8 @@ fn met_and_wrote<R: AllocGlobal + Abort + Threads + Wait + Sync>(
     written.writer
 }
 
-// How many workers are asked for, for as many processes, the verdict on what they write, and the front that each process
-// sees at its end.
+// How many workers are asked for, for as many processes, the verdict on what they write, and the front that each of
+// these sees at its end.
 const MEETINGS: [(u32, &[u8], &str); 5] = [
     (2, b"legal 6\n", "front {n} 6 2\n"),
     (3, b"legal 9\n", "front {n} 9 3\n"),

@@ -97,12 +97,15 @@ fn are_too_many(rt: &impl AllocGlobal, drivers: Drivers, programs: ProgramList) 
 fn one_driver_and_one_command_too_many(rt: HostRuntime) {
     let (one_driver, one_program) = programs(&rt, PROGRAMS[1]).into_parts();
     let (mut drivers, lists) = programs(&rt, &OF_63).into_parts();
-    assert!(rt; drivers.push(one_driver.as_slice()[0]).is_ok());
+    assert!(rt;
+        drivers
+            .push(*one_driver.as_slice().first().expect(&rt, "a driver"))
+            .is_ok()
+    );
     assert!(rt; are_too_many(&rt, drivers, lists));
     let (drivers, mut lists) = programs(&rt, &OF_63).into_parts();
-    let command = one_program.as_slice()[0]
-        .copy(rt.alloc())
-        .expect(&rt, "memory");
+    let first = one_program.as_slice().first().expect(&rt, "a program");
+    let command = first.copy(rt.alloc()).expect(&rt, "memory");
     assert!(rt; lists.push(command).is_ok());
     assert!(rt; are_too_many(&rt, drivers, lists));
 }
