@@ -4,6 +4,7 @@ ghost use Rattle.std.specs.Prelude.{◌≡◌, All};
 
 use smx_shared::{Seat, Shared};
 use smx_types::{Entry, Reply};
+use std::mem::forget;
 use std::process::Abort;
 
 /// The last of these seats, which is taken from them.
@@ -36,4 +37,5 @@ pub fn closes_with(rt: &impl Abort, shared: Shared, seat: Seat, entries: usize)
 {
     let system = shared.close(seat).expect(rt, "nobody has the turn");
     assert_eq!(rt; system.entries().len(), entries);
+    forget(system);
 }

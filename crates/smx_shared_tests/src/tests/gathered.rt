@@ -6,6 +6,7 @@ use super::systems::{copied, plays};
 use smx_run::{GatherFault, Report, gather};
 use smx_shared::System;
 use smx_types::{Entries, Transcript};
+use std::mem::forget;
 use std::process::Abort;
 
 // What three processes get, in this order.
@@ -97,14 +98,27 @@ fn is_reported(rt: &impl Abort, report: &Report, want: &Transcript) {
     assert!(rt; report.view == want.view);
 }
 
+fn is_copied(rt: &(impl AllocGlobal + Abort + Print), report: &Report) {
+    let again = copy_of(rt, report);
+    assert!(rt; again == *report);
+    forget(again);
+}
+
+fn are_reported(rt: &(impl AllocGlobal + Abort + Print), system: &System, want: &Transcript) {
+    let transcripts = transcripts_of(rt, &[BY_ZERO, BY_ONE, BY_TWO]);
+    let report = gathered(rt, system, transcripts.as_slice());
+    is_reported(rt, &report, want);
+    is_copied(rt, &report);
+    forget(report);
+}
+
 #[test]
 fn three_entries_are_reported(rt: HostRuntime) {
     let want = read(&rt, OPENED);
     let system = three_opened(&rt, &want);
-    let transcripts = transcripts_of(&rt, &[BY_ZERO, BY_ONE, BY_TWO]);
-    let report = gathered(&rt, &system, transcripts.as_slice());
-    is_reported(&rt, &report, &want);
-    assert!(rt; copy_of(&rt, &report) == report);
+    are_reported(&rt, &system, &want);
+    forget(system);
+    forget(want);
 }
 
 // Transcripts of the three, and the process whose entries in the history are not its transcript: one is empty, one is
@@ -115,12 +129,19 @@ const STRANGE: [(&[&[u8]], u32); 3] = [
     (&[BY_ZERO, BY_TWO, BY_ONE], 1),
 ];
 
+fn is_strange(rt: &(impl AllocGlobal + Abort), system: &System, texts: &[&[u8]], process: u32) {
+    let transcripts = transcripts_of(rt, texts);
+    let fault = gathered_of(rt, system, transcripts.as_slice()).err();
+    assert!(rt; fault == Some(GatherFault::Strange(numbered(rt, process))));
+}
+
 #[test]
 fn strange_transcripts(rt: HostRuntime) {
-    let system = three_opened(&rt, &read(&rt, OPENED));
+    let want = read(&rt, OPENED);
+    let system = three_opened(&rt, &want);
     for (texts, process) in STRANGE {
-        let transcripts = transcripts_of(&rt, texts);
-        let fault = gathered_of(&rt, &system, transcripts.as_slice()).err();
-        assert!(rt; fault == Some(GatherFault::Strange(numbered(&rt, process))));
+        is_strange(&rt, &system, texts, process);
     }
+    forget(system);
+    forget(want);
 }

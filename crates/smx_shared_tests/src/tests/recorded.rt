@@ -18,6 +18,7 @@ use smx_types::{
 };
 use smx_words::command_of;
 use std::alloc::Global;
+use std::mem::forget;
 use std::process::Abort;
 use std::sync::Wait;
 use std::sync::atomic::{AtomicUsize, Ordering};
@@ -189,7 +190,21 @@ fn is_told(rt: &(impl AllocGlobal + Abort), ran: Ran, wanted: &[u8]) {
         entries: kept.entries,
         view,
     };
-    assert!(rt; told == read(rt, wanted));
+    let want = read(rt, wanted);
+    assert!(rt; told == want);
+    forget(told);
+    forget(want);
+}
+
+// Why it is refused.
+fn fault_of(ran: Ran) -> Option<RunFault> {
+    match ran {
+        Ok(both) => {
+            forget(both);
+            None
+        }
+        Err(fault) => Some(fault),
+    }
 }
 
 const TWO_PROCESSES: &[u8] = b"programs 1
@@ -291,7 +306,7 @@ fn stops_behind<R: AllocGlobal + Abort + Threads + Wait + Sync>(rt: &R, way: Way
     requires { entries < 6 }
 {
     let (count, log) = (AtomicUsize::new(0), Log::of(rt, 16));
-    let fault = ran(rt, way, TWO_PROCESSES, &count, entries + 1, &log).err();
+    let fault = fault_of(ran(rt, way, TWO_PROCESSES, &count, entries + 1, &log));
     assert!(rt; fault == Some(RunFault::NoMemory));
     are_told(rt, &count, entries + 2, &log, 2 * entries + 2);
 }
@@ -310,15 +325,9 @@ fn a_run_stops_where_its_recorder_does(rt: HostRuntime) {
 fn a_recorder_that_wants_memory_is_told_of_nothing_more(rt: HostRuntime) {
     for entries in 0..8 {
         let (count, log) = (AtomicUsize::new(0), Log::of(&rt, 0));
-        let ran = ran(
-            &rt,
-            Way::Together(2),
-            TWO_PROCESSES,
-            &count,
-            entries + 1,
-            &log,
-        );
-        assert_eq!(rt; ran.is_ok(), 6 <= entries);
+        let way = Way::Together(2);
+        let fault = fault_of(ran(&rt, way, TWO_PROCESSES, &count, entries + 1, &log));
+        assert_eq!(rt; fault.is_none(), 6 <= entries);
         assert_eq!(rt; count.load(Ordering::SeqCst), (entries + 2).min(7));
     }
 }
@@ -330,7 +339,7 @@ const SAME_NAME: &[u8] =
 fn drivers_come_before_the_recorder_and_commands(rt: HostRuntime) {
     for way in ONE_BY_ONE {
         let (count, log) = (AtomicUsize::new(0), Log::of(&rt, 4));
-        let fault = ran(&rt, way, SAME_NAME, &count, 9, &log).err();
+        let fault = fault_of(ran(&rt, way, SAME_NAME, &count, 9, &log));
         assert!(rt; matches!(fault, Some(RunFault::ConfigFault(_))));
         are_told(&rt, &count, 0, &log, 0);
     }
@@ -340,7 +349,7 @@ fn drivers_come_before_the_recorder_and_commands(rt: HostRuntime) {
 fn a_recorded_run_tells_of_each_command_in_turn(rt: HostRuntime) {
     for way in ONE_BY_ONE {
         let (count, log) = (AtomicUsize::new(0), Log::of(&rt, 40));
-        assert!(rt; ran(&rt, way, SIX, &count, 14, &log).is_ok());
+        assert!(rt; fault_of(ran(&rt, way, SIX, &count, 14, &log)).is_none());
         assert!(rt; log.has(&IN_TURN));
     }
 }
@@ -410,7 +419,7 @@ fn a_recorded_run_tells_right_before_and_right_after(rt: HostRuntime) {
     let gate = InTime::of(&told);
     let room = (rt.alloc(), &told, 14);
     let ran: Ran = run_recorded(rt.alloc(), programs_of(&rt, SIX), room, &gate);
-    assert!(rt; ran.is_ok());
+    assert!(rt; fault_of(ran).is_none());
     assert_eq!(rt; told.load(Ordering::SeqCst), 14);
     assert_eq!(rt; gate.in_time.load(Ordering::SeqCst), 26);
 }

@@ -12,6 +12,7 @@ use smx_shared::Front;
 use smx_text::read_programs;
 use smx_types::{Fault, Reply, SpecFault};
 use std::alloc::AllocError;
+use std::mem::forget;
 use std::process::Abort;
 use std::sync::Wait;
 use std::thread::Threads;
@@ -40,7 +41,10 @@ fn gives<R: AllocGlobal + Abort + Threads + Wait + Sync>(
 {
     let want = read(rt, output);
     let report = report_of(rt, input, workers, &NoGate);
-    assert!(rt; report.into_transcript(want.version) == want);
+    let made = report.into_transcript(want.version);
+    assert!(rt; made == want);
+    forget(made);
+    forget(want);
 }
 
 const TWO_PROCESSES: &[u8] = b"programs 1
@@ -174,7 +178,9 @@ fn is_of_the_most(rt: &impl Abort, report: &Report) {
 fn runs_the_most_programs(rt: HostRuntime) {
     let mut text = String::new(rt.alloc());
     assert!(rt; add_most(&mut text).is_ok());
-    is_of_the_most(&rt, &report_of(&rt, text.as_bytes(), 1, &NoGate));
+    let report = report_of(&rt, text.as_bytes(), 1, &NoGate);
+    is_of_the_most(&rt, &report);
+    forget(report);
 }
 
 // Programs over drivers that can't be had, and why.
@@ -290,4 +296,6 @@ fn a_front_is_seen_before_the_next_program_of_its_worker(rt: HostRuntime) {
     let by_two = report_of(&rt, FIVE_LINKS, 2, &OneByOne::new());
     let first = [front(3, 1, false), front(6, 2, false), front(9, 3, false)];
     begin_with(&rt, by_two.fronts.as_slice(), 5, first);
+    forget(alone);
+    forget(by_two);
 }

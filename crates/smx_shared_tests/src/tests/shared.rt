@@ -7,6 +7,7 @@ use super::made::{clone_of, front, read, system_over};
 use super::stage::{Part, Stage, holds, is_busy, sees_it_held, waits_for_the_turn};
 use smx_shared::{Door, Seat, Shared};
 use smx_types::{Command, Entry};
+use std::mem::forget;
 use std::process::Abort;
 use std::sync::Wait;
 use std::thread::{Threads, join};
@@ -148,9 +149,12 @@ end
 #[test]
 fn looks_on_while_the_turn_is_held_and_meets(rt: HostRuntime) {
     let stage = Stage::of(&rt, (2, Part::LooksOn), Part::Holds, 2);
-    let system = system_over(&rt, read(&rt, NOTHING_OPEN).drivers.as_slice(), 20);
+    let want = read(&rt, NOTHING_OPEN);
+    let system = system_over(&rt, want.drivers.as_slice(), 20);
+    forget(want);
     let (shared, seats) = Shared::start(rt.alloc(), system, 3).expect(&rt, "a start");
     let one = looks_three_times(&rt, &shared, seats, &stage);
     let system = shared.close(one).expect(&rt, "nobody has the turn");
     are_of(&rt, system.entries(), [0, 0, 0, 2, 1]);
+    forget(system);
 }

@@ -4,6 +4,7 @@ use super::made::{clone_of, ip, numbered, read, system_over, tells_of_want};
 use super::tried_again::{is_shown, shown};
 use smx_shared::{ApplyFault, System};
 use smx_types::{Command, Entry, Fault, Reply};
+use std::mem::forget;
 use std::process::Abort;
 
 /// The same system again.
@@ -24,12 +25,13 @@ fn are_alike(rt: &impl Abort, one: &System, other: &System) {
 fn are_shown_alike(rt: &impl Abort, one: &System, other: &System) {
     let view = shown(rt, other.config());
     is_shown(rt, one.config(), &view);
+    forget(view);
 }
 
 // The entry that answers this command. What memory was wanting for has changed nothing, and is tried again.
 fn applied(rt: &(impl Abort + Print), system: &mut System, want: &Entry) -> Entry {
     let before = copied(rt, system);
-    match system.apply(want.process, &want.command) {
+    let answer = match system.apply(want.process, &want.command) {
         Ok(entry) => entry,
         Err(_) => {
             tells_of_want(rt, "a step");
@@ -38,7 +40,9 @@ fn applied(rt: &(impl Abort + Print), system: &mut System, want: &Entry) -> Entr
                 .apply(want.process, &want.command)
                 .expect(rt, "an answer")
         }
-    }
+    };
+    forget(before);
+    answer
 }
 
 /// The commands of these entries are answered so, and each entry stands at the end of the history then.
@@ -58,6 +62,7 @@ fn is_full(rt: &impl Abort, system: &mut System) {
     let fault = system.append(process, clone_of(rt, "ip")).err();
     assert!(rt; fault == Some(ApplyFault::HistoryFull));
     are_alike(rt, system, &before);
+    forget(before);
 }
 
 const THREE: &[u8] = b"transcript 1
@@ -76,9 +81,12 @@ end
 #[test]
 fn three_entries_at_most(rt: HostRuntime) {
     let mut system = system_over(&rt, &[ip(&rt, 4)], 3);
-    plays(&rt, &mut system, read(&rt, THREE).entries.as_slice());
+    let want = read(&rt, THREE);
+    plays(&rt, &mut system, want.entries.as_slice());
+    forget(want);
     assert_eq!(rt; system.entries().len(), 3);
     is_full(&rt, &mut system);
+    forget(system);
 }
 
 // The commands of these entries are given up.
@@ -98,6 +106,9 @@ fn commands_that_are_given_up(rt: HostRuntime) {
     plays(&rt, &mut system, want.entries.as_slice());
     appends(&rt, &mut other, want.entries.as_slice());
     are_alike(&rt, &other, &system);
+    forget(want);
+    forget(system);
+    forget(other);
 }
 
 fn closes_often(rt: &impl Abort, system: &mut System, count: usize) {
@@ -115,4 +126,5 @@ fn the_most_entries(rt: HostRuntime) {
     assert!(rt; system.entries()[99_999].reply == Reply::Fault(Fault::BadDescriptor));
     assert_eq!(rt; system.entries()[99_999].process.get(), 63);
     is_full(&rt, &mut system);
+    forget(system);
 }

@@ -6,6 +6,7 @@ ghost use Rattle.smx_run.specs.declared.run.TheConstants.{MAX_WORKERS};
 use super::gates::Told::{After, Before};
 use super::gates::{Log, Told};
 use super::runs::report_of;
+use std::mem::forget;
 use std::process::Abort;
 use std::sync::Wait;
 use std::thread::Threads;
@@ -102,7 +103,7 @@ fn tells<R: AllocGlobal + Abort + Threads + Wait + Sync>(rt: &R, parts: &[&[Told
     requires { (1 ≤ length parts.now) × (length parts.now ≤ MAX_WORKERS) }
 {
     let log = Log::of(rt, 40);
-    let _ = report_of(rt, SIX, parts.len(), &log);
+    forget(report_of(rt, SIX, parts.len(), &log));
     for (worker, part) in parts.iter().enumerate() {
         assert!(rt; log.is_told(worker as u32, parts.len() as u32, part));
     }

@@ -10,6 +10,7 @@ use smx_run::{NoGate, RunFault, run_programs};
 use smx_shared::{Door, Seat, Shared};
 use smx_text::read_programs;
 use smx_types::{Command, ConfigView, DriverSpec, Entry, NoMemory, Programs, Reply, Transcript};
+use std::mem::forget;
 use std::process::Abort;
 use std::sync::Wait;
 use std::thread::Threads;
@@ -114,14 +115,16 @@ pub fn shown(rt: &impl Abort, config: &Config) -> ConfigView {
 
 /// Just this is shown.
 pub fn is_shown(rt: &impl Abort, config: &Config, view: &ConfigView) {
-    assert!(rt; shown(rt, config) == *view);
+    let now = shown(rt, config);
+    assert!(rt; now == *view);
+    forget(now);
     assert!(rt; config.shows(view));
 }
 
 // What memory was wanting for has changed nothing that is shown, and is tried again.
 fn reply_to(rt: &(impl Abort + Print), config: &mut Config, entry: &Entry) -> Reply {
     let before = shown(rt, config);
-    match config.step(entry.process, &entry.command) {
+    let answer = match config.step(entry.process, &entry.command) {
         Ok(reply) => reply,
         Err(_) => {
             tells_of_want(rt, "a step");
@@ -130,13 +133,15 @@ fn reply_to(rt: &(impl Abort + Print), config: &mut Config, entry: &Entry) -> Re
                 .step(entry.process, &entry.command)
                 .expect(rt, "a reply")
         }
-    }
+    };
+    forget(before);
+    answer
 }
 
 // The same of a step that is answered twice.
 fn replies_to(rt: &(impl Abort + Print), config: &mut Config, entry: &Entry) -> (Reply, Reply) {
     let before = shown(rt, config);
-    match config.step_twin(entry.process, &entry.command) {
+    let answer = match config.step_twin(entry.process, &entry.command) {
         Ok(replies) => replies,
         Err(_) => {
             tells_of_want(rt, "a step");
@@ -145,7 +150,9 @@ fn replies_to(rt: &(impl Abort + Print), config: &mut Config, entry: &Entry) -> 
                 .step_twin(entry.process, &entry.command)
                 .expect(rt, "replies")
         }
-    }
+    };
+    forget(before);
+    answer
 }
 
 fn by_steps(rt: &(impl AllocGlobal + Abort + Print), want: &Transcript) {
@@ -154,6 +161,7 @@ fn by_steps(rt: &(impl AllocGlobal + Abort + Print), want: &Transcript) {
         assert!(rt; reply_to(rt, &mut config, entry) == entry.reply);
     }
     is_shown(rt, &config, &want.view);
+    forget(config);
 }
 
 fn by_twin_steps(rt: &(impl AllocGlobal + Abort + Print), want: &Transcript) {
@@ -164,6 +172,7 @@ fn by_twin_steps(rt: &(impl AllocGlobal + Abort + Print), want: &Transcript) {
         assert!(rt; twin == entry.reply);
     }
     is_shown(rt, &config, &want.view);
+    forget(config);
 }
 
 fn by_a_system(rt: &(impl AllocGlobal + Abort + Print), want: &Transcript) {
@@ -171,6 +180,7 @@ fn by_a_system(rt: &(impl AllocGlobal + Abort + Print), want: &Transcript) {
     plays(rt, &mut system, want.entries.as_slice());
     assert!(rt; system.entries() == want.entries.as_slice());
     is_shown(rt, system.config(), &want.view);
+    forget(system);
 }
 
 // Where memory was wanting, the same is judged again.
@@ -191,6 +201,7 @@ fn is_worked(rt: &(impl AllocGlobal + Abort + Print), text: &[u8]) {
     by_twin_steps(rt, &want);
     by_a_system(rt, &want);
     assert!(rt; verdict_on(rt, &want) == Verdict::Legal);
+    forget(want);
 }
 
 #[test]
@@ -311,7 +322,9 @@ fn entries_by_two<R: AllocGlobal + Abort + Threads + Wait + Sync>(
     rt: &R,
 ) -> Result<usize, RunFault> {
     let report = run_programs(rt, rt.alloc(), two_programs(rt), 2, &NoGate)?;
-    Ok(report.entries.as_slice().len())
+    let count = report.entries.as_slice().len();
+    forget(report);
+    Ok(count)
 }
 
 // Where memory was wanting, or a worker could not be started, they are run again. No other fault is told.

@@ -4,6 +4,7 @@ use super::asked::{list, named};
 use super::spelling::{are_spelled, programs};
 use smx_samples::Part::Once;
 use smx_types::{Command, DriverKind, DriverSpec, Programs};
+use std::mem::forget;
 use std::process::Abort;
 
 /// Streams that are opened and closed.
@@ -125,11 +126,16 @@ const TEXTS: [&str; 5] = [
     TWO_LEVELS_DOWN_AND_UP,
 ];
 
+// These programs are written as this text, and read from it.
+fn have_text(rt: &(impl AllocGlobal + Abort), value: Programs, text: &str) {
+    are_spelled(rt, &value, &[Once(text)]);
+    forget(value);
+}
+
 #[test]
 fn reads_and_writes_programs(rt: HostRuntime) {
-    are_spelled(&rt, &opens_and_closes(&rt), &[Once(OPENS_AND_CLOSES)]);
+    have_text(&rt, opens_and_closes(&rt), OPENS_AND_CLOSES);
     for text in &TEXTS {
-        let text = [Once(*text)];
-        are_spelled(&rt, &programs(&rt, &text), &text);
+        have_text(&rt, programs(&rt, &[Once(*text)]), *text);
     }
 }

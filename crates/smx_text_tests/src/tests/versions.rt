@@ -11,9 +11,10 @@ use std::mem::forget;
 use std::process::Abort;
 
 // They are programs of this version, and this is the first that can tell them.
-fn are_of(rt: &impl Abort, programs: &Programs, version: Version, least: Version) {
+fn are_of(rt: &impl Abort, programs: Programs, version: Version, least: Version) {
     assert!(rt; programs.version() == version);
     assert!(rt; programs.least() == least);
+    forget(programs);
 }
 
 #[test]
@@ -24,14 +25,10 @@ fn programs_of_each_version(rt: HostRuntime) {
         &raised,
         &[Once("programs 2\n"), Once(&OPENS_AND_CLOSES[11..])],
     );
-    are_of(&rt, &raised, Version::V2, Version::V1);
-    are_of(&rt, &opens_and_closes(&rt), Version::V1, Version::V1);
-    are_of(
-        &rt,
-        &program_of(&rt, Call::Hangup("eth", 0)),
-        Version::V2,
-        Version::V2,
-    );
+    are_of(&rt, raised, Version::V2, Version::V1);
+    are_of(&rt, opens_and_closes(&rt), Version::V1, Version::V1);
+    let hangup = program_of(&rt, Call::Hangup("eth", 0));
+    are_of(&rt, hangup, Version::V2, Version::V2);
 }
 
 // Drivers of version 2, and the first version that has so many.
@@ -42,7 +39,7 @@ fn so_many_drivers(rt: HostRuntime) {
     for (count, version) in &DRIVERS {
         let drivers = Each(0, *count, "driver a{n} leaf 1 1 0 1\n");
         let value = programs(&rt, &[Once("programs 2\n"), drivers, Once("end\n")]);
-        are_of(&rt, &value, Version::V2, *version);
+        are_of(&rt, value, Version::V2, *version);
     }
 }
 
