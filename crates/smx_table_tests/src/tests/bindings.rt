@@ -2,8 +2,8 @@
 
 use smx_addresses::Bindings;
 use smx_types::{Binding, StreamId};
-use std::mem::forget;
 use std::process::Abort;
+use std::test::Fail;
 
 /// A call and what it has to answer. Streams are pairs of driver and minor.
 #[derive(Clone, Copy)]
@@ -185,12 +185,11 @@ fn has_bindings(rt: &(impl AllocGlobal + Abort), table: &mut Bindings) {
     do_acts(rt, table, &OF_THREE_STREAMS);
     let mut again = table.copy().ok().expect(rt, "memory");
     go_apart(rt, table, &mut again);
-    forget(again);
 }
 
 #[test]
-fn bindings_of_three_streams(rt: HostRuntime) {
+fn bindings_of_three_streams(rt: HostRuntime) -> Result<(), Fail> {
     let mut table = Bindings::new(rt.alloc());
     has_bindings(&rt, &mut table);
-    forget(table);
+    Ok(())
 }

@@ -6,8 +6,8 @@ ghost use Rattle.smx_model.specs.KnownStreams.{IsKnown};
 
 use smx_queues::{FlowTable, Queued};
 use smx_types::{Bytes, DriverKind, DriverSpec, Message, Name, Place, Side, StreamId};
-use std::mem::forget;
 use std::process::Abort;
+use std::test::Fail;
 
 /// Two minors, whose queues are full from 8 bytes on.
 pub fn ethernet(rt: &impl Abort) -> DriverSpec
@@ -144,7 +144,6 @@ fn both_have(
     has(rt, table, serials, fronts, full);
     let again = table.copy(rt.alloc()).ok().expect(rt, "memory");
     has(rt, &again, serials, fronts, full);
-    forget(again);
 }
 
 const DOWN: Place = Place {
@@ -229,8 +228,8 @@ fn runs(rt: &(impl AllocGlobal + Abort), table: &mut FlowTable)
 }
 
 #[test]
-fn queues_by_place(rt: HostRuntime) {
+fn queues_by_place(rt: HostRuntime) -> Result<(), Fail> {
     let mut made = table(&rt);
     runs(&rt, &mut made);
-    forget(made);
+    Ok(())
 }

@@ -2,8 +2,8 @@
 
 use smx_addresses::Routes;
 use smx_types::Route;
-use std::mem::forget;
 use std::process::Abort;
+use std::test::Fail;
 
 /// A call and what it has to answer.
 #[derive(Clone, Copy)]
@@ -166,12 +166,11 @@ fn has_routes(rt: &(impl AllocGlobal + Abort), table: &mut Routes) {
     do_acts(rt, table, &OF_THREE_LINKS);
     let mut again = table.copy().ok().expect(rt, "memory");
     go_apart(rt, table, &mut again);
-    forget(again);
 }
 
 #[test]
-fn routes_of_three_links(rt: HostRuntime) {
+fn routes_of_three_links(rt: HostRuntime) -> Result<(), Fail> {
     let mut table = Routes::new(rt.alloc());
     has_routes(&rt, &mut table);
-    forget(table);
+    Ok(())
 }

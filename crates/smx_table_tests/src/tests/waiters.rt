@@ -3,8 +3,8 @@
 use super::flow_tables::ethernet;
 use smx_queues::Waiters;
 use smx_types::{Place, Side, StreamId};
-use std::mem::forget;
 use std::process::Abort;
+use std::test::Fail;
 
 /// A side of a stream of driver 0, by its minor.
 type At = (u8, Side);
@@ -116,7 +116,6 @@ fn wait_for_one_each(rt: &(impl AllocGlobal + Abort), waiters: &mut Waiters) {
     do_acts(rt, waiters, &ALL);
     let mut same = copied(rt, waiters);
     go_apart(rt, waiters, &mut same);
-    forget(same);
 }
 
 // The copy of waiters of which one waits has room for all.
@@ -124,7 +123,6 @@ fn has_room_for_all(rt: &(impl AllocGlobal + Abort), waiters: &Waiters) {
     let mut same = copied(rt, waiters);
     do_acts(rt, &mut same, &FOUR);
     do_acts(rt, &mut same, &THREE);
-    forget(same);
 }
 
 fn new_waiters(rt: &(impl AllocGlobal + Abort)) -> Waiters {
@@ -134,9 +132,9 @@ fn new_waiters(rt: &(impl AllocGlobal + Abort)) -> Waiters {
 }
 
 #[test]
-fn places_wait_for_one_each(rt: HostRuntime) {
+fn places_wait_for_one_each(rt: HostRuntime) -> Result<(), Fail> {
     let mut waiters = new_waiters(&rt);
     wait_for_one_each(&rt, &mut waiters);
     has_room_for_all(&rt, &waiters);
-    forget(waiters);
+    Ok(())
 }
