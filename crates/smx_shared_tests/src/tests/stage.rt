@@ -1,11 +1,10 @@
 //! Seats that each have a thread of their own, and what they do there.
 
-ghost use Rattle.std.specs.Prelude.{◌≡◌, ◌≤◌, All};
-ghost use Rattle.smx_types.specs.declared.limits.TheConstants.{MAX_COMMANDS, MAX_PROCESSES};
+ghost use Rattle.std.specs.Prelude.{◌≡◌, All};
 
 use super::callers::{closes_with, last_of, opens};
 use super::gates::{TURNS, is_reached};
-use super::made::{clone_of, front, ip, system_over};
+use super::made::{clone_of, front};
 use smx_shared::{ApplyFault, Door, Front, Hold, Seat, Shared, TryFault};
 use smx_types::Command;
 use std::process::Abort;
@@ -323,21 +322,17 @@ fn last_looks<R: AllocGlobal + Abort + Threads + Wait + Sync>(
     last
 }
 
-/// So many seats of a system over `driver ip mux 64 8 3 16`, of at most so many entries, play but for the last one,
-/// which finds this end.
+/// All of these seats but the last play, and that one finds this end.
 pub fn is_played<R: AllocGlobal + Abort + Threads + Wait + Sync>(
     rt: &R,
     stage: &Stage,
-    limit: usize,
-    seats: usize,
+    shared: Shared,
+    seats: Vec<Seat>,
     end: End,
 )
-    requires limit { limit ≤ MAX_COMMANDS }
-    requires seats { (1 ≤ seats) × (seats ≤ MAX_PROCESSES) }
+    requires { All (λ s. s.shared ≡ shared.name) seats.items }
 {
     let (seen, minor, entries, answered, full) = end;
-    let system = system_over(rt, &[ip(rt, 64)], limit);
-    let (shared, seats) = Shared::start(rt.alloc(), system, seats).expect(rt, "a start");
     let last = last_looks(rt, &shared, seats, stage, seen, minor);
     assert_eq!(rt; stage.answered.load(Ordering::SeqCst), answered);
     assert_eq!(rt; stage.full.load(Ordering::SeqCst), full);
