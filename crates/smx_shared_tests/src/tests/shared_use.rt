@@ -8,6 +8,7 @@ use super::made::{ip, system_over};
 use super::stage::{Part, Stage, is_played};
 use smx_shared::{Shared, System};
 use std::process::Abort;
+use std::test::Fail;
 
 // A system over `driver ip mux 64 8 3 16`, of at most so many entries.
 fn system_of(rt: &(impl AllocGlobal + Abort), limit: usize) -> System
@@ -33,11 +34,12 @@ fn a_thread_that_drops_its_seat(rt: HostRuntime) {
 }
 
 #[test]
-fn fifteen_try_while_one_holds(rt: HostRuntime) {
+fn fifteen_try_while_one_holds(rt: HostRuntime) -> Result<(), Fail> {
     let stage = Stage::of(&rt, (15, Part::Tries(100)), Part::Holds, 15);
     let system = system_of(&rt, 10);
-    let (shared, seats) = Shared::start(rt.alloc(), system, 17).expect(&rt, "a start");
+    let (shared, seats) = Shared::start(rt.alloc(), system, 17)?;
     is_played(&rt, &stage, shared, seats, (1, Some(1), 2, 0, 0));
+    Ok(())
 }
 
 #[test]
