@@ -13,12 +13,8 @@ fn shown(fault: MainFault) -> (InlineText<64>, u8) {
     (InlineText::of(fault), status)
 }
 
-fn configured(fault: ConfigFault) -> RunFault {
-    RunFault::ConfigFault(fault)
-}
-
 #[test]
-fn says_what_came_of_it(rt: HostRuntime) {
+fn says_why_a_run_is_refused(rt: HostRuntime) {
     let faults = [
         (RunFault::NoMemory, "refused: no memory"),
         (
@@ -48,6 +44,14 @@ fn says_what_came_of_it(rt: HostRuntime) {
         assert_eq!(rt; text.as_str(), words);
         assert_eq!(rt; status, 1, "for {words}");
     }
+}
+
+fn configured(fault: ConfigFault) -> RunFault {
+    RunFault::ConfigFault(fault)
+}
+
+#[test]
+fn says_which_line_is_wrong(rt: HostRuntime) {
     let causes = [
         (Cause::Header, "line 7: header", 3),
         (Cause::Form, "line 7: form", 3),
@@ -61,6 +65,10 @@ fn says_what_came_of_it(rt: HostRuntime) {
         assert_eq!(rt; shown.0.as_str(), words);
         assert_eq!(rt; shown.1, status, "for {words}");
     }
+}
+
+#[test]
+fn says_what_failed(rt: HostRuntime) {
     let faults = [
         (MainFault::TooLong, "input too long", 3),
         (MainFault::ReadFailed, "read failed", 5),
@@ -72,6 +80,10 @@ fn says_what_came_of_it(rt: HostRuntime) {
         assert_eq!(rt; shown.0.as_str(), words);
         assert_eq!(rt; shown.1, status, "for {words}");
     }
+}
+
+#[test]
+fn tells_what_was_done(rt: HostRuntime) {
     let ends = [
         (Done::Finished, 0),
         (Done::Judged(Verdict::Legal), 0),
